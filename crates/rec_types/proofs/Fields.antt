@@ -1,0 +1,16 @@
+-- Bytes written over zeros are the fields of a key or a record.
+use Rattle.std.proofs.Common.{◌≡◌, ℕ, ◌<◌, ◌≤◌, List, ◌++◌, length, drop, replicate, ap, ◌∙◌}
+use Rattle.rec_types.specs.Padded.{padded}
+use Rattle.rec_types.specs.KeyBytes.{IsKey}
+use Rattle.rec_types.specs.RecordBytes.{IsRecord}
+use Rattle.rec_types.proofs.Padding.{length-padded, padded-front, written}
+
+pub key_written : (bytes front : List ℕ) → front ≡ bytes → 0 < length bytes → length bytes ≤ 16 → IsKey record { bytes = front ++ drop (length bytes) (replicate 16 0); len = length bytes }
+key_written bytes front is some most =
+    let cells = written 16 bytes front is most in
+    record { some = some; most = most; whole = ap length cells ∙ length-padded 16 bytes most; zeros = padded-front 16 bytes _ cells }
+
+pub record_written : (bytes front : List ℕ) → front ≡ bytes → length bytes ≤ 32 → IsRecord record { bytes = front ++ drop (length bytes) (replicate 32 0); len = length bytes }
+record_written bytes front is most =
+    let cells = written 32 bytes front is most in
+    record { most = most; whole = ap length cells ∙ length-padded 32 bytes most; zeros = padded-front 32 bytes _ cells }

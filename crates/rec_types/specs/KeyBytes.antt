@@ -1,0 +1,20 @@
+-- How a key lies in its fields.
+use Rattle.std.specs.Prelude.{◌≡◌, ℕ, ◌<◌, ◌≤◌, List, length, take}
+use Rattle.rec_types.specs.Padded.{padded}
+use Rattle.rec_types.specs.Taken.{length_taken}
+use Rattle.rec_types.specs.declared.keys.Key.TheInside.{Inside}
+
+abbrev pub bytes_of : Inside → List ℕ
+bytes_of k = take k.len k.bytes
+
+pub record IsKey (k : Inside) : Type 0 where
+  pub some : 0 < k.len
+  pub most : k.len ≤ 16
+  pub whole : length k.bytes ≡ 16
+  pub zeros : padded 16 (take k.len k.bytes) ≡ k.bytes
+
+abbrev pub fields_of : List ℕ → Inside
+fields_of bytes = record { bytes = padded 16 bytes; len = length bytes }
+
+pub fields_of_bytes : (k : Inside) → IsKey k → fields_of (bytes_of k) ≡ k
+fields_of_bytes k is i = record { bytes = is.zeros i; len = length_taken 16 k.len k.bytes is.most is.whole i }

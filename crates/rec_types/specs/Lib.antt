@@ -1,0 +1,9 @@
+pub mod Key
+pub mod KeyBytes
+pub mod LimitBounds
+pub mod LimitFields
+pub mod Limits
+pub mod Padded
+pub mod Record
+pub mod RecordBytes
+pub mod Taken

@@ -1,0 +1,19 @@
+-- How a record lies in its fields.
+use Rattle.std.specs.Prelude.{◌≡◌, ℕ, ◌≤◌, List, length, take}
+use Rattle.rec_types.specs.Padded.{padded}
+use Rattle.rec_types.specs.Taken.{length_taken}
+use Rattle.rec_types.specs.declared.records.Record.TheInside.{Inside}
+
+abbrev pub bytes_of : Inside → List ℕ
+bytes_of r = take r.len r.bytes
+
+pub record IsRecord (r : Inside) : Type 0 where
+  pub most : r.len ≤ 32
+  pub whole : length r.bytes ≡ 32
+  pub zeros : padded 32 (take r.len r.bytes) ≡ r.bytes
+
+abbrev pub fields_of : List ℕ → Inside
+fields_of bytes = record { bytes = padded 32 bytes; len = length bytes }
+
+pub fields_of_bytes : (r : Inside) → IsRecord r → fields_of (bytes_of r) ≡ r
+fields_of_bytes r is i = record { bytes = is.zeros i; len = length_taken 32 r.len r.bytes is.most is.whole i }

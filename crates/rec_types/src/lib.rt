@@ -1,0 +1,14 @@
+//! Keys, records, limits and the tables that hold records.
+#![tactic(auto)]
+
+mod keys;
+mod limiting;
+mod memory;
+mod records;
+mod transactions;
+
+pub use keys::{Key, KeyFault};
+pub use limiting::{LimitFault, Limits};
+pub use memory::Memory;
+pub use records::{Record, RecordFault};
+pub use transactions::{Entry, TxId};
