@@ -1,3 +1,6 @@
+pub mod Contents
+pub mod History
+pub mod Kept
 pub mod Key
 pub mod KeyBytes
 pub mod LimitBounds

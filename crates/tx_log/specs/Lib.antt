@@ -1,0 +1,3 @@
+pub mod LogState
+pub mod Owners
+pub mod Transactions

@@ -1,0 +1,26 @@
+use rec_types::{Key, Record};
+use thiserror::Error;
+
+/// Whether an open transaction is active, or is being rolled back.
+#[derive(Clone, Copy, Debug, PartialEq, Eq)]
+pub enum Phase {
+    Active,
+    /// A rollback is under way. Where `ends` is set the transaction ends with it.
+    Rolling { ends: bool },
+}
+
+/// The next change that a rollback takes back: its key, and the record that stood there before.
+#[derive(Clone, Copy, Debug)]
+pub struct UndoStep {
+    pub key: Key,
+    pub before: Option<Record>,
+}
+
+/// Why no transaction was begun.
+#[derive(Clone, Copy, Debug, PartialEq, Eq, Error)]
+pub enum BeginFault {
+    #[error("the session has begun as many transactions as it may")]
+    BeginsSpent,
+    #[error("out of memory")]
+    Memory,
+}
