@@ -1,6 +1,5 @@
 -- Bytes written over zeros are the fields of a key or a record.
 use Rattle.std.proofs.Common.{◌≡◌, ℕ, ◌<◌, ◌≤◌, List, ◌++◌, length, drop, replicate, ap, ◌∙◌}
-use Rattle.rec_types.specs.Padded.{padded}
 use Rattle.rec_types.specs.KeyBytes.{IsKey}
 use Rattle.rec_types.specs.RecordBytes.{IsRecord}
 use Rattle.rec_types.proofs.Padding.{length-padded, padded-front, written}

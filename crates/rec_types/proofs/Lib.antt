@@ -1,2 +1,6 @@
+pub mod ContentsFacts
 pub mod Fields
+pub mod HistoryFacts
+pub mod KeptFacts
 pub mod Padding
+pub mod Places

@@ -1,5 +1,5 @@
 -- Padding to a width.
-use Rattle.std.proofs.Common.{◌≡◌, ℕ, ◌+◌, ◌-◌, ◌≤◌, List, ◌++◌, length, take, drop, replicate, ap, sym, ◌∙◌, subst, refl, arith, length-append}
+use Rattle.std.proofs.Common.{◌≡◌, ℕ, ◌≤◌, List, ◌++◌, length, take, drop, replicate, ap, sym, ◌∙◌, arith, length-append}
 use Rattle.std.proofs.lemmas.List.{length-replicate, drop-replicate}
 use Rattle.std.proofs.Math.Seq.{take-append_seam}
 use Rattle.rec_types.specs.Padded.{padded}

@@ -1,5 +1,5 @@
 -- Changes, the history of a session, its replay, and what taking back does to it. A history stands oldest first.
-use Rattle.std.specs.Prelude.{ℕ, zero, suc, ◌+◌, Bool, true, false, not, ◌&&◌, ◌==◌, nat_lt, if◌then◌else◌, List, [], ◌∷◌, length, filter, Option}
+use Rattle.std.specs.Prelude.{ℕ, zero, suc, ◌+◌, Bool, false, not, ◌&&◌, ◌==◌, nat_lt, if◌then◌else◌, List, [], ◌∷◌, length, filter, Option}
 use Rattle.rec_types.specs.Contents.{Contents, set_to}
 
 -- A transaction wrote a record at the key, or took the key out. The change is live, or was taken back.

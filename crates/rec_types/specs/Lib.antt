@@ -9,4 +9,7 @@ pub mod Limits
 pub mod Padded
 pub mod Record
 pub mod RecordBytes
+pub mod Sorted
+pub mod SortedFields
+pub mod Table
 pub mod Taken

@@ -5,10 +5,14 @@ mod keys;
 mod limiting;
 mod memory;
 mod records;
+mod sorting;
+mod tables;
 mod transactions;
 
 pub use keys::{Key, KeyFault};
 pub use limiting::{LimitFault, Limits};
 pub use memory::Memory;
 pub use records::{Record, RecordFault};
+pub use sorting::SortedTable;
+pub use tables::{Table, TableFault};
 pub use transactions::{Entry, TxId};

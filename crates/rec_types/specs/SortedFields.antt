@@ -1,0 +1,13 @@
+-- How a sorted table lies in its fields.
+use Rattle.std.specs.Prelude.{◌≤◌, length}
+use Rattle.std.specs.FinMap as maps
+use Rattle.rec_types.specs.Sorted.{SortedState, is_sorted}
+use Rattle.rec_types.specs.declared.sorting.SortedTable.TheInside.{Inside}
+
+abbrev pub state_of : Inside → SortedState
+state_of t = record { contents = maps.from_sorted t.records.items; limit = t.limit; refusals = t.refusals }
+
+pub record IsSortedTable (t : Inside) : Type 0 where
+  pub sorted : is_sorted t.records.items
+  pub within : length t.records.items ≤ t.limit
+  pub limited : t.limit ≤ 1000000

@@ -1,0 +1,117 @@
+ghost use Rattle.std.specs.Prelude.{◌≡◌, IfOk, IfErr};
+ghost use Rattle.std.specs.FinMap as maps;
+ghost use Rattle.rec_types.specs.Sorted.{is_sorted, IsAt, IsGapFor, SortedState};
+
+use crate::{Key, Limits, Record, Table, TableFault};
+use std::alloc::Global;
+use std::marker::Model;
+use std::mem;
+
+/// A table in a sorted vector. It is always sound, and never answers Device or Damaged.
+#[derive(Debug, Drop)]
+pub struct SortedTable {
+    records: Vec<(Key, Record)>,
+    limit: u32,
+    refusals: u64,
+}
+
+impl Model for SortedTable {
+    ghost use Rattle.std.specs.FinMap as maps;
+    ghost use Rattle.rec_types.specs.Sorted.{SortedState, coded_sorted_state};
+
+    ghost Value = { SortedState };
+
+    ghost coded = { coded_sorted_state };
+
+    ghost use Rattle.rec_types.specs.SortedFields.{state_of, IsSortedTable};
+
+    ghost view = { state_of };
+
+    ghost invariant = { IsSortedTable };
+}
+
+impl SortedTable {
+    /// An empty table for as many records as the limits say. It takes no memory.
+    pub fn new(alloc: Global, limits: Limits) -> SortedTable
+        ensures { result ≡ record { contents = maps.empty; limit = limits.records; refusals = 0 } }
+    {
+        SortedTable {
+            records: Vec::new(alloc),
+            limit: limits.records(),
+            refusals: 0,
+        }
+    }
+}
+
+// Where the key is, or where it would go.
+fn search(records: &[(Key, Record)], key: &Key) -> Result<usize, usize>
+    requires { is_sorted records.now }
+    ensures found { IfOk result (IsAt records.now key.now) }
+    ensures absent { IfErr result (IsGapFor records.now key.now) }
+{
+    records.binary_search_by_key(key, |&(k, _)| k)
+}
+
+impl Table for SortedTable {
+    ghost use Rattle.std.specs.Prelude.{true};
+
+    ghost contents = { λ t. t.contents };
+
+    ghost record_limit = { λ t. t.limit };
+
+    ghost sound = { λ _. true };
+
+    ghost device_failures = { λ _. 0 };
+
+    ghost memory_refusals = { λ t. t.refusals };
+
+    fn get(&mut self, key: &Key) -> Result<Option<Record>, TableFault> {
+        match search(&self.records, key) {
+            Ok(at) => Ok(Some(self.records[at].1)),
+            Err(_) => Ok(None),
+        }
+    }
+
+    fn set(&mut self, key: Key, to: Option<Record>) -> Result<Option<Record>, TableFault> {
+        match search(&self.records, &key) {
+            Ok(at) => match to {
+                Some(record) => Ok(Some(mem::replace(&mut self.records[at], (key, record)).1)),
+                None => Ok(Some(self.records.remove(at).1)),
+            },
+            Err(at) => match to {
+                Some(record) => {
+                    if self.records.len() == self.limit as usize {
+                        return Err(TableFault::NoRoom);
+                    }
+                    match self.records.insert(at, (key, record)) {
+                        Ok(()) => Ok(None),
+                        Err(_) => {
+                            self.refusals = self.refusals.saturating_add(1);
+                            Err(TableFault::Memory)
+                        }
+                    }
+                }
+                None => Ok(None),
+            },
+        }
+    }
+
+    fn entries(&mut self) -> Result<Vec<(Key, Record)>, TableFault> {
+        let alloc = *self.records.allocator();
+        match Vec::from_slice(alloc, &self.records) {
+            Ok(records) => Ok(records),
+            Err(_) => {
+                self.refusals = self.refusals.saturating_add(1);
+                Err(TableFault::Memory)
+            }
+        }
+    }
+
+    fn count(&self) -> u32 {
+        self.records.len() as u32
+    }
+
+    fn limit(&self) -> u32 {
+        self.limit
+    }
+}
