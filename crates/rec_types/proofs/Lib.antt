@@ -4,3 +4,5 @@ pub mod HistoryFacts
 pub mod KeptFacts
 pub mod Padding
 pub mod Places
+pub mod Sizes
+pub mod UseFacts
