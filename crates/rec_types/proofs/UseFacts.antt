@@ -1,5 +1,5 @@
 -- How a step changes the length of the log and its use.
-use Rattle.std.proofs.Common.{◌≡◌, ℕ, ◌+◌, ◌≤◌, ◌<◌, zero, suc, Bool, true, false, cond, if◌then◌else◌, not, ◌&&◌, eqb, nat_lt, List, [], ◌∷◌, ◌++◌, length, filter, refl, sym, ap, subst, ◌∙◌, IsTrue, arith, length-append}
+use Rattle.std.proofs.Common.{◌≡◌, ℕ, ◌+◌, ◌≤◌, ◌<◌, zero, suc, Bool, true, false, cond, if◌then◌else◌, not, ◌&&◌, eqb, nat_lt, List, [], ◌∷◌, ◌++◌, length, filter, refl, sym, ap, ◌∙◌, IsTrue, arith, length-append}
 use Rattle.std.proofs.lemmas.Bool.Decides.{nat_tests}
 use Rattle.rec_types.specs.History.{Change, live_of, taken_back, live_from, is_taken, is_pending, log_len, log_use}
 use Rattle.rec_types.specs.Kept.{Kept, change_of, history_of, AllBegun}
@@ -45,6 +45,7 @@ counts-undo_last is_open t (c ∷ h) some = at (nat_lt 0 (live_from h t zero)) (
         parts true true same live is = (live, grind (arith, nat_tests))
         parts true false same live is = absurd (cc)
         parts false l same live is = absurd (cc)
+
     at : (more own : Bool) → nat_lt 0 (live_from h t zero) ≡ more → live_of t c ≡ own → 0 < (if own then suc (live_from h t zero) else live_from h t zero) → (0 < live_from h t zero → Counts is_open t h (undo_last t h)) → Counts is_open t (c ∷ h) (if more then c ∷ undo_last t h else (if own then taken_back c else c) ∷ h)
     at true own more is some ih =
         let later = ih (grind (arith, nat_tests)) in
@@ -79,8 +80,10 @@ fewer_pending is_open also_open n (c ∷ cs) within begun = at c.live (also_open
   where
     old : ℕ
     old = length (filter (is_pending is_open) (history_of cs))
+
     new : ℕ
     new = length (filter (is_pending also_open) (history_of cs))
+
     at : (live also is : Bool) → c.live ≡ live → also_open c.tx ≡ also → is_open c.tx ≡ is → new ≤ old → length (filter (is_pending also_open) (history_of (c ∷ cs))) ≤ length (filter (is_pending is_open) (history_of (c ∷ cs)))
     at live also is live_is also_is is_is ih =
         let front = count_front (is_pending also_open) (change_of c) (history_of cs) (live && also) (λ i. live_is i && also_is i) in

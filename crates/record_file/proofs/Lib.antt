@@ -1,0 +1,3 @@
+pub mod AbsentFacts
+pub mod ChargedFacts
+pub mod FileFacts

@@ -1,0 +1,88 @@
+-- The abstract file.
+use Rattle.std.specs.Prelude.{◌≡◌, ℕ, ◌+◌, ◌≤◌, Bool, true, false, ◌&&◌, nat_le, nat_lt, is_none, List, [], ◌∷◌, ◌++◌, Option, Some, None, option_map, refl, IsTrue}
+use Rattle.std.specs.Coded.{Coded, code_by, coded×, coded_ℕ, coded_bool, coded_list, coded_option}
+use Rattle.std.specs.FinMap as maps
+use Rattle.rec_types.specs.LimitBounds.{Bounds, coded_bounds}
+use Rattle.rec_types.specs.Contents.{Contents, coded_contents}
+use Rattle.rec_types.specs.History.{Change, replay, log_use, log_len}
+use Rattle.rec_types.specs.Kept.{Kept, history_of, opening_of, BeforesFit}
+use Rattle.tx_log.specs.Transactions.{Transactions, Tx, coded_transactions, is_open}
+use Rattle.tx_log.specs.Owners.{holder_of, charged}
+use Rattle.tx_log.specs.LogState.{LogState, phase_of, open_in, history_in}
+use Rattle.tx_log.specs.declared.phases.Phase.{Phase}
+
+-- the contents that the session opened with, the history of its changes, how many transactions were begun, those
+-- that are open, and the limits
+pub record File : Type 0 where
+  pub opening : Contents
+  pub history : List Change
+  pub begun : ℕ
+  pub txs : Transactions
+  pub limits : Bounds
+
+abbrev pub coded_change : Coded Change
+coded_change = code_by (ℕ × (List ℕ × (Option (List ℕ) × Bool))) (coded× coded_ℕ (coded× (coded_list coded_ℕ) (coded× (coded_option (coded_list coded_ℕ)) coded_bool))) (λ c. (c.tx, (c.key, (c.after, c.live)))) (λ p. record { tx = p.0; key = p.1.0; after = p.1.1.0; live = p.1.1.1 }) (λ _. refl)
+
+abbrev pub coded_file : Coded File
+coded_file = code_by (Contents × (List Change × (ℕ × (Transactions × Bounds)))) (coded× coded_contents (coded× (coded_list coded_change) (coded× coded_ℕ (coded× coded_transactions coded_bounds)))) (λ f. (f.opening, (f.history, (f.begun, (f.txs, f.limits))))) (λ p. record { opening = p.0; history = p.1.0; begun = p.1.1.0; txs = p.1.1.1.0; limits = p.1.1.1.1 }) (λ _. refl)
+
+-- what the live changes leave of the opening contents
+abbrev pub records_of : File → Contents
+records_of f = replay f.opening f.history
+
+abbrev pub open_of : File → ℕ → Bool
+open_of f t = is_open f.txs t
+
+abbrev pub tx_of : File → ℕ → Option Tx
+tx_of f t = maps.get f.txs t
+
+abbrev pub phase_at : File → ℕ → Option Phase
+phase_at f t = option_map phase_of (tx_of f t)
+
+abbrev pub use_of : File → ℕ
+use_of f = log_use (open_of f) f.history
+
+-- the transaction that owns the key, where it is another
+abbrev pub held_by : File → ℕ → List ℕ → Option ℕ
+held_by f t x = holder_of (open_of f) f.history t x
+
+-- the keys that have a record, and those that are owned
+abbrev pub charged_of : File → Contents
+charged_of f = charged (open_of f) f.history (records_of f)
+
+-- the key isn't charged, and the charged keys have reached the limit
+abbrev pub is_full : File → List ℕ → Bool
+is_full f x = is_none (maps.get (charged_of f) x) && nat_le f.limits.records (maps.len (charged_of f))
+
+-- one more live change
+abbrev pub with_change : File → ℕ → List ℕ → Option (List ℕ) → File
+with_change f t x w = record f { history = f.history ++ record { tx = t; key = x; after = w; live = true } ∷ [] }
+
+-- nothing was begun
+abbrev pub new_file : Contents → Bounds → File
+new_file m limits = record { opening = m; history = []; begun = 0; txs = maps.empty; limits = limits }
+
+-- the table itself, and the abstract file that it and the log stand for
+pub record OpenFile (T : Type 0) : Type 0 where
+  pub table : T
+  pub file : File
+
+abbrev pub coded_open_file : {T : Type 0} → Coded T → Coded (OpenFile T)
+coded_open_file {T} t = code_by (T × File) (coded× t coded_file) (λ s. (s.table, s.file)) (λ p. record { table = p.0; file = p.1 }) (λ _. refl)
+
+-- the file of a log over a table's present contents
+abbrev pub file_of : LogState → Contents → File
+file_of log m = record { opening = opening_of log.changes m; history = history_of log.changes; begun = log.begun; txs = log.txs; limits = log.limits }
+
+-- the contents are the replay, and each live change knows what stood before it
+pub record Fits (cs : List Kept) (now : Contents) : Type 0 where
+  pub replayed : now ≡ replay (opening_of cs now) (history_of cs)
+  pub befores : BeforesFit (opening_of cs now) cs
+
+-- what is true of every file over a table: the limits agree, and over a sound table the contents are the replay and
+-- the charged keys don't exceed the limit
+pub record IsRecordFile (sound : Bool) (now : Contents) (limit : ℕ) (log : LogState) (limits : Bounds) : Type 0 where
+  pub limited : limit ≡ limits.records
+  pub same_limits : log.limits ≡ limits
+  pub fits : IsTrue sound → Fits log.changes now
+  pub within : IsTrue sound → maps.len (charged (open_in log) (history_in log) now) ≤ limits.records

@@ -1,0 +1,279 @@
+-- The steps of the abstract file: from an old file a call may give this answer and go on to a new one. Where the
+-- table's device failed during the call it says so by `failed`, where it refused memory by `refused`.
+use Rattle.std.specs.Prelude.{◌≡◌, ℕ, ◌+◌, ◌-◌, ◌<◌, ◌≤◌, zero, suc, Bool, true, false, nat_lt, nat_le, ◌&&◌, if◌then◌else◌, List, [], ◌∷◌, ◌++◌, map, length, take, Option, Some, None, option_map, Result, Ok, Err, IsTrue, IsSome}
+use Rattle.std.specs.Global.{Vec}
+use Rattle.std.specs.FinMap as maps
+use Rattle.rec_types.specs.Contents.{Contents}
+use Rattle.rec_types.specs.History.{Change, replay, live_from, take_back, take_newest, own_count, log_len}
+use Rattle.rec_types.specs.declared.transactions.TxId.{TxId}
+use Rattle.rec_types.specs.declared.transactions.Entry.{Entry}
+use Rattle.tx_log.specs.Transactions.{Transactions, Tx, Rollback, fresh, place_in, depth_of, live_in, left_of}
+use Rattle.tx_log.specs.Owners.{owner_of, keys_owned}
+use Rattle.tx_log.specs.LogState.{active_with, rolling_to, places_of, finished}
+use Rattle.tx_log.specs.declared.phases.Phase.{Phase}
+use Rattle.tx_log.specs.declared.phases.Phase.TheVariants as phases
+use Rattle.tx_log.specs.declared.phases.BeginFault.{BeginFault}
+use Rattle.tx_log.specs.declared.phases.BeginFault.TheVariants as begin_faults
+use Rattle.record_file.specs.declared.faults.Cause.{Cause}
+use Rattle.record_file.specs.declared.faults.Cause.TheVariants as causes
+use Rattle.record_file.specs.declared.faults.PutFault.{PutFault}
+use Rattle.record_file.specs.declared.faults.PutFault.TheVariants as put_faults
+use Rattle.record_file.specs.declared.faults.RemoveFault.{RemoveFault}
+use Rattle.record_file.specs.declared.faults.RemoveFault.TheVariants as remove_faults
+use Rattle.record_file.specs.declared.faults.GetFault.{GetFault}
+use Rattle.record_file.specs.declared.faults.GetFault.TheVariants as get_faults
+use Rattle.record_file.specs.declared.faults.SavepointFault.{SavepointFault}
+use Rattle.record_file.specs.declared.faults.SavepointFault.TheVariants as savepoint_faults
+use Rattle.record_file.specs.declared.faults.ReleaseFault.{ReleaseFault}
+use Rattle.record_file.specs.declared.faults.ReleaseFault.TheVariants as release_faults
+use Rattle.record_file.specs.declared.faults.RollbackToFault.{RollbackToFault}
+use Rattle.record_file.specs.declared.faults.RollbackToFault.TheVariants as rollback_faults
+use Rattle.record_file.specs.declared.faults.AbortFault.{AbortFault}
+use Rattle.record_file.specs.declared.faults.AbortFault.TheVariants as abort_faults
+use Rattle.record_file.specs.declared.faults.ResumeFault.{ResumeFault}
+use Rattle.record_file.specs.declared.faults.ResumeFault.TheVariants as resume_faults
+use Rattle.record_file.specs.declared.faults.CommitFault.{CommitFault}
+use Rattle.record_file.specs.declared.faults.CommitFault.TheVariants as commit_faults
+use Rattle.record_file.specs.declared.faults.EntriesFault.{EntriesFault}
+use Rattle.record_file.specs.declared.faults.EntriesFault.TheVariants as entries_faults
+use Rattle.record_file.specs.declared.faults.KeysOfFault.{KeysOfFault}
+use Rattle.record_file.specs.declared.faults.KeysOfFault.TheVariants as keys_faults
+use Rattle.record_file.specs.declared.faults.StatusFault.{StatusFault}
+use Rattle.record_file.specs.declared.faults.StatusFault.TheVariants as status_faults
+use Rattle.record_file.specs.declared.faults.Status.{Status}
+use Rattle.record_file.specs.declared.faults.Status.TheVariants as statuses
+use Rattle.record_file.specs.Abstract.{File, records_of, open_of, tx_of, phase_at, use_of, held_by, is_full, with_change}
+
+-- whether a number rose
+abbrev pub rose : ℕ → ℕ → Bool
+rose old new = nat_lt old new
+
+-- begin
+
+abbrev pub BeginStep : File → Result TxId BeginFault → File → Type 0
+BeginStep old (Ok tx) new = (old.begun < old.limits.begins) × (tx.0 ≡ old.begun + 1) × (new ≡ record old { begun = old.begun + 1; txs = maps.insert old.txs (old.begun + 1) fresh })
+BeginStep old (Err begin_faults.BeginsSpent) new = (old.limits.begins ≤ old.begun) × (new ≡ old)
+BeginStep old (Err begin_faults.Memory) new = (old.begun < old.limits.begins) × (new ≡ old)
+
+-- put and remove: what the file alone refuses them for
+
+abbrev pub put_held : File → Option ℕ → Option PutFault
+put_held f None = if nat_lt f.limits.log_records (use_of f + 2) then Some put_faults.LogFull else None
+put_held f (Some owner) = Some (put_faults.Held (record { 0 = owner }))
+
+abbrev pub put_in : File → ℕ → List ℕ → Option Phase → Option PutFault
+put_in f t x None = Some put_faults.NoSuchTx
+put_in f t x (Some (phases.Rolling ends)) = Some put_faults.Rolling
+put_in f t x (Some phases.Active) = put_held f (held_by f t x)
+
+abbrev pub put_refusal : File → ℕ → List ℕ → Option PutFault
+put_refusal f t x = put_in f t x (phase_at f t)
+
+abbrev pub remove_held : File → Option ℕ → Option RemoveFault
+remove_held f None = if nat_lt f.limits.log_records (use_of f + 2) then Some remove_faults.LogFull else None
+remove_held f (Some owner) = Some (remove_faults.Held (record { 0 = owner }))
+
+abbrev pub remove_in : File → ℕ → List ℕ → Option Phase → Option RemoveFault
+remove_in f t x None = Some remove_faults.NoSuchTx
+remove_in f t x (Some (phases.Rolling ends)) = Some remove_faults.Rolling
+remove_in f t x (Some phases.Active) = remove_held f (held_by f t x)
+
+abbrev pub remove_refusal : File → ℕ → List ℕ → Option RemoveFault
+remove_refusal f t x = remove_in f t x (phase_at f t)
+
+-- A put answers the record that stood there, and its change is live at the end of the history. The device's
+-- failure comes before a want of room, and that before a want of memory.
+abbrev pub PutStep : File → ℕ → List ℕ → List ℕ → Bool → Result (Option (List ℕ)) PutFault → File → Type 0
+PutStep old t x r failed (Ok before) new = (put_refusal old t x ≡ None) × (failed ≡ false) × (is_full old x ≡ false) × (before ≡ maps.get (records_of old) x) × (new ≡ with_change old t x (Some r))
+PutStep old t x r failed (Err put_faults.Device) new = (put_refusal old t x ≡ None) × (failed ≡ true) × (new ≡ old)
+PutStep old t x r failed (Err put_faults.Full) new = (put_refusal old t x ≡ None) × (failed ≡ false) × (is_full old x ≡ true) × (new ≡ old)
+PutStep old t x r failed (Err put_faults.Memory) new = (put_refusal old t x ≡ None) × (failed ≡ false) × (is_full old x ≡ false) × (new ≡ old)
+PutStep old t x r failed (Err (put_faults.Damaged page)) new = ⊥
+PutStep old t x r failed (Err fault) new = (put_refusal old t x ≡ Some fault) × (failed ≡ false) × (new ≡ old)
+
+-- A removal answers the record that it takes out.
+abbrev pub RemoveStep : File → ℕ → List ℕ → Bool → Result (List ℕ) RemoveFault → File → Type 0
+RemoveStep old t x failed (Ok before) new = (remove_refusal old t x ≡ None) × (failed ≡ false) × (maps.get (records_of old) x ≡ Some before) × (new ≡ with_change old t x None)
+RemoveStep old t x failed (Err remove_faults.Device) new = (remove_refusal old t x ≡ None) × (failed ≡ true) × (new ≡ old)
+RemoveStep old t x failed (Err remove_faults.Absent) new = (remove_refusal old t x ≡ None) × (failed ≡ false) × (maps.get (records_of old) x ≡ None) × (new ≡ old)
+RemoveStep old t x failed (Err remove_faults.Memory) new = (remove_refusal old t x ≡ None) × (failed ≡ false) × IsSome (maps.get (records_of old) x) × (new ≡ old)
+RemoveStep old t x failed (Err (remove_faults.Damaged page)) new = ⊥
+RemoveStep old t x failed (Err fault) new = (remove_refusal old t x ≡ Some fault) × (failed ≡ false) × (new ≡ old)
+
+-- get
+
+abbrev pub get_held : Option ℕ → Option GetFault
+get_held None = None
+get_held (Some owner) = Some (get_faults.Held (record { 0 = owner }))
+
+abbrev pub get_in : File → ℕ → List ℕ → Option Phase → Option GetFault
+get_in f t x None = Some get_faults.NoSuchTx
+get_in f t x (Some (phases.Rolling ends)) = Some get_faults.Rolling
+get_in f t x (Some phases.Active) = get_held (held_by f t x)
+
+abbrev pub get_refusal : File → ℕ → List ℕ → Option GetFault
+get_refusal f t x = get_in f t x (phase_at f t)
+
+abbrev pub GetStep : File → ℕ → List ℕ → Bool → Result (Option (List ℕ)) GetFault → File → Type 0
+GetStep old t x failed (Ok found) new = (get_refusal old t x ≡ None) × (failed ≡ false) × (found ≡ maps.get (records_of old) x) × (new ≡ old)
+GetStep old t x failed (Err get_faults.Device) new = (get_refusal old t x ≡ None) × (failed ≡ true) × (new ≡ old)
+GetStep old t x failed (Err (get_faults.Damaged page)) new = ⊥
+GetStep old t x failed (Err fault) new = (get_refusal old t x ≡ Some fault) × (failed ≡ false) × (new ≡ old)
+
+-- savepoints
+
+abbrev pub places_at : File → ℕ → List ℕ
+places_at f t = places_of (tx_of f t)
+
+abbrev pub savepoint_in : ℕ → Option Phase → Option SavepointFault
+savepoint_in depth None = Some savepoint_faults.NoSuchTx
+savepoint_in depth (Some (phases.Rolling ends)) = Some savepoint_faults.Rolling
+savepoint_in depth (Some phases.Active) = if nat_lt depth 32 then None else Some savepoint_faults.TooDeep
+
+abbrev pub savepoint_refusal : File → ℕ → Option SavepointFault
+savepoint_refusal f t = savepoint_in (depth_of (tx_of f t)) (phase_at f t)
+
+-- a savepoint keeps how many changes the transaction has made, and answers how many savepoints there are now
+abbrev pub SavepointStep : File → ℕ → Result ℕ SavepointFault → File → Type 0
+SavepointStep old t (Ok n) new = (savepoint_refusal old t ≡ None) × (n ≡ depth_of (tx_of old t) + 1) × (new ≡ record old { txs = maps.insert old.txs t (active_with (places_at old t ++ own_count old.history t ∷ [])) })
+SavepointStep old t (Err fault) new = (savepoint_refusal old t ≡ Some fault) × (new ≡ old)
+
+abbrev pub release_in : ℕ → ℕ → Option Phase → Option ReleaseFault
+release_in n depth None = Some release_faults.NoSuchTx
+release_in n depth (Some (phases.Rolling ends)) = Some release_faults.Rolling
+release_in n depth (Some phases.Active) = if nat_lt 0 n && nat_le n depth then None else Some release_faults.NoSuchSave
+
+abbrev pub release_refusal : File → ℕ → ℕ → Option ReleaseFault
+release_refusal f t n = release_in n (depth_of (tx_of f t)) (phase_at f t)
+
+-- savepoint n and those above it are dropped
+abbrev pub ReleaseStep : File → ℕ → ℕ → Result (Unit {0}) ReleaseFault → File → Type 0
+ReleaseStep old t n (Ok done) new = (release_refusal old t n ≡ None) × (new ≡ record old { txs = maps.insert old.txs t (active_with (take (n - 1) (places_at old t))) })
+ReleaseStep old t n (Err fault) new = (release_refusal old t n ≡ Some fault) × (new ≡ old)
+
+-- commit
+
+abbrev pub commit_in : Option Phase → Option CommitFault
+commit_in None = Some commit_faults.NoSuchTx
+commit_in (Some (phases.Rolling ends)) = Some commit_faults.Rolling
+commit_in (Some phases.Active) = None
+
+abbrev pub commit_refusal : File → ℕ → Option CommitFault
+commit_refusal f t = commit_in (phase_at f t)
+
+-- the transaction has ended, and its changes stay
+abbrev pub CommitStep : File → ℕ → Result (Unit {0}) CommitFault → File → Type 0
+CommitStep old t (Ok done) new = (commit_refusal old t ≡ None) × (new ≡ record old { txs = maps.remove old.txs t })
+CommitStep old t (Err fault) new = (commit_refusal old t ≡ Some fault) × (new ≡ old)
+
+-- rollback
+
+-- the cause of a stop: the device exactly where it failed, memory exactly where the table refused it
+abbrev pub IsCause : Bool → Bool → Cause → Type 0
+IsCause failed refused causes.Device = (failed ≡ true) × (refused ≡ false)
+IsCause failed refused causes.Memory = (failed ≡ false) × (refused ≡ true)
+IsCause failed refused (causes.Damaged page) = ⊥
+
+-- of the changes from place p on, the newest `undone` were taken back, fewer than there are
+abbrev pub StopsAt : File → ℕ → ℕ → Transactions → Bool → Bool → ℕ → ℕ → Cause → File → Type 0
+StopsAt old t p txs failed refused undone left cause new =
+    (undone < live_from old.history t p) × (left ≡ live_from old.history t p - undone) × IsCause failed refused cause
+    × (new ≡ record old { history = take_newest old.history t p undone; txs = txs })
+
+-- every one of them was taken back
+abbrev pub TakesBack : File → ℕ → ℕ → Transactions → Bool → Bool → ℕ → File → Type 0
+TakesBack old t p txs failed refused undone new =
+    (failed ≡ false) × (refused ≡ false) × (undone ≡ live_from old.history t p) × (new ≡ record old { history = take_back old.history t p; txs = txs })
+
+abbrev pub rollback_in : ℕ → ℕ → Option Phase → Option RollbackToFault
+rollback_in n depth None = Some rollback_faults.NoSuchTx
+rollback_in n depth (Some (phases.Rolling ends)) = Some rollback_faults.Rolling
+rollback_in n depth (Some phases.Active) = if nat_le n depth then None else Some rollback_faults.NoSuchSave
+
+abbrev pub rollback_refusal : File → ℕ → ℕ → Option RollbackToFault
+rollback_refusal f t n = rollback_in n (depth_of (tx_of f t)) (phase_at f t)
+
+-- Back to savepoint n, which stays; those above it are dropped at once.
+abbrev pub RollbackToStep : File → ℕ → ℕ → Bool → Bool → Result ℕ RollbackToFault → File → Type 0
+RollbackToStep old t n failed refused (Ok undone) new =
+    (rollback_refusal old t n ≡ None) × TakesBack old t (place_in (places_at old t) n) (maps.insert old.txs t (active_with (take n (places_at old t)))) failed refused undone new
+RollbackToStep old t n failed refused (Err (rollback_faults.Stopped undone left cause)) new =
+    (rollback_refusal old t n ≡ None) × StopsAt old t (place_in (places_at old t) n) (maps.insert old.txs t (rolling_to (places_at old t) n false)) failed refused undone left cause new
+RollbackToStep old t n failed refused (Err fault) new = (rollback_refusal old t n ≡ Some fault) × (failed ≡ false) × (refused ≡ false) × (new ≡ old)
+
+abbrev pub abort_in : Option Phase → Option AbortFault
+abort_in None = Some abort_faults.NoSuchTx
+abort_in (Some (phases.Rolling ends)) = Some abort_faults.Rolling
+abort_in (Some phases.Active) = None
+
+abbrev pub abort_refusal : File → ℕ → Option AbortFault
+abort_refusal f t = abort_in (phase_at f t)
+
+-- back to the beginning; the transaction then has ended
+abbrev pub AbortStep : File → ℕ → Bool → Bool → Result ℕ AbortFault → File → Type 0
+AbortStep old t failed refused (Ok undone) new = (abort_refusal old t ≡ None) × TakesBack old t zero (maps.remove old.txs t) failed refused undone new
+AbortStep old t failed refused (Err (abort_faults.Stopped undone left cause)) new =
+    (abort_refusal old t ≡ None) × StopsAt old t zero (maps.insert old.txs t (rolling_to (places_at old t) zero true)) failed refused undone left cause new
+AbortStep old t failed refused (Err fault) new = (abort_refusal old t ≡ Some fault) × (failed ≡ false) × (refused ≡ false) × (new ≡ old)
+
+abbrev pub resume_in : Option Phase → Option ResumeFault
+resume_in None = Some resume_faults.NoSuchTx
+resume_in (Some (phases.Rolling ends)) = None
+resume_in (Some phases.Active) = Some resume_faults.NotRolling
+
+abbrev pub resume_refusal : File → ℕ → Option ResumeFault
+resume_refusal f t = resume_in (phase_at f t)
+
+abbrev pub to_of : Option Rollback → ℕ
+to_of None = 0
+to_of (Some r) = r.to
+
+-- the place that a rollback under way goes back to
+abbrev pub rolling_place : Option Tx → ℕ
+rolling_place None = 0
+rolling_place (Some tx) = to_of tx.rollback
+
+-- a rollback under way goes on from where it stopped
+abbrev pub ResumeStep : File → ℕ → Bool → Bool → Result ℕ ResumeFault → File → Type 0
+ResumeStep old t failed refused (Ok undone) new = (resume_refusal old t ≡ None) × TakesBack old t (rolling_place (tx_of old t)) (finished old.txs t (tx_of old t)) failed refused undone new
+ResumeStep old t failed refused (Err (resume_faults.Stopped undone left cause)) new =
+    (resume_refusal old t ≡ None) × StopsAt old t (rolling_place (tx_of old t)) old.txs failed refused undone left cause new
+ResumeStep old t failed refused (Err fault) new = (resume_refusal old t ≡ Some fault) × (failed ≡ false) × (refused ≡ false) × (new ≡ old)
+
+-- looking
+
+-- a record with the transaction that owns its key
+abbrev pub entry_of : File → List ℕ × List ℕ → Entry
+entry_of f e = record { key = e.0; value = e.1; owner = option_map (λ t. let tx : TxId = record { 0 = t } in tx) (owner_of (open_of f) f.history e.0) }
+
+-- the records in key order, each with the owner of its key
+abbrev pub entries_of : File → List Entry
+entries_of f = map (entry_of f) (maps.entries (records_of f))
+
+-- the list in a vector
+abbrev pub listed : {X E : Type 0} → Result (Vec X) E → Result (List X) E
+listed (Ok v) = Ok v.items
+listed (Err fault) = Err fault
+
+abbrev pub EntriesStep : File → Bool → Bool → Result (List Entry) EntriesFault → File → Type 0
+EntriesStep old failed refused (Ok entries) new = (failed ≡ false) × (entries ≡ entries_of old) × (new ≡ old)
+EntriesStep old failed refused (Err entries_faults.Device) new = (failed ≡ true) × (new ≡ old)
+EntriesStep old failed refused (Err entries_faults.Memory) new = (failed ≡ false) × (new ≡ old)
+EntriesStep old failed refused (Err (entries_faults.Damaged page)) new = ⊥
+
+abbrev pub KeysOfStep : File → ℕ → Result (List (List ℕ)) KeysOfFault → Type 0
+KeysOfStep f t (Ok keys) = (IsSome (tx_of f t)) × (keys ≡ keys_owned (open_of f) f.history t)
+KeysOfStep f t (Err keys_faults.NoSuchTx) = tx_of f t ≡ None
+KeysOfStep f t (Err keys_faults.Memory) = IsSome (tx_of f t)
+
+abbrev pub status_by : File → ℕ → List ℕ → Option Rollback → Status
+status_by f t places None = statuses.Active (length places) (live_from f.history t zero)
+status_by f t places (Some r) = statuses.Rolling (live_from f.history t r.to) r.ends
+
+abbrev pub status_in : File → ℕ → Option Tx → Result Status StatusFault
+status_in f t None = Err status_faults.NoSuchTx
+status_in f t (Some tx) = Ok (status_by f t tx.places tx.rollback)
+
+-- what an open transaction is doing
+abbrev pub status_of : File → ℕ → Result Status StatusFault
+status_of f t = status_in f t (tx_of f t)
