@@ -1,3 +1,5 @@
 pub mod AbsentFacts
 pub mod ChargedFacts
 pub mod FileFacts
+pub mod TxFacts
+pub mod StateFacts
