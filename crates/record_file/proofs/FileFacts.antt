@@ -46,8 +46,8 @@ fits_put cs m lsn t x before w fits is =
     let c = change lsn t x before w in
     record {
       replayed = ap (λ (n : Contents). set_to n x w) fits.replayed
-        ∙ sym (replay-push (history_of cs) (change_of c) (opening_of cs m))
-        ∙ (λ i. replay (sym opening i) (sym (history-push cs c) i));
+          ∙ sym (replay-push (history_of cs) (change_of c) (opening_of cs m))
+          ∙ (λ i. replay (sym opening i) (sym (history-push cs c) i));
       befores = subst (λ (b : Contents). BeforesFit b (cs ++ c ∷ [])) (sym opening) (befores-push cs c (opening_of cs m) fits.befores (is ∙ ap (λ (n : Contents). get n x) fits.replayed));
     }
 
@@ -69,8 +69,8 @@ fits_undo is_open cs m t u owned open_t newest fits =
     let opening = opening_undo t cs u m newest in
     record {
       replayed = ap (λ (n : Contents). set_to n u.key u.before) fits.replayed
-        ∙ sym (replay-undone is_open t cs u (opening_of cs m) owned open_t fits.befores newest)
-        ∙ ap (λ (b : Contents). replay b (history_of (undone t cs))) (sym opening);
+          ∙ sym (replay-undone is_open t cs u (opening_of cs m) owned open_t fits.befores newest)
+          ∙ ap (λ (b : Contents). replay b (history_of (undone t cs))) (sym opening);
       befores = subst (λ (b : Contents). BeforesFit b (undone t cs)) (sym opening) (befores-undone is_open t cs (opening_of cs m) owned open_t fits.befores);
     }
 
@@ -99,16 +99,19 @@ charged_after is_open cs m lsn t x before w q is =
   where
     c : Kept
     c = change lsn t x before w
+
     Goal : Type 0
     Goal = has (charged is_open (history_of cs) m) q ≡ true
+
     at : (same : Bool) → same_key q x ≡ same → ((claimed is_open (history_of (cs ++ c ∷ [])) q ≡ true → Goal) → (has (set_to m x w) q ≡ true → Goal) → Goal) → cond same true (has (charged is_open (history_of cs) m) q) ≡ true
     at true same cases = refl
     at false apart cases = cases
-      (λ owns. has-charged is_open (history_of cs) m q ∙ or_first (claimed is_open (history_of cs) q) (has m q) (not_mine (is_open t) (claimed is_open (history_of cs) q) (sym (ap (λ h. claimed is_open h q) (history-push cs c) ∙ claimed-push is_open (history_of cs) (change_of c) q) ∙ owns)))
-      (λ there. has-charged is_open (history_of cs) m q ∙ or_second (claimed is_open (history_of cs) q) (has m q) (sym (has-set_to m x w q ∙ ap (λ b. cond b (is_some w) (has m q)) apart) ∙ there))
+        (λ owns. has-charged is_open (history_of cs) m q ∙ or_first (claimed is_open (history_of cs) q) (has m q) (not_mine (is_open t) (claimed is_open (history_of cs) q) (sym (ap (λ h. claimed is_open h q) (history-push cs c) ∙ claimed-push is_open (history_of cs) (change_of c) q) ∙ owns)))
+        (λ there. has-charged is_open (history_of cs) m q ∙ or_second (claimed is_open (history_of cs) q) (has m q) (sym (has-set_to m x w q ∙ ap (λ b. cond b (is_some w) (has m q)) apart) ∙ there))
       where
         elsewhere : same_key x q ≡ false
         elsewhere = same_key-sym x q ∙ apart
+
         not_mine : (opened owned : Bool) → owned || (opened && same_key x q) ≡ true → owned ≡ true
         not_mine opened true is = refl
         not_mine true false is = absurd (cc (sym elsewhere ∙ is))
@@ -120,10 +123,13 @@ charged_put is_open cs m limit lsn t x before w within room = at (has (charged i
   where
     old : Contents
     old = charged is_open (history_of cs) m
+
     new : Contents
     new = charged is_open (history_of (cs ++ change lsn t x before w ∷ [])) (set_to m x w)
+
     fewer : len new ≤ len (set_to old x (Some []))
     fewer = len-within new (set_to old x (Some [])) (charged_after is_open cs m lsn t x before w)
+
     at : (there : Bool) → has old x ≡ there → len new ≤ limit
     at true is = omega (arith, fewer, len_known old x [] is)
     at false is = omega (arith, fewer, len_new old x [] is, room is)
@@ -132,8 +138,8 @@ charged_put is_open cs m limit lsn t x before w within room = at (has (charged i
 charged_back : (is_open : ℕ → Bool) (cs : List Kept) (m : Contents) (t : ℕ) (u : Kept) → is_open t ≡ true → newest_live t cs ≡ Some u → IsWithin (charged is_open (history_of (undone t cs)) (set_to m u.key u.before)) (charged is_open (history_of cs) m)
 charged_back is_open cs m t u open_t newest q is =
     or_either (claimed is_open (history_of (undone t cs)) q) (has (set_to m u.key u.before) q) (sym (has-charged is_open (history_of (undone t cs)) (set_to m u.key u.before) q) ∙ is) (has (charged is_open (history_of cs) m) q ≡ true)
-      (λ owns. has-charged is_open (history_of cs) m q ∙ or_first (claimed is_open (history_of cs) q) (has m q) (claimed-undone is_open t cs q owns))
-      (λ there. at (same_key q u.key) refl (sym (has-set_to m u.key u.before q) ∙ there))
+    (λ owns. has-charged is_open (history_of cs) m q ∙ or_first (claimed is_open (history_of cs) q) (has m q) (claimed-undone is_open t cs q owns))
+    (λ there. at (same_key q u.key) refl (sym (has-set_to m u.key u.before q) ∙ there))
   where
     at : (same : Bool) → same_key q u.key ≡ same → cond same (is_some u.before) (has m q) ≡ true → has (charged is_open (history_of cs) m) q ≡ true
     at true same there = has-charged is_open (history_of cs) m q ∙ or_first (claimed is_open (history_of cs) q) (has m q) (ap (claimed is_open (history_of cs)) (same_key-is q u.key same) ∙ claimed-newest is_open t cs u open_t newest)
@@ -144,10 +150,13 @@ charged_undo is_open cs m limit t u open_t newest within = omega (arith, len-wit
 
 -- with fewer transactions open, or one more of which there is no change, no further key is charged
 pub charged_within : (is_open also_open : ℕ → Bool) (n : ℕ) (cs : List Kept) (m : Contents) (limit : ℕ) → ((t : ℕ) → t ≤ n → IsTrue (also_open t) → IsTrue (is_open t)) → AllBegun n cs → len (charged is_open (history_of cs) m) ≤ limit → len (charged also_open (history_of cs) m) ≤ limit
-charged_within is_open also_open n cs m limit within begun size = omega (arith, len-within (charged also_open (history_of cs) m) (charged is_open (history_of cs) m) (λ q is.
-    or_either (claimed also_open (history_of cs) q) (has m q) (sym (has-charged also_open (history_of cs) m q) ∙ is) (has (charged is_open (history_of cs) m) q ≡ true)
+charged_within is_open also_open n cs m limit within begun size = omega (
+  arith,
+  len-within (charged also_open (history_of cs) m) (charged is_open (history_of cs) m) (λ q is.
+      or_either (claimed also_open (history_of cs) q) (has m q) (sym (has-charged also_open (history_of cs) m q) ∙ is) (has (charged is_open (history_of cs) m) q ≡ true)
       (λ owns. has-charged is_open (history_of cs) m q ∙ or_first (claimed is_open (history_of cs) q) (has m q) (claimed-within is_open also_open n cs q within begun owns))
-      (λ there. has-charged is_open (history_of cs) m q ∙ or_second (claimed is_open (history_of cs) q) (has m q) there)))
+      (λ there. has-charged is_open (history_of cs) m q ∙ or_second (claimed is_open (history_of cs) q) (has m q) there)),
+)
 
 -- Taking back is never refused for room: the key is owned, so it is charged, and if it has no record there are
 -- fewer records than charged keys.

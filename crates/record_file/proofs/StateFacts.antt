@@ -53,7 +53,7 @@ module _ (sound : Bool) (now : Contents) (limit : ℕ) (log : LogState) (limits 
 
   -- one more live change, put into the table
   pub file_put : (room : Option (List ℕ)) (lsn t : ℕ) (x : List ℕ) (before w : Option (List ℕ)) → (IsTrue sound → before ≡ get now x) → (IsTrue sound → has (charged (open_in log) (history_in log) now) x ≡ false → len (charged (open_in log) (history_in log) now) < limits.records)
-    → IsRecordFile sound (set_to now x w) limit (record log { changes = log.changes ++ change lsn t x before w ∷ []; room = room }) limits
+      → IsRecordFile sound (set_to now x w) limit (record log { changes = log.changes ++ change lsn t x before w ∷ []; room = room }) limits
   file_put room lsn t x before w stood room_for = record {
     limited = old.limited;
     same_limits = old.same_limits;

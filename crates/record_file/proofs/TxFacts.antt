@@ -50,12 +50,14 @@ len_without txs t is = at (get txs t) refl is
   where
     gone : is_open (remove txs t) t ≡ false
     gone = open-remove txs t t ∙ ap (λ b. cond b false (is_open txs t)) (same_tx-refl t)
+
     back : (tx : Tx) → get txs t ≡ Some tx → insert (remove txs t) t tx ≡ txs
     back tx there = same_txs _ _ (λ q. get-insert_tx (remove txs t) t tx q ∙ ap (cond (same_tx q t) (Some tx)) (get-remove_tx txs t q) ∙ here q (same_tx q t) refl)
       where
         here : (q : ℕ) (b : Bool) → same_tx q t ≡ b → cond b (Some tx) (cond b None (get txs q)) ≡ get txs q
         here q true same = sym (ap (get txs) (same_tx-is q t same) ∙ there)
         here q false apart = refl
+
     at : (o : Option Tx) → get txs t ≡ o → is_some o ≡ true → len (remove txs t) + 1 ≡ len txs
     at None there some = absurd (cc)
     at (Some tx) there some = sym (len-insert nat_cmp_total (remove txs t) t tx ∙ ap (λ b. cond b (len (remove txs t)) (len (remove txs t) + 1)) gone) ∙ ap len (back tx there)
@@ -73,6 +75,7 @@ fewer_up_to txs t (suc n) lt = λ i. cond (here i) 1 0 + fewer_up_to txs t n (om
         at : (b : Bool) → same_tx (suc n) t ≡ b → same_tx (suc n) t ≡ false
         at true same = absurd (omega (arith, same_tx-is (suc n) t same))
         at false is = is
+
     here : is_open (remove txs t) (suc n) ≡ is_open txs (suc n)
     here = open-remove txs t (suc n) ∙ ap (λ b. cond b false (is_open txs (suc n))) apart
 
@@ -96,6 +99,7 @@ len-open_up_to (suc n) txs within = at (is_open txs (suc n)) refl (len-open_up_t
           where
             differ : (t ≡ suc n → ⊥) → t ≤ suc n → t ≤ n
             differ other le = omega arith
+
     at : (b : Bool) → is_open txs (suc n) ≡ b → len (remove txs (suc n)) ≡ open_up_to (remove txs (suc n)) n → len txs ≡ cond b 1 0 + open_up_to txs n
     at true is rest = omega (arith, len_without txs (suc n) is, rest, fewer_up_to txs (suc n) n (omega arith))
     at false is rest = omega (arith, len_kept txs (suc n) is, rest, fewer_up_to txs (suc n) n (omega arith))

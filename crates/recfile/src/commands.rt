@@ -1,0 +1,27 @@
+use rec_types::{Key, Record, TxId};
+
+/// A call that a script line asks for.
+#[derive(Clone, Copy, Debug)]
+pub enum Command {
+    Begin,
+    Put(TxId, Key, Record),
+    Del(TxId, Key),
+    Get(TxId, Key),
+    Save(TxId),
+    Release(TxId, u32),
+    Back(TxId, u32),
+    Resume(TxId),
+    Abort(TxId),
+    Commit(TxId),
+    List,
+    Keys(TxId),
+    Log,
+}
+
+/// What a script line says: nothing, what can't be read, or a command.
+#[derive(Clone, Copy, Debug)]
+pub enum Line {
+    Nothing,
+    Unread,
+    Said(Command),
+}
