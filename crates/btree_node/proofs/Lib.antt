@@ -1,0 +1,10 @@
+pub mod BlockFacts
+pub mod CutFacts
+pub mod HeaderFacts
+pub mod NodeFacts
+pub mod OrderFacts
+pub mod PlaceFacts
+pub mod SearchFacts
+pub mod SpelledFacts
+pub mod WriterFacts
+pub mod ZeroFacts

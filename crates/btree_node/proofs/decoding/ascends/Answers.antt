@@ -1,0 +1,13 @@
+use Rattle.std.proofs.Common.{arith, sym, ◌∙◌}
+use Rattle.std.proofs.lemmas.Bool.{false≢true}
+use Rattle.btree_node.proofs.OrderFacts.{Ascends-more, Ascends-neighbours}
+use Rattle.btree_node.proofs.decoding.ascends.Goals as goal
+
+pub returns-then-not-is_below : goal.returns-then-not-is_below
+returns-then-not-is_below c = (
+  λ e. absurd (false≢true e),
+  λ up. absurd (false≢true (sym c.if-not-is_below.true ∙ c.is_below.ensures.1 (Ascends-neighbours c.args.elements.now c.loop-i.i c.index-elements-i.result c.index-elements-i-in-loop-i.result (omega arith) (omega arith) up))),
+)
+
+pub loop-i-preserved : goal.loop-i-preserved
+loop-i-preserved c = Ascends-more c.args.elements.now c.loop-i.i c.index-elements-i.result c.index-elements-i-in-loop-i.result (omega arith) (omega arith) c.loop-i.invariant (c.is_below.ensures.0 c.if-not-is_below.false)

@@ -1,0 +1,39 @@
+-- Where the parts of a node page stand.
+use Rattle.std.specs.Prelude.{ℕ, ◌+◌, ◌*◌}
+use Rattle.btree_node.specs.declared.layouts.Layout.{Layout}
+
+-- the layout of the first file version: records of up to 32 bytes
+abbrev pub first_layout : Layout
+first_layout = record { record_width = 32 }
+
+-- the bytes of the longest record, of any layout
+abbrev pub widest_record : ℕ
+widest_record = 32
+
+-- the bytes of a page
+abbrev pub page_width : ℕ
+page_width = 4096
+
+-- the bytes before the first place
+abbrev pub head_width : ℕ
+head_width = 8
+
+-- the bytes that a key may take
+abbrev pub key_width : ℕ
+key_width = 16
+
+-- where the record's length stands in a place, behind the key's length and the key
+abbrev pub record_at : ℕ
+record_at = 1 + key_width
+
+-- the bytes of a place: a key and a record, each behind its length
+abbrev pub place_width : Layout → ℕ
+place_width layout = record_at + 1 + layout.record_width
+
+-- where place i begins
+abbrev pub place_start : Layout → ℕ → ℕ
+place_start layout i = head_width + place_width layout * i
+
+-- the sons follow the places of a full page
+abbrev pub sons_start : Layout → ℕ → ℕ
+sons_start layout k = place_start layout (2 * k)

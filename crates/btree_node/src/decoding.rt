@@ -1,0 +1,232 @@
+ghost use Rattle.std.specs.Prelude.{◌≡◌, ℕ, ◌+◌, ◌*◌, ◌^◌, ◌<◌, ◌≤◌, ◌↔◌, Ok, IfOk, IfErr, MatchResult, length, All, IsTrue};
+ghost use Rattle.btree_node.specs.Layout.{place_width, sons_start, widest_record};
+ghost use Rattle.btree_node.specs.Lists.{Below, Ascends};
+ghost use Rattle.btree_node.specs.Spelling.{spelling, spelling_in, CanStand, CanStandIn};
+ghost use Rattle.btree_node.specs.Reading.{kind_at, count_at, place_at, element_in, elements_at, son_at, sons_at, sons_of_kind, kind_read, node_at, key_length, record_length, KeyLengths, RecordLengths, PassesBefore, FirstFault, FirstFaultIn};
+ghost use Rattle.btree_node.specs.declared.nodes.Node.{Node};
+ghost use Rattle.btree_node.specs.declared.nodes.NodeFault.TheVariants.{NotZero};
+
+use crate::encoding::spell;
+use crate::layouts::{FIRST_LAYOUT, KEY_WIDTH, Layout, RECORD_AT, SON_WIDTH};
+use crate::nodes::{Node, NodeFault, NodeKind};
+use crate::parts::{part_of, u16_of, u32_of};
+use arrayvec::ArrayVec;
+use rec_types::{Key, Record};
+
+/// The node that the page spells, in a tree of order `k`. The faults in their order: Kind, Count,
+/// KeyLength, RecordLength, Order, Son, NotZero.
+pub fn decode(page: &[u8; 4096], k: u16) -> Result<Node, NodeFault>
+    requires { k ≤ 16 }
+
+    // What is read is spelled so.
+    ensures found { IfOk result (λ n. CanStand n k × (page.now ≡ spelling n k)) }
+
+    // What is spelled so is read.
+    ensures only { (n : Node) → CanStand n k → page.now ≡ spelling n k → result ≡ Ok n }
+
+    // Which fault it is.
+    ensures fault { IfErr result (λ e. FirstFault page.now k e) }
+{
+    decode_in(FIRST_LAYOUT, page, k)
+}
+
+/// The node that the page spells in a layout.
+fn decode_in(layout: Layout, page: &[u8; 4096], k: u16) -> Result<Node, NodeFault>
+    requires width { layout.record_width ≤ widest_record }
+    requires order { k ≤ 16 }
+    ensures found { IfOk result (λ n. CanStandIn layout n k × (page.now ≡ spelling_in layout n k)) }
+    ensures only { (n : Node) → CanStandIn layout n k → page.now ≡ spelling_in layout n k → result ≡ Ok n }
+    ensures fault { IfErr result (λ e. FirstFaultIn layout k page.now e) }
+{
+    let node = node_of(layout, page, k)?;
+    if spell(layout, &node, k).wrote(page) {
+        Ok(node)
+    } else {
+        Err(NodeFault::NotZero)
+    }
+}
+
+/// The node that stands at the fixed places of the page.
+#[tactic(auto, unfolding(crate::specs::Reading::Passes, crate::specs::Reading::node_at))]
+fn node_of(layout: Layout, page: &[u8; 4096], k: u16) -> Result<Node, NodeFault>
+    requires width { layout.record_width ≤ widest_record }
+    requires order { k ≤ 16 }
+    ensures value { IfOk result (λ n. n ≡ node_at layout k page.now) }
+    ensures passes { IfOk result (λ _. PassesBefore layout k page.now NotZero) }
+    ensures fault { IfErr result (λ e. FirstFaultIn layout k page.now e) }
+{
+    let Some(kind) = kind_of(page) else {
+        return Err(NodeFault::Kind);
+    };
+    let count = count_of(page);
+    if !count_fits(count, k) {
+        return Err(NodeFault::Count);
+    }
+    if !key_lengths_fit(layout, page, count) {
+        return Err(NodeFault::KeyLength);
+    }
+    if !record_lengths_fit(layout, page, count) {
+        return Err(NodeFault::RecordLength);
+    }
+    let elements = elements_of(layout, page, count);
+    if !ascends(elements.as_slice()) {
+        return Err(NodeFault::Order);
+    }
+    let sons = sons_of(layout, page, k, kind, count);
+    if !sons_stand(sons.as_slice()) {
+        return Err(NodeFault::Son);
+    }
+    Ok(Node {
+        kind,
+        elements,
+        sons,
+    })
+}
+
+#[tactic(auto, unfolding(crate::specs::Reading::kind_at))]
+fn kind_of(page: &[u8; 4096]) -> Option<NodeKind>
+    ensures { result ≡ kind_at page.now }
+{
+    match page[0] {
+        1 => Some(NodeKind::Leaf),
+        2 => Some(NodeKind::Inner),
+        _ => None,
+    }
+}
+
+fn count_of(page: &[u8; 4096]) -> usize
+    ensures { result ≡ count_at page.now }
+{
+    u16_of(page, 2) as usize
+}
+
+fn count_fits(count: usize, k: u16) -> bool
+    requires { k ≤ 16 }
+    ensures { IsTrue result ↔ ((0 < count) × (count ≤ 2 * k)) }
+{
+    0 < count && count <= 2 * k as usize
+}
+
+fn place_of_page(layout: Layout, page: &[u8; 4096], i: usize) -> &[u8]
+    requires width { layout.record_width ≤ widest_record }
+    requires index { i < 32 }
+    ensures value { result.now ≡ place_at layout page.now i }
+    ensures len { length result.now ≡ place_width layout }
+{
+    part_of(page, layout.place_start(i), layout.place_width())
+}
+
+#[tactic(auto, unfolding(crate::specs::Reading::key_length))]
+fn key_lengths_fit(layout: Layout, page: &[u8; 4096], count: usize) -> bool
+    requires width { layout.record_width ≤ widest_record }
+    requires count { count ≤ 32 }
+    ensures { IsTrue result ↔ KeyLengths layout page.now count }
+{
+    for i in 0..count {
+        let len = place_of_page(layout, page, i)[0];
+        if len == 0 || KEY_WIDTH < len as usize {
+            return false;
+        }
+    }
+    true
+}
+
+#[tactic(auto, unfolding(crate::specs::Reading::record_length))]
+fn record_lengths_fit(layout: Layout, page: &[u8; 4096], count: usize) -> bool
+    requires width { layout.record_width ≤ widest_record }
+    requires count { count ≤ 32 }
+    ensures { IsTrue result ↔ RecordLengths layout page.now count }
+{
+    for i in 0..count {
+        let len = place_of_page(layout, page, i)[RECORD_AT];
+        if layout.record_width < len as usize {
+            return false;
+        }
+    }
+    true
+}
+
+#[tactic(auto, unfolding(crate::specs::Reading::elements_at))]
+fn elements_of(layout: Layout, page: &[u8; 4096], count: usize) -> ArrayVec<(Key, Record), 33>
+    requires width { layout.record_width ≤ widest_record }
+    requires count { count ≤ 32 }
+    requires keys { KeyLengths layout page.now count }
+    requires records { RecordLengths layout page.now count }
+    ensures { result.items ≡ elements_at layout page.now count }
+{
+    let mut elements = ArrayVec::new();
+    for i in 0..count {
+        elements.push(element_of(place_of_page(layout, page, i)));
+    }
+    elements
+}
+
+#[tactic(auto, unfolding(crate::specs::Reading::element_in, crate::specs::Reading::key_length, crate::specs::Reading::record_length))]
+fn element_of(place: &[u8]) -> (Key, Record)
+    requires key_some { 0 < key_length place.now }
+    requires key_most { key_length place.now ≤ 16 }
+    requires record_most { record_length place.now ≤ widest_record }
+    requires record_within { 18 + record_length place.now ≤ length place.now }
+    ensures { result ≡ element_in place.now }
+{
+    let key = Key::new(part_of(place, 1, place[0] as usize));
+    let value = Record::new(part_of(place, RECORD_AT + 1, place[RECORD_AT] as usize));
+    (key.unwrap(), value.unwrap())
+}
+
+fn ascends(elements: &[(Key, Record)]) -> bool
+    ensures { IsTrue result ↔ Ascends elements.now }
+{
+    for i in 1..elements.len() {
+        if !is_below(&elements[i - 1].0, &elements[i].0) {
+            return false;
+        }
+    }
+    true
+}
+
+#[tactic(auto, unfolding(crate::specs::Lists::Below))]
+fn is_below(low: &Key, high: &Key) -> bool
+    ensures { IsTrue result ↔ Below low.now high.now }
+{
+    low.cmp(high).is_lt()
+}
+
+fn sons_of(
+    layout: Layout,
+    page: &[u8; 4096],
+    k: u16,
+    kind: NodeKind,
+    count: usize,
+) -> ArrayVec<u32, 34>
+    requires width { layout.record_width ≤ widest_record }
+    requires order { k ≤ 16 }
+    requires count { count ≤ 32 }
+    ensures { result.items ≡ sons_of_kind kind layout k page.now count }
+{
+    match kind {
+        NodeKind::Leaf => ArrayVec::new(),
+        NodeKind::Inner => numbers_of(layout, page, k, count + 1),
+    }
+}
+
+#[tactic(auto, unfolding(crate::specs::Reading::sons_at))]
+fn numbers_of(layout: Layout, page: &[u8; 4096], k: u16, count: usize) -> ArrayVec<u32, 34>
+    requires width { layout.record_width ≤ widest_record }
+    requires order { k ≤ 16 }
+    requires count { count ≤ 33 }
+    ensures { result.items ≡ sons_at layout k page.now count }
+{
+    let start = layout.sons_start(k);
+    let mut sons = ArrayVec::new();
+    for j in 0..count {
+        sons.push(u32_of(page, start + SON_WIDTH * j));
+    }
+    sons
+}
+
+fn sons_stand(sons: &[u32]) -> bool
+    ensures { IsTrue result ↔ All (λ son. 0 < son) sons.now }
+{
+    sons.iter().all(|son| *son != 0)
+}

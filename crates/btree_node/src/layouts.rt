@@ -1,0 +1,57 @@
+ghost use Rattle.std.specs.Prelude.{◌≡◌, ◌+◌, ◌*◌, ◌≤◌};
+ghost use Rattle.btree_node.specs.Layout.{place_width, place_start, sons_start, widest_record};
+
+/// The bytes of a page.
+pub const PAGE_WIDTH: usize = 4096;
+
+/// The bytes that a key may take.
+pub const KEY_WIDTH: usize = 16;
+
+/// Where the record's length stands in a place, behind the key's length and the key.
+pub const RECORD_AT: usize = 1 + KEY_WIDTH;
+
+/// The bytes before the first place: the kind, a zero, the number of keys, four zeros.
+const HEAD_WIDTH: usize = 8;
+
+/// The bytes of a son's page number.
+pub const SON_WIDTH: usize = 4;
+
+/// The number that tells the node pages of one file version from those of another.
+#[derive(Clone, Copy)]
+pub struct Layout {
+    /// The bytes that a record may take.
+    pub record_width: usize,
+}
+
+/// The node pages of the first file version.
+pub const FIRST_LAYOUT: Layout = Layout { record_width: 32 };
+
+impl Layout {
+    /// The bytes of a place: a key and a record, each behind its length.
+    pub fn place_width(self) -> usize
+        requires { self.record_width ≤ widest_record }
+        ensures { result ≡ place_width self }
+    {
+        RECORD_AT + 1 + self.record_width
+    }
+
+    /// Where place `i` begins.
+    pub fn place_start(self, i: usize) -> usize
+        requires width { self.record_width ≤ widest_record }
+        requires index { i ≤ 32 }
+        ensures value { result ≡ place_start self i }
+        ensures within { result ≤ 3784 }
+    {
+        HEAD_WIDTH + self.place_width() * i
+    }
+
+    /// Where the sons begin in a page of order `k`: behind its places.
+    pub fn sons_start(self, k: u16) -> usize
+        requires width { self.record_width ≤ widest_record }
+        requires order { k ≤ 16 }
+        ensures value { result ≡ sons_start self k }
+        ensures within { result ≤ 3784 }
+    {
+        self.place_start(2 * k as usize)
+    }
+}

@@ -1,0 +1,24 @@
+//! The pages of a record file: node pages, and the header page.
+#![tactic(auto)]
+
+mod decoding;
+mod encoding;
+mod header_pages;
+mod headers;
+pub mod laws;
+mod layouts;
+mod nodes;
+mod parts;
+mod searching;
+mod splitting;
+#[cfg(test)]
+mod tests;
+mod writing;
+
+pub use decoding::decode;
+pub use encoding::encode;
+pub use header_pages::{read_header, write_header};
+pub use headers::{Header, HeaderFault};
+pub use nodes::{Node, NodeFault, NodeKind};
+pub use searching::place_of;
+pub use splitting::split;

@@ -1,0 +1,250 @@
+ghost use Rattle.std.specs.Prelude.{◌≡◌, ◌+◌, ◌<◌, ◌≤◌, [], IfOk, length};
+ghost use Rattle.btree_node.specs.Spelling.{CanStand};
+
+use crate::{
+    Header, HeaderFault, Node, NodeFault, NodeKind, decode, encode, place_of, read_header, split,
+    write_header,
+};
+use arrayvec::ArrayVec;
+use rec_types::{Key, Record};
+use std::process::Abort;
+use std::test::Fail;
+
+/// The page with these bytes from a place on.
+fn with(page: [u8; 4096], at: usize, bytes: &[u8]) -> [u8; 4096]
+    requires { at + length bytes.now ≤ 4096 }
+{
+    let mut page = page;
+    page[at..at + bytes.len()].copy_from_slice(bytes);
+    page
+}
+
+/// The header page of the file with three records.
+fn header_page() -> [u8; 4096] {
+    let bytes = b"BMKRFILE\x00\x01\x00\x01\x00\x00\x00\x04\x00\x00\x00\x03\x00\x00\x00\x03\x01";
+    with([0; 4096], 0, bytes)
+}
+
+/// A page with one key and its record.
+fn page_of(kind: u8, key: &[u8; 2], value: &[u8; 2]) -> [u8; 4096] {
+    with(
+        with(with([0; 4096], 0, &[kind, 0, 0, 1]), 8, key),
+        25,
+        value,
+    )
+}
+
+/// The pages of the file with three records, of order 1: a, b and c with x, y and z.
+fn three_record_file() -> [[u8; 4096]; 4] {
+    let sons = b"\x00\x00\x00\x01\x00\x00\x00\x02";
+    [
+        header_page(),
+        page_of(1, b"\x01a", b"\x01x"),
+        page_of(1, b"\x01c", b"\x01z"),
+        with(page_of(2, b"\x01b", b"\x01y"), 108, sons),
+    ]
+}
+
+fn element(key: &[u8], value: &[u8]) -> Result<(Key, Record), Fail> {
+    Ok((Key::new(key)?, Record::new(value)?))
+}
+
+/// A leaf with one element.
+fn leaf(element: (Key, Record)) -> Node
+    ensures stands { CanStand result 1 }
+    ensures one { length result.elements.items ≡ 1 }
+{
+    let (key, value) = element;
+    let _key = key.bytes().len();
+    let _value = value.bytes().len();
+    let mut elements = ArrayVec::new();
+    elements.push((key, value));
+    Node {
+        kind: NodeKind::Leaf,
+        elements,
+        sons: ArrayVec::new(),
+    }
+}
+
+/// An inner node with one element.
+fn inner(element: (Key, Record), left: u32, right: u32) -> Node
+    requires left { 0 < left }
+    requires right { 0 < right }
+    ensures { CanStand result 1 }
+{
+    let mut sons = ArrayVec::new();
+    sons.push(left);
+    sons.push(right);
+    let Node {
+        kind: _,
+        elements,
+        sons: _,
+    } = leaf(element);
+    Node {
+        kind: NodeKind::Inner,
+        elements,
+        sons,
+    }
+}
+
+/// A leaf with these keys, each with the record v.
+fn leaf_of(rt: &impl Abort, keys: &[u8]) -> Result<Node, Fail>
+    ensures { IfOk result (λ n. (n.kind ≡ NodeKind.Leaf) × (n.sons.items ≡ [])) }
+{
+    let mut elements = ArrayVec::new();
+    for key in keys {
+        assert!(rt; elements.len() < 33);
+        elements.push(element(&[*key], b"v")?);
+    }
+    Ok(Node {
+        kind: NodeKind::Leaf,
+        elements,
+        sons: ArrayVec::new(),
+    })
+}
+
+#[test]
+fn the_three_record_file_is_written(rt: HostRuntime) -> Result<(), Fail> {
+    let pages = three_record_file();
+    let header = Header {
+        order: 1,
+        pages: 4,
+        root: 3,
+        count: 3,
+    };
+    assert!(rt; write_header(&header, true) == pages[0]);
+    assert!(rt; encode(&leaf(element(b"a", b"x")?), 1) == pages[1]);
+    assert!(rt; encode(&leaf(element(b"c", b"z")?), 1) == pages[2]);
+    assert!(rt; encode(&inner(element(b"b", b"y")?, 1, 2), 1) == pages[3]);
+    Ok(())
+}
+
+#[test]
+fn the_three_record_file_is_read(rt: HostRuntime) -> Result<(), Fail> {
+    let pages = three_record_file();
+    let header = read_header(&pages[0])?;
+    assert_eq!(rt; header.order, 1);
+    assert_eq!(rt; header.pages, 4);
+    assert_eq!(rt; header.root, 3);
+    assert_eq!(rt; header.count, 3);
+    let first = decode(&pages[1], 1)?;
+    assert_eq!(rt; first.kind, NodeKind::Leaf);
+    assert_eq!(rt;
+        first.elements.as_slice(),
+        [element(b"a", b"x")?].as_slice()
+    );
+    assert!(rt; first.sons.is_empty());
+    let root = decode(&pages[3], 1)?;
+    assert_eq!(rt; root.kind, NodeKind::Inner);
+    assert_eq!(rt; root.elements.as_slice(), [element(b"b", b"y")?].as_slice());
+    assert_eq!(rt; root.sons.as_slice(), [1, 2].as_slice());
+    Ok(())
+}
+
+#[test]
+fn a_new_file_of_order_two(rt: HostRuntime) {
+    let header = Header {
+        order: 2,
+        pages: 1,
+        root: 0,
+        count: 0,
+    };
+    let bytes = b"BMKRFILE\x00\x01\x00\x02\x00\x00\x00\x01\x00\x00\x00\x00\x00\x00\x00\x00\x01";
+    assert!(rt; write_header(&header, true) == with([0; 4096], 0, bytes));
+    let writing = with(with([0; 4096], 0, bytes), 24, &[2]);
+    assert!(rt; write_header(&header, false) == writing);
+}
+
+#[test]
+fn the_first_fault_of_a_node_page(rt: HostRuntime) {
+    let pages = three_record_file();
+    for (at, byte, fault) in [
+        (0, 0x00, NodeFault::Kind),
+        (3, 0x03, NodeFault::Count),
+        (3, 0x00, NodeFault::Count),
+        (8, 0x11, NodeFault::KeyLength),
+        (25, 0x21, NodeFault::RecordLength),
+        (2000, 0x01, NodeFault::NotZero),
+    ] {
+        assert_eq!(rt;
+            decode(&with(pages[1], at, &[byte]), 1).err(),
+            Some(fault),
+            "at {at}"
+        );
+    }
+    let twice = with(with(pages[1], 3, &[2]), 58, b"\x01a");
+    assert_eq!(rt; decode(&twice, 1).err(), Some(NodeFault::Order));
+    let no_son = with(pages[3], 111, &[0]);
+    assert_eq!(rt; decode(&no_son, 1).err(), Some(NodeFault::Son));
+    let leaf_with_sons = with(pages[3], 0, &[1]);
+    assert_eq!(rt; decode(&leaf_with_sons, 1).err(), Some(NodeFault::NotZero));
+}
+
+#[test]
+fn the_first_fault_of_a_header_page(rt: HostRuntime) {
+    let page = header_page();
+    for (at, byte, fault) in [
+        (0, 0x00, HeaderFault::BadMagic),
+        (9, 0x09, HeaderFault::BadVersion(9)),
+        (11, 0x00, HeaderFault::BadOrder),
+        (11, 0x11, HeaderFault::BadOrder),
+        (24, 0x02, HeaderFault::NotClean),
+        (24, 0x03, HeaderFault::BadHeader),
+        (4095, 0x01, HeaderFault::BadHeader),
+    ] {
+        assert_eq!(rt;
+            read_header(&with(page, at, &[byte])).err(),
+            Some(fault),
+            "at {at}"
+        );
+    }
+}
+
+#[test]
+fn a_key_has_its_place(rt: HostRuntime) -> Result<(), Fail> {
+    let node = leaf_of(&rt, b"bdf")?;
+    for (key, place) in [
+        (b'a', Err(0)),
+        (b'b', Ok(0)),
+        (b'c', Err(1)),
+        (b'f', Ok(2)),
+        (b'g', Err(3)),
+    ] {
+        assert_eq!(rt; place_of(&node, &Key::new(&[key])?), place, "key {key}");
+    }
+    Ok(())
+}
+
+#[test]
+fn a_full_leaf_is_split(rt: HostRuntime) -> Result<(), Fail> {
+    let node = leaf_of(&rt, b"abcde")?;
+    assert_eq!(rt; node.elements.len(), 5);
+    let (left, middle, right) = split(node, 2);
+    assert!(rt; middle == element(b"c", b"v")?);
+    assert_eq!(rt;
+        left.elements.as_slice(),
+        leaf_of(&rt, b"ab")?.elements.as_slice()
+    );
+    assert_eq!(rt;
+        right.elements.as_slice(),
+        leaf_of(&rt, b"de")?.elements.as_slice()
+    );
+    Ok(())
+}
+
+#[test]
+fn a_full_inner_node_is_split(rt: HostRuntime) -> Result<(), Fail> {
+    let mut node = leaf_of(&rt, b"abc")?;
+    for son in [4, 5, 6, 7] {
+        assert!(rt; !node.sons.is_full());
+        node.sons.push(son);
+    }
+    node.kind = NodeKind::Inner;
+    assert_eq!(rt; node.elements.len(), 3);
+    assert_eq!(rt; node.sons.len(), 4);
+    let (left, middle, right) = split(node, 1);
+    assert!(rt; middle == element(b"b", b"v")?);
+    assert_eq!(rt; left.sons.as_slice(), [4, 5].as_slice());
+    assert_eq!(rt; right.sons.as_slice(), [6, 7].as_slice());
+    Ok(())
+}

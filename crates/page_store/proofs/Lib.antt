@@ -1,0 +1,10 @@
+pub mod BlankFacts
+pub mod Candidates
+pub mod Fetched
+pub mod FreeFacts
+pub mod OnePage
+pub mod Overlays
+pub mod PageFacts
+pub mod SetFacts
+pub mod SlotFacts
+pub mod Staging

@@ -1,0 +1,10 @@
+-- Which fault of a fetch an answer is.
+use Rattle.std.specs.Prelude.{Bool, true, false, Result, Ok, Err}
+use Rattle.page_store.specs.declared.edits.FetchFault.{FetchFault}
+use Rattle.page_store.specs.declared.edits.FetchFault.TheVariants.{Device, OutOfRange}
+
+-- whether a read of the store failed
+abbrev pub is_device : {X : Type 0} → Result X FetchFault → Bool
+is_device (Ok x) = false
+is_device (Err Device) = true
+is_device (Err OutOfRange) = false

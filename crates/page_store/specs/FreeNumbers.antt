@@ -1,0 +1,24 @@
+-- Which page numbers are free, and which of them an edit takes.
+use Rattle.std.specs.Prelude.{ℕ, ◌+◌, ◌-◌, List, [], ◌∷◌, length, drop, Option, Some, None, nat_lt, if◌then◌else◌, slice_index}
+
+-- the numbers of the pages that are not in use, where the first page has number n
+abbrev pub free_from : ℕ → List (Option (List ℕ)) → List ℕ
+free_from n [] = []
+free_from n (None ∷ pages) = n ∷ free_from (n + 1) pages
+free_from n (Some page ∷ pages) = free_from (n + 1) pages
+
+-- the free page numbers, in ascending order: page 0 is none of them
+abbrev pub free_numbers : List (Option (List ℕ)) → List ℕ
+free_numbers pages = free_from 1 (drop 1 pages)
+
+-- the numbers of a list, and then the count and the numbers above it
+abbrev pub nth_or_above : List ℕ → ℕ → ℕ → ℕ
+nth_or_above numbers count i = if nat_lt i (length numbers) then slice_index numbers i else count + (i - length numbers)
+
+-- the page number that an edit takes as its i-th, from 0
+abbrev pub candidate : List (Option (List ℕ)) → ℕ → ℕ
+candidate pages i = nth_or_above (free_numbers pages) (length pages) i
+
+-- the page count after an edit that takes so many numbers
+abbrev pub count_after : List (Option (List ℕ)) → ℕ → ℕ
+count_after pages taken = length pages + (taken - length (free_numbers pages))

@@ -1,0 +1,13 @@
+pub mod Blank
+pub mod CanStage
+pub mod Counted
+pub mod FetchFaults
+pub mod FreeNumbers
+pub mod Growth
+pub mod OpenedFile
+pub mod Overlaid
+pub mod PageMap
+pub mod PagesView
+pub mod Slots
+pub mod StoreFaults
+pub mod StoredPages

@@ -1,0 +1,10 @@
+-- Which fault of a store an answer is.
+use Rattle.std.specs.Prelude.{Bool, true, false, Result, Ok, Err}
+use Rattle.page_store.specs.declared.answers.StoreFault.{StoreFault}
+use Rattle.page_store.specs.declared.answers.StoreFault.TheVariants.{Failed, Memory}
+
+-- whether the call failed
+abbrev pub is_failed : {X : Type 0} → Result X StoreFault → Bool
+is_failed (Ok x) = false
+is_failed (Err Failed) = true
+is_failed (Err Memory) = false

@@ -1,0 +1,23 @@
+//! Files of pages, and changed pages in memory.
+#![tactic(auto)]
+
+mod answers;
+mod blank;
+mod counts;
+mod edits;
+mod files;
+mod free;
+pub mod laws;
+mod mem;
+mod paging;
+mod slots;
+mod stores;
+#[cfg(test)]
+mod tests;
+
+pub use answers::{Shape, StoreFault};
+pub use edits::{FetchFault, PageEdit};
+pub use files::FileStore;
+pub use mem::MemStore;
+pub use paging::Pages;
+pub use stores::Store;

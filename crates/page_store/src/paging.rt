@@ -1,0 +1,187 @@
+ghost use Rattle.std.specs.Prelude.{◌≡◌, ℕ, ◌+◌, ◌<◌, ◌≤◌, ◌↔◌, ◌==◌, ◌||◌, if◌then◌else◌, [], false, true, length, Some, None, Err, IsTrue, IsSome, IsOk, OnOk, OnErr, slice_get};
+ghost use Rattle.std.specs.Ordering.{nat_cmp};
+ghost use Rattle.std.specs.BTreeSet.{contains};
+ghost use Rattle.page_store.specs.Counted.{counted};
+ghost use Rattle.page_store.specs.PageMap.{at, after};
+ghost use Rattle.page_store.specs.FreeNumbers.{free_numbers, candidate, count_after};
+ghost use Rattle.page_store.specs.CanStage.{CanStage};
+ghost use Rattle.page_store.specs.FetchFaults.{is_device};
+
+use crate::edits::{FetchFault, PageEdit};
+use crate::free::{add_all, nth_number};
+use crate::slots::{
+    Slot, boxed, changed_page, drop_pages, is_in_use, make_slots, put_pages, slots_needed,
+};
+use crate::stores::Store;
+use rec_types::Memory;
+use std::alloc::Global;
+use std::collections::BTreeSet;
+use std::marker::Model;
+
+/// A store with changed pages in memory, a page count and the free page numbers. Contracts see each
+/// page's newest bytes, None for page 0 and for free numbers, whether an edit was staged, and what
+/// the store is.
+#[derive(Drop)]
+pub struct Pages<S: Store> {
+    store: S,
+    changed: Vec<Slot>,
+    free: BTreeSet<u32>,
+    count: u32,
+    edited: bool,
+    alloc: Global,
+}
+
+impl<S: Store> Model for Pages<S> {
+    ghost use Rattle.page_store.specs.PagesView.{PagesView};
+
+    ghost Value = { PagesView };
+
+    ghost use Rattle.page_store.specs.Overlaid.{pages_of, slots_of, ArePages};
+
+    ghost view = { λ p. record {
+      pages = pages_of (S.pages p.store) (slots_of p.changed.items) p.free.keys p.count;
+      changed = p.edited;
+      stored = S.pages p.store;
+      tail = S.tail p.store;
+      steady = S.steady p.store;
+      reads = S.reads p.store;
+      failures = S.failures p.store;
+    } };
+
+    ghost invariant = { λ p.
+        ArePages (S.pages p.store) (slots_of p.changed.items) p.free.keys p.count p.edited };
+}
+
+impl<S: Store> Pages<S> {
+    /// The pages of a store, of which there are `count`. The condition is that `count` is 1 to
+    /// 1,000,001, the store has at most so many pages, each free number is from 1 to `count - 1`, and
+    /// each page from 1 on that the store lacks is free.
+    pub fn new(alloc: Global, store: S, count: u32, free: BTreeSet<u32>) -> Pages<S>
+        requires some { 1 ≤ count }
+        requires most { count ≤ 1000001 }
+        requires store_fits { length (S.pages store) ≤ count }
+        requires free_fits { (n : ℕ) → IsTrue (contains nat_cmp free n) → (1 ≤ n) × (n < count) }
+        requires lacking_free { (n : ℕ) → length (S.pages store) ≤ n → 1 ≤ n → n < count
+            → IsTrue (contains nat_cmp free n) }
+        ensures count { length result.pages ≡ count }
+        ensures pages { (n : ℕ) → n < count → at result.pages n
+            ≡ (if n == 0 || contains nat_cmp free n then None else slice_get (S.pages store) n) }
+        ensures store { result ≡ record {
+          pages = result.pages;
+          changed = false;
+          stored = S.pages store;
+          tail = S.tail store;
+          steady = S.steady store;
+          reads = S.reads store;
+          failures = S.failures store;
+        } }
+    {
+        Pages {
+            store,
+            changed: Vec::new(alloc),
+            free,
+            count,
+            edited: false,
+            alloc,
+        }
+    }
+
+    /// Reads page n's newest bytes: a changed page from memory, any other from the store. Faults:
+    /// Device where the store failed, OutOfRange where page n is not in use. No page changes.
+    pub fn fetch(&mut self, n: u32, to: &mut [u8; 4096]) -> Result<(), FetchFault>
+        ensures page { IsTrue self.old.steady → OnOk result (at self.old.pages n ≡ Some to.new) }
+        ensures out_of_range { (result ≡ Err FetchFault.OutOfRange) ↔ (at self.old.pages n ≡ None) }
+        ensures device { self.new.failures ≡ counted self.old.failures (is_device result) }
+        ensures unchanged { self.new
+            ≡ record self.old { reads = self.new.reads; failures = self.new.failures } }
+        ensures nothing_there { at self.old.pages n ≡ None → self.new ≡ self.old }
+        ensures one_read { self.new.reads ≤ self.old.reads + 1 }
+        ensures no_fewer_reads { self.old.reads ≤ self.new.reads }
+        ensures from_store { self.old.changed ≡ false → IsSome (at self.old.pages n)
+            → self.new.reads ≡ counted self.old.reads true }
+    {
+        if !is_in_use(self.count, &self.free, n) {
+            return Err(FetchFault::OutOfRange);
+        }
+        if let Some(page) = changed_page(&self.changed, n) {
+            *to = *page;
+            return Ok(());
+        }
+        match self.store.read(n, to) {
+            Ok(()) => Ok(()),
+            Err(_) => Err(FetchFault::Device),
+        }
+    }
+
+    /// Puts all of an edit in place, in memory: takes the first candidates, writes the pages and frees
+    /// the numbers. The condition is that what is written is in use or taken, each taken number is
+    /// written, what is freed is in use and not written, and the new page count is at most 1,000,001.
+    /// Fault: Memory; nothing has changed then. An edit that writes and frees nothing takes none.
+    pub fn stage(&mut self, edit: PageEdit) -> Result<(), Memory>
+        requires { CanStage self.old.pages edit.writes.items edit.taken edit.freed.items }
+        ensures pages { OnOk result ((n : ℕ) → at self.new.pages n
+            ≡ after (at self.old.pages) edit.writes.items edit.freed.items n) }
+        ensures count { OnOk result
+            (length self.new.pages ≡ count_after self.old.pages edit.taken) }
+        ensures changed { OnOk result (self.new.changed ≡ true) }
+        ensures store { self.new
+            ≡ record self.old { pages = self.new.pages; changed = self.new.changed } }
+        ensures err { OnErr result (self.new ≡ self.old) }
+        ensures empty { edit.writes.items ≡ [] → edit.freed.items ≡ [] → IsOk result }
+    {
+        let count = self.count + edit.taken.saturating_sub(self.free_count());
+        let pages = boxed(self.alloc, &edit.writes)?;
+        make_slots(&mut self.changed, slots_needed(&edit.writes, count))?;
+        add_all(&mut self.free, &edit.freed)?;
+        put_pages(&mut self.changed, &mut self.free, pages);
+        drop_pages(&mut self.changed, &edit.freed);
+        self.count = count;
+        self.edited = true;
+        Ok(())
+    }
+
+    /// The number of pages, page 0 included.
+    pub fn page_count(&self) -> u32
+        ensures value { result ≡ length self.now.pages }
+        ensures some { 1 ≤ result }
+        ensures most { result ≤ 1000001 }
+        ensures header { at self.now.pages 0 ≡ None }
+    {
+        self.count
+    }
+
+    /// How many page numbers are free.
+    pub fn free_count(&self) -> u32
+        ensures { result ≡ length (free_numbers self.now.pages) }
+    {
+        self.free.len() as u32
+    }
+
+    /// The page number that an edit takes as its i-th, from 0, with i at most 1,000: the free numbers
+    /// in ascending order, and then the page count and the numbers above it.
+    pub fn candidate(&self, i: u32) -> u32
+        requires { i ≤ 1000 }
+        ensures { result ≡ candidate self.now.pages i }
+    {
+        nth_number(&self.free, self.count, i)
+    }
+
+    /// Whether an edit was staged since `new` or the last writing back.
+    pub fn changed(&self) -> bool
+        ensures { result ≡ self.now.changed }
+    {
+        self.edited
+    }
+
+    /// The store, with its pages as they were: what was staged is not in it.
+    pub fn into_store(self) -> S
+        ensures pages { S.pages result ≡ self.stored }
+        ensures tail { S.tail result ≡ self.tail }
+        ensures steady { S.steady result ≡ self.steady }
+        ensures reads { S.reads result ≡ self.reads }
+        ensures failures { S.failures result ≡ self.failures }
+    {
+        let Pages { store, .. } = self;
+        store
+    }
+}

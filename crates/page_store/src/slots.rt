@@ -1,0 +1,123 @@
+ghost use Rattle.std.specs.Prelude.{◌≡◌, ◌≢◌, ℕ, ◌<◌, ◌≤◌, ◌↔◌, ◌&&◌, ◌==◌, if◌then◌else◌, [], false, not, length, IsTrue, IsOk, IfOk, OnOk, All};
+ghost use Rattle.std.specs.Option.{option_copied};
+ghost use Rattle.std.specs.BTreeSet.{contains};
+ghost use Rattle.std.specs.Ordering.{nat_cmp};
+ghost use Rattle.page_store.specs.PageMap.{at, is_freed, is_written};
+ghost use Rattle.page_store.specs.Overlaid.{slots_of};
+ghost use Rattle.page_store.specs.Slots.{bytes_in, put_slots};
+
+use rec_types::Memory;
+use std::alloc::Global;
+use std::collections::BTreeSet;
+
+/// A page in memory, where it was changed.
+pub(crate) type Slot = Option<Box<[u8; 4096]>>;
+
+/// Whether page n is in use: not page 0, below the count and not free.
+pub(crate) fn is_in_use(count: u32, free: &BTreeSet<u32>, n: u32) -> bool
+    ensures { IsTrue result ↔ ((n ≢ 0) × (n < count) × (contains nat_cmp free.now n ≡ false)) }
+{
+    n != 0 && n < count && !free.contains(&n)
+}
+
+/// The changed page of that number.
+pub(crate) fn changed_page(changed: &[Slot], n: u32) -> Option<&[u8; 4096]>
+    ensures { option_copied result ≡ at (slots_of changed.now) n }
+{
+    let at = n as usize;
+    if at >= changed.len() {
+        return None;
+    }
+    match &changed[at] {
+        Some(page) => Some(page),
+        None => None,
+    }
+}
+
+/// Each page in memory of its own. Fault: Memory.
+pub(crate) fn boxed(
+    alloc: Global,
+    writes: &[(u32, [u8; 4096])],
+) -> Result<Vec<(u32, Box<[u8; 4096]>)>, Memory>
+    ensures pages { IfOk result (λ pages. bytes_in pages.items ≡ writes.now) }
+    ensures empty { writes.now ≡ [] → IsOk result }
+{
+    let mut pages = Vec::new(alloc);
+    if pages.reserve(writes.len()).is_err() {
+        return Err(Memory);
+    }
+    for (n, page) in writes {
+        let Ok(page) = Box::new(alloc, *page) else {
+            return Err(Memory);
+        };
+        if pages.push((*n, page)).is_err() {
+            return Err(Memory);
+        }
+    }
+    Ok(pages)
+}
+
+/// How many slots the pages to write need: none where there are none.
+pub(crate) fn slots_needed(writes: &[(u32, [u8; 4096])], count: u32) -> u32
+    ensures { result ≡ (if length writes.now == 0 then 0 else count) }
+{
+    if writes.is_empty() { 0 } else { count }
+}
+
+/// Makes slots for the pages below the count. Fault: Memory. No page changes.
+pub(crate) fn make_slots(changed: &mut Vec<Slot>, count: u32) -> Result<(), Memory>
+    ensures same { (n : ℕ) → at (slots_of changed.new.items) n ≡ at (slots_of changed.old.items) n }
+    ensures long { OnOk result (count ≤ length changed.new.items) }
+    ensures none { count ≡ 0 → IsOk result }
+{
+    let len = changed.len();
+    let more = (count as usize).saturating_sub(len);
+    if changed.reserve(more).is_err() {
+        return Err(Memory);
+    }
+    for _ in 0..more {
+        if changed.push(None).is_err() {
+            return Err(Memory);
+        }
+    }
+    Ok(())
+}
+
+/// Puts each page into its slot, and takes its number out of the free ones.
+pub(crate) fn put_pages(
+    changed: &mut Vec<Slot>,
+    free: &mut BTreeSet<u32>,
+    pages: Vec<(u32, Box<[u8; 4096]>)>,
+)
+    requires { All (λ w. w.0 < length changed.old.items) (bytes_in pages.items) }
+    ensures slots { slots_of changed.new.items
+        ≡ put_slots (slots_of changed.old.items) (bytes_in pages.items) }
+    ensures free { (q : ℕ) → contains nat_cmp free.new q
+        ≡ (contains nat_cmp free.old q && not (is_written (bytes_in pages.items) q)) }
+{
+    for (n, page) in pages {
+        free.remove(&n);
+        changed[n as usize] = Some(page);
+    }
+}
+
+/// Drops the changed page of that number.
+pub(crate) fn drop_page(changed: &mut Vec<Slot>, n: u32)
+    ensures { (q : ℕ) → q ≢ n → at (slots_of changed.new.items) q ≡ at (slots_of changed.old.items) q }
+{
+    let at = n as usize;
+    if at >= changed.len() {
+        return;
+    }
+    changed[at] = None;
+}
+
+/// Drops the changed pages of these numbers.
+pub(crate) fn drop_pages(changed: &mut Vec<Slot>, numbers: &[u32])
+    ensures { (q : ℕ) → is_freed numbers.now q ≡ false
+        → at (slots_of changed.new.items) q ≡ at (slots_of changed.old.items) q }
+{
+    for n in numbers {
+        drop_page(changed, *n);
+    }
+}
