@@ -1,3 +1,4 @@
 pub mod Script
 pub mod Texts
 pub mod Whole
+pub mod Run

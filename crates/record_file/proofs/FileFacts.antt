@@ -10,9 +10,11 @@ use Rattle.rec_types.proofs.ContentsFacts.{get-set_to, set_to-twice, set_to-same
 use Rattle.rec_types.proofs.KeptFacts.{opening-push, opening-over, opening-undone, replay-undone, befores-undone, befores-push}
 use Rattle.rec_types.proofs.HistoryFacts.{undo_last, history-undone}
 use Rattle.rec_types.proofs.Sizes.{has-set_to, IsWithin, len-within, room_for, len_new, len_known}
-use Rattle.tx_log.specs.LogState.{LogState, history_in, open_in}
-use Rattle.tx_log.specs.Owners.{claims, owner_of, charged}
+use Rattle.tx_log.specs.LogState.{LogState, IsLog, history_in, open_in}
+use Rattle.tx_log.specs.declared.log_records.LogRecord.{LogRecord}
+use Rattle.tx_log.specs.Owners.{claims, owner_of, charged, absent}
 use Rattle.record_file.specs.Abstract.{File, Fits, file_of, with_change, is_full, charged_of, records_of, open_of}
+use Rattle.record_file.proofs.AbsentFacts.{len-charged}
 use Rattle.record_file.proofs.ChargedFacts.{claimed, has-charged, claimed-push, claimed-undone, claimed-newest, claimed-within}
 
 history-push : (cs : List Kept) (c : Kept) → history_of (cs ++ c ∷ []) ≡ history_of cs ++ change_of c ∷ []
@@ -27,12 +29,12 @@ replay-push (d ∷ h) c m = replay-push h c (applied d m)
 abbrev pub change : ℕ → ℕ → List ℕ → Option (List ℕ) → Option (List ℕ) → Kept
 change lsn t x before w = record { lsn = lsn; tx = t; key = x; before = before; after = w; live = true }
 
-opening_put : (cs : List Kept) (m : Contents) (lsn t : ℕ) (x : List ℕ) (before w : Option (List ℕ)) → before ≡ get m x → opening_of (cs ++ change lsn t x before w ∷ []) (set_to m x w) ≡ opening_of cs m
+pub opening_put : (cs : List Kept) (m : Contents) (lsn t : ℕ) (x : List ℕ) (before w : Option (List ℕ)) → before ≡ get m x → opening_of (cs ++ change lsn t x before w ∷ []) (set_to m x w) ≡ opening_of cs m
 opening_put cs m lsn t x before w is = opening-push cs (change lsn t x before w) (set_to m x w) ∙ ap (opening_of cs) (set_to-twice m x w before ∙ set_to-same m x before is)
 
 -- after a put the file has one more live change
-pub put_file : (log : LogState) (m : Contents) (room : Option (List ℕ)) (lsn t : ℕ) (x : List ℕ) (before w : Option (List ℕ)) → before ≡ get m x → file_of (record log { changes = log.changes ++ change lsn t x before w ∷ []; room = room }) (set_to m x w) ≡ with_change (file_of log m) t x w
-put_file log m room lsn t x before w is i = record {
+pub put_file : (log : LogState) (m : Contents) (records : List LogRecord) (room : Option (List ℕ)) (lsn t : ℕ) (x : List ℕ) (before w : Option (List ℕ)) → before ≡ get m x → file_of (record log { records = records; changes = log.changes ++ change lsn t x before w ∷ []; room = room }) (set_to m x w) ≡ with_change (file_of log m) t x w
+put_file log m records room lsn t x before w is i = record {
   opening = opening_put log.changes m lsn t x before w is i;
   history = history-push log.changes (change lsn t x before w) i;
   begun = log.begun;
@@ -51,12 +53,12 @@ fits_put cs m lsn t x before w fits is =
       befores = subst (λ (b : Contents). BeforesFit b (cs ++ c ∷ [])) (sym opening) (befores-push cs c (opening_of cs m) fits.befores (is ∙ ap (λ (n : Contents). get n x) fits.replayed));
     }
 
-opening_undo : (t : ℕ) (cs : List Kept) (u : Kept) (m : Contents) → newest_live t cs ≡ Some u → opening_of (undone t cs) (set_to m u.key u.before) ≡ opening_of cs m
+pub opening_undo : (t : ℕ) (cs : List Kept) (u : Kept) (m : Contents) → newest_live t cs ≡ Some u → opening_of (undone t cs) (set_to m u.key u.before) ≡ opening_of cs m
 opening_undo t cs u m newest = opening-undone t cs (set_to m u.key u.before) ∙ opening-over t cs u m u.before newest
 
 -- after a change was taken back the file has its newest live change taken back
-pub undo_file : (log : LogState) (m : Contents) (room : Option (List ℕ)) (t : ℕ) (u : Kept) → newest_live t log.changes ≡ Some u → file_of (record log { changes = undone t log.changes; room = room }) (set_to m u.key u.before) ≡ record (file_of log m) { history = undo_last t (history_in log) }
-undo_file log m room t u newest i = record {
+pub undo_file : (log : LogState) (m : Contents) (records : List LogRecord) (room : Option (List ℕ)) (t : ℕ) (u : Kept) → newest_live t log.changes ≡ Some u → file_of (record log { records = records; changes = undone t log.changes; room = room }) (set_to m u.key u.before) ≡ record (file_of log m) { history = undo_last t (history_in log) }
+undo_file log m records room t u newest i = record {
   opening = opening_undo t log.changes u m newest i;
   history = history-undone t log.changes i;
   begun = log.begun;
@@ -173,3 +175,18 @@ put_has_room is_open cs m limit x within room absent full = at (has (charged is_
     at : (there : Bool) → has (charged is_open (history_of cs) m) x ≡ there → ⊥
     at true is = absurd (omega (arith, room_for m (charged is_open (history_of cs) m) x (records_within is_open (history_of cs) m) is (ap is_some absent)))
     at false is = absurd (omega (arith, len-within m (charged is_open (history_of cs) m) (records_within is_open (history_of cs) m), room is))
+
+-- the log is full where it can't accept a change
+pub full_is : (accepts : Bool) (used limit : ℕ) → (IsTrue accepts → used + 2 ≤ limit) × (used + 2 ≤ limit → IsTrue accepts) → not accepts ≡ nat_lt limit (used + 2)
+full_is true used limit means = let fits = means.0 refl in grind (arith, nat_tests)
+full_is false used limit means = at (nat_lt limit (used + 2)) refl
+  where
+    at : (b : Bool) → nat_lt limit (used + 2) ≡ b → true ≡ nat_lt limit (used + 2)
+    at true is = sym is
+    at false is = absurd (cc (means.1 (grind (arith, nat_tests))))
+
+-- the records and the absent keys are the charged ones
+pub charged_count : (log : LogState) (m : Contents) (n a : ℕ) → Fits log.changes m → IsLog log → n ≡ len m → a ≡ len (absent (open_in log) (history_in log)) → n + a ≡ len (charged_of (file_of log m))
+charged_count log m n a fits kept counted gone =
+    let all = len-charged (open_in log) log.changes (opening_of log.changes m) kept.owned in
+    omega (arith, all, counted, gone, ap len fits.replayed)

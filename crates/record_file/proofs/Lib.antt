@@ -3,3 +3,5 @@ pub mod ChargedFacts
 pub mod FileFacts
 pub mod TxFacts
 pub mod StateFacts
+pub mod RoomFacts
+pub mod FaultFacts

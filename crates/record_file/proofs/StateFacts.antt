@@ -1,16 +1,22 @@
 -- What each change of the log keeps of the file's invariant.
-use Rattle.std.proofs.Common.{◌≡◌, ℕ, ◌+◌, ◌≤◌, ◌<◌, zero, suc, Bool, true, false, cond, List, [], ◌∷◌, ◌++◌, Option, Some, None, is_some, refl, sym, ap, subst, ◌∙◌, IsTrue, arith}
+use Rattle.std.proofs.Common.{◌≡◌, ℕ, ◌+◌, ◌≤◌, ◌<◌, zero, suc, Bool, true, false, cond, List, [], ◌∷◌, ◌++◌, Option, Some, None, is_some, refl, sym, ap, subst, ◌∙◌, IsTrue, arith, option_map, Result, Ok, Err, OnOk, OnErr}
 use Rattle.std.specs.FinMap as maps
 use Rattle.std.specs.FinMap.{get, len}
 use Rattle.rec_types.specs.Contents.{Contents, set_to, has}
 use Rattle.rec_types.specs.LimitBounds.{Bounds}
-use Rattle.rec_types.specs.Kept.{Kept, newest_live, undone, history_of}
-use Rattle.tx_log.specs.Transactions.{Transactions, Tx, is_open}
+use Rattle.rec_types.specs.History.{log_len}
+use Rattle.rec_types.specs.Kept.{Kept, newest_live, undone, history_of, opening_of}
+use Rattle.tx_log.specs.Transactions.{Transactions, Tx, is_open, fresh}
+use Rattle.tx_log.specs.declared.phases.BeginFault.{BeginFault}
+use Rattle.rec_types.specs.declared.transactions.TxId.{TxId}
 use Rattle.tx_log.specs.Owners.{charged}
-use Rattle.tx_log.specs.LogState.{LogState, IsLog, open_in, history_in}
-use Rattle.record_file.specs.Abstract.{IsRecordFile, Fits}
+use Rattle.tx_log.specs.LogState.{LogState, IsLog, open_in, history_in, phase_in, phase_of, update_in}
+use Rattle.tx_log.specs.declared.phases.Phase.{Phase}
+use Rattle.tx_log.specs.Log.{key_of}
+use Rattle.tx_log.specs.declared.log_records.LogRecord.{LogRecord}
+use Rattle.record_file.specs.Abstract.{IsRecordFile, Fits, written, Told, AllTold, new_in, file_of, with_change}
 use Rattle.record_file.proofs.TxFacts.{same_tx, same_tx-is, same_tx-refl, open-insert, open-remove}
-use Rattle.record_file.proofs.FileFacts.{change, fits_put, fits_undo, charged_put, charged_undo, charged_within}
+use Rattle.record_file.proofs.FileFacts.{change, put_file, opening_put, opening_undo, fits_put, fits_undo, charged_put, charged_undo, charged_within}
 
 -- of the transactions 1 to n none opens
 abbrev pub OpensNone : Transactions → Transactions → ℕ → Type 0
@@ -37,6 +43,29 @@ none_by_end txs n ended t le is = at (same_tx t ended) (sym (open-remove txs end
     at true is = absurd (cc)
     at false is = is
 
+pub open_by_phase : (o : Option Tx) (p : Phase) → option_map phase_of o ≡ Some p → is_some o ≡ true
+open_by_phase None p is = absurd (cc)
+open_by_phase (Some tx) p is = refl
+
+-- the log after a change was accepted
+abbrev pub accepted : LogState → TxId → List ℕ → Option (List ℕ) → Option (List ℕ) → LogState
+accepted s t x before w = record s { records = s.records ++ update_in s t x before w ∷ []; changes = s.changes ++ record { lsn = log_len (history_in s) + 1; tx = t.0; key = x; before = before; after = w; live = true } ∷ []; room = None }
+
+written-push : (rs : List LogRecord) (r : LogRecord) (m : Contents) → written m (rs ++ r ∷ []) ≡ set_to (written m rs) (key_of r) (new_in r)
+written-push [] r m = refl
+written-push (s ∷ rs) r m = written-push rs r (set_to m (key_of s) (new_in s))
+
+all_told_push : (rs : List LogRecord) (r : LogRecord) (m : Contents) → AllTold m rs → Told (written m rs) r → AllTold m (rs ++ r ∷ [])
+all_told_push [] r m told tells = (tells, tt)
+all_told_push (s ∷ rs) r m told tells = (told.0, all_told_push rs r (set_to m (key_of s) (new_in s)) told.1 tells)
+
+-- one more record, which tells what stands at its key
+told_push : (rs : List LogRecord) (r : LogRecord) (b c now : Contents) (x : List ℕ) (w : Option (List ℕ)) → b ≡ c → key_of r ≡ x → new_in r ≡ w → Told now r → (now ≡ written b rs) × AllTold b rs → (set_to now x w ≡ written c (rs ++ r ∷ [])) × AllTold c (rs ++ r ∷ [])
+told_push rs r b c now x w same key new tells told =
+    subst (λ (n : Contents). (set_to now x w ≡ written n (rs ++ r ∷ [])) × AllTold n (rs ++ r ∷ [])) same
+      ((λ i. set_to (told.0 i) (sym key i) (sym new i)) ∙ sym (written-push rs r b),
+       all_told_push rs r b told.1 (subst (λ (n : Contents). Told n r) told.0 tells))
+
 module _ (sound : Bool) (now : Contents) (limit : ℕ) (log : LogState) (limits : Bounds) (old : IsRecordFile sound now limit log limits) (kept : IsLog log) where
   -- other transactions are open, and none of those begun before opens
   pub file_txs : (txs : Transactions) (begun : ℕ) (room : Option (List ℕ)) → OpensNone log.txs txs log.begun → IsRecordFile sound now limit (record log { txs = txs; begun = begun; room = room }) limits
@@ -44,28 +73,60 @@ module _ (sound : Bool) (now : Contents) (limit : ℕ) (log : LogState) (limits 
     limited = old.limited;
     same_limits = old.same_limits;
     fits = old.fits;
+    told = old.told;
     within = λ is. charged_within (open_in log) (is_open txs) log.begun log.changes now limits.records none kept.begun (old.within is);
   }
 
   -- the room for a change
   pub file_room : (room : Option (List ℕ)) → IsRecordFile sound now limit (record log { room = room }) limits
-  file_room room = record { limited = old.limited; same_limits = old.same_limits; fits = old.fits; within = old.within }
+  file_room room = record { limited = old.limited; same_limits = old.same_limits; fits = old.fits; told = old.told; within = old.within }
 
   -- one more live change, put into the table
-  pub file_put : (room : Option (List ℕ)) (lsn t : ℕ) (x : List ℕ) (before w : Option (List ℕ)) → (IsTrue sound → before ≡ get now x) → (IsTrue sound → has (charged (open_in log) (history_in log) now) x ≡ false → len (charged (open_in log) (history_in log) now) < limits.records)
-      → IsRecordFile sound (set_to now x w) limit (record log { changes = log.changes ++ change lsn t x before w ∷ []; room = room }) limits
-  file_put room lsn t x before w stood room_for = record {
+  pub file_put : (room : Option (List ℕ)) (r : LogRecord) (lsn t : ℕ) (x : List ℕ) (before w : Option (List ℕ)) → key_of r ≡ x → new_in r ≡ w → (IsTrue sound → Told now r) → (IsTrue sound → before ≡ get now x) → (IsTrue sound → has (charged (open_in log) (history_in log) now) x ≡ false → len (charged (open_in log) (history_in log) now) < limits.records)
+    → IsRecordFile sound (set_to now x w) limit (record log { records = log.records ++ r ∷ []; changes = log.changes ++ change lsn t x before w ∷ []; room = room }) limits
+  file_put room r lsn t x before w key new tells stood room_for = record {
     limited = old.limited;
     same_limits = old.same_limits;
     fits = λ is. fits_put log.changes now lsn t x before w (old.fits is) (stood is);
+    told = λ is. told_push log.records r (opening_of log.changes now) (opening_of (log.changes ++ change lsn t x before w ∷ []) (set_to now x w)) now x w (sym (opening_put log.changes now lsn t x before w (stood is))) key new (tells is) (old.told is);
     within = λ is. charged_put (open_in log) log.changes now limits.records lsn t x before w (old.within is) (room_for is);
   }
 
   -- the newest live change of an open transaction taken back, in the table too
-  pub file_undo : (room : Option (List ℕ)) (t : ℕ) (u : Kept) → IsTrue (open_in log t) → newest_live t log.changes ≡ Some u → IsRecordFile sound (set_to now u.key u.before) limit (record log { changes = undone t log.changes; room = room }) limits
-  file_undo room t u open_t newest = record {
+  pub file_undo : (room : Option (List ℕ)) (r : LogRecord) (t : ℕ) (u : Kept) → key_of r ≡ u.key → new_in r ≡ u.before → Told now r → IsTrue (open_in log t) → newest_live t log.changes ≡ Some u → IsRecordFile sound (set_to now u.key u.before) limit (record log { records = log.records ++ r ∷ []; changes = undone t log.changes; room = room }) limits
+  file_undo room r t u key new tells open_t newest = record {
     limited = old.limited;
     same_limits = old.same_limits;
     fits = λ is. fits_undo (open_in log) log.changes now t u kept.owned open_t newest (old.fits is);
+    told = λ is. told_push log.records r (opening_of log.changes now) (opening_of (undone t log.changes) (set_to now u.key u.before)) now u.key u.before (sym (opening_undo t log.changes u now newest)) key new tells (old.told is);
     within = λ is. charged_undo (open_in log) log.changes now limits.records t u open_t newest (old.within is);
   }
+
+  -- a transaction is begun, or none is
+  pub file_begun : (answer : Result TxId BeginFault) (new : LogState) → OnOk answer (new ≡ record log { begun = log.begun + 1; txs = maps.insert log.txs (log.begun + 1) fresh; room = None }) → OnErr answer (new ≡ record log { room = None }) → IsRecordFile sound now limit new limits
+  file_begun (Ok tx) new ok err = subst (λ (s : LogState). IsRecordFile sound now limit s limits) (sym ok) (file_txs (maps.insert log.txs (log.begun + 1) fresh) (log.begun + 1) None (none_by_new log.txs log.begun fresh))
+  file_begun (Err fault) new ok err = subst (λ (s : LogState). IsRecordFile sound now limit s limits) (sym err) (file_room None)
+
+  -- what is known of an open transaction changed
+  pub file_known : (t : ℕ) (p : Phase) (answer : Option Phase) (tx : Tx) (new : LogState) → answer ≡ phase_in log t → answer ≡ Some p → new ≡ record log { txs = maps.insert log.txs t tx; room = None } → IsRecordFile sound now limit new limits
+  file_known t p answer tx new told is after = subst (λ (s : LogState). IsRecordFile sound now limit s limits) (sym after) (file_txs (maps.insert log.txs t tx) log.begun None (none_by_known log.txs log.begun t tx (open_by_phase (maps.get log.txs t) p (sym told ∙ is))))
+
+  -- a transaction ended
+  pub file_ended : (t : ℕ) (new : LogState) → new ≡ record log { txs = maps.remove log.txs t; room = None } → IsRecordFile sound now limit new limits
+  file_ended t new after = subst (λ (s : LogState). IsRecordFile sound now limit s limits) (sym after) (file_txs (maps.remove log.txs t) log.begun None (none_by_end log.txs log.begun t))
+
+  -- the log after room was made at the key and a change was accepted there
+  pub change_kept : (sound2 : Bool) (limit2 : ℕ) (now2 : Contents) (log1 log2 : LogState) (t : TxId) (x : List ℕ) (before told w : Option (List ℕ)) → sound2 ≡ sound → limit2 ≡ limit → log1 ≡ record log { room = Some x } → now2 ≡ set_to now x w → (IsTrue sound → before ≡ get now x) → told ≡ before → log2 ≡ accepted log1 t x told w
+    → (IsTrue sound → has (charged (open_in log) (history_in log) now) x ≡ false → len (charged (open_in log) (history_in log) now) < limits.records) → IsRecordFile sound2 now2 limit2 log2 limits
+  change_kept sound2 limit2 now2 log1 log2 t x before told w sound_is limit_is reserved put stood copied accepts room_for =
+      let after : log2 ≡ accepted (record log { room = Some x }) t x told w = accepts ∙ ap (λ (s : LogState). accepted s t x told w) reserved in
+      subst (λ (s : Bool). IsRecordFile s now2 limit2 log2 limits) (sym sound_is)
+      (subst (λ (n : ℕ). IsRecordFile sound now2 n log2 limits) (sym limit_is)
+      (subst (λ (m : Contents). IsRecordFile sound m limit log2 limits) (sym put)
+      (subst (λ (s : LogState). IsRecordFile sound (set_to now x w) limit s limits) (sym after)
+      (file_put None (update_in log t x told w) (log_len (history_in log) + 1) t.0 x told w refl refl (λ is. copied ∙ stood is) (λ is. copied ∙ stood is) room_for))))
+
+  pub change_file : (now2 : Contents) (log1 log2 : LogState) (t : TxId) (x : List ℕ) (before told w : Option (List ℕ)) → log1 ≡ record log { room = Some x } → now2 ≡ set_to now x w → before ≡ get now x → told ≡ before → log2 ≡ accepted log1 t x told w → file_of log2 now2 ≡ with_change (file_of log now) t.0 x w
+  change_file now2 log1 log2 t x before told w reserved put stood copied accepts =
+      let after : log2 ≡ accepted (record log { room = Some x }) t x told w = accepts ∙ ap (λ (s : LogState). accepted s t x told w) reserved in
+      (λ i. file_of (after i) (put i)) ∙ put_file log now (log.records ++ update_in log t x told w ∷ []) None (log_len (history_in log) + 1) t.0 x told w (copied ∙ stood)

@@ -3,13 +3,17 @@ use Rattle.std.specs.Prelude.{◌≡◌, ℕ, ◌+◌, ◌≤◌, Bool, true, fa
 use Rattle.std.specs.Coded.{Coded, code_by, coded×, coded_ℕ, coded_bool, coded_list, coded_option}
 use Rattle.std.specs.FinMap as maps
 use Rattle.rec_types.specs.LimitBounds.{Bounds, coded_bounds}
-use Rattle.rec_types.specs.Contents.{Contents, coded_contents}
+use Rattle.rec_types.specs.Contents.{Contents, coded_contents, set_to}
 use Rattle.rec_types.specs.History.{Change, replay, log_use, log_len}
 use Rattle.rec_types.specs.Kept.{Kept, history_of, opening_of, BeforesFit}
 use Rattle.tx_log.specs.Transactions.{Transactions, Tx, coded_transactions, is_open}
 use Rattle.tx_log.specs.Owners.{holder_of, charged}
 use Rattle.tx_log.specs.LogState.{LogState, phase_of, open_in, history_in}
 use Rattle.tx_log.specs.declared.phases.Phase.{Phase}
+use Rattle.tx_log.specs.declared.log_records.LogRecord.{LogRecord}
+use Rattle.tx_log.specs.declared.log_records.LogRecord.TheVariants.{Update, Compensation}
+use Rattle.tx_log.specs.Log.{key_of}
+use Rattle.tx_log.specs.LogCode.{coded_log_record}
 
 -- the contents that the session opened with, the history of its changes, how many transactions were begun, those
 -- that are open, and the limits
@@ -62,13 +66,37 @@ with_change f t x w = record f { history = f.history ++ record { tx = t; key = x
 abbrev pub new_file : Contents → Bounds → File
 new_file m limits = record { opening = m; history = []; begun = 0; txs = maps.empty; limits = limits }
 
--- the table itself, and the abstract file that it and the log stand for
+-- the table itself, the abstract file that it and the log stand for, and the records of the log, oldest first
 pub record OpenFile (T : Type 0) : Type 0 where
   pub table : T
   pub file : File
+  pub log : List LogRecord
 
 abbrev pub coded_open_file : {T : Type 0} → Coded T → Coded (OpenFile T)
-coded_open_file {T} t = code_by (T × File) (coded× t coded_file) (λ s. (s.table, s.file)) (λ p. record { table = p.0; file = p.1 }) (λ _. refl)
+coded_open_file {T} t = code_by (T × (File × List LogRecord)) (coded× t (coded× coded_file (coded_list coded_log_record))) (λ s. (s.table, (s.file, s.log))) (λ p. record { table = p.0; file = p.1.0; log = p.1.1 }) (λ _. refl)
+
+-- what a record of the log did to the contents: an update put the new record at its key, a compensation the old one
+abbrev pub new_in : LogRecord → Option (List ℕ)
+new_in (Update lsn prev tx key before after) = after
+new_in (Compensation lsn prev tx key restored undo_next) = restored
+
+-- the contents that the records of a log leave, in order
+abbrev pub written : Contents → List LogRecord → Contents
+written m [] = m
+written m (r ∷ rs) = written (set_to m (key_of r) (new_in r)) rs
+
+-- what an update tells of before is what the records before it leave at its key
+abbrev pub Told : Contents → LogRecord → Type 0
+Told m (Update lsn prev tx key before after) = before ≡ maps.get m key
+Told m (Compensation lsn prev tx key restored undo_next) = Unit {0}
+
+abbrev pub AllTold : Contents → List LogRecord → Type 0
+AllTold m [] = Unit {0}
+AllTold m (r ∷ rs) = Told m r × AllTold (set_to m (key_of r) (new_in r)) rs
+
+-- one list begins with the other
+abbrev pub Grows : List LogRecord → List LogRecord → Type 0
+Grows old new = (more : List LogRecord) × (new ≡ old ++ more)
 
 -- the file of a log over a table's present contents
 abbrev pub file_of : LogState → Contents → File
@@ -85,4 +113,5 @@ pub record IsRecordFile (sound : Bool) (now : Contents) (limit : ℕ) (log : Log
   pub limited : limit ≡ limits.records
   pub same_limits : log.limits ≡ limits
   pub fits : IsTrue sound → Fits log.changes now
+  pub told : IsTrue sound → (now ≡ written (opening_of log.changes now) log.records) × AllTold (opening_of log.changes now) log.records
   pub within : IsTrue sound → maps.len (charged (open_in log) (history_in log) now) ≤ limits.records

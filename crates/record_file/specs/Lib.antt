@@ -1,2 +1,3 @@
 pub mod Abstract
 pub mod Steps
+pub mod Faults

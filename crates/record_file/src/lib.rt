@@ -2,9 +2,11 @@
 #![tactic(auto)]
 
 mod faults;
+mod file;
 
 pub use faults::{
     AbortFault, Cause, CommitFault, EntriesFault, GetFault, KeysOfFault, PutFault, ReleaseFault,
     RemoveFault, ResumeFault, RollbackToFault, SavepointFault, Status, StatusFault,
 };
+pub use file::RecordFile;
 pub use tx_log::BeginFault;

@@ -1,3 +1,12 @@
+pub mod Finds
+pub mod Fits
+pub mod Log
+pub mod LogCode
+pub mod LogFields
+pub mod LogLaws
 pub mod LogState
 pub mod Owners
+pub mod Places
+pub mod Stages
 pub mod Transactions
+pub mod Walks

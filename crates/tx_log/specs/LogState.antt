@@ -1,17 +1,23 @@
 -- What a log of transactions stands for.
-use Rattle.std.specs.Prelude.{◌≡◌, ℕ, ◌+◌, ◌-◌, ◌<◌, ◌≤◌, zero, Bool, true, false, if◌then◌else◌, List, [], ◌∷◌, ◌++◌, length, take, Option, Some, None, option_map, refl, IsTrue}
+use Rattle.std.specs.Prelude.{◌≡◌, ℕ, ◌+◌, ◌-◌, ◌<◌, ◌≤◌, zero, Bool, true, false, if◌then◌else◌, List, [], ◌∷◌, ◌++◌, length, take, reverse, Option, Some, None, option_map, refl, IsTrue}
 use Rattle.std.specs.Coded.{Coded, code_by, coded×, coded_ℕ, coded_bool, coded_list, coded_option}
 use Rattle.std.specs.FinMap as maps
 use Rattle.rec_types.specs.LimitBounds.{Bounds, coded_bounds}
 use Rattle.rec_types.specs.History.{Change, log_use, own_count, live_from}
 use Rattle.rec_types.specs.Kept.{Kept, history_of, newest_from, IsOwned, AllBegun}
+use Rattle.rec_types.specs.declared.transactions.TxId.{TxId}
+use Rattle.tx_log.specs.Log.{prev_of, record_at, last_of}
+use Rattle.tx_log.specs.LogCode.{coded_log_record}
+use Rattle.tx_log.specs.declared.log_records.LogRecord.{LogRecord}
+use Rattle.tx_log.specs.declared.log_records.LogRecord.TheVariants.{Update, Compensation}
 use Rattle.tx_log.specs.Transactions.{Transactions, Tx, Rollback, coded_transactions, is_open, place_in}
 use Rattle.tx_log.specs.declared.phases.Phase.{Phase}
 use Rattle.tx_log.specs.declared.phases.Phase.TheVariants.{Active, Rolling}
 use Rattle.tx_log.specs.declared.phases.UndoStep.{UndoStep}
 
--- the changes, oldest first; the open transactions; how many were begun; the limits; the key with room for a change
+-- the log and its changes, both oldest first; the open transactions; how many were begun; the limits; the key with room for a change
 pub record LogState : Type 0 where
+  pub records : List LogRecord
   pub changes : List Kept
   pub txs : Transactions
   pub begun : ℕ
@@ -26,10 +32,10 @@ coded_kept = code_by (ℕ × (ℕ × (List ℕ × (Option (List ℕ) × (Option 
     (λ _. refl)
 
 abbrev pub coded_log_state : Coded LogState
-coded_log_state = code_by (List Kept × (Transactions × (ℕ × (Bounds × Option (List ℕ)))))
-    (coded× (coded_list coded_kept) (coded× coded_transactions (coded× coded_ℕ (coded× coded_bounds (coded_option (coded_list coded_ℕ))))))
-    (λ s. (s.changes, (s.txs, (s.begun, (s.limits, s.room)))))
-    (λ p. record { changes = p.0; txs = p.1.0; begun = p.1.1.0; limits = p.1.1.1.0; room = p.1.1.1.1 })
+coded_log_state = code_by (List LogRecord × (List Kept × (Transactions × (ℕ × (Bounds × Option (List ℕ))))))
+    (coded× (coded_list coded_log_record) (coded× (coded_list coded_kept) (coded× coded_transactions (coded× coded_ℕ (coded× coded_bounds (coded_option (coded_list coded_ℕ)))))))
+    (λ s. (s.records, (s.changes, (s.txs, (s.begun, (s.limits, s.room))))))
+    (λ p. record { records = p.0; changes = p.1.0; txs = p.1.1.0; begun = p.1.1.1.0; limits = p.1.1.1.1.0; room = p.1.1.1.1.1 })
     (λ _. refl)
 
 abbrev pub history_in : LogState → List Change
@@ -46,7 +52,7 @@ use_in s = log_use (open_in s) (history_in s)
 
 -- nothing has happened
 abbrev pub new_log : Bounds → LogState
-new_log limits = record { changes = []; txs = maps.empty; begun = 0; limits = limits; room = None }
+new_log limits = record { records = []; changes = []; txs = maps.empty; begun = 0; limits = limits; room = None }
 
 abbrev pub rollback_phase : Option Rollback → Phase
 rollback_phase None = Active
@@ -72,6 +78,22 @@ undo_of cs t (Some tx) = undo_from cs t tx.rollback
 
 abbrev pub undo_in : LogState → ℕ → Option Kept
 undo_in s t = undo_of s.changes t (tx_in s t)
+
+-- the record of a change, at the end of the log
+abbrev pub update_in : LogState → TxId → List ℕ → Option (List ℕ) → Option (List ℕ) → LogRecord
+update_in s tx key before after = Update (length s.records + 1) (last_of tx.0 (reverse s.records)) tx key before after
+
+abbrev pub prev_in : Option LogRecord → ℕ
+prev_in None = 0
+prev_in (Some r) = prev_of r
+
+abbrev pub compensations_of : LogState → TxId → Option Kept → List LogRecord
+compensations_of s tx None = []
+compensations_of s tx (Some c) = Compensation (length s.records + 1) (last_of tx.0 (reverse s.records)) tx c.key c.before (prev_in (record_at s.records c.lsn)) ∷ []
+
+-- the record of the taking back of the next change, at the end of the log
+abbrev pub compensations_in : LogState → TxId → List LogRecord
+compensations_in s tx = compensations_of s tx (undo_in s tx.0)
 
 abbrev pub places_of : Option Tx → List ℕ
 places_of None = []

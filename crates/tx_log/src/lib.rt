@@ -1,6 +1,12 @@
 //! Transactions, owners of keys and savepoints.
 #![tactic(auto)]
 
+mod log_records;
+mod logs;
+mod opened;
 mod phases;
+mod walks;
 
+pub use log_records::LogRecord;
+pub use logs::TxLog;
 pub use phases::{BeginFault, Phase, UndoStep};

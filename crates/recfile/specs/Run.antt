@@ -1,0 +1,98 @@
+-- The run of a script over a file: each line that says something has one reply.
+use Rattle.std.specs.Prelude.{◌≡◌, ℕ, ◌+◌, ◌<◌, ◌≤◌, Bool, true, false, List, [], ◌∷◌, ◌++◌, length, Option, Some, None, Result, Ok, Err, IsTrue, ◌⊎◌}
+use Rattle.std.specs.List.{flat_map}
+use Rattle.std.specs.Io.KnownBytes.{Consumes, Appends}
+use Rattle.rec_types.specs.History.{log_len}
+use Rattle.record_file.specs.Abstract.{File, use_of}
+use Rattle.record_file.specs.Steps.{rose, listed, BeginStep, PutStep, RemoveStep, GetStep, SavepointStep, ReleaseStep, CommitStep, RollbackToStep, AbortStep, ResumeStep, EntriesStep, KeysOfStep}
+use Rattle.recfile.specs.declared.commands.Command.TheVariants as command
+use Rattle.recfile.specs.declared.commands.Line.{Line}
+use Rattle.recfile.specs.declared.commands.Line.TheVariants as lines
+use Rattle.recfile.specs.declared.replies.Reply.{Reply}
+use Rattle.recfile.specs.declared.replies.Reply.TheVariants as reply
+use Rattle.recfile.specs.declared.scripts.ScriptFault.{ScriptFault}
+use Rattle.recfile.specs.declared.scripts.ScriptFault.TheVariants as faults
+use Rattle.recfile.specs.Script.{entries_of, keep}
+use Rattle.recfile.specs.Texts.{text_of}
+use Rattle.recfile.specs.Whole.{IsWhole, IsTooLong}
+
+-- what a run sees of a file: the abstract file, whether the table is sound, and the table's two counts
+pub record Seen : Type 0 where
+  pub file : File
+  pub sound : Bool
+  pub failures : ℕ
+  pub refusals : ℕ
+
+-- the table is sound, and its counts are below the greatest number
+abbrev pub IsCounted : Seen → Type 0
+IsCounted s = IsTrue s.sound × (s.failures < 18446744073709551615) × (s.refusals < 18446744073709551615)
+
+abbrev pub failed : Seen → Seen → Bool
+failed old new = rose old.failures new.failures
+
+abbrev pub refused : Seen → Seen → Bool
+refused old new = rose old.refusals new.refusals
+
+-- From old, the line may have this reply and lead to new. No other reply is given.
+abbrev pub Replies : Seen → Line → Reply → Seen → Type 0
+Replies old lines.Unread reply.Unread new = new.file ≡ old.file
+Replies old (lines.Said command.Begin) (reply.Begin answer) new = BeginStep old.file answer new.file
+Replies old (lines.Said (command.Put t x r)) (reply.Put answer) new = IsCounted old → PutStep old.file t.0 x r (failed old new) answer new.file
+Replies old (lines.Said (command.Del t x)) (reply.Del answer) new = IsCounted old → RemoveStep old.file t.0 x (failed old new) answer new.file
+Replies old (lines.Said (command.Get t x)) (reply.Get answer) new = IsCounted old → GetStep old.file t.0 x (failed old new) answer new.file
+Replies old (lines.Said (command.Save t)) (reply.Save answer) new = SavepointStep old.file t.0 answer new.file
+Replies old (lines.Said (command.Release t n)) (reply.Release answer) new = ReleaseStep old.file t.0 n answer new.file
+Replies old (lines.Said (command.Back t n)) (reply.Back answer) new = IsCounted old → RollbackToStep old.file t.0 n (failed old new) (refused old new) answer new.file
+Replies old (lines.Said (command.Resume t)) (reply.Resume answer) new = IsCounted old → ResumeStep old.file t.0 (failed old new) (refused old new) answer new.file
+Replies old (lines.Said (command.Abort t)) (reply.Abort answer) new = IsCounted old → AbortStep old.file t.0 (failed old new) (refused old new) answer new.file
+Replies old (lines.Said (command.Commit t)) (reply.Commit answer) new = CommitStep old.file t.0 answer new.file
+Replies old (lines.Said command.List) (reply.List answer) new = IsCounted old → EntriesStep old.file (failed old new) (refused old new) (listed answer) new.file
+Replies old (lines.Said (command.Keys t)) (reply.Keys answer) new = KeysOfStep old.file t.0 (listed answer) × (new.file ≡ old.file)
+Replies old (lines.Said command.Log) (reply.Log len used) new = (len ≡ log_len old.file.history) × (used ≡ use_of old.file) × (new.file ≡ old.file)
+Replies old line answer new = ⊥
+
+-- no reply changes whether the table is sound
+pub record Step (old : Seen) (line : Line) (answer : Reply) (new : Seen) : Type 0 where
+  pub sound : new.sound ≡ old.sound
+  pub replies : Replies old line answer new
+
+-- the lines have these replies, one step after another
+abbrev pub Session : Seen → List Line → List Reply → Seen → Type 0
+Session old [] [] new = new ≡ old
+Session old (line ∷ entries) (answer ∷ replies) new = (mid : Seen) × Step old line answer mid × Session mid entries replies new
+Session old [] (answer ∷ replies) new = ⊥
+Session old (line ∷ entries) [] new = ⊥
+
+-- a line that can't be read is no command
+abbrev pub commands : List Line → ℕ
+commands [] = 0
+commands (lines.Said c ∷ entries) = commands entries + 1
+commands (lines.Unread ∷ entries) = commands entries
+commands (lines.Nothing ∷ entries) = commands entries
+
+-- the front of a script was run: its entries up to a rest have these replies, with this many commands
+pub record Served (script rest : List ℕ) (old : Seen) (replies : List Reply) (new : Seen) (done : ℕ) : Type 0 where
+  pub front : List Line
+  pub split : entries_of script ≡ front ++ entries_of rest
+  pub ran : Session old front replies new
+  pub count : done ≡ commands front
+
+-- what was written is the text of the whole run
+abbrev pub Finished : Option (List ℕ) → Option (List ℕ) → Option (List ℕ) → Option (List ℕ) → Seen → Seen → ℕ → Type 0
+Finished left leaves held holds old new done =
+    (script : List ℕ) × (replies : List Reply) × IsWhole left leaves script × Session old (entries_of script) replies new
+    × Appends held holds (flat_map text_of replies) × (done ≡ commands (entries_of script))
+
+-- the last command of a front was run, and its reply could not be made, or not be written
+abbrev pub EndsRun : Option (List ℕ) → Option (List ℕ) → Seen → Seen → ℕ → Bool → List ℕ → Type 0
+EndsRun held holds old new done made script =
+    (replies : List Reply) × (last : Reply) × (rest : List ℕ) × Served script rest old (replies ++ last ∷ []) new done × (made ≡ false → Appends held holds (flat_map text_of replies))
+
+-- Too long a script, and one that can't be read, run nothing. Otherwise the script was read, and exactly the
+-- first `done` commands were run; where memory was wanting the replies before the failed one are written.
+abbrev pub Faulted : Option (List ℕ) → Option (List ℕ) → Option (List ℕ) → Option (List ℕ) → Seen → Seen → ScriptFault → Type 0
+Faulted left leaves held holds old new faults.ScriptTooLong = IsTooLong left leaves × (new ≡ old) × (holds ≡ held)
+Faulted left leaves held holds old new faults.ReadFault = (new ≡ old) × (holds ≡ held)
+Faulted left leaves held holds old new (faults.WriteFault done) = (script : List ℕ) × IsWhole left leaves script × EndsRun held holds old new done true script
+Faulted left leaves held holds old new (faults.Memory done) =
+    ((done ≡ 0) × (new ≡ old) × (holds ≡ held)) ⊎ ((script : List ℕ) × IsWhole left leaves script × EndsRun held holds old new done false script)

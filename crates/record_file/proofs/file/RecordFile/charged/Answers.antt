@@ -1,0 +1,6 @@
+use Rattle.std.proofs.Common.{ap, ◌∙◌}
+use Rattle.record_file.proofs.FileFacts.{charged_count}
+use Rattle.record_file.proofs.file.RecordFile.charged.Goals as goal
+
+pub returns : goal.returns
+returns g c = rw (← c.self.view_is) (λ sound. charged_count c.self.inside.log (g.T.Table.contents c.self.inside.table) c.from.result c.from-2.result (c.self.invariant.fits sound) c.begun-begun.ensures.kept (c.from.ensures ∙ c.count.ensures.value sound) (c.from-2.ensures ∙ c.absent_owned.ensures))

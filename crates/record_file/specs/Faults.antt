@@ -1,0 +1,19 @@
+-- What a table's fault means to a put or a removal.
+use Rattle.rec_types.specs.declared.tables.TableFault.{TableFault}
+use Rattle.rec_types.specs.declared.tables.TableFault.TheVariants as table_faults
+use Rattle.record_file.specs.declared.faults.PutFault.{PutFault}
+use Rattle.record_file.specs.declared.faults.PutFault.TheVariants as put_faults
+use Rattle.record_file.specs.declared.faults.RemoveFault.{RemoveFault}
+use Rattle.record_file.specs.declared.faults.RemoveFault.TheVariants as remove_faults
+
+abbrev pub put_fault : TableFault → PutFault
+put_fault table_faults.Device = put_faults.Device
+put_fault (table_faults.Damaged page) = put_faults.Damaged page
+put_fault table_faults.NoRoom = put_faults.Damaged 0
+put_fault table_faults.Memory = put_faults.Memory
+
+abbrev pub remove_fault : TableFault → RemoveFault
+remove_fault table_faults.Device = remove_faults.Device
+remove_fault (table_faults.Damaged page) = remove_faults.Damaged page
+remove_fault table_faults.NoRoom = remove_faults.Damaged 0
+remove_fault table_faults.Memory = remove_faults.Memory

@@ -1,0 +1,123 @@
+-- An open transaction whose stage and savepoints change.
+use Rattle.std.proofs.Common.{◌≡◌, ℕ, zero, suc, ◌+◌, ◌-◌, ◌<◌, ◌≤◌, Bool, true, false, cond, eqb, List, [], ◌∷◌, ◌++◌, length, map, take, reverse, set, get_or, Option, Some, None, is_some, refl, sym, ap, subst, ◌∙◌, arith, length-append, length-take}
+use Rattle.std.specs.FinMap as maps
+use Rattle.std.specs.List.{take-map}
+use Rattle.std.proofs.lemmas.List.{map-append, length-map}
+use Rattle.rec_types.specs.History.{is_pending, own_count}
+use Rattle.rec_types.specs.Kept.{Kept, history_of, IsOwned}
+use Rattle.rec_types.specs.LimitBounds.{Bounds}
+use Rattle.tx_log.proofs.AbsentFacts.{absent_in}
+use Rattle.tx_log.proofs.Chains.{last_of-le}
+use Rattle.tx_log.proofs.Counts.{count}
+use Rattle.tx_log.proofs.KeptFacts.{tx_of_entry}
+use Rattle.tx_log.proofs.OpenFacts.{found_fits, found_number, fit-set, opens-set, txs-set}
+use Rattle.tx_log.proofs.PlaceFacts.{kept_rises, place-zero, place-new}
+use Rattle.tx_log.proofs.StateFacts.{state}
+use Rattle.tx_log.specs.Finds.{find_tx, IsFirst}
+use Rattle.tx_log.specs.Fits.{AllUpTo, StageUpTo, FitsTx, AllFit}
+use Rattle.tx_log.specs.Log.{kept_of, last_of, IsNumbered}
+use Rattle.tx_log.specs.LogFields.{IsKept}
+use Rattle.tx_log.specs.LogState.{LogState, places_of, places_in}
+use Rattle.tx_log.specs.Places.{place_at}
+use Rattle.tx_log.specs.Stages.{rollback_at, tx_at, txs_of, opens}
+use Rattle.tx_log.specs.Transactions.{Tx, Rollback, place_in}
+use Rattle.tx_log.specs.declared.log_records.LogRecord.{LogRecord}
+use Rattle.tx_log.specs.declared.opened.OpenTx.{OpenTx}
+use Rattle.tx_log.specs.declared.opened.Stage.{Stage}
+use Rattle.tx_log.specs.declared.opened.Stage.TheVariants.{Forward, Back}
+
+-- the transaction with the stage and the savepoints
+abbrev pub moved : OpenTx → Stage → List ℕ → OpenTx
+moved e s ss = record e { stage = s; saves = record { items = ss } }
+
+pub record IsMove (rs : List LogRecord) (s : Stage) (ss : List ℕ) : Type 0 where
+  pub saves : AllUpTo (length rs) ss
+  pub depth : length ss ≤ 32
+  pub stage : StageUpTo (length rs) s
+
+moved_fits : (rs : List LogRecord) (n : ℕ) (e : OpenTx) (s : Stage) (ss : List ℕ) → FitsTx rs n e → IsMove rs s ss → FitsTx rs n (moved e s ss)
+moved_fits rs n e s ss fits move = record {
+  last = fits.last;
+  live = fits.live;
+  absent_keys = fits.absent_keys;
+  saves = move.saves;
+  depth = move.depth;
+  stage = move.stage;
+  some = fits.some;
+  begun = fits.begun;
+}
+
+pub moved_kept : (rs : List LogRecord) (es : List OpenTx) (begun pending gone t i : ℕ) (e new : OpenTx) (s : Stage) (ss : List ℕ) → IsKept rs es begun pending gone → IsFirst t es i → find_tx t es ≡ Some e → new ≡ moved e s ss → IsMove rs s ss → IsKept rs (set es i new) begun pending gone
+moved_kept rs es begun pending gone t i e new s ss kept is found new_is move =
+    let fits : FitsTx rs begun new = subst (FitsTx rs begun) (sym new_is) (moved_fits rs begun e s ss (found_fits rs begun t es e kept.fit found) move) in
+    let own : new.tx.0 ≡ t = ap (λ (x : OpenTx). x.tx.0) new_is ∙ found_number t es e found in
+    let same = opens-set t es i new is own in
+    record {
+      numbered = kept.numbered;
+      written = kept.written;
+      fit = fit-set rs begun rs begun t es i new (λ x apart fit. fit) is own fits kept.fit;
+      known = kept.known;
+      all_begun = kept.all_begun;
+      owned = subst (λ (o : ℕ → Bool). IsOwned o (kept_of rs)) (sym same) kept.owned;
+      pending_is = kept.pending_is ∙ ap (λ (o : ℕ → Bool). count (is_pending o) (kept_of rs)) (sym same);
+      absent_is = kept.absent_is ∙ ap (λ (o : ℕ → Bool). maps.len (absent_in o (kept_of rs))) (sym same);
+    }
+
+abbrev pub moved_tx : List Kept → ℕ → Stage → List ℕ → Tx
+moved_tx cs t s ss = record { rollback = rollback_at t cs s; places = map (λ k. place_at t k cs) ss }
+
+pub moved_state : (records : List LogRecord) (es : List OpenTx) (begun : ℕ) (limits : Bounds) (room : Option (List ℕ)) (t i : ℕ) (e new : OpenTx) (s : Stage) (ss : List ℕ) → IsFirst t es i → find_tx t es ≡ Some e → new ≡ moved e s ss → state records (set es i new) begun limits None ≡ record (state records es begun limits room) { txs = maps.insert (txs_of (kept_of (reverse records)) es) t (moved_tx (kept_of (reverse records)) t s ss); room = None }
+moved_state records es begun limits room t i e new s ss is found new_is =
+    let cs = kept_of (reverse records) in
+    let number = found_number t es e found in
+    let own : new.tx.0 ≡ t = ap (λ (x : OpenTx). x.tx.0) new_is ∙ number in
+    let txs_are = txs-set cs t es i new is own ∙ ap (λ (x : OpenTx). maps.insert (txs_of cs es) t (tx_at cs x)) new_is ∙ ap (λ k. maps.insert (txs_of cs es) t (moved_tx cs k s ss)) number in
+    λ j. record { records = records; changes = cs; txs = txs_are j; begun = begun; limits = limits; room = None }
+
+-- the places of a transaction
+pub places_are : (records : List LogRecord) (es : List OpenTx) (begun : ℕ) (limits : Bounds) (room : Option (List ℕ)) (t : ℕ) (e : OpenTx) → find_tx t es ≡ Some e → places_in (state records es begun limits room) t ≡ map (λ k. place_at t k (kept_of (reverse records))) e.saves.items
+places_are records es begun limits room t e found =
+    ap places_of (tx_of_entry (kept_of (reverse records)) es t e found) ∙ ap (λ n. map (λ k. place_at n k (kept_of (reverse records))) e.saves.items) (found_number t es e found)
+
+-- ---- savepoints
+
+pub up_to_take : (n m : ℕ) (ss : List ℕ) → AllUpTo m ss → AllUpTo m (take n ss)
+up_to_take zero m ss up = tt
+up_to_take (suc n) m [] up = tt
+up_to_take (suc n) m (s ∷ ss) up = (up.0, up_to_take n m ss up.1)
+
+pub up_to_push : (m : ℕ) (ss : List ℕ) (s : ℕ) → s ≤ m → AllUpTo m ss → AllUpTo m (ss ++ s ∷ [])
+up_to_push m [] s h up = (h, tt)
+up_to_push m (x ∷ ss) s h up = (up.0, up_to_push m ss s h up.1)
+
+pub up_to_place : (m : ℕ) (ss : List ℕ) (n : ℕ) → AllUpTo m ss → place_in ss n ≤ m
+up_to_place m ss zero up = omega arith
+up_to_place m [] (suc n) up = omega arith
+up_to_place m (s ∷ ss) (suc zero) up = up.0
+up_to_place m (s ∷ ss) (suc (suc n)) up = up_to_place m ss (suc n) up.1
+
+pub place_in-map : (f : ℕ → ℕ) (ss : List ℕ) (n : ℕ) → f 0 ≡ 0 → place_in (map f ss) n ≡ f (place_in ss n)
+place_in-map f ss zero h = sym h
+place_in-map f [] (suc n) h = sym h
+place_in-map f (s ∷ ss) (suc zero) h = refl
+place_in-map f (s ∷ ss) (suc (suc n)) h = place_in-map f ss (suc n) h
+
+-- a rollback to savepoint n goes back to its place
+pub rolling_is : (rs : List LogRecord) (t n : ℕ) (ends : Bool) (ss : List ℕ) → IsNumbered rs → moved_tx (kept_of rs) t (Back (place_in ss n) ends) (take n ss) ≡ record { rollback = Some (record { to = place_in (map (λ k. place_at t k (kept_of rs)) ss) n; ends = ends }); places = take n (map (λ k. place_at t k (kept_of rs)) ss) }
+rolling_is rs t n ends ss is =
+    let f : ℕ → ℕ = λ k. place_at t k (kept_of rs) in
+    let none = place-zero t (kept_of rs) (length rs) (kept_rises rs is) in
+    λ i. record { rollback = Some (record { to = sym (place_in-map f ss n none) i; ends = ends }); places = sym (take-map f n ss) i }
+
+-- a new savepoint's place is the count of the transaction's changes
+pub saved_is : (rs : List LogRecord) (t s : ℕ) (ss : List ℕ) → IsNumbered rs → s ≡ last_of t rs → moved_tx (kept_of rs) t Forward (ss ++ s ∷ []) ≡ record { rollback = None; places = map (λ k. place_at t k (kept_of rs)) ss ++ own_count (history_of (kept_of rs)) t ∷ [] }
+saved_is rs t s ss is last =
+    let f : ℕ → ℕ = λ k. place_at t k (kept_of rs) in
+    let new : f s ≡ own_count (history_of (kept_of rs)) t = ap f last ∙ place-new t rs is in
+    λ i. record { rollback = None; places = (map-append f ss (s ∷ []) ∙ ap (λ p. map f ss ++ p ∷ []) new) i }
+
+pub kept_saves : (rs : List LogRecord) (t n : ℕ) (ss : List ℕ) → moved_tx (kept_of rs) t Forward (take n ss) ≡ record { rollback = None; places = take n (map (λ k. place_at t k (kept_of rs)) ss) }
+kept_saves rs t n ss = λ i. record { rollback = None; places = sym (take-map (λ k. place_at t k (kept_of rs)) n ss) i }
+
+pub short_take : (n m : ℕ) (ss : List ℕ) → length ss ≤ m → length (take n ss) ≤ m
+short_take n m ss h = omega (arith, length-take n ss)

@@ -1,0 +1,165 @@
+-- What is read of an open transaction is what its entry in the state says.
+use Rattle.std.proofs.Common.{◌≡◌, ℕ, zero, suc, ◌+◌, ◌-◌, ◌<◌, ◌≤◌, Bool, true, false, cond, not, eqb, ltb, ◌&&◌, List, [], ◌∷◌, ◌++◌, length, map, drop, Option, Some, None, option_map, is_some, IsSome, refl, sym, ap, subst, ◌∙◌, arith, length-append}
+use Rattle.std.specs.FinMap as maps
+use Rattle.std.specs.List.{find, filter}
+use Rattle.std.proofs.lemmas.List.{length-map, append-nil}
+use Rattle.rec_types.specs.History.{live_from}
+use Rattle.rec_types.specs.Kept.{Kept, history_of, is_own, newest_from}
+use Rattle.tx_log.proofs.Chains.{last_of-le}
+use Rattle.tx_log.proofs.Lives.{first, single, lives, stack_is_lives}
+use Rattle.tx_log.proofs.KeptFacts.{tx_of_entry}
+use Rattle.tx_log.proofs.OpenFacts.{get-txs_of, found_fits, found_number}
+use Rattle.tx_log.proofs.PlaceFacts.{above, kept_rises, live_from-place, newest_from-place}
+use Rattle.tx_log.proofs.StepFacts.{chain_of}
+use Rattle.tx_log.proofs.WalkSteps.{IsStep, stops_at}
+use Rattle.std.proofs.lemmas.Bool.Decides.{nat_tests}
+use Rattle.tx_log.specs.Finds.{find_tx}
+use Rattle.tx_log.specs.Fits.{FitsTx}
+use Rattle.tx_log.specs.Log.{lsn_of, key_of, old_of, kept_of, last_of, stack, chain, noted, IsNumbered}
+use Rattle.tx_log.specs.LogFields.{IsKept}
+use Rattle.tx_log.specs.LogState.{phase_of, undo_of, undo_step}
+use Rattle.tx_log.specs.Places.{place_at}
+use Rattle.tx_log.specs.Stages.{phase_at, rollback_at, tx_at, txs_of}
+use Rattle.tx_log.specs.Transactions.{Tx, depth_of, live_in, left_in}
+use Rattle.tx_log.specs.Walks.{change_in, newest_in, is_after}
+use Rattle.tx_log.specs.declared.log_records.LogRecord.{LogRecord}
+use Rattle.tx_log.specs.declared.opened.OpenTx.{OpenTx}
+use Rattle.tx_log.specs.declared.opened.Stage.{Stage}
+use Rattle.tx_log.specs.declared.opened.Stage.TheVariants.{Forward, Back}
+use Rattle.tx_log.specs.declared.phases.Phase.{Phase}
+use Rattle.tx_log.specs.declared.phases.UndoStep.{UndoStep}
+use Rattle.tx_log.specs.declared.walks.LiveChange.{LiveChange}
+
+pub tx_none : (cs : List Kept) (es : List OpenTx) (t : ℕ) → find_tx t es ≡ None → maps.get (txs_of cs es) t ≡ None
+tx_none cs es t none = get-txs_of cs es t ∙ ap (option_map (tx_at cs)) none
+
+phase_case : (cs : List Kept) (t : ℕ) (s : Stage) (places : List ℕ) → phase_of (record { rollback = rollback_at t cs s; places = places }) ≡ phase_at s
+phase_case cs t Forward places = refl
+phase_case cs t (Back to ends) places = refl
+
+pub phase_is : (cs : List Kept) (es : List OpenTx) (t : ℕ) (e : OpenTx) → find_tx t es ≡ Some e → option_map phase_of (maps.get (txs_of cs es) t) ≡ Some (phase_at e.stage)
+phase_is cs es t e found = ap (option_map phase_of) (tx_of_entry cs es t e found) ∙ ap Some (phase_case cs e.tx.0 e.stage (map (λ s. place_at e.tx.0 s cs) e.saves.items))
+
+pub depth_is : (cs : List Kept) (es : List OpenTx) (t : ℕ) (e : OpenTx) → find_tx t es ≡ Some e → depth_of (maps.get (txs_of cs es) t) ≡ length e.saves.items
+depth_is cs es t e found = ap depth_of (tx_of_entry cs es t e found) ∙ length-map e.saves.items (λ s. place_at e.tx.0 s cs)
+
+live_case : (us : List Kept) (n : ℕ) (b : Bool) (c : Kept) → n ≡ length us → cond b (suc n) n ≡ length (us ++ single b c)
+live_case us n true c e = omega (arith, length-append us (c ∷ []))
+live_case us n false c e = e ∙ ap length (sym (append-nil us))
+
+live_from_start : (t : ℕ) (cs : List Kept) → live_from (history_of cs) t zero ≡ length (lives t cs)
+live_from_start t [] = refl
+live_from_start t (c ∷ cs) = live_case (lives t cs) (live_from (history_of cs) t zero) (is_own t c) c (live_from_start t cs)
+
+pub lives_length : (t : ℕ) (rs : List LogRecord) → length (lives t (kept_of rs)) ≡ length (stack t rs)
+lives_length t rs = ap length (sym (stack_is_lives t rs)) ∙ length-map (stack t rs) noted
+
+pub live_is : (rs : List LogRecord) (es : List OpenTx) (begun pending gone t : ℕ) (e : OpenTx) → IsKept rs es begun pending gone → find_tx t es ≡ Some e → live_in (history_of (kept_of rs)) t (maps.get (txs_of (kept_of rs) es) t) ≡ e.live
+live_is rs es begun pending gone t e kept found =
+    ap (live_in (history_of (kept_of rs)) t) (tx_of_entry (kept_of rs) es t e found)
+    ∙ live_from_start t (kept_of rs)
+    ∙ lives_length t rs
+    ∙ ap (λ k. length (stack k rs)) (sym (found_number t es e found))
+    ∙ sym (found_fits rs begun t es e kept.fit found).live
+
+-- ---- a rollback under way
+
+filter_noted : (s : ℕ) (us : List LogRecord) → filter (above s) (map noted us) ≡ map noted (filter (is_after s) us)
+filter_noted s [] = refl
+filter_noted s (u ∷ us) = noted_case (is_after s u) (filter_noted s us)
+  where
+    noted_case : (b : Bool) → filter (above s) (map noted us) ≡ map noted (filter (is_after s) us) → cond b (noted u ∷ filter (above s) (map noted us)) (filter (above s) (map noted us)) ≡ map noted (cond b (u ∷ filter (is_after s) us) (filter (is_after s) us))
+    noted_case true e = ap (λ xs. noted u ∷ xs) e
+    noted_case false e = e
+
+above_is : (rs : List LogRecord) (es : List OpenTx) (begun pending gone t s : ℕ) (e : OpenTx) → IsKept rs es begun pending gone → find_tx t es ≡ Some e → filter (above s) (lives t (kept_of rs)) ≡ map noted (filter (is_after s) (chain rs e.last))
+above_is rs es begun pending gone t s e kept found =
+    ap (filter (above s)) (sym (stack_is_lives t rs))
+    ∙ filter_noted s (stack t rs)
+    ∙ ap (λ us. map noted (filter (is_after s) us)) (sym (chain_of rs t e.last kept.numbered kept.written ((found_fits rs begun t es e kept.fit found).last ∙ ap (λ k. last_of k rs) (found_number t es e found))))
+
+pub left_none : (cs : List Kept) (es : List OpenTx) (t : ℕ) (e : OpenTx) → find_tx t es ≡ Some e → e.stage ≡ Forward → left_in (history_of cs) t (maps.get (txs_of cs es) t) ≡ 0
+left_none cs es t e found stage =
+    ap (left_in (history_of cs) t) (tx_of_entry cs es t e found)
+    ∙ ap (λ (s : Stage). left_in (history_of cs) t (Some (record { rollback = rollback_at e.tx.0 cs s; places = map (λ k. place_at e.tx.0 k cs) e.saves.items }))) stage
+
+pub left_is : (rs : List LogRecord) (es : List OpenTx) (begun pending gone t to : ℕ) (ends : Bool) (e : OpenTx) → IsKept rs es begun pending gone → find_tx t es ≡ Some e → e.stage ≡ Back to ends → left_in (history_of (kept_of rs)) t (maps.get (txs_of (kept_of rs) es) t) ≡ length (filter (is_after to) (chain rs e.last))
+left_is rs es begun pending gone t to ends e kept found stage =
+    let cs = kept_of rs in
+    ap (left_in (history_of cs) t) (tx_of_entry cs es t e found)
+    ∙ ap (λ (s : Stage). left_in (history_of cs) t (Some (record { rollback = rollback_at e.tx.0 cs s; places = map (λ k. place_at e.tx.0 k cs) e.saves.items }))) stage
+    ∙ ap (λ k. live_from (history_of cs) t (place_at k to cs)) (found_number t es e found)
+    ∙ live_from-place t to cs (length rs) (kept_rises rs kept.numbered)
+    ∙ ap length (above_is rs es begun pending gone t to e kept found)
+    ∙ length-map (filter (is_after to) (chain rs e.last)) noted
+
+pub undo_none : (cs : List Kept) (es : List OpenTx) (t : ℕ) (e : OpenTx) → find_tx t es ≡ Some e → e.stage ≡ Forward → undo_of cs t (maps.get (txs_of cs es) t) ≡ None
+undo_none cs es t e found stage =
+    ap (undo_of cs t) (tx_of_entry cs es t e found)
+    ∙ ap (λ (s : Stage). undo_of cs t (Some (record { rollback = rollback_at e.tx.0 cs s; places = map (λ k. place_at e.tx.0 k cs) e.saves.items }))) stage
+
+pub undo_is : (rs : List LogRecord) (es : List OpenTx) (begun pending gone t to : ℕ) (ends : Bool) (e : OpenTx) → IsKept rs es begun pending gone → find_tx t es ≡ Some e → e.stage ≡ Back to ends → undo_of (kept_of rs) t (maps.get (txs_of (kept_of rs) es) t) ≡ first (map noted (filter (is_after to) (chain rs e.last)))
+undo_is rs es begun pending gone t to ends e kept found stage =
+    let cs = kept_of rs in
+    ap (undo_of cs t) (tx_of_entry cs es t e found)
+    ∙ ap (λ (s : Stage). undo_of cs t (Some (record { rollback = rollback_at e.tx.0 cs s; places = map (λ k. place_at e.tx.0 k cs) e.saves.items }))) stage
+    ∙ ap (λ k. newest_from cs t (place_at k to cs)) (found_number t es e found)
+    ∙ newest_from-place t to cs (length rs) (kept_rises rs kept.numbered)
+    ∙ ap first (above_is rs es begun pending gone t to e kept found)
+
+abbrev pub undo_step_of : LiveChange → UndoStep
+undo_step_of c = record { key = c.key; before = c.before }
+
+pub undo_case : (us : List LogRecord) (change : LiveChange) → Some change ≡ newest_in us → Some (undo_step_of change) ≡ option_map undo_step (first (map noted us))
+undo_case [] change h = absurd (cc)
+undo_case (u ∷ us) change h = let told : change_in u ≡ change = cc in ap (λ (c : LiveChange). Some (undo_step_of c)) (sym told)
+
+pub no_undo_case : (us : List LogRecord) → None ≡ newest_in us → None ≡ option_map undo_step (first (map noted us))
+no_undo_case [] h = refl
+no_undo_case (u ∷ us) h = absurd (cc)
+
+-- ---- a change that is to be taken back
+
+undo_some_case : (cs : List Kept) (t : ℕ) (o : Option Tx) → is_some (undo_of cs t o) ≡ true → is_some o ≡ true
+undo_some_case cs t None h = absurd (let no : false ≡ true = h in cc)
+undo_some_case cs t (Some tx) h = refl
+
+pub open_of_undo : (cs : List Kept) (es : List OpenTx) (t : ℕ) → is_some (undo_of cs t (maps.get (txs_of cs es) t)) ≡ true → is_some (find_tx t es) ≡ true
+open_of_undo cs es t h = some_entry (find_tx t es) (ap is_some (sym (get-txs_of cs es t)) ∙ undo_some_case cs t (maps.get (txs_of cs es) t) h)
+  where
+    some_entry : (o : Option OpenTx) → is_some (option_map (tx_at cs) o) ≡ true → is_some o ≡ true
+    some_entry None h = h
+    some_entry (Some e) h = refl
+
+-- the newest of them is the head of the chain
+undo_head_case : (rs : List LogRecord) (at to : ℕ) (us : List LogRecord) → IsNumbered rs → chain rs at ≡ us → is_some (first (map noted (filter (is_after to) us))) ≡ true → (change : LiveChange) × (Some change ≡ newest_in us)
+undo_head_case rs at to [] is e h = absurd (let no : false ≡ true = h in cc)
+undo_head_case rs at to (u ∷ us) is e h = (change_in u, refl)
+
+pub undo_head : (rs : List LogRecord) (es : List OpenTx) (begun pending gone t : ℕ) (e : OpenTx) → IsKept rs es begun pending gone → find_tx t es ≡ Some e → is_some (undo_of (kept_of rs) t (maps.get (txs_of (kept_of rs) es) t)) ≡ true → is_some (newest_in (chain rs e.last)) ≡ true
+undo_head rs es begun pending gone t e kept found h = stage_case e.stage refl
+  where
+    stage_case : (s : Stage) → e.stage ≡ s → is_some (newest_in (chain rs e.last)) ≡ true
+    stage_case Forward f = absurd (let no : true ≡ false = sym h ∙ ap is_some (undo_none (kept_of rs) es t e found f) in cc)
+    stage_case (Back to ends) f =
+        let head = undo_head_case rs e.last to (chain rs e.last) kept.numbered refl (ap is_some (sym (undo_is rs es begun pending gone t to ends e kept found f)) ∙ h) in
+        ap is_some (sym head.1)
+
+above_case : (rs : List LogRecord) (at to : ℕ) (change : LiveChange) → IsNumbered rs → (step : IsStep rs at change) → is_some (first (map noted (filter (is_after to) (chain rs at)))) ≡ true → (b : Bool) → ltb to change.lsn ≡ b → first (map noted (filter (is_after to) (chain rs at))) ≡ Some (noted step.update)
+above_case rs at to change is step h true up =
+    let u = step.update in
+    let us = filter (is_after to) step.rest in
+    let up_is : is_after to u ≡ true = ap (λ (c : LiveChange). ltb to c.lsn) step.told ∙ up in
+    ap (λ xs. first (map noted (filter (is_after to) xs))) step.is ∙ ap (λ (b : Bool). first (map noted (cond b (u ∷ us) us))) up_is
+above_case rs at to change is step h false up =
+    let low : change.lsn ≤ to = grind (arith, nat_tests) in
+    absurd (let no : true ≡ false = sym h ∙ ap (λ xs. is_some (first (map noted xs))) (stops_at rs at change to is step low) in cc)
+
+pub undo_told : (rs : List LogRecord) (es : List OpenTx) (begun pending gone t : ℕ) (e : OpenTx) (change : LiveChange) → IsKept rs es begun pending gone → find_tx t es ≡ Some e → is_some (undo_of (kept_of rs) t (maps.get (txs_of (kept_of rs) es) t)) ≡ true → (step : IsStep rs e.last change) → undo_of (kept_of rs) t (maps.get (txs_of (kept_of rs) es) t) ≡ Some (noted step.update)
+undo_told rs es begun pending gone t e change kept found h step = stage_case e.stage refl
+  where
+    stage_case : (s : Stage) → e.stage ≡ s → undo_of (kept_of rs) t (maps.get (txs_of (kept_of rs) es) t) ≡ Some (noted step.update)
+    stage_case Forward f = absurd (let no : true ≡ false = sym h ∙ ap is_some (undo_none (kept_of rs) es t e found f) in cc)
+    stage_case (Back to ends) f =
+        let told = undo_is rs es begun pending gone t to ends e kept found f in
+        told ∙ above_case rs e.last to change kept.numbered step (ap is_some (sym told) ∙ h) (ltb to change.lsn) refl

@@ -1,0 +1,124 @@
+-- One step of a walk along a chain.
+use Rattle.std.proofs.Common.{◌≡◌, ℕ, zero, suc, ◌+◌, ◌-◌, ◌<◌, ◌≤◌, Bool, true, false, cond, eqb, ltb, List, [], ◌∷◌, ◌++◌, length, map, Option, Some, None, option_map, refl, sym, ap, subst, ◌∙◌, arith}
+use Rattle.std.proofs.lemmas.Bool.Decides.{nat_tests}
+use Rattle.std.specs.List.{filter, find}
+use Rattle.tx_log.proofs.Chains.{IsHead, chain-head, same_number}
+use Rattle.tx_log.specs.Log.{lsn_of, prev_of, key_of, leads_to, led, is_update, chain, IsNumbered}
+use Rattle.rec_types.specs.Contents.{same_key}
+use Rattle.tx_log.specs.Walks.{change_in, newest_in, is_at, is_after}
+use Rattle.tx_log.specs.declared.log_records.LogRecord.{LogRecord}
+use Rattle.tx_log.specs.declared.log_records.LogRecord.TheVariants.{Update, Compensation}
+use Rattle.tx_log.specs.declared.walks.LiveChange.{LiveChange}
+
+pub record IsStep (rs : List LogRecord) (at : ℕ) (change : LiveChange) : Type 0 where
+  pub update : LogRecord
+  pub rest : List LogRecord
+  pub is : chain rs at ≡ update ∷ rest
+  pub told : change_in update ≡ change
+  pub tail : chain rs change.prev ≡ rest
+  pub falls : change.prev < change.lsn
+  pub low : change.lsn ≤ at
+  pub within : change.lsn ≤ length rs
+  pub kind : is_update update ≡ true
+
+leads_is_prev : (u : LogRecord) → is_update u ≡ true → leads_to u ≡ prev_of u
+leads_is_prev (Update lsn prev tx key before after) is = refl
+leads_is_prev (Compensation lsn prev tx key restored undo_next) is = absurd (cc)
+
+step_from : (rs us : List LogRecord) (at : ℕ) (change : LiveChange) → IsNumbered rs → chain rs at ≡ us → newest_in us ≡ Some change → IsStep rs at change
+step_from rs [] at change is e some = absurd (cc)
+step_from rs (u ∷ us) at change is e some =
+    let head = chain-head rs at u us is e in
+    let told : change_in u ≡ change = cc in
+    let prev_is : prev_of u ≡ change.prev = ap (λ (c : LiveChange). c.prev) told in
+    let lsn_is : lsn_of u ≡ change.lsn = ap (λ (c : LiveChange). c.lsn) told in
+    let leads_is : leads_to u ≡ change.prev = leads_is_prev u head.update ∙ prev_is in
+    record {
+      update = u;
+      rest = us;
+      is = e;
+      told = told;
+      tail = sym (ap (chain rs) leads_is) ∙ head.tail;
+      falls = omega (arith, head.falls);
+      low = omega (arith, head.low);
+      within = omega (arith, head.within);
+      kind = head.update;
+    }
+
+pub walk_step : (rs : List LogRecord) (at : ℕ) (change : LiveChange) → IsNumbered rs → newest_in (chain rs at) ≡ Some change → IsStep rs at change
+walk_step rs at change is some = step_from rs (chain rs at) at change is refl some
+
+none_left : (us : List LogRecord) → newest_in us ≡ None → us ≡ []
+none_left [] e = refl
+none_left (u ∷ us) e = absurd (cc)
+
+pub walk_end : (rs : List LogRecord) (at : ℕ) → newest_in (chain rs at) ≡ None → chain rs at ≡ []
+walk_end rs at e = none_left (chain rs at) e
+
+-- ---- nothing on the way down from s is above s
+
+not_after : (m n : ℕ) → n ≤ m → ltb m n ≡ false
+not_after m n h = grind (arith, nat_tests)
+
+low_led : (r : LogRecord) (rs : List LogRecord) (n s : ℕ) → IsNumbered (r ∷ rs) → ((m : ℕ) → m ≤ s → filter (is_after s) (chain rs m) ≡ []) → lsn_of r ≡ n → n ≤ s → filter (is_after s) (led r (chain rs (leads_to r))) ≡ []
+low_led (Update lsn prev tx key before after) rs n s is step at h =
+    let us = filter (is_after s) (chain rs prev) in
+    ap (λ (b : Bool). cond b (Update lsn prev tx key before after ∷ us) us) (not_after s lsn (omega arith)) ∙ step prev (omega (arith, is.0, is.2))
+low_led (Compensation lsn prev tx key restored undo_next) rs n s is step at h = step undo_next (omega (arith, is.0, is.2))
+
+low_case : (r : LogRecord) (rs : List LogRecord) (n s : ℕ) → IsNumbered (r ∷ rs) → ((m : ℕ) → m ≤ s → filter (is_after s) (chain rs m) ≡ []) → n ≤ s → (b : Bool) → eqb (lsn_of r) n ≡ b → filter (is_after s) (cond b (led r (chain rs (leads_to r))) (chain rs n)) ≡ []
+low_case r rs n s is step h true e = low_led r rs n s is step (same_number _ _ e) h
+low_case r rs n s is step h false e = step n h
+
+pub chain-low : (rs : List LogRecord) (n s : ℕ) → IsNumbered rs → n ≤ s → filter (is_after s) (chain rs n) ≡ []
+chain-low [] n s is h = refl
+chain-low (r ∷ rs) n s is h = low_case r rs n s is (λ m. chain-low rs m s is.3) h (eqb (lsn_of r) n) refl
+
+-- a walk that counts stops at the first change that isn't above s
+pub stops_at : (rs : List LogRecord) (at : ℕ) (change : LiveChange) (s : ℕ) → IsNumbered rs → IsStep rs at change → change.lsn ≤ s → filter (is_after s) (chain rs at) ≡ []
+stops_at rs at change s is step h =
+    let us = filter (is_after s) step.rest in
+    let lsn_is : lsn_of step.update ≡ change.lsn = ap (λ (c : LiveChange). c.lsn) step.told in
+    let low : lsn_of step.update ≤ s = omega arith in
+    let under : change.prev ≤ s = omega (arith, step.falls) in
+    ap (filter (is_after s)) step.is
+    ∙ ap (λ (b : Bool). cond b (step.update ∷ us) us) (not_after s (lsn_of step.update) low)
+    ∙ ap (filter (is_after s)) (sym step.tail)
+    ∙ chain-low rs change.prev s is under
+
+pub is_above : (m n : ℕ) → m < n → ltb m n ≡ true
+is_above m n h = grind (arith, nat_tests)
+
+pub goes_on : (rs : List LogRecord) (at : ℕ) (change : LiveChange) (s : ℕ) → IsStep rs at change → s < change.lsn → length (filter (is_after s) (chain rs at)) ≡ 1 + length (filter (is_after s) (chain rs change.prev))
+goes_on rs at change s step h =
+    let us = filter (is_after s) step.rest in
+    let lsn_is : lsn_of step.update ≡ change.lsn = ap (λ (c : LiveChange). c.lsn) step.told in
+    let up : s < lsn_of step.update = omega arith in
+    let first : length (filter (is_after s) (chain rs at)) ≡ length (step.update ∷ us) = ap (λ xs. length (filter (is_after s) xs)) step.is ∙ ap (λ (b : Bool). length (cond b (step.update ∷ us) us)) (is_above s (lsn_of step.update) up) in
+    let rest : length (filter (is_after s) (chain rs change.prev)) ≡ length us = ap (λ xs. length (filter (is_after s) xs)) step.tail in
+    omega arith
+
+pub find_on : (rs : List LogRecord) (at : ℕ) (change : LiveChange) (x : List ℕ) → IsStep rs at change → same_key change.key x ≡ false → option_map change_in (find (is_at x) (chain rs at)) ≡ option_map change_in (find (is_at x) (chain rs change.prev))
+find_on rs at change x step other =
+    let key_is : key_of step.update ≡ change.key = ap (λ (c : LiveChange). c.key) step.told in
+    let missed : same_key (key_of step.update) x ≡ false = ap (λ k. same_key k x) key_is ∙ other in
+    ap (λ us. option_map change_in (find (is_at x) us)) step.is
+    ∙ ap (λ (b : Bool). option_map change_in (cond b (Some step.update) (find (is_at x) step.rest))) missed
+    ∙ ap (λ us. option_map change_in (find (is_at x) us)) (sym step.tail)
+
+pub keys_on : (rs : List LogRecord) (at : ℕ) (change : LiveChange) → IsStep rs at change → map key_of (chain rs at) ≡ change.key ∷ map key_of (chain rs change.prev)
+keys_on rs at change step =
+    ap (map key_of) step.is
+    ∙ ap (λ k. k ∷ map key_of step.rest) (ap (λ (c : LiveChange). c.key) step.told)
+    ∙ ap (λ us. change.key ∷ map key_of us) (sym step.tail)
+
+-- the newest change is above the place
+pub first_above : (rs : List LogRecord) (at s : ℕ) (change : LiveChange) → IsStep rs at change → s < change.lsn → Some change ≡ newest_in (filter (is_after s) (chain rs at))
+first_above rs at s change step up =
+    let u = step.update in
+    let us = filter (is_after s) step.rest in
+    let lsn_is : lsn_of u ≡ change.lsn = ap (λ (c : LiveChange). c.lsn) step.told in
+    let up_is : is_after s u ≡ true = is_above s (lsn_of u) (omega arith) in
+    ap Some (sym step.told)
+    ∙ sym (ap (λ (b : Bool). newest_in (cond b (u ∷ us) us)) up_is)
+    ∙ ap (λ xs. newest_in (filter (is_after s) xs)) (sym step.is)

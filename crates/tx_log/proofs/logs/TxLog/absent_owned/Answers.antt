@@ -1,0 +1,16 @@
+use Rattle.std.proofs.Common.{◌≡◌, ℕ, Bool, reverse, sym, ap, ◌∙◌}
+use Rattle.std.specs.FinMap as maps
+use Rattle.rec_types.specs.Kept.{history_of}
+use Rattle.tx_log.proofs.OpenFacts.{opens_is}
+use Rattle.tx_log.specs.Log.{kept_of}
+use Rattle.tx_log.specs.LogState.{LogState, open_in, history_in}
+use Rattle.tx_log.specs.Owners.{absent}
+use Rattle.tx_log.proofs.logs.TxLog.absent_owned.Goals as goal
+
+pub returns : goal.returns
+returns c =
+    let l = c.self.inside in
+    let cs = kept_of (reverse l.records.items) in
+    c.self.invariant.log_kept.absent_is
+    ∙ ap (λ (o : ℕ → Bool). maps.len (absent o (history_of cs))) (sym (opens_is cs l.txs.items))
+    ∙ ap (λ (s : LogState). maps.len (absent (open_in s) (history_in s))) c.self.view_is

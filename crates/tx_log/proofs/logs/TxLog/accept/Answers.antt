@@ -1,0 +1,173 @@
+use Rattle.std.proofs.Common.{◌≡◌, ◌∷◌, [], ◌++◌, cond, Option, IfSome, refl, ℕ, ◌+◌, ◌<◌, ◌≤◌, Bool, true, List, Some, None, length, get_or, reverse, option_map, is_some, IsSome, vec_len, sym, ap, subst, ◌∙◌, arith}
+use Rattle.std.specs.List.{find}
+use Rattle.std.proofs.lemmas.List.{length-reverse}
+use Rattle.std.specs.Vec.{vec_capacity}
+use Rattle.rec_types.specs.History.{log_len}
+use Rattle.tx_log.proofs.LogIndex.{reverse-push}
+use Rattle.tx_log.proofs.KeptFacts.{entry_is, open_of_phase, sized, counted_key, held_of_free, some_of, state_use, state_len, recounted, none_is}
+use Rattle.tx_log.proofs.OpenFacts.{found_fits, found_number}
+use Rattle.tx_log.proofs.StepFacts.{accepted, IsAccepted}
+use Rattle.tx_log.proofs.StateFacts.{accept_state, kept_turned, txs_stay}
+use Rattle.tx_log.specs.Finds.{find_tx, IsFirst}
+use Rattle.tx_log.specs.Log.{kept_of, last_of, chain}
+use Rattle.tx_log.specs.Stages.{tx_at}
+use Rattle.tx_log.specs.LogState.{LogState, phase_in, history_in, open_in, use_in, update_in}
+use Rattle.tx_log.specs.Owners.{holder_of}
+use Rattle.tx_log.specs.Walks.{change_in, is_at, takes_out}
+use Rattle.tx_log.specs.declared.log_records.LogRecord.{LogRecord}
+use Rattle.tx_log.specs.declared.log_records.LogRecord.TheVariants.{Update}
+use Rattle.tx_log.specs.declared.opened.OpenTx.{OpenTx}
+use Rattle.tx_log.specs.declared.phases.Phase.TheVariants.{Active}
+use Rattle.tx_log.proofs.logs.TxLog.accept.Goals as goal
+
+pub place_of-at-requires : goal.place_of-at-requires
+place_of-at-requires c =
+    let l = c.self.inside in
+    let t = c.args.tx.0 in
+    let some = open_of_phase (kept_of (reverse l.records.items)) l.txs.items t Active (ap (λ (s : LogState). phase_in s t) c.self.view_is ∙ c.requires.active) in
+    ap (λ (es : List OpenTx). is_some (find_tx t es)) c.deref.ensures.value ∙ some
+
+pub find_change-requires-clause-within : goal.find_change-requires-clause-within
+find_change-requires-clause-within c =
+    let l = c.self.inside in
+    let e = c.index.result.now in
+    let found = entry_is c.args.tx.0 c.deref.result.now l.txs.items c.place_of-at.result e c.deref.ensures.value c.place_of-at.ensures.first c.index.ensures in
+    let size = sized (reverse l.records.items) l.txs.items l.begun l.pending l.gone c.args.tx.0 e c.self.invariant.log_kept found in
+    subst (λ (n : ℕ). e.last ≤ n) (length-reverse l.records.items ∙ ap length (sym c.deref-2.ensures.value)) size.last
+
+pub recount-self-inside-requires-clause-some : goal.recount-self-inside-requires-clause-some
+recount-self-inside-requires-clause-some c = λ was.
+    let l = c.self.inside in
+    let e = c.index.result.now in
+    let found = entry_is c.args.tx.0 c.deref.result.now l.txs.items c.place_of-at.result e c.deref.ensures.value c.place_of-at.ensures.first c.index.ensures in
+    let size = sized (reverse l.records.items) l.txs.items l.begun l.pending l.gone c.args.tx.0 e c.self.invariant.log_kept found in
+    let told = c.find_change.ensures ∙ ap (λ (log : List LogRecord). option_map change_in (find (is_at c.args.key) (chain (reverse log) e.last))) c.deref-2.ensures.value in
+    let some = counted_key (reverse l.records.items) l.txs.items l.begun l.pending l.gone c.args.tx.0 e.last c.args.key e c.self.invariant.log_kept found refl (sym (c.is_taking_out-was.ensures ∙ ap takes_out told) ∙ was) in
+    omega (arith, some, size.absent_part)
+
+pub recount-self-inside-requires-clause-most : goal.recount-self-inside-requires-clause-most
+recount-self-inside-requires-clause-most c =
+    let l = c.self.inside in
+    let e = c.index.result.now in
+    let found = entry_is c.args.tx.0 c.deref.result.now l.txs.items c.place_of-at.result e c.deref.ensures.value c.place_of-at.ensures.first c.index.ensures in
+    let size = sized (reverse l.records.items) l.txs.items l.begun l.pending l.gone c.args.tx.0 e c.self.invariant.log_kept found in
+    omega (arith, size.gone_keys, c.self.invariant.roomy.fits, c.self.invariant.roomy.most_records)
+
+pub overflow_add-open_tx : goal.overflow_add-open_tx
+overflow_add-open_tx c =
+    let l = c.self.inside in
+    let e = c.index_mut-open_tx.result.now in
+    let found = entry_is c.args.tx.0 c.deref.result.now l.txs.items c.place_of-at.result e c.deref.ensures.value c.place_of-at.ensures.first c.index_mut-open_tx.ensures.value in
+    let size = sized (reverse l.records.items) l.txs.items l.begun l.pending l.gone c.args.tx.0 e c.self.invariant.log_kept found in
+    let many : vec_len l.records ≡ length l.records.items = omega (arith, l.records.ok.0) in
+    let low : e.live ≤ 4000000 = omega (arith, size.live, length-reverse l.records.items, c.self.invariant.roomy.fits, c.self.invariant.roomy.most_records) in
+    omega (arith, low)
+
+pub recount-open_tx-requires-clause-some : goal.recount-open_tx-requires-clause-some
+recount-open_tx-requires-clause-some c = λ was.
+    let l = c.self.inside in
+    let e = c.index.result.now in
+    let n = c.index_mut-open_tx.result.now in
+    let found = entry_is c.args.tx.0 c.deref.result.now l.txs.items c.place_of-at.result e c.deref.ensures.value c.place_of-at.ensures.first c.index.ensures in
+    let again = entry_is c.args.tx.0 c.deref.result.now l.txs.items c.place_of-at.result n c.deref.ensures.value c.place_of-at.ensures.first c.index_mut-open_tx.ensures.value in
+    let told = c.find_change.ensures ∙ ap (λ (log : List LogRecord). option_map change_in (find (is_at c.args.key) (chain (reverse log) e.last))) c.deref-2.ensures.value in
+    let some = counted_key (reverse l.records.items) l.txs.items l.begun l.pending l.gone c.args.tx.0 e.last c.args.key e c.self.invariant.log_kept found refl (sym (c.is_taking_out-was.ensures ∙ ap takes_out told) ∙ was) in
+    let same : e ≡ n = some_of e n (sym found ∙ again) in
+    subst (λ (x : OpenTx). 0 < x.absent) same some
+
+pub recount-open_tx-requires-clause-most : goal.recount-open_tx-requires-clause-most
+recount-open_tx-requires-clause-most c =
+    let l = c.self.inside in
+    let e = c.index_mut-open_tx.result.now in
+    let found = entry_is c.args.tx.0 c.deref.result.now l.txs.items c.place_of-at.result e c.deref.ensures.value c.place_of-at.ensures.first c.index_mut-open_tx.ensures.value in
+    let size = sized (reverse l.records.items) l.txs.items l.begun l.pending l.gone c.args.tx.0 e c.self.invariant.log_kept found in
+    omega (arith, size.absent_part, size.gone_keys, c.self.invariant.roomy.fits, c.self.invariant.roomy.most_records)
+
+-- the record that was pushed
+pushed : (c : goal.After-self-4-1) → c.push.new.self.items ≡ c.self.inside.records.items ++ Update (c.len.result + 1) c.index.result.now.last c.args.tx c.args.key c.args.before c.args.after ∷ []
+pushed c =
+    let l = c.self.inside in
+    let room : l.room ≡ Some c.args.key = ap (λ (s : LogState). s.room) c.self.view_is ∙ c.requires.room in
+    let spare = subst (λ (o : Option (List ℕ)). IfSome o (λ _. vec_len l.records + l.pending + 2 ≤ vec_capacity l.records)) room c.self.invariant.roomy.spare in
+    let ok = c.push.ensures.succeeds (omega (arith, spare)) in
+    c.push.ensures.items ∙ ap (λ (b : Bool). cond b (l.records.items ++ Update (c.len.result + 1) c.index.result.now.last c.args.tx c.args.key c.args.before c.args.after ∷ []) l.records.items) ok
+
+step_of : (c : goal.After-self-4-1) → IsAccepted (c.len.result + 1) c.index.result.now.last c.args.tx c.args.key c.args.after (reverse c.self.inside.records.items) c.self.inside.txs.items c.self.inside.pending c.self.inside.gone (c.self.inside.pending + 1) c.recount-self-inside.result c.index.result.now record { tx = c.index_mut-open_tx.result.now.tx; stage = c.index_mut-open_tx.result.now.stage; last = c.len.result + 1; live = c.index_mut-open_tx.result.now.live + 1; absent = c.recount-open_tx.result; saves = c.index_mut-open_tx.result.now.saves }
+step_of c =
+    let l = c.self.inside in
+    let rs = reverse l.records.items in
+    let e = c.index.result.now in
+    let n = c.index_mut-open_tx.result.now in
+    let found = entry_is c.args.tx.0 c.deref.result.now l.txs.items c.place_of-at.result e c.deref.ensures.value c.place_of-at.ensures.first c.index.ensures in
+    let again = entry_is c.args.tx.0 c.deref.result.now l.txs.items c.place_of-at.result n c.deref.ensures.value c.place_of-at.ensures.first c.index_mut-open_tx.ensures.value in
+    let same : n ≡ e = some_of n e (sym again ∙ found) in
+    let told = c.find_change.ensures ∙ ap (λ (log : List LogRecord). option_map change_in (find (is_at c.args.key) (chain (reverse log) e.last))) c.deref-2.ensures.value in
+    let was = c.is_taking_out-was.ensures ∙ ap takes_out told in
+    let will = none_is (is_some c.args.after) c.is_none-will.result c.is_none-will.ensures in
+    let many : vec_len l.records ≡ length l.records.items = omega (arith, l.records.ok.0) in
+    record {
+      lsn_is = ap (λ k. k + 1) (c.len.ensures ∙ many ∙ sym (length-reverse l.records.items));
+      prev_is = refl;
+      held = held_of_free (kept_of rs) l.txs.items c.args.tx.0 c.args.key c.self.invariant.log_kept.owned (ap (λ (s : LogState). holder_of (open_in s) (history_in s) c.args.tx.0 c.args.key) c.self.view_is ∙ c.requires.free);
+      tx_same = ap (λ (x : OpenTx). x.tx.0) same;
+      stage_same = ap (λ (x : OpenTx). x.stage) same;
+      saves_same = ap (λ (x : OpenTx). x.saves.items) same;
+      last_new = refl;
+      live_new = ap (λ (x : OpenTx). x.live + 1) same;
+      absent_new = recounted c.recount-open_tx.result n.absent e.absent c.is_taking_out-was.result _ c.is_none-will.result _ was will (ap (λ (x : OpenTx). x.absent) same) c.recount-open_tx.ensures;
+      pending_one = refl;
+      gone_one = recounted c.recount-self-inside.result l.gone l.gone c.is_taking_out-was.result _ c.is_none-will.result _ was will refl c.recount-self-inside.ensures;
+    }
+
+pub invariant_of-self : goal.invariant_of-self
+invariant_of-self c =
+    let l = c.self.inside in
+    let rs = reverse l.records.items in
+    let e = c.index.result.now in
+    let found = entry_is c.args.tx.0 c.deref.result.now l.txs.items c.place_of-at.result e c.deref.ensures.value c.place_of-at.ensures.first c.index.ensures in
+    let first = subst (λ (xs : List OpenTx). IsFirst c.args.tx.0 xs c.place_of-at.result) c.deref.ensures.value c.place_of-at.ensures.first in
+    let many : vec_len l.records ≡ length l.records.items = omega (arith, l.records.ok.0) in
+    let used : use_in c.args.self.now ≡ length rs + l.pending = ap use_in (sym c.self.view_is) ∙ state_use rs l.txs.items l.begun l.pending l.gone c.self.invariant.log_kept in
+    let limit : l.limits.log_records ≡ c.args.self.now.limits.log_records = ap (λ (s : LogState). s.limits.log_records) c.self.view_is in
+    let turned : reverse c.push.new.self.items ≡ Update (c.len.result + 1) e.last c.args.tx c.args.key c.args.before c.args.after ∷ rs = ap reverse (pushed c) ∙ reverse-push l.records.items _ in
+    let kept = accepted (c.len.result + 1) e.last c.args.tx c.args.key c.args.before c.args.after rs l.txs.items c.place_of-at.result l.begun l.pending l.gone (l.pending + 1) c.recount-self-inside.result e _ c.self.invariant.log_kept first found (step_of c) in
+    let roomy = c.self.invariant.roomy in
+    let room : l.room ≡ Some c.args.key = ap (λ (s : LogState). s.room) c.self.view_is ∙ c.requires.room in
+    let spare = subst (λ (o : Option (List ℕ)). IfSome o (λ _. vec_len l.records + l.pending + 2 ≤ vec_capacity l.records)) room roomy.spare in
+    let longer : vec_len c.push.new.self ≤ vec_len l.records + 1 = c.push.ensures.upper_bound in
+    let held : vec_capacity l.records ≤ vec_capacity c.push.new.self = c.push.ensures.capacity in
+    let wanted = c.requires.fits in
+    record {
+      log_kept = kept_turned _ _ _ _ _ _ turned kept;
+      roomy = record {
+        fits = omega (arith, length-reverse l.records.items);
+        most_records = roomy.most_records;
+        within = roomy.within;
+        most_begins = roomy.most_begins;
+        held = omega arith;
+        spare = tt;
+      };
+    }
+
+pub returns-clause-lsn : goal.returns-clause-lsn
+returns-clause-lsn c =
+    let l = c.self.inside in
+    let many : vec_len l.records ≡ length l.records.items = omega (arith, l.records.ok.0) in
+    ap (λ k. k + 1) (c.len.ensures ∙ many ∙ sym (length-reverse l.records.items) ∙ sym (state_len (reverse l.records.items) c.self.invariant.log_kept.written) ∙ ap (λ (s : LogState). log_len (history_in s)) c.self.view_is)
+
+pub returns-clause-after : goal.returns-clause-after
+returns-clause-after c =
+    let l = c.self.inside in
+    let rs = reverse l.records.items in
+    let t = c.args.tx.0 in
+    let e = c.index.result.now in
+    let n = c.index_mut-open_tx.result.now in
+    let kept = c.self.invariant.log_kept in
+    let found = entry_is t c.deref.result.now l.txs.items c.place_of-at.result e c.deref.ensures.value c.place_of-at.ensures.first c.index.ensures in
+    let first = subst (λ (xs : List OpenTx). IsFirst t xs c.place_of-at.result) c.deref.ensures.value c.place_of-at.ensures.first in
+    let fits = found_fits rs l.begun t l.txs.items e kept.fit found in
+    let step = step_of c in
+    let r : LogRecord = Update (c.len.result + 1) e.last c.args.tx c.args.key c.args.before c.args.after in
+    let stay = txs_stay r rs l.begun t l.txs.items c.place_of-at.result record { tx = n.tx; stage = n.stage; last = c.len.result + 1; live = n.live + 1; absent = c.recount-open_tx.result; saves = n.saves } n step.lsn_is kept.fit first (step.tx_same ∙ found_number t l.txs.items e found) (ap (tx_at (kept_of (r ∷ rs))) c.index_mut-open_tx.ensures.value) in
+    accept_state l.records.items c.push.new.self.items l.txs.items _ l.begun l.limits l.room (c.len.result + 1) e.last c.args.tx c.args.key c.args.before c.args.after kept.written (pushed c) (step.lsn_is ∙ ap (λ k. k + 1) (length-reverse l.records.items)) (fits.last ∙ ap (λ k. last_of k rs) (found_number t l.txs.items e found)) stay
+    ∙ ap (λ (s : LogState). record s { records = s.records ++ update_in s c.args.tx c.args.key c.args.before c.args.after ∷ []; changes = s.changes ++ record { lsn = log_len (history_in s) + 1; tx = t; key = c.args.key; before = c.args.before; after = c.args.after; live = true } ∷ []; room = None }) c.self.view_is

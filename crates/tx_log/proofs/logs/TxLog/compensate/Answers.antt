@@ -1,0 +1,238 @@
+use Rattle.std.proofs.Common.{◌≡◌, ◌∷◌, [], ◌++◌, cond, Option, IfSome, refl, ℕ, ◌+◌, ◌-◌, not, ◌<◌, ◌≤◌, Bool, true, List, Some, None, length, get_or, reverse, option_map, is_some, IsSome, vec_len, sym, ap, subst, ◌∙◌, arith}
+use Rattle.std.specs.List.{find}
+use Rattle.std.specs.Vec.{vec_capacity}
+use Rattle.std.proofs.lemmas.List.{length-reverse}
+use Rattle.rec_types.specs.History.{log_len}
+use Rattle.rec_types.specs.Kept.{undone}
+use Rattle.tx_log.proofs.KeptFacts.{entry_is, sized, counted_key, some_of, state_use, state_len, recounted, none_is, counted_change}
+use Rattle.tx_log.proofs.LogIndex.{reverse-push, record_of_chain}
+use Rattle.tx_log.proofs.OpenFacts.{found_fits, found_number}
+use Rattle.tx_log.proofs.ReadFacts.{open_of_undo, undo_head, undo_told}
+use Rattle.tx_log.proofs.StepFacts.{compensated, IsCompensated}
+use Rattle.tx_log.proofs.StateFacts.{state, compensate_state, told_compensation, kept_turned, txs_stay}
+use Rattle.tx_log.proofs.WalkSteps.{IsStep, walk_step}
+use Rattle.tx_log.specs.Finds.{find_tx, IsFirst}
+use Rattle.tx_log.specs.Log.{kept_of, last_of, chain}
+use Rattle.tx_log.specs.LogState.{LogState, history_in, undo_in, use_in, compensations_in}
+use Rattle.tx_log.specs.Stages.{tx_at}
+use Rattle.tx_log.specs.Walks.{change_in, newest_in, is_at, takes_out}
+use Rattle.tx_log.specs.declared.log_records.LogRecord.{LogRecord}
+use Rattle.tx_log.specs.declared.log_records.LogRecord.TheVariants.{Compensation}
+use Rattle.tx_log.specs.declared.opened.OpenTx.{OpenTx}
+use Rattle.tx_log.proofs.logs.TxLog.compensate.Goals as goal
+
+pub place_of-at-requires : goal.place_of-at-requires
+place_of-at-requires c =
+    let l = c.self.inside in
+    let t = c.args.tx.0 in
+    let some = open_of_undo (kept_of (reverse l.records.items)) l.txs.items t (ap (λ (s : LogState). is_some (undo_in s t)) c.self.view_is ∙ c.requires) in
+    ap (λ (es : List OpenTx). is_some (find_tx t es)) c.deref.ensures.value ∙ some
+
+pub newest_change-newest-requires-clause-within : goal.newest_change-newest-requires-clause-within
+newest_change-newest-requires-clause-within c =
+    let l = c.self.inside in
+    let rs = reverse l.records.items in
+    let e = c.index.result.now in
+    let found = entry_is c.args.tx.0 c.deref.result.now l.txs.items c.place_of-at.result e c.deref.ensures.value c.place_of-at.ensures.first c.index.ensures in
+    let size = sized rs l.txs.items l.begun l.pending l.gone c.args.tx.0 e c.self.invariant.log_kept found in
+    subst (λ (k : ℕ). e.last ≤ k) (length-reverse l.records.items ∙ ap length (sym c.deref-2.ensures.value)) size.last
+
+pub unwrap-change-requires : goal.unwrap-change-requires
+unwrap-change-requires c =
+    let l = c.self.inside in
+    let rs = reverse l.records.items in
+    let e = c.index.result.now in
+    let found = entry_is c.args.tx.0 c.deref.result.now l.txs.items c.place_of-at.result e c.deref.ensures.value c.place_of-at.ensures.first c.index.ensures in
+    let head = undo_head rs l.txs.items l.begun l.pending l.gone c.args.tx.0 e c.self.invariant.log_kept found (ap (λ (s : LogState). is_some (undo_in s c.args.tx.0)) c.self.view_is ∙ c.requires) in
+    ap is_some (c.newest_change-newest.ensures ∙ ap (λ (log : List LogRecord). newest_in (chain (reverse log) e.last)) c.deref-2.ensures.value) ∙ head
+
+pub find_change-requires-clause-within : goal.find_change-requires-clause-within
+find_change-requires-clause-within c =
+    let l = c.self.inside in
+    let rs = reverse l.records.items in
+    let e = c.index.result.now in
+    let change = c.unwrap-change.result in
+    let step = walk_step rs e.last change c.self.invariant.log_kept.numbered (ap (λ (log : List LogRecord). newest_in (chain (reverse log) e.last)) (sym c.deref-2.ensures.value) ∙ sym c.newest_change-newest.ensures ∙ c.unwrap-change.ensures) in
+    let low : change.prev ≤ length rs = omega (arith, step.falls, step.within) in
+    subst (λ (k : ℕ). change.prev ≤ k) (length-reverse l.records.items ∙ ap length (sym c.deref-3.ensures.value)) low
+
+pub overflow_sub-self : goal.overflow_sub-self
+overflow_sub-self c =
+    let l = c.self.inside in
+    let rs = reverse l.records.items in
+    let e = c.index.result.now in
+    let found = entry_is c.args.tx.0 c.deref.result.now l.txs.items c.place_of-at.result e c.deref.ensures.value c.place_of-at.ensures.first c.index.ensures in
+    let change = c.unwrap-change.result in
+    let step = walk_step rs e.last change c.self.invariant.log_kept.numbered (ap (λ (log : List LogRecord). newest_in (chain (reverse log) e.last)) (sym c.deref-2.ensures.value) ∙ sym c.newest_change-newest.ensures ∙ c.unwrap-change.ensures) in
+    let counted = counted_change rs l.txs.items l.begun l.pending l.gone c.args.tx.0 e change c.self.invariant.log_kept found step in
+    omega (arith, counted.waits)
+
+pub recount-self-inside-requires-clause-some : goal.recount-self-inside-requires-clause-some
+recount-self-inside-requires-clause-some c = λ was.
+    let l = c.self.inside in
+    let rs = reverse l.records.items in
+    let e = c.index.result.now in
+    let found = entry_is c.args.tx.0 c.deref.result.now l.txs.items c.place_of-at.result e c.deref.ensures.value c.place_of-at.ensures.first c.index.ensures in
+    let change = c.unwrap-change.result in
+    let step = walk_step rs e.last change c.self.invariant.log_kept.numbered (ap (λ (log : List LogRecord). newest_in (chain (reverse log) e.last)) (sym c.deref-2.ensures.value) ∙ sym c.newest_change-newest.ensures ∙ c.unwrap-change.ensures) in
+    let size = sized rs l.txs.items l.begun l.pending l.gone c.args.tx.0 e c.self.invariant.log_kept found in
+    let counted = counted_change rs l.txs.items l.begun l.pending l.gone c.args.tx.0 e change c.self.invariant.log_kept found step in
+    let was_is : c.is_none-was.result ≡ not (is_some change.after) = none_is (is_some change.after) c.is_none-was.result c.is_none-was.ensures in
+    let some = counted.lacking (sym was_is ∙ was) in
+    omega (arith, some, size.absent_part)
+
+pub recount-self-inside-requires-clause-most : goal.recount-self-inside-requires-clause-most
+recount-self-inside-requires-clause-most c =
+    let l = c.self.inside in
+    let rs = reverse l.records.items in
+    let e = c.index.result.now in
+    let found = entry_is c.args.tx.0 c.deref.result.now l.txs.items c.place_of-at.result e c.deref.ensures.value c.place_of-at.ensures.first c.index.ensures in
+    let size = sized rs l.txs.items l.begun l.pending l.gone c.args.tx.0 e c.self.invariant.log_kept found in
+    omega (arith, size.gone_keys, c.self.invariant.roomy.fits, c.self.invariant.roomy.most_records)
+
+pub overflow_sub-open_tx : goal.overflow_sub-open_tx
+overflow_sub-open_tx c =
+    let l = c.self.inside in
+    let rs = reverse l.records.items in
+    let e = c.index.result.now in
+    let found = entry_is c.args.tx.0 c.deref.result.now l.txs.items c.place_of-at.result e c.deref.ensures.value c.place_of-at.ensures.first c.index.ensures in
+    let change = c.unwrap-change.result in
+    let step = walk_step rs e.last change c.self.invariant.log_kept.numbered (ap (λ (log : List LogRecord). newest_in (chain (reverse log) e.last)) (sym c.deref-2.ensures.value) ∙ sym c.newest_change-newest.ensures ∙ c.unwrap-change.ensures) in
+    let counted = counted_change rs l.txs.items l.begun l.pending l.gone c.args.tx.0 e change c.self.invariant.log_kept found step in
+    let n = c.index_mut-open_tx.result.now in
+    let again = entry_is c.args.tx.0 c.deref.result.now l.txs.items c.place_of-at.result n c.deref.ensures.value c.place_of-at.ensures.first c.index_mut-open_tx.ensures.value in
+    let same : n ≡ e = some_of n e (sym again ∙ found) in
+    subst (λ (x : OpenTx). 0 < x.live) (sym same) counted.live
+
+pub recount-open_tx-requires-clause-some : goal.recount-open_tx-requires-clause-some
+recount-open_tx-requires-clause-some c = λ was.
+    let l = c.self.inside in
+    let rs = reverse l.records.items in
+    let e = c.index.result.now in
+    let found = entry_is c.args.tx.0 c.deref.result.now l.txs.items c.place_of-at.result e c.deref.ensures.value c.place_of-at.ensures.first c.index.ensures in
+    let change = c.unwrap-change.result in
+    let step = walk_step rs e.last change c.self.invariant.log_kept.numbered (ap (λ (log : List LogRecord). newest_in (chain (reverse log) e.last)) (sym c.deref-2.ensures.value) ∙ sym c.newest_change-newest.ensures ∙ c.unwrap-change.ensures) in
+    let counted = counted_change rs l.txs.items l.begun l.pending l.gone c.args.tx.0 e change c.self.invariant.log_kept found step in
+    let was_is : c.is_none-was.result ≡ not (is_some change.after) = none_is (is_some change.after) c.is_none-was.result c.is_none-was.ensures in
+    let n = c.index_mut-open_tx.result.now in
+    let again = entry_is c.args.tx.0 c.deref.result.now l.txs.items c.place_of-at.result n c.deref.ensures.value c.place_of-at.ensures.first c.index_mut-open_tx.ensures.value in
+    let same : n ≡ e = some_of n e (sym again ∙ found) in
+    subst (λ (x : OpenTx). 0 < x.absent) (sym same) (counted.lacking (sym was_is ∙ was))
+
+pub recount-open_tx-requires-clause-most : goal.recount-open_tx-requires-clause-most
+recount-open_tx-requires-clause-most c =
+    let l = c.self.inside in
+    let rs = reverse l.records.items in
+    let e = c.index.result.now in
+    let found = entry_is c.args.tx.0 c.deref.result.now l.txs.items c.place_of-at.result e c.deref.ensures.value c.place_of-at.ensures.first c.index.ensures in
+    let size = sized rs l.txs.items l.begun l.pending l.gone c.args.tx.0 e c.self.invariant.log_kept found in
+    let n = c.index_mut-open_tx.result.now in
+    let again = entry_is c.args.tx.0 c.deref.result.now l.txs.items c.place_of-at.result n c.deref.ensures.value c.place_of-at.ensures.first c.index_mut-open_tx.ensures.value in
+    let same : n ≡ e = some_of n e (sym again ∙ found) in
+    subst (λ (x : OpenTx). x.absent < 4294967295) (sym same) (omega (arith, size.absent_part, size.gone_keys, c.self.invariant.roomy.fits, c.self.invariant.roomy.most_records))
+
+-- the change that is taken back
+step_of : (c : goal.After-self-4-1) → IsStep (reverse c.self.inside.records.items) c.index.result.now.last c.unwrap-change.result
+step_of c =
+    let l = c.self.inside in
+    let rs = reverse l.records.items in
+    let e = c.index.result.now in
+    let change = c.unwrap-change.result in
+    let step = walk_step rs e.last change c.self.invariant.log_kept.numbered (ap (λ (log : List LogRecord). newest_in (chain (reverse log) e.last)) (sym c.deref-2.ensures.value) ∙ sym c.newest_change-newest.ensures ∙ c.unwrap-change.ensures) in
+    step
+
+-- the record that was pushed
+pushed : (c : goal.After-self-4-1) → c.push.new.self.items ≡ c.self.inside.records.items ++ Compensation (c.len.result + 1) c.index.result.now.last c.args.tx c.unwrap-change.result.key c.unwrap-change.result.before c.unwrap-change.result.prev ∷ []
+pushed c =
+    let l = c.self.inside in
+    let rs = reverse l.records.items in
+    let e = c.index.result.now in
+    let found = entry_is c.args.tx.0 c.deref.result.now l.txs.items c.place_of-at.result e c.deref.ensures.value c.place_of-at.ensures.first c.index.ensures in
+    let change = c.unwrap-change.result in
+    let counted = counted_change rs l.txs.items l.begun l.pending l.gone c.args.tx.0 e change c.self.invariant.log_kept found (step_of c) in
+    let ok = c.push.ensures.succeeds (omega (arith, counted.waits, c.self.invariant.roomy.held)) in
+    c.push.ensures.items ∙ ap (λ (b : Bool). cond b (l.records.items ++ Compensation (c.len.result + 1) e.last c.args.tx change.key change.before change.prev ∷ []) l.records.items) ok
+
+taken_back : (c : goal.After-self-4-1) → IsCompensated (c.len.result + 1) c.index.result.now.last c.args.tx c.unwrap-change.result (reverse c.self.inside.records.items) c.self.inside.txs.items c.self.inside.pending c.self.inside.gone (c.self.inside.pending - 1) c.recount-self-inside.result c.index.result.now record { tx = c.index_mut-open_tx.result.now.tx; stage = c.index_mut-open_tx.result.now.stage; last = c.len.result + 1; live = c.index_mut-open_tx.result.now.live - 1; absent = c.recount-open_tx.result; saves = c.index_mut-open_tx.result.now.saves }
+taken_back c =
+    let l = c.self.inside in
+    let rs = reverse l.records.items in
+    let e = c.index.result.now in
+    let found = entry_is c.args.tx.0 c.deref.result.now l.txs.items c.place_of-at.result e c.deref.ensures.value c.place_of-at.ensures.first c.index.ensures in
+    let change = c.unwrap-change.result in
+    let step = step_of c in
+    let counted = counted_change rs l.txs.items l.begun l.pending l.gone c.args.tx.0 e change c.self.invariant.log_kept found step in
+    let n = c.index_mut-open_tx.result.now in
+    let again = entry_is c.args.tx.0 c.deref.result.now l.txs.items c.place_of-at.result n c.deref.ensures.value c.place_of-at.ensures.first c.index_mut-open_tx.ensures.value in
+    let same : n ≡ e = some_of n e (sym again ∙ found) in
+    let was_is : c.is_none-was.result ≡ not (is_some change.after) = none_is (is_some change.after) c.is_none-was.result c.is_none-was.ensures in
+    let will = c.is_taking_out-will.ensures ∙ ap takes_out (c.find_change.ensures ∙ ap (λ (log : List LogRecord). option_map change_in (find (is_at change.key) (chain (reverse log) change.prev))) c.deref-3.ensures.value) in
+    let many : vec_len l.records ≡ length l.records.items = omega (arith, l.records.ok.0) in
+    let live_is : n.live ≡ e.live = ap (λ (x : OpenTx). x.live) same in
+    record {
+      lsn_is = ap (λ k. k + 1) (c.len.ensures ∙ many ∙ sym (length-reverse l.records.items));
+      prev_is = refl;
+      step = step;
+      tx_same = ap (λ (x : OpenTx). x.tx.0) same;
+      stage_same = ap (λ (x : OpenTx). x.stage) same;
+      saves_same = ap (λ (x : OpenTx). x.saves.items) same;
+      last_new = refl;
+      live_new = omega (arith, counted.live);
+      absent_new = recounted c.recount-open_tx.result n.absent e.absent c.is_none-was.result _ c.is_taking_out-will.result _ was_is will (ap (λ (x : OpenTx). x.absent) same) c.recount-open_tx.ensures;
+      pending_one = omega (arith, counted.waits);
+      gone_one = recounted c.recount-self-inside.result l.gone l.gone c.is_none-was.result _ c.is_taking_out-will.result _ was_is will refl c.recount-self-inside.ensures;
+    }
+
+pub invariant_of-self : goal.invariant_of-self
+invariant_of-self c =
+    let l = c.self.inside in
+    let rs = reverse l.records.items in
+    let e = c.index.result.now in
+    let found = entry_is c.args.tx.0 c.deref.result.now l.txs.items c.place_of-at.result e c.deref.ensures.value c.place_of-at.ensures.first c.index.ensures in
+    let change = c.unwrap-change.result in
+    let first = subst (λ (xs : List OpenTx). IsFirst c.args.tx.0 xs c.place_of-at.result) c.deref.ensures.value c.place_of-at.ensures.first in
+    let turned : reverse c.push.new.self.items ≡ Compensation (c.len.result + 1) e.last c.args.tx change.key change.before change.prev ∷ rs = ap reverse (pushed c) ∙ reverse-push l.records.items _ in
+    let back = taken_back c in
+    let kept = compensated (c.len.result + 1) e.last c.args.tx change rs l.txs.items c.place_of-at.result l.begun l.pending l.gone (l.pending - 1) c.recount-self-inside.result e _ c.self.invariant.log_kept first found back in
+    let roomy = c.self.invariant.roomy in
+    let longer : vec_len c.push.new.self ≤ vec_len l.records + 1 = c.push.ensures.upper_bound in
+    let held : vec_capacity l.records ≤ vec_capacity c.push.new.self = c.push.ensures.capacity in
+    let one = back.pending_one in
+    record {
+      log_kept = kept_turned _ _ _ _ _ _ turned kept;
+      roomy = record {
+        fits = omega (arith, roomy.fits);
+        most_records = roomy.most_records;
+        within = roomy.within;
+        most_begins = roomy.most_begins;
+        held = omega (arith, roomy.held);
+        spare = tt;
+      };
+    }
+
+pub returns-clause-lsn : goal.returns-clause-lsn
+returns-clause-lsn c =
+    let l = c.self.inside in
+    let many : vec_len l.records ≡ length l.records.items = omega (arith, l.records.ok.0) in
+    ap (λ k. k + 1) (c.len.ensures ∙ many ∙ sym (length-reverse l.records.items) ∙ sym (state_len (reverse l.records.items) c.self.invariant.log_kept.written) ∙ ap (λ (s : LogState). log_len (history_in s)) c.self.view_is)
+
+pub returns-clause-after : goal.returns-clause-after
+returns-clause-after c =
+    let l = c.self.inside in
+    let rs = reverse l.records.items in
+    let e = c.index.result.now in
+    let found = entry_is c.args.tx.0 c.deref.result.now l.txs.items c.place_of-at.result e c.deref.ensures.value c.place_of-at.ensures.first c.index.ensures in
+    let change = c.unwrap-change.result in
+    let t = c.args.tx.0 in
+    let n = c.index_mut-open_tx.result.now in
+    let kept = c.self.invariant.log_kept in
+    let first = subst (λ (xs : List OpenTx). IsFirst t xs c.place_of-at.result) c.deref.ensures.value c.place_of-at.ensures.first in
+    let fits = found_fits rs l.begun t l.txs.items e kept.fit found in
+    let step = step_of c in
+    let back = taken_back c in
+    let r : LogRecord = Compensation (c.len.result + 1) e.last c.args.tx change.key change.before change.prev in
+    let stay = txs_stay r rs l.begun t l.txs.items c.place_of-at.result record { tx = n.tx; stage = n.stage; last = c.len.result + 1; live = n.live - 1; absent = c.recount-open_tx.result; saves = n.saves } n back.lsn_is kept.fit first (back.tx_same ∙ found_number t l.txs.items e found) (ap (tx_at (kept_of (r ∷ rs))) c.index_mut-open_tx.ensures.value) in
+    let undo = undo_told rs l.txs.items l.begun l.pending l.gone t e change kept found (ap (λ (s : LogState). is_some (undo_in s t)) c.self.view_is ∙ c.requires) step in
+    let told = told_compensation (state l.records.items l.txs.items l.begun l.limits l.room) c.args.tx (c.len.result + 1) e.last change step.update (back.lsn_is ∙ ap (λ k. k + 1) (length-reverse l.records.items)) (fits.last ∙ ap (λ k. last_of k rs) (found_number t l.txs.items e found)) undo step.told (record_of_chain l.records.items e.last step.update step.rest kept.numbered step.is) in
+    compensate_state l.records.items c.push.new.self.items l.txs.items _ l.begun l.limits l.room (c.len.result + 1) e.last c.args.tx change.key change.before change.prev (pushed c) told stay
+    ∙ ap (λ (s : LogState). record s { records = s.records ++ compensations_in s c.args.tx; changes = undone t s.changes; room = None }) c.self.view_is

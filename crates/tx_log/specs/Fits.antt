@@ -1,0 +1,40 @@
+-- What ties the open transactions to the log.
+use Rattle.std.specs.Prelude.{◌≡◌, ℕ, ◌+◌, ◌<◌, ◌≤◌, Bool, true, false, ◌==◌, List, [], ◌∷◌, length, Option, Some, None}
+use Rattle.std.specs.FinMap as maps
+use Rattle.rec_types.specs.Kept.{history_of}
+use Rattle.tx_log.specs.Log.{tx_of, last_of, stack, kept_of}
+use Rattle.tx_log.specs.Owners.{absent}
+use Rattle.tx_log.specs.Finds.{find_tx}
+use Rattle.tx_log.specs.declared.log_records.LogRecord.{LogRecord}
+use Rattle.tx_log.specs.declared.opened.OpenTx.{OpenTx}
+use Rattle.tx_log.specs.declared.opened.Stage.{Stage}
+use Rattle.tx_log.specs.declared.opened.Stage.TheVariants.{Forward, Back}
+
+abbrev pub AllUpTo : ℕ → List ℕ → Type 0
+AllUpTo n [] = Unit {0}
+AllUpTo n (s ∷ ss) = (s ≤ n) × AllUpTo n ss
+
+abbrev pub StageUpTo : ℕ → Stage → Type 0
+StageUpTo n Forward = Unit {0}
+StageUpTo n (Back to ends) = to ≤ n
+
+-- each record is of one of the first n transactions
+abbrev pub AllKnown : ℕ → List LogRecord → Type 0
+AllKnown n [] = Unit {0}
+AllKnown n (r ∷ rs) = (tx_of r ≤ n) × AllKnown n rs
+
+-- the numbers that are kept of a transaction are those of the log, and among the first n begun
+pub record FitsTx (rs : List LogRecord) (n : ℕ) (e : OpenTx) : Type 0 where
+  pub last : e.last ≡ last_of e.tx.0 rs
+  pub live : e.live ≡ length (stack e.tx.0 rs)
+  pub absent_keys : e.absent ≡ maps.len (absent (λ u. u == e.tx.0) (history_of (kept_of rs)))
+  pub saves : AllUpTo (length rs) e.saves.items
+  pub depth : length e.saves.items ≤ 32
+  pub stage : StageUpTo (length rs) e.stage
+  pub some : 0 < e.tx.0
+  pub begun : e.tx.0 ≤ n
+
+-- of each, and no two are one
+abbrev pub AllFit : List LogRecord → ℕ → List OpenTx → Type 0
+AllFit rs n [] = Unit {0}
+AllFit rs n (e ∷ es) = FitsTx rs n e × (find_tx e.tx.0 es ≡ None) × AllFit rs n es
