@@ -1,13 +1,8 @@
 -- Taking back one change at a time, from the newest on, against taking back from a place on.
 use Rattle.std.proofs.Common.{is_some, ◌≡◌, ℕ, ◌-◌, ◌<◌, ◌≤◌, zero, suc, Bool, true, false, cond, if◌then◌else◌, ◌&&◌, eqb, nat_lt, List, [], ◌∷◌, Option, Some, None, refl, sym, ap, ◌∙◌, arith}
 use Rattle.std.proofs.lemmas.Bool.Decides.{nat_tests}
-use Rattle.rec_types.specs.History.{Change, live_of, taken_back, live_from, take_back, take_newest}
+use Rattle.rec_types.specs.History.{Change, live_of, taken_back, live_from, take_back, take_newest, undo_last}
 use Rattle.rec_types.specs.Kept.{Kept, change_of, history_of, newest_or, newest_from, newest_live, is_own, undone, undone_or}
-
--- the newest live change of the transaction is taken back
-abbrev pub undo_last : ℕ → List Change → List Change
-undo_last t [] = []
-undo_last t (c ∷ h) = if nat_lt 0 (live_from h t zero) then c ∷ undo_last t h else (if live_of t c then taken_back c else c) ∷ h
 
 live_of-taken_back : (t : ℕ) (c : Change) → live_of t (taken_back c) ≡ false
 live_of-taken_back t c = at (eqb c.tx t)

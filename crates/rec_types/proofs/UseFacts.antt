@@ -1,9 +1,8 @@
 -- How a step changes the length of the log and its use.
 use Rattle.std.proofs.Common.{◌≡◌, ℕ, ◌+◌, ◌≤◌, ◌<◌, zero, suc, Bool, true, false, cond, if◌then◌else◌, not, ◌&&◌, eqb, nat_lt, List, [], ◌∷◌, ◌++◌, length, filter, refl, sym, ap, ◌∙◌, IsTrue, arith, length-append}
 use Rattle.std.proofs.lemmas.Bool.Decides.{nat_tests}
-use Rattle.rec_types.specs.History.{Change, live_of, taken_back, live_from, is_taken, is_pending, log_len, log_use}
+use Rattle.rec_types.specs.History.{Change, live_of, taken_back, live_from, is_taken, is_pending, log_len, log_use, undo_last}
 use Rattle.rec_types.specs.Kept.{Kept, change_of, history_of, AllBegun}
-use Rattle.rec_types.proofs.HistoryFacts.{undo_last}
 
 count_more : (p : Change → Bool) (h : List Change) (c : Change) → length (filter p (h ++ c ∷ [])) ≡ length (filter p h) + cond (p c) 1 0
 count_more p [] c = at (p c)

@@ -47,6 +47,11 @@ take_newest [] t p n = []
 take_newest (c ∷ h) t zero n = (if live_of t c && nat_lt (live_from h t zero) n then taken_back c else c) ∷ take_newest h t zero n
 take_newest (c ∷ h) t (suc p) n = c ∷ (if c.tx == t then take_newest h t p n else take_newest h t (suc p) n)
 
+-- the newest live change of the transaction is taken back
+abbrev pub undo_last : ℕ → List Change → List Change
+undo_last t [] = []
+undo_last t (c ∷ h) = if nat_lt 0 (live_from h t zero) then c ∷ undo_last t h else (if live_of t c then taken_back c else c) ∷ h
+
 abbrev pub is_taken : Change → Bool
 is_taken c = not c.live
 

@@ -5,6 +5,7 @@ use Rattle.std.specs.FinMap as maps
 use Rattle.rec_types.specs.Table.{is_device, is_memory, counted}
 use Rattle.rec_types.specs.declared.tables.TableFault.{TableFault}
 use Rattle.rec_types.specs.declared.tables.TableFault.TheVariants as table_faults
+use Rattle.tx_log.specs.declared.phases.UndoStep.{UndoStep}
 use Rattle.record_file.specs.declared.faults.PutFault.{PutFault}
 use Rattle.record_file.specs.declared.faults.RemoveFault.{RemoveFault}
 use Rattle.record_file.specs.Abstract.{File, records_of, is_full}
@@ -39,3 +40,7 @@ remove_err f new t x a b table_faults.Device none some same lt counts room damag
 remove_err f new t x a b (table_faults.Damaged page) none some same lt counts room damaged = absurd (damaged page refl)
 remove_err f new t x a b table_faults.NoRoom none some same lt counts room damaged = absurd (room refl)
 remove_err f new t x a b table_faults.Memory none some same lt counts room damaged = (none, rose_same a b counts, some, same)
+
+-- the step of one answer
+pub step_is : (a b : UndoStep) → Some a ≡ Some b → a ≡ b
+step_is a b is = cc

@@ -4,11 +4,11 @@ use Rattle.std.proofs.lemmas.Bool.Decides.{nat_tests}
 use Rattle.std.specs.FinMap as maps
 use Rattle.std.specs.FinMap.{get, len}
 use Rattle.rec_types.specs.Contents.{Contents, set_to, same_key, has}
-use Rattle.rec_types.specs.History.{Change, applied, replay, live_from}
+use Rattle.rec_types.specs.History.{Change, applied, replay, live_from, undo_last}
 use Rattle.rec_types.specs.Kept.{Kept, change_of, history_of, opening_of, newest_live, undone, BeforesFit, OnlyOf, IsOwned, AllBegun}
 use Rattle.rec_types.proofs.ContentsFacts.{get-set_to, set_to-twice, set_to-same, same_key-is, same_key-sym, same_key-refl}
 use Rattle.rec_types.proofs.KeptFacts.{opening-push, opening-over, opening-undone, replay-undone, befores-undone, befores-push}
-use Rattle.rec_types.proofs.HistoryFacts.{undo_last, history-undone}
+use Rattle.rec_types.proofs.HistoryFacts.{history-undone}
 use Rattle.rec_types.proofs.Sizes.{has-set_to, IsWithin, len-within, room_for, len_new, len_known}
 use Rattle.tx_log.specs.LogState.{LogState, IsLog, history_in, open_in}
 use Rattle.tx_log.specs.declared.log_records.LogRecord.{LogRecord}

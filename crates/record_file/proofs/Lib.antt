@@ -5,3 +5,4 @@ pub mod TxFacts
 pub mod StateFacts
 pub mod RoomFacts
 pub mod FaultFacts
+pub mod RollbackFacts

@@ -1,22 +1,26 @@
 -- What each change of the log keeps of the file's invariant.
-use Rattle.std.proofs.Common.{◌≡◌, ℕ, ◌+◌, ◌≤◌, ◌<◌, zero, suc, Bool, true, false, cond, List, [], ◌∷◌, ◌++◌, Option, Some, None, is_some, refl, sym, ap, subst, ◌∙◌, IsTrue, arith, option_map, Result, Ok, Err, OnOk, OnErr}
+use Rattle.std.proofs.Common.{◌≡◌, ℕ, ◌+◌, ◌≤◌, ◌<◌, zero, suc, Bool, true, false, cond, if◌then◌else◌, nat_lt, length, reverse, List, [], ◌∷◌, ◌++◌, Option, Some, None, is_some, refl, sym, ap, subst, ◌∙◌, IsTrue, arith, option_map, Result, Ok, Err, OnOk, OnErr}
 use Rattle.std.specs.FinMap as maps
 use Rattle.std.specs.FinMap.{get, len}
 use Rattle.rec_types.specs.Contents.{Contents, set_to, has}
 use Rattle.rec_types.specs.LimitBounds.{Bounds}
-use Rattle.rec_types.specs.History.{log_len}
-use Rattle.rec_types.specs.Kept.{Kept, newest_live, undone, history_of, opening_of}
-use Rattle.tx_log.specs.Transactions.{Transactions, Tx, is_open, fresh}
+use Rattle.rec_types.specs.History.{log_len, live_from, undo_last}
+use Rattle.rec_types.proofs.HistoryFacts.{newest_from-some, newest_from-live}
+use Rattle.std.proofs.lemmas.Bool.Decides.{nat_tests}
+use Rattle.rec_types.specs.Kept.{Kept, newest_live, newest_from, undone, history_of, opening_of}
+use Rattle.tx_log.specs.Transactions.{Transactions, Tx, Rollback, is_open, fresh, left_in, left_of}
 use Rattle.tx_log.specs.declared.phases.BeginFault.{BeginFault}
 use Rattle.rec_types.specs.declared.transactions.TxId.{TxId}
 use Rattle.tx_log.specs.Owners.{charged}
-use Rattle.tx_log.specs.LogState.{LogState, IsLog, open_in, history_in, phase_in, phase_of, update_in}
+use Rattle.tx_log.specs.LogState.{LogState, IsLog, open_in, history_in, phase_in, phase_of, update_in, tx_in, undo_in, undo_of, undo_from, undo_step, compensations_in, compensations_of, prev_in, finished, finished_by, active_with}
 use Rattle.tx_log.specs.declared.phases.Phase.{Phase}
-use Rattle.tx_log.specs.Log.{key_of}
+use Rattle.tx_log.specs.Log.{key_of, last_of, record_at}
+use Rattle.tx_log.specs.declared.phases.UndoStep.{UndoStep}
+use Rattle.tx_log.specs.declared.log_records.LogRecord.TheVariants.{Compensation}
 use Rattle.tx_log.specs.declared.log_records.LogRecord.{LogRecord}
 use Rattle.record_file.specs.Abstract.{IsRecordFile, Fits, written, Told, AllTold, new_in, file_of, with_change}
 use Rattle.record_file.proofs.TxFacts.{same_tx, same_tx-is, same_tx-refl, open-insert, open-remove}
-use Rattle.record_file.proofs.FileFacts.{change, put_file, opening_put, opening_undo, fits_put, fits_undo, charged_put, charged_undo, charged_within}
+use Rattle.record_file.proofs.FileFacts.{change, put_file, undo_file, opening_put, opening_undo, fits_put, fits_undo, charged_put, charged_undo, charged_within}
 
 -- of the transactions 1 to n none opens
 abbrev pub OpensNone : Transactions → Transactions → ℕ → Type 0
@@ -51,6 +55,10 @@ open_by_phase (Some tx) p is = refl
 abbrev pub accepted : LogState → TxId → List ℕ → Option (List ℕ) → Option (List ℕ) → LogState
 accepted s t x before w = record s { records = s.records ++ update_in s t x before w ∷ []; changes = s.changes ++ record { lsn = log_len (history_in s) + 1; tx = t.0; key = x; before = before; after = w; live = true } ∷ []; room = None }
 
+-- the log after a change was taken back
+abbrev pub compensated : LogState → TxId → LogState
+compensated s t = record s { records = s.records ++ compensations_in s t; changes = undone t.0 s.changes; room = None }
+
 written-push : (rs : List LogRecord) (r : LogRecord) (m : Contents) → written m (rs ++ r ∷ []) ≡ set_to (written m rs) (key_of r) (new_in r)
 written-push [] r m = refl
 written-push (s ∷ rs) r m = written-push rs r (set_to m (key_of s) (new_in s))
@@ -65,6 +73,34 @@ told_push rs r b c now x w same key new tells told =
     subst (λ (n : Contents). (set_to now x w ≡ written n (rs ++ r ∷ [])) × AllTold n (rs ++ r ∷ [])) same
       ((λ i. set_to (told.0 i) (sym key i) (sym new i)) ∙ sym (written-push rs r b),
        all_told_push rs r b told.1 (subst (λ (n : Contents). Told n r) told.0 tells))
+
+none_by_finished : (txs : Transactions) (n t : ℕ) (places : List ℕ) (r : Option Rollback) → IsTrue (is_open txs t) → OpensNone txs (finished_by txs t places r) n
+none_by_finished txs n t places None there q le is = is
+none_by_finished txs n t places (Some r) there q le is = at r.ends is
+  where
+    at : (ends : Bool) → IsTrue (is_open (if ends then maps.remove txs t else maps.insert txs t (active_with places)) q) → IsTrue (is_open txs q)
+    at true is = none_by_end txs n t q le is
+    at false is = none_by_known txs n t (active_with places) there q le is
+
+-- a rollback that is over opens no transaction
+pub none_by_finish : (txs : Transactions) (n t : ℕ) (o : Option Tx) → maps.get txs t ≡ o → OpensNone txs (finished txs t o) n
+none_by_finish txs n t None is q le opened = opened
+none_by_finish txs n t (Some tx) is q le opened = none_by_finished txs n t tx.places tx.rollback (ap is_some is) q le opened
+
+-- what a rollback has left is there to be taken back: its transaction's newest live change
+pub undo_there : (cs : List Kept) (t : ℕ) (o : Option Tx) → 0 < left_in (history_of cs) t o → (u : Kept) × (undo_of cs t o ≡ Some u) × (newest_live t cs ≡ Some u) × (is_some o ≡ true)
+undo_there cs t None some = absurd (omega arith)
+undo_there cs t (Some tx) some = at tx.rollback some
+  where
+    found : (p : ℕ) → 0 < live_from (history_of cs) t p → (o : Option Kept) → newest_from cs t p ≡ o → (u : Kept) × (newest_from cs t p ≡ Some u) × (newest_live t cs ≡ Some u)
+    found p some None is = absurd (cc (sym (ap is_some is) ∙ newest_from-some cs t p ∙ nat_lt_of 0 (live_from (history_of cs) t p) some))
+      where
+        nat_lt_of : (a b : ℕ) → a < b → nat_lt a b ≡ true
+        nat_lt_of a b lt = grind (arith, nat_tests)
+    found p some (Some u) is = (u, is, newest_from-live cs t p u is)
+    at : (r : Option Rollback) → 0 < left_of (history_of cs) t r → (u : Kept) × (undo_from cs t r ≡ Some u) × (newest_live t cs ≡ Some u) × (is_some (Some tx) ≡ true)
+    at None some = absurd (omega arith)
+    at (Some r) some = let u = found r.to some (newest_from cs t r.to) refl in (u.0, u.1, u.2, refl)
 
 module _ (sound : Bool) (now : Contents) (limit : ℕ) (log : LogState) (limits : Bounds) (old : IsRecordFile sound now limit log limits) (kept : IsLog log) where
   -- other transactions are open, and none of those begun before opens
@@ -130,3 +166,20 @@ module _ (sound : Bool) (now : Contents) (limit : ℕ) (log : LogState) (limits 
   change_file now2 log1 log2 t x before told w reserved put stood copied accepts =
       let after : log2 ≡ accepted (record log { room = Some x }) t x told w = accepts ∙ ap (λ (s : LogState). accepted s t x told w) reserved in
       (λ i. file_of (after i) (put i)) ∙ put_file log now (log.records ++ update_in log t x told w ∷ []) None (log_len (history_in log) + 1) t.0 x told w (copied ∙ stood)
+
+  -- a rollback is over
+  pub file_finished : (t : ℕ) (new : LogState) → new ≡ record log { txs = finished log.txs t (tx_in log t); room = None } → IsRecordFile sound now limit new limits
+  file_finished t new after = subst (λ (s : LogState). IsRecordFile sound now limit s limits) (sym after) (file_txs (finished log.txs t (tx_in log t)) log.begun None (none_by_finish log.txs log.begun t (tx_in log t) refl))
+
+  -- the log after a change was taken back
+  pub undo_kept : (sound2 : Bool) (limit2 : ℕ) (now2 : Contents) (log2 : LogState) (t : TxId) (u : Kept) (step : UndoStep) → sound2 ≡ sound → limit2 ≡ limit → undo_in log t.0 ≡ Some u → newest_live t.0 log.changes ≡ Some u → IsTrue (open_in log t.0) → step ≡ undo_step u → now2 ≡ set_to now step.key step.before → log2 ≡ compensated log t → IsRecordFile sound2 now2 limit2 log2 limits
+  undo_kept sound2 limit2 now2 log2 t u step sound_is limit_is next newest open_t is put after =
+      subst (λ (s : Bool). IsRecordFile s now2 limit2 log2 limits) (sym sound_is)
+      (subst (λ (n : ℕ). IsRecordFile sound now2 n log2 limits) (sym limit_is)
+      (subst (λ (m : Contents). IsRecordFile sound m limit log2 limits) (sym (put ∙ ap (λ (s : UndoStep). set_to now s.key s.before) is))
+      (subst (λ (s : LogState). IsRecordFile sound (set_to now u.key u.before) limit s limits) (sym (after ∙ ap (λ (o : Option Kept). let s : LogState = record log { records = log.records ++ compensations_of log t o; changes = undone t.0 log.changes; room = None } in s) next))
+      (file_undo None (Compensation (length log.records + 1) (last_of t.0 (reverse log.records)) t u.key u.before (prev_in (record_at log.records u.lsn))) t.0 u refl refl tt open_t newest))))
+
+  pub undo_file_is : (now2 : Contents) (log2 : LogState) (t : TxId) (u : Kept) (step : UndoStep) → newest_live t.0 log.changes ≡ Some u → step ≡ undo_step u → now2 ≡ set_to now step.key step.before → log2 ≡ compensated log t → file_of log2 now2 ≡ record (file_of log now) { history = undo_last t.0 (history_in log) }
+  undo_file_is now2 log2 t u step newest is put after =
+      (λ i. file_of (after i) ((put ∙ ap (λ (s : UndoStep). set_to now s.key s.before) is) i)) ∙ undo_file log now (log.records ++ compensations_in log t) None t.0 u newest

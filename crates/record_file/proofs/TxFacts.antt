@@ -40,6 +40,24 @@ open-remove txs t q = ap is_some (get-remove_tx txs t q) ∙ at (same_tx q t)
 same_txs : (m n : Transactions) → ((q : ℕ) → get m q ≡ get n q) → m ≡ n
 same_txs m n same = same_map nat_cmp_total nat_cmp-IsAntisymmetric m n same
 
+-- what is told of a transaction last is what is known of it
+pub insert-insert_tx : (txs : Transactions) (t : ℕ) (old new : Tx) → insert (insert txs t old) t new ≡ insert txs t new
+insert-insert_tx txs t old new = same_txs _ _ (λ q. get-insert_tx (insert txs t old) t new q ∙ ap (cond (same_tx q t) (Some new)) (get-insert_tx txs t old q) ∙ at (same_tx q t) (get txs q) ∙ sym (get-insert_tx txs t new q))
+  where
+    at : (b : Bool) (o : Option Tx) → cond b (Some new) (cond b (Some old) o) ≡ cond b (Some new) o
+    at true o = refl
+    at false o = refl
+
+pub remove-insert_tx : (txs : Transactions) (t : ℕ) (tx : Tx) → remove (insert txs t tx) t ≡ remove txs t
+remove-insert_tx txs t tx = same_txs _ _ (λ q. get-remove_tx (insert txs t tx) t q ∙ ap (cond (same_tx q t) None) (get-insert_tx txs t tx q) ∙ at (same_tx q t) (get txs q) ∙ sym (get-remove_tx txs t q))
+  where
+    at : (b : Bool) (o : Option Tx) → cond b None (cond b (Some tx) o) ≡ cond b None o
+    at true o = refl
+    at false o = refl
+
+pub get-inserted_tx : (txs : Transactions) (t : ℕ) (tx : Tx) → get (insert txs t tx) t ≡ Some tx
+get-inserted_tx txs t tx = get-insert_tx txs t tx t ∙ ap (λ b. cond b (Some tx) (get txs t)) (same_tx-refl t)
+
 -- how many of the transactions 1 to n are open
 abbrev pub open_up_to : Transactions → ℕ → ℕ
 open_up_to txs zero = 0

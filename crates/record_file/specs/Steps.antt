@@ -16,6 +16,7 @@ use Rattle.tx_log.specs.declared.phases.BeginFault.{BeginFault}
 use Rattle.tx_log.specs.declared.phases.BeginFault.TheVariants as begin_faults
 use Rattle.record_file.specs.declared.faults.Cause.{Cause}
 use Rattle.record_file.specs.declared.faults.Cause.TheVariants as causes
+use Rattle.record_file.specs.declared.faults.Stop.{Stop}
 use Rattle.record_file.specs.declared.faults.PutFault.{PutFault}
 use Rattle.record_file.specs.declared.faults.PutFault.TheVariants as put_faults
 use Rattle.record_file.specs.declared.faults.RemoveFault.{RemoveFault}
@@ -185,6 +186,33 @@ abbrev pub TakesBack : File → ℕ → ℕ → Transactions → Bool → Bool �
 TakesBack old t p txs failed refused undone new =
     (failed ≡ false) × (refused ≡ false) × (undone ≡ live_from old.history t p) × (new ≡ record old { history = take_back old.history t p; txs = txs })
 
+abbrev pub to_of : Option Rollback → ℕ
+to_of None = 0
+to_of (Some r) = r.to
+
+-- the place that a rollback under way goes back to
+abbrev pub rolling_place : Option Tx → ℕ
+rolling_place None = 0
+rolling_place (Some tx) = to_of tx.rollback
+
+-- a rollback under way takes back what it has left, and is over, or stops
+abbrev pub TakeBackStep : File → ℕ → Bool → Bool → Result ℕ Stop → File → Type 0
+TakeBackStep old t failed refused (Ok undone) new = TakesBack old t (rolling_place (tx_of old t)) (finished old.txs t (tx_of old t)) failed refused undone new
+TakeBackStep old t failed refused (Err stop) new = StopsAt old t (rolling_place (tx_of old t)) old.txs failed refused stop.undone stop.left stop.cause new
+
+-- which cause ended a step of a rollback
+abbrev pub by_device : Result (Unit {0}) Cause → Bool
+by_device (Ok done) = false
+by_device (Err causes.Device) = true
+by_device (Err (causes.Damaged page)) = false
+by_device (Err causes.Memory) = false
+
+abbrev pub by_memory : Result (Unit {0}) Cause → Bool
+by_memory (Ok done) = false
+by_memory (Err causes.Device) = false
+by_memory (Err (causes.Damaged page)) = false
+by_memory (Err causes.Memory) = true
+
 abbrev pub rollback_in : ℕ → ℕ → Option Phase → Option RollbackToFault
 rollback_in n depth None = Some rollback_faults.NoSuchTx
 rollback_in n depth (Some (phases.Rolling ends)) = Some rollback_faults.Rolling
@@ -223,15 +251,6 @@ resume_in (Some phases.Active) = Some resume_faults.NotRolling
 
 abbrev pub resume_refusal : File → ℕ → Option ResumeFault
 resume_refusal f t = resume_in (phase_at f t)
-
-abbrev pub to_of : Option Rollback → ℕ
-to_of None = 0
-to_of (Some r) = r.to
-
--- the place that a rollback under way goes back to
-abbrev pub rolling_place : Option Tx → ℕ
-rolling_place None = 0
-rolling_place (Some tx) = to_of tx.rollback
 
 -- a rollback under way goes on from where it stopped
 abbrev pub ResumeStep : File → ℕ → Bool → Bool → Result ℕ ResumeFault → File → Type 0

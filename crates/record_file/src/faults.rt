@@ -9,6 +9,14 @@ pub enum Cause {
     Memory,
 }
 
+/// How far a rollback came in one call, and why it stopped.
+#[derive(Clone, Copy)]
+pub struct Stop {
+    pub undone: u32,
+    pub left: u32,
+    pub cause: Cause,
+}
+
 /// Why no record was put.
 #[derive(Clone, Copy, Debug, PartialEq, Eq, Error)]
 pub enum PutFault {

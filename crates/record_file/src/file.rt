@@ -1,12 +1,15 @@
 ghost use Rattle.std.specs.Prelude.{[], nat_lt, ◌≡◌, ◌≢◌, ℕ, ◌+◌, ◌<◌, ◌≤◌, Bool, true, false, Option, Some, None, option_map, Ok, Err, IsTrue, IsSome, IfOk, OnOk, OnErr, IfSome};
 ghost use Rattle.std.specs.FinMap as maps;
-ghost use Rattle.rec_types.specs.History.{log_len};
+ghost use Rattle.rec_types.specs.History.{log_len, undo_last};
 ghost use Rattle.tx_log.specs.Log.{record_at};
 ghost use Rattle.rec_types.specs.Table.{is_device, is_memory, counted};
-ghost use Rattle.record_file.specs.Abstract.{new_file, records_of, is_full, charged_of, use_of, tx_of, held_by};
-ghost use Rattle.record_file.specs.Steps.{rose, put_refusal, remove_refusal, get_refusal, BeginStep, PutStep, RemoveStep, GetStep, SavepointStep, ReleaseStep, CommitStep, RollbackToStep, AbortStep, ResumeStep, EntriesStep, KeysOfStep, listed, status_of};
+ghost use Rattle.record_file.specs.Abstract.{new_file, records_of, is_full, charged_of, use_of, tx_of, held_by, phase_at};
+ghost use Rattle.tx_log.specs.Transactions.{depth_of, left_in};
+ghost use Rattle.tx_log.specs.LogState.{rolling_to, finished, IsRolling};
 
-use crate::faults::{AbortFault, Cause, CommitFault, EntriesFault, GetFault, KeysOfFault, PutFault, ReleaseFault, RemoveFault, ResumeFault, RollbackToFault, SavepointFault, Status, StatusFault};
+ghost use Rattle.record_file.specs.Steps.{rose, put_refusal, remove_refusal, get_refusal, BeginStep, PutStep, RemoveStep, GetStep, SavepointStep, ReleaseStep, CommitStep, RollbackToStep, AbortStep, ResumeStep, EntriesStep, KeysOfStep, listed, status_of, rollback_refusal, abort_refusal, resume_refusal, TakeBackStep, places_at, by_device, by_memory};
+
+use crate::faults::{AbortFault, Cause, CommitFault, EntriesFault, GetFault, KeysOfFault, PutFault, ReleaseFault, RemoveFault, ResumeFault, RollbackToFault, SavepointFault, Status, StatusFault, Stop};
 use rec_types::{Entry, Key, Limits, Memory, Record, Table, TableFault, TxId};
 use std::alloc::Global;
 use std::marker::Model;
@@ -179,6 +182,70 @@ impl<T: Table> RecordFile<T> {
         }
     }
 
+    /// Takes back the changes made since savepoint n, newest first, and answers how many; 0 is the
+    /// beginning. Savepoint n stays, and those above it are dropped at once. Faults: NoSuchTx, Rolling,
+    /// NoSuchSave, Stopped. A stop leaves the transaction rolling.
+    pub fn rollback_to(&mut self, tx: TxId, n: u32) -> Result<u32, RollbackToFault>
+        ensures step { IsTrue (T.sound self.old.table) → T.device_failures self.old.table < 18446744073709551615 → T.memory_refusals self.old.table < 18446744073709551615 →
+            RollbackToStep self.old.file tx.0 n (rose (T.device_failures self.old.table) (T.device_failures self.new.table)) (rose (T.memory_refusals self.old.table) (T.memory_refusals self.new.table)) result self.new.file }
+        ensures refused { IfSome (rollback_refusal self.old.file tx.0 n) (λ fault. (result ≡ Err fault) × (self.new ≡ self.old)) }
+        ensures soundness { T.sound self.new.table ≡ T.sound self.old.table }
+    {
+        match self.log.phase(tx) {
+            None => Err(RollbackToFault::NoSuchTx),
+            Some(Phase::Rolling { .. }) => Err(RollbackToFault::Rolling),
+            Some(Phase::Active) => {
+                if n > self.log.depth(tx) {
+                    return Err(RollbackToFault::NoSuchSave);
+                }
+                self.start_rollback(tx, n, false);
+                match self.take_back(tx) {
+                    Ok(undone) => Ok(undone),
+                    Err(Stop { undone, left, cause }) => Err(RollbackToFault::Stopped { undone, left, cause }),
+                }
+            }
+        }
+    }
+
+    /// Takes back every change of the transaction, newest first, and ends it. Faults: NoSuchTx, Rolling,
+    /// Stopped. A stop leaves the transaction rolling; it ends once its rollback is finished.
+    pub fn abort(&mut self, tx: TxId) -> Result<u32, AbortFault>
+        ensures step { IsTrue (T.sound self.old.table) → T.device_failures self.old.table < 18446744073709551615 → T.memory_refusals self.old.table < 18446744073709551615 →
+            AbortStep self.old.file tx.0 (rose (T.device_failures self.old.table) (T.device_failures self.new.table)) (rose (T.memory_refusals self.old.table) (T.memory_refusals self.new.table)) result self.new.file }
+        ensures refused { IfSome (abort_refusal self.old.file tx.0) (λ fault. (result ≡ Err fault) × (self.new ≡ self.old)) }
+        ensures soundness { T.sound self.new.table ≡ T.sound self.old.table }
+    {
+        match self.log.phase(tx) {
+            None => Err(AbortFault::NoSuchTx),
+            Some(Phase::Rolling { .. }) => Err(AbortFault::Rolling),
+            Some(Phase::Active) => {
+                self.start_rollback(tx, 0, true);
+                match self.take_back(tx) {
+                    Ok(undone) => Ok(undone),
+                    Err(Stop { undone, left, cause }) => Err(AbortFault::Stopped { undone, left, cause }),
+                }
+            }
+        }
+    }
+
+    /// Goes on with a rollback that was stopped, and answers how many changes this call took back. Faults:
+    /// NoSuchTx, NotRolling, Stopped.
+    pub fn resume(&mut self, tx: TxId) -> Result<u32, ResumeFault>
+        ensures step { IsTrue (T.sound self.old.table) → T.device_failures self.old.table < 18446744073709551615 → T.memory_refusals self.old.table < 18446744073709551615 →
+            ResumeStep self.old.file tx.0 (rose (T.device_failures self.old.table) (T.device_failures self.new.table)) (rose (T.memory_refusals self.old.table) (T.memory_refusals self.new.table)) result self.new.file }
+        ensures refused { IfSome (resume_refusal self.old.file tx.0) (λ fault. (result ≡ Err fault) × (self.new ≡ self.old)) }
+        ensures soundness { T.sound self.new.table ≡ T.sound self.old.table }
+    {
+        match self.log.phase(tx) {
+            None => Err(ResumeFault::NoSuchTx),
+            Some(Phase::Active) => Err(ResumeFault::NotRolling),
+            Some(Phase::Rolling { .. }) => match self.take_back(tx) {
+                Ok(undone) => Ok(undone),
+                Err(Stop { undone, left, cause }) => Err(ResumeFault::Stopped { undone, left, cause }),
+            },
+        }
+    }
+
     /// How many transactions were begun.
     pub fn begun(&self) -> u32
         ensures { result ≡ self.now.file.begun }
@@ -252,6 +319,85 @@ impl<T: Table> RecordFile<T> {
             return Ok(false);
         }
         Ok(self.table.get(key)?.is_none())
+    }
+
+    // Starts a rollback of an active transaction.
+    fn start_rollback(&mut self, tx: TxId, n: u32, ends: bool)
+        requires active { phase_at self.old.file tx.0 ≡ Some Phase.Active }
+        requires within { n ≤ depth_of (tx_of self.old.file tx.0) }
+        requires whole { IsTrue ends → n ≡ 0 }
+        ensures file { self.new.file ≡ record self.old.file { txs = maps.insert self.old.file.txs tx.0 (rolling_to (places_at self.old.file tx.0) n ends) } }
+        ensures table { self.new.table ≡ self.old.table }
+        ensures log { self.new.log ≡ self.old.log }
+    {
+        let _begun = self.log.begun();
+        self.log.start_rollback(tx, n, ends);
+    }
+
+    // Takes back what a rollback under way has left, newest first, and finishes it.
+    fn take_back(&mut self, tx: TxId) -> Result<u32, Stop>
+        requires { IsRolling (phase_at self.old.file tx.0) }
+        ensures step { IsTrue (T.sound self.old.table) → T.device_failures self.old.table < 18446744073709551615 → T.memory_refusals self.old.table < 18446744073709551615 →
+            TakeBackStep self.old.file tx.0 (rose (T.device_failures self.old.table) (T.device_failures self.new.table)) (rose (T.memory_refusals self.old.table) (T.memory_refusals self.new.table)) result self.new.file }
+        ensures soundness { T.sound self.new.table ≡ T.sound self.old.table }
+    {
+        let total = self.left(tx);
+        for undone in 0..total {
+            if let Err(cause) = self.take_one_back(tx) {
+                return Err(Stop {
+                    undone,
+                    left: total - undone,
+                    cause,
+                });
+            }
+        }
+        self.finish(tx);
+        Ok(total)
+    }
+
+    // How many changes a rollback under way is still to take back.
+    fn left(&self, tx: TxId) -> u32
+        ensures { result ≡ left_in self.now.file.history tx.0 (tx_of self.now.file tx.0) }
+    {
+        self.log.left(tx)
+    }
+
+    // Ends a rollback that has nothing left.
+    fn finish(&mut self, tx: TxId)
+        requires rolling { IsRolling (phase_at self.old.file tx.0) }
+        requires done { left_in self.old.file.history tx.0 (tx_of self.old.file tx.0) ≡ 0 }
+        ensures file { self.new.file ≡ record self.old.file { txs = finished self.old.file.txs tx.0 (tx_of self.old.file tx.0) } }
+        ensures table { self.new.table ≡ self.old.table }
+        ensures log { self.new.log ≡ self.old.log }
+    {
+        let _begun = self.log.begun();
+        self.log.finish(tx);
+    }
+
+    // Takes back the newest change that a rollback under way has left: one `set`, and one compensation.
+    fn take_one_back(&mut self, tx: TxId) -> Result<(), Cause>
+        requires { 0 < left_in self.old.file.history tx.0 (tx_of self.old.file tx.0) }
+        ensures ok { OnOk result (self.new.file ≡ record self.old.file { history = undo_last tx.0 self.old.file.history }) }
+        ensures err { OnErr result (self.new.file ≡ self.old.file) }
+        ensures damaged { IsTrue (T.sound self.old.table) → (page : ℕ) → result ≢ Err (Cause.Damaged page) }
+        ensures soundness { T.sound self.new.table ≡ T.sound self.old.table }
+        ensures device { T.device_failures self.new.table ≡ counted (T.device_failures self.old.table) (by_device result) }
+        ensures memory { T.memory_refusals self.new.table ≡ counted (T.memory_refusals self.old.table) (by_memory result) }
+    {
+        let _begun = self.log.begun();
+        let Some(step) = self.log.next_undo(tx) else {
+            unreachable!()
+        };
+        match self.table.set(step.key, step.before) {
+            Ok(_) => {
+                let _lsn = self.log.compensate(tx);
+                Ok(())
+            }
+            Err(TableFault::Device) => Err(Cause::Device),
+            Err(TableFault::Damaged(page)) => Err(Cause::Damaged(page)),
+            Err(TableFault::NoRoom) => Err(Cause::Damaged(0)),
+            Err(TableFault::Memory) => Err(Cause::Memory),
+        }
     }
 
     // What the file alone refuses a put for.
