@@ -3,7 +3,7 @@ use Rattle.std.specs.Prelude.{◌≡◌, ℕ, ◌+◌, ◌<◌, ◌≤◌, Bool,
 use Rattle.std.specs.List.{flat_map}
 use Rattle.std.specs.Io.KnownBytes.{Consumes, Appends}
 use Rattle.rec_types.specs.History.{log_len}
-use Rattle.record_file.specs.Abstract.{File, use_of}
+use Rattle.record_file.specs.Abstract.{File, OpenFile, use_of}
 use Rattle.record_file.specs.Steps.{rose, listed, BeginStep, PutStep, RemoveStep, GetStep, SavepointStep, ReleaseStep, CommitStep, RollbackToStep, AbortStep, ResumeStep, EntriesStep, KeysOfStep}
 use Rattle.recfile.specs.declared.commands.Command.TheVariants as command
 use Rattle.recfile.specs.declared.commands.Line.{Line}
@@ -22,6 +22,9 @@ pub record Seen : Type 0 where
   pub sound : Bool
   pub failures : ℕ
   pub refusals : ℕ
+
+abbrev pub seen_by : {T : Type 0} → (T → Bool) → (T → ℕ) → (T → ℕ) → OpenFile T → Seen
+seen_by sound failures refusals f = record { file = f.file; sound = sound f.table; failures = failures f.table; refusals = refusals f.table }
 
 -- the table is sound, and its counts are below the greatest number
 abbrev pub IsCounted : Seen → Type 0
@@ -46,7 +49,7 @@ Replies old (lines.Said (command.Back t n)) (reply.Back answer) new = IsCounted 
 Replies old (lines.Said (command.Resume t)) (reply.Resume answer) new = IsCounted old → ResumeStep old.file t.0 (failed old new) (refused old new) answer new.file
 Replies old (lines.Said (command.Abort t)) (reply.Abort answer) new = IsCounted old → AbortStep old.file t.0 (failed old new) (refused old new) answer new.file
 Replies old (lines.Said (command.Commit t)) (reply.Commit answer) new = CommitStep old.file t.0 answer new.file
-Replies old (lines.Said command.List) (reply.List answer) new = IsCounted old → EntriesStep old.file (failed old new) (refused old new) (listed answer) new.file
+Replies old (lines.Said command.List) (reply.List answer) new = IsCounted old → EntriesStep old.file (failed old new) (listed answer) new.file
 Replies old (lines.Said (command.Keys t)) (reply.Keys answer) new = KeysOfStep old.file t.0 (listed answer) × (new.file ≡ old.file)
 Replies old (lines.Said command.Log) (reply.Log len used) new = (len ≡ log_len old.file.history) × (used ≡ use_of old.file) × (new.file ≡ old.file)
 Replies old line answer new = ⊥

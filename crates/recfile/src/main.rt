@@ -1,6 +1,7 @@
 //! The script engine and the program.
 #![tactic(auto)]
 
+mod calls;
 mod commands;
 mod cutting;
 mod reading;

@@ -6,3 +6,4 @@ pub mod StateFacts
 pub mod RoomFacts
 pub mod FaultFacts
 pub mod RollbackFacts
+pub mod OwnerFacts

@@ -1,5 +1,5 @@
 -- The abstract file.
-use Rattle.std.specs.Prelude.{◌≡◌, ℕ, ◌+◌, ◌≤◌, Bool, true, false, ◌&&◌, nat_le, nat_lt, is_none, List, [], ◌∷◌, ◌++◌, Option, Some, None, option_map, refl, IsTrue}
+use Rattle.std.specs.Prelude.{◌≡◌, ℕ, ◌+◌, ◌≤◌, ◌<◌, ◌==◌, Bool, true, false, ◌&&◌, nat_le, nat_lt, is_none, List, [], ◌∷◌, ◌++◌, Option, Some, None, option_map, refl, IsTrue}
 use Rattle.std.specs.Coded.{Coded, code_by, coded×, coded_ℕ, coded_bool, coded_list, coded_option}
 use Rattle.std.specs.FinMap as maps
 use Rattle.rec_types.specs.LimitBounds.{Bounds, coded_bounds}
@@ -7,7 +7,9 @@ use Rattle.rec_types.specs.Contents.{Contents, coded_contents, set_to}
 use Rattle.rec_types.specs.History.{Change, replay, log_use, log_len}
 use Rattle.rec_types.specs.Kept.{Kept, history_of, opening_of, BeforesFit}
 use Rattle.tx_log.specs.Transactions.{Transactions, Tx, coded_transactions, is_open}
-use Rattle.tx_log.specs.Owners.{holder_of, charged}
+use Rattle.tx_log.specs.Owners.{owner_of, holder_of, claims, charged}
+use Rattle.tx_log.specs.LogLaws.{IsChained}
+use Rattle.std.specs.List.{list_any}
 use Rattle.tx_log.specs.LogState.{LogState, phase_of, open_in, history_in}
 use Rattle.tx_log.specs.declared.phases.Phase.{Phase}
 use Rattle.tx_log.specs.declared.log_records.LogRecord.{LogRecord}
@@ -115,3 +117,20 @@ pub record IsRecordFile (sound : Bool) (now : Contents) (limit : ℕ) (log : Log
   pub fits : IsTrue sound → Fits log.changes now
   pub told : IsTrue sound → (now ≡ written (opening_of log.changes now) log.records) × AllTold (opening_of log.changes now) log.records
   pub within : IsTrue sound → maps.len (charged (open_in log) (history_in log) now) ≤ limits.records
+
+-- the transaction hasn't ended, and one of its live changes is at the key
+abbrev pub owns : File → ℕ → List ℕ → Bool
+owns f t x = list_any (λ c. claims (open_of f) x c && (c.tx == t)) f.history
+
+-- What stays true of a file from call to call: over a sound table the records are the replay, which the log leaves
+-- too, and the charged keys don't exceed the limit; a transaction that owns a key is the one that does; and the log
+-- tells the history by its laws.
+pub record IsKeptFile (sound : Bool) (now : Contents) (f : File) (log : List LogRecord) : Type 0 where
+  pub replayed : IsTrue sound → now ≡ records_of f
+  pub within : IsTrue sound → maps.len (charged_of f) ≤ f.limits.records
+  pub owned : (t : ℕ) (x : List ℕ) → IsTrue (owns f t x) → owner_of (open_of f) f.history x ≡ Some t
+  pub written : IsTrue sound → (now ≡ written f.opening log) × AllTold f.opening log
+  pub chained : (cs : List Kept) × IsChained log cs × (history_of cs ≡ f.history)
+  pub used : use_of f ≤ f.limits.log_records
+  pub begun : f.begun ≤ f.limits.begins
+  pub opens : (t : ℕ) → IsTrue (open_of f t) → (0 < t) × (t ≤ f.begun)

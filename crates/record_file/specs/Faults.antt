@@ -1,10 +1,13 @@
--- What a table's fault means to a put or a removal.
+-- What a table's fault means to a put, a removal or a listing.
 use Rattle.rec_types.specs.declared.tables.TableFault.{TableFault}
 use Rattle.rec_types.specs.declared.tables.TableFault.TheVariants as table_faults
 use Rattle.record_file.specs.declared.faults.PutFault.{PutFault}
 use Rattle.record_file.specs.declared.faults.PutFault.TheVariants as put_faults
 use Rattle.record_file.specs.declared.faults.RemoveFault.{RemoveFault}
 use Rattle.record_file.specs.declared.faults.RemoveFault.TheVariants as remove_faults
+
+use Rattle.record_file.specs.declared.faults.EntriesFault.{EntriesFault}
+use Rattle.record_file.specs.declared.faults.EntriesFault.TheVariants as entries_faults
 
 abbrev pub put_fault : TableFault → PutFault
 put_fault table_faults.Device = put_faults.Device
@@ -17,3 +20,9 @@ remove_fault table_faults.Device = remove_faults.Device
 remove_fault (table_faults.Damaged page) = remove_faults.Damaged page
 remove_fault table_faults.NoRoom = remove_faults.Damaged 0
 remove_fault table_faults.Memory = remove_faults.Memory
+
+abbrev pub entries_fault : TableFault → EntriesFault
+entries_fault table_faults.Device = entries_faults.Device
+entries_fault (table_faults.Damaged page) = entries_faults.Damaged page
+entries_fault table_faults.NoRoom = entries_faults.Damaged 0
+entries_fault table_faults.Memory = entries_faults.Memory

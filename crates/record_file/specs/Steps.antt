@@ -262,8 +262,11 @@ ResumeStep old t failed refused (Err fault) new = (resume_refusal old t ≡ Some
 -- looking
 
 -- a record with the transaction that owns its key
+abbrev pub entry_with : (ℕ → Bool) → List Change → List ℕ × List ℕ → Entry
+entry_with is_open h e = record { key = e.0; value = e.1; owner = option_map (λ t. let tx : TxId = record { 0 = t } in tx) (owner_of is_open h e.0) }
+
 abbrev pub entry_of : File → List ℕ × List ℕ → Entry
-entry_of f e = record { key = e.0; value = e.1; owner = option_map (λ t. let tx : TxId = record { 0 = t } in tx) (owner_of (open_of f) f.history e.0) }
+entry_of f = entry_with (open_of f) f.history
 
 -- the records in key order, each with the owner of its key
 abbrev pub entries_of : File → List Entry
@@ -274,11 +277,11 @@ abbrev pub listed : {X E : Type 0} → Result (Vec X) E → Result (List X) E
 listed (Ok v) = Ok v.items
 listed (Err fault) = Err fault
 
-abbrev pub EntriesStep : File → Bool → Bool → Result (List Entry) EntriesFault → File → Type 0
-EntriesStep old failed refused (Ok entries) new = (failed ≡ false) × (entries ≡ entries_of old) × (new ≡ old)
-EntriesStep old failed refused (Err entries_faults.Device) new = (failed ≡ true) × (new ≡ old)
-EntriesStep old failed refused (Err entries_faults.Memory) new = (failed ≡ false) × (new ≡ old)
-EntriesStep old failed refused (Err (entries_faults.Damaged page)) new = ⊥
+abbrev pub EntriesStep : File → Bool → Result (List Entry) EntriesFault → File → Type 0
+EntriesStep old failed (Ok entries) new = (failed ≡ false) × (entries ≡ entries_of old) × (new ≡ old)
+EntriesStep old failed (Err entries_faults.Device) new = (failed ≡ true) × (new ≡ old)
+EntriesStep old failed (Err entries_faults.Memory) new = (failed ≡ false) × (new ≡ old)
+EntriesStep old failed (Err (entries_faults.Damaged page)) new = ⊥
 
 abbrev pub KeysOfStep : File → ℕ → Result (List (List ℕ)) KeysOfFault → Type 0
 KeysOfStep f t (Ok keys) = (IsSome (tx_of f t)) × (keys ≡ keys_owned (open_of f) f.history t)

@@ -1,13 +1,13 @@
-ghost use Rattle.std.specs.Prelude.{[], nat_lt, ◌≡◌, ◌≢◌, ℕ, ◌+◌, ◌<◌, ◌≤◌, Bool, true, false, Option, Some, None, option_map, Ok, Err, IsTrue, IsSome, IfOk, OnOk, OnErr, IfSome};
+ghost use Rattle.std.specs.Prelude.{[], nat_lt, ◌≡◌, ◌≢◌, ℕ, ◌+◌, ◌<◌, ◌≤◌, Bool, true, false, Option, Some, None, option_map, Ok, Err, IsTrue, IsSome, IfOk, OnOk, OnErr, IfSome, map};
 ghost use Rattle.std.specs.FinMap as maps;
 ghost use Rattle.rec_types.specs.History.{log_len, undo_last};
 ghost use Rattle.tx_log.specs.Log.{record_at};
 ghost use Rattle.rec_types.specs.Table.{is_device, is_memory, counted};
-ghost use Rattle.record_file.specs.Abstract.{new_file, records_of, is_full, charged_of, use_of, tx_of, held_by, phase_at};
+ghost use Rattle.record_file.specs.Abstract.{new_file, records_of, is_full, charged_of, use_of, tx_of, held_by, phase_at, IsKeptFile};
 ghost use Rattle.tx_log.specs.Transactions.{depth_of, left_in};
-ghost use Rattle.tx_log.specs.LogState.{rolling_to, finished, IsRolling};
+ghost use Rattle.tx_log.specs.LogState.{rolling_to, finished, IsRolling, open_in, history_in};
 
-ghost use Rattle.record_file.specs.Steps.{rose, put_refusal, remove_refusal, get_refusal, BeginStep, PutStep, RemoveStep, GetStep, SavepointStep, ReleaseStep, CommitStep, RollbackToStep, AbortStep, ResumeStep, EntriesStep, KeysOfStep, listed, status_of, rollback_refusal, abort_refusal, resume_refusal, TakeBackStep, places_at, by_device, by_memory};
+ghost use Rattle.record_file.specs.Steps.{rose, put_refusal, remove_refusal, get_refusal, BeginStep, PutStep, RemoveStep, GetStep, SavepointStep, ReleaseStep, CommitStep, RollbackToStep, AbortStep, ResumeStep, EntriesStep, KeysOfStep, entry_with, listed, status_of, rollback_refusal, abort_refusal, resume_refusal, TakeBackStep, places_at, by_device, by_memory};
 
 use crate::faults::{AbortFault, Cause, CommitFault, EntriesFault, GetFault, KeysOfFault, PutFault, ReleaseFault, RemoveFault, ResumeFault, RollbackToFault, SavepointFault, Status, StatusFault, Stop};
 use rec_types::{Entry, Key, Limits, Memory, Record, Table, TableFault, TxId};
@@ -21,6 +21,13 @@ pub struct RecordFile<T: Table> {
     table: T,
     log: TxLog,
     limits: Limits,
+}
+
+/// A file some of whose transactions haven't ended, and how many.
+#[derive(Drop)]
+pub struct StillOpen<T: Table> {
+    pub file: RecordFile<T>,
+    pub count: u32,
 }
 
 impl<T: Table> Model for RecordFile<T> {
@@ -246,10 +253,35 @@ impl<T: Table> RecordFile<T> {
         }
     }
 
-    /// How many transactions were begun.
-    pub fn begun(&self) -> u32
-        ensures { result ≡ self.now.file.begun }
+    /// The records in key order, each with the transaction that owns its key. Faults: Device or Damaged,
+    /// Memory.
+    pub fn entries(&mut self) -> Result<Vec<Entry>, EntriesFault>
+        ensures step { IsTrue (T.sound self.old.table) → T.device_failures self.old.table < 18446744073709551615 →
+            EntriesStep self.old.file (rose (T.device_failures self.old.table) (T.device_failures self.new.table)) (listed result) self.new.file }
+        ensures same { (T.contents self.new.table ≡ T.contents self.old.table) × (self.new.file ≡ self.old.file) }
+        ensures soundness { T.sound self.new.table ≡ T.sound self.old.table }
     {
+        let records = self.table.entries()?;
+        let entries = with_owners(*records.allocator(), &self.log, &records)?;
+        Ok(entries)
+    }
+
+    /// The keys that an open transaction owns, in order. Faults: NoSuchTx, Memory.
+    pub fn keys_of(&self, tx: TxId) -> Result<Vec<Key>, KeysOfFault>
+        ensures { KeysOfStep self.now.file tx.0 (listed result) }
+    {
+        if self.log.phase(tx).is_none() {
+            return Err(KeysOfFault::NoSuchTx);
+        }
+        Ok(self.log.keys_of(tx)?)
+    }
+
+    /// How many transactions were begun. Its contract tells what stays true of a file from call to call.
+    pub fn begun(&self) -> u32
+        ensures value { result ≡ self.now.file.begun }
+        ensures kept { IsKeptFile (T.sound self.now.table) (T.contents self.now.table) self.now.file self.now.log }
+    {
+        let _limits = &self.limits;
         self.log.begun()
     }
 
@@ -297,6 +329,21 @@ impl<T: Table> RecordFile<T> {
                 left: self.log.left(tx),
                 ends,
             }),
+        }
+    }
+
+    /// The table, once every transaction has ended; else the file comes back, with the number of those that
+    /// haven't. It takes no memory.
+    pub fn into_table(self) -> Result<T, StillOpen<T>>
+        ensures ended { maps.len self.file.txs ≡ 0 → result ≡ Ok self.table }
+        ensures still_open { maps.len self.file.txs ≢ 0 → result ≡ Err (record { file = self; count = maps.len self.file.txs }) }
+    {
+        let count = self.log.open_count();
+        if count == 0 {
+            let RecordFile { table, .. } = self;
+            Ok(table)
+        } else {
+            Err(StillOpen { file: self, count })
         }
     }
 
@@ -460,6 +507,22 @@ impl<T: Table> RecordFile<T> {
     }
 }
 
+// The records, each with the transaction that owns its key. Fault: Memory.
+fn with_owners(alloc: Global, log: &TxLog, records: &[(Key, Record)]) -> Result<Vec<Entry>, Memory>
+    ensures { IfOk result (λ entries. entries.items ≡ map (entry_with (open_in log.now) (history_in log.now)) records.now) }
+{
+    let Ok(mut entries) = Vec::with_capacity(alloc, records.len()) else {
+        return Err(Memory);
+    };
+    for &(key, value) in records {
+        let owner = log.owner(&key);
+        if entries.push(Entry { key, value, owner }).is_err() {
+            return Err(Memory);
+        }
+    }
+    Ok(entries)
+}
+
 impl From<TableFault> for PutFault {
     ghost use Rattle.record_file.specs.Faults.{put_fault};
 
@@ -511,5 +574,43 @@ impl From<Memory> for RemoveFault {
 
     fn from(_memory: Memory) -> RemoveFault {
         RemoveFault::Memory
+    }
+}
+
+impl From<TableFault> for EntriesFault {
+    ghost use Rattle.record_file.specs.Faults.{entries_fault};
+
+    ghost from_gives = { λ fault refusal. refusal ≡ entries_fault fault };
+
+    // A table never wants room to list its records.
+    fn from(fault: TableFault) -> EntriesFault {
+        match fault {
+            TableFault::Device => EntriesFault::Device,
+            TableFault::Damaged(page) => EntriesFault::Damaged(page),
+            TableFault::NoRoom => EntriesFault::Damaged(0),
+            TableFault::Memory => EntriesFault::Memory,
+        }
+    }
+}
+
+impl From<Memory> for EntriesFault {
+    ghost use Rattle.std.specs.Prelude.{◌≡◌};
+    ghost use Rattle.record_file.specs.declared.faults.EntriesFault.TheVariants as entries_faults;
+
+    ghost from_gives = { λ _ refusal. refusal ≡ entries_faults.Memory };
+
+    fn from(_memory: Memory) -> EntriesFault {
+        EntriesFault::Memory
+    }
+}
+
+impl From<Memory> for KeysOfFault {
+    ghost use Rattle.std.specs.Prelude.{◌≡◌};
+    ghost use Rattle.record_file.specs.declared.faults.KeysOfFault.TheVariants as keys_faults;
+
+    ghost from_gives = { λ _ refusal. refusal ≡ keys_faults.Memory };
+
+    fn from(_memory: Memory) -> KeysOfFault {
+        KeysOfFault::Memory
     }
 }

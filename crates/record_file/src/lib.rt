@@ -8,5 +8,5 @@ pub use faults::{
     AbortFault, Cause, CommitFault, EntriesFault, GetFault, KeysOfFault, PutFault, ReleaseFault,
     RemoveFault, ResumeFault, RollbackToFault, SavepointFault, Status, StatusFault,
 };
-pub use file::RecordFile;
+pub use file::{RecordFile, StillOpen};
 pub use tx_log::BeginFault;

@@ -1,19 +1,19 @@
 -- The owned keys that have no record, counted by transaction.
-use Rattle.std.proofs.Common.{◌≡◌, ℕ, zero, suc, ◌+◌, ◌-◌, ◌<◌, ◌≤◌, Bool, true, false, cond, not, eqb, ◌&&◌, ◌||◌, List, [], ◌∷◌, ◌++◌, length, map, drop, Option, Some, None, option_map, is_some, IsTrue, refl, sym, ap, subst, ◌∙◌, arith, eq-eqb}
+use Rattle.std.proofs.Common.{◌≡◌, ℕ, zero, suc, ◌+◌, ◌-◌, ◌<◌, Bool, true, false, cond, not, eqb, ◌&&◌, ◌||◌, List, [], ◌∷◌, ◌++◌, map, Option, Some, None, is_some, IsTrue, refl, sym, ap, subst, ◌∙◌, arith, eq-eqb}
 use Rattle.std.specs.FinMap as maps
 use Rattle.std.specs.List.{find, filter}
 use Rattle.std.specs.Ordering.{nat_cmp}
 use Rattle.std.specs.Cmp.Lexicographic.{slice_cmp}
 use Rattle.std.proofs.lemmas.Cmp.{nat_list_cmp_total}
-use Rattle.std.proofs.lemmas.List.{append-nil, map-append}
+use Rattle.std.proofs.lemmas.List.{map-append}
 use Rattle.std.proofs.lemmas.List.Elements.{filter-append}
 use Rattle.rec_types.specs.Contents.{Contents, set_to, same_key, has}
 use Rattle.rec_types.specs.History.{Change, is_pending, replay, applied}
 use Rattle.rec_types.specs.Kept.{Kept, change_of, history_of, is_own, newest_live, undone_or, undone, OnlyOf, IsOwned}
 use Rattle.tx_log.proofs.Chains.{same_number}
 use Rattle.tx_log.proofs.Counts.{history-push}
-use Rattle.tx_log.proofs.KeyFacts.{same_key-is, same_key-refl, same_key-sym, get-set_to}
-use Rattle.tx_log.proofs.Lives.{single, lives, dead}
+use Rattle.tx_log.proofs.KeyFacts.{same_key-is, same_key-sym, get-set_to}
+use Rattle.tx_log.proofs.Lives.{single, lives}
 use Rattle.tx_log.proofs.OwnerFacts.{kept_at, and_left, and_right}
 use Rattle.tx_log.specs.Owners.{absence, absent}
 

@@ -1,7 +1,7 @@
 -- The chain of a transaction passes exactly its updates that aren't taken back.
-use Rattle.std.proofs.Common.{◌≡◌, ℕ, zero, suc, ◌+◌, ◌<◌, ◌≤◌, Bool, true, false, cond, eqb, List, [], ◌∷◌, ◌++◌, length, drop, reverse, Option, Some, None, refl, sym, ap, subst, ◌∙◌, arith, eq-eqb, IsTrue}
+use Rattle.std.proofs.Common.{◌≡◌, ℕ, ◌+◌, ◌<◌, ◌≤◌, Bool, true, false, cond, eqb, List, [], ◌∷◌, ◌++◌, length, drop, Option, refl, sym, ap, subst, ◌∙◌, arith, eq-eqb}
 use Rattle.std.proofs.lemmas.Bool.Decides.{nat_tests}
-use Rattle.tx_log.specs.Log.{lsn_of, prev_of, tx_of, key_of, old_of, leads_to, is_update, last_of, stepped, stack, led, chain, IsNumbered, Undoes, IsWritten, AllWritten}
+use Rattle.tx_log.specs.Log.{lsn_of, tx_of, leads_to, is_update, last_of, stepped, stack, led, chain, IsNumbered, Undoes, IsWritten, AllWritten}
 use Rattle.tx_log.specs.declared.log_records.LogRecord.{LogRecord}
 use Rattle.tx_log.specs.declared.log_records.LogRecord.TheVariants.{Update, Compensation}
 

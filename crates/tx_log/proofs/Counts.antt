@@ -1,13 +1,12 @@
 -- What a change and its taking back do to the length of the log and to the count of pending changes.
-use Rattle.std.proofs.Common.{◌≡◌, ℕ, zero, suc, ◌+◌, ◌<◌, ◌≤◌, Bool, true, false, cond, not, eqb, ◌&&◌, List, [], ◌∷◌, ◌++◌, length, map, Option, Some, None, refl, sym, ap, subst, ◌∙◌, arith, length-append}
-use Rattle.std.proofs.lemmas.List.Elements.{filter-append}
+use Rattle.std.proofs.Common.{◌≡◌, ℕ, suc, ◌+◌, Bool, true, false, cond, not, eqb, ◌&&◌, List, [], ◌∷◌, ◌++◌, length, map, Option, Some, None, refl, sym, ap, ◌∙◌, arith, length-append}
 use Rattle.std.proofs.lemmas.List.{map-append, length-map}
 use Rattle.std.specs.List.{filter}
-use Rattle.rec_types.specs.History.{Change, is_taken, is_pending, log_len, own_count}
-use Rattle.rec_types.specs.Kept.{Kept, change_of, history_of, is_own, newest_or, newest_from, newest_live, undone_or, undone}
-use Rattle.tx_log.proofs.Chains.{same_number, differs}
-use Rattle.tx_log.proofs.Lives.{first, lives, newest_is, stack_is_lives, dead}
-use Rattle.tx_log.specs.Log.{lsn_of, tx_of, noted, kept_by, kept_of, stepped, stack, IsNumbered, Undoes, IsWritten, AllWritten}
+use Rattle.rec_types.specs.History.{Change, is_taken, is_pending, log_len}
+use Rattle.rec_types.specs.Kept.{Kept, change_of, history_of, is_own, newest_or, newest_live, undone_or, undone}
+use Rattle.tx_log.proofs.Chains.{same_number}
+use Rattle.tx_log.proofs.Lives.{first, newest_is, stack_is_lives, dead}
+use Rattle.tx_log.specs.Log.{noted, kept_by, kept_of, stack, Undoes, IsWritten, AllWritten}
 use Rattle.tx_log.specs.declared.log_records.LogRecord.{LogRecord}
 use Rattle.tx_log.specs.declared.log_records.LogRecord.TheVariants.{Update, Compensation}
 

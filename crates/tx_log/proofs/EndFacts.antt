@@ -1,20 +1,19 @@
 -- Transactions that begin and end.
-use Rattle.std.proofs.Common.{◌≡◌, ℕ, zero, suc, ◌+◌, ◌-◌, ◌<◌, ◌≤◌, Bool, true, false, cond, not, eqb, ◌&&◌, List, [], ◌∷◌, ◌++◌, length, map, reverse, get_or, Option, Some, None, option_map, is_some, refl, sym, ap, subst, ◌∙◌, arith, length-append, eq-eqb}
+use Rattle.std.proofs.Common.{◌≡◌, ℕ, suc, ◌+◌, ◌-◌, ◌<◌, ◌≤◌, Bool, true, false, cond, not, eqb, ◌&&◌, List, [], ◌∷◌, ◌++◌, length, map, reverse, Option, Some, None, option_map, is_some, refl, sym, ap, subst, ◌∙◌, arith, length-append}
 use Rattle.std.specs.FinMap as maps
-use Rattle.std.specs.List.{filter, remove}
+use Rattle.std.specs.List.{remove}
 use Rattle.std.specs.Ordering.{nat_cmp}
 use Rattle.std.specs.Cmp.Lexicographic.{slice_cmp}
 use Rattle.std.proofs.lemmas.List.{append-nil}
-use Rattle.rec_types.specs.Contents.{Contents}
 use Rattle.rec_types.specs.History.{Change, is_pending, replay}
-use Rattle.rec_types.specs.Kept.{Kept, change_of, history_of, is_own, IsOwned, AllBegun}
+use Rattle.rec_types.specs.Kept.{Kept, change_of, is_own, IsOwned, AllBegun}
 use Rattle.rec_types.specs.LimitBounds.{Bounds}
 use Rattle.tx_log.proofs.AbsentFacts.{only, without, pending_of, absent_in, absent-parts, absent_is_gone, gone}
 use Rattle.tx_log.proofs.Chains.{same_number, differs, unequal}
 use Rattle.tx_log.proofs.Counts.{count}
 use Rattle.tx_log.proofs.Lives.{single, lives, stack_is_lives}
-use Rattle.tx_log.proofs.OpenFacts.{get-txs_of, found_fits, found_number, first-found, not_begun, fit-remove, fit-push, opens-remove, opens-push, txs-remove, txs-push}
-use Rattle.tx_log.proofs.OwnerFacts.{owned-fewer, begun-more, and_left, and_right}
+use Rattle.tx_log.proofs.OpenFacts.{get-txs_of, found_fits, found_number, not_begun, fit-remove, fit-push, opens-remove, opens-push, txs-remove, txs-push}
+use Rattle.tx_log.proofs.OwnerFacts.{owned-fewer, begun-more, and_left}
 use Rattle.tx_log.proofs.ReadFacts.{lives_length, phase_is}
 use Rattle.tx_log.proofs.KeptFacts.{tx_of_entry}
 use Rattle.tx_log.proofs.StateFacts.{state}
@@ -22,7 +21,7 @@ use Rattle.tx_log.specs.Finds.{find_tx, IsFirst}
 use Rattle.tx_log.specs.Fits.{AllKnown, AllUpTo, StageUpTo, FitsTx, AllFit}
 use Rattle.tx_log.specs.Log.{tx_of, lsn_of, kept_of, last_of, stepped, stack, noted}
 use Rattle.tx_log.specs.LogFields.{IsKept}
-use Rattle.tx_log.specs.LogState.{LogState, IsRolling, phase_of, places_of, active_with, finished, finished_by}
+use Rattle.tx_log.specs.LogState.{IsRolling, phase_of, places_of, active_with, finished, finished_by}
 use Rattle.tx_log.specs.Owners.{absence}
 use Rattle.tx_log.specs.Places.{place_at}
 use Rattle.tx_log.specs.Stages.{phase_at, ends_at, rollback_at, txs_of, tx_at, opens}
@@ -116,7 +115,7 @@ begun_kept rs es es_new begun pending gone_keys new kept pushed number last live
     let none = not_begun rs begun new.tx.0 es kept.fit up in
     let nothing = known_last rs begun new.tx.0 up kept.known in
     let no_keys : maps.len (absent_in (only new.tx.0) cs) ≡ 0 =
-        ap maps.len (absent_is_gone new.tx.0 cs ∙ ap gone (sym (stack_is_lives new.tx.0 rs) ∙ ap (map noted) nothing.1)) ∙ maps.len-empty (slice_cmp nat_cmp) (List ℕ) in
+    ap maps.len (absent_is_gone new.tx.0 cs ∙ ap gone (sym (stack_is_lives new.tx.0 rs) ∙ ap (map noted) nothing.1)) ∙ maps.len-empty (slice_cmp nat_cmp) (List ℕ) in
     let fits : FitsTx rs (begun + 1) new = record {
       last = last ∙ sym nothing.0;
       live = live ∙ sym (ap length nothing.1);
@@ -147,7 +146,7 @@ begun_state records es es_new begun n limits room new fit pushed number n_is sav
     let none = not_begun (reverse records) begun new.tx.0 es fit (omega arith) in
     let entry : tx_at cs new ≡ fresh = λ i. record { rollback = rollback_at new.tx.0 cs (stage i); places = map (λ s. place_at new.tx.0 s cs) (saves i) } in
     let txs_are : txs_of cs es_new ≡ maps.insert (txs_of cs es) (begun + 1) fresh =
-        ap (txs_of cs) pushed ∙ txs-push cs es new none ∙ (λ i. maps.insert (txs_of cs es) (number i) (entry i)) in
+    ap (txs_of cs) pushed ∙ txs-push cs es new none ∙ (λ i. maps.insert (txs_of cs es) (number i) (entry i)) in
     λ j. record { records = records; changes = cs; txs = txs_are j; begun = n_is j; limits = limits; room = None }
 
 pub live_part : (rs : List LogRecord) (es : List OpenTx) (begun pending gone_keys t : ℕ) (e : OpenTx) → IsKept rs es begun pending gone_keys → find_tx t es ≡ Some e → e.live ≤ pending

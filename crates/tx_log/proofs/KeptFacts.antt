@@ -1,15 +1,14 @@
 -- What a kept log says of a transaction, of its state and of the sizes of its counts.
-use Rattle.std.proofs.Common.{◌≡◌, ℕ, zero, suc, ◌+◌, ◌-◌, ◌<◌, ◌≤◌, Bool, true, false, cond, not, eqb, ◌&&◌, List, [], ◌∷◌, ◌++◌, length, map, drop, reverse, get_or, Option, Some, None, option_map, is_some, IsSome, IsTrue, refl, sym, ap, subst, ◌∙◌, arith, eq-eqb, length-drop}
+use Rattle.std.proofs.Common.{◌≡◌, ℕ, suc, ◌+◌, ◌<◌, ◌≤◌, Bool, true, false, cond, not, eqb, List, [], ◌∷◌, length, map, drop, get_or, Option, Some, None, option_map, is_some, IsSome, refl, sym, ap, subst, ◌∙◌, arith, length-drop}
 use Rattle.std.specs.FinMap as maps
-use Rattle.std.specs.List.{find, filter}
+use Rattle.std.specs.List.{find}
 use Rattle.std.specs.Cmp.Lexicographic.{slice_cmp}
 use Rattle.std.specs.Ordering.{nat_cmp}
 use Rattle.std.proofs.lemmas.List.{length-map}
-use Rattle.rec_types.specs.Contents.{Contents, set_to, same_key, has}
+use Rattle.rec_types.specs.Contents.{Contents, set_to, has}
 use Rattle.rec_types.specs.History.{Change, is_pending, log_len, log_use, replay}
-use Rattle.rec_types.specs.Kept.{Kept, change_of, history_of, IsOwned, AllBegun}
-use Rattle.rec_types.specs.LimitBounds.{Bounds}
-use Rattle.tx_log.proofs.AbsentFacts.{only, without, pending_of, absent_after, absent_in, absent-parts, absent_is_gone, gone, gone_on, lack, len-set_to, none_of_len, has-set_to}
+use Rattle.rec_types.specs.Kept.{Kept, history_of, IsOwned, AllBegun}
+use Rattle.tx_log.proofs.AbsentFacts.{only, pending_of, absent_in, absent-parts, absent_is_gone, gone, lack, len-set_to, none_of_len, has-set_to}
 use Rattle.tx_log.proofs.Chains.{last_of-le}
 use Rattle.tx_log.proofs.Counts.{count, log_len_is, newest_of_stack, pending-undone}
 use Rattle.tx_log.proofs.Lives.{lives, stack_is_lives}
@@ -20,10 +19,10 @@ use Rattle.tx_log.proofs.StepFacts.{taken_out_is, chain_of}
 use Rattle.tx_log.proofs.WalkSteps.{IsStep}
 use Rattle.tx_log.specs.declared.walks.LiveChange.{LiveChange}
 use Rattle.tx_log.specs.Finds.{find_tx, IsFirst}
-use Rattle.tx_log.specs.Fits.{FitsTx, AllFit}
-use Rattle.tx_log.specs.Log.{tx_of, key_of, new_of, kept_of, last_of, stepped, stack, chain, noted, IsNumbered, AllWritten}
-use Rattle.tx_log.specs.LogFields.{IsKept, IsRoomy}
-use Rattle.tx_log.specs.LogState.{LogState, phase_of, open_in, history_in, use_in, tx_in, places_of, IsLog}
+use Rattle.tx_log.specs.Fits.{AllFit}
+use Rattle.tx_log.specs.Log.{tx_of, key_of, new_of, kept_of, stepped, stack, chain, noted, AllWritten}
+use Rattle.tx_log.specs.LogFields.{IsKept}
+use Rattle.tx_log.specs.LogState.{LogState, phase_of, open_in, use_in, places_of, IsLog}
 use Rattle.tx_log.specs.Owners.{holder_of, absence}
 use Rattle.tx_log.specs.Places.{place_at}
 use Rattle.tx_log.specs.Stages.{rollback_at, tx_at, txs_of, opens}
@@ -35,7 +34,7 @@ use Rattle.tx_log.specs.declared.opened.OpenTx.{OpenTx}
 use Rattle.tx_log.specs.declared.opened.Stage.{Stage}
 use Rattle.tx_log.specs.declared.opened.Stage.TheVariants.{Forward, Back}
 use Rattle.tx_log.specs.declared.phases.Phase.{Phase}
-use Rattle.tx_log.specs.declared.phases.Phase.TheVariants.{Active, Rolling}
+use Rattle.tx_log.specs.declared.phases.Phase.TheVariants.{Active}
 
 -- ---- the transaction that a call names
 
@@ -153,10 +152,10 @@ counted_key rs es begun pending gone_keys t prev x e kept found at is =
     let fits = found_fits rs begun t es e kept.fit found in
     let there = chain_of rs e.tx.0 prev kept.numbered kept.written (at ∙ fits.last) in
     let had : has (absent_in (only e.tx.0) (kept_of rs)) x ≡ true =
-        ap (λ m. has m x) (absent_is_gone e.tx.0 (kept_of rs) ∙ ap gone (sym (stack_is_lives e.tx.0 rs)))
-        ∙ sym (taken_out_is x (stack e.tx.0 rs))
-        ∙ ap (λ us. takes_out (option_map change_in (find (is_at x) us))) (sym there)
-        ∙ is in
+    ap (λ m. has m x) (absent_is_gone e.tx.0 (kept_of rs) ∙ ap gone (sym (stack_is_lives e.tx.0 rs)))
+    ∙ sym (taken_out_is x (stack e.tx.0 rs))
+    ∙ ap (λ us. takes_out (option_map change_in (find (is_at x) us))) (sym there)
+    ∙ is in
     let some = none_of_len (absent_in (only e.tx.0) (kept_of rs)) x had in
     let absent_is : e.absent ≡ maps.len (absent_in (only e.tx.0) (kept_of rs)) = fits.absent_keys in
     omega arith
@@ -229,10 +228,10 @@ counted_change rs es begun pending gone_keys t e change kept found step =
     let after_is : new_of step.update ≡ change.after = ap (λ (c : LiveChange). c.after) step.told in
     let x = key_of step.update in
     let had : not (is_some change.after) ≡ true → has (absent_in (only e.tx.0) (kept_of rs)) x ≡ true = λ h.
-        ap (λ m. has m x) (absent_is_gone e.tx.0 (kept_of rs) ∙ ap gone now)
-        ∙ has-set_to (gone (map noted step.rest)) x (lack (new_of step.update)) x
-        ∙ ap (λ (b : Bool). cond b (is_some (lack (new_of step.update))) (has (gone (map noted step.rest)) x)) (same_key-refl x x refl)
-        ∙ lack_some (new_of step.update) (ap (λ (w : Option (List ℕ)). not (is_some w)) after_is ∙ h) in
+    ap (λ m. has m x) (absent_is_gone e.tx.0 (kept_of rs) ∙ ap gone now)
+    ∙ has-set_to (gone (map noted step.rest)) x (lack (new_of step.update)) x
+    ∙ ap (λ (b : Bool). cond b (is_some (lack (new_of step.update))) (has (gone (map noted step.rest)) x)) (same_key-refl x x refl)
+    ∙ lack_some (new_of step.update) (ap (λ (w : Option (List ℕ)). not (is_some w)) after_is ∙ h) in
     record {
       live = omega arith;
       waits = omega arith;

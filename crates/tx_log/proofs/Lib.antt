@@ -4,7 +4,7 @@ pub mod Counts
 pub mod KeyFacts
 pub mod EndFacts
 pub mod KeptFacts
-pub mod Laws
+pub mod LawFacts
 pub mod Lives
 pub mod LogIndex
 pub mod MovedFacts
@@ -18,3 +18,4 @@ pub mod ScanFacts
 pub mod StateFacts
 pub mod StepFacts
 pub mod WalkSteps
+pub mod OpenCount

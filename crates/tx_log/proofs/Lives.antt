@@ -1,12 +1,9 @@
 -- The live changes of a transaction, newest first, are its updates that aren't taken back.
-use Rattle.std.proofs.Common.{◌≡◌, ℕ, zero, suc, ◌+◌, ◌<◌, ◌≤◌, Bool, true, false, cond, not, eqb, ◌&&◌, List, [], ◌∷◌, ◌++◌, length, map, drop, Option, Some, None, refl, sym, ap, subst, ◌∙◌, arith, eq-eqb, length-append}
-use Rattle.std.proofs.lemmas.List.{append-nil, length-map}
-use Rattle.std.proofs.lemmas.List.Elements.{filter-append}
-use Rattle.std.specs.List.{filter}
-use Rattle.rec_types.specs.History.{Change, is_taken, is_pending, log_len, own_count}
-use Rattle.rec_types.specs.Kept.{Kept, change_of, history_of, is_own, newest_or, newest_from, newest_live, undone_or, undone}
-use Rattle.tx_log.proofs.Chains.{same_number, differs}
-use Rattle.tx_log.specs.Log.{lsn_of, tx_of, noted, kept_by, kept_of, stepped, stack, IsNumbered, Undoes, IsWritten, AllWritten}
+use Rattle.std.proofs.Common.{◌≡◌, ℕ, Bool, true, false, cond, eqb, ◌&&◌, List, [], ◌∷◌, ◌++◌, map, drop, Option, Some, None, refl, sym, ap, ◌∙◌, eq-eqb}
+use Rattle.std.proofs.lemmas.List.{append-nil}
+use Rattle.rec_types.specs.Kept.{Kept, is_own, newest_or, newest_live, undone_or, undone}
+use Rattle.tx_log.proofs.Chains.{same_number}
+use Rattle.tx_log.specs.Log.{tx_of, noted, kept_by, kept_of, stepped, stack}
 use Rattle.tx_log.specs.declared.log_records.LogRecord.{LogRecord}
 use Rattle.tx_log.specs.declared.log_records.LogRecord.TheVariants.{Update, Compensation}
 

@@ -1,5 +1,5 @@
 -- A record of the log by its number.
-use Rattle.std.proofs.Common.{Bool, true, false, cond, eqb, Option, Some, None, ◌≡◌, ℕ, zero, suc, ◌+◌, ◌-◌, ◌<◌, ◌≤◌, List, [], ◌∷◌, ◌++◌, length, get_or, take, drop, reverse, refl, sym, ap, subst, ◌∙◌, arith, append_assoc, add-one}
+use Rattle.std.proofs.Common.{Bool, true, false, cond, eqb, Some, ◌≡◌, ℕ, zero, suc, ◌+◌, ◌-◌, ◌<◌, ◌≤◌, List, [], ◌∷◌, ◌++◌, length, get_or, take, drop, reverse, refl, sym, ap, subst, ◌∙◌, arith, append_assoc, add-one}
 use Rattle.std.proofs.lemmas.List.{reverse-append, reverse-reverse, length-reverse, length-take-le, take-append-drop}
 use Rattle.std.proofs.Math.Seq.{drop-cons}
 use Rattle.tx_log.proofs.Chains.{chain-skip, chain-found, numbered-part}
@@ -95,6 +95,6 @@ record_of_chain records n u us is e =
     let s = chain_stands (reverse records) n u us e in
     let part = numbered-part s.newer u s.older (subst IsNumbered s.is is) in
     let whole : records ≡ reverse s.older ++ u ∷ reverse s.newer =
-        sym (reverse-reverse records) ∙ ap reverse s.is ∙ reverse-append s.newer (u ∷ s.older) ∙ ap (λ xs. xs ++ reverse s.newer) (reverse_cons u s.older) ∙ append_assoc (reverse s.older) (u ∷ []) (reverse s.newer) in
+    sym (reverse-reverse records) ∙ ap reverse s.is ∙ reverse-append s.newer (u ∷ s.older) ∙ ap (λ xs. xs ++ reverse s.newer) (reverse_cons u s.older) ∙ append_assoc (reverse s.older) (u ∷ []) (reverse s.newer) in
     let at : lsn_of u ≡ suc (length (reverse s.older)) = omega (arith, part.0, length-reverse s.older) in
     ap (record_at records) at ∙ ap (λ xs. slice_get xs (length (reverse s.older))) whole ∙ get_seam (reverse s.older) u (reverse s.newer)

@@ -1,26 +1,25 @@
 -- An open transaction whose stage and savepoints change.
-use Rattle.std.proofs.Common.{◌≡◌, ℕ, zero, suc, ◌+◌, ◌-◌, ◌<◌, ◌≤◌, Bool, true, false, cond, eqb, List, [], ◌∷◌, ◌++◌, length, map, take, reverse, set, get_or, Option, Some, None, is_some, refl, sym, ap, subst, ◌∙◌, arith, length-append, length-take}
+use Rattle.std.proofs.Common.{◌≡◌, ℕ, zero, suc, ◌≤◌, Bool, List, [], ◌∷◌, ◌++◌, length, map, take, reverse, set, Option, Some, None, refl, sym, ap, subst, ◌∙◌, arith, length-take}
 use Rattle.std.specs.FinMap as maps
 use Rattle.std.specs.List.{take-map}
-use Rattle.std.proofs.lemmas.List.{map-append, length-map}
+use Rattle.std.proofs.lemmas.List.{map-append}
 use Rattle.rec_types.specs.History.{is_pending, own_count}
 use Rattle.rec_types.specs.Kept.{Kept, history_of, IsOwned}
 use Rattle.rec_types.specs.LimitBounds.{Bounds}
 use Rattle.tx_log.proofs.AbsentFacts.{absent_in}
-use Rattle.tx_log.proofs.Chains.{last_of-le}
 use Rattle.tx_log.proofs.Counts.{count}
 use Rattle.tx_log.proofs.KeptFacts.{tx_of_entry}
 use Rattle.tx_log.proofs.OpenFacts.{found_fits, found_number, fit-set, opens-set, txs-set}
 use Rattle.tx_log.proofs.PlaceFacts.{kept_rises, place-zero, place-new}
 use Rattle.tx_log.proofs.StateFacts.{state}
 use Rattle.tx_log.specs.Finds.{find_tx, IsFirst}
-use Rattle.tx_log.specs.Fits.{AllUpTo, StageUpTo, FitsTx, AllFit}
+use Rattle.tx_log.specs.Fits.{AllUpTo, StageUpTo, FitsTx}
 use Rattle.tx_log.specs.Log.{kept_of, last_of, IsNumbered}
 use Rattle.tx_log.specs.LogFields.{IsKept}
-use Rattle.tx_log.specs.LogState.{LogState, places_of, places_in}
+use Rattle.tx_log.specs.LogState.{places_of, places_in}
 use Rattle.tx_log.specs.Places.{place_at}
-use Rattle.tx_log.specs.Stages.{rollback_at, tx_at, txs_of, opens}
-use Rattle.tx_log.specs.Transactions.{Tx, Rollback, place_in}
+use Rattle.tx_log.specs.Stages.{rollback_at, tx_at, txs_of}
+use Rattle.tx_log.specs.Transactions.{Tx, place_in}
 use Rattle.tx_log.specs.declared.log_records.LogRecord.{LogRecord}
 use Rattle.tx_log.specs.declared.opened.OpenTx.{OpenTx}
 use Rattle.tx_log.specs.declared.opened.Stage.{Stage}

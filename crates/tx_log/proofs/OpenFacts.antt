@@ -1,25 +1,23 @@
 -- Open transactions: look-ups, writes, and what ties them to the log.
-use Rattle.std.proofs.Common.{◌≡◌, ℕ, zero, suc, ◌+◌, ◌-◌, ◌<◌, ◌≤◌, ◌≢◌, Bool, true, false, cond, not, eqb, ◌&&◌, List, [], ◌∷◌, ◌++◌, length, map, take, drop, set, get_or, Option, Some, None, option_map, is_some, IsTrue, IsSome, refl, sym, ap, subst, ◌∙◌, arith, eq-eqb}
+use Rattle.std.proofs.Common.{◌≡◌, ℕ, zero, suc, ◌+◌, ◌<◌, ◌≤◌, Bool, true, false, cond, not, eqb, ◌&&◌, List, [], ◌∷◌, ◌++◌, length, map, set, get_or, Option, Some, None, option_map, is_some, refl, sym, ap, subst, ◌∙◌, arith, eq-eqb}
 use Rattle.std.specs.FinMap as maps
-use Rattle.std.specs.List.{find, filter, remove}
-use Rattle.std.specs.Ordering.{eq_by_cmp, nat_cmp}
+use Rattle.std.specs.List.{remove}
+use Rattle.std.specs.Ordering.{nat_cmp}
 use Rattle.std.proofs.lemmas.Cmp.{nat_cmp_total}
 use Rattle.std.specs.FinMap.{nat_cmp-IsAntisymmetric}
-use Rattle.rec_types.specs.Kept.{Kept, history_of}
-use Rattle.rec_types.specs.declared.transactions.TxId.{TxId}
-use Rattle.tx_log.proofs.Chains.{same_number, differs, unequal, last_of-le}
+use Rattle.rec_types.specs.Kept.{Kept}
+use Rattle.tx_log.proofs.Chains.{same_number, differs, unequal}
 use Rattle.tx_log.proofs.KeyFacts.{same_by_cmp}
-use Rattle.tx_log.proofs.AbsentFacts.{only, without, absent_in, absent-push_other, absent-undone_other}
-use Rattle.tx_log.proofs.Lives.{lives, eqb_sym}
-use Rattle.tx_log.proofs.PlaceFacts.{Rises, kept_rises, place-grows, place-zero}
+use Rattle.tx_log.proofs.AbsentFacts.{without}
+use Rattle.tx_log.proofs.Lives.{eqb_sym}
+use Rattle.tx_log.proofs.PlaceFacts.{place-grows}
 use Rattle.tx_log.specs.Finds.{find_tx, IsFirst}
 use Rattle.tx_log.specs.Fits.{AllUpTo, StageUpTo, FitsTx, AllFit}
-use Rattle.tx_log.specs.Log.{lsn_of, tx_of, noted, kept_by, kept_of, last_of, stepped, stack, IsNumbered}
+use Rattle.tx_log.specs.Log.{lsn_of, kept_of}
 use Rattle.tx_log.specs.Places.{place_at}
 use Rattle.tx_log.specs.Stages.{rollback_at, tx_at, txs_of, opens}
-use Rattle.tx_log.specs.Transactions.{Transactions, Tx, is_open, place_in}
+use Rattle.tx_log.specs.Transactions.{Transactions, is_open}
 use Rattle.tx_log.specs.declared.log_records.LogRecord.{LogRecord}
-use Rattle.tx_log.specs.declared.log_records.LogRecord.TheVariants.{Update, Compensation}
 use Rattle.tx_log.specs.declared.opened.OpenTx.{OpenTx}
 use Rattle.tx_log.specs.declared.opened.Stage.{Stage}
 use Rattle.tx_log.specs.declared.opened.Stage.TheVariants.{Forward, Back}

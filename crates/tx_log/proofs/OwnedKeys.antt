@@ -1,5 +1,5 @@
 -- The keys of a transaction, in order.
-use Rattle.std.proofs.Common.{◌≡◌, ℕ, zero, suc, ◌+◌, ◌<◌, ◌≤◌, Bool, true, false, cond, not, eqb, ◌&&◌, ◌||◌, List, [], ◌∷◌, ◌++◌, length, map, reverse, Option, Some, None, is_some, T, refl, sym, ap, subst, ◌∙◌, arith, eq-eqb}
+use Rattle.std.proofs.Common.{◌≡◌, ℕ, Bool, true, false, cond, eqb, ◌&&◌, ◌||◌, List, [], ◌∷◌, ◌++◌, map, Option, Some, None, is_some, T, refl, sym, ap, subst, ◌∙◌}
 use Rattle.std.specs.FinMap as maps
 use Rattle.std.specs.FinMap.{slice_cmp-IsAntisymmetric, nat_cmp-IsAntisymmetric}
 use Rattle.std.specs.FinMap.Entries.{is_sorted, below_all}
@@ -7,7 +7,7 @@ use Rattle.std.specs.Cmp.{IsEquivalence}
 use Rattle.std.specs.Cmp.Lexicographic.{slice_cmp, pointwise, texts_ties}
 use Rattle.std.specs.List.{list_any, dedup, AllByRecursion}
 use Rattle.std.specs.List.Sorted.{IsPermutation, IsSorted, IsStrictlySortedBy}
-use Rattle.std.specs.Ordering.{nat_cmp, eq_by_cmp, is_lt}
+use Rattle.std.specs.Ordering.{nat_cmp, is_lt}
 use Rattle.std.specs.declared.cmp.Ordering.{Ordering}
 use Rattle.std.specs.declared.cmp.Ordering.TheVariants.{Less}
 use Rattle.std.proofs.lemmas.Cmp.{nat_list_cmp_total, eq_by_cmp_equiv}
@@ -156,7 +156,7 @@ owned_keys rs es begun pending gone t e ks ps out kept found are moved up out_is
     let strict : IsStrictlySortedBy (slice_cmp nat_cmp) (dedup (pointwise eqb) ps) = IsStrictlySortedBy-dedup nat_list_cmp_total texts_ties ps up in
     let m = charged (owns t (opens es)) (history_of cs) maps.empty in
     let has : (q : List ℕ) → maps.get m q ≡ told (among q (dedup (pointwise eqb) ps)) = λ q.
-        get_owned (opens es) t cs q opened ∙ ap (λ xs. told (among q xs)) live_keys ∙ ap told (sym (among_sorted ks ps q moved)) in
+    get_owned (opens es) t cs q opened ∙ ap (λ xs. told (among q xs)) live_keys ∙ ap told (sym (among_sorted ks ps q moved)) in
     out_is ∙ sym (keys_are m (dedup (pointwise eqb) ps) strict has) ∙ ap (λ (o : ℕ → Bool). keys_owned o (history_of cs) t) (sym (opens_is cs es))
 
 no_order : IsStrictlySortedBy (slice_cmp nat_cmp) []

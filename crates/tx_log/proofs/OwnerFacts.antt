@@ -1,13 +1,11 @@
 -- Owners of keys, along a change and its taking back.
-use Rattle.std.proofs.Common.{◌≡◌, ℕ, zero, suc, ◌+◌, ◌<◌, ◌≤◌, Bool, true, false, cond, not, eqb, ◌&&◌, List, [], ◌∷◌, ◌++◌, length, map, drop, Option, Some, None, IsTrue, refl, sym, ap, subst, ◌∙◌, arith, eq-eqb, ◌⊎◌, inl, inr, ⊎_elim}
-use Rattle.std.specs.List.{find, filter}
-use Rattle.std.proofs.lemmas.List.{append-nil}
+use Rattle.std.proofs.Common.{◌≡◌, ℕ, ◌≤◌, Bool, true, false, cond, eqb, ◌&&◌, List, [], ◌∷◌, ◌++◌, Option, Some, None, IsTrue, refl, sym, ap, subst, ◌∙◌, arith, eq-eqb, ◌⊎◌, inl, inr, ⊎_elim}
+use Rattle.std.specs.List.{find}
 use Rattle.rec_types.specs.Contents.{same_key}
-use Rattle.rec_types.specs.History.{Change, is_pending}
-use Rattle.rec_types.specs.Kept.{Kept, change_of, history_of, is_own, newest_or, newest_live, undone_or, undone, OnlyOf, IsOwned, AllBegun}
+use Rattle.rec_types.specs.Kept.{Kept, change_of, history_of, is_own, newest_live, undone_or, undone, OnlyOf, IsOwned, AllBegun}
 use Rattle.tx_log.proofs.Chains.{same_number}
 use Rattle.tx_log.proofs.KeyFacts.{same_key-is, same_key-refl}
-use Rattle.tx_log.proofs.Lives.{first, single, lives, dead}
+use Rattle.tx_log.proofs.Lives.{single, lives}
 use Rattle.tx_log.specs.Owners.{claims, owner_of, other_than, holder_of}
 
 pub true_is : (b : Bool) → b ≡ true → IsTrue b

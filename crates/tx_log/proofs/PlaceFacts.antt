@@ -1,13 +1,13 @@
 -- A place in the history against the number of the record that was the newest when it was set.
-use Rattle.std.proofs.Common.{◌≡◌, ℕ, zero, suc, ◌+◌, ◌<◌, ◌≤◌, Bool, true, false, cond, not, eqb, ltb, leb, ◌&&◌, List, [], ◌∷◌, ◌++◌, length, map, Option, Some, None, refl, sym, ap, subst, ◌∙◌, arith, eq-eqb, length-append}
+use Rattle.std.proofs.Common.{◌≡◌, ℕ, zero, suc, ◌+◌, ◌<◌, ◌≤◌, Bool, true, false, cond, eqb, ltb, leb, ◌&&◌, List, [], ◌∷◌, ◌++◌, length, Option, Some, None, refl, sym, ap, subst, ◌∙◌, arith, length-append}
 use Rattle.std.proofs.lemmas.Bool.Decides.{nat_tests}
 use Rattle.std.proofs.lemmas.List.Elements.{filter-append}
 use Rattle.std.proofs.lemmas.List.{append-nil}
 use Rattle.std.specs.List.{filter}
-use Rattle.rec_types.specs.History.{Change, live_of, live_from, own_count}
-use Rattle.rec_types.specs.Kept.{Kept, change_of, history_of, is_own, newest_or, newest_from, newest_live, undone_or, undone}
-use Rattle.tx_log.proofs.Chains.{same_number, differs, last_of-le}
-use Rattle.tx_log.proofs.Lives.{first, single, lives, newest_is, dead}
+use Rattle.rec_types.specs.History.{live_from, own_count}
+use Rattle.rec_types.specs.Kept.{Kept, history_of, is_own, newest_or, newest_from, newest_live, undone_or, undone}
+use Rattle.tx_log.proofs.Chains.{last_of-le}
+use Rattle.tx_log.proofs.Lives.{first, single, lives}
 use Rattle.tx_log.specs.Log.{lsn_of, tx_of, noted, kept_by, kept_of, last_of, IsNumbered}
 use Rattle.tx_log.specs.Places.{place_at}
 use Rattle.tx_log.specs.declared.log_records.LogRecord.{LogRecord}

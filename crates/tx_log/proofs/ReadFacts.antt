@@ -1,11 +1,10 @@
 -- What is read of an open transaction is what its entry in the state says.
-use Rattle.std.proofs.Common.{◌≡◌, ℕ, zero, suc, ◌+◌, ◌-◌, ◌<◌, ◌≤◌, Bool, true, false, cond, not, eqb, ltb, ◌&&◌, List, [], ◌∷◌, ◌++◌, length, map, drop, Option, Some, None, option_map, is_some, IsSome, refl, sym, ap, subst, ◌∙◌, arith, length-append}
+use Rattle.std.proofs.Common.{◌≡◌, ℕ, zero, suc, ◌≤◌, Bool, true, false, cond, ltb, List, [], ◌∷◌, ◌++◌, length, map, Option, Some, None, option_map, is_some, refl, sym, ap, ◌∙◌, arith, length-append}
 use Rattle.std.specs.FinMap as maps
-use Rattle.std.specs.List.{find, filter}
+use Rattle.std.specs.List.{filter}
 use Rattle.std.proofs.lemmas.List.{length-map, append-nil}
 use Rattle.rec_types.specs.History.{live_from}
 use Rattle.rec_types.specs.Kept.{Kept, history_of, is_own, newest_from}
-use Rattle.tx_log.proofs.Chains.{last_of-le}
 use Rattle.tx_log.proofs.Lives.{first, single, lives, stack_is_lives}
 use Rattle.tx_log.proofs.KeptFacts.{tx_of_entry}
 use Rattle.tx_log.proofs.OpenFacts.{get-txs_of, found_fits, found_number}
@@ -14,8 +13,7 @@ use Rattle.tx_log.proofs.StepFacts.{chain_of}
 use Rattle.tx_log.proofs.WalkSteps.{IsStep, stops_at}
 use Rattle.std.proofs.lemmas.Bool.Decides.{nat_tests}
 use Rattle.tx_log.specs.Finds.{find_tx}
-use Rattle.tx_log.specs.Fits.{FitsTx}
-use Rattle.tx_log.specs.Log.{lsn_of, key_of, old_of, kept_of, last_of, stack, chain, noted, IsNumbered}
+use Rattle.tx_log.specs.Log.{kept_of, last_of, stack, chain, noted, IsNumbered}
 use Rattle.tx_log.specs.LogFields.{IsKept}
 use Rattle.tx_log.specs.LogState.{phase_of, undo_of, undo_step}
 use Rattle.tx_log.specs.Places.{place_at}
@@ -26,7 +24,6 @@ use Rattle.tx_log.specs.declared.log_records.LogRecord.{LogRecord}
 use Rattle.tx_log.specs.declared.opened.OpenTx.{OpenTx}
 use Rattle.tx_log.specs.declared.opened.Stage.{Stage}
 use Rattle.tx_log.specs.declared.opened.Stage.TheVariants.{Forward, Back}
-use Rattle.tx_log.specs.declared.phases.Phase.{Phase}
 use Rattle.tx_log.specs.declared.phases.UndoStep.{UndoStep}
 use Rattle.tx_log.specs.declared.walks.LiveChange.{LiveChange}
 

@@ -1,5 +1,5 @@
 -- A scan of the open transactions for the owner of a key.
-use Rattle.std.proofs.Common.{◌≡◌, ℕ, zero, suc, ◌+◌, ◌-◌, ◌<◌, ◌≤◌, Bool, true, false, cond, not, eqb, List, [], ◌∷◌, length, map, get_or, Option, Some, None, option_map, is_some, IsSome, refl, sym, ap, subst, ◌∙◌, arith, eq-eqb}
+use Rattle.std.proofs.Common.{◌≡◌, ℕ, zero, suc, ◌+◌, ◌<◌, Bool, true, false, cond, eqb, List, [], ◌∷◌, length, get_or, Option, Some, None, option_map, is_some, refl, sym, ap, ◌∙◌, arith, eq-eqb}
 use Rattle.std.specs.List.{find}
 use Rattle.std.proofs.lemmas.List.{get_or_default}
 use Rattle.rec_types.specs.Kept.{Kept, history_of}
@@ -9,7 +9,7 @@ use Rattle.tx_log.proofs.OpenFacts.{opens_is, found_fits, found_number}
 use Rattle.tx_log.proofs.OwnerFacts.{kept_at, unowned, owned_by}
 use Rattle.tx_log.proofs.StepFacts.{find_noted, chain_of}
 use Rattle.tx_log.specs.Finds.{find_tx}
-use Rattle.tx_log.specs.Fits.{FitsTx, AllFit}
+use Rattle.tx_log.specs.Fits.{AllFit}
 use Rattle.tx_log.specs.Log.{kept_of, last_of, stack, chain, noted}
 use Rattle.tx_log.specs.LogFields.{IsKept}
 use Rattle.tx_log.specs.Owners.{owner_of}

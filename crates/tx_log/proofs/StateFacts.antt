@@ -1,26 +1,24 @@
 -- The state that a log stands for, along its changes.
-use Rattle.std.proofs.Common.{◌≡◌, ℕ, zero, suc, ◌+◌, ◌-◌, ◌<◌, ◌≤◌, Bool, true, false, cond, not, eqb, List, [], ◌∷◌, ◌++◌, length, map, reverse, set, get_or, Option, Some, None, option_map, is_some, IsTrue, refl, sym, ap, subst, ◌∙◌, arith}
+use Rattle.std.proofs.Common.{◌≡◌, ℕ, ◌+◌, true, List, [], ◌∷◌, ◌++◌, length, reverse, set, get_or, Option, Some, None, refl, sym, ap, subst, ◌∙◌}
 use Rattle.std.specs.FinMap as maps
-use Rattle.std.specs.List.{find}
 use Rattle.std.specs.Ordering.{nat_cmp}
 use Rattle.std.specs.Cmp.Lexicographic.{slice_cmp}
 use Rattle.std.proofs.lemmas.List.{length-reverse}
 use Rattle.rec_types.specs.History.{log_len}
-use Rattle.rec_types.specs.Kept.{Kept, history_of, undone}
+use Rattle.rec_types.specs.Kept.{history_of, undone}
 use Rattle.rec_types.specs.LimitBounds.{Bounds}
 use Rattle.rec_types.specs.declared.transactions.TxId.{TxId}
 use Rattle.tx_log.proofs.KeptFacts.{state_len}
 use Rattle.tx_log.proofs.LogIndex.{reverse-push}
-use Rattle.tx_log.proofs.OpenFacts.{txs-same, txs-grow, found_fits}
-use Rattle.tx_log.specs.Finds.{find_tx, IsFirst}
+use Rattle.tx_log.proofs.OpenFacts.{txs-same, txs-grow}
+use Rattle.tx_log.specs.Finds.{IsFirst}
 use Rattle.tx_log.specs.Fits.{AllFit}
 use Rattle.tx_log.specs.Log.{lsn_of, key_of, old_of, noted, last_of, record_at, kept_of, AllWritten}
 use Rattle.tx_log.specs.LogFields.{IsKept, IsRoomy}
-use Rattle.tx_log.specs.LogState.{LogState, update_in, history_in, undo_in, prev_in, compensations_of, compensations_in}
+use Rattle.tx_log.specs.LogState.{LogState, update_in, undo_in, prev_in, compensations_of, compensations_in}
 use Rattle.tx_log.specs.Walks.{change_in}
 use Rattle.tx_log.specs.declared.walks.LiveChange.{LiveChange}
-use Rattle.tx_log.specs.Stages.{tx_at, txs_of, opens}
-use Rattle.tx_log.specs.Transactions.{Transactions}
+use Rattle.tx_log.specs.Stages.{tx_at, txs_of}
 use Rattle.tx_log.specs.declared.log_records.LogRecord.{LogRecord}
 use Rattle.tx_log.specs.declared.log_records.LogRecord.TheVariants.{Update, Compensation}
 use Rattle.tx_log.specs.declared.opened.OpenTx.{OpenTx}
@@ -57,7 +55,7 @@ accept_state records records_new es es_new begun limits room lsn prev tx key bef
     let r_is : r ≡ update_in (state records es begun limits room) tx key before after = λ i. Update (lsn_is i) (prev_is i) tx key before after in
     let len_is : lsn ≡ log_len (history_of (kept_of rs)) + 1 = lsn_is ∙ ap (λ n. n + 1) (sym (state_len rs w ∙ length-reverse records)) in
     let changes_are : kept_of (reverse records_new) ≡ kept_of rs ++ record { lsn = log_len (history_of (kept_of rs)) + 1; tx = tx.0; key = key; before = before; after = after; live = true } ∷ [] =
-        ap kept_of turned ∙ ap (λ (n : ℕ). kept_of rs ++ record { lsn = n; tx = tx.0; key = key; before = before; after = after; live = true } ∷ []) len_is in
+    ap kept_of turned ∙ ap (λ (n : ℕ). kept_of rs ++ record { lsn = n; tx = tx.0; key = key; before = before; after = after; live = true } ∷ []) len_is in
     let records_are = pushed ∙ ap (λ x. records ++ x ∷ []) r_is in
     let txs_are = ap (λ xs. txs_of (kept_of xs) es_new) turned ∙ txs_is in
     λ i. record { records = records_are i; changes = changes_are i; txs = txs_are i; begun = begun; limits = limits; room = None }

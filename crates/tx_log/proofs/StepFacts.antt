@@ -1,22 +1,21 @@
 -- A log that grows by a record, beside the open transactions and the counts.
-use Rattle.std.proofs.Common.{◌≡◌, ℕ, zero, suc, ◌+◌, ◌-◌, ◌<◌, ◌≤◌, Bool, true, false, cond, not, eqb, ◌&&◌, List, [], ◌∷◌, ◌++◌, length, map, drop, set, get_or, Option, Some, None, option_map, is_some, refl, sym, ap, subst, ◌∙◌, arith, eq-eqb}
+use Rattle.std.proofs.Common.{◌≡◌, ℕ, suc, ◌+◌, ◌<◌, ◌≤◌, Bool, true, false, cond, not, eqb, ◌&&◌, List, [], ◌∷◌, ◌++◌, length, map, drop, set, Option, Some, None, option_map, is_some, refl, sym, ap, subst, ◌∙◌, arith, eq-eqb}
 use Rattle.std.specs.FinMap as maps
-use Rattle.std.specs.List.{find, filter}
-use Rattle.std.proofs.lemmas.List.{length-map}
-use Rattle.rec_types.specs.Contents.{Contents, set_to, same_key, has}
-use Rattle.rec_types.specs.History.{Change, is_pending}
-use Rattle.rec_types.specs.Kept.{Kept, change_of, history_of, newest_live, undone, IsOwned, AllBegun}
+use Rattle.std.specs.List.{find}
+use Rattle.rec_types.specs.Contents.{Contents, set_to, has}
+use Rattle.rec_types.specs.History.{is_pending}
+use Rattle.rec_types.specs.Kept.{Kept, change_of, newest_live, undone, IsOwned, AllBegun}
 use Rattle.rec_types.specs.declared.transactions.TxId.{TxId}
 use Rattle.tx_log.proofs.AbsentFacts.{only, without, absent_in, absent-push, absent-push_other, absent-undone_other, absent-parts, absent_is_gone, gone, lacks, has-gone, len-set_to, lack}
-use Rattle.tx_log.proofs.Chains.{same_number, differs, unequal, last_of-le, chain_is_stack}
+use Rattle.tx_log.proofs.Chains.{last_of-le, chain_is_stack}
 use Rattle.tx_log.proofs.Counts.{count, count-push, pending-undone, newest_of_stack}
-use Rattle.tx_log.proofs.Lives.{first, lives, lives-undone, stack_is_lives, eqb_sym}
-use Rattle.tx_log.proofs.OpenFacts.{found_fits, found_number, first-found, fit-set, opens-set, begun_of}
+use Rattle.tx_log.proofs.Lives.{lives, lives-undone, stack_is_lives, eqb_sym}
+use Rattle.tx_log.proofs.OpenFacts.{found_fits, found_number, fit-set, opens-set, begun_of}
 use Rattle.tx_log.proofs.OwnerFacts.{kept_at, HeldBy, owned-push, owned-undone, begun-push, begun-undone}
 use Rattle.tx_log.proofs.WalkSteps.{IsStep}
 use Rattle.tx_log.specs.Finds.{find_tx, IsFirst}
-use Rattle.tx_log.specs.Fits.{AllUpTo, StageUpTo, FitsTx, AllFit}
-use Rattle.tx_log.specs.Log.{leads_to, lsn_of, prev_of, tx_of, key_of, old_of, new_of, noted, kept_by, kept_of, last_of, stepped, stack, chain, IsNumbered, Undoes, IsWritten, AllWritten}
+use Rattle.tx_log.specs.Fits.{AllUpTo, StageUpTo, FitsTx}
+use Rattle.tx_log.specs.Log.{leads_to, lsn_of, prev_of, tx_of, key_of, new_of, noted, kept_of, last_of, stepped, stack, chain, IsNumbered, Undoes, IsWritten, AllWritten}
 use Rattle.tx_log.specs.LogFields.{IsKept}
 use Rattle.tx_log.specs.Stages.{opens}
 use Rattle.tx_log.specs.Walks.{change_in, is_at, takes_out}
@@ -172,23 +171,23 @@ accepted lsn prev tx key before after rs es i begun pending gone_old pending_new
     let opened : opens es t ≡ true = ap is_some found in
     let there : chain rs prev ≡ stack t rs = chain_of rs t prev kept.numbered kept.written prev_last in
     let was : takes_out (option_map change_in (find (is_at key) (chain rs prev))) ≡ has (absent_in (only t) cs) key =
-        ap (λ us. takes_out (option_map change_in (find (is_at key) us))) there
-        ∙ taken_out_is key (stack t rs)
-        ∙ ap (λ us. has (gone us) key) (stack_is_lives t rs)
-        ∙ ap (λ m. has m key) (sym (absent_is_gone t cs)) in
+    ap (λ us. takes_out (option_map change_in (find (is_at key) us))) there
+    ∙ taken_out_is key (stack t rs)
+    ∙ ap (λ us. has (gone us) key) (stack_is_lives t rs)
+    ∙ ap (λ m. has m key) (sym (absent_is_gone t cs)) in
     let was_count : ◌≡◌ {A = ℕ} (cond (takes_out (option_map change_in (find (is_at key) (chain rs prev)))) 1 0) (cond (has (absent_in (only t) cs) key) 1 0) = ap (λ (b : Bool). cond b 1 0) was in
     let mine : only t t ≡ true = eq-eqb t t refl in
     let one : maps.len (absent_in (only t) (cs ++ d ∷ [])) + cond (has (absent_in (only t) cs) key) 1 0 ≡ maps.len (absent_in (only t) cs) + cond (not (is_some after)) 1 0 =
-        ap (λ (m : Contents). maps.len m + cond (has (absent_in (only t) cs) key) 1 0) (absent-push (only t) cs d refl mine) ∙ len-set_to (absent_in (only t) cs) key after in
+    ap (λ (m : Contents). maps.len m + cond (has (absent_in (only t) cs) key) 1 0) (absent-push (only t) cs d refl mine) ∙ len-set_to (absent_in (only t) cs) key after in
     let owned = owned-push (opens es) cs d kept.owned a.held in
     let all = absent-parts (opens es) t cs kept.owned opened in
     let all_new = absent-parts (opens es) t (cs ++ d ∷ []) owned opened in
     let others = ap maps.len (absent-push_other (without t (opens es)) cs d (shut_itself t (opens es))) in
     let e_absent : e.absent ≡ maps.len (absent_in (only t) cs) = fits.absent_keys ∙ ap (λ k. maps.len (absent_in (only k) cs)) number in
     let new_absent : new.absent ≡ maps.len (absent_in (only t) (cs ++ d ∷ [])) =
-        one_goes _ _ e.absent new.absent (cond (has (absent_in (only t) cs) key) 1 0) (cond (not (is_some after)) 1 0) one e_absent (ap (λ n. new.absent + n) (sym was_count) ∙ a.absent_new) in
+    one_goes _ _ e.absent new.absent (cond (has (absent_in (only t) cs) key) 1 0) (cond (not (is_some after)) 1 0) one e_absent (ap (λ n. new.absent + n) (sym was_count) ∙ a.absent_new) in
     let total : gone_new ≡ maps.len (absent_in (opens es) (cs ++ d ∷ [])) =
-        total_goes _ _ _ _ _ _ gone_old gone_new (cond (has (absent_in (only t) cs) key) 1 0) (cond (not (is_some after)) 1 0) all all_new others one kept.absent_is (ap (λ n. gone_new + n) (sym was_count) ∙ a.gone_one) in
+    total_goes _ _ _ _ _ _ gone_old gone_new (cond (has (absent_in (only t) cs) key) 1 0) (cond (not (is_some after)) 1 0) all all_new others one kept.absent_is (ap (λ n. gone_new + n) (sym was_count) ∙ a.gone_one) in
     let pending_push : count (is_pending (opens es)) (cs ++ d ∷ []) ≡ count (is_pending (opens es)) cs + cond (is_pending (opens es) (change_of d)) 1 0 = count-push (is_pending (opens es)) cs d in
     let is_one : ◌≡◌ {A = ℕ} (cond (is_pending (opens es) (change_of d)) 1 0) 1 = ap (λ (b : Bool). cond b 1 0) opened in
     let live_is : e.live ≡ length (stack e.tx.0 rs) = fits.live in
@@ -252,24 +251,24 @@ compensated lsn prev tx change rs es i begun pending gone_old pending_new gone_n
     let key_is : key_of u ≡ change.key = ap (λ (c : LiveChange). c.key) a.step.told in
     let after_is : new_of u ≡ change.after = ap (λ (c : LiveChange). c.after) a.step.told in
     let will : takes_out (option_map change_in (find (is_at change.key) (chain rs change.prev))) ≡ has (gone (map noted us)) change.key =
-        ap (λ xs. takes_out (option_map change_in (find (is_at change.key) xs))) a.step.tail ∙ taken_out_is change.key us in
+    ap (λ xs. takes_out (option_map change_in (find (is_at change.key) xs))) a.step.tail ∙ taken_out_is change.key us in
     let will_count : ◌≡◌ {A = ℕ} (cond (takes_out (option_map change_in (find (is_at change.key) (chain rs change.prev)))) 1 0) (cond (has (gone (map noted us)) change.key) 1 0) = ap (λ (b : Bool). cond b 1 0) will in
     let old_gone : absent_in (only t) cs ≡ set_to (gone (map noted us)) change.key (lack change.after) =
-        absent_is_gone t cs ∙ ap gone now ∙ (λ k. set_to (gone (map noted us)) (key_is k) (lack (after_is k))) in
+    absent_is_gone t cs ∙ ap gone now ∙ (λ k. set_to (gone (map noted us)) (key_is k) (lack (after_is k))) in
     let new_gone : absent_in (only t) (undone t cs) ≡ gone (map noted us) = absent_is_gone t (undone t cs) ∙ ap gone left in
     let put : maps.len (absent_in (only t) cs) + cond (has (gone (map noted us)) change.key) 1 0 ≡ maps.len (gone (map noted us)) + cond (not (is_some change.after)) 1 0 =
-        ap (λ (m : Contents). maps.len m + cond (has (gone (map noted us)) change.key) 1 0) old_gone ∙ len-set_to (gone (map noted us)) change.key change.after in
+    ap (λ (m : Contents). maps.len m + cond (has (gone (map noted us)) change.key) 1 0) old_gone ∙ len-set_to (gone (map noted us)) change.key change.after in
     let one : maps.len (absent_in (only t) (undone t cs)) + cond (not (is_some change.after)) 1 0 ≡ maps.len (absent_in (only t) cs) + cond (has (gone (map noted us)) change.key) 1 0 =
-        ap (λ (m : Contents). maps.len m + cond (not (is_some change.after)) 1 0) new_gone ∙ sym put in
+    ap (λ (m : Contents). maps.len m + cond (not (is_some change.after)) 1 0) new_gone ∙ sym put in
     let owned = owned-undone (opens es) t cs kept.owned in
     let all = absent-parts (opens es) t cs kept.owned opened in
     let all_new = absent-parts (opens es) t (undone t cs) owned opened in
     let others = ap maps.len (absent-undone_other (without t (opens es)) t cs (shut_itself t (opens es))) in
     let e_absent : e.absent ≡ maps.len (absent_in (only t) cs) = fits.absent_keys ∙ ap (λ k. maps.len (absent_in (only k) cs)) number in
     let new_absent : new.absent ≡ maps.len (absent_in (only t) (undone t cs)) =
-        one_goes _ _ e.absent new.absent (cond (not (is_some change.after)) 1 0) (cond (has (gone (map noted us)) change.key) 1 0) one e_absent (a.absent_new ∙ ap (λ n. e.absent + n) will_count) in
+    one_goes _ _ e.absent new.absent (cond (not (is_some change.after)) 1 0) (cond (has (gone (map noted us)) change.key) 1 0) one e_absent (a.absent_new ∙ ap (λ n. e.absent + n) will_count) in
     let total : gone_new ≡ maps.len (absent_in (opens es) (undone t cs)) =
-        total_goes _ _ _ _ _ _ gone_old gone_new (cond (not (is_some change.after)) 1 0) (cond (has (gone (map noted us)) change.key) 1 0) all all_new others one kept.absent_is (a.gone_one ∙ ap (λ n. gone_old + n) will_count) in
+    total_goes _ _ _ _ _ _ gone_old gone_new (cond (not (is_some change.after)) 1 0) (cond (has (gone (map noted us)) change.key) 1 0) all all_new others one kept.absent_is (a.gone_one ∙ ap (λ n. gone_old + n) will_count) in
     let fewer = pending-undone (opens es) t cs (noted u) opened newest in
     let live_is : e.live ≡ suc (length us) = fits.live ∙ ap (λ k. length (stack k rs)) number ∙ ap length whole in
     let dropped : length us ≡ length (drop 1 (stack e.tx.0 rs)) = ap (λ xs. length (drop 1 xs)) (sym whole) ∙ ap (λ k. length (drop 1 (stack k rs))) (sym number) in

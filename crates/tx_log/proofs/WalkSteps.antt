@@ -1,8 +1,8 @@
 -- One step of a walk along a chain.
-use Rattle.std.proofs.Common.{◌≡◌, ℕ, zero, suc, ◌+◌, ◌-◌, ◌<◌, ◌≤◌, Bool, true, false, cond, eqb, ltb, List, [], ◌∷◌, ◌++◌, length, map, Option, Some, None, option_map, refl, sym, ap, subst, ◌∙◌, arith}
+use Rattle.std.proofs.Common.{◌≡◌, ℕ, ◌+◌, ◌<◌, ◌≤◌, Bool, true, false, cond, eqb, ltb, List, [], ◌∷◌, length, map, Some, None, option_map, refl, sym, ap, ◌∙◌, arith}
 use Rattle.std.proofs.lemmas.Bool.Decides.{nat_tests}
 use Rattle.std.specs.List.{filter, find}
-use Rattle.tx_log.proofs.Chains.{IsHead, chain-head, same_number}
+use Rattle.tx_log.proofs.Chains.{chain-head, same_number}
 use Rattle.tx_log.specs.Log.{lsn_of, prev_of, key_of, leads_to, led, is_update, chain, IsNumbered}
 use Rattle.rec_types.specs.Contents.{same_key}
 use Rattle.tx_log.specs.Walks.{change_in, newest_in, is_at, is_after}

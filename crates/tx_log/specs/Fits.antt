@@ -1,5 +1,5 @@
 -- What ties the open transactions to the log.
-use Rattle.std.specs.Prelude.{◌≡◌, ℕ, ◌+◌, ◌<◌, ◌≤◌, Bool, true, false, ◌==◌, List, [], ◌∷◌, length, Option, Some, None}
+use Rattle.std.specs.Prelude.{◌≡◌, ℕ, ◌<◌, ◌≤◌, ◌==◌, List, [], ◌∷◌, length, None}
 use Rattle.std.specs.FinMap as maps
 use Rattle.rec_types.specs.Kept.{history_of}
 use Rattle.tx_log.specs.Log.{tx_of, last_of, stack, kept_of}

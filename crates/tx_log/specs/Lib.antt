@@ -1,3 +1,4 @@
+pub mod Examples
 pub mod Finds
 pub mod Fits
 pub mod Log

@@ -1,5 +1,5 @@
 -- How a log lies in its fields.
-use Rattle.std.specs.Prelude.{◌≡◌, ℕ, ◌+◌, ◌<◌, ◌≤◌, List, [], ◌∷◌, length, filter, reverse, Option, Some, None, IfSome, vec_len}
+use Rattle.std.specs.Prelude.{◌≡◌, ℕ, ◌+◌, ◌≤◌, List, length, filter, reverse, Option, IfSome, vec_len}
 use Rattle.std.specs.Vec.{vec_capacity}
 use Rattle.std.specs.FinMap as maps
 use Rattle.rec_types.specs.History.{is_pending}

@@ -1,9 +1,9 @@
 -- What a log of transactions stands for.
-use Rattle.std.specs.Prelude.{◌≡◌, ℕ, ◌+◌, ◌-◌, ◌<◌, ◌≤◌, zero, Bool, true, false, if◌then◌else◌, List, [], ◌∷◌, ◌++◌, length, take, reverse, Option, Some, None, option_map, refl, IsTrue}
+use Rattle.std.specs.Prelude.{ℕ, ◌+◌, ◌<◌, ◌≤◌, Bool, if◌then◌else◌, List, [], ◌∷◌, length, take, reverse, Option, Some, None, option_map, refl, IsTrue}
 use Rattle.std.specs.Coded.{Coded, code_by, coded×, coded_ℕ, coded_bool, coded_list, coded_option}
 use Rattle.std.specs.FinMap as maps
 use Rattle.rec_types.specs.LimitBounds.{Bounds, coded_bounds}
-use Rattle.rec_types.specs.History.{Change, log_use, own_count, live_from}
+use Rattle.rec_types.specs.History.{Change, log_use}
 use Rattle.rec_types.specs.Kept.{Kept, history_of, newest_from, IsOwned, AllBegun}
 use Rattle.rec_types.specs.declared.transactions.TxId.{TxId}
 use Rattle.tx_log.specs.Log.{prev_of, record_at, last_of}

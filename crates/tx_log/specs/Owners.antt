@@ -1,5 +1,5 @@
 -- Who owns a key: the open transaction with a live change at it.
-use Rattle.std.specs.Prelude.{◌≡◌, ℕ, Bool, true, false, ◌&&◌, ◌==◌, if◌then◌else◌, List, [], ◌∷◌, filter, map, Option, Some, None, is_some, IsTrue}
+use Rattle.std.specs.Prelude.{ℕ, Bool, ◌&&◌, ◌==◌, if◌then◌else◌, List, [], ◌∷◌, filter, map, Option, Some, None, is_some}
 use Rattle.std.specs.FinMap as maps
 use Rattle.rec_types.specs.Contents.{Contents, set_to, same_key}
 use Rattle.rec_types.specs.History.{Change, is_pending, replay}

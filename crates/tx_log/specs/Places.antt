@@ -1,5 +1,5 @@
 -- The place of a savepoint in the history, read off the number of the newest record at that time.
-use Rattle.std.specs.Prelude.{ℕ, suc, Bool, ◌&&◌, ◌==◌, nat_le, if◌then◌else◌, List, [], ◌∷◌}
+use Rattle.std.specs.Prelude.{ℕ, suc, ◌&&◌, ◌==◌, nat_le, if◌then◌else◌, List, [], ◌∷◌}
 use Rattle.rec_types.specs.Kept.{Kept}
 
 -- how many changes of the transaction have a number of at most s

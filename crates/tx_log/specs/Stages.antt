@@ -1,5 +1,5 @@
 -- What is kept of an open transaction, and what it stands for.
-use Rattle.std.specs.Prelude.{◌≡◌, ℕ, ◌<◌, ◌≤◌, Bool, true, false, ◌==◌, List, [], ◌∷◌, length, map, Option, Some, None, is_some}
+use Rattle.std.specs.Prelude.{ℕ, Bool, false, List, [], ◌∷◌, map, Option, Some, None, is_some}
 use Rattle.std.specs.FinMap as maps
 use Rattle.rec_types.specs.Kept.{Kept}
 use Rattle.tx_log.specs.Finds.{find_tx}

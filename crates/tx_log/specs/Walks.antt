@@ -1,7 +1,6 @@
 -- Changes that aren't taken back, as they are met along a chain.
-use Rattle.std.specs.Prelude.{◌≡◌, ℕ, ◌+◌, Bool, true, false, not, nat_lt, List, [], ◌∷◌, Option, Some, None, is_some}
-use Rattle.rec_types.specs.Contents.{Contents, set_to, same_key}
-use Rattle.std.specs.FinMap as maps
+use Rattle.std.specs.Prelude.{ℕ, Bool, false, not, nat_lt, List, [], ◌∷◌, Option, Some, None, is_some}
+use Rattle.rec_types.specs.Contents.{same_key}
 use Rattle.tx_log.specs.Log.{lsn_of, prev_of, key_of, old_of, new_of}
 use Rattle.tx_log.specs.declared.log_records.LogRecord.{LogRecord}
 use Rattle.tx_log.specs.declared.walks.LiveChange.{LiveChange}

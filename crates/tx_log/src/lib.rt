@@ -1,10 +1,13 @@
 //! Transactions, owners of keys and savepoints.
 #![tactic(auto)]
 
+pub mod laws;
 mod log_records;
 mod logs;
 mod opened;
 mod phases;
+#[cfg(test)]
+mod tests;
 mod walks;
 
 pub use log_records::LogRecord;

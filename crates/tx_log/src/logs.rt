@@ -3,12 +3,15 @@ ghost use Rattle.std.specs.FinMap as maps;
 ghost use Rattle.rec_types.specs.History.{log_len, own_count};
 ghost use Rattle.rec_types.specs.Kept.{undone};
 ghost use Rattle.tx_log.specs.Log.{record_at};
+ghost use Rattle.tx_log.specs.LogLaws.{IsChained};
 ghost use Rattle.tx_log.specs.Transactions.{depth_of, live_in, left_in, fresh};
 ghost use Rattle.tx_log.specs.Owners.{owner_of, holder_of, keys_owned, absent};
 ghost use Rattle.tx_log.specs.LogState.{new_log, history_in, open_in, tx_in, use_in, phase_in, undo_in, undo_step, places_in, active_with, rolling_to, finished, update_in, compensations_in, IsRolling, IsLog};
 
 use crate::opened::{OpenTx, Stage, find_open, place_of, recount};
-use crate::walks::{changed_keys, count_changes, find_change, is_taking_out, newest_above, newest_change};
+use crate::walks::{
+    changed_keys, count_changes, find_change, is_taking_out, newest_above, newest_change,
+};
 use crate::{BeginFault, LogRecord, Phase, UndoStep};
 use rec_types::{Key, Limits, Memory, Record, TxId};
 use std::alloc::Global;
@@ -18,7 +21,9 @@ use std::marker::Model;
 #[derive(Drop)]
 pub struct TxLog {
     alloc: Global,
+    /// Has room for the compensation of each pending change, and for two records more where a key has room.
     records: Vec<LogRecord>,
+    /// In the order of their numbers.
     txs: Vec<OpenTx>,
     begun: u32,
     limits: Limits,
@@ -48,7 +53,8 @@ impl TxLog {
     pub fn new(alloc: Global, limits: Limits) -> TxLog
         ensures { result ≡ new_log limits }
     {
-        let _most = limits.log_records();
+        // What these say of the limits bounds every sum over the log.
+        let _log_records = limits.log_records();
         let _begins = limits.begins();
         TxLog {
             alloc,
@@ -181,8 +187,16 @@ impl TxLog {
     pub fn begun(&self) -> u32
         ensures value { result ≡ self.now.begun }
         ensures kept { IsLog self.now }
+        ensures chained { IsChained self.now.records self.now.changes }
     {
         self.begun
+    }
+
+    /// How many transactions are open.
+    pub fn open_count(&self) -> u32
+        ensures { result ≡ maps.len self.now.txs }
+    {
+        self.txs.len() as u32
     }
 
     /// The keys that the transaction owns, in order. Fault: Memory.
@@ -236,7 +250,13 @@ impl TxLog {
     }
 
     /// Adds a change of an active transaction, live, and answers its LSN. It takes no memory.
-    pub fn accept(&mut self, tx: TxId, key: Key, before: Option<Record>, after: Option<Record>) -> u32
+    pub fn accept(
+        &mut self,
+        tx: TxId,
+        key: Key,
+        before: Option<Record>,
+        after: Option<Record>,
+    ) -> u32
         requires active { phase_in self.old tx.0 ≡ Some Phase.Active }
         requires free { holder_of (open_in self.old) (history_in self.old) tx.0 key ≡ None }
         requires fits { use_in self.old + 2 ≤ self.old.limits.log_records }

@@ -58,13 +58,7 @@ pub fn newest_above(log: &[LogRecord], from: u32, to: u32) -> Option<LiveChange>
     ensures { result ≡ newest_in (filter (is_after to) (chain (reverse log.now) from)) }
 {
     match newest_change(log, from) {
-        Some(change) => {
-            if change.lsn > to {
-                Some(change)
-            } else {
-                None
-            }
-        }
+        Some(change) => { if change.lsn > to { Some(change) } else { None } }
         None => None,
     }
 }
@@ -113,7 +107,12 @@ pub fn count_changes(log: &[LogRecord], from: u32, to: u32) -> u32
 
 /// The keys of the changes that aren't taken back, newest first, on the way down from the record with the number
 /// `from`. `count` is how many are expected. Fault: Memory.
-pub fn changed_keys(alloc: Global, log: &[LogRecord], from: u32, count: u32) -> Result<Vec<Key>, Memory>
+pub fn changed_keys(
+    alloc: Global,
+    log: &[LogRecord],
+    from: u32,
+    count: u32,
+) -> Result<Vec<Key>, Memory>
     requires numbered { IsNumbered (reverse log.now) }
     requires within { from ≤ length log.now }
     ensures { IfOk result (λ keys. keys.items ≡ map key_of (chain (reverse log.now) from)) }

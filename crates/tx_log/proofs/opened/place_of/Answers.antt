@@ -1,4 +1,4 @@
-use Rattle.std.proofs.Common.{◌≡◌, ◌<◌, is_some, sym, ap, ◌∙◌}
+use Rattle.std.proofs.Common.{is_some, sym, ap, ◌∙◌}
 use Rattle.tx_log.proofs.OpenFacts.{first-within}
 use Rattle.tx_log.proofs.PositionFacts.{position_some, position_first}
 use Rattle.tx_log.proofs.opened.place_of.Goals as goal

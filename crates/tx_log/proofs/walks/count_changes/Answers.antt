@@ -1,5 +1,5 @@
-use Rattle.std.proofs.Common.{◌≡◌, ◌<◌, ◌≤◌, length, reverse, sym, ap, ◌∙◌, arith}
-use Rattle.tx_log.proofs.WalkSteps.{IsStep, walk_step, walk_end, stops_at, goes_on}
+use Rattle.std.proofs.Common.{length, reverse, sym, ap, arith}
+use Rattle.tx_log.proofs.WalkSteps.{walk_step, stops_at, goes_on}
 use Rattle.tx_log.proofs.walks.count_changes.Goals as goal
 
 pub returns-then-change-to : goal.returns-then-change-to
@@ -10,7 +10,7 @@ returns-then-change-to c =
     omega (arith, none, c.loop-change.invariant.2)
 
 pub overflow_add-count : goal.overflow_add-count
-overflow_add-count c = 
+overflow_add-count c =
     let rs = reverse c.args.log.now in
     let step = walk_step rs c.loop-change.at c.in-Some.change c.requires.numbered (sym c.in-Some.ensures) in
     omega (arith, step.falls, step.low, c.loop-change.invariant.1, c.ranges.from)

@@ -1,4 +1,4 @@
-use Rattle.std.proofs.Common.{◌≡◌, ◌<◌, ◌≤◌, length, reverse, sym, ◌∙◌, arith}
+use Rattle.std.proofs.Common.{reverse, sym, ◌∙◌, arith}
 use Rattle.tx_log.proofs.WalkSteps.{IsStep, walk_step, find_on}
 use Rattle.tx_log.proofs.walks.find_change.Goals as goal
 

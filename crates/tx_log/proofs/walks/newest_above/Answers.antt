@@ -1,4 +1,4 @@
-use Rattle.std.proofs.Common.{◌≡◌, ◌≤◌, reverse, sym, ap, ◌∙◌}
+use Rattle.std.proofs.Common.{reverse, sym, ap}
 use Rattle.std.specs.List.{filter}
 use Rattle.tx_log.proofs.WalkSteps.{walk_step, walk_end, stops_at, first_above}
 use Rattle.tx_log.specs.Walks.{newest_in, is_after}

@@ -1,7 +1,7 @@
 -- The record at the number is the next of the chain.
-use Rattle.std.proofs.Common.{◌≡◌, ℕ, ◌+◌, ◌-◌, ◌<◌, ◌≤◌, List, length, get_or, reverse, Some, None, refl, sym, ap, subst, ◌∙◌, arith}
+use Rattle.std.proofs.Common.{◌≡◌, reverse, sym, ap, ◌∙◌, arith}
 use Rattle.tx_log.proofs.LogIndex.{record_is_at, chain-zero}
-use Rattle.tx_log.specs.Log.{lsn_of, chain, IsNumbered}
+use Rattle.tx_log.specs.Log.{chain}
 use Rattle.tx_log.specs.Walks.{newest_in}
 use Rattle.tx_log.proofs.walks.newest_change.Goals as goal
 

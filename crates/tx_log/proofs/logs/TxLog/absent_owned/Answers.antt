@@ -1,4 +1,4 @@
-use Rattle.std.proofs.Common.{◌≡◌, ℕ, Bool, reverse, sym, ap, ◌∙◌}
+use Rattle.std.proofs.Common.{ℕ, Bool, reverse, sym, ap, ◌∙◌}
 use Rattle.std.specs.FinMap as maps
 use Rattle.rec_types.specs.Kept.{history_of}
 use Rattle.tx_log.proofs.OpenFacts.{opens_is}

@@ -1,4 +1,4 @@
-use Rattle.std.proofs.Common.{◌≡◌, ◌∷◌, [], ◌++◌, cond, Option, IfSome, refl, ℕ, ◌+◌, ◌<◌, ◌≤◌, Bool, true, List, Some, None, length, get_or, reverse, option_map, is_some, IsSome, vec_len, sym, ap, subst, ◌∙◌, arith}
+use Rattle.std.proofs.Common.{◌≡◌, ◌∷◌, [], ◌++◌, cond, Option, IfSome, refl, ℕ, ◌+◌, ◌<◌, ◌≤◌, Bool, true, List, Some, None, length, reverse, option_map, is_some, vec_len, sym, ap, subst, ◌∙◌, arith}
 use Rattle.std.specs.List.{find}
 use Rattle.std.proofs.lemmas.List.{length-reverse}
 use Rattle.std.specs.Vec.{vec_capacity}

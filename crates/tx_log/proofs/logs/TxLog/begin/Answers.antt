@@ -1,4 +1,4 @@
-use Rattle.std.proofs.Common.{◌≡◌, ℕ, ◌+◌, ◌<◌, ◌≤◌, ◌∷◌, [], ◌++◌, Bool, true, not, cond, List, None, length, reverse, refl, sym, ap, subst, ◌∙◌, arith}
+use Rattle.std.proofs.Common.{◌+◌, ◌∷◌, [], ◌++◌, Bool, not, cond, None, reverse, refl, ap, ◌∙◌, arith}
 use Rattle.std.specs.FinMap as maps
 use Rattle.tx_log.proofs.EndFacts.{begun_kept, begun_state}
 use Rattle.tx_log.specs.LogState.{LogState}

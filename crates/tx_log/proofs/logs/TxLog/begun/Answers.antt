@@ -1,7 +1,9 @@
-use Rattle.std.proofs.Common.{◌≡◌, reverse, refl, subst, arith}
+use Rattle.std.proofs.Common.{reverse, refl, subst, arith}
 use Rattle.std.proofs.lemmas.List.{length-reverse}
 use Rattle.tx_log.proofs.KeptFacts.{is_log}
-use Rattle.tx_log.specs.LogState.{IsLog}
+use Rattle.tx_log.proofs.LawFacts.{is_chained}
+use Rattle.tx_log.specs.LogLaws.{IsChained}
+use Rattle.tx_log.specs.LogState.{LogState, IsLog}
 use Rattle.tx_log.proofs.logs.TxLog.begun.Goals as goal
 
 pub returns-clause-kept : goal.returns-clause-kept
@@ -9,3 +11,8 @@ returns-clause-kept c =
     let l = c.self.inside in
     let rs = reverse l.records.items in
     subst IsLog c.self.view_is (is_log _ rs l.txs.items l.pending l.gone c.self.invariant.log_kept (omega (arith, c.self.invariant.roomy.fits, length-reverse l.records.items)) c.self.invariant.roomy.within refl refl)
+
+pub returns-clause-chained : goal.returns-clause-chained
+returns-clause-chained c =
+    let l = c.self.inside in
+    subst (λ (s : LogState). IsChained s.records s.changes) c.self.view_is (is_chained l.records.items c.self.invariant.log_kept.numbered c.self.invariant.log_kept.written)

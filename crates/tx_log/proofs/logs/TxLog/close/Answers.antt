@@ -1,6 +1,5 @@
-use Rattle.std.proofs.Common.{◌≡◌, ℕ, ◌+◌, ◌-◌, ◌<◌, ◌≤◌, List, Some, None, length, get_or, reverse, vec_len, is_some, sym, ap, subst, ◌∙◌, arith}
+use Rattle.std.proofs.Common.{◌-◌, List, None, reverse, is_some, sym, ap, subst, ◌∙◌, arith}
 use Rattle.std.specs.FinMap as maps
-use Rattle.std.specs.List.{remove}
 use Rattle.tx_log.proofs.EndFacts.{closed, closed_state, live_part}
 use Rattle.tx_log.proofs.KeptFacts.{entry_is, open_of_tx, sized}
 use Rattle.tx_log.proofs.StateFacts.{state}

@@ -1,10 +1,10 @@
-use Rattle.std.proofs.Common.{◌≡◌, ◌∷◌, [], ◌++◌, cond, Option, IfSome, refl, ℕ, ◌+◌, ◌-◌, not, ◌<◌, ◌≤◌, Bool, true, List, Some, None, length, get_or, reverse, option_map, is_some, IsSome, vec_len, sym, ap, subst, ◌∙◌, arith}
+use Rattle.std.proofs.Common.{◌≡◌, ◌∷◌, [], ◌++◌, cond, refl, ℕ, ◌+◌, ◌-◌, not, ◌<◌, ◌≤◌, Bool, List, None, length, reverse, option_map, is_some, vec_len, sym, ap, subst, ◌∙◌, arith}
 use Rattle.std.specs.List.{find}
 use Rattle.std.specs.Vec.{vec_capacity}
 use Rattle.std.proofs.lemmas.List.{length-reverse}
 use Rattle.rec_types.specs.History.{log_len}
 use Rattle.rec_types.specs.Kept.{undone}
-use Rattle.tx_log.proofs.KeptFacts.{entry_is, sized, counted_key, some_of, state_use, state_len, recounted, none_is, counted_change}
+use Rattle.tx_log.proofs.KeptFacts.{entry_is, sized, some_of, state_len, recounted, none_is, counted_change}
 use Rattle.tx_log.proofs.LogIndex.{reverse-push, record_of_chain}
 use Rattle.tx_log.proofs.OpenFacts.{found_fits, found_number}
 use Rattle.tx_log.proofs.ReadFacts.{open_of_undo, undo_head, undo_told}
@@ -13,7 +13,7 @@ use Rattle.tx_log.proofs.StateFacts.{state, compensate_state, told_compensation,
 use Rattle.tx_log.proofs.WalkSteps.{IsStep, walk_step}
 use Rattle.tx_log.specs.Finds.{find_tx, IsFirst}
 use Rattle.tx_log.specs.Log.{kept_of, last_of, chain}
-use Rattle.tx_log.specs.LogState.{LogState, history_in, undo_in, use_in, compensations_in}
+use Rattle.tx_log.specs.LogState.{LogState, history_in, undo_in, compensations_in}
 use Rattle.tx_log.specs.Stages.{tx_at}
 use Rattle.tx_log.specs.Walks.{change_in, newest_in, is_at, takes_out}
 use Rattle.tx_log.specs.declared.log_records.LogRecord.{LogRecord}

@@ -1,4 +1,4 @@
-use Rattle.std.proofs.Common.{◌≡◌, reverse, sym, ap, ◌∙◌}
+use Rattle.std.proofs.Common.{reverse, sym, ap, ◌∙◌}
 use Rattle.tx_log.proofs.ReadFacts.{depth_is, tx_none}
 use Rattle.tx_log.specs.Finds.{find_tx}
 use Rattle.tx_log.specs.Log.{kept_of}

@@ -1,4 +1,4 @@
-use Rattle.std.proofs.Common.{◌≡◌, ℕ, Bool, List, Some, None, cond, reverse, is_some, sym, ap, subst, ◌∙◌}
+use Rattle.std.proofs.Common.{◌≡◌, List, None, reverse, is_some, sym, ap, subst, ◌∙◌}
 use Rattle.std.specs.FinMap as maps
 use Rattle.tx_log.proofs.EndFacts.{rolling_found, finished_ends, finished_goes}
 use Rattle.tx_log.proofs.KeptFacts.{entry_is}
@@ -25,8 +25,8 @@ returns-then-is_ending c =
     let rolling = subst (λ (s : LogState). IsRolling (phase_in s t)) (sym c.self.view_is) c.requires.rolling in
     let ends = sym c.is_ending.ensures ∙ c.if-is_ending.true in
     let done : finished c.args.self.now.txs t (tx_in c.args.self.now t) ≡ maps.remove c.args.self.now.txs t =
-        subst (λ (s : LogState). finished s.txs t (tx_in s t) ≡ maps.remove s.txs t) c.self.view_is
-        (finished_ends (kept_of (reverse l.records.items)) l.txs.items t e found rolling ends) in
+    subst (λ (s : LogState). finished s.txs t (tx_in s t) ≡ maps.remove s.txs t) c.self.view_is
+    (finished_ends (kept_of (reverse l.records.items)) l.txs.items t e found rolling ends) in
     c.close.ensures ∙ ap (λ (m : Transactions). record c.args.self.now { txs = m; room = None }) (sym done)
 
 pub returns-else-is_ending : goal.returns-else-is_ending
@@ -38,6 +38,6 @@ returns-else-is_ending c =
     let rolling = subst (λ (s : LogState). IsRolling (phase_in s t)) (sym c.self.view_is) c.requires.rolling in
     let goes = sym c.is_ending.ensures ∙ c.if-is_ending.false in
     let done : finished c.args.self.now.txs t (tx_in c.args.self.now t) ≡ maps.insert c.args.self.now.txs t (active_with (places_in c.args.self.now t)) =
-        subst (λ (s : LogState). finished s.txs t (tx_in s t) ≡ maps.insert s.txs t (active_with (places_in s t))) c.self.view_is
-        (finished_goes (kept_of (reverse l.records.items)) l.txs.items t e found rolling goes) in
+    subst (λ (s : LogState). finished s.txs t (tx_in s t) ≡ maps.insert s.txs t (active_with (places_in s t))) c.self.view_is
+    (finished_goes (kept_of (reverse l.records.items)) l.txs.items t e found rolling goes) in
     c.go_forward.ensures ∙ ap (λ (m : Transactions). record c.args.self.now { txs = m; room = None }) (sym done)

@@ -1,21 +1,15 @@
-use Rattle.std.proofs.Common.{◌≡◌, ℕ, ◌+◌, ◌-◌, ◌<◌, ◌≤◌, ◌∷◌, [], ◌++◌, Bool, List, Some, None, length, map, take, reverse, vec_len, is_some, refl, sym, ap, subst, ◌∙◌, arith, length-append}
+use Rattle.std.proofs.Common.{List, None, reverse, is_some, refl, sym, ap, subst, ◌∙◌}
 use Rattle.std.specs.FinMap as maps
-use Rattle.rec_types.specs.History.{own_count}
-use Rattle.rec_types.specs.Kept.{history_of}
-use Rattle.tx_log.proofs.Chains.{last_of-le}
 use Rattle.tx_log.proofs.KeptFacts.{entry_is, open_of_tx}
-use Rattle.tx_log.proofs.MovedFacts.{moved, IsMove, moved_kept, moved_state, moved_tx, places_are, up_to_take, up_to_push, up_to_place, rolling_is, saved_is, kept_saves, short_take}
-use Rattle.tx_log.proofs.OpenFacts.{found_fits, found_number}
-use Rattle.tx_log.proofs.ReadFacts.{depth_is}
+use Rattle.tx_log.proofs.MovedFacts.{IsMove, moved_kept, moved_state, places_are}
+use Rattle.tx_log.proofs.OpenFacts.{found_fits}
 use Rattle.tx_log.proofs.StateFacts.{state, unroomed}
 use Rattle.tx_log.specs.Finds.{find_tx, IsFirst}
-use Rattle.tx_log.specs.Log.{kept_of, last_of}
-use Rattle.tx_log.specs.LogState.{LogState, phase_in, tx_in, places_in, history_in, rolling_to, active_with}
-use Rattle.tx_log.specs.Stages.{txs_of}
-use Rattle.tx_log.specs.Transactions.{Tx, depth_of, place_in}
+use Rattle.tx_log.specs.Log.{kept_of}
+use Rattle.tx_log.specs.LogState.{LogState, tx_in, places_in, active_with}
+use Rattle.tx_log.specs.Transactions.{Tx}
 use Rattle.tx_log.specs.declared.opened.OpenTx.{OpenTx}
-use Rattle.tx_log.specs.declared.opened.Stage.TheVariants.{Forward, Back}
-use Rattle.tx_log.specs.declared.phases.Phase.TheVariants.{Active}
+use Rattle.tx_log.specs.declared.opened.Stage.TheVariants.{Forward}
 use Rattle.tx_log.proofs.logs.TxLog.go_forward.Goals as goal
 
 pub place_of-at-requires : goal.place_of-at-requires

@@ -1,4 +1,4 @@
-use Rattle.std.proofs.Common.{◌≡◌, reverse, sym, ap, ◌∙◌}
+use Rattle.std.proofs.Common.{reverse, sym, ap, ◌∙◌}
 use Rattle.rec_types.specs.Kept.{history_of}
 use Rattle.tx_log.proofs.ReadFacts.{live_is, tx_none}
 use Rattle.tx_log.specs.Finds.{find_tx}

@@ -1,4 +1,4 @@
-use Rattle.std.proofs.Common.{◌≡◌, ℕ, ◌≤◌, List, length, reverse, map, option_map, sym, ap, subst, ◌∙◌}
+use Rattle.std.proofs.Common.{ℕ, ◌≤◌, List, length, reverse, option_map, sym, ap, subst, ◌∙◌}
 use Rattle.std.specs.List.{filter}
 use Rattle.std.proofs.lemmas.List.{length-reverse}
 use Rattle.tx_log.proofs.KeptFacts.{sized}
@@ -40,7 +40,7 @@ returns-in-Some-newest_above c =
     let e = c.in-Some.open_tx.now in
     let found = sym (c.in-Some.ensures ∙ ap (find_tx t) c.deref.ensures.value) in
     undo_case (filter (is_after c.in-Back.to) (chain (reverse l.records.items) e.last)) c.in-Some-newest_above.change
-        (c.in-Some-newest_above.ensures ∙ ap (λ (log : List LogRecord). newest_in (filter (is_after c.in-Back.to) (chain (reverse log) e.last))) c.deref-2.ensures.value)
+    (c.in-Some-newest_above.ensures ∙ ap (λ (log : List LogRecord). newest_in (filter (is_after c.in-Back.to) (chain (reverse log) e.last))) c.deref-2.ensures.value)
     ∙ ap (option_map undo_step) (sym (undo_is (reverse l.records.items) l.txs.items l.begun l.pending l.gone t c.in-Back.to c.in-Back.ends e c.self.invariant.log_kept found c.in-Back.is))
     ∙ ap (λ (s : LogState). option_map undo_step (undo_in s t)) c.self.view_is
 
@@ -51,6 +51,6 @@ returns-in-None c =
     let e = c.in-Some.open_tx.now in
     let found = sym (c.in-Some.ensures ∙ ap (find_tx t) c.deref.ensures.value) in
     no_undo_case (filter (is_after c.in-Back.to) (chain (reverse l.records.items) e.last))
-        (c.in-None.ensures ∙ ap (λ (log : List LogRecord). newest_in (filter (is_after c.in-Back.to) (chain (reverse log) e.last))) c.deref-2.ensures.value)
+    (c.in-None.ensures ∙ ap (λ (log : List LogRecord). newest_in (filter (is_after c.in-Back.to) (chain (reverse log) e.last))) c.deref-2.ensures.value)
     ∙ ap (option_map undo_step) (sym (undo_is (reverse l.records.items) l.txs.items l.begun l.pending l.gone t c.in-Back.to c.in-Back.ends e c.self.invariant.log_kept found c.in-Back.is))
     ∙ ap (λ (s : LogState). option_map undo_step (undo_in s t)) c.self.view_is

@@ -1,4 +1,4 @@
-use Rattle.std.proofs.Common.{◌≡◌, reverse}
+use Rattle.std.proofs.Common.{reverse}
 use Rattle.tx_log.proofs.ScanFacts.{NoChange}
 use Rattle.tx_log.proofs.logs.TxLog.owner.Given as goal
 

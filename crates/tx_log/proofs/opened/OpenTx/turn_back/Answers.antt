@@ -1,4 +1,4 @@
-use Rattle.std.proofs.Common.{◌≡◌, ℕ, ◌-◌, ◌<◌, ◌≤◌, List, get_or, sym, ap, ◌∙◌, arith}
+use Rattle.std.proofs.Common.{◌≡◌, ℕ, ◌-◌, ◌<◌, List, get_or, sym, ap, ◌∙◌, arith}
 use Rattle.tx_log.proofs.LogIndex.{place_in-at}
 use Rattle.tx_log.specs.Transactions.{place_in}
 use Rattle.tx_log.specs.declared.opened.Stage.TheVariants.{Back}

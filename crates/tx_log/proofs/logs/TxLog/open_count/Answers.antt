@@ -1,0 +1,25 @@
+use Rattle.std.proofs.Common.{◌≡◌, ◌≤◌, ◌<◌, ℕ, length, reverse, vec_len, refl, sym, ap, subst, ◌∙◌, arith, Fits, w32}
+use Rattle.std.proofs.lemmas.List.{length-reverse}
+use Rattle.std.specs.FinMap as maps
+use Rattle.tx_log.specs.LogState.{LogState}
+use Rattle.tx_log.specs.LogFields.{state_of}
+use Rattle.tx_log.specs.Log.{kept_of}
+use Rattle.tx_log.proofs.KeptFacts.{is_log}
+use Rattle.tx_log.proofs.OpenCount.{len-txs_of, len-begun}
+use Rattle.tx_log.proofs.logs.TxLog.open_count.Goals as goal
+
+pub returns : goal.returns
+returns c =
+    let l = c.self.inside in
+    let rs = reverse l.records.items in
+    let many : vec_len l.txs ≡ length l.txs.items = omega (arith, l.txs.ok.0) in
+    c.len.ensures ∙ many ∙ sym (len-txs_of (kept_of rs) rs l.begun l.txs.items c.self.invariant.log_kept.fit) ∙ ap (λ (s : LogState). maps.len s.txs) c.self.view_is
+
+pub overflow_cast-result : goal.overflow_cast-result
+overflow_cast-result c =
+    let l = c.self.inside in
+    let rs = reverse l.records.items in
+    let many : vec_len l.txs ≡ length l.txs.items = omega (arith, l.txs.ok.0) in
+    let counted = len-txs_of (kept_of rs) rs l.begun l.txs.items c.self.invariant.log_kept.fit in
+    let few = len-begun (state_of l) (is_log (state_of l) rs l.txs.items l.pending l.gone c.self.invariant.log_kept (omega (arith, c.self.invariant.roomy.fits, length-reverse l.records.items)) c.self.invariant.roomy.within refl refl) in
+    omega (arith, c.len.ensures, many, counted, few, c.self.invariant.roomy.within, c.self.invariant.roomy.most_begins)

@@ -1,0 +1,24 @@
+-- A log by example. One transaction writes a, sets a savepoint, writes a and b, goes back to the savepoint, writes c, and
+-- goes back to its beginning.
+use Rattle.std.specs.Prelude.{ℕ, List, [], ◌∷◌, Option, Some, None}
+use Rattle.rec_types.specs.declared.transactions.TxId.{TxId}
+use Rattle.tx_log.specs.declared.log_records.LogRecord.{LogRecord}
+use Rattle.tx_log.specs.declared.log_records.LogRecord.TheVariants.{Update, Compensation}
+
+abbrev pub one : TxId
+one = record { 0 = 1 }
+
+abbrev pub byte : ℕ → List ℕ
+byte b = b ∷ []
+
+abbrev pub eight : List LogRecord
+eight =
+    Update 1 0 one (byte 97) None (Some (byte 49))
+    ∷ Update 2 1 one (byte 97) (Some (byte 49)) (Some (byte 50))
+    ∷ Update 3 2 one (byte 98) None (Some (byte 51))
+    ∷ Compensation 4 3 one (byte 98) None 2
+    ∷ Compensation 5 4 one (byte 97) (Some (byte 49)) 1
+    ∷ Update 6 5 one (byte 99) None (Some (byte 52))
+    ∷ Compensation 7 6 one (byte 99) None 5
+    ∷ Compensation 8 7 one (byte 97) None 0
+    ∷ []
