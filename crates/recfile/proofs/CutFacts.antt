@@ -37,7 +37,7 @@ all_fail p xs is k lt =
 pub rest_cut : (xs : List ℕ) (n : ℕ) → take (length xs - n) (drop n xs) ≡ drop n xs
 rest_cut xs n = take_all _ _ (omega (arith, length-drop {A = ℕ}))
 
-empty_line : line_of [] ≡ lines.Nothing
+pub empty_line : line_of [] ≡ lines.Nothing
 unfolding line_of
 empty_line = refl
 

@@ -1,5 +1,5 @@
 -- The run of a script over a file: each line that says something has one reply.
-use Rattle.std.specs.Prelude.{◌≡◌, ℕ, ◌+◌, ◌<◌, ◌≤◌, Bool, true, false, List, [], ◌∷◌, ◌++◌, length, Option, Some, None, Result, Ok, Err, IsTrue, ◌⊎◌}
+use Rattle.std.specs.Prelude.{◌≡◌, ℕ, ◌+◌, ◌<◌, ◌≤◌, Bool, true, false, List, [], ◌∷◌, ◌++◌, length, filter, Option, Some, None, Result, Ok, Err, IsTrue, ◌⊎◌}
 use Rattle.std.specs.List.{flat_map}
 use Rattle.std.specs.Io.KnownBytes.{Consumes, Appends}
 use Rattle.rec_types.specs.History.{log_len}
@@ -67,11 +67,13 @@ Session old [] (answer ∷ replies) new = ⊥
 Session old (line ∷ entries) [] new = ⊥
 
 -- a line that can't be read is no command
+abbrev pub is_command : Line → Bool
+is_command (lines.Said c) = true
+is_command lines.Unread = false
+is_command lines.Nothing = false
+
 abbrev pub commands : List Line → ℕ
-commands [] = 0
-commands (lines.Said c ∷ entries) = commands entries + 1
-commands (lines.Unread ∷ entries) = commands entries
-commands (lines.Nothing ∷ entries) = commands entries
+commands entries = length (filter is_command entries)
 
 -- the front of a script was run: its entries up to a rest have these replies, with this many commands
 pub record Served (script rest : List ℕ) (old : Seen) (replies : List Reply) (new : Seen) (done : ℕ) : Type 0 where
@@ -91,11 +93,28 @@ abbrev pub EndsRun : Option (List ℕ) → Option (List ℕ) → Seen → Seen �
 EndsRun held holds old new done made script =
     (replies : List Reply) × (last : Reply) × (rest : List ℕ) × Served script rest old (replies ++ last ∷ []) new done × (made ≡ false → Appends held holds (flat_map text_of replies))
 
--- Too long a script, and one that can't be read, run nothing. Otherwise the script was read, and exactly the
--- first `done` commands were run; where memory was wanting the replies before the failed one are written.
+-- a run that stopped at a reply; where memory was wanting the replies before it are written
+abbrev pub StopsAt : Option (List ℕ) → Option (List ℕ) → Seen → Seen → List ℕ → ScriptFault → Type 0
+StopsAt held holds old new script faults.ScriptTooLong = ⊥
+StopsAt held holds old new script faults.ReadFault = ⊥
+StopsAt held holds old new script (faults.WriteFault done) = EndsRun held holds old new done true script
+StopsAt held holds old new script (faults.Memory done) = EndsRun held holds old new done false script
+
+-- a reply that could not be made, and one that could not be written, after so many commands
+abbrev pub IsUnsent : Option (List ℕ) → Option (List ℕ) → ℕ → ScriptFault → Type 0
+IsUnsent held holds done faults.ScriptTooLong = ⊥
+IsUnsent held holds done faults.ReadFault = ⊥
+IsUnsent held holds done (faults.WriteFault n) = n ≡ done
+IsUnsent held holds done (faults.Memory n) = (n ≡ done) × (holds ≡ held)
+
+-- a script that wasn't read whole
+abbrev pub ReadStops : Option (List ℕ) → Option (List ℕ) → ScriptFault → Type 0
+ReadStops left leaves faults.ScriptTooLong = IsTooLong left leaves
+ReadStops left leaves faults.ReadFault = Unit {0}
+ReadStops left leaves (faults.WriteFault done) = ⊥
+ReadStops left leaves (faults.Memory done) = done ≡ 0
+
+-- Either the script wasn't read, and nothing was run, or it was, and exactly the first `done` commands were run.
 abbrev pub Faulted : Option (List ℕ) → Option (List ℕ) → Option (List ℕ) → Option (List ℕ) → Seen → Seen → ScriptFault → Type 0
-Faulted left leaves held holds old new faults.ScriptTooLong = IsTooLong left leaves × (new ≡ old) × (holds ≡ held)
-Faulted left leaves held holds old new faults.ReadFault = (new ≡ old) × (holds ≡ held)
-Faulted left leaves held holds old new (faults.WriteFault done) = (script : List ℕ) × IsWhole left leaves script × EndsRun held holds old new done true script
-Faulted left leaves held holds old new (faults.Memory done) =
-    ((done ≡ 0) × (new ≡ old) × (holds ≡ held)) ⊎ ((script : List ℕ) × IsWhole left leaves script × EndsRun held holds old new done false script)
+Faulted left leaves held holds old new fault =
+    (ReadStops left leaves fault × (new ≡ old) × (holds ≡ held)) ⊎ ((script : List ℕ) × IsWhole left leaves script × StopsAt held holds old new script fault)

@@ -1,8 +1,21 @@
-ghost use Rattle.std.specs.Prelude.{◌≡◌, IfOk, OnErr};
-ghost use Rattle.recfile.specs.Whole.{IsWhole, IsTooLong};
+ghost use Rattle.std.specs.Prelude.{◌≡◌, ◌≤◌, List, length, IfOk, IfErr, OnOk};
+ghost use Rattle.std.specs.List.{flat_map};
+ghost use Rattle.std.specs.Io.KnownBytes.{Appends};
+ghost use Rattle.recfile.specs.Whole.{IsWhole};
+ghost use Rattle.recfile.specs.Script.{entries_of};
+ghost use Rattle.recfile.specs.Texts.{text_of};
+ghost use Rattle.recfile.specs.Run.{seen_by, Session, Finished, Faulted, ReadStops, StopsAt, IsUnsent, commands};
+ghost use Rattle.recfile.specs.declared.replies.Reply.{Reply};
+
+use crate::calls::reply_to;
+use crate::cutting::next_line;
+use crate::reading::read_line;
+use crate::replies::{Reply, write_reply};
+use rec_types::Table;
+use record_file::RecordFile;
 
 use std::alloc::Global;
-use std::io::Read;
+use std::io::{Read, Write};
 use thiserror::Error;
 
 /// Why a script wasn't run to its end. `done` commands were run, the last one included whose reply could not
@@ -26,7 +39,7 @@ const SCRIPT_LIMIT: usize = 1_048_576;
 // each where it is met.
 fn read_script<R: Read>(alloc: Global, reader: &mut R) -> Result<Vec<u8>, ScriptFault>
     ensures whole { IfOk result (λ script. IsWhole (R.remaining reader.old) (R.remaining reader.new) script.items) }
-    ensures too_long { result ≡ Err ScriptFault.ScriptTooLong → IsTooLong (R.remaining reader.old) (R.remaining reader.new) }
+    ensures stops { IfErr result (ReadStops (R.remaining reader.old) (R.remaining reader.new)) }
 {
     let mut script = Vec::new(alloc);
     let mut chunk = [0; 4096];
@@ -46,4 +59,68 @@ fn read_script<R: Read>(alloc: Global, reader: &mut R) -> Result<Vec<u8>, Script
         }
     }
     Err(ScriptFault::ScriptTooLong)
+}
+
+/// Runs the whole script that a reader has, and answers how many commands it had. Each reply is written
+/// before the next command is run. Faults: ScriptTooLong, where no command is run; ReadFault, WriteFault and
+/// Memory where they are met.
+pub fn run_script<T: Table, R: Read, W: Write>(
+    alloc: Global,
+    reader: &mut R,
+    writer: &mut W,
+    file: &mut RecordFile<T>,
+) -> Result<u32, ScriptFault>
+    ensures finished { IfOk result (Finished (R.remaining reader.old) (R.remaining reader.new) (W.contents writer.old) (W.contents writer.new) (seen_by T.sound T.device_failures T.memory_refusals file.old) (seen_by T.sound T.device_failures T.memory_refusals file.new)) }
+    ensures faulted { IfErr result (Faulted (R.remaining reader.old) (R.remaining reader.new) (W.contents writer.old) (W.contents writer.new) (seen_by T.sound T.device_failures T.memory_refusals file.old) (seen_by T.sound T.device_failures T.memory_refusals file.new)) }
+{
+    match read_script(alloc, reader) {
+        Ok(script) => run_lines(alloc, &script, writer, file),
+        Err(fault) => Err(fault),
+    }
+}
+
+// Runs the lines of a script, one after another.
+fn run_lines<T: Table, W: Write>(
+    alloc: Global,
+    script: &[u8],
+    writer: &mut W,
+    file: &mut RecordFile<T>,
+) -> Result<u32, ScriptFault>
+    requires { length script.now ≤ 1048576 }
+    ensures finished { IfOk result (λ done. (replies : List Reply) × Session (seen_by T.sound T.device_failures T.memory_refusals file.old) (entries_of script.now) replies (seen_by T.sound T.device_failures T.memory_refusals file.new)
+        × Appends (W.contents writer.old) (W.contents writer.new) (flat_map text_of replies) × (done ≡ commands (entries_of script.now))) }
+    ensures stops { IfErr result (StopsAt (W.contents writer.old) (W.contents writer.new) (seen_by T.sound T.device_failures T.memory_refusals file.old) (seen_by T.sound T.device_failures T.memory_refusals file.new) script.now) }
+{
+    let mut rest = script;
+    let mut done = 0;
+    while !rest.is_empty() {
+        let (line, after) = next_line(rest);
+        rest = after;
+        let said = read_line(line);
+        let Some(reply) = reply_to(file, said) else {
+            continue;
+        };
+        done += said.command_count();
+        send(alloc, writer, reply, done)?;
+    }
+    Ok(done)
+}
+
+// Writes a reply, after `done` commands. Faults: Memory, WriteFault.
+fn send<W: Write>(
+    alloc: Global,
+    writer: &mut W,
+    reply: Reply,
+    done: u32,
+) -> Result<(), ScriptFault>
+    ensures ok { OnOk result (Appends (W.contents writer.old) (W.contents writer.new) (text_of reply)) }
+    ensures err { IfErr result (IsUnsent (W.contents writer.old) (W.contents writer.new) done) }
+{
+    let Ok(text) = write_reply(alloc, &reply) else {
+        return Err(ScriptFault::Memory { done });
+    };
+    match writer.write_all(text.as_bytes()) {
+        Ok(()) => Ok(()),
+        Err(_) => Err(ScriptFault::WriteFault { done }),
+    }
 }
