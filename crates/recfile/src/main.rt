@@ -7,5 +7,27 @@ mod cutting;
 mod reading;
 mod replies;
 mod scripts;
+#[cfg(test)]
+mod tests;
 
-fn main() {}
+use rec_types::{Limits, SortedTable};
+use record_file::RecordFile;
+use scripts::run_script;
+use std::process::ExitCode;
+
+/// Runs the script of standard input over an empty file in memory, with the greatest limits, and writes its
+/// replies to standard output. The status is 3 where the script wasn't run to its end, else 0.
+fn main(rt: HostRuntime) -> ExitCode {
+    let alloc = rt.alloc();
+    let Ok(limits) = Limits::new(1_000_000, 4_000_000, 1_000_000) else {
+        unreachable!()
+    };
+    let mut file = RecordFile::new(alloc, SortedTable::new(alloc, limits), limits);
+    match run_script(alloc, &mut rt.stdin(), &mut rt.stdout(), &mut file) {
+        Ok(_) => ExitCode::SUCCESS,
+        Err(fault) => {
+            let _ = eprintln!(rt; "recfile: {fault}");
+            ExitCode::from(3)
+        }
+    }
+}

@@ -13,7 +13,6 @@ use crate::reading::read_line;
 use crate::replies::{Reply, write_reply};
 use rec_types::Table;
 use record_file::RecordFile;
-
 use std::alloc::Global;
 use std::io::{Read, Write};
 use thiserror::Error;
@@ -107,12 +106,7 @@ fn run_lines<T: Table, W: Write>(
 }
 
 // Writes a reply, after `done` commands. Faults: Memory, WriteFault.
-fn send<W: Write>(
-    alloc: Global,
-    writer: &mut W,
-    reply: Reply,
-    done: u32,
-) -> Result<(), ScriptFault>
+fn send<W: Write>(alloc: Global, writer: &mut W, reply: Reply, done: u32) -> Result<(), ScriptFault>
     ensures ok { OnOk result (Appends (W.contents writer.old) (W.contents writer.new) (text_of reply)) }
     ensures err { IfErr result (IsUnsent (W.contents writer.old) (W.contents writer.new) done) }
 {

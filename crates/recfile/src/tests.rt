@@ -1,0 +1,279 @@
+use crate::scripts::{ScriptFault, run_script};
+use rec_types::{LimitFault, Limits, SortedTable};
+use record_file::RecordFile;
+use std::alloc::Global;
+use std::io;
+use std::io::Write;
+use std::process::Abort;
+use std::test::Fail;
+
+fn greatest() -> Result<Limits, LimitFault> {
+    Limits::new(1_000_000, 4_000_000, 1_000_000)
+}
+
+fn empty_file(alloc: Global, limits: Limits) -> RecordFile<SortedTable> {
+    RecordFile::new(alloc, SortedTable::new(alloc, limits), limits)
+}
+
+/// Runs the lines over an empty file, and expects the replies, each with its end, and this many commands.
+fn expect(
+    rt: &impl Abort,
+    alloc: Global,
+    limits: Limits,
+    script: &str,
+    replies: &str,
+    commands: u32,
+) -> Result<(), Fail> {
+    let mut file = empty_file(alloc, limits);
+    let mut reader = script.as_bytes();
+    let mut out = Vec::new(alloc);
+    let done = run_script(alloc, &mut reader, &mut out, &mut file)?;
+    assert_eq!(rt; String::from_utf8(out)?.as_str(), replies);
+    assert_eq!(rt; done, commands);
+    Ok(())
+}
+
+#[test]
+fn an_empty_file(rt: HostRuntime) -> Result<(), Fail> {
+    expect(
+        &rt,
+        rt.alloc(),
+        greatest()?,
+        "begin\nget 1 a\nlist\ncommit 1\n",
+        "ok 1\nok none\nok 0\nok\n",
+        4,
+    )
+}
+
+#[test]
+fn a_second_put_answers_the_first_record(rt: HostRuntime) -> Result<(), Fail> {
+    expect(
+        &rt,
+        rt.alloc(),
+        greatest()?,
+        "begin\nput 1 a =x\nput 1 a =y\nget 1 a\n",
+        "ok 1\nok none\nok =x\nok =y\n",
+        4,
+    )
+}
+
+#[test]
+fn a_rollback_takes_every_change_back(rt: HostRuntime) -> Result<(), Fail> {
+    expect(
+        &rt,
+        rt.alloc(),
+        greatest()?,
+        "begin\nput 1 a =x\nput 1 a =y\nget 1 a\nback 1 0\nget 1 a\nkeys 1\nlog\n",
+        "ok 1\nok none\nok =x\nok =y\nok 2\nok none\nok 0\nok 4 4\n",
+        8,
+    )?;
+    expect(
+        &rt,
+        rt.alloc(),
+        greatest()?,
+        "begin\nput 1 a =x\nput 1 b =y\nput 1 a =z\nback 1 1\nback 1 0\nlist\nback 1 0\n",
+        "ok 1\nok none\nok none\nok =x\nno NoSuchSave\nok 3\nok 0\nok 0\n",
+        8,
+    )
+}
+
+#[test]
+fn one_transaction_may_be_begun(rt: HostRuntime) -> Result<(), Fail> {
+    expect(
+        &rt,
+        rt.alloc(),
+        Limits::new(1_000_000, 4_000_000, 1)?,
+        "begin\nput 1 a =x\nput 1 a =y\nbegin\nlist\n",
+        "ok 1\nok none\nok =x\nno BeginsSpent\n- a =y @1\nok 1\n",
+        5,
+    )
+}
+
+#[test]
+fn a_rollback_leaves_what_another_committed(rt: HostRuntime) -> Result<(), Fail> {
+    expect(
+        &rt,
+        rt.alloc(),
+        greatest()?,
+        "begin\nbegin\nsave 1\nput 1 b =1\nput 2 d =2\ncommit 2\nback 1 1\nlist\n",
+        "ok 1\nok 2\nok 1\nok none\nok none\nok\nok 1\n- d =2\nok 1\n",
+        8,
+    )
+}
+
+#[test]
+fn an_owned_key_is_held(rt: HostRuntime) -> Result<(), Fail> {
+    expect(
+        &rt,
+        rt.alloc(),
+        greatest()?,
+        "begin\nbegin\nput 1 a =1\nput 2 a =2\nput 2 b =3\nback 1 0\nput 2 a =2\ncommit 2\ndel 1 b\nabort 1\nlist\ncommit 1\n",
+        "ok 1\nok 2\nok none\nno Held 1\nok none\nok 1\nok none\nok\nok =3\nok 1\n- a =2\n- b =3\nok 2\nno NoSuchTx\n",
+        12,
+    )?;
+    expect(
+        &rt,
+        rt.alloc(),
+        greatest()?,
+        "begin\nbegin\nput 1 b =1\nput 2 a =2\nput 2 c =3\nback 1 0\nlist\n",
+        "ok 1\nok 2\nok none\nok none\nok none\nok 1\n- a =2 @2\n- c =3 @2\nok 2\n",
+        7,
+    )
+}
+
+#[test]
+fn a_partial_rollback_frees_what_no_change_names(rt: HostRuntime) -> Result<(), Fail> {
+    expect(
+        &rt,
+        rt.alloc(),
+        greatest()?,
+        "begin\nbegin\nput 1 a =1\nsave 1\nput 1 a =2\nback 1 1\nput 2 a =9\nget 1 a\n",
+        "ok 1\nok 2\nok none\nok 1\nok =1\nok 1\nno Held 1\nok =1\n",
+        8,
+    )?;
+    expect(
+        &rt,
+        rt.alloc(),
+        greatest()?,
+        "begin\nbegin\nsave 1\nput 1 a =2\nget 2 a\nback 1 1\nput 2 a =9\nget 1 a\n",
+        "ok 1\nok 2\nok 1\nok none\nno Held 1\nok 1\nok none\nno Held 2\n",
+        8,
+    )
+}
+
+#[test]
+fn two_partial_rollbacks(rt: HostRuntime) -> Result<(), Fail> {
+    expect(
+        &rt,
+        rt.alloc(),
+        greatest()?,
+        "begin\nsave 1\nput 1 a =1\nsave 1\nput 1 a =2\nsave 1\nput 1 b =3\nback 1 2\nput 1 c =4\nsave 1\nback 1 1\nlist\nlog\n",
+        "ok 1\nok 1\nok none\nok 2\nok =1\nok 3\nok none\nok 2\nok none\nok 3\nok 2\nok 0\nok 8 8\n",
+        13,
+    )
+}
+
+#[test]
+fn charged_keys_fill_a_file(rt: HostRuntime) -> Result<(), Fail> {
+    expect(
+        &rt,
+        rt.alloc(),
+        Limits::new(2, 4_000_000, 1_000_000)?,
+        "begin\nput 1 a =x\nput 1 b =y\ncommit 1\nbegin\nbegin\ndel 2 a\ndel 2 a\nput 3 c =z\nput 2 c =z\ncommit 2\nput 3 c =z\n",
+        "ok 1\nok none\nok none\nok\nok 2\nok 3\nok =x\nno Absent\nno Full\nno Full\nok\nok none\n",
+        12,
+    )
+}
+
+#[test]
+fn the_log_keeps_room_to_take_back(rt: HostRuntime) -> Result<(), Fail> {
+    expect(
+        &rt,
+        rt.alloc(),
+        Limits::new(1_000_000, 4, 1_000_000)?,
+        "begin\nput 1 a =x\nput 1 b =y\nput 1 c =z\ndel 1 a\nlog\nback 1 0\nlog\nput 1 a =x\ncommit 1\n",
+        "ok 1\nok none\nok none\nno LogFull\nno LogFull\nok 2 4\nok 2\nok 4 4\nno LogFull\nok\n",
+        10,
+    )
+}
+
+#[test]
+fn ended_transactions_are_gone(rt: HostRuntime) -> Result<(), Fail> {
+    expect(
+        &rt,
+        rt.alloc(),
+        Limits::new(1_000_000, 4_000_000, 2)?,
+        "begin\ncommit 1\ncommit 1\nget 1 a\nresume 1\nkeys 1\nput 0 a =x\nbegin\nresume 2\nabort 2\nabort 2\nbegin\n",
+        "ok 1\nok\nno NoSuchTx\nno NoSuchTx\nno NoSuchTx\nno NoSuchTx\nno NoSuchTx\nok 2\nno NotRolling\nok 0\nno NoSuchTx\nno BeginsSpent\n",
+        12,
+    )
+}
+
+#[test]
+fn savepoints_have_a_greatest_depth(rt: HostRuntime) -> Result<(), Fail> {
+    let alloc = rt.alloc();
+    let mut script = String::new(alloc);
+    let mut replies = String::new(alloc);
+    script.push_str("begin\n")?;
+    replies.push_str("ok 1\n")?;
+    for n in 1..33 {
+        script.push_str("save 1\n")?;
+        writeln!(replies, "ok {n}")?;
+    }
+    script.push_str(
+        "save 1\nrelease 1 0\nback 1 33\nrelease 1 32\nsave 1\nback 1 0\nrelease 1 1\nsave 1\n",
+    )?;
+    replies.push_str(
+        "no TooDeep\nno NoSuchSave\nno NoSuchSave\nok\nok 32\nok 0\nno NoSuchSave\nok 1\n",
+    )?;
+    expect(&rt, alloc, greatest()?, &script, &replies, 41)
+}
+
+#[test]
+fn lines_that_say_nothing_or_cannot_be_read(rt: HostRuntime) -> Result<(), Fail> {
+    expect(
+        &rt,
+        rt.alloc(),
+        greatest()?,
+        "\n# note\nfrob\nget 1\nput 1 a x\n  begin\r\n  commit   01",
+        "bad UnknownCommand\nbad UnknownCommand\nbad UnknownCommand\nok 1\nok\n",
+        2,
+    )
+}
+
+#[test]
+fn a_thousand_records_go_back(rt: HostRuntime) -> Result<(), Fail> {
+    let alloc = rt.alloc();
+    let mut script = String::new(alloc);
+    let mut replies = String::new(alloc);
+    script.push_str("begin\nsave 1\n")?;
+    replies.push_str("ok 1\nok 1\n")?;
+    for n in 0..1000 {
+        writeln!(script, "put 1 k{n} ={n}")?;
+        replies.push_str("ok none\n")?;
+    }
+    script.push_str("log\nback 1 1\nlist\nlog\n")?;
+    replies.push_str("ok 1000 2000\nok 1000\nok 0\nok 2000 2000\n")?;
+    expect(&rt, alloc, greatest()?, &script, &replies, 1006)
+}
+
+/// A writer that refuses every write.
+#[derive(Drop)]
+struct Closed;
+
+impl Write for Closed {
+    fn write(&mut self, _bytes: &[u8]) -> io::Result<usize> {
+        Err(io::Error::from(io::ErrorKind::BrokenPipe))
+    }
+
+    fn flush(&mut self) -> io::Result<()> {
+        Ok(())
+    }
+}
+
+#[test]
+fn scripts_that_are_not_run_to_their_end(rt: HostRuntime) -> Result<(), Fail> {
+    let alloc = rt.alloc();
+    let mut comment = Vec::with_capacity(alloc, 1_048_577)?;
+    for _ in 0..1_048_576 {
+        comment.push(b'#')?;
+    }
+    let mut out = Vec::new(alloc);
+    let mut file = empty_file(alloc, greatest()?);
+    let mut reader = comment.as_slice();
+    assert_eq!(rt; run_script(alloc, &mut reader, &mut out, &mut file), Ok(0));
+    comment.push(b'#')?;
+    let mut reader = comment.as_slice();
+    assert_eq!(rt;
+        run_script(alloc, &mut reader, &mut out, &mut file),
+        Err(ScriptFault::ScriptTooLong)
+    );
+    assert_eq!(rt; out.len(), 0);
+    let mut reader = b"begin\n".as_slice();
+    assert_eq!(rt;
+        run_script(alloc, &mut reader, &mut Closed, &mut file),
+        Err(ScriptFault::WriteFault { done: 1 })
+    );
+    assert_eq!(rt; file.begun(), 1);
+    Ok(())
+}
