@@ -1,7 +1,7 @@
 -- The run of a script over a file: each line that says something has one reply.
-use Rattle.std.specs.Prelude.{◌≡◌, ℕ, ◌+◌, ◌<◌, ◌≤◌, Bool, true, false, List, [], ◌∷◌, ◌++◌, length, filter, Option, Some, None, Result, Ok, Err, IsTrue, ◌⊎◌}
+use Rattle.std.specs.Prelude.{◌≡◌, ℕ, ◌<◌, Bool, true, false, List, [], ◌∷◌, ◌++◌, length, filter, Option, IsTrue, ◌⊎◌}
 use Rattle.std.specs.List.{flat_map}
-use Rattle.std.specs.Io.KnownBytes.{Consumes, Appends}
+use Rattle.std.specs.Io.KnownBytes.{Appends}
 use Rattle.rec_types.specs.History.{log_len}
 use Rattle.record_file.specs.Abstract.{File, OpenFile, use_of}
 use Rattle.record_file.specs.Steps.{rose, listed, BeginStep, PutStep, RemoveStep, GetStep, SavepointStep, ReleaseStep, CommitStep, RollbackToStep, AbortStep, ResumeStep, EntriesStep, KeysOfStep}
@@ -12,7 +12,7 @@ use Rattle.recfile.specs.declared.replies.Reply.{Reply}
 use Rattle.recfile.specs.declared.replies.Reply.TheVariants as reply
 use Rattle.recfile.specs.declared.scripts.ScriptFault.{ScriptFault}
 use Rattle.recfile.specs.declared.scripts.ScriptFault.TheVariants as faults
-use Rattle.recfile.specs.Script.{entries_of, keep}
+use Rattle.recfile.specs.Script.{entries_of}
 use Rattle.recfile.specs.Texts.{text_of}
 use Rattle.recfile.specs.Whole.{IsWhole, IsTooLong}
 

@@ -1,15 +1,15 @@
 -- How many keys are charged: those that have a record, and the owned ones that have none.
-use Rattle.std.proofs.Common.{◌≡◌, ℕ, ◌+◌, zero, suc, Bool, true, false, cond, if◌then◌else◌, not, ◌&&◌, ◌||◌, List, [], ◌∷◌, map, filter, Option, Some, None, is_some, refl, sym, ap, subst, ◌∙◌, IsTrue}
+use Rattle.std.proofs.Common.{◌≡◌, ℕ, ◌+◌, Bool, true, false, cond, if◌then◌else◌, not, ◌&&◌, ◌||◌, List, [], ◌∷◌, map, filter, Option, Some, None, is_some, refl, sym, ap, subst, ◌∙◌}
 use Rattle.std.specs.FinMap as maps
 use Rattle.std.specs.FinMap.{len, get-empty}
 use Rattle.std.specs.Cmp.Lexicographic.{slice_cmp}
 use Rattle.std.specs.Ordering.{nat_cmp}
 use Rattle.rec_types.specs.Contents.{Contents, set_to, same_key, has}
-use Rattle.rec_types.specs.History.{Change, is_pending, applied, replay}
+use Rattle.rec_types.specs.History.{Change, is_pending, replay}
 use Rattle.rec_types.specs.Kept.{Kept, change_of, history_of, OnlyOf, IsOwned}
-use Rattle.rec_types.proofs.ContentsFacts.{same_key-is, same_key-sym, same_key-of}
-use Rattle.rec_types.proofs.Sizes.{has-set_to, AreParts, len-parts}
-use Rattle.tx_log.specs.Owners.{claims, owner_of, charged, absence, absent}
+use Rattle.rec_types.proofs.ContentsFacts.{same_key-is, same_key-sym}
+use Rattle.rec_types.proofs.Sizes.{has-set_to, len-parts}
+use Rattle.tx_log.specs.Owners.{owner_of, charged, absence, absent}
 use Rattle.record_file.proofs.ChargedFacts.{claimed, has-charged}
 
 -- the pending changes, each turned into whether its key is absent

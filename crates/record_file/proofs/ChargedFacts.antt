@@ -1,17 +1,12 @@
 -- Which keys are owned and charged, and how a step changes that.
-use Rattle.std.proofs.Common.{◌≡◌, ℕ, ◌+◌, ◌≤◌, ◌<◌, zero, suc, Bool, true, false, cond, if◌then◌else◌, not, ◌&&◌, ◌||◌, eqb, nat_lt, List, [], ◌∷◌, ◌++◌, map, filter, Option, Some, None, is_some, refl, sym, ap, subst, ◌∙◌, IsTrue, arith}
+use Rattle.std.proofs.Common.{◌≡◌, ℕ, ◌≤◌, Bool, true, false, cond, if◌then◌else◌, ◌&&◌, ◌||◌, eqb, List, [], ◌∷◌, ◌++◌, Option, Some, None, is_some, refl, sym, ap, ◌∙◌, IsTrue, arith}
 use Rattle.std.proofs.lemmas.Bool.Decides.{nat_tests}
-use Rattle.std.specs.FinMap as maps
-use Rattle.std.specs.FinMap.{get-empty}
-use Rattle.std.specs.Cmp.Lexicographic.{slice_cmp}
-use Rattle.std.specs.Ordering.{nat_cmp}
 use Rattle.rec_types.specs.Contents.{Contents, set_to, same_key, has}
-use Rattle.rec_types.specs.History.{Change, live_of, taken_back, live_from, is_pending, applied, replay}
-use Rattle.rec_types.specs.Kept.{Kept, change_of, history_of, newest_or, newest_live, is_own, undone, undone_or, AllBegun, OnlyOf, IsOwned}
-use Rattle.rec_types.proofs.ContentsFacts.{get-set_to, same_key-is, same_key-refl, same_key-sym, same_key-of}
-use Rattle.rec_types.proofs.KeptFacts.{PendingOf, pending-only}
-use Rattle.rec_types.proofs.Sizes.{has-set_to, IsWithin, AreParts, len-parts}
-use Rattle.tx_log.specs.Owners.{claims, owner_of, other_than, holder_of, charged, owned, absence, absent}
+use Rattle.rec_types.specs.History.{Change, is_pending}
+use Rattle.rec_types.specs.Kept.{Kept, change_of, history_of, newest_or, newest_live, is_own, undone, undone_or, AllBegun}
+use Rattle.rec_types.proofs.ContentsFacts.{same_key-sym, same_key-of}
+use Rattle.rec_types.proofs.Sizes.{has-set_to}
+use Rattle.tx_log.specs.Owners.{claims, owner_of, charged}
 
 -- some open transaction has a live change at the key
 abbrev pub claimed : (ℕ → Bool) → List Change → List ℕ → Bool

@@ -1,13 +1,11 @@
 -- What a table's fault means to a call.
-use Rattle.std.proofs.Common.{◌≡◌, ℕ, ◌+◌, ◌≤◌, ◌<◌, Bool, true, false, cond, ◌&&◌, nat_lt, List, Option, Some, None, Result, Ok, Err, refl, sym, ap, subst, ◌∙◌, arith, IsSome}
+use Rattle.std.proofs.Common.{◌≡◌, ℕ, ◌+◌, ◌<◌, Bool, true, false, cond, nat_lt, List, Option, Some, None, Err, refl, arith, IsSome}
 use Rattle.std.proofs.lemmas.Bool.Decides.{nat_tests}
 use Rattle.std.specs.FinMap as maps
-use Rattle.rec_types.specs.Table.{is_device, is_memory, counted}
+use Rattle.rec_types.specs.Table.{is_device, counted}
 use Rattle.rec_types.specs.declared.tables.TableFault.{TableFault}
 use Rattle.rec_types.specs.declared.tables.TableFault.TheVariants as table_faults
 use Rattle.tx_log.specs.declared.phases.UndoStep.{UndoStep}
-use Rattle.record_file.specs.declared.faults.PutFault.{PutFault}
-use Rattle.record_file.specs.declared.faults.RemoveFault.{RemoveFault}
 use Rattle.record_file.specs.Abstract.{File, records_of, is_full}
 use Rattle.record_file.specs.Faults.{put_fault, remove_fault}
 use Rattle.record_file.specs.Steps.{rose, put_refusal, remove_refusal, PutStep, RemoveStep}

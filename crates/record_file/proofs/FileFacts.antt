@@ -1,19 +1,18 @@
 -- What a change, and taking one back, do to the file that a log and a table stand for.
-use Rattle.std.proofs.Common.{◌≡◌, ℕ, ◌+◌, ◌≤◌, ◌<◌, zero, suc, Bool, true, false, cond, if◌then◌else◌, not, ◌&&◌, ◌||◌, nat_lt, nat_le, List, [], ◌∷◌, ◌++◌, map, Option, Some, None, is_some, is_none, IsSome, refl, sym, ap, subst, ◌∙◌, IsTrue, arith}
+use Rattle.std.proofs.Common.{◌≡◌, ℕ, ◌+◌, ◌≤◌, ◌<◌, Bool, true, false, cond, not, ◌&&◌, ◌||◌, nat_lt, List, [], ◌∷◌, ◌++◌, Option, Some, None, is_some, refl, sym, ap, subst, ◌∙◌, IsTrue, arith}
 use Rattle.std.proofs.lemmas.Bool.Decides.{nat_tests}
-use Rattle.std.specs.FinMap as maps
 use Rattle.std.specs.FinMap.{get, len}
 use Rattle.rec_types.specs.Contents.{Contents, set_to, same_key, has}
-use Rattle.rec_types.specs.History.{Change, applied, replay, live_from, undo_last}
-use Rattle.rec_types.specs.Kept.{Kept, change_of, history_of, opening_of, newest_live, undone, BeforesFit, OnlyOf, IsOwned, AllBegun}
-use Rattle.rec_types.proofs.ContentsFacts.{get-set_to, set_to-twice, set_to-same, same_key-is, same_key-sym, same_key-refl}
+use Rattle.rec_types.specs.History.{Change, applied, replay, undo_last}
+use Rattle.rec_types.specs.Kept.{Kept, change_of, history_of, opening_of, newest_live, undone, BeforesFit, IsOwned, AllBegun}
+use Rattle.rec_types.proofs.ContentsFacts.{set_to-twice, set_to-same, same_key-is, same_key-sym}
 use Rattle.rec_types.proofs.KeptFacts.{opening-push, opening-over, opening-undone, replay-undone, befores-undone, befores-push}
 use Rattle.rec_types.proofs.HistoryFacts.{history-undone}
 use Rattle.rec_types.proofs.Sizes.{has-set_to, IsWithin, len-within, room_for, len_new, len_known}
 use Rattle.tx_log.specs.LogState.{LogState, IsLog, history_in, open_in}
 use Rattle.tx_log.specs.declared.log_records.LogRecord.{LogRecord}
-use Rattle.tx_log.specs.Owners.{claims, owner_of, charged, absent}
-use Rattle.record_file.specs.Abstract.{File, Fits, file_of, with_change, is_full, charged_of, records_of, open_of}
+use Rattle.tx_log.specs.Owners.{charged, absent}
+use Rattle.record_file.specs.Abstract.{Fits, file_of, with_change, charged_of}
 use Rattle.record_file.proofs.AbsentFacts.{len-charged}
 use Rattle.record_file.proofs.ChargedFacts.{claimed, has-charged, claimed-push, claimed-undone, claimed-newest, claimed-within}
 

@@ -1,5 +1,5 @@
 -- A rollback under way, after some of its changes were taken back.
-use Rattle.std.proofs.Common.{◌≡◌, ℕ, ◌+◌, ◌-◌, ◌≤◌, ◌<◌, zero, suc, Bool, true, false, cond, if◌then◌else◌, nat_lt, nat_le, take, List, Option, Some, None, Result, Ok, Err, OnOk, OnErr, refl, sym, ap, subst, ◌∙◌, arith, IsTrue, option_map}
+use Rattle.std.proofs.Common.{◌≡◌, ℕ, ◌+◌, ◌-◌, ◌≤◌, ◌<◌, suc, Bool, true, false, if◌then◌else◌, nat_le, take, List, Option, Some, None, Ok, Err, refl, sym, ap, subst, ◌∙◌, arith, option_map}
 use Rattle.std.proofs.lemmas.Bool.Decides.{nat_tests}
 use Rattle.std.specs.FinMap as maps
 use Rattle.rec_types.specs.Table.{counted}
@@ -63,15 +63,18 @@ cause_is causes.Memory d e m n few fewer counts refuses damaged = (rose_same d e
 
 -- the rollback is over
 pub rolled_all : (f now new : File) (t n total d e m k : ℕ) → IsRolling (phase_at f t) → now ≡ rolled f t n → total ≡ left_in f.history t (tx_of f t) → total ≤ n → new ≡ record now { txs = finished now.txs t (tx_of now t) } → e ≡ d → k ≡ m
-  → TakesBack f t (rolling_place (tx_of f t)) (finished f.txs t (tx_of f t)) (rose d e) (rose m k) total new
-rolled_all f now new t n total d e m k rolling is total_is le after failures refusals =
-    (rose_same d e failures, rose_same m k refusals, total_is ∙ left-rolling f.history t (tx_of f t) rolling,
-     after ∙ ap (λ (g : File). let h : File = record g { txs = finished g.txs t (tx_of g t) } in h) is
-       ∙ ap (λ (h : List Change). let g : File = record f { history = h; txs = finished f.txs t (tx_of f t) } in g) (take_newest-all f.history t (rolling_place (tx_of f t)) n (subst (λ k. k ≤ n) (total_is ∙ left-rolling f.history t (tx_of f t) rolling) le)))
+    → TakesBack f t (rolling_place (tx_of f t)) (finished f.txs t (tx_of f t)) (rose d e) (rose m k) total new
+rolled_all f now new t n total d e m k rolling is total_is le after failures refusals = (
+  rose_same d e failures,
+  rose_same m k refusals,
+  total_is ∙ left-rolling f.history t (tx_of f t) rolling,
+  after ∙ ap (λ (g : File). let h : File = record g { txs = finished g.txs t (tx_of g t) } in h) is
+      ∙ ap (λ (h : List Change). let g : File = record f { history = h; txs = finished f.txs t (tx_of f t) } in g) (take_newest-all f.history t (rolling_place (tx_of f t)) n (subst (λ k. k ≤ n) (total_is ∙ left-rolling f.history t (tx_of f t) rolling) le)),
+)
 
 -- the rollback stops
 pub rolled_stop : (f now new : File) (t n total d e m k : ℕ) (cause : Cause) → IsRolling (phase_at f t) → now ≡ rolled f t n → new ≡ now → total ≡ left_in f.history t (tx_of f t) → n < total → IsCause (rose d e) (rose m k) cause
-  → StopsAt f t (rolling_place (tx_of f t)) f.txs (rose d e) (rose m k) n (total - n) cause new
+    → StopsAt f t (rolling_place (tx_of f t)) f.txs (rose d e) (rose m k) n (total - n) cause new
 rolled_stop f now new t n total d e m k cause rolling is same total_is lt by_cause =
     (subst (λ k. n < k) (total_is ∙ left-rolling f.history t (tx_of f t) rolling) lt, ap (λ k. k - n) (total_is ∙ left-rolling f.history t (tx_of f t) rolling), by_cause, same ∙ is)
 
@@ -82,7 +85,7 @@ started f t n ends = record f { txs = maps.insert f.txs t (rolling_to (places_at
 pub is_rolling : (f now : File) (t n : ℕ) (ends : Bool) → now ≡ started f t n ends → IsRolling (phase_at now t)
 is_rolling f now t n ends is =
     subst (λ (g : File). IsRolling (phase_at g t)) (sym is)
-      (subst (λ (o : Option Tx). IsRolling (option_map phase_of o)) (sym (get-inserted_tx f.txs t (rolling_to (places_at f t) n ends))) tt)
+    (subst (λ (o : Option Tx). IsRolling (option_map phase_of o)) (sym (get-inserted_tx f.txs t (rolling_to (places_at f t) n ends))) tt)
 
 -- a rollback that has started was an active transaction
 pub rollback_starts : (f : File) (t n : ℕ) → phase_at f t ≡ Some phases.Active → n ≤ depth_of (tx_of f t) → rollback_refusal f t n ≡ None
@@ -93,7 +96,7 @@ rollback_starts f t n active le = ap (rollback_in n (depth_of (tx_of f t))) acti
 
 -- what taking back says of the started file, it says of the file before
 pub started_back : (f now new : File) (t n undone : ℕ) (ends failed refused : Bool) → now ≡ started f t n ends → TakeBackStep now t failed refused (Ok undone) new
-  → TakesBack f t (place_in (places_at f t) n) (if ends then maps.remove f.txs t else maps.insert f.txs t (active_with (take n (places_at f t)))) failed refused undone new
+    → TakesBack f t (place_in (places_at f t) n) (if ends then maps.remove f.txs t else maps.insert f.txs t (active_with (take n (places_at f t)))) failed refused undone new
 started_back f now new t n undone ends failed refused is step =
     let rolling = rolling_to (places_at f t) n ends in
     let over = subst (λ (g : File). TakeBackStep g t failed refused (Ok undone) new) is step in
@@ -101,12 +104,12 @@ started_back f now new t n undone ends failed refused is step =
     at ends told
   where
     at : (e : Bool) → TakesBack (started f t n ends) t (place_in (places_at f t) n) (if e then maps.remove (maps.insert f.txs t (rolling_to (places_at f t) n ends)) t else maps.insert (maps.insert f.txs t (rolling_to (places_at f t) n ends)) t (active_with (take n (places_at f t)))) failed refused undone new
-      → TakesBack f t (place_in (places_at f t) n) (if e then maps.remove f.txs t else maps.insert f.txs t (active_with (take n (places_at f t)))) failed refused undone new
+        → TakesBack f t (place_in (places_at f t) n) (if e then maps.remove f.txs t else maps.insert f.txs t (active_with (take n (places_at f t)))) failed refused undone new
     at true told = (told.0, told.1, told.2, told.3 ∙ ap (λ (txs : Transactions). let g : File = record f { history = take_back f.history t (place_in (places_at f t) n); txs = txs } in g) (remove-insert_tx f.txs t (rolling_to (places_at f t) n ends)))
     at false told = (told.0, told.1, told.2, told.3 ∙ ap (λ (txs : Transactions). let g : File = record f { history = take_back f.history t (place_in (places_at f t) n); txs = txs } in g) (insert-insert_tx f.txs t (rolling_to (places_at f t) n ends) (active_with (take n (places_at f t)))))
 
 pub started_stop : (f now new : File) (t n : ℕ) (ends failed refused : Bool) (stop : Stop) → now ≡ started f t n ends → TakeBackStep now t failed refused (Err stop) new
-  → StopsAt f t (place_in (places_at f t) n) (maps.insert f.txs t (rolling_to (places_at f t) n ends)) failed refused stop.undone stop.left stop.cause new
+    → StopsAt f t (place_in (places_at f t) n) (maps.insert f.txs t (rolling_to (places_at f t) n ends)) failed refused stop.undone stop.left stop.cause new
 started_stop f now new t n ends failed refused stop is step =
     let over = subst (λ (g : File). TakeBackStep g t failed refused (Err stop) new) is step in
     subst (λ (o : Option Tx). StopsAt (started f t n ends) t (rolling_place o) (started f t n ends).txs failed refused stop.undone stop.left stop.cause new) (get-inserted_tx f.txs t (rolling_to (places_at f t) n ends)) over

@@ -1,16 +1,13 @@
 -- When a file is full, when its log is, and what follows where neither is.
-use Rattle.std.proofs.Common.{◌≡◌, ℕ, ◌+◌, ◌≤◌, ◌<◌, Bool, true, false, cond, if◌then◌else◌, not, ◌&&◌, ◌||◌, nat_lt, nat_le, List, Option, Some, None, is_some, is_none, option_map, refl, sym, ap, subst, ◌∙◌, IsTrue, arith}
+use Rattle.std.proofs.Common.{◌≡◌, ℕ, ◌+◌, ◌≤◌, ◌<◌, Bool, true, false, if◌then◌else◌, not, ◌&&◌, ◌||◌, nat_lt, nat_le, List, Option, Some, None, is_some, is_none, option_map, refl, sym, ap, subst, ◌∙◌, arith}
 use Rattle.std.proofs.lemmas.Bool.Decides.{nat_tests}
-use Rattle.std.specs.FinMap as maps
 use Rattle.std.specs.FinMap.{get, len}
 use Rattle.rec_types.specs.Contents.{Contents, has}
 use Rattle.rec_types.specs.declared.transactions.TxId.{TxId}
 use Rattle.tx_log.specs.Owners.{owner_of, charged}
 use Rattle.tx_log.specs.declared.phases.Phase.{Phase}
 use Rattle.tx_log.specs.declared.phases.Phase.TheVariants as phases
-use Rattle.record_file.specs.declared.faults.PutFault.{PutFault}
 use Rattle.record_file.specs.declared.faults.PutFault.TheVariants as put_faults
-use Rattle.record_file.specs.declared.faults.RemoveFault.{RemoveFault}
 use Rattle.record_file.specs.declared.faults.RemoveFault.TheVariants as remove_faults
 use Rattle.rec_types.specs.History.{Change}
 use Rattle.rec_types.specs.LimitBounds.{Bounds}
@@ -52,6 +49,7 @@ unowned_full f x n o found counted reached is none stood b answered =
     twice : (b : Bool) → b ≡ not (not b)
     twice true = refl
     twice false = refl
+
     and_true : (b : Bool) → b ≡ b && true
     and_true true = refl
     and_true false = refl

@@ -1,5 +1,5 @@
 -- What each change of the log keeps of the file's invariant.
-use Rattle.std.proofs.Common.{◌≡◌, ℕ, ◌+◌, ◌≤◌, ◌<◌, zero, suc, Bool, true, false, cond, if◌then◌else◌, nat_lt, length, reverse, List, [], ◌∷◌, ◌++◌, Option, Some, None, is_some, refl, sym, ap, subst, ◌∙◌, IsTrue, arith, option_map, Result, Ok, Err, OnOk, OnErr}
+use Rattle.std.proofs.Common.{◌≡◌, ℕ, ◌+◌, ◌≤◌, ◌<◌, Bool, true, false, cond, if◌then◌else◌, nat_lt, length, reverse, List, [], ◌∷◌, ◌++◌, Option, Some, None, is_some, refl, sym, ap, subst, ◌∙◌, IsTrue, arith, option_map, Result, Ok, Err, OnOk, OnErr}
 use Rattle.std.specs.FinMap as maps
 use Rattle.std.specs.FinMap.{get, len}
 use Rattle.rec_types.specs.Contents.{Contents, set_to, has}
@@ -18,8 +18,8 @@ use Rattle.tx_log.specs.Log.{key_of, last_of, record_at}
 use Rattle.tx_log.specs.declared.phases.UndoStep.{UndoStep}
 use Rattle.tx_log.specs.declared.log_records.LogRecord.TheVariants.{Compensation}
 use Rattle.tx_log.specs.declared.log_records.LogRecord.{LogRecord}
-use Rattle.record_file.specs.Abstract.{IsRecordFile, Fits, written, Told, AllTold, new_in, file_of, with_change}
-use Rattle.record_file.proofs.TxFacts.{same_tx, same_tx-is, same_tx-refl, open-insert, open-remove}
+use Rattle.record_file.specs.Abstract.{IsRecordFile, written, Told, AllTold, new_in, file_of, with_change}
+use Rattle.record_file.proofs.TxFacts.{same_tx, same_tx-is, open-insert, open-remove}
 use Rattle.record_file.proofs.FileFacts.{change, put_file, undo_file, opening_put, opening_undo, fits_put, fits_undo, charged_put, charged_undo, charged_within}
 
 -- of the transactions 1 to n none opens
@@ -70,9 +70,10 @@ all_told_push (s ∷ rs) r m told tells = (told.0, all_told_push rs r (set_to m 
 -- one more record, which tells what stands at its key
 told_push : (rs : List LogRecord) (r : LogRecord) (b c now : Contents) (x : List ℕ) (w : Option (List ℕ)) → b ≡ c → key_of r ≡ x → new_in r ≡ w → Told now r → (now ≡ written b rs) × AllTold b rs → (set_to now x w ≡ written c (rs ++ r ∷ [])) × AllTold c (rs ++ r ∷ [])
 told_push rs r b c now x w same key new tells told =
-    subst (λ (n : Contents). (set_to now x w ≡ written n (rs ++ r ∷ [])) × AllTold n (rs ++ r ∷ [])) same
-      ((λ i. set_to (told.0 i) (sym key i) (sym new i)) ∙ sym (written-push rs r b),
-       all_told_push rs r b told.1 (subst (λ (n : Contents). Told n r) told.0 tells))
+    subst (λ (n : Contents). (set_to now x w ≡ written n (rs ++ r ∷ [])) × AllTold n (rs ++ r ∷ [])) same (
+      (λ i. set_to (told.0 i) (sym key i) (sym new i)) ∙ sym (written-push rs r b),
+      all_told_push rs r b told.1 (subst (λ (n : Contents). Told n r) told.0 tells),
+    )
 
 none_by_finished : (txs : Transactions) (n t : ℕ) (places : List ℕ) (r : Option Rollback) → IsTrue (is_open txs t) → OpensNone txs (finished_by txs t places r) n
 none_by_finished txs n t places None there q le is = is
@@ -98,6 +99,7 @@ undo_there cs t (Some tx) some = at tx.rollback some
         nat_lt_of : (a b : ℕ) → a < b → nat_lt a b ≡ true
         nat_lt_of a b lt = grind (arith, nat_tests)
     found p some (Some u) is = (u, is, newest_from-live cs t p u is)
+
     at : (r : Option Rollback) → 0 < left_of (history_of cs) t r → (u : Kept) × (undo_from cs t r ≡ Some u) × (newest_live t cs ≡ Some u) × (is_some (Some tx) ≡ true)
     at None some = absurd (omega arith)
     at (Some r) some = let u = found r.to some (newest_from cs t r.to) refl in (u.0, u.1, u.2, refl)
@@ -119,7 +121,7 @@ module _ (sound : Bool) (now : Contents) (limit : ℕ) (log : LogState) (limits 
 
   -- one more live change, put into the table
   pub file_put : (room : Option (List ℕ)) (r : LogRecord) (lsn t : ℕ) (x : List ℕ) (before w : Option (List ℕ)) → key_of r ≡ x → new_in r ≡ w → (IsTrue sound → Told now r) → (IsTrue sound → before ≡ get now x) → (IsTrue sound → has (charged (open_in log) (history_in log) now) x ≡ false → len (charged (open_in log) (history_in log) now) < limits.records)
-    → IsRecordFile sound (set_to now x w) limit (record log { records = log.records ++ r ∷ []; changes = log.changes ++ change lsn t x before w ∷ []; room = room }) limits
+      → IsRecordFile sound (set_to now x w) limit (record log { records = log.records ++ r ∷ []; changes = log.changes ++ change lsn t x before w ∷ []; room = room }) limits
   file_put room r lsn t x before w key new tells stood room_for = record {
     limited = old.limited;
     same_limits = old.same_limits;
@@ -153,7 +155,7 @@ module _ (sound : Bool) (now : Contents) (limit : ℕ) (log : LogState) (limits 
 
   -- the log after room was made at the key and a change was accepted there
   pub change_kept : (sound2 : Bool) (limit2 : ℕ) (now2 : Contents) (log1 log2 : LogState) (t : TxId) (x : List ℕ) (before told w : Option (List ℕ)) → sound2 ≡ sound → limit2 ≡ limit → log1 ≡ record log { room = Some x } → now2 ≡ set_to now x w → (IsTrue sound → before ≡ get now x) → told ≡ before → log2 ≡ accepted log1 t x told w
-    → (IsTrue sound → has (charged (open_in log) (history_in log) now) x ≡ false → len (charged (open_in log) (history_in log) now) < limits.records) → IsRecordFile sound2 now2 limit2 log2 limits
+      → (IsTrue sound → has (charged (open_in log) (history_in log) now) x ≡ false → len (charged (open_in log) (history_in log) now) < limits.records) → IsRecordFile sound2 now2 limit2 log2 limits
   change_kept sound2 limit2 now2 log1 log2 t x before told w sound_is limit_is reserved put stood copied accepts room_for =
       let after : log2 ≡ accepted (record log { room = Some x }) t x told w = accepts ∙ ap (λ (s : LogState). accepted s t x told w) reserved in
       subst (λ (s : Bool). IsRecordFile s now2 limit2 log2 limits) (sym sound_is)

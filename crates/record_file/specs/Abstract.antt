@@ -1,10 +1,10 @@
 -- The abstract file.
-use Rattle.std.specs.Prelude.{◌≡◌, ℕ, ◌+◌, ◌≤◌, ◌<◌, ◌==◌, Bool, true, false, ◌&&◌, nat_le, nat_lt, is_none, List, [], ◌∷◌, ◌++◌, Option, Some, None, option_map, refl, IsTrue}
+use Rattle.std.specs.Prelude.{◌≡◌, ℕ, ◌≤◌, ◌<◌, ◌==◌, Bool, true, ◌&&◌, nat_le, is_none, List, [], ◌∷◌, ◌++◌, Option, Some, option_map, refl, IsTrue}
 use Rattle.std.specs.Coded.{Coded, code_by, coded×, coded_ℕ, coded_bool, coded_list, coded_option}
 use Rattle.std.specs.FinMap as maps
 use Rattle.rec_types.specs.LimitBounds.{Bounds, coded_bounds}
 use Rattle.rec_types.specs.Contents.{Contents, coded_contents, set_to}
-use Rattle.rec_types.specs.History.{Change, replay, log_use, log_len}
+use Rattle.rec_types.specs.History.{Change, replay, log_use}
 use Rattle.rec_types.specs.Kept.{Kept, history_of, opening_of, BeforesFit}
 use Rattle.tx_log.specs.Transactions.{Transactions, Tx, coded_transactions, is_open}
 use Rattle.tx_log.specs.Owners.{owner_of, holder_of, claims, charged}

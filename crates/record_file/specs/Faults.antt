@@ -5,7 +5,6 @@ use Rattle.record_file.specs.declared.faults.PutFault.{PutFault}
 use Rattle.record_file.specs.declared.faults.PutFault.TheVariants as put_faults
 use Rattle.record_file.specs.declared.faults.RemoveFault.{RemoveFault}
 use Rattle.record_file.specs.declared.faults.RemoveFault.TheVariants as remove_faults
-
 use Rattle.record_file.specs.declared.faults.EntriesFault.{EntriesFault}
 use Rattle.record_file.specs.declared.faults.EntriesFault.TheVariants as entries_faults
 

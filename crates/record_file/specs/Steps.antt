@@ -1,13 +1,12 @@
 -- The steps of the abstract file: from an old file a call may give this answer and go on to a new one. Where the
 -- table's device failed during the call it says so by `failed`, where it refused memory by `refused`.
-use Rattle.std.specs.Prelude.{◌≡◌, ℕ, ◌+◌, ◌-◌, ◌<◌, ◌≤◌, zero, suc, Bool, true, false, nat_lt, nat_le, ◌&&◌, if◌then◌else◌, List, [], ◌∷◌, ◌++◌, map, length, take, Option, Some, None, option_map, Result, Ok, Err, IsTrue, IsSome}
+use Rattle.std.specs.Prelude.{◌≡◌, ℕ, ◌+◌, ◌-◌, ◌<◌, ◌≤◌, zero, Bool, true, false, nat_lt, nat_le, ◌&&◌, if◌then◌else◌, List, [], ◌∷◌, ◌++◌, map, length, take, Option, Some, None, option_map, Result, Ok, Err, IsSome}
 use Rattle.std.specs.Global.{Vec}
 use Rattle.std.specs.FinMap as maps
-use Rattle.rec_types.specs.Contents.{Contents}
-use Rattle.rec_types.specs.History.{Change, replay, live_from, take_back, take_newest, own_count, log_len}
+use Rattle.rec_types.specs.History.{Change, live_from, take_back, take_newest, own_count}
 use Rattle.rec_types.specs.declared.transactions.TxId.{TxId}
 use Rattle.rec_types.specs.declared.transactions.Entry.{Entry}
-use Rattle.tx_log.specs.Transactions.{Transactions, Tx, Rollback, fresh, place_in, depth_of, live_in, left_of}
+use Rattle.tx_log.specs.Transactions.{Transactions, Tx, Rollback, fresh, place_in, depth_of}
 use Rattle.tx_log.specs.Owners.{owner_of, keys_owned}
 use Rattle.tx_log.specs.LogState.{active_with, rolling_to, places_of, finished}
 use Rattle.tx_log.specs.declared.phases.Phase.{Phase}

@@ -6,10 +6,12 @@ ghost use Rattle.rec_types.specs.Table.{is_device, is_memory, counted};
 ghost use Rattle.record_file.specs.Abstract.{new_file, records_of, is_full, charged_of, use_of, tx_of, held_by, phase_at, IsKeptFile};
 ghost use Rattle.tx_log.specs.Transactions.{depth_of, left_in};
 ghost use Rattle.tx_log.specs.LogState.{rolling_to, finished, IsRolling, open_in, history_in};
-
 ghost use Rattle.record_file.specs.Steps.{rose, put_refusal, remove_refusal, get_refusal, BeginStep, PutStep, RemoveStep, GetStep, SavepointStep, ReleaseStep, CommitStep, RollbackToStep, AbortStep, ResumeStep, EntriesStep, KeysOfStep, entry_with, listed, status_of, rollback_refusal, abort_refusal, resume_refusal, TakeBackStep, places_at, by_device, by_memory};
 
-use crate::faults::{AbortFault, Cause, CommitFault, EntriesFault, GetFault, KeysOfFault, PutFault, ReleaseFault, RemoveFault, ResumeFault, RollbackToFault, SavepointFault, Status, StatusFault, Stop};
+use crate::faults::{
+    AbortFault, Cause, CommitFault, EntriesFault, GetFault, KeysOfFault, PutFault, ReleaseFault,
+    RemoveFault, ResumeFault, RollbackToFault, SavepointFault, Status, StatusFault, Stop,
+};
 use rec_types::{Entry, Key, Limits, Memory, Record, Table, TableFault, TxId};
 use std::alloc::Global;
 use std::marker::Model;
@@ -208,7 +210,17 @@ impl<T: Table> RecordFile<T> {
                 self.start_rollback(tx, n, false);
                 match self.take_back(tx) {
                     Ok(undone) => Ok(undone),
-                    Err(Stop { undone, left, cause }) => Err(RollbackToFault::Stopped { undone, left, cause }),
+                    Err(
+                        Stop {
+                            undone,
+                            left,
+                            cause,
+                        },
+                    ) => Err(RollbackToFault::Stopped {
+                        undone,
+                        left,
+                        cause,
+                    }),
                 }
             }
         }
@@ -229,7 +241,17 @@ impl<T: Table> RecordFile<T> {
                 self.start_rollback(tx, 0, true);
                 match self.take_back(tx) {
                     Ok(undone) => Ok(undone),
-                    Err(Stop { undone, left, cause }) => Err(AbortFault::Stopped { undone, left, cause }),
+                    Err(
+                        Stop {
+                            undone,
+                            left,
+                            cause,
+                        },
+                    ) => Err(AbortFault::Stopped {
+                        undone,
+                        left,
+                        cause,
+                    }),
                 }
             }
         }
@@ -248,7 +270,17 @@ impl<T: Table> RecordFile<T> {
             Some(Phase::Active) => Err(ResumeFault::NotRolling),
             Some(Phase::Rolling { .. }) => match self.take_back(tx) {
                 Ok(undone) => Ok(undone),
-                Err(Stop { undone, left, cause }) => Err(ResumeFault::Stopped { undone, left, cause }),
+                Err(
+                    Stop {
+                        undone,
+                        left,
+                        cause,
+                    },
+                ) => Err(ResumeFault::Stopped {
+                    undone,
+                    left,
+                    cause,
+                }),
             },
         }
     }

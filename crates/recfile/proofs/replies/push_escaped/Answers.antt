@@ -1,7 +1,5 @@
-use Rattle.std.proofs.Common.{◌≡◌, ◌++◌, ℕ, List, Result, Ok, Err, OnOk, refl, sym, ap, ◌∙◌, arith}
-use Rattle.std.specs.String.{string_bytes}
+use Rattle.std.proofs.Common.{refl, ◌∙◌, arith}
 use Rattle.percent_encoding.specs.AsciiSet.{should_percent_encode}
-use Rattle.recfile.specs.Texts.{escaped}
 use Rattle.recfile.proofs.EscapeFacts.{percent_encode-escaped}
 use Rattle.recfile.proofs.replies.push_escaped.Goals as goal
 

@@ -1,4 +1,4 @@
-use Rattle.std.proofs.Common.{◌++◌, ◌∷◌, [], Option, List, ℕ, ◌+◌, Err, Result, IfErr, cond, refl, sym, ap, subst, ◌∙◌}
+use Rattle.std.proofs.Common.{◌++◌, ◌∷◌, [], ℕ, ◌+◌, Err, Result, IfErr, refl, sym, ap, subst, ◌∙◌}
 use Rattle.std.proofs.lemmas.Result.{err_from_is_err_and}
 use Rattle.recfile.specs.declared.commands.Line.{Line}
 use Rattle.recfile.specs.declared.scripts.ScriptFault.{ScriptFault}

@@ -1,4 +1,4 @@
-use Rattle.std.proofs.Common.{◌≡◌, ◌+◌, ◌≤◌, ℕ, List, length}
+use Rattle.std.proofs.Common.{◌+◌, ◌≤◌, List, length}
 use Rattle.std.specs.List.{flat_map}
 use Rattle.std.specs.Io.KnownBytes.{Appends}
 use Rattle.recfile.specs.declared.replies.Reply.{Reply}

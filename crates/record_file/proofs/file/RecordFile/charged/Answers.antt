@@ -1,4 +1,4 @@
-use Rattle.std.proofs.Common.{ap, ◌∙◌}
+use Rattle.std.proofs.Common.{◌∙◌}
 use Rattle.record_file.proofs.FileFacts.{charged_count}
 use Rattle.record_file.proofs.file.RecordFile.charged.Goals as goal
 

@@ -1,6 +1,5 @@
-use Rattle.std.proofs.Common.{refl, ap, sym, ◌∙◌}
-use Rattle.record_file.specs.Abstract.{OpenFile}
-use Rattle.record_file.proofs.RollbackFacts.{rolled_none, rolled_some, rolled_more, rolled_out, rolled_all, rolled_stop, cause_is}
+use Rattle.std.proofs.Common.{refl, ap, ◌∙◌}
+use Rattle.record_file.proofs.RollbackFacts.{rolled_none, rolled_some, rolled_more, rolled_out, rolled_all}
 use Rattle.record_file.proofs.file.RecordFile.take_back.Goals as goal
 
 pub loop-undone-init : goal.loop-undone-init
@@ -15,7 +14,7 @@ loop-undone-preserved g c = record {
   total = c.loop-undone.invariant.total;
   sound = c.in_default.ensures.soundness ∙ c.loop-undone.invariant.sound;
   failures = c.in_default.ensures.device ∙ c.loop-undone.invariant.failures;
-  refusals = c.in_default.ensures.memory ∙ c.loop-undone.invariant.refusals
+  refusals = c.in_default.ensures.memory ∙ c.loop-undone.invariant.refusals;
 }
 
 pub finish-requires-clause-done : goal.finish-requires-clause-done
@@ -24,5 +23,5 @@ finish-requires-clause-done g c = rolled_out c.args.self.now.file c.loop-undone.
 pub returns-clause-step : goal.returns-clause-step
 returns-clause-step g c = λ sound few fewer.
     rolled_all c.args.self.now.file c.loop-undone.self.file c.finish.new.self.file c.args.tx.0 c.loop-undone.undone c.left-total.result _ _ _ _ c.requires c.loop-undone.invariant.file c.loop-undone.invariant.total c.loop-undone-test.false c.finish.ensures.file
-      (ap (λ t. g.T.Table.device_failures t) c.finish.ensures.table ∙ c.loop-undone.invariant.failures)
-      (ap (λ t. g.T.Table.memory_refusals t) c.finish.ensures.table ∙ c.loop-undone.invariant.refusals)
+    (ap (λ t. g.T.Table.device_failures t) c.finish.ensures.table ∙ c.loop-undone.invariant.failures)
+    (ap (λ t. g.T.Table.memory_refusals t) c.finish.ensures.table ∙ c.loop-undone.invariant.refusals)

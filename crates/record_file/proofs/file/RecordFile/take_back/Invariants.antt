@@ -12,5 +12,5 @@ invariant-loop-undone g l = record {
   total : l.total ≡ left_in l.fn.self.file.history l.tx.0 (tx_of l.fn.self.file l.tx.0);
   sound : g.T.Table.sound l.self.table ≡ g.T.Table.sound l.fn.self.table;
   failures : g.T.Table.device_failures l.self.table ≡ g.T.Table.device_failures l.fn.self.table;
-  refusals : g.T.Table.memory_refusals l.self.table ≡ g.T.Table.memory_refusals l.fn.self.table
+  refusals : g.T.Table.memory_refusals l.self.table ≡ g.T.Table.memory_refusals l.fn.self.table;
 }

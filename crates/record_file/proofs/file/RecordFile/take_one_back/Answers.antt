@@ -1,11 +1,10 @@
-use Rattle.std.proofs.Common.{ℕ, ◌≡◌, ◌<◌, ◌≤◌, Option, Some, None, Err, refl, ap, sym, subst, ◌∙◌, option_map, arith}
+use Rattle.std.proofs.Common.{◌<◌, Err, ap, sym, subst, ◌∙◌, option_map, arith}
 use Rattle.rec_types.specs.History.{undo_last}
-use Rattle.rec_types.specs.Kept.{Kept}
 use Rattle.tx_log.specs.Transactions.{left_in}
 use Rattle.tx_log.specs.declared.phases.UndoStep.{UndoStep}
 use Rattle.std.specs.FinMap as maps
-use Rattle.tx_log.specs.LogState.{LogState, undo_step, tx_in, open_in}
-use Rattle.record_file.specs.Abstract.{File, OpenFile, tx_of, file_of}
+use Rattle.tx_log.specs.LogState.{undo_step, tx_in, open_in}
+use Rattle.record_file.specs.Abstract.{File, OpenFile, tx_of}
 use Rattle.record_file.proofs.FaultFacts.{step_is}
 use Rattle.record_file.proofs.FileFacts.{undo_has_room}
 use Rattle.record_file.proofs.StateFacts.{undo_there, undo_kept, undo_file_is}
@@ -22,15 +21,15 @@ invariant_of-self g c =
     let some = subst (λ (s : OpenFile _). 0 < left_in s.file.history c.args.tx.0 (tx_of s.file c.args.tx.0)) (sym c.self.view_is) c.requires in
     let u = undo_there c.self.inside.log.changes c.args.tx.0 (tx_in c.self.inside.log c.args.tx.0) some in
     undo_kept _ _ _ c.self.inside.log _ c.self.invariant c.begun-begun.ensures.kept _ _ _ c.compensate-lsn.new.self c.args.tx u.0 c.in-Some.step c.in-Ok.ensures.soundness c.in-Ok.ensures.limit u.1 u.2 u.3
-      (step_is c.in-Some.step (undo_step u.0) (sym c.in-Some.is ∙ c.next_undo.ensures ∙ ap (option_map undo_step) u.1)) c.in-Ok.ensures.ok c.compensate-lsn.ensures.after
+    (step_is c.in-Some.step (undo_step u.0) (sym c.in-Some.is ∙ c.next_undo.ensures ∙ ap (option_map undo_step) u.1)) c.in-Ok.ensures.ok c.compensate-lsn.ensures.after
 
 pub returns-in-Ok-clause-ok : goal.returns-in-Ok-clause-ok
 returns-in-Ok-clause-ok g c =
     let some = subst (λ (s : OpenFile _). 0 < left_in s.file.history c.args.tx.0 (tx_of s.file c.args.tx.0)) (sym c.self.view_is) c.requires in
     let u = undo_there c.self.inside.log.changes c.args.tx.0 (tx_in c.self.inside.log c.args.tx.0) some in
     undo_file_is _ _ _ c.self.inside.log _ c.self.invariant c.begun-begun.ensures.kept (g.T.Table.contents c.set.new.self) c.compensate-lsn.new.self c.args.tx u.0 c.in-Some.step u.2
-      (step_is c.in-Some.step (undo_step u.0) (sym c.in-Some.is ∙ c.next_undo.ensures ∙ ap (option_map undo_step) u.1)) c.in-Ok.ensures.ok c.compensate-lsn.ensures.after
-      ∙ ap (λ (s : OpenFile _). let f : File = record s.file { history = undo_last c.args.tx.0 s.file.history } in f) c.self.view_is
+    (step_is c.in-Some.step (undo_step u.0) (sym c.in-Some.is ∙ c.next_undo.ensures ∙ ap (option_map undo_step) u.1)) c.in-Ok.ensures.ok c.compensate-lsn.ensures.after
+    ∙ ap (λ (s : OpenFile _). let f : File = record s.file { history = undo_last c.args.tx.0 s.file.history } in f) c.self.view_is
 
 -- taking back never wants room that isn't there
 pub returns-in-Err-NoRoom-clause-damaged : goal.returns-in-Err-NoRoom-clause-damaged
@@ -41,4 +40,4 @@ returns-in-Err-NoRoom-clause-damaged g c = λ sound page is.
     let here = ap (λ (s : OpenFile _). g.T.Table.sound s.table) c.self.view_is ∙ sound in
     let full = c.in-Err-NoRoom.ensures.no_room here (ap Err c.in-Err-NoRoom.field-0-is) in
     undo_has_room (open_in c.self.inside.log) c.self.inside.log.changes (g.T.Table.contents c.self.inside.table) c.self.inside.limits.records c.args.tx.0 u.0 u.3 u.2 (c.self.invariant.within here)
-      (sym (ap (λ (s : UndoStep). maps.get (g.T.Table.contents c.self.inside.table) s.key) step) ∙ full.1) (omega (arith, full.2, c.self.invariant.limited))
+    (sym (ap (λ (s : UndoStep). maps.get (g.T.Table.contents c.self.inside.table) s.key) step) ∙ full.1) (omega (arith, full.2, c.self.invariant.limited))
