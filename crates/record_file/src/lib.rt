@@ -10,3 +10,6 @@ pub use faults::{
 };
 pub use file::{RecordFile, StillOpen};
 pub use tx_log::BeginFault;
+
+#[cfg(test)]
+mod tests;

@@ -1,7 +1,7 @@
 -- Transactions that begin and end.
 use Rattle.std.proofs.Common.{◌≡◌, ℕ, suc, ◌+◌, ◌-◌, ◌<◌, ◌≤◌, Bool, true, false, cond, not, eqb, ◌&&◌, List, [], ◌∷◌, ◌++◌, length, map, reverse, Option, Some, None, option_map, is_some, refl, sym, ap, subst, ◌∙◌, arith, length-append}
 use Rattle.std.specs.FinMap as maps
-use Rattle.std.specs.List.{remove}
+use Rattle.std.specs.List.{filter, remove}
 use Rattle.std.specs.Ordering.{nat_cmp}
 use Rattle.std.specs.Cmp.Lexicographic.{slice_cmp}
 use Rattle.std.proofs.lemmas.List.{append-nil}
@@ -19,7 +19,7 @@ use Rattle.tx_log.proofs.KeptFacts.{tx_of_entry}
 use Rattle.tx_log.proofs.StateFacts.{state}
 use Rattle.tx_log.specs.Finds.{find_tx, IsFirst}
 use Rattle.tx_log.specs.Fits.{AllKnown, AllUpTo, StageUpTo, FitsTx, AllFit}
-use Rattle.tx_log.specs.Log.{tx_of, lsn_of, kept_of, last_of, stepped, stack, noted}
+use Rattle.tx_log.specs.Log.{removes, tx_of, lsn_of, kept_of, last_of, stepped, stack, noted}
 use Rattle.tx_log.specs.LogFields.{IsKept}
 use Rattle.tx_log.specs.LogState.{IsRolling, phase_of, places_of, active_with, finished, finished_by}
 use Rattle.tx_log.specs.Owners.{absence}
@@ -108,8 +108,8 @@ known_more : (n m : ℕ) (rs : List LogRecord) → n ≤ m → AllKnown n rs →
 known_more n m [] h known = tt
 known_more n m (r ∷ rs) h known = (let low = known.0 in omega arith, known_more n m rs h known.1)
 
-pub begun_kept : (rs : List LogRecord) (es es_new : List OpenTx) (begun pending gone_keys : ℕ) (new : OpenTx) → IsKept rs es begun pending gone_keys → es_new ≡ es ++ new ∷ [] → new.tx.0 ≡ begun + 1 → new.last ≡ 0 → new.live ≡ 0 → new.absent ≡ 0 → new.saves.items ≡ [] → new.stage ≡ Forward → IsKept rs es_new (begun + 1) pending gone_keys
-begun_kept rs es es_new begun pending gone_keys new kept pushed number last live absent_none saves stage =
+pub begun_kept : (rs : List LogRecord) (es es_new : List OpenTx) (begun pending gone_keys : ℕ) (new : OpenTx) → IsKept rs es begun pending gone_keys → es_new ≡ es ++ new ∷ [] → new.tx.0 ≡ begun + 1 → new.last ≡ 0 → new.live ≡ 0 → new.absent ≡ 0 → new.removals ≡ 0 → new.saves.items ≡ [] → new.stage ≡ Forward → IsKept rs es_new (begun + 1) pending gone_keys
+begun_kept rs es es_new begun pending gone_keys new kept pushed number last live absent_none removals_none saves stage =
     let cs = kept_of rs in
     let up : begun < new.tx.0 = omega arith in
     let none = not_begun rs begun new.tx.0 es kept.fit up in
@@ -120,6 +120,7 @@ begun_kept rs es es_new begun pending gone_keys new kept pushed number last live
       last = last ∙ sym nothing.0;
       live = live ∙ sym (ap length nothing.1);
       absent_keys = absent_none ∙ sym no_keys;
+      removals = removals_none ∙ sym (ap (λ us. length (filter removes us)) nothing.1);
       saves = subst (AllUpTo (length rs)) (sym saves) tt;
       depth = subst (λ (ss : List ℕ). length ss ≤ 32) (sym saves) (omega arith);
       stage = subst (StageUpTo (length rs)) (sym stage) tt;
@@ -131,7 +132,7 @@ begun_kept rs es es_new begun pending gone_keys new kept pushed number last live
     let there : IsKept rs (es ++ new ∷ []) (begun + 1) pending gone_keys = record {
       numbered = kept.numbered;
       written = kept.written;
-      fit = fit-push rs begun (begun + 1) es new (λ x fit. (record { last = fit.last; live = fit.live; absent_keys = fit.absent_keys; saves = fit.saves; depth = fit.depth; stage = fit.stage; some = fit.some; begun = (let low = fit.begun in omega arith) }, differs new.tx.0 x.tx.0 (let low = fit.begun in omega arith))) none fits kept.fit;
+      fit = fit-push rs begun (begun + 1) es new (λ x fit. (record { last = fit.last; live = fit.live; absent_keys = fit.absent_keys; removals = fit.removals; saves = fit.saves; depth = fit.depth; stage = fit.stage; some = fit.some; begun = (let low = fit.begun in omega arith) }, differs new.tx.0 x.tx.0 (let low = fit.begun in omega arith))) none fits kept.fit;
       known = known_more begun (begun + 1) rs (omega arith) kept.known;
       all_begun = begun-more begun (begun + 1) cs (omega arith) kept.all_begun;
       owned = owned-fewer (opens es) (opens (es ++ new ∷ [])) begun cs kept.all_begun (λ u low h. sym (same u low) ∙ h) kept.owned;

@@ -39,6 +39,7 @@ moved_fits rs n e s ss fits move = record {
   last = fits.last;
   live = fits.live;
   absent_keys = fits.absent_keys;
+  removals = fits.removals;
   saves = move.saves;
   depth = move.depth;
   stage = move.stage;

@@ -1,7 +1,7 @@
 -- A log that grows by a record, beside the open transactions and the counts.
 use Rattle.std.proofs.Common.{◌≡◌, ℕ, suc, ◌+◌, ◌<◌, ◌≤◌, Bool, true, false, cond, not, eqb, ◌&&◌, List, [], ◌∷◌, ◌++◌, length, map, drop, set, Option, Some, None, option_map, is_some, refl, sym, ap, subst, ◌∙◌, arith, eq-eqb}
 use Rattle.std.specs.FinMap as maps
-use Rattle.std.specs.List.{find}
+use Rattle.std.specs.List.{find, filter}
 use Rattle.rec_types.specs.Contents.{Contents, set_to, has}
 use Rattle.rec_types.specs.History.{is_pending}
 use Rattle.rec_types.specs.Kept.{Kept, change_of, newest_live, undone, IsOwned, AllBegun}
@@ -15,7 +15,7 @@ use Rattle.tx_log.proofs.OwnerFacts.{kept_at, HeldBy, owned-push, owned-undone, 
 use Rattle.tx_log.proofs.WalkSteps.{IsStep}
 use Rattle.tx_log.specs.Finds.{find_tx, IsFirst}
 use Rattle.tx_log.specs.Fits.{AllUpTo, StageUpTo, FitsTx}
-use Rattle.tx_log.specs.Log.{leads_to, lsn_of, prev_of, tx_of, key_of, new_of, noted, kept_of, last_of, stepped, stack, chain, IsNumbered, Undoes, IsWritten, AllWritten}
+use Rattle.tx_log.specs.Log.{removes, leads_to, lsn_of, prev_of, tx_of, key_of, new_of, noted, kept_of, last_of, stepped, stack, chain, IsNumbered, Undoes, IsWritten, AllWritten}
 use Rattle.tx_log.specs.LogFields.{IsKept}
 use Rattle.tx_log.specs.Stages.{opens}
 use Rattle.tx_log.specs.Walks.{change_in, is_at, takes_out}
@@ -47,6 +47,7 @@ grow_other r rs n t e own other fits =
       last = fits.last ∙ sym (ap (λ (b : Bool). cond b (lsn_of r) (last_of e.tx.0 rs)) apart);
       live = fits.live ∙ sym (ap (λ (b : Bool). length (cond b (stepped r (stack e.tx.0 rs)) (stack e.tx.0 rs))) apart);
       absent_keys = fits.absent_keys ∙ sym (ap maps.len (absent_other r rs e.tx.0 apart));
+      removals = fits.removals ∙ sym (ap (λ (b : Bool). length (filter removes (cond b (stepped r (stack e.tx.0 rs)) (stack e.tx.0 rs)))) apart);
       saves = up_to_more (length rs) e.saves.items fits.saves;
       depth = fits.depth;
       stage = stage_more (length rs) e.stage fits.stage;
@@ -64,6 +65,7 @@ pub record IsOwnStep (r : LogRecord) (rs : List LogRecord) (n : ℕ) (e new : Op
   pub last : new.last ≡ lsn_of r
   pub live : new.live ≡ length (stepped r (stack e.tx.0 rs))
   pub absent_keys : new.absent ≡ maps.len (absent_in (only e.tx.0) (kept_of (r ∷ rs)))
+  pub removals : new.removals ≡ length (filter removes (stepped r (stack e.tx.0 rs)))
 
 pub grow_own : (r : LogRecord) (rs : List LogRecord) (n : ℕ) (e new : OpenTx) → FitsTx rs n e → IsOwnStep r rs n e new → FitsTx (r ∷ rs) n new
 grow_own r rs n e new fits step =
@@ -73,6 +75,7 @@ grow_own r rs n e new fits step =
       last = step.last ∙ sym (ap (λ (b : Bool). cond b (lsn_of r) (last_of new.tx.0 rs)) (here new.tx.0 at));
       live = step.live ∙ ap (λ (k : ℕ). length (stepped r (stack k rs))) (sym at) ∙ sym (ap (λ (b : Bool). length (cond b (stepped r (stack new.tx.0 rs)) (stack new.tx.0 rs))) (here new.tx.0 at));
       absent_keys = step.absent_keys ∙ ap (λ (k : ℕ). maps.len (absent_in (only k) (kept_of (r ∷ rs)))) (sym at);
+      removals = step.removals ∙ ap (λ (k : ℕ). length (filter removes (stepped r (stack k rs)))) (sym at) ∙ sym (ap (λ (b : Bool). length (filter removes (cond b (stepped r (stack new.tx.0 rs)) (stack new.tx.0 rs)))) (here new.tx.0 at));
       saves = subst (AllUpTo (suc (length rs))) (sym step.saves) (up_to_more (length rs) e.saves.items fits.saves);
       depth = subst (λ (ss : List ℕ). length ss ≤ 32) (sym step.saves) fits.depth;
       stage = subst (StageUpTo (suc (length rs))) (sym step.stage) (stage_more (length rs) e.stage fits.stage);
@@ -139,6 +142,14 @@ shut_itself t is_open = ap (λ b. is_open t && not b) (eq-eqb t t refl) ∙ shut
     shut_case true = refl
     shut_case false = refl
 
+one_more_if : (b : Bool) (r : LogRecord) (us : List LogRecord) → length us + cond b 1 0 ≡ length (cond b (r ∷ us) us)
+one_more_if true r us = omega arith
+one_more_if false r us = omega arith
+
+pub less_if : (b : Bool) (new old left : ℕ) → new + cond b 1 0 ≡ old → old ≡ left + cond b 1 0 → new ≡ left
+less_if true new old left e f = omega arith
+less_if false new old left e f = omega arith
+
 -- the count over all goes as that of the transaction
 total_goes : (all others one all_new others_new one_new count count_new was will : ℕ) → all ≡ others + one → all_new ≡ others_new + one_new → others_new ≡ others → one_new + was ≡ one + will → count ≡ all → count_new + was ≡ count + will → count_new ≡ all_new
 total_goes all others one all_new others_new one_new count count_new was will a b c d e f = omega arith
@@ -156,6 +167,7 @@ pub record IsAccepted (lsn prev : ℕ) (tx : TxId) (key : List ℕ) (after : Opt
   pub last_new : new.last ≡ lsn
   pub live_new : new.live ≡ e.live + 1
   pub absent_new : new.absent + cond (takes_out (option_map change_in (find (is_at key) (chain rs prev)))) 1 0 ≡ e.absent + cond (not (is_some after)) 1 0
+  pub removals_new : new.removals ≡ e.removals + cond (not (is_some after)) 1 0
   pub pending_one : pending_new ≡ pending + 1
   pub gone_one : gone_new + cond (takes_out (option_map change_in (find (is_at key) (chain rs prev)))) 1 0 ≡ gone + cond (not (is_some after)) 1 0
 
@@ -199,6 +211,7 @@ accepted lsn prev tx key before after rs es i begun pending gone_old pending_new
       last = a.last_new;
       live = a.live_new ∙ (omega arith);
       absent_keys = new_absent ∙ ap (λ k. maps.len (absent_in (only k) (cs ++ d ∷ []))) (sym number);
+      removals = a.removals_new ∙ ap (λ n. n + cond (not (is_some after)) 1 0) fits.removals ∙ one_more_if (not (is_some after)) r (filter removes (stack e.tx.0 rs));
     } in
     grown r rs es i begun pending gone_old pending_new gone_new t e new kept is found record {
       own = own;
@@ -224,8 +237,18 @@ pub record IsCompensated (lsn prev : ℕ) (tx : TxId) (change : LiveChange) (rs 
   pub last_new : new.last ≡ lsn
   pub live_new : new.live + 1 ≡ e.live
   pub absent_new : new.absent + cond (not (is_some change.after)) 1 0 ≡ e.absent + cond (takes_out (option_map change_in (find (is_at change.key) (chain rs change.prev)))) 1 0
+  pub removals_new : new.removals + cond (not (is_some change.after)) 1 0 ≡ e.removals
   pub pending_one : pending_new + 1 ≡ pending
   pub gone_one : gone_new + cond (not (is_some change.after)) 1 0 ≡ gone + cond (takes_out (option_map change_in (find (is_at change.key) (chain rs change.prev)))) 1 0
+
+-- the changes that take their key out, with the newest change and without it
+pub removals_of : (rs : List LogRecord) (n t at : ℕ) (e : OpenTx) (change : LiveChange) → FitsTx rs n e → e.tx.0 ≡ t → (step : IsStep rs at change) → chain rs at ≡ stack t rs → e.removals ≡ length (filter removes step.rest) + cond (not (is_some change.after)) 1 0
+removals_of rs n t at e change fits number step there =
+    fits.removals
+    ∙ ap (λ k. length (filter removes (stack k rs))) number
+    ∙ ap (λ us. length (filter removes us)) (sym there ∙ step.is)
+    ∙ sym (one_more_if (removes step.update) step.update (filter removes step.rest))
+    ∙ ap (λ (c : LiveChange). length (filter removes step.rest) + cond (not (is_some c.after)) 1 0) step.told
 
 undoes_step : (rs : List LogRecord) (prev t : ℕ) (change : LiveChange) → IsStep rs prev change → chain rs prev ≡ stack t rs → Undoes change.key change.before change.prev (stack t rs)
 undoes_step rs prev t change step there =
@@ -272,6 +295,9 @@ compensated lsn prev tx change rs es i begun pending gone_old pending_new gone_n
     let fewer = pending-undone (opens es) t cs (noted u) opened newest in
     let live_is : e.live ≡ suc (length us) = fits.live ∙ ap (λ k. length (stack k rs)) number ∙ ap length whole in
     let dropped : length us ≡ length (drop 1 (stack e.tx.0 rs)) = ap (λ xs. length (drop 1 xs)) (sym whole) ∙ ap (λ k. length (drop 1 (stack k rs))) (sym number) in
+    let removed : e.removals ≡ length (filter removes us) + cond (not (is_some change.after)) 1 0 = removals_of rs begun t prev e change fits number a.step there in
+    let fewer_removals : new.removals ≡ length (filter removes us) = less_if (not (is_some change.after)) new.removals e.removals (length (filter removes us)) a.removals_new removed in
+    let dropped_removals : length (filter removes us) ≡ length (filter removes (drop 1 (stack e.tx.0 rs))) = ap (λ xs. length (filter removes (drop 1 xs))) (sym whole) ∙ ap (λ k. length (filter removes (drop 1 (stack k rs)))) (sym number) in
     let live_left : new.live ≡ length us = (let n = a.live_new in omega arith) in
     let own : IsOwnStep r rs begun e new = record {
       tx = a.tx_same;
@@ -281,6 +307,7 @@ compensated lsn prev tx change rs es i begun pending gone_old pending_new gone_n
       last = a.last_new;
       live = live_left ∙ dropped;
       absent_keys = new_absent ∙ ap (λ k. maps.len (absent_in (only k) (undone t cs))) (sym number);
+      removals = fewer_removals ∙ dropped_removals;
     } in
     grown r rs es i begun pending gone_old pending_new gone_new t e new kept is found record {
       own = own;

@@ -1,8 +1,9 @@
 -- What ties the open transactions to the log.
 use Rattle.std.specs.Prelude.{◌≡◌, ℕ, ◌<◌, ◌≤◌, ◌==◌, List, [], ◌∷◌, length, None}
 use Rattle.std.specs.FinMap as maps
+use Rattle.std.specs.List.{filter}
 use Rattle.rec_types.specs.Kept.{history_of}
-use Rattle.tx_log.specs.Log.{tx_of, last_of, stack, kept_of}
+use Rattle.tx_log.specs.Log.{tx_of, removes, last_of, stack, kept_of}
 use Rattle.tx_log.specs.Owners.{absent}
 use Rattle.tx_log.specs.Finds.{find_tx}
 use Rattle.tx_log.specs.declared.log_records.LogRecord.{LogRecord}
@@ -28,6 +29,7 @@ pub record FitsTx (rs : List LogRecord) (n : ℕ) (e : OpenTx) : Type 0 where
   pub last : e.last ≡ last_of e.tx.0 rs
   pub live : e.live ≡ length (stack e.tx.0 rs)
   pub absent_keys : e.absent ≡ maps.len (absent (λ u. u == e.tx.0) (history_of (kept_of rs)))
+  pub removals : e.removals ≡ length (filter removes (stack e.tx.0 rs))
   pub saves : AllUpTo (length rs) e.saves.items
   pub depth : length e.saves.items ≤ 32
   pub stage : StageUpTo (length rs) e.stage

@@ -10,7 +10,7 @@ ghost use Rattle.tx_log.specs.LogState.{new_log, history_in, open_in, tx_in, use
 
 use crate::opened::{OpenTx, Stage, find_open, place_of, recount};
 use crate::walks::{
-    changed_keys, count_changes, find_change, is_taking_out, newest_above, newest_change,
+    changed_keys, count_changes, find_change, is_taken_out, newest_above, newest_change,
 };
 use crate::{BeginFault, LogRecord, Phase, UndoStep};
 use rec_types::{Key, Limits, Memory, Record, TxId};
@@ -266,8 +266,10 @@ impl TxLog {
     {
         let at = place_of(&self.txs, tx);
         let prev = self.txs[at].last;
-        let was = is_taking_out(&find_change(&self.records, prev, &key));
+        let removals = self.txs[at].removals;
+        let was = is_taken_out(&self.records, prev, &key, removals);
         let will = after.is_none();
+        let more = recount(removals, false, will);
         let lsn = self.records.len() as u32 + 1;
         let _ = self.records.push(LogRecord::Update {
             lsn,
@@ -283,6 +285,7 @@ impl TxLog {
         let open_tx = &mut self.txs[at];
         open_tx.last = lsn;
         open_tx.live += 1;
+        open_tx.removals = more;
         open_tx.absent = recount(open_tx.absent, was, will);
         lsn
     }
@@ -309,10 +312,12 @@ impl TxLog {
     {
         let at = place_of(&self.txs, tx);
         let prev = self.txs[at].last;
+        let removals = self.txs[at].removals;
         let newest = newest_change(&self.records, prev);
         let change = newest.unwrap();
         let was = change.after.is_none();
-        let will = is_taking_out(&find_change(&self.records, change.prev, &change.key));
+        let fewer = recount(removals, was, false);
+        let will = is_taken_out(&self.records, change.prev, &change.key, fewer);
         let lsn = self.records.len() as u32 + 1;
         let _ = self.records.push(LogRecord::Compensation {
             lsn,
@@ -328,6 +333,7 @@ impl TxLog {
         let open_tx = &mut self.txs[at];
         open_tx.last = lsn;
         open_tx.live -= 1;
+        open_tx.removals = fewer;
         open_tx.absent = recount(open_tx.absent, was, will);
         lsn
     }

@@ -27,6 +27,8 @@ pub struct OpenTx {
     pub live: u32,
     /// How many of its keys have no record now.
     pub absent: u32,
+    /// How many of its live changes take their key out.
+    pub removals: u32,
     /// What `last` was at each savepoint.
     pub saves: ArrayVec<u32, 32>,
 }
@@ -34,7 +36,7 @@ pub struct OpenTx {
 impl OpenTx {
     /// A transaction without changes and savepoints.
     pub fn new(tx: TxId) -> OpenTx
-        ensures { result ≡ record { tx = tx; stage = Stage.Forward; last = 0; live = 0; absent = 0; saves = record { items = [] } } }
+        ensures { result ≡ record { tx = tx; stage = Stage.Forward; last = 0; live = 0; absent = 0; removals = 0; saves = record { items = [] } } }
     {
         OpenTx {
             tx,
@@ -42,6 +44,7 @@ impl OpenTx {
             last: 0,
             live: 0,
             absent: 0,
+            removals: 0,
             saves: ArrayVec::new(),
         }
     }

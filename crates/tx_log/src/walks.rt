@@ -1,7 +1,7 @@
 ghost use Rattle.std.specs.Prelude.{◌≡◌, ℕ, ◌+◌, ◌<◌, ◌≤◌, length, reverse, map, option_map, cond, IfOk};
 ghost use Rattle.std.specs.List.{filter, find};
 ghost use Rattle.rec_types.specs.Contents.{same_key};
-ghost use Rattle.tx_log.specs.Log.{chain, key_of, IsNumbered};
+ghost use Rattle.tx_log.specs.Log.{chain, key_of, removes, IsNumbered};
 ghost use Rattle.tx_log.specs.Walks.{change_in, newest_in, is_at, is_after, takes_out};
 
 use crate::LogRecord;
@@ -84,6 +84,20 @@ pub fn find_change(log: &[LogRecord], from: u32, key: &Key) -> Option<LiveChange
         at = change.prev;
     }
     None
+}
+
+/// Whether the newest change at the key that isn't taken back takes it out, on the way down from the record with the
+/// number `from`. `removals` is how many changes on that way take their key out.
+pub fn is_taken_out(log: &[LogRecord], from: u32, key: &Key, removals: u32) -> bool
+    requires numbered { IsNumbered (reverse log.now) }
+    requires within { from ≤ length log.now }
+    requires counted { removals ≡ length (filter removes (chain (reverse log.now) from)) }
+    ensures { result ≡ takes_out (option_map change_in (find (is_at key.now) (chain (reverse log.now) from))) }
+{
+    if removals == 0 {
+        return false;
+    }
+    is_taking_out(&find_change(log, from, key))
 }
 
 /// How many changes with numbers above `to` aren't taken back, on the way down from the record with the number

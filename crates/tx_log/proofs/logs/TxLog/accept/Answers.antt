@@ -1,15 +1,15 @@
-use Rattle.std.proofs.Common.{◌≡◌, ◌∷◌, [], ◌++◌, cond, Option, IfSome, refl, ℕ, ◌+◌, ◌<◌, ◌≤◌, Bool, true, List, Some, None, length, reverse, option_map, is_some, vec_len, sym, ap, subst, ◌∙◌, arith}
-use Rattle.std.specs.List.{find}
+use Rattle.std.proofs.Common.{not, ◌≡◌, ◌∷◌, [], ◌++◌, cond, Option, IfSome, refl, ℕ, ◌+◌, ◌<◌, ◌≤◌, Bool, true, List, Some, None, length, reverse, option_map, is_some, vec_len, sym, ap, subst, ◌∙◌, arith}
+use Rattle.std.specs.List.{find, filter}
 use Rattle.std.proofs.lemmas.List.{length-reverse}
 use Rattle.std.specs.Vec.{vec_capacity}
 use Rattle.rec_types.specs.History.{log_len}
 use Rattle.tx_log.proofs.LogIndex.{reverse-push}
 use Rattle.tx_log.proofs.KeptFacts.{entry_is, open_of_phase, sized, counted_key, held_of_free, some_of, state_use, state_len, recounted, none_is}
 use Rattle.tx_log.proofs.OpenFacts.{found_fits, found_number}
-use Rattle.tx_log.proofs.StepFacts.{accepted, IsAccepted}
+use Rattle.tx_log.proofs.StepFacts.{accepted, chain_of, IsAccepted}
 use Rattle.tx_log.proofs.StateFacts.{accept_state, kept_turned, txs_stay}
 use Rattle.tx_log.specs.Finds.{find_tx, IsFirst}
-use Rattle.tx_log.specs.Log.{kept_of, last_of, chain}
+use Rattle.tx_log.specs.Log.{removes, kept_of, last_of, stack, chain}
 use Rattle.tx_log.specs.Stages.{tx_at}
 use Rattle.tx_log.specs.LogState.{LogState, phase_in, history_in, open_in, use_in, update_in}
 use Rattle.tx_log.specs.Owners.{holder_of}
@@ -27,8 +27,8 @@ place_of-at-requires c =
     let some = open_of_phase (kept_of (reverse l.records.items)) l.txs.items t Active (ap (λ (s : LogState). phase_in s t) c.self.view_is ∙ c.requires.active) in
     ap (λ (es : List OpenTx). is_some (find_tx t es)) c.deref.ensures.value ∙ some
 
-pub find_change-requires-clause-within : goal.find_change-requires-clause-within
-find_change-requires-clause-within c =
+pub is_taken_out-was-requires-clause-within : goal.is_taken_out-was-requires-clause-within
+is_taken_out-was-requires-clause-within c =
     let l = c.self.inside in
     let e = c.index.result.now in
     let found = entry_is c.args.tx.0 c.deref.result.now l.txs.items c.place_of-at.result e c.deref.ensures.value c.place_of-at.ensures.first c.index.ensures in
@@ -41,8 +41,8 @@ recount-self-inside-requires-clause-some c = λ was.
     let e = c.index.result.now in
     let found = entry_is c.args.tx.0 c.deref.result.now l.txs.items c.place_of-at.result e c.deref.ensures.value c.place_of-at.ensures.first c.index.ensures in
     let size = sized (reverse l.records.items) l.txs.items l.begun l.pending l.gone c.args.tx.0 e c.self.invariant.log_kept found in
-    let told = c.find_change.ensures ∙ ap (λ (log : List LogRecord). option_map change_in (find (is_at c.args.key) (chain (reverse log) e.last))) c.deref-2.ensures.value in
-    let some = counted_key (reverse l.records.items) l.txs.items l.begun l.pending l.gone c.args.tx.0 e.last c.args.key e c.self.invariant.log_kept found refl (sym (c.is_taking_out-was.ensures ∙ ap takes_out told) ∙ was) in
+    let told = c.is_taken_out-was.ensures ∙ ap (λ (log : List LogRecord). takes_out (option_map change_in (find (is_at c.args.key) (chain (reverse log) e.last)))) c.deref-2.ensures.value in
+    let some = counted_key (reverse l.records.items) l.txs.items l.begun l.pending l.gone c.args.tx.0 e.last c.args.key e c.self.invariant.log_kept found refl (sym told ∙ was) in
     omega (arith, some, size.absent_part)
 
 pub recount-self-inside-requires-clause-most : goal.recount-self-inside-requires-clause-most
@@ -70,8 +70,8 @@ recount-open_tx-requires-clause-some c = λ was.
     let n = c.index_mut-open_tx.result.now in
     let found = entry_is c.args.tx.0 c.deref.result.now l.txs.items c.place_of-at.result e c.deref.ensures.value c.place_of-at.ensures.first c.index.ensures in
     let again = entry_is c.args.tx.0 c.deref.result.now l.txs.items c.place_of-at.result n c.deref.ensures.value c.place_of-at.ensures.first c.index_mut-open_tx.ensures.value in
-    let told = c.find_change.ensures ∙ ap (λ (log : List LogRecord). option_map change_in (find (is_at c.args.key) (chain (reverse log) e.last))) c.deref-2.ensures.value in
-    let some = counted_key (reverse l.records.items) l.txs.items l.begun l.pending l.gone c.args.tx.0 e.last c.args.key e c.self.invariant.log_kept found refl (sym (c.is_taking_out-was.ensures ∙ ap takes_out told) ∙ was) in
+    let told = c.is_taken_out-was.ensures ∙ ap (λ (log : List LogRecord). takes_out (option_map change_in (find (is_at c.args.key) (chain (reverse log) e.last)))) c.deref-2.ensures.value in
+    let some = counted_key (reverse l.records.items) l.txs.items l.begun l.pending l.gone c.args.tx.0 e.last c.args.key e c.self.invariant.log_kept found refl (sym told ∙ was) in
     let same : e ≡ n = some_of e n (sym found ∙ again) in
     subst (λ (x : OpenTx). 0 < x.absent) same some
 
@@ -83,6 +83,46 @@ recount-open_tx-requires-clause-most c =
     let size = sized (reverse l.records.items) l.txs.items l.begun l.pending l.gone c.args.tx.0 e c.self.invariant.log_kept found in
     omega (arith, size.absent_part, size.gone_keys, c.self.invariant.roomy.fits, c.self.invariant.roomy.most_records)
 
+pub is_taken_out-was-requires-clause-counted : goal.is_taken_out-was-requires-clause-counted
+is_taken_out-was-requires-clause-counted c =
+    let l = c.self.inside in
+    let rs = reverse l.records.items in
+    let t = c.args.tx.0 in
+    let e = c.index.result.now in
+    let f = c.index-2.result.now in
+    let found = entry_is t c.deref.result.now l.txs.items c.place_of-at.result e c.deref.ensures.value c.place_of-at.ensures.first c.index.ensures in
+    let second = entry_is t c.deref.result.now l.txs.items c.place_of-at.result f c.deref.ensures.value c.place_of-at.ensures.first c.index-2.ensures in
+    let one : f ≡ e = some_of f e (sym second ∙ found) in
+    let kept = c.self.invariant.log_kept in
+    let fits = found_fits rs l.begun t l.txs.items e kept.fit found in
+    let number = found_number t l.txs.items e found in
+    let size = sized rs l.txs.items l.begun l.pending l.gone t e kept found in
+    let there = chain_of rs t e.last kept.numbered kept.written (fits.last ∙ ap (λ k. last_of k rs) number) in
+    ap (λ (x : OpenTx). x.removals) one
+    ∙ fits.removals
+    ∙ ap (λ k. length (filter removes (stack k rs))) number
+    ∙ ap (λ us. length (filter removes us)) (sym there)
+    ∙ ap (λ (log : List LogRecord). length (filter removes (chain (reverse log) e.last))) (sym c.deref-2.ensures.value)
+
+pub recount-more-requires-clause-most : goal.recount-more-requires-clause-most
+recount-more-requires-clause-most c =
+    let l = c.self.inside in
+    let rs = reverse l.records.items in
+    let t = c.args.tx.0 in
+    let e = c.index.result.now in
+    let f = c.index-2.result.now in
+    let found = entry_is t c.deref.result.now l.txs.items c.place_of-at.result e c.deref.ensures.value c.place_of-at.ensures.first c.index.ensures in
+    let second = entry_is t c.deref.result.now l.txs.items c.place_of-at.result f c.deref.ensures.value c.place_of-at.ensures.first c.index-2.ensures in
+    let one : f ≡ e = some_of f e (sym second ∙ found) in
+    let kept = c.self.invariant.log_kept in
+    let fits = found_fits rs l.begun t l.txs.items e kept.fit found in
+    let number = found_number t l.txs.items e found in
+    let size = sized rs l.txs.items l.begun l.pending l.gone t e kept found in
+    let there = chain_of rs t e.last kept.numbered kept.written (fits.last ∙ ap (λ k. last_of k rs) number) in
+    let many : vec_len l.records ≡ length l.records.items = omega (arith, l.records.ok.0) in
+    let few : e.removals < 4294967295 = omega (arith, size.removals, size.live, length-reverse l.records.items, c.self.invariant.roomy.fits, c.self.invariant.roomy.most_records) in
+    subst (λ (x : OpenTx). x.removals < 4294967295) (sym one) few
+
 -- the record that was pushed
 pushed : (c : goal.After-self-4-1) → c.push.new.self.items ≡ c.self.inside.records.items ++ Update (c.len.result + 1) c.index.result.now.last c.args.tx c.args.key c.args.before c.args.after ∷ []
 pushed c =
@@ -92,7 +132,7 @@ pushed c =
     let ok = c.push.ensures.succeeds (omega (arith, spare)) in
     c.push.ensures.items ∙ ap (λ (b : Bool). cond b (l.records.items ++ Update (c.len.result + 1) c.index.result.now.last c.args.tx c.args.key c.args.before c.args.after ∷ []) l.records.items) ok
 
-step_of : (c : goal.After-self-4-1) → IsAccepted (c.len.result + 1) c.index.result.now.last c.args.tx c.args.key c.args.after (reverse c.self.inside.records.items) c.self.inside.txs.items c.self.inside.pending c.self.inside.gone (c.self.inside.pending + 1) c.recount-self-inside.result c.index.result.now record { tx = c.index_mut-open_tx.result.now.tx; stage = c.index_mut-open_tx.result.now.stage; last = c.len.result + 1; live = c.index_mut-open_tx.result.now.live + 1; absent = c.recount-open_tx.result; saves = c.index_mut-open_tx.result.now.saves }
+step_of : (c : goal.After-self-4-1) → IsAccepted (c.len.result + 1) c.index.result.now.last c.args.tx c.args.key c.args.after (reverse c.self.inside.records.items) c.self.inside.txs.items c.self.inside.pending c.self.inside.gone (c.self.inside.pending + 1) c.recount-self-inside.result c.index.result.now record { tx = c.index_mut-open_tx.result.now.tx; stage = c.index_mut-open_tx.result.now.stage; last = c.len.result + 1; live = c.index_mut-open_tx.result.now.live + 1; absent = c.recount-open_tx.result; removals = c.recount-more.result; saves = c.index_mut-open_tx.result.now.saves }
 step_of c =
     let l = c.self.inside in
     let rs = reverse l.records.items in
@@ -101,8 +141,12 @@ step_of c =
     let found = entry_is c.args.tx.0 c.deref.result.now l.txs.items c.place_of-at.result e c.deref.ensures.value c.place_of-at.ensures.first c.index.ensures in
     let again = entry_is c.args.tx.0 c.deref.result.now l.txs.items c.place_of-at.result n c.deref.ensures.value c.place_of-at.ensures.first c.index_mut-open_tx.ensures.value in
     let same : n ≡ e = some_of n e (sym again ∙ found) in
-    let told = c.find_change.ensures ∙ ap (λ (log : List LogRecord). option_map change_in (find (is_at c.args.key) (chain (reverse log) e.last))) c.deref-2.ensures.value in
-    let was = c.is_taking_out-was.ensures ∙ ap takes_out told in
+    let told = c.is_taken_out-was.ensures ∙ ap (λ (log : List LogRecord). takes_out (option_map change_in (find (is_at c.args.key) (chain (reverse log) e.last)))) c.deref-2.ensures.value in
+    let was = told in
+    let f = c.index-2.result.now in
+    let second = entry_is c.args.tx.0 c.deref.result.now l.txs.items c.place_of-at.result f c.deref.ensures.value c.place_of-at.ensures.first c.index-2.ensures in
+    let once : f ≡ e = some_of f e (sym second ∙ found) in
+    let more : c.recount-more.result ≡ f.removals + cond c.is_none-will.result 1 0 = omega (arith, c.recount-more.ensures) in
     let will = none_is (is_some c.args.after) c.is_none-will.result c.is_none-will.ensures in
     let many : vec_len l.records ≡ length l.records.items = omega (arith, l.records.ok.0) in
     record {
@@ -114,9 +158,10 @@ step_of c =
       saves_same = ap (λ (x : OpenTx). x.saves.items) same;
       last_new = refl;
       live_new = ap (λ (x : OpenTx). x.live + 1) same;
-      absent_new = recounted c.recount-open_tx.result n.absent e.absent c.is_taking_out-was.result _ c.is_none-will.result _ was will (ap (λ (x : OpenTx). x.absent) same) c.recount-open_tx.ensures;
+      absent_new = recounted c.recount-open_tx.result n.absent e.absent c.is_taken_out-was.result _ c.is_none-will.result _ was will (ap (λ (x : OpenTx). x.absent) same) c.recount-open_tx.ensures;
+      removals_new = more ∙ ap (λ (b : Bool). f.removals + cond b 1 0) will ∙ ap (λ (x : OpenTx). x.removals + cond (not (is_some c.args.after)) 1 0) once;
       pending_one = refl;
-      gone_one = recounted c.recount-self-inside.result l.gone l.gone c.is_taking_out-was.result _ c.is_none-will.result _ was will refl c.recount-self-inside.ensures;
+      gone_one = recounted c.recount-self-inside.result l.gone l.gone c.is_taken_out-was.result _ c.is_none-will.result _ was will refl c.recount-self-inside.ensures;
     }
 
 pub invariant_of-self : goal.invariant_of-self
@@ -168,6 +213,6 @@ returns-clause-after c =
     let fits = found_fits rs l.begun t l.txs.items e kept.fit found in
     let step = step_of c in
     let r : LogRecord = Update (c.len.result + 1) e.last c.args.tx c.args.key c.args.before c.args.after in
-    let stay = txs_stay r rs l.begun t l.txs.items c.place_of-at.result record { tx = n.tx; stage = n.stage; last = c.len.result + 1; live = n.live + 1; absent = c.recount-open_tx.result; saves = n.saves } n step.lsn_is kept.fit first (step.tx_same ∙ found_number t l.txs.items e found) (ap (tx_at (kept_of (r ∷ rs))) c.index_mut-open_tx.ensures.value) in
+    let stay = txs_stay r rs l.begun t l.txs.items c.place_of-at.result record { tx = n.tx; stage = n.stage; last = c.len.result + 1; live = n.live + 1; absent = c.recount-open_tx.result; removals = c.recount-more.result; saves = n.saves } n step.lsn_is kept.fit first (step.tx_same ∙ found_number t l.txs.items e found) (ap (tx_at (kept_of (r ∷ rs))) c.index_mut-open_tx.ensures.value) in
     accept_state l.records.items c.push.new.self.items l.txs.items _ l.begun l.limits l.room (c.len.result + 1) e.last c.args.tx c.args.key c.args.before c.args.after kept.written (pushed c) (step.lsn_is ∙ ap (λ k. k + 1) (length-reverse l.records.items)) (fits.last ∙ ap (λ k. last_of k rs) (found_number t l.txs.items e found)) stay
     ∙ ap (λ (s : LogState). record s { records = s.records ++ update_in s c.args.tx c.args.key c.args.before c.args.after ∷ []; changes = s.changes ++ record { lsn = log_len (history_in s) + 1; tx = t; key = c.args.key; before = c.args.before; after = c.args.after; live = true } ∷ []; room = None }) c.self.view_is

@@ -14,7 +14,7 @@ invariant_of-self-2 c =
     let is = c.new.ensures in
     let roomy = c.self.invariant.roomy in
     record {
-      log_kept = begun_kept (reverse l.records.items) l.txs.items c.push.new.self.items l.begun l.pending l.gone new c.self.invariant.log_kept pushed (ap (λ (x : OpenTx). x.tx.0) is) (ap (λ (x : OpenTx). x.last) is) (ap (λ (x : OpenTx). x.live) is) (ap (λ (x : OpenTx). x.absent) is) (ap (λ (x : OpenTx). x.saves.items) is) (ap (λ (x : OpenTx). x.stage) is);
+      log_kept = begun_kept (reverse l.records.items) l.txs.items c.push.new.self.items l.begun l.pending l.gone new c.self.invariant.log_kept pushed (ap (λ (x : OpenTx). x.tx.0) is) (ap (λ (x : OpenTx). x.last) is) (ap (λ (x : OpenTx). x.live) is) (ap (λ (x : OpenTx). x.absent) is) (ap (λ (x : OpenTx). x.removals) is) (ap (λ (x : OpenTx). x.saves.items) is) (ap (λ (x : OpenTx). x.stage) is);
       roomy = record {
         fits = roomy.fits;
         most_records = roomy.most_records;

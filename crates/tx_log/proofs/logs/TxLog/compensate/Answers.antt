@@ -1,5 +1,5 @@
 use Rattle.std.proofs.Common.{◌≡◌, ◌∷◌, [], ◌++◌, cond, refl, ℕ, ◌+◌, ◌-◌, not, ◌<◌, ◌≤◌, Bool, List, None, length, reverse, option_map, is_some, vec_len, sym, ap, subst, ◌∙◌, arith}
-use Rattle.std.specs.List.{find}
+use Rattle.std.specs.List.{find, filter}
 use Rattle.std.specs.Vec.{vec_capacity}
 use Rattle.std.proofs.lemmas.List.{length-reverse}
 use Rattle.rec_types.specs.History.{log_len}
@@ -8,11 +8,11 @@ use Rattle.tx_log.proofs.KeptFacts.{entry_is, sized, some_of, state_len, recount
 use Rattle.tx_log.proofs.LogIndex.{reverse-push, record_of_chain}
 use Rattle.tx_log.proofs.OpenFacts.{found_fits, found_number}
 use Rattle.tx_log.proofs.ReadFacts.{open_of_undo, undo_head, undo_told}
-use Rattle.tx_log.proofs.StepFacts.{compensated, IsCompensated}
+use Rattle.tx_log.proofs.StepFacts.{compensated, chain_of, less_if, removals_of, IsCompensated}
 use Rattle.tx_log.proofs.StateFacts.{state, compensate_state, told_compensation, kept_turned, txs_stay}
 use Rattle.tx_log.proofs.WalkSteps.{IsStep, walk_step}
 use Rattle.tx_log.specs.Finds.{find_tx, IsFirst}
-use Rattle.tx_log.specs.Log.{kept_of, last_of, chain}
+use Rattle.tx_log.specs.Log.{removes, kept_of, last_of, chain}
 use Rattle.tx_log.specs.LogState.{LogState, history_in, undo_in, compensations_in}
 use Rattle.tx_log.specs.Stages.{tx_at}
 use Rattle.tx_log.specs.Walks.{change_in, newest_in, is_at, takes_out}
@@ -46,8 +46,8 @@ unwrap-change-requires c =
     let head = undo_head rs l.txs.items l.begun l.pending l.gone c.args.tx.0 e c.self.invariant.log_kept found (ap (λ (s : LogState). is_some (undo_in s c.args.tx.0)) c.self.view_is ∙ c.requires) in
     ap is_some (c.newest_change-newest.ensures ∙ ap (λ (log : List LogRecord). newest_in (chain (reverse log) e.last)) c.deref-2.ensures.value) ∙ head
 
-pub find_change-requires-clause-within : goal.find_change-requires-clause-within
-find_change-requires-clause-within c =
+pub is_taken_out-will-requires-clause-within : goal.is_taken_out-will-requires-clause-within
+is_taken_out-will-requires-clause-within c =
     let l = c.self.inside in
     let rs = reverse l.records.items in
     let e = c.index.result.now in
@@ -131,6 +131,73 @@ recount-open_tx-requires-clause-most c =
     let same : n ≡ e = some_of n e (sym again ∙ found) in
     subst (λ (x : OpenTx). x.absent < 4294967295) (sym same) (omega (arith, size.absent_part, size.gone_keys, c.self.invariant.roomy.fits, c.self.invariant.roomy.most_records))
 
+pub recount-fewer-requires-clause-some : goal.recount-fewer-requires-clause-some
+recount-fewer-requires-clause-some c = λ was.
+    let l = c.self.inside in
+    let rs = reverse l.records.items in
+    let t = c.args.tx.0 in
+    let e = c.index.result.now in
+    let f = c.index-2.result.now in
+    let found = entry_is t c.deref.result.now l.txs.items c.place_of-at.result e c.deref.ensures.value c.place_of-at.ensures.first c.index.ensures in
+    let second = entry_is t c.deref.result.now l.txs.items c.place_of-at.result f c.deref.ensures.value c.place_of-at.ensures.first c.index-2.ensures in
+    let one : f ≡ e = some_of f e (sym second ∙ found) in
+    let kept = c.self.invariant.log_kept in
+    let fits = found_fits rs l.begun t l.txs.items e kept.fit found in
+    let number = found_number t l.txs.items e found in
+    let size = sized rs l.txs.items l.begun l.pending l.gone t e kept found in
+    let there = chain_of rs t e.last kept.numbered kept.written (fits.last ∙ ap (λ k. last_of k rs) number) in
+    let change = c.unwrap-change.result in
+    let step = walk_step rs e.last change kept.numbered (ap (λ (log : List LogRecord). newest_in (chain (reverse log) e.last)) (sym c.deref-2.ensures.value) ∙ sym c.newest_change-newest.ensures ∙ c.unwrap-change.ensures) in
+    let removed = removals_of rs l.begun t e.last e change fits number step there in
+    let was_is : c.is_none-was.result ≡ not (is_some change.after) = none_is (is_some change.after) c.is_none-was.result c.is_none-was.ensures in
+    let takes : ◌≡◌ {A = ℕ} (cond (not (is_some change.after)) 1 0) 1 = ap (λ (b : Bool). cond b 1 0) (sym was_is ∙ was) in
+    let some : 0 < e.removals = omega (arith, removed, takes) in
+    subst (λ (x : OpenTx). 0 < x.removals) (sym one) some
+
+pub recount-fewer-requires-clause-most : goal.recount-fewer-requires-clause-most
+recount-fewer-requires-clause-most c =
+    let l = c.self.inside in
+    let rs = reverse l.records.items in
+    let t = c.args.tx.0 in
+    let e = c.index.result.now in
+    let f = c.index-2.result.now in
+    let found = entry_is t c.deref.result.now l.txs.items c.place_of-at.result e c.deref.ensures.value c.place_of-at.ensures.first c.index.ensures in
+    let second = entry_is t c.deref.result.now l.txs.items c.place_of-at.result f c.deref.ensures.value c.place_of-at.ensures.first c.index-2.ensures in
+    let one : f ≡ e = some_of f e (sym second ∙ found) in
+    let kept = c.self.invariant.log_kept in
+    let fits = found_fits rs l.begun t l.txs.items e kept.fit found in
+    let number = found_number t l.txs.items e found in
+    let size = sized rs l.txs.items l.begun l.pending l.gone t e kept found in
+    let there = chain_of rs t e.last kept.numbered kept.written (fits.last ∙ ap (λ k. last_of k rs) number) in
+    let many : vec_len l.records ≡ length l.records.items = omega (arith, l.records.ok.0) in
+    let few : e.removals < 4294967295 = omega (arith, size.removals, size.live, length-reverse l.records.items, c.self.invariant.roomy.fits, c.self.invariant.roomy.most_records) in
+    subst (λ (x : OpenTx). x.removals < 4294967295) (sym one) few
+
+pub is_taken_out-will-requires-clause-counted : goal.is_taken_out-will-requires-clause-counted
+is_taken_out-will-requires-clause-counted c =
+    let l = c.self.inside in
+    let rs = reverse l.records.items in
+    let t = c.args.tx.0 in
+    let e = c.index.result.now in
+    let f = c.index-2.result.now in
+    let found = entry_is t c.deref.result.now l.txs.items c.place_of-at.result e c.deref.ensures.value c.place_of-at.ensures.first c.index.ensures in
+    let second = entry_is t c.deref.result.now l.txs.items c.place_of-at.result f c.deref.ensures.value c.place_of-at.ensures.first c.index-2.ensures in
+    let one : f ≡ e = some_of f e (sym second ∙ found) in
+    let kept = c.self.invariant.log_kept in
+    let fits = found_fits rs l.begun t l.txs.items e kept.fit found in
+    let number = found_number t l.txs.items e found in
+    let size = sized rs l.txs.items l.begun l.pending l.gone t e kept found in
+    let there = chain_of rs t e.last kept.numbered kept.written (fits.last ∙ ap (λ k. last_of k rs) number) in
+    let change = c.unwrap-change.result in
+    let step = walk_step rs e.last change kept.numbered (ap (λ (log : List LogRecord). newest_in (chain (reverse log) e.last)) (sym c.deref-2.ensures.value) ∙ sym c.newest_change-newest.ensures ∙ c.unwrap-change.ensures) in
+    let removed = removals_of rs l.begun t e.last e change fits number step there in
+    let was_is : c.is_none-was.result ≡ not (is_some change.after) = none_is (is_some change.after) c.is_none-was.result c.is_none-was.ensures in
+    let counted : c.recount-fewer.result + cond (not (is_some change.after)) 1 0 ≡ e.removals =
+    ap (λ (b : Bool). c.recount-fewer.result + cond b 1 0) (sym was_is) ∙ (let less = c.recount-fewer.ensures in let same = ap (λ (x : OpenTx). x.removals) one in omega arith) in
+    less_if (not (is_some change.after)) c.recount-fewer.result e.removals (length (filter removes step.rest)) counted removed
+    ∙ ap (λ us. length (filter removes us)) (sym step.tail)
+    ∙ ap (λ (log : List LogRecord). length (filter removes (chain (reverse log) change.prev))) (sym c.deref-3.ensures.value)
+
 -- the change that is taken back
 step_of : (c : goal.After-self-4-1) → IsStep (reverse c.self.inside.records.items) c.index.result.now.last c.unwrap-change.result
 step_of c =
@@ -153,7 +220,7 @@ pushed c =
     let ok = c.push.ensures.succeeds (omega (arith, counted.waits, c.self.invariant.roomy.held)) in
     c.push.ensures.items ∙ ap (λ (b : Bool). cond b (l.records.items ++ Compensation (c.len.result + 1) e.last c.args.tx change.key change.before change.prev ∷ []) l.records.items) ok
 
-taken_back : (c : goal.After-self-4-1) → IsCompensated (c.len.result + 1) c.index.result.now.last c.args.tx c.unwrap-change.result (reverse c.self.inside.records.items) c.self.inside.txs.items c.self.inside.pending c.self.inside.gone (c.self.inside.pending - 1) c.recount-self-inside.result c.index.result.now record { tx = c.index_mut-open_tx.result.now.tx; stage = c.index_mut-open_tx.result.now.stage; last = c.len.result + 1; live = c.index_mut-open_tx.result.now.live - 1; absent = c.recount-open_tx.result; saves = c.index_mut-open_tx.result.now.saves }
+taken_back : (c : goal.After-self-4-1) → IsCompensated (c.len.result + 1) c.index.result.now.last c.args.tx c.unwrap-change.result (reverse c.self.inside.records.items) c.self.inside.txs.items c.self.inside.pending c.self.inside.gone (c.self.inside.pending - 1) c.recount-self-inside.result c.index.result.now record { tx = c.index_mut-open_tx.result.now.tx; stage = c.index_mut-open_tx.result.now.stage; last = c.len.result + 1; live = c.index_mut-open_tx.result.now.live - 1; absent = c.recount-open_tx.result; removals = c.recount-fewer.result; saves = c.index_mut-open_tx.result.now.saves }
 taken_back c =
     let l = c.self.inside in
     let rs = reverse l.records.items in
@@ -166,8 +233,12 @@ taken_back c =
     let again = entry_is c.args.tx.0 c.deref.result.now l.txs.items c.place_of-at.result n c.deref.ensures.value c.place_of-at.ensures.first c.index_mut-open_tx.ensures.value in
     let same : n ≡ e = some_of n e (sym again ∙ found) in
     let was_is : c.is_none-was.result ≡ not (is_some change.after) = none_is (is_some change.after) c.is_none-was.result c.is_none-was.ensures in
-    let will = c.is_taking_out-will.ensures ∙ ap takes_out (c.find_change.ensures ∙ ap (λ (log : List LogRecord). option_map change_in (find (is_at change.key) (chain (reverse log) change.prev))) c.deref-3.ensures.value) in
+    let will = c.is_taken_out-will.ensures ∙ ap (λ (log : List LogRecord). takes_out (option_map change_in (find (is_at change.key) (chain (reverse log) change.prev)))) c.deref-3.ensures.value in
     let many : vec_len l.records ≡ length l.records.items = omega (arith, l.records.ok.0) in
+    let f = c.index-2.result.now in
+    let second = entry_is c.args.tx.0 c.deref.result.now l.txs.items c.place_of-at.result f c.deref.ensures.value c.place_of-at.ensures.first c.index-2.ensures in
+    let once : f ≡ e = some_of f e (sym second ∙ found) in
+    let fewer : c.recount-fewer.result + cond c.is_none-was.result 1 0 ≡ e.removals = (let less = c.recount-fewer.ensures in let again_is = ap (λ (x : OpenTx). x.removals) once in omega arith) in
     let live_is : n.live ≡ e.live = ap (λ (x : OpenTx). x.live) same in
     record {
       lsn_is = ap (λ k. k + 1) (c.len.ensures ∙ many ∙ sym (length-reverse l.records.items));
@@ -178,9 +249,10 @@ taken_back c =
       saves_same = ap (λ (x : OpenTx). x.saves.items) same;
       last_new = refl;
       live_new = omega (arith, counted.live);
-      absent_new = recounted c.recount-open_tx.result n.absent e.absent c.is_none-was.result _ c.is_taking_out-will.result _ was_is will (ap (λ (x : OpenTx). x.absent) same) c.recount-open_tx.ensures;
+      absent_new = recounted c.recount-open_tx.result n.absent e.absent c.is_none-was.result _ c.is_taken_out-will.result _ was_is will (ap (λ (x : OpenTx). x.absent) same) c.recount-open_tx.ensures;
+      removals_new = ap (λ (b : Bool). c.recount-fewer.result + cond b 1 0) (sym was_is) ∙ fewer;
       pending_one = omega (arith, counted.waits);
-      gone_one = recounted c.recount-self-inside.result l.gone l.gone c.is_none-was.result _ c.is_taking_out-will.result _ was_is will refl c.recount-self-inside.ensures;
+      gone_one = recounted c.recount-self-inside.result l.gone l.gone c.is_none-was.result _ c.is_taken_out-will.result _ was_is will refl c.recount-self-inside.ensures;
     }
 
 pub invariant_of-self : goal.invariant_of-self
@@ -231,7 +303,7 @@ returns-clause-after c =
     let step = step_of c in
     let back = taken_back c in
     let r : LogRecord = Compensation (c.len.result + 1) e.last c.args.tx change.key change.before change.prev in
-    let stay = txs_stay r rs l.begun t l.txs.items c.place_of-at.result record { tx = n.tx; stage = n.stage; last = c.len.result + 1; live = n.live - 1; absent = c.recount-open_tx.result; saves = n.saves } n back.lsn_is kept.fit first (back.tx_same ∙ found_number t l.txs.items e found) (ap (tx_at (kept_of (r ∷ rs))) c.index_mut-open_tx.ensures.value) in
+    let stay = txs_stay r rs l.begun t l.txs.items c.place_of-at.result record { tx = n.tx; stage = n.stage; last = c.len.result + 1; live = n.live - 1; absent = c.recount-open_tx.result; removals = c.recount-fewer.result; saves = n.saves } n back.lsn_is kept.fit first (back.tx_same ∙ found_number t l.txs.items e found) (ap (tx_at (kept_of (r ∷ rs))) c.index_mut-open_tx.ensures.value) in
     let undo = undo_told rs l.txs.items l.begun l.pending l.gone t e change kept found (ap (λ (s : LogState). is_some (undo_in s t)) c.self.view_is ∙ c.requires) step in
     let told = told_compensation (state l.records.items l.txs.items l.begun l.limits l.room) c.args.tx (c.len.result + 1) e.last change step.update (back.lsn_is ∙ ap (λ k. k + 1) (length-reverse l.records.items)) (fits.last ∙ ap (λ k. last_of k rs) (found_number t l.txs.items e found)) undo step.told (record_of_chain l.records.items e.last step.update step.rest kept.numbered step.is) in
     compensate_state l.records.items c.push.new.self.items l.txs.items _ l.begun l.limits l.room (c.len.result + 1) e.last c.args.tx change.key change.before change.prev (pushed c) told stay
