@@ -1,7 +1,6 @@
 use crate::{
     AbortFault, BeginFault, Cause, CommitFault, GetFault, KeysOfFault, PutFault, RecordFile,
     ReleaseFault, RemoveFault, ResumeFault, RollbackToFault, SavepointFault, Status, StatusFault,
-    StillOpen,
 };
 use rec_types::{Entry, Key, LimitFault, Limits, Record, SortedTable, Table, TxId};
 use std::alloc::Global;
@@ -402,16 +401,17 @@ fn the_table_comes_back_once_all_have_ended(rt: HostRuntime) -> Result<(), Fail>
     let a = Key::new(b"a")?;
     let x = Record::new(b"x")?;
     assert_eq!(rt; put(&rt, &mut file, tx, a, x), Ok(None));
-    match file.into_table() {
-        Ok(_) => assert!(rt; false),
-        Err(StillOpen { mut file, count }) => {
-            assert_eq!(rt; count, 1);
-            file.commit(tx)?;
-            match file.into_table() {
-                Ok(mut table) => assert_eq!(rt; table.get(&a)?, Some(x)),
-                Err(_) => assert!(rt; false),
-            }
-        }
-    }
+    let Err(still) = file.into_table() else {
+        assert!(rt; false, "not the answer that was expected");
+        return Ok(());
+    };
+    assert_eq!(rt; still.count, 1);
+    let mut file = still.file;
+    file.commit(tx)?;
+    let Ok(mut table) = file.into_table() else {
+        assert!(rt; false, "not the answer that was expected");
+        return Ok(());
+    };
+    assert_eq!(rt; table.get(&a)?, Some(x));
     Ok(())
 }
