@@ -252,6 +252,18 @@ fn a_thousand_records_go_back(rt: HostRuntime) -> Result<(), Fail> {
     expect(&rt, alloc, greatest()?, &script, &replies, 1006)
 }
 
+#[test]
+fn the_first_refusal_is_answered(rt: HostRuntime) -> Result<(), Fail> {
+    expect(
+        &rt,
+        rt.alloc(),
+        Limits::new(1, 2, 3)?,
+        "begin\nbegin\nput 1 a =x\nput 2 a =y\ndel 2 a\nget 2 a\nput 1 b =y\ndel 1 b\nput 3 a =x\ndel 3 a\nget 3 a\nback 3 1\nrelease 3 1\nrelease 1 1\nback 1 1\nkeys 3\nbegin\nbegin\n",
+        "ok 1\nok 2\nok none\nno Held 1\nno Held 1\nno Held 1\nno LogFull\nno LogFull\nno NoSuchTx\nno NoSuchTx\nno NoSuchTx\nno NoSuchTx\nno NoSuchTx\nno NoSuchSave\nno NoSuchSave\nno NoSuchTx\nok 3\nno BeginsSpent\n",
+        18,
+    )
+}
+
 /// A writer that refuses every write.
 #[derive(Drop)]
 struct Closed;
