@@ -1,0 +1,15 @@
+pub mod BoundFacts
+pub mod FanFacts
+pub mod MapFacts
+pub mod TreeFacts
+pub mod KeptFacts
+pub mod Membership
+pub mod GrowFacts
+pub mod FitFacts
+pub mod PlaceFacts
+pub mod SettleFacts
+pub mod MetFacts
+pub mod InsertFacts
+pub mod WalkFacts
+pub mod SizeFacts
+pub mod ClassFacts

@@ -1,0 +1,23 @@
+use Rattle.std.proofs.Common.{◌≡◌, ℕ, Option, List, ap, sym, ◌∙◌, subst}
+use Rattle.page_store.specs.FreeNumbers.{candidate}
+use Rattle.page_store.specs.PagesView.{PagesView}
+use Rattle.page_store.specs.PageMap.{at, overlay}
+use Rattle.btree_insert.specs.Growth.{WritesFit}
+use Rattle.btree_insert.proofs.InsertFacts.{inserted_at, can_stage, after_writes}
+use Rattle.btree_insert.proofs.inserting.insert.Goals as goal
+
+pub stage-requires : goal.stage-requires
+stage-requires g c =
+    let pages_is = ap (λ (v : PagesView). v.pages) c.in_ok-changed.ensures.unchanged in
+    let none = ap (λ v. v.items) c.in_ok-changed.ensures.freed ∙ c.new-2.ensures.items in
+    can_stage c.grow_tree.new.pages.pages c.grow_tree.new.edit.writes.items c.grow_tree.new.edit.taken c.grow_tree.new.edit.freed.items none
+    (subst (λ (ps : List (Option (List ℕ))). WritesFit ps c.grow_tree.new.edit.writes.items c.grow_tree.new.edit.taken) (sym pages_is) c.in_ok-changed.ensures.fits) (c.is_small.ensures.0 c.if-not-is_small.false).pages
+
+pub returns-clause-inserted : goal.returns-clause-inserted
+returns-clause-inserted g c = λ steady es us holds.
+    let pages_is = ap (λ (v : PagesView). v.pages) c.in_ok-changed.ensures.unchanged in
+    let none = ap (λ v. v.items) c.in_ok-changed.ensures.freed ∙ c.new-2.ensures.items in
+    let done = c.in_ok-changed.ensures.grew steady es us holds in
+    let same : (q : ℕ) → overlay (at c.args.pages.now.pages) c.grow_tree.new.edit.writes.items q ≡ at c.stage.new.self.pages q =
+    λ q. sym (c.in_ok-stage.ensures.pages q ∙ after_writes (at c.grow_tree.new.pages.pages) c.grow_tree.new.edit.writes.items c.grow_tree.new.edit.freed.items q none ∙ ap (λ (ps : List (Option (List ℕ))). overlay (at ps) c.grow_tree.new.edit.writes.items q) pages_is) in
+    (c.grow_tree.new.edit.taken, inserted_at (at c.args.pages.now.pages) (overlay (at c.args.pages.now.pages) c.grow_tree.new.edit.writes.items) (at c.stage.new.self.pages) (candidate c.args.pages.now.pages) c.grow_tree.new.edit.taken c.args.tree.now c.in_ok-changed.changed.tree es us c.args.key c.args.value c.in_ok-changed.changed.old same done)

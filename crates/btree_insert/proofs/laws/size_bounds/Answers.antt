@@ -1,0 +1,8 @@
+use Rattle.btree_insert.proofs.SizeFacts.{keys_bound, pages_bound}
+use Rattle.btree_insert.proofs.laws.size_bounds.Goals as goal
+
+pub returns-clause-keys : goal.returns-clause-keys
+returns-clause-keys c = λ pages t es us some holds. keys_bound pages t es us some holds
+
+pub returns-clause-pages : goal.returns-clause-pages
+returns-clause-pages c = λ pages t es us order some holds. pages_bound pages t es us order some holds

@@ -1,0 +1,58 @@
+use Rattle.std.proofs.Common.{◌≡◌, ◌+◌, ◌-◌, ◌<◌, ℕ, List, ◌++◌, length, get_or, take, drop, ap, sym, ◌∙◌, subst, arith}
+use Rattle.std.proofs.lemmas.List.{take_rest}
+use Rattle.std.proofs.lemmas.Result.{err_from_is_err_and}
+use Rattle.page_store.specs.PagesView.{PagesView}
+use Rattle.page_store.specs.PageMap.{at}
+use Rattle.btree_node.specs.Lists.{Element}
+use Rattle.btree_insert.specs.Bounds.{Between}
+use Rattle.btree_insert.specs.Growth.{IsOutside}
+use Rattle.btree_insert.specs.PageTrees.{Fan, TreeAt}
+use Rattle.btree_insert.proofs.BoundFacts.{Between-left, Between-right}
+use Rattle.btree_insert.proofs.TreeFacts.{top, read_top}
+use Rattle.btree_insert.proofs.WalkFacts.{fan_first, added, one_page, pages_of_both, weaken, take_one, body_fan, nonempty}
+use Rattle.btree_insert.proofs.walking.+walking.Goals as goal
+
+pub walk_below-returns-in_err-node-clause-walked : goal.walk_below-returns-in_err-node-clause-walked
+walk_below-returns-in_err-node-clause-walked g t c = λ steady least es us tree between few.
+    let p = err_from_is_err_and c.from_residual.result c.from_residual.ensures.1 in
+    let head = top c.args.order (at c.args.pages.now.pages) least c.args.height (c.args.height - 1) c.args.n es us c.args.bounds.now (omega arith) tree between in
+    rw (p.1, p.2) (subst IsOutside (sym (c.in_err-node.ensures.exact steady head.0 head.1.spells (head.1.kind ∙ sym c.kind_of_level.ensures) head.1.within)) tt)
+
+pub walk_below-returns-clause-walked : goal.walk_below-returns-clause-walked
+walk_below-returns-clause-walked g t c = λ steady least es us tree between few.
+    let head = read_top c.args.order (at c.args.pages.now.pages) least c.args.height c.args.n es us c.args.bounds.now c.kind_of_level.result c.in_ok-node.node c.requires.height c.kind_of_level.ensures (c.in_ok-node.ensures.exact steady) tree between in
+    let h = c.args.height - 1 in
+    let fan = body_fan (TreeAt c.args.order (at c.args.pages.now.pages) c.args.order h) h c.in_ok-node.node es head.below (omega arith) head.body in
+    let fan2 = subst (λ (ss : List ℕ). Fan (TreeAt c.args.order (at c.args.pages.now.pages) c.args.order h) ss c.as_slice-elements.result.now es head.below) (sym c.as_slice.ensures.value)
+    (subst (λ (els : List Element). Fan (TreeAt c.args.order (at c.args.pages.now.pages) c.args.order h) c.in_ok-node.node.sons.items els es head.below) (sym c.as_slice-elements.ensures.value) fan) in
+    let fan3 = subst (λ (v : PagesView). Fan (TreeAt c.args.order (at v.pages) c.args.order h) c.as_slice.result.now c.as_slice-elements.result.now es head.below) (sym c.read_node.ensures.unchanged) fan2 in
+    let size = one_page us c.args.n head.below head.us_is in
+    let call = c.walk_sons.ensures.walked (ap (λ (v : PagesView). v.steady) c.read_node.ensures.unchanged ∙ steady) es head.below fan3 between (omega (arith, size, few)) in
+    weaken c.walk_sons.result ((c.walk_sons.new.out.items ≡ c.args.out.now.items ++ es) × (c.walk_sons.new.left + length head.below ≡ c.args.left.now - 1)) ((c.walk_sons.new.out.items ≡ c.args.out.now.items ++ es) × (c.walk_sons.new.left + length us ≡ c.args.left.now))
+    (λ both. (both.0, omega (arith, both.1, size, few))) call
+
+pub walk_sons-returns-in_err-walk_below-clause-walked : goal.walk_sons-returns-in_err-walk_below-clause-walked
+walk_sons-returns-in_err-walk_below-clause-walked g t c = λ steady es us fan between few.
+    let p = err_from_is_err_and c.from_residual.result c.from_residual.ensures.1 in
+    let x : Element = c.index-elements-0.result in
+    let x_is : x ≡ get_or c.args.elements.now 0 x = c.index-elements-0.is in
+    let one = fan_first (TreeAt c.args.order (at c.args.pages.now.pages) c.args.order c.args.height) c.args.sons.now c.args.elements.now es us (nonempty c.args.elements.now c.is_empty.result c.is_empty.ensures c.if-is_empty.false) fan in
+    let size = pages_of_both us one.here one.rest one.us_is in
+    rw (p.1, p.2) (c.in_err-walk_below.ensures.walked steady c.args.order one.xs one.here one.first (Between-left c.args.bounds.now one.xs x one.ys (subst (Between c.args.bounds.now) (one.es_is x x_is) between)) (omega (arith, size, few)))
+
+pub walk_sons-returns-clause-walked : goal.walk_sons-returns-clause-walked
+walk_sons-returns-clause-walked g t c = λ steady es us fan between few.
+    let x : Element = c.index-elements-0.result in
+    let x_is : x ≡ get_or c.args.elements.now 0 x = c.index-elements-0.is in
+    let some : 0 < length c.args.elements.now = nonempty c.args.elements.now c.is_empty.result c.is_empty.ensures c.if-is_empty.false in
+    let one = fan_first (TreeAt c.args.order (at c.args.pages.now.pages) c.args.order c.args.height) c.args.sons.now c.args.elements.now es us some fan in
+    let size = pages_of_both us one.here one.rest one.us_is in
+    let bounded = subst (Between c.args.bounds.now) (one.es_is x x_is) between in
+    let first = c.in_ok-walk_below.ensures.walked steady c.args.order one.xs one.here one.first (Between-left c.args.bounds.now one.xs x one.ys bounded) (omega (arith, size, few)) in
+    let fan2 = subst (λ (ss : List ℕ). Fan (TreeAt c.args.order (at c.args.pages.now.pages) c.args.order c.args.height) ss (drop 1 c.args.elements.now) one.ys one.rest) (sym (take_rest c.args.sons.now 1)) one.more in
+    let fan3 = subst (λ (els : List Element). Fan (TreeAt c.args.order (at c.args.pages.now.pages) c.args.order c.args.height) (take (length c.args.sons.now - 1) (drop 1 c.args.sons.now)) els one.ys one.rest) (sym (take_rest c.args.elements.now 1)) fan2 in
+    let fan4 = subst (λ (v : PagesView). Fan (TreeAt c.args.order (at v.pages) c.args.order c.args.height) (take (length c.args.sons.now - 1) (drop 1 c.args.sons.now)) (take (length c.args.elements.now - 1) (drop 1 c.args.elements.now)) one.ys one.rest) (sym c.in_ok-walk_below.ensures.unchanged) fan3 in
+    let call = c.walk_sons.ensures.walked (ap (λ (v : PagesView). v.steady) c.in_ok-walk_below.ensures.unchanged ∙ steady) one.ys one.rest fan4 (Between-right c.args.bounds.now one.xs x one.ys bounded) (omega (arith, size, few, first.1)) in
+    let second = c.in_ok-add_elements.ensures ∙ ap (λ zs. c.walk_below-2.new.out.items ++ zs) (take_one c.args.elements.now x some x_is) in
+    weaken c.walk_sons.result ((c.walk_sons.new.out.items ≡ c.add_elements.new.out.items ++ one.ys) × (c.walk_sons.new.left + length one.rest ≡ c.walk_below-2.new.left)) ((c.walk_sons.new.out.items ≡ c.args.out.now.items ++ es) × (c.walk_sons.new.left + length us ≡ c.args.left.now))
+    (λ both. (added c.args.out.now.items c.walk_below-2.new.out.items c.add_elements.new.out.items c.walk_sons.new.out.items one.xs one.ys es x first.0 second both.0 (one.es_is x x_is), omega (arith, both.1, first.1, size))) call

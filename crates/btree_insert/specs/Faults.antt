@@ -1,0 +1,11 @@
+-- Which fault of a tree an answer is.
+use Rattle.std.specs.Prelude.{Bool, true, false, Result, Ok, Err}
+use Rattle.btree_insert.specs.declared.trees.TreeFault.{TreeFault}
+use Rattle.btree_insert.specs.declared.trees.TreeFault.TheVariants.{Device, Damaged, Memory}
+
+-- whether a read of the store failed
+abbrev pub is_device : {X : Type 0} → Result X TreeFault → Bool
+is_device (Ok x) = false
+is_device (Err Device) = true
+is_device (Err (Damaged page)) = false
+is_device (Err Memory) = false

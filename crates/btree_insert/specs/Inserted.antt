@@ -1,0 +1,43 @@
+-- What an insertion into a tree comes to.
+use Rattle.std.specs.Prelude.{◌≡◌, ℕ, ◌≤◌, List, [], ◌∷◌, Option}
+use Rattle.page_store.specs.PageMap.{PageMap, at}
+use Rattle.page_store.specs.FreeNumbers.{candidate, count_after}
+use Rattle.btree_node.specs.declared.nodes.Node.{Node}
+use Rattle.btree_node.specs.declared.nodes.NodeKind.TheVariants.{Leaf, Inner}
+use Rattle.btree_node.specs.Lists.{Element}
+use Rattle.btree_insert.specs.declared.trees.Tree.{Tree}
+use Rattle.btree_insert.specs.declared.trees.TreeFault.{TreeFault}
+use Rattle.btree_insert.specs.declared.trees.TreeFault.TheVariants.{Device, Damaged, Memory}
+use Rattle.btree_insert.specs.Contents.{lookup_in, put_in}
+use Rattle.btree_insert.specs.Kept.{Kept}
+use Rattle.btree_insert.specs.PageTrees.{Holds}
+
+-- a leaf with one element
+abbrev pub leaf_of : Element → Node
+leaf_of e = record { kind = Leaf; elements = record { items = e ∷ [] }; sons = record { items = [] } }
+
+-- an inner node with one element between two sons
+abbrev pub root_of : ℕ → Element → ℕ → Node
+root_of left middle right = record { kind = Inner; elements = record { items = middle ∷ [] }; sons = record { items = left ∷ (right ∷ []) } }
+
+-- the old pages held a tree with the elements es; the new pages hold the next tree, with the record at the key, made of the old tree's pages and some new ones; and what stood at the key
+pub record Inserted (old new : PageMap) (fresh : ℕ → ℕ) (taken : ℕ) (tree next : Tree) (es : List Element) (us : List ℕ) (key value : List ℕ) (before : Option (List ℕ)) : Type 0 where
+  pub vs : List ℕ
+  pub holds : Holds new next (put_in key value es) vs
+  pub answer : before ≡ lookup_in key es
+  pub order : next.order ≡ tree.order
+  pub kept : Kept old new fresh 0 taken us vs
+
+-- a tree and a page count within the limits of a file
+pub record IsSmall (tree : Tree) (page_count : ℕ) : Type 0 where
+  pub height : tree.height ≤ 19
+  pub count : tree.count ≤ 1000000
+  pub used : tree.used ≤ 1000000
+  pub pages : page_count ≤ 1000001
+
+-- a fault from outside, or the tree with the record at the key would pass a limit
+abbrev pub IsRefused : List (Option (List ℕ)) → Tree → List Element → List ℕ → List ℕ → List ℕ → TreeFault → Type 0
+IsRefused pages tree es us key value Device = Unit {0}
+IsRefused pages tree es us key value (Damaged page) =
+    (new : PageMap) × (taken : ℕ) × (next : Tree) × (before : Option (List ℕ)) × Inserted (at pages) new (candidate pages) taken tree next es us key value before × (IsSmall next (count_after pages taken) → ⊥)
+IsRefused pages tree es us key value Memory = Unit {0}

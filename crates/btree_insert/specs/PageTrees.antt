@@ -1,0 +1,61 @@
+-- The tree below a page number: its elements in order and the numbers of its pages.
+use Rattle.std.specs.Prelude.{◌≡◌, ℕ, zero, suc, ◌≤◌, ◌⊎◌, List, [], ◌∷◌, ◌++◌, length, Some, ◌==◌, if◌then◌else◌}
+use Rattle.btree_node.specs.declared.nodes.Node.{Node}
+use Rattle.btree_node.specs.declared.nodes.NodeKind.{NodeKind}
+use Rattle.btree_node.specs.declared.nodes.NodeKind.TheVariants.{Leaf, Inner}
+use Rattle.btree_node.specs.Lists.{Element, Ascends}
+use Rattle.btree_node.specs.Spelling.{spelling, CanStand}
+use Rattle.page_store.specs.PageMap.{PageMap}
+use Rattle.btree_insert.specs.declared.trees.Tree.{Tree}
+
+-- u is one of the numbers
+abbrev pub IsIn : ℕ → List ℕ → Type 0
+IsIn u [] = ⊥
+IsIn u (v ∷ vs) = (u ≡ v) ⊎ IsIn u vs
+
+-- no number comes twice
+abbrev pub Apart : List ℕ → Type 0
+Apart [] = Unit {0}
+Apart (u ∷ us) = (IsIn u us → ⊥) × Apart us
+
+-- page p spells the node
+pub record Spells (k : ℕ) (pages : PageMap) (p : ℕ) (n : Node) : Type 0 where
+  pub page : pages p ≡ Some (spelling n k)
+  pub stands : CanStand n k
+
+-- sons with the elements between them: all elements in order, and the page numbers of all sons. What a son stands for is said by «tree».
+abbrev pub Fan : (ℕ → List Element → List ℕ → Type 0) → List ℕ → List Element → List Element → List ℕ → Type 0
+Fan tree [] els es us = ⊥
+Fan tree (s ∷ []) [] es us = tree s es us
+Fan tree (s ∷ []) (e ∷ els) es us = ⊥
+Fan tree (s ∷ (t ∷ ss)) [] es us = ⊥
+Fan tree (s ∷ (t ∷ ss)) (e ∷ els) es us =
+    (xs : List Element) × (ys : List Element) × (here : List ℕ) × (rest : List ℕ) × tree s xs here × Fan tree (t ∷ ss) els ys rest × (es ≡ xs ++ e ∷ ys) × (us ≡ here ++ rest)
+
+-- which kind of page stands at a level, where level 1 is the lowest
+abbrev pub kind_of_level : ℕ → NodeKind
+kind_of_level level = if level == 1 then Leaf else Inner
+
+-- what a node with so many levels below it stands for
+abbrev pub Body : (ℕ → List Element → List ℕ → Type 0) → ℕ → Node → List Element → List ℕ → Type 0
+Body tree zero n es us = (n.kind ≡ Leaf) × (es ≡ n.elements.items) × (us ≡ [])
+Body tree (suc h) n es us = (n.kind ≡ Inner) × Fan tree n.sons.items n.elements.items es us
+
+-- the tree of a height below page p, where p has at least so many keys and each page below it at least k
+abbrev pub TreeAt : ℕ → PageMap → ℕ → ℕ → ℕ → List Element → List ℕ → Type 0
+TreeAt k pages least zero p es us = ⊥
+TreeAt k pages least (suc h) p es us =
+    (n : Node) × (below : List ℕ) × Spells k pages p n × (least ≤ length n.elements.items) × Body (TreeAt k pages k h) h n es below × (us ≡ p ∷ below)
+
+-- the tree of a root: none is the empty tree
+abbrev pub RootAt : ℕ → PageMap → ℕ → ℕ → List Element → List ℕ → Type 0
+RootAt k pages zero root es us = (root ≡ 0) × (es ≡ []) × (us ≡ [])
+RootAt k pages (suc h) root es us = TreeAt k pages 1 (suc h) root es us
+
+-- the pages hold the tree: its elements in order, its pages, and what it says of itself
+pub record Holds (pages : PageMap) (t : Tree) (es : List Element) (us : List ℕ) : Type 0 where
+  pub tree : RootAt t.order pages t.height t.root es us
+  pub ascends : Ascends es
+  pub apart : Apart us
+  pub count : t.count ≡ length es
+  pub used : t.used ≡ length us

@@ -1,0 +1,265 @@
+ghost use Rattle.std.specs.Prelude.{◌≡◌, ◌+◌, ◌<◌, ◌≤◌, ◌↔◌, ◌∷◌, ◌++◌, [], ℕ, List, IsTrue, IfOk, OnOk, OnErr, MatchResult, length};
+ghost use Rattle.page_store.specs.Counted.{counted};
+ghost use Rattle.page_store.specs.FreeNumbers.{candidate, count_after};
+ghost use Rattle.page_store.specs.PageMap.{at, overlay};
+ghost use Rattle.btree_node.specs.Lists.{Element};
+ghost use Rattle.btree_node.specs.Spelling.{spelling, CanStand};
+ghost use Rattle.btree_insert.specs.Faults.{is_device};
+ghost use Rattle.btree_insert.specs.Growth.{IsOutside, WritesFit};
+ghost use Rattle.btree_insert.specs.Inserted.{leaf_of, root_of, Inserted, IsSmall, IsRefused};
+ghost use Rattle.btree_insert.specs.PageTrees.{Holds};
+
+use crate::bounds::Bounds;
+use crate::growing::{Grown, element_fits, grow_below, write_node};
+use crate::trees::{Tree, TreeFault};
+use arrayvec::ArrayVec;
+use btree_node::{Node, NodeKind};
+use page_store::{PageEdit, Pages, Store};
+use rec_types::{Key, Memory, Record};
+use std::alloc::Global;
+
+/// A tree after an insertion that is not in place yet.
+#[derive(Clone, Copy)]
+struct Changed {
+    tree: Tree,
+    /// What stood at the key.
+    old: Option<Record>,
+    /// The leaf that the insertion came to.
+    leaf: u32,
+}
+
+/// Writes a node as a new page, and answers its number.
+fn add_node<S: Store>(
+    pages: &Pages<S>,
+    edit: &mut PageEdit,
+    order: u16,
+    node: &Node,
+) -> Result<u32, Memory>
+    requires order { order ≤ 16 }
+    requires stands { CanStand node.now order }
+    requires taken { edit.old.taken ≤ 100 }
+    requires fits { WritesFit pages.now.pages edit.old.writes.items edit.old.taken }
+    ensures number { IfOk result (λ n. n ≡ candidate pages.now.pages edit.old.taken) }
+    ensures writes { IfOk result (λ n. edit.new.writes.items
+        ≡ edit.old.writes.items ++ (n, spelling node.now order) ∷ []) }
+    ensures taken { OnOk result (edit.new.taken ≡ edit.old.taken + 1) }
+    ensures fits { OnOk result (WritesFit pages.now.pages edit.new.writes.items edit.new.taken) }
+    ensures freed { edit.new.freed ≡ edit.old.freed }
+{
+    let number = pages.candidate(edit.taken);
+    write_node(edit, order, number, node)?;
+    edit.taken += 1;
+    Ok(number)
+}
+
+fn leaf_node(element: (Key, Record)) -> Node
+    ensures { result ≡ leaf_of element }
+{
+    let mut elements = ArrayVec::new();
+    elements.push(element);
+    Node {
+        kind: NodeKind::Leaf,
+        elements,
+        sons: ArrayVec::new(),
+    }
+}
+
+fn root_node(left: u32, middle: (Key, Record), right: u32) -> Node
+    ensures { result ≡ root_of left middle right }
+{
+    let mut elements = ArrayVec::new();
+    elements.push(middle);
+    let mut sons = ArrayVec::new();
+    sons.push(left);
+    sons.push(right);
+    Node {
+        kind: NodeKind::Inner,
+        elements,
+        sons,
+    }
+}
+
+/// Whether a tree, and a page count after so many numbers were taken, are within their limits.
+fn is_small<S: Store>(pages: &Pages<S>, tree: &Tree, taken: u32) -> bool
+    requires { taken ≤ 100 }
+    ensures { IsTrue result ↔ IsSmall tree.now (count_after pages.now.pages taken) }
+{
+    let count = pages.page_count() + taken.saturating_sub(pages.free_count());
+    tree.height <= 19 && tree.count <= 1_000_000 && tree.used <= 1_000_000 && count <= 1_000_001
+}
+
+/// Puts the record at the key of a tree, and collects the pages to write.
+fn grow_tree<S: Store>(
+    pages: &mut Pages<S>,
+    edit: &mut PageEdit,
+    tree: &Tree,
+    element: (Key, Record),
+) -> Result<Changed, TreeFault>
+    requires some_order { 1 ≤ tree.now.order }
+    requires most_order { tree.now.order ≤ 16 }
+    requires height { tree.now.height ≤ 19 }
+    requires count { tree.now.count ≤ 1000000 }
+    requires used { tree.now.used ≤ 1000000 }
+    requires empty { edit.old.writes.items ≡ [] }
+    requires none_taken { edit.old.taken ≡ 0 }
+    ensures grew { IsTrue pages.old.steady → (es : List Element) (us : List ℕ)
+        → Holds (at pages.old.pages) tree.now es us
+        → MatchResult result
+        (λ changed. Inserted (at pages.old.pages) (overlay (at pages.old.pages) edit.new.writes.items) (candidate pages.old.pages)
+        edit.new.taken tree.now changed.tree es us element.0 element.1 changed.old)
+        IsOutside }
+    ensures fits { OnOk result (WritesFit pages.old.pages edit.new.writes.items edit.new.taken) }
+    ensures few { OnOk result (edit.new.taken ≤ 20) }
+    ensures order { IfOk result (λ changed. changed.tree.order ≡ tree.now.order) }
+    ensures freed { edit.new.freed ≡ edit.old.freed }
+    ensures device { pages.new.failures ≡ counted pages.old.failures (is_device result) }
+    ensures unchanged { pages.new
+        ≡ record pages.old { reads = pages.new.reads; failures = pages.new.failures } }
+    ensures reads { pages.new.reads ≤ pages.old.reads + tree.now.height }
+{
+    let order = tree.order;
+    if tree.height == 0 {
+        return Ok(plant(pages, edit, tree, element)?);
+    }
+    let bounds = Bounds {
+        low: None,
+        high: None,
+    };
+    let mut met = ArrayVec::new();
+    let grown = grow_below(
+        pages,
+        edit,
+        &mut met,
+        order,
+        tree.height,
+        tree.root,
+        &bounds,
+        element,
+    )?;
+    let leaf = met[met.len() - 1];
+    match grown {
+        Grown::Replaced(old) => Ok(Changed {
+            tree: *tree,
+            old: Some(old),
+            leaf,
+        }),
+        Grown::Fits => Ok(Changed {
+            tree: grown_tree(tree, tree.root, tree.height, edit.taken),
+            old: None,
+            leaf,
+        }),
+        Grown::Split(middle, right) => {
+            let _count = pages.page_count();
+            let root = add_node(pages, edit, order, &root_node(tree.root, middle, right))?;
+            Ok(Changed {
+                tree: grown_tree(tree, root, tree.height + 1, edit.taken),
+                old: None,
+                leaf,
+            })
+        }
+    }
+}
+
+/// Makes the first page of an empty tree.
+fn plant<S: Store>(
+    pages: &Pages<S>,
+    edit: &mut PageEdit,
+    tree: &Tree,
+    element: (Key, Record),
+) -> Result<Changed, Memory>
+    requires some_order { 1 ≤ tree.now.order }
+    requires most_order { tree.now.order ≤ 16 }
+    requires height { tree.now.height ≡ 0 }
+    requires count { tree.now.count ≤ 1000000 }
+    requires used { tree.now.used ≤ 1000000 }
+    requires empty { edit.old.writes.items ≡ [] }
+    requires none_taken { edit.old.taken ≡ 0 }
+    ensures grew { (es : List Element) (us : List ℕ) → Holds (at pages.now.pages) tree.now es us
+        → IfOk result (λ changed. Inserted (at pages.now.pages) (overlay (at pages.now.pages) edit.new.writes.items)
+        (candidate pages.now.pages) edit.new.taken tree.now changed.tree es us element.0 element.1 changed.old) }
+    ensures fits { OnOk result (WritesFit pages.now.pages edit.new.writes.items edit.new.taken) }
+    ensures few { OnOk result (edit.new.taken ≤ 20) }
+    ensures order { IfOk result (λ changed. changed.tree.order ≡ tree.now.order) }
+    ensures freed { edit.new.freed ≡ edit.old.freed }
+{
+    element_fits(&element);
+    let root = add_node(pages, edit, tree.order, &leaf_node(element))?;
+    Ok(Changed {
+        tree: grown_tree(tree, root, 1, edit.taken),
+        old: None,
+        leaf: root,
+    })
+}
+
+/// The tree with one key more, and so many pages more.
+fn grown_tree(tree: &Tree, root: u32, height: u32, taken: u32) -> Tree
+    requires count { tree.now.count ≤ 1000000 }
+    requires used { tree.now.used ≤ 1000000 }
+    requires taken { taken ≤ 100 }
+    ensures { result ≡ record {
+      order = tree.now.order;
+      root = root;
+      height = height;
+      count = tree.now.count + 1;
+      used = tree.now.used + taken;
+    } }
+{
+    Tree {
+        order: tree.order,
+        root,
+        height,
+        count: tree.count + 1,
+        used: tree.used + taken,
+    }
+}
+
+/// Puts the record at the key, and answers the new tree and the record that stood there. The
+/// conditions are an order from 1 to 16, a height of at most 19, and a `count` and a `used` of at most
+/// 1,000,000. It reads each page of the path to the key once. Faults: Device; Damaged with the page
+/// that is not in use, spells no node of the order, is of a kind that does not fit its level, has a key
+/// that is not strictly between the bounds from all levels above, or is met twice; Damaged with the
+/// leaf where the tree would pass 1,000,000 records, 1,000,001 pages or 19 levels; Memory. After a
+/// fault no page has changed.
+pub fn insert<S: Store>(
+    alloc: Global,
+    pages: &mut Pages<S>,
+    tree: &Tree,
+    key: Key,
+    value: Record,
+) -> Result<(Tree, Option<Record>), TreeFault>
+    requires some_order { 1 ≤ tree.now.order }
+    requires most_order { tree.now.order ≤ 16 }
+    requires height { tree.now.height ≤ 19 }
+    requires count { tree.now.count ≤ 1000000 }
+    requires used { tree.now.used ≤ 1000000 }
+    ensures inserted { IsTrue pages.old.steady → (es : List Element) (us : List ℕ)
+        → Holds (at pages.old.pages) tree.now es us
+        → MatchResult result
+        (λ r. (taken : ℕ) × Inserted (at pages.old.pages) (at pages.new.pages) (candidate pages.old.pages) taken
+        tree.now r.0 es us key value r.1)
+        (IsRefused pages.old.pages tree.now es us key value) }
+    ensures small { IfOk result (λ r. IsSmall r.0 (length pages.new.pages)) }
+    ensures order { IfOk result (λ r. r.0.order ≡ tree.now.order) }
+    ensures device { pages.new.failures ≡ counted pages.old.failures (is_device result) }
+    ensures err { OnErr result (pages.new
+        ≡ record pages.old { reads = pages.new.reads; failures = pages.new.failures }) }
+    ensures store { pages.new ≡ record pages.old {
+      pages = pages.new.pages;
+      changed = pages.new.changed;
+      reads = pages.new.reads;
+      failures = pages.new.failures;
+    } }
+    ensures reads { pages.new.reads ≤ pages.old.reads + tree.now.height }
+{
+    let mut edit = PageEdit {
+        writes: Vec::new(alloc),
+        taken: 0,
+        freed: Vec::new(alloc),
+    };
+    let changed = grow_tree(pages, &mut edit, tree, (key, value))?;
+    if !is_small(pages, &changed.tree, edit.taken) {
+        return Err(TreeFault::Damaged(changed.leaf));
+    }
+    pages.stage(edit)?;
+    Ok((changed.tree, changed.old))
+}

@@ -1,0 +1,60 @@
+ghost use Rattle.std.specs.Prelude.{◌≡◌, ◌+◌, ◌≤◌, ℕ, IsTrue, IsSome, IfOk, OnOk, MatchResult};
+ghost use Rattle.page_store.specs.Counted.{counted};
+ghost use Rattle.page_store.specs.PageMap.{at};
+ghost use Rattle.btree_node.specs.Spelling.{CanStand};
+ghost use Rattle.btree_node.specs.declared.nodes.Node.{Node};
+ghost use Rattle.btree_insert.specs.Bounds.{AreWithin};
+ghost use Rattle.btree_insert.specs.Faults.{is_device};
+ghost use Rattle.btree_insert.specs.PageTrees.{Spells, kind_of_level};
+
+use crate::bounds::{Bounds, are_within};
+use crate::trees::TreeFault;
+use btree_node::{Node, NodeKind, decode};
+use page_store::{FetchFault, Pages, Store};
+
+/// The node of page n, which is of a kind and has its keys within the bounds. Faults: Device, and
+/// Damaged(n) where the page is not in use or spells no such node.
+pub(crate) fn read_node<S: Store>(
+    pages: &mut Pages<S>,
+    order: u16,
+    kind: NodeKind,
+    n: u32,
+    bounds: &Bounds,
+) -> Result<Node, TreeFault>
+    requires { order ≤ 16 }
+    ensures exact { IsTrue pages.old.steady → (node : Node) → Spells order (at pages.old.pages) n node
+        → node.kind ≡ kind → AreWithin bounds.now node.elements.items
+        → MatchResult result (λ r. r ≡ node) (λ fault. fault ≡ TreeFault.Device) }
+    ensures stands { IfOk result (λ node. CanStand node order × (node.kind ≡ kind)) }
+    ensures in_use { OnOk result (IsSome (at pages.old.pages n)) }
+    ensures within { IfOk result (λ node. AreWithin bounds.now node.elements.items) }
+    ensures device { pages.new.failures ≡ counted pages.old.failures (is_device result) }
+    ensures unchanged { pages.new
+        ≡ record pages.old { reads = pages.new.reads; failures = pages.new.failures } }
+    ensures one_read { pages.new.reads ≤ pages.old.reads + 1 }
+{
+    let mut page = [0; 4096];
+    match pages.fetch(n, &mut page) {
+        Ok(()) => {}
+        Err(FetchFault::Device) => return Err(TreeFault::Device),
+        Err(FetchFault::OutOfRange) => return Err(TreeFault::Damaged(n)),
+    }
+    let Ok(node) = decode(&page, order) else {
+        return Err(TreeFault::Damaged(n));
+    };
+    if node.kind != kind || !are_within(bounds, node.elements.as_slice()) {
+        return Err(TreeFault::Damaged(n));
+    }
+    Ok(node)
+}
+
+/// Which kind of page stands at a level, where level 1 is the lowest.
+pub(crate) fn kind_of_level(level: u32) -> NodeKind
+    ensures { result ≡ kind_of_level level }
+{
+    if level == 1 {
+        NodeKind::Leaf
+    } else {
+        NodeKind::Inner
+    }
+}

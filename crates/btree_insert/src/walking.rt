@@ -1,0 +1,160 @@
+ghost use Rattle.std.specs.Prelude.{◌≡◌, ◌+◌, ◌<◌, ◌≤◌, ◌++◌, ℕ, List, IsTrue, OnOk, MatchResult, length};
+ghost use Rattle.page_store.specs.Counted.{counted};
+ghost use Rattle.page_store.specs.PageMap.{at};
+ghost use Rattle.btree_node.specs.Lists.{Element};
+ghost use Rattle.btree_insert.specs.Bounds.{Between};
+ghost use Rattle.btree_insert.specs.Faults.{is_device};
+ghost use Rattle.btree_insert.specs.Growth.{IsOutside};
+ghost use Rattle.btree_insert.specs.PageTrees.{Fan, TreeAt, Holds};
+
+use crate::bounds::Bounds;
+use crate::reading::{kind_of_level, read_node};
+use crate::trees::{Tree, TreeFault};
+use page_store::{Pages, Store};
+use rec_types::{Key, Memory, Record};
+use std::alloc::Global;
+
+/// All keys with their records, in order. It reads each page of the tree once. The conditions are an
+/// order from 1 to 16, a height of at most 19, and a `count` and a `used` of at most 1,000,000. Faults:
+/// Device; Damaged as `find` answers it, and with the page that it is at where it meets more than
+/// `used` pages; Memory. No page changes.
+pub fn walk<S: Store>(
+    alloc: Global,
+    pages: &mut Pages<S>,
+    tree: &Tree,
+) -> Result<Vec<(Key, Record)>, TreeFault>
+    requires some_order { 1 ≤ tree.now.order }
+    requires most_order { tree.now.order ≤ 16 }
+    requires height { tree.now.height ≤ 19 }
+    requires count { tree.now.count ≤ 1000000 }
+    requires used { tree.now.used ≤ 1000000 }
+    ensures walked { IsTrue pages.old.steady → (es : List Element) (us : List ℕ)
+        → Holds (at pages.old.pages) tree.now es us
+        → MatchResult result (λ elements. elements.items ≡ es) IsOutside }
+    ensures device { pages.new.failures ≡ counted pages.old.failures (is_device result) }
+    ensures unchanged { pages.new
+        ≡ record pages.old { reads = pages.new.reads; failures = pages.new.failures } }
+    ensures reads { pages.new.reads ≤ pages.old.reads + tree.now.used }
+{
+    let mut out = Vec::new(alloc);
+    if tree.height == 0 {
+        return Ok(out);
+    }
+    let bounds = Bounds {
+        low: None,
+        high: None,
+    };
+    let mut left = tree.used;
+    walk_below(
+        pages,
+        &mut out,
+        &mut left,
+        tree.order,
+        tree.height,
+        tree.root,
+        &bounds,
+    )?;
+    Ok(out)
+}
+
+/// Adds the elements of the tree of a height below page n, which may have `left` pages.
+#[cycle(walking)]
+fn walk_below<S: Store>(
+    pages: &mut Pages<S>,
+    out: &mut Vec<(Key, Record)>,
+    left: &mut u32,
+    order: u16,
+    height: u32,
+    n: u32,
+    bounds: &Bounds,
+) -> Result<(), TreeFault>
+    requires order { order ≤ 16 }
+    requires height { 0 < height }
+    ensures walked { IsTrue pages.old.steady → (least : ℕ) (es : List Element) (us : List ℕ)
+        → TreeAt order (at pages.old.pages) least height n es us → Between bounds.now es
+        → length us ≤ left.old
+        → MatchResult result (λ _. (out.new.items ≡ out.old.items ++ es) × (left.new + length us ≡ left.old)) IsOutside }
+    ensures device { pages.new.failures ≡ counted pages.old.failures (is_device result) }
+    ensures unchanged { pages.new
+        ≡ record pages.old { reads = pages.new.reads; failures = pages.new.failures } }
+    ensures reads { pages.new.reads + left.new ≤ pages.old.reads + left.old }
+{
+    if *left == 0 {
+        return Err(TreeFault::Damaged(n));
+    }
+    *left -= 1;
+    let node = read_node(pages, order, kind_of_level(height), n, bounds)?;
+    let elements = node.elements.as_slice();
+    if height == 1 {
+        return Ok(add_elements(out, elements)?);
+    }
+    walk_sons(
+        pages,
+        out,
+        left,
+        order,
+        height - 1,
+        node.sons.as_slice(),
+        elements,
+        bounds,
+    )
+}
+
+/// Adds the elements below the sons, and the elements between them.
+#[cycle(walking)]
+fn walk_sons<S: Store>(
+    pages: &mut Pages<S>,
+    out: &mut Vec<(Key, Record)>,
+    left: &mut u32,
+    order: u16,
+    height: u32,
+    sons: &[u32],
+    elements: &[(Key, Record)],
+    bounds: &Bounds,
+) -> Result<(), TreeFault>
+    requires order { order ≤ 16 }
+    requires height { 0 < height }
+    requires sons { length sons.now ≡ length elements.now + 1 }
+    ensures walked { IsTrue pages.old.steady → (es : List Element) (us : List ℕ)
+        → Fan (TreeAt order (at pages.old.pages) order height) sons.now elements.now es us → Between bounds.now es
+        → length us ≤ left.old
+        → MatchResult result (λ _. (out.new.items ≡ out.old.items ++ es) × (left.new + length us ≡ left.old)) IsOutside }
+    ensures device { pages.new.failures ≡ counted pages.old.failures (is_device result) }
+    ensures unchanged { pages.new
+        ≡ record pages.old { reads = pages.new.reads; failures = pages.new.failures } }
+    ensures reads { pages.new.reads + left.new ≤ pages.old.reads + left.old }
+{
+    if elements.is_empty() {
+        return walk_below(pages, out, left, order, height, sons[0], bounds);
+    }
+    let middle = elements[0];
+    let before = Bounds {
+        low: bounds.low,
+        high: Some(middle.0),
+    };
+    walk_below(pages, out, left, order, height, sons[0], &before)?;
+    add_elements(out, &elements[..1])?;
+    let behind = Bounds {
+        low: Some(middle.0),
+        high: bounds.high,
+    };
+    walk_sons(
+        pages,
+        out,
+        left,
+        order,
+        height,
+        &sons[1..],
+        &elements[1..],
+        &behind,
+    )
+}
+
+fn add_elements(out: &mut Vec<(Key, Record)>, elements: &[(Key, Record)]) -> Result<(), Memory>
+    ensures { OnOk result (out.new.items ≡ out.old.items ++ elements.now) }
+{
+    if out.extend_from_slice(elements).is_err() {
+        return Err(Memory);
+    }
+    Ok(())
+}
