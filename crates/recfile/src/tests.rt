@@ -3,7 +3,7 @@ use rec_types::{LimitFault, Limits, SortedTable};
 use record_file::RecordFile;
 use std::alloc::Global;
 use std::io;
-use std::io::Write;
+use std::io::{Read, Write};
 use std::process::Abort;
 use std::test::Fail;
 
@@ -264,18 +264,65 @@ fn the_first_refusal_is_answered(rt: HostRuntime) -> Result<(), Fail> {
     )
 }
 
-/// A writer that refuses every write.
+/// A writer that refuses every write after so many.
 #[derive(Drop)]
-struct Closed;
+struct Closing {
+    writes: u32,
+}
 
-impl Write for Closed {
-    fn write(&mut self, _bytes: &[u8]) -> io::Result<usize> {
-        Err(io::Error::from(io::ErrorKind::BrokenPipe))
+impl Write for Closing {
+    fn write(&mut self, bytes: &[u8]) -> io::Result<usize> {
+        if self.writes == 0 {
+            return Err(io::Error::from(io::ErrorKind::BrokenPipe));
+        }
+        self.writes -= 1;
+        Ok(bytes.len())
     }
 
     fn flush(&mut self) -> io::Result<()> {
         Ok(())
     }
+}
+
+/// A reader of line ends that fails after so many reads.
+#[derive(Drop)]
+struct Failing {
+    reads: u32,
+}
+
+impl Read for Failing {
+    fn read(&mut self, bytes: &mut [u8]) -> io::Result<usize> {
+        if self.reads == 0 || bytes.is_empty() {
+            return Err(io::Error::from(io::ErrorKind::BrokenPipe));
+        }
+        self.reads -= 1;
+        bytes[0] = b'\n';
+        Ok(1)
+    }
+}
+
+#[test]
+fn readers_and_writers_fail_at_any_call(rt: HostRuntime) -> Result<(), Fail> {
+    let alloc = rt.alloc();
+    for calls in 0..3 {
+        let mut file = empty_file(alloc, greatest()?);
+        let mut out = Vec::new(alloc);
+        let mut reader = Failing { reads: calls };
+        assert_eq!(rt;
+            run_script(alloc, &mut reader, &mut out, &mut file),
+            Err(ScriptFault::ReadFault)
+        );
+        assert_eq!(rt; out.len(), 0);
+        let mut reader = b"begin\nbegin\nbegin\nbegin\n".as_slice();
+        let mut writer = Closing { writes: calls };
+        let done = calls + 1;
+        assert_eq!(rt;
+            run_script(alloc, &mut reader, &mut writer, &mut file),
+            Err(ScriptFault::WriteFault { done })
+        );
+        assert_eq!(rt; file.begun(), done);
+    }
+    Ok(())
 }
 
 #[test]
@@ -298,7 +345,7 @@ fn scripts_that_are_not_run_to_their_end(rt: HostRuntime) -> Result<(), Fail> {
     assert_eq!(rt; out.len(), 0);
     let mut reader = b"begin\n".as_slice();
     assert_eq!(rt;
-        run_script(alloc, &mut reader, &mut Closed, &mut file),
+        run_script(alloc, &mut reader, &mut Closing { writes: 0 }, &mut file),
         Err(ScriptFault::WriteFault { done: 1 })
     );
     assert_eq!(rt; file.begun(), 1);
