@@ -6,4 +6,5 @@ pub mod StateFacts
 pub mod RoomFacts
 pub mod FaultFacts
 pub mod RollbackFacts
+pub mod GrowFacts
 pub mod OwnerFacts

@@ -3,7 +3,7 @@ ghost use Rattle.std.specs.FinMap as maps;
 ghost use Rattle.rec_types.specs.History.{log_len, undo_last};
 ghost use Rattle.tx_log.specs.Log.{record_at};
 ghost use Rattle.rec_types.specs.Table.{is_device, is_memory, counted};
-ghost use Rattle.record_file.specs.Abstract.{new_file, records_of, is_full, charged_of, use_of, tx_of, held_by, phase_at, IsKeptFile};
+ghost use Rattle.record_file.specs.Abstract.{new_file, records_of, is_full, charged_of, use_of, tx_of, held_by, phase_at, Grows, IsKeptFile};
 ghost use Rattle.tx_log.specs.Transactions.{depth_of, left_in};
 ghost use Rattle.tx_log.specs.LogState.{rolling_to, finished, IsRolling, open_in, history_in};
 ghost use Rattle.record_file.specs.Steps.{rose, put_refusal, remove_refusal, get_refusal, BeginStep, PutStep, RemoveStep, GetStep, SavepointStep, ReleaseStep, CommitStep, RollbackToStep, AbortStep, ResumeStep, EntriesStep, KeysOfStep, entry_with, listed, status_of, rollback_refusal, abort_refusal, resume_refusal, TakeBackStep, places_at, by_device, by_memory};
@@ -74,7 +74,8 @@ impl<T: Table> RecordFile<T> {
         ensures step { IsTrue (T.sound self.old.table) → T.device_failures self.old.table < 18446744073709551615 →
             PutStep self.old.file tx.0 key value (rose (T.device_failures self.old.table) (T.device_failures self.new.table)) result self.new.file }
         ensures refused { IfSome (put_refusal self.old.file tx.0 key) (λ fault. (result ≡ Err fault) × (self.new ≡ self.old)) }
-        ensures err { OnErr result ((T.contents self.new.table ≡ T.contents self.old.table) × (self.new.file ≡ self.old.file)) }
+        ensures err { OnErr result ((T.contents self.new.table ≡ T.contents self.old.table) × (self.new.file ≡ self.old.file) × (self.new.log ≡ self.old.log)) }
+        ensures appended { Grows self.old.log self.new.log }
         ensures soundness { T.sound self.new.table ≡ T.sound self.old.table }
     {
         if let Some(fault) = self.put_refusal(tx, &key) {
@@ -97,7 +98,8 @@ impl<T: Table> RecordFile<T> {
         ensures step { IsTrue (T.sound self.old.table) → T.device_failures self.old.table < 18446744073709551615 →
             RemoveStep self.old.file tx.0 key (rose (T.device_failures self.old.table) (T.device_failures self.new.table)) result self.new.file }
         ensures refused { IfSome (remove_refusal self.old.file tx.0 key) (λ fault. (result ≡ Err fault) × (self.new ≡ self.old)) }
-        ensures err { OnErr result ((T.contents self.new.table ≡ T.contents self.old.table) × (self.new.file ≡ self.old.file)) }
+        ensures err { OnErr result ((T.contents self.new.table ≡ T.contents self.old.table) × (self.new.file ≡ self.old.file) × (self.new.log ≡ self.old.log)) }
+        ensures appended { Grows self.old.log self.new.log }
         ensures soundness { T.sound self.new.table ≡ T.sound self.old.table }
     {
         if let Some(fault) = self.remove_refusal(tx, &key) {
@@ -122,7 +124,7 @@ impl<T: Table> RecordFile<T> {
         ensures step { IsTrue (T.sound self.old.table) → T.device_failures self.old.table < 18446744073709551615 →
             GetStep self.old.file tx.0 key.now (rose (T.device_failures self.old.table) (T.device_failures self.new.table)) result self.new.file }
         ensures refused { IfSome (get_refusal self.old.file tx.0 key.now) (λ fault. (result ≡ Err fault) × (self.new ≡ self.old)) }
-        ensures same { (T.contents self.new.table ≡ T.contents self.old.table) × (self.new.file ≡ self.old.file) }
+        ensures same { (T.contents self.new.table ≡ T.contents self.old.table) × (self.new.file ≡ self.old.file) × (self.new.log ≡ self.old.log) }
         ensures soundness { T.sound self.new.table ≡ T.sound self.old.table }
     {
         if let Some(fault) = self.get_refusal(tx, key) {
@@ -198,6 +200,7 @@ impl<T: Table> RecordFile<T> {
         ensures step { IsTrue (T.sound self.old.table) → T.device_failures self.old.table < 18446744073709551615 → T.memory_refusals self.old.table < 18446744073709551615 →
             RollbackToStep self.old.file tx.0 n (rose (T.device_failures self.old.table) (T.device_failures self.new.table)) (rose (T.memory_refusals self.old.table) (T.memory_refusals self.new.table)) result self.new.file }
         ensures refused { IfSome (rollback_refusal self.old.file tx.0 n) (λ fault. (result ≡ Err fault) × (self.new ≡ self.old)) }
+        ensures appended { Grows self.old.log self.new.log }
         ensures soundness { T.sound self.new.table ≡ T.sound self.old.table }
     {
         match self.log.phase(tx) {
@@ -232,6 +235,7 @@ impl<T: Table> RecordFile<T> {
         ensures step { IsTrue (T.sound self.old.table) → T.device_failures self.old.table < 18446744073709551615 → T.memory_refusals self.old.table < 18446744073709551615 →
             AbortStep self.old.file tx.0 (rose (T.device_failures self.old.table) (T.device_failures self.new.table)) (rose (T.memory_refusals self.old.table) (T.memory_refusals self.new.table)) result self.new.file }
         ensures refused { IfSome (abort_refusal self.old.file tx.0) (λ fault. (result ≡ Err fault) × (self.new ≡ self.old)) }
+        ensures appended { Grows self.old.log self.new.log }
         ensures soundness { T.sound self.new.table ≡ T.sound self.old.table }
     {
         match self.log.phase(tx) {
@@ -263,6 +267,7 @@ impl<T: Table> RecordFile<T> {
         ensures step { IsTrue (T.sound self.old.table) → T.device_failures self.old.table < 18446744073709551615 → T.memory_refusals self.old.table < 18446744073709551615 →
             ResumeStep self.old.file tx.0 (rose (T.device_failures self.old.table) (T.device_failures self.new.table)) (rose (T.memory_refusals self.old.table) (T.memory_refusals self.new.table)) result self.new.file }
         ensures refused { IfSome (resume_refusal self.old.file tx.0) (λ fault. (result ≡ Err fault) × (self.new ≡ self.old)) }
+        ensures appended { Grows self.old.log self.new.log }
         ensures soundness { T.sound self.new.table ≡ T.sound self.old.table }
     {
         match self.log.phase(tx) {
@@ -290,7 +295,7 @@ impl<T: Table> RecordFile<T> {
     pub fn entries(&mut self) -> Result<Vec<Entry>, EntriesFault>
         ensures step { IsTrue (T.sound self.old.table) → T.device_failures self.old.table < 18446744073709551615 →
             EntriesStep self.old.file (rose (T.device_failures self.old.table) (T.device_failures self.new.table)) (listed result) self.new.file }
-        ensures same { (T.contents self.new.table ≡ T.contents self.old.table) × (self.new.file ≡ self.old.file) }
+        ensures same { (T.contents self.new.table ≡ T.contents self.old.table) × (self.new.file ≡ self.old.file) × (self.new.log ≡ self.old.log) }
         ensures soundness { T.sound self.new.table ≡ T.sound self.old.table }
     {
         let records = self.table.entries()?;
@@ -418,6 +423,7 @@ impl<T: Table> RecordFile<T> {
         requires { IsRolling (phase_at self.old.file tx.0) }
         ensures step { IsTrue (T.sound self.old.table) → T.device_failures self.old.table < 18446744073709551615 → T.memory_refusals self.old.table < 18446744073709551615 →
             TakeBackStep self.old.file tx.0 (rose (T.device_failures self.old.table) (T.device_failures self.new.table)) (rose (T.memory_refusals self.old.table) (T.memory_refusals self.new.table)) result self.new.file }
+        ensures appended { Grows self.old.log self.new.log }
         ensures soundness { T.sound self.new.table ≡ T.sound self.old.table }
     {
         let total = self.left(tx);
@@ -457,6 +463,7 @@ impl<T: Table> RecordFile<T> {
     fn take_one_back(&mut self, tx: TxId) -> Result<(), Cause>
         requires { 0 < left_in self.old.file.history tx.0 (tx_of self.old.file tx.0) }
         ensures ok { OnOk result (self.new.file ≡ record self.old.file { history = undo_last tx.0 self.old.file.history }) }
+        ensures appended { Grows self.old.log self.new.log }
         ensures err { OnErr result (self.new.file ≡ self.old.file) }
         ensures damaged { IsTrue (T.sound self.old.table) → (page : ℕ) → result ≢ Err (Cause.Damaged page) }
         ensures soundness { T.sound self.new.table ≡ T.sound self.old.table }

@@ -7,6 +7,7 @@ use Rattle.record_file.specs.Steps.{remove_refusal}
 use Rattle.record_file.proofs.FaultFacts.{none_by, rose_same}
 use Rattle.record_file.proofs.RoomFacts.{remove_accepts, present_charged}
 use Rattle.record_file.proofs.StateFacts.{change_kept, change_file}
+use Rattle.record_file.proofs.GrowFacts.{grows_by}
 use Rattle.record_file.proofs.file.RecordFile.remove.Goals as goal
 
 pub accept-lsn-requires-clause-fits : goal.accept-lsn-requires-clause-fits
@@ -39,3 +40,6 @@ returns-in-Some-2-clause-step g c = λ sound lt.
       change_file _ _ _ c.self.inside.log _ c.self.invariant c.begun-begun.ensures.kept (g.T.Table.contents c.set.new.self) c.reserve.new.self c.accept-lsn.new.self c.args.tx key c.in_ok-before.field-0 (Some c.in-Some-2.before) None c.in_ok-reserve.ensures.ok (c.in_ok-before.ensures.ok ∙ ap (λ m. set_to m key None) c.in_ok-get.ensures.same) stood (sym c.in-Some-2.is) c.accept-lsn.ensures.after
           ∙ ap (λ (f : File). with_change f c.args.tx.0 key None) link,
     )
+
+pub returns-in-Some-2-clause-appended : goal.returns-in-Some-2-clause-appended
+returns-in-Some-2-clause-appended g c = grows_by _ c.reserve.new.self.records c.accept-lsn.new.self.records _ (ap (λ (s : LogState). s.records) c.in_ok-reserve.ensures.ok ∙ ap (λ (s : OpenFile _). s.log) c.self.view_is) (ap (λ (s : LogState). s.records) c.accept-lsn.ensures.after)

@@ -3,11 +3,12 @@ use Rattle.rec_types.specs.History.{undo_last}
 use Rattle.tx_log.specs.Transactions.{left_in}
 use Rattle.tx_log.specs.declared.phases.UndoStep.{UndoStep}
 use Rattle.std.specs.FinMap as maps
-use Rattle.tx_log.specs.LogState.{undo_step, tx_in, open_in}
+use Rattle.tx_log.specs.LogState.{LogState, undo_step, tx_in, open_in}
 use Rattle.record_file.specs.Abstract.{File, OpenFile, tx_of}
 use Rattle.record_file.proofs.FaultFacts.{step_is}
 use Rattle.record_file.proofs.FileFacts.{undo_has_room}
 use Rattle.record_file.proofs.StateFacts.{undo_there, undo_kept, undo_file_is}
+use Rattle.record_file.proofs.GrowFacts.{grows_by}
 use Rattle.record_file.proofs.file.RecordFile.take_one_back.Goals as goal
 
 pub unreachable-requires : goal.unreachable-requires
@@ -41,3 +42,6 @@ returns-in-Err-NoRoom-clause-damaged g c = λ sound page is.
     let full = c.in-Err-NoRoom.ensures.no_room here (ap Err c.in-Err-NoRoom.field-0-is) in
     undo_has_room (open_in c.self.inside.log) c.self.inside.log.changes (g.T.Table.contents c.self.inside.table) c.self.inside.limits.records c.args.tx.0 u.0 u.3 u.2 (c.self.invariant.within here)
     (sym (ap (λ (s : UndoStep). maps.get (g.T.Table.contents c.self.inside.table) s.key) step) ∙ full.1) (omega (arith, full.2, c.self.invariant.limited))
+
+pub returns-in-Ok-clause-appended : goal.returns-in-Ok-clause-appended
+returns-in-Ok-clause-appended g c = grows_by _ c.self.inside.log.records c.compensate-lsn.new.self.records _ (ap (λ (s : OpenFile _). s.log) c.self.view_is) (ap (λ (s : LogState). s.records) c.compensate-lsn.ensures.after)
