@@ -188,13 +188,19 @@ fn a_walk_is_sorted_after_shuffled_keys(rt: HostRuntime) -> Result<(), Fail> {
     check_orders(&rt, rt.alloc(), numbers.as_slice())
 }
 
+/// A tree of order 1 with the keys a, b and c.
+fn three_keys(rt: &impl Abort, alloc: Global, pages: &mut Pages<MemStore>) -> Result<Tree, Fail> {
+    let mut tree = empty(1);
+    for key in b"abc" {
+        tree = put(rt, alloc, pages, &tree, &[*key], b"v")?.0;
+    }
+    Ok(tree)
+}
+
 #[test]
 fn pages_that_are_no_tree(rt: HostRuntime) -> Result<(), Fail> {
     let mut pages = new_pages(rt.alloc())?;
-    let mut tree = empty(1);
-    for key in b"abc" {
-        tree = put(&rt, rt.alloc(), &mut pages, &tree, &[*key], b"v")?.0;
-    }
+    let tree = three_keys(&rt, rt.alloc(), &mut pages)?;
     assert!(rt; tree.order == 1);
     let key = Key::new(b"a")?;
     let lower = Tree {
@@ -216,6 +222,14 @@ fn pages_that_are_no_tree(rt: HostRuntime) -> Result<(), Fail> {
         ..tree
     };
     assert!(rt; walk(rt.alloc(), &mut pages, &narrow).err() == Some(TreeFault::Damaged(2)));
+    Ok(())
+}
+
+#[test]
+fn a_tree_of_the_greatest_count(rt: HostRuntime) -> Result<(), Fail> {
+    let mut pages = new_pages(rt.alloc())?;
+    let tree = three_keys(&rt, rt.alloc(), &mut pages)?;
+    assert!(rt; tree.order == 1);
     let full = Tree {
         height: 2,
         used: 3,
