@@ -5,7 +5,7 @@ use Rattle.std.proofs.lemmas.Nat.{le-div}
 use Rattle.btree_node.specs.Lists.{Element}
 use Rattle.page_store.specs.PageMap.{PageMap}
 use Rattle.btree_insert.specs.declared.trees.Tree.{Tree}
-use Rattle.btree_insert.specs.PageTrees.{Fan, TreeAt, Holds}
+use Rattle.btree_insert.specs.PageTrees.{Fan, TreeAt, RootAt, Holds}
 use Rattle.btree_insert.proofs.FanFacts.{Stands}
 use Rattle.btree_insert.proofs.TreeFacts.{root_tree}
 
@@ -36,6 +36,33 @@ tree_keys k pages least (suc h) p es us (n, below, spells, least_is, body, us_is
     let le : least + 1 ≤ length n.elements.items + 1 = omega arith in
     let up = mul-le-mul_right m le in
     omega (arith, all, up, one_more (length n.elements.items) m)
+
+fan_most : (m : ℕ) (tree : Stands) → ((s : ℕ) (xs : List Element) (us : List ℕ) → tree s xs us → length xs + 1 ≤ m) → (sons : List ℕ) (els es : List Element) (us : List ℕ) → Fan tree sons els es us → length es + 1 ≤ length els * m + m
+fan_most m tree at [] els es us fan = absurd fan
+fan_most m tree at (s ∷ []) [] es us fan = let here = at s es us fan in omega arith
+fan_most m tree at (s ∷ []) (e ∷ els) es us fan = absurd fan
+fan_most m tree at (s ∷ (t ∷ ss)) [] es us fan = absurd fan
+fan_most m tree at (s ∷ (t ∷ ss)) (e ∷ els) es us (xs, ys, here, rest, first, more, es_is, us_is) =
+    let front = at s xs here first in
+    let back = fan_most m tree at (t ∷ ss) els ys rest more in
+    let size = ap length es_is ∙ length-append xs (e ∷ ys) in
+    omega (arith, one_more (length els) m)
+
+-- a tree has at most so many keys
+pub tree_most : (k : ℕ) (pages : PageMap) (least h p : ℕ) (es : List Element) (us : List ℕ) → TreeAt k pages least h p es us → length es + 1 ≤ (2 * k + 1) ^ h
+tree_most k pages least zero p es us tree = absurd tree
+tree_most k pages least (suc zero) p es us (n, below, spells, least_is, body, us_is) =
+    let size = ap length body.1 in
+    let most = spells.stands.most in
+    let power = pow-succ' (2 * k + 1) 0 ∙ ap (λ x. (2 * k + 1) * x) (pow-zero (2 * k + 1)) in
+    omega (arith, power)
+tree_most k pages least (suc (suc h)) p es us (n, below, spells, least_is, body, us_is) =
+    let m = (2 * k + 1) ^ suc h in
+    let each : (s : ℕ) (xs : List Element) (vs : List ℕ) → TreeAt k pages k (suc h) s xs vs → length xs + 1 ≤ m = λ s xs vs tree. tree_most k pages k (suc h) s xs vs tree in
+    let all = fan_most m (TreeAt k pages k (suc h)) each n.sons.items n.elements.items es below body.1 in
+    let le : length n.elements.items + 1 ≤ 2 * k + 1 = let most = spells.stands.most in omega arith in
+    let up = mul-le-mul_right m le in
+    omega (arith, all, up, one_more (length n.elements.items) m, pow-succ' (2 * k + 1) (suc h))
 
 fan_pages : (k : ℕ) (tree : Stands) → ((s : ℕ) (xs : List Element) (us : List ℕ) → tree s xs us → k * length us ≤ length xs) → (sons : List ℕ) (els es : List Element) (us : List ℕ) → Fan tree sons els es us → k * length us + length els ≤ length es
 fan_pages k tree at [] els es us fan = absurd fan
@@ -76,6 +103,16 @@ keys_bound pages t es us some holds =
     let is : t.height ≡ suc (t.height - 1) = omega arith in
     let tree = subst (λ h. TreeAt t.order pages 1 h t.root es us) is (root_tree t.order pages t.height t.root es us some holds.tree) in
     omega (arith, tree_keys t.order pages 1 (t.height - 1) t.root es us tree, holds.count)
+
+root_most : (k : ℕ) (pages : PageMap) (h root : ℕ) (es : List Element) (us : List ℕ) → RootAt k pages h root es us → length es + 1 ≤ (2 * k + 1) ^ h
+root_most k pages zero root es us (root_is, es_is, us_is) =
+    let size = ap length es_is in
+    omega (arith, pow-zero (2 * k + 1))
+root_most k pages (suc h) root es us tree = tree_most k pages 1 (suc h) root es us tree
+
+pub most_keys_bound : (pages : PageMap) (t : Tree) (es : List Element) (us : List ℕ) → Holds pages t es us → t.count + 1 ≤ (2 * t.order + 1) ^ t.height
+most_keys_bound pages t es us holds =
+    omega (arith, root_most t.order pages t.height t.root es us holds.tree, holds.count)
 
 pub pages_bound : (pages : PageMap) (t : Tree) (es : List Element) (us : List ℕ) → 1 ≤ t.order → 1 ≤ t.height → Holds pages t es us → t.used ≤ 1 + (t.count - 1) / t.order
 pages_bound pages t es us order some holds =

@@ -1,11 +1,11 @@
-ghost use Rattle.std.specs.Prelude.{◌≡◌, ◌+◌, ◌<◌, ◌≤◌, ◌↔◌, ◌∷◌, ◌++◌, [], ℕ, List, IsTrue, IfOk, OnOk, OnErr, MatchResult, length};
+ghost use Rattle.std.specs.Prelude.{◌≡◌, ◌+◌, ◌<◌, ◌≤◌, ◌↔◌, ◌∷◌, ◌++◌, [], ℕ, List, None, IsTrue, IsSome, IfOk, OnOk, OnErr, MatchResult, length};
 ghost use Rattle.page_store.specs.Counted.{counted};
 ghost use Rattle.page_store.specs.FreeNumbers.{candidate, count_after};
 ghost use Rattle.page_store.specs.PageMap.{at, overlay};
 ghost use Rattle.btree_node.specs.Lists.{Element};
 ghost use Rattle.btree_node.specs.Spelling.{spelling, CanStand};
 ghost use Rattle.btree_insert.specs.Faults.{is_device};
-ghost use Rattle.btree_insert.specs.Growth.{IsOutside, WritesFit};
+ghost use Rattle.btree_insert.specs.Growth.{IsOutside, WritesFit, Takes, GoesUp, Grew};
 ghost use Rattle.btree_insert.specs.Inserted.{leaf_of, root_of, Inserted, IsSmall, IsRefused};
 ghost use Rattle.btree_insert.specs.PageTrees.{Holds};
 
@@ -117,7 +117,6 @@ fn grow_tree<S: Store>(
         ≡ record pages.old { reads = pages.new.reads; failures = pages.new.failures } }
     ensures reads { pages.new.reads ≤ pages.old.reads + tree.now.height }
 {
-    let order = tree.order;
     if tree.height == 0 {
         return Ok(plant(pages, edit, tree, element)?);
     }
@@ -130,13 +129,45 @@ fn grow_tree<S: Store>(
         pages,
         edit,
         &mut met,
-        order,
+        tree.order,
         tree.height,
         tree.root,
         &bounds,
         element,
     )?;
     let leaf = met[met.len() - 1];
+    Ok(changed_tree(pages, edit, tree, grown, leaf)?)
+}
+
+/// The tree after an insertion below its root. Where the root was split, a new root stands above its
+/// two parts.
+fn changed_tree<S: Store>(
+    pages: &Pages<S>,
+    edit: &mut PageEdit,
+    tree: &Tree,
+    grown: Grown,
+    leaf: u32,
+) -> Result<Changed, Memory>
+    requires some_order { 1 ≤ tree.now.order }
+    requires most_order { tree.now.order ≤ 16 }
+    requires some_height { 0 < tree.now.height }
+    requires height { tree.now.height ≤ 19 }
+    requires count { tree.now.count ≤ 1000000 }
+    requires used { tree.now.used ≤ 1000000 }
+    requires in_use { IsSome (at pages.now.pages tree.now.root) }
+    requires fits { WritesFit pages.now.pages edit.old.writes.items edit.old.taken }
+    requires takes { Takes tree.now.height 0 edit.old.taken grown }
+    requires goes_up { GoesUp (record { low = None; high = None }) grown }
+    ensures grew { (es : List Element) (us key value : List ℕ) → Holds (at pages.now.pages) tree.now es us
+        → Grew tree.now.order (at pages.now.pages) (overlay (at pages.now.pages) edit.old.writes.items) (candidate pages.now.pages)
+        0 edit.old.taken 1 tree.now.height tree.now.root es us key value grown
+        → IfOk result (λ changed. Inserted (at pages.now.pages) (overlay (at pages.now.pages) edit.new.writes.items)
+        (candidate pages.now.pages) edit.new.taken tree.now changed.tree es us key value changed.old) }
+    ensures fits { OnOk result (WritesFit pages.now.pages edit.new.writes.items edit.new.taken) }
+    ensures few { OnOk result (edit.new.taken ≤ 20) }
+    ensures order { IfOk result (λ changed. changed.tree.order ≡ tree.now.order) }
+    ensures freed { edit.new.freed ≡ edit.old.freed }
+{
     match grown {
         Grown::Replaced(old) => Ok(Changed {
             tree: *tree,
@@ -150,7 +181,12 @@ fn grow_tree<S: Store>(
         }),
         Grown::Split(middle, right) => {
             let _count = pages.page_count();
-            let root = add_node(pages, edit, order, &root_node(tree.root, middle, right))?;
+            let root = add_node(
+                pages,
+                edit,
+                tree.order,
+                &root_node(tree.root, middle, right),
+            )?;
             Ok(Changed {
                 tree: grown_tree(tree, root, tree.height + 1, edit.taken),
                 old: None,

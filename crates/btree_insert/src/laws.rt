@@ -7,10 +7,12 @@ ghost use Rattle.btree_insert.specs.Classes.{BTree, in_order, StandsFor};
 ghost use Rattle.btree_insert.specs.PageTrees.{Holds};
 ghost use Rattle.btree_insert.specs.declared.trees.Tree.{Tree};
 
-/// How many keys a tree has at least, by its height, and how many pages at most, by its keys.
+/// How many keys a tree has at least and at most, by its height, and how many pages at most, by its keys.
 pub fn size_bounds()
     ensures keys { (pages : PageMap) (t : Tree) (es : List Element) (us : List ℕ) → 1 ≤ t.height
         → Holds pages t es us → 2 * (t.order + 1) ^ (t.height - 1) ≤ t.count + 1 }
+    ensures most_keys { (pages : PageMap) (t : Tree) (es : List Element) (us : List ℕ)
+        → Holds pages t es us → t.count + 1 ≤ (2 * t.order + 1) ^ t.height }
     ensures pages { (pages : PageMap) (t : Tree) (es : List Element) (us : List ℕ) → 1 ≤ t.order → 1 ≤ t.height
         → Holds pages t es us → t.used ≤ 1 + (t.count - 1) / t.order }
 {}

@@ -1,6 +1,10 @@
+ghost use Rattle.std.specs.Prelude.{◌≡◌, ◌<◌, ◌≤◌, IfOk, length};
+ghost use Rattle.btree_node.specs.Spelling.{CanStand};
+
 use crate::{Tree, TreeFault, find, insert, walk};
-use btree_node::{NodeKind, decode};
-use page_store::{MemStore, Pages, Store};
+use arrayvec::ArrayVec;
+use btree_node::{Node, NodeKind, decode, encode};
+use page_store::{MemStore, PageEdit, Pages, Store};
 use rec_types::{Key, Record};
 use std::alloc::Global;
 use std::collections::BTreeSet;
@@ -119,7 +123,19 @@ fn eight_keys_of_order_two(rt: HostRuntime) -> Result<(), Fail> {
     Ok(())
 }
 
-/// Inserts the numbers below 300 in an order, as keys, and walks over them.
+/// Looks that each page but page 0 is a node of the order.
+fn check_nodes<S: Store>(pages: &mut Pages<S>, order: u16) -> Result<(), Fail>
+    requires { order ≤ 16 }
+{
+    let mut page = [0; 4096];
+    for n in 1..pages.page_count() {
+        pages.fetch(n, &mut page)?;
+        decode(&page, order)?;
+    }
+    Ok(())
+}
+
+/// Inserts the numbers below 300 in an order, as keys, walks over them, and looks at all pages.
 fn check_order(rt: &impl Abort, alloc: Global, order: u16, numbers: &[u16]) -> Result<(), Fail> {
     let mut pages = new_pages(alloc)?;
     let mut tree = empty(order);
@@ -133,34 +149,58 @@ fn check_order(rt: &impl Abort, alloc: Global, order: u16, numbers: &[u16]) -> R
     for (element, n) in elements.iter().zip(0..300u16) {
         assert!(rt; element.0 == Key::new(&n.to_be_bytes())?);
     }
+    assert_eq!(rt; pages.page_count(), tree.used + 1);
+    check_nodes(&mut pages, tree.order)
+}
+
+/// Does so for trees of several orders.
+fn check_orders(rt: &impl Abort, alloc: Global, numbers: &[u16]) -> Result<(), Fail> {
+    for order in [1, 2, 3, 16] {
+        check_order(rt, alloc, order, numbers)?;
+    }
     Ok(())
 }
 
 #[test]
-fn a_walk_is_sorted(rt: HostRuntime) -> Result<(), Fail> {
-    let mut ascending = Vec::new(rt.alloc());
-    let mut descending = Vec::new(rt.alloc());
-    let mut shuffled = Vec::new(rt.alloc());
+fn a_walk_is_sorted_after_ascending_keys(rt: HostRuntime) -> Result<(), Fail> {
+    let mut numbers = Vec::new(rt.alloc());
     for n in 0..300u16 {
-        ascending.push(n)?;
-        descending.push(299 - n)?;
-        shuffled.push(n * 7 % 300)?;
+        numbers.push(n)?;
     }
-    for order in [1, 2, 3, 16] {
-        check_order(&rt, rt.alloc(), order, ascending.as_slice())?;
-        check_order(&rt, rt.alloc(), order, descending.as_slice())?;
-        check_order(&rt, rt.alloc(), order, shuffled.as_slice())?;
+    check_orders(&rt, rt.alloc(), numbers.as_slice())
+}
+
+#[test]
+fn a_walk_is_sorted_after_descending_keys(rt: HostRuntime) -> Result<(), Fail> {
+    let mut numbers = Vec::new(rt.alloc());
+    for n in 0..300u16 {
+        numbers.push(299 - n)?;
     }
-    Ok(())
+    check_orders(&rt, rt.alloc(), numbers.as_slice())
+}
+
+#[test]
+fn a_walk_is_sorted_after_shuffled_keys(rt: HostRuntime) -> Result<(), Fail> {
+    let mut numbers = Vec::new(rt.alloc());
+    for n in 0..300u16 {
+        numbers.push(n * 7 % 300)?;
+    }
+    check_orders(&rt, rt.alloc(), numbers.as_slice())
+}
+
+/// A tree of order 1 with the keys a, b and c.
+fn three_keys(rt: &impl Abort, alloc: Global, pages: &mut Pages<MemStore>) -> Result<Tree, Fail> {
+    let mut tree = empty(1);
+    for key in b"abc" {
+        tree = put(rt, alloc, pages, &tree, &[*key], b"v")?.0;
+    }
+    Ok(tree)
 }
 
 #[test]
 fn pages_that_are_no_tree(rt: HostRuntime) -> Result<(), Fail> {
     let mut pages = new_pages(rt.alloc())?;
-    let mut tree = empty(1);
-    for key in b"abc" {
-        tree = put(&rt, rt.alloc(), &mut pages, &tree, &[*key], b"v")?.0;
-    }
+    let tree = three_keys(&rt, rt.alloc(), &mut pages)?;
     assert!(rt; tree.order == 1);
     let key = Key::new(b"a")?;
     let lower = Tree {
@@ -182,6 +222,14 @@ fn pages_that_are_no_tree(rt: HostRuntime) -> Result<(), Fail> {
         ..tree
     };
     assert!(rt; walk(rt.alloc(), &mut pages, &narrow).err() == Some(TreeFault::Damaged(2)));
+    Ok(())
+}
+
+#[test]
+fn a_tree_of_the_greatest_count(rt: HostRuntime) -> Result<(), Fail> {
+    let mut pages = new_pages(rt.alloc())?;
+    let tree = three_keys(&rt, rt.alloc(), &mut pages)?;
+    assert!(rt; tree.order == 1);
     let full = Tree {
         height: 2,
         used: 3,
@@ -196,5 +244,184 @@ fn pages_that_are_no_tree(rt: HostRuntime) -> Result<(), Fail> {
         Record::new(b"v")?,
     );
     assert!(rt; answer.err() == Some(TreeFault::Damaged(2)));
+    Ok(())
+}
+
+/// A leaf with one key, which has the record v.
+fn leaf(key: u8) -> Result<Node, Fail>
+    ensures stands { IfOk result (λ node. CanStand node 1) }
+    ensures one { IfOk result (λ node. length node.elements.items ≡ 1) }
+{
+    let key = Key::new(&[key])?;
+    let value = Record::new(b"v")?;
+    let _key = key.bytes().len();
+    let _value = value.bytes().len();
+    let mut elements = ArrayVec::new();
+    elements.push((key, value));
+    Ok(Node {
+        kind: NodeKind::Leaf,
+        elements,
+        sons: ArrayVec::new(),
+    })
+}
+
+/// An inner node with one key, which has the record v.
+fn inner(key: u8, left: u32, right: u32) -> Result<Node, Fail>
+    requires left { 0 < left }
+    requires right { 0 < right }
+    ensures { IfOk result (λ node. CanStand node 1) }
+{
+    let mut sons = ArrayVec::new();
+    sons.push(left);
+    sons.push(right);
+    let Node {
+        kind: _,
+        elements,
+        sons: _,
+    } = leaf(key)?;
+    Ok(Node {
+        kind: NodeKind::Inner,
+        elements,
+        sons,
+    })
+}
+
+/// Puts a node of order 1 into the next page.
+fn add_page<S: Store>(
+    rt: &impl Abort,
+    alloc: Global,
+    pages: &mut Pages<S>,
+    node: &Node,
+) -> Result<(), Fail>
+    requires { CanStand node.now 1 }
+{
+    assert!(rt; pages.page_count() < 1000);
+    let n = pages.candidate(0);
+    let mut writes = Vec::new(alloc);
+    writes.push((n, encode(node, 1)))?;
+    let edit = PageEdit {
+        writes,
+        taken: 1,
+        freed: Vec::new(alloc),
+    };
+    Ok(pages.stage(edit)?)
+}
+
+fn tree_at(root: u32, height: u32) -> Tree
+    ensures { result ≡ record { order = 1; root = root; height = height; count = 7; used = 7 } }
+{
+    Tree {
+        order: 1,
+        root,
+        height,
+        count: 7,
+        used: 7,
+    }
+}
+
+/// Looks that look-up, walk and insertion find this page damaged, and that no page is new.
+fn check_damaged<S: Store>(
+    rt: &impl Abort,
+    alloc: Global,
+    pages: &mut Pages<S>,
+    tree: &Tree,
+    key: u8,
+    n: u32,
+) -> Result<(), Fail> {
+    assert!(rt; 1 <= tree.order && tree.order <= 16 && tree.height <= 19);
+    assert!(rt; tree.count <= 1_000_000 && tree.used <= 1_000_000);
+    let key = Key::new(&[key])?;
+    let count = pages.page_count();
+    assert!(rt; find(pages, tree, &key) == Err(TreeFault::Damaged(n)));
+    assert!(rt; walk(alloc, pages, tree).err() == Some(TreeFault::Damaged(n)));
+    let answer = insert(alloc, pages, tree, key, Record::new(b"v")?);
+    assert!(rt; answer.err() == Some(TreeFault::Damaged(n)));
+    assert_eq!(rt; pages.page_count(), count);
+    Ok(())
+}
+
+/// Looks that the key is found.
+fn check_found<S: Store>(
+    rt: &impl Abort,
+    pages: &mut Pages<S>,
+    tree: &Tree,
+    key: u8,
+) -> Result<(), Fail> {
+    assert!(rt; 1 <= tree.order && tree.order <= 16 && tree.height <= 19);
+    let found = find(pages, tree, &Key::new(&[key])?);
+    assert!(rt; found == Ok(Some(Record::new(b"v")?)));
+    Ok(())
+}
+
+/// Seven pages with one key each: the leaves 1 and 2 below page 3, the leaves 4 and 5 below page 6,
+/// and 3 and 6 below page 7.
+fn seven_pages(rt: &impl Abort, alloc: Global, keys: &[u8; 7]) -> Result<Pages<MemStore>, Fail> {
+    let mut pages = new_pages(alloc)?;
+    add_page(rt, alloc, &mut pages, &leaf(keys[0])?)?;
+    add_page(rt, alloc, &mut pages, &leaf(keys[1])?)?;
+    add_page(rt, alloc, &mut pages, &inner(keys[2], 1, 2)?)?;
+    add_page(rt, alloc, &mut pages, &leaf(keys[3])?)?;
+    add_page(rt, alloc, &mut pages, &leaf(keys[4])?)?;
+    add_page(rt, alloc, &mut pages, &inner(keys[5], 4, 5)?)?;
+    add_page(rt, alloc, &mut pages, &inner(keys[6], 3, 6)?)?;
+    Ok(pages)
+}
+
+#[test]
+fn keys_within_the_bounds_of_all_levels(rt: HostRuntime) -> Result<(), Fail> {
+    let mut pages = seven_pages(&rt, rt.alloc(), b"agdntqm")?;
+    let elements = walk(rt.alloc(), &mut pages, &tree_at(7, 3))?;
+    assert_eq!(rt; elements.len(), 7);
+    for (element, key) in elements.iter().zip(b"adgmnqt") {
+        assert!(rt; element.0 == Key::new(&[*key])?);
+    }
+    Ok(())
+}
+
+#[test]
+fn keys_outside_the_bounds_of_a_level(rt: HostRuntime) -> Result<(), Fail> {
+    let cases = [
+        (b"apdntqm", b'e', 2),
+        (b"amdntqm", b'e', 2),
+        (b"agzntqm", b'a', 3),
+        (b"agdctqm", b'o', 4),
+        (b"agdnpqm", b't', 5),
+        (b"agdntbm", b'x', 6),
+    ];
+    for (keys, key, n) in cases {
+        let mut pages = seven_pages(&rt, rt.alloc(), keys)?;
+        check_damaged(&rt, rt.alloc(), &mut pages, &tree_at(7, 3), key, n)?;
+    }
+    Ok(())
+}
+
+#[test]
+fn a_page_that_is_met_twice(rt: HostRuntime) -> Result<(), Fail> {
+    let mut pages = new_pages(rt.alloc())?;
+    add_page(&rt, rt.alloc(), &mut pages, &leaf(b'a')?)?;
+    add_page(&rt, rt.alloc(), &mut pages, &inner(b'm', 2, 1)?)?;
+    add_page(&rt, rt.alloc(), &mut pages, &inner(b'm', 1, 1)?)?;
+    add_page(&rt, rt.alloc(), &mut pages, &inner(b'm', 5, 1)?)?;
+    add_page(&rt, rt.alloc(), &mut pages, &inner(b'd', 4, 4)?)?;
+    check_damaged(&rt, rt.alloc(), &mut pages, &tree_at(2, 3), b'c', 2)?;
+    check_damaged(&rt, rt.alloc(), &mut pages, &tree_at(3, 2), b'z', 1)?;
+    check_found(&rt, &mut pages, &tree_at(3, 2), b'a')?;
+    check_damaged(&rt, rt.alloc(), &mut pages, &tree_at(4, 4), b'e', 4)?;
+    Ok(())
+}
+
+#[test]
+fn a_page_of_the_wrong_kind(rt: HostRuntime) -> Result<(), Fail> {
+    let mut pages = new_pages(rt.alloc())?;
+    add_page(&rt, rt.alloc(), &mut pages, &leaf(b'a')?)?;
+    add_page(&rt, rt.alloc(), &mut pages, &leaf(b'c')?)?;
+    add_page(&rt, rt.alloc(), &mut pages, &inner(b'b', 1, 2)?)?;
+    add_page(&rt, rt.alloc(), &mut pages, &leaf(b'z')?)?;
+    add_page(&rt, rt.alloc(), &mut pages, &inner(b'm', 3, 4)?)?;
+    check_damaged(&rt, rt.alloc(), &mut pages, &tree_at(5, 1), b'm', 5)?;
+    check_damaged(&rt, rt.alloc(), &mut pages, &tree_at(5, 2), b'a', 3)?;
+    check_damaged(&rt, rt.alloc(), &mut pages, &tree_at(4, 2), b'z', 4)?;
+    check_damaged(&rt, rt.alloc(), &mut pages, &tree_at(5, 3), b'x', 4)?;
+    check_found(&rt, &mut pages, &tree_at(5, 3), b'c')?;
     Ok(())
 }
