@@ -1,4 +1,5 @@
 pub mod Contents
+pub mod Flaky
 pub mod History
 pub mod Kept
 pub mod Key

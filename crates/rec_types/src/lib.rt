@@ -1,6 +1,7 @@
 //! Keys, records, limits and the tables that hold records.
 #![tactic(auto)]
 
+mod flaky;
 mod keys;
 mod limiting;
 mod memory;
@@ -9,6 +10,7 @@ mod sorting;
 mod tables;
 mod transactions;
 
+pub use flaky::FlakyTable;
 pub use keys::{Key, KeyFault};
 pub use limiting::{LimitFault, Limits};
 pub use memory::Memory;

@@ -1,5 +1,6 @@
 use crate::{
-    Key, KeyFault, LimitFault, Limits, Record, RecordFault, SortedTable, Table, TableFault,
+    FlakyTable, Key, KeyFault, LimitFault, Limits, Record, RecordFault, SortedTable, Table,
+    TableFault,
 };
 use std::test::Fail;
 
@@ -61,26 +62,71 @@ fn a_proper_prefix_comes_first(rt: HostRuntime) -> Result<(), Fail> {
     Ok(())
 }
 
+/// Sets, once more where memory was refused.
+fn set(table: &mut impl Table, key: Key, to: Option<Record>) -> Result<Option<Record>, TableFault> {
+    match table.set(key, to.as_ref().copied()) {
+        Err(TableFault::Memory) => table.set(key, to),
+        answer => answer,
+    }
+}
+
+/// The records, once more where memory was refused.
+fn entries(table: &mut impl Table) -> Result<Vec<(Key, Record)>, TableFault> {
+    match table.entries() {
+        Err(TableFault::Memory) => table.entries(),
+        answer => answer,
+    }
+}
+
 #[test]
 fn a_sorted_table_keeps_key_order(rt: HostRuntime) -> Result<(), Fail> {
     let mut table = SortedTable::new(rt.alloc(), Limits::new(2, 2, 1)?);
     let (a, b, c) = (Key::new(b"a")?, Key::new(b"b")?, Key::new(b"c")?);
     let (x, y) = (Record::new(b"x")?, Record::new(b"y")?);
-    assert_eq!(rt; table.set(b, Some(x))?, None);
-    assert_eq!(rt; table.set(a, Some(y))?, None);
-    assert_eq!(rt; table.set(b, Some(y))?, Some(x));
-    match table.set(c, Some(x)) {
+    assert_eq!(rt; set(&mut table, b, Some(x))?, None);
+    assert_eq!(rt; set(&mut table, a, Some(y))?, None);
+    assert_eq!(rt; set(&mut table, b, Some(y))?, Some(x));
+    match set(&mut table, c, Some(x)) {
         Ok(_) => assert!(rt; false),
         Err(fault) => assert_eq!(rt; fault, TableFault::NoRoom),
     }
-    assert_eq!(rt; table.set(c, None)?, None);
+    assert_eq!(rt; set(&mut table, c, None)?, None);
     assert_eq!(rt; table.get(&b)?, Some(y));
     assert_eq!(rt; table.get(&c)?, None);
-    let entries = table.entries()?;
-    assert_eq!(rt; entries.len(), 2);
-    assert!(rt; entries[0] == (a, y) && entries[1] == (b, y));
-    assert_eq!(rt; table.set(a, None)?, Some(y));
+    let records = entries(&mut table)?;
+    assert_eq!(rt; records.len(), 2);
+    assert!(rt; records[0] == (a, y) && records[1] == (b, y));
+    assert_eq!(rt; set(&mut table, a, None)?, Some(y));
     assert_eq!(rt; table.count(), 1);
     assert_eq!(rt; table.limit(), 2);
+    Ok(())
+}
+
+// A refused growth would use a number up, so the table below has its memory before.
+#[test]
+fn a_flaky_table_fails_at_its_numbers(rt: HostRuntime) -> Result<(), Fail> {
+    let (a, b) = (Key::new(b"a")?, Key::new(b"b")?);
+    let (x, y) = (Record::new(b"x")?, Record::new(b"y")?);
+    let mut sorted = SortedTable::new(rt.alloc(), Limits::new(9, 2, 1)?);
+    for key in [a, b] {
+        assert_eq!(rt; set(&mut sorted, key, Some(x)), Ok(None));
+    }
+    let numbers = [2, 4, 5];
+    let failing = Vec::from_slice(rt.alloc(), &numbers).or_else(|_| Vec::from_slice(
+        rt.alloc(),
+        &numbers,
+    ))?;
+    let mut table = FlakyTable::new(sorted, failing);
+    assert_eq!(rt; table.set(a, None), Ok(Some(x)));
+    assert_eq!(rt; table.set(a, Some(y)), Err(TableFault::Device));
+    assert_eq!(rt; table.get(&a), Ok(None));
+    assert_eq!(rt; table.set(a, Some(y)), Ok(None));
+    assert_eq!(rt; table.set(b, None), Err(TableFault::Device));
+    assert_eq!(rt; table.set(b, Some(y)), Err(TableFault::Device));
+    let records = entries(&mut table)?;
+    assert_eq!(rt; records.len(), 2);
+    assert!(rt; records[0] == (a, y) && records[1] == (b, x));
+    assert_eq!(rt; table.set(b, None), Ok(Some(x)));
+    assert_eq!(rt; (table.count(), table.limit()), (1, 9));
     Ok(())
 }
