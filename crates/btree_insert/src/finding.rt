@@ -1,5 +1,5 @@
 ghost use Rattle.std.specs.Prelude.{◌≡◌, ◌+◌, ◌<◌, ◌≤◌, ℕ, List, IsTrue, MatchResult};
-ghost use Rattle.page_store.specs.Counted.{counted};
+ghost use Rattle.rec_types.specs.Table.{counted};
 ghost use Rattle.page_store.specs.PageMap.{at};
 ghost use Rattle.btree_node.specs.Lists.{Element};
 ghost use Rattle.btree_insert.specs.Bounds.{Between};

@@ -1,6 +1,6 @@
 ghost use Rattle.std.specs.Prelude.{◌≡◌, ◌+◌, ◌*◌, ◌<◌, ◌≤◌, ◌∷◌, ◌++◌, [], ℕ, List, ◌==◌, true, false, length, IsTrue, IsSome, IfOk, OnOk, MatchResult, slice_index_or, slice_set};
 ghost use Rattle.std.specs.List.{list_any};
-ghost use Rattle.page_store.specs.Counted.{counted};
+ghost use Rattle.rec_types.specs.Table.{counted};
 ghost use Rattle.page_store.specs.FreeNumbers.{candidate};
 ghost use Rattle.page_store.specs.PageMap.{at, overlay};
 ghost use Rattle.btree_node.specs.Layout.{first_layout};

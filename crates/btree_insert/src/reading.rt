@@ -1,5 +1,5 @@
 ghost use Rattle.std.specs.Prelude.{◌≡◌, ◌+◌, ◌≤◌, ℕ, IsTrue, IsSome, IfOk, OnOk, MatchResult};
-ghost use Rattle.page_store.specs.Counted.{counted};
+ghost use Rattle.rec_types.specs.Table.{counted};
 ghost use Rattle.page_store.specs.PageMap.{at};
 ghost use Rattle.btree_node.specs.Spelling.{CanStand};
 ghost use Rattle.btree_node.specs.declared.nodes.Node.{Node};

@@ -1,6 +1,5 @@
 pub mod Blank
 pub mod CanStage
-pub mod Counted
 pub mod FetchFaults
 pub mod FreeNumbers
 pub mod Growth

@@ -1,5 +1,5 @@
 ghost use Rattle.std.specs.Prelude.{◌≡◌, true};
-ghost use Rattle.page_store.specs.Counted.{counted};
+ghost use Rattle.rec_types.specs.Table.{counted};
 
 /// Counts one more, up to the greatest number.
 pub(crate) fn count_up(n: &mut u64)

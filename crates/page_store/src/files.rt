@@ -1,5 +1,5 @@
 ghost use Rattle.std.specs.Prelude.{◌≡◌, ◌≤◌, IfOk, IfErr};
-ghost use Rattle.page_store.specs.Counted.{counted};
+ghost use Rattle.rec_types.specs.Table.{counted};
 ghost use Rattle.page_store.specs.StoreFaults.{is_failed};
 
 use crate::answers::{Shape, StoreFault};

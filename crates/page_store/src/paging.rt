@@ -1,7 +1,7 @@
 ghost use Rattle.std.specs.Prelude.{◌≡◌, ℕ, ◌+◌, ◌<◌, ◌≤◌, ◌↔◌, ◌==◌, ◌||◌, if◌then◌else◌, [], false, true, length, Some, None, Err, IsTrue, IsSome, IsOk, OnOk, OnErr, slice_get};
 ghost use Rattle.std.specs.Ordering.{nat_cmp};
 ghost use Rattle.std.specs.BTreeSet.{contains};
-ghost use Rattle.page_store.specs.Counted.{counted};
+ghost use Rattle.rec_types.specs.Table.{counted};
 ghost use Rattle.page_store.specs.PageMap.{at, after};
 ghost use Rattle.page_store.specs.FreeNumbers.{free_numbers, candidate, count_after};
 ghost use Rattle.page_store.specs.CanStage.{CanStage};

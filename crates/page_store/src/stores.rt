@@ -1,6 +1,6 @@
 ghost use Rattle.std.specs.Prelude.{◌≡◌, ◌≢◌, ℕ, ◌-◌, ◌<◌, ◌≤◌, Bool, true, List, ◌++◌, length, replicate, IsTrue, IfOk, OnOk, OnErr, slice_get, slice_set};
 ghost use Rattle.page_store.specs.Blank.{blanks};
-ghost use Rattle.page_store.specs.Counted.{counted};
+ghost use Rattle.rec_types.specs.Table.{counted};
 ghost use Rattle.page_store.specs.Growth.{GrowsTo};
 
 use crate::answers::{Shape, StoreFault};
