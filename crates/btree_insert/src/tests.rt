@@ -5,7 +5,7 @@ use crate::{Tree, TreeFault, find, insert, walk};
 use arrayvec::ArrayVec;
 use btree_node::{Node, NodeKind, decode, encode};
 use page_store::{MemStore, PageEdit, Pages, Store};
-use rec_types::{Key, Record};
+use rec_types::{Key, Memory, Record};
 use std::alloc::Global;
 use std::collections::BTreeSet;
 use std::process::Abort;
@@ -24,11 +24,49 @@ fn empty(order: u16) -> Tree {
 /// A store of one page, with nothing in it.
 fn new_pages(alloc: Global) -> Result<Pages<MemStore>, Fail> {
     let mut pages = Vec::new(alloc);
-    pages.push([0; 4096])?;
+    if pages.push([0; 4096]).is_err() {
+        pages.push([0; 4096])?;
+    }
     Ok(Pages::new(alloc, MemStore::new(pages, 0), 1, BTreeSet::new(alloc)))
 }
 
-/// Puts a record at a key. Where memory was refused it looks that the old record is there, and fails.
+/// Inserts, once more where memory was refused; then nothing has changed at the key.
+fn insert_again<S: Store>(
+    rt: &impl Abort,
+    alloc: Global,
+    pages: &mut Pages<S>,
+    tree: &Tree,
+    key: Key,
+    value: Record,
+) -> Result<(Tree, Option<Record>), TreeFault> {
+    assert!(rt; 1 <= tree.order && tree.order <= 16 && tree.height <= 19);
+    assert!(rt; tree.count <= 1_000_000 && tree.used <= 1_000_000);
+    let before = find(pages, tree, &key);
+    match insert(alloc, pages, tree, key, value) {
+        Err(TreeFault::Memory) => {
+            assert!(rt; find(pages, tree, &key) == before);
+            insert(alloc, pages, tree, key, value)
+        }
+        answer => answer,
+    }
+}
+
+/// All elements, asked for once more where memory was refused.
+fn walk_again<S: Store>(
+    rt: &impl Abort,
+    alloc: Global,
+    pages: &mut Pages<S>,
+    tree: &Tree,
+) -> Result<Vec<(Key, Record)>, TreeFault> {
+    assert!(rt; 1 <= tree.order && tree.order <= 16 && tree.height <= 19);
+    assert!(rt; tree.count <= 1_000_000 && tree.used <= 1_000_000);
+    match walk(alloc, pages, tree) {
+        Err(TreeFault::Memory) => walk(alloc, pages, tree),
+        answer => answer,
+    }
+}
+
+/// Puts a record at a key. The answer is what a look-up found before.
 fn put<S: Store>(
     rt: &impl Abort,
     alloc: Global,
@@ -40,13 +78,8 @@ fn put<S: Store>(
     let key = Key::new(key)?;
     let value = Record::new(value)?;
     assert!(rt; 1 <= tree.order && tree.order <= 16 && tree.height <= 19);
-    assert!(rt; tree.count <= 1_000_000 && tree.used <= 1_000_000);
     let before = find(pages, tree, &key)?;
-    let answer = insert(alloc, pages, tree, key, value);
-    if answer.is_err() {
-        assert!(rt; find(pages, tree, &key)? == before);
-    }
-    let (grown, old) = answer?;
+    let (grown, old) = insert_again(rt, alloc, pages, tree, key, value)?;
     assert!(rt; old == before);
     Ok((grown, old))
 }
@@ -142,9 +175,7 @@ fn check_order(rt: &impl Abort, alloc: Global, order: u16, numbers: &[u16]) -> R
     for n in numbers {
         tree = put(rt, alloc, &mut pages, &tree, &n.to_be_bytes(), b"v")?.0;
     }
-    assert!(rt; 1 <= tree.order && tree.order <= 16 && tree.height <= 19);
-    assert!(rt; tree.count <= 1_000_000 && tree.used <= 1_000_000);
-    let elements = walk(alloc, &mut pages, &tree)?;
+    let elements = walk_again(rt, alloc, &mut pages, &tree)?;
     assert_eq!(rt; (elements.len(), tree.count), (300, 300));
     for (element, n) in elements.iter().zip(0..300u16) {
         assert!(rt; element.0 == Key::new(&n.to_be_bytes())?);
@@ -165,7 +196,9 @@ fn check_orders(rt: &impl Abort, alloc: Global, numbers: &[u16]) -> Result<(), F
 fn a_walk_is_sorted_after_ascending_keys(rt: HostRuntime) -> Result<(), Fail> {
     let mut numbers = Vec::new(rt.alloc());
     for n in 0..300u16 {
-        numbers.push(n)?;
+        if numbers.push(n).is_err() {
+            numbers.push(n)?;
+        }
     }
     check_orders(&rt, rt.alloc(), numbers.as_slice())
 }
@@ -174,7 +207,9 @@ fn a_walk_is_sorted_after_ascending_keys(rt: HostRuntime) -> Result<(), Fail> {
 fn a_walk_is_sorted_after_descending_keys(rt: HostRuntime) -> Result<(), Fail> {
     let mut numbers = Vec::new(rt.alloc());
     for n in 0..300u16 {
-        numbers.push(299 - n)?;
+        if numbers.push(299 - n).is_err() {
+            numbers.push(299 - n)?;
+        }
     }
     check_orders(&rt, rt.alloc(), numbers.as_slice())
 }
@@ -183,7 +218,9 @@ fn a_walk_is_sorted_after_descending_keys(rt: HostRuntime) -> Result<(), Fail> {
 fn a_walk_is_sorted_after_shuffled_keys(rt: HostRuntime) -> Result<(), Fail> {
     let mut numbers = Vec::new(rt.alloc());
     for n in 0..300u16 {
-        numbers.push(n * 7 % 300)?;
+        if numbers.push(n * 7 % 300).is_err() {
+            numbers.push(n * 7 % 300)?;
+        }
     }
     check_orders(&rt, rt.alloc(), numbers.as_slice())
 }
@@ -221,7 +258,8 @@ fn pages_that_are_no_tree(rt: HostRuntime) -> Result<(), Fail> {
         count: 3,
         ..tree
     };
-    assert!(rt; walk(rt.alloc(), &mut pages, &narrow).err() == Some(TreeFault::Damaged(2)));
+    let answer = walk_again(&rt, rt.alloc(), &mut pages, &narrow);
+    assert!(rt; answer.err() == Some(TreeFault::Damaged(2)));
     Ok(())
 }
 
@@ -229,20 +267,14 @@ fn pages_that_are_no_tree(rt: HostRuntime) -> Result<(), Fail> {
 fn a_tree_of_the_greatest_count(rt: HostRuntime) -> Result<(), Fail> {
     let mut pages = new_pages(rt.alloc())?;
     let tree = three_keys(&rt, rt.alloc(), &mut pages)?;
-    assert!(rt; tree.order == 1);
     let full = Tree {
         height: 2,
         used: 3,
         count: 1_000_000,
         ..tree
     };
-    let answer = insert(
-        rt.alloc(),
-        &mut pages,
-        &full,
-        Key::new(b"d")?,
-        Record::new(b"v")?,
-    );
+    let (d, value) = (Key::new(b"d")?, Record::new(b"v")?);
+    let answer = insert_again(&rt, rt.alloc(), &mut pages, &full, d, value);
     assert!(rt; answer.err() == Some(TreeFault::Damaged(2)));
     Ok(())
 }
@@ -286,7 +318,29 @@ fn inner(key: u8, left: u32, right: u32) -> Result<Node, Fail>
     })
 }
 
-/// Puts a node of order 1 into the next page.
+/// Stages a node of order 1 as the next page.
+fn stage_page<S: Store>(
+    rt: &impl Abort,
+    alloc: Global,
+    pages: &mut Pages<S>,
+    node: &Node,
+) -> Result<(), Memory>
+    requires { CanStand node.now 1 }
+{
+    assert!(rt; pages.page_count() < 1000);
+    let n = pages.candidate(0);
+    let mut writes = Vec::new(alloc);
+    if writes.push((n, encode(node, 1))).is_err() {
+        return Err(Memory);
+    }
+    pages.stage(PageEdit {
+        writes,
+        taken: 1,
+        freed: Vec::new(alloc),
+    })
+}
+
+/// Does so, once more where memory was refused.
 fn add_page<S: Store>(
     rt: &impl Abort,
     alloc: Global,
@@ -295,16 +349,10 @@ fn add_page<S: Store>(
 ) -> Result<(), Fail>
     requires { CanStand node.now 1 }
 {
-    assert!(rt; pages.page_count() < 1000);
-    let n = pages.candidate(0);
-    let mut writes = Vec::new(alloc);
-    writes.push((n, encode(node, 1)))?;
-    let edit = PageEdit {
-        writes,
-        taken: 1,
-        freed: Vec::new(alloc),
-    };
-    Ok(pages.stage(edit)?)
+    if stage_page(rt, alloc, pages, node).is_err() {
+        stage_page(rt, alloc, pages, node)?;
+    }
+    Ok(())
 }
 
 fn tree_at(root: u32, height: u32) -> Tree
@@ -329,12 +377,12 @@ fn check_damaged<S: Store>(
     n: u32,
 ) -> Result<(), Fail> {
     assert!(rt; 1 <= tree.order && tree.order <= 16 && tree.height <= 19);
-    assert!(rt; tree.count <= 1_000_000 && tree.used <= 1_000_000);
     let key = Key::new(&[key])?;
     let count = pages.page_count();
     assert!(rt; find(pages, tree, &key) == Err(TreeFault::Damaged(n)));
-    assert!(rt; walk(alloc, pages, tree).err() == Some(TreeFault::Damaged(n)));
-    let answer = insert(alloc, pages, tree, key, Record::new(b"v")?);
+    let answer = walk_again(rt, alloc, pages, tree);
+    assert!(rt; answer.err() == Some(TreeFault::Damaged(n)));
+    let answer = insert_again(rt, alloc, pages, tree, key, Record::new(b"v")?);
     assert!(rt; answer.err() == Some(TreeFault::Damaged(n)));
     assert_eq!(rt; pages.page_count(), count);
     Ok(())
@@ -370,7 +418,7 @@ fn seven_pages(rt: &impl Abort, alloc: Global, keys: &[u8; 7]) -> Result<Pages<M
 #[test]
 fn keys_within_the_bounds_of_all_levels(rt: HostRuntime) -> Result<(), Fail> {
     let mut pages = seven_pages(&rt, rt.alloc(), b"agdntqm")?;
-    let elements = walk(rt.alloc(), &mut pages, &tree_at(7, 3))?;
+    let elements = walk_again(&rt, rt.alloc(), &mut pages, &tree_at(7, 3))?;
     assert_eq!(rt; elements.len(), 7);
     for (element, key) in elements.iter().zip(b"adgmnqt") {
         assert!(rt; element.0 == Key::new(&[*key])?);

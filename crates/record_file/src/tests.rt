@@ -1,7 +1,9 @@
+ghost use Rattle.std.specs.Prelude.{◌≡◌};
+
 use crate::{
     AbortFault, BeginFault, Cause, CommitFault, EntriesFault, GetFault, KeysOfFault, PutFault,
     RecordFile, ReleaseFault, RemoveFault, ResumeFault, RollbackToFault, SavepointFault, Status,
-    StatusFault,
+    StatusFault, StillOpen,
 };
 use rec_types::{
     Entry, FlakyTable, Key, LimitFault, Limits, Record, SortedTable, Table, TableFault, TxId,
@@ -11,12 +13,104 @@ use std::process::Abort;
 use std::test::Fail;
 use tx_log::LogRecord;
 
+/// A file whose calls tell nothing of what they do, since a proof of a test would carry all of it along.
+#[derive(Drop)]
+struct Plain<T: Table> {
+    file: RecordFile<T>,
+}
+
+impl<T: Table> Plain<T> {
+    fn new(alloc: Global, table: T, limits: Limits) -> Plain<T>
+        requires { T.record_limit table ≡ limits.records }
+    {
+        Plain {
+            file: RecordFile::new(alloc, table, limits),
+        }
+    }
+
+    fn begin(&mut self) -> Result<TxId, BeginFault> {
+        self.file.begin()
+    }
+
+    fn put(&mut self, tx: TxId, key: Key, value: Record) -> Result<Option<Record>, PutFault> {
+        self.file.put(tx, key, value)
+    }
+
+    fn remove(&mut self, tx: TxId, key: Key) -> Result<Record, RemoveFault> {
+        self.file.remove(tx, key)
+    }
+
+    fn get(&mut self, tx: TxId, key: &Key) -> Result<Option<Record>, GetFault> {
+        self.file.get(tx, key)
+    }
+
+    fn savepoint(&mut self, tx: TxId) -> Result<u32, SavepointFault> {
+        self.file.savepoint(tx)
+    }
+
+    fn release(&mut self, tx: TxId, n: u32) -> Result<(), ReleaseFault> {
+        self.file.release(tx, n)
+    }
+
+    fn rollback_to(&mut self, tx: TxId, n: u32) -> Result<u32, RollbackToFault> {
+        self.file.rollback_to(tx, n)
+    }
+
+    fn abort(&mut self, tx: TxId) -> Result<u32, AbortFault> {
+        self.file.abort(tx)
+    }
+
+    fn resume(&mut self, tx: TxId) -> Result<u32, ResumeFault> {
+        self.file.resume(tx)
+    }
+
+    fn commit(&mut self, tx: TxId) -> Result<(), CommitFault> {
+        self.file.commit(tx)
+    }
+
+    fn entries(&mut self) -> Result<Vec<Entry>, EntriesFault> {
+        self.file.entries()
+    }
+
+    fn keys_of(&self, tx: TxId) -> Result<Vec<Key>, KeysOfFault> {
+        self.file.keys_of(tx)
+    }
+
+    fn status(&self, tx: TxId) -> Result<Status, StatusFault> {
+        self.file.status(tx)
+    }
+
+    fn log_record(&self, lsn: u32) -> Option<LogRecord> {
+        self.file.log_record(lsn)
+    }
+
+    fn log_len(&self) -> u32 {
+        self.file.log_len()
+    }
+
+    fn log_use(&self) -> u32 {
+        self.file.log_use()
+    }
+
+    fn begun(&self) -> u32 {
+        self.file.begun()
+    }
+
+    fn charged(&self) -> u64 {
+        self.file.charged()
+    }
+
+    fn into_table(self) -> Result<T, StillOpen<T>> {
+        self.file.into_table()
+    }
+}
+
 fn greatest() -> Result<Limits, LimitFault> {
     Limits::new(1_000_000, 4_000_000, 1_000_000)
 }
 
-fn empty_file(alloc: Global, limits: Limits) -> RecordFile<SortedTable> {
-    RecordFile::new(alloc, SortedTable::new(alloc, limits), limits)
+fn empty_file(alloc: Global, limits: Limits) -> Plain<SortedTable> {
+    Plain::new(alloc, SortedTable::new(alloc, limits), limits)
 }
 
 fn told(entry: &Entry) -> (Key, Record, Option<TxId>) {
@@ -24,12 +118,12 @@ fn told(entry: &Entry) -> (Key, Record, Option<TxId>) {
 }
 
 /// What can be seen of a file without a transaction.
-fn seen<T: Table>(file: &RecordFile<T>) -> (u32, u32, u32, u64) {
+fn seen<T: Table>(file: &Plain<T>) -> (u32, u32, u32, u64) {
     (file.begun(), file.log_len(), file.log_use(), file.charged())
 }
 
 /// Begins a transaction, once more where memory was refused.
-fn begin<T: Table>(rt: &impl Abort, file: &mut RecordFile<T>) -> Result<TxId, BeginFault> {
+fn begin<T: Table>(rt: &impl Abort, file: &mut Plain<T>) -> Result<TxId, BeginFault> {
     let before = seen(file);
     match file.begin() {
         Err(BeginFault::Memory) => {
@@ -43,7 +137,7 @@ fn begin<T: Table>(rt: &impl Abort, file: &mut RecordFile<T>) -> Result<TxId, Be
 /// Puts a record, once more where memory was refused.
 fn put<T: Table>(
     rt: &impl Abort,
-    file: &mut RecordFile<T>,
+    file: &mut Plain<T>,
     tx: TxId,
     key: Key,
     value: Record,
@@ -61,7 +155,7 @@ fn put<T: Table>(
 /// Takes a record out, once more where memory was refused.
 fn remove<T: Table>(
     rt: &impl Abort,
-    file: &mut RecordFile<T>,
+    file: &mut Plain<T>,
     tx: TxId,
     key: Key,
 ) -> Result<Record, RemoveFault> {
@@ -76,7 +170,7 @@ fn remove<T: Table>(
 }
 
 /// The records, asked for once more where memory was refused.
-fn entries<T: Table>(file: &mut RecordFile<T>) -> Result<Vec<Entry>, EntriesFault> {
+fn entries<T: Table>(file: &mut Plain<T>) -> Result<Vec<Entry>, EntriesFault> {
     match file.entries() {
         Err(EntriesFault::Memory) => file.entries(),
         answer => answer,
@@ -84,7 +178,7 @@ fn entries<T: Table>(file: &mut RecordFile<T>) -> Result<Vec<Entry>, EntriesFaul
 }
 
 /// The keys of a transaction, asked for once more where memory was refused.
-fn keys_of<T: Table>(file: &RecordFile<T>, tx: TxId) -> Result<Vec<Key>, KeysOfFault> {
+fn keys_of<T: Table>(file: &Plain<T>, tx: TxId) -> Result<Vec<Key>, KeysOfFault> {
     match file.keys_of(tx) {
         Err(KeysOfFault::Memory) => file.keys_of(tx),
         answer => answer,
@@ -189,7 +283,7 @@ fn a_rollback_frees_the_key(rt: HostRuntime) -> Result<(), Fail> {
 }
 
 /// Looks at the log that two partial rollbacks of transaction 1 leave.
-fn look_at_log(rt: &impl Abort, file: &RecordFile<SortedTable>) -> Result<(), Fail> {
+fn look_at_log(rt: &impl Abort, file: &Plain<SortedTable>) -> Result<(), Fail> {
     let tx = TxId(1);
     let (a, b, c) = (Key::new(b"a")?, Key::new(b"b")?, Key::new(b"c")?);
     let (one, two) = (Some(Record::new(b"1")?), Some(Record::new(b"2")?));
@@ -338,7 +432,7 @@ fn a_rollback_to_what_the_file_opened_with(rt: HostRuntime) -> Result<(), Fail> 
     assert_eq!(rt; set(&mut table, a, o)?, None);
     assert_eq!(rt; set(&mut table, b, p)?, None);
     assert!(rt; table.limit() == limits.records());
-    let mut file = RecordFile::new(rt.alloc(), table, limits);
+    let mut file = Plain::new(rt.alloc(), table, limits);
     let tx = begin(&rt, &mut file)?;
     assert_eq!(rt; put(&rt, &mut file, tx, a, one), Ok(Some(o)));
     assert_eq!(rt; file.rollback_to(tx, 0), Ok(1));
@@ -354,7 +448,7 @@ fn a_rollback_to_what_the_file_opened_with(rt: HostRuntime) -> Result<(), Fail> 
 /// Aborts the transaction, whose one change is still to be taken back, and resumes where memory was refused.
 fn abort_one_change(
     rt: &impl Abort,
-    file: &mut RecordFile<SortedTable>,
+    file: &mut Plain<SortedTable>,
     tx: TxId,
 ) -> Result<u32, ResumeFault> {
     match file.abort(tx) {
@@ -453,7 +547,7 @@ fn flaky_file(
     alloc: Global,
     limits: Limits,
     numbers: &[u64],
-) -> Result<RecordFile<Flaky>, Fail> {
+) -> Result<Plain<Flaky>, Fail> {
     let mut sorted = SortedTable::new(alloc, limits);
     let key = Key::new(b"a")?;
     let _before = set(&mut sorted, key, Record::default())?;
@@ -464,7 +558,7 @@ fn flaky_file(
     };
     let table = FlakyTable::new(sorted, failing);
     assert!(rt; table.limit() == limits.records());
-    Ok(RecordFile::new(alloc, table, limits))
+    Ok(Plain::new(alloc, table, limits))
 }
 
 /// A rollback that the device stopped.
@@ -554,7 +648,7 @@ fn a_stopped_abort_ends_once_it_is_finished(rt: HostRuntime) -> Result<(), Fail>
 }
 
 /// Sets 32 savepoints.
-fn set_savepoints<T: Table>(rt: &impl Abort, file: &mut RecordFile<T>, tx: TxId) {
+fn set_savepoints<T: Table>(rt: &impl Abort, file: &mut Plain<T>, tx: TxId) {
     for number in 1..33 {
         assert_eq!(rt; file.savepoint(tx), Ok(number));
     }
@@ -650,20 +744,20 @@ fn thousand_records(
     rt: &impl Abort,
     alloc: Global,
     limits: Limits,
-) -> Result<RecordFile<SortedTable>, Fail> {
+) -> Result<Plain<SortedTable>, Fail> {
     let mut table = SortedTable::new(alloc, limits);
     for number in 0..1000 {
         let (key, value) = numbered(number)?;
         assert_eq!(rt; set(&mut table, key, value), Ok(None));
     }
     assert!(rt; table.limit() == limits.records());
-    Ok(RecordFile::new(alloc, table, limits))
+    Ok(Plain::new(alloc, table, limits))
 }
 
 /// Overwrites the record of the number, takes it out, or puts one at a new key, by the number.
 fn change(
     rt: &impl Abort,
-    file: &mut RecordFile<SortedTable>,
+    file: &mut Plain<SortedTable>,
     tx: TxId,
     number: u32,
 ) -> Result<(), Fail> {
@@ -681,7 +775,7 @@ fn change(
 /// Changes once more what `change` did: takes out, or puts at the key that was taken out.
 fn change_again(
     rt: &impl Abort,
-    file: &mut RecordFile<SortedTable>,
+    file: &mut Plain<SortedTable>,
     tx: TxId,
     number: u32,
 ) -> Result<(), Fail> {
@@ -697,7 +791,7 @@ fn change_again(
 }
 
 /// Makes 360 changes at 270 keys.
-fn change_many(rt: &impl Abort, file: &mut RecordFile<SortedTable>, tx: TxId) -> Result<(), Fail> {
+fn change_many(rt: &impl Abort, file: &mut Plain<SortedTable>, tx: TxId) -> Result<(), Fail> {
     for number in 0..270 {
         change(rt, file, tx, number)?;
         if number % 9 < 3 {
