@@ -1,6 +1,6 @@
 -- Two brothers that are levelled.
-use Rattle.std.proofs.Common.{◌≡◌, ℕ, suc, ◌+◌, ◌-◌, ◌*◌, ◌≤◌, List, [], ◌∷◌, ◌++◌, length, take, drop, min, ap, sym, ◌∙◌, subst, append_assoc, arith, length-append}
-use Rattle.std.proofs.lemmas.List.{take_min, drop_min, take-take}
+use Rattle.std.proofs.Common.{◌≡◌, ℕ, suc, ◌+◌, ◌-◌, ◌*◌, ◌<◌, ◌≤◌, List, [], ◌∷◌, ◌++◌, length, get_or, take, drop, min, ap, sym, ◌∙◌, subst, append_assoc, arith, length-append}
+use Rattle.std.proofs.lemmas.List.{take_min, drop_min, take-take, take-append-drop}
 use Rattle.std.proofs.Math.Seq.{take-append-add, drop-append-add}
 use Rattle.btree_node.specs.declared.nodes.Node.{Node}
 use Rattle.btree_node.specs.declared.nodes.NodeKind.{NodeKind}
@@ -10,7 +10,7 @@ use Rattle.btree_node.specs.Joined.{joined, keys_of_both, half_of_both, AreBroth
 use Rattle.btree_node.specs.Layout.{first_layout}
 use Rattle.btree_node.specs.Lists.{Element, Each}
 use Rattle.btree_node.specs.Spelling.{ElementFits, IsSon, SonsFit, CanStand}
-use Rattle.btree_node.proofs.CutFacts.{left_stands, right_stands}
+use Rattle.btree_node.proofs.CutFacts.{around, left_stands, right_stands}
 use Rattle.btree_node.proofs.OrderFacts.{Each-append}
 
 -- a list that is filled up to a length from the next one
@@ -52,6 +52,17 @@ levelled_right left middle right count half pushed elements sons kind next push 
     ∙ ap (drop (suc half)) (one_list left.elements.items right.elements.items pushed middle push) in
     let sons_behind : sons ≡ drop (suc half) (left.sons.items ++ right.sons.items) = cut_sons ∙ ap (λ n. drop n (left.sons.items ++ right.sons.items)) next in
     λ i. record { kind = sym kind i; elements = record { items = behind i }; sons = record { items = sons_behind i } }
+
+-- a node that is cut around an element is whole with it
+pub cut_whole : (half : ℕ) (n a b : Node) (x : Element) → half < length n.elements.items
+    → a ≡ left_of half n → ((d : Element) → x ≡ get_or n.elements.items half d) → b ≡ right_of half n → joined a x b ≡ n
+cut_whole half n a b x low is_left is_middle is_right =
+    let elements : take half n.elements.items ++ x ∷ drop (suc half) n.elements.items ≡ n.elements.items =
+    ap (λ y. take half n.elements.items ++ y ∷ drop (suc half) n.elements.items) (is_middle x) ∙ sym (around half n.elements.items x low) in
+    let sons : take (suc half) n.sons.items ++ drop (suc half) n.sons.items ≡ n.sons.items = take-append-drop (suc half) n.sons.items in
+    let halves : joined a x b ≡ joined (left_of half n) x (right_of half n) = λ i. joined (is_left i) x (is_right i) in
+    let same : joined (left_of half n) x (right_of half n) ≡ n = λ i. record { kind = n.kind; elements = record { items = elements i }; sons = record { items = sons i } } in
+    halves ∙ same
 
 sons_of_both : (kind : NodeKind) (l r count : ℕ) (ls rs : List ℕ) → count ≡ l + (1 + r) → SonsFit kind l ls → SonsFit kind r rs → SonsFit kind count (ls ++ rs)
 sons_of_both Leaf l r count ls rs sum left right = ap (λ xs. xs ++ rs) left ∙ right

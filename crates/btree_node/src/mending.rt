@@ -55,6 +55,11 @@ pub fn distribute(
     ensures middle { (d : Element) → result.1
         ≡ slice_index_or (joined left middle right).elements.items (half_of_both left right) d }
     ensures right { result.2 ≡ right_of (half_of_both left right) (joined left middle right) }
+
+    // Nothing is lost.
+    ensures whole { joined result.0 result.1 result.2 ≡ joined left middle right }
+
+    // What the pages of order k hold.
     ensures left_least { k ≤ length result.0.elements.items }
     ensures right_least { k ≤ length result.2.elements.items }
     ensures stand { Each (ElementFits first_layout) (joined left middle right).elements.items
