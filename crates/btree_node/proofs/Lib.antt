@@ -1,6 +1,7 @@
 pub mod BlockFacts
 pub mod CutFacts
 pub mod HeaderFacts
+pub mod JoinFacts
 pub mod NodeFacts
 pub mod OrderFacts
 pub mod PlaceFacts

@@ -1,4 +1,6 @@
 pub mod Cut
+pub mod Examples
+pub mod Joined
 pub mod Layout
 pub mod Lists
 pub mod Reading

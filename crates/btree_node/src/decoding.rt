@@ -174,7 +174,8 @@ fn element_of(place: &[u8]) -> (Key, Record)
     (key.unwrap(), value.unwrap())
 }
 
-fn ascends(elements: &[(Key, Record)]) -> bool
+/// Whether each key is below the next one.
+pub(crate) fn ascends(elements: &[(Key, Record)]) -> bool
     ensures { IsTrue result ↔ Ascends elements.now }
 {
     for i in 1..elements.len() {
@@ -225,7 +226,8 @@ fn numbers_of(layout: Layout, page: &[u8; 4096], k: u16, count: usize) -> ArrayV
     sons
 }
 
-fn sons_stand(sons: &[u32]) -> bool
+/// Whether no son is 0.
+pub(crate) fn sons_stand(sons: &[u32]) -> bool
     ensures { IsTrue result ↔ All (λ son. 0 < son) sons.now }
 {
     sons.iter().all(|son| *son != 0)

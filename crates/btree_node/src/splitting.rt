@@ -21,33 +21,22 @@ pub fn split(mut node: Node, k: u16) -> (Node, (Key, Record), Node)
     let middle = node.elements[k];
     let right = Node {
         kind: node.kind,
-        elements: elements_from(node.elements.as_slice(), k + 1),
-        sons: sons_from(node.sons.as_slice(), k + 1),
+        elements: items_from(node.elements.as_slice(), k + 1),
+        sons: items_from(node.sons.as_slice(), k + 1),
     };
     node.elements.truncate(k);
     node.sons.truncate(k + 1);
     (node, middle, right)
 }
 
-/// The elements from a place on.
-fn elements_from(elements: &[(Key, Record)], from: usize) -> ArrayVec<(Key, Record), 33>
-    requires few { length elements.now ≤ 33 }
-    requires within { from ≤ length elements.now }
-    ensures { result.items ≡ drop from elements.now }
+/// The items from a place on, none where there are fewer.
+#[tactic(auto, using(std::proofs::lemmas::List::drop_min))]
+pub fn items_from<T: Copy + Default, const N: usize>(items: &[T], from: usize) -> ArrayVec<T, N>
+    requires { length items.now ≤ N }
+    ensures { result.items ≡ drop from items.now }
 {
     let mut rest = ArrayVec::new();
-    rest.try_extend_from_slice(&elements[from..]).unwrap();
-    rest
-}
-
-/// The sons from a place on, none where there are fewer.
-fn sons_from(sons: &[u32], from: usize) -> ArrayVec<u32, 34>
-    requires { length sons.now ≤ 34 }
-    ensures { result.items ≡ drop from sons.now }
-{
-    let mut rest = ArrayVec::new();
-    if from < sons.len() {
-        rest.try_extend_from_slice(&sons[from..]).unwrap();
-    }
+    rest.try_extend_from_slice(&items[from.min(items.len())..])
+        .unwrap();
     rest
 }

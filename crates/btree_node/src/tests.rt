@@ -1,9 +1,11 @@
-ghost use Rattle.std.specs.Prelude.{◌≡◌, ◌+◌, ◌<◌, ◌≤◌, [], IfOk, length};
-ghost use Rattle.btree_node.specs.Spelling.{CanStand};
+ghost use Rattle.std.specs.Prelude.{◌≡◌, ◌+◌, ◌<◌, ◌≤◌, [], IfOk, length, IsTrue};
+ghost use Rattle.btree_node.specs.Joined.{AreBrothers};
+ghost use Rattle.btree_node.specs.Spelling.{SonsFit, CanStand};
 
+use crate::decoding::{ascends, sons_stand};
 use crate::{
-    Header, HeaderFault, Node, NodeFault, NodeKind, decode, encode, place_of, read_header, split,
-    write_header,
+    Header, HeaderFault, Node, NodeFault, NodeKind, catenate, decode, distribute, encode, place_of,
+    read_header, split, write_header,
 };
 use arrayvec::ArrayVec;
 use rec_types::{Key, Record};
@@ -101,6 +103,48 @@ fn leaf_of(rt: &impl Abort, keys: &[u8]) -> Result<Node, Fail>
         elements,
         sons: ArrayVec::new(),
     })
+}
+
+/// An inner node with these keys, each with the record v, and these sons.
+fn inner_of(rt: &impl Abort, keys: &[u8], sons: &[u32]) -> Result<Node, Fail> {
+    let Node {
+        kind: _,
+        elements,
+        sons: _,
+    } = leaf_of(rt, keys)?;
+    let mut numbers = ArrayVec::new();
+    numbers.try_extend_from_slice(sons)?;
+    Ok(Node {
+        kind: NodeKind::Inner,
+        elements,
+        sons: numbers,
+    })
+}
+
+/// Whether these are the sons of a node of a kind with so many keys.
+fn sons_fit(kind: NodeKind, count: usize, sons: &[u32]) -> bool
+    requires { count ≤ 33 }
+    ensures { IsTrue result → SonsFit kind count sons.now }
+{
+    match kind {
+        NodeKind::Leaf => sons.is_empty(),
+        NodeKind::Inner => sons.len() == count + 1 && sons_stand(sons),
+    }
+}
+
+/// Fails where the two nodes can't stand side by side.
+fn expect_brothers(rt: &impl Abort, left: &Node, middle: &(Key, Record), right: &Node)
+    ensures { AreBrothers left.now middle.now right.now }
+{
+    assert!(rt; left.kind == right.kind);
+    assert!(rt; sons_fit(left.kind, left.elements.len(), left.sons.as_slice()));
+    assert!(rt; sons_fit(right.kind, right.elements.len(), right.sons.as_slice()));
+    let mut all: ArrayVec<(Key, Record), 67> = ArrayVec::new();
+    all.try_extend_from_slice(left.elements.as_slice()).unwrap();
+    all.push(*middle);
+    all.try_extend_from_slice(right.elements.as_slice())
+        .unwrap();
+    assert!(rt; ascends(all.as_slice()));
 }
 
 #[test]
@@ -247,5 +291,83 @@ fn a_full_inner_node_is_split(rt: HostRuntime) -> Result<(), Fail> {
     assert!(rt; middle == element(b"b", b"v")?);
     assert_eq!(rt; left.sons.as_slice(), [4, 5].as_slice());
     assert_eq!(rt; right.sons.as_slice(), [6, 7].as_slice());
+    Ok(())
+}
+
+/// Two brothers of order `k` in one node.
+fn catenated(rt: &impl Abort, left: Node, middle: u8, right: Node, k: u16) -> Result<Node, Fail> {
+    let middle = element(&[middle], b"v")?;
+    expect_brothers(rt, &left, &middle, &right);
+    assert!(rt; 1 <= k && k <= 16);
+    assert!(rt; left.elements.len() + right.elements.len() < 2 * k as usize);
+    Ok(catenate(left, middle, right, k))
+}
+
+/// Two brothers of order `k`, levelled.
+fn distributed(
+    rt: &impl Abort,
+    left: Node,
+    middle: u8,
+    right: Node,
+    k: u16,
+) -> Result<(Node, (Key, Record), Node), Fail> {
+    let middle = element(&[middle], b"v")?;
+    expect_brothers(rt, &left, &middle, &right);
+    assert!(rt; 1 <= k && k <= 16);
+    let most = 2 * k as usize;
+    assert!(rt; left.elements.len() <= most && right.elements.len() <= most);
+    assert!(rt; most <= left.elements.len() + right.elements.len());
+    Ok(distribute(left, middle, right, k))
+}
+
+#[test]
+fn leaves_are_catenated(rt: HostRuntime) -> Result<(), Fail> {
+    let right_short = catenated(&rt, leaf_of(&rt, b"d")?, b'e', leaf_of(&rt, b"fg")?, 2)?;
+    assert_eq!(rt; right_short, leaf_of(&rt, b"defg")?);
+    let left_full = catenated(&rt, leaf_of(&rt, b"ab")?, b'd', leaf_of(&rt, b"e")?, 2)?;
+    assert_eq!(rt; left_full, leaf_of(&rt, b"abde")?);
+    Ok(())
+}
+
+#[test]
+fn inner_nodes_are_catenated(rt: HostRuntime) -> Result<(), Fail> {
+    let left = inner_of(&rt, b"b", &[1, 2])?;
+    let right = inner_of(&rt, b"", &[3])?;
+    let node = catenated(&rt, left, b'c', right, 1)?;
+    assert_eq!(rt; node, inner_of(&rt, b"bc", &[1, 2, 3])?);
+    Ok(())
+}
+
+#[test]
+fn leaves_are_levelled(rt: HostRuntime) -> Result<(), Fail> {
+    let (left, up, right) = distributed(&rt, leaf_of(&rt, b"b")?, b'c', leaf_of(&rt, b"defg")?, 2)?;
+    assert_eq!(rt; left, leaf_of(&rt, b"bc")?);
+    assert_eq!(rt; up, element(b"d", b"v")?);
+    assert_eq!(rt; right, leaf_of(&rt, b"efg")?);
+    let (left, up, right) = distributed(&rt, leaf_of(&rt, b"b")?, b'd', leaf_of(&rt, b"efg")?, 2)?;
+    assert_eq!(rt; left, leaf_of(&rt, b"bd")?);
+    assert_eq!(rt; up, element(b"e", b"v")?);
+    assert_eq!(rt; right, leaf_of(&rt, b"fg")?);
+    let (left, up, right) = distributed(&rt, leaf_of(&rt, b"abcd")?, b'e', leaf_of(&rt, b"f")?, 2)?;
+    assert_eq!(rt; left, leaf_of(&rt, b"ab")?);
+    assert_eq!(rt; up, element(b"c", b"v")?);
+    assert_eq!(rt; right, leaf_of(&rt, b"def")?);
+    Ok(())
+}
+
+#[test]
+fn inner_nodes_are_levelled(rt: HostRuntime) -> Result<(), Fail> {
+    let short = inner_of(&rt, b"", &[1])?;
+    let full = inner_of(&rt, b"cd", &[2, 3, 4])?;
+    let (left, up, right) = distributed(&rt, short, b'b', full, 1)?;
+    assert_eq!(rt; left, inner_of(&rt, b"b", &[1, 2])?);
+    assert_eq!(rt; up, element(b"c", b"v")?);
+    assert_eq!(rt; right, inner_of(&rt, b"d", &[3, 4])?);
+    let full = inner_of(&rt, b"bc", &[1, 2, 3])?;
+    let short = inner_of(&rt, b"", &[4])?;
+    let (left, up, right) = distributed(&rt, full, b'd', short, 1)?;
+    assert_eq!(rt; left, inner_of(&rt, b"b", &[1, 2])?);
+    assert_eq!(rt; up, element(b"c", b"v")?);
+    assert_eq!(rt; right, inner_of(&rt, b"d", &[3, 4])?);
     Ok(())
 }
