@@ -1,6 +1,7 @@
 pub mod Blank
 pub mod CanStage
 pub mod FetchFaults
+pub mod FlakyStored
 pub mod FreeNumbers
 pub mod Growth
 pub mod OpenedFile

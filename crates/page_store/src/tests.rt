@@ -1,6 +1,8 @@
 ghost use Rattle.page_store.specs.CanStage.{CanStage};
 
-use crate::{FetchFault, FileStore, MemStore, PageEdit, Pages, Shape, Store, StoreFault};
+use crate::{
+    FetchFault, FileStore, FlakyStore, MemStore, PageEdit, Pages, Shape, Store, StoreFault,
+};
 use std::alloc::Global;
 use std::collections::BTreeSet;
 use std::path::PathBuf;
@@ -166,6 +168,57 @@ fn a_store_in_memory(rt: HostRuntime) -> Result<(), Fail> {
     store.write(0, &filled(3))?;
     store.sync()?;
     assert!(rt; store.pages() == [filled(3), filled(0)].as_slice());
+    Ok(())
+}
+
+/// A list of these numbers.
+fn numbers(alloc: Global, list: &[u64]) -> Result<Vec<u64>, Fail> {
+    let mut numbers = Vec::new(alloc);
+    numbers.extend_from_slice(list)?;
+    Ok(numbers)
+}
+
+#[test]
+fn chosen_reads_fail(rt: HostRuntime) -> Result<(), Fail> {
+    let mut stored = Vec::new(rt.alloc());
+    stored.push(filled(1))?;
+    stored.push(filled(2))?;
+    let failing = numbers(rt.alloc(), &[3, 1])?;
+    let mut store = FlakyStore::new(MemStore::new(stored, 5), failing, Vec::new(rt.alloc()));
+    store.write(0, &filled(6))?;
+    store.sync()?;
+    let mut page = filled(7);
+    assert_eq!(rt; store.read(0, &mut page), Err(StoreFault::Failed));
+    assert!(rt; page == filled(7));
+    assert_eq!(rt; store.read(1, &mut page), Ok(()));
+    assert!(rt; page == filled(2));
+    assert_eq!(rt; store.read(0, &mut page), Err(StoreFault::Failed));
+    assert_eq!(rt; store.shape(), Ok(Shape { pages: 2, tail: 5 }));
+    assert_eq!(rt; store.read(0, &mut page), Ok(()));
+    assert!(rt; page == filled(6));
+    Ok(())
+}
+
+#[test]
+fn chosen_writes_fail(rt: HostRuntime) -> Result<(), Fail> {
+    let mut stored = Vec::new(rt.alloc());
+    stored.push(filled(1))?;
+    let failing = numbers(rt.alloc(), &[1, 4, 6])?;
+    let mut store = FlakyStore::new(MemStore::new(stored, 5), Vec::new(rt.alloc()), failing);
+    assert_eq!(rt; store.set_pages(2), Err(StoreFault::Failed));
+    assert_eq!(rt; store.shape(), Ok(Shape { pages: 1, tail: 5 }));
+    store.set_pages(2)?;
+    assert_eq!(rt; store.write(1, &filled(2)), Ok(()));
+    assert_eq!(rt; store.write(1, &filled(3)), Err(StoreFault::Failed));
+    let mut page = filled(0);
+    store.read(1, &mut page)?;
+    assert!(rt; page == filled(2));
+    assert_eq!(rt; store.sync(), Ok(()));
+    assert_eq!(rt; store.sync(), Err(StoreFault::Failed));
+    assert_eq!(rt; store.write(1, &filled(4)), Ok(()));
+    store.read(1, &mut page)?;
+    assert!(rt; page == filled(4));
+    assert_eq!(rt; store.shape(), Ok(Shape { pages: 2, tail: 0 }));
     Ok(())
 }
 
