@@ -11,3 +11,5 @@ pub mod PagesView
 pub mod Slots
 pub mod StoreFaults
 pub mod StoredPages
+pub mod WriteFaults
+pub mod WritingBack

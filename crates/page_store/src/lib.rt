@@ -15,9 +15,10 @@ mod slots;
 mod stores;
 #[cfg(test)]
 mod tests;
+mod writing;
 
 pub use answers::{Shape, StoreFault};
-pub use edits::{FetchFault, PageEdit};
+pub use edits::{FetchFault, PageEdit, WriteFault};
 pub use files::FileStore;
 pub use flaky::FlakyStore;
 pub use mem::MemStore;
