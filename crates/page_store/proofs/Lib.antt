@@ -8,3 +8,4 @@ pub mod PageFacts
 pub mod SetFacts
 pub mod SlotFacts
 pub mod Staging
+pub mod WriteFacts

@@ -1,6 +1,7 @@
 pub mod Blank
 pub mod CanStage
 pub mod FetchFaults
+pub mod FlakyStored
 pub mod FreeNumbers
 pub mod Growth
 pub mod OpenedFile
@@ -10,3 +11,5 @@ pub mod PagesView
 pub mod Slots
 pub mod StoreFaults
 pub mod StoredPages
+pub mod WriteFaults
+pub mod WritingBack

@@ -19,3 +19,12 @@ pub enum FetchFault {
     #[error("the page is not in use")]
     OutOfRange,
 }
+
+/// Why the changed pages were not written back.
+#[derive(Clone, Copy, Debug, PartialEq, Eq, Error)]
+pub enum WriteFault {
+    #[error("a write to the store failed")]
+    Device,
+    #[error("out of memory")]
+    Memory,
+}

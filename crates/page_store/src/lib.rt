@@ -6,6 +6,7 @@ mod blank;
 mod counts;
 mod edits;
 mod files;
+mod flaky;
 mod free;
 pub mod laws;
 mod mem;
@@ -14,10 +15,12 @@ mod slots;
 mod stores;
 #[cfg(test)]
 mod tests;
+mod writing;
 
 pub use answers::{Shape, StoreFault};
-pub use edits::{FetchFault, PageEdit};
+pub use edits::{FetchFault, PageEdit, WriteFault};
 pub use files::FileStore;
+pub use flaky::FlakyStore;
 pub use mem::MemStore;
 pub use paging::Pages;
 pub use stores::Store;

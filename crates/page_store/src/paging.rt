@@ -1,4 +1,4 @@
-ghost use Rattle.std.specs.Prelude.{◌≡◌, ℕ, ◌+◌, ◌<◌, ◌≤◌, ◌↔◌, ◌==◌, ◌||◌, if◌then◌else◌, [], false, true, length, Some, None, Err, IsTrue, IsSome, IsOk, OnOk, OnErr, slice_get};
+ghost use Rattle.std.specs.Prelude.{◌≡◌, ℕ, ◌≢◌, ◌+◌, ◌-◌, ◌<◌, ◌≤◌, ◌++◌, ◌↔◌, ◌==◌, ◌||◌, if◌then◌else◌, [], false, true, length, Some, None, Err, is_some, IsTrue, IsSome, IsOk, OnOk, OnErr, slice_get};
 ghost use Rattle.std.specs.Ordering.{nat_cmp};
 ghost use Rattle.std.specs.BTreeSet.{contains};
 ghost use Rattle.rec_types.specs.Table.{counted};
@@ -6,13 +6,18 @@ ghost use Rattle.page_store.specs.PageMap.{at, after};
 ghost use Rattle.page_store.specs.FreeNumbers.{free_numbers, candidate, count_after};
 ghost use Rattle.page_store.specs.CanStage.{CanStage};
 ghost use Rattle.page_store.specs.FetchFaults.{is_device};
+ghost use Rattle.page_store.specs.Blank.{blanks};
+ghost use Rattle.page_store.specs.Growth.{GrowsTo};
+ghost use Rattle.page_store.specs.WriteFaults.{by_device};
+ghost use Rattle.page_store.specs.WritingBack.{AreStored, Leaves, Stopped};
 
-use crate::edits::{FetchFault, PageEdit};
+use crate::edits::{FetchFault, PageEdit, WriteFault};
 use crate::free::{add_all, nth_number};
 use crate::slots::{
     Slot, boxed, changed_page, drop_pages, is_in_use, make_slots, put_pages, slots_needed,
 };
 use crate::stores::Store;
+use crate::writing::{told, write_out};
 use rec_types::Memory;
 use std::alloc::Global;
 use std::collections::BTreeSet;
@@ -173,7 +178,66 @@ impl<S: Store> Pages<S> {
         self.edited
     }
 
-    /// The store, with its pages as they were: what was staged is not in it.
+    /// Writes the changed pages back, so that the store has each page in use: makes the store as long
+    /// as the page count, writes `writing` as page 0, then each changed page in use in ascending
+    /// order, then `clean` as page 0, and has the device keep it after each of the three. It stops at
+    /// the first call that fails, and takes no memory of its own. Faults: Device where the store
+    /// failed, Memory where it was not made longer. No page here, number or answer of `changed` is
+    /// different then, so that the call can be made again; in a steady store no page but page 0 has
+    /// changed, or page 0 is `writing`, or each page in use is there.
+    pub fn write_back(&mut self, writing: &[u8; 4096], clean: &[u8; 4096]) -> Result<(), WriteFault>
+        ensures count { OnOk result (length self.new.stored ≡ length self.old.pages) }
+        ensures tail { OnOk result (self.new.tail ≡ 0) }
+        ensures header { IsTrue self.old.steady
+            → OnOk result (slice_get self.new.stored 0 ≡ Some clean.now) }
+        ensures stored { IsTrue self.old.steady
+            → OnOk result (AreStored (at self.old.pages) self.new.stored) }
+        ensures unwritten { OnOk result ((n : ℕ) → n ≢ 0 → at self.old.pages n ≡ None
+            → slice_get self.new.stored n ≡ slice_get
+            (self.old.stored ++ blanks (length self.old.pages - length self.old.stored)) n) }
+        ensures idle { OnOk result (self.new.changed ≡ false) }
+        ensures pages { IsTrue self.old.steady → self.new.pages ≡ self.old.pages }
+        ensures same_count { length self.new.pages ≡ length self.old.pages }
+        ensures same_free { free_numbers self.new.pages ≡ free_numbers self.old.pages }
+        ensures same_use { (n : ℕ) → is_some (at self.new.pages n) ≡ is_some (at self.old.pages n) }
+        ensures rest { self.new ≡ record self.old {
+          pages = self.new.pages;
+          changed = self.new.changed;
+          stored = self.new.stored;
+          tail = self.new.tail;
+          failures = self.new.failures;
+        } }
+        ensures err { OnErr result (self.new ≡ record self.old {
+          stored = self.new.stored;
+          tail = self.new.tail;
+          failures = self.new.failures;
+        }) }
+        ensures others { Leaves (at self.old.pages) (length self.old.pages)
+            self.old.stored self.new.stored }
+        ensures stopped { IsTrue self.old.steady → OnErr result
+            (Stopped (at self.old.pages) writing.now self.old.stored self.new.stored) }
+        ensures memory { result ≡ Err WriteFault.Memory
+            → GrowsTo (length self.old.pages) self.old.stored self.new.stored }
+        ensures device { self.new.failures ≡ counted self.old.failures (by_device result) }
+    {
+        let written = write_out(
+            &mut self.store,
+            &self.changed,
+            &self.free,
+            self.count,
+            writing,
+            clean,
+        );
+        if let Err(fault) = written {
+            return Err(told(fault));
+        }
+        self.changed.clear();
+        self.edited = false;
+        Ok(())
+    }
+
+    /// The store, with its pages as they are: what was staged since the last writing back is not in
+    /// it.
     pub fn into_store(self) -> S
         ensures pages { S.pages result ≡ self.stored }
         ensures tail { S.tail result ≡ self.tail }

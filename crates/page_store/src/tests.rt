@@ -1,6 +1,9 @@
 ghost use Rattle.page_store.specs.CanStage.{CanStage};
 
-use crate::{FetchFault, FileStore, MemStore, PageEdit, Pages, Shape, Store, StoreFault};
+use crate::{
+    FetchFault, FileStore, FlakyStore, MemStore, PageEdit, Pages, Shape, Store, StoreFault,
+    WriteFault,
+};
 use std::alloc::Global;
 use std::collections::BTreeSet;
 use std::path::PathBuf;
@@ -166,6 +169,164 @@ fn a_store_in_memory(rt: HostRuntime) -> Result<(), Fail> {
     store.write(0, &filled(3))?;
     store.sync()?;
     assert!(rt; store.pages() == [filled(3), filled(0)].as_slice());
+    Ok(())
+}
+
+/// A list of these numbers.
+fn numbers(alloc: Global, list: &[u64]) -> Result<Vec<u64>, Fail> {
+    let mut numbers = Vec::new(alloc);
+    numbers.extend_from_slice(list)?;
+    Ok(numbers)
+}
+
+#[test]
+fn chosen_reads_fail(rt: HostRuntime) -> Result<(), Fail> {
+    let mut stored = Vec::new(rt.alloc());
+    stored.push(filled(1))?;
+    stored.push(filled(2))?;
+    let failing = numbers(rt.alloc(), &[3, 1])?;
+    let mut store = FlakyStore::new(MemStore::new(stored, 5), failing, Vec::new(rt.alloc()));
+    store.write(0, &filled(6))?;
+    store.sync()?;
+    let mut page = filled(7);
+    assert_eq!(rt; store.read(0, &mut page), Err(StoreFault::Failed));
+    assert!(rt; page == filled(7));
+    assert_eq!(rt; store.read(1, &mut page), Ok(()));
+    assert!(rt; page == filled(2));
+    assert_eq!(rt; store.read(0, &mut page), Err(StoreFault::Failed));
+    assert_eq!(rt; store.shape(), Ok(Shape { pages: 2, tail: 5 }));
+    assert_eq!(rt; store.read(0, &mut page), Ok(()));
+    assert!(rt; page == filled(6));
+    Ok(())
+}
+
+#[test]
+fn chosen_writes_fail(rt: HostRuntime) -> Result<(), Fail> {
+    let mut stored = Vec::new(rt.alloc());
+    stored.push(filled(1))?;
+    let failing = numbers(rt.alloc(), &[1, 4, 6])?;
+    let mut store = FlakyStore::new(MemStore::new(stored, 5), Vec::new(rt.alloc()), failing);
+    assert_eq!(rt; store.set_pages(2), Err(StoreFault::Failed));
+    assert_eq!(rt; store.shape(), Ok(Shape { pages: 1, tail: 5 }));
+    store.set_pages(2)?;
+    assert_eq!(rt; store.write(1, &filled(2)), Ok(()));
+    assert_eq!(rt; store.write(1, &filled(3)), Err(StoreFault::Failed));
+    let mut page = filled(0);
+    store.read(1, &mut page)?;
+    assert!(rt; page == filled(2));
+    assert_eq!(rt; store.sync(), Ok(()));
+    assert_eq!(rt; store.sync(), Err(StoreFault::Failed));
+    assert_eq!(rt; store.write(1, &filled(4)), Ok(()));
+    store.read(1, &mut page)?;
+    assert!(rt; page == filled(4));
+    assert_eq!(rt; store.shape(), Ok(Shape { pages: 2, tail: 0 }));
+    Ok(())
+}
+
+#[test]
+fn changed_pages_are_written_back(rt: HostRuntime) -> Result<(), Fail> {
+    let mut stored = Vec::new(rt.alloc());
+    stored.push(filled(9))?;
+    let store = MemStore::new(stored, 3);
+    let mut pages = Pages::new(rt.alloc(), store, 1, BTreeSet::new(rt.alloc()));
+    for with in [5, 6, 7] {
+        add_page(&rt, rt.alloc(), &mut pages, with)?;
+    }
+    free_page(&rt, rt.alloc(), &mut pages, 2)?;
+    pages.write_back(&filled(100), &filled(200))?;
+    assert!(rt; !pages.changed());
+    write_page(&rt, rt.alloc(), &mut pages, 3, 8)?;
+    assert!(rt; fetched(&mut pages, 1) == Ok(filled(5)));
+    pages.write_back(&filled(101), &filled(201))?;
+    assert!(rt; fetched(&mut pages, 3) == Ok(filled(8)));
+    let store = pages.into_store();
+    assert!(rt; store.pages() == [filled(201), filled(5), filled(0), filled(8)].as_slice());
+    Ok(())
+}
+
+/// Pages 1 and 3 in memory over a store of one page, of which the changing call of that number fails.
+fn staged_pages(
+    rt: &impl Abort,
+    alloc: Global,
+    failing: u64,
+) -> Result<Pages<FlakyStore<MemStore>>, Fail> {
+    let mut stored = Vec::new(alloc);
+    stored.push(filled(9))?;
+    let failing = numbers(alloc, &[failing])?;
+    let store = FlakyStore::new(MemStore::new(stored, 3), Vec::new(alloc), failing);
+    let mut pages = Pages::new(alloc, store, 1, BTreeSet::new(alloc));
+    for with in [5, 6, 7] {
+        add_page(rt, alloc, &mut pages, with)?;
+    }
+    free_page(rt, alloc, &mut pages, 2)?;
+    Ok(pages)
+}
+
+/// Looks that those pages are as they were staged.
+fn expect_staged<S: Store>(rt: &impl Abort, pages: &mut Pages<S>) {
+    assert_eq!(rt; (pages.page_count(), pages.free_count()), (4, 1));
+    assert!(rt; fetched(pages, 1) == Ok(filled(5)));
+    assert!(rt; fetched(pages, 2) == Err(FetchFault::OutOfRange));
+    assert!(rt; fetched(pages, 3) == Ok(filled(7)));
+}
+
+/// Looks that the store has four pages, filled with these bytes, and no tail.
+fn expect_stored<S: Store>(
+    rt: &impl Abort,
+    store: &mut S,
+    wanted: [u8; 4],
+) -> Result<(), StoreFault> {
+    for n in 0..4_u32 {
+        let mut page = filled(0);
+        assert!(rt; store.shape()? == Shape { pages: 4, tail: 0 });
+        store.read(n, &mut page)?;
+        assert!(rt; page == filled(wanted[n as usize]));
+    }
+    Ok(())
+}
+
+#[test]
+fn a_writing_back_stops_where_a_call_fails(rt: HostRuntime) -> Result<(), Fail> {
+    let mut pages = staged_pages(&rt, rt.alloc(), 1)?;
+    assert_eq!(rt;
+        pages.write_back(&filled(100), &filled(200)),
+        Err(WriteFault::Device)
+    );
+    assert_eq!(rt; pages.into_store().shape(), Ok(Shape { pages: 1, tail: 3 }));
+    for (failing, wanted) in [
+        (2, [9, 0, 0, 0]),
+        (3, [100, 0, 0, 0]),
+        (4, [100, 0, 0, 0]),
+        (5, [100, 5, 0, 0]),
+        (6, [100, 5, 0, 7]),
+        (7, [100, 5, 0, 7]),
+        (8, [200, 5, 0, 7]),
+    ] {
+        let mut pages = staged_pages(&rt, rt.alloc(), failing)?;
+        assert_eq!(rt;
+            pages.write_back(&filled(100), &filled(200)),
+            Err(WriteFault::Device)
+        );
+        expect_stored(&rt, &mut pages.into_store(), wanted)?;
+    }
+    Ok(())
+}
+
+#[test]
+fn a_writing_back_can_be_made_again(rt: HostRuntime) -> Result<(), Fail> {
+    for failing in 1..9 {
+        let mut pages = staged_pages(&rt, rt.alloc(), failing)?;
+        assert_eq!(rt;
+            pages.write_back(&filled(100), &filled(200)),
+            Err(WriteFault::Device)
+        );
+        assert!(rt; pages.changed());
+        expect_staged(&rt, &mut pages);
+        assert_eq!(rt; pages.write_back(&filled(101), &filled(201)), Ok(()));
+        assert!(rt; !pages.changed());
+        expect_staged(&rt, &mut pages);
+        expect_stored(&rt, &mut pages.into_store(), [201, 5, 0, 7])?;
+    }
     Ok(())
 }
 

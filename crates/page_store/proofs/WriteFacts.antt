@@ -1,0 +1,141 @@
+-- Pages written back: what the store has then, and what the pages are that are made of it.
+use Rattle.std.proofs.Common.{◌≡◌, ◌≢◌, ℕ, ◌+◌, ◌-◌, ◌<◌, ◌≤◌, ◌++◌, Bool, true, false, eqb, leb, ◌⊎◌, List, [], ◌∷◌, length, Option, Some, None, IsSome, is_some, slice_get, refl, sym, ap, ◌∙◌, subst, inl, inr, ⊎_elim, arith, zero, suc, ext_get_or}
+use Rattle.std.proofs.lemmas.Option.{slice_get-get_or}
+use Rattle.std.proofs.lemmas.Bool.{cases_lt, false≢true}
+use Rattle.std.proofs.lemmas.Bool.Decides.{nat_tests}
+use Rattle.page_store.specs.PageMap.{at}
+use Rattle.page_store.specs.FreeNumbers.{free_from, free_numbers}
+use Rattle.page_store.specs.Blank.{blanks}
+use Rattle.page_store.specs.Overlaid.{is_among, or_else, pages_of, ArePages}
+use Rattle.page_store.specs.WritingBack.{to_write, AreStored, Leaves, Stopped}
+use Rattle.page_store.proofs.PageFacts.{length-pages_of, at_below, inside, outside}
+use Rattle.page_store.proofs.FreeFacts.{bytes_of_used}
+use Rattle.page_store.proofs.Staging.{in_use}
+
+none_not_some : {P : Type 0} (o : Option (List ℕ)) → o ≡ None → IsSome o → P
+none_not_some o none some = let never : IsSome {T = List ℕ} None = subst IsSome none some in absurd (cc)
+
+-- the same numbers have no page
+same_free_from : (n : ℕ) (xs ys : List (Option (List ℕ))) → length xs ≡ length ys → ((k : ℕ) → is_some (at xs k) ≡ is_some (at ys k)) → free_from n xs ≡ free_from n ys
+same_free_from n [] [] long same = refl
+same_free_from n [] (y ∷ ys) long same = absurd (omega (arith, long))
+same_free_from n (x ∷ xs) [] long same = absurd (omega (arith, long))
+same_free_from n (None ∷ xs) (None ∷ ys) long same = ap (λ (ks : List ℕ). n ∷ ks) (same_free_from (n + 1) xs ys (omega (arith, long)) (λ k. same (suc k)))
+same_free_from n (Some x ∷ xs) (Some y ∷ ys) long same = same_free_from (n + 1) xs ys (omega (arith, long)) (λ k. same (suc k))
+same_free_from n (None ∷ xs) (Some y ∷ ys) long same = absurd (false≢true (same zero))
+same_free_from n (Some x ∷ xs) (None ∷ ys) long same = absurd (false≢true (sym (same zero)))
+
+pub same_free_numbers : (xs ys : List (Option (List ℕ))) → length xs ≡ length ys → ((k : ℕ) → is_some (at xs k) ≡ is_some (at ys k)) → free_numbers xs ≡ free_numbers ys
+same_free_numbers [] [] long same = refl
+same_free_numbers [] (y ∷ ys) long same = absurd (omega (arith, long))
+same_free_numbers (x ∷ xs) [] long same = absurd (omega (arith, long))
+same_free_numbers (x ∷ xs) (y ∷ ys) long same = same_free_from 1 xs ys (omega (arith, long)) (λ k. same (suc k))
+
+abbrev InUse : List ℕ → ℕ → ℕ → Type 0
+InUse free count n = (n ≢ 0) × (n < count) × (is_among free n ≡ false)
+
+use_by : (free : List ℕ) (count n : ℕ) (zero_is free_is : Bool) → eqb n 0 ≡ zero_is → is_among free n ≡ free_is → InUse free count n ⊎ (InUse free count n → ⊥)
+use_by free count n true f z e = inr (λ h. h.0 (grind (arith, nat_tests)))
+use_by free count n false true z e = inr (λ h. false≢true (sym h.2 ∙ e))
+use_by free count n false false z e =
+    ⊎_elim (λ (below : n < count). inl (grind (arith, nat_tests), below, e))
+    (λ (past : count ≤ n). inr (λ h. omega (arith, h.1)))
+    (cases_lt n count)
+
+use_of : (free : List ℕ) (count n : ℕ) → InUse free count n ⊎ (InUse free count n → ⊥)
+use_of free count n = use_by free count n (eqb n 0) (is_among free n) refl refl
+
+unused_by : (slots : List (Option (List ℕ))) (free : List ℕ) (count n : ℕ) (zero_is past free_is : Bool) → eqb n 0 ≡ zero_is → leb count n ≡ past → is_among free n ≡ free_is → (InUse free count n → ⊥) → to_write slots free count n ≡ None
+unused_by slots free count n true p f z above e never = rw z refl
+unused_by slots free count n false true f z above e never = rw (z, above) refl
+unused_by slots free count n false false true z above e never = rw (z, above, e) refl
+unused_by slots free count n false false false z above e never = absurd (never (grind (arith, nat_tests), grind (arith, nat_tests), e))
+
+module _ (stored : List (List ℕ)) (slots : List (Option (List ℕ))) (free : List ℕ) (count : ℕ) (changed : Bool) (are : ArePages stored slots free count changed) where
+  used_written : (n : ℕ) → InUse free count n → to_write slots free count n ≡ at slots n
+  used_written n h = grind (arith, nat_tests, h.0, h.1, h.2)
+
+  unused_written : (n : ℕ) → (InUse free count n → ⊥) → to_write slots free count n ≡ None
+  unused_written n never = unused_by slots free count n (eqb n 0) (leb count n) (is_among free n) refl refl refl never
+
+  module _ (new : List (List ℕ)) (leaves : Leaves (to_write slots free count) count stored new) where
+    stays_by : (n : ℕ) (slot : Option (List ℕ)) → InUse free count n → at slots n ≡ slot → or_else slot (slice_get new n) ≡ or_else slot (slice_get stored n)
+    stays_by n (Some page) h is = refl
+    stays_by n None h is =
+        ⊎_elim (λ (below : n < length stored). leaves.others n h.0 below (used_written n h ∙ is))
+        (λ (past : length stored ≤ n). none_not_some (at slots n) is (are.there n (omega (arith, h.0)) h.1 h.2 past))
+        (cases_lt n (length stored))
+
+    stays : (n : ℕ) → at (pages_of new slots free count) n ≡ at (pages_of stored slots free count) n
+    stays n =
+        ⊎_elim (λ (h : InUse free count n). inside new slots free count n h ∙ ap (λ slot. or_else slot (slice_get new n)) refl ∙ stays_by n (at slots n) h refl ∙ sym (inside stored slots free count n h))
+        (λ (never : InUse free count n → ⊥). outside new slots free count n never ∙ sym (outside stored slots free count n never))
+        (use_of free count n)
+
+    -- the pages are the same where the changed ones are kept
+    pub pages_kept : pages_of new slots free count ≡ pages_of stored slots free count
+    pages_kept = ext_get_or None (pages_of new slots free count) (pages_of stored slots free count) (length-pages_of new slots free count ∙ sym (length-pages_of stored slots free count)) (λ n below. stays n)
+
+    -- a page that isn't in use isn't written
+    none_by : (n : ℕ) (slot : Option (List ℕ)) → InUse free count n → at slots n ≡ slot → or_else slot (slice_get stored n) ≡ None → to_write slots free count n ≡ None
+    none_by n (Some page) h is none = absurd (cc)
+    none_by n None h is none = used_written n h ∙ is
+
+    pub none_written : (n : ℕ) → at (pages_of stored slots free count) n ≡ None → to_write slots free count n ≡ None
+    none_written n none =
+        ⊎_elim (λ (h : InUse free count n). none_by n (at slots n) h refl (sym (inside stored slots free count n h) ∙ none))
+        (λ (never : InUse free count n → ⊥). unused_written n never)
+        (use_of free count n)
+
+    pub unwritten_pages : ((n : ℕ) → n ≢ 0 → to_write slots free count n ≡ None → slice_get new n ≡ slice_get (stored ++ blanks (count - length stored)) n) → (n : ℕ) → n ≢ 0 → at (pages_of stored slots free count) n ≡ None → slice_get new n ≡ slice_get (stored ++ blanks (length (pages_of stored slots free count) - length stored)) n
+    unwritten_pages same n some none =
+        same n some (none_written n none)
+        ∙ ap (λ k. slice_get (stored ++ blanks (k - length stored)) n) (sym (length-pages_of stored slots free count))
+
+    pub leaves_pages : Leaves (at (pages_of stored slots free count)) (length (pages_of stored slots free count)) stored new
+    leaves_pages = record {
+      longer = leaves.longer;
+      fits = let long = length-pages_of stored slots free count in omega (arith, leaves.fits);
+      others = λ n some below none. leaves.others n some below (none_written n none);
+    }
+
+    now_by : (n : ℕ) (slot : Option (List ℕ)) → AreStored (to_write slots free count) new → InUse free count n → at slots n ≡ slot → slice_get new n ≡ or_else slot (slice_get stored n)
+    now_by n None put h is = stays_by n None h is
+    now_by n (Some page) put h is =
+        let written : to_write slots free count n ≡ Some page = used_written n h ∙ is in
+        put n (subst IsSome (sym written) refl) ∙ written
+
+    now_stored : (n : ℕ) → AreStored (to_write slots free count) new → InUse free count n → slice_get new n ≡ at (pages_of stored slots free count) n
+    now_stored n put h = now_by n (at slots n) put h refl ∙ sym (inside stored slots free count n h)
+
+    -- each page in use is stored
+    pub all_stored : AreStored (to_write slots free count) new → AreStored (at (pages_of stored slots free count)) new
+    all_stored put n some = now_stored n put (in_use stored slots free count changed are n some)
+
+    pub stopped_pages : (mark : List ℕ) → Stopped (to_write slots free count) mark stored new → Stopped (at (pages_of stored slots free count)) mark stored new
+    stopped_pages mark (inl before) = inl before
+    stopped_pages mark (inr (inl marked)) = inr (inl marked)
+    stopped_pages mark (inr (inr put)) = inr (inr (all_stored put))
+
+    module _ (long : length new ≡ count) where
+      -- the same pages are in use where the changed ones are dropped
+      pub same_use : (n : ℕ) → is_some (at (pages_of new [] free count) n) ≡ is_some (at (pages_of stored slots free count) n)
+      same_use n =
+          ⊎_elim (λ (h : InUse free count n).
+          ap is_some (inside new [] free count n h ∙ slice_get-get_or new n [] (omega (arith, h.1)))
+          ∙ sym (ap is_some (at_below stored slots free count n h.1) ∙ bytes_of_used stored slots free count n changed are (omega (arith, h.0)) h.1 h.2))
+          (λ (never : InUse free count n → ⊥). ap is_some (outside new [] free count n never ∙ sym (outside stored slots free count n never)))
+          (use_of free count n)
+
+      pub same_free : free_numbers (pages_of new [] free count) ≡ free_numbers (pages_of stored slots free count)
+      same_free = same_free_numbers (pages_of new [] free count) (pages_of stored slots free count) (length-pages_of new [] free count ∙ sym (length-pages_of stored slots free count)) same_use
+
+      drop_at : AreStored (to_write slots free count) new → (n : ℕ) → at (pages_of new [] free count) n ≡ at (pages_of stored slots free count) n
+      drop_at put n =
+          ⊎_elim (λ (h : InUse free count n). inside new [] free count n h ∙ now_stored n put h)
+          (λ (never : InUse free count n → ⊥). outside new [] free count n never ∙ sym (outside stored slots free count n never))
+          (use_of free count n)
+
+      -- and so are their bytes where each was stored
+      pub pages_dropped : AreStored (to_write slots free count) new → pages_of new [] free count ≡ pages_of stored slots free count
+      pages_dropped put = ext_get_or None (pages_of new [] free count) (pages_of stored slots free count) (length-pages_of new [] free count ∙ sym (length-pages_of stored slots free count)) (λ n below. drop_at put n)

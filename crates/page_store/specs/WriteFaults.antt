@@ -1,0 +1,17 @@
+-- Which fault of a writing back an answer is.
+use Rattle.std.specs.Prelude.{Bool, true, false, Result, Ok, Err}
+use Rattle.page_store.specs.declared.answers.StoreFault.{StoreFault}
+use Rattle.page_store.specs.declared.answers.StoreFault.TheVariants.{Failed, Memory as NoMemory}
+use Rattle.page_store.specs.declared.edits.WriteFault.{WriteFault}
+use Rattle.page_store.specs.declared.edits.WriteFault.TheVariants.{Device, Memory}
+
+-- whether a call of the store failed
+abbrev pub by_device : {X : Type 0} → Result X WriteFault → Bool
+by_device (Ok x) = false
+by_device (Err Device) = true
+by_device (Err Memory) = false
+
+-- the fault that a fault of the store gives
+abbrev pub told : StoreFault → WriteFault
+told Failed = Device
+told NoMemory = Memory
