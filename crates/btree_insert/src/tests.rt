@@ -175,6 +175,8 @@ fn check_order(rt: &impl Abort, alloc: Global, order: u16, numbers: &[u16]) -> R
     for n in numbers {
         tree = put(rt, alloc, &mut pages, &tree, &n.to_be_bytes(), b"v")?.0;
     }
+    assert!(rt; 1 <= tree.order && tree.order <= 16 && tree.height <= 19);
+    assert!(rt; tree.count <= 1_000_000 && tree.used <= 1_000_000);
     let elements = walk_again(rt, alloc, &mut pages, &tree)?;
     assert_eq!(rt; (elements.len(), tree.count), (300, 300));
     for (element, n) in elements.iter().zip(0..300u16) {

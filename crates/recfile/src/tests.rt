@@ -1,5 +1,5 @@
 use crate::scripts::{ScriptFault, run_script};
-use rec_types::{LimitFault, Limits, SortedTable};
+use rec_types::{FlakyTable, Key, LimitFault, Limits, Record, SortedTable, Table};
 use record_file::RecordFile;
 use std::alloc::Global;
 use std::io;
@@ -15,17 +15,44 @@ fn empty_file(alloc: Global, limits: Limits) -> RecordFile<SortedTable> {
     RecordFile::new(alloc, SortedTable::new(alloc, limits), limits)
 }
 
-/// Runs the script over an empty file: its replies, and how it ended.
+/// Runs the script: its replies, and how it ended.
+fn run<T: Table>(
+    alloc: Global,
+    file: &mut RecordFile<T>,
+    script: &str,
+) -> Result<(String, Result<u32, ScriptFault>), Fail> {
+    let mut reader = script.as_bytes();
+    let mut out = Vec::new(alloc);
+    let end = run_script(alloc, &mut reader, &mut out, file);
+    Ok((String::from_utf8(out)?, end))
+}
+
+/// Runs the script over an empty file.
 fn replies_to(
     alloc: Global,
     limits: Limits,
     script: &str,
 ) -> Result<(String, Result<u32, ScriptFault>), Fail> {
     let mut file = empty_file(alloc, limits);
-    let mut reader = script.as_bytes();
-    let mut out = Vec::new(alloc);
-    let end = run_script(alloc, &mut reader, &mut out, &mut file);
-    Ok((String::from_utf8(out)?, end))
+    run(alloc, &mut file, script)
+}
+
+/// Runs the script over an empty table whose device fails at these calls of `set`.
+fn flaky_replies_to(
+    rt: &impl Abort,
+    alloc: Global,
+    limits: Limits,
+    numbers: &[u64],
+    script: &str,
+) -> Result<(String, Result<u32, ScriptFault>), Fail> {
+    let failing = match Vec::from_slice(alloc, numbers) {
+        Ok(failing) => failing,
+        Err(_) => Vec::from_slice(alloc, numbers)?,
+    };
+    let table = FlakyTable::new(SortedTable::new(alloc, limits), failing);
+    assert!(rt; table.limit() == limits.records());
+    let mut file = RecordFile::new(alloc, table, limits);
+    run(alloc, &mut file, script)
 }
 
 /// Expects the replies, each with its end, and this many commands, once more where memory was refused.
@@ -40,6 +67,28 @@ fn expect(
     let (text, end) = replies_to(alloc, limits, script)?;
     let (text, end) = if end.is_err() || text.contains("no Memory") {
         replies_to(alloc, limits, script)?
+    } else {
+        (text, end)
+    };
+    assert_eq!(rt; text.as_str(), replies);
+    assert_eq!(rt; end, Ok(commands));
+    Ok(())
+}
+
+/// Expects the replies over a table whose device fails at these calls of `set`, once more from the beginning where
+/// memory was refused.
+fn expect_flaky(
+    rt: &impl Abort,
+    alloc: Global,
+    limits: Limits,
+    numbers: &[u64],
+    script: &str,
+    replies: &str,
+    commands: u32,
+) -> Result<(), Fail> {
+    let (text, end) = flaky_replies_to(rt, alloc, limits, numbers, script)?;
+    let (text, end) = if end.is_err() || text.contains("Memory") {
+        flaky_replies_to(rt, alloc, limits, numbers, script)?
     } else {
         (text, end)
     };
@@ -262,6 +311,151 @@ fn the_first_refusal_is_answered(rt: HostRuntime) -> Result<(), Fail> {
         "ok 1\nok 2\nok none\nno Held 1\nno Held 1\nno Held 1\nno LogFull\nno LogFull\nno NoSuchTx\nno NoSuchTx\nno NoSuchTx\nno NoSuchTx\nno NoSuchTx\nno NoSuchSave\nno NoSuchSave\nno NoSuchTx\nok 3\nno BeginsSpent\n",
         18,
     )
+}
+
+#[test]
+fn a_stopped_rollback_goes_on(rt: HostRuntime) -> Result<(), Fail> {
+    expect_flaky(
+        &rt,
+        rt.alloc(),
+        greatest()?,
+        &[5],
+        "begin\nbegin\nput 1 a =1\nput 1 b =2\nput 1 c =3\nback 1 0\nput 1 d =4\nput 2 e =5\nput 2 b =9\nput 2 c =9\nresume 1\nlist\nlog\ncommit 1\n",
+        "ok 1\nok 2\nok none\nok none\nok none\nstopped 1 2 Device\nno Rolling\nok none\nno Held 1\nok none\nok 2\n- c =9 @2\n- e =5 @2\nok 2\nok 8 10\nok\n",
+        14,
+    )?;
+    expect_flaky(
+        &rt,
+        rt.alloc(),
+        greatest()?,
+        &[1, 3, 4, 5],
+        "begin\nput 1 a =x\nput 1 a =x\nback 1 0\nlist\nresume 1\nresume 1\nresume 1\nlist\nlog\n",
+        "ok 1\nno Device\nok none\nstopped 0 1 Device\n- a =x @1\nok 1\nstopped 0 1 Device\nstopped 0 1 Device\nok 1\nok 0\nok 2 2\n",
+        10,
+    )?;
+    expect_flaky(
+        &rt,
+        rt.alloc(),
+        greatest()?,
+        &[2],
+        "begin\nput 1 a =x\nabort 1\nget 1 a\nback 1 0\ncommit 1\nabort 1\nresume 1\nresume 1\n",
+        "ok 1\nok none\nstopped 0 1 Device\nno Rolling\nno Rolling\nno Rolling\nno Rolling\nok 1\nno NoSuchTx\n",
+        9,
+    )
+}
+
+// Another transaction holds b, the log has no room, the file is full, c has no record, and the transaction has 32
+// savepoints.
+#[test]
+fn rolling_is_the_first_refusal(rt: HostRuntime) -> Result<(), Fail> {
+    let alloc = rt.alloc();
+    let mut script = String::new(alloc);
+    let mut replies = String::new(alloc);
+    script.push_str("begin\nbegin\n")?;
+    replies.push_str("ok 1\nok 2\n")?;
+    for n in 1..33 {
+        script.push_str("save 1\n")?;
+        writeln!(replies, "ok {n}")?;
+    }
+    script.push_str("put 1 a =x\nput 2 b =x\nback 1 32\nlog\n")?;
+    replies.push_str("ok none\nok none\nstopped 0 1 Device\nok 2 4\n")?;
+    script.push_str(
+        "put 1 b =x\nput 1 c =x\ndel 1 b\ndel 1 c\nget 1 b\nsave 1\nrelease 1 0\nback 1 99\n",
+    )?;
+    replies.push_str(
+        "no Rolling\nno Rolling\nno Rolling\nno Rolling\nno Rolling\nno Rolling\nno Rolling\nno Rolling\n",
+    )?;
+    script.push_str("resume 1\nsave 1\n")?;
+    replies.push_str("ok 1\nno TooDeep\n")?;
+    expect_flaky(
+        &rt,
+        alloc,
+        Limits::new(2, 4, 2)?,
+        &[3],
+        &script,
+        &replies,
+        48,
+    )
+}
+
+#[test]
+fn held_comes_before_what_the_table_decides(rt: HostRuntime) -> Result<(), Fail> {
+    expect(
+        &rt,
+        rt.alloc(),
+        Limits::new(1, 2, 2)?,
+        "begin\nbegin\nput 1 a =x\nput 2 a =x\ndel 2 a\nput 2 c =x\ndel 2 c\n",
+        "ok 1\nok 2\nok none\nno Held 1\nno Held 1\nno LogFull\nno LogFull\n",
+        7,
+    )?;
+    expect(
+        &rt,
+        rt.alloc(),
+        Limits::new(1, 9, 2)?,
+        "begin\nbegin\nput 1 a =x\ndel 1 a\nput 2 a =x\ndel 2 a\nput 2 c =x\ndel 2 c\n",
+        "ok 1\nok 2\nok none\nok =x\nno Held 1\nno Held 1\nno Full\nno Absent\n",
+        8,
+    )
+}
+
+/// A table with a thousand records: at the key k1000 the record 1000, and so on.
+fn thousand_records(rt: &impl Abort, alloc: Global) -> Result<SortedTable, Fail> {
+    let limits = greatest()?;
+    let mut table = SortedTable::new(alloc, limits);
+    for n in 1000..2000u32 {
+        let mut text = String::new(alloc);
+        writeln!(text, "k{n}")?;
+        let key = Key::new(&text.as_bytes()[..5])?;
+        let value = Record::new(&text.as_bytes()[1..5])?;
+        assert_eq!(rt; table.set(key, Some(value))?, None);
+    }
+    assert!(rt; table.limit() == limits.records());
+    Ok(table)
+}
+
+/// Changes a thousand keys, a third of them twice, takes all back, and lists what is left; and the replies.
+fn changes_and_back(alloc: Global) -> Result<(String, String), Fail> {
+    let mut script = String::new(alloc);
+    let mut replies = String::new(alloc);
+    let mut list = String::new(alloc);
+    script.push_str("begin\n")?;
+    replies.push_str("ok 1\n")?;
+    for n in 1000..2000u32 {
+        match n % 3 {
+            0 => {
+                writeln!(script, "put 1 k{n} =new\ndel 1 k{n}")?;
+                writeln!(replies, "ok ={n}\nok =new")?;
+            }
+            1 => {
+                writeln!(script, "del 1 k{n}")?;
+                writeln!(replies, "ok ={n}")?;
+            }
+            _ => {
+                writeln!(script, "put 1 n{n} =new")?;
+                replies.push_str("ok none\n")?;
+            }
+        }
+        writeln!(list, "- k{n} ={n}")?;
+    }
+    script.push_str("back 1 0\nlist\nlog\n")?;
+    replies.push_str("ok 1333\n")?;
+    replies.push_str(&list)?;
+    replies.push_str("ok 1000\nok 2666 2666\n")?;
+    Ok((script, replies))
+}
+
+#[test]
+fn a_rollback_over_a_table_of_a_thousand_records(rt: HostRuntime) -> Result<(), Fail> {
+    let alloc = rt.alloc();
+    let limits = greatest()?;
+    let table = thousand_records(&rt, alloc)?;
+    assert!(rt; table.limit() == limits.records());
+    let mut file = RecordFile::new(alloc, table, limits);
+    let (script, replies) = changes_and_back(alloc)?;
+    let (text, end) = run(alloc, &mut file, &script)?;
+    assert_eq!(rt; text.as_str(), replies.as_str());
+    assert_eq!(rt; end, Ok(1337));
+    Ok(())
 }
 
 /// A writer that refuses every write after so many.
