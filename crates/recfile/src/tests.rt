@@ -403,10 +403,11 @@ fn thousand_records(rt: &impl Abort, alloc: Global) -> Result<SortedTable, Fail>
     let limits = greatest()?;
     let mut table = SortedTable::new(alloc, limits);
     for n in 1000..2000u32 {
-        let mut text = String::new(alloc);
-        writeln!(text, "k{n}")?;
-        let key = Key::new(&text.as_bytes()[..5])?;
-        let value = Record::new(&text.as_bytes()[1..5])?;
+        let mut key = String::new(alloc);
+        let mut value = String::new(alloc);
+        write!(key, "k{n}")?;
+        write!(value, "{n}")?;
+        let (key, value) = (Key::new(key.as_bytes())?, Record::new(value.as_bytes())?);
         assert_eq!(rt; table.set(key, Some(value))?, None);
     }
     assert!(rt; table.limit() == limits.records());
