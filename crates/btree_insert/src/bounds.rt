@@ -7,9 +7,11 @@ use rec_types::{Key, Record};
 /// What all levels above say of the keys of a page: they are strictly between these, where there is
 /// a key.
 #[derive(Clone, Copy)]
-pub(crate) struct Bounds {
-    pub(crate) low: Option<Key>,
-    pub(crate) high: Option<Key>,
+pub struct Bounds {
+    /// The keys are above this one.
+    pub low: Option<Key>,
+    /// The keys are below this one.
+    pub high: Option<Key>,
 }
 
 fn is_over(low: &Option<Key>, key: &Key) -> bool
@@ -48,8 +50,9 @@ pub(crate) fn are_within(bounds: &Bounds, elements: &[(Key, Record)]) -> bool
     is_over(&bounds.low, &first) && is_under(&bounds.high, &last)
 }
 
-/// The bounds of the son at a place of a page with these elements.
-pub(crate) fn bounds_of_son(bounds: &Bounds, elements: &[(Key, Record)], i: usize) -> Bounds
+/// The bounds of the son at place i of a page with these elements, where i is at most their number:
+/// the keys on its two sides, or where there is none, what bounds the page.
+pub fn bounds_of_son(bounds: &Bounds, elements: &[(Key, Record)], i: usize) -> Bounds
     requires { i ≤ length elements.now }
     ensures { result ≡ son_bounds elements.now i bounds.now }
 {

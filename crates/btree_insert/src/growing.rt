@@ -31,8 +31,9 @@ pub(crate) enum Grown {
     Split((Key, Record), u32),
 }
 
-/// Adds a page to the edit. Fault: Memory.
-pub(crate) fn write_node(edit: &mut PageEdit, order: u16, n: u32, node: &Node) -> Result<(), Memory>
+/// Adds a node to the edit as page n. The conditions are an order of at most 16 and a node that fits a
+/// page. Fault: Memory.
+pub fn write_node(edit: &mut PageEdit, order: u16, n: u32, node: &Node) -> Result<(), Memory>
     requires order { order ≤ 16 }
     requires stands { CanStand node.now order }
     ensures writes { OnOk result (edit.new.writes.items
@@ -81,8 +82,8 @@ fn settle<S: Store>(
     Ok(Grown::Split(middle, number))
 }
 
-/// Whether the page was met before.
-fn was_met(met: &[u32], n: u32) -> bool
+/// Whether page n was met before.
+pub fn was_met(met: &[u32], n: u32) -> bool
     ensures { result ≡ list_any (λ m. m == n) met.now }
 {
     met.contains(&n)
@@ -158,7 +159,7 @@ pub(crate) fn grow_below<S: Store>(
 }
 
 /// Has a proof learn how long a key and a record are.
-pub(crate) fn element_fits(element: &(Key, Record))
+pub fn element_fits(element: &(Key, Record))
     ensures { ElementFits first_layout element.now }
 {
     let _key = element.0.bytes();

@@ -12,7 +12,10 @@ mod tests;
 mod trees;
 mod walking;
 
+pub use bounds::{Bounds, bounds_of_son};
 pub use finding::find;
+pub use growing::{element_fits, was_met, write_node};
 pub use inserting::insert;
+pub use reading::{kind_of_level, read_node};
 pub use trees::{Tree, TreeFault};
 pub use walking::walk;

@@ -12,9 +12,10 @@ use crate::trees::TreeFault;
 use btree_node::{Node, NodeKind, decode};
 use page_store::{FetchFault, Pages, Store};
 
-/// The node of page n, which is of a kind and has its keys within the bounds. Faults: Device, and
-/// Damaged(n) where the page is not in use or spells no such node.
-pub(crate) fn read_node<S: Store>(
+/// The node of page n, which is of a kind and has its keys within the bounds. The condition is an
+/// order of at most 16. Faults: Device, and Damaged(n) where the page is not in use or spells no such
+/// node. No page changes.
+pub fn read_node<S: Store>(
     pages: &mut Pages<S>,
     order: u16,
     kind: NodeKind,
@@ -49,7 +50,7 @@ pub(crate) fn read_node<S: Store>(
 }
 
 /// Which kind of page stands at a level, where level 1 is the lowest.
-pub(crate) fn kind_of_level(level: u32) -> NodeKind
+pub fn kind_of_level(level: u32) -> NodeKind
     ensures { result ≡ kind_of_level level }
 {
     if level == 1 {

@@ -1,0 +1,15 @@
+pub mod TidyFacts
+pub mod AfterFacts
+pub mod LeftFacts
+pub mod PairFacts
+pub mod ThinFacts
+pub mod KinFacts
+pub mod MendFacts
+pub mod AskFacts
+pub mod RemoveFacts
+pub mod ShortFacts
+pub mod StepFacts
+pub mod TakeFacts
+pub mod CallFacts
+pub mod DropFacts
+pub mod RootFacts

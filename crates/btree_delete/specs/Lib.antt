@@ -1,0 +1,6 @@
+pub mod Removal
+pub mod Left
+pub mod Deleted
+pub mod Tidy
+pub mod Shrinking
+pub mod Mending

@@ -1,0 +1,197 @@
+ghost use Rattle.std.specs.Prelude.{◌≡◌, ◌+◌, ◌-◌, ◌*◌, ◌<◌, ◌≤◌, ◌⊎◌, ℕ, List, Some, None, true, false, IsTrue, IsSome, IfOk, IfErr, OnErr, OnOk, MatchResult, length};
+ghost use Rattle.rec_types.specs.Table.{counted};
+ghost use Rattle.page_store.specs.PageMap.{at, after};
+ghost use Rattle.btree_node.specs.Lists.{Element};
+ghost use Rattle.btree_insert.specs.Faults.{is_device};
+ghost use Rattle.btree_insert.specs.Growth.{IsOutside};
+ghost use Rattle.btree_insert.specs.PageTrees.{Holds};
+ghost use Rattle.btree_insert.specs.Contents.{lookup_in};
+ghost use Rattle.page_store.specs.CanStage.{CanStage};
+ghost use Rattle.btree_delete.specs.Deleted.{Deleted};
+ghost use Rattle.btree_delete.specs.Mending.{son_at};
+ghost use Rattle.btree_delete.specs.Removal.{remove_in};
+ghost use Rattle.btree_delete.specs.Shrinking.{IsThin, GoesUp, Leaves, ShrinksRoot, gone};
+ghost use Rattle.btree_insert.specs.declared.bounds.Bounds.{Bounds};
+ghost use Rattle.btree_delete.specs.Tidy.{is_met, IsTidy};
+
+use crate::mending::free_page;
+use crate::shrinking::{Shrunk, delete_below};
+use arrayvec::ArrayVec;
+use btree_insert::{Bounds, Tree, TreeFault, write_node};
+use btree_node::Node;
+use page_store::{PageEdit, Pages, Store};
+use rec_types::{Key, Memory, Record};
+use std::alloc::Global;
+
+/// Son 0 of a node, 0 where it is a leaf.
+fn first_son(node: &Node) -> u32
+    ensures { result ≡ son_at node.now 0 }
+{
+    if node.sons.is_empty() {
+        0
+    } else {
+        node.sons[0]
+    }
+}
+
+/// The tree with one key less, and with so many pages less. Fault: Damaged with the page, where the
+/// tree says that it has no key, or fewer pages.
+fn fewer(tree: &Tree, page: u32, freed: usize) -> Result<Tree, TreeFault>
+    ensures value { IfOk result (λ next. next
+        ≡ record tree.now { count = tree.now.count - 1; used = tree.now.used - freed }) }
+    ensures enough { OnOk result ((1 ≤ tree.now.count) × (freed ≤ tree.now.used)) }
+    ensures fault { IfErr result (λ fault. (fault ≡ TreeFault.Damaged page)
+        × ((tree.now.count ≡ 0) ⊎ (tree.now.used < freed))) }
+{
+    if tree.count == 0 || (tree.used as usize) < freed {
+        return Err(TreeFault::Damaged(page));
+    }
+    Ok(Tree {
+        count: tree.count - 1,
+        used: tree.used - freed as u32,
+        ..*tree
+    })
+}
+
+/// Writes the short node of the root. A root without a key is freed: its one son is the root, or the
+/// tree is empty.
+fn shrink_root(edit: &mut PageEdit, tree: &Tree, node: &Node) -> Result<Tree, Memory>
+    requires some_order { 1 ≤ tree.now.order }
+    requires most_order { tree.now.order ≤ 16 }
+    requires height { 0 < tree.now.height }
+    requires thin { (height : ℕ) × (bounds : Bounds) × IsThin tree.now.order height bounds node.now }
+    ensures shrinks { IfOk result (λ next. ShrinksRoot tree.now next node.now
+        edit.old.writes.items edit.new.writes.items edit.old.freed.items edit.new.freed.items) }
+    ensures taken { edit.new.taken ≡ edit.old.taken }
+{
+    if node.elements.is_empty() {
+        free_page(edit, tree.root)?;
+        return Ok(Tree {
+            root: first_son(node),
+            height: tree.height - 1,
+            ..*tree
+        });
+    }
+    write_node(edit, tree.order, tree.root, node)?;
+    Ok(*tree)
+}
+
+/// The tree and what stood at the key, after an element was taken out below the root. Faults: Memory;
+/// Damaged with the root where the tree says that it has no key, or fewer pages than are freed.
+fn shrink_tree<S: Store>(
+    pages: &Pages<S>,
+    edit: &mut PageEdit,
+    tree: &Tree,
+    shrunk: Shrunk,
+) -> Result<(Tree, Option<Record>), TreeFault>
+    requires some_order { 1 ≤ tree.now.order }
+    requires most_order { tree.now.order ≤ 16 }
+    requires height { 0 < tree.now.height }
+    requires in_use { IsSome (at pages.now.pages tree.now.root) }
+    requires tidy { (met : List ℕ) × (is_met met tree.now.root ≡ true)
+        × IsTidy pages.now.pages met edit.old.writes.items edit.old.freed.items }
+    requires up { GoesUp tree.now.order tree.now.height (record { low = None; high = None }) tree.now.root
+        edit.old.writes.items edit.old.freed.items shrunk }
+    requires none_taken { edit.old.taken ≡ 0 }
+    ensures deleted { (es : List Element) (us key : List ℕ) → Holds (at pages.now.pages) tree.now es us
+        → lookup_in key es ≡ Some (gone shrunk).1
+        → Leaves tree.now.order (at pages.now.pages) (after (at pages.now.pages) edit.old.writes.items edit.old.freed.items)
+        0 (length edit.old.freed.items) 1 (tree.now.height - 1) tree.now.root us (remove_in key es) shrunk
+        → MatchResult result
+        (λ r. Deleted (at pages.now.pages) (after (at pages.now.pages) edit.new.writes.items edit.new.freed.items)
+        tree.now r.0 es us key r.1)
+        IsOutside }
+    ensures fits { OnOk result
+        (CanStage pages.now.pages edit.new.writes.items edit.new.taken edit.new.freed.items) }
+    ensures none_taken { edit.new.taken ≡ 0 }
+    ensures some { IfOk result (λ r. IsSome r.1) }
+    ensures height { IfOk result (λ r. r.0.height ≤ tree.now.height) }
+    ensures count { IfOk result (λ r. r.0.count ≤ tree.now.count) }
+    ensures used { IfOk result (λ r. r.0.used ≤ tree.now.used) }
+    ensures order { IfOk result (λ r. r.0.order ≡ tree.now.order) }
+    ensures no_device { is_device result ≡ false }
+{
+    let _count = pages.page_count();
+    match shrunk {
+        Shrunk::Whole(removed) => {
+            let next = fewer(tree, tree.root, edit.freed.len())?;
+            Ok((next, Some(removed.1)))
+        }
+        Shrunk::Short(removed, node) => {
+            let shrunk = shrink_root(edit, tree, &node)?;
+            let next = fewer(&shrunk, tree.root, edit.freed.len())?;
+            Ok((next, Some(removed.1)))
+        }
+    }
+}
+
+/// Takes the key out, and answers the new tree and the record that stood there; an absent key answers
+/// `None`, and nothing changes. The conditions are an order from 1 to 16, a height of at most 19, and
+/// a `count` and a `used` of at most 1,000,000. It reads each page of the path to the key once, and
+/// one brother at most of each page below the root. Faults: Device; Damaged with the page that is not
+/// in use, spells no node of the order, is of a kind that does not fit its level, has a key that is not
+/// strictly between the bounds from all levels above, or is met twice; Damaged with the root where
+/// `count` or `used` would pass 0; Memory. After a fault no page has changed.
+pub fn delete<S: Store>(
+    alloc: Global,
+    pages: &mut Pages<S>,
+    tree: &Tree,
+    key: &Key,
+) -> Result<(Tree, Option<Record>), TreeFault>
+    requires some_order { 1 ≤ tree.now.order }
+    requires most_order { tree.now.order ≤ 16 }
+    requires height { tree.now.height ≤ 19 }
+    requires count { tree.now.count ≤ 1000000 }
+    requires used { tree.now.used ≤ 1000000 }
+    ensures deleted { IsTrue pages.old.steady → (es : List Element) (us : List ℕ)
+        → Holds (at pages.old.pages) tree.now es us
+        → MatchResult result
+        (λ r. Deleted (at pages.old.pages) (at pages.new.pages) tree.now r.0 es us key.now r.1)
+        IsOutside }
+    ensures height { IfOk result (λ r. r.0.height ≤ tree.now.height) }
+    ensures count { IfOk result (λ r. r.0.count ≤ tree.now.count) }
+    ensures used { IfOk result (λ r. r.0.used ≤ tree.now.used) }
+    ensures order { IfOk result (λ r. r.0.order ≡ tree.now.order) }
+    ensures absent { IfOk result (λ r. r.1 ≡ None → (r.0 ≡ tree.now) × (pages.new.pages ≡ pages.old.pages) × (pages.new.changed ≡ pages.old.changed)) }
+    ensures page_count { length pages.new.pages ≡ length pages.old.pages }
+    ensures device { pages.new.failures ≡ counted pages.old.failures (is_device result) }
+    ensures err { OnErr result (pages.new
+        ≡ record pages.old { reads = pages.new.reads; failures = pages.new.failures }) }
+    ensures store { pages.new ≡ record pages.old {
+      pages = pages.new.pages;
+      changed = pages.new.changed;
+      reads = pages.new.reads;
+      failures = pages.new.failures;
+    } }
+    ensures reads { pages.new.reads ≤ pages.old.reads + (2 * tree.now.height - 1) }
+{
+    if tree.height == 0 {
+        return Ok((*tree, None));
+    }
+    let mut edit = PageEdit {
+        writes: Vec::new(alloc),
+        taken: 0,
+        freed: Vec::new(alloc),
+    };
+    let bounds = Bounds {
+        low: None,
+        high: None,
+    };
+    let mut met = ArrayVec::new();
+    let shrunk = delete_below(
+        pages,
+        &mut edit,
+        &mut met,
+        tree.order,
+        tree.height,
+        tree.root,
+        &bounds,
+        key,
+    )?;
+    let Some(shrunk) = shrunk else {
+        return Ok((*tree, None));
+    };
+    let shrunk = shrink_tree(pages, &mut edit, tree, shrunk)?;
+    pages.stage(edit)?;
+    Ok(shrunk)
+}

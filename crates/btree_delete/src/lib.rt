@@ -1,0 +1,11 @@
+//! Deletion from a B-tree in the pages of a store.
+#![tactic(auto)]
+
+mod deleting;
+mod mending;
+mod shrinking;
+#[cfg(test)]
+mod tests;
+mod visiting;
+
+pub use deleting::delete;
