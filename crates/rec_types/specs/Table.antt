@@ -17,6 +17,31 @@ is_memory (Err (Damaged page)) = false
 is_memory (Err NoRoom) = false
 is_memory (Err Memory) = true
 
+-- the greatest number of 64 bits
+abbrev pub greatest_count : ℕ
+greatest_count = 18446744073709551615
+
 -- A number counted in 64 bits, one more where the test holds. It stays at the greatest value.
 abbrev pub counted : ℕ → Bool → ℕ
-counted n b = if b && nat_lt n 18446744073709551615 then n + 1 else n
+counted n b = if b && nat_lt n greatest_count then n + 1 else n
+
+-- how many answers were Damaged, and which page the last of them named
+pub record Damages : Type 0 where
+  pub count : ℕ
+  pub page : ℕ
+
+-- no answer was Damaged
+abbrev pub no_damage : Damages
+no_damage = record { count = 0; page = 0 }
+
+-- one more answer was Damaged, and named the page
+abbrev pub damaged_at : Damages → ℕ → Damages
+damaged_at d page = record { count = counted d.count true; page = page }
+
+-- what a table has told of damaged pages after this answer
+abbrev pub damaged_by : {A : Type 0} → Damages → Result A TableFault → Damages
+damaged_by d (Ok x) = d
+damaged_by d (Err Device) = d
+damaged_by d (Err (Damaged page)) = damaged_at d page
+damaged_by d (Err NoRoom) = d
+damaged_by d (Err Memory) = d

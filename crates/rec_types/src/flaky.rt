@@ -2,7 +2,7 @@ ghost use Rattle.std.specs.Prelude.{◌≡◌, ◌≢◌, ℕ, ◌≤◌, IsTrue
 ghost use Rattle.std.specs.FinMap as maps;
 ghost use Rattle.rec_types.specs.Contents.{set_to};
 ghost use Rattle.rec_types.specs.Flaky.{fails_next, with_set, failures_of};
-ghost use Rattle.rec_types.specs.Table.{is_device, is_memory, counted};
+ghost use Rattle.rec_types.specs.Table.{is_device, is_memory, counted, damaged_by};
 
 use crate::{Key, Record, Table, TableFault};
 use std::marker::Model;
@@ -55,8 +55,8 @@ impl<T: Table> FlakyTable<T> {
     }
 }
 
-// A method's clauses stand in place of its trait's, so these are written again before those that tell of the calls
-// that fail.
+// A method's clauses stand in place of its trait's, so these are written again before those that tell
+// of the calls that fail.
 impl<T: Table> Table for FlakyTable<T> {
     ghost contents = { λ t. T.contents t.inner };
 
@@ -68,40 +68,65 @@ impl<T: Table> Table for FlakyTable<T> {
 
     ghost memory_refusals = { λ t. T.memory_refusals t.inner };
 
+    ghost damages = { λ t. T.damages t.inner };
+
     /// The record at the key. Faults: those of the table below. It takes no memory.
     fn get(&mut self, key: &Key) -> Result<Option<Record>, TableFault>
-        ensures value { IsTrue (T.sound self.old.inner) → IfOk result (λ found. found ≡ maps.get (T.contents self.old.inner) key.now) }
+        ensures value { IsTrue (T.sound self.old.inner)
+            → IfOk result (λ found. found ≡ maps.get (T.contents self.old.inner) key.now) }
         ensures same { T.contents self.new.inner ≡ T.contents self.old.inner }
         ensures no_memory { result ≢ Err TableFault.Memory }
         ensures no_room { result ≢ Err TableFault.NoRoom }
-        ensures damaged { IsTrue (T.sound self.old.inner) → (page : ℕ) → result ≢ Err (TableFault.Damaged page) }
+        ensures damaged { IsTrue (T.sound self.old.inner)
+            → (page : ℕ) → result ≢ Err (TableFault.Damaged page) }
         ensures limit { T.record_limit self.new.inner ≡ T.record_limit self.old.inner }
         ensures soundness { T.sound self.new.inner ≡ T.sound self.old.inner }
-        ensures device { failures_of T.device_failures self.new ≡ counted (failures_of T.device_failures self.old) (is_device result) }
+        ensures device { failures_of T.device_failures self.new
+            ≡ counted (failures_of T.device_failures self.old) (is_device result) }
         ensures memory { T.memory_refusals self.new.inner ≡ T.memory_refusals self.old.inner }
-        ensures inner { T.device_failures self.new.inner ≡ counted (T.device_failures self.old.inner) (is_device result) }
+        ensures damages { T.damages self.new.inner
+            ≡ damaged_by (T.damages self.old.inner) result }
+        ensures inner { T.device_failures self.new.inner
+            ≡ counted (T.device_failures self.old.inner) (is_device result) }
         ensures rest { self.new ≡ record self.old { inner = self.new.inner } }
     {
         self.inner.get(key)
     }
 
-    /// Puts a record at the key, or takes the key out, and answers what stood there before. Faults: Device at the
-    /// chosen calls, and those of the table below. A chosen call leaves the table below it as it was.
+    /// Puts a record at the key, or takes the key out, and answers what stood there before. Faults:
+    /// Device at the chosen calls, and those of the table below. A chosen call leaves the table below
+    /// it as it was.
     fn set(&mut self, key: Key, to: Option<Record>) -> Result<Option<Record>, TableFault>
-        ensures value { IsTrue (T.sound self.old.inner) → IfOk result (λ before. before ≡ maps.get (T.contents self.old.inner) key) }
-        ensures ok { OnOk result (T.contents self.new.inner ≡ set_to (T.contents self.old.inner) key to) }
+        ensures value { IsTrue (T.sound self.old.inner)
+            → IfOk result (λ before. before ≡ maps.get (T.contents self.old.inner) key) }
+        ensures ok { IsTrue (T.sound self.old.inner)
+            → OnOk result (T.contents self.new.inner ≡ set_to (T.contents self.old.inner) key to) }
         ensures err { OnErr result (T.contents self.new.inner ≡ T.contents self.old.inner) }
-        ensures no_room { IsTrue (T.sound self.old.inner) → result ≡ Err TableFault.NoRoom → IsSome to × (maps.get (T.contents self.old.inner) key ≡ None) × (T.record_limit self.old.inner ≤ maps.len (T.contents self.old.inner)) }
-        ensures full { IsTrue (T.sound self.old.inner) → IsSome to → maps.get (T.contents self.old.inner) key ≡ None → T.record_limit self.old.inner ≤ maps.len (T.contents self.old.inner) → is_device result ≡ false → result ≡ Err TableFault.NoRoom }
-        ensures taken_out_none { to ≡ None → result ≡ Ok None → T.contents self.new.inner ≡ T.contents self.old.inner }
-        ensures damaged { IsTrue (T.sound self.old.inner) → (page : ℕ) → result ≢ Err (TableFault.Damaged page) }
+        ensures no_room { IsTrue (T.sound self.old.inner) → result ≡ Err TableFault.NoRoom
+            → IsSome to × (maps.get (T.contents self.old.inner) key ≡ None)
+            × (T.record_limit self.old.inner ≤ maps.len (T.contents self.old.inner)) }
+        ensures full { IsTrue (T.sound self.old.inner) → IsSome to
+            → maps.get (T.contents self.old.inner) key ≡ None
+            → T.record_limit self.old.inner ≤ maps.len (T.contents self.old.inner)
+            → is_device result ≡ false → result ≡ Err TableFault.NoRoom }
+        ensures taken_out_none { to ≡ None → result ≡ Ok None
+            → T.contents self.new.inner ≡ T.contents self.old.inner }
+        ensures damaged { IsTrue (T.sound self.old.inner)
+            → (page : ℕ) → result ≢ Err (TableFault.Damaged page) }
         ensures limit { T.record_limit self.new.inner ≡ T.record_limit self.old.inner }
         ensures soundness { T.sound self.new.inner ≡ T.sound self.old.inner }
-        ensures device { failures_of T.device_failures self.new ≡ counted (failures_of T.device_failures self.old) (is_device result) }
-        ensures memory { T.memory_refusals self.new.inner ≡ counted (T.memory_refusals self.old.inner) (is_memory result) }
-        ensures fails { IsTrue (fails_next self.old) → (result ≡ Err TableFault.Device) × (self.new.inner ≡ self.old.inner) }
-        ensures passes { fails_next self.old ≡ false → T.device_failures self.new.inner ≡ counted (T.device_failures self.old.inner) (is_device result) }
-        ensures rest { self.new ≡ record (with_set self.old (fails_next self.old)) { inner = self.new.inner } }
+        ensures device { failures_of T.device_failures self.new
+            ≡ counted (failures_of T.device_failures self.old) (is_device result) }
+        ensures memory { T.memory_refusals self.new.inner
+            ≡ counted (T.memory_refusals self.old.inner) (is_memory result) }
+        ensures damages { T.damages self.new.inner
+            ≡ damaged_by (T.damages self.old.inner) result }
+        ensures fails { IsTrue (fails_next self.old)
+            → (result ≡ Err TableFault.Device) × (self.new.inner ≡ self.old.inner) }
+        ensures passes { fails_next self.old ≡ false → T.device_failures self.new.inner
+            ≡ counted (T.device_failures self.old.inner) (is_device result) }
+        ensures rest { self.new
+            ≡ record (with_set self.old (fails_next self.old)) { inner = self.new.inner } }
     {
         if self.fails_now() {
             return Err(TableFault::Device);
@@ -111,15 +136,22 @@ impl<T: Table> Table for FlakyTable<T> {
 
     /// The records in key order. Faults: those of the table below.
     fn entries(&mut self) -> Result<Vec<(Key, Record)>, TableFault>
-        ensures value { IsTrue (T.sound self.old.inner) → IfOk result (λ records. records.items ≡ maps.entries (T.contents self.old.inner)) }
+        ensures value { IsTrue (T.sound self.old.inner)
+            → IfOk result (λ records. records.items ≡ maps.entries (T.contents self.old.inner)) }
         ensures same { T.contents self.new.inner ≡ T.contents self.old.inner }
         ensures no_room { result ≢ Err TableFault.NoRoom }
-        ensures damaged { IsTrue (T.sound self.old.inner) → (page : ℕ) → result ≢ Err (TableFault.Damaged page) }
+        ensures damaged { IsTrue (T.sound self.old.inner)
+            → (page : ℕ) → result ≢ Err (TableFault.Damaged page) }
         ensures limit { T.record_limit self.new.inner ≡ T.record_limit self.old.inner }
         ensures soundness { T.sound self.new.inner ≡ T.sound self.old.inner }
-        ensures device { failures_of T.device_failures self.new ≡ counted (failures_of T.device_failures self.old) (is_device result) }
-        ensures memory { T.memory_refusals self.new.inner ≡ counted (T.memory_refusals self.old.inner) (is_memory result) }
-        ensures inner { T.device_failures self.new.inner ≡ counted (T.device_failures self.old.inner) (is_device result) }
+        ensures device { failures_of T.device_failures self.new
+            ≡ counted (failures_of T.device_failures self.old) (is_device result) }
+        ensures memory { T.memory_refusals self.new.inner
+            ≡ counted (T.memory_refusals self.old.inner) (is_memory result) }
+        ensures damages { T.damages self.new.inner
+            ≡ damaged_by (T.damages self.old.inner) result }
+        ensures inner { T.device_failures self.new.inner
+            ≡ counted (T.device_failures self.old.inner) (is_device result) }
         ensures rest { self.new ≡ record self.old { inner = self.new.inner } }
     {
         self.inner.entries()

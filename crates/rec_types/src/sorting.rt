@@ -1,5 +1,7 @@
-ghost use Rattle.std.specs.Prelude.{◌≡◌, IfOk, IfErr};
+ghost use Rattle.std.specs.Prelude.{◌≡◌, ◌≢◌, ℕ, ◌≤◌, None, Ok, Err, false, IsOk, IsSome, IfOk, IfErr, OnOk, OnErr};
 ghost use Rattle.std.specs.FinMap as maps;
+ghost use Rattle.rec_types.specs.Contents.{set_to};
+ghost use Rattle.rec_types.specs.Table.{is_device, is_memory, counted};
 ghost use Rattle.rec_types.specs.Sorted.{is_sorted, IsAt, IsGapFor, SortedState};
 
 use crate::{Key, Limits, Record, Table, TableFault};
@@ -54,6 +56,7 @@ fn search(records: &[(Key, Record)], key: &Key) -> Result<usize, usize>
 
 impl Table for SortedTable {
     ghost use Rattle.std.specs.Prelude.{true};
+    ghost use Rattle.rec_types.specs.Table.{no_damage};
 
     ghost contents = { λ t. t.contents };
 
@@ -65,6 +68,8 @@ impl Table for SortedTable {
 
     ghost memory_refusals = { λ t. t.refusals };
 
+    ghost damages = { λ _. no_damage };
+
     fn get(&mut self, key: &Key) -> Result<Option<Record>, TableFault> {
         match search(&self.records, key) {
             Ok(at) => Ok(Some(self.records[at].1)),
@@ -72,7 +77,27 @@ impl Table for SortedTable {
         }
     }
 
-    fn set(&mut self, key: Key, to: Option<Record>) -> Result<Option<Record>, TableFault> {
+    /// Puts a record at the key, or takes the key out, and answers what stood there before. Faults:
+    /// NoRoom, Memory. A key that is there, and a taking out, take no memory and are never refused.
+    fn set(&mut self, key: Key, to: Option<Record>) -> Result<Option<Record>, TableFault>
+        ensures value { IfOk result (λ before. before ≡ maps.get self.old.contents key) }
+        ensures ok { OnOk result (self.new.contents ≡ set_to self.old.contents key to) }
+        ensures err { OnErr result (self.new.contents ≡ self.old.contents) }
+        ensures no_room { result ≡ Err TableFault.NoRoom → IsSome to
+            × (maps.get self.old.contents key ≡ None)
+            × (self.old.limit ≤ maps.len self.old.contents) }
+        ensures full { IsSome to → maps.get self.old.contents key ≡ None
+            → self.old.limit ≤ maps.len self.old.contents
+            → is_device result ≡ false → result ≡ Err TableFault.NoRoom }
+        ensures taken_out_none { to ≡ None → result ≡ Ok None
+            → self.new.contents ≡ self.old.contents }
+        ensures damaged { (page : ℕ) → result ≢ Err (TableFault.Damaged page) }
+        ensures device { is_device result ≡ false }
+        ensures limit { self.new.limit ≡ self.old.limit }
+        ensures memory { self.new.refusals ≡ counted self.old.refusals (is_memory result) }
+        ensures present { IsSome (maps.get self.old.contents key) → IsOk result }
+        ensures taken { to ≡ None → IsOk result }
+    {
         match search(&self.records, &key) {
             Ok(at) => match to {
                 Some(record) => Ok(Some(mem::replace(&mut self.records[at], (key, record)).1)),

@@ -16,7 +16,7 @@ use Rattle.record_file.specs.Abstract.{Fits, file_of, with_change, charged_of}
 use Rattle.record_file.proofs.AbsentFacts.{len-charged}
 use Rattle.record_file.proofs.ChargedFacts.{claimed, has-charged, claimed-push, claimed-undone, claimed-newest, claimed-within}
 
-history-push : (cs : List Kept) (c : Kept) → history_of (cs ++ c ∷ []) ≡ history_of cs ++ change_of c ∷ []
+pub history-push : (cs : List Kept) (c : Kept) → history_of (cs ++ c ∷ []) ≡ history_of cs ++ change_of c ∷ []
 history-push [] c = refl
 history-push (d ∷ cs) c = ap (λ h. change_of d ∷ h) (history-push cs c)
 

@@ -37,14 +37,16 @@ owner_is is_open (d ∷ cs) t x owned owns = at d.live (is_open d.tx) (same_key 
     at false opened same own live opened_is same_is own_is ih is = ih is
 
 -- what stays true of a file
-pub kept_file : (sound : Bool) (now : Contents) (limit : ℕ) (log : LogState) (limits : Bounds) → IsRecordFile sound now limit log limits → IsLog log → IsChained log.records log.changes → IsKeptFile sound now (file_of log now) log.records
+pub kept_file : (sound : Bool) (now : Contents) (limit : ℕ) (log : LogState) (limits : Bounds) → IsRecordFile sound now limit log limits → IsLog log → IsChained log.records log.changes → IsKeptFile sound now limit (file_of log now) log.records
 kept_file sound now limit log limits is kept chained = record {
+  limited = is.limited ∙ sym (ap (λ (b : Bounds). b.records) is.same_limits);
   replayed = λ here. (is.fits here).replayed;
   within = λ here. subst (λ (b : Bounds). maps.len (charged_of (file_of log now)) ≤ b.records) (sym is.same_limits) (subst (λ (m : Contents). maps.len (charged (open_in log) (history_in log) m) ≤ limits.records) (is.fits here).replayed (is.within here));
   owned = λ t x owns. owner_is (open_in log) log.changes t x kept.owned owns;
   written = is.told;
-  chained = (log.changes, chained, refl);
+  chained = (log.changes, chained, refl, λ here. (is.fits here).befores);
   used = kept.fits;
   begun = kept.bounded;
   opens = kept.opens;
+  depths = kept.depths;
 }

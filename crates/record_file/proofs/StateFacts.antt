@@ -4,8 +4,8 @@ use Rattle.std.specs.FinMap as maps
 use Rattle.std.specs.FinMap.{get, len}
 use Rattle.rec_types.specs.Contents.{Contents, set_to, has}
 use Rattle.rec_types.specs.LimitBounds.{Bounds}
-use Rattle.rec_types.specs.History.{log_len, live_from, undo_last}
-use Rattle.rec_types.proofs.HistoryFacts.{newest_from-some, newest_from-live}
+use Rattle.rec_types.specs.History.{Change, log_len, live_from, undo_last}
+use Rattle.rec_types.proofs.HistoryFacts.{newest_from-some, newest_from-live, history-undone}
 use Rattle.std.proofs.lemmas.Bool.Decides.{nat_tests}
 use Rattle.rec_types.specs.Kept.{Kept, newest_live, newest_from, undone, history_of, opening_of}
 use Rattle.tx_log.specs.Transactions.{Transactions, Tx, Rollback, is_open, fresh, left_in, left_of}
@@ -18,9 +18,10 @@ use Rattle.tx_log.specs.Log.{key_of, last_of, record_at}
 use Rattle.tx_log.specs.declared.phases.UndoStep.{UndoStep}
 use Rattle.tx_log.specs.declared.log_records.LogRecord.TheVariants.{Compensation}
 use Rattle.tx_log.specs.declared.log_records.LogRecord.{LogRecord}
-use Rattle.record_file.specs.Abstract.{IsRecordFile, written, Told, AllTold, new_in, file_of, with_change}
+use Rattle.record_file.specs.Abstract.{File, Fits, IsRecordFile, written, Told, AllTold, new_in, file_of, with_change}
+use Rattle.record_file.specs.Steps.{Accepts}
 use Rattle.record_file.proofs.TxFacts.{same_tx, same_tx-is, open-insert, open-remove}
-use Rattle.record_file.proofs.FileFacts.{change, put_file, undo_file, opening_put, opening_undo, fits_put, fits_undo, charged_put, charged_undo, charged_within}
+use Rattle.record_file.proofs.FileFacts.{change, history-push, put_file, undo_file, opening_put, opening_undo, fits_put, fits_undo, charged_put, charged_undo, charged_within}
 
 -- of the transactions 1 to n none opens
 abbrev pub OpensNone : Transactions → Transactions → ℕ → Type 0
@@ -104,6 +105,16 @@ undo_there cs t (Some tx) some = at tx.rollback some
     at None some = absurd (omega arith)
     at (Some r) some = let u = found r.to some (newest_from cs t r.to) refl in (u.0, u.1, u.2, refl)
 
+-- a table that isn't sound may hold anything
+record_over : (sound : Bool) (now now2 : Contents) (limit : ℕ) (log : LogState) (limits : Bounds) → (IsTrue sound → now2 ≡ now) → IsRecordFile sound now limit log limits → IsRecordFile sound now2 limit log limits
+record_over sound now now2 limit log limits same old = record {
+  limited = old.limited;
+  same_limits = old.same_limits;
+  fits = λ is. subst (λ (m : Contents). Fits log.changes m) (sym (same is)) (old.fits is);
+  told = λ is. subst (λ (m : Contents). (m ≡ written (opening_of log.changes m) log.records) × AllTold (opening_of log.changes m) log.records) (sym (same is)) (old.told is);
+  within = λ is. subst (λ (m : Contents). len (charged (open_in log) (history_in log) m) ≤ limits.records) (sym (same is)) (old.within is);
+}
+
 module _ (sound : Bool) (now : Contents) (limit : ℕ) (log : LogState) (limits : Bounds) (old : IsRecordFile sound now limit log limits) (kept : IsLog log) where
   -- other transactions are open, and none of those begun before opens
   pub file_txs : (txs : Transactions) (begun : ℕ) (room : Option (List ℕ)) → OpensNone log.txs txs log.begun → IsRecordFile sound now limit (record log { txs = txs; begun = begun; room = room }) limits
@@ -154,13 +165,13 @@ module _ (sound : Bool) (now : Contents) (limit : ℕ) (log : LogState) (limits 
   file_ended t new after = subst (λ (s : LogState). IsRecordFile sound now limit s limits) (sym after) (file_txs (maps.remove log.txs t) log.begun None (none_by_end log.txs log.begun t))
 
   -- the log after room was made at the key and a change was accepted there
-  pub change_kept : (sound2 : Bool) (limit2 : ℕ) (now2 : Contents) (log1 log2 : LogState) (t : TxId) (x : List ℕ) (before told w : Option (List ℕ)) → sound2 ≡ sound → limit2 ≡ limit → log1 ≡ record log { room = Some x } → now2 ≡ set_to now x w → (IsTrue sound → before ≡ get now x) → told ≡ before → log2 ≡ accepted log1 t x told w
+  pub change_kept : (sound2 : Bool) (limit2 : ℕ) (now2 : Contents) (log1 log2 : LogState) (t : TxId) (x : List ℕ) (before told w : Option (List ℕ)) → sound2 ≡ sound → limit2 ≡ limit → log1 ≡ record log { room = Some x } → (IsTrue sound → now2 ≡ set_to now x w) → (IsTrue sound → before ≡ get now x) → told ≡ before → log2 ≡ accepted log1 t x told w
       → (IsTrue sound → has (charged (open_in log) (history_in log) now) x ≡ false → len (charged (open_in log) (history_in log) now) < limits.records) → IsRecordFile sound2 now2 limit2 log2 limits
   change_kept sound2 limit2 now2 log1 log2 t x before told w sound_is limit_is reserved put stood copied accepts room_for =
       let after : log2 ≡ accepted (record log { room = Some x }) t x told w = accepts ∙ ap (λ (s : LogState). accepted s t x told w) reserved in
       subst (λ (s : Bool). IsRecordFile s now2 limit2 log2 limits) (sym sound_is)
       (subst (λ (n : ℕ). IsRecordFile sound now2 n log2 limits) (sym limit_is)
-      (subst (λ (m : Contents). IsRecordFile sound m limit log2 limits) (sym put)
+      (record_over sound (set_to now x w) now2 limit log2 limits put
       (subst (λ (s : LogState). IsRecordFile sound (set_to now x w) limit s limits) (sym after)
       (file_put None (update_in log t x told w) (log_len (history_in log) + 1) t.0 x told w refl refl (λ is. copied ∙ stood is) (λ is. copied ∙ stood is) room_for))))
 
@@ -169,16 +180,39 @@ module _ (sound : Bool) (now : Contents) (limit : ℕ) (log : LogState) (limits 
       let after : log2 ≡ accepted (record log { room = Some x }) t x told w = accepts ∙ ap (λ (s : LogState). accepted s t x told w) reserved in
       (λ i. file_of (after i) (put i)) ∙ put_file log now (log.records ++ update_in log t x told w ∷ []) None (log_len (history_in log) + 1) t.0 x told w (copied ∙ stood)
 
+  -- so it is over any table
+  pub change_accepted : (now2 : Contents) (log1 log2 : LogState) (t : TxId) (x : List ℕ) (told w : Option (List ℕ)) → log1 ≡ record log { room = Some x } → log2 ≡ accepted log1 t x told w → Accepts (file_of log now) log.records t x told w (file_of log2 now2) log2.records
+  change_accepted now2 log1 log2 t x told w reserved accepts =
+      let c = change (log_len (history_in log) + 1) t.0 x told w in
+      let after : log2 ≡ accepted (record log { room = Some x }) t x told w = accepts ∙ ap (λ (s : LogState). accepted s t x told w) reserved in
+      record {
+        history =
+          ap (λ (s : LogState). file_of s now2) after
+          ∙ ap (λ (h : List Change). let f : File = record { opening = opening_of (log.changes ++ c ∷ []) now2; history = h; begun = log.begun; txs = log.txs; limits = log.limits } in f) (history-push log.changes c)
+          ∙ ap (λ (m : Contents). let f : File = record { opening = m; history = history_in log ++ record { tx = t.0; key = x; after = w; live = true } ∷ []; begun = log.begun; txs = log.txs; limits = log.limits } in f) (sym (ap (λ (s : LogState). opening_of s.changes now2) after));
+        logged = (length log.records + 1, last_of t.0 (reverse log.records), ap (λ (s : LogState). s.records) after);
+      }
+
+  pub undo_becomes : (now2 : Contents) (log2 : LogState) (t : TxId) → log2 ≡ compensated log t → file_of log2 now2 ≡ record (file_of log now) { opening = (file_of log2 now2).opening; history = undo_last t.0 (history_in log) }
+  undo_becomes now2 log2 t after =
+      ap (λ (s : LogState). file_of s now2) after
+      ∙ ap (λ (h : List Change). let f : File = record { opening = opening_of (undone t.0 log.changes) now2; history = h; begun = log.begun; txs = log.txs; limits = log.limits } in f) (history-undone t.0 log.changes)
+      ∙ ap (λ (m : Contents). let f : File = record { opening = m; history = undo_last t.0 (history_in log); begun = log.begun; txs = log.txs; limits = log.limits } in f) (sym (ap (λ (s : LogState). opening_of s.changes now2) after))
+
+  -- the record of a change that was taken back
+  pub undo_record : (log2 : LogState) (t : TxId) (u : Kept) → undo_in log t.0 ≡ Some u → log2 ≡ compensated log t → log2.records ≡ log.records ++ Compensation (length log.records + 1) (last_of t.0 (reverse log.records)) t u.key u.before (prev_in (record_at log.records u.lsn)) ∷ []
+  undo_record log2 t u next after = ap (λ (s : LogState). s.records) after ∙ ap (λ (o : Option Kept). log.records ++ compensations_of log t o) next
+
   -- a rollback is over
   pub file_finished : (t : ℕ) (new : LogState) → new ≡ record log { txs = finished log.txs t (tx_in log t); room = None } → IsRecordFile sound now limit new limits
   file_finished t new after = subst (λ (s : LogState). IsRecordFile sound now limit s limits) (sym after) (file_txs (finished log.txs t (tx_in log t)) log.begun None (none_by_finish log.txs log.begun t (tx_in log t) refl))
 
   -- the log after a change was taken back
-  pub undo_kept : (sound2 : Bool) (limit2 : ℕ) (now2 : Contents) (log2 : LogState) (t : TxId) (u : Kept) (step : UndoStep) → sound2 ≡ sound → limit2 ≡ limit → undo_in log t.0 ≡ Some u → newest_live t.0 log.changes ≡ Some u → IsTrue (open_in log t.0) → step ≡ undo_step u → now2 ≡ set_to now step.key step.before → log2 ≡ compensated log t → IsRecordFile sound2 now2 limit2 log2 limits
+  pub undo_kept : (sound2 : Bool) (limit2 : ℕ) (now2 : Contents) (log2 : LogState) (t : TxId) (u : Kept) (step : UndoStep) → sound2 ≡ sound → limit2 ≡ limit → undo_in log t.0 ≡ Some u → newest_live t.0 log.changes ≡ Some u → IsTrue (open_in log t.0) → step ≡ undo_step u → (IsTrue sound → now2 ≡ set_to now step.key step.before) → log2 ≡ compensated log t → IsRecordFile sound2 now2 limit2 log2 limits
   undo_kept sound2 limit2 now2 log2 t u step sound_is limit_is next newest open_t is put after =
       subst (λ (s : Bool). IsRecordFile s now2 limit2 log2 limits) (sym sound_is)
       (subst (λ (n : ℕ). IsRecordFile sound now2 n log2 limits) (sym limit_is)
-      (subst (λ (m : Contents). IsRecordFile sound m limit log2 limits) (sym (put ∙ ap (λ (s : UndoStep). set_to now s.key s.before) is))
+      (record_over sound (set_to now u.key u.before) now2 limit log2 limits (λ here. put here ∙ ap (λ (s : UndoStep). set_to now s.key s.before) is)
       (subst (λ (s : LogState). IsRecordFile sound (set_to now u.key u.before) limit s limits) (sym (after ∙ ap (λ (o : Option Kept). let s : LogState = record log { records = log.records ++ compensations_of log t o; changes = undone t.0 log.changes; room = None } in s) next))
       (file_undo None (Compensation (length log.records + 1) (last_of t.0 (reverse log.records)) t u.key u.before (prev_in (record_at log.records u.lsn))) t.0 u refl refl tt open_t newest))))
 

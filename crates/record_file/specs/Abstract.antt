@@ -1,5 +1,5 @@
 -- The abstract file.
-use Rattle.std.specs.Prelude.{◌≡◌, ℕ, ◌≤◌, ◌<◌, ◌==◌, Bool, true, ◌&&◌, nat_le, is_none, List, [], ◌∷◌, ◌++◌, Option, Some, option_map, refl, IsTrue}
+use Rattle.std.specs.Prelude.{◌≡◌, ℕ, ◌≤◌, ◌<◌, ◌==◌, Bool, true, ◌&&◌, nat_le, is_none, List, [], ◌∷◌, ◌++◌, length, Option, Some, option_map, refl, IsTrue}
 use Rattle.std.specs.Coded.{Coded, code_by, coded×, coded_ℕ, coded_bool, coded_list, coded_option}
 use Rattle.std.specs.FinMap as maps
 use Rattle.rec_types.specs.LimitBounds.{Bounds, coded_bounds}
@@ -10,7 +10,7 @@ use Rattle.tx_log.specs.Transactions.{Transactions, Tx, coded_transactions, is_o
 use Rattle.tx_log.specs.Owners.{owner_of, holder_of, claims, charged}
 use Rattle.tx_log.specs.LogLaws.{IsChained}
 use Rattle.std.specs.List.{list_any}
-use Rattle.tx_log.specs.LogState.{LogState, phase_of, open_in, history_in}
+use Rattle.tx_log.specs.LogState.{LogState, phase_of, open_in, history_in, places_of}
 use Rattle.tx_log.specs.declared.phases.Phase.{Phase}
 use Rattle.tx_log.specs.declared.log_records.LogRecord.{LogRecord}
 use Rattle.tx_log.specs.declared.log_records.LogRecord.TheVariants.{Update, Compensation}
@@ -96,9 +96,11 @@ abbrev pub AllTold : Contents → List LogRecord → Type 0
 AllTold m [] = Unit {0}
 AllTold m (r ∷ rs) = Told m r × AllTold (set_to m (key_of r) (new_in r)) rs
 
--- one list begins with the other
-abbrev pub Grows : List LogRecord → List LogRecord → Type 0
-Grows old new = (more : List LogRecord) × (new ≡ old ++ more)
+-- The new log is the old one and what the call has written. Over a sound table that is what became of the contents;
+-- over any table they are untouched where nothing was written.
+abbrev pub Tells : Bool → Contents → List LogRecord → Contents → List LogRecord → Type 0
+Tells sound m old n new =
+    (more : List LogRecord) × (new ≡ old ++ more) × (IsTrue sound → n ≡ written m more) × (more ≡ [] → n ≡ m)
 
 -- the file of a log over a table's present contents
 abbrev pub file_of : LogState → Contents → File
@@ -123,14 +125,17 @@ abbrev pub owns : File → ℕ → List ℕ → Bool
 owns f t x = list_any (λ c. claims (open_of f) x c && (c.tx == t)) f.history
 
 -- What stays true of a file from call to call: over a sound table the records are the replay, which the log leaves
--- too, and the charged keys don't exceed the limit; a transaction that owns a key is the one that does; and the log
--- tells the history by its laws.
-pub record IsKeptFile (sound : Bool) (now : Contents) (f : File) (log : List LogRecord) : Type 0 where
+-- too, each change tells what stood at its key before it, and the charged keys don't exceed the limit; a transaction
+-- that owns a key is the one that does; no transaction has more than 32 savepoints; and the log tells the history by
+-- its laws.
+pub record IsKeptFile (sound : Bool) (now : Contents) (limit : ℕ) (f : File) (log : List LogRecord) : Type 0 where
+  pub limited : limit ≡ f.limits.records
   pub replayed : IsTrue sound → now ≡ records_of f
   pub within : IsTrue sound → maps.len (charged_of f) ≤ f.limits.records
   pub owned : (t : ℕ) (x : List ℕ) → IsTrue (owns f t x) → owner_of (open_of f) f.history x ≡ Some t
   pub written : IsTrue sound → (now ≡ written f.opening log) × AllTold f.opening log
-  pub chained : (cs : List Kept) × IsChained log cs × (history_of cs ≡ f.history)
+  pub chained : (cs : List Kept) × IsChained log cs × (history_of cs ≡ f.history) × (IsTrue sound → BeforesFit f.opening cs)
   pub used : use_of f ≤ f.limits.log_records
   pub begun : f.begun ≤ f.limits.begins
   pub opens : (t : ℕ) → IsTrue (open_of f t) → (0 < t) × (t ≤ f.begun)
+  pub depths : (t : ℕ) → length (places_of (tx_of f t)) ≤ 32

@@ -1,3 +1,4 @@
 pub mod Abstract
+pub mod Outside
 pub mod Steps
 pub mod Faults

@@ -42,6 +42,9 @@ use Rattle.record_file.specs.declared.faults.StatusFault.{StatusFault}
 use Rattle.record_file.specs.declared.faults.StatusFault.TheVariants as status_faults
 use Rattle.record_file.specs.declared.faults.Status.{Status}
 use Rattle.record_file.specs.declared.faults.Status.TheVariants as statuses
+use Rattle.tx_log.specs.declared.log_records.LogRecord.{LogRecord}
+use Rattle.tx_log.specs.declared.log_records.LogRecord.TheVariants.{Update}
+use Rattle.record_file.specs.Outside.{rollback_cause, abort_cause, resume_cause}
 use Rattle.record_file.specs.Abstract.{File, records_of, open_of, tx_of, phase_at, use_of, held_by, is_full, with_change}
 
 -- whether a number rose
@@ -80,6 +83,16 @@ remove_in f t x (Some phases.Active) = remove_held f (held_by f t x)
 
 abbrev pub remove_refusal : File → ℕ → List ℕ → Option RemoveFault
 remove_refusal f t x = remove_in f t x (phase_at f t)
+
+-- The new file has this history and these transactions. Its opening contents are read off the table, and a table that
+-- isn't sound may have others.
+abbrev pub Becomes : File → List Change → Transactions → File → Type 0
+Becomes old history txs new = new ≡ record old { opening = new.opening; history = history; txs = txs }
+
+-- An accepted change is live at the end of the history, and its record at the end of the log; so it is over any table.
+pub record Accepts (old : File) (log : List LogRecord) (t : TxId) (x : List ℕ) (before after : Option (List ℕ)) (new : File) (grown : List LogRecord) : Type 0 where
+  pub history : Becomes old (old.history ++ record { tx = t.0; key = x; after = after; live = true } ∷ []) old.txs new
+  pub logged : (lsn prev : ℕ) × (grown ≡ log ++ Update lsn prev t x before after ∷ [])
 
 -- A put answers the record that stood there, and its change is live at the end of the history. The device's
 -- failure comes before a want of room, and that before a want of memory.
@@ -168,22 +181,22 @@ CommitStep old t (Err fault) new = (commit_refusal old t ≡ Some fault) × (new
 
 -- rollback
 
--- the cause of a stop: the device exactly where it failed, memory exactly where the table refused it
-abbrev pub IsCause : Bool → Bool → Cause → Type 0
-IsCause failed refused causes.Device = (failed ≡ true) × (refused ≡ false)
-IsCause failed refused causes.Memory = (failed ≡ false) × (refused ≡ true)
-IsCause failed refused (causes.Damaged page) = ⊥
+-- What ended a call: the device exactly where it failed, memory exactly where the table refused it, and else nothing.
+abbrev pub EndsBy : Bool → Bool → Option Cause → Type 0
+EndsBy failed refused None = (failed ≡ false) × (refused ≡ false)
+EndsBy failed refused (Some causes.Device) = (failed ≡ true) × (refused ≡ false)
+EndsBy failed refused (Some causes.Memory) = (failed ≡ false) × (refused ≡ true)
+EndsBy failed refused (Some (causes.Damaged page)) = ⊥
 
--- of the changes from place p on, the newest `undone` were taken back, fewer than there are
-abbrev pub StopsAt : File → ℕ → ℕ → Transactions → Bool → Bool → ℕ → ℕ → Cause → File → Type 0
-StopsAt old t p txs failed refused undone left cause new =
-    (undone < live_from old.history t p) × (left ≡ live_from old.history t p - undone) × IsCause failed refused cause
-    × (new ≡ record old { history = take_newest old.history t p undone; txs = txs })
+-- every live change from place p on was taken back
+abbrev pub TakesBack : File → ℕ → ℕ → Transactions → ℕ → File → Type 0
+TakesBack old t p txs undone new = (undone ≡ live_from old.history t p) × Becomes old (take_back old.history t p) txs new
 
--- every one of them was taken back
-abbrev pub TakesBack : File → ℕ → ℕ → Transactions → Bool → Bool → ℕ → File → Type 0
-TakesBack old t p txs failed refused undone new =
-    (failed ≡ false) × (refused ≡ false) × (undone ≡ live_from old.history t p) × (new ≡ record old { history = take_back old.history t p; txs = txs })
+-- of those changes the newest `undone` were taken back, fewer than there are
+abbrev pub StopsAt : File → ℕ → ℕ → Transactions → ℕ → ℕ → File → Type 0
+StopsAt old t p txs undone left new =
+    (undone < live_from old.history t p) × (left ≡ live_from old.history t p - undone)
+    × Becomes old (take_newest old.history t p undone) txs new
 
 abbrev pub to_of : Option Rollback → ℕ
 to_of None = 0
@@ -195,22 +208,9 @@ rolling_place None = 0
 rolling_place (Some tx) = to_of tx.rollback
 
 -- a rollback under way takes back what it has left, and is over, or stops
-abbrev pub TakeBackStep : File → ℕ → Bool → Bool → Result ℕ Stop → File → Type 0
-TakeBackStep old t failed refused (Ok undone) new = TakesBack old t (rolling_place (tx_of old t)) (finished old.txs t (tx_of old t)) failed refused undone new
-TakeBackStep old t failed refused (Err stop) new = StopsAt old t (rolling_place (tx_of old t)) old.txs failed refused stop.undone stop.left stop.cause new
-
--- which cause ended a step of a rollback
-abbrev pub by_device : Result (Unit {0}) Cause → Bool
-by_device (Ok done) = false
-by_device (Err causes.Device) = true
-by_device (Err (causes.Damaged page)) = false
-by_device (Err causes.Memory) = false
-
-abbrev pub by_memory : Result (Unit {0}) Cause → Bool
-by_memory (Ok done) = false
-by_memory (Err causes.Device) = false
-by_memory (Err (causes.Damaged page)) = false
-by_memory (Err causes.Memory) = true
+abbrev pub RollsBack : File → ℕ → Result ℕ Stop → File → Type 0
+RollsBack old t (Ok undone) new = TakesBack old t (rolling_place (tx_of old t)) (finished old.txs t (tx_of old t)) undone new
+RollsBack old t (Err stop) new = StopsAt old t (rolling_place (tx_of old t)) old.txs stop.undone stop.left new
 
 abbrev pub rollback_in : ℕ → ℕ → Option Phase → Option RollbackToFault
 rollback_in n depth None = Some rollback_faults.NoSuchTx
@@ -220,13 +220,20 @@ rollback_in n depth (Some phases.Active) = if nat_le n depth then None else Some
 abbrev pub rollback_refusal : File → ℕ → ℕ → Option RollbackToFault
 rollback_refusal f t n = rollback_in n (depth_of (tx_of f t)) (phase_at f t)
 
--- Back to savepoint n, which stays; those above it are dropped at once.
+-- Back to savepoint n, which stays; those above it are dropped at once. So it is over any table.
+abbrev pub RollsBackTo : File → ℕ → ℕ → Result ℕ RollbackToFault → File → Type 0
+RollsBackTo old t n (Ok undone) new =
+    (rollback_refusal old t n ≡ None)
+    × TakesBack old t (place_in (places_at old t) n) (maps.insert old.txs t (active_with (take n (places_at old t)))) undone new
+RollsBackTo old t n (Err (rollback_faults.Stopped undone left cause)) new =
+    (rollback_refusal old t n ≡ None)
+    × StopsAt old t (place_in (places_at old t) n) (maps.insert old.txs t (rolling_to (places_at old t) n false)) undone left new
+RollsBackTo old t n (Err fault) new = (rollback_refusal old t n ≡ Some fault) × (new ≡ old)
+
+-- over a sound table the opening contents stay, and it is known what ended the call
 abbrev pub RollbackToStep : File → ℕ → ℕ → Bool → Bool → Result ℕ RollbackToFault → File → Type 0
-RollbackToStep old t n failed refused (Ok undone) new =
-    (rollback_refusal old t n ≡ None) × TakesBack old t (place_in (places_at old t) n) (maps.insert old.txs t (active_with (take n (places_at old t)))) failed refused undone new
-RollbackToStep old t n failed refused (Err (rollback_faults.Stopped undone left cause)) new =
-    (rollback_refusal old t n ≡ None) × StopsAt old t (place_in (places_at old t) n) (maps.insert old.txs t (rolling_to (places_at old t) n false)) failed refused undone left cause new
-RollbackToStep old t n failed refused (Err fault) new = (rollback_refusal old t n ≡ Some fault) × (failed ≡ false) × (refused ≡ false) × (new ≡ old)
+RollbackToStep old t n failed refused answer new =
+    RollsBackTo old t n answer new × (new.opening ≡ old.opening) × EndsBy failed refused (rollback_cause answer)
 
 abbrev pub abort_in : Option Phase → Option AbortFault
 abort_in None = Some abort_faults.NoSuchTx
@@ -237,11 +244,16 @@ abbrev pub abort_refusal : File → ℕ → Option AbortFault
 abort_refusal f t = abort_in (phase_at f t)
 
 -- back to the beginning; the transaction then has ended
+abbrev pub Aborts : File → ℕ → Result ℕ AbortFault → File → Type 0
+Aborts old t (Ok undone) new = (abort_refusal old t ≡ None) × TakesBack old t zero (maps.remove old.txs t) undone new
+Aborts old t (Err (abort_faults.Stopped undone left cause)) new =
+    (abort_refusal old t ≡ None)
+    × StopsAt old t zero (maps.insert old.txs t (rolling_to (places_at old t) zero true)) undone left new
+Aborts old t (Err fault) new = (abort_refusal old t ≡ Some fault) × (new ≡ old)
+
 abbrev pub AbortStep : File → ℕ → Bool → Bool → Result ℕ AbortFault → File → Type 0
-AbortStep old t failed refused (Ok undone) new = (abort_refusal old t ≡ None) × TakesBack old t zero (maps.remove old.txs t) failed refused undone new
-AbortStep old t failed refused (Err (abort_faults.Stopped undone left cause)) new =
-    (abort_refusal old t ≡ None) × StopsAt old t zero (maps.insert old.txs t (rolling_to (places_at old t) zero true)) failed refused undone left cause new
-AbortStep old t failed refused (Err fault) new = (abort_refusal old t ≡ Some fault) × (failed ≡ false) × (refused ≡ false) × (new ≡ old)
+AbortStep old t failed refused answer new =
+    Aborts old t answer new × (new.opening ≡ old.opening) × EndsBy failed refused (abort_cause answer)
 
 abbrev pub resume_in : Option Phase → Option ResumeFault
 resume_in None = Some resume_faults.NoSuchTx
@@ -252,11 +264,17 @@ abbrev pub resume_refusal : File → ℕ → Option ResumeFault
 resume_refusal f t = resume_in (phase_at f t)
 
 -- a rollback under way goes on from where it stopped
+abbrev pub Resumes : File → ℕ → Result ℕ ResumeFault → File → Type 0
+Resumes old t (Ok undone) new =
+    (resume_refusal old t ≡ None)
+    × TakesBack old t (rolling_place (tx_of old t)) (finished old.txs t (tx_of old t)) undone new
+Resumes old t (Err (resume_faults.Stopped undone left cause)) new =
+    (resume_refusal old t ≡ None) × StopsAt old t (rolling_place (tx_of old t)) old.txs undone left new
+Resumes old t (Err fault) new = (resume_refusal old t ≡ Some fault) × (new ≡ old)
+
 abbrev pub ResumeStep : File → ℕ → Bool → Bool → Result ℕ ResumeFault → File → Type 0
-ResumeStep old t failed refused (Ok undone) new = (resume_refusal old t ≡ None) × TakesBack old t (rolling_place (tx_of old t)) (finished old.txs t (tx_of old t)) failed refused undone new
-ResumeStep old t failed refused (Err (resume_faults.Stopped undone left cause)) new =
-    (resume_refusal old t ≡ None) × StopsAt old t (rolling_place (tx_of old t)) old.txs failed refused undone left cause new
-ResumeStep old t failed refused (Err fault) new = (resume_refusal old t ≡ Some fault) × (failed ≡ false) × (refused ≡ false) × (new ≡ old)
+ResumeStep old t failed refused answer new =
+    Resumes old t answer new × (new.opening ≡ old.opening) × EndsBy failed refused (resume_cause answer)
 
 -- looking
 

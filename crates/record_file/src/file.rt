@@ -1,12 +1,13 @@
-ghost use Rattle.std.specs.Prelude.{[], nat_lt, ◌≡◌, ◌≢◌, ℕ, ◌+◌, ◌<◌, ◌≤◌, Bool, true, false, Option, Some, None, option_map, Ok, Err, IsTrue, IsSome, IfOk, OnOk, OnErr, IfSome, map};
+ghost use Rattle.std.specs.Prelude.{[], ◌∷◌, nat_lt, ◌≡◌, ◌≢◌, ℕ, ◌+◌, ◌<◌, ◌≤◌, Bool, true, false, Option, Some, None, option_map, Ok, Err, IsTrue, IsSome, IfOk, IfErr, OnOk, OnErr, IfSome, map};
 ghost use Rattle.std.specs.FinMap as maps;
 ghost use Rattle.rec_types.specs.History.{log_len, undo_last};
 ghost use Rattle.tx_log.specs.Log.{record_at};
-ghost use Rattle.rec_types.specs.Table.{is_device, is_memory, counted};
-ghost use Rattle.record_file.specs.Abstract.{new_file, records_of, is_full, charged_of, use_of, tx_of, held_by, phase_at, Grows, IsKeptFile};
+ghost use Rattle.rec_types.specs.Table.{is_device, is_memory, counted, greatest_count, damaged_by};
+ghost use Rattle.record_file.specs.Abstract.{new_file, records_of, is_full, charged_of, use_of, tx_of, held_by, phase_at, Tells, IsKeptFile};
 ghost use Rattle.tx_log.specs.Transactions.{depth_of, left_in};
 ghost use Rattle.tx_log.specs.LogState.{rolling_to, finished, IsRolling, open_in, history_in};
-ghost use Rattle.record_file.specs.Steps.{rose, put_refusal, remove_refusal, get_refusal, BeginStep, PutStep, RemoveStep, GetStep, SavepointStep, ReleaseStep, CommitStep, RollbackToStep, AbortStep, ResumeStep, EntriesStep, KeysOfStep, entry_with, listed, status_of, rollback_refusal, abort_refusal, resume_refusal, TakeBackStep, places_at, by_device, by_memory};
+ghost use Rattle.record_file.specs.Outside.{put_cause, remove_cause, get_cause, entries_cause, stop_cause, rollback_cause, abort_cause, resume_cause, step_cause, put_by_file, remove_by_file, get_by_file, by_device, by_memory, AsksMemory, named_by, TellsDamage};
+ghost use Rattle.record_file.specs.Steps.{rose, put_refusal, remove_refusal, get_refusal, Accepts, BeginStep, PutStep, RemoveStep, GetStep, SavepointStep, ReleaseStep, CommitStep, RollsBackTo, RollbackToStep, Aborts, AbortStep, Resumes, ResumeStep, EntriesStep, KeysOfStep, entry_with, listed, status_of, rollback_refusal, abort_refusal, resume_refusal, RollsBack, places_at};
 
 use crate::faults::{
     AbortFault, Cause, CommitFault, EntriesFault, GetFault, KeysOfFault, PutFault, ReleaseFault,
@@ -71,12 +72,28 @@ impl<T: Table> RecordFile<T> {
     /// Puts a record at the key, and answers the one that stood there. Faults: NoSuchTx, Rolling, Held,
     /// LogFull, Device or Damaged, Full, Memory. A fault leaves everything unchanged.
     pub fn put(&mut self, tx: TxId, key: Key, value: Record) -> Result<Option<Record>, PutFault>
-        ensures step { IsTrue (T.sound self.old.table) → T.device_failures self.old.table < 18446744073709551615 →
-            PutStep self.old.file tx.0 key value (rose (T.device_failures self.old.table) (T.device_failures self.new.table)) result self.new.file }
-        ensures refused { IfSome (put_refusal self.old.file tx.0 key) (λ fault. (result ≡ Err fault) × (self.new ≡ self.old)) }
-        ensures err { OnErr result ((T.contents self.new.table ≡ T.contents self.old.table) × (self.new.file ≡ self.old.file) × (self.new.log ≡ self.old.log)) }
-        ensures appended { Grows self.old.log self.new.log }
+        ensures step { IsTrue (T.sound self.old.table)
+            → T.device_failures self.old.table < greatest_count
+            → PutStep self.old.file tx.0 key value
+            (rose (T.device_failures self.old.table) (T.device_failures self.new.table))
+            result self.new.file }
+        ensures refused { IfSome (put_refusal self.old.file tx.0 key)
+            (λ fault. (result ≡ Err fault) × (self.new ≡ self.old)) }
+        ensures refused_only { IfErr result (λ fault.
+            IsTrue (put_by_file fault) → put_refusal self.old.file tx.0 key ≡ Some fault) }
+        ensures accepted { IfOk result (λ before. Accepts self.old.file self.old.log tx key
+            before (Some value) self.new.file self.new.log) }
+        ensures err { OnErr result ((T.contents self.new.table ≡ T.contents self.old.table)
+            × (self.new.file ≡ self.old.file) × (self.new.log ≡ self.old.log)) }
+        ensures told { Tells (T.sound self.old.table) (T.contents self.old.table) self.old.log
+            (T.contents self.new.table) self.new.log }
         ensures soundness { T.sound self.new.table ≡ T.sound self.old.table }
+        ensures device { T.device_failures self.new.table
+            ≡ counted (T.device_failures self.old.table) (by_device (put_cause result)) }
+        ensures memory { AsksMemory (T.memory_refusals self.old.table) (put_cause result)
+            (T.memory_refusals self.new.table) }
+        ensures damages { TellsDamage (T.damages self.old.table) (put_cause result)
+            (T.damages self.new.table) }
     {
         if let Some(fault) = self.put_refusal(tx, &key) {
             return Err(fault);
@@ -95,12 +112,28 @@ impl<T: Table> RecordFile<T> {
     /// Takes the record at the key out, and answers it. Faults: NoSuchTx, Rolling, Held, LogFull, Device or
     /// Damaged, Absent, Memory. A fault leaves everything unchanged.
     pub fn remove(&mut self, tx: TxId, key: Key) -> Result<Record, RemoveFault>
-        ensures step { IsTrue (T.sound self.old.table) → T.device_failures self.old.table < 18446744073709551615 →
-            RemoveStep self.old.file tx.0 key (rose (T.device_failures self.old.table) (T.device_failures self.new.table)) result self.new.file }
-        ensures refused { IfSome (remove_refusal self.old.file tx.0 key) (λ fault. (result ≡ Err fault) × (self.new ≡ self.old)) }
-        ensures err { OnErr result ((T.contents self.new.table ≡ T.contents self.old.table) × (self.new.file ≡ self.old.file) × (self.new.log ≡ self.old.log)) }
-        ensures appended { Grows self.old.log self.new.log }
+        ensures step { IsTrue (T.sound self.old.table)
+            → T.device_failures self.old.table < greatest_count
+            → RemoveStep self.old.file tx.0 key
+            (rose (T.device_failures self.old.table) (T.device_failures self.new.table))
+            result self.new.file }
+        ensures refused { IfSome (remove_refusal self.old.file tx.0 key)
+            (λ fault. (result ≡ Err fault) × (self.new ≡ self.old)) }
+        ensures refused_only { IfErr result (λ fault.
+            IsTrue (remove_by_file fault) → remove_refusal self.old.file tx.0 key ≡ Some fault) }
+        ensures accepted { IfOk result (λ before. Accepts self.old.file self.old.log tx key
+            (Some before) None self.new.file self.new.log) }
+        ensures err { OnErr result ((T.contents self.new.table ≡ T.contents self.old.table)
+            × (self.new.file ≡ self.old.file) × (self.new.log ≡ self.old.log)) }
+        ensures told { Tells (T.sound self.old.table) (T.contents self.old.table) self.old.log
+            (T.contents self.new.table) self.new.log }
         ensures soundness { T.sound self.new.table ≡ T.sound self.old.table }
+        ensures device { T.device_failures self.new.table
+            ≡ counted (T.device_failures self.old.table) (by_device (remove_cause result)) }
+        ensures memory { AsksMemory (T.memory_refusals self.old.table) (remove_cause result)
+            (T.memory_refusals self.new.table) }
+        ensures damages { TellsDamage (T.damages self.old.table) (remove_cause result)
+            (T.damages self.new.table) }
     {
         if let Some(fault) = self.remove_refusal(tx, &key) {
             return Err(fault);
@@ -121,11 +154,23 @@ impl<T: Table> RecordFile<T> {
 
     /// The record at the key. Faults: NoSuchTx, Rolling, Held, Device or Damaged. It takes no memory.
     pub fn get(&mut self, tx: TxId, key: &Key) -> Result<Option<Record>, GetFault>
-        ensures step { IsTrue (T.sound self.old.table) → T.device_failures self.old.table < 18446744073709551615 →
-            GetStep self.old.file tx.0 key.now (rose (T.device_failures self.old.table) (T.device_failures self.new.table)) result self.new.file }
-        ensures refused { IfSome (get_refusal self.old.file tx.0 key.now) (λ fault. (result ≡ Err fault) × (self.new ≡ self.old)) }
-        ensures same { (T.contents self.new.table ≡ T.contents self.old.table) × (self.new.file ≡ self.old.file) × (self.new.log ≡ self.old.log) }
+        ensures step { IsTrue (T.sound self.old.table)
+            → T.device_failures self.old.table < greatest_count
+            → GetStep self.old.file tx.0 key.now
+            (rose (T.device_failures self.old.table) (T.device_failures self.new.table))
+            result self.new.file }
+        ensures refused { IfSome (get_refusal self.old.file tx.0 key.now)
+            (λ fault. (result ≡ Err fault) × (self.new ≡ self.old)) }
+        ensures refused_only { IfErr result (λ fault.
+            IsTrue (get_by_file fault) → get_refusal self.old.file tx.0 key.now ≡ Some fault) }
+        ensures same { (T.contents self.new.table ≡ T.contents self.old.table)
+            × (self.new.file ≡ self.old.file) × (self.new.log ≡ self.old.log) }
         ensures soundness { T.sound self.new.table ≡ T.sound self.old.table }
+        ensures device { T.device_failures self.new.table
+            ≡ counted (T.device_failures self.old.table) (by_device (get_cause result)) }
+        ensures memory { T.memory_refusals self.new.table ≡ T.memory_refusals self.old.table }
+        ensures damages { T.damages self.new.table
+            ≡ named_by (T.damages self.old.table) (get_cause result) }
     {
         if let Some(fault) = self.get_refusal(tx, key) {
             return Err(fault);
@@ -197,11 +242,25 @@ impl<T: Table> RecordFile<T> {
     /// beginning. Savepoint n stays, and those above it are dropped at once. Faults: NoSuchTx, Rolling,
     /// NoSuchSave, Stopped. A stop leaves the transaction rolling.
     pub fn rollback_to(&mut self, tx: TxId, n: u32) -> Result<u32, RollbackToFault>
-        ensures step { IsTrue (T.sound self.old.table) → T.device_failures self.old.table < 18446744073709551615 → T.memory_refusals self.old.table < 18446744073709551615 →
-            RollbackToStep self.old.file tx.0 n (rose (T.device_failures self.old.table) (T.device_failures self.new.table)) (rose (T.memory_refusals self.old.table) (T.memory_refusals self.new.table)) result self.new.file }
-        ensures refused { IfSome (rollback_refusal self.old.file tx.0 n) (λ fault. (result ≡ Err fault) × (self.new ≡ self.old)) }
-        ensures appended { Grows self.old.log self.new.log }
+        ensures step { IsTrue (T.sound self.old.table)
+            → T.device_failures self.old.table < greatest_count
+            → T.memory_refusals self.old.table < greatest_count
+            → RollbackToStep self.old.file tx.0 n
+            (rose (T.device_failures self.old.table) (T.device_failures self.new.table))
+            (rose (T.memory_refusals self.old.table) (T.memory_refusals self.new.table))
+            result self.new.file }
+        ensures rolled { RollsBackTo self.old.file tx.0 n result self.new.file }
+        ensures refused { IfSome (rollback_refusal self.old.file tx.0 n)
+            (λ fault. (result ≡ Err fault) × (self.new ≡ self.old)) }
+        ensures told { Tells (T.sound self.old.table) (T.contents self.old.table) self.old.log
+            (T.contents self.new.table) self.new.log }
         ensures soundness { T.sound self.new.table ≡ T.sound self.old.table }
+        ensures device { T.device_failures self.new.table
+            ≡ counted (T.device_failures self.old.table) (by_device (rollback_cause result)) }
+        ensures memory { T.memory_refusals self.new.table
+            ≡ counted (T.memory_refusals self.old.table) (by_memory (rollback_cause result)) }
+        ensures damages { TellsDamage (T.damages self.old.table) (rollback_cause result)
+            (T.damages self.new.table) }
     {
         match self.log.phase(tx) {
             None => Err(RollbackToFault::NoSuchTx),
@@ -232,11 +291,25 @@ impl<T: Table> RecordFile<T> {
     /// Takes back every change of the transaction, newest first, and ends it. Faults: NoSuchTx, Rolling,
     /// Stopped. A stop leaves the transaction rolling; it ends once its rollback is finished.
     pub fn abort(&mut self, tx: TxId) -> Result<u32, AbortFault>
-        ensures step { IsTrue (T.sound self.old.table) → T.device_failures self.old.table < 18446744073709551615 → T.memory_refusals self.old.table < 18446744073709551615 →
-            AbortStep self.old.file tx.0 (rose (T.device_failures self.old.table) (T.device_failures self.new.table)) (rose (T.memory_refusals self.old.table) (T.memory_refusals self.new.table)) result self.new.file }
-        ensures refused { IfSome (abort_refusal self.old.file tx.0) (λ fault. (result ≡ Err fault) × (self.new ≡ self.old)) }
-        ensures appended { Grows self.old.log self.new.log }
+        ensures step { IsTrue (T.sound self.old.table)
+            → T.device_failures self.old.table < greatest_count
+            → T.memory_refusals self.old.table < greatest_count
+            → AbortStep self.old.file tx.0
+            (rose (T.device_failures self.old.table) (T.device_failures self.new.table))
+            (rose (T.memory_refusals self.old.table) (T.memory_refusals self.new.table))
+            result self.new.file }
+        ensures rolled { Aborts self.old.file tx.0 result self.new.file }
+        ensures refused { IfSome (abort_refusal self.old.file tx.0)
+            (λ fault. (result ≡ Err fault) × (self.new ≡ self.old)) }
+        ensures told { Tells (T.sound self.old.table) (T.contents self.old.table) self.old.log
+            (T.contents self.new.table) self.new.log }
         ensures soundness { T.sound self.new.table ≡ T.sound self.old.table }
+        ensures device { T.device_failures self.new.table
+            ≡ counted (T.device_failures self.old.table) (by_device (abort_cause result)) }
+        ensures memory { T.memory_refusals self.new.table
+            ≡ counted (T.memory_refusals self.old.table) (by_memory (abort_cause result)) }
+        ensures damages { TellsDamage (T.damages self.old.table) (abort_cause result)
+            (T.damages self.new.table) }
     {
         match self.log.phase(tx) {
             None => Err(AbortFault::NoSuchTx),
@@ -264,11 +337,25 @@ impl<T: Table> RecordFile<T> {
     /// Goes on with a rollback that was stopped, and answers how many changes this call took back. Faults:
     /// NoSuchTx, NotRolling, Stopped.
     pub fn resume(&mut self, tx: TxId) -> Result<u32, ResumeFault>
-        ensures step { IsTrue (T.sound self.old.table) → T.device_failures self.old.table < 18446744073709551615 → T.memory_refusals self.old.table < 18446744073709551615 →
-            ResumeStep self.old.file tx.0 (rose (T.device_failures self.old.table) (T.device_failures self.new.table)) (rose (T.memory_refusals self.old.table) (T.memory_refusals self.new.table)) result self.new.file }
-        ensures refused { IfSome (resume_refusal self.old.file tx.0) (λ fault. (result ≡ Err fault) × (self.new ≡ self.old)) }
-        ensures appended { Grows self.old.log self.new.log }
+        ensures step { IsTrue (T.sound self.old.table)
+            → T.device_failures self.old.table < greatest_count
+            → T.memory_refusals self.old.table < greatest_count
+            → ResumeStep self.old.file tx.0
+            (rose (T.device_failures self.old.table) (T.device_failures self.new.table))
+            (rose (T.memory_refusals self.old.table) (T.memory_refusals self.new.table))
+            result self.new.file }
+        ensures rolled { Resumes self.old.file tx.0 result self.new.file }
+        ensures refused { IfSome (resume_refusal self.old.file tx.0)
+            (λ fault. (result ≡ Err fault) × (self.new ≡ self.old)) }
+        ensures told { Tells (T.sound self.old.table) (T.contents self.old.table) self.old.log
+            (T.contents self.new.table) self.new.log }
         ensures soundness { T.sound self.new.table ≡ T.sound self.old.table }
+        ensures device { T.device_failures self.new.table
+            ≡ counted (T.device_failures self.old.table) (by_device (resume_cause result)) }
+        ensures memory { T.memory_refusals self.new.table
+            ≡ counted (T.memory_refusals self.old.table) (by_memory (resume_cause result)) }
+        ensures damages { TellsDamage (T.damages self.old.table) (resume_cause result)
+            (T.damages self.new.table) }
     {
         match self.log.phase(tx) {
             None => Err(ResumeFault::NoSuchTx),
@@ -293,10 +380,20 @@ impl<T: Table> RecordFile<T> {
     /// The records in key order, each with the transaction that owns its key. Faults: Device or Damaged,
     /// Memory.
     pub fn entries(&mut self) -> Result<Vec<Entry>, EntriesFault>
-        ensures step { IsTrue (T.sound self.old.table) → T.device_failures self.old.table < 18446744073709551615 →
-            EntriesStep self.old.file (rose (T.device_failures self.old.table) (T.device_failures self.new.table)) (listed result) self.new.file }
-        ensures same { (T.contents self.new.table ≡ T.contents self.old.table) × (self.new.file ≡ self.old.file) × (self.new.log ≡ self.old.log) }
+        ensures step { IsTrue (T.sound self.old.table)
+            → T.device_failures self.old.table < greatest_count
+            → EntriesStep self.old.file
+            (rose (T.device_failures self.old.table) (T.device_failures self.new.table))
+            (listed result) self.new.file }
+        ensures same { (T.contents self.new.table ≡ T.contents self.old.table)
+            × (self.new.file ≡ self.old.file) × (self.new.log ≡ self.old.log) }
         ensures soundness { T.sound self.new.table ≡ T.sound self.old.table }
+        ensures device { T.device_failures self.new.table
+            ≡ counted (T.device_failures self.old.table) (by_device (entries_cause result)) }
+        ensures memory { AsksMemory (T.memory_refusals self.old.table) (entries_cause result)
+            (T.memory_refusals self.new.table) }
+        ensures damages { T.damages self.new.table
+            ≡ named_by (T.damages self.old.table) (entries_cause result) }
     {
         let records = self.table.entries()?;
         let entries = with_owners(*records.allocator(), &self.log, &records)?;
@@ -316,7 +413,8 @@ impl<T: Table> RecordFile<T> {
     /// How many transactions were begun. Its contract tells what stays true of a file from call to call.
     pub fn begun(&self) -> u32
         ensures value { result ≡ self.now.file.begun }
-        ensures kept { IsKeptFile (T.sound self.now.table) (T.contents self.now.table) self.now.file self.now.log }
+        ensures kept { IsKeptFile (T.sound self.now.table) (T.contents self.now.table)
+            (T.record_limit self.now.table) self.now.file self.now.log }
     {
         let _limits = &self.limits;
         self.log.begun()
@@ -387,14 +485,20 @@ impl<T: Table> RecordFile<T> {
     // Whether the key isn't charged and the charged keys have reached the limit. The table is asked only
     // where they may have.
     fn is_full(&mut self, key: &Key) -> Result<bool, TableFault>
-        ensures value { IsTrue (T.sound self.old.table) → IfOk result (λ full. full ≡ is_full self.old.file key.now) }
-        ensures same { (T.contents self.new.table ≡ T.contents self.old.table) × (self.new.file ≡ self.old.file) × (self.new.log ≡ self.old.log) }
+        ensures value { IsTrue (T.sound self.old.table)
+            → IfOk result (λ full. full ≡ is_full self.old.file key.now) }
+        ensures same { (T.contents self.new.table ≡ T.contents self.old.table)
+            × (self.new.file ≡ self.old.file) × (self.new.log ≡ self.old.log) }
         ensures no_memory { result ≢ Err TableFault.Memory }
         ensures no_room { result ≢ Err TableFault.NoRoom }
-        ensures damaged { IsTrue (T.sound self.old.table) → (page : ℕ) → result ≢ Err (TableFault.Damaged page) }
+        ensures damaged { IsTrue (T.sound self.old.table)
+            → (page : ℕ) → result ≢ Err (TableFault.Damaged page) }
         ensures soundness { T.sound self.new.table ≡ T.sound self.old.table }
-        ensures device { T.device_failures self.new.table ≡ counted (T.device_failures self.old.table) (is_device result) }
+        ensures device { T.device_failures self.new.table
+            ≡ counted (T.device_failures self.old.table) (is_device result) }
         ensures memory { T.memory_refusals self.new.table ≡ T.memory_refusals self.old.table }
+        ensures damages { T.damages self.new.table
+            ≡ damaged_by (T.damages self.old.table) result }
     {
         if self.charged() < u64::from(self.limits.records()) {
             return Ok(false);
@@ -421,10 +525,20 @@ impl<T: Table> RecordFile<T> {
     // Takes back what a rollback under way has left, newest first, and finishes it.
     fn take_back(&mut self, tx: TxId) -> Result<u32, Stop>
         requires { IsRolling (phase_at self.old.file tx.0) }
-        ensures step { IsTrue (T.sound self.old.table) → T.device_failures self.old.table < 18446744073709551615 → T.memory_refusals self.old.table < 18446744073709551615 →
-            TakeBackStep self.old.file tx.0 (rose (T.device_failures self.old.table) (T.device_failures self.new.table)) (rose (T.memory_refusals self.old.table) (T.memory_refusals self.new.table)) result self.new.file }
-        ensures appended { Grows self.old.log self.new.log }
+        ensures rolled { RollsBack self.old.file tx.0 result self.new.file }
+        ensures opening { IsTrue (T.sound self.old.table)
+            → self.new.file.opening ≡ self.old.file.opening }
+        ensures damaged { IsTrue (T.sound self.old.table)
+            → (page : ℕ) → stop_cause result ≢ Some (Cause.Damaged page) }
+        ensures told { Tells (T.sound self.old.table) (T.contents self.old.table) self.old.log
+            (T.contents self.new.table) self.new.log }
         ensures soundness { T.sound self.new.table ≡ T.sound self.old.table }
+        ensures device { T.device_failures self.new.table
+            ≡ counted (T.device_failures self.old.table) (by_device (stop_cause result)) }
+        ensures memory { T.memory_refusals self.new.table
+            ≡ counted (T.memory_refusals self.old.table) (by_memory (stop_cause result)) }
+        ensures damages { TellsDamage (T.damages self.old.table) (stop_cause result)
+            (T.damages self.new.table) }
     {
         let total = self.left(tx);
         for undone in 0..total {
@@ -462,13 +576,24 @@ impl<T: Table> RecordFile<T> {
     // Takes back the newest change that a rollback under way has left: one `set`, and one compensation.
     fn take_one_back(&mut self, tx: TxId) -> Result<(), Cause>
         requires { 0 < left_in self.old.file.history tx.0 (tx_of self.old.file tx.0) }
-        ensures ok { OnOk result (self.new.file ≡ record self.old.file { history = undo_last tx.0 self.old.file.history }) }
-        ensures appended { Grows self.old.log self.new.log }
+        ensures ok { OnOk result (self.new.file ≡ record self.old.file {
+          opening = self.new.file.opening;
+          history = undo_last tx.0 self.old.file.history;
+        }) }
+        ensures opening { IsTrue (T.sound self.old.table)
+            → self.new.file.opening ≡ self.old.file.opening }
         ensures err { OnErr result (self.new.file ≡ self.old.file) }
-        ensures damaged { IsTrue (T.sound self.old.table) → (page : ℕ) → result ≢ Err (Cause.Damaged page) }
+        ensures damaged { IsTrue (T.sound self.old.table)
+            → (page : ℕ) → step_cause result ≢ Some (Cause.Damaged page) }
+        ensures told { Tells (T.sound self.old.table) (T.contents self.old.table) self.old.log
+            (T.contents self.new.table) self.new.log }
         ensures soundness { T.sound self.new.table ≡ T.sound self.old.table }
-        ensures device { T.device_failures self.new.table ≡ counted (T.device_failures self.old.table) (by_device result) }
-        ensures memory { T.memory_refusals self.new.table ≡ counted (T.memory_refusals self.old.table) (by_memory result) }
+        ensures device { T.device_failures self.new.table
+            ≡ counted (T.device_failures self.old.table) (by_device (step_cause result)) }
+        ensures memory { T.memory_refusals self.new.table
+            ≡ counted (T.memory_refusals self.old.table) (by_memory (step_cause result)) }
+        ensures damages { TellsDamage (T.damages self.old.table) (step_cause result)
+            (T.damages self.new.table) }
     {
         let _begun = self.log.begun();
         let Some(step) = self.log.next_undo(tx) else {

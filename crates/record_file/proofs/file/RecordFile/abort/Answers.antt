@@ -1,27 +1,57 @@
-use Rattle.std.proofs.Common.{◌<◌, Some, Ok, Err, true, sym, ap, subst, ◌∙◌, IsTrue}
+use Rattle.std.proofs.Common.{◌≤◌, Some, None, Ok, Err, true, sym, ap, subst, ◌∙◌, IsTrue}
 use Rattle.tx_log.specs.declared.phases.Phase.{Phase}
-use Rattle.record_file.specs.Abstract.{OpenFile, phase_at}
-use Rattle.record_file.specs.Steps.{rose, TakeBackStep, abort_in}
-use Rattle.record_file.proofs.RollbackFacts.{is_rolling, started_back, started_stop}
+use Rattle.record_file.specs.Abstract.{OpenFile, Tells, phase_at}
+use Rattle.record_file.specs.Outside.{by_device, by_memory}
+use Rattle.rec_types.specs.Table.{counted}
+use Rattle.record_file.specs.Steps.{abort_in}
+use Rattle.record_file.proofs.RollbackFacts.{is_rolling, started_back, started_stop, started_opening, ends_by}
 use Rattle.record_file.proofs.file.RecordFile.abort.Goals as goal
 
 pub take_back-requires : goal.take_back-requires
 take_back-requires g c = is_rolling c.args.self.now.file c.start_rollback.new.self.file c.args.tx.0 0 true c.start_rollback.ensures.file
 
-pub returns-in-Ok-clause-step : goal.returns-in-Ok-clause-step
-returns-in-Ok-clause-step g c = λ sound few fewer.
+pub returns-in-Ok-clause-rolled : goal.returns-in-Ok-clause-rolled
+returns-in-Ok-clause-rolled g c =
     let active = sym (ap (λ (s : OpenFile _). phase_at s.file c.args.tx.0) c.self.view_is) ∙ sym c.phase.ensures ∙ c.in-Some-Active.is ∙ ap (λ (p : Phase). Some p) c.in-Some-Active.field-0-is in (
       ap abort_in active,
-      started_back c.args.self.now.file c.start_rollback.new.self.file c.take_back.new.self.file c.args.tx.0 0 c.in-Ok.undone true _ _ c.start_rollback.ensures.file
-          (subst (λ t. IsTrue (g.T.Table.sound t) → g.T.Table.device_failures t < 18446744073709551615 → g.T.Table.memory_refusals t < 18446744073709551615 → TakeBackStep c.start_rollback.new.self.file c.args.tx.0 (rose (g.T.Table.device_failures t) (g.T.Table.device_failures c.take_back.new.self.table)) (rose (g.T.Table.memory_refusals t) (g.T.Table.memory_refusals c.take_back.new.self.table)) (Ok c.in-Ok.undone) c.take_back.new.self.file)
-          c.start_rollback.ensures.table c.in-Ok.ensures.step sound few fewer),
+      started_back c.args.self.now.file c.start_rollback.new.self.file c.take_back.new.self.file c.args.tx.0 0 c.in-Ok.undone true c.start_rollback.ensures.file c.in-Ok.ensures.rolled,
+    )
+
+pub returns-in-Ok-clause-step : goal.returns-in-Ok-clause-step
+returns-in-Ok-clause-step g c = λ sound few fewer.
+    let here = ap (λ t. g.T.Table.sound t) c.start_rollback.ensures.table ∙ sound in (
+      returns-in-Ok-clause-rolled g c,
+      started_opening c.args.self.now.file c.start_rollback.new.self.file c.take_back.new.self.file c.args.tx.0 0 true c.start_rollback.ensures.file (c.in-Ok.ensures.opening here),
+      ends_by (None) _ _ _ _ few fewer
+          (c.in-Ok.ensures.device ∙ ap (λ t. counted (g.T.Table.device_failures t) (by_device (None))) c.start_rollback.ensures.table)
+          (c.in-Ok.ensures.memory ∙ ap (λ t. counted (g.T.Table.memory_refusals t) (by_memory (None))) c.start_rollback.ensures.table)
+          (c.in-Ok.ensures.damaged here),
+    )
+
+pub returns-in-Ok-clause-told : goal.returns-in-Ok-clause-told
+returns-in-Ok-clause-told g c =
+    subst (λ t. Tells (g.T.Table.sound t) (g.T.Table.contents t) c.args.self.now.log (g.T.Table.contents c.take_back.new.self.table) c.take_back.new.self.log) c.start_rollback.ensures.table
+    (subst (λ rs. Tells (g.T.Table.sound c.start_rollback.new.self.table) (g.T.Table.contents c.start_rollback.new.self.table) rs (g.T.Table.contents c.take_back.new.self.table) c.take_back.new.self.log) c.start_rollback.ensures.log c.in-Ok.ensures.told)
+
+pub returns-in-Err-clause-rolled : goal.returns-in-Err-clause-rolled
+returns-in-Err-clause-rolled g c =
+    let active = sym (ap (λ (s : OpenFile _). phase_at s.file c.args.tx.0) c.self.view_is) ∙ sym c.phase.ensures ∙ c.in-Some-Active.is ∙ ap (λ (p : Phase). Some p) c.in-Some-Active.field-0-is in (
+      ap abort_in active,
+      started_stop c.args.self.now.file c.start_rollback.new.self.file c.take_back.new.self.file c.args.tx.0 0 true c.in-Err.field-0 c.start_rollback.ensures.file c.in-Err.ensures.rolled,
     )
 
 pub returns-in-Err-clause-step : goal.returns-in-Err-clause-step
 returns-in-Err-clause-step g c = λ sound few fewer.
-    let active = sym (ap (λ (s : OpenFile _). phase_at s.file c.args.tx.0) c.self.view_is) ∙ sym c.phase.ensures ∙ c.in-Some-Active.is ∙ ap (λ (p : Phase). Some p) c.in-Some-Active.field-0-is in (
-      ap abort_in active,
-      started_stop c.args.self.now.file c.start_rollback.new.self.file c.take_back.new.self.file c.args.tx.0 0 true _ _ c.in-Err.field-0 c.start_rollback.ensures.file
-          (subst (λ t. IsTrue (g.T.Table.sound t) → g.T.Table.device_failures t < 18446744073709551615 → g.T.Table.memory_refusals t < 18446744073709551615 → TakeBackStep c.start_rollback.new.self.file c.args.tx.0 (rose (g.T.Table.device_failures t) (g.T.Table.device_failures c.take_back.new.self.table)) (rose (g.T.Table.memory_refusals t) (g.T.Table.memory_refusals c.take_back.new.self.table)) (Err c.in-Err.field-0) c.take_back.new.self.file)
-          c.start_rollback.ensures.table c.in-Err.ensures.step sound few fewer),
+    let here = ap (λ t. g.T.Table.sound t) c.start_rollback.ensures.table ∙ sound in (
+      returns-in-Err-clause-rolled g c,
+      started_opening c.args.self.now.file c.start_rollback.new.self.file c.take_back.new.self.file c.args.tx.0 0 true c.start_rollback.ensures.file (c.in-Err.ensures.opening here),
+      ends_by (Some c.in-Err.field-0.cause) _ _ _ _ few fewer
+          (c.in-Err.ensures.device ∙ ap (λ t. counted (g.T.Table.device_failures t) (by_device (Some c.in-Err.field-0.cause))) c.start_rollback.ensures.table)
+          (c.in-Err.ensures.memory ∙ ap (λ t. counted (g.T.Table.memory_refusals t) (by_memory (Some c.in-Err.field-0.cause))) c.start_rollback.ensures.table)
+          (c.in-Err.ensures.damaged here),
     )
+
+pub returns-in-Err-clause-told : goal.returns-in-Err-clause-told
+returns-in-Err-clause-told g c =
+    subst (λ t. Tells (g.T.Table.sound t) (g.T.Table.contents t) c.args.self.now.log (g.T.Table.contents c.take_back.new.self.table) c.take_back.new.self.log) c.start_rollback.ensures.table
+    (subst (λ rs. Tells (g.T.Table.sound c.start_rollback.new.self.table) (g.T.Table.contents c.start_rollback.new.self.table) rs (g.T.Table.contents c.take_back.new.self.table) c.take_back.new.self.log) c.start_rollback.ensures.log c.in-Err.ensures.told)

@@ -42,7 +42,7 @@ returns-clause-step g c = λ sound lt.
       rose_same (g.T.Table.device_failures c.args.self.now.table) (g.T.Table.device_failures c.set.new.self) counts,
       sym (c.in_ok-is_full.ensures.value sound) ∙ c.if-branch.false,
       stood ∙ ap (λ m. maps.get m c.args.key) (c.self.invariant.fits here).replayed ∙ ap (λ (f : File). maps.get (records_of f) c.args.key) link,
-      change_file _ _ _ c.self.inside.log _ c.self.invariant c.begun-begun.ensures.kept (g.T.Table.contents c.set.new.self) c.reserve.new.self c.accept-lsn.new.self c.args.tx c.args.key c.in_ok-before.before c.copied-told.result _ c.in_ok-reserve.ensures.ok c.in_ok-before.ensures.ok stood (c.copied-told.ensures ∙ c.as_ref.ensures.value) c.accept-lsn.ensures.after
+      change_file _ _ _ c.self.inside.log _ c.self.invariant c.begun-begun.ensures.kept (g.T.Table.contents c.set.new.self) c.reserve.new.self c.accept-lsn.new.self c.args.tx c.args.key c.in_ok-before.before c.copied-told.result _ c.in_ok-reserve.ensures.ok (c.in_ok-before.ensures.ok here) stood (c.copied-told.ensures ∙ c.as_ref.ensures.value) c.accept-lsn.ensures.after
           ∙ ap (λ (f : File). with_change f c.args.tx.0 c.args.key (Some c.args.value)) link,
     )
 

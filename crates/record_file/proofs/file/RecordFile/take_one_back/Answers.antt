@@ -4,11 +4,12 @@ use Rattle.tx_log.specs.Transactions.{left_in}
 use Rattle.tx_log.specs.declared.phases.UndoStep.{UndoStep}
 use Rattle.std.specs.FinMap as maps
 use Rattle.tx_log.specs.LogState.{LogState, undo_step, tx_in, open_in}
-use Rattle.record_file.specs.Abstract.{File, OpenFile, tx_of}
+use Rattle.rec_types.specs.Contents.{set_to}
+use Rattle.record_file.specs.Abstract.{File, OpenFile, file_of, tx_of}
 use Rattle.record_file.proofs.FaultFacts.{step_is}
 use Rattle.record_file.proofs.FileFacts.{undo_has_room}
-use Rattle.record_file.proofs.StateFacts.{undo_there, undo_kept, undo_file_is}
-use Rattle.record_file.proofs.GrowFacts.{grows_by}
+use Rattle.record_file.proofs.StateFacts.{undo_there, undo_kept, undo_file_is, undo_becomes, undo_record}
+use Rattle.record_file.proofs.GrowFacts.{tells_one}
 use Rattle.record_file.proofs.file.RecordFile.take_one_back.Goals as goal
 
 pub unreachable-requires : goal.unreachable-requires
@@ -26,11 +27,17 @@ invariant_of-self g c =
 
 pub returns-in-Ok-clause-ok : goal.returns-in-Ok-clause-ok
 returns-in-Ok-clause-ok g c =
+    undo_becomes _ _ _ c.self.inside.log _ c.self.invariant c.begun-begun.ensures.kept (g.T.Table.contents c.set.new.self) c.compensate-lsn.new.self c.args.tx c.compensate-lsn.ensures.after
+    ∙ ap (λ (s : OpenFile _). let f : File = record s.file { opening = (file_of c.compensate-lsn.new.self (g.T.Table.contents c.set.new.self)).opening; history = undo_last c.args.tx.0 s.file.history } in f) c.self.view_is
+
+pub returns-in-Ok-clause-opening : goal.returns-in-Ok-clause-opening
+returns-in-Ok-clause-opening g c = λ sound.
     let some = subst (λ (s : OpenFile _). 0 < left_in s.file.history c.args.tx.0 (tx_of s.file c.args.tx.0)) (sym c.self.view_is) c.requires in
     let u = undo_there c.self.inside.log.changes c.args.tx.0 (tx_in c.self.inside.log c.args.tx.0) some in
-    undo_file_is _ _ _ c.self.inside.log _ c.self.invariant c.begun-begun.ensures.kept (g.T.Table.contents c.set.new.self) c.compensate-lsn.new.self c.args.tx u.0 c.in-Some.step u.2
-    (step_is c.in-Some.step (undo_step u.0) (sym c.in-Some.is ∙ c.next_undo.ensures ∙ ap (option_map undo_step) u.1)) c.in-Ok.ensures.ok c.compensate-lsn.ensures.after
-    ∙ ap (λ (s : OpenFile _). let f : File = record s.file { history = undo_last c.args.tx.0 s.file.history } in f) c.self.view_is
+    let here = ap (λ (s : OpenFile _). g.T.Table.sound s.table) c.self.view_is ∙ sound in
+    ap (λ (f : File). f.opening) (undo_file_is _ _ _ c.self.inside.log _ c.self.invariant c.begun-begun.ensures.kept (g.T.Table.contents c.set.new.self) c.compensate-lsn.new.self c.args.tx u.0 c.in-Some.step u.2
+    (step_is c.in-Some.step (undo_step u.0) (sym c.in-Some.is ∙ c.next_undo.ensures ∙ ap (option_map undo_step) u.1)) (c.in-Ok.ensures.ok here) c.compensate-lsn.ensures.after)
+    ∙ ap (λ (s : OpenFile _). s.file.opening) c.self.view_is
 
 -- taking back never wants room that isn't there
 pub returns-in-Err-NoRoom-clause-damaged : goal.returns-in-Err-NoRoom-clause-damaged
@@ -43,5 +50,12 @@ returns-in-Err-NoRoom-clause-damaged g c = λ sound page is.
     undo_has_room (open_in c.self.inside.log) c.self.inside.log.changes (g.T.Table.contents c.self.inside.table) c.self.inside.limits.records c.args.tx.0 u.0 u.3 u.2 (c.self.invariant.within here)
     (sym (ap (λ (s : UndoStep). maps.get (g.T.Table.contents c.self.inside.table) s.key) step) ∙ full.1) (omega (arith, full.2, c.self.invariant.limited))
 
-pub returns-in-Ok-clause-appended : goal.returns-in-Ok-clause-appended
-returns-in-Ok-clause-appended g c = grows_by _ c.self.inside.log.records c.compensate-lsn.new.self.records _ (ap (λ (s : OpenFile _). s.log) c.self.view_is) (ap (λ (s : LogState). s.records) c.compensate-lsn.ensures.after)
+-- a stop changes nothing, and a step is told by its compensation
+pub returns-in-Ok-clause-told : goal.returns-in-Ok-clause-told
+returns-in-Ok-clause-told g c =
+    let some = subst (λ (s : OpenFile _). 0 < left_in s.file.history c.args.tx.0 (tx_of s.file c.args.tx.0)) (sym c.self.view_is) c.requires in
+    let u = undo_there c.self.inside.log.changes c.args.tx.0 (tx_in c.self.inside.log c.args.tx.0) some in
+    let step = step_is c.in-Some.step (undo_step u.0) (sym c.in-Some.is ∙ c.next_undo.ensures ∙ ap (option_map undo_step) u.1) in
+    tells_one _ _ _ _ c.self.inside.log.records c.compensate-lsn.new.self.records _ (ap (λ (s : OpenFile _). s.log) c.self.view_is)
+    (undo_record _ _ _ c.self.inside.log _ c.self.invariant c.begun-begun.ensures.kept c.compensate-lsn.new.self c.args.tx u.0 u.1 c.compensate-lsn.ensures.after)
+    (λ sound. c.in-Ok.ensures.ok (ap (λ (s : OpenFile _). g.T.Table.sound s.table) c.self.view_is ∙ sound) ∙ ap (λ (s : UndoStep). set_to (g.T.Table.contents c.self.inside.table) s.key s.before) step ∙ ap (λ (s : OpenFile _). set_to (g.T.Table.contents s.table) u.0.key u.0.before) c.self.view_is)
