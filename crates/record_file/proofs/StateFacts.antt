@@ -187,9 +187,9 @@ module _ (sound : Bool) (now : Contents) (limit : ℕ) (log : LogState) (limits 
       let after : log2 ≡ accepted (record log { room = Some x }) t x told w = accepts ∙ ap (λ (s : LogState). accepted s t x told w) reserved in
       record {
         history =
-          ap (λ (s : LogState). file_of s now2) after
-          ∙ ap (λ (h : List Change). let f : File = record { opening = opening_of (log.changes ++ c ∷ []) now2; history = h; begun = log.begun; txs = log.txs; limits = log.limits } in f) (history-push log.changes c)
-          ∙ ap (λ (m : Contents). let f : File = record { opening = m; history = history_in log ++ record { tx = t.0; key = x; after = w; live = true } ∷ []; begun = log.begun; txs = log.txs; limits = log.limits } in f) (sym (ap (λ (s : LogState). opening_of s.changes now2) after));
+            ap (λ (s : LogState). file_of s now2) after
+            ∙ ap (λ (h : List Change). let f : File = record { opening = opening_of (log.changes ++ c ∷ []) now2; history = h; begun = log.begun; txs = log.txs; limits = log.limits } in f) (history-push log.changes c)
+            ∙ ap (λ (m : Contents). let f : File = record { opening = m; history = history_in log ++ record { tx = t.0; key = x; after = w; live = true } ∷ []; begun = log.begun; txs = log.txs; limits = log.limits } in f) (sym (ap (λ (s : LogState). opening_of s.changes now2) after));
         logged = (length log.records + 1, last_of t.0 (reverse log.records), ap (λ (s : LogState). s.records) after);
       }
 

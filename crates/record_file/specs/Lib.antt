@@ -2,3 +2,4 @@ pub mod Abstract
 pub mod Outside
 pub mod Steps
 pub mod Faults
+pub mod Runs

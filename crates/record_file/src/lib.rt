@@ -3,6 +3,7 @@
 
 mod faults;
 mod file;
+pub mod laws;
 
 pub use faults::{
     AbortFault, Cause, CommitFault, EntriesFault, GetFault, KeysOfFault, PutFault, ReleaseFault,

@@ -1,0 +1,177 @@
+-- A run: calls on a file one after another, each with its answer, and what came to it from outside.
+use Rattle.std.specs.Prelude.{◌≡◌, ◌≢◌, ℕ, ◌<◌, Bool, true, false, List, [], ◌∷◌, Option, Some, None, Result, Ok, Err, IsTrue, IfSome, IfOk, IfErr, OnErr}
+use Rattle.std.specs.FinMap as maps
+use Rattle.rec_types.specs.Contents.{Contents}
+use Rattle.rec_types.specs.History.{log_len}
+use Rattle.rec_types.specs.Table.{counted, greatest_count, Damages}
+use Rattle.rec_types.specs.declared.tables.Table.{Ghosts}
+use Rattle.rec_types.specs.declared.transactions.TxId.{TxId}
+use Rattle.rec_types.specs.declared.transactions.Entry.{Entry}
+use Rattle.tx_log.specs.Log.{record_at}
+use Rattle.tx_log.specs.declared.log_records.LogRecord.{LogRecord}
+use Rattle.tx_log.specs.declared.phases.BeginFault.{BeginFault}
+use Rattle.record_file.specs.declared.faults.PutFault.{PutFault}
+use Rattle.record_file.specs.declared.faults.RemoveFault.{RemoveFault}
+use Rattle.record_file.specs.declared.faults.GetFault.{GetFault}
+use Rattle.record_file.specs.declared.faults.SavepointFault.{SavepointFault}
+use Rattle.record_file.specs.declared.faults.ReleaseFault.{ReleaseFault}
+use Rattle.record_file.specs.declared.faults.RollbackToFault.{RollbackToFault}
+use Rattle.record_file.specs.declared.faults.AbortFault.{AbortFault}
+use Rattle.record_file.specs.declared.faults.ResumeFault.{ResumeFault}
+use Rattle.record_file.specs.declared.faults.CommitFault.{CommitFault}
+use Rattle.record_file.specs.declared.faults.EntriesFault.{EntriesFault}
+use Rattle.record_file.specs.declared.faults.KeysOfFault.{KeysOfFault}
+use Rattle.record_file.specs.declared.faults.StatusFault.{StatusFault}
+use Rattle.record_file.specs.declared.faults.Status.{Status}
+use Rattle.record_file.specs.Abstract.{File, OpenFile, Tells, charged_of, use_of}
+use Rattle.record_file.specs.Outside.{put_cause, remove_cause, get_cause, entries_cause, rollback_cause, abort_cause, resume_cause, put_by_file, remove_by_file, get_by_file, by_device, by_memory, named_by, TellsDamage}
+use Rattle.record_file.specs.declared.faults.Cause.{Cause}
+use Rattle.record_file.specs.Steps.{rose, put_refusal, remove_refusal, get_refusal, rollback_refusal, abort_refusal, resume_refusal, Accepts, BeginStep, PutStep, RemoveStep, GetStep, SavepointStep, ReleaseStep, CommitStep, RollsBackTo, RollbackToStep, Aborts, AbortStep, Resumes, ResumeStep, EntriesStep, KeysOfStep, status_of}
+
+-- a call with its arguments, and what it answered
+pub data Called : Type 0 where
+  Begin : Result TxId BeginFault → Called
+  Put : TxId → List ℕ → List ℕ → Result (Option (List ℕ)) PutFault → Called
+  Remove : TxId → List ℕ → Result (List ℕ) RemoveFault → Called
+  Get : TxId → List ℕ → Result (Option (List ℕ)) GetFault → Called
+  Savepoint : TxId → Result ℕ SavepointFault → Called
+  Release : TxId → ℕ → Result (Unit {0}) ReleaseFault → Called
+  RollbackTo : TxId → ℕ → Result ℕ RollbackToFault → Called
+  Abort : TxId → Result ℕ AbortFault → Called
+  Resume : TxId → Result ℕ ResumeFault → Called
+  Commit : TxId → Result (Unit {0}) CommitFault → Called
+  Entries : Result (List Entry) EntriesFault → Called
+  KeysOf : TxId → Result (List (List ℕ)) KeysOfFault → Called
+  StatusOf : TxId → Result Status StatusFault → Called
+  Charged : ℕ → Called
+  Begun : ℕ → Called
+  LogLen : ℕ → Called
+  LogUse : ℕ → Called
+  RecordAt : ℕ → Option LogRecord → Called
+  IntoTable : Option ℕ → Called
+
+-- a call, whether the table's device failed in it, and whether the table refused memory in it
+pub record Event : Type 0 where
+  pub called : Called
+  pub failed : Bool
+  pub refused : Bool
+
+-- what a run sees of a file: the abstract file, the log, the table's records, whether the table is sound, and what it
+-- has counted
+pub record Seen : Type 0 where
+  pub file : File
+  pub log : List LogRecord
+  pub records : Contents
+  pub sound : Bool
+  pub failures : ℕ
+  pub refusals : ℕ
+  pub damages : Damages
+
+abbrev pub seen : {T : Type 0} → Ghosts T → OpenFile T → Seen
+seen t f = record { file = f.file; log = f.log; records = t.contents f.table; sound = t.sound f.table; failures = t.device_failures f.table; refusals = t.memory_refusals f.table; damages = t.damages f.table }
+
+-- The call asks the table nothing, and leaves all but the abstract file.
+abbrev pub AsksNothing : Seen → Bool → Bool → Seen → Type 0
+AsksNothing old failed refused new = (failed ≡ false) × (refused ≡ false) × (new ≡ record old { file = new.file })
+
+-- A look leaves all that a run sees.
+abbrev pub Looks : Seen → Bool → Bool → Seen → Type 0
+Looks old failed refused new = (failed ≡ false) × (refused ≡ false) × (new ≡ old)
+
+-- The call leaves the table's records, the file and the log.
+abbrev pub Leaves : Seen → Seen → Type 0
+Leaves old new = (new.records ≡ old.records) × (new.file ≡ old.file) × (new.log ≡ old.log)
+
+-- The device failed, and the table refused memory, exactly where the answer says so.
+abbrev pub IsCaused : Option Cause → Bool → Bool → Type 0
+IsCaused cause failed refused = (failed ≡ by_device cause) × (refused ≡ by_memory cause)
+
+-- The log may refuse memory too.
+abbrev pub IsCausedOrLog : Option Cause → Bool → Bool → Type 0
+IsCausedOrLog cause failed refused = (failed ≡ by_device cause) × (IsTrue refused → IsTrue (by_memory cause))
+
+pub record Puts (old : Seen) (t : TxId) (x r : List ℕ) (answer : Result (Option (List ℕ)) PutFault) (new : Seen) : Type 0 where
+  pub step : IsTrue old.sound → old.failures < greatest_count → PutStep old.file t.0 x r (rose old.failures new.failures) answer new.file
+  pub refused : IfSome (put_refusal old.file t.0 x) (λ fault. (answer ≡ Err fault) × (new ≡ old))
+  pub refused_only : IfErr answer (λ fault. IsTrue (put_by_file fault) → put_refusal old.file t.0 x ≡ Some fault)
+  pub accepted : IfOk answer (λ before. Accepts old.file old.log t x before (Some r) new.file new.log)
+  pub err : OnErr answer (Leaves old new)
+  pub damages : TellsDamage old.damages (put_cause answer) new.damages
+
+pub record Removes (old : Seen) (t : TxId) (x : List ℕ) (answer : Result (List ℕ) RemoveFault) (new : Seen) : Type 0 where
+  pub step : IsTrue old.sound → old.failures < greatest_count → RemoveStep old.file t.0 x (rose old.failures new.failures) answer new.file
+  pub refused : IfSome (remove_refusal old.file t.0 x) (λ fault. (answer ≡ Err fault) × (new ≡ old))
+  pub refused_only : IfErr answer (λ fault. IsTrue (remove_by_file fault) → remove_refusal old.file t.0 x ≡ Some fault)
+  pub accepted : IfOk answer (λ before. Accepts old.file old.log t x (Some before) None new.file new.log)
+  pub err : OnErr answer (Leaves old new)
+  pub damages : TellsDamage old.damages (remove_cause answer) new.damages
+
+pub record Gets (old : Seen) (t : TxId) (x : List ℕ) (answer : Result (Option (List ℕ)) GetFault) (new : Seen) : Type 0 where
+  pub step : IsTrue old.sound → old.failures < greatest_count → GetStep old.file t.0 x (rose old.failures new.failures) answer new.file
+  pub refused : IfSome (get_refusal old.file t.0 x) (λ fault. (answer ≡ Err fault) × (new ≡ old))
+  pub refused_only : IfErr answer (λ fault. IsTrue (get_by_file fault) → get_refusal old.file t.0 x ≡ Some fault)
+  pub same : Leaves old new
+  pub damages : new.damages ≡ named_by old.damages (get_cause answer)
+
+pub record RollsTo (old : Seen) (t : TxId) (n : ℕ) (answer : Result ℕ RollbackToFault) (new : Seen) : Type 0 where
+  pub step : IsTrue old.sound → old.failures < greatest_count → old.refusals < greatest_count → RollbackToStep old.file t.0 n (rose old.failures new.failures) (rose old.refusals new.refusals) answer new.file
+  pub rolled : RollsBackTo old.file t.0 n answer new.file
+  pub refused : IfSome (rollback_refusal old.file t.0 n) (λ fault. (answer ≡ Err fault) × (new ≡ old))
+  pub damages : TellsDamage old.damages (rollback_cause answer) new.damages
+
+pub record IsAborted (old : Seen) (t : TxId) (answer : Result ℕ AbortFault) (new : Seen) : Type 0 where
+  pub step : IsTrue old.sound → old.failures < greatest_count → old.refusals < greatest_count → AbortStep old.file t.0 (rose old.failures new.failures) (rose old.refusals new.refusals) answer new.file
+  pub rolled : Aborts old.file t.0 answer new.file
+  pub refused : IfSome (abort_refusal old.file t.0) (λ fault. (answer ≡ Err fault) × (new ≡ old))
+  pub damages : TellsDamage old.damages (abort_cause answer) new.damages
+
+pub record IsResumed (old : Seen) (t : TxId) (answer : Result ℕ ResumeFault) (new : Seen) : Type 0 where
+  pub step : IsTrue old.sound → old.failures < greatest_count → old.refusals < greatest_count → ResumeStep old.file t.0 (rose old.failures new.failures) (rose old.refusals new.refusals) answer new.file
+  pub rolled : Resumes old.file t.0 answer new.file
+  pub refused : IfSome (resume_refusal old.file t.0) (λ fault. (answer ≡ Err fault) × (new ≡ old))
+  pub damages : TellsDamage old.damages (resume_cause answer) new.damages
+
+pub record Lists (old : Seen) (answer : Result (List Entry) EntriesFault) (new : Seen) : Type 0 where
+  pub step : IsTrue old.sound → old.failures < greatest_count → EntriesStep old.file (rose old.failures new.failures) answer new.file
+  pub same : Leaves old new
+  pub damages : new.damages ≡ named_by old.damages (entries_cause answer)
+
+-- the table is given out once no transaction is open, and else the file comes back with the number of those that are
+abbrev pub GivesTable : File → Option ℕ → Type 0
+GivesTable f None = maps.len f.txs ≡ 0
+GivesTable f (Some count) = (maps.len f.txs ≢ 0) × (count ≡ maps.len f.txs)
+
+-- From old the call may answer so, and lead to new.
+abbrev pub Answers : Seen → Called → Bool → Bool → Seen → Type 0
+Answers old (Begin answer) failed refused new = AsksNothing old failed refused new × BeginStep old.file answer new.file
+Answers old (Put t x r answer) failed refused new = IsCausedOrLog (put_cause answer) failed refused × Puts old t x r answer new
+Answers old (Remove t x answer) failed refused new = IsCausedOrLog (remove_cause answer) failed refused × Removes old t x answer new
+Answers old (Get t x answer) failed refused new = IsCaused (get_cause answer) failed refused × Gets old t x answer new
+Answers old (Savepoint t answer) failed refused new = AsksNothing old failed refused new × SavepointStep old.file t.0 answer new.file
+Answers old (Release t n answer) failed refused new = AsksNothing old failed refused new × ReleaseStep old.file t.0 n answer new.file
+Answers old (RollbackTo t n answer) failed refused new = IsCaused (rollback_cause answer) failed refused × RollsTo old t n answer new
+Answers old (Abort t answer) failed refused new = IsCaused (abort_cause answer) failed refused × IsAborted old t answer new
+Answers old (Resume t answer) failed refused new = IsCaused (resume_cause answer) failed refused × IsResumed old t answer new
+Answers old (Commit t answer) failed refused new = AsksNothing old failed refused new × CommitStep old.file t.0 answer new.file
+Answers old (Entries answer) failed refused new = IsCausedOrLog (entries_cause answer) failed refused × Lists old answer new
+Answers old (KeysOf t answer) failed refused new = Looks old failed refused new × KeysOfStep old.file t.0 answer
+Answers old (StatusOf t answer) failed refused new = Looks old failed refused new × (answer ≡ status_of old.file t.0)
+Answers old (Charged count) failed refused new = Looks old failed refused new × (IsTrue old.sound → count ≡ maps.len (charged_of old.file))
+Answers old (Begun count) failed refused new = Looks old failed refused new × (count ≡ old.file.begun)
+Answers old (LogLen count) failed refused new = Looks old failed refused new × (count ≡ log_len old.file.history)
+Answers old (LogUse count) failed refused new = Looks old failed refused new × (count ≡ use_of old.file)
+Answers old (RecordAt lsn answer) failed refused new = Looks old failed refused new × (answer ≡ record_at old.log lsn)
+Answers old (IntoTable answer) failed refused new = Looks old failed refused new × GivesTable old.file answer
+
+-- The table's counts rise by what came from outside, and by nothing else; the log tells what became of the records.
+pub record Step (old : Seen) (e : Event) (new : Seen) : Type 0 where
+  pub failures : new.failures ≡ counted old.failures e.failed
+  pub refusals : new.refusals ≡ counted old.refusals e.refused
+  pub sound : new.sound ≡ old.sound
+  pub told : Tells old.sound old.records old.log new.records new.log
+  pub answer : Answers old e.called e.failed e.refused new
+
+-- one step after another
+abbrev pub Run : Seen → List Event → Seen → Type 0
+Run old [] new = new ≡ old
+Run old (e ∷ es) new = (mid : Seen) × Step old e mid × Run mid es new
