@@ -144,9 +144,9 @@ impl<T: Table> RecordFile<T> {
         let _begun = self.log.begun();
         self.log.reserve(&key)?;
         match self.table.set(key, None)? {
-            Some(before) => {
-                let _lsn = self.log.accept(tx, key, Some(before), None);
-                Ok(before)
+            Some(taken) => {
+                let _lsn = self.log.accept(tx, key, Some(taken), None);
+                Ok(taken)
             }
             None => Err(RemoveFault::Damaged(0)),
         }
