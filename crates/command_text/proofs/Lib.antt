@@ -1,0 +1,4 @@
+pub mod CutFacts
+pub mod WordFacts
+pub mod NumberFacts
+pub mod EscapeFacts

@@ -1,0 +1,5 @@
+pub mod Grammar
+pub mod Words
+pub mod Script
+pub mod Refusals
+pub mod Texts
