@@ -21,7 +21,7 @@ abbrev pub agree_below : AsciiSet → ℕ → Bool
 agree_below set zero = true
 agree_below set (suc n) = same (should_percent_encode set n) (is_escaped n) && agree_below set n
 
-both : (a b : Bool) → a && b ≡ true → (a ≡ true) × (b ≡ true)
+pub both : (a b : Bool) → a && b ≡ true → (a ≡ true) × (b ≡ true)
 both true b is = (refl, is)
 both false b is = absurd (cc)
 

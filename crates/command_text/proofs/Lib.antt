@@ -2,3 +2,4 @@ pub mod CutFacts
 pub mod WordFacts
 pub mod NumberFacts
 pub mod EscapeFacts
+pub mod EscapeLaws

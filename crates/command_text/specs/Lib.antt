@@ -3,3 +3,4 @@ pub mod Words
 pub mod Script
 pub mod Refusals
 pub mod Texts
+pub mod Examples

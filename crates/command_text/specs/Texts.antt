@@ -1,5 +1,5 @@
 -- How keys, records and replies are written.
-use Rattle.std.specs.Prelude.{ℕ, Bool, ◌||◌, ◌==◌, nat_le, if◌then◌else◌, List, [], ◌∷◌, ◌++◌, length, Option, Some, None, Result, Ok, Err, codes}
+use Rattle.std.specs.Prelude.{ℕ, Bool, ◌&&◌, ◌||◌, ◌==◌, nat_le, if◌then◌else◌, List, [], ◌∷◌, ◌++◌, length, Option, Some, None, Result, Ok, Err, codes}
 use Rattle.std.specs.List.{flat_map}
 use Rattle.std.specs.Fmt.{decimal}
 use Rattle.percent_encoding.specs.Percent.{percent_encode_byte}
@@ -18,6 +18,10 @@ use Rattle.command_text.specs.Refusals.{begin_refusal, put_refusal, remove_refus
 -- the bytes 0 to 32, `%`, and those from 127 on are written as `%` and two upper case hexadecimal digits
 abbrev pub is_escaped : ℕ → Bool
 is_escaped b = nat_le b 32 || b == 37 || nat_le 127 b
+
+-- a byte that stands for itself, between spaces
+abbrev pub is_plain : ℕ → Bool
+is_plain b = nat_le 33 b && nat_le b 126
 
 abbrev pub escaped_byte : ℕ → List ℕ
 escaped_byte b = if is_escaped b then percent_encode_byte b else b ∷ []

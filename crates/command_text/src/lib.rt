@@ -3,6 +3,7 @@
 
 mod arguments;
 mod commands;
+pub mod laws;
 mod lists;
 mod reading;
 mod refusals;
