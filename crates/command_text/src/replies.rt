@@ -224,7 +224,7 @@ fn reply_text(alloc: Global, reply: &Reply) -> Result<String, AllocError>
 {
     let mut text = String::with_capacity(alloc, LINE_ROOM)?;
     push_reply(&mut text, reply)?;
-    text.push_str("\n")?;
+    text.push('\n')?;
     Ok(text)
 }
 
