@@ -1,16 +1,15 @@
 -- What is written of bytes.
-use Rattle.std.proofs.Common.{◌≡◌, ℕ, ◌+◌, ◌*◌, ◌^◌, ◌<◌, zero, suc, Bool, true, false, cond, ◌&&◌, List, [], ◌∷◌, ◌++◌, get_or, length, ◌==◌, nat_lt, Ok, Err, inl, inr, refl, sym, subst, ◌∙◌, arith}
+use Rattle.std.proofs.Common.{◌≡◌, ℕ, ◌+◌, ◌*◌, ◌^◌, ◌<◌, zero, suc, Bool, true, false, cond, ◌&&◌, List, [], ◌∷◌, get_or, length, ◌==◌, nat_lt, Ok, Err, inl, inr, refl, subst, ◌∙◌, arith}
 use Rattle.std.specs.Char.{digit_value}
-use Rattle.std.specs.List.{All, flat_map, list_all}
+use Rattle.std.specs.List.{All, list_all}
 use Rattle.std.proofs.lemmas.Bool.{cases_lt}
 use Rattle.std.proofs.lemmas.Bool.Decides.{nat_tests}
 use Rattle.std.proofs.lemmas.List.Folds.{list_all-append}
 use Rattle.std.proofs.lemmas.List.Elements.{All-head, All-tail}
 use Rattle.percent_encoding.specs.declared.ascii_set.AsciiSet.{AsciiSet}
 use Rattle.percent_encoding.specs.AsciiSet.{should_percent_encode}
-use Rattle.percent_encoding.specs.Percent.{is_escape, percent_decode, percent_encode, percent_encode_byte}
+use Rattle.percent_encoding.specs.Percent.{is_escape, percent_decode, percent_encode_byte}
 use Rattle.percent_encoding.proofs.PercentLemmas.{round_trip}
-use Rattle.rec_types.specs.Key.{key_of}
 use Rattle.rec_types.specs.declared.keys.KeyFault.TheVariants.{Empty, TooLong}
 use Rattle.command_text.specs.declared.commands.LineFault.TheVariants.{KeyTooLong}
 use Rattle.command_text.specs.Grammar.{is_word, or_fault, key_at}

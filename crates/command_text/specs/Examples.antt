@@ -1,5 +1,5 @@
 -- Values by example.
-use Rattle.std.specs.Prelude.{ℕ, List, [], ◌∷◌, Some, None, Ok, Err, codes}
+use Rattle.std.specs.Prelude.{ℕ, [], ◌∷◌, Some, None, codes}
 use Rattle.rec_types.specs.declared.transactions.TxId.{TxId}
 use Rattle.rec_types.specs.declared.transactions.Entry.{Entry}
 

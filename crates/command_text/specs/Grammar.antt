@@ -1,5 +1,5 @@
 -- The words of a line, and the command or the first fault that they say.
-use Rattle.std.specs.Prelude.{◌≡◌, ℕ, ◌+◌, ◌-◌, ◌*◌, ◌^◌, Bool, true, false, ◌&&◌, ◌==◌, nat_lt, nat_le, if◌then◌else◌, List, [], ◌∷◌, length, filter, Option, Some, None, ok_or, Result, Ok, Err, codes}
+use Rattle.std.specs.Prelude.{ℕ, ◌+◌, ◌-◌, ◌*◌, ◌^◌, Bool, true, false, ◌&&◌, ◌==◌, nat_lt, nat_le, if◌then◌else◌, List, [], ◌∷◌, length, filter, Option, Some, None, ok_or, Result, Ok, Err, codes}
 use Rattle.std.specs.List.{slice_split, list_all}
 use Rattle.std.specs.Cmp.Lexicographic.{pointwise}
 use Rattle.std.specs.Io.BufRead.{strip_last}
@@ -54,7 +54,9 @@ value_of (b ∷ bs) = (b - 48) * 10 ^ length bs + value_of bs
 
 -- one or more digits, below 2 ^ 32
 abbrev pub number_of : List ℕ → Option ℕ
-number_of word = if is_word word && list_all is_digit word && nat_lt (value_of word) (2 ^ 32) then Some (value_of word) else None
+number_of word =
+    if is_word word && list_all is_digit word && nat_lt (value_of word) (2 ^ 32)
+    then Some (value_of word) else None
 
 abbrev pub number_at : List ℕ → Read ℕ
 number_at word = ok_or (number_of word) BadNumber
@@ -70,7 +72,8 @@ key_at word = or_fault KeyTooLong (key_of (percent_decode word))
 -- a record: what follows the `=` with which its word begins
 abbrev pub record_at : List ℕ → Read (List ℕ)
 record_at [] = Err NoRecordMark
-record_at (b ∷ bs) = if b == 61 then or_fault RecordTooLong (record_of (percent_decode bs)) else Err NoRecordMark
+record_at (b ∷ bs) =
+    if b == 61 then or_fault RecordTooLong (record_of (percent_decode bs)) else Err NoRecordMark
 
 -- so many words, and no more
 abbrev pub one_of : List (List ℕ) → Read (List ℕ)
@@ -100,7 +103,9 @@ abbrev pub tx_key_of : List (List ℕ) → Read (TxId × List ℕ)
 tx_key_of words = two_of words >>= λ w. tx_at w.0 >>= λ t. key_at w.1 >>= λ k. Ok (t, k)
 
 abbrev pub tx_key_record_of : List (List ℕ) → Read (TxId × List ℕ × List ℕ)
-tx_key_record_of words = three_of words >>= λ w. tx_at w.0 >>= λ t. key_at w.1 >>= λ k. record_at w.2 >>= λ r. Ok (t, k, r)
+tx_key_record_of words =
+    three_of words >>= λ w. tx_at w.0 >>= λ t. key_at w.1 >>= λ k. record_at w.2 >>= λ r.
+    Ok (t, k, r)
 
 -- whether the bytes are the text
 abbrev pub is_text : List ℕ → List ℕ → Bool
@@ -131,7 +136,8 @@ begins_with_hash (b ∷ bs) = b == 35
 -- a line without words, or whose first word begins with `#`, says nothing
 abbrev pub line_of_words : List (List ℕ) → Read (Option Command)
 line_of_words [] = Ok None
-line_of_words (name ∷ words) = if begins_with_hash name then Ok None else read_as Some (command_of name words)
+line_of_words (name ∷ words) =
+    if begins_with_hash name then Ok None else read_as Some (command_of name words)
 
 -- what a line says; one CR at its end doesn't count
 unfoldable pub line_of : List ℕ → Read (Option Command)

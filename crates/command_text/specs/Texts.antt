@@ -51,7 +51,8 @@ refusal_text refusals.Absent = codes "no Absent"
 refusal_text refusals.TooDeep = codes "no TooDeep"
 refusal_text refusals.NoSuchSave = codes "no NoSuchSave"
 refusal_text (refusals.Failed cause) = codes "no " ++ cause_text cause
-refusal_text (refusals.Stopped undone left cause) = codes "stopped " ++ decimal undone ++ codes " " ++ decimal left ++ codes " " ++ cause_text cause
+refusal_text (refusals.Stopped undone left cause) =
+    codes "stopped " ++ decimal undone ++ codes " " ++ decimal left ++ codes " " ++ cause_text cause
 
 abbrev pub fault_text : LineFault → List ℕ
 fault_text line_faults.UnknownCommand = codes "bad UnknownCommand"
@@ -81,7 +82,8 @@ owner_text (Some t) = codes " @" ++ decimal t.0
 
 -- a record, and the owner of its key where it has one
 abbrev pub entry_line : Entry → List ℕ
-entry_line e = line (codes "- " ++ escaped e.key ++ codes " =" ++ escaped e.value ++ owner_text e.owner)
+entry_line e =
+    line (codes "- " ++ escaped e.key ++ codes " =" ++ escaped e.value ++ owner_text e.owner)
 
 abbrev pub key_line : List ℕ → List ℕ
 key_line k = line (codes "- " ++ escaped k)

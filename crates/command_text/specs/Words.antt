@@ -1,5 +1,5 @@
 -- Cutting words off a line.
-use Rattle.std.specs.Prelude.{◌≡◌, ℕ, Bool, false, List, [], ◌∷◌}
+use Rattle.std.specs.Prelude.{◌≡◌, ℕ, false, List, [], ◌∷◌}
 use Rattle.command_text.specs.Grammar.{is_space}
 
 -- nothing, or a byte first that is no space

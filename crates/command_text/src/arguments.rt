@@ -10,7 +10,8 @@ use rec_types::{Key, Record, TxId};
 
 // The digit that a byte stands for.
 fn digit_of(byte: u8) -> Option<u8>
-    ensures { MatchOption result (is_digit byte ≡ false) (λ d. (is_digit byte ≡ true) × (d ≡ byte - 48) × (d ≤ 9)) }
+    ensures { MatchOption result (is_digit byte ≡ false)
+        (λ d. (is_digit byte ≡ true) × (d ≡ byte - 48) × (d ≤ 9)) }
 {
     if byte < b'0' || byte > b'9' {
         return None;

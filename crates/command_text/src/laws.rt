@@ -16,18 +16,22 @@ ghost use Rattle.command_text.specs.declared.replies.Reply.TheVariants as reply;
 /// The lines of a script by example: cut at each LF, and nothing after the last one is no line.
 pub fn lines_by_example()
     ensures none { lines_of [] ≡ [] }
-    ensures ended { lines_of (codes "ab" ++ 10 ∷ codes "c" ++ 10 ∷ []) ≡ codes "ab" ∷ codes "c" ∷ [] }
+    ensures ended { lines_of (codes "ab" ++ 10 ∷ codes "c" ++ 10 ∷ [])
+        ≡ codes "ab" ∷ codes "c" ∷ [] }
     ensures unended { lines_of (codes "ab" ++ 10 ∷ codes "c") ≡ codes "ab" ∷ codes "c" ∷ [] }
     ensures blank { lines_of (10 ∷ 10 ∷ codes "c") ≡ [] ∷ [] ∷ codes "c" ∷ [] }
     ensures words { words_of (codes "  save   1 ") ≡ codes "save" ∷ codes "1" ∷ [] }
-    ensures entries { entries_of (codes "log" ++ 10 ∷ codes "# log" ++ 10 ∷ 10 ∷ codes "lag" ++ 10 ∷ codes "list")
+    ensures entries { entries_of
+        (codes "log" ++ 10 ∷ codes "# log" ++ 10 ∷ 10 ∷ codes "lag" ++ 10 ∷ codes "list")
         ≡ Ok command.Log ∷ Err faults.UnknownCommand ∷ Ok command.List ∷ [] }
 {}
 
 /// Lines by example: what each says, and the first fault where there are two.
 pub fn commands_by_example()
-    ensures put { line_of (codes "put 1 a =x") ≡ Ok (Some (command.Put (tx 1) (codes "a") (codes "x"))) }
-    ensures escapes { line_of (codes "put 012 %41%zz =%c3%A9%") ≡ Ok (Some (command.Put (tx 12) (codes "A%zz") (195 ∷ 169 ∷ 37 ∷ []))) }
+    ensures put { line_of (codes "put 1 a =x")
+        ≡ Ok (Some (command.Put (tx 1) (codes "a") (codes "x"))) }
+    ensures escapes { line_of (codes "put 012 %41%zz =%c3%A9%")
+        ≡ Ok (Some (command.Put (tx 12) (codes "A%zz") (195 ∷ 169 ∷ 37 ∷ []))) }
     ensures ended { line_of (codes "begin" ++ 13 ∷ []) ≡ Ok (Some command.Begin) }
     ensures ended_twice { line_of (codes "begin" ++ 13 ∷ 13 ∷ []) ≡ Err faults.UnknownCommand }
     ensures comment { line_of (codes " #begin") ≡ Ok None }
@@ -42,7 +46,8 @@ pub fn commands_by_example()
 /// A word of a line has a byte, and so its key has one: it is too long, or a key.
 pub fn keys_of_words()
     ensures { (word : List ℕ) → is_word word ≡ true → key_at word
-        ≡ (if nat_lt 16 (length (percent_decode word)) then Err faults.KeyTooLong else Ok (percent_decode word)) }
+        ≡ (if nat_lt 16 (length (percent_decode word)) then Err faults.KeyTooLong
+        else Ok (percent_decode word)) }
 {}
 
 /// What is written of bytes is read as the same bytes, and needs no escape itself: no space, no line's end.
@@ -58,8 +63,12 @@ pub fn replies_by_example()
     ensures begun { text_of (reply.Begin (Ok (tx 12))) ≡ codes "ok 12" ++ 10 ∷ [] }
     ensures none { text_of (reply.Get (Ok None)) ≡ codes "ok none" ++ 10 ∷ [] }
     ensures held { text_of (reply.Put (Err (put_faults.Held (tx 3)))) ≡ codes "no Held 3" ++ 10 ∷ [] }
-    ensures stopped { text_of (reply.Back (Err (rollback_faults.Stopped 1 20 (causes.Damaged 5)))) ≡ codes "stopped 1 20 Damaged 5" ++ 10 ∷ [] }
-    ensures list { text_of (reply.List (Ok (free ∷ owned ∷ []))) ≡ codes "- %00 =" ++ 10 ∷ codes "- a =x @7" ++ 10 ∷ codes "ok 2" ++ 10 ∷ [] }
-    ensures run { texts_of (reply.Log 4 8 ∷ reply.Bad faults.WordCount ∷ []) ≡ codes "ok 4 8" ++ 10 ∷ codes "bad WordCount" ++ 10 ∷ [] }
-    ensures run_in_order { texts_of (reply.Log 4 8 ∷ reply.Bad faults.WordCount ∷ []) ≢ texts_of (reply.Bad faults.WordCount ∷ reply.Log 4 8 ∷ []) }
+    ensures stopped { text_of (reply.Back (Err (rollback_faults.Stopped 1 20 (causes.Damaged 5))))
+        ≡ codes "stopped 1 20 Damaged 5" ++ 10 ∷ [] }
+    ensures list { text_of (reply.List (Ok (free ∷ owned ∷ [])))
+        ≡ codes "- %00 =" ++ 10 ∷ codes "- a =x @7" ++ 10 ∷ codes "ok 2" ++ 10 ∷ [] }
+    ensures run { texts_of (reply.Log 4 8 ∷ reply.Bad faults.WordCount ∷ [])
+        ≡ codes "ok 4 8" ++ 10 ∷ codes "bad WordCount" ++ 10 ∷ [] }
+    ensures run_in_order { texts_of (reply.Log 4 8 ∷ reply.Bad faults.WordCount ∷ [])
+        ≢ texts_of (reply.Bad faults.WordCount ∷ reply.Log 4 8 ∷ []) }
 {}

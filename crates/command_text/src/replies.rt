@@ -147,7 +147,8 @@ fn push_entry(text: &mut String, entry: &Entry) -> Result<(), AllocError>
 }
 
 fn push_lines_of_entries(text: &mut String, entries: &[Entry]) -> Result<(), AllocError>
-    ensures { OnOk result (string_bytes text.new ≡ string_bytes text.old ++ flat_map entry_line entries.now) }
+    ensures { OnOk result
+        (string_bytes text.new ≡ string_bytes text.old ++ flat_map entry_line entries.now) }
 {
     for entry in entries {
         push_entry(text, entry)?;
@@ -165,7 +166,8 @@ fn push_entries(text: &mut String, entries: &EntryList) -> Result<(), AllocError
 }
 
 fn push_lines_of_keys(text: &mut String, keys: &[Key]) -> Result<(), AllocError>
-    ensures { OnOk result (string_bytes text.new ≡ string_bytes text.old ++ flat_map key_line keys.now) }
+    ensures { OnOk result
+        (string_bytes text.new ≡ string_bytes text.old ++ flat_map key_line keys.now) }
 {
     for key in keys {
         text.push_str("- ")?;

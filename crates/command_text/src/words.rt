@@ -31,7 +31,8 @@ fn skip_spaces(text: &[u8]) -> &[u8]
 
 /// The first word of a line, and what comes after it.
 pub fn next_word(text: &[u8]) -> Option<(&[u8], &[u8])>
-    ensures { MatchOption result (words_of text.now ≡ []) (λ p. words_of text.now ≡ p.0.now ∷ words_of p.1.now) }
+    ensures { MatchOption result (words_of text.now ≡ [])
+        (λ p. words_of text.now ≡ p.0.now ∷ words_of p.1.now) }
 {
     let text = skip_spaces(text);
     if text.is_empty() {

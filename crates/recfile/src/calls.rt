@@ -8,7 +8,8 @@ use record_file::RecordFile;
 
 // The records of the file, or why there is no list of them.
 fn list<T: Table>(file: &mut RecordFile<T>) -> Reply
-    ensures { Step (seen_by T.sound T.device_failures T.memory_refusals file.old) (Ok commands.List) result (seen_by T.sound T.device_failures T.memory_refusals file.new) }
+    ensures { Step (seen_by T.sound T.device_failures T.memory_refusals file.old)
+        (Ok commands.List) result (seen_by T.sound T.device_failures T.memory_refusals file.new) }
 {
     match file.entries() {
         Ok(entries) => Reply::List(Ok(EntryList::new(entries))),
@@ -18,7 +19,8 @@ fn list<T: Table>(file: &mut RecordFile<T>) -> Reply
 
 // The keys that a transaction owns.
 fn keys<T: Table>(file: &mut RecordFile<T>, tx: TxId) -> Reply
-    ensures { Step (seen_by T.sound T.device_failures T.memory_refusals file.old) (Ok (commands.Keys tx)) result (seen_by T.sound T.device_failures T.memory_refusals file.new) }
+    ensures { Step (seen_by T.sound T.device_failures T.memory_refusals file.old)
+        (Ok (commands.Keys tx)) result (seen_by T.sound T.device_failures T.memory_refusals file.new) }
 {
     match file.keys_of(tx) {
         Ok(keys) => Reply::Keys(Ok(KeyList::new(keys))),
@@ -28,7 +30,8 @@ fn keys<T: Table>(file: &mut RecordFile<T>, tx: TxId) -> Reply
 
 /// Makes the call that a command asks for.
 pub fn call<T: Table>(file: &mut RecordFile<T>, command: Command) -> Reply
-    ensures { Step (seen_by T.sound T.device_failures T.memory_refusals file.old) (Ok command) result (seen_by T.sound T.device_failures T.memory_refusals file.new) }
+    ensures { Step (seen_by T.sound T.device_failures T.memory_refusals file.old)
+        (Ok command) result (seen_by T.sound T.device_failures T.memory_refusals file.new) }
 {
     match command {
         Command::Begin => Reply::Begin(file.begin()),
@@ -62,7 +65,11 @@ pub fn reply_to<T: Table>(
     file: &mut RecordFile<T>,
     said: Result<Option<Command>, LineFault>,
 ) -> Option<Reply>
-    ensures { MatchOption result ((said ≡ Ok None) × (seen_by T.sound T.device_failures T.memory_refusals file.new ≡ seen_by T.sound T.device_failures T.memory_refusals file.old)) (λ reply. LineStep (seen_by T.sound T.device_failures T.memory_refusals file.old) said reply (seen_by T.sound T.device_failures T.memory_refusals file.new)) }
+    ensures { MatchOption result
+        ((said ≡ Ok None) × (seen_by T.sound T.device_failures T.memory_refusals file.new
+        ≡ seen_by T.sound T.device_failures T.memory_refusals file.old))
+        (λ reply. LineStep (seen_by T.sound T.device_failures T.memory_refusals file.old)
+        said reply (seen_by T.sound T.device_failures T.memory_refusals file.new)) }
 {
     match said {
         Ok(None) => None,

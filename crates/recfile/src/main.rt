@@ -22,11 +22,12 @@ fn main(rt: HostRuntime) -> ExitCode {
         unreachable!()
     };
     let mut file = RecordFile::new(alloc, SortedTable::new(alloc, limits), limits);
-    match run_script(alloc, &mut rt.stdin(), &mut rt.stdout(), &mut file) {
-        Ok(_) => ExitCode::from(exit_status(false, false, false)),
+    let script_fault = match run_script(alloc, &mut rt.stdin(), &mut rt.stdout(), &mut file) {
+        Ok(_) => false,
         Err(fault) => {
             let _ = eprintln!(rt; "recfile: {fault}");
-            ExitCode::from(exit_status(false, false, true))
+            true
         }
-    }
+    };
+    ExitCode::from(exit_status(false, false, script_fault))
 }
