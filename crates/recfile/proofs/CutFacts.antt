@@ -1,9 +1,9 @@
 -- Where a script is cut at its first LF.
-use Rattle.std.proofs.Common.{◌≡◌, ℕ, ◌+◌, ◌-◌, ◌<◌, Bool, true, false, List, [], ◌∷◌, length, take, drop, Some, None, refl, sym, ap, ◌∙◌, arith}
+use Rattle.std.proofs.Common.{◌≡◌, ℕ, ◌+◌, ◌-◌, ◌<◌, List, [], ◌∷◌, length, take, drop, Some, None, refl, sym, ap, ◌∙◌, arith}
 use Rattle.std.specs.List.{slice_split, position}
 use Rattle.std.proofs.lemmas.List.{drop_all}
 use Rattle.std.proofs.lemmas.List.Splits.{length-slice_split}
-use Rattle.command_text.specs.Grammar.{is_word, line_of}
+use Rattle.command_text.specs.Grammar.{line_of}
 use Rattle.command_text.specs.Script.{is_lf, without_empty_last, keep, entries_in, entries_of}
 use Rattle.command_text.proofs.CutFacts.{cut_some, cut_none, rest_cut}
 
