@@ -1,49 +1,32 @@
--- Where a text is cut at the first byte that passes a test.
-use Rattle.std.proofs.Common.{◌≡◌, ℕ, ◌+◌, ◌-◌, ◌<◌, Bool, true, false, cond, nat_lt, List, [], ◌∷◌, length, take, drop, get_or, Some, None, refl, sym, ap, subst, ◌∙◌, arith}
-use Rattle.std.proofs.lemmas.Bool.Decides.{nat_tests}
-use Rattle.std.specs.List.{slice_split, position, position_or_len}
-use Rattle.std.proofs.lemmas.List.Splits.{slice_split_first, slice_split_none}
-use Rattle.std.proofs.lemmas.List.Sums.{fails_before_first}
-use Rattle.recfile.specs.declared.commands.Line.{Line}
-use Rattle.recfile.specs.declared.commands.Line.TheVariants as lines
-use Rattle.recfile.specs.Script.{is_lf, line_of, keep, entries_in, entries_of}
-use Rattle.std.proofs.lemmas.List.{take_all, length-drop, drop_all}
+-- Where a script is cut at its first LF.
+use Rattle.std.proofs.Common.{◌≡◌, ℕ, ◌+◌, ◌-◌, ◌<◌, List, [], ◌∷◌, length, take, drop, Some, None, refl, sym, ap, ◌∙◌, arith}
+use Rattle.std.specs.List.{slice_split, position}
+use Rattle.std.proofs.lemmas.List.{drop_all}
+use Rattle.std.proofs.lemmas.List.Splits.{length-slice_split}
+use Rattle.command_text.specs.Grammar.{line_of}
+use Rattle.command_text.specs.Script.{is_lf, without_empty_last, keep, entries_in, entries_of}
+use Rattle.command_text.proofs.CutFacts.{cut_some, cut_none, rest_cut}
 
-found_is : (b : Bool) (n i : ℕ) → cond b (Some n) None ≡ Some i → (b ≡ true) × (n ≡ i)
-found_is true n i is = (refl, cc)
-found_is false n i is = absurd (cc)
+-- a line is no last one where more pieces follow
+first_stays : (line : List ℕ) (rest : List (List ℕ)) → 0 < length rest → without_empty_last (line ∷ rest) ≡ line ∷ without_empty_last rest
+first_stays line [] some = absurd (omega arith)
+first_stays line (next ∷ rest) some = refl
 
-none_is : (b : Bool) (n : ℕ) → cond b (Some n) None ≡ None → b ≡ false
-none_is true n is = absurd (cc)
-none_is false n is = refl
-
-pub cut_some : (p : ℕ → Bool) (xs : List ℕ) (i : ℕ) → position p xs ≡ Some i → (i < length xs) × (slice_split p xs ≡ take i xs ∷ slice_split p (drop (i + 1) xs))
-cut_some p xs i is =
-    let found = found_is (nat_lt (position_or_len p xs) (length xs)) (position_or_len p xs) i is in
-    let lt : position_or_len p xs < length xs = grind (arith, nat_tests, found.0) in
-    subst (λ n. (n < length xs) × (slice_split p xs ≡ take n xs ∷ slice_split p (drop (n + 1) xs))) found.1 (lt, slice_split_first p xs 0 lt)
-
-pub cut_none : (p : ℕ → Bool) (xs : List ℕ) → position p xs ≡ None → slice_split p xs ≡ xs ∷ []
-cut_none p xs is =
-    let none = none_is (nat_lt (position_or_len p xs) (length xs)) (position_or_len p xs) is in
-    slice_split_none p xs (λ k d lt. fails_before_first p xs k d (grind (arith, nat_tests, none)))
-
-pub all_fail : (p : ℕ → Bool) (xs : List ℕ) → position p xs ≡ None → (k : ℕ) → k < length xs → p (get_or xs k 0) ≡ false
-all_fail p xs is k lt =
-    let none = none_is (nat_lt (position_or_len p xs) (length xs)) (position_or_len p xs) is in
-    fails_before_first p xs k 0 (grind (arith, nat_tests, none))
-
--- what is left after a cut, as a range gives it
-pub rest_cut : (xs : List ℕ) (n : ℕ) → take (length xs - n) (drop n xs) ≡ drop n xs
-rest_cut xs n = take_all _ _ (omega (arith, length-drop {A = ℕ}))
-
-pub empty_line : line_of [] ≡ lines.Nothing
-unfolding line_of
-empty_line = refl
+whole_stays : (line : List ℕ) → 0 < length line → without_empty_last (line ∷ []) ≡ line ∷ []
+whole_stays [] some = absurd (omega arith)
+whole_stays (b ∷ bs) some = refl
 
 -- a text is its first line and the text after it
 pub entries_cut : (text : List ℕ) (i : ℕ) → position is_lf text ≡ Some i → entries_of text ≡ keep (line_of (take i text)) (entries_of (take (length text - (i + 1)) (drop (i + 1) text)))
-entries_cut text i is = ap entries_in (cut_some is_lf text i is).1 ∙ ap (λ (rest : List ℕ). keep (line_of (take i text)) (entries_of rest)) (sym (rest_cut text (i + 1)))
+entries_cut text i is =
+    let rest : List ℕ = drop (i + 1) text in
+    let some : 0 < length (slice_split is_lf rest) = omega (arith, length-slice_split is_lf rest) in
+    ap (λ (pieces : List (List ℕ)). entries_in (without_empty_last pieces)) (cut_some is_lf text i is).1
+    ∙ ap entries_in (first_stays (take i text) (slice_split is_lf rest) some)
+    ∙ ap (λ (after : List ℕ). keep (line_of (take i text)) (entries_of after)) (sym (rest_cut text (i + 1)))
 
-pub entries_whole : (text : List ℕ) → position is_lf text ≡ None → entries_of text ≡ keep (line_of text) (entries_of (take (length text - length text) (drop (length text) text)))
-entries_whole text is = ap entries_in (cut_none is_lf text is) ∙ ap (λ (rest : List Line). keep (line_of text) rest) (sym (ap entries_of (rest_cut text (length text) ∙ drop_all (length text) text (omega arith)) ∙ ap (λ (l : Line). keep l []) empty_line))
+pub entries_whole : (text : List ℕ) → 0 < length text → position is_lf text ≡ None → entries_of text ≡ keep (line_of text) (entries_of (take (length text - length text) (drop (length text) text)))
+entries_whole text some is =
+    ap (λ (pieces : List (List ℕ)). entries_in (without_empty_last pieces)) (cut_none is_lf text is)
+    ∙ ap entries_in (whole_stays text some)
+    ∙ ap (λ (after : List ℕ). keep (line_of text) (entries_of after)) (sym (rest_cut text (length text) ∙ drop_all (length text) text (omega arith)))

@@ -1,5 +1,2 @@
 pub mod CutFacts
-pub mod WordFacts
-pub mod NumberFacts
-pub mod EscapeFacts
 pub mod RunFacts

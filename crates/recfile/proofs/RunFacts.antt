@@ -1,28 +1,27 @@
 -- A run grows by one line at a time.
-use Rattle.std.proofs.Common.{◌≡◌, ℕ, ◌+◌, ◌<◌, ◌≤◌, Bool, true, false, cond, List, [], ◌∷◌, ◌++◌, length, filter, Option, refl, sym, ap, subst, ◌∙◌, arith, ◌==◌}
+use Rattle.std.proofs.Common.{◌≡◌, ℕ, ◌+◌, ◌<◌, ◌≤◌, Bool, true, false, cond, List, [], ◌∷◌, ◌++◌, length, filter, Option, Some, None, Ok, Err, refl, sym, ap, subst, ◌∙◌, arith, ◌==◌}
 use Rattle.std.proofs.lemmas.Grind.{common_steps}
 use Rattle.std.proofs.lemmas.Bool.Decides.{nat_tests}
 use Rattle.std.specs.List.{flat_map}
 use Rattle.std.specs.Io.KnownBytes.{Appends}
 use Rattle.std.proofs.KnownBytes.{Appends-trans}
 use Rattle.std.proofs.lemmas.List.{append_assoc, append-nil}
-use Rattle.recfile.proofs.CutFacts.{empty_line}
-use Rattle.recfile.specs.declared.commands.Line.{Line}
-use Rattle.recfile.specs.declared.commands.Line.TheVariants as lines
-use Rattle.recfile.specs.declared.replies.Reply.{Reply}
-use Rattle.recfile.specs.Script.{entries_of, keep}
-use Rattle.recfile.specs.Texts.{text_of}
-use Rattle.recfile.specs.Run.{Seen, Step, Session, Served, StopsAt, IsUnsent, is_command, commands}
+use Rattle.command_text.specs.declared.commands.Command.{Command}
+use Rattle.command_text.specs.declared.replies.Reply.{Reply}
+use Rattle.command_text.specs.Grammar.{Read}
+use Rattle.command_text.specs.Script.{entries_of, keep}
+use Rattle.command_text.specs.Texts.{text_of}
+use Rattle.recfile.specs.Run.{Seen, Step, LineStep, Session, Served, StopsAt, IsUnsent, is_command, says_command, commands}
 use Rattle.recfile.specs.declared.scripts.ScriptFault.{ScriptFault}
 use Rattle.recfile.specs.declared.scripts.ScriptFault.TheVariants as faults
 
-pub session-more : (old mid new : Seen) (front : List Line) (replies : List Reply) (line : Line) (answer : Reply) → Session old front replies mid → Step mid line answer new → Session old (front ++ line ∷ []) (replies ++ answer ∷ []) new
-session-more old mid new [] [] line answer ran step = (new, subst (λ (s : Seen). Step s line answer new) ran step, refl)
-session-more old mid new [] (first ∷ replies) line answer ran step = absurd ran
-session-more old mid new (entry ∷ front) [] line answer ran step = absurd ran
-session-more old mid new (entry ∷ front) (first ∷ replies) line answer ran step = (ran.0, ran.1, session-more ran.0 mid new front replies line answer ran.2 step)
+pub session-more : (old mid new : Seen) (front : List (Read Command)) (replies : List Reply) (said : Read Command) (answer : Reply) → Session old front replies mid → Step mid said answer new → Session old (front ++ said ∷ []) (replies ++ answer ∷ []) new
+session-more old mid new [] [] said answer ran step = (new, subst (λ (s : Seen). Step s said answer new) ran step, refl)
+session-more old mid new [] (first ∷ replies) said answer ran step = absurd ran
+session-more old mid new (entry ∷ front) [] said answer ran step = absurd ran
+session-more old mid new (entry ∷ front) (first ∷ replies) said answer ran step = (ran.0, ran.1, session-more ran.0 mid new front replies said answer ran.2 step)
 
-commands-more : (front : List Line) (line : Line) → commands (front ++ line ∷ []) ≡ commands front + cond (is_command line) 1 0
+commands-more : (front : List (Read Command)) (line : Read Command) → commands (front ++ line ∷ []) ≡ commands front + cond (is_command line) 1 0
 commands-more [] line = at (is_command line)
   where
     at : (b : Bool) → length (cond b (line ∷ []) []) ≡ 0 + cond b 1 0
@@ -34,21 +33,29 @@ commands-more (entry ∷ front) line = at (is_command entry) (commands-more fron
     at true is = omega (arith, is)
     at false is = is
 
--- a line that has a reply says something
-kept : (mid new : Seen) (line : Line) (answer : Reply) (rest : List Line) → Step mid line answer new → keep line rest ≡ line ∷ rest
-kept mid new lines.Nothing answer rest step = absurd step.replies
-kept mid new lines.Unread answer rest step = refl
-kept mid new (lines.Said c) answer rest step = refl
+-- a line that has a reply says something: one entry of the script
+record Entry (mid : Seen) (line : Read (Option Command)) (answer : Reply) (new : Seen) : Type 0 where
+  said : Read Command
+  kept : (rest : List (Read Command)) → keep line rest ≡ said ∷ rest
+  counted : is_command said ≡ says_command line
+  step : Step mid said answer new
 
-pub served-more : (script rest after : List ℕ) (old mid new : Seen) (replies : List Reply) (done more : ℕ) (line : Line) (answer : Reply) → Served script rest old replies mid done → entries_of rest ≡ keep line (entries_of after) → Step mid line answer new → more ≡ done + cond (is_command line) 1 0 → Served script after old (replies ++ answer ∷ []) new more
-served-more script rest after old mid new replies done more line answer served cut step count = record {
-  front = served.front ++ line ∷ [];
-  split = served.split ∙ ap (λ es. served.front ++ es) (cut ∙ kept mid new line answer (entries_of after) step) ∙ sym (append_assoc served.front (line ∷ []) (entries_of after));
-  ran = session-more old mid new served.front replies line answer served.ran step;
-  count = count ∙ ap (λ n. n + cond (is_command line) 1 0) served.count ∙ sym (commands-more served.front line);
-}
+entry_of : (mid new : Seen) (line : Read (Option Command)) (answer : Reply) → LineStep mid line answer new → Entry mid line answer new
+entry_of mid new (Ok None) answer step = absurd step
+entry_of mid new (Ok (Some c)) answer step = record { said = Ok c; kept = λ rest. refl; counted = refl; step = step }
+entry_of mid new (Err fault) answer step = record { said = Err fault; kept = λ rest. refl; counted = refl; step = step }
 
-pub served-on : (script rest after : List ℕ) (old mid new : Seen) (replies : List Reply) (done : ℕ) (line : Line) → Served script rest old replies mid done → entries_of rest ≡ keep line (entries_of after) → line ≡ lines.Nothing → new ≡ mid → Served script after old replies new done
+pub served-more : (script rest after : List ℕ) (old mid new : Seen) (replies : List Reply) (done more : ℕ) (line : Read (Option Command)) (answer : Reply) → Served script rest old replies mid done → entries_of rest ≡ keep line (entries_of after) → LineStep mid line answer new → more ≡ done + cond (says_command line) 1 0 → Served script after old (replies ++ answer ∷ []) new more
+served-more script rest after old mid new replies done more line answer served cut step count =
+    let e = entry_of mid new line answer step in
+    record {
+      front = served.front ++ e.said ∷ [];
+      split = served.split ∙ ap (λ es. served.front ++ es) (cut ∙ e.kept (entries_of after)) ∙ sym (append_assoc served.front (e.said ∷ []) (entries_of after));
+      ran = session-more old mid new served.front replies e.said answer served.ran e.step;
+      count = count ∙ ap (λ n. n + cond (says_command line) 1 0) served.count ∙ ap (λ b. commands served.front + cond b 1 0) (sym e.counted) ∙ sym (commands-more served.front e.said);
+    }
+
+pub served-on : (script rest after : List ℕ) (old mid new : Seen) (replies : List Reply) (done : ℕ) (line : Read (Option Command)) → Served script rest old replies mid done → entries_of rest ≡ keep line (entries_of after) → line ≡ Ok None → new ≡ mid → Served script after old replies new done
 served-on script rest after old mid new replies done line served cut nothing same = record {
   front = served.front;
   split = served.split ∙ ap (λ es. served.front ++ es) (cut ∙ ap (λ l. keep l (entries_of after)) nothing);
@@ -81,5 +88,5 @@ count_fits true done more rest after limit is fits lt = omega (arith, is, fits, 
 count_fits false done more rest after limit is fits lt = omega (arith, is, fits, lt)
 
 pub nothing_left : (rest : List ℕ) → true ≡ (length rest == 0) → entries_of rest ≡ []
-nothing_left [] is = ap (λ l. keep l []) empty_line
+nothing_left [] is = refl
 nothing_left (b ∷ rest) is = absurd (grind (arith, nat_tests))

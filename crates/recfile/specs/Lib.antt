@@ -1,4 +1,2 @@
-pub mod Script
-pub mod Texts
 pub mod Whole
 pub mod Run

@@ -1,19 +1,19 @@
 -- The run of a script over a file: each line that says something has one reply.
-use Rattle.std.specs.Prelude.{◌≡◌, ℕ, ◌<◌, Bool, true, false, List, [], ◌∷◌, ◌++◌, length, filter, Option, IsTrue, ◌⊎◌}
+use Rattle.std.specs.Prelude.{◌≡◌, ℕ, ◌<◌, Bool, true, false, List, [], ◌∷◌, ◌++◌, length, filter, Option, Some, None, Ok, Err, IsTrue, ◌⊎◌}
 use Rattle.std.specs.List.{flat_map}
 use Rattle.std.specs.Io.KnownBytes.{Appends}
 use Rattle.rec_types.specs.History.{log_len}
 use Rattle.record_file.specs.Abstract.{File, OpenFile, use_of}
-use Rattle.record_file.specs.Steps.{rose, listed, BeginStep, PutStep, RemoveStep, GetStep, SavepointStep, ReleaseStep, CommitStep, RollbackToStep, AbortStep, ResumeStep, EntriesStep, KeysOfStep}
-use Rattle.recfile.specs.declared.commands.Command.TheVariants as command
-use Rattle.recfile.specs.declared.commands.Line.{Line}
-use Rattle.recfile.specs.declared.commands.Line.TheVariants as lines
-use Rattle.recfile.specs.declared.replies.Reply.{Reply}
-use Rattle.recfile.specs.declared.replies.Reply.TheVariants as reply
+use Rattle.record_file.specs.Steps.{rose, BeginStep, PutStep, RemoveStep, GetStep, SavepointStep, ReleaseStep, CommitStep, RollbackToStep, AbortStep, ResumeStep, EntriesStep, KeysOfStep}
+use Rattle.command_text.specs.declared.commands.Command.{Command}
+use Rattle.command_text.specs.declared.commands.Command.TheVariants as command
+use Rattle.command_text.specs.declared.replies.Reply.{Reply}
+use Rattle.command_text.specs.declared.replies.Reply.TheVariants as reply
+use Rattle.command_text.specs.Grammar.{Read}
+use Rattle.command_text.specs.Script.{entries_of}
+use Rattle.command_text.specs.Texts.{text_of}
 use Rattle.recfile.specs.declared.scripts.ScriptFault.{ScriptFault}
 use Rattle.recfile.specs.declared.scripts.ScriptFault.TheVariants as faults
-use Rattle.recfile.specs.Script.{entries_of}
-use Rattle.recfile.specs.Texts.{text_of}
 use Rattle.recfile.specs.Whole.{IsWhole, IsTooLong}
 
 -- what a run sees of a file: the abstract file, whether the table is sound, and the table's two counts
@@ -36,48 +36,58 @@ failed old new = rose old.failures new.failures
 abbrev pub refused : Seen → Seen → Bool
 refused old new = rose old.refusals new.refusals
 
--- From old, the line may have this reply and lead to new. No other reply is given.
-abbrev pub Replies : Seen → Line → Reply → Seen → Type 0
-Replies old lines.Unread reply.Unread new = new.file ≡ old.file
-Replies old (lines.Said command.Begin) (reply.Begin answer) new = BeginStep old.file answer new.file
-Replies old (lines.Said (command.Put t x r)) (reply.Put answer) new = IsCounted old → PutStep old.file t.0 x r (failed old new) answer new.file
-Replies old (lines.Said (command.Del t x)) (reply.Del answer) new = IsCounted old → RemoveStep old.file t.0 x (failed old new) answer new.file
-Replies old (lines.Said (command.Get t x)) (reply.Get answer) new = IsCounted old → GetStep old.file t.0 x (failed old new) answer new.file
-Replies old (lines.Said (command.Save t)) (reply.Save answer) new = SavepointStep old.file t.0 answer new.file
-Replies old (lines.Said (command.Release t n)) (reply.Release answer) new = ReleaseStep old.file t.0 n answer new.file
-Replies old (lines.Said (command.Back t n)) (reply.Back answer) new = IsCounted old → RollbackToStep old.file t.0 n (failed old new) (refused old new) answer new.file
-Replies old (lines.Said (command.Resume t)) (reply.Resume answer) new = IsCounted old → ResumeStep old.file t.0 (failed old new) (refused old new) answer new.file
-Replies old (lines.Said (command.Abort t)) (reply.Abort answer) new = IsCounted old → AbortStep old.file t.0 (failed old new) (refused old new) answer new.file
-Replies old (lines.Said (command.Commit t)) (reply.Commit answer) new = CommitStep old.file t.0 answer new.file
-Replies old (lines.Said command.List) (reply.List answer) new = IsCounted old → EntriesStep old.file (failed old new) (listed answer) new.file
-Replies old (lines.Said (command.Keys t)) (reply.Keys answer) new = KeysOfStep old.file t.0 (listed answer) × (new.file ≡ old.file)
-Replies old (lines.Said command.Log) (reply.Log len used) new = (len ≡ log_len old.file.history) × (used ≡ use_of old.file) × (new.file ≡ old.file)
-Replies old line answer new = ⊥
+-- From old, the command, or the line that can't be read, may have this reply and lead to new. No other reply is given.
+abbrev pub Replies : Seen → Read Command → Reply → Seen → Type 0
+Replies old (Err fault) (reply.Bad told) new = (told ≡ fault) × (new.file ≡ old.file)
+Replies old (Ok command.Begin) (reply.Begin answer) new = BeginStep old.file answer new.file
+Replies old (Ok (command.Put t x r)) (reply.Put answer) new = IsCounted old → PutStep old.file t.0 x r (failed old new) answer new.file
+Replies old (Ok (command.Del t x)) (reply.Del answer) new = IsCounted old → RemoveStep old.file t.0 x (failed old new) answer new.file
+Replies old (Ok (command.Get t x)) (reply.Get answer) new = IsCounted old → GetStep old.file t.0 x (failed old new) answer new.file
+Replies old (Ok (command.Save t)) (reply.Save answer) new = SavepointStep old.file t.0 answer new.file
+Replies old (Ok (command.Release t n)) (reply.Release answer) new = ReleaseStep old.file t.0 n answer new.file
+Replies old (Ok (command.Back t n)) (reply.Back answer) new = IsCounted old → RollbackToStep old.file t.0 n (failed old new) (refused old new) answer new.file
+Replies old (Ok (command.Resume t)) (reply.Resume answer) new = IsCounted old → ResumeStep old.file t.0 (failed old new) (refused old new) answer new.file
+Replies old (Ok (command.Abort t)) (reply.Abort answer) new = IsCounted old → AbortStep old.file t.0 (failed old new) (refused old new) answer new.file
+Replies old (Ok (command.Commit t)) (reply.Commit answer) new = CommitStep old.file t.0 answer new.file
+Replies old (Ok command.List) (reply.List answer) new = IsCounted old → EntriesStep old.file (failed old new) answer new.file
+Replies old (Ok (command.Keys t)) (reply.Keys answer) new = KeysOfStep old.file t.0 answer × (new.file ≡ old.file)
+Replies old (Ok command.Log) (reply.Log len used) new = (len ≡ log_len old.file.history) × (used ≡ use_of old.file) × (new.file ≡ old.file)
+Replies old entry answer new = ⊥
 
 -- no reply changes whether the table is sound
-pub record Step (old : Seen) (line : Line) (answer : Reply) (new : Seen) : Type 0 where
+pub record Step (old : Seen) (entry : Read Command) (answer : Reply) (new : Seen) : Type 0 where
   pub sound : new.sound ≡ old.sound
-  pub replies : Replies old line answer new
+  pub replies : Replies old entry answer new
 
--- the lines have these replies, one step after another
-abbrev pub Session : Seen → List Line → List Reply → Seen → Type 0
+-- the same of what a line says; one that says nothing has no reply
+abbrev pub LineStep : Seen → Read (Option Command) → Reply → Seen → Type 0
+LineStep old (Ok None) answer new = ⊥
+LineStep old (Ok (Some c)) answer new = Step old (Ok c) answer new
+LineStep old (Err fault) answer new = Step old (Err fault) answer new
+
+-- the entries have these replies, one step after another
+abbrev pub Session : Seen → List (Read Command) → List Reply → Seen → Type 0
 Session old [] [] new = new ≡ old
-Session old (line ∷ entries) (answer ∷ replies) new = (mid : Seen) × Step old line answer mid × Session mid entries replies new
+Session old (entry ∷ entries) (answer ∷ replies) new = (mid : Seen) × Step old entry answer mid × Session mid entries replies new
 Session old [] (answer ∷ replies) new = ⊥
-Session old (line ∷ entries) [] new = ⊥
+Session old (entry ∷ entries) [] new = ⊥
 
 -- a line that can't be read is no command
-abbrev pub is_command : Line → Bool
-is_command (lines.Said c) = true
-is_command lines.Unread = false
-is_command lines.Nothing = false
+abbrev pub is_command : Read Command → Bool
+is_command (Ok c) = true
+is_command (Err fault) = false
 
-abbrev pub commands : List Line → ℕ
+abbrev pub says_command : Read (Option Command) → Bool
+says_command (Ok None) = false
+says_command (Ok (Some c)) = true
+says_command (Err fault) = false
+
+abbrev pub commands : List (Read Command) → ℕ
 commands entries = length (filter is_command entries)
 
 -- the front of a script was run: its entries up to a rest have these replies, with this many commands
 pub record Served (script rest : List ℕ) (old : Seen) (replies : List Reply) (new : Seen) (done : ℕ) : Type 0 where
-  pub front : List Line
+  pub front : List (Read Command)
   pub split : entries_of script ≡ front ++ entries_of rest
   pub ran : Session old front replies new
   pub count : done ≡ commands front

@@ -1,15 +1,37 @@
-ghost use Rattle.std.specs.Prelude.{◌≡◌, MatchOption};
-ghost use Rattle.recfile.specs.Run.{Step, seen_by};
-ghost use Rattle.recfile.specs.declared.commands.Line.TheVariants as lines;
+ghost use Rattle.std.specs.Prelude.{◌≡◌, MatchOption, Ok, None, if◌then◌else◌};
+ghost use Rattle.command_text.specs.declared.commands.Command.TheVariants as commands;
+ghost use Rattle.recfile.specs.Run.{Step, LineStep, says_command, seen_by};
 
-use crate::commands::{Command, Line};
-use crate::replies::Reply;
-use rec_types::Table;
+use command_text::{Command, EntryList, KeyList, LineFault, Reply};
+use rec_types::{Table, TxId};
 use record_file::RecordFile;
+
+// The records of the file, or why there is no list of them.
+fn list<T: Table>(file: &mut RecordFile<T>) -> Reply
+    ensures { Step (seen_by T.sound T.device_failures T.memory_refusals file.old)
+        (Ok commands.List) result (seen_by T.sound T.device_failures T.memory_refusals file.new) }
+{
+    match file.entries() {
+        Ok(entries) => Reply::List(Ok(EntryList::new(entries))),
+        Err(fault) => Reply::List(Err(fault)),
+    }
+}
+
+// The keys that a transaction owns.
+fn keys<T: Table>(file: &mut RecordFile<T>, tx: TxId) -> Reply
+    ensures { Step (seen_by T.sound T.device_failures T.memory_refusals file.old)
+        (Ok (commands.Keys tx)) result (seen_by T.sound T.device_failures T.memory_refusals file.new) }
+{
+    match file.keys_of(tx) {
+        Ok(keys) => Reply::Keys(Ok(KeyList::new(keys))),
+        Err(fault) => Reply::Keys(Err(fault)),
+    }
+}
 
 /// Makes the call that a command asks for.
 pub fn call<T: Table>(file: &mut RecordFile<T>, command: Command) -> Reply
-    ensures { Step (seen_by T.sound T.device_failures T.memory_refusals file.old) (lines.Said command) result (seen_by T.sound T.device_failures T.memory_refusals file.new) }
+    ensures { Step (seen_by T.sound T.device_failures T.memory_refusals file.old)
+        (Ok command) result (seen_by T.sound T.device_failures T.memory_refusals file.new) }
 {
     match command {
         Command::Begin => Reply::Begin(file.begin()),
@@ -22,19 +44,36 @@ pub fn call<T: Table>(file: &mut RecordFile<T>, command: Command) -> Reply
         Command::Resume(tx) => Reply::Resume(file.resume(tx)),
         Command::Abort(tx) => Reply::Abort(file.abort(tx)),
         Command::Commit(tx) => Reply::Commit(file.commit(tx)),
-        Command::List => Reply::List(file.entries()),
-        Command::Keys(tx) => Reply::Keys(file.keys_of(tx)),
+        Command::List => list(file),
+        Command::Keys(tx) => keys(file, tx),
         Command::Log => Reply::Log(file.log_len(), file.log_use()),
     }
 }
 
-/// The reply to a line; one that says nothing has none.
-pub fn reply_to<T: Table>(file: &mut RecordFile<T>, line: Line) -> Option<Reply>
-    ensures { MatchOption result ((line ≡ lines.Nothing) × (seen_by T.sound T.device_failures T.memory_refusals file.new ≡ seen_by T.sound T.device_failures T.memory_refusals file.old)) (λ reply. Step (seen_by T.sound T.device_failures T.memory_refusals file.old) line reply (seen_by T.sound T.device_failures T.memory_refusals file.new)) }
+/// How many commands a line says: one, or none.
+pub fn command_count(said: &Result<Option<Command>, LineFault>) -> u32
+    ensures { result ≡ (if says_command said.now then 1 else 0) }
 {
-    match line {
-        Line::Nothing => None,
-        Line::Unread => Some(Reply::Unread),
-        Line::Said(command) => Some(call(file, command)),
+    match said {
+        Ok(Some(_)) => 1,
+        Ok(None) | Err(_) => 0,
+    }
+}
+
+/// The reply to a line; one that says nothing has none.
+pub fn reply_to<T: Table>(
+    file: &mut RecordFile<T>,
+    said: Result<Option<Command>, LineFault>,
+) -> Option<Reply>
+    ensures { MatchOption result
+        ((said ≡ Ok None) × (seen_by T.sound T.device_failures T.memory_refusals file.new
+        ≡ seen_by T.sound T.device_failures T.memory_refusals file.old))
+        (λ reply. LineStep (seen_by T.sound T.device_failures T.memory_refusals file.old)
+        said reply (seen_by T.sound T.device_failures T.memory_refusals file.new)) }
+{
+    match said {
+        Ok(None) => None,
+        Ok(Some(command)) => Some(call(file, command)),
+        Err(fault) => Some(Reply::Bad(fault)),
     }
 }

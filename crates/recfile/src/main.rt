@@ -2,17 +2,16 @@
 #![tactic(auto)]
 
 mod calls;
-mod commands;
 mod cutting;
-mod reading;
-mod replies;
 mod scripts;
+mod statuses;
 #[cfg(test)]
 mod tests;
 
 use rec_types::{Limits, SortedTable};
 use record_file::RecordFile;
 use scripts::run_script;
+use statuses::exit_status;
 use std::process::ExitCode;
 
 /// Runs the script of standard input over an empty file in memory, with the greatest limits, and writes its
@@ -23,11 +22,12 @@ fn main(rt: HostRuntime) -> ExitCode {
         unreachable!()
     };
     let mut file = RecordFile::new(alloc, SortedTable::new(alloc, limits), limits);
-    match run_script(alloc, &mut rt.stdin(), &mut rt.stdout(), &mut file) {
-        Ok(_) => ExitCode::SUCCESS,
+    let script_fault = match run_script(alloc, &mut rt.stdin(), &mut rt.stdout(), &mut file) {
+        Ok(_) => false,
         Err(fault) => {
             let _ = eprintln!(rt; "recfile: {fault}");
-            ExitCode::from(3)
+            true
         }
-    }
+    };
+    ExitCode::from(exit_status(false, false, script_fault))
 }

@@ -2,15 +2,14 @@ ghost use Rattle.std.specs.Prelude.{◌≡◌, ◌≤◌, List, length, IfOk, If
 ghost use Rattle.std.specs.List.{flat_map};
 ghost use Rattle.std.specs.Io.KnownBytes.{Appends};
 ghost use Rattle.recfile.specs.Whole.{IsWhole};
-ghost use Rattle.recfile.specs.Script.{entries_of};
-ghost use Rattle.recfile.specs.Texts.{text_of};
+ghost use Rattle.command_text.specs.Script.{entries_of};
+ghost use Rattle.command_text.specs.Texts.{text_of};
 ghost use Rattle.recfile.specs.Run.{seen_by, Session, Finished, Faulted, ReadStops, StopsAt, IsUnsent, commands};
-ghost use Rattle.recfile.specs.declared.replies.Reply.{Reply};
+ghost use Rattle.command_text.specs.declared.replies.Reply.{Reply};
 
-use crate::calls::reply_to;
+use crate::calls::{command_count, reply_to};
 use crate::cutting::next_line;
-use crate::reading::read_line;
-use crate::replies::{Reply, write_reply};
+use command_text::{Reply, read_line, write_reply};
 use rec_types::Table;
 use record_file::RecordFile;
 use std::alloc::Global;
@@ -96,10 +95,11 @@ fn run_lines<T: Table, W: Write>(
         let (line, after) = next_line(rest);
         rest = after;
         let said = read_line(line);
+        let count = command_count(&said);
         let Some(reply) = reply_to(file, said) else {
             continue;
         };
-        done += said.command_count();
+        done += count;
         send(alloc, writer, reply, done)?;
     }
     Ok(done)
@@ -113,7 +113,7 @@ fn send<W: Write>(alloc: Global, writer: &mut W, reply: Reply, done: u32) -> Res
     let Ok(text) = write_reply(alloc, &reply) else {
         return Err(ScriptFault::Memory { done });
     };
-    match writer.write_all(text.as_bytes()) {
+    match writer.write_all(&text) {
         Ok(()) => Ok(()),
         Err(_) => Err(ScriptFault::WriteFault { done }),
     }

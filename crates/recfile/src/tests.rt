@@ -1,4 +1,5 @@
 use crate::scripts::{ScriptFault, run_script};
+use crate::statuses::exit_status;
 use rec_types::{FlakyTable, Key, LimitFault, Limits, Record, SortedTable, Table};
 use record_file::RecordFile;
 use std::alloc::Global;
@@ -279,10 +280,50 @@ fn lines_that_say_nothing_or_cannot_be_read(rt: HostRuntime) -> Result<(), Fail>
         &rt,
         rt.alloc(),
         greatest()?,
-        "\n# note\nfrob\nget 1\nput 1 a x\n  begin\r\n  commit   01",
-        "bad UnknownCommand\nbad UnknownCommand\nbad UnknownCommand\nok 1\nok\n",
+        "\n# note\nfrob\nget 1\nget -1 a\nget 4294967296 a\nput 1 a x\nbegin\n  commit   01",
+        "bad UnknownCommand\nbad WordCount\nbad BadNumber\nbad BadNumber\nbad NoRecordMark\nok 1\nok\n",
         2,
     )
+}
+
+#[test]
+fn keys_and_records_in_escapes(rt: HostRuntime) -> Result<(), Fail> {
+    expect(
+        &rt,
+        rt.alloc(),
+        greatest()?,
+        "begin\nput 1 abcdefghijklmnop =\nput 1 abcdefghijklmnopq =\nput 1 %00 =abcdefghijklmnopqrstuvwxyz012345\nput 1 %00 =abcdefghijklmnopqrstuvwxyz0123456\nput 1 %zz =%c3%A9%\nlist\n",
+        "ok 1\nok none\nbad KeyTooLong\nok none\nbad RecordTooLong\nok none\n- %00 =abcdefghijklmnopqrstuvwxyz012345 @1\n- %25zz =%C3%A9%25 @1\n- abcdefghijklmnop = @1\nok 3\n",
+        5,
+    )
+}
+
+#[test]
+fn a_session_with_a_held_key(rt: HostRuntime) -> Result<(), Fail> {
+    expect(
+        &rt,
+        rt.alloc(),
+        greatest()?,
+        "begin\nbegin\nput 1 apple =red\nsave 1\nput 1 apple =green\nsave 1\nput 1 plum =dark%20blue\nput 2 pear =yellow\nput 1 pear =brown\nput 1 fig brown\nback 1 1\nkeys 1\nlist\nlog\ncommit 1\nabort 2\nlist\n",
+        "ok 1\nok 2\nok none\nok 1\nok =red\nok 2\nok none\nok none\nno Held 2\nbad NoRecordMark\nok 2\n- apple\nok 1\n- apple =red @1\n- pear =yellow @2\nok 2\nok 6 8\nok\nok 1\n- apple =red\nok 1\n",
+        16,
+    )
+}
+
+#[test]
+fn statuses_of_the_program(rt: HostRuntime) {
+    for (end_stopped, file_fault, script_fault, status) in [
+        (false, false, false, 0),
+        (false, false, true, 3),
+        (false, true, false, 1),
+        (false, true, true, 1),
+        (true, false, false, 4),
+        (true, false, true, 4),
+        (true, true, false, 4),
+        (true, true, true, 4),
+    ] {
+        assert_eq!(rt; exit_status(end_stopped, file_fault, script_fault), status);
+    }
 }
 
 #[test]

@@ -1,8 +1,8 @@
 use Rattle.std.proofs.Common.{◌+◌, ◌≤◌, List, length}
 use Rattle.std.specs.List.{flat_map}
 use Rattle.std.specs.Io.KnownBytes.{Appends}
-use Rattle.recfile.specs.declared.replies.Reply.{Reply}
-use Rattle.recfile.specs.Texts.{text_of}
+use Rattle.command_text.specs.declared.replies.Reply.{Reply}
+use Rattle.command_text.specs.Texts.{text_of}
 use Rattle.recfile.specs.Run.{seen_by, Served}
 use Rattle.recfile.proofs.scripts.run_lines.Given as goal
 

@@ -1,0 +1,5 @@
+pub mod CutFacts
+pub mod WordFacts
+pub mod NumberFacts
+pub mod EscapeFacts
+pub mod EscapeLaws

@@ -1,0 +1,20 @@
+use Rattle.std.proofs.Common.{refl}
+use Rattle.percent_encoding.specs.Percent.{percent_decode}
+use Rattle.command_text.specs.Grammar.{line_of, command_of, value_of}
+use Rattle.command_text.proofs.laws.commands_by_example.Goals as goal
+
+pub returns : goal.returns
+unfolding line_of command_of value_of percent_decode
+returns c = record {
+  put = refl;
+  escapes = refl;
+  ended = refl;
+  ended_twice = refl;
+  comment = refl;
+  unknown = refl;
+  unknown_first = refl;
+  count_first = refl;
+  number_first = refl;
+  key_first = refl;
+  mark = refl;
+}

@@ -1,0 +1,6 @@
+pub mod Grammar
+pub mod Words
+pub mod Script
+pub mod Refusals
+pub mod Texts
+pub mod Examples

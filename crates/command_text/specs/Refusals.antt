@@ -1,0 +1,98 @@
+-- Which refusal, or which stop, each fault of a call is.
+use Rattle.tx_log.specs.declared.phases.BeginFault.{BeginFault}
+use Rattle.tx_log.specs.declared.phases.BeginFault.TheVariants as begin_faults
+use Rattle.record_file.specs.declared.faults.Cause.TheVariants as causes
+use Rattle.record_file.specs.declared.faults.PutFault.{PutFault}
+use Rattle.record_file.specs.declared.faults.PutFault.TheVariants as put_faults
+use Rattle.record_file.specs.declared.faults.RemoveFault.{RemoveFault}
+use Rattle.record_file.specs.declared.faults.RemoveFault.TheVariants as remove_faults
+use Rattle.record_file.specs.declared.faults.GetFault.{GetFault}
+use Rattle.record_file.specs.declared.faults.GetFault.TheVariants as get_faults
+use Rattle.record_file.specs.declared.faults.SavepointFault.{SavepointFault}
+use Rattle.record_file.specs.declared.faults.SavepointFault.TheVariants as savepoint_faults
+use Rattle.record_file.specs.declared.faults.ReleaseFault.{ReleaseFault}
+use Rattle.record_file.specs.declared.faults.ReleaseFault.TheVariants as release_faults
+use Rattle.record_file.specs.declared.faults.RollbackToFault.{RollbackToFault}
+use Rattle.record_file.specs.declared.faults.RollbackToFault.TheVariants as rollback_faults
+use Rattle.record_file.specs.declared.faults.AbortFault.{AbortFault}
+use Rattle.record_file.specs.declared.faults.AbortFault.TheVariants as abort_faults
+use Rattle.record_file.specs.declared.faults.ResumeFault.{ResumeFault}
+use Rattle.record_file.specs.declared.faults.ResumeFault.TheVariants as resume_faults
+use Rattle.record_file.specs.declared.faults.CommitFault.{CommitFault}
+use Rattle.record_file.specs.declared.faults.CommitFault.TheVariants as commit_faults
+use Rattle.record_file.specs.declared.faults.EntriesFault.{EntriesFault}
+use Rattle.record_file.specs.declared.faults.EntriesFault.TheVariants as entries_faults
+use Rattle.record_file.specs.declared.faults.KeysOfFault.{KeysOfFault}
+use Rattle.record_file.specs.declared.faults.KeysOfFault.TheVariants as keys_faults
+use Rattle.command_text.specs.declared.refusals.Refusal.{Refusal}
+use Rattle.command_text.specs.declared.refusals.Refusal.TheVariants as refusals
+
+abbrev pub begin_refusal : BeginFault → Refusal
+begin_refusal begin_faults.BeginsSpent = refusals.BeginsSpent
+begin_refusal begin_faults.Memory = refusals.Failed causes.Memory
+
+abbrev pub put_refusal : PutFault → Refusal
+put_refusal put_faults.NoSuchTx = refusals.NoSuchTx
+put_refusal put_faults.Rolling = refusals.Rolling
+put_refusal (put_faults.Held owner) = refusals.Held owner
+put_refusal put_faults.LogFull = refusals.LogFull
+put_refusal put_faults.Device = refusals.Failed causes.Device
+put_refusal (put_faults.Damaged page) = refusals.Failed (causes.Damaged page)
+put_refusal put_faults.Full = refusals.Full
+put_refusal put_faults.Memory = refusals.Failed causes.Memory
+
+abbrev pub remove_refusal : RemoveFault → Refusal
+remove_refusal remove_faults.NoSuchTx = refusals.NoSuchTx
+remove_refusal remove_faults.Rolling = refusals.Rolling
+remove_refusal (remove_faults.Held owner) = refusals.Held owner
+remove_refusal remove_faults.LogFull = refusals.LogFull
+remove_refusal remove_faults.Device = refusals.Failed causes.Device
+remove_refusal (remove_faults.Damaged page) = refusals.Failed (causes.Damaged page)
+remove_refusal remove_faults.Absent = refusals.Absent
+remove_refusal remove_faults.Memory = refusals.Failed causes.Memory
+
+abbrev pub get_refusal : GetFault → Refusal
+get_refusal get_faults.NoSuchTx = refusals.NoSuchTx
+get_refusal get_faults.Rolling = refusals.Rolling
+get_refusal (get_faults.Held owner) = refusals.Held owner
+get_refusal get_faults.Device = refusals.Failed causes.Device
+get_refusal (get_faults.Damaged page) = refusals.Failed (causes.Damaged page)
+
+abbrev pub savepoint_refusal : SavepointFault → Refusal
+savepoint_refusal savepoint_faults.NoSuchTx = refusals.NoSuchTx
+savepoint_refusal savepoint_faults.Rolling = refusals.Rolling
+savepoint_refusal savepoint_faults.TooDeep = refusals.TooDeep
+
+abbrev pub release_refusal : ReleaseFault → Refusal
+release_refusal release_faults.NoSuchTx = refusals.NoSuchTx
+release_refusal release_faults.Rolling = refusals.Rolling
+release_refusal release_faults.NoSuchSave = refusals.NoSuchSave
+
+abbrev pub rollback_refusal : RollbackToFault → Refusal
+rollback_refusal rollback_faults.NoSuchTx = refusals.NoSuchTx
+rollback_refusal rollback_faults.Rolling = refusals.Rolling
+rollback_refusal rollback_faults.NoSuchSave = refusals.NoSuchSave
+rollback_refusal (rollback_faults.Stopped undone left cause) = refusals.Stopped undone left cause
+
+abbrev pub abort_refusal : AbortFault → Refusal
+abort_refusal abort_faults.NoSuchTx = refusals.NoSuchTx
+abort_refusal abort_faults.Rolling = refusals.Rolling
+abort_refusal (abort_faults.Stopped undone left cause) = refusals.Stopped undone left cause
+
+abbrev pub resume_refusal : ResumeFault → Refusal
+resume_refusal resume_faults.NoSuchTx = refusals.NoSuchTx
+resume_refusal resume_faults.NotRolling = refusals.NotRolling
+resume_refusal (resume_faults.Stopped undone left cause) = refusals.Stopped undone left cause
+
+abbrev pub commit_refusal : CommitFault → Refusal
+commit_refusal commit_faults.NoSuchTx = refusals.NoSuchTx
+commit_refusal commit_faults.Rolling = refusals.Rolling
+
+abbrev pub entries_refusal : EntriesFault → Refusal
+entries_refusal entries_faults.Device = refusals.Failed causes.Device
+entries_refusal (entries_faults.Damaged page) = refusals.Failed (causes.Damaged page)
+entries_refusal entries_faults.Memory = refusals.Failed causes.Memory
+
+abbrev pub keys_refusal : KeysOfFault → Refusal
+keys_refusal keys_faults.NoSuchTx = refusals.NoSuchTx
+keys_refusal keys_faults.Memory = refusals.Failed causes.Memory

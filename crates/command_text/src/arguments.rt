@@ -1,0 +1,91 @@
+ghost use Rattle.std.specs.Prelude.{◌≡◌, ◌-◌, ◌≤◌, true, false, MatchOption, length, IfSome, ◌↔◌};
+ghost use Rattle.std.specs.Option.{IsSome};
+ghost use Rattle.percent_encoding.specs.Percent.{percent_decode};
+ghost use Rattle.command_text.specs.Grammar.{is_digit, number_of, number_at, tx_at, key_at, record_at};
+
+use crate::LineFault;
+use arrayvec::ArrayVec;
+use percent_encoding::percent_decode;
+use rec_types::{Key, Record, TxId};
+
+// The digit that a byte stands for.
+fn digit_of(byte: u8) -> Option<u8>
+    ensures { MatchOption result (is_digit byte ≡ false)
+        (λ d. (is_digit byte ≡ true) × (d ≡ byte - 48) × (d ≤ 9)) }
+{
+    if byte < b'0' || byte > b'9' {
+        return None;
+    }
+    Some(byte - b'0')
+}
+
+// The number that decimal digits stand for, where it has 32 bits.
+fn number_of(word: &[u8]) -> Option<u32>
+    ensures { result ≡ number_of word.now }
+{
+    if word.is_empty() {
+        return None;
+    }
+    let mut number = 0u64;
+    for byte in word {
+        let Some(digit) = digit_of(*byte) else {
+            return None;
+        };
+        number = number * 10 + u64::from(digit);
+        if number > u64::from(u32::MAX) {
+            return None;
+        }
+    }
+    Some(number as u32)
+}
+
+/// The number that a word stands for. Fault: BadNumber.
+pub fn number_at(word: &[u8]) -> Result<u32, LineFault>
+    ensures { result ≡ number_at word.now }
+{
+    number_of(word).ok_or(LineFault::BadNumber)
+}
+
+/// The transaction whose number a word stands for. Fault: BadNumber.
+pub fn tx_at(word: &[u8]) -> Result<TxId, LineFault>
+    ensures { result ≡ tx_at word.now }
+{
+    Ok(TxId(number_at(word)?))
+}
+
+// The bytes that a word stands for, where there are at most N.
+fn decoded<const N: usize>(word: &[u8]) -> Option<ArrayVec<u8, N>>
+    ensures some { IsSome result ↔ (length (percent_decode word.now) ≤ N) }
+    ensures bytes { IfSome result (λ bytes. bytes.items ≡ percent_decode word.now) }
+{
+    let mut bytes = ArrayVec::new();
+    for byte in percent_decode(word) {
+        if bytes.try_push(byte).is_err() {
+            return None;
+        }
+    }
+    Some(bytes)
+}
+
+/// The key that a word stands for. Fault: KeyTooLong.
+pub fn key_at(word: &[u8]) -> Result<Key, LineFault>
+    ensures { result ≡ key_at word.now }
+{
+    match decoded::<16>(word) {
+        Some(bytes) => Key::new(&bytes).map_err(|_| LineFault::KeyTooLong),
+        None => Err(LineFault::KeyTooLong),
+    }
+}
+
+/// The record that a word with its mark stands for. Faults: NoRecordMark, RecordTooLong.
+pub fn record_at(word: &[u8]) -> Result<Record, LineFault>
+    ensures { result ≡ record_at word.now }
+{
+    let Some(escaped) = word.strip_prefix(b"=") else {
+        return Err(LineFault::NoRecordMark);
+    };
+    match decoded::<32>(escaped) {
+        Some(bytes) => Record::new(&bytes).map_err(|_| LineFault::RecordTooLong),
+        None => Err(LineFault::RecordTooLong),
+    }
+}

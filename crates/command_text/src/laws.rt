@@ -1,0 +1,74 @@
+//! What holds of lines and texts. The functions do nothing: their contracts are the laws.
+ghost use Rattle.std.specs.Prelude.{◌≡◌, ◌≢◌, ℕ, ◌<◌, true, List, [], ◌∷◌, ◌++◌, length, nat_lt, if◌then◌else◌, Some, None, Ok, Err, codes};
+ghost use Rattle.std.specs.List.{All, list_all};
+ghost use Rattle.percent_encoding.specs.Percent.{percent_decode};
+ghost use Rattle.record_file.specs.declared.faults.Cause.TheVariants as causes;
+ghost use Rattle.record_file.specs.declared.faults.PutFault.TheVariants as put_faults;
+ghost use Rattle.record_file.specs.declared.faults.RollbackToFault.TheVariants as rollback_faults;
+ghost use Rattle.command_text.specs.Examples.{tx, owned, free};
+ghost use Rattle.command_text.specs.Grammar.{is_word, words_of, key_at, line_of};
+ghost use Rattle.command_text.specs.Script.{lines_of, entries_of};
+ghost use Rattle.command_text.specs.Texts.{escaped, is_plain, text_of, texts_of};
+ghost use Rattle.command_text.specs.declared.commands.Command.TheVariants as command;
+ghost use Rattle.command_text.specs.declared.commands.LineFault.TheVariants as faults;
+ghost use Rattle.command_text.specs.declared.replies.Reply.TheVariants as reply;
+
+/// The lines of a script by example: cut at each LF, and nothing after the last one is no line.
+pub fn lines_by_example()
+    ensures none { lines_of [] ≡ [] }
+    ensures ended { lines_of (codes "ab" ++ 10 ∷ codes "c" ++ 10 ∷ [])
+        ≡ codes "ab" ∷ codes "c" ∷ [] }
+    ensures unended { lines_of (codes "ab" ++ 10 ∷ codes "c") ≡ codes "ab" ∷ codes "c" ∷ [] }
+    ensures blank { lines_of (10 ∷ 10 ∷ codes "c") ≡ [] ∷ [] ∷ codes "c" ∷ [] }
+    ensures words { words_of (codes "  save   1 ") ≡ codes "save" ∷ codes "1" ∷ [] }
+    ensures entries { entries_of
+        (codes "log" ++ 10 ∷ codes "# log" ++ 10 ∷ 10 ∷ codes "lag" ++ 10 ∷ codes "list")
+        ≡ Ok command.Log ∷ Err faults.UnknownCommand ∷ Ok command.List ∷ [] }
+{}
+
+/// Lines by example: what each says, and the first fault where there are two.
+pub fn commands_by_example()
+    ensures put { line_of (codes "put 1 a =x")
+        ≡ Ok (Some (command.Put (tx 1) (codes "a") (codes "x"))) }
+    ensures escapes { line_of (codes "put 012 %41%zz =%c3%A9%")
+        ≡ Ok (Some (command.Put (tx 12) (codes "A%zz") (195 ∷ 169 ∷ 37 ∷ []))) }
+    ensures ended { line_of (codes "begin" ++ 13 ∷ []) ≡ Ok (Some command.Begin) }
+    ensures ended_twice { line_of (codes "begin" ++ 13 ∷ 13 ∷ []) ≡ Err faults.UnknownCommand }
+    ensures comment { line_of (codes " #begin") ≡ Ok None }
+    ensures unknown { line_of (codes "Begin") ≡ Err faults.UnknownCommand }
+    ensures unknown_first { line_of (codes "frob x y z") ≡ Err faults.UnknownCommand }
+    ensures count_first { line_of (codes "put x a b c") ≡ Err faults.WordCount }
+    ensures number_first { line_of (codes "put x abcdefghijklmnopq b") ≡ Err faults.BadNumber }
+    ensures key_first { line_of (codes "put 1 abcdefghijklmnopq b") ≡ Err faults.KeyTooLong }
+    ensures mark { line_of (codes "put 1 a b=") ≡ Err faults.NoRecordMark }
+{}
+
+/// A word of a line has a byte, and so its key has one: it is too long, or a key.
+pub fn keys_of_words()
+    ensures { (word : List ℕ) → is_word word ≡ true → key_at word
+        ≡ (if nat_lt 16 (length (percent_decode word)) then Err faults.KeyTooLong
+        else Ok (percent_decode word)) }
+{}
+
+/// What is written of bytes is read as the same bytes, and needs no escape itself: no space, no line's end.
+pub fn escapes()
+    ensures read_back { (bytes : List ℕ) → All (λ b. b < 256) bytes → percent_decode (escaped bytes) ≡ bytes }
+    ensures plain { (bytes : List ℕ) → All (λ b. b < 256) bytes → list_all is_plain (escaped bytes) ≡ true }
+    ensures upper_case { escaped (codes "%a" ++ 195 ∷ 32 ∷ []) ≡ codes "%25a%C3%20" }
+    ensures lower_case { escaped (195 ∷ []) ≢ codes "%c3" }
+{}
+
+/// Replies by example.
+pub fn replies_by_example()
+    ensures begun { text_of (reply.Begin (Ok (tx 12))) ≡ codes "ok 12" ++ 10 ∷ [] }
+    ensures none { text_of (reply.Get (Ok None)) ≡ codes "ok none" ++ 10 ∷ [] }
+    ensures held { text_of (reply.Put (Err (put_faults.Held (tx 3)))) ≡ codes "no Held 3" ++ 10 ∷ [] }
+    ensures stopped { text_of (reply.Back (Err (rollback_faults.Stopped 1 20 (causes.Damaged 5))))
+        ≡ codes "stopped 1 20 Damaged 5" ++ 10 ∷ [] }
+    ensures list { text_of (reply.List (Ok (free ∷ owned ∷ [])))
+        ≡ codes "- %00 =" ++ 10 ∷ codes "- a =x @7" ++ 10 ∷ codes "ok 2" ++ 10 ∷ [] }
+    ensures run { texts_of (reply.Log 4 8 ∷ reply.Bad faults.WordCount ∷ [])
+        ≡ codes "ok 4 8" ++ 10 ∷ codes "bad WordCount" ++ 10 ∷ [] }
+    ensures run_in_order { texts_of (reply.Log 4 8 ∷ reply.Bad faults.WordCount ∷ [])
+        ≢ texts_of (reply.Bad faults.WordCount ∷ reply.Log 4 8 ∷ []) }
+{}

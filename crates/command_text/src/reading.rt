@@ -1,0 +1,98 @@
+ghost use Rattle.std.specs.Prelude.{◌≡◌};
+ghost use Rattle.command_text.specs.Grammar.{words_of, tx_of, tx_number_of, tx_key_of, tx_key_record_of, command_of, line_of};
+
+use crate::arguments::{key_at, number_at, record_at, tx_at};
+use crate::words::{alone, next_word, one_word, three_words, two_words};
+use crate::{Command, LineFault};
+use rec_types::{Key, Record, TxId};
+
+// The arguments of a command: a transaction, or one and a number, a key, or a key and a record. Faults: WordCount,
+// and then those of the arguments from left to right.
+fn tx(text: &[u8]) -> Result<TxId, LineFault>
+    ensures { result ≡ tx_of (words_of text.now) }
+{
+    tx_at(one_word(text)?)
+}
+
+fn tx_number(text: &[u8]) -> Result<(TxId, u32), LineFault>
+    ensures { result ≡ tx_number_of (words_of text.now) }
+{
+    let (first, second) = two_words(text)?;
+    let tx = tx_at(first)?;
+    Ok((tx, number_at(second)?))
+}
+
+fn tx_key(text: &[u8]) -> Result<(TxId, Key), LineFault>
+    ensures { result ≡ tx_key_of (words_of text.now) }
+{
+    let (first, second) = two_words(text)?;
+    let tx = tx_at(first)?;
+    Ok((tx, key_at(second)?))
+}
+
+fn tx_key_record(text: &[u8]) -> Result<(TxId, Key, Record), LineFault>
+    ensures { result ≡ tx_key_record_of (words_of text.now) }
+{
+    let (first, second, third) = three_words(text)?;
+    let tx = tx_at(first)?;
+    let key = key_at(second)?;
+    Ok((tx, key, record_at(third)?))
+}
+
+// The command of a name and the words after it.
+#[tactic(auto, unfolding(crate::specs::Grammar::command_of))]
+fn command(name: &[u8], rest: &[u8]) -> Result<Command, LineFault>
+    ensures { result ≡ command_of name.now (words_of rest.now) }
+{
+    if name == b"begin".as_slice() {
+        alone(rest, Command::Begin)
+    } else if name == b"put".as_slice() {
+        let (tx, key, record) = tx_key_record(rest)?;
+        Ok(Command::Put(tx, key, record))
+    } else if name == b"del".as_slice() {
+        let (tx, key) = tx_key(rest)?;
+        Ok(Command::Del(tx, key))
+    } else if name == b"get".as_slice() {
+        let (tx, key) = tx_key(rest)?;
+        Ok(Command::Get(tx, key))
+    } else if name == b"save".as_slice() {
+        Ok(Command::Save(tx(rest)?))
+    } else if name == b"release".as_slice() {
+        let (tx, n) = tx_number(rest)?;
+        Ok(Command::Release(tx, n))
+    } else if name == b"back".as_slice() {
+        let (tx, n) = tx_number(rest)?;
+        Ok(Command::Back(tx, n))
+    } else if name == b"resume".as_slice() {
+        Ok(Command::Resume(tx(rest)?))
+    } else if name == b"abort".as_slice() {
+        Ok(Command::Abort(tx(rest)?))
+    } else if name == b"commit".as_slice() {
+        Ok(Command::Commit(tx(rest)?))
+    } else if name == b"list".as_slice() {
+        alone(rest, Command::List)
+    } else if name == b"keys".as_slice() {
+        Ok(Command::Keys(tx(rest)?))
+    } else if name == b"log".as_slice() {
+        alone(rest, Command::Log)
+    } else {
+        Err(LineFault::UnknownCommand)
+    }
+}
+
+/// The command that a script line says; a blank line and a comment say none. The line comes without its LF, and one
+/// CR at its end doesn't count. It takes no memory. Faults in order: UnknownCommand; WordCount; then the arguments
+/// from left to right, BadNumber, KeyTooLong, NoRecordMark, RecordTooLong.
+#[tactic(auto, unfolding(crate::specs::Grammar::line_of))]
+pub fn read_line(line: &[u8]) -> Result<Option<Command>, LineFault>
+    ensures { result ≡ line_of line.now }
+{
+    let line = line.strip_suffix(b"\r").unwrap_or(line);
+    let Some((name, rest)) = next_word(line) else {
+        return Ok(None);
+    };
+    if name.starts_with(b"#") {
+        return Ok(None);
+    }
+    Ok(Some(command(name, rest)?))
+}

@@ -1,0 +1,350 @@
+use crate::{Command, EntryList, KeyList, LineFault, Reply, read_line, write_reply};
+use rec_types::{Entry, Key, Record, TxId};
+use record_file::{
+    AbortFault, BeginFault, Cause, CommitFault, EntriesFault, GetFault, KeysOfFault, PutFault,
+    ReleaseFault, RemoveFault, ResumeFault, RollbackToFault, SavepointFault,
+};
+use std::alloc::{AllocError, Global};
+use std::process::Abort;
+use std::test::Fail;
+
+/// Appends a command with its arguments.
+fn push_command(text: &mut String, command: Command) -> Result<(), AllocError> {
+    match command {
+        Command::Begin => write!(text, "begin"),
+        Command::Put(tx, key, record) => {
+            write!(text, "put {} {:?} {:?}", tx.0, key.bytes(), record.bytes())
+        }
+        Command::Del(tx, key) => write!(text, "del {} {:?}", tx.0, key.bytes()),
+        Command::Get(tx, key) => write!(text, "get {} {:?}", tx.0, key.bytes()),
+        Command::Save(tx) => write!(text, "save {}", tx.0),
+        Command::Release(tx, n) => write!(text, "release {} {n}", tx.0),
+        Command::Back(tx, n) => write!(text, "back {} {n}", tx.0),
+        Command::Resume(tx) => write!(text, "resume {}", tx.0),
+        Command::Abort(tx) => write!(text, "abort {}", tx.0),
+        Command::Commit(tx) => write!(text, "commit {}", tx.0),
+        Command::List => write!(text, "list"),
+        Command::Keys(tx) => write!(text, "keys {}", tx.0),
+        Command::Log => write!(text, "log"),
+    }
+}
+
+/// What each line says: a command with its arguments, `-` for none, or a fault.
+fn said(alloc: Global, lines: &str) -> Result<String, AllocError> {
+    let mut text = String::new(alloc);
+    for line in lines.as_bytes().split(|b| *b == b'\n') {
+        match read_line(line) {
+            Ok(None) => text.push_str("-")?,
+            Ok(Some(command)) => push_command(&mut text, command)?,
+            Err(fault) => write!(text, "{fault}")?,
+        }
+        text.push_str("\n")?;
+    }
+    Ok(text)
+}
+
+/// Expects that the lines say this, line by line.
+fn expect(rt: &impl Abort, alloc: Global, lines: &str, wanted: &str) -> Result<(), Fail> {
+    assert_eq!(rt; said(alloc, lines)?.as_str(), wanted);
+    Ok(())
+}
+
+#[test]
+fn each_command_is_read(rt: HostRuntime) -> Result<(), Fail> {
+    expect(
+        &rt,
+        rt.alloc(),
+        "begin\nput 1 a =x\ndel 2 b\nget 3 c\nsave 4\nrelease 5 6\nback 7 8\nresume 9\nabort 10\ncommit 11\nlist\nkeys 12\nlog",
+        "begin\nput 1 [97] [120]\ndel 2 [98]\nget 3 [99]\nsave 4\nrelease 5 6\nback 7 8\nresume 9\nabort 10\ncommit 11\nlist\nkeys 12\nlog\n",
+    )
+}
+
+#[test]
+fn lines_without_a_command(rt: HostRuntime) -> Result<(), Fail> {
+    expect(
+        &rt,
+        rt.alloc(),
+        "\n   \n\r\n  \r\n# note\n  # note\n#begin\n#\n#\r\n \r ",
+        "-\n-\n-\n-\n-\n-\n-\n-\n-\nUnknownCommand\n",
+    )
+}
+
+#[test]
+fn names_are_whole_words(rt: HostRuntime) -> Result<(), Fail> {
+    expect(
+        &rt,
+        rt.alloc(),
+        "frob\nBegin\nbeginx\nbegi\nb#\nput# 1 a =x\nbegin\tx\n%62egin\nfrob x y z u v",
+        "UnknownCommand\nUnknownCommand\nUnknownCommand\nUnknownCommand\nUnknownCommand\nUnknownCommand\nUnknownCommand\nUnknownCommand\nUnknownCommand\n",
+    )
+}
+
+#[test]
+fn spaces_and_line_ends(rt: HostRuntime) -> Result<(), Fail> {
+    expect(
+        &rt,
+        rt.alloc(),
+        "  begin  \n  commit   01\nput  1  a  =x  \nbegin\r\nbegin \r\nbegin\r\r\nbe\rgin\n\rbegin\nget 1 a\rb\nget 1 a\r\r\ncommit 1\r\ncommit 1\r\r",
+        "begin\ncommit 1\nput 1 [97] [120]\nbegin\nbegin\nUnknownCommand\nUnknownCommand\nUnknownCommand\nget 1 [97, 13, 98]\nget 1 [97, 13]\ncommit 1\nBadNumber\n",
+    )
+}
+
+#[test]
+fn numbers_have_32_bits(rt: HostRuntime) -> Result<(), Fail> {
+    expect(
+        &rt,
+        rt.alloc(),
+        "save 0\nsave 4294967295\nsave 4294967296\nsave 4294967300\nsave 0000000000000000000000000000000000000007\nsave 9999999999999999999999999999999999999999\nsave 18446744073709551617\nsave -1\nsave +1\nsave 1x\nsave x1\nsave 0x1\nsave 1:\nsave 1/\nrelease 004294967295 0004294967295\nback 1 4294967296\nback 4294967296 1",
+        "save 0\nsave 4294967295\nBadNumber\nBadNumber\nsave 7\nBadNumber\nBadNumber\nBadNumber\nBadNumber\nBadNumber\nBadNumber\nBadNumber\nBadNumber\nBadNumber\nrelease 4294967295 4294967295\nBadNumber\nBadNumber\n",
+    )
+}
+
+#[test]
+fn a_word_too_many_and_too_few(rt: HostRuntime) -> Result<(), Fail> {
+    let alloc = rt.alloc();
+    let lines =
+        "begin 1\nput 1 a\nput 1 a =x =y\ndel 1\ndel 1 a b\nget 1\nget 1 a b\nsave\nsave 1 2\nrelease 1\nrelease 1 2 3\nback 1\nback 1 2 3\nresume\nresume 1 2\nabort\nabort 1 2\ncommit\ncommit 1 2\nlist 1\nkeys\nkeys 1 2\nlog 1\nput\nput 1\ndel\nget\nrelease\nback\nput 1 a =x y";
+    let mut wanted = String::new(alloc);
+    for _ in 0..30 {
+        wanted.push_str("WordCount\n")?;
+    }
+    expect(&rt, alloc, lines, &wanted)
+}
+
+// A line with two faults has the first one of the order.
+#[test]
+fn the_first_fault_of_a_line(rt: HostRuntime) -> Result<(), Fail> {
+    expect(
+        &rt,
+        rt.alloc(),
+        "frob x\nget x\nget x abcdefghijklmnopq\ndel x abcdefghijklmnopq\nrelease x y\nput x abcdefghijklmnopq =x\nput x a x\nput x a =abcdefghijklmnopqrstuvwxyz0123456\nput 1 abcdefghijklmnopq x\nput 1 abcdefghijklmnopq =abcdefghijklmnopqrstuvwxyz0123456\nput 1 a abcdefghijklmnopqrstuvwxyz0123456\nput 1 a x=\nput 1 =a =b\nget 1 =",
+        "UnknownCommand\nWordCount\nBadNumber\nBadNumber\nBadNumber\nBadNumber\nBadNumber\nBadNumber\nKeyTooLong\nKeyTooLong\nNoRecordMark\nNoRecordMark\nput 1 [61, 97] [98]\nget 1 [61]\n",
+    )
+}
+
+#[test]
+fn keys_and_records_have_a_greatest_length(rt: HostRuntime) -> Result<(), Fail> {
+    expect(
+        &rt,
+        rt.alloc(),
+        "get 1 abcdefghijklmnop\nget 1 abcdefghijklmnopq\nget 1 abcdefghijklmno%70\nget 1 abcdefghijklmnop%\nget 1 abcdefghijklmno%7\nget 1 abcdefghijklm%70\nput 1 a =abcdefghijklmnopqrstuvwxyz012345\nput 1 a =abcdefghijklmnopqrstuvwxyz0123456\nput 1 a =abcdefghijklmnopqrstuvwxyz01234%35\nput 1 a =",
+        "get 1 [97, 98, 99, 100, 101, 102, 103, 104, 105, 106, 107, 108, 109, 110, 111, 112]\nKeyTooLong\nget 1 [97, 98, 99, 100, 101, 102, 103, 104, 105, 106, 107, 108, 109, 110, 111, 112]\nKeyTooLong\nKeyTooLong\nget 1 [97, 98, 99, 100, 101, 102, 103, 104, 105, 106, 107, 108, 109, 112]\nput 1 [97] [97, 98, 99, 100, 101, 102, 103, 104, 105, 106, 107, 108, 109, 110, 111, 112, 113, 114, 115, 116, 117, 118, 119, 120, 121, 122, 48, 49, 50, 51, 52, 53]\nRecordTooLong\nput 1 [97] [97, 98, 99, 100, 101, 102, 103, 104, 105, 106, 107, 108, 109, 110, 111, 112, 113, 114, 115, 116, 117, 118, 119, 120, 121, 122, 48, 49, 50, 51, 52, 53]\nput 1 [97] []\n",
+    )
+}
+
+#[test]
+fn escapes_are_read(rt: HostRuntime) -> Result<(), Fail> {
+    expect(
+        &rt,
+        rt.alloc(),
+        "get 1 %00\nget 1 %fF\nget 1 %Ff\nget 1 %c3%A9\nget 1 %\nget 1 a%\nget 1 %0\nget 1 %zz\nget 1 %0g\nget 1 %g0\nget 1 %%41\nget 1 %25%34%31\nget 1 %2541\nput 1 %zz =%c3%A9%\nput 1 a =%20%0a%0D\nput 1 a =%3d=\nput 1 a %3dx",
+        "get 1 [0]\nget 1 [255]\nget 1 [255]\nget 1 [195, 169]\nget 1 [37]\nget 1 [97, 37]\nget 1 [37, 48]\nget 1 [37, 122, 122]\nget 1 [37, 48, 103]\nget 1 [37, 103, 48]\nget 1 [37, 65]\nget 1 [37, 52, 49]\nget 1 [37, 52, 49]\nput 1 [37, 122, 122] [195, 169, 37]\nput 1 [97] [32, 10, 13]\nput 1 [97] [61, 61]\nNoRecordMark\n",
+    )
+}
+
+/// A word of this many bytes, after a beginning.
+fn long_line(alloc: Global, begin: &str, byte: u8, count: u32) -> Result<Vec<u8>, AllocError> {
+    let mut line = Vec::from_slice(alloc, begin.as_bytes())?;
+    for _ in 0..count {
+        line.push(byte)?;
+    }
+    Ok(line)
+}
+
+/// What a long line says.
+fn expect_long(
+    rt: &impl Abort,
+    alloc: Global,
+    begin: &str,
+    byte: u8,
+    wanted: &str,
+) -> Result<(), Fail> {
+    let line = String::from_utf8(long_line(alloc, begin, byte, 1_000_000)?)?;
+    expect(rt, alloc, &line, wanted)
+}
+
+#[test]
+fn lines_of_a_million_bytes(rt: HostRuntime) -> Result<(), Fail> {
+    let alloc = rt.alloc();
+    for (begin, byte, wanted) in [
+        ("#", b'#', "-\n"),
+        ("", b' ', "-\n"),
+        ("", b'a', "UnknownCommand\n"),
+        ("begin", b' ', "begin\n"),
+        ("save ", b'9', "BadNumber\n"),
+        ("save 0", b'0', "save 0\n"),
+        ("get 1 ", b'a', "KeyTooLong\n"),
+        ("put 1 a =", b'%', "RecordTooLong\n"),
+        ("begin", b'\r', "UnknownCommand\n"),
+    ] {
+        expect_long(&rt, alloc, begin, byte, wanted)?;
+    }
+    Ok(())
+}
+
+/// The text of a reply, made once more where memory was refused.
+fn written(alloc: Global, reply: &Reply) -> Result<String, Fail> {
+    let text = match write_reply(alloc, reply) {
+        Ok(text) => text,
+        Err(_) => write_reply(alloc, reply)?,
+    };
+    Ok(String::from_utf8(text)?)
+}
+
+#[test]
+fn answers_are_written(rt: HostRuntime) -> Result<(), Fail> {
+    let record = Record::new(b"x y")?;
+    for (reply, wanted) in [
+        (Reply::Begin(Ok(TxId(1))), "ok 1\n"),
+        (Reply::Put(Ok(None)), "ok none\n"),
+        (Reply::Put(Ok(Some(record))), "ok =x%20y\n"),
+        (Reply::Del(Ok(record)), "ok =x%20y\n"),
+        (Reply::Get(Ok(None)), "ok none\n"),
+        (Reply::Get(Ok(Some(Record::default()))), "ok =\n"),
+        (Reply::Save(Ok(32)), "ok 32\n"),
+        (Reply::Release(Ok(())), "ok\n"),
+        (Reply::Back(Ok(0)), "ok 0\n"),
+        (Reply::Resume(Ok(4_294_967_295)), "ok 4294967295\n"),
+        (Reply::Abort(Ok(10)), "ok 10\n"),
+        (Reply::Commit(Ok(())), "ok\n"),
+        (Reply::Log(8, 10), "ok 8 10\n"),
+    ] {
+        assert_eq!(rt; written(rt.alloc(), &reply)?.as_str(), wanted);
+    }
+    Ok(())
+}
+
+#[test]
+fn refusals_are_written(rt: HostRuntime) -> Result<(), Fail> {
+    for (reply, wanted) in [
+        (
+            Reply::Begin(Err(BeginFault::BeginsSpent)),
+            "no BeginsSpent\n",
+        ),
+        (Reply::Begin(Err(BeginFault::Memory)), "no Memory\n"),
+        (Reply::Put(Err(PutFault::NoSuchTx)), "no NoSuchTx\n"),
+        (Reply::Put(Err(PutFault::Rolling)), "no Rolling\n"),
+        (Reply::Put(Err(PutFault::Held(TxId(2)))), "no Held 2\n"),
+        (Reply::Put(Err(PutFault::LogFull)), "no LogFull\n"),
+        (Reply::Put(Err(PutFault::Full)), "no Full\n"),
+        (Reply::Del(Err(RemoveFault::Absent)), "no Absent\n"),
+        (Reply::Del(Err(RemoveFault::Damaged(7))), "no Damaged 7\n"),
+        (Reply::Get(Err(GetFault::Device)), "no Device\n"),
+        (Reply::Save(Err(SavepointFault::TooDeep)), "no TooDeep\n"),
+        (
+            Reply::Release(Err(ReleaseFault::NoSuchSave)),
+            "no NoSuchSave\n",
+        ),
+        (
+            Reply::Resume(Err(ResumeFault::NotRolling)),
+            "no NotRolling\n",
+        ),
+        (Reply::Commit(Err(CommitFault::Rolling)), "no Rolling\n"),
+        (Reply::List(Err(EntriesFault::Damaged(1))), "no Damaged 1\n"),
+        (Reply::Keys(Err(KeysOfFault::Memory)), "no Memory\n"),
+    ] {
+        assert_eq!(rt; written(rt.alloc(), &reply)?.as_str(), wanted);
+    }
+    Ok(())
+}
+
+#[test]
+fn stops_and_faults_are_written(rt: HostRuntime) -> Result<(), Fail> {
+    let (undone, left) = (1, 20);
+    for (reply, wanted) in [
+        (
+            Reply::Back(Err(RollbackToFault::Stopped {
+                undone,
+                left,
+                cause: Cause::Device,
+            })),
+            "stopped 1 20 Device\n",
+        ),
+        (
+            Reply::Resume(Err(ResumeFault::Stopped {
+                undone,
+                left,
+                cause: Cause::Damaged(3),
+            })),
+            "stopped 1 20 Damaged 3\n",
+        ),
+        (
+            Reply::Abort(Err(AbortFault::Stopped {
+                undone,
+                left,
+                cause: Cause::Memory,
+            })),
+            "stopped 1 20 Memory\n",
+        ),
+        (
+            Reply::Bad(LineFault::UnknownCommand),
+            "bad UnknownCommand\n",
+        ),
+        (Reply::Bad(LineFault::WordCount), "bad WordCount\n"),
+        (Reply::Bad(LineFault::BadNumber), "bad BadNumber\n"),
+        (Reply::Bad(LineFault::KeyTooLong), "bad KeyTooLong\n"),
+        (Reply::Bad(LineFault::NoRecordMark), "bad NoRecordMark\n"),
+        (Reply::Bad(LineFault::RecordTooLong), "bad RecordTooLong\n"),
+    ] {
+        assert_eq!(rt; written(rt.alloc(), &reply)?.as_str(), wanted);
+    }
+    Ok(())
+}
+
+#[test]
+fn lists_are_written(rt: HostRuntime) -> Result<(), Fail> {
+    let alloc = rt.alloc();
+    let (a, b) = (Key::new(&[0])?, Key::new(b"%zz")?);
+    let mut entries = Vec::with_capacity(alloc, 2)?;
+    entries.push(Entry {
+        key: a,
+        value: Record::new(b"abcdefghijklmnopqrstuvwxyz012345")?,
+        owner: Some(TxId(1)),
+    })?;
+    entries.push(Entry {
+        key: b,
+        value: Record::new(&[195, 169, 37])?,
+        owner: None,
+    })?;
+    let list = EntryList::new(entries);
+    assert_eq!(rt; list.as_slice().len(), 2);
+    assert_eq!(rt;
+        written(alloc, &Reply::List(Ok(list)))?.as_str(),
+        "- %00 =abcdefghijklmnopqrstuvwxyz012345 @1\n- %25zz =%C3%A9%25\nok 2\n"
+    );
+    let keys = KeyList::new(Vec::from_slice(alloc, &[a, b])?);
+    assert_eq!(rt; keys.as_slice().len(), 2);
+    let keys = KeyList::new(keys.into_vec());
+    assert_eq!(rt;
+        written(alloc, &Reply::Keys(Ok(keys)))?.as_str(),
+        "- %00\n- %25zz\nok 2\n"
+    );
+    let none = EntryList::new(EntryList::new(Vec::new(alloc)).into_vec());
+    assert_eq!(rt; written(alloc, &Reply::List(Ok(none)))?.as_str(), "ok 0\n");
+    Ok(())
+}
+
+#[test]
+fn every_byte_is_printed_and_read_again(rt: HostRuntime) -> Result<(), Fail> {
+    let alloc = rt.alloc();
+    for byte in 0..=255u8 {
+        let text = written(alloc, &Reply::Get(Ok(Some(Record::new(&[byte])?))))?;
+        let mut wanted = String::new(alloc);
+        if byte > 32 && byte < 127 && byte != b'%' {
+            write!(wanted, "ok ={}\n", char::from(byte))?;
+        } else {
+            write!(wanted, "ok =%{byte:02X}\n")?;
+        }
+        assert_eq!(rt; text.as_str(), wanted.as_str());
+        let mut line = String::new(alloc);
+        write!(
+            line,
+            "put 1 a {}",
+            text.trim_start_matches("ok ").trim_end_matches("\n")
+        )?;
+        let mut put = String::new(alloc);
+        write!(put, "put 1 [97] [{byte}]\n")?;
+        expect(&rt, alloc, &line, &put)?;
+    }
+    Ok(())
+}
