@@ -1,5 +1,5 @@
 -- A run grows by one line at a time.
-use Rattle.std.proofs.Common.{◌≡◌, ℕ, ◌+◌, ◌<◌, ◌≤◌, Bool, true, false, cond, List, [], ◌∷◌, ◌++◌, length, filter, Option, Some, None, Ok, Err, refl, sym, ap, subst, ◌∙◌, arith, ◌==◌}
+use Rattle.std.proofs.Common.{◌≡◌, ℕ, ◌+◌, ◌<◌, ◌≤◌, Bool, true, false, cond, List, [], ◌∷◌, ◌++◌, length, filter, take, Option, Some, None, Ok, Err, refl, sym, ap, subst, ◌∙◌, arith, ◌==◌}
 use Rattle.std.proofs.lemmas.Grind.{common_steps}
 use Rattle.std.proofs.lemmas.Bool.Decides.{nat_tests}
 use Rattle.std.specs.List.{flat_map}
@@ -11,12 +11,13 @@ use Rattle.command_text.specs.declared.replies.Reply.{Reply}
 use Rattle.command_text.specs.Grammar.{Read}
 use Rattle.command_text.specs.Script.{entries_of, keep}
 use Rattle.command_text.specs.Texts.{text_of}
-use Rattle.recfile.specs.Run.{Seen, Step, LineStep, Session, Served, StopsAt, IsUnsent, is_command, says_command, commands}
+use Rattle.recfile.specs.Run.{HasReply, LineHasReply, Session, Served, StopsAt, IsUnsent, is_command, says_command, commands, done_of, IsFront}
+use Rattle.record_file.specs.Runs.{Seen}
 use Rattle.recfile.specs.declared.scripts.ScriptFault.{ScriptFault}
 use Rattle.recfile.specs.declared.scripts.ScriptFault.TheVariants as faults
 
-pub session-more : (old mid new : Seen) (front : List (Read Command)) (replies : List Reply) (said : Read Command) (answer : Reply) → Session old front replies mid → Step mid said answer new → Session old (front ++ said ∷ []) (replies ++ answer ∷ []) new
-session-more old mid new [] [] said answer ran step = (new, subst (λ (s : Seen). Step s said answer new) ran step, refl)
+pub session-more : (old mid new : Seen) (front : List (Read Command)) (replies : List Reply) (said : Read Command) (answer : Reply) → Session old front replies mid → HasReply mid said answer new → Session old (front ++ said ∷ []) (replies ++ answer ∷ []) new
+session-more old mid new [] [] said answer ran step = (new, subst (λ (s : Seen). HasReply s said answer new) ran step, refl)
 session-more old mid new [] (first ∷ replies) said answer ran step = absurd ran
 session-more old mid new (entry ∷ front) [] said answer ran step = absurd ran
 session-more old mid new (entry ∷ front) (first ∷ replies) said answer ran step = (ran.0, ran.1, session-more ran.0 mid new front replies said answer ran.2 step)
@@ -38,14 +39,14 @@ record Entry (mid : Seen) (line : Read (Option Command)) (answer : Reply) (new :
   said : Read Command
   kept : (rest : List (Read Command)) → keep line rest ≡ said ∷ rest
   counted : is_command said ≡ says_command line
-  step : Step mid said answer new
+  step : HasReply mid said answer new
 
-entry_of : (mid new : Seen) (line : Read (Option Command)) (answer : Reply) → LineStep mid line answer new → Entry mid line answer new
+entry_of : (mid new : Seen) (line : Read (Option Command)) (answer : Reply) → LineHasReply mid line answer new → Entry mid line answer new
 entry_of mid new (Ok None) answer step = absurd step
 entry_of mid new (Ok (Some c)) answer step = record { said = Ok c; kept = λ rest. refl; counted = refl; step = step }
 entry_of mid new (Err fault) answer step = record { said = Err fault; kept = λ rest. refl; counted = refl; step = step }
 
-pub served-more : (script rest after : List ℕ) (old mid new : Seen) (replies : List Reply) (done more : ℕ) (line : Read (Option Command)) (answer : Reply) → Served script rest old replies mid done → entries_of rest ≡ keep line (entries_of after) → LineStep mid line answer new → more ≡ done + cond (says_command line) 1 0 → Served script after old (replies ++ answer ∷ []) new more
+pub served-more : (script rest after : List ℕ) (old mid new : Seen) (replies : List Reply) (done more : ℕ) (line : Read (Option Command)) (answer : Reply) → Served script rest old replies mid done → entries_of rest ≡ keep line (entries_of after) → LineHasReply mid line answer new → more ≡ done + cond (says_command line) 1 0 → Served script after old (replies ++ answer ∷ []) new more
 served-more script rest after old mid new replies done more line answer served cut step count =
     let e = entry_of mid new line answer step in
     record {
@@ -76,11 +77,16 @@ written-more a b c replies answer text before now is = subst (λ bs. Appends a c
     texts rs r = grind (arith, common_steps)
 
 -- a reply that wasn't sent ends the run
-pub stops_at : (held mid holds : Option (List ℕ)) (old new : Seen) (script after : List ℕ) (replies : List Reply) (answer : Reply) (done : ℕ) (fault : ScriptFault) → Served script after old (replies ++ answer ∷ []) new done → Appends held mid (flat_map text_of replies) → IsUnsent mid holds done fault → StopsAt held holds old new script fault
-stops_at held mid holds old new script after replies answer done faults.ScriptTooLong served written unsent = unsent
-stops_at held mid holds old new script after replies answer done faults.ReadFault served written unsent = unsent
-stops_at held mid holds old new script after replies answer done (faults.WriteFault n) served written unsent = (replies, answer, after, subst (λ k. Served script after old (replies ++ answer ∷ []) new k) (sym unsent) served, λ is. absurd (cc))
-stops_at held mid holds old new script after replies answer done (faults.Memory n) served written unsent = (replies, answer, after, subst (λ k. Served script after old (replies ++ answer ∷ []) new k) (sym unsent.0) served, λ is. subst (λ m. Appends held m (flat_map text_of replies)) (sym unsent.1) written)
+pub stops_at : (held mid holds : Option (List ℕ)) (old new : Seen) (script after : List ℕ) (replies : List Reply) (answer : Reply) (done : ℕ) (fault : ScriptFault) → Served script after old (replies ++ answer ∷ []) new done → Appends held mid (flat_map text_of replies) → IsUnsent mid holds done (text_of answer) fault → StopsAt held holds old new script fault
+stops_at held mid holds old new script after replies answer done fault served written unsent = record {
+  replies = replies;
+  last = answer;
+  rest = after;
+  sent = unsent.sent;
+  served = subst (λ k. Served script after old (replies ++ answer ∷ []) new k) (sym unsent.count) served;
+  front = unsent.front;
+  written = Appends-trans held mid holds (flat_map text_of replies) (take unsent.sent (text_of answer)) written unsent.written;
+}
 
 -- each command takes a byte of the script at least
 pub count_fits : (b : Bool) (done more rest after limit : ℕ) → more ≡ cond b 1 0 → done + rest ≤ limit → after < rest → done + more + after ≤ limit

@@ -1,6 +1,7 @@
 ghost use Rattle.std.specs.Prelude.{◌≡◌, MatchOption, Ok, None, if◌then◌else◌};
 ghost use Rattle.command_text.specs.declared.commands.Command.TheVariants as commands;
-ghost use Rattle.recfile.specs.Run.{Step, LineStep, says_command, seen_by};
+ghost use Rattle.recfile.specs.Run.{HasReply, LineHasReply, says_command};
+ghost use Rattle.record_file.specs.Runs.{seen};
 
 use command_text::{Command, EntryList, KeyList, LineFault, Reply};
 use rec_types::{Table, TxId};
@@ -8,8 +9,7 @@ use record_file::RecordFile;
 
 // The records of the file, or why there is no list of them.
 fn list<T: Table>(file: &mut RecordFile<T>) -> Reply
-    ensures { Step (seen_by T.sound T.device_failures T.memory_refusals file.old)
-        (Ok commands.List) result (seen_by T.sound T.device_failures T.memory_refusals file.new) }
+    ensures { HasReply (seen T.Table file.old) (Ok commands.List) result (seen T.Table file.new) }
 {
     match file.entries() {
         Ok(entries) => Reply::List(Ok(EntryList::new(entries))),
@@ -19,8 +19,7 @@ fn list<T: Table>(file: &mut RecordFile<T>) -> Reply
 
 // The keys that a transaction owns.
 fn keys<T: Table>(file: &mut RecordFile<T>, tx: TxId) -> Reply
-    ensures { Step (seen_by T.sound T.device_failures T.memory_refusals file.old)
-        (Ok (commands.Keys tx)) result (seen_by T.sound T.device_failures T.memory_refusals file.new) }
+    ensures { HasReply (seen T.Table file.old) (Ok (commands.Keys tx)) result (seen T.Table file.new) }
 {
     match file.keys_of(tx) {
         Ok(keys) => Reply::Keys(Ok(KeyList::new(keys))),
@@ -30,8 +29,7 @@ fn keys<T: Table>(file: &mut RecordFile<T>, tx: TxId) -> Reply
 
 /// Makes the call that a command asks for.
 pub fn call<T: Table>(file: &mut RecordFile<T>, command: Command) -> Reply
-    ensures { Step (seen_by T.sound T.device_failures T.memory_refusals file.old)
-        (Ok command) result (seen_by T.sound T.device_failures T.memory_refusals file.new) }
+    ensures { HasReply (seen T.Table file.old) (Ok command) result (seen T.Table file.new) }
 {
     match command {
         Command::Begin => Reply::Begin(file.begin()),
@@ -66,10 +64,8 @@ pub fn reply_to<T: Table>(
     said: Result<Option<Command>, LineFault>,
 ) -> Option<Reply>
     ensures { MatchOption result
-        ((said ≡ Ok None) × (seen_by T.sound T.device_failures T.memory_refusals file.new
-        ≡ seen_by T.sound T.device_failures T.memory_refusals file.old))
-        (λ reply. LineStep (seen_by T.sound T.device_failures T.memory_refusals file.old)
-        said reply (seen_by T.sound T.device_failures T.memory_refusals file.new)) }
+        ((said ≡ Ok None) × (seen T.Table file.new ≡ seen T.Table file.old))
+        (λ reply. LineHasReply (seen T.Table file.old) said reply (seen T.Table file.new)) }
 {
     match said {
         Ok(None) => None,

@@ -1,10 +1,11 @@
-ghost use Rattle.std.specs.Prelude.{◌≡◌, ◌≤◌, List, length, IfOk, IfErr, OnOk};
+ghost use Rattle.std.specs.Prelude.{◌≡◌, ◌<◌, ◌≤◌, List, length, take, IfOk, IfErr, OnOk};
 ghost use Rattle.std.specs.List.{flat_map};
 ghost use Rattle.std.specs.Io.KnownBytes.{Appends};
 ghost use Rattle.recfile.specs.Whole.{IsWhole};
 ghost use Rattle.command_text.specs.Script.{entries_of};
 ghost use Rattle.command_text.specs.Texts.{text_of};
-ghost use Rattle.recfile.specs.Run.{seen_by, Session, Finished, Faulted, ReadStops, StopsAt, IsUnsent, commands};
+ghost use Rattle.recfile.specs.Run.{Session, Finished, Faulted, ReadStops, StopsAt, IsUnsent, commands};
+ghost use Rattle.record_file.specs.Runs.{seen};
 ghost use Rattle.command_text.specs.declared.replies.Reply.{Reply};
 
 use crate::calls::{command_count, reply_to};
@@ -68,8 +69,12 @@ pub fn run_script<T: Table, R: Read, W: Write>(
     writer: &mut W,
     file: &mut RecordFile<T>,
 ) -> Result<u32, ScriptFault>
-    ensures finished { IfOk result (Finished (R.remaining reader.old) (R.remaining reader.new) (W.contents writer.old) (W.contents writer.new) (seen_by T.sound T.device_failures T.memory_refusals file.old) (seen_by T.sound T.device_failures T.memory_refusals file.new)) }
-    ensures faulted { IfErr result (Faulted (R.remaining reader.old) (R.remaining reader.new) (W.contents writer.old) (W.contents writer.new) (seen_by T.sound T.device_failures T.memory_refusals file.old) (seen_by T.sound T.device_failures T.memory_refusals file.new)) }
+    ensures finished { IfOk result (Finished (R.remaining reader.old) (R.remaining reader.new)
+        (W.contents writer.old) (W.contents writer.new)
+        (seen T.Table file.old) (seen T.Table file.new)) }
+    ensures faulted { IfErr result (Faulted (R.remaining reader.old) (R.remaining reader.new)
+        (W.contents writer.old) (W.contents writer.new)
+        (seen T.Table file.old) (seen T.Table file.new)) }
 {
     match read_script(alloc, reader) {
         Ok(script) => run_lines(alloc, &script, writer, file),
@@ -85,9 +90,11 @@ fn run_lines<T: Table, W: Write>(
     file: &mut RecordFile<T>,
 ) -> Result<u32, ScriptFault>
     requires { length script.now ≤ 1048576 }
-    ensures finished { IfOk result (λ done. (replies : List Reply) × Session (seen_by T.sound T.device_failures T.memory_refusals file.old) (entries_of script.now) replies (seen_by T.sound T.device_failures T.memory_refusals file.new)
+    ensures finished { IfOk result (λ done. (replies : List Reply)
+        × Session (seen T.Table file.old) (entries_of script.now) replies (seen T.Table file.new)
         × Appends (W.contents writer.old) (W.contents writer.new) (flat_map text_of replies) × (done ≡ commands (entries_of script.now))) }
-    ensures stops { IfErr result (StopsAt (W.contents writer.old) (W.contents writer.new) (seen_by T.sound T.device_failures T.memory_refusals file.old) (seen_by T.sound T.device_failures T.memory_refusals file.new) script.now) }
+    ensures stops { IfErr result (StopsAt (W.contents writer.old) (W.contents writer.new)
+        (seen T.Table file.old) (seen T.Table file.new) script.now) }
 {
     let mut rest = script;
     let mut done = 0;
@@ -107,14 +114,32 @@ fn run_lines<T: Table, W: Write>(
 
 // Writes a reply, after `done` commands. Faults: Memory, WriteFault.
 fn send<W: Write>(alloc: Global, writer: &mut W, reply: Reply, done: u32) -> Result<(), ScriptFault>
-    ensures ok { OnOk result (Appends (W.contents writer.old) (W.contents writer.new) (text_of reply)) }
-    ensures err { IfErr result (IsUnsent (W.contents writer.old) (W.contents writer.new) done) }
+    ensures ok { OnOk result
+        (Appends (W.contents writer.old) (W.contents writer.new) (text_of reply)) }
+    ensures err { IfErr result
+        (IsUnsent (W.contents writer.old) (W.contents writer.new) done (text_of reply)) }
 {
     let Ok(text) = write_reply(alloc, &reply) else {
         return Err(ScriptFault::Memory { done });
     };
-    match writer.write_all(&text) {
+    match write_text(writer, &text) {
         Ok(()) => Ok(()),
         Err(_) => Err(ScriptFault::WriteFault { done }),
     }
+}
+
+// Writes a text whole. At a write that fails, or takes nothing, it answers how many bytes are written.
+fn write_text<W: Write>(writer: &mut W, text: &[u8]) -> Result<(), usize>
+    ensures ok { OnOk result (Appends (W.contents writer.old) (W.contents writer.new) text.now) }
+    ensures err { IfErr result (λ sent. (sent < length text.now)
+        × Appends (W.contents writer.old) (W.contents writer.new) (take sent text.now)) }
+{
+    let mut sent = 0;
+    while sent < text.len() {
+        match writer.write(&text[sent..]) {
+            Ok(0) | Err(_) => return Err(sent),
+            Ok(n) => sent += n,
+        }
+    }
+    Ok(())
 }

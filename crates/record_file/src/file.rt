@@ -102,7 +102,7 @@ impl<T: Table> RecordFile<T> {
             return Err(PutFault::Full);
         }
         let _begun = self.log.begun();
-        self.log.reserve(&key)?;
+        self.log.reserve(&key)?; // Nothing is put that the log has no room for.
         let before = self.table.set(key, Some(value))?;
         let told = before.as_ref().copied();
         let _lsn = self.log.accept(tx, key, told, Some(value));

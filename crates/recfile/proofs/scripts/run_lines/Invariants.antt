@@ -3,7 +3,8 @@ use Rattle.std.specs.List.{flat_map}
 use Rattle.std.specs.Io.KnownBytes.{Appends}
 use Rattle.command_text.specs.declared.replies.Reply.{Reply}
 use Rattle.command_text.specs.Texts.{text_of}
-use Rattle.recfile.specs.Run.{seen_by, Served}
+use Rattle.record_file.specs.Runs.{seen}
+use Rattle.recfile.specs.Run.{Served}
 use Rattle.recfile.proofs.scripts.run_lines.Given as goal
 
 abbrev pub decreases-loop-rest : goal.decreases-loop-rest
@@ -13,6 +14,6 @@ decreases-loop-rest g l = length l.rest
 abbrev pub invariant-loop-rest : goal.invariant-loop-rest
 invariant-loop-rest g l =
     (replies : List Reply)
-    × Served l.fn.script l.rest (seen_by g.T.Table.sound g.T.Table.device_failures g.T.Table.memory_refusals l.fn.file) replies (seen_by g.T.Table.sound g.T.Table.device_failures g.T.Table.memory_refusals l.file) l.done
+    × Served l.fn.script l.rest (seen g.T.Table l.fn.file) replies (seen g.T.Table l.file) l.done
     × Appends (g.W.Write.contents l.fn.writer) (g.W.Write.contents l.writer) (flat_map text_of replies)
     × (l.done + length l.rest ≤ 1048576)
