@@ -1,4 +1,5 @@
 pub mod Blank
+pub mod Calls
 pub mod CanStage
 pub mod FetchFaults
 pub mod FlakyStored

@@ -11,10 +11,9 @@ use Rattle.page_store.proofs.SlotFacts.{length-slots_of}
 use Rattle.page_store.proofs.Staging.{pages_stay, are_stay, freed_not_free, written_fit, staged, are_after}
 use Rattle.page_store.proofs.paging.Pages.stage.Goals as goal
 
-unchanged_on_err : {A E : Type 0} (r : Result A E) (v : PagesView) (new old : List (Option (List ℕ))) (changed : Bool) (stored : List (List ℕ)) (tail : ℕ) (steady : Bool) (reads failures : ℕ) → new ≡ old → ◌≡◌ {A = PagesView} (record { pages = old; changed = changed; stored = stored; tail = tail; steady = steady; reads = reads; failures = failures }) v → OnErr r (◌≡◌ {A = PagesView} (record { pages = new; changed = changed; stored = stored; tail = tail; steady = steady; reads = reads; failures = failures }) v)
-unchanged_on_err (Ok x) v new old changed stored tail steady reads failures same is = tt
-unchanged_on_err (Err e) v new old changed stored tail steady reads failures same is =
-    ap (λ (pages : List (Option (List ℕ))). let w : PagesView = record { pages = pages; changed = changed; stored = stored; tail = tail; steady = steady; reads = reads; failures = failures } in w) same ∙ is
+unchanged_on_err : {A E : Type 0} (r : Result A E) (old new : PagesView) (v : PagesView) → new ≡ old → old ≡ v → OnErr r (new ≡ v)
+unchanged_on_err (Ok x) old new v same is = tt
+unchanged_on_err (Err e) old new v same is = same ∙ is
 
 needed_all : (seen writes : List (ℕ × List ℕ)) (needed count : ℕ) → needed ≡ (if eqb (length seen) 0 then 0 else count) → seen ≡ writes → 0 < length writes → needed ≡ count
 needed_all seen writes needed count is same some = let long = ap (λ (ws : List (ℕ × List ℕ)). length ws) same in grind (arith, nat_tests)
