@@ -18,11 +18,11 @@ counted_once old calls = ap (counted_times old) (sym (add-one calls))
 -- calls after others
 pub after_calls : (old mid new calls most : ℕ) → mid ≡ counted_times old calls → CountedUpTo most mid new → CountedUpTo (calls + most) old new
 after_calls old mid new calls most is up = (
-    calls + up.0,
-    let some = up.1 in omega arith,
-    let few = up.2 in omega arith,
-    up.3 ∙ ap (λ k. counted_times k up.0) is ∙ counted_again old calls up.0,
-  )
+  calls + up.0,
+  let some = up.1 in omega arith,
+  let few = up.2 in omega arith,
+  up.3 ∙ ap (λ k. counted_times k up.0) is ∙ counted_again old calls up.0,
+)
 
 pub no_more : (old new few most : ℕ) → few ≤ most → CountedUpTo few old new → CountedUpTo most old new
 no_more old new few most fits up = (up.0, up.1, (let below = up.2 in omega arith), up.3)

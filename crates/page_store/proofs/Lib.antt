@@ -10,4 +10,5 @@ pub mod PageFacts
 pub mod SetFacts
 pub mod SlotFacts
 pub mod Staging
+pub mod Totals
 pub mod WriteFacts

@@ -1,13 +1,17 @@
 -- Which pages in use are in memory.
-use Rattle.std.proofs.Common.{◌≡◌, ◌≢◌, ℕ, ◌<◌, ◌≤◌, Bool, true, false, eqb, leb, ◌⊎◌, List, [], length, get_or, Option, Some, None, IsSome, is_some, slice_get, refl, sym, ap, ◌∙◌, subst, inl, inr, ⊎_elim, arith}
+use Rattle.std.proofs.Common.{◌≡◌, ◌≢◌, ℕ, ◌<◌, ◌≤◌, Bool, true, false, not, ◌&&◌, eqb, leb, ◌⊎◌, ◌+◌, zero, suc, map, List, [], ◌∷◌, length, get_or, Option, Some, None, IsSome, is_some, slice_get, refl, sym, ap, ◌∙◌, subst, inl, inr, ⊎_elim, arith}
 use Rattle.std.proofs.lemmas.List.{get_or_past}
 use Rattle.std.proofs.lemmas.List.FromFn.{length-map-range_with_len, get_or-map-range_with_len}
 use Rattle.std.proofs.lemmas.Bool.{cases_lt, false≢true}
 use Rattle.std.proofs.lemmas.Bool.Decides.{nat_tests}
+use Rattle.std.specs.List.{range_with_len}
 use Rattle.page_store.specs.PageMap.{at}
+use Rattle.page_store.specs.PagesView.{PagesView, is_in_memory, is_read}
+use Rattle.page_store.specs.Calls.{how_many}
 use Rattle.page_store.specs.Overlaid.{is_among, or_else, pages_of, ArePages}
 use Rattle.page_store.specs.WritingBack.{to_write, in_memory_of}
-use Rattle.page_store.proofs.PageFacts.{inside, outside}
+use Rattle.page_store.proofs.CallFacts.{how_many_same}
+use Rattle.page_store.proofs.PageFacts.{length-pages_of, inside, outside}
 
 abbrev pub InUse : List ℕ → ℕ → ℕ → Type 0
 InUse free count n = (n ≢ 0) × (n < count) × (is_among free n ≡ false)
@@ -87,3 +91,35 @@ stored_elsewhere stored slots free count n some out =
     ⊎_elim (λ (h : InUse free count n). stored_by (at slots n) (slice_get stored n) (sym (slot_in_memory slots free count n h) ∙ out) ∙ sym (inside stored slots free count n h))
     (λ (never : InUse free count n → ⊥). none_not_some _ (outside stored slots free count n never) some)
     (use_of free count n)
+
+-- as many pages are in memory as are to be written
+pub many_in_memory : (stored : List (List ℕ)) (slots : List (Option (List ℕ))) (free : List ℕ) (count : ℕ) → how_many (λ n. get_or (in_memory_of slots free count) n false) (length (pages_of stored slots free count)) ≡ how_many (λ n. is_some (to_write slots free count n)) count
+many_in_memory stored slots free count =
+    ap (how_many (λ n. get_or (in_memory_of slots free count) n false)) (length-pages_of stored slots free count)
+    ∙ how_many_same (λ n. get_or (in_memory_of slots free count) n false) (λ n. is_some (to_write slots free count n)) count (memory_at slots free count)
+
+same_range : (f g : ℕ → Bool) (a n : ℕ) → ((k : ℕ) → f k ≡ g k) → map f (range_with_len a n) ≡ map g (range_with_len a n)
+same_range f g a zero same = refl
+same_range f g a (suc n) same = λ i. same a i ∷ same_range f g (a + 1) n same i
+
+-- slots and free numbers that are the same at each number
+pub memory_stays : (slots slots' : List (Option (List ℕ))) (free free' : List ℕ) (count : ℕ) → ((n : ℕ) → at slots' n ≡ at slots n) → ((n : ℕ) → is_among free' n ≡ is_among free n) → in_memory_of slots' free' count ≡ in_memory_of slots free count
+unfolding in_memory_of
+memory_stays slots slots' free free' count same_slots same_free =
+    same_range (λ n. is_some (to_write slots' free' count n)) (λ n. is_some (to_write slots free count n)) 0 count (λ n. rw (same_slots n, same_free n) refl)
+
+and_false : (b : Bool) → (b && not true) ≡ false
+and_false true = refl
+and_false false = refl
+
+-- a page that isn't in use isn't read
+pub unused_unread : (v : PagesView) (n : ℕ) → at v.pages n ≡ None → is_read v n ≡ false
+unused_unread v n gone = ap (λ (o : Option (List ℕ)). is_some o && not (is_in_memory v n)) gone
+
+-- nor is one in memory
+pub memory_unread : (v : PagesView) (n : ℕ) → is_in_memory v n ≡ true → is_read v n ≡ false
+memory_unread v n here = ap (λ b. is_some (at v.pages n) && not b) here ∙ and_false (is_some (at v.pages n))
+
+-- any other is
+pub others_read : (v : PagesView) (n : ℕ) → IsSome (at v.pages n) → is_in_memory v n ≡ false → is_read v n ≡ true
+others_read v n some out = ap (λ b. is_some (at v.pages n) && not b) out ∙ ap (λ b. b && true) some

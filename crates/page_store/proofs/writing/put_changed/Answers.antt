@@ -24,22 +24,22 @@ loop-n-preserved g c =
     let old = g.S.Store.writes c.args.store.now in
     record {
       others = elim c.match-page_to_write.branch [
-        in-Some+in_ok-write w ↦ others_put pages _ _ _ c.loop-n.n c.loop-n.invariant.others (ap is_some (sym w.in-Some.ensures)) (w.write.ensures.other_pages.0, ap g.S.Store.pages w.store-is ∙ w.write.ensures.other_pages.1)
+        | in-Some+in_ok-write w ↦ others_put pages _ _ _ c.loop-n.n c.loop-n.invariant.others (ap is_some (sym w.in-Some.ensures)) (w.write.ensures.other_pages.0, ap g.S.Store.pages w.store-is ∙ w.write.ensures.other_pages.1)
         | in_default w ↦ subst (SameBut test (g.S.Store.pages c.args.store.now)) (ap g.S.Store.pages (sym w.store-is)) c.loop-n.invariant.others
       ];
       pages = elim c.match-page_to_write.branch [
-        in-Some+in_ok-write w ↦ λ steady. pages_put pages _ _ c.loop-n.n w.in-Some.page.now
-        (let long = c.loop-n.invariant.others.long in let all = c.requires.long in let below = c.loop-n-test.true in omega arith)
-        (c.loop-n.invariant.pages steady) (sym w.in-Some.ensures)
-        (ap g.S.Store.pages w.store-is ∙ w.in_ok-write.ensures.page (c.loop-n.invariant.steady ∙ steady))
+        | in-Some+in_ok-write w ↦ λ steady. pages_put pages _ _ c.loop-n.n w.in-Some.page.now
+            (let long = c.loop-n.invariant.others.long in let all = c.requires.long in let below = c.loop-n-test.true in omega arith)
+            (c.loop-n.invariant.pages steady) (sym w.in-Some.ensures)
+            (ap g.S.Store.pages w.store-is ∙ w.in_ok-write.ensures.page (c.loop-n.invariant.steady ∙ steady))
         | in_default w ↦ λ steady k below some. ap (λ s. slice_get (g.S.Store.pages s) k) w.store-is ∙ pages_skipped pages _ c.loop-n.n (c.loop-n.invariant.pages steady) (sym w.in_default.ensures) k below some
       ];
       tail = elim c.match-page_to_write.branch [ in-Some+in_ok-write w ↦ ap g.S.Store.tail w.store-is ∙ w.write.ensures.same_tail ∙ c.loop-n.invariant.tail | in_default w ↦ ap g.S.Store.tail w.store-is ∙ c.loop-n.invariant.tail ];
       steady = elim c.match-page_to_write.branch [ in-Some+in_ok-write w ↦ ap g.S.Store.steady w.store-is ∙ w.write.ensures.same_steady ∙ c.loop-n.invariant.steady | in_default w ↦ ap g.S.Store.steady w.store-is ∙ c.loop-n.invariant.steady ];
       reads = elim c.match-page_to_write.branch [ in-Some+in_ok-write w ↦ ap g.S.Store.reads w.store-is ∙ w.write.ensures.reads ∙ c.loop-n.invariant.reads | in_default w ↦ ap g.S.Store.reads w.store-is ∙ c.loop-n.invariant.reads ];
       writes = elim c.match-page_to_write.branch [
-        in-Some+in_ok-write w ↦ ap g.S.Store.writes w.store-is ∙ w.write.ensures.writes ∙ ap (λ k. counted k true) c.loop-n.invariant.writes
-        ∙ counted_once old (how_many test c.loop-n.n) ∙ ap (counted_times old) (sym (one_more_yes test c.loop-n.n (ap is_some (sym w.in-Some.ensures))))
+        | in-Some+in_ok-write w ↦ ap g.S.Store.writes w.store-is ∙ w.write.ensures.writes ∙ ap (λ k. counted k true) c.loop-n.invariant.writes
+            ∙ counted_once old (how_many test c.loop-n.n) ∙ ap (counted_times old) (sym (one_more_yes test c.loop-n.n (ap is_some (sym w.in-Some.ensures))))
         | in_default w ↦ ap g.S.Store.writes w.store-is ∙ c.loop-n.invariant.writes ∙ ap (counted_times old) (sym (one_more_no test c.loop-n.n (ap is_some (sym w.in_default.ensures))))
       ];
       failures = elim c.match-page_to_write.branch [ in-Some+in_ok-write w ↦ ap g.S.Store.failures w.store-is ∙ w.in_ok-write.ensures.failures ∙ c.loop-n.invariant.failures | in_default w ↦ ap g.S.Store.failures w.store-is ∙ c.loop-n.invariant.failures ];
