@@ -1,5 +1,5 @@
 -- Which pages in use are in memory.
-use Rattle.std.proofs.Common.{◌≡◌, ◌≢◌, ℕ, ◌<◌, ◌≤◌, Bool, true, false, not, ◌&&◌, eqb, leb, ◌⊎◌, ◌+◌, zero, suc, map, List, [], ◌∷◌, length, get_or, Option, Some, None, IsSome, is_some, slice_get, refl, sym, ap, ◌∙◌, subst, inl, inr, ⊎_elim, arith}
+use Rattle.std.proofs.Common.{◌≡◌, ◌≢◌, ℕ, ◌<◌, ◌≤◌, Bool, true, false, not, ◌&&◌, eqb, leb, ◌⊎◌, ◌+◌, zero, suc, map, List, ◌∷◌, length, get_or, Option, Some, None, IsSome, is_some, slice_get, refl, sym, ap, ◌∙◌, subst, inl, inr, ⊎_elim, arith}
 use Rattle.std.proofs.lemmas.List.{get_or_past}
 use Rattle.std.proofs.lemmas.List.FromFn.{length-map-range_with_len, get_or-map-range_with_len}
 use Rattle.std.proofs.lemmas.Bool.{cases_lt, false≢true}
@@ -8,7 +8,7 @@ use Rattle.std.specs.List.{range_with_len}
 use Rattle.page_store.specs.PageMap.{at}
 use Rattle.page_store.specs.PagesView.{PagesView, is_in_memory, is_read}
 use Rattle.page_store.specs.Calls.{how_many}
-use Rattle.page_store.specs.Overlaid.{is_among, or_else, pages_of, ArePages}
+use Rattle.page_store.specs.Overlaid.{is_among, or_else, pages_of}
 use Rattle.page_store.specs.WritingBack.{to_write, in_memory_of}
 use Rattle.page_store.proofs.CallFacts.{how_many_same}
 use Rattle.page_store.proofs.PageFacts.{length-pages_of, inside, outside}

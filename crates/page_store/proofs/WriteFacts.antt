@@ -1,5 +1,5 @@
 -- Pages written back: what the store has then, and what the pages are that are made of it.
-use Rattle.std.proofs.Common.{◌≡◌, ◌≢◌, ℕ, ◌+◌, ◌-◌, ◌<◌, ◌≤◌, ◌++◌, Bool, true, false, eqb, leb, ◌⊎◌, List, [], ◌∷◌, length, Option, Some, None, IsSome, is_some, slice_get, refl, sym, ap, ◌∙◌, subst, inl, inr, ⊎_elim, arith, zero, suc, set, length-set, length-append, get_or-set_same, get_or-set_other, ext_get_or}
+use Rattle.std.proofs.Common.{◌≡◌, ◌≢◌, ℕ, ◌+◌, ◌-◌, ◌<◌, ◌≤◌, ◌++◌, Bool, eqb, List, [], ◌∷◌, length, Option, Some, None, IsSome, is_some, slice_get, refl, sym, ap, ◌∙◌, subst, inl, inr, ⊎_elim, arith, zero, suc, set, length-set, length-append, get_or-set_same, get_or-set_other, ext_get_or}
 use Rattle.std.proofs.lemmas.List.{length-replicate, get_or_append_left}
 use Rattle.std.proofs.lemmas.Option.{slice_get-get_or, slice_get_past}
 use Rattle.std.proofs.lemmas.Bool.{cases_lt, cases_eq, false≢true}
@@ -7,7 +7,7 @@ use Rattle.std.proofs.lemmas.Bool.Decides.{nat_tests}
 use Rattle.page_store.specs.PageMap.{PageMap, at}
 use Rattle.page_store.specs.FreeNumbers.{free_from, free_numbers}
 use Rattle.page_store.specs.Blank.{blank, blanks}
-use Rattle.page_store.specs.Overlaid.{is_among, or_else, pages_of, ArePages}
+use Rattle.page_store.specs.Overlaid.{or_else, pages_of, ArePages}
 use Rattle.page_store.specs.WritingBack.{to_write, AreStored, SameBut, Leaves, Stopped}
 use Rattle.page_store.proofs.PageFacts.{length-pages_of, at_below, inside, outside}
 use Rattle.page_store.proofs.FreeFacts.{bytes_of_used}

@@ -1,4 +1,4 @@
-use Rattle.std.proofs.Common.{◌≡◌, ℕ, ◌+◌, Bool, true, slice_get, Some, None, is_some, IsSome, subst, sym, ap, ◌∙◌, refl, arith}
+use Rattle.std.proofs.Common.{◌≡◌, ℕ, ◌+◌, Bool, true, slice_get, is_some, subst, sym, ap, ◌∙◌, arith}
 use Rattle.rec_types.specs.Table.{counted}
 use Rattle.page_store.specs.Overlaid.{slots_of}
 use Rattle.page_store.specs.Calls.{counted_times, how_many}

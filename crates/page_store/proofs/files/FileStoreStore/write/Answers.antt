@@ -1,4 +1,4 @@
-use Rattle.std.proofs.Common.{List, ℕ, ap, ◌∙◌, [], get_or, sym}
+use Rattle.std.proofs.Common.{ap, ◌∙◌, [], get_or, sym}
 use Rattle.std.proofs.lemmas.List.{set-get_or}
 use Rattle.page_store.specs.OpenedFile.{OpenedFile}
 use Rattle.page_store.proofs.files.FileStoreStore.write.Goals as goal
