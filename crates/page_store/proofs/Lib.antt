@@ -7,6 +7,7 @@ pub mod MemoryFacts
 pub mod OnePage
 pub mod Overlays
 pub mod PageFacts
+mod RealFiles
 pub mod SetFacts
 pub mod SlotFacts
 pub mod Staging

@@ -25,17 +25,17 @@ pub struct FileStore<F> {
 }
 
 impl<F> Model for FileStore<F> {
-    ghost use Rattle.std.specs.Prelude.{◌≤◌, false};
-    ghost use Rattle.page_store.specs.Blank.{blanks};
+    ghost use Rattle.std.specs.Prelude.{◌≤◌};
     ghost use Rattle.page_store.specs.OpenedFile.{OpenedFile};
+    ghost use Rattle.page_store.specs.FileValues.{gives_back, pages_in_file};
 
     ghost Value = { OpenedFile };
 
-    // One value that meets the clauses, for a file of which nothing is known. Callers don't see which.
+    // The pages and `steady` are values that meet the clauses over any file: no clause tells which.
     ghost view = { λ s. record {
-      pages = blanks s.pages;
+      pages = pages_in_file s.pages;
       tail = s.tail;
-      steady = false;
+      steady = gives_back;
       reads = s.reads;
       writes = s.writes;
       failures = s.failures;
