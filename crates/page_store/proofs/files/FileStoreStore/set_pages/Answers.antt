@@ -11,7 +11,8 @@ pub returns-clause-pages : goal.returns-clause-pages
 returns-clause-pages g c =
     let was : blanks c.self.inside.pages ≡ c.args.self.now.pages = sym (pages_in_file-are c.self.inside.pages) ∙ ap (λ (o : OpenedFile). o.pages) c.self.view_is in
     let long = ap (λ (pages : List (List ℕ)). length pages) was in
-    ap pages_in_file c.from-self-inside.ensures
+    let made : c.from-self-inside.result ≡ c.args.n = omega (arith, c.from-self-inside.ensures) in
+    ap pages_in_file made
     ∙ pages_in_file-are c.args.n
     ∙ blanks_more c.self.inside.pages c.args.n (omega (arith, long, c.requires, length-replicate c.self.inside.pages blank))
     ∙ ap (λ (pages : List (List ℕ)). pages ++ blanks (c.args.n - length pages)) was
