@@ -160,6 +160,7 @@ pub fn delete<S: Store>(
     ensures store { pages.new ≡ record pages.old {
       pages = pages.new.pages;
       changed = pages.new.changed;
+      in_memory = pages.new.in_memory;
       reads = pages.new.reads;
       failures = pages.new.failures;
     } }

@@ -1,11 +1,15 @@
 pub mod BlankFacts
+pub mod CallFacts
 pub mod Candidates
 pub mod Fetched
 pub mod FreeFacts
+pub mod MemoryFacts
 pub mod OnePage
 pub mod Overlays
 pub mod PageFacts
+mod RealFiles
 pub mod SetFacts
 pub mod SlotFacts
 pub mod Staging
+pub mod Totals
 pub mod WriteFacts

@@ -1,5 +1,5 @@
 -- An edit put in place: the pages after it, and what keeps holding of them.
-use Rattle.std.proofs.Common.{◌≡◌, ◌≢◌, ℕ, ◌+◌, ◌<◌, ◌≤◌, Bool, true, false, not, ◌&&◌, ◌||◌, ◌⊎◌, List, ◌∷◌, length, map, Option, Some, None, IsSome, All, slice_get, zero, suc, refl, sym, ap, subst, ◌∙◌, inl, inr, ⊎_elim, arith}
+use Rattle.std.proofs.Common.{◌≡◌, ◌≢◌, ℕ, ◌+◌, ◌<◌, ◌≤◌, Bool, true, false, not, ◌&&◌, ◌||◌, ◌⊎◌, List, ◌∷◌, length, map, Option, Some, None, IsSome, is_some, All, slice_get, zero, suc, refl, sym, ap, subst, ◌∙◌, inl, inr, ⊎_elim, arith}
 use Rattle.std.specs.List.{range_with_len}
 use Rattle.std.proofs.lemmas.Bool.{cases_lt, false≢true}
 use Rattle.std.proofs.lemmas.List.Elements.{All-from_recursion}
@@ -10,6 +10,8 @@ use Rattle.page_store.specs.Overlaid.{is_among, or_else, page_at, pages_of, AreP
 use Rattle.page_store.specs.Slots.{put_slots}
 use Rattle.page_store.proofs.PageFacts.{length-pages_of, at_below, at_past, inside, outside}
 use Rattle.page_store.proofs.Candidates.{candidate_is_some, candidate_fits, taken_above}
+use Rattle.page_store.specs.WritingBack.{to_write}
+use Rattle.page_store.proofs.MemoryFacts.{InUse, use_of, used_written, unused_written}
 use Rattle.page_store.proofs.Overlays.{at_written, at_freed, freed_is_none, not_freed, not_written, slot_not_written, written_is_some, slot_written, some_written}
 
 none_not_some : {P : Type 0} (o : Option (List ℕ)) → o ≡ None → IsSome o → P
@@ -30,6 +32,10 @@ and_not_true false = refl
 and_true : (b : Bool) → ((b || false) && not false) ≡ b
 and_true true = refl
 and_true false = refl
+
+neither_so : (b : Bool) → b ≡ ((false || b) && not false)
+neither_so true = refl
+neither_so false = refl
 
 were_used : (old gone : Bool) → ((old || gone) && not false) ≡ false → (old ≡ false) × (gone ≡ false)
 were_used true gone e = absurd (false≢true (sym e))
@@ -165,6 +171,34 @@ module _ (stored : List (List ℕ)) (slots : List (Option (List ℕ))) (free : L
         -- the pages after the edit
         pub staged : (n : ℕ) → at (pages_of stored slots2 free2 count2) n ≡ after (at (pages_of stored slots free count)) writes freed n
         staged n = staged_by n (is_freed freed n) (is_written writes n) refl refl
+
+        memory_by : (n : ℕ) (gone here : Bool) → is_freed freed n ≡ gone → is_written writes n ≡ here → is_some (to_write slots2 free2 count2 n) ≡ ((here || is_some (to_write slots free count n)) && not gone)
+        memory_by n true here f w =
+            let unwritten = at_freed (λ k. is_written writes k ≡ false) freed n can.freed_not_written f in
+            let gone = among n (is_among free n) true false refl f unwritten ∙ or_true (is_among free n) in
+            ap is_some (unused_written slots2 free2 count2 n (λ h. false≢true (sym h.2 ∙ gone)))
+            ∙ sym (and_not_true (here || is_some (to_write slots free count n)))
+        memory_by n false true f w =
+            let fit = fits n (at_written (λ k. IsSome (at (pages_of stored slots free count) k) ⊎ IsTaken (pages_of stored slots free count) taken k) writes n can.written w) in
+            let below : n < count2 = omega (arith, fit.1) in
+            let used = among n (is_among free n) false true refl f w ∙ and_not_true (is_among free n || false) in
+            ap is_some (used_written slots2 free2 count2 n (fit.0, below, used) ∙ at_slot n below w)
+            ∙ written_is_some (at (pages_of stored slots free count)) writes n (inr w)
+        memory_by n false false f w =
+            let size = length-pages_of stored slots free count in
+            let stays = among n (is_among free n) false false refl f w ∙ and_true (is_among free n) in
+            ⊎_elim (λ (h : InUse free count n).
+            ap is_some (used_written slots2 free2 count2 n (h.0, omega (arith, h.1), stays ∙ h.2) ∙ kept_slot n f w ∙ sym (used_written slots free count n h)))
+            (λ (never : InUse free count n → ⊥).
+            ap is_some (unused_written slots2 free2 count2 n (λ h.
+            ⊎_elim (λ (below : n < count). never (h.0, below, sym stays ∙ h.2)) (λ (past : count ≤ n). not_below n past h.1 w) (cases_lt n count))
+            ∙ sym (unused_written slots free count n never)))
+            (use_of free count n)
+            ∙ neither_so (is_some (to_write slots free count n))
+
+        -- which pages are in memory after the edit
+        pub memory_after : (n : ℕ) → is_some (to_write slots2 free2 count2 n) ≡ ((is_written writes n || is_some (to_write slots free count n)) && not (is_freed freed n))
+        memory_after n = memory_by n (is_freed freed n) (is_written writes n) refl refl
 
         free_after : (n : ℕ) (old gone here : Bool) → is_among free n ≡ old → is_freed freed n ≡ gone → is_written writes n ≡ here → is_among free2 n ≡ true → (1 ≤ n) × (n < count2)
         free_after n true gone here e f w now_free =

@@ -1,15 +1,17 @@
 -- Pages written back: what the store has then, and what the pages are that are made of it.
-use Rattle.std.proofs.Common.{◌≡◌, ◌≢◌, ℕ, ◌+◌, ◌-◌, ◌<◌, ◌≤◌, ◌++◌, Bool, true, false, eqb, leb, ◌⊎◌, List, [], ◌∷◌, length, Option, Some, None, IsSome, is_some, slice_get, refl, sym, ap, ◌∙◌, subst, inl, inr, ⊎_elim, arith, zero, suc, ext_get_or}
-use Rattle.std.proofs.lemmas.Option.{slice_get-get_or}
-use Rattle.std.proofs.lemmas.Bool.{cases_lt, false≢true}
+use Rattle.std.proofs.Common.{◌≡◌, ◌≢◌, ℕ, ◌+◌, ◌-◌, ◌<◌, ◌≤◌, ◌++◌, Bool, eqb, List, [], ◌∷◌, length, Option, Some, None, IsSome, is_some, slice_get, refl, sym, ap, ◌∙◌, subst, inl, inr, ⊎_elim, arith, zero, suc, set, length-set, length-append, get_or-set_same, get_or-set_other, ext_get_or}
+use Rattle.std.proofs.lemmas.List.{length-replicate, get_or_append_left}
+use Rattle.std.proofs.lemmas.Option.{slice_get-get_or, slice_get_past}
+use Rattle.std.proofs.lemmas.Bool.{cases_lt, cases_eq, false≢true}
 use Rattle.std.proofs.lemmas.Bool.Decides.{nat_tests}
-use Rattle.page_store.specs.PageMap.{at}
+use Rattle.page_store.specs.PageMap.{PageMap, at}
 use Rattle.page_store.specs.FreeNumbers.{free_from, free_numbers}
-use Rattle.page_store.specs.Blank.{blanks}
-use Rattle.page_store.specs.Overlaid.{is_among, or_else, pages_of, ArePages}
-use Rattle.page_store.specs.WritingBack.{to_write, AreStored, Leaves, Stopped}
+use Rattle.page_store.specs.Blank.{blank, blanks}
+use Rattle.page_store.specs.Overlaid.{or_else, pages_of, ArePages}
+use Rattle.page_store.specs.WritingBack.{to_write, AreStored, SameBut, Leaves, Stopped}
 use Rattle.page_store.proofs.PageFacts.{length-pages_of, at_below, inside, outside}
 use Rattle.page_store.proofs.FreeFacts.{bytes_of_used}
+use Rattle.page_store.proofs.MemoryFacts.{InUse, use_of, used_written, unused_written}
 use Rattle.page_store.proofs.Staging.{in_use}
 
 none_not_some : {P : Type 0} (o : Option (List ℕ)) → o ≡ None → IsSome o → P
@@ -31,38 +33,72 @@ same_free_numbers [] (y ∷ ys) long same = absurd (omega (arith, long))
 same_free_numbers (x ∷ xs) [] long same = absurd (omega (arith, long))
 same_free_numbers (x ∷ xs) (y ∷ ys) long same = same_free_from 1 xs ys (omega (arith, long)) (λ k. same (suc k))
 
-abbrev InUse : List ℕ → ℕ → ℕ → Type 0
-InUse free count n = (n ≢ 0) × (n < count) × (is_among free n ≡ false)
+kept_left : (old more : List (List ℕ)) (n : ℕ) → n < length old → slice_get (old ++ more) n ≡ slice_get old n
+kept_left old more n below =
+    let long = length-append old more in
+    slice_get-get_or (old ++ more) n [] (omega arith)
+    ∙ ap (λ (page : List ℕ). Some page) (get_or_append_left old more [] n below)
+    ∙ sym (slice_get-get_or old n [] below)
 
-use_by : (free : List ℕ) (count n : ℕ) (zero_is free_is : Bool) → eqb n 0 ≡ zero_is → is_among free n ≡ free_is → InUse free count n ⊎ (InUse free count n → ⊥)
-use_by free count n true f z e = inr (λ h. h.0 (grind (arith, nat_tests)))
-use_by free count n false true z e = inr (λ h. false≢true (sym h.2 ∙ e))
-use_by free count n false false z e =
-    ⊎_elim (λ (below : n < count). inl (grind (arith, nat_tests), below, e))
-    (λ (past : count ≤ n). inr (λ h. omega (arith, h.1)))
-    (cases_lt n count)
+kept_beside : (old : List (List ℕ)) (n k : ℕ) (page : List ℕ) → k ≢ n → slice_get (set old n page) k ≡ slice_get old k
+kept_beside old n k page other =
+    ⊎_elim (λ (below : k < length old).
+    slice_get-get_or (set old n page) k [] (let long = length-set old n page in omega arith)
+    ∙ ap (λ (bytes : List ℕ). Some bytes) (get_or-set_other old n k page [] other)
+    ∙ sym (slice_get-get_or old k [] below))
+    (λ (past : length old ≤ k).
+    slice_get_past (set old n page) k (let long = length-set old n page in omega arith) ∙ sym (slice_get_past old k past))
+    (cases_lt k (length old))
 
-use_of : (free : List ℕ) (count n : ℕ) → InUse free count n ⊎ (InUse free count n → ⊥)
-use_of free count n = use_by free count n (eqb n 0) (is_among free n) refl refl
+put_there : (old : List (List ℕ)) (n : ℕ) (page : List ℕ) → n < length old → slice_get (set old n page) n ≡ Some page
+put_there old n page below =
+    slice_get-get_or (set old n page) n [] (let long = length-set old n page in omega arith)
+    ∙ ap (λ (bytes : List ℕ). Some bytes) (get_or-set_same old n page [] below)
 
-unused_by : (slots : List (Option (List ℕ))) (free : List ℕ) (count n : ℕ) (zero_is past free_is : Bool) → eqb n 0 ≡ zero_is → leb count n ≡ past → is_among free n ≡ free_is → (InUse free count n → ⊥) → to_write slots free count n ≡ None
-unused_by slots free count n true p f z above e never = rw z refl
-unused_by slots free count n false true f z above e never = rw (z, above) refl
-unused_by slots free count n false false true z above e never = rw (z, above, e) refl
-unused_by slots free count n false false false z above e never = absurd (never (grind (arith, nat_tests), grind (arith, nat_tests), e))
+-- one page more is written
+pub others_put : (pages : PageMap) (old mid new : List (List ℕ)) (n : ℕ) → SameBut (λ k. is_some (pages k)) old mid → IsSome (pages n) → (page : List ℕ) × (new ≡ set mid n page) → SameBut (λ k. is_some (pages k)) old new
+others_put pages old mid new n was some is = record {
+  long = ap (λ (ps : List (List ℕ)). length ps) is.1 ∙ length-set mid n is.0 ∙ was.long;
+  same = λ k out.
+      ap (λ (ps : List (List ℕ)). slice_get ps k) is.1
+      ∙ kept_beside mid n k is.0 (λ here. false≢true (sym out ∙ ap (λ i. is_some (pages i)) here ∙ some))
+      ∙ was.same k out;
+}
+
+pub pages_put : (pages : PageMap) (mid new : List (List ℕ)) (n : ℕ) (page : List ℕ) → n < length mid → ((k : ℕ) → k < n → IsSome (pages k) → slice_get mid k ≡ pages k) → pages n ≡ Some page → new ≡ set mid n page → (k : ℕ) → k < n + 1 → IsSome (pages k) → slice_get new k ≡ pages k
+pages_put pages mid new n page fits was there is k below some =
+    ap (λ (ps : List (List ℕ)). slice_get ps k) is
+    ∙ ⊎_elim (λ (here : k ≡ n). ap (λ i. slice_get (set mid n page) i) here ∙ put_there mid n page fits ∙ sym (ap pages here ∙ there))
+    (λ (other : k ≢ n). kept_beside mid n k page other ∙ was k (omega arith) some)
+    (cases_eq k n)
+
+pub pages_skipped : (pages : PageMap) (mid : List (List ℕ)) (n : ℕ) → ((k : ℕ) → k < n → IsSome (pages k) → slice_get mid k ≡ pages k) → pages n ≡ None → (k : ℕ) → k < n + 1 → IsSome (pages k) → slice_get mid k ≡ pages k
+pages_skipped pages mid n was none k below some =
+    ⊎_elim (λ (here : k ≡ n). none_not_some (pages k) (ap pages here ∙ none) some)
+    (λ (other : k ≢ n). was k (omega arith) some)
+    (cases_eq k n)
+
+-- what was written after the store was made longer
+pub leaves_by : (pages : PageMap) (count : ℕ) (old mid new : List (List ℕ)) → length old ≤ count → mid ≡ old ++ blanks (count - length old) → length new ≡ length mid → ((n : ℕ) → n ≢ 0 → pages n ≡ None → slice_get new n ≡ slice_get mid n) → Leaves pages count old new
+leaves_by pages count old mid new fits is long same =
+    let size : length mid ≡ count = ap (λ (ps : List (List ℕ)). length ps) is ∙ (let l = length-append old (blanks (count - length old)) in let r = length-replicate (count - length old) blank in omega arith) in
+    record {
+      longer = omega arith;
+      fits = omega arith;
+      others = λ n some below none. same n some none ∙ ap (λ (ps : List (List ℕ)). slice_get ps n) is ∙ kept_left old (blanks (count - length old)) n below;
+    }
+
+-- page 0 and then the pages to write
+pub same_two : (pages : PageMap) (mid header new : List (List ℕ)) → SameBut (λ n. eqb n 0) mid header → SameBut (λ n. is_some (pages n)) header new → (n : ℕ) → n ≢ 0 → pages n ≡ None → slice_get new n ≡ slice_get mid n
+same_two pages mid header new first second n some none =
+    second.same n (ap is_some none) ∙ first.same n (grind (arith, nat_tests))
 
 module _ (stored : List (List ℕ)) (slots : List (Option (List ℕ))) (free : List ℕ) (count : ℕ) (changed : Bool) (are : ArePages stored slots free count changed) where
-  used_written : (n : ℕ) → InUse free count n → to_write slots free count n ≡ at slots n
-  used_written n h = grind (arith, nat_tests, h.0, h.1, h.2)
-
-  unused_written : (n : ℕ) → (InUse free count n → ⊥) → to_write slots free count n ≡ None
-  unused_written n never = unused_by slots free count n (eqb n 0) (leb count n) (is_among free n) refl refl refl never
-
   module _ (new : List (List ℕ)) (leaves : Leaves (to_write slots free count) count stored new) where
     stays_by : (n : ℕ) (slot : Option (List ℕ)) → InUse free count n → at slots n ≡ slot → or_else slot (slice_get new n) ≡ or_else slot (slice_get stored n)
     stays_by n (Some page) h is = refl
     stays_by n None h is =
-        ⊎_elim (λ (below : n < length stored). leaves.others n h.0 below (used_written n h ∙ is))
+        ⊎_elim (λ (below : n < length stored). leaves.others n h.0 below (used_written slots free count n h ∙ is))
         (λ (past : length stored ≤ n). none_not_some (at slots n) is (are.there n (omega (arith, h.0)) h.1 h.2 past))
         (cases_lt n (length stored))
 
@@ -79,12 +115,12 @@ module _ (stored : List (List ℕ)) (slots : List (Option (List ℕ))) (free : L
     -- a page that isn't in use isn't written
     none_by : (n : ℕ) (slot : Option (List ℕ)) → InUse free count n → at slots n ≡ slot → or_else slot (slice_get stored n) ≡ None → to_write slots free count n ≡ None
     none_by n (Some page) h is none = absurd (cc)
-    none_by n None h is none = used_written n h ∙ is
+    none_by n None h is none = used_written slots free count n h ∙ is
 
     pub none_written : (n : ℕ) → at (pages_of stored slots free count) n ≡ None → to_write slots free count n ≡ None
     none_written n none =
         ⊎_elim (λ (h : InUse free count n). none_by n (at slots n) h refl (sym (inside stored slots free count n h) ∙ none))
-        (λ (never : InUse free count n → ⊥). unused_written n never)
+        (λ (never : InUse free count n → ⊥). unused_written slots free count n never)
         (use_of free count n)
 
     pub unwritten_pages : ((n : ℕ) → n ≢ 0 → to_write slots free count n ≡ None → slice_get new n ≡ slice_get (stored ++ blanks (count - length stored)) n) → (n : ℕ) → n ≢ 0 → at (pages_of stored slots free count) n ≡ None → slice_get new n ≡ slice_get (stored ++ blanks (length (pages_of stored slots free count) - length stored)) n
@@ -102,7 +138,7 @@ module _ (stored : List (List ℕ)) (slots : List (Option (List ℕ))) (free : L
     now_by : (n : ℕ) (slot : Option (List ℕ)) → AreStored (to_write slots free count) new → InUse free count n → at slots n ≡ slot → slice_get new n ≡ or_else slot (slice_get stored n)
     now_by n None put h is = stays_by n None h is
     now_by n (Some page) put h is =
-        let written : to_write slots free count n ≡ Some page = used_written n h ∙ is in
+        let written : to_write slots free count n ≡ Some page = used_written slots free count n h ∙ is in
         put n (subst IsSome (sym written) refl) ∙ written
 
     now_stored : (n : ℕ) → AreStored (to_write slots free count) new → InUse free count n → slice_get new n ≡ at (pages_of stored slots free count) n

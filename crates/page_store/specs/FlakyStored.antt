@@ -38,6 +38,10 @@ with_write s failed = record s { writes = counted s.writes true; failed_writes =
 abbrev pub reads_of : {S : Type 0} → (S → ℕ) → FlakyStored S → ℕ
 reads_of reads s = min (reads s.inner + s.failed_reads) 18446744073709551615
 
+-- how many changing calls there were, below and failed ones here; it stays at the greatest value of 64 bits
+abbrev pub writes_of : {S : Type 0} → (S → ℕ) → FlakyStored S → ℕ
+writes_of writes s = min (writes s.inner + s.failed_writes) 18446744073709551615
+
 -- how many calls failed, below and here; it stays at the greatest value of 64 bits
 abbrev pub failures_of : {S : Type 0} → (S → ℕ) → FlakyStored S → ℕ
 failures_of failures s = min (failures s.inner + (s.failed_reads + s.failed_writes)) 18446744073709551615

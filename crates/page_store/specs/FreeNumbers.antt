@@ -1,5 +1,6 @@
 -- Which page numbers are free, and which of them an edit takes.
-use Rattle.std.specs.Prelude.{ℕ, ◌+◌, ◌-◌, List, [], ◌∷◌, length, drop, Option, Some, None, nat_lt, if◌then◌else◌, slice_index}
+use Rattle.std.specs.Prelude.{◌≡◌, ℕ, ◌+◌, ◌-◌, false, ◌==◌, List, [], ◌∷◌, length, drop, Option, Some, None, nat_lt, if◌then◌else◌, slice_index}
+use Rattle.std.specs.List.{list_any}
 
 -- the numbers of the pages that are not in use, where the first page has number n
 abbrev pub free_from : ℕ → List (Option (List ℕ)) → List ℕ
@@ -22,3 +23,12 @@ candidate pages i = nth_or_above (free_numbers pages) (length pages) i
 -- the page count after an edit that takes so many numbers
 abbrev pub count_after : List (Option (List ℕ)) → ℕ → ℕ
 count_after pages taken = length pages + (taken - length (free_numbers pages))
+
+-- no number comes twice
+abbrev pub AreDistinct : List ℕ → Type 0
+AreDistinct [] = Unit {0}
+AreDistinct (n ∷ numbers) = (list_any (λ m. n == m) numbers ≡ false) × AreDistinct numbers
+
+-- five pages, of which 1 and 3 are in use
+abbrev pub pages_1_and_3 : List (Option (List ℕ))
+pages_1_and_3 = None ∷ Some [] ∷ None ∷ Some [] ∷ None ∷ []

@@ -1,6 +1,8 @@
 pub mod Blank
+pub mod Calls
 pub mod CanStage
 pub mod FetchFaults
+pub mod FileValues
 pub mod FlakyStored
 pub mod FreeNumbers
 pub mod Growth

@@ -1,12 +1,23 @@
 -- What contracts see of a store with changed pages in memory.
-use Rattle.std.specs.Prelude.{ℕ, Bool, List, Option}
+use Rattle.std.specs.Prelude.{ℕ, Bool, false, not, ◌&&◌, List, Option, is_some, slice_index_or}
+use Rattle.page_store.specs.PageMap.{at}
 
--- pages: each page's newest bytes, None for page 0 and for free numbers; changed: whether an edit was staged since the beginning or the last writing back; the rest is the store's
+-- pages: each page's newest bytes, None for page 0 and for free numbers; changed: whether an edit was staged since the beginning or the last writing back; in_memory: of each page whether it is in use and its newest bytes are in memory; the rest is the store's
 pub record PagesView : Type 0 where
   pub pages : List (Option (List ℕ))
   pub changed : Bool
+  pub in_memory : List Bool
   pub stored : List (List ℕ)
   pub tail : ℕ
   pub steady : Bool
   pub reads : ℕ
+  pub writes : ℕ
   pub failures : ℕ
+
+-- whether page n is in use and its newest bytes are in memory
+abbrev pub is_in_memory : PagesView → ℕ → Bool
+is_in_memory v n = slice_index_or v.in_memory n false
+
+-- whether page n is in use and its newest bytes are in the store
+abbrev pub is_read : PagesView → ℕ → Bool
+is_read v n = is_some (at v.pages n) && not (is_in_memory v n)

@@ -5,3 +5,4 @@ pub record StoredPages : Type 0 where
   pub pages : List (List ℕ)
   pub tail : ℕ
   pub reads : ℕ
+  pub writes : ℕ

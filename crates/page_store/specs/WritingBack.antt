@@ -1,11 +1,16 @@
 -- What writing back does to the pages of a store.
-use Rattle.std.specs.Prelude.{◌≡◌, ◌≢◌, ℕ, ◌<◌, ◌≤◌, ◌⊎◌, Bool, false, ◌||◌, List, length, Option, Some, None, IsSome, ◌==◌, nat_le, if◌then◌else◌, slice_get}
+use Rattle.std.specs.Prelude.{◌≡◌, ◌≢◌, ℕ, ◌<◌, ◌≤◌, ◌⊎◌, Bool, false, ◌||◌, List, length, map, Option, Some, None, IsSome, is_some, ◌==◌, nat_le, if◌then◌else◌, slice_get}
+use Rattle.std.specs.List.{range_with_len}
 use Rattle.page_store.specs.PageMap.{PageMap, at}
 use Rattle.page_store.specs.Overlaid.{is_among}
 
 -- the page that is written back as page n: the changed one, where page n is in use
 abbrev pub to_write : List (Option (List ℕ)) → List ℕ → ℕ → PageMap
 to_write slots free count n = if n == 0 || (nat_le count n || is_among free n) then None else at slots n
+
+-- of each page below the count whether it is in use and was changed
+unfoldable pub in_memory_of : List (Option (List ℕ)) → List ℕ → ℕ → List Bool
+in_memory_of slots free count = map (λ n. is_some (to_write slots free count n)) (range_with_len 0 count)
 
 -- each of these pages is stored
 abbrev pub AreStored : PageMap → List (List ℕ) → Type 0

@@ -3,7 +3,7 @@ ghost use Rattle.rec_types.specs.Table.{counted};
 ghost use Rattle.page_store.specs.Blank.{blanks};
 ghost use Rattle.page_store.specs.Growth.{GrowsTo};
 ghost use Rattle.page_store.specs.StoreFaults.{is_failed};
-ghost use Rattle.page_store.specs.FlakyStored.{read_fails, write_fails, with_read, with_write, reads_of, failures_of};
+ghost use Rattle.page_store.specs.FlakyStored.{read_fails, write_fails, with_read, with_write, reads_of, writes_of, failures_of};
 
 use crate::answers::{Shape, StoreFault};
 use crate::stores::Store;
@@ -104,6 +104,8 @@ impl<S: Store> Store for FlakyStore<S> {
 
     ghost reads = { λ s. reads_of S.reads s };
 
+    ghost writes = { λ s. writes_of S.writes s };
+
     ghost failures = { λ s. failures_of S.failures s };
 
     /// The length, which the store below answers. Fault: Failed, where it fails.
@@ -116,10 +118,13 @@ impl<S: Store> Store for FlakyStore<S> {
         ensures same_tail { S.tail self.new.inner ≡ S.tail self.old.inner }
         ensures same_steady { S.steady self.new.inner ≡ S.steady self.old.inner }
         ensures reads { reads_of S.reads self.new ≡ reads_of S.reads self.old }
+        ensures writes { writes_of S.writes self.new ≡ writes_of S.writes self.old }
         ensures failures { failures_of S.failures self.new
             ≡ counted (failures_of S.failures self.old) (is_failed result) }
         ensures passes { S.failures self.new.inner
             ≡ counted (S.failures self.old.inner) (is_failed result) }
+        ensures reads_below { S.reads self.new.inner ≡ S.reads self.old.inner }
+        ensures writes_below { S.writes self.new.inner ≡ S.writes self.old.inner }
         ensures rest { self.new ≡ record self.old { inner = self.new.inner } }
     {
         self.inner.shape()
@@ -136,12 +141,16 @@ impl<S: Store> Store for FlakyStore<S> {
         ensures same_tail { S.tail self.new.inner ≡ S.tail self.old.inner }
         ensures same_steady { S.steady self.new.inner ≡ S.steady self.old.inner }
         ensures reads { reads_of S.reads self.new ≡ counted (reads_of S.reads self.old) true }
+        ensures writes { writes_of S.writes self.new ≡ writes_of S.writes self.old }
         ensures failures { failures_of S.failures self.new
             ≡ counted (failures_of S.failures self.old) (is_failed result) }
         ensures fails { IsTrue (read_fails self.old) → (result ≡ Err StoreFault.Failed)
             × (self.new.inner ≡ self.old.inner) × (to.new ≡ to.old) }
         ensures passes { read_fails self.old ≡ false → S.failures self.new.inner
             ≡ counted (S.failures self.old.inner) (is_failed result) }
+        ensures reads_below { read_fails self.old ≡ false
+            → S.reads self.new.inner ≡ counted (S.reads self.old.inner) true }
+        ensures writes_below { S.writes self.new.inner ≡ S.writes self.old.inner }
         ensures rest { self.new
             ≡ record (with_read self.old (read_fails self.old)) { inner = self.new.inner } }
     {
@@ -163,12 +172,16 @@ impl<S: Store> Store for FlakyStore<S> {
         ensures same_tail { S.tail self.new.inner ≡ S.tail self.old.inner }
         ensures same_steady { S.steady self.new.inner ≡ S.steady self.old.inner }
         ensures reads { reads_of S.reads self.new ≡ reads_of S.reads self.old }
+        ensures writes { writes_of S.writes self.new ≡ counted (writes_of S.writes self.old) true }
         ensures failures { failures_of S.failures self.new
             ≡ counted (failures_of S.failures self.old) (is_failed result) }
         ensures fails { IsTrue (write_fails self.old)
             → (result ≡ Err StoreFault.Failed) × (self.new.inner ≡ self.old.inner) }
         ensures passes { write_fails self.old ≡ false → S.failures self.new.inner
             ≡ counted (S.failures self.old.inner) (is_failed result) }
+        ensures reads_below { S.reads self.new.inner ≡ S.reads self.old.inner }
+        ensures writes_below { write_fails self.old ≡ false
+            → S.writes self.new.inner ≡ counted (S.writes self.old.inner) true }
         ensures rest { self.new
             ≡ record (with_write self.old (write_fails self.old)) { inner = self.new.inner } }
     {
@@ -190,12 +203,16 @@ impl<S: Store> Store for FlakyStore<S> {
             (GrowsTo n (S.pages self.old.inner) (S.pages self.new.inner)) }
         ensures same_steady { S.steady self.new.inner ≡ S.steady self.old.inner }
         ensures reads { reads_of S.reads self.new ≡ reads_of S.reads self.old }
+        ensures writes { writes_of S.writes self.new ≡ counted (writes_of S.writes self.old) true }
         ensures failures { failures_of S.failures self.new
             ≡ counted (failures_of S.failures self.old) (is_failed result) }
         ensures fails { IsTrue (write_fails self.old)
             → (result ≡ Err StoreFault.Failed) × (self.new.inner ≡ self.old.inner) }
         ensures passes { write_fails self.old ≡ false → S.failures self.new.inner
             ≡ counted (S.failures self.old.inner) (is_failed result) }
+        ensures reads_below { S.reads self.new.inner ≡ S.reads self.old.inner }
+        ensures writes_below { write_fails self.old ≡ false
+            → S.writes self.new.inner ≡ counted (S.writes self.old.inner) true }
         ensures rest { self.new
             ≡ record (with_write self.old (write_fails self.old)) { inner = self.new.inner } }
     {
@@ -213,12 +230,16 @@ impl<S: Store> Store for FlakyStore<S> {
         ensures same_tail { S.tail self.new.inner ≡ S.tail self.old.inner }
         ensures same_steady { S.steady self.new.inner ≡ S.steady self.old.inner }
         ensures reads { reads_of S.reads self.new ≡ reads_of S.reads self.old }
+        ensures writes { writes_of S.writes self.new ≡ counted (writes_of S.writes self.old) true }
         ensures failures { failures_of S.failures self.new
             ≡ counted (failures_of S.failures self.old) (is_failed result) }
         ensures fails { IsTrue (write_fails self.old)
             → (result ≡ Err StoreFault.Failed) × (self.new.inner ≡ self.old.inner) }
         ensures passes { write_fails self.old ≡ false → S.failures self.new.inner
             ≡ counted (S.failures self.old.inner) (is_failed result) }
+        ensures reads_below { S.reads self.new.inner ≡ S.reads self.old.inner }
+        ensures writes_below { write_fails self.old ≡ false
+            → S.writes self.new.inner ≡ counted (S.writes self.old.inner) true }
         ensures rest { self.new
             ≡ record (with_write self.old (write_fails self.old)) { inner = self.new.inner } }
     {

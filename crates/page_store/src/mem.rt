@@ -7,12 +7,13 @@ use crate::stores::Store;
 use std::marker::Model;
 
 /// A store in memory, which is always steady and never fails. Contracts see its pages, the length of
-/// its tail and its number of reads.
+/// its tail and the numbers of its reads and of its changing calls.
 #[derive(Drop)]
 pub struct MemStore {
     pages: Vec<[u8; 4096]>,
     tail: u16,
     reads: u64,
+    writes: u64,
 }
 
 impl Model for MemStore {
@@ -21,7 +22,12 @@ impl Model for MemStore {
 
     ghost Value = { StoredPages };
 
-    ghost view = { λ s. record { pages = s.pages.items; tail = s.tail; reads = s.reads } };
+    ghost view = { λ s. record {
+      pages = s.pages.items;
+      tail = s.tail;
+      reads = s.reads;
+      writes = s.writes;
+    } };
 
     ghost invariant = { λ s. s.tail ≤ 4095 };
 }
@@ -30,12 +36,13 @@ impl MemStore {
     /// A store of these pages, with a tail of that many bytes, at most 4,095.
     pub fn new(pages: Vec<[u8; 4096]>, tail: u16) -> MemStore
         requires { tail ≤ 4095 }
-        ensures { result ≡ record { pages = pages.items; tail = tail; reads = 0 } }
+        ensures { result ≡ record { pages = pages.items; tail = tail; reads = 0; writes = 0 } }
     {
         MemStore {
             pages,
             tail,
             reads: 0,
+            writes: 0,
         }
     }
 
@@ -58,6 +65,8 @@ impl Store for MemStore {
 
     ghost reads = { λ s. s.reads };
 
+    ghost writes = { λ s. s.writes };
+
     ghost failures = { λ _. 0 };
 
     fn shape(&mut self) -> Result<Shape, StoreFault> {
@@ -74,11 +83,13 @@ impl Store for MemStore {
     }
 
     fn write(&mut self, n: u32, from: &[u8; 4096]) -> Result<(), StoreFault> {
+        count_up(&mut self.writes);
         self.pages[n as usize] = *from;
         Ok(())
     }
 
     fn set_pages(&mut self, n: u32) -> Result<(), StoreFault> {
+        count_up(&mut self.writes);
         if add_blank_pages(&mut self.pages, n).is_err() {
             return Err(StoreFault::Memory);
         }
@@ -87,6 +98,7 @@ impl Store for MemStore {
     }
 
     fn sync(&mut self) -> Result<(), StoreFault> {
+        count_up(&mut self.writes);
         Ok(())
     }
 }

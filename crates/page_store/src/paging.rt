@@ -1,8 +1,10 @@
-ghost use Rattle.std.specs.Prelude.{◌≡◌, ℕ, ◌≢◌, ◌+◌, ◌-◌, ◌<◌, ◌≤◌, ◌++◌, ◌↔◌, ◌==◌, ◌||◌, if◌then◌else◌, [], false, true, length, Some, None, Err, is_some, IsTrue, IsSome, IsOk, OnOk, OnErr, slice_get};
+ghost use Rattle.std.specs.Prelude.{◌≡◌, ℕ, ◌≢◌, ◌+◌, ◌-◌, ◌<◌, ◌≤◌, ◌++◌, ◌↔◌, ◌==◌, ◌||◌, ◌&&◌, if◌then◌else◌, [], false, true, not, length, Some, None, Err, is_some, IsTrue, IsSome, IsOk, OnOk, OnErr, slice_get};
 ghost use Rattle.std.specs.Ordering.{nat_cmp};
 ghost use Rattle.std.specs.BTreeSet.{contains};
 ghost use Rattle.rec_types.specs.Table.{counted};
-ghost use Rattle.page_store.specs.PageMap.{at, after};
+ghost use Rattle.page_store.specs.PageMap.{at, after, is_written, is_freed};
+ghost use Rattle.page_store.specs.PagesView.{is_in_memory, is_read};
+ghost use Rattle.page_store.specs.Calls.{counted_times, CountedUpTo, how_many};
 ghost use Rattle.page_store.specs.FreeNumbers.{free_numbers, candidate, count_after};
 ghost use Rattle.page_store.specs.CanStage.{CanStage};
 ghost use Rattle.page_store.specs.FetchFaults.{is_device};
@@ -24,8 +26,8 @@ use std::collections::BTreeSet;
 use std::marker::Model;
 
 /// A store with changed pages in memory, a page count and the free page numbers. Contracts see each
-/// page's newest bytes, None for page 0 and for free numbers, whether an edit was staged, and what
-/// the store is.
+/// page's newest bytes, None for page 0 and for free numbers, whether an edit was staged, which pages
+/// in use are in memory, and what the store is.
 #[derive(Drop)]
 pub struct Pages<S: Store> {
     store: S,
@@ -42,14 +44,17 @@ impl<S: Store> Model for Pages<S> {
     ghost Value = { PagesView };
 
     ghost use Rattle.page_store.specs.Overlaid.{pages_of, slots_of, ArePages};
+    ghost use Rattle.page_store.specs.WritingBack.{in_memory_of};
 
     ghost view = { λ p. record {
       pages = pages_of (S.pages p.store) (slots_of p.changed.items) p.free.keys p.count;
       changed = p.edited;
+      in_memory = in_memory_of (slots_of p.changed.items) p.free.keys p.count;
       stored = S.pages p.store;
       tail = S.tail p.store;
       steady = S.steady p.store;
       reads = S.reads p.store;
+      writes = S.writes p.store;
       failures = S.failures p.store;
     } };
 
@@ -71,13 +76,16 @@ impl<S: Store> Pages<S> {
         ensures count { length result.pages ≡ count }
         ensures pages { (n : ℕ) → n < count → at result.pages n
             ≡ (if n == 0 || contains nat_cmp free n then None else slice_get (S.pages store) n) }
+        ensures in_memory { (n : ℕ) → is_in_memory result n ≡ false }
         ensures store { result ≡ record {
           pages = result.pages;
           changed = false;
+          in_memory = result.in_memory;
           stored = S.pages store;
           tail = S.tail store;
           steady = S.steady store;
           reads = S.reads store;
+          writes = S.writes store;
           failures = S.failures store;
         } }
     {
@@ -91,8 +99,9 @@ impl<S: Store> Pages<S> {
         }
     }
 
-    /// Reads page n's newest bytes: a changed page from memory, any other from the store. Faults:
-    /// Device where the store failed, OutOfRange where page n is not in use. No page changes.
+    /// Reads page n's newest bytes: a changed page from memory, where the store isn't called, any other
+    /// by one read of the store, each time. Faults: Device where the store failed, OutOfRange where page
+    /// n is not in use; `to` is as it was then. No page changes.
     pub fn fetch(&mut self, n: u32, to: &mut [u8; 4096]) -> Result<(), FetchFault>
         ensures page { IsTrue self.old.steady → OnOk result (at self.old.pages n ≡ Some to.new) }
         ensures out_of_range { (result ≡ Err FetchFault.OutOfRange) ↔ (at self.old.pages n ≡ None) }
@@ -100,8 +109,10 @@ impl<S: Store> Pages<S> {
         ensures unchanged { self.new
             ≡ record self.old { reads = self.new.reads; failures = self.new.failures } }
         ensures nothing_there { at self.old.pages n ≡ None → self.new ≡ self.old }
-        ensures one_read { self.new.reads ≤ self.old.reads + 1 }
-        ensures no_fewer_reads { self.old.reads ≤ self.new.reads }
+        ensures nothing_read { at self.old.pages n ≡ None → to.new ≡ to.old }
+        ensures from_memory { is_in_memory self.old n ≡ true
+            → (self.new ≡ self.old) × IsOk result × (at self.old.pages n ≡ Some to.new) }
+        ensures reads { self.new.reads ≡ counted self.old.reads (is_read self.old n) }
         ensures from_store { self.old.changed ≡ false → IsSome (at self.old.pages n)
             → self.new.reads ≡ counted self.old.reads true }
     {
@@ -129,8 +140,14 @@ impl<S: Store> Pages<S> {
         ensures count { OnOk result
             (length self.new.pages ≡ count_after self.old.pages edit.taken) }
         ensures changed { OnOk result (self.new.changed ≡ true) }
-        ensures store { self.new
-            ≡ record self.old { pages = self.new.pages; changed = self.new.changed } }
+        ensures in_memory { OnOk result ((n : ℕ) → is_in_memory self.new n
+            ≡ ((is_written edit.writes.items n || is_in_memory self.old n)
+            && not (is_freed edit.freed.items n))) }
+        ensures store { self.new ≡ record self.old {
+          pages = self.new.pages;
+          changed = self.new.changed;
+          in_memory = self.new.in_memory;
+        } }
         ensures err { OnErr result (self.new ≡ self.old) }
         ensures empty { edit.writes.items ≡ [] → edit.freed.items ≡ [] → IsOk result }
     {
@@ -171,17 +188,23 @@ impl<S: Store> Pages<S> {
         nth_number(&self.free, self.count, i)
     }
 
-    /// Whether an edit was staged since `new` or the last writing back.
+    /// Whether an edit was staged since `new` or the last writing back. Where none was, no page is in
+    /// memory, and each page in use that is not in memory is the store's.
     pub fn changed(&self) -> bool
-        ensures { result ≡ self.now.changed }
+        ensures value { result ≡ self.now.changed }
+        ensures idle { self.now.changed ≡ false → (n : ℕ) → is_in_memory self.now n ≡ false }
+        ensures in_use { (n : ℕ) → is_in_memory self.now n ≡ true → IsSome (at self.now.pages n) }
+        ensures stored { (n : ℕ) → IsSome (at self.now.pages n) → is_in_memory self.now n ≡ false
+            → slice_get self.now.stored n ≡ at self.now.pages n }
+        ensures fits { length self.now.stored ≤ length self.now.pages }
     {
         self.edited
     }
 
     /// Writes the changed pages back, so that the store has each page in use: makes the store as long
     /// as the page count, writes `writing` as page 0, then each changed page in use in ascending
-    /// order, then `clean` as page 0, and has the device keep it after each of the three. It stops at
-    /// the first call that fails, and takes no memory of its own. Faults: Device where the store
+    /// order, then `clean` as page 0, and has the device keep it after each of the three: six calls and
+    /// one for each changed page. It stops at the first call that fails, and takes no memory of its own. Faults: Device where the store
     /// failed, Memory where it was not made longer. No page here, number or answer of `changed` is
     /// different then, so that the call can be made again; in a steady store no page but page 0 has
     /// changed, or page 0 is `writing`, or each page in use is there.
@@ -196,6 +219,12 @@ impl<S: Store> Pages<S> {
             → slice_get self.new.stored n ≡ slice_get
             (self.old.stored ++ blanks (length self.old.pages - length self.old.stored)) n) }
         ensures idle { OnOk result (self.new.changed ≡ false) }
+        ensures in_memory { OnOk result ((n : ℕ) → is_in_memory self.new n ≡ false) }
+        ensures writes { OnOk result (self.new.writes ≡ counted_times self.old.writes
+            (6 + how_many (is_in_memory self.old) (length self.old.pages))) }
+        ensures writes_err { OnErr result (CountedUpTo
+            (6 + how_many (is_in_memory self.old) (length self.old.pages))
+            self.old.writes self.new.writes) }
         ensures pages { IsTrue self.old.steady → self.new.pages ≡ self.old.pages }
         ensures same_count { length self.new.pages ≡ length self.old.pages }
         ensures same_free { free_numbers self.new.pages ≡ free_numbers self.old.pages }
@@ -203,13 +232,16 @@ impl<S: Store> Pages<S> {
         ensures rest { self.new ≡ record self.old {
           pages = self.new.pages;
           changed = self.new.changed;
+          in_memory = self.new.in_memory;
           stored = self.new.stored;
           tail = self.new.tail;
+          writes = self.new.writes;
           failures = self.new.failures;
         } }
         ensures err { OnErr result (self.new ≡ record self.old {
           stored = self.new.stored;
           tail = self.new.tail;
+          writes = self.new.writes;
           failures = self.new.failures;
         }) }
         ensures others { Leaves (at self.old.pages) (length self.old.pages)
@@ -243,6 +275,7 @@ impl<S: Store> Pages<S> {
         ensures tail { S.tail result ≡ self.tail }
         ensures steady { S.steady result ≡ self.steady }
         ensures reads { S.reads result ≡ self.reads }
+        ensures writes { S.writes result ≡ self.writes }
         ensures failures { S.failures result ≡ self.failures }
     {
         let Pages { store, .. } = self;

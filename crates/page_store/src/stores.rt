@@ -6,8 +6,9 @@ ghost use Rattle.page_store.specs.Growth.{GrowsTo};
 use crate::answers::{Shape, StoreFault};
 
 /// A file of pages of 4,096 bytes. Its meaning is a list of pages and a tail of 0 to 4,095 further
-/// bytes, a fact `steady`, which no call changes, and the numbers of its reads, failed ones too, and
-/// of its failures, which stay at the greatest 64-bit number.
+/// bytes, a fact `steady`, which no call changes, and three counts, which stay at the greatest 64-bit
+/// number: of its reads and of its changing calls (`write`, `set_pages` and `sync`), failed ones too,
+/// and of its failures.
 ///
 /// Where `steady` holds, a read that succeeds gives the page of the list, and a write that succeeds
 /// replaces it.
@@ -22,6 +23,8 @@ pub trait Store: Drop {
 
     ghost reads: { Self → ℕ };
 
+    ghost writes: { Self → ℕ };
+
     ghost failures: { Self → ℕ };
 
     /// The length. Only `set_pages` changes it. Fault: Failed.
@@ -34,6 +37,7 @@ pub trait Store: Drop {
         ensures same_tail { tail self.new ≡ tail self.old }
         ensures same_steady { steady self.new ≡ steady self.old }
         ensures reads { reads self.new ≡ reads self.old }
+        ensures writes { writes self.new ≡ writes self.old }
         ensures failures { failures self.new ≡ counted (failures self.old) (is_failed result) };
 
     /// Reads page n, which is there. Fault: Failed; no page has changed then.
@@ -46,6 +50,7 @@ pub trait Store: Drop {
         ensures same_tail { tail self.new ≡ tail self.old }
         ensures same_steady { steady self.new ≡ steady self.old }
         ensures reads { reads self.new ≡ counted (reads self.old) true }
+        ensures writes { writes self.new ≡ writes self.old }
         ensures failures { failures self.new ≡ counted (failures self.old) (is_failed result) };
 
     /// Writes page n, which is there. Fault: Failed; the page then has any bytes, and the other pages
@@ -60,6 +65,7 @@ pub trait Store: Drop {
         ensures same_tail { tail self.new ≡ tail self.old }
         ensures same_steady { steady self.new ≡ steady self.old }
         ensures reads { reads self.new ≡ reads self.old }
+        ensures writes { writes self.new ≡ counted (writes self.old) true }
         ensures failures { failures self.new ≡ counted (failures self.old) (is_failed result) };
 
     /// Makes the store n pages long, which is no fewer than it has. New pages are zero, and the tail
@@ -72,6 +78,7 @@ pub trait Store: Drop {
         ensures old_pages { OnErr result (GrowsTo n (pages self.old) (pages self.new)) }
         ensures same_steady { steady self.new ≡ steady self.old }
         ensures reads { reads self.new ≡ reads self.old }
+        ensures writes { writes self.new ≡ counted (writes self.old) true }
         ensures failures { failures self.new ≡ counted (failures self.old) (is_failed result) };
 
     /// Has the device keep what was written. Fault: Failed; no page has changed then.
@@ -81,5 +88,6 @@ pub trait Store: Drop {
         ensures same_tail { tail self.new ≡ tail self.old }
         ensures same_steady { steady self.new ≡ steady self.old }
         ensures reads { reads self.new ≡ reads self.old }
+        ensures writes { writes self.new ≡ counted (writes self.old) true }
         ensures failures { failures self.new ≡ counted (failures self.old) (is_failed result) };
 }

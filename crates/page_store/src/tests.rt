@@ -1,22 +1,317 @@
 ghost use Rattle.page_store.specs.CanStage.{CanStage};
 
+use crate::counts::count_up;
 use crate::{
     FetchFault, FileStore, FlakyStore, MemStore, PageEdit, Pages, Shape, Store, StoreFault,
     WriteFault,
 };
-use std::alloc::Global;
+use rec_types::Memory;
+use std::alloc::{AllocError, Global};
 use std::collections::BTreeSet;
 use std::path::PathBuf;
 use std::process::Abort;
 use std::test::Fail;
-use std::{env, fs, process};
+use std::{env, fs, io, process};
+use thiserror::Error;
+
+/// Why a row has no text: memory was refused, or a file.
+#[derive(Debug, Drop, Error)]
+enum Stop {
+    #[error("out of memory")]
+    Alloc(#[from(alloc)] AllocError),
+    #[error("out of memory")]
+    Memory(#[from] Memory),
+    #[error("{0}")]
+    Store(#[from] StoreFault),
+    #[error("{0}")]
+    File(#[from] io::Error),
+}
 
 fn filled(with: u8) -> [u8; 4096] {
     [with; 4096]
 }
 
-/// Puts an edit in place. Where memory was refused it looks that nothing changed, and fails.
-fn staged<S: Store>(rt: &impl Abort, pages: &mut Pages<S>, edit: PageEdit) -> Result<(), Fail>
+/// A store in memory of which one call answers Memory, where it is one of `set_pages`. The changing
+/// calls are numbered from 1.
+#[derive(Drop)]
+struct ScarceStore {
+    inner: MemStore,
+    refused: u64,
+    writes: u64,
+}
+
+impl Store for ScarceStore {
+    ghost use Rattle.std.specs.Prelude.{true};
+
+    ghost pages = { λ s. s.inner.pages };
+
+    ghost tail = { λ s. s.inner.tail };
+
+    ghost steady = { λ _. true };
+
+    ghost reads = { λ s. s.inner.reads };
+
+    ghost writes = { λ s. s.writes };
+
+    ghost failures = { λ _. 0 };
+
+    fn shape(&mut self) -> Result<Shape, StoreFault> {
+        self.inner.shape()
+    }
+
+    fn read(&mut self, n: u32, to: &mut [u8; 4096]) -> Result<(), StoreFault> {
+        self.inner.read(n, to)
+    }
+
+    fn write(&mut self, n: u32, from: &[u8; 4096]) -> Result<(), StoreFault> {
+        count_up(&mut self.writes);
+        self.inner.write(n, from)
+    }
+
+    fn set_pages(&mut self, n: u32) -> Result<(), StoreFault> {
+        count_up(&mut self.writes);
+        if self.writes == self.refused {
+            return Err(StoreFault::Memory);
+        }
+        self.inner.set_pages(n)
+    }
+
+    fn sync(&mut self) -> Result<(), StoreFault> {
+        count_up(&mut self.writes);
+        self.inner.sync()
+    }
+}
+
+/// A call of a store, with the page and the byte that fills it.
+#[derive(Clone, Copy)]
+enum Call {
+    Shape,
+    Read(u32),
+    Write(u32, u8),
+    SetPages(u32),
+    Sync,
+}
+
+fn word(answer: Result<(), StoreFault>) -> &'static str {
+    match answer {
+        Ok(()) => " ok",
+        Err(StoreFault::Failed) => " failed",
+        Err(StoreFault::Memory) => " memory",
+    }
+}
+
+/// The byte that fills a page, or that there is none.
+fn push_page(text: &mut String, page: &[u8; 4096]) -> Result<(), Stop> {
+    if *page != filled(page[0]) {
+        return Ok(text.push_str(" mixed")?);
+    }
+    Ok(write!(text, " {}", page[0])?)
+}
+
+/// Reads a page that is there into a page of 99s.
+fn read_into<S: Store>(store: &mut S, n: u32, text: &mut String) -> Result<(), Stop> {
+    let mut page = filled(99);
+    match store.shape() {
+        Ok(shape) if u64::from(n) < shape.pages => match store.read(n, &mut page) {
+            Ok(()) => push_page(text, &page),
+            Err(_) if page == filled(99) => Ok(text.push_str(" failed")?),
+            Err(_) => Ok(text.push_str(" failed and changed")?),
+        },
+        _ => Ok(text.push_str(" none")?),
+    }
+}
+
+fn write_there<S: Store>(store: &mut S, n: u32, with: u8) -> &'static str {
+    match store.shape() {
+        Ok(shape) if u64::from(n) < shape.pages => word(store.write(n, &filled(with))),
+        _ => " none",
+    }
+}
+
+fn lengthen<S: Store>(store: &mut S, n: u32) -> &'static str {
+    match store.shape() {
+        Ok(shape) if shape.pages <= u64::from(n) => word(store.set_pages(n)),
+        _ => " shorter",
+    }
+}
+
+fn push_shape<S: Store>(store: &mut S, text: &mut String) -> Result<(), Stop> {
+    match store.shape() {
+        Ok(shape) => Ok(write!(text, " {}+{}", shape.pages, shape.tail)?),
+        Err(_) => Ok(text.push_str(" failed")?),
+    }
+}
+
+/// Makes the calls, and writes their answers.
+fn call_store<S: Store>(store: &mut S, calls: &[Call], text: &mut String) -> Result<(), Stop> {
+    for call in calls {
+        match *call {
+            Call::Shape => push_shape(store, text)?,
+            Call::Read(n) => read_into(store, n, text)?,
+            Call::Write(n, with) => text.push_str(write_there(store, n, with))?,
+            Call::SetPages(n) => text.push_str(lengthen(store, n))?,
+            Call::Sync => text.push_str(word(store.sync()))?,
+        }
+    }
+    Ok(())
+}
+
+/// A store of pages that are filled with these bytes, and which of its calls fail.
+#[derive(Clone, Copy)]
+struct Stored<'a> {
+    pages: &'a [u8],
+    tail: u16,
+    failing_reads: &'a [u64],
+    failing_writes: &'a [u64],
+    refused: u64,
+}
+
+fn numbers(alloc: Global, list: &[u64]) -> Result<Vec<u64>, Stop> {
+    let mut numbers = Vec::new(alloc);
+    numbers.extend_from_slice(list)?;
+    Ok(numbers)
+}
+
+fn opened(alloc: Global, stored: Stored) -> Result<FlakyStore<ScarceStore>, Stop> {
+    let mut pages = Vec::new(alloc);
+    for with in stored.pages {
+        pages.push(filled(*with))?;
+    }
+    let store = ScarceStore {
+        inner: MemStore::new(pages, stored.tail % 4096),
+        refused: stored.refused,
+        writes: 0,
+    };
+    let reads = numbers(alloc, stored.failing_reads)?;
+    let writes = numbers(alloc, stored.failing_writes)?;
+    Ok(FlakyStore::new(store, reads, writes))
+}
+
+/// The answers of these calls.
+fn store_text(alloc: Global, stored: Stored, calls: &[Call]) -> Result<String, Stop> {
+    let mut text = String::new(alloc);
+    let mut store = opened(alloc, stored)?;
+    call_store(&mut store, calls, &mut text)?;
+    Ok(text)
+}
+
+/// Whether the calls give this text, at the second time where memory was refused at the first.
+fn expect_store(rt: &impl Abort, alloc: Global, stored: Stored, calls: &[Call], wanted: &str) {
+    let first = store_text(alloc, stored, calls);
+    if matches!(&first, Ok(text) if text.as_str() == wanted) {
+        return;
+    }
+    let again = store_text(alloc, stored, calls);
+    assert!(rt;
+        matches!(&again, Ok(text) if text.as_str() == wanted),
+        "{wanted}"
+    );
+}
+
+#[test]
+fn calls_of_stores(rt: HostRuntime) {
+    let pages = [1, 2];
+    let plain = Stored {
+        pages: &pages,
+        tail: 17,
+        failing_reads: &[],
+        failing_writes: &[],
+        refused: 0,
+    };
+    let calls = [
+        Call::Shape,
+        Call::Read(1),
+        Call::Read(2),
+        Call::SetPages(4),
+        Call::Shape,
+        Call::Read(3),
+        Call::Write(3, 7),
+        Call::Write(0, 5),
+        Call::Sync,
+        Call::Read(0),
+        Call::Read(1),
+        Call::Read(2),
+        Call::Read(3),
+    ];
+    expect_store(
+        &rt,
+        rt.alloc(),
+        plain,
+        &calls,
+        " 2+17 2 none ok 4+0 0 ok ok ok 5 2 0 7",
+    );
+    let reads = Stored {
+        failing_reads: &[3, 1],
+        ..plain
+    };
+    let calls = [
+        Call::Write(0, 6),
+        Call::Sync,
+        Call::Read(0),
+        Call::Read(1),
+        Call::Read(0),
+        Call::Shape,
+        Call::Read(0),
+    ];
+    expect_store(
+        &rt,
+        rt.alloc(),
+        reads,
+        &calls,
+        " ok ok failed 2 failed 2+17 6",
+    );
+    let writes = Stored {
+        failing_writes: &[1, 4, 6],
+        ..plain
+    };
+    let calls = [
+        Call::SetPages(3),
+        Call::Shape,
+        Call::SetPages(3),
+        Call::Write(1, 5),
+        Call::Write(1, 6),
+        Call::Read(1),
+        Call::Sync,
+        Call::Sync,
+        Call::Write(1, 8),
+        Call::Read(1),
+        Call::Shape,
+    ];
+    expect_store(
+        &rt,
+        rt.alloc(),
+        writes,
+        &calls,
+        " failed 2+17 ok ok failed 5 ok failed ok 8 3+0",
+    );
+    let scarce = Stored {
+        refused: 1,
+        ..plain
+    };
+    let calls = [
+        Call::SetPages(3),
+        Call::Shape,
+        Call::Read(1),
+        Call::SetPages(3),
+        Call::Shape,
+    ];
+    expect_store(&rt, rt.alloc(), scarce, &calls, " memory 2+17 2 ok 3+0");
+}
+
+/// A call of `Pages`, with the page and the byte that fills it.
+#[derive(Clone, Copy)]
+enum Step {
+    Add(u8),
+    Put(u32, u8),
+    Free(u32),
+    Nothing,
+    Get(u32),
+    Counts,
+    WriteBack(u8, u8),
+}
+
+/// Puts an edit in place. Where memory was refused it looks that nothing changed.
+fn staged<S: Store>(rt: &impl Abort, pages: &mut Pages<S>, edit: PageEdit) -> Result<(), Stop>
     requires { CanStage pages.old.pages edit.writes.items edit.taken edit.freed.items }
 {
     let before = (pages.page_count(), pages.free_count(), pages.changed());
@@ -36,7 +331,7 @@ fn add_page<S: Store>(
     alloc: Global,
     pages: &mut Pages<S>,
     with: u8,
-) -> Result<u32, Fail> {
+) -> Result<(), Stop> {
     assert!(rt; pages.page_count() < 1000);
     let n = pages.candidate(0);
     let mut writes = Vec::new(alloc);
@@ -46,8 +341,7 @@ fn add_page<S: Store>(
         taken: 1,
         freed: Vec::new(alloc),
     };
-    staged(rt, pages, edit)?;
-    Ok(n)
+    staged(rt, pages, edit)
 }
 
 /// Frees a page that is in use.
@@ -56,7 +350,7 @@ fn free_page<S: Store>(
     alloc: Global,
     pages: &mut Pages<S>,
     n: u32,
-) -> Result<(), Fail> {
+) -> Result<(), Stop> {
     assert!(rt; pages.page_count() < 1000);
     assert!(rt; pages.fetch(n, &mut filled(0)).is_ok());
     let mut freed = Vec::new(alloc);
@@ -76,7 +370,7 @@ fn write_page<S: Store>(
     pages: &mut Pages<S>,
     n: u32,
     with: u8,
-) -> Result<(), Fail> {
+) -> Result<(), Stop> {
     assert!(rt; pages.page_count() < 1000);
     assert!(rt; pages.fetch(n, &mut filled(0)).is_ok());
     let mut writes = Vec::new(alloc);
@@ -89,308 +383,395 @@ fn write_page<S: Store>(
     staged(rt, pages, edit)
 }
 
-/// The answer of `fetch`, with the page where it was found.
-fn fetched<S: Store>(pages: &mut Pages<S>, n: u32) -> Result<[u8; 4096], FetchFault> {
-    let mut page = filled(0);
-    pages.fetch(n, &mut page)?;
-    Ok(page)
-}
-
-#[test]
-fn pages_are_taken_and_freed(rt: HostRuntime) -> Result<(), Fail> {
-    let mut stored = Vec::new(rt.alloc());
-    stored.push(filled(9))?;
-    let store = MemStore::new(stored, 0);
-    let mut pages = Pages::new(rt.alloc(), store, 1, BTreeSet::new(rt.alloc()));
-    assert!(rt; !pages.changed());
-    assert_eq!(rt; add_page(&rt, rt.alloc(), &mut pages, 5)?, 1);
-    assert_eq!(rt; pages.page_count(), 2);
-    assert!(rt; fetched(&mut pages, 1) == Ok(filled(5)));
-    assert!(rt; fetched(&mut pages, 2) == Err(FetchFault::OutOfRange));
-    assert!(rt; fetched(&mut pages, 0) == Err(FetchFault::OutOfRange));
-    free_page(&rt, rt.alloc(), &mut pages, 1)?;
-    assert_eq!(rt; pages.free_count(), 1);
-    assert_eq!(rt; pages.candidate(0), 1);
-    assert_eq!(rt; pages.candidate(1), 2);
-    assert!(rt; fetched(&mut pages, 1) == Err(FetchFault::OutOfRange));
-    assert!(rt; pages.changed());
-    let store = pages.into_store();
-    assert!(rt; store.pages() == [filled(9)].as_slice());
-    Ok(())
-}
-
-#[test]
-fn staged_pages_stand_over_stored_ones(rt: HostRuntime) -> Result<(), Fail> {
-    let mut stored = Vec::new(rt.alloc());
-    stored.push(filled(1))?;
-    stored.push(filled(2))?;
-    let mut free = BTreeSet::new(rt.alloc());
-    free.insert(2)?;
-    let mut pages = Pages::new(rt.alloc(), MemStore::new(stored, 0), 3, free);
-    assert!(rt; fetched(&mut pages, 1) == Ok(filled(2)));
-    assert!(rt; fetched(&mut pages, 2) == Err(FetchFault::OutOfRange));
-    write_page(&rt, rt.alloc(), &mut pages, 1, 6)?;
-    assert_eq!(rt; add_page(&rt, rt.alloc(), &mut pages, 7)?, 2);
-    assert_eq!(rt; add_page(&rt, rt.alloc(), &mut pages, 8)?, 3);
-    assert!(rt; fetched(&mut pages, 1) == Ok(filled(6)));
-    assert!(rt; fetched(&mut pages, 2) == Ok(filled(7)));
-    assert!(rt; fetched(&mut pages, 3) == Ok(filled(8)));
-    assert_eq!(rt; (pages.page_count(), pages.free_count()), (4, 0));
-    let store = pages.into_store();
-    assert!(rt; store.pages() == [filled(1), filled(2)].as_slice());
-    Ok(())
-}
-
-#[test]
-fn an_empty_edit_counts_as_staged(rt: HostRuntime) -> Result<(), Fail> {
-    let store = MemStore::new(Vec::new(rt.alloc()), 0);
-    let mut pages = Pages::new(rt.alloc(), store, 1, BTreeSet::new(rt.alloc()));
-    let edit = PageEdit {
-        writes: Vec::new(rt.alloc()),
-        taken: 0,
-        freed: Vec::new(rt.alloc()),
-    };
-    staged(&rt, &mut pages, edit)?;
-    assert!(rt; pages.changed());
-    assert_eq!(rt; (pages.page_count(), pages.free_count()), (1, 0));
-    assert_eq!(rt; pages.candidate(0), 1);
-    Ok(())
-}
-
-#[test]
-fn a_store_in_memory(rt: HostRuntime) -> Result<(), Fail> {
-    let mut store = MemStore::new(Vec::new(rt.alloc()), 17);
-    assert_eq!(rt; store.shape(), Ok(Shape { pages: 0, tail: 17 }));
-    store.set_pages(2)?;
-    assert_eq!(rt; store.shape(), Ok(Shape { pages: 2, tail: 0 }));
-    let mut page = filled(1);
-    store.read(1, &mut page)?;
-    assert!(rt; page == filled(0));
-    store.write(0, &filled(3))?;
-    store.sync()?;
-    assert!(rt; store.pages() == [filled(3), filled(0)].as_slice());
-    Ok(())
-}
-
-/// A list of these numbers.
-fn numbers(alloc: Global, list: &[u64]) -> Result<Vec<u64>, Fail> {
-    let mut numbers = Vec::new(alloc);
-    numbers.extend_from_slice(list)?;
-    Ok(numbers)
-}
-
-#[test]
-fn chosen_reads_fail(rt: HostRuntime) -> Result<(), Fail> {
-    let mut stored = Vec::new(rt.alloc());
-    stored.push(filled(1))?;
-    stored.push(filled(2))?;
-    let failing = numbers(rt.alloc(), &[3, 1])?;
-    let mut store = FlakyStore::new(MemStore::new(stored, 5), failing, Vec::new(rt.alloc()));
-    store.write(0, &filled(6))?;
-    store.sync()?;
-    let mut page = filled(7);
-    assert_eq!(rt; store.read(0, &mut page), Err(StoreFault::Failed));
-    assert!(rt; page == filled(7));
-    assert_eq!(rt; store.read(1, &mut page), Ok(()));
-    assert!(rt; page == filled(2));
-    assert_eq!(rt; store.read(0, &mut page), Err(StoreFault::Failed));
-    assert_eq!(rt; store.shape(), Ok(Shape { pages: 2, tail: 5 }));
-    assert_eq!(rt; store.read(0, &mut page), Ok(()));
-    assert!(rt; page == filled(6));
-    Ok(())
-}
-
-#[test]
-fn chosen_writes_fail(rt: HostRuntime) -> Result<(), Fail> {
-    let mut stored = Vec::new(rt.alloc());
-    stored.push(filled(1))?;
-    let failing = numbers(rt.alloc(), &[1, 4, 6])?;
-    let mut store = FlakyStore::new(MemStore::new(stored, 5), Vec::new(rt.alloc()), failing);
-    assert_eq!(rt; store.set_pages(2), Err(StoreFault::Failed));
-    assert_eq!(rt; store.shape(), Ok(Shape { pages: 1, tail: 5 }));
-    store.set_pages(2)?;
-    assert_eq!(rt; store.write(1, &filled(2)), Ok(()));
-    assert_eq!(rt; store.write(1, &filled(3)), Err(StoreFault::Failed));
-    let mut page = filled(0);
-    store.read(1, &mut page)?;
-    assert!(rt; page == filled(2));
-    assert_eq!(rt; store.sync(), Ok(()));
-    assert_eq!(rt; store.sync(), Err(StoreFault::Failed));
-    assert_eq!(rt; store.write(1, &filled(4)), Ok(()));
-    store.read(1, &mut page)?;
-    assert!(rt; page == filled(4));
-    assert_eq!(rt; store.shape(), Ok(Shape { pages: 2, tail: 0 }));
-    Ok(())
-}
-
-#[test]
-fn changed_pages_are_written_back(rt: HostRuntime) -> Result<(), Fail> {
-    let mut stored = Vec::new(rt.alloc());
-    stored.push(filled(9))?;
-    let store = MemStore::new(stored, 3);
-    let mut pages = Pages::new(rt.alloc(), store, 1, BTreeSet::new(rt.alloc()));
-    for with in [5, 6, 7] {
-        add_page(&rt, rt.alloc(), &mut pages, with)?;
-    }
-    free_page(&rt, rt.alloc(), &mut pages, 2)?;
-    pages.write_back(&filled(100), &filled(200))?;
-    assert!(rt; !pages.changed());
-    write_page(&rt, rt.alloc(), &mut pages, 3, 8)?;
-    assert!(rt; fetched(&mut pages, 1) == Ok(filled(5)));
-    pages.write_back(&filled(101), &filled(201))?;
-    assert!(rt; fetched(&mut pages, 3) == Ok(filled(8)));
-    let store = pages.into_store();
-    assert!(rt; store.pages() == [filled(201), filled(5), filled(0), filled(8)].as_slice());
-    Ok(())
-}
-
-/// Pages 1 and 3 in memory over a store of one page, of which the changing call of that number fails.
-fn staged_pages(
+/// Stages an edit that writes and frees nothing.
+fn stage_nothing<S: Store>(
     rt: &impl Abort,
     alloc: Global,
-    failing: u64,
-) -> Result<Pages<FlakyStore<MemStore>>, Fail> {
-    let mut stored = Vec::new(alloc);
-    stored.push(filled(9))?;
-    let failing = numbers(alloc, &[failing])?;
-    let store = FlakyStore::new(MemStore::new(stored, 3), Vec::new(alloc), failing);
-    let mut pages = Pages::new(alloc, store, 1, BTreeSet::new(alloc));
-    for with in [5, 6, 7] {
-        add_page(rt, alloc, &mut pages, with)?;
+    pages: &mut Pages<S>,
+) -> Result<(), Stop> {
+    assert!(rt; pages.page_count() < 1000);
+    let edit = PageEdit {
+        writes: Vec::new(alloc),
+        taken: 0,
+        freed: Vec::new(alloc),
+    };
+    staged(rt, pages, edit)
+}
+
+/// Fetches into a page of 99s.
+fn push_fetched<S: Store>(pages: &mut Pages<S>, n: u32, text: &mut String) -> Result<(), Stop> {
+    let mut page = filled(99);
+    match pages.fetch(n, &mut page) {
+        Ok(()) => push_page(text, &page),
+        Err(FetchFault::Device) => Ok(text.push_str(" device")?),
+        Err(FetchFault::OutOfRange) if page == filled(99) => Ok(text.push_str(" out")?),
+        Err(FetchFault::OutOfRange) => Ok(text.push_str(" out and changed")?),
     }
-    free_page(rt, alloc, &mut pages, 2)?;
-    Ok(pages)
 }
 
-/// Looks that those pages are as they were staged.
-fn expect_staged<S: Store>(rt: &impl Abort, pages: &mut Pages<S>) {
-    assert_eq!(rt; (pages.page_count(), pages.free_count()), (4, 1));
-    assert!(rt; fetched(pages, 1) == Ok(filled(5)));
-    assert!(rt; fetched(pages, 2) == Err(FetchFault::OutOfRange));
-    assert!(rt; fetched(pages, 3) == Ok(filled(7)));
+/// The page count, the free numbers, the first two candidates, and whether an edit was staged.
+fn push_counts<S: Store>(pages: &Pages<S>, text: &mut String) -> Result<(), Stop> {
+    let (count, free) = (pages.page_count(), pages.free_count());
+    let (first, second) = (pages.candidate(0), pages.candidate(1));
+    let changed = pages.changed();
+    Ok(write!(text, " {count}-{free}:{first},{second}:{changed}")?)
 }
 
-/// Looks that the store has four pages, filled with these bytes, and no tail.
-fn expect_stored<S: Store>(
+fn written<S: Store>(pages: &mut Pages<S>, writing: u8, clean: u8) -> &'static str {
+    match pages.write_back(&filled(writing), &filled(clean)) {
+        Ok(()) => " written",
+        Err(WriteFault::Device) => " device",
+        Err(WriteFault::Memory) => " memory",
+    }
+}
+
+/// Makes one step, and writes its answer.
+fn push_step<S: Store>(
     rt: &impl Abort,
-    store: &mut S,
-    wanted: [u8; 4],
-) -> Result<(), StoreFault> {
-    for n in 0..4_u32 {
-        let mut page = filled(0);
-        assert!(rt; store.shape()? == Shape { pages: 4, tail: 0 });
-        store.read(n, &mut page)?;
-        assert!(rt; page == filled(wanted[n as usize]));
+    alloc: Global,
+    pages: &mut Pages<S>,
+    step: Step,
+    text: &mut String,
+) -> Result<(), Stop> {
+    match step {
+        Step::Add(with) => add_page(rt, alloc, pages, with),
+        Step::Put(n, with) => write_page(rt, alloc, pages, n, with),
+        Step::Free(n) => free_page(rt, alloc, pages, n),
+        Step::Nothing => stage_nothing(rt, alloc, pages),
+        Step::Get(n) => push_fetched(pages, n, text),
+        Step::Counts => push_counts(pages, text),
+        Step::WriteBack(writing, clean) => Ok(text.push_str(written(pages, writing, clean))?),
     }
-    Ok(())
 }
 
-#[test]
-fn a_writing_back_stops_where_a_call_fails(rt: HostRuntime) -> Result<(), Fail> {
-    let mut pages = staged_pages(&rt, rt.alloc(), 1)?;
-    assert_eq!(rt;
-        pages.write_back(&filled(100), &filled(200)),
-        Err(WriteFault::Device)
+/// The pages of a store, all in use or the last one free.
+fn pages_of<S: Store>(
+    rt: &impl Abort,
+    alloc: Global,
+    mut store: S,
+    last_free: bool,
+) -> Result<Pages<S>, Stop> {
+    let mut free = BTreeSet::new(alloc);
+    let shape = store.shape()?;
+    assert!(rt; 0 < shape.pages && shape.pages < 1000);
+    let len = shape.pages as u32;
+    if last_free {
+        free.insert(len)?;
+        return Ok(Pages::new(alloc, store, len + 1, free));
+    }
+    Ok(Pages::new(alloc, store, len, free))
+}
+
+/// The answers of these steps, and what the store has in the end.
+fn pages_text(
+    rt: &impl Abort,
+    alloc: Global,
+    stored: Stored,
+    last_free: bool,
+    steps: &[Step],
+) -> Result<String, Stop> {
+    let mut text = String::new(alloc);
+    let mut pages = pages_of(rt, alloc, opened(alloc, stored)?, last_free)?;
+    for step in steps {
+        push_step(rt, alloc, &mut pages, *step, &mut text)?;
+    }
+    text.push_str(";")?;
+    let mut store = pages.into_store();
+    let calls = [
+        Call::Shape,
+        Call::Read(0),
+        Call::Read(1),
+        Call::Read(2),
+        Call::Read(3),
+    ];
+    call_store(&mut store, &calls, &mut text)?;
+    Ok(text)
+}
+
+/// Whether the steps give this text, at the second time where memory was refused at the first.
+fn expect_pages(
+    rt: &impl Abort,
+    alloc: Global,
+    stored: Stored,
+    last_free: bool,
+    steps: &[Step],
+    wanted: &str,
+) {
+    let first = pages_text(rt, alloc, stored, last_free, steps);
+    if matches!(&first, Ok(text) if text.as_str() == wanted) {
+        return;
+    }
+    let again = pages_text(rt, alloc, stored, last_free, steps);
+    assert!(rt;
+        matches!(&again, Ok(text) if text.as_str() == wanted),
+        "{wanted}"
     );
-    assert_eq!(rt; pages.into_store().shape(), Ok(Shape { pages: 1, tail: 3 }));
-    for (failing, wanted) in [
-        (2, [9, 0, 0, 0]),
-        (3, [100, 0, 0, 0]),
-        (4, [100, 0, 0, 0]),
-        (5, [100, 5, 0, 0]),
-        (6, [100, 5, 0, 7]),
-        (7, [100, 5, 0, 7]),
-        (8, [200, 5, 0, 7]),
-    ] {
-        let mut pages = staged_pages(&rt, rt.alloc(), failing)?;
-        assert_eq!(rt;
-            pages.write_back(&filled(100), &filled(200)),
-            Err(WriteFault::Device)
-        );
-        expect_stored(&rt, &mut pages.into_store(), wanted)?;
+}
+
+fn one_page() -> Stored<'static> {
+    Stored {
+        pages: &[9],
+        tail: 3,
+        failing_reads: &[],
+        failing_writes: &[],
+        refused: 0,
     }
-    Ok(())
 }
 
 #[test]
-fn a_writing_back_can_be_made_again(rt: HostRuntime) -> Result<(), Fail> {
-    for failing in 1..9 {
-        let mut pages = staged_pages(&rt, rt.alloc(), failing)?;
-        assert_eq!(rt;
-            pages.write_back(&filled(100), &filled(200)),
-            Err(WriteFault::Device)
-        );
-        assert!(rt; pages.changed());
-        expect_staged(&rt, &mut pages);
-        assert_eq!(rt; pages.write_back(&filled(101), &filled(201)), Ok(()));
-        assert!(rt; !pages.changed());
-        expect_staged(&rt, &mut pages);
-        expect_stored(&rt, &mut pages.into_store(), [201, 5, 0, 7])?;
+fn pages_are_taken_and_freed(rt: HostRuntime) {
+    let steps = [
+        Step::Counts,
+        Step::Add(5),
+        Step::Counts,
+        Step::Get(1),
+        Step::Get(2),
+        Step::Get(0),
+        Step::Free(1),
+        Step::Counts,
+        Step::Get(1),
+    ];
+    expect_pages(
+        &rt,
+        rt.alloc(),
+        one_page(),
+        false,
+        &steps,
+        " 1-0:1,2:false 2-0:2,3:true 5 out out 2-1:1,2:true out; 1+3 9 none none none",
+    );
+    let steps = [Step::Nothing, Step::Counts];
+    expect_pages(
+        &rt,
+        rt.alloc(),
+        one_page(),
+        false,
+        &steps,
+        " 1-0:1,2:true; 1+3 9 none none none",
+    );
+}
+
+#[test]
+fn staged_pages_stand_over_stored_ones(rt: HostRuntime) {
+    let two = Stored {
+        pages: &[1, 2],
+        failing_reads: &[3],
+        ..one_page()
+    };
+    let steps = [
+        Step::Get(1),
+        Step::Get(2),
+        Step::Get(1),
+        Step::Get(1),
+        Step::Get(1),
+        Step::Put(1, 6),
+        Step::Add(7),
+        Step::Add(8),
+        Step::Get(1),
+        Step::Get(2),
+        Step::Get(3),
+        Step::Counts,
+    ];
+    expect_pages(
+        &rt,
+        rt.alloc(),
+        two,
+        true,
+        &steps,
+        " 2 out 2 device 2 6 7 8 4-0:4,5:true; 2+3 1 2 none none",
+    );
+}
+
+#[test]
+fn changed_pages_are_written_back(rt: HostRuntime) {
+    let steps = [
+        Step::Add(5),
+        Step::Add(6),
+        Step::Add(7),
+        Step::Free(2),
+        Step::WriteBack(100, 200),
+        Step::Counts,
+        Step::Put(3, 8),
+        Step::Get(1),
+        Step::WriteBack(101, 201),
+        Step::Get(3),
+    ];
+    expect_pages(
+        &rt,
+        rt.alloc(),
+        one_page(),
+        false,
+        &steps,
+        " written 4-1:2,4:false 5 written 8; 4+0 201 5 0 8",
+    );
+    let scarce = Stored {
+        refused: 1,
+        ..one_page()
+    };
+    let steps = [
+        Step::Add(5),
+        Step::WriteBack(100, 200),
+        Step::Counts,
+        Step::Get(1),
+        Step::WriteBack(101, 201),
+        Step::Counts,
+    ];
+    expect_pages(
+        &rt,
+        rt.alloc(),
+        scarce,
+        false,
+        &steps,
+        " memory 2-0:2,3:true 5 written 2-0:2,3:false; 2+0 201 5 none none",
+    );
+}
+
+#[test]
+fn a_writing_back_stops_where_a_call_fails(rt: HostRuntime) {
+    let once = [
+        Step::Add(5),
+        Step::Add(6),
+        Step::Add(7),
+        Step::Free(2),
+        Step::WriteBack(100, 200),
+    ];
+    let twice = [
+        Step::Add(5),
+        Step::Add(6),
+        Step::Add(7),
+        Step::Free(2),
+        Step::WriteBack(100, 200),
+        Step::Counts,
+        Step::Get(1),
+        Step::Get(2),
+        Step::Get(3),
+        Step::WriteBack(101, 201),
+        Step::Counts,
+        Step::Get(1),
+        Step::Get(2),
+        Step::Get(3),
+    ];
+    for (failing, wanted) in [
+        (1, " device; 1+3 9 none none none"),
+        (2, " device; 4+0 9 0 0 0"),
+        (3, " device; 4+0 100 0 0 0"),
+        (4, " device; 4+0 100 0 0 0"),
+        (5, " device; 4+0 100 5 0 0"),
+        (6, " device; 4+0 100 5 0 7"),
+        (7, " device; 4+0 100 5 0 7"),
+        (8, " device; 4+0 200 5 0 7"),
+        (9, " written; 4+0 200 5 0 7"),
+    ] {
+        let failing = [failing];
+        let stored = Stored {
+            failing_writes: &failing,
+            ..one_page()
+        };
+        expect_pages(&rt, rt.alloc(), stored, false, &once, wanted);
     }
-    Ok(())
+    for failing in 1..9 {
+        let failing = [failing];
+        let stored = Stored {
+            failing_writes: &failing,
+            ..one_page()
+        };
+        expect_pages(
+            &rt,
+            rt.alloc(),
+            stored,
+            false,
+            &twice,
+            " device 4-1:2,4:true 5 out 7 written 4-1:2,4:false 5 out 7; 4+0 201 5 0 7",
+        );
+    }
 }
 
 /// A path of this test's own for files.
-fn path_of(rt: &HostRuntime, name: &str) -> Result<PathBuf, Fail> {
+fn path_of(rt: &HostRuntime, name: &str) -> Result<PathBuf, Stop> {
     let name = format!(in rt.alloc(); "page_store_{}_{name}", process::id(rt.process()))?;
     Ok(env::temp_dir(rt)?.join(rt.alloc(), name.as_str())?)
 }
 
+/// The answers of these calls of the store in a file, which is then removed. A new file is asked for
+/// twice, and one that isn't there is opened.
+fn new_file_text(rt: &HostRuntime, name: &str, calls: &[Call]) -> Result<String, Stop> {
+    let mut text = String::new(rt.alloc());
+    if matches!(FileStore::open_path(rt, name), Err(StoreFault::Failed)) {
+        text.push_str(" missing")?;
+    }
+    let mut store = FileStore::create_new(rt, name)?;
+    call_store(&mut store, calls, &mut text)?;
+    drop(store);
+    if matches!(FileStore::create_new(rt, name), Err(StoreFault::Failed)) {
+        text.push_str(" there")?;
+    }
+    let mut store = FileStore::open_path(rt, name)?;
+    call_store(
+        &mut store,
+        &[Call::Shape, Call::Read(0), Call::Read(1)],
+        &mut text,
+    )?;
+    Ok(text)
+}
+
 #[test]
 fn a_file_of_two_pages(rt: HostRuntime) -> Result<(), Fail> {
-    let path = path_of(&rt, "two")?;
+    let path = path_of(&rt, "two").or_else(|_| path_of(&rt, "two"))?;
     let name = path.as_path().to_str().ok_or("the path is no text")?;
-    let missing = FileStore::open_path(&rt, name);
-    assert!(rt; matches!(missing, Err(StoreFault::Failed)));
-    let mut store = FileStore::create_new(&rt, name)?;
-    store.set_pages(2)?;
-    store.write(0, &filled(4))?;
-    store.write(1, &filled(5))?;
-    store.sync()?;
-    drop(store);
-    let existing = FileStore::create_new(&rt, name);
-    assert!(rt; matches!(existing, Err(StoreFault::Failed)));
-    let mut store = FileStore::open_path(&rt, name)?;
-    assert_eq!(rt; store.shape(), Ok(Shape { pages: 2, tail: 0 }));
-    let mut page = filled(0);
-    store.read(0, &mut page)?;
-    assert!(rt; page == filled(4));
-    store.read(1, &mut page)?;
-    assert!(rt; page == filled(5));
-    drop(store);
-    fs::remove_file(&rt, name)?;
+    let calls = [
+        Call::SetPages(2),
+        Call::Write(0, 4),
+        Call::Write(1, 5),
+        Call::Sync,
+        Call::Read(1),
+    ];
+    let wanted = " missing ok ok ok ok 5 there 2+0 4 5";
+    let first = new_file_text(&rt, name, &calls);
+    let _ = fs::remove_file(&rt, name);
+    if matches!(&first, Ok(text) if text.as_str() == wanted) {
+        return Ok(());
+    }
+    let again = new_file_text(&rt, name, &calls);
+    let _ = fs::remove_file(&rt, name);
+    assert!(rt; matches!(&again, Ok(text) if text.as_str() == wanted));
     Ok(())
+}
+
+/// A file of one page and a tail: the answers of these calls, and what the file has then.
+fn tail_text(rt: &HostRuntime, name: &str) -> Result<String, Stop> {
+    let mut text = String::new(rt.alloc());
+    fs::write(rt, name, [7; 5000].as_slice())?;
+    let mut store = FileStore::open_path(rt, name)?;
+    call_store(
+        &mut store,
+        &[Call::Shape, Call::Write(0, 8), Call::Sync],
+        &mut text,
+    )?;
+    drop(store);
+    let bytes = fs::read(rt, name)?;
+    let mut wanted = [7; 5000];
+    wanted[..4096].copy_from_slice(&filled(8));
+    if bytes.as_slice() == wanted.as_slice() {
+        text.push_str(" kept")?;
+    }
+    let mut store = FileStore::open_path(rt, name)?;
+    call_store(
+        &mut store,
+        &[Call::SetPages(2), Call::Shape, Call::Read(1)],
+        &mut text,
+    )?;
+    Ok(text)
 }
 
 #[test]
 fn a_file_with_a_tail(rt: HostRuntime) -> Result<(), Fail> {
-    let path = path_of(&rt, "tail")?;
+    let path = path_of(&rt, "tail").or_else(|_| path_of(&rt, "tail"))?;
     let name = path.as_path().to_str().ok_or("the path is no text")?;
-    fs::write(&rt, name, [7; 5000].as_slice())?;
-    let mut store = FileStore::open_path(&rt, name)?;
-    assert_eq!(rt;
-        store.shape(),
-        Ok(Shape {
-            pages: 1,
-            tail: 904
-        })
-    );
-    store.write(0, &filled(8))?;
-    store.sync()?;
-    drop(store);
-    let bytes = fs::read(&rt, name)?;
-    let mut wanted = [7; 5000];
-    wanted[..4096].copy_from_slice(&filled(8));
-    assert!(rt; bytes.as_slice() == wanted.as_slice());
-    let mut store = FileStore::open_path(&rt, name)?;
-    let shape = store.shape()?;
-    assert!(rt; shape.pages == 1);
-    store.set_pages(2)?;
-    assert_eq!(rt; store.shape(), Ok(Shape { pages: 2, tail: 0 }));
-    let mut page = filled(1);
-    store.read(1, &mut page)?;
-    assert!(rt; page == filled(0));
-    drop(store);
-    fs::remove_file(&rt, name)?;
+    let wanted = " 1+904 ok ok kept ok 2+0 0";
+    let first = tail_text(&rt, name);
+    if !matches!(&first, Ok(text) if text.as_str() == wanted) {
+        let again = tail_text(&rt, name);
+        assert!(rt; matches!(&again, Ok(text) if text.as_str() == wanted));
+    }
+    let _ = fs::remove_file(&rt, name);
     Ok(())
 }

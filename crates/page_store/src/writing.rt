@@ -1,7 +1,8 @@
-ghost use Rattle.std.specs.Prelude.{◌≡◌, ◌≢◌, ℕ, ◌-◌, ◌<◌, ◌≤◌, ◌==◌, ◌++◌, length, None, Err, is_some, IsTrue, OnOk, OnErr, slice_get};
+ghost use Rattle.std.specs.Prelude.{◌≡◌, ◌≢◌, ℕ, ◌-◌, ◌<◌, ◌≤◌, ◌+◌, ◌==◌, ◌++◌, length, None, Err, is_some, IsTrue, OnOk, OnErr, slice_get};
 ghost use Rattle.std.specs.Option.{option_copied};
 ghost use Rattle.rec_types.specs.Table.{counted};
 ghost use Rattle.page_store.specs.Blank.{blanks};
+ghost use Rattle.page_store.specs.Calls.{counted_times, CountedUpTo, how_many};
 ghost use Rattle.page_store.specs.Growth.{GrowsTo};
 ghost use Rattle.page_store.specs.StoreFaults.{is_failed};
 ghost use Rattle.page_store.specs.Overlaid.{slots_of};
@@ -49,6 +50,8 @@ fn put_header<S: Store>(store: &mut S, page: &[u8; 4096]) -> Result<(), StoreFau
     ensures tail { S.tail store.new ≡ S.tail store.old }
     ensures steady { S.steady store.new ≡ S.steady store.old }
     ensures reads { S.reads store.new ≡ S.reads store.old }
+    ensures writes { OnOk result (S.writes store.new ≡ counted_times (S.writes store.old) 2) }
+    ensures writes_err { OnErr result (CountedUpTo 2 (S.writes store.old) (S.writes store.new)) }
     ensures failures { S.failures store.new ≡ counted (S.failures store.old) (is_failed result) }
 {
     store.write(0, page)?;
@@ -63,7 +66,8 @@ fn put_changed<S: Store>(
     free: &BTreeSet<u32>,
     count: u32,
 ) -> Result<(), StoreFault>
-    requires { length (S.pages store.old) ≡ count }
+    requires some { 1 ≤ count }
+    requires long { length (S.pages store.old) ≡ count }
     ensures pages { IsTrue (S.steady store.old) → OnOk result
         (AreStored (to_write (slots_of changed.now) free.now.keys count) (S.pages store.new)) }
     ensures others { SameBut
@@ -73,6 +77,11 @@ fn put_changed<S: Store>(
     ensures tail { S.tail store.new ≡ S.tail store.old }
     ensures steady { S.steady store.new ≡ S.steady store.old }
     ensures reads { S.reads store.new ≡ S.reads store.old }
+    ensures writes { OnOk result (S.writes store.new ≡ counted_times (S.writes store.old) (how_many
+        (λ n. is_some (to_write (slots_of changed.now) free.now.keys count n)) count)) }
+    ensures writes_err { OnErr result (CountedUpTo (how_many
+        (λ n. is_some (to_write (slots_of changed.now) free.now.keys count n)) count)
+        (S.writes store.old) (S.writes store.new)) }
     ensures failures { S.failures store.new ≡ counted (S.failures store.old) (is_failed result) }
 {
     for n in 1..count {
@@ -114,6 +123,11 @@ pub(crate) fn write_out<S: Store>(
         → GrowsTo count (S.pages store.old) (S.pages store.new) }
     ensures steady { S.steady store.new ≡ S.steady store.old }
     ensures reads { S.reads store.new ≡ S.reads store.old }
+    ensures writes { OnOk result (S.writes store.new ≡ counted_times (S.writes store.old)
+        (6 + how_many (λ n. is_some (to_write (slots_of changed.now) free.now.keys count n)) count)) }
+    ensures writes_err { OnErr result (CountedUpTo (6 + how_many
+        (λ n. is_some (to_write (slots_of changed.now) free.now.keys count n)) count)
+        (S.writes store.old) (S.writes store.new)) }
     ensures failures { S.failures store.new ≡ counted (S.failures store.old) (is_failed result) }
 {
     store.set_pages(count)?;

@@ -1,4 +1,5 @@
 use Rattle.std.proofs.Common.{◌≡◌, ℕ, ◌<◌, IsSome, is_some, IsTrue, slice_get}
+use Rattle.page_store.specs.Calls.{counted_times, how_many}
 use Rattle.page_store.specs.Overlaid.{slots_of}
 use Rattle.page_store.specs.WritingBack.{to_write, SameBut}
 use Rattle.page_store.proofs.writing.put_changed.Given as goal
@@ -10,5 +11,6 @@ invariant-loop-n g l = record {
   tail : g.S.Store.tail l.store ≡ g.S.Store.tail l.fn.store;
   steady : g.S.Store.steady l.store ≡ g.S.Store.steady l.fn.store;
   reads : g.S.Store.reads l.store ≡ g.S.Store.reads l.fn.store;
+  writes : g.S.Store.writes l.store ≡ counted_times (g.S.Store.writes l.fn.store) (how_many (λ n. is_some (to_write (slots_of l.changed) l.free.keys l.count n)) l.n);
   failures : g.S.Store.failures l.store ≡ g.S.Store.failures l.fn.store;
 }

@@ -1,17 +1,19 @@
-use Rattle.std.proofs.Common.{◌≡◌, ◌≢◌, ℕ, ◌-◌, ◌++◌, List, Option, None, Result, Err, Box, Global, is_some, length, slice_get, sym, ap, ◌∙◌, refl, subst}
+use Rattle.std.proofs.Common.{◌≡◌, ◌≢◌, ℕ, ◌+◌, ◌-◌, ◌++◌, Bool, false, get_or, [], List, Option, None, Result, Err, Box, Global, is_some, length, slice_get, sym, ap, ◌∙◌, refl, subst}
 use Rattle.std.proofs.lemmas.Bool.{false≢true}
 use Rattle.page_store.specs.declared.answers.StoreFault.{StoreFault}
 use Rattle.page_store.specs.declared.answers.StoreFault.TheVariants.{Failed, Memory as NoMemory}
 use Rattle.page_store.specs.declared.edits.WriteFault.{WriteFault}
 use Rattle.page_store.specs.declared.edits.WriteFault.TheVariants.{Memory}
-use Rattle.page_store.specs.PagesView.{PagesView}
+use Rattle.page_store.specs.PagesView.{PagesView, is_in_memory}
 use Rattle.page_store.specs.PageMap.{at}
 use Rattle.page_store.specs.FreeNumbers.{free_numbers}
 use Rattle.page_store.specs.Blank.{blanks}
+use Rattle.page_store.specs.Calls.{counted_times, CountedUpTo, how_many}
 use Rattle.page_store.specs.Growth.{GrowsTo}
 use Rattle.page_store.specs.Overlaid.{slots_of, pages_of}
 use Rattle.page_store.specs.WriteFaults.{by_device, told}
-use Rattle.page_store.specs.WritingBack.{to_write, AreStored, Leaves, Stopped}
+use Rattle.page_store.specs.WritingBack.{to_write, in_memory_of, AreStored, Leaves, Stopped}
+use Rattle.page_store.proofs.MemoryFacts.{none_in_memory, many_in_memory}
 use Rattle.page_store.proofs.PageFacts.{length-pages_of}
 use Rattle.page_store.proofs.WriteFacts.{pages_kept, leaves_pages, unwritten_pages, all_stored, stopped_pages, same_use, same_free, pages_dropped}
 use Rattle.page_store.proofs.paging.Pages.write_back.Goals as goal
@@ -20,6 +22,13 @@ memory_back : (fault : StoreFault) (answer : WriteFault) → answer ≡ told fau
 memory_back Failed answer is same =
     absurd (false≢true (sym (ap (λ (r : Result (Unit {0}) WriteFault). by_device r) same) ∙ ap (λ (fault : WriteFault). by_device {X = Unit {0}} (Err fault)) is))
 memory_back NoMemory answer is same = refl
+
+calls_in : (v : PagesView) (stored : List (List ℕ)) (seen items : List (Option (Box (List ℕ) Global))) (free : List ℕ) (count : ℕ) → seen ≡ items → pages_of stored (slots_of items) free count ≡ v.pages → in_memory_of (slots_of items) free count ≡ v.in_memory → how_many (λ n. is_some (to_write (slots_of seen) free count n)) count ≡ how_many (is_in_memory v) (length v.pages)
+calls_in v stored seen items free count same pages memory =
+    ap (λ (xs : List (Option (Box (List ℕ) Global))). how_many (λ n. is_some (to_write (slots_of xs) free count n)) count) same
+    ∙ sym (many_in_memory stored (slots_of items) free count)
+    ∙ ap (λ (ps : List (Option (List ℕ))). how_many (λ n. get_or (in_memory_of (slots_of items) free count) n false) (length ps)) pages
+    ∙ ap (λ (bs : List Bool). how_many (λ n. get_or bs n false) (length v.pages)) memory
 
 -- what is said of the slots that were passed holds of the changed pages
 leaves_in : (seen items : List (Option (Box (List ℕ) Global))) (free : List ℕ) (count : ℕ) (old new : List (List ℕ)) → seen ≡ items → Leaves (to_write (slots_of seen) free count) count old new → Leaves (to_write (slots_of items) free count) count old new
@@ -55,10 +64,12 @@ returns-in-Err-clause-err g c =
     λ i. record {
       pages = (pages_kept _ _ _ _ _ c.self.invariant _ leaves ∙ ap (λ (v : PagesView). v.pages) c.self.view_is) i;
       changed = ap (λ (v : PagesView). v.changed) c.self.view_is i;
+      in_memory = ap (λ (v : PagesView). v.in_memory) c.self.view_is i;
       stored = g.S.Store.pages c.write_out-written.new.store;
       tail = g.S.Store.tail c.write_out-written.new.store;
       steady = (c.write_out-written.ensures.steady ∙ ap (λ (v : PagesView). v.steady) c.self.view_is) i;
       reads = (c.write_out-written.ensures.reads ∙ ap (λ (v : PagesView). v.reads) c.self.view_is) i;
+      writes = g.S.Store.writes c.write_out-written.new.store;
       failures = g.S.Store.failures c.write_out-written.new.store;
     }
 
@@ -126,3 +137,21 @@ pub returns-clause-others : goal.returns-clause-others
 returns-clause-others g c =
     let leaves = leaves_in _ _ c.self.inside.free.keys _ _ _ c.deref.ensures.value c.write_out-written.ensures.others in
     subst (λ (v : PagesView). Leaves (at v.pages) (length v.pages) v.stored (g.S.Store.pages c.write_out-written.new.store)) c.self.view_is (leaves_pages _ _ _ _ _ c.self.invariant _ leaves)
+
+pub returns-in-Err-clause-writes_err : goal.returns-in-Err-clause-writes_err
+returns-in-Err-clause-writes_err g c =
+    let many = calls_in c.args.self.now (g.S.Store.pages c.self.inside.store) _ c.self.inside.changed.items c.self.inside.free.keys c.self.inside.count c.deref.ensures.value (ap (λ (v : PagesView). v.pages) c.self.view_is) (ap (λ (v : PagesView). v.in_memory) c.self.view_is) in
+    let before = ap (λ (v : PagesView). v.writes) c.self.view_is in
+    subst (λ k. CountedUpTo (6 + k) c.args.self.now.writes (g.S.Store.writes c.write_out-written.new.store)) many
+    (subst (λ old. CountedUpTo (6 + how_many (λ n. is_some (to_write (slots_of c.deref.result.now) c.self.inside.free.keys c.self.inside.count n)) c.self.inside.count) old (g.S.Store.writes c.write_out-written.new.store)) before c.in-Err.ensures.writes_err)
+
+pub returns-clause-in_memory : goal.returns-clause-in_memory
+returns-clause-in_memory g c = λ n.
+    ap (λ (xs : List (Option (Box (List ℕ) Global))). get_or (in_memory_of (slots_of xs) c.self.inside.free.keys c.self.inside.count) n false) c.clear.ensures.items
+    ∙ none_in_memory [] c.self.inside.free.keys c.self.inside.count n refl
+
+pub returns-clause-writes : goal.returns-clause-writes
+returns-clause-writes g c =
+    let many = calls_in c.args.self.now (g.S.Store.pages c.self.inside.store) _ c.self.inside.changed.items c.self.inside.free.keys c.self.inside.count c.deref.ensures.value (ap (λ (v : PagesView). v.pages) c.self.view_is) (ap (λ (v : PagesView). v.in_memory) c.self.view_is) in
+    let before = ap (λ (v : PagesView). v.writes) c.self.view_is in
+    c.in_default.ensures.writes ∙ ap (λ old. counted_times old (6 + how_many (λ n. is_some (to_write (slots_of c.deref.result.now) c.self.inside.free.keys c.self.inside.count n)) c.self.inside.count)) before ∙ ap (λ k. counted_times c.args.self.now.writes (6 + k)) many
