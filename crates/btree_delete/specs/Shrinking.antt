@@ -8,13 +8,12 @@ use Rattle.btree_node.specs.Spelling.{spelling, ElementFits, SonsFit}
 use Rattle.btree_insert.specs.declared.bounds.Bounds.{Bounds}
 use Rattle.btree_insert.specs.declared.trees.Tree.{Tree}
 use Rattle.btree_insert.specs.Bounds.{AreWithin}
-use Rattle.btree_insert.specs.Contents.{lookup_in}
+use Rattle.btree_insert.specs.Contents.{lookup_in, set_in}
 use Rattle.btree_insert.specs.Growth.{IsWithin}
 use Rattle.btree_insert.specs.PageTrees.{IsIn, Body, TreeAt, kind_of_level}
 use Rattle.btree_delete.specs.declared.shrinking.Shrunk.{Shrunk}
 use Rattle.btree_delete.specs.declared.shrinking.Shrunk.TheVariants.{Whole, Short}
 use Rattle.btree_delete.specs.Left.{Left}
-use Rattle.btree_delete.specs.Removal.{remove_in}
 use Rattle.btree_delete.specs.Tidy.{is_met, Untouched}
 
 -- a node of a level, within bounds, that fits a page but for the least number of keys
@@ -81,7 +80,7 @@ pub record Takes (k : ℕ) (old new : PageMap) (lo hi least h p : ℕ) (es : Lis
 abbrev pub Drops : ℕ → PageMap → PageMap → ℕ → ℕ → ℕ → ℕ → ℕ → List Element → List ℕ → List ℕ → Option Shrunk → Type 0
 Drops k old new lo hi least h p es us key None = lookup_in key es ≡ None
 Drops k old new lo hi least h p es us key (Some g) =
-    (lookup_in key es ≡ Some (gone g).1) × Leaves k old new lo hi least h p us (remove_in key es) g
+    (lookup_in key es ≡ Some (gone g).1) × Leaves k old new lo hi least h p us (set_in key None es) g
 
 -- the same, and only pages below page p were met
 pub record Removes (k : ℕ) (old new : PageMap) (lo hi least h p : ℕ) (es : List Element) (us met met' : List ℕ) (key : List ℕ) (g : Option Shrunk) : Type 0 where

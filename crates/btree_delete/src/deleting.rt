@@ -5,11 +5,10 @@ ghost use Rattle.btree_node.specs.Lists.{Element};
 ghost use Rattle.btree_insert.specs.Faults.{is_device};
 ghost use Rattle.btree_insert.specs.Growth.{IsOutside};
 ghost use Rattle.btree_insert.specs.PageTrees.{Holds};
-ghost use Rattle.btree_insert.specs.Contents.{lookup_in};
+ghost use Rattle.btree_insert.specs.Contents.{lookup_in, set_in};
 ghost use Rattle.page_store.specs.CanStage.{CanStage};
 ghost use Rattle.btree_delete.specs.Deleted.{Deleted};
 ghost use Rattle.btree_delete.specs.Mending.{son_at};
-ghost use Rattle.btree_delete.specs.Removal.{remove_in};
 ghost use Rattle.btree_delete.specs.Shrinking.{IsThin, GoesUp, Leaves, ShrinksRoot, gone};
 ghost use Rattle.btree_insert.specs.declared.bounds.Bounds.{Bounds};
 ghost use Rattle.btree_delete.specs.Tidy.{is_met, IsTidy};
@@ -96,7 +95,7 @@ fn shrink_tree<S: Store>(
     ensures deleted { (es : List Element) (us key : List ℕ) → Holds (at pages.now.pages) tree.now es us
         → lookup_in key es ≡ Some (gone shrunk).1
         → Leaves tree.now.order (at pages.now.pages) (after (at pages.now.pages) edit.old.writes.items edit.old.freed.items)
-        0 (length edit.old.freed.items) 1 (tree.now.height - 1) tree.now.root us (remove_in key es) shrunk
+        0 (length edit.old.freed.items) 1 (tree.now.height - 1) tree.now.root us (set_in key None es) shrunk
         → MatchResult result
         (λ r. Deleted (at pages.now.pages) (after (at pages.now.pages) edit.new.writes.items edit.new.freed.items)
         tree.now r.0 es us key r.1)

@@ -13,3 +13,5 @@ pub mod InsertFacts
 pub mod WalkFacts
 pub mod SizeFacts
 pub mod ClassFacts
+pub mod ReachFacts
+pub mod ApartFacts

@@ -15,7 +15,7 @@ use Rattle.btree_insert.specs.declared.growing.Grown.TheVariants.{Replaced, Fits
 use Rattle.btree_insert.specs.declared.trees.TreeFault.{TreeFault}
 use Rattle.btree_insert.specs.declared.trees.TreeFault.TheVariants.{Device, Damaged, Memory}
 use Rattle.btree_insert.specs.Bounds.{Over, Under}
-use Rattle.btree_insert.specs.Contents.{lookup_in, put_in}
+use Rattle.btree_insert.specs.Contents.{lookup_in, set_in}
 use Rattle.btree_insert.specs.Kept.{Kept}
 use Rattle.btree_insert.specs.PageTrees.{TreeAt}
 
@@ -95,4 +95,4 @@ Told key es (Split middle right) = lookup_in key es ≡ None
 -- the record stands at the key, and everything else is as it was
 pub record Grew (k : ℕ) (old new : PageMap) (fresh : ℕ → ℕ) (lo hi least h p : ℕ) (es : List Element) (us : List ℕ) (key value : List ℕ) (g : Grown) : Type 0 where
   pub told : Told key es g
-  pub grows : Grows k old new fresh lo hi least h p us (put_in key value es) g
+  pub grows : Grows k old new fresh lo hi least h p us (set_in key (Some value) es) g

@@ -6,3 +6,4 @@ pub mod Growth
 pub mod Kept
 pub mod Inserted
 pub mod Classes
+pub mod Reached
