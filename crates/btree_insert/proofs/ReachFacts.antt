@@ -5,12 +5,14 @@ use Rattle.btree_node.specs.declared.nodes.Node.{Node}
 use Rattle.btree_node.specs.declared.nodes.NodeKind.TheVariants.{Leaf, Inner}
 use Rattle.btree_node.specs.Lists.{Element, Each, Below, Ascends, IsAt, IsPlace}
 use Rattle.btree_node.proofs.OrderFacts.{Each-append, Each-map, Below-trans}
+use Rattle.page_store.specs.PageMap.{PageMap}
 use Rattle.btree_insert.specs.declared.bounds.Bounds.{Bounds}
 use Rattle.btree_insert.specs.Bounds.{Over, Under, AreWithin, Between, son_bounds, unbounded}
-use Rattle.btree_insert.specs.PageTrees.{Fan, TreeOf, kind_of_level}
+use Rattle.btree_insert.specs.PageTrees.{Spells, Fan, TreeOf, kind_of_level}
 use Rattle.btree_insert.specs.Reached.{GoesOn, Leads, LeadsFrom, Adds}
 use Rattle.btree_insert.proofs.FanFacts.{Stands}
 use Rattle.btree_insert.proofs.PlaceFacts.{over_trans, under_trans}
+use Rattle.btree_insert.proofs.TreeFacts.{kind_above}
 use Rattle.btree_insert.proofs.WalkFacts.{added}
 
 pub if_ok : {X E : Type 0} (r : Result X E) (P Q : X → Type 0) → ((x : X) → P x → Q x) → IfOk r P → IfOk r Q
@@ -81,7 +83,7 @@ pub adds_inner : (spells : ℕ → Node → Type 0) (height h p : ℕ) (b : Boun
 adds_inner spells height h p b n out out' left one_less left' is spelled kind some left_is adds = record {
   es = adds.es;
   us = p ∷ adds.us;
-  here = subst (λ x. TreeOf spells 1 1 x p adds.es (p ∷ adds.us)) is (n, adds.us, spelled, some, (kind ∙ ap kind_of_level (sym is), adds.here), refl);
+  here = subst (λ x. TreeOf spells 1 1 x p adds.es (p ∷ adds.us)) is (n, adds.us, spelled, some, (kind ∙ ap kind_of_level (sym is) ∙ kind_above (suc (suc h)) (λ one. absurd (omega (arith, one))), adds.here), refl);
   between = adds.between;
   added = adds.added;
   fewer = omega (arith, adds.fewer);
@@ -139,3 +141,18 @@ rest_within b (e ∷ els) x some is between = record {
     under = between.within.under.1;
   };
 }
+
+-- what a call says of a son, in the words of the caller
+pub leads_below : (k : ℕ) (pages pages2 : PageMap) (key : List ℕ) (low h q s : ℕ) (b b2 : Bounds) (found : Option (List ℕ)) → pages2 ≡ pages → low ≡ suc h → q ≡ s → b2 ≡ b → Leads (Spells k pages2) key low q b2 found → Leads (Spells k pages) key (suc h) s b found
+leads_below k pages pages2 key low h q s b b2 found pages_is low_is q_is b_is leads =
+    subst (λ (x : PageMap). Leads (Spells k x) key (suc h) s b found) pages_is
+    (subst (λ (x : ℕ). Leads (Spells k pages2) key x s b found) low_is
+    (subst (λ (x : ℕ). Leads (Spells k pages2) key low x b found) q_is (subst (λ (x : Bounds). Leads (Spells k pages2) key low q x found) b_is leads)))
+
+pub adds_below : (k : ℕ) (pages pages2 : PageMap) (low h : ℕ) (sons sons2 : List ℕ) (els els2 : List Element) (b : Bounds) (out out' : List Element) (left left' : ℕ) → pages2 ≡ pages → low ≡ h → sons2 ≡ sons → els2 ≡ els
+    → Adds (Fan (TreeOf (Spells k pages2) 1 1 low) sons2 els2) b out out' left left' → Adds (Fan (TreeOf (Spells k pages) 1 1 h) sons els) b out out' left left'
+adds_below k pages pages2 low h sons sons2 els els2 b out out' left left' pages_is low_is sons_is els_is adds =
+    subst (λ (x : PageMap). Adds (Fan (TreeOf (Spells k x) 1 1 h) sons els) b out out' left left') pages_is
+    (subst (λ (x : ℕ). Adds (Fan (TreeOf (Spells k pages2) 1 1 x) sons els) b out out' left left') low_is
+    (subst (λ (x : List ℕ). Adds (Fan (TreeOf (Spells k pages2) 1 1 low) x els) b out out' left left') sons_is
+    (subst (λ (x : List Element). Adds (Fan (TreeOf (Spells k pages2) 1 1 low) sons2 x) b out out' left left') els_is adds)))
