@@ -11,18 +11,8 @@ use Rattle.btree_node.proofs.CutFacts.{around}
 use Rattle.btree_insert.specs.declared.bounds.Bounds.{Bounds}
 use Rattle.btree_insert.specs.Bounds.{Over, Under, Between}
 use Rattle.btree_insert.specs.Contents.{by_order, lookup_in, set_in}
+use Rattle.btree_insert.proofs.MapFacts.{greater_if_below, less_if_below, same_key, by_order-append, remove_each, remove-ascends}
 use Rattle.btree_delete.specs.Shrinking.{behind}
-
-greater_if_below : (low high : List ℕ) → Below low high → slice_cmp nat_cmp high low ≡ Greater
-unfolding Below
-greater_if_below low high below = nat_list_cmp_total.antisymm high low ∙ ap ordering_reverse below
-
-less_if_below : (low high : List ℕ) → Below low high → slice_cmp nat_cmp low high ≡ Less
-unfolding Below
-less_if_below low high below = below
-
-same_key : (x y : List ℕ) → x ≡ y → slice_cmp nat_cmp y x ≡ Equal
-same_key x y same = ap (λ (z : List ℕ). slice_cmp nat_cmp y z) same ∙ tied_itself nat_list_cmp_total y
 
 remove_after : (key : List ℕ) (pre es : List Element) → Each (λ e. Below e.0 key) pre → set_in key None (pre ++ es) ≡ pre ++ set_in key None es
 remove_after key [] es below = refl
@@ -32,11 +22,6 @@ remove_after key (p ∷ pre) es below =
 pub remove_above : (key : List ℕ) (post : List Element) → Each (λ e. Below key e.0) post → set_in key None post ≡ post
 remove_above key [] above = refl
 remove_above key (p ∷ post) above = ap (λ o. by_order o (p ∷ post) post (p ∷ set_in key None post)) (less_if_below key p.0 above.0)
-
-by_order-append : (o : Ordering) (xs ys zs post : List Element) → by_order o (xs ++ post) (ys ++ post) (zs ++ post) ≡ by_order o xs ys zs ++ post
-by_order-append Less xs ys zs post = refl
-by_order-append Equal xs ys zs post = refl
-by_order-append Greater xs ys zs post = refl
 
 remove_before : (key : List ℕ) (es post : List Element) → Each (λ e. Below key e.0) post → set_in key None (es ++ post) ≡ set_in key None es ++ post
 remove_before key [] post above = remove_above key post above
@@ -58,25 +43,6 @@ remove-here key pre x post below here =
 pub remove_is_remove : (key : List ℕ) (els : List Element) (i : ℕ) → IsAt els key i → set_in key None els ≡ remove els i
 remove_is_remove key els i place =
     ap (set_in key None) (around i els ([], []) place.within) ∙ remove-here key (take i els) (get_or els i ([], [])) (drop (suc i) els) place.below (place.here ([], []))
-
-remove_each_by : (P : Element → Type 0) (e : Element) (es rest : List Element) → Each P (e ∷ es) → Each P rest → (o : Ordering) → Each P (by_order o (e ∷ es) es (e ∷ rest))
-remove_each_by P e es rest each later Less = each
-remove_each_by P e es rest each later Equal = each.1
-remove_each_by P e es rest each later Greater = (each.0, later)
-
-pub remove_each : (P : Element → Type 0) (key : List ℕ) (es : List Element) → Each P es → Each P (set_in key None es)
-remove_each P key [] each = tt
-remove_each P key (e ∷ es) each = remove_each_by P e es (set_in key None es) each (remove_each P key es each.1) (slice_cmp nat_cmp key e.0)
-
-remove_ascends_by : (key : List ℕ) (e : Element) (es : List Element) → Ascends (e ∷ es) → Ascends (set_in key None es) → (o : Ordering) → Ascends (by_order o (e ∷ es) es (e ∷ set_in key None es))
-remove_ascends_by key e es up rest Less = up
-remove_ascends_by key e es up rest Equal = up.1
-remove_ascends_by key e es up rest Greater = (remove_each (λ later. Below e.0 later.0) key es up.0, rest)
-
--- the order stays
-pub remove-ascends : (key : List ℕ) (es : List Element) → Ascends es → Ascends (set_in key None es)
-remove-ascends key [] up = tt
-remove-ascends key (e ∷ es) up = remove_ascends_by key e es up (remove-ascends key es up.1) (slice_cmp nat_cmp key e.0)
 
 pub remove-between_bounds : (b : Bounds) (key : List ℕ) (es : List Element) → Between b es → Between b (set_in key None es)
 remove-between_bounds b key es is = record {

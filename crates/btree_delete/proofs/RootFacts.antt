@@ -21,7 +21,8 @@ use Rattle.btree_delete.specs.Shrinking.{IsThin, Loses, Leaves, ShrinksRoot}
 use Rattle.btree_delete.specs.Tidy.{is_met, Untouched, IsTidy}
 use Rattle.btree_delete.proofs.AfterFacts.{after_write, after_free, free_page, free_here, free_other}
 use Rattle.btree_delete.proofs.LeftFacts.{left_write, left_trans, left_drop}
-use Rattle.btree_delete.proofs.RemoveFacts.{remove-ascends, remove-length, remove-absent}
+use Rattle.btree_insert.proofs.MapFacts.{remove-ascends}
+use Rattle.btree_delete.proofs.RemoveFacts.{remove-length, remove-absent}
 use Rattle.btree_delete.proofs.ShortFacts.{thin_stands}
 use Rattle.btree_delete.proofs.TidyFacts.{tidy_write, tidy_free}
 

@@ -30,7 +30,7 @@ spells_one k pages small p n m here there =
     let same : page ≡ spelling_in first_layout m k = ap (λ o. unwrap_or o []) (sym here.page ∙ there.page) in
     sym (node_reads first_layout k page n (reads first_layout k page n small here.stands refl)) ∙ node_reads first_layout k page m (reads first_layout k page m small there.stands same)
 
-irreflexive : (x : List ℕ) → Below x x → ⊥
+pub irreflexive : (x : List ℕ) → Below x x → ⊥
 unfolding Below
 irreflexive x below = absurd (cc (sym (tied_itself nat_list_cmp_total x) ∙ below))
 

@@ -15,3 +15,6 @@ pub mod SizeFacts
 pub mod ClassFacts
 pub mod ReachFacts
 pub mod ApartFacts
+pub mod ContentsFacts
+pub mod ElementsFacts
+pub mod ExampleFacts

@@ -11,15 +11,15 @@ use Rattle.btree_node.proofs.OrderFacts.{Each-map, Below-trans}
 use Rattle.btree_insert.specs.Contents.{by_order, lookup_in, set_in}
 
 -- a comparison the other way
-greater_if_below : (low high : List ℕ) → Below low high → slice_cmp nat_cmp high low ≡ Greater
+pub greater_if_below : (low high : List ℕ) → Below low high → slice_cmp nat_cmp high low ≡ Greater
 unfolding Below
 greater_if_below low high below = nat_list_cmp_total.antisymm high low ∙ ap ordering_reverse below
 
-less_if_below : (low high : List ℕ) → Below low high → slice_cmp nat_cmp low high ≡ Less
+pub less_if_below : (low high : List ℕ) → Below low high → slice_cmp nat_cmp low high ≡ Less
 unfolding Below
 less_if_below low high below = below
 
-below_if_less : (low high : List ℕ) → slice_cmp nat_cmp low high ≡ Less → Below low high
+pub below_if_less : (low high : List ℕ) → slice_cmp nat_cmp low high ≡ Less → Below low high
 unfolding Below
 below_if_less low high less = less
 
@@ -27,7 +27,7 @@ below_if_greater : (low high : List ℕ) → slice_cmp nat_cmp high low ≡ Grea
 unfolding Below
 below_if_greater low high greater = nat_list_cmp_total.antisymm low high ∙ ap ordering_reverse greater
 
-same_key : (x y : List ℕ) → x ≡ y → slice_cmp nat_cmp y x ≡ Equal
+pub same_key : (x y : List ℕ) → x ≡ y → slice_cmp nat_cmp y x ≡ Equal
 same_key x y same = ap (λ (z : List ℕ). slice_cmp nat_cmp y z) same ∙ tied_itself nat_list_cmp_total y
 
 -- smaller keys in front change nothing
@@ -36,7 +36,7 @@ lookup-after key [] es below = refl
 lookup-after key (p ∷ pre) es below =
     ap (λ o. by_order o None (Some p.1) (lookup_in key (pre ++ es))) (greater_if_below p.0 key below.0) ∙ lookup-after key pre es below.1
 
-lookup_above : (key : List ℕ) (post : List Element) → Each (λ e. Below key e.0) post → lookup_in key post ≡ None
+pub lookup_above : (key : List ℕ) (post : List Element) → Each (λ e. Below key e.0) post → lookup_in key post ≡ None
 lookup_above key [] above = refl
 lookup_above key (p ∷ post) above = ap (λ o. by_order o None (Some p.1) (lookup_in key post)) (less_if_below key p.0 above.0)
 
@@ -68,7 +68,7 @@ put_above key value [] above = refl
 put_above key value (p ∷ post) above =
     ap (λ o. by_order o ((key, value) ∷ (p ∷ post)) ((key, value) ∷ post) (p ∷ set_in key (Some value) post)) (less_if_below key p.0 above.0)
 
-by_order-append : (o : Ordering) (xs ys zs post : List Element) → by_order o (xs ++ post) (ys ++ post) (zs ++ post) ≡ by_order o xs ys zs ++ post
+pub by_order-append : (o : Ordering) (xs ys zs post : List Element) → by_order o (xs ++ post) (ys ++ post) (zs ++ post) ≡ by_order o xs ys zs ++ post
 by_order-append Less xs ys zs post = refl
 by_order-append Equal xs ys zs post = refl
 by_order-append Greater xs ys zs post = refl
@@ -102,7 +102,7 @@ pub put_each : (P : List ℕ → Type 0) (key value : List ℕ) (es : List Eleme
 put_each P key value [] each new = (new, tt)
 put_each P key value (e ∷ es) each new = put_each_by P key value e es each new (put_each P key value es each.1 new) (slice_cmp nat_cmp key e.0)
 
-later_above : (key : List ℕ) (e : Element) (es : List Element) → Below key e.0 → Each (λ later. Below e.0 later.0) es → Each (λ later. Below key later.0) es
+pub later_above : (key : List ℕ) (e : Element) (es : List Element) → Below key e.0 → Each (λ later. Below e.0 later.0) es → Each (λ later. Below key later.0) es
 later_above key e es above up = Each-map (λ (later : Element). Below e.0 later.0) (λ later. Below key later.0) es (λ later over. Below-trans key e.0 later.0 above over) up
 
 put_ascends : (key value : List ℕ) (e : Element) (es : List Element) → Ascends (e ∷ es) → Ascends (set_in key (Some value) es) → (o : Ordering) → slice_cmp nat_cmp key e.0 ≡ o
@@ -117,6 +117,25 @@ put_ascends key value e es up rest Greater is =
 pub put-ascends : (key value : List ℕ) (es : List Element) → Ascends es → Ascends (set_in key (Some value) es)
 put-ascends key value [] up = (tt, tt)
 put-ascends key value (e ∷ es) up = put_ascends key value e es up (put-ascends key value es up.1) (slice_cmp nat_cmp key e.0) refl
+
+remove_each_by : (P : Element → Type 0) (e : Element) (es rest : List Element) → Each P (e ∷ es) → Each P rest → (o : Ordering) → Each P (by_order o (e ∷ es) es (e ∷ rest))
+remove_each_by P e es rest each later Less = each
+remove_each_by P e es rest each later Equal = each.1
+remove_each_by P e es rest each later Greater = (each.0, later)
+
+pub remove_each : (P : Element → Type 0) (key : List ℕ) (es : List Element) → Each P es → Each P (set_in key None es)
+remove_each P key [] each = tt
+remove_each P key (e ∷ es) each = remove_each_by P e es (set_in key None es) each (remove_each P key es each.1) (slice_cmp nat_cmp key e.0)
+
+remove_ascends_by : (key : List ℕ) (e : Element) (es : List Element) → Ascends (e ∷ es) → Ascends (set_in key None es) → (o : Ordering) → Ascends (by_order o (e ∷ es) es (e ∷ set_in key None es))
+remove_ascends_by key e es up rest Less = up
+remove_ascends_by key e es up rest Equal = up.1
+remove_ascends_by key e es up rest Greater = (remove_each (λ later. Below e.0 later.0) key es up.0, rest)
+
+-- the order stays
+pub remove-ascends : (key : List ℕ) (es : List Element) → Ascends es → Ascends (set_in key None es)
+remove-ascends key [] up = tt
+remove-ascends key (e ∷ es) up = remove_ascends_by key e es up (remove-ascends key es up.1) (slice_cmp nat_cmp key e.0)
 
 -- one more where the key is new
 abbrev pub one_if_none : {A : Type 0} → Option A → ℕ

@@ -7,3 +7,5 @@ pub mod Kept
 pub mod Inserted
 pub mod Classes
 pub mod Reached
+pub mod Elements
+pub mod Examples
