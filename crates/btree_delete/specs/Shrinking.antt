@@ -2,9 +2,8 @@
 use Rattle.std.specs.Prelude.{◌≡◌, ℕ, suc, ◌+◌, ◌-◌, ◌*◌, ◌<◌, ◌≤◌, false, List, [], ◌∷◌, ◌++◌, length, Option, Some, None, slice_index_or}
 use Rattle.page_store.specs.PageMap.{PageMap}
 use Rattle.btree_node.specs.declared.nodes.Node.{Node}
-use Rattle.btree_node.specs.Layout.{first_layout}
 use Rattle.btree_node.specs.Lists.{Element, Each, Ascends}
-use Rattle.btree_node.specs.Spelling.{spelling, ElementFits, SonsFit}
+use Rattle.btree_node.specs.Spelling.{spelling, IsElement, SonsFit}
 use Rattle.btree_insert.specs.declared.bounds.Bounds.{Bounds}
 use Rattle.btree_insert.specs.declared.trees.Tree.{Tree}
 use Rattle.btree_insert.specs.Bounds.{AreWithin}
@@ -20,7 +19,7 @@ use Rattle.btree_delete.specs.Tidy.{is_met, Untouched}
 pub record IsThin (k height : ℕ) (bounds : Bounds) (n : Node) : Type 0 where
   pub kind : n.kind ≡ kind_of_level height
   pub most : length n.elements.items ≤ 2 * k
-  pub fit : Each (ElementFits first_layout) n.elements.items
+  pub fit : Each (IsElement) n.elements.items
   pub ascends : Ascends n.elements.items
   pub within : AreWithin bounds n.elements.items
   pub sons : SonsFit n.kind (length n.elements.items) n.sons.items
@@ -44,9 +43,9 @@ GoesUp k height bounds n writes freed (Short e node) =
 
 -- the same, where the first element was taken: what is left is behind it
 abbrev pub GoesUpBehind : ℕ → ℕ → Bounds → ℕ → List (ℕ × List ℕ) → List ℕ → Shrunk → Type 0
-GoesUpBehind k height bounds n writes freed (Whole e) = ElementFits first_layout e × IsWithin bounds e.0
+GoesUpBehind k height bounds n writes freed (Whole e) = IsElement e × IsWithin bounds e.0
 GoesUpBehind k height bounds n writes freed (Short e node) =
-    ElementFits first_layout e × IsWithin bounds e.0 × IsThin k height (behind e bounds) node × (length node.elements.items < k) × Untouched writes freed n
+    IsElement e × IsWithin bounds e.0 × IsThin k height (behind e bounds) node × (length node.elements.items < k) × Untouched writes freed n
 
 -- the tree below page p lost some pages: lo numbers were freed before, hi are freed now
 pub record Loses (old new : PageMap) (lo hi : ℕ) (us vs : List ℕ) : Type 0 where
