@@ -1,4 +1,4 @@
-ghost use Rattle.std.specs.Prelude.{◌≡◌, ◌+◌, ◌<◌, ◌≤◌, ◌++◌, ℕ, List, IsTrue, IfOk, OnOk, MatchResult, length};
+ghost use Rattle.std.specs.Prelude.{◌≡◌, ◌+◌, ◌<◌, ◌≤◌, ◌++◌, ℕ, List, Err, IsTrue, IfOk, OnOk, MatchResult, length};
 ghost use Rattle.rec_types.specs.Table.{counted};
 ghost use Rattle.page_store.specs.PageMap.{at};
 ghost use Rattle.btree_node.specs.Lists.{Element};
@@ -80,6 +80,7 @@ fn walk_below<S: Store>(
     ensures adds { IsTrue pages.old.steady → OnOk result
         (Adds (TreeOf (Spells order (at pages.old.pages)) 1 1 height n)
         bounds.now out.old.items out.new.items left.old left.new) }
+    ensures spent { left.old ≡ 0 → result ≡ Err (TreeFault.Damaged n) }
     ensures device { pages.new.failures ≡ counted pages.old.failures (is_device result) }
     ensures unchanged { pages.new
         ≡ record pages.old { reads = pages.new.reads; failures = pages.new.failures } }
