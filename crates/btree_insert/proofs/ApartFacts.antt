@@ -142,11 +142,11 @@ fan_off spells one tree at (s ∷ (t ∷ ss)) (m ∷ els) es us (xs, ys, here, r
     let all = Between-all (xs ++ m ∷ ys) (subst Ascends es_is up) in
     ⊎_elim
     (λ front. let page = at s xs here first p front in
-        let same = same_first n page.n m page.e els page.rest (one p n page.n spelled page.spelled) items page.items in
-        irreflexive m.0 (subst (λ (x : Element). Below x.0 m.0) (sym same) (page.within (record { low = None; high = Some m.0 }) (Between-left unbounded xs m ys all)).1))
+    let same = same_first n page.n m page.e els page.rest (one p n page.n spelled page.spelled) items page.items in
+    irreflexive m.0 (subst (λ (x : Element). Below x.0 m.0) (sym same) (page.within (record { low = None; high = Some m.0 }) (Between-left unbounded xs m ys all)).1))
     (λ back. let page = fan_page spells tree at (t ∷ ss) els ys rest more p back in
-        let same = same_first n page.n m page.e els page.rest (one p n page.n spelled page.spelled) items page.items in
-        irreflexive m.0 (subst (λ (x : Element). Below m.0 x.0) (sym same) (page.within (record { low = Some m.0; high = None }) (Between-right unbounded xs m ys all)).0))
+    let same = same_first n page.n m page.e els page.rest (one p n page.n spelled page.spelled) items page.items in
+    irreflexive m.0 (subst (λ (x : Element). Below m.0 x.0) (sym same) (page.within (record { low = Some m.0; high = None }) (Between-right unbounded xs m ys all)).0))
     (in_either p here rest (subst (IsIn p) us_is is))
 
 pub tree_apart : (spells : ℕ → Node → Type 0) → IsOne spells → (h p : ℕ) (es : List Element) (us : List ℕ) → TreeOf spells 1 1 h p es us → Ascends es → Apart us

@@ -18,7 +18,7 @@ Leads spells key zero p bounds found = ⊥
 Leads spells key (suc h) p bounds found =
     (n : Node) × spells p n × (n.kind ≡ kind_of_level (suc h)) × AreWithin bounds n.elements.items × (i : ℕ)
     × ((IsAt n.elements.items key i × ((d : Element) → found ≡ Some (slice_index_or n.elements.items i d).1))
-       ⊎ (IsPlace n.elements.items key i × GoesOn (Leads spells key h) h n i bounds found))
+    ⊎ (IsPlace n.elements.items key i × GoesOn (Leads spells key h) h n i bounds found))
 
 -- a look-up from the root: an empty tree has no record
 abbrev pub LeadsFrom : (ℕ → Node → Type 0) → List ℕ → ℕ → ℕ → Option (List ℕ) → Type 0
