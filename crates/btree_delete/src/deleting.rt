@@ -151,7 +151,8 @@ pub fn delete<S: Store>(
     ensures count { IfOk result (λ r. r.0.count ≤ tree.now.count) }
     ensures used { IfOk result (λ r. r.0.used ≤ tree.now.used) }
     ensures order { IfOk result (λ r. r.0.order ≡ tree.now.order) }
-    ensures absent { IfOk result (λ r. r.1 ≡ None → (r.0 ≡ tree.now) × (pages.new.pages ≡ pages.old.pages) × (pages.new.changed ≡ pages.old.changed)) }
+    ensures absent { IfOk result (λ r. r.1 ≡ None → (r.0 ≡ tree.now)
+        × (pages.new.pages ≡ pages.old.pages) × (pages.new.changed ≡ pages.old.changed)) }
     ensures changed { IfOk result (λ r. IsSome r.1 → pages.new.changed ≡ true) }
     ensures page_count { length pages.new.pages ≡ length pages.old.pages }
     ensures device { pages.new.failures ≡ counted pages.old.failures (is_device result) }

@@ -29,9 +29,10 @@ pub fn find<S: Store>(
     requires height { tree.now.height ≤ 19 }
     ensures found { IsTrue pages.old.steady → (es : List Element) (us : List ℕ)
         → Holds (at pages.old.pages) tree.now es us
-        → MatchResult result (λ found. found ≡ lookup_in key.now es) (λ fault. fault ≡ TreeFault.Device) }
-    ensures led { IsTrue pages.old.steady → IfOk result
-        (LeadsFrom (Spells tree.now.order (at pages.old.pages)) key.now tree.now.height tree.now.root) }
+        → MatchResult result (λ found. found ≡ lookup_in key.now es)
+        (λ fault. fault ≡ TreeFault.Device) }
+    ensures led { IsTrue pages.old.steady → IfOk result (LeadsFrom
+        (Spells tree.now.order (at pages.old.pages)) key.now tree.now.height tree.now.root) }
     ensures no_memory { IfErr result (λ fault. fault ≢ TreeFault.Memory) }
     ensures device { pages.new.failures ≡ counted pages.old.failures (is_device result) }
     ensures unchanged { pages.new
@@ -61,7 +62,8 @@ fn find_below<S: Store>(
     requires height { 0 < height }
     ensures found { IsTrue pages.old.steady → (least : ℕ) (es : List Element) (us : List ℕ)
         → TreeAt order (at pages.old.pages) least height n es us → Between bounds.now es
-        → MatchResult result (λ found. found ≡ lookup_in key.now es) (λ fault. fault ≡ TreeFault.Device) }
+        → MatchResult result (λ found. found ≡ lookup_in key.now es)
+        (λ fault. fault ≡ TreeFault.Device) }
     ensures led { IsTrue pages.old.steady
         → IfOk result (Leads (Spells order (at pages.old.pages)) key.now height n bounds.now) }
     ensures no_memory { IfErr result (λ fault. fault ≢ TreeFault.Memory) }

@@ -274,8 +274,8 @@ pub fn insert<S: Store>(
     ensures inserted { IsTrue pages.old.steady → (es : List Element) (us : List ℕ)
         → Holds (at pages.old.pages) tree.now es us
         → MatchResult result
-        (λ r. (taken : ℕ) × Inserted (at pages.old.pages) (at pages.new.pages) (candidate pages.old.pages) taken
-        tree.now r.0 es us key value r.1)
+        (λ r. (taken : ℕ) × Inserted (at pages.old.pages) (at pages.new.pages)
+        (candidate pages.old.pages) taken tree.now r.0 es us key value r.1)
         (IsRefused pages.old.pages tree.now es us key value) }
     ensures small { IfOk result (λ r. IsSmall r.0 (length pages.new.pages)) }
     ensures page_count { IfOk result (λ r. (tree.now.used ≤ r.0.used)
