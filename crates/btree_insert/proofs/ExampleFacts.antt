@@ -1,7 +1,6 @@
 -- Pages that hold a tree, and pages that hold none.
-use Rattle.std.proofs.Common.{◌≡◌, ℕ, zero, suc, ◌^◌, ◌<◌, ⊎_elim, inl, inr, Option, List, [], ◌∷◌, ◌++◌, refl, ap, sym, ◌∙◌, subst, arith}
+use Rattle.std.proofs.Common.{◌≡◌, ℕ, zero, suc, ◌^◌, ◌<◌, ⊎_elim, inl, Option, List, [], ◌∷◌, ◌++◌, refl, ap, sym, ◌∙◌, subst, arith}
 use Rattle.btree_node.specs.declared.nodes.Node.{Node}
-use Rattle.btree_node.specs.declared.nodes.NodeKind.{NodeKind}
 use Rattle.btree_node.specs.declared.nodes.NodeKind.TheVariants.{Leaf, Inner}
 use Rattle.btree_node.specs.Layout.{first_layout}
 use Rattle.btree_node.specs.Lists.{Element, Below, Ascends}

@@ -1,15 +1,14 @@
 -- What a look-up and a walk have gone through.
-use Rattle.std.proofs.Common.{◌≡◌, ℕ, zero, suc, ◌+◌, ◌<◌, ◌≤◌, ⊎_elim, inl, inr, Result, Ok, Err, Option, Some, None, List, [], ◌∷◌, ◌++◌, length, get_or, drop, refl, ap, sym, ◌∙◌, subst, arith, append_assoc, length-append}
+use Rattle.std.proofs.Common.{◌≡◌, ℕ, suc, ◌+◌, ◌<◌, inl, inr, Result, Ok, Err, Option, Some, None, List, [], ◌∷◌, ◌++◌, length, get_or, drop, refl, ap, sym, ◌∙◌, subst, arith, length-append}
 use Rattle.std.specs.Prelude.{IfOk, OnOk}
 use Rattle.btree_node.specs.declared.nodes.Node.{Node}
-use Rattle.btree_node.specs.declared.nodes.NodeKind.TheVariants.{Leaf, Inner}
 use Rattle.btree_node.specs.Lists.{Element, Each, Below, Ascends, IsAt, IsPlace}
 use Rattle.btree_node.proofs.OrderFacts.{Each-append, Each-map, Below-trans}
 use Rattle.page_store.specs.PageMap.{PageMap}
 use Rattle.btree_insert.specs.declared.bounds.Bounds.{Bounds}
 use Rattle.btree_insert.specs.Bounds.{Over, Under, AreWithin, Between, son_bounds, unbounded}
 use Rattle.btree_insert.specs.PageTrees.{Spells, Fan, TreeOf, kind_of_level}
-use Rattle.btree_insert.specs.Reached.{GoesOn, Leads, LeadsFrom, Adds}
+use Rattle.btree_insert.specs.Reached.{Leads, LeadsFrom, Adds}
 use Rattle.btree_insert.proofs.FanFacts.{Stands}
 use Rattle.btree_insert.proofs.PlaceFacts.{over_trans, under_trans}
 use Rattle.btree_insert.proofs.TreeFacts.{kind_above}

@@ -1,5 +1,5 @@
 -- The elements of a tree as a function of the pages: total, whatever the pages hold.
-use Rattle.std.specs.Prelude.{ℕ, zero, suc, List, [], Option}
+use Rattle.std.specs.Prelude.{ℕ, zero, suc, List, []}
 use Rattle.std.specs.Option.{unwrap_or}
 use Rattle.btree_node.specs.declared.nodes.Node.{Node}
 use Rattle.btree_node.specs.Layout.{first_layout}
