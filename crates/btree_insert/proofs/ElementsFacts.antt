@@ -1,5 +1,5 @@
 -- The elements of a tree as a function of the pages.
-use Rattle.std.proofs.Common.{◌≡◌, ℕ, zero, suc, ◌≤◌, List, [], ◌∷◌, ◌++◌, unwrap_or, refl, ap, sym, ◌∙◌}
+use Rattle.std.proofs.Common.{◌≡◌, ℕ, zero, suc, ◌≤◌, Option, List, [], ◌∷◌, ◌++◌, unwrap_or, refl, ap, sym, ◌∙◌, arith}
 use Rattle.btree_node.specs.declared.nodes.Node.{Node}
 use Rattle.btree_node.specs.Layout.{first_layout}
 use Rattle.btree_node.specs.Lists.{Element}
@@ -9,7 +9,11 @@ use Rattle.btree_node.proofs.NodeFacts.{reads, node_reads}
 use Rattle.page_store.specs.PageMap.{PageMap}
 use Rattle.btree_insert.specs.declared.trees.Tree.{Tree}
 use Rattle.btree_insert.specs.Classes.{between_trees}
-use Rattle.btree_insert.specs.Elements.{elements_below, node_of, elements_of}
+use Rattle.std.specs.FinMap.{get}
+use Rattle.rec_types.specs.Contents.{set_to}
+use Rattle.btree_insert.specs.Contents.{lookup_in, set_in, contents_of}
+use Rattle.btree_insert.specs.Elements.{elements_below, node_of, elements_of, contents_at}
+use Rattle.btree_insert.proofs.ContentsFacts.{contents_of-set, get-contents_of}
 use Rattle.btree_insert.specs.PageTrees.{Spells, Fan, TreeOf, RootOf, Holds}
 use Rattle.btree_insert.proofs.FanFacts.{Stands}
 
@@ -40,3 +44,15 @@ spelled_node k pages small p n is =
 pub held_elements : (pages : PageMap) (t : Tree) (es : List Element) (us : List ℕ) → t.order ≤ 16 → Holds pages t es us → elements_of t.order pages t.height t.root ≡ es
 held_elements pages t es us small holds =
     root_elements (Spells t.order pages) (node_of t.order pages) (spelled_node t.order pages small) t.order t.height t.root es us holds.tree
+
+-- the contents of pages after a change at one key
+pub contents_set : (old new : PageMap) (tree next : Tree) (es : List Element) (us vs key : List ℕ) (w : Option (List ℕ)) → tree.order ≤ 16 → next.order ≡ tree.order → Holds old tree es us → Holds new next (set_in key w es) vs
+    → contents_at next.order new next.height next.root ≡ set_to (contents_at tree.order old tree.height tree.root) key w
+contents_set old new tree next es us vs key w small same before after =
+    ap contents_of (held_elements new next (set_in key w es) vs (omega (arith, same, small)) after) ∙ contents_of-set es key w before.ascends
+    ∙ ap (λ (xs : List Element). set_to (contents_of xs) key w) (sym (held_elements old tree es us small before))
+
+-- and what they have at a key
+pub contents_get : (pages : PageMap) (tree : Tree) (es : List Element) (us key : List ℕ) → tree.order ≤ 16 → Holds pages tree es us → lookup_in key es ≡ get (contents_at tree.order pages tree.height tree.root) key
+contents_get pages tree es us key small holds =
+    sym (get-contents_of es key holds.ascends) ∙ ap (λ (xs : List Element). get (contents_of xs) key) (sym (held_elements pages tree es us small holds))

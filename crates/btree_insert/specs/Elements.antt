@@ -6,7 +6,9 @@ use Rattle.btree_node.specs.Layout.{first_layout}
 use Rattle.btree_node.specs.Lists.{Element}
 use Rattle.btree_node.specs.Reading.{node_at}
 use Rattle.page_store.specs.PageMap.{PageMap}
+use Rattle.rec_types.specs.Contents.{Contents}
 use Rattle.btree_insert.specs.Classes.{between_trees}
+use Rattle.btree_insert.specs.Contents.{contents_of}
 
 -- the elements below page p, through so many levels, where each page number is read as a node
 abbrev pub elements_below : (ℕ → Node) → ℕ → ℕ → List Element
@@ -21,3 +23,7 @@ node_of k pages p = node_at first_layout k (unwrap_or (pages p) [])
 -- the elements of the tree of order k with this height and root
 abbrev pub elements_of : ℕ → PageMap → ℕ → ℕ → List Element
 elements_of k pages height root = elements_below (node_of k pages) height root
+
+-- their finite map
+abbrev pub contents_at : ℕ → PageMap → ℕ → ℕ → Contents
+contents_at k pages height root = contents_of (elements_of k pages height root)

@@ -1,14 +1,15 @@
 //! What holds of the trees that contracts speak of. The functions do nothing: their contracts are the
 //! laws.
-ghost use Rattle.std.specs.Prelude.{◌≡◌, ℕ, ◌+◌, ◌-◌, ◌*◌, ◌/◌, ◌^◌, ◌≤◌, List, [], ◌∷◌, Option, length};
+ghost use Rattle.std.specs.Prelude.{◌≡◌, ℕ, ◌+◌, ◌-◌, ◌*◌, ◌/◌, ◌^◌, ◌≤◌, List, [], ◌∷◌, Option, Some, length};
 ghost use Rattle.std.specs.FinMap.{get, entries, len};
 ghost use Rattle.rec_types.specs.Contents.{set_to};
 ghost use Rattle.page_store.specs.PageMap.{PageMap, at};
 ghost use Rattle.btree_node.specs.Lists.{Element, Ascends};
 ghost use Rattle.btree_insert.specs.Classes.{BTree, in_order, StandsFor};
 ghost use Rattle.btree_insert.specs.Contents.{lookup_in, set_in, contents_of};
-ghost use Rattle.btree_insert.specs.Elements.{elements_of};
+ghost use Rattle.btree_insert.specs.Elements.{elements_of, contents_at};
 ghost use Rattle.btree_insert.specs.Examples.{ax, by, cz, tree_of, three_pages, uneven_pages, shared_pages, equal_pages};
+ghost use Rattle.btree_insert.specs.Inserted.{Inserted};
 ghost use Rattle.btree_insert.specs.PageTrees.{Holds};
 ghost use Rattle.btree_insert.specs.declared.trees.Tree.{Tree};
 
@@ -48,6 +49,20 @@ pub fn contents_of_elements()
         → Ascends (set_in key w es) }
     ensures set { (es : List Element) (key : List ℕ) (w : Option (List ℕ)) → Ascends es
         → contents_of (set_in key w es) ≡ set_to (contents_of es) key w }
+{}
+
+/// An insertion puts the record at the key of the contents that the pages hold, and answers what they
+/// had there.
+pub fn contents_after_insertion()
+    ensures contents { (old new : PageMap) (fresh : ℕ → ℕ) (taken : ℕ) (tree next : Tree)
+        → (es : List Element) (us key value : List ℕ) (before : Option (List ℕ)) → tree.order ≤ 16
+        → Holds old tree es us → Inserted old new fresh taken tree next es us key value before
+        → contents_at next.order new next.height next.root
+        ≡ set_to (contents_at tree.order old tree.height tree.root) key (Some value) }
+    ensures answer { (old new : PageMap) (fresh : ℕ → ℕ) (taken : ℕ) (tree next : Tree)
+        → (es : List Element) (us key value : List ℕ) (before : Option (List ℕ)) → tree.order ≤ 16
+        → Holds old tree es us → Inserted old new fresh taken tree next es us key value before
+        → before ≡ get (contents_at tree.order old tree.height tree.root) key }
 {}
 
 /// Trees by example: pages that hold one of height 2, and its elements; and pages that hold none,
