@@ -10,7 +10,7 @@ use Rattle.btree_node.proofs.CutFacts.{around}
 use Rattle.btree_node.proofs.OrderFacts.{Ascends-right}
 use Rattle.btree_insert.specs.declared.bounds.Bounds.{Bounds}
 use Rattle.btree_insert.specs.Bounds.{Between}
-use Rattle.btree_insert.specs.Contents.{lookup_in}
+use Rattle.btree_insert.specs.Contents.{lookup_in, set_in}
 use Rattle.btree_insert.specs.PageTrees.{IsIn, Apart, Fan, Body, TreeAt}
 use Rattle.btree_insert.proofs.BoundFacts.{Ascends-before}
 use Rattle.btree_insert.proofs.FanFacts.{Focus}
@@ -20,7 +20,6 @@ use Rattle.btree_insert.proofs.TreeFacts.{Top, find_here, find_no_more}
 use Rattle.btree_delete.specs.declared.shrinking.Shrunk.{Shrunk}
 use Rattle.btree_delete.specs.declared.shrinking.Shrunk.TheVariants.{Whole, Short}
 use Rattle.btree_delete.specs.Mending.{element_at, son_at}
-use Rattle.btree_delete.specs.Removal.{remove_in}
 use Rattle.btree_delete.specs.Shrinking.{IsThin, Settles, Loses, gone, StaysUnmet, Takes, Drops, Removes}
 use Rattle.btree_delete.specs.Tidy.{is_met, Untouched}
 use Rattle.btree_delete.proofs.KinFacts.{IsBeside, Kin, kin_short}
@@ -75,18 +74,18 @@ drop_leaf k old ws ws2 fs least height zero p es us b c n m i e g met is order l
     let us_is : us ≡ p ∷ [] = head.us_is ∙ ap (λ vs. p ∷ vs) head.body.2 in
     let loses = subst (λ (vs : List ℕ). Loses old (after old ws fs) 0 (length fs) us vs) us_is (loses_nothing old ws fs us no_writes none_freed apart) in
     let found = sym (find_here (TreeAt k old k 0) 0 n es head.below key i (element_at n i) head.body between.ascends place (get_or_default n.elements.items i ([], []) (element_at n i) within)) in
-    let es_is : remove_in key es ≡ m.elements.items = ap (remove_in key) head.body.1 ∙ remove_is_remove key n.elements.items i place ∙ sym els_is in
+    let es_is : set_in key None es ≡ m.elements.items = ap (set_in key None) head.body.1 ∙ remove_is_remove key n.elements.items i place ∙ sym els_is in
     record {
       drops = (
         found_gone k p ws ws2 e (element_at n i) m g key es done e_is found,
-        settled_leaves k old least height 0 p 0 (length fs) c ws ws2 fs us [] (remove_in key es) e m g order low thin (untouched_empty ws fs p no_writes none_freed) (kind_is ∙ head.body.0, es_is, refl) loses done,
+        settled_leaves k old least height 0 p 0 (length fs) c ws ws2 fs us [] (set_in key None es) e m g order low thin (untouched_empty ws fs p no_writes none_freed) (kind_is ∙ head.body.0, es_is, refl) loses done,
       );
       unmet = λ q unmet _. unmet;
     }
 
 -- the key of an inner page, for which the next one stands now: what is asked of the son behind it
-pub next_es : (pre xs post : List Element) (x nx : Element) (rest es : List Element) (key : List ℕ) → es ≡ pre ++ x ∷ (xs ++ post) → xs ≡ nx ∷ rest → remove_in key (pre ++ x ∷ (xs ++ post)) ≡ pre ++ (xs ++ post) → remove_in key es ≡ pre ++ nx ∷ (rest ++ post)
-next_es pre xs post x nx rest es key es_is xs_is removed = ap (remove_in key) es_is ∙ removed ∙ ap (λ (zs : List Element). pre ++ (zs ++ post)) xs_is
+pub next_es : (pre xs post : List Element) (x nx : Element) (rest es : List Element) (key : List ℕ) → es ≡ pre ++ x ∷ (xs ++ post) → xs ≡ nx ∷ rest → set_in key None (pre ++ x ∷ (xs ++ post)) ≡ pre ++ (xs ++ post) → set_in key None es ≡ pre ++ nx ∷ (rest ++ post)
+next_es pre xs post x nx rest es key es_is xs_is removed = ap (set_in key None) es_is ∙ removed ∙ ap (λ (zs : List Element). pre ++ (zs ++ post)) xs_is
 
 inner_body : (k : ℕ) (pages : PageMap) (h : ℕ) (n m : Node) (sons : List ℕ) (els es : List Element) (us : List ℕ) → n.kind ≡ Inner → m.kind ≡ n.kind → m.elements.items ≡ els → m.sons.items ≡ sons → Fan (TreeAt k pages k (suc h)) sons els es us → Body (TreeAt k pages k (suc h)) (suc h) m es us
 inner_body k pages h n m sons els es us inner kind_is els_is sons_is fan = (
@@ -114,7 +113,7 @@ next_whole k old ws ws2 fs least height h p es us b c n m i e nx g met met2 orde
     record {
       drops = (
         found_gone k p ws ws2 e (element_at n i) m g key es done e_is found,
-        settled_leaves k old least height (suc h) p 0 (length fs) c ws ws2 fs us below (remove_in key es) e m g order low thin untouched (subst (λ (zs : List Element). Body (TreeAt k mid k (suc h)) (suc h) m zs below) (sym gone_is) body) fewer done,
+        settled_leaves k old least height (suc h) p 0 (length fs) c ws ws2 fs us below (set_in key None es) e m g order low thin untouched (subst (λ (zs : List Element). Body (TreeAt k mid k (suc h)) (suc h) m zs below) (sym gone_is) body) fewer done,
       );
       unmet = λ q unmet out. took.unmet q unmet (λ is. out (below_in p us at.upre at.mine at.upost us_is q is));
     }
@@ -122,7 +121,7 @@ next_whole k old ws ws2 fs least height h p es us b c n m i e nx g met met2 orde
 pub next_broken : (k : ℕ) (old : PageMap) (ws : List (ℕ × List ℕ)) (fs : List ℕ) (least height h p : ℕ) (es : List Element) (us : List ℕ) (b : Bounds) (n m : Node) (i : ℕ) (nx : Element) (son : Node) (met met2 : List ℕ) → Apart us → (head : Top k old least height (suc h) p es us b n)
     → (at : Next (TreeAt k old k (suc h)) (Kin k old (after old ws fs) met2 h (son_at n (suc i)) son) (IsBeside old (after old ws fs) met2 (son_at n (suc i))) n.sons.items n.elements.items es head.below (element_at n i).0 i b (element_at n i))
     → Each (λ u. is_met met u ≡ false) head.below → (took : Takes k old (after old ws fs) 0 (length fs) k h (son_at n (suc i)) at.xs at.mine met met2 (Short nx son)) → m.elements.items ≡ set n.elements.items i nx → m.sons.items ≡ n.sons.items
-    → Broken k old (after old ws fs) met2 0 (length fs) h p (son_at n (suc i)) son m (remove_in (element_at n i).0 es) us
+    → Broken k old (after old ws fs) met2 0 (length fs) h p (son_at n (suc i)) son m (set_in (element_at n i).0 None es) us
 next_broken k old ws fs least height h p es us b n m i nx son met met2 apart head at unmet took els_is sons_is =
     let mid = after old ws fs in
     let s = son_at n (suc i) in
@@ -143,12 +142,12 @@ next_broken k old ws fs least height h p es us b n m i nx son met met2 apart hea
 
 -- a page whose short son was mended, where the key was found
 pub drop_mended : (k : ℕ) (old : PageMap) (ws ws2 ws3 : List (ℕ × List ℕ)) (fs fs2 : List ℕ) (least height h p s : ℕ) (es : List Element) (us : List ℕ) (c : Bounds) (F G son : Node) (e x : Element) (g : Shrunk) (met2 met3 key : List ℕ) → 1 ≤ k → least ≤ k
-    → (broken : Broken k old (after old ws fs) met2 0 (length fs) h p s son F (remove_in key es) us) → MendedSon k old (after old ws fs) (after old ws2 fs2) (length fs) (length fs2) h G (remove_in key es) met2 met3 broken.mids
+    → (broken : Broken k old (after old ws fs) met2 0 (length fs) h p s son F (set_in key None es) us) → MendedSon k old (after old ws fs) (after old ws2 fs2) (length fs) (length fs2) h G (set_in key None es) met2 met3 broken.mids
     → IsThin k height c G → G.kind ≡ Inner → Untouched ws2 fs2 p → e ≡ x → lookup_in key es ≡ Some x.1 → Settles k ws2 ws3 p e G g
     → Drops k old (after old ws3 fs2) 0 (length fs2) least (suc h) p es us key (Some g)
 drop_mended k old ws ws2 ws3 fs fs2 least height h p s es us c F G son e x g met2 met3 key order low broken mended thin inner untouched e_is found done = (
   found_gone k p ws2 ws3 e x G g key es done e_is found,
-  mended_leaves k old least height h p 0 c ws ws2 ws3 fs fs2 us broken.mids (remove_in key es) e G g order low thin inner untouched broken.loses mended.mended done,
+  mended_leaves k old least height h p 0 c ws ws2 ws3 fs fs2 us broken.mids (set_in key None es) e G g order low thin inner untouched broken.loses mended.mended done,
 )
 
 -- below a son, which needs no mending
@@ -161,8 +160,8 @@ drop_whole k old ws fs least height h p es us b n i e met met2 key apart head at
     let (found, (vs, tree, loses)) = removed.drops in
     let beside = beside_son old mid 0 (length fs) p at.upre at.mine at.upost vs (subst Apart us_is apart) loses in
     let below = at.upre ++ (vs ++ at.upost) in
-    let gone_is = ap (remove_in key) at.es_is ∙ remove-between key at.pre at.xs at.post at.below at.above in
-    let fan = at.keep beside.before beside.behind (remove_in key at.xs) vs tree in
+    let gone_is = ap (set_in key None) at.es_is ∙ remove-between key at.pre at.xs at.post at.below at.above in
+    let fan = at.keep beside.before beside.behind (set_in key None at.xs) vs tree in
     record {
       drops = (
         ap (lookup_in key) at.es_is ∙ lookup-between key at.pre at.xs at.post at.below at.above ∙ found,
@@ -190,7 +189,7 @@ drop_none k old new lo hi least height h p es us b n i met met2 key head at remo
 pub drop_broken : (k : ℕ) (old : PageMap) (ws : List (ℕ × List ℕ)) (fs : List ℕ) (least height h p : ℕ) (es : List Element) (us : List ℕ) (b : Bounds) (n : Node) (i : ℕ) (e : Element) (son : Node) (met met2 key : List ℕ) → Apart us → (head : Top k old least height (suc h) p es us b n)
     → (at : Focus (TreeAt k old k (suc h)) (Kin k old (after old ws fs) met2 h (son_at n i) son) (IsBeside old (after old ws fs) met2 (son_at n i)) n.sons.items n.elements.items es head.below key i b)
     → Each (λ u. is_met met u ≡ false) us → Removes k old (after old ws fs) 0 (length fs) k h (son_at n i) at.xs at.mine (met ++ p ∷ []) met2 key (Some (Short e son))
-    → Broken k old (after old ws fs) met2 0 (length fs) h p (son_at n i) son n (remove_in key es) us × (lookup_in key es ≡ Some e.1)
+    → Broken k old (after old ws fs) met2 0 (length fs) h p (son_at n i) son n (set_in key None es) us × (lookup_in key es ≡ Some e.1)
 drop_broken k old ws fs least height h p es us b n i e son met met2 key apart head at unmet removed =
     let mid = after old ws fs in
     let s = son_at n i in
@@ -200,8 +199,8 @@ drop_broken k old ws fs least height h p es us b n i e son met met2 key apart he
     let unmet2 = subst (Each (λ u. is_met met u ≡ false)) us_is unmet in
     let around = around_son old mid (met ++ p ∷ []) met2 0 (length fs) p s at.upre at.mine at.upost (s ∷ below) apart2 (more_met met p (at.upre ++ (at.mine ++ at.upost)) apart2.0 unmet2.1) removed.unmet (loses.left.within s (inl refl)) loses in
     let mids = at.upre ++ ((s ∷ below) ++ at.upost) in
-    let gone_is = ap (remove_in key) at.es_is ∙ remove-between key at.pre at.xs at.post at.below at.above in
-    let fan = at.keep around.before around.behind (remove_in key at.xs) (s ∷ below) (kin_short k old mid met2 h s son s (remove_in key at.xs) below refl body) in (
+    let gone_is = ap (set_in key None) at.es_is ∙ remove-between key at.pre at.xs at.post at.below at.above in
+    let fan = at.keep around.before around.behind (set_in key None at.xs) (s ∷ below) (kin_short k old mid met2 h s son s (set_in key None at.xs) below refl body) in (
       record {
         mids = mids;
         fan = subst (λ (zs : List Element). Fan (Kin k old mid met2 h s son) n.sons.items n.elements.items zs mids) (sym gone_is) fan;

@@ -1,85 +1,49 @@
 -- A list of elements without one key.
 use Rattle.std.proofs.Common.{◌≡◌, ℕ, suc, ◌+◌, Some, None, List, [], ◌∷◌, ◌++◌, length, get_or, take, drop, refl, ap, ◌∙◌, arith}
-use Rattle.std.specs.Ordering.{nat_cmp, ordering_reverse}
+use Rattle.std.specs.Ordering.{nat_cmp}
 use Rattle.std.specs.Cmp.Lexicographic.{slice_cmp}
 use Rattle.std.specs.List.{remove}
 use Rattle.std.specs.declared.cmp.Ordering.{Ordering}
 use Rattle.std.specs.declared.cmp.Ordering.TheVariants.{Less, Equal, Greater}
-use Rattle.std.proofs.lemmas.Cmp.{nat_list_cmp_total, tied_itself}
-use Rattle.btree_node.specs.Lists.{Element, Each, Below, Ascends, IsAt}
+use Rattle.btree_node.specs.Lists.{Element, Each, Below, IsAt}
 use Rattle.btree_node.proofs.CutFacts.{around}
 use Rattle.btree_insert.specs.declared.bounds.Bounds.{Bounds}
 use Rattle.btree_insert.specs.Bounds.{Over, Under, Between}
-use Rattle.btree_insert.specs.Contents.{by_order, lookup_in}
-use Rattle.btree_delete.specs.Removal.{remove_in}
+use Rattle.btree_insert.specs.Contents.{by_order, lookup_in, set_in}
+use Rattle.btree_insert.proofs.MapFacts.{greater_if_below, less_if_below, same_key, by_order-append, remove_each, remove-ascends}
 use Rattle.btree_delete.specs.Shrinking.{behind}
 
-greater_if_below : (low high : List ℕ) → Below low high → slice_cmp nat_cmp high low ≡ Greater
-unfolding Below
-greater_if_below low high below = nat_list_cmp_total.antisymm high low ∙ ap ordering_reverse below
-
-less_if_below : (low high : List ℕ) → Below low high → slice_cmp nat_cmp low high ≡ Less
-unfolding Below
-less_if_below low high below = below
-
-same_key : (x y : List ℕ) → x ≡ y → slice_cmp nat_cmp y x ≡ Equal
-same_key x y same = ap (λ (z : List ℕ). slice_cmp nat_cmp y z) same ∙ tied_itself nat_list_cmp_total y
-
-remove_after : (key : List ℕ) (pre es : List Element) → Each (λ e. Below e.0 key) pre → remove_in key (pre ++ es) ≡ pre ++ remove_in key es
+remove_after : (key : List ℕ) (pre es : List Element) → Each (λ e. Below e.0 key) pre → set_in key None (pre ++ es) ≡ pre ++ set_in key None es
 remove_after key [] es below = refl
 remove_after key (p ∷ pre) es below =
-    ap (λ o. by_order o (p ∷ (pre ++ es)) (pre ++ es) (p ∷ remove_in key (pre ++ es))) (greater_if_below p.0 key below.0) ∙ ap (λ rest. p ∷ rest) (remove_after key pre es below.1)
+    ap (λ o. by_order o (p ∷ (pre ++ es)) (pre ++ es) (p ∷ set_in key None (pre ++ es))) (greater_if_below p.0 key below.0) ∙ ap (λ rest. p ∷ rest) (remove_after key pre es below.1)
 
-pub remove_above : (key : List ℕ) (post : List Element) → Each (λ e. Below key e.0) post → remove_in key post ≡ post
+pub remove_above : (key : List ℕ) (post : List Element) → Each (λ e. Below key e.0) post → set_in key None post ≡ post
 remove_above key [] above = refl
-remove_above key (p ∷ post) above = ap (λ o. by_order o (p ∷ post) post (p ∷ remove_in key post)) (less_if_below key p.0 above.0)
+remove_above key (p ∷ post) above = ap (λ o. by_order o (p ∷ post) post (p ∷ set_in key None post)) (less_if_below key p.0 above.0)
 
-by_order-append : (o : Ordering) (xs ys zs post : List Element) → by_order o (xs ++ post) (ys ++ post) (zs ++ post) ≡ by_order o xs ys zs ++ post
-by_order-append Less xs ys zs post = refl
-by_order-append Equal xs ys zs post = refl
-by_order-append Greater xs ys zs post = refl
-
-remove_before : (key : List ℕ) (es post : List Element) → Each (λ e. Below key e.0) post → remove_in key (es ++ post) ≡ remove_in key es ++ post
+remove_before : (key : List ℕ) (es post : List Element) → Each (λ e. Below key e.0) post → set_in key None (es ++ post) ≡ set_in key None es ++ post
 remove_before key [] post above = remove_above key post above
 remove_before key (e ∷ es) post above =
     ap (λ rest. by_order (slice_cmp nat_cmp key e.0) (e ∷ (es ++ post)) (es ++ post) (e ∷ rest)) (remove_before key es post above)
-    ∙ by_order-append (slice_cmp nat_cmp key e.0) (e ∷ es) es (e ∷ remove_in key es) post
+    ∙ by_order-append (slice_cmp nat_cmp key e.0) (e ∷ es) es (e ∷ set_in key None es) post
 
 -- smaller and greater keys stay
-pub remove-between : (key : List ℕ) (pre es post : List Element) → Each (λ e. Below e.0 key) pre → Each (λ e. Below key e.0) post → remove_in key (pre ++ (es ++ post)) ≡ pre ++ (remove_in key es ++ post)
+pub remove-between : (key : List ℕ) (pre es post : List Element) → Each (λ e. Below e.0 key) pre → Each (λ e. Below key e.0) post → set_in key None (pre ++ (es ++ post)) ≡ pre ++ (set_in key None es ++ post)
 remove-between key pre es post below above =
     remove_after key pre (es ++ post) below ∙ ap (λ rest. pre ++ rest) (remove_before key es post above)
 
 -- the key itself goes
-pub remove-here : (key : List ℕ) (pre : List Element) (x : Element) (post : List Element) → Each (λ e. Below e.0 key) pre → x.0 ≡ key → remove_in key (pre ++ x ∷ post) ≡ pre ++ post
+pub remove-here : (key : List ℕ) (pre : List Element) (x : Element) (post : List Element) → Each (λ e. Below e.0 key) pre → x.0 ≡ key → set_in key None (pre ++ x ∷ post) ≡ pre ++ post
 remove-here key pre x post below here =
-    remove_after key pre (x ∷ post) below ∙ ap (λ o. pre ++ by_order o (x ∷ post) post (x ∷ remove_in key post)) (same_key x.0 key here)
+    remove_after key pre (x ∷ post) below ∙ ap (λ o. pre ++ by_order o (x ∷ post) post (x ∷ set_in key None post)) (same_key x.0 key here)
 
 -- in a page the key goes from its place
-pub remove_is_remove : (key : List ℕ) (els : List Element) (i : ℕ) → IsAt els key i → remove_in key els ≡ remove els i
+pub remove_is_remove : (key : List ℕ) (els : List Element) (i : ℕ) → IsAt els key i → set_in key None els ≡ remove els i
 remove_is_remove key els i place =
-    ap (remove_in key) (around i els ([], []) place.within) ∙ remove-here key (take i els) (get_or els i ([], [])) (drop (suc i) els) place.below (place.here ([], []))
+    ap (set_in key None) (around i els ([], []) place.within) ∙ remove-here key (take i els) (get_or els i ([], [])) (drop (suc i) els) place.below (place.here ([], []))
 
-remove_each_by : (P : Element → Type 0) (e : Element) (es rest : List Element) → Each P (e ∷ es) → Each P rest → (o : Ordering) → Each P (by_order o (e ∷ es) es (e ∷ rest))
-remove_each_by P e es rest each later Less = each
-remove_each_by P e es rest each later Equal = each.1
-remove_each_by P e es rest each later Greater = (each.0, later)
-
-pub remove_each : (P : Element → Type 0) (key : List ℕ) (es : List Element) → Each P es → Each P (remove_in key es)
-remove_each P key [] each = tt
-remove_each P key (e ∷ es) each = remove_each_by P e es (remove_in key es) each (remove_each P key es each.1) (slice_cmp nat_cmp key e.0)
-
-remove_ascends_by : (key : List ℕ) (e : Element) (es : List Element) → Ascends (e ∷ es) → Ascends (remove_in key es) → (o : Ordering) → Ascends (by_order o (e ∷ es) es (e ∷ remove_in key es))
-remove_ascends_by key e es up rest Less = up
-remove_ascends_by key e es up rest Equal = up.1
-remove_ascends_by key e es up rest Greater = (remove_each (λ later. Below e.0 later.0) key es up.0, rest)
-
--- the order stays
-pub remove-ascends : (key : List ℕ) (es : List Element) → Ascends es → Ascends (remove_in key es)
-remove-ascends key [] up = tt
-remove-ascends key (e ∷ es) up = remove_ascends_by key e es up (remove-ascends key es up.1) (slice_cmp nat_cmp key e.0)
-
-pub remove-between_bounds : (b : Bounds) (key : List ℕ) (es : List Element) → Between b es → Between b (remove_in key es)
+pub remove-between_bounds : (b : Bounds) (key : List ℕ) (es : List Element) → Between b es → Between b (set_in key None es)
 remove-between_bounds b key es is = record {
   ascends = remove-ascends key es is.ascends;
   within = record {
@@ -94,9 +58,9 @@ remove_length_by e es rest x key Less found step = absurd (cc)
 remove_length_by e es rest x key Equal found step = omega arith
 remove_length_by e es rest x key Greater found step = omega (arith, step found)
 
-pub remove-length : (key : List ℕ) (es : List Element) (x : List ℕ) → lookup_in key es ≡ Some x → length (remove_in key es) + 1 ≡ length es
+pub remove-length : (key : List ℕ) (es : List Element) (x : List ℕ) → lookup_in key es ≡ Some x → length (set_in key None es) + 1 ≡ length es
 remove-length key [] x found = absurd (cc)
-remove-length key (e ∷ es) x found = remove_length_by e es (remove_in key es) x key (slice_cmp nat_cmp key e.0) found (λ later. remove-length key es x later)
+remove-length key (e ∷ es) x found = remove_length_by e es (set_in key None es) x key (slice_cmp nat_cmp key e.0) found (λ later. remove-length key es x later)
 
 remove_absent_by : (e : Element) (es rest : List Element) (key : List ℕ) (o : Ordering) → by_order o None (Some e.1) (lookup_in key es) ≡ None → (lookup_in key es ≡ None → rest ≡ es) → by_order o (e ∷ es) es (e ∷ rest) ≡ e ∷ es
 remove_absent_by e es rest key Less none step = refl
@@ -104,9 +68,9 @@ remove_absent_by e es rest key Equal none step = absurd (cc)
 remove_absent_by e es rest key Greater none step = ap (λ (zs : List Element). e ∷ zs) (step none)
 
 -- nothing goes where the key was not there
-pub remove-absent : (key : List ℕ) (es : List Element) → lookup_in key es ≡ None → remove_in key es ≡ es
+pub remove-absent : (key : List ℕ) (es : List Element) → lookup_in key es ≡ None → set_in key None es ≡ es
 remove-absent key [] none = refl
-remove-absent key (e ∷ es) none = remove_absent_by e es (remove_in key es) key (slice_cmp nat_cmp key e.0) none (λ later. remove-absent key es later)
+remove-absent key (e ∷ es) none = remove_absent_by e es (set_in key None es) key (slice_cmp nat_cmp key e.0) none (λ later. remove-absent key es later)
 
 -- what is left behind the first element
 pub between_behind : (b : Bounds) (e : Element) (es : List Element) → Between b (e ∷ es) → Between (behind e b) es

@@ -10,24 +10,24 @@ use Rattle.btree_node.specs.Lists.{Element, Each}
 use Rattle.btree_node.specs.Spelling.{spelling, SonsFit}
 use Rattle.btree_insert.specs.declared.bounds.Bounds.{Bounds}
 use Rattle.btree_insert.specs.declared.trees.Tree.{Tree}
-use Rattle.btree_insert.specs.Contents.{lookup_in}
+use Rattle.btree_insert.specs.Contents.{lookup_in, set_in}
 use Rattle.btree_insert.specs.PageTrees.{IsIn, Fan, Body, TreeAt, RootAt, Holds}
 use Rattle.btree_insert.proofs.GrowFacts.{body_move, tree_move}
 use Rattle.btree_insert.proofs.Membership.{each_in}
 use Rattle.btree_insert.proofs.SettleFacts.{write_here, write_other}
 use Rattle.btree_delete.specs.declared.shrinking.Shrunk.TheVariants.{Whole, Short}
 use Rattle.btree_delete.specs.Deleted.{Deleted}
-use Rattle.btree_delete.specs.Removal.{remove_in}
 use Rattle.btree_delete.specs.Shrinking.{IsThin, Loses, Leaves, ShrinksRoot}
 use Rattle.btree_delete.specs.Tidy.{is_met, Untouched, IsTidy}
 use Rattle.btree_delete.proofs.AfterFacts.{after_write, after_free, free_page, free_here, free_other}
 use Rattle.btree_delete.proofs.LeftFacts.{left_write, left_trans, left_drop}
-use Rattle.btree_delete.proofs.RemoveFacts.{remove-ascends, remove-length, remove-absent}
+use Rattle.btree_insert.proofs.MapFacts.{remove-ascends}
+use Rattle.btree_delete.proofs.RemoveFacts.{remove-length, remove-absent}
 use Rattle.btree_delete.proofs.ShortFacts.{thin_stands}
 use Rattle.btree_delete.proofs.TidyFacts.{tidy_write, tidy_free}
 
 -- the parts that make a deletion
-pub deleted_by : (old new : PageMap) (tree next : Tree) (es : List Element) (us vs : List ℕ) (key x : List ℕ) (hi : ℕ) → Holds old tree es us → lookup_in key es ≡ Some x → RootAt next.order new next.height next.root (remove_in key es) vs → Loses old new 0 hi us vs
+pub deleted_by : (old new : PageMap) (tree next : Tree) (es : List Element) (us vs : List ℕ) (key x : List ℕ) (hi : ℕ) → Holds old tree es us → lookup_in key es ≡ Some x → RootAt next.order new next.height next.root (set_in key None es) vs → Loses old new 0 hi us vs
     → next.order ≡ tree.order → next.count + 1 ≡ tree.count → next.used + hi ≡ tree.used → Deleted old new tree next es us key (Some x)
 deleted_by old new tree next es us vs key x hi holds found root loses order count used = record {
   vs = vs;
@@ -174,7 +174,7 @@ shrank_whole old tree ws fs us es e height (vs, top, loses) =
     }
 
 -- the tree after a deletion
-pub shrank_deleted : (old new : PageMap) (tree shrunk next : Tree) (es : List Element) (us : List ℕ) (key x : List ℕ) (hi : ℕ) → Holds old tree es us → lookup_in key es ≡ Some x → Shrank old new tree shrunk hi (remove_in key es) us → 1 ≤ shrunk.count → hi ≤ shrunk.used
+pub shrank_deleted : (old new : PageMap) (tree shrunk next : Tree) (es : List Element) (us : List ℕ) (key x : List ℕ) (hi : ℕ) → Holds old tree es us → lookup_in key es ≡ Some x → Shrank old new tree shrunk hi (set_in key None es) us → 1 ≤ shrunk.count → hi ≤ shrunk.used
     → next ≡ record shrunk { count = shrunk.count - 1; used = shrunk.used - hi } → Deleted old new tree next es us key (Some x)
 shrank_deleted old new tree shrunk next es us key x hi holds found shrank some few next_is =
     let smaller : Tree = record shrunk { count = shrunk.count - 1; used = shrunk.used - hi } in
@@ -182,7 +182,7 @@ shrank_deleted old new tree shrunk next es us key x hi holds found shrank some f
     (deleted_by old new tree smaller es us shrank.left.vs key x hi holds found shrank.left.tree shrank.left.loses shrank.order (omega (arith, some, shrank.count)) (omega (arith, few, shrank.used)))
 
 -- which can't fail
-pub shrank_enough : {P : Type 0} (old new : PageMap) (tree shrunk : Tree) (es : List Element) (us : List ℕ) (key x : List ℕ) (hi : ℕ) → Holds old tree es us → lookup_in key es ≡ Some x → Shrank old new tree shrunk hi (remove_in key es) us → (shrunk.count ≡ 0) ⊎ (shrunk.used < hi) → P
+pub shrank_enough : {P : Type 0} (old new : PageMap) (tree shrunk : Tree) (es : List Element) (us : List ℕ) (key x : List ℕ) (hi : ℕ) → Holds old tree es us → lookup_in key es ≡ Some x → Shrank old new tree shrunk hi (set_in key None es) us → (shrunk.count ≡ 0) ⊎ (shrunk.used < hi) → P
 shrank_enough old new tree shrunk es us key x hi holds found shrank fault =
     ⊎_elim (λ (none : shrunk.count ≡ 0). absurd (omega (arith, none, shrank.count, holds.count, remove-length key es x found))) (λ (less : shrunk.used < hi). absurd (omega (arith, less, shrank.used, holds.used, shrank.left.loses.count))) fault
 

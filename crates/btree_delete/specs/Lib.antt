@@ -1,4 +1,3 @@
-pub mod Removal
 pub mod Left
 pub mod Deleted
 pub mod Tidy

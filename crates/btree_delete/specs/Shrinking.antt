@@ -2,26 +2,24 @@
 use Rattle.std.specs.Prelude.{◌≡◌, ℕ, suc, ◌+◌, ◌-◌, ◌*◌, ◌<◌, ◌≤◌, false, List, [], ◌∷◌, ◌++◌, length, Option, Some, None, slice_index_or}
 use Rattle.page_store.specs.PageMap.{PageMap}
 use Rattle.btree_node.specs.declared.nodes.Node.{Node}
-use Rattle.btree_node.specs.Layout.{first_layout}
 use Rattle.btree_node.specs.Lists.{Element, Each, Ascends}
-use Rattle.btree_node.specs.Spelling.{spelling, ElementFits, SonsFit}
+use Rattle.btree_node.specs.Spelling.{spelling, IsElement, SonsFit}
 use Rattle.btree_insert.specs.declared.bounds.Bounds.{Bounds}
 use Rattle.btree_insert.specs.declared.trees.Tree.{Tree}
 use Rattle.btree_insert.specs.Bounds.{AreWithin}
-use Rattle.btree_insert.specs.Contents.{lookup_in}
+use Rattle.btree_insert.specs.Contents.{lookup_in, set_in}
 use Rattle.btree_insert.specs.Growth.{IsWithin}
 use Rattle.btree_insert.specs.PageTrees.{IsIn, Body, TreeAt, kind_of_level}
 use Rattle.btree_delete.specs.declared.shrinking.Shrunk.{Shrunk}
 use Rattle.btree_delete.specs.declared.shrinking.Shrunk.TheVariants.{Whole, Short}
 use Rattle.btree_delete.specs.Left.{Left}
-use Rattle.btree_delete.specs.Removal.{remove_in}
 use Rattle.btree_delete.specs.Tidy.{is_met, Untouched}
 
 -- a node of a level, within bounds, that fits a page but for the least number of keys
 pub record IsThin (k height : ℕ) (bounds : Bounds) (n : Node) : Type 0 where
   pub kind : n.kind ≡ kind_of_level height
   pub most : length n.elements.items ≤ 2 * k
-  pub fit : Each (ElementFits first_layout) n.elements.items
+  pub fit : Each (IsElement) n.elements.items
   pub ascends : Ascends n.elements.items
   pub within : AreWithin bounds n.elements.items
   pub sons : SonsFit n.kind (length n.elements.items) n.sons.items
@@ -45,9 +43,9 @@ GoesUp k height bounds n writes freed (Short e node) =
 
 -- the same, where the first element was taken: what is left is behind it
 abbrev pub GoesUpBehind : ℕ → ℕ → Bounds → ℕ → List (ℕ × List ℕ) → List ℕ → Shrunk → Type 0
-GoesUpBehind k height bounds n writes freed (Whole e) = ElementFits first_layout e × IsWithin bounds e.0
+GoesUpBehind k height bounds n writes freed (Whole e) = IsElement e × IsWithin bounds e.0
 GoesUpBehind k height bounds n writes freed (Short e node) =
-    ElementFits first_layout e × IsWithin bounds e.0 × IsThin k height (behind e bounds) node × (length node.elements.items < k) × Untouched writes freed n
+    IsElement e × IsWithin bounds e.0 × IsThin k height (behind e bounds) node × (length node.elements.items < k) × Untouched writes freed n
 
 -- the tree below page p lost some pages: lo numbers were freed before, hi are freed now
 pub record Loses (old new : PageMap) (lo hi : ℕ) (us vs : List ℕ) : Type 0 where
@@ -81,7 +79,7 @@ pub record Takes (k : ℕ) (old new : PageMap) (lo hi least h p : ℕ) (es : Lis
 abbrev pub Drops : ℕ → PageMap → PageMap → ℕ → ℕ → ℕ → ℕ → ℕ → List Element → List ℕ → List ℕ → Option Shrunk → Type 0
 Drops k old new lo hi least h p es us key None = lookup_in key es ≡ None
 Drops k old new lo hi least h p es us key (Some g) =
-    (lookup_in key es ≡ Some (gone g).1) × Leaves k old new lo hi least h p us (remove_in key es) g
+    (lookup_in key es ≡ Some (gone g).1) × Leaves k old new lo hi least h p us (set_in key None es) g
 
 -- the same, and only pages below page p were met
 pub record Removes (k : ℕ) (old new : PageMap) (lo hi least h p : ℕ) (es : List Element) (us met met' : List ℕ) (key : List ℕ) (g : Option Shrunk) : Type 0 where

@@ -5,11 +5,10 @@ ghost use Rattle.btree_node.specs.Lists.{Element};
 ghost use Rattle.btree_insert.specs.Faults.{is_device};
 ghost use Rattle.btree_insert.specs.Growth.{IsOutside};
 ghost use Rattle.btree_insert.specs.PageTrees.{Holds};
-ghost use Rattle.btree_insert.specs.Contents.{lookup_in};
+ghost use Rattle.btree_insert.specs.Contents.{lookup_in, set_in};
 ghost use Rattle.page_store.specs.CanStage.{CanStage};
 ghost use Rattle.btree_delete.specs.Deleted.{Deleted};
 ghost use Rattle.btree_delete.specs.Mending.{son_at};
-ghost use Rattle.btree_delete.specs.Removal.{remove_in};
 ghost use Rattle.btree_delete.specs.Shrinking.{IsThin, GoesUp, Leaves, ShrinksRoot, gone};
 ghost use Rattle.btree_insert.specs.declared.bounds.Bounds.{Bounds};
 ghost use Rattle.btree_delete.specs.Tidy.{is_met, IsTidy};
@@ -96,7 +95,7 @@ fn shrink_tree<S: Store>(
     ensures deleted { (es : List Element) (us key : List ℕ) → Holds (at pages.now.pages) tree.now es us
         → lookup_in key es ≡ Some (gone shrunk).1
         → Leaves tree.now.order (at pages.now.pages) (after (at pages.now.pages) edit.old.writes.items edit.old.freed.items)
-        0 (length edit.old.freed.items) 1 (tree.now.height - 1) tree.now.root us (remove_in key es) shrunk
+        0 (length edit.old.freed.items) 1 (tree.now.height - 1) tree.now.root us (set_in key None es) shrunk
         → MatchResult result
         (λ r. Deleted (at pages.now.pages) (after (at pages.now.pages) edit.new.writes.items edit.new.freed.items)
         tree.now r.0 es us key r.1)
@@ -152,7 +151,9 @@ pub fn delete<S: Store>(
     ensures count { IfOk result (λ r. r.0.count ≤ tree.now.count) }
     ensures used { IfOk result (λ r. r.0.used ≤ tree.now.used) }
     ensures order { IfOk result (λ r. r.0.order ≡ tree.now.order) }
-    ensures absent { IfOk result (λ r. r.1 ≡ None → (r.0 ≡ tree.now) × (pages.new.pages ≡ pages.old.pages) × (pages.new.changed ≡ pages.old.changed)) }
+    ensures absent { IfOk result (λ r. r.1 ≡ None → (r.0 ≡ tree.now)
+        × (pages.new.pages ≡ pages.old.pages) × (pages.new.changed ≡ pages.old.changed)) }
+    ensures changed { IfOk result (λ r. IsSome r.1 → pages.new.changed ≡ true) }
     ensures page_count { length pages.new.pages ≡ length pages.old.pages }
     ensures device { pages.new.failures ≡ counted pages.old.failures (is_device result) }
     ensures err { OnErr result (pages.new

@@ -2,6 +2,7 @@
 #![tactic(auto)]
 
 mod deleting;
+pub mod laws;
 mod mending;
 mod shrinking;
 #[cfg(test)]

@@ -3,9 +3,8 @@ ghost use Rattle.rec_types.specs.Table.{counted};
 ghost use Rattle.page_store.specs.PageMap.{at};
 ghost use Rattle.btree_node.specs.declared.nodes.Node.{Node};
 ghost use Rattle.btree_node.specs.Joined.{AreBrothers};
-ghost use Rattle.btree_node.specs.Layout.{first_layout};
 ghost use Rattle.btree_node.specs.Lists.{Each};
-ghost use Rattle.btree_node.specs.Spelling.{ElementFits};
+ghost use Rattle.btree_node.specs.Spelling.{IsElement};
 ghost use Rattle.btree_insert.specs.Bounds.{AreWithin, son_bounds};
 ghost use Rattle.btree_insert.specs.Faults.{is_device};
 ghost use Rattle.btree_insert.specs.Growth.{IsOutside};
@@ -58,7 +57,7 @@ fn mend_pair(
     requires place { i < length father.old.elements.items }
     requires sons { length father.old.sons.items ≡ length father.old.elements.items + 1 }
     requires brothers { AreBrothers left (element_at father.old i) right }
-    requires fit { Each (ElementFits first_layout) (both father.old i left right).elements.items }
+    requires fit { Each (IsElement) (both father.old i left right).elements.items }
     requires left_most { length left.elements.items ≤ 2 * order }
     requires right_most { length right.elements.items ≤ 2 * order }
     ensures mends { OnOk result (Mends order father.old father.new i left right

@@ -27,7 +27,7 @@ fn new_pages(alloc: Global) -> Result<Pages<MemStore>, Fail> {
     Ok(Pages::new(alloc, MemStore::new(pages, 0), 1, BTreeSet::new(alloc)))
 }
 
-/// Puts the record v at a key, once more where memory was refused.
+/// Puts a record that is the key at a key, once more where memory was refused.
 fn put<S: Store>(
     rt: &impl Abort,
     alloc: Global,
@@ -35,8 +35,8 @@ fn put<S: Store>(
     tree: &Tree,
     key: &[u8],
 ) -> Result<Tree, Fail> {
+    let value = Record::new(key)?;
     let key = Key::new(key)?;
-    let value = Record::new(b"v")?;
     assert!(rt; 1 <= tree.order && tree.order <= 16 && tree.height <= 19);
     assert!(rt; tree.count <= 1_000_000 && tree.used <= 1_000_000);
     match insert(alloc, pages, tree, key, value) {
@@ -45,7 +45,7 @@ fn put<S: Store>(
     }
 }
 
-/// A tree with the record v at each of the keys of one byte.
+/// A tree with these keys of one byte, and each as its own record.
 fn tree_of<S: Store>(
     rt: &impl Abort,
     alloc: Global,
@@ -80,7 +80,7 @@ fn delete_again<S: Store>(
     }
 }
 
-/// Takes a key out that has the record v.
+/// Takes a key out, whose record is the key.
 fn take<S: Store>(
     rt: &impl Abort,
     alloc: Global,
@@ -89,11 +89,11 @@ fn take<S: Store>(
     key: &[u8],
 ) -> Result<Tree, Fail> {
     let (next, old) = delete_again(rt, alloc, pages, tree, &Key::new(key)?)?;
-    assert!(rt; old == Some(Record::new(b"v")?));
+    assert!(rt; old == Some(Record::new(key)?));
     Ok(next)
 }
 
-/// Looks at a page: its kind, its keys and its sons.
+/// Looks at a page: its kind, its keys, each of which is its own record, and its sons.
 fn check_page<S: Store>(
     rt: &impl Abort,
     pages: &mut Pages<S>,
@@ -110,7 +110,7 @@ fn check_page<S: Store>(
     assert_eq!(rt; node.kind, kind);
     assert_eq!(rt; node.elements.len(), keys.len());
     for (element, key) in node.elements.as_slice().iter().zip(keys) {
-        assert!(rt; element.0 == Key::new(&[*key])?);
+        assert!(rt; *element == (Key::new(&[*key])?, Record::new(&[*key])?));
     }
     assert_eq!(rt; node.sons.as_slice(), sons);
     Ok(())
@@ -135,7 +135,39 @@ fn pages_are_levelled_and_catenated(rt: HostRuntime) -> Result<(), Fail> {
         (1, 1, 4, 1)
     );
     assert_eq!(rt; (pages.page_count(), pages.free_count()), (4, 2));
+    tree = put(&rt, rt.alloc(), &mut pages, &tree, b"h")?;
+    check_page(&rt, &mut pages, 2, 1, NodeKind::Leaf, b"de", &[])?;
+    check_page(&rt, &mut pages, 2, 2, NodeKind::Leaf, b"gh", &[])?;
+    check_page(&rt, &mut pages, 2, 3, NodeKind::Inner, b"f", &[1, 2])?;
+    assert_eq!(rt; (tree.root, tree.height, tree.used), (3, 2, 3));
+    assert_eq!(rt; (pages.page_count(), pages.free_count()), (4, 0));
     Ok(())
+}
+
+/// Takes a key out of the tree of order 1 with the keys a to e, whose leaves a, c and e are the pages
+/// 1, 2 and 4 below page 3, and looks at the root, and at a leaf that has two keys then.
+fn check_brother(
+    rt: &impl Abort,
+    alloc: Global,
+    key: u8,
+    root: u8,
+    sons: &[u32],
+    leaf: u32,
+    keys: &[u8],
+) -> Result<(), Fail> {
+    let mut pages = new_pages(alloc)?;
+    let tree = tree_of(rt, alloc, &mut pages, 1, b"abcde")?;
+    let tree = take(rt, alloc, &mut pages, &tree, &[key])?;
+    assert_eq!(rt; (tree.root, tree.height, tree.used), (3, 2, 3));
+    check_page(rt, &mut pages, 1, 3, NodeKind::Inner, &[root], sons)?;
+    check_page(rt, &mut pages, 1, leaf, NodeKind::Leaf, keys, &[])
+}
+
+#[test]
+fn a_short_page_takes_the_brother_on_its_right(rt: HostRuntime) -> Result<(), Fail> {
+    check_brother(&rt, rt.alloc(), b'a', b'd', &[1, 4], 1, b"bc")?;
+    check_brother(&rt, rt.alloc(), b'c', b'b', &[1, 2], 2, b"de")?;
+    check_brother(&rt, rt.alloc(), b'e', b'b', &[1, 2], 2, b"cd")
 }
 
 #[test]
@@ -166,7 +198,8 @@ fn an_absent_key_changes_nothing(rt: HostRuntime) -> Result<(), Fail> {
     Ok(())
 }
 
-/// Looks that the tree has count keys, which ascend, in its pages and no others.
+/// Looks that the tree has count keys, which ascend and are their own records, in its pages and no
+/// others.
 fn check_tree<S: Store>(
     rt: &impl Abort,
     alloc: Global,
@@ -184,6 +217,7 @@ fn check_tree<S: Store>(
     let keys = elements.as_slice();
     for i in 1..keys.len() {
         assert!(rt; keys[i - 1].0 < keys[i].0);
+        assert_eq!(rt; keys[i].1.bytes(), keys[i].0.bytes());
     }
     assert_eq!(rt;
         pages.page_count() - 1,
@@ -269,4 +303,88 @@ fn pages_that_are_no_tree(rt: HostRuntime) -> Result<(), Fail> {
     check_damaged(&rt, rt.alloc(), &mut pages, &none, b'a', 3)?;
     let few = Tree { used: 1, ..tree };
     check_damaged(&rt, rt.alloc(), &mut pages, &few, b'a', 3)
+}
+
+/// A page of order 1 with one key, which is its own record, and these sons.
+fn page_of(kind: u8, key: u8, left: u8, right: u8) -> [u8; 4096] {
+    let mut page = [0; 4096];
+    page[0] = kind;
+    page[3] = 1;
+    page[8] = 1;
+    page[9] = key;
+    page[25] = 1;
+    page[26] = key;
+    page[111] = left;
+    page[115] = right;
+    page
+}
+
+/// A store of four pages, of which the last three are these.
+fn four_pages(
+    rt: &impl Abort,
+    alloc: Global,
+    three: &[[u8; 4096]; 3],
+) -> Result<Pages<MemStore>, Fail> {
+    let mut pages = Vec::new(alloc);
+    for page in [page_of(0, 0, 0, 0), three[0], three[1], three[2]] {
+        if pages.push(page).is_err() {
+            pages.push(page)?;
+        }
+    }
+    assert!(rt; pages.len() == 4);
+    Ok(Pages::new(alloc, MemStore::new(pages, 0), 4, BTreeSet::new(alloc)))
+}
+
+/// Looks that the deletion of a key finds this page damaged, in a tree of order 1 of three pages.
+fn check_row(
+    rt: &impl Abort,
+    alloc: Global,
+    three: &[[u8; 4096]; 3],
+    root: u32,
+    height: u32,
+    key: u8,
+    n: u32,
+) -> Result<(), Fail> {
+    let mut pages = four_pages(rt, alloc, three)?;
+    let tree = Tree {
+        order: 1,
+        root,
+        height,
+        count: 3,
+        used: 3,
+    };
+    check_damaged(rt, alloc, &mut pages, &tree, key, n)
+}
+
+const NO_NODE: u8 = 9;
+
+const LEAF: u8 = 1;
+
+const INNER: u8 = 2;
+
+#[test]
+fn damaged_pages_on_the_path(rt: HostRuntime) -> Result<(), Fail> {
+    let (a, c) = (page_of(LEAF, b'a', 0, 0), page_of(LEAF, b'c', 0, 0));
+    let (none, root) = (page_of(NO_NODE, b'a', 0, 0), page_of(INNER, b'b', 1, 2));
+    check_row(&rt, rt.alloc(), &[none, c, root], 3, 2, b'a', 1)?;
+    check_row(&rt, rt.alloc(), &[none, c, root], 1, 1, b'a', 1)?;
+    check_row(&rt, rt.alloc(), &[c, c, root], 3, 2, b'a', 1)?;
+    check_row(&rt, rt.alloc(), &[a, a, root], 3, 2, b'c', 2)?;
+    check_row(&rt, rt.alloc(), &[root, c, root], 3, 2, b'a', 1)?;
+    check_row(&rt, rt.alloc(), &[a, c, root], 3, 1, b'a', 3)
+}
+
+#[test]
+fn damaged_brothers(rt: HostRuntime) -> Result<(), Fail> {
+    let (a, c) = (page_of(LEAF, b'a', 0, 0), page_of(LEAF, b'c', 0, 0));
+    let (none, root) = (page_of(NO_NODE, b'a', 0, 0), page_of(INNER, b'b', 1, 2));
+    check_row(&rt, rt.alloc(), &[a, none, root], 3, 2, b'a', 2)?;
+    check_row(&rt, rt.alloc(), &[none, c, root], 3, 2, b'c', 1)?;
+    check_row(&rt, rt.alloc(), &[a, a, root], 3, 2, b'a', 2)?;
+    check_row(&rt, rt.alloc(), &[c, c, root], 3, 2, b'c', 1)?;
+    check_row(&rt, rt.alloc(), &[a, root, root], 3, 2, b'a', 2)?;
+    let twice = page_of(INNER, b'b', 1, 1);
+    check_row(&rt, rt.alloc(), &[a, c, twice], 3, 2, b'a', 1)?;
+    let unused = page_of(INNER, b'b', 1, 7);
+    check_row(&rt, rt.alloc(), &[a, c, unused], 3, 2, b'a', 7)
 }

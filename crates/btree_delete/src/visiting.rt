@@ -1,4 +1,4 @@
-ghost use Rattle.std.specs.Prelude.{◌≡◌, ◌+◌, ◌<◌, ◌≤◌, ◌∷◌, ◌++◌, [], ℕ, false, length, IsTrue, IsSome, IfOk, OnOk, MatchResult};
+ghost use Rattle.std.specs.Prelude.{◌≡◌, ◌+◌, ◌<◌, ◌≤◌, ◌⊎◌, ◌∷◌, ◌++◌, [], ℕ, false, length, IsTrue, IsSome, IfOk, IfErr, OnOk, MatchResult};
 ghost use Rattle.rec_types.specs.Table.{counted};
 ghost use Rattle.page_store.specs.PageMap.{at};
 ghost use Rattle.btree_node.specs.declared.nodes.Node.{Node};
@@ -26,10 +26,12 @@ pub(crate) fn visit<S: Store>(
 ) -> Result<Node, TreeFault>
     requires order { order ≤ 16 }
     requires room { length met.old.items < 37 }
-    ensures exact { IsTrue pages.old.steady → (node : Node) → Spells order (at pages.old.pages) n node
-        → node.kind ≡ kind_of_level level → AreWithin bounds.now node.elements.items
+    ensures exact { IsTrue pages.old.steady → (node : Node)
+        → Spells order (at pages.old.pages) n node → node.kind ≡ kind_of_level level → AreWithin bounds.now node.elements.items
         → is_met met.old.items n ≡ false
         → MatchResult result (λ r. r ≡ node) (λ fault. fault ≡ TreeFault.Device) }
+    ensures fault { IfErr result
+        (λ fault. (fault ≡ TreeFault.Device) ⊎ (fault ≡ TreeFault.Damaged n)) }
     ensures some { IfOk result (λ node. 0 < length node.elements.items) }
     ensures stands { IfOk result (IsThin order level bounds.now) }
     ensures met { OnOk result (met.new.items ≡ met.old.items ++ n ∷ []) }

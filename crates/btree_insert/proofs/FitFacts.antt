@@ -1,5 +1,5 @@
 -- Which writes an edit may have, and which nodes can stand after an insertion.
-use Rattle.std.proofs.Common.{◌≡◌, ℕ, zero, suc, ◌+◌, ◌^◌, ◌<◌, ◌≤◌, ◌⊎◌, ⊎_elim, inl, inr, Bool, true, false, ◌||◌, eqb, Option, IsSome, List, [], ◌∷◌, ◌++◌, length, get_or, set, take, drop, refl, ap, sym, ◌∙◌, subst, arith, eq-eqb}
+use Rattle.std.proofs.Common.{◌≡◌, ℕ, zero, suc, ◌+◌, ◌^◌, ◌<◌, ◌≤◌, ◌⊎◌, ⊎_elim, inl, inr, Bool, true, false, ◌||◌, eqb, Option, IsSome, List, [], ◌∷◌, ◌++◌, length, get_or, set, take, drop, refl, ap, sym, ◌∙◌, subst, arith, eq-eqb, Some}
 use Rattle.std.specs.List.{AllByRecursion, list_any, insert}
 use Rattle.std.proofs.lemmas.List.{take-append-drop}
 use Rattle.std.proofs.lemmas.List.Folds.{list_any-append}
@@ -17,7 +17,7 @@ use Rattle.btree_insert.specs.declared.bounds.Bounds.{Bounds}
 use Rattle.btree_insert.specs.declared.growing.Grown.{Grown}
 use Rattle.btree_insert.specs.declared.growing.Grown.TheVariants.{Replaced, Fits, Split}
 use Rattle.btree_insert.specs.Bounds.{Over, Under, AreWithin}
-use Rattle.btree_insert.specs.Contents.{put_in}
+use Rattle.btree_insert.specs.Contents.{set_in}
 use Rattle.btree_insert.specs.Growth.{IsWithin, IsLoose, WritesFit, Takes, GoesUp}
 use Rattle.btree_insert.proofs.MapFacts.{put-none, put-ascends}
 
@@ -80,8 +80,8 @@ Each-set P (y ∷ ys) zero x each new = (new, each.1)
 Each-set P (y ∷ ys) (suc i) x each new = (each.0, Each-set P ys i x each.1 new)
 
 -- putting a new key in is an insertion at its place
-pub put_is_insert : (key value : List ℕ) (els : List Element) (i : ℕ) → IsPlace els key i → put_in key value els ≡ insert els i (key, value)
-put_is_insert key value els i place = ap (put_in key value) (sym (take-append-drop i els)) ∙ put-none key value (take i els) (drop i els) place.below place.above
+pub put_is_insert : (key value : List ℕ) (els : List Element) (i : ℕ) → IsPlace els key i → set_in key (Some value) els ≡ insert els i (key, value)
+put_is_insert key value els i place = ap (set_in key (Some value)) (sym (take-append-drop i els)) ∙ put-none key value (take i els) (drop i els) place.below place.above
 
 pub insert_ascends : (e : Element) (els : List Element) (i : ℕ) → Ascends els → IsPlace els e.0 i → Ascends (insert els i e)
 insert_ascends e els i up place = subst Ascends (put_is_insert e.0 e.1 els i place) (put-ascends e.0 e.1 els up)

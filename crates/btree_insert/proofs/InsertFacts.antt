@@ -1,11 +1,11 @@
 -- A tree after an insertion at its root.
-use Rattle.std.proofs.Common.{◌≡◌, ℕ, zero, suc, ◌+◌, ◌^◌, ◌<◌, ◌≤◌, Option, None, IsSome, List, [], ◌∷◌, ◌++◌, length, refl, ap, sym, ◌∙◌, subst, arith}
+use Rattle.std.proofs.Common.{◌≡◌, ℕ, zero, suc, ◌+◌, ◌^◌, ◌<◌, ◌≤◌, Option, None, IsSome, List, [], ◌∷◌, ◌++◌, length, refl, ap, sym, ◌∙◌, subst, arith, Some}
 use Rattle.page_store.specs.PageMap.{PageMap, write_page, overlay, after}
 use Rattle.btree_node.specs.Layout.{first_layout}
 use Rattle.btree_node.specs.Lists.{Element}
 use Rattle.btree_node.specs.Spelling.{spelling, ElementFits, IsSon, CanStand}
 use Rattle.btree_insert.specs.declared.trees.Tree.{Tree}
-use Rattle.btree_insert.specs.Contents.{lookup_in, put_in}
+use Rattle.btree_insert.specs.Contents.{lookup_in, set_in}
 use Rattle.page_store.specs.CanStage.{CanStage}
 use Rattle.page_store.specs.FreeNumbers.{count_after}
 use Rattle.btree_insert.specs.Growth.{Whole, Parts, WritesFit}
@@ -20,7 +20,7 @@ use Rattle.btree_insert.proofs.SettleFacts.{overlay_push, write_here, write_othe
 
 -- the parts that make an insertion
 pub inserted_by : (old new : PageMap) (fresh : ℕ → ℕ) (taken : ℕ) (tree next : Tree) (es : List Element) (us vs : List ℕ) (key value : List ℕ) (before : Option (List ℕ)) → Holds old tree es us
-    → RootAt next.order new next.height next.root (put_in key value es) vs → Kept old new fresh 0 taken us vs → before ≡ lookup_in key es → next.order ≡ tree.order → next.count ≡ tree.count + one_if_none before → next.used ≡ tree.used + taken
+    → RootAt next.order new next.height next.root (set_in key (Some value) es) vs → Kept old new fresh 0 taken us vs → before ≡ lookup_in key es → next.order ≡ tree.order → next.count ≡ tree.count + one_if_none before → next.used ≡ tree.used + taken
     → Inserted old new fresh taken tree next es us key value before
 inserted_by old new fresh taken tree next es us vs key value before holds root kept answer order count used = record {
   vs = vs;
@@ -44,15 +44,15 @@ tree_root k pages (suc h) root es us some tree = tree
 -- the first page of a tree
 pub plant : (k : ℕ) (old : PageMap) (ws ws2 : List (ℕ × List ℕ)) (fresh : ℕ → ℕ) (n height root : ℕ) (es : List Element) (us : List ℕ) (key value : List ℕ) → height ≡ 0 → RootAt k old height root es us → ws ≡ [] → n ≡ fresh 0 → IsFree old fresh
     → CanStand (leaf_of (key, value)) k → ws2 ≡ ws ++ (n, spelling (leaf_of (key, value)) k) ∷ []
-    → RootAt k (overlay old ws2) 1 n (put_in key value es) (n ∷ []) × Kept old (overlay old ws2) fresh 0 1 us (n ∷ [])
+    → RootAt k (overlay old ws2) 1 n (set_in key (Some value) es) (n ∷ []) × Kept old (overlay old ws2) fresh 0 1 us (n ∷ [])
 plant k old ws ws2 fresh n (suc height) root es us key value is tree none n_is free stands ws_is = absurd (omega arith)
 plant k old ws ws2 fresh n zero root es us key value is (root_is, es_is, us_is) none n_is free stands ws_is =
     let page = spelling (leaf_of (key, value)) k in
     let new_is : overlay old ws2 ≡ write_page old n page = ap (overlay old) ws_is ∙ overlay_push old ws (n, page) ∙ ap (λ (vs : List (ℕ × List ℕ)). write_page (overlay old vs) n page) none in
     let kept : Kept old (write_page old n page) fresh 0 1 [] (fresh 0 ∷ []) =
     kept_more old old (write_page old n page) fresh 0 0 [] [] [] free tt (omega arith) (λ q _ other. write_other old n page q (λ e. other (e ∙ n_is))) (kept_none old fresh 0 [] tt) in (
-      subst (λ (new : PageMap). TreeAt k new 1 1 n (put_in key value es) (n ∷ [])) (sym new_is)
-          (leaf_of (key, value), [], record { page = write_here old n page; stands = stands }, omega arith, (refl, ap (put_in key value) es_is, refl), refl),
+      subst (λ (new : PageMap). TreeAt k new 1 1 n (set_in key (Some value) es) (n ∷ [])) (sym new_is)
+          (leaf_of (key, value), [], record { page = write_here old n page; stands = stands }, omega arith, (refl, ap (set_in key (Some value)) es_is, refl), refl),
       subst (λ (new : PageMap). Kept old new fresh 0 1 us (n ∷ [])) (sym new_is)
           (subst (λ (vs : List ℕ). Kept old (write_page old n page) fresh 0 1 vs (n ∷ [])) (sym us_is)
           (subst (λ (x : ℕ). Kept old (write_page old n page) fresh 0 1 [] (x ∷ [])) (sym n_is) kept)),
@@ -110,10 +110,10 @@ inserted_at old mid new fresh taken tree next es us key value before same done =
 
 -- the tree after an insertion, from what stands at its root
 pub next_inserted : (old new : PageMap) (fresh : ℕ → ℕ) (lo hi h root : ℕ) (tree next : Tree) (es : List Element) (us : List ℕ) (key value : List ℕ) (before : Option (List ℕ)) → lo ≡ 0 → 0 < h → Holds old tree es us
-    → Whole tree.order old new fresh lo hi 1 h root us (put_in key value es) → lookup_in key es ≡ before → next.order ≡ tree.order → next.root ≡ root → next.height ≡ h → next.count ≡ tree.count + one_if_none before → next.used ≡ tree.used + hi
+    → Whole tree.order old new fresh lo hi 1 h root us (set_in key (Some value) es) → lookup_in key es ≡ before → next.order ≡ tree.order → next.root ≡ root → next.height ≡ h → next.count ≡ tree.count + one_if_none before → next.used ≡ tree.used + hi
     → Inserted old new fresh hi tree next es us key value before
 next_inserted old new fresh lo hi h root tree next es us key value before lo_is some holds whole answer order_is root_is height_is count_is used_is =
-    let es2 = put_in key value es in
+    let es2 = set_in key (Some value) es in
     let at_root = tree_root tree.order new h root es2 whole.vs some whole.tree in
     let at_next = subst (λ (o : ℕ). RootAt o new next.height next.root es2 whole.vs) (sym order_is)
     (subst (λ (x : ℕ). RootAt tree.order new x next.root es2 whole.vs) (sym height_is) (subst (λ (r : ℕ). RootAt tree.order new h r es2 whole.vs) (sym root_is) at_root)) in
@@ -125,7 +125,7 @@ pub plant_inserted : (old : PageMap) (ws ws2 : List (ℕ × List ℕ)) (fresh : 
     → Inserted old (overlay old ws2) fresh taken tree next es us key value None
 plant_inserted old ws ws2 fresh n taken tree next es us key value empty one holds none n_is free stands ws_is order_is root_is height_is count_is used_is =
     let new : PageMap = overlay old ws2 in
-    let es2 = put_in key value es in
+    let es2 = set_in key (Some value) es in
     let planted = plant tree.order old ws ws2 fresh n tree.height tree.root es us key value empty holds.tree none n_is free stands ws_is in
     let at_next = subst (λ (o : ℕ). RootAt o new next.height next.root es2 (n ∷ [])) (sym order_is)
     (subst (λ (x : ℕ). RootAt tree.order new x next.root es2 (n ∷ [])) (sym height_is) (subst (λ (r : ℕ). RootAt tree.order new 1 r es2 (n ∷ [])) (sym root_is) planted.0)) in

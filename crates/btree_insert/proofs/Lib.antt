@@ -13,3 +13,8 @@ pub mod InsertFacts
 pub mod WalkFacts
 pub mod SizeFacts
 pub mod ClassFacts
+pub mod ReachFacts
+pub mod ApartFacts
+pub mod ContentsFacts
+pub mod ElementsFacts
+pub mod ExampleFacts

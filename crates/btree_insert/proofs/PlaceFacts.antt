@@ -55,11 +55,11 @@ high_within (e ∷ els) (suc i) high key under each = high_within els i high key
 pub place_within : (els : List Element) (i : ℕ) (b : Bounds) (key : List ℕ) → IsWithin b key → IsPlace els key i → IsWithin (son_bounds els i b) key
 place_within els i b key is place = (low_within els i b.low key is.0 place.below, high_within els i b.high key is.1 place.above)
 
-over_trans : (low : Option (List ℕ)) (x key : List ℕ) → Over low x → Below x key → Over low key
+pub over_trans : (low : Option (List ℕ)) (x key : List ℕ) → Over low x → Below x key → Over low key
 over_trans None x key over below = tt
 over_trans (Some low) x key over below = Below-trans low x key over below
 
-under_trans : (high : Option (List ℕ)) (x key : List ℕ) → Under high x → Below key x → Under high key
+pub under_trans : (high : Option (List ℕ)) (x key : List ℕ) → Under high x → Below key x → Under high key
 under_trans None x key under below = tt
 under_trans (Some high) x key under below = Below-trans key x high below under
 

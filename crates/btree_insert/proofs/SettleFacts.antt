@@ -14,7 +14,7 @@ use Rattle.btree_insert.specs.declared.bounds.Bounds.{Bounds}
 use Rattle.btree_insert.specs.declared.growing.Grown.{Grown}
 use Rattle.btree_insert.specs.declared.growing.Grown.TheVariants.{Replaced, Fits, Split}
 use Rattle.btree_insert.specs.Bounds.{Between}
-use Rattle.btree_insert.specs.Contents.{lookup_in, put_in}
+use Rattle.btree_insert.specs.Contents.{lookup_in, set_in}
 use Rattle.btree_insert.specs.Growth.{IsLoose, Settles, Whole, Parts, Grows, Told, Grew}
 use Rattle.btree_insert.specs.Kept.{Kept}
 use Rattle.btree_insert.specs.PageTrees.{IsIn, Apart, Fan, Body, TreeAt}
@@ -160,15 +160,15 @@ inner_kind k pages (suc h) n es us some body = body.0
 
 -- what an insertion that stayed below a son comes to at the page
 whole_up : (k : ℕ) (old new : PageMap) (fresh : ℕ → ℕ) (lo hi least height h p : ℕ) (es : List Element) (us : List ℕ) (b : Bounds) (n : Node) (key value : List ℕ) (i : ℕ) → 0 < h → IsFree old fresh → InUse old us → Apart us → (head : Top k old least height h p es us b n)
-    → (at : Focus (TreeAt k old k h) (TreeAt k new k h) (λ q. new q ≡ old q) n.sons.items n.elements.items es head.below key i b) → Whole k old new fresh lo hi k h (get_or n.sons.items i 0) at.mine (put_in key value at.xs)
-    → Whole k old new fresh lo hi least (suc h) p us (put_in key value es)
+    → (at : Focus (TreeAt k old k h) (TreeAt k new k h) (λ q. new q ≡ old q) n.sons.items n.elements.items es head.below key i b) → Whole k old new fresh lo hi k h (get_or n.sons.items i 0) at.mine (set_in key (Some value) at.xs)
+    → Whole k old new fresh lo hi least (suc h) p us (set_in key (Some value) es)
 whole_up k old new fresh lo hi least height h p es us b n key value i some free used apart head at son =
     let us_is = head.us_is ∙ ap (λ vs. p ∷ vs) at.us_is in
     let sides = around_son old new fresh lo hi p at.upre at.mine at.upost son.vs free (subst (InUse old) us_is used) (subst Apart us_is apart) son.kept in
-    let es_is = ap (put_in key value) at.es_is ∙ put-between key value at.pre at.xs at.post at.below at.above in
+    let es_is = ap (set_in key (Some value)) at.es_is ∙ put-between key value at.pre at.xs at.post at.below at.above in
     let below = at.upre ++ (son.vs ++ at.upost) in
-    let fan = at.keep sides.before sides.behind (put_in key value at.xs) son.vs son.tree in
-    let body = inner_body k new h n n n.sons.items n.elements.items (at.pre ++ (put_in key value at.xs ++ at.post)) below some (inner_kind k old h n es head.below some head.body) refl refl refl fan in
+    let fan = at.keep sides.before sides.behind (set_in key (Some value) at.xs) son.vs son.tree in
+    let body = inner_body k new h n n n.sons.items n.elements.items (at.pre ++ (set_in key (Some value) at.xs ++ at.post)) below some (inner_kind k old h n es head.below some head.body) refl refl refl fan in
     record {
       vs = p ∷ below;
       tree = (
@@ -217,11 +217,11 @@ grow_split k old ws ws2 fresh lo hi hi2 least height h p es us b n m key value i
     let sides = around_son old mid fresh lo hi p at.upre at.mine at.upost (parts.before ++ parts.behind) free (subst (InUse old) us_is used) (subst Apart us_is apart) parts.kept in
     let below = at.upre ++ ((parts.before ++ parts.behind) ++ at.upost) in
     let fan = at.split sides.before sides.behind parts.xs parts.before middle right parts.ys parts.behind parts.left_tree parts.right_tree in
-    let es_is = ap (put_in key value) at.es_is ∙ put-between key value at.pre at.xs at.post at.below at.above ∙ ap (λ (zs : List Element). at.pre ++ (zs ++ at.post)) parts.es_is in
+    let es_is = ap (set_in key (Some value)) at.es_is ∙ put-between key value at.pre at.xs at.post at.below at.above ∙ ap (λ (zs : List Element). at.pre ++ (zs ++ at.post)) parts.es_is in
     let body = inner_body k mid h n m (insert n.sons.items (suc i) right) (insert n.elements.items i middle) (at.pre ++ ((parts.xs ++ middle ∷ parts.ys) ++ at.post)) below some (inner_kind k old h n es head.below some head.body) kind_is els_is sons_is fan in
     subst (λ (x : ℕ). Grew k old (overlay old ws2) fresh lo hi2 least x p es us key value g) is (record {
       told = told_new k (fresh hi) hi hi2 p ws ws2 m g key es settled (sym (found_same k old mid h n es head.below key i b at) ∙ grew.told);
-      grows = settle_grows k old ws ws2 fresh lo hi hi2 least h p us below (put_in key value es) m g order loose least_is le (subst (IsIn p) (sym head.us_is) (inl refl)) free used settled
+      grows = settle_grows k old ws ws2 fresh lo hi hi2 least h p us below (set_in key (Some value) es) m g order loose least_is le (subst (IsIn p) (sym head.us_is) (inl refl)) free used settled
           (subst (λ (xs : List ℕ). Kept old mid fresh lo hi xs (p ∷ below)) (sym us_is) sides.kept)
           (subst (λ (zs : List Element). Body (TreeAt k mid k h) h m zs below) (sym es_is) body);
     })
@@ -233,11 +233,11 @@ pub grow_leaf : (k : ℕ) (old : PageMap) (ws ws2 : List (ℕ × List ℕ)) (fre
     → Grew k old (overlay old ws2) fresh lo hi2 least height p es us key value g
 grow_leaf k old ws ws2 fresh lo hi2 least height (suc h) p es us b n m key value i g is zero_is order none free used apart head place loose least_is kind_is els_is settled = absurd (omega arith)
 grow_leaf k old ws ws2 fresh lo hi2 least height zero p es us b n m key value i g is zero_is order none free used apart head place loose least_is kind_is els_is settled =
-    let es_is = ap (put_in key value) head.body.1 ∙ put_is_insert key value n.elements.items i place ∙ sym els_is in
+    let es_is = ap (set_in key (Some value)) head.body.1 ∙ put_is_insert key value n.elements.items i place ∙ sym els_is in
     let here : Kept old old fresh lo lo us (p ∷ head.below) = subst (λ (vs : List ℕ). Kept old old fresh lo lo us vs) head.us_is (kept_none old fresh lo us apart) in
     subst (λ (x : ℕ). Grew k old (overlay old ws2) fresh lo hi2 least x p es us key value g) is (record {
       told = told_new k (fresh lo) lo hi2 p ws ws2 m g key es settled (sym (find_no_more (TreeAt k old k 0) 0 n es head.below key i refl head.body place));
-      grows = settle_grows k old ws ws2 fresh lo lo hi2 least 0 p us head.below (put_in key value es) m g order loose least_is (omega arith) (subst (IsIn p) (sym head.us_is) (inl refl)) free used settled
+      grows = settle_grows k old ws ws2 fresh lo lo hi2 least 0 p us head.below (set_in key (Some value) es) m g order loose least_is (omega arith) (subst (IsIn p) (sym head.us_is) (inl refl)) free used settled
           (subst (λ (vs : List (ℕ × List ℕ)). Kept old (overlay old vs) fresh lo lo us (p ∷ head.below)) (sym none) here)
           (kind_is ∙ head.body.0, es_is, head.body.2);
     })
@@ -247,19 +247,19 @@ set_split [] i y low = absurd (omega arith)
 set_split (e ∷ els) zero y low = refl
 set_split (e ∷ els) (suc i) y low = ap (λ rest. e ∷ rest) (set_split els i y (omega arith))
 
-put_is_set : (key value : List ℕ) (els : List Element) (i : ℕ) (x : Element) → IsAt els key i → x ≡ get_or els i x → put_in key value els ≡ set els i (key, value)
+put_is_set : (key value : List ℕ) (els : List Element) (i : ℕ) (x : Element) → IsAt els key i → x ≡ get_or els i x → set_in key (Some value) els ≡ set els i (key, value)
 put_is_set key value els i x place is =
-    ap (put_in key value) (around i els x place.within) ∙ put-here key value (take i els) (get_or els i x) (drop (suc i) els) place.below (place.here x) ∙ sym (set_split els i (key, value) place.within)
+    ap (set_in key (Some value)) (around i els x place.within) ∙ put-here key value (take i els) (get_or els i x) (drop (suc i) els) place.below (place.here x) ∙ sym (set_split els i (key, value) place.within)
 
 replaced_body : (k : ℕ) (old : PageMap) (h : ℕ) (n m : Node) (es : List Element) (below : List ℕ) (key value : List ℕ) (i : ℕ) (x : Element) → Body (TreeAt k old k h) h n es below → Ascends es → IsAt n.elements.items key i → x ≡ get_or n.elements.items i x
-    → m.kind ≡ n.kind → m.elements.items ≡ set n.elements.items i (key, value) → m.sons.items ≡ n.sons.items → Body (TreeAt k old k h) h m (put_in key value es) below
+    → m.kind ≡ n.kind → m.elements.items ≡ set n.elements.items i (key, value) → m.sons.items ≡ n.sons.items → Body (TreeAt k old k h) h m (set_in key (Some value) es) below
 replaced_body k old zero n m es below key value i x body up place is kind_is els_is sons_is =
-    (kind_is ∙ body.0, ap (put_in key value) body.1 ∙ put_is_set key value n.elements.items i x place is ∙ sym els_is, body.2)
+    (kind_is ∙ body.0, ap (set_in key (Some value)) body.1 ∙ put_is_set key value n.elements.items i x place is ∙ sym els_is, body.2)
 replaced_body k old (suc h) n m es below key value i x body up place is kind_is els_is sons_is =
     let tree = TreeAt k old k (suc h) in
     let at = spot tree tree (λ (q : ℕ). Unit {0}) (λ s xs vs t _. t) n.sons.items n.elements.items es below key i x body.1 up place is in
     let fan = at.put (each_in (λ (q : ℕ). Unit {0}) below (λ q _. tt)) (key, value) in
-    let es_is = ap (put_in key value) at.es_is ∙ put-here key value at.pre x at.post at.below (ap (λ (y : Element). y.0) is ∙ place.here x) in
+    let es_is = ap (set_in key (Some value)) at.es_is ∙ put-here key value at.pre x at.post at.below (ap (λ (y : Element). y.0) is ∙ place.here x) in
     subst (λ (zs : List Element). Body tree (suc h) m zs below) (sym es_is)
     (inner_body k old (suc h) n m n.sons.items (set n.elements.items i (key, value)) (at.pre ++ (key, value) ∷ at.post) below (omega arith) body.0 kind_is els_is sons_is fan)
 
@@ -271,10 +271,10 @@ pub grow_replaced : (k : ℕ) (old : PageMap) (ws ws2 : List (ℕ × List ℕ)) 
 grow_replaced k old ws ws2 fresh lo hi2 least height h p es us b n m key value i x is none hi_is free used apart head up place x_is stands least_is kind_is els_is sons_is ws_is =
     let here : Kept old old fresh lo lo us (p ∷ head.below) = subst (λ (vs : List ℕ). Kept old old fresh lo lo us vs) head.us_is (kept_none old fresh lo us apart) in
     let body = replaced_body k old h n m es head.below key value i x head.body up place x_is kind_is els_is sons_is in
-    let whole = settle_whole k old old fresh lo lo least h p us head.below (put_in key value es) m stands (subst (IsIn p) (sym head.us_is) (inl refl)) free used here body least_is in
+    let whole = settle_whole k old old fresh lo lo least h p us head.below (set_in key (Some value) es) m stands (subst (IsIn p) (sym head.us_is) (inl refl)) free used here body least_is in
     let new_is = ap (overlay old) ws_is ∙ overlay_push old ws (p, spelling m k) ∙ ap (λ (vs : List (ℕ × List ℕ)). write_page (overlay old vs) p (spelling m k)) none in
     subst (λ (y : ℕ). Grew k old (overlay old ws2) fresh lo hi2 least y p es us key value (Replaced x.1)) is (record {
       told = sym (find_here (TreeAt k old k h) h n es head.below key i x head.body up place x_is);
-      grows = subst (λ (new : PageMap). Whole k old new fresh lo hi2 least (suc h) p us (put_in key value es)) (sym new_is)
-          (subst (λ (y : ℕ). Whole k old (write_page old p (spelling m k)) fresh lo y least (suc h) p us (put_in key value es)) (sym hi_is) whole);
+      grows = subst (λ (new : PageMap). Whole k old new fresh lo hi2 least (suc h) p us (set_in key (Some value) es)) (sym new_is)
+          (subst (λ (y : ℕ). Whole k old (write_page old p (spelling m k)) fresh lo y least (suc h) p us (set_in key (Some value) es)) (sym hi_is) whole);
     })

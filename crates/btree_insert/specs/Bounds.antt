@@ -23,6 +23,10 @@ pub record Between (bounds : Bounds) (es : List Element) : Type 0 where
   pub ascends : Ascends es
   pub within : AreWithin bounds es
 
+-- no bounds: those of a root
+abbrev pub unbounded : Bounds
+unbounded = record { low = None; high = None }
+
 -- the key before son i, if there is one
 abbrev pub low_at : List Element → ℕ → Option (List ℕ) → Option (List ℕ)
 low_at [] i low = low

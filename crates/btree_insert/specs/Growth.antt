@@ -6,16 +6,15 @@ use Rattle.page_store.specs.FreeNumbers.{candidate}
 use Rattle.page_store.specs.CanStage.{IsTaken}
 use Rattle.btree_node.specs.declared.nodes.Node.{Node}
 use Rattle.btree_node.specs.Cut.{left_of, right_of}
-use Rattle.btree_node.specs.Layout.{first_layout}
 use Rattle.btree_node.specs.Lists.{Element, Each, Ascends}
-use Rattle.btree_node.specs.Spelling.{spelling, ElementFits, IsSon, SonsFit}
+use Rattle.btree_node.specs.Spelling.{spelling, IsElement, IsSon, SonsFit}
 use Rattle.btree_insert.specs.declared.bounds.Bounds.{Bounds}
 use Rattle.btree_insert.specs.declared.growing.Grown.{Grown}
 use Rattle.btree_insert.specs.declared.growing.Grown.TheVariants.{Replaced, Fits, Split}
 use Rattle.btree_insert.specs.declared.trees.TreeFault.{TreeFault}
 use Rattle.btree_insert.specs.declared.trees.TreeFault.TheVariants.{Device, Damaged, Memory}
 use Rattle.btree_insert.specs.Bounds.{Over, Under}
-use Rattle.btree_insert.specs.Contents.{lookup_in, put_in}
+use Rattle.btree_insert.specs.Contents.{lookup_in, set_in}
 use Rattle.btree_insert.specs.Kept.{Kept}
 use Rattle.btree_insert.specs.PageTrees.{TreeAt}
 
@@ -33,7 +32,7 @@ IsWithin bounds key = Over bounds.low key × Under bounds.high key
 pub record IsLoose (k : ℕ) (n : Node) : Type 0 where
   pub some : 0 < length n.elements.items
   pub most : length n.elements.items ≤ 2 * k + 1
-  pub fit : Each (ElementFits first_layout) n.elements.items
+  pub fit : Each (IsElement) n.elements.items
   pub ascends : Ascends n.elements.items
   pub sons : SonsFit n.kind (length n.elements.items) n.sons.items
 
@@ -52,7 +51,7 @@ Takes height old new (Split middle right) = (old ≤ new) × (new ≤ old + heig
 abbrev pub GoesUp : Bounds → Grown → Type 0
 GoesUp bounds (Replaced value) = Unit {0}
 GoesUp bounds Fits = Unit {0}
-GoesUp bounds (Split middle right) = ElementFits first_layout middle × IsWithin bounds middle.0 × IsSon right
+GoesUp bounds (Split middle right) = IsElement middle × IsWithin bounds middle.0 × IsSon right
 
 -- a node written as page n, or cut in two around its middle key, the right half as a new page
 abbrev pub Settles : ℕ → ℕ → List (ℕ × List ℕ) → List (ℕ × List ℕ) → ℕ → ℕ → ℕ → Node → Grown → Type 0
@@ -95,4 +94,4 @@ Told key es (Split middle right) = lookup_in key es ≡ None
 -- the record stands at the key, and everything else is as it was
 pub record Grew (k : ℕ) (old new : PageMap) (fresh : ℕ → ℕ) (lo hi least h p : ℕ) (es : List Element) (us : List ℕ) (key value : List ℕ) (g : Grown) : Type 0 where
   pub told : Told key es g
-  pub grows : Grows k old new fresh lo hi least h p us (put_in key value es) g
+  pub grows : Grows k old new fresh lo hi least h p us (set_in key (Some value) es) g

@@ -1,5 +1,5 @@
 -- What an insertion into a tree comes to.
-use Rattle.std.specs.Prelude.{◌≡◌, ℕ, ◌≤◌, List, [], ◌∷◌, Option}
+use Rattle.std.specs.Prelude.{◌≡◌, ℕ, ◌≤◌, List, [], ◌∷◌, Option, Some}
 use Rattle.page_store.specs.PageMap.{PageMap, at}
 use Rattle.page_store.specs.FreeNumbers.{candidate, count_after}
 use Rattle.btree_node.specs.declared.nodes.Node.{Node}
@@ -8,7 +8,7 @@ use Rattle.btree_node.specs.Lists.{Element}
 use Rattle.btree_insert.specs.declared.trees.Tree.{Tree}
 use Rattle.btree_insert.specs.declared.trees.TreeFault.{TreeFault}
 use Rattle.btree_insert.specs.declared.trees.TreeFault.TheVariants.{Device, Damaged, Memory}
-use Rattle.btree_insert.specs.Contents.{lookup_in, put_in}
+use Rattle.btree_insert.specs.Contents.{lookup_in, set_in}
 use Rattle.btree_insert.specs.Kept.{Kept}
 use Rattle.btree_insert.specs.PageTrees.{Holds}
 
@@ -23,7 +23,7 @@ root_of left middle right = record { kind = Inner; elements = record { items = m
 -- the old pages held a tree with the elements es; the new pages hold the next tree, with the record at the key, made of the old tree's pages and some new ones; and what stood at the key
 pub record Inserted (old new : PageMap) (fresh : ℕ → ℕ) (taken : ℕ) (tree next : Tree) (es : List Element) (us : List ℕ) (key value : List ℕ) (before : Option (List ℕ)) : Type 0 where
   pub vs : List ℕ
-  pub holds : Holds new next (put_in key value es) vs
+  pub holds : Holds new next (set_in key (Some value) es) vs
   pub answer : before ≡ lookup_in key es
   pub order : next.order ≡ tree.order
   pub kept : Kept old new fresh 0 taken us vs

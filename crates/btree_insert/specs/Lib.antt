@@ -6,3 +6,6 @@ pub mod Growth
 pub mod Kept
 pub mod Inserted
 pub mod Classes
+pub mod Reached
+pub mod Elements
+pub mod Examples

@@ -4,7 +4,9 @@ use Rattle.btree_node.specs.declared.nodes.Node.{Node}
 use Rattle.btree_node.specs.declared.nodes.NodeKind.{NodeKind}
 use Rattle.btree_node.specs.declared.nodes.NodeKind.TheVariants.{Leaf, Inner}
 use Rattle.btree_node.specs.Lists.{Element, Ascends}
-use Rattle.btree_node.specs.Spelling.{spelling, CanStand}
+use Rattle.btree_node.specs.declared.layouts.Layout.{Layout}
+use Rattle.btree_node.specs.Layout.{first_layout}
+use Rattle.btree_node.specs.Spelling.{spelling_in, CanStandIn}
 use Rattle.page_store.specs.PageMap.{PageMap}
 use Rattle.btree_insert.specs.declared.trees.Tree.{Tree}
 
@@ -18,10 +20,14 @@ abbrev pub Apart : List ℕ → Type 0
 Apart [] = Unit {0}
 Apart (u ∷ us) = (IsIn u us → ⊥) × Apart us
 
--- page p spells the node
-pub record Spells (k : ℕ) (pages : PageMap) (p : ℕ) (n : Node) : Type 0 where
-  pub page : pages p ≡ Some (spelling n k)
-  pub stands : CanStand n k
+-- page p spells the node, in a layout and of an order
+pub record SpellsIn (layout : Layout) (k : ℕ) (pages : PageMap) (p : ℕ) (n : Node) : Type 0 where
+  pub page : pages p ≡ Some (spelling_in layout n k)
+  pub stands : CanStandIn layout n k
+
+-- the same in the layout of the first file version
+abbrev pub Spells : ℕ → PageMap → ℕ → Node → Type 0
+Spells k pages = SpellsIn first_layout k pages
 
 -- sons with the elements between them: all elements in order, and the page numbers of all sons. What a son stands for is said by «tree».
 abbrev pub Fan : (ℕ → List Element → List ℕ → Type 0) → List ℕ → List Element → List Element → List ℕ → Type 0
@@ -41,21 +47,31 @@ abbrev pub Body : (ℕ → List Element → List ℕ → Type 0) → ℕ → Nod
 Body tree zero n es us = (n.kind ≡ Leaf) × (es ≡ n.elements.items) × (us ≡ [])
 Body tree (suc h) n es us = (n.kind ≡ Inner) × Fan tree n.sons.items n.elements.items es us
 
--- the tree of a height below page p, where p has at least so many keys and each page below it at least k
-abbrev pub TreeAt : ℕ → PageMap → ℕ → ℕ → ℕ → List Element → List ℕ → Type 0
-TreeAt k pages least zero p es us = ⊥
-TreeAt k pages least (suc h) p es us =
-    (n : Node) × (below : List ℕ) × Spells k pages p n × (least ≤ length n.elements.items) × Body (TreeAt k pages k h) h n es below × (us ≡ p ∷ below)
+-- the tree of a height below page p, where p has at least «least» keys and each page below it at least «fill». What a page spells is said by «spells».
+abbrev pub TreeOf : (ℕ → Node → Type 0) → ℕ → ℕ → ℕ → ℕ → List Element → List ℕ → Type 0
+TreeOf spells fill least zero p es us = ⊥
+TreeOf spells fill least (suc h) p es us =
+    (n : Node) × (below : List ℕ) × spells p n × (least ≤ length n.elements.items) × Body (TreeOf spells fill fill h) h n es below × (us ≡ p ∷ below)
 
 -- the tree of a root: none is the empty tree
-abbrev pub RootAt : ℕ → PageMap → ℕ → ℕ → List Element → List ℕ → Type 0
-RootAt k pages zero root es us = (root ≡ 0) × (es ≡ []) × (us ≡ [])
-RootAt k pages (suc h) root es us = TreeAt k pages 1 (suc h) root es us
+abbrev pub RootOf : (ℕ → Node → Type 0) → ℕ → ℕ → ℕ → List Element → List ℕ → Type 0
+RootOf spells fill zero root es us = (root ≡ 0) × (es ≡ []) × (us ≡ [])
+RootOf spells fill (suc h) root es us = TreeOf spells fill 1 (suc h) root es us
 
--- the pages hold the tree: its elements in order, its pages, and what it says of itself
-pub record Holds (pages : PageMap) (t : Tree) (es : List Element) (us : List ℕ) : Type 0 where
-  pub tree : RootAt t.order pages t.height t.root es us
+-- pages that spell nodes hold the tree: its elements in order, its pages, and what it says of itself
+pub record HoldsOf (spells : ℕ → Node → Type 0) (t : Tree) (es : List Element) (us : List ℕ) : Type 0 where
+  pub tree : RootOf spells t.order t.height t.root es us
   pub ascends : Ascends es
   pub apart : Apart us
   pub count : t.count ≡ length es
   pub used : t.used ≡ length us
+
+-- the three in the layout of the first file version, of order k
+abbrev pub TreeAt : ℕ → PageMap → ℕ → ℕ → ℕ → List Element → List ℕ → Type 0
+TreeAt k pages = TreeOf (Spells k pages) k
+
+abbrev pub RootAt : ℕ → PageMap → ℕ → ℕ → List Element → List ℕ → Type 0
+RootAt k pages = RootOf (Spells k pages) k
+
+abbrev pub Holds : PageMap → Tree → List Element → List ℕ → Type 0
+Holds pages t = HoldsOf (Spells t.order pages) t

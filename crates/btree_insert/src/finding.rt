@@ -1,11 +1,12 @@
-ghost use Rattle.std.specs.Prelude.{◌≡◌, ◌+◌, ◌<◌, ◌≤◌, ℕ, List, IsTrue, MatchResult};
+ghost use Rattle.std.specs.Prelude.{◌≡◌, ◌≢◌, ◌+◌, ◌<◌, ◌≤◌, ℕ, List, IsTrue, IfOk, IfErr, MatchResult};
 ghost use Rattle.rec_types.specs.Table.{counted};
 ghost use Rattle.page_store.specs.PageMap.{at};
 ghost use Rattle.btree_node.specs.Lists.{Element};
 ghost use Rattle.btree_insert.specs.Bounds.{Between};
 ghost use Rattle.btree_insert.specs.Contents.{lookup_in};
 ghost use Rattle.btree_insert.specs.Faults.{is_device};
-ghost use Rattle.btree_insert.specs.PageTrees.{TreeAt, Holds};
+ghost use Rattle.btree_insert.specs.PageTrees.{Spells, TreeAt, Holds};
+ghost use Rattle.btree_insert.specs.Reached.{Leads, LeadsFrom};
 
 use crate::bounds::{Bounds, bounds_of_son};
 use crate::reading::{kind_of_level, read_node};
@@ -28,7 +29,11 @@ pub fn find<S: Store>(
     requires height { tree.now.height ≤ 19 }
     ensures found { IsTrue pages.old.steady → (es : List Element) (us : List ℕ)
         → Holds (at pages.old.pages) tree.now es us
-        → MatchResult result (λ found. found ≡ lookup_in key.now es) (λ fault. fault ≡ TreeFault.Device) }
+        → MatchResult result (λ found. found ≡ lookup_in key.now es)
+        (λ fault. fault ≡ TreeFault.Device) }
+    ensures led { IsTrue pages.old.steady → IfOk result (LeadsFrom
+        (Spells tree.now.order (at pages.old.pages)) key.now tree.now.height tree.now.root) }
+    ensures no_memory { IfErr result (λ fault. fault ≢ TreeFault.Memory) }
     ensures device { pages.new.failures ≡ counted pages.old.failures (is_device result) }
     ensures unchanged { pages.new
         ≡ record pages.old { reads = pages.new.reads; failures = pages.new.failures } }
@@ -57,7 +62,11 @@ fn find_below<S: Store>(
     requires height { 0 < height }
     ensures found { IsTrue pages.old.steady → (least : ℕ) (es : List Element) (us : List ℕ)
         → TreeAt order (at pages.old.pages) least height n es us → Between bounds.now es
-        → MatchResult result (λ found. found ≡ lookup_in key.now es) (λ fault. fault ≡ TreeFault.Device) }
+        → MatchResult result (λ found. found ≡ lookup_in key.now es)
+        (λ fault. fault ≡ TreeFault.Device) }
+    ensures led { IsTrue pages.old.steady
+        → IfOk result (Leads (Spells order (at pages.old.pages)) key.now height n bounds.now) }
+    ensures no_memory { IfErr result (λ fault. fault ≢ TreeFault.Memory) }
     ensures device { pages.new.failures ≡ counted pages.old.failures (is_device result) }
     ensures unchanged { pages.new
         ≡ record pages.old { reads = pages.new.reads; failures = pages.new.failures } }

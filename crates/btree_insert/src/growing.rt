@@ -3,9 +3,8 @@ ghost use Rattle.std.specs.List.{list_any};
 ghost use Rattle.rec_types.specs.Table.{counted};
 ghost use Rattle.page_store.specs.FreeNumbers.{candidate};
 ghost use Rattle.page_store.specs.PageMap.{at, overlay};
-ghost use Rattle.btree_node.specs.Layout.{first_layout};
 ghost use Rattle.btree_node.specs.Lists.{Element, Each};
-ghost use Rattle.btree_node.specs.Spelling.{spelling, CanStand, ElementFits};
+ghost use Rattle.btree_node.specs.Spelling.{spelling, CanStand, IsElement};
 ghost use Rattle.btree_insert.specs.Bounds.{AreWithin, Between};
 ghost use Rattle.btree_insert.specs.declared.bounds.Bounds.{Bounds};
 ghost use Rattle.btree_insert.specs.Faults.{is_device};
@@ -160,7 +159,7 @@ pub(crate) fn grow_below<S: Store>(
 
 /// Has a proof learn how long a key and a record are.
 pub fn element_fits(element: &(Key, Record))
-    ensures { ElementFits first_layout element.now }
+    ensures { IsElement element.now }
 {
     let _key = element.0.bytes();
     let _value = element.1.bytes();

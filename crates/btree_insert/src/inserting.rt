@@ -1,4 +1,4 @@
-ghost use Rattle.std.specs.Prelude.{◌≡◌, ◌+◌, ◌<◌, ◌≤◌, ◌↔◌, ◌∷◌, ◌++◌, [], ℕ, List, None, IsTrue, IsSome, IfOk, OnOk, OnErr, MatchResult, length};
+ghost use Rattle.std.specs.Prelude.{◌≡◌, ◌+◌, ◌-◌, ◌<◌, ◌≤◌, ◌↔◌, ◌∷◌, ◌++◌, [], ℕ, List, None, true, IsTrue, IsSome, IfOk, OnOk, OnErr, MatchResult, length};
 ghost use Rattle.rec_types.specs.Table.{counted};
 ghost use Rattle.page_store.specs.FreeNumbers.{candidate, count_after};
 ghost use Rattle.page_store.specs.PageMap.{at, overlay};
@@ -111,6 +111,7 @@ fn grow_tree<S: Store>(
     ensures fits { OnOk result (WritesFit pages.old.pages edit.new.writes.items edit.new.taken) }
     ensures few { OnOk result (edit.new.taken ≤ 20) }
     ensures order { IfOk result (λ changed. changed.tree.order ≡ tree.now.order) }
+    ensures used { IfOk result (λ changed. changed.tree.used ≡ tree.now.used + edit.new.taken) }
     ensures freed { edit.new.freed ≡ edit.old.freed }
     ensures device { pages.new.failures ≡ counted pages.old.failures (is_device result) }
     ensures unchanged { pages.new
@@ -166,6 +167,7 @@ fn changed_tree<S: Store>(
     ensures fits { OnOk result (WritesFit pages.now.pages edit.new.writes.items edit.new.taken) }
     ensures few { OnOk result (edit.new.taken ≤ 20) }
     ensures order { IfOk result (λ changed. changed.tree.order ≡ tree.now.order) }
+    ensures used { IfOk result (λ changed. changed.tree.used ≡ tree.now.used + edit.new.taken) }
     ensures freed { edit.new.freed ≡ edit.old.freed }
 {
     match grown {
@@ -216,6 +218,7 @@ fn plant<S: Store>(
     ensures fits { OnOk result (WritesFit pages.now.pages edit.new.writes.items edit.new.taken) }
     ensures few { OnOk result (edit.new.taken ≤ 20) }
     ensures order { IfOk result (λ changed. changed.tree.order ≡ tree.now.order) }
+    ensures used { IfOk result (λ changed. changed.tree.used ≡ tree.now.used + edit.new.taken) }
     ensures freed { edit.new.freed ≡ edit.old.freed }
 {
     element_fits(&element);
@@ -271,10 +274,13 @@ pub fn insert<S: Store>(
     ensures inserted { IsTrue pages.old.steady → (es : List Element) (us : List ℕ)
         → Holds (at pages.old.pages) tree.now es us
         → MatchResult result
-        (λ r. (taken : ℕ) × Inserted (at pages.old.pages) (at pages.new.pages) (candidate pages.old.pages) taken
-        tree.now r.0 es us key value r.1)
+        (λ r. (taken : ℕ) × Inserted (at pages.old.pages) (at pages.new.pages)
+        (candidate pages.old.pages) taken tree.now r.0 es us key value r.1)
         (IsRefused pages.old.pages tree.now es us key value) }
     ensures small { IfOk result (λ r. IsSmall r.0 (length pages.new.pages)) }
+    ensures page_count { IfOk result (λ r. (tree.now.used ≤ r.0.used)
+        × (length pages.new.pages ≡ count_after pages.old.pages (r.0.used - tree.now.used))) }
+    ensures changed { OnOk result (pages.new.changed ≡ true) }
     ensures order { IfOk result (λ r. r.0.order ≡ tree.now.order) }
     ensures device { pages.new.failures ≡ counted pages.old.failures (is_device result) }
     ensures err { OnErr result (pages.new

@@ -1,9 +1,15 @@
 //! What holds of the trees that contracts speak of. The functions do nothing: their contracts are the
 //! laws.
-ghost use Rattle.std.specs.Prelude.{◌≡◌, ℕ, ◌+◌, ◌-◌, ◌*◌, ◌/◌, ◌^◌, ◌≤◌, List};
-ghost use Rattle.page_store.specs.PageMap.{PageMap};
-ghost use Rattle.btree_node.specs.Lists.{Element};
+ghost use Rattle.std.specs.Prelude.{◌≡◌, ℕ, ◌+◌, ◌-◌, ◌*◌, ◌/◌, ◌^◌, ◌≤◌, List, [], ◌∷◌, Option, Some, length};
+ghost use Rattle.std.specs.FinMap.{get, entries, len};
+ghost use Rattle.rec_types.specs.Contents.{set_to};
+ghost use Rattle.page_store.specs.PageMap.{PageMap, at};
+ghost use Rattle.btree_node.specs.Lists.{Element, Ascends};
 ghost use Rattle.btree_insert.specs.Classes.{BTree, in_order, StandsFor};
+ghost use Rattle.btree_insert.specs.Contents.{lookup_in, set_in, contents_of};
+ghost use Rattle.btree_insert.specs.Elements.{elements_of, contents_at};
+ghost use Rattle.btree_insert.specs.Examples.{ax, by, cz, tree_of, three_pages, uneven_pages, shared_pages, equal_pages};
+ghost use Rattle.btree_insert.specs.Inserted.{Inserted};
 ghost use Rattle.btree_insert.specs.PageTrees.{Holds};
 ghost use Rattle.btree_insert.specs.declared.trees.Tree.{Tree};
 
@@ -13,15 +19,61 @@ pub fn size_bounds()
         → Holds pages t es us → 2 * (t.order + 1) ^ (t.height - 1) ≤ t.count + 1 }
     ensures most_keys { (pages : PageMap) (t : Tree) (es : List Element) (us : List ℕ)
         → Holds pages t es us → t.count + 1 ≤ (2 * t.order + 1) ^ t.height }
-    ensures pages { (pages : PageMap) (t : Tree) (es : List Element) (us : List ℕ) → 1 ≤ t.order → 1 ≤ t.height
-        → Holds pages t es us → t.used ≤ 1 + (t.count - 1) / t.order }
+    ensures pages { (pages : PageMap) (t : Tree) (es : List Element) (us : List ℕ)
+        → 1 ≤ t.order → 1 ≤ t.height → Holds pages t es us → t.used ≤ 1 + (t.count - 1) / t.order }
 {}
 
 /// What contracts say of pages in lists, `Holds`, is that they stand for a tree of the class whose
 /// elements in order are these.
 pub fn trees_of_the_class()
-    ensures lists { (pages : PageMap) (tree : Tree) (t : BTree tree.height) (us : List ℕ) → StandsFor pages tree t us
-        → Holds pages tree (in_order tree.height t) us }
-    ensures class { (pages : PageMap) (tree : Tree) (es : List Element) (us : List ℕ) → Holds pages tree es us
-        → (t : BTree tree.height) × StandsFor pages tree t us × (in_order tree.height t ≡ es) }
+    ensures lists { (pages : PageMap) (tree : Tree) (t : BTree tree.height) (us : List ℕ)
+        → StandsFor pages tree t us → Holds pages tree (in_order tree.height t) us }
+    ensures class { (pages : PageMap) (tree : Tree) (es : List Element) (us : List ℕ)
+        → Holds pages tree es us → (t : BTree tree.height) × StandsFor pages tree t us × (in_order tree.height t ≡ es) }
+{}
+
+/// What pages hold, as a function of the pages: where they hold a tree, its elements are those that
+/// `elements_of` reads.
+pub fn elements_of_pages()
+    ensures { (pages : PageMap) (t : Tree) (es : List Element) (us : List ℕ) → t.order ≤ 16
+        → Holds pages t es us → elements_of t.order pages t.height t.root ≡ es }
+{}
+
+/// Elements in order as a finite map: what it has at a key, its pairs, and how it is changed at one key.
+pub fn contents_of_elements()
+    ensures get { (es : List Element) (key : List ℕ) → Ascends es
+        → get (contents_of es) key ≡ lookup_in key es }
+    ensures entries { (es : List Element) → Ascends es → entries (contents_of es) ≡ es }
+    ensures count { (es : List Element) → Ascends es → len (contents_of es) ≡ length es }
+    ensures ascends { (es : List Element) (key : List ℕ) (w : Option (List ℕ)) → Ascends es
+        → Ascends (set_in key w es) }
+    ensures set { (es : List Element) (key : List ℕ) (w : Option (List ℕ)) → Ascends es
+        → contents_of (set_in key w es) ≡ set_to (contents_of es) key w }
+{}
+
+/// An insertion puts the record at the key of the contents that the pages hold, and answers what they
+/// had there.
+pub fn contents_after_insertion()
+    ensures contents { (old new : PageMap) (fresh : ℕ → ℕ) (taken : ℕ) (tree next : Tree)
+        → (es : List Element) (us key value : List ℕ) (before : Option (List ℕ)) → tree.order ≤ 16
+        → Holds old tree es us → Inserted old new fresh taken tree next es us key value before
+        → contents_at next.order new next.height next.root
+        ≡ set_to (contents_at tree.order old tree.height tree.root) key (Some value) }
+    ensures answer { (old new : PageMap) (fresh : ℕ → ℕ) (taken : ℕ) (tree next : Tree)
+        → (es : List Element) (us key value : List ℕ) (before : Option (List ℕ)) → tree.order ≤ 16
+        → Holds old tree es us → Inserted old new fresh taken tree next es us key value before
+        → before ≡ get (contents_at tree.order old tree.height tree.root) key }
+{}
+
+/// Trees by example: pages that hold one of height 2, and its elements; and pages that hold none,
+/// because two leaves stand at different depths, a page is reached twice, or a key stands twice.
+pub fn trees_by_example()
+    ensures three { Holds (at three_pages) (tree_of 3 2 3 3) (ax ∷ by ∷ cz ∷ []) (3 ∷ 1 ∷ 2 ∷ []) }
+    ensures elements { elements_of 1 (at three_pages) 2 3 ≡ ax ∷ by ∷ cz ∷ [] }
+    ensures uneven { (height count used : ℕ) (es : List Element) (us : List ℕ)
+        → Holds (at uneven_pages) (tree_of 5 height count used) es us → ⊥ }
+    ensures shared { (height count used : ℕ) (es : List Element) (us : List ℕ)
+        → Holds (at shared_pages) (tree_of 3 height count used) es us → ⊥ }
+    ensures equal { (height count used : ℕ) (es : List Element) (us : List ℕ)
+        → Holds (at equal_pages) (tree_of 3 height count used) es us → ⊥ }
 {}

@@ -84,7 +84,7 @@ fn put<S: Store>(
     Ok((grown, old))
 }
 
-/// Looks at a page: its kind, its keys and its sons.
+/// Looks at a page: its kind, its keys and their records, each of one letter, and its sons.
 fn check_page<S: Store>(
     rt: &impl Abort,
     pages: &mut Pages<S>,
@@ -92,6 +92,7 @@ fn check_page<S: Store>(
     n: u32,
     kind: NodeKind,
     keys: &[u8],
+    values: &[u8],
     sons: &[u32],
 ) -> Result<(), Fail> {
     assert!(rt; order <= 16);
@@ -100,8 +101,8 @@ fn check_page<S: Store>(
     let node = decode(&page, order)?;
     assert_eq!(rt; node.kind, kind);
     assert_eq!(rt; node.elements.len(), keys.len());
-    for (element, key) in node.elements.as_slice().iter().zip(keys) {
-        assert!(rt; element.0 == Key::new(&[*key])?);
+    for ((element, key), value) in node.elements.as_slice().iter().zip(keys).zip(values) {
+        assert!(rt; *element == (Key::new(&[*key])?, Record::new(&[*value])?));
     }
     assert_eq!(rt; node.sons.as_slice(), sons);
     Ok(())
@@ -121,9 +122,9 @@ fn three_keys_of_order_one(rt: HostRuntime) -> Result<(), Fail> {
         (3, 2, 3, 3)
     );
     assert_eq!(rt; pages.page_count(), 4);
-    check_page(&rt, &mut pages, 1, 3, NodeKind::Inner, b"b", &[1, 2])?;
-    check_page(&rt, &mut pages, 1, 1, NodeKind::Leaf, b"a", &[])?;
-    check_page(&rt, &mut pages, 1, 2, NodeKind::Leaf, b"c", &[])?;
+    check_page(&rt, &mut pages, 1, 3, NodeKind::Inner, b"b", b"y", &[1, 2])?;
+    check_page(&rt, &mut pages, 1, 1, NodeKind::Leaf, b"a", b"x", &[])?;
+    check_page(&rt, &mut pages, 1, 2, NodeKind::Leaf, b"c", b"z", &[])?;
     let (same, old) = put(&rt, rt.alloc(), &mut pages, &tree, b"b", b"new")?;
     assert_eq!(rt; same, tree);
     assert!(rt; old == Some(Record::new(b"y")?));
@@ -135,24 +136,53 @@ fn eight_keys_of_order_two(rt: HostRuntime) -> Result<(), Fail> {
     let mut pages = new_pages(rt.alloc())?;
     let mut tree = empty(2);
     for key in b"abcdefg" {
-        tree = put(&rt, rt.alloc(), &mut pages, &tree, &[*key], b"v")?.0;
+        tree = put(&rt, rt.alloc(), &mut pages, &tree, &[*key], &[*key])?.0;
     }
     assert_eq!(rt;
         (tree.root, tree.height, tree.count, tree.used),
         (3, 2, 7, 3)
     );
-    check_page(&rt, &mut pages, 2, 3, NodeKind::Inner, b"c", &[1, 2])?;
-    check_page(&rt, &mut pages, 2, 1, NodeKind::Leaf, b"ab", &[])?;
-    check_page(&rt, &mut pages, 2, 2, NodeKind::Leaf, b"defg", &[])?;
-    tree = put(&rt, rt.alloc(), &mut pages, &tree, b"h", b"v")?.0;
+    check_page(&rt, &mut pages, 2, 3, NodeKind::Inner, b"c", b"c", &[1, 2])?;
+    check_page(&rt, &mut pages, 2, 1, NodeKind::Leaf, b"ab", b"ab", &[])?;
+    check_page(&rt, &mut pages, 2, 2, NodeKind::Leaf, b"defg", b"defg", &[])?;
+    tree = put(&rt, rt.alloc(), &mut pages, &tree, b"h", b"h")?.0;
     assert_eq!(rt;
         (tree.root, tree.height, tree.count, tree.used),
         (3, 2, 8, 4)
     );
-    check_page(&rt, &mut pages, 2, 3, NodeKind::Inner, b"cf", &[1, 2, 4])?;
-    check_page(&rt, &mut pages, 2, 1, NodeKind::Leaf, b"ab", &[])?;
-    check_page(&rt, &mut pages, 2, 2, NodeKind::Leaf, b"de", &[])?;
-    check_page(&rt, &mut pages, 2, 4, NodeKind::Leaf, b"gh", &[])?;
+    check_page(
+        &rt,
+        &mut pages,
+        2,
+        3,
+        NodeKind::Inner,
+        b"cf",
+        b"cf",
+        &[1, 2, 4],
+    )?;
+    check_page(&rt, &mut pages, 2, 1, NodeKind::Leaf, b"ab", b"ab", &[])?;
+    check_page(&rt, &mut pages, 2, 2, NodeKind::Leaf, b"de", b"de", &[])?;
+    check_page(&rt, &mut pages, 2, 4, NodeKind::Leaf, b"gh", b"gh", &[])?;
+    Ok(())
+}
+
+#[test]
+fn seven_keys_of_order_one(rt: HostRuntime) -> Result<(), Fail> {
+    let mut pages = new_pages(rt.alloc())?;
+    let mut tree = empty(1);
+    for key in b"abcdefg" {
+        tree = put(&rt, rt.alloc(), &mut pages, &tree, &[*key], &[*key])?.0;
+    }
+    assert_eq!(rt;
+        (tree.root, tree.height, tree.count, tree.used),
+        (7, 3, 7, 7)
+    );
+    for (n, key, sons) in [(7, b"d", [3, 6]), (3, b"b", [1, 2]), (6, b"f", [4, 5])] {
+        check_page(&rt, &mut pages, 1, n, NodeKind::Inner, key, key, &sons)?;
+    }
+    for (n, key) in [(1, b"a"), (2, b"c"), (4, b"e"), (5, b"g")] {
+        check_page(&rt, &mut pages, 1, n, NodeKind::Leaf, key, key, &[])?;
+    }
     Ok(())
 }
 
@@ -173,14 +203,23 @@ fn check_order(rt: &impl Abort, alloc: Global, order: u16, numbers: &[u16]) -> R
     let mut pages = new_pages(alloc)?;
     let mut tree = empty(order);
     for n in numbers {
-        tree = put(rt, alloc, &mut pages, &tree, &n.to_be_bytes(), b"v")?.0;
+        tree = put(
+            rt,
+            alloc,
+            &mut pages,
+            &tree,
+            &n.to_be_bytes(),
+            &n.to_be_bytes(),
+        )?
+        .0;
     }
     assert!(rt; 1 <= tree.order && tree.order <= 16 && tree.height <= 19);
     assert!(rt; tree.count <= 1_000_000 && tree.used <= 1_000_000);
     let elements = walk_again(rt, alloc, &mut pages, &tree)?;
     assert_eq!(rt; (elements.len(), tree.count), (300, 300));
     for (element, n) in elements.iter().zip(0..300u16) {
-        assert!(rt; element.0 == Key::new(&n.to_be_bytes())?);
+        let bytes = n.to_be_bytes();
+        assert!(rt; *element == (Key::new(&bytes)?, Record::new(&bytes)?));
     }
     assert_eq!(rt; pages.page_count(), tree.used + 1);
     check_nodes(&mut pages, tree.order)
@@ -281,13 +320,13 @@ fn a_tree_of_the_greatest_count(rt: HostRuntime) -> Result<(), Fail> {
     Ok(())
 }
 
-/// A leaf with one key, which has the record v.
+/// A leaf with one key, whose record is the key.
 fn leaf(key: u8) -> Result<Node, Fail>
     ensures stands { IfOk result (λ node. CanStand node 1) }
     ensures one { IfOk result (λ node. length node.elements.items ≡ 1) }
 {
+    let value = Record::new(&[key])?;
     let key = Key::new(&[key])?;
-    let value = Record::new(b"v")?;
     let _key = key.bytes().len();
     let _value = value.bytes().len();
     let mut elements = ArrayVec::new();
@@ -299,7 +338,7 @@ fn leaf(key: u8) -> Result<Node, Fail>
     })
 }
 
-/// An inner node with one key, which has the record v.
+/// An inner node with one key, whose record is the key.
 fn inner(key: u8, left: u32, right: u32) -> Result<Node, Fail>
     requires left { 0 < left }
     requires right { 0 < right }
@@ -399,7 +438,7 @@ fn check_found<S: Store>(
 ) -> Result<(), Fail> {
     assert!(rt; 1 <= tree.order && tree.order <= 16 && tree.height <= 19);
     let found = find(pages, tree, &Key::new(&[key])?);
-    assert!(rt; found == Ok(Some(Record::new(b"v")?)));
+    assert!(rt; found == Ok(Some(Record::new(&[key])?)));
     Ok(())
 }
 
@@ -423,7 +462,7 @@ fn keys_within_the_bounds_of_all_levels(rt: HostRuntime) -> Result<(), Fail> {
     let elements = walk_again(&rt, rt.alloc(), &mut pages, &tree_at(7, 3))?;
     assert_eq!(rt; elements.len(), 7);
     for (element, key) in elements.iter().zip(b"adgmnqt") {
-        assert!(rt; element.0 == Key::new(&[*key])?);
+        assert!(rt; *element == (Key::new(&[*key])?, Record::new(&[*key])?));
     }
     Ok(())
 }
@@ -458,6 +497,28 @@ fn a_page_that_is_met_twice(rt: HostRuntime) -> Result<(), Fail> {
     check_found(&rt, &mut pages, &tree_at(3, 2), b'a')?;
     check_damaged(&rt, rt.alloc(), &mut pages, &tree_at(4, 4), b'e', 4)?;
     Ok(())
+}
+
+/// Two pages with nothing in them, both in use.
+fn blank_pages(alloc: Global) -> Result<Pages<MemStore>, Fail> {
+    let mut pages = Vec::new(alloc);
+    if pages.push([0; 4096]).is_err() {
+        pages.push([0; 4096])?;
+    }
+    if pages.push([0; 4096]).is_err() {
+        pages.push([0; 4096])?;
+    }
+    Ok(Pages::new(alloc, MemStore::new(pages, 0), 2, BTreeSet::new(alloc)))
+}
+
+#[test]
+fn a_page_that_spells_no_node(rt: HostRuntime) -> Result<(), Fail> {
+    let mut pages = blank_pages(rt.alloc())?;
+    check_damaged(&rt, rt.alloc(), &mut pages, &tree_at(1, 1), b'a', 1)?;
+    check_damaged(&rt, rt.alloc(), &mut pages, &tree_at(1, 2), b'a', 1)?;
+    check_damaged(&rt, rt.alloc(), &mut pages, &tree_at(2, 1), b'a', 2)?;
+    add_page(&rt, rt.alloc(), &mut pages, &inner(b'm', 1, 9)?)?;
+    check_damaged(&rt, rt.alloc(), &mut pages, &tree_at(2, 2), b'a', 1)
 }
 
 #[test]

@@ -1,11 +1,12 @@
-ghost use Rattle.std.specs.Prelude.{◌≡◌, ◌+◌, ◌<◌, ◌≤◌, ◌++◌, ℕ, List, IsTrue, OnOk, MatchResult, length};
+ghost use Rattle.std.specs.Prelude.{◌≡◌, ◌+◌, ◌<◌, ◌≤◌, ◌++◌, ℕ, List, Err, IsTrue, IfOk, OnOk, MatchResult, length};
 ghost use Rattle.rec_types.specs.Table.{counted};
 ghost use Rattle.page_store.specs.PageMap.{at};
 ghost use Rattle.btree_node.specs.Lists.{Element};
 ghost use Rattle.btree_insert.specs.Bounds.{Between};
 ghost use Rattle.btree_insert.specs.Faults.{is_device};
 ghost use Rattle.btree_insert.specs.Growth.{IsOutside};
-ghost use Rattle.btree_insert.specs.PageTrees.{Fan, TreeAt, Holds};
+ghost use Rattle.btree_insert.specs.PageTrees.{Spells, Fan, TreeOf, TreeAt, Holds};
+ghost use Rattle.btree_insert.specs.Reached.{Adds, Walks};
 
 use crate::bounds::Bounds;
 use crate::reading::{kind_of_level, read_node};
@@ -31,6 +32,8 @@ pub fn walk<S: Store>(
     ensures walked { IsTrue pages.old.steady → (es : List Element) (us : List ℕ)
         → Holds (at pages.old.pages) tree.now es us
         → MatchResult result (λ elements. elements.items ≡ es) IsOutside }
+    ensures there { IsTrue pages.old.steady → IfOk result
+        (λ elements. Walks (Spells tree.now.order (at pages.old.pages)) tree.now elements.items) }
     ensures device { pages.new.failures ≡ counted pages.old.failures (is_device result) }
     ensures unchanged { pages.new
         ≡ record pages.old { reads = pages.new.reads; failures = pages.new.failures } }
@@ -74,6 +77,10 @@ fn walk_below<S: Store>(
         → TreeAt order (at pages.old.pages) least height n es us → Between bounds.now es
         → length us ≤ left.old
         → MatchResult result (λ _. (out.new.items ≡ out.old.items ++ es) × (left.new + length us ≡ left.old)) IsOutside }
+    ensures adds { IsTrue pages.old.steady → OnOk result
+        (Adds (TreeOf (Spells order (at pages.old.pages)) 1 1 height n)
+        bounds.now out.old.items out.new.items left.old left.new) }
+    ensures spent { left.old ≡ 0 → result ≡ Err (TreeFault.Damaged n) }
     ensures device { pages.new.failures ≡ counted pages.old.failures (is_device result) }
     ensures unchanged { pages.new
         ≡ record pages.old { reads = pages.new.reads; failures = pages.new.failures } }
@@ -119,6 +126,9 @@ fn walk_sons<S: Store>(
         → Fan (TreeAt order (at pages.old.pages) order height) sons.now elements.now es us → Between bounds.now es
         → length us ≤ left.old
         → MatchResult result (λ _. (out.new.items ≡ out.old.items ++ es) × (left.new + length us ≡ left.old)) IsOutside }
+    ensures adds { IsTrue pages.old.steady → Between bounds.now elements.now → OnOk result
+        (Adds (Fan (TreeOf (Spells order (at pages.old.pages)) 1 1 height) sons.now elements.now)
+        bounds.now out.old.items out.new.items left.old left.new) }
     ensures device { pages.new.failures ≡ counted pages.old.failures (is_device result) }
     ensures unchanged { pages.new
         ≡ record pages.old { reads = pages.new.reads; failures = pages.new.failures } }

@@ -5,7 +5,7 @@ use Rattle.rec_types.specs.Padded.{padded}
 use Rattle.btree_node.specs.declared.headers.Header.{Header}
 use Rattle.btree_node.specs.declared.headers.HeaderFault.{HeaderFault}
 use Rattle.btree_node.specs.declared.headers.HeaderFault.TheVariants.{BadMagic, BadVersion, BadOrder, NotClean, BadHeader}
-use Rattle.btree_node.specs.Layout.{page_width}
+use Rattle.btree_node.specs.Layout.{page_width, first_version, greatest_order}
 use Rattle.btree_node.specs.Reading.{part, number_at, IsZero}
 
 -- the text BMKRFILE
@@ -22,16 +22,16 @@ writing_state = 2
 -- the magic, the version, the order, the number of pages, the root, the number of records, the state
 unfoldable pub header_bytes : Header → ℕ → List ℕ
 header_bytes h state =
-    magic ++ big_bytes 2 1 ++ big_bytes 2 h.order ++ big_bytes 4 h.pages ++ big_bytes 4 h.root ++ big_bytes 4 h.count ++ (state ∷ [])
+    magic ++ big_bytes 2 first_version ++ big_bytes 2 h.order ++ big_bytes 4 h.pages ++ big_bytes 4 h.root ++ big_bytes 4 h.count ++ (state ∷ [])
 
 -- those, padded to a page
 unfoldable pub header_spelling : Header → ℕ → List ℕ
 header_spelling h state = padded page_width (header_bytes h state)
 
--- what a page can hold: an order from 1 to 16, and numbers of four bytes
+-- what a page can hold: an order from 1 to the greatest, and numbers of four bytes
 pub record HeaderFits (h : Header) : Type 0 where
   pub some_order : 1 ≤ h.order
-  pub most_order : h.order ≤ 16
+  pub most_order : h.order ≤ greatest_order
   pub pages : h.pages < 2 ^ 32
   pub root : h.root < 2 ^ 32
   pub count : h.count < 2 ^ 32
@@ -52,8 +52,8 @@ state_at page = slice_index page 24
 -- the page passes the test for a fault. The last test is of the state and of the bytes behind it.
 unfoldable pub HeaderPasses : List ℕ → HeaderFault → Type 0
 HeaderPasses page BadMagic = part 0 8 page ≡ magic
-HeaderPasses page (BadVersion version) = version_at page ≡ 1
-HeaderPasses page BadOrder = (1 ≤ order_at page) × (order_at page ≤ 16)
+HeaderPasses page (BadVersion version) = version_at page ≡ first_version
+HeaderPasses page BadOrder = (1 ≤ order_at page) × (order_at page ≤ greatest_order)
 HeaderPasses page NotClean = state_at page ≡ writing_state → ⊥
 HeaderPasses page BadHeader = ((state_at page ≡ clean_state) ⊎ (state_at page ≡ writing_state)) × IsZero (drop 25 page)
 
@@ -61,9 +61,9 @@ HeaderPasses page BadHeader = ((state_at page ≡ clean_state) ⊎ (state_at pag
 abbrev pub HeaderPassesBefore : List ℕ → HeaderFault → Type 0
 HeaderPassesBefore page BadMagic = Unit {0}
 HeaderPassesBefore page (BadVersion version) = (HeaderPasses page BadMagic) × (version_at page ≡ version)
-HeaderPassesBefore page BadOrder = HeaderPasses page BadMagic × HeaderPasses page (BadVersion 1)
-HeaderPassesBefore page NotClean = HeaderPasses page BadMagic × HeaderPasses page (BadVersion 1) × HeaderPasses page BadOrder
-HeaderPassesBefore page BadHeader = HeaderPasses page BadMagic × HeaderPasses page (BadVersion 1) × HeaderPasses page BadOrder × HeaderPasses page NotClean
+HeaderPassesBefore page BadOrder = HeaderPasses page BadMagic × HeaderPasses page (BadVersion first_version)
+HeaderPassesBefore page NotClean = HeaderPasses page BadMagic × HeaderPasses page (BadVersion first_version) × HeaderPasses page BadOrder
+HeaderPassesBefore page BadHeader = HeaderPasses page BadMagic × HeaderPasses page (BadVersion first_version) × HeaderPasses page BadOrder × HeaderPasses page NotClean
 
 -- the page fails the test for a fault, and none before it. BadVersion tells the version of the page.
 pub record FirstHeaderFault (page : List ℕ) (fault : HeaderFault) : Type 0 where

@@ -10,6 +10,14 @@ first_layout = record { record_width = 32 }
 abbrev pub widest_record : ℕ
 widest_record = 32
 
+-- the number of the first file version
+abbrev pub first_version : ℕ
+first_version = 1
+
+-- the greatest order of a tree: a page of it has room for its places and sons
+abbrev pub greatest_order : ℕ
+greatest_order = 16
+
 -- the bytes of a page
 abbrev pub page_width : ℕ
 page_width = 4096

@@ -39,11 +39,15 @@ spelling_in layout n k =
 abbrev pub spelling : Node → ℕ → List ℕ
 spelling n k = spelling_in first_layout n k
 
--- a key of 1 to 16 bytes, and a record that the layout has room for
+-- a key of 1 byte to the bytes that it may take, and a record that the layout has room for
 pub record ElementFits (layout : Layout) (e : Element) : Type 0 where
   pub key_some : 0 < length e.0
   pub key_most : length e.0 ≤ key_width
   pub record_most : length e.1 ≤ layout.record_width
+
+-- the same for the first file version
+abbrev pub IsElement : Element → Type 0
+IsElement = ElementFits first_layout
 
 -- a page number of four bytes that is not 0
 pub record IsSon (s : ℕ) : Type 0 where

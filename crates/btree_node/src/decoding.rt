@@ -1,5 +1,5 @@
 ghost use Rattle.std.specs.Prelude.{◌≡◌, ℕ, ◌+◌, ◌*◌, ◌^◌, ◌<◌, ◌≤◌, ◌↔◌, Ok, IfOk, IfErr, MatchResult, length, All, IsTrue};
-ghost use Rattle.btree_node.specs.Layout.{place_width, sons_start, widest_record};
+ghost use Rattle.btree_node.specs.Layout.{key_width, record_at, place_width, sons_start, widest_record};
 ghost use Rattle.btree_node.specs.Lists.{Below, Ascends};
 ghost use Rattle.btree_node.specs.Spelling.{spelling, spelling_in, CanStand, CanStandIn};
 ghost use Rattle.btree_node.specs.Reading.{kind_at, count_at, place_at, element_in, elements_at, son_at, sons_at, sons_of_kind, kind_read, node_at, key_length, record_length, KeyLengths, RecordLengths, PassesBefore, FirstFault, FirstFaultIn};
@@ -164,9 +164,9 @@ fn elements_of(layout: Layout, page: &[u8; 4096], count: usize) -> ArrayVec<(Key
 #[tactic(auto, unfolding(crate::specs::Reading::element_in, crate::specs::Reading::key_length, crate::specs::Reading::record_length))]
 fn element_of(place: &[u8]) -> (Key, Record)
     requires key_some { 0 < key_length place.now }
-    requires key_most { key_length place.now ≤ 16 }
+    requires key_most { key_length place.now ≤ key_width }
     requires record_most { record_length place.now ≤ widest_record }
-    requires record_within { 18 + record_length place.now ≤ length place.now }
+    requires record_within { record_at + 1 + record_length place.now ≤ length place.now }
     ensures { result ≡ element_in place.now }
 {
     let key = Key::new(part_of(place, 1, place[0] as usize));

@@ -2,6 +2,7 @@
 ghost use Rattle.std.specs.Prelude.{◌≡◌, ℕ, ◌≤◌, List, [], ◌∷◌, slice_index_or};
 ghost use Rattle.btree_node.specs.Cut.{left_of, right_of};
 ghost use Rattle.btree_node.specs.Examples.{element, leaf, inner, leaves, inner_nodes, b, c, d, e, f, g};
+ghost use Rattle.btree_node.specs.Layout.{greatest_order};
 ghost use Rattle.btree_node.specs.Joined.{joined, half_of_both};
 ghost use Rattle.btree_node.specs.Lists.{Element};
 ghost use Rattle.btree_node.specs.Spelling.{spelling, CanStand};
@@ -9,10 +10,11 @@ ghost use Rattle.btree_node.specs.HeaderSpelling.{header_spelling, HeaderFits};
 ghost use Rattle.btree_node.specs.declared.headers.Header.{Header};
 ghost use Rattle.btree_node.specs.declared.nodes.Node.{Node};
 
-/// A page spells at most one node of an order.
+/// A page spells at most one node of an order: nodes that can stand in a page and have one spelling are
+/// equal.
 pub fn one_spelling()
-    ensures { (page : List ℕ) (k : ℕ) (n m : Node) → k ≤ 16
-        → CanStand n k → page ≡ spelling n k → CanStand m k → page ≡ spelling m k → n ≡ m }
+    ensures { (k : ℕ) (n m : Node) → k ≤ greatest_order → CanStand n k → CanStand m k
+        → spelling n k ≡ spelling m k → n ≡ m }
 {}
 
 /// A page spells at most one header, in one state.

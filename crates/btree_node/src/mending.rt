@@ -1,9 +1,8 @@
 ghost use Rattle.std.specs.Prelude.{◌≡◌, ◌+◌, ◌*◌, ◌<◌, ◌≤◌, ◌++◌, length, take, drop, slice_index_or};
 ghost use Rattle.btree_node.specs.Cut.{left_of, right_of};
 ghost use Rattle.btree_node.specs.Joined.{joined, keys_of_both, half_of_both, AreBrothers};
-ghost use Rattle.btree_node.specs.Layout.{first_layout};
 ghost use Rattle.btree_node.specs.Lists.{Element, Each};
-ghost use Rattle.btree_node.specs.Spelling.{ElementFits, CanStand};
+ghost use Rattle.btree_node.specs.Spelling.{IsElement, CanStand};
 
 use crate::nodes::Node;
 use crate::splitting::items_from;
@@ -20,7 +19,7 @@ pub fn catenate(mut left: Node, middle: (Key, Record), right: Node, k: u16) -> N
     requires brothers { AreBrothers left middle right }
     requires few { keys_of_both left right < 2 * k }
     ensures joined { result ≡ joined left middle right }
-    ensures stands { Each (ElementFits first_layout) (joined left middle right).elements.items
+    ensures stands { Each (IsElement) (joined left middle right).elements.items
         → CanStand result k }
 {
     left.elements.push(middle);
@@ -62,7 +61,7 @@ pub fn distribute(
     // What the pages of order k hold.
     ensures left_least { k ≤ length result.0.elements.items }
     ensures right_least { k ≤ length result.2.elements.items }
-    ensures stand { Each (ElementFits first_layout) (joined left middle right).elements.items
+    ensures stand { Each (IsElement) (joined left middle right).elements.items
         → CanStand result.0 k × CanStand result.2 k }
 {
     let cut = (left.elements.len() + right.elements.len()) / 2;

@@ -1,4 +1,4 @@
-use Rattle.std.proofs.Common.{◌-◌, ℕ, List, Option, length, ap, sym, subst, arith}
+use Rattle.std.proofs.Common.{◌-◌, ℕ, List, Option, length, ap, sym, subst, arith, None}
 use Rattle.std.proofs.lemmas.Result.{err_from_is_err_and}
 use Rattle.page_store.specs.PageMap.{at, after}
 use Rattle.page_store.specs.PagesView.{PagesView}
@@ -7,7 +7,7 @@ use Rattle.btree_insert.proofs.BoundFacts.{Between-all}
 use Rattle.btree_insert.proofs.MetFacts.{unmet_none}
 use Rattle.btree_insert.proofs.TreeFacts.{root_tree}
 use Rattle.btree_delete.specs.declared.shrinking.Shrunk.{Shrunk}
-use Rattle.btree_delete.specs.Removal.{remove_in}
+use Rattle.btree_insert.specs.Contents.{set_in}
 use Rattle.btree_delete.specs.Shrinking.{Leaves, Removes}
 use Rattle.btree_delete.specs.Tidy.{IsTidy}
 use Rattle.btree_delete.proofs.RootFacts.{deleted_at, deleted_none}
@@ -45,7 +45,7 @@ returns-in_err-shrunk-2-clause-deleted g c = λ steady es us holds.
     let call = c.in_ok-shrunk.ensures.removes steady 1 es us c.requires.some_order (root_tree T.order P T.height T.root es us (omega arith) holds.tree) (Between-all es holds.ascends) holds.apart (unmet_none c.new-met.result.items us c.new-met.ensures) in
     let some = subst (λ (s : Option Shrunk). Removes T.order P (after P ws fs) 0 (length fs) 1 (T.height - 1) T.root es us c.new-met.result.items c.delete_below.new.met.items c.args.key.now s) c.in-Some.is call in
     let there = subst (λ (ps : List (Option (List ℕ))). Holds (at ps) T es us) (sym pages_is) holds in
-    let leaves = subst (λ (ps : List (Option (List ℕ))). Leaves T.order (at ps) (after (at ps) ws fs) 0 (length fs) 1 (T.height - 1) T.root us (remove_in c.args.key.now es) c.in-Some.shrunk) (sym pages_is) some.drops.1 in
+    let leaves = subst (λ (ps : List (Option (List ℕ))). Leaves T.order (at ps) (after (at ps) ws fs) 0 (length fs) 1 (T.height - 1) T.root us (set_in c.args.key.now None es) c.in-Some.shrunk) (sym pages_is) some.drops.1 in
     rw (p.1, p.2) (c.in_err-shrunk-2.ensures.deleted es us c.args.key.now there some.drops.0 leaves)
 
 pub returns-clause-deleted : goal.returns-clause-deleted
@@ -58,6 +58,6 @@ returns-clause-deleted g c = λ steady es us holds.
     let call = c.in_ok-shrunk.ensures.removes steady 1 es us c.requires.some_order (root_tree T.order P T.height T.root es us (omega arith) holds.tree) (Between-all es holds.ascends) holds.apart (unmet_none c.new-met.result.items us c.new-met.ensures) in
     let some = subst (λ (s : Option Shrunk). Removes T.order P (after P ws fs) 0 (length fs) 1 (T.height - 1) T.root es us c.new-met.result.items c.delete_below.new.met.items c.args.key.now s) c.in-Some.is call in
     let there = subst (λ (ps : List (Option (List ℕ))). Holds (at ps) T es us) (sym pages_is) holds in
-    let leaves = subst (λ (ps : List (Option (List ℕ))). Leaves T.order (at ps) (after (at ps) ws fs) 0 (length fs) 1 (T.height - 1) T.root us (remove_in c.args.key.now es) c.in-Some.shrunk) (sym pages_is) some.drops.1 in
+    let leaves = subst (λ (ps : List (Option (List ℕ))). Leaves T.order (at ps) (after (at ps) ws fs) 0 (length fs) 1 (T.height - 1) T.root us (set_in c.args.key.now None es) c.in-Some.shrunk) (sym pages_is) some.drops.1 in
     let done = c.in_ok-shrunk-2.ensures.deleted es us c.args.key.now there some.drops.0 leaves in
     deleted_at P (at c.delete_below.new.pages.pages) (after (at c.delete_below.new.pages.pages) c.shrink_tree.new.edit.writes.items c.shrink_tree.new.edit.freed.items) (at c.stage.new.self.pages) T c.in_ok-shrunk-2.shrunk.0 es us c.args.key.now c.in_ok-shrunk-2.shrunk.1 (ap (λ (v : PagesView). at v.pages) c.delete_below.ensures.unchanged) c.in_ok-stage.ensures.pages done

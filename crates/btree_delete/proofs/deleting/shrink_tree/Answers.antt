@@ -1,7 +1,7 @@
 use Rattle.std.proofs.Common.{◌≡◌, ◌-◌, ℕ, Some, None, length, ap, ◌∙◌, subst, arith, ◌≤◌}
 use Rattle.page_store.specs.PageMap.{at, after}
 use Rattle.btree_delete.specs.declared.shrinking.Shrunk.{Shrunk}
-use Rattle.btree_delete.specs.Removal.{remove_in}
+use Rattle.btree_insert.specs.Contents.{set_in}
 use Rattle.btree_delete.specs.Shrinking.{GoesUp, Leaves, gone}
 use Rattle.btree_delete.proofs.RootFacts.{shrank_whole, shrank_short, shrank_deleted, shrink_tidy, tidy_stages}
 use Rattle.btree_delete.proofs.deleting.shrink_tree.Goals as goal
@@ -13,8 +13,8 @@ returns-in_ok-next-in-Whole-clause-deleted g c = λ es us key holds found leaves
     let fs = c.args.edit.now.freed.items in
     let T = c.args.tree.now in
     let found2 = found ∙ ap (λ (s : Shrunk). Some (gone s).1) c.in-Whole.is in
-    let leaves2 = subst (λ (s : Shrunk). Leaves T.order P (after P ws fs) 0 (length fs) 1 (T.height - 1) T.root us (remove_in key es) s) c.in-Whole.is leaves in
-    let shrank = shrank_whole P T ws fs us (remove_in key es) c.in-Whole.removed c.requires.height leaves2 in
+    let leaves2 = subst (λ (s : Shrunk). Leaves T.order P (after P ws fs) 0 (length fs) 1 (T.height - 1) T.root us (set_in key None es) s) c.in-Whole.is leaves in
+    let shrank = shrank_whole P T ws fs us (set_in key None es) c.in-Whole.removed c.requires.height leaves2 in
     let len_is : c.len.result ≡ length fs = c.len.ensures ∙ c.args.edit.now.freed.ok.0 in
     let next_is = c.in_ok-next-in-Whole.ensures.value ∙ ap (λ (n : ℕ). record T { count = T.count - 1; used = T.used - n }) len_is in
     shrank_deleted P (after P ws fs) T T c.in_ok-next-in-Whole.next es us key c.in-Whole.removed.1 (length fs) holds found2 shrank c.in_ok-next-in-Whole.ensures.enough.0 (subst (λ (n : ℕ). n ≤ T.used) len_is c.in_ok-next-in-Whole.ensures.enough.1) next_is
@@ -33,9 +33,9 @@ returns-in_ok-next-in-Short-clause-deleted g c = λ es us key holds found leaves
     let T = c.args.tree.now in
     let S = c.in_ok-shrunk-in-Short.shrunk in
     let found2 = found ∙ ap (λ (s : Shrunk). Some (gone s).1) c.in-Short.is in
-    let leaves2 = subst (λ (s : Shrunk). Leaves T.order P (after P ws fs) 0 (length fs) 1 (T.height - 1) T.root us (remove_in key es) s) c.in-Short.is leaves in
+    let leaves2 = subst (λ (s : Shrunk). Leaves T.order P (after P ws fs) 0 (length fs) 1 (T.height - 1) T.root us (set_in key None es) s) c.in-Short.is leaves in
     let up = subst (GoesUp T.order T.height (record { low = None; high = None }) T.root ws fs) c.in-Short.is c.requires.up in
-    let shrank = shrank_short P T S ws ws2 fs fs2 us (remove_in key es) c.in-Short.removed c.in-Short.node (record { low = None; high = None }) c.requires.some_order c.requires.height up.0 up.2 leaves2 c.in_ok-shrunk-in-Short.ensures.shrinks in
+    let shrank = shrank_short P T S ws ws2 fs fs2 us (set_in key None es) c.in-Short.removed c.in-Short.node (record { low = None; high = None }) c.requires.some_order c.requires.height up.0 up.2 leaves2 c.in_ok-shrunk-in-Short.ensures.shrinks in
     let len_is : c.len-in-Short.result ≡ length fs2 = c.len-in-Short.ensures ∙ c.shrink_root.new.edit.freed.ok.0 in
     let next_is = c.in_ok-next-in-Short.ensures.value ∙ ap (λ (n : ℕ). record S { count = S.count - 1; used = S.used - n }) len_is in
     shrank_deleted P (after P ws2 fs2) T S c.in_ok-next-in-Short.next es us key c.in-Short.removed.1 (length fs2) holds found2 shrank c.in_ok-next-in-Short.ensures.enough.0 (subst (λ (n : ℕ). n ≤ S.used) len_is c.in_ok-next-in-Short.ensures.enough.1) next_is

@@ -12,7 +12,7 @@ use Rattle.btree_insert.proofs.MetFacts.{unmet_below, apart_below}
 use Rattle.btree_insert.proofs.TreeFacts.{Top, top, read_top, head_each}
 use Rattle.btree_delete.specs.declared.shrinking.Shrunk.TheVariants.{Whole, Short}
 use Rattle.btree_delete.specs.Mending.{element_at, son_at}
-use Rattle.btree_delete.specs.Removal.{remove_in}
+use Rattle.btree_insert.specs.Contents.{set_in}
 use Rattle.btree_delete.specs.Shrinking.{IsThin, StaysUnmet, GoesUp, MayGoUp, Removes}
 use Rattle.btree_delete.specs.Tidy.{is_met, Untouched, IsTidy, IsVisit}
 use Rattle.btree_delete.proofs.CallFacts.{known_there, removed_here}
@@ -114,7 +114,7 @@ returns-in_err-mend-in-Some-Short-clause-removes g t c = λ steady least es us l
     let fair = remove-between_bounds c.args.bounds.now c.args.key.now es between in
     let later_is = ap (λ (v : PagesView). v.pages) c.delete_below.ensures.unchanged ∙ pages_is in
     let later_steady = ap (λ (v : PagesView). v.steady) c.delete_below.ensures.unchanged ∙ ap (λ (v : PagesView). v.steady) c.visit.ensures.unchanged ∙ steady in
-    rw (p.1, p.2) (ask (IsOutside c.in_err-mend-in-Some-Short.field-0.0) c.args.order P (after P ws fs) met2 0 (length fs) (level - 1) level c.args.n (son_at n i) c.in-Some-Short.son n (remove_in c.args.key.now es) us c.args.bounds.now i (sym up) c.in_ok-node.ensures.some c.in-Err.ensures.within refl fair broken.0
+    rw (p.1, p.2) (ask (IsOutside c.in_err-mend-in-Some-Short.field-0.0) c.args.order P (after P ws fs) met2 0 (length fs) (level - 1) level c.args.n (son_at n i) c.in-Some-Short.son n (set_in c.args.key.now None es) us c.args.bounds.now i (sym up) c.in_ok-node.ensures.some c.in-Err.ensures.within refl fair broken.0
     (λ less o spells2 kind within free. c.in_err-mend-in-Some-Short.ensures.right later_steady less o (subst (λ (z : List (Option (List ℕ))). Spells c.args.order (at z) (son_at n (suc i)) o) (sym later_is) spells2) kind within free)
     (λ j is last o spells2 kind within free. c.in_err-mend-in-Some-Short.ensures.left later_steady j is last o (subst (λ (z : List (Option (List ℕ))). Spells c.args.order (at z) (son_at n j) o) (sym later_is) spells2) kind within free))
 
@@ -174,7 +174,7 @@ returns-in_ok-settle-in-Some-Short-clause-removes g t c = λ steady least es us 
     let visited = subst (λ (x : ℕ). IsVisit c.visit.new.met.items met2 ws fs level x) n_is c.in_ok-removed-in-Err.ensures.visit in
     let page = mended_page c.args.met.now.items c.visit.new.met.items met2 level c.args.n (son_at n i) ws ws2 fs fs2 c.in_ok-node.ensures.met visited c.in_ok-mend-in-Some-Short.ensures.others in
     let goes = subst (MayGoUp c.args.order level c.bounds_of_son-below.result (get_or c.deref.result.now i 0) ws fs) (c.in-Some-Short.is ∙ ap Some c.in-Some-Short.field-0-is) c.in_ok-removed-in-Err.ensures.up in
-    let mended = mend_son c.args.order P met2 met3 0 (level - 1) level c.args.n (son_at n i) c.in-Some-Short.son n G ws ws2 fs fs2 (remove_in c.args.key.now es) us c.args.bounds.now i c.requires.some_order (sym up) c.in_ok-node.ensures.some c.in-Err.ensures.within refl fair
+    let mended = mend_son c.args.order P met2 met3 0 (level - 1) level c.args.n (son_at n i) c.in-Some-Short.son n G ws ws2 fs fs2 (set_in c.args.key.now None es) us c.args.bounds.now i c.requires.some_order (sym up) c.in_ok-node.ensures.some c.in-Err.ensures.within refl fair
     (subst (λ (z : ℕ). Untouched ws fs z) n_is goes.2) c.in_ok-removed-in-Err.ensures.tidy.unmet broken.0
     (λ less o spells2 kind within free. c.in_ok-mend-in-Some-Short.ensures.right later_steady less o (subst (λ (z : List (Option (List ℕ))). Spells c.args.order (at z) (son_at n (suc i)) o) (sym later_is) spells2) kind within free)
     (λ j is last o spells2 kind within free. c.in_ok-mend-in-Some-Short.ensures.left later_steady j is last o (subst (λ (z : List (Option (List ℕ))). Spells c.args.order (at z) (son_at n j) o) (sym later_is) spells2) kind within free) in

@@ -1,4 +1,4 @@
-use Rattle.std.proofs.Common.{◌≡◌, ◌+◌, ◌-◌, ℕ, suc, List, Option, Some, [], ◌∷◌, ◌++◌, false, length, get_or, refl, ap, sym, ◌∙◌, subst, arith, inr}
+use Rattle.std.proofs.Common.{◌≡◌, ◌+◌, ◌-◌, ℕ, suc, List, Option, Some, [], ◌∷◌, ◌++◌, false, length, get_or, refl, ap, sym, ◌∙◌, subst, arith, inr, None}
 use Rattle.std.proofs.lemmas.List.{get_or_default, length-set}
 use Rattle.std.proofs.lemmas.Result.{err_from_is_err_and}
 use Rattle.page_store.specs.PageMap.{at, after}
@@ -6,7 +6,7 @@ use Rattle.page_store.specs.PagesView.{PagesView}
 use Rattle.btree_node.specs.declared.nodes.Node.{Node}
 use Rattle.btree_node.specs.Lists.{Element}
 use Rattle.btree_insert.specs.Bounds.{son_bounds}
-use Rattle.btree_insert.specs.Contents.{lookup_in}
+use Rattle.btree_insert.specs.Contents.{lookup_in, set_in}
 use Rattle.btree_insert.specs.Growth.{IsOutside, IsWithin}
 use Rattle.btree_insert.specs.PageTrees.{TreeAt, Body, Spells}
 use Rattle.btree_insert.proofs.GrowFacts.{tree_move}
@@ -15,7 +15,6 @@ use Rattle.btree_insert.proofs.MetFacts.{apart_below}
 use Rattle.btree_insert.proofs.TreeFacts.{Top}
 use Rattle.btree_delete.specs.declared.shrinking.Shrunk.TheVariants.{Whole, Short}
 use Rattle.btree_delete.specs.Mending.{element_at, son_at}
-use Rattle.btree_delete.specs.Removal.{remove_in}
 use Rattle.btree_delete.specs.Shrinking.{IsThin, behind, GoesUp, GoesUpBehind, Removes}
 use Rattle.btree_delete.specs.Tidy.{is_met, Untouched, IsTidy}
 use Rattle.btree_delete.proofs.CallFacts.{known_there, took_here}
@@ -184,7 +183,7 @@ returns-in_err-mend-in-Short-clause-removes g c = λ steady least es us below lo
     let fair = remove-between_bounds c.args.bounds.now key es between in
     let later_is = ap (λ (v : PagesView). v.pages) c.take_first_below.ensures.unchanged in
     let later_steady = ap (λ (v : PagesView). v.steady) c.take_first_below.ensures.unchanged ∙ steady in
-    rw (p.1, p.2) (ask (IsOutside c.in_err-mend-in-Short.field-0.0) c.args.order P (after P ws fs) met2 0 (length fs) (level - 1) level c.args.n (son_at n (suc i)) c.in-Short.son m (remove_in key es) us c.args.bounds.now (i + 1) (sym up) (omega (arith, size, c.requires.place)) (omega (arith, size, c.requires.place)) s_is fair broken
+    rw (p.1, p.2) (ask (IsOutside c.in_err-mend-in-Short.field-0.0) c.args.order P (after P ws fs) met2 0 (length fs) (level - 1) level c.args.n (son_at n (suc i)) c.in-Short.son m (set_in key None es) us c.args.bounds.now (i + 1) (sym up) (omega (arith, size, c.requires.place)) (omega (arith, size, c.requires.place)) s_is fair broken
     (λ less o spells2 kind within free. c.in_err-mend-in-Short.ensures.right later_steady less o (subst (λ (z : List (Option (List ℕ))). Spells c.args.order (at z) (son_at m (suc (i + 1))) o) (sym later_is) spells2) kind within free)
     (λ j is last o spells2 kind within free. c.in_err-mend-in-Short.ensures.left later_steady j is last o (subst (λ (z : List (Option (List ℕ))). Spells c.args.order (at z) (son_at m j) o) (sym later_is) spells2) kind within free))
 
@@ -299,7 +298,7 @@ returns-in_ok-settle-in-Short-clause-removes g c = λ steady least es us below l
     let fs2 = c.mend.new.edit.freed.items in
     let ws3 = c.settle-in-Short.new.edit.writes.items in
     let met3 = c.mend.new.met.items in
-    let mended = mend_son c.args.order P met2 met3 0 (level - 1) level c.args.n (son_at n (suc i)) c.in-Short.son m G ws ws2 fs fs2 (remove_in key es) us c.args.bounds.now (i + 1) c.requires.some_order (sym up) (omega (arith, size, c.requires.place)) (omega (arith, size, c.requires.place)) s_is fair
+    let mended = mend_son c.args.order P met2 met3 0 (level - 1) level c.args.n (son_at n (suc i)) c.in-Short.son m G ws ws2 fs fs2 (set_in key None es) us c.args.bounds.now (i + 1) c.requires.some_order (sym up) (omega (arith, size, c.requires.place)) (omega (arith, size, c.requires.place)) s_is fair
     (subst (λ (z : ℕ). Untouched ws fs z) (n_is ∙ s_is) goes.4) c.in_ok-next.ensures.tidy.unmet broken
     (λ less o spells2 kind within free. c.in_ok-mend-in-Short.ensures.right later_steady less o (subst (λ (z : List (Option (List ℕ))). Spells c.args.order (at z) (son_at m (suc (i + 1))) o) (sym later_is) spells2) kind within free)
     (λ j is last o spells2 kind within free. c.in_ok-mend-in-Short.ensures.left later_steady j is last o (subst (λ (z : List (Option (List ℕ))). Spells c.args.order (at z) (son_at m j) o) (sym later_is) spells2) kind within free) in

@@ -1,11 +1,14 @@
-use Rattle.std.proofs.Common.{◌≡◌, ◌-◌, ℕ, List, MatchResult, get_or, ap, sym, ◌∙◌, subst, arith, Some}
+use Rattle.std.proofs.Common.{◌≡◌, ◌-◌, ℕ, suc, List, MatchResult, get_or, ap, sym, ◌∙◌, subst, arith, Some}
+use Rattle.std.proofs.lemmas.List.{get_or_default}
 use Rattle.std.proofs.lemmas.Result.{err_from_is_err_and}
 use Rattle.page_store.specs.PagesView.{PagesView}
 use Rattle.page_store.specs.PageMap.{at}
 use Rattle.btree_node.specs.Lists.{Element}
 use Rattle.btree_insert.specs.declared.trees.TreeFault.TheVariants.{Device}
 use Rattle.btree_insert.specs.Bounds.{Between, son_bounds}
-use Rattle.btree_insert.specs.PageTrees.{TreeAt}
+use Rattle.btree_insert.specs.PageTrees.{Spells, TreeAt}
+use Rattle.btree_insert.specs.Reached.{Leads}
+use Rattle.btree_insert.proofs.ReachFacts.{if_ok, leads_here, leads_on, leads_below}
 use Rattle.btree_insert.proofs.TreeFacts.{top, read_top, find_here, find_no_more, find_son}
 use Rattle.btree_insert.proofs.finding.+find_below.Goals as goal
 
@@ -39,3 +42,27 @@ returns-else-height-eq1-clause-found g t c = λ steady least es us tree between.
     let call = c.find_below.ensures.found (ap (λ (v : PagesView). v.steady) c.read_node.ensures.unchanged ∙ steady) c.args.order son.xs son.mine
     (subst (λ (q : ℕ). TreeAt c.args.order (at c.read_node.new.pages.pages) c.args.order (c.args.height - 1) q son.xs son.mine) n_is after_read) (subst (λ b. Between b son.xs) (sym b_is) son.between) in
     subst (λ o. MatchResult c.find_below.result (λ found. found ≡ o) (λ fault. fault ≡ Device)) son.same call
+
+pub returns-in-Ok-clause-led : goal.returns-in-Ok-clause-led
+returns-in-Ok-clause-led g t c = λ steady.
+    let place = c.in-Ok.ensures.found c.in_ok-node.ensures.stands.0.ascends in
+    let els = c.in_ok-node.node.elements.items in
+    leads_here (Spells c.args.order (at c.args.pages.now.pages)) c.args.key.now c.args.height (c.args.height - 1) c.args.n c.args.bounds.now c.in_ok-node.node c.in-Ok.i (Some (get_or c.deref.result.now c.in-Ok.i c.index-deref-i.result).1) (omega arith)
+    (c.in_ok-node.ensures.spells steady) (c.in_ok-node.ensures.stands.1 ∙ c.kind_of_level.ensures) c.in_ok-node.ensures.within place
+    (λ d. ap (λ (x : Element). Some x.1) (ap (λ (xs : List Element). get_or xs c.in-Ok.i c.index-deref-i.result) c.deref.ensures.0 ∙ get_or_default els c.in-Ok.i c.index-deref-i.result d place.within))
+
+pub returns-else-height-eq1-clause-led : goal.returns-else-height-eq1-clause-led
+returns-else-height-eq1-clause-led g t c = λ steady.
+    let spells = Spells c.args.order (at c.args.pages.now.pages) in
+    let node = c.in_ok-node.node in
+    let s = get_or node.sons.items c.in-Err.i 0 in
+    let q = get_or c.deref-in-Err.result.now c.in-Err.i 0 in
+    let b = son_bounds node.elements.items c.in-Err.i c.args.bounds.now in
+    let pages_is : at c.read_node.new.pages.pages ≡ at c.args.pages.now.pages = ap (λ (v : PagesView). at v.pages) c.read_node.ensures.unchanged in
+    let b_is = c.bounds_of_son-below.ensures ∙ ap (λ (els : List Element). son_bounds els c.in-Err.i c.args.bounds.now) c.as_slice.ensures.value in
+    let low_is : c.args.height - 1 ≡ suc (c.args.height - 2) = omega arith in
+    if_ok c.find_below.result (Leads (Spells c.args.order (at c.read_node.new.pages.pages)) c.args.key.now (c.args.height - 1) q c.bounds_of_son-below.result) (Leads spells c.args.key.now c.args.height c.args.n c.args.bounds.now)
+    (λ found leads. leads_on spells c.args.key.now c.args.height (c.args.height - 2) c.args.n c.args.bounds.now node c.in-Err.i found (omega (arith, low_is)) (c.in_ok-node.ensures.spells steady) (c.in_ok-node.ensures.stands.1 ∙ c.kind_of_level.ensures) c.in_ok-node.ensures.within
+    (c.in-Err.ensures.found c.in_ok-node.ensures.stands.0.ascends)
+    (leads_below c.args.order (at c.args.pages.now.pages) (at c.read_node.new.pages.pages) c.args.key.now (c.args.height - 1) (c.args.height - 2) q s b c.bounds_of_son-below.result found pages_is low_is (ap (λ (xs : List ℕ). get_or xs c.in-Err.i 0) c.deref-in-Err.ensures.0) b_is leads))
+    (c.find_below.ensures.led (ap (λ (v : PagesView). v.steady) c.read_node.ensures.unchanged ∙ steady))

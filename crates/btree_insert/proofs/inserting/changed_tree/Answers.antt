@@ -5,7 +5,7 @@ use Rattle.btree_node.specs.declared.nodes.Node.{Node}
 use Rattle.btree_node.specs.Spelling.{spelling}
 use Rattle.btree_insert.specs.declared.growing.Grown.{Grown}
 use Rattle.btree_insert.specs.declared.trees.Tree.{Tree}
-use Rattle.btree_insert.specs.Contents.{put_in}
+use Rattle.btree_insert.specs.Contents.{set_in}
 use Rattle.btree_insert.specs.Growth.{Grew, GoesUp, Takes, Whole}
 use Rattle.btree_insert.proofs.GrowFacts.{in_use}
 use Rattle.btree_insert.proofs.InsertFacts.{next_inserted, root_up, root_stands, son_in_use}
@@ -36,10 +36,10 @@ returns-in_ok-root-in-Split-clause-grew g c = λ es us key value holds below.
     let left = son_in_use (at c.args.pages.now.pages) c.args.tree.now.root c.page_count-count.ensures.header c.requires.in_use c.fits-tree.1.0.1 in
     let stands = root_stands c.args.tree.now.order c.args.tree.now.root c.in-Split.right c.in-Split.middle c.requires.some_order up.0 left up.2 in
     let ws_is = subst (λ (n : Node). c.add_node.new.edit.writes.items ≡ c.args.edit.now.writes.items ++ (c.in_ok-root-in-Split.root, spelling n c.args.tree.now.order) ∷ []) c.root_node.ensures c.in_ok-root-in-Split.ensures.writes in
-    let whole = root_up c.args.tree.now.order (at c.args.pages.now.pages) c.args.edit.now.writes.items c.add_node.new.edit.writes.items (candidate c.args.pages.now.pages) c.args.edit.now.taken c.args.tree.now.height c.args.tree.now.root c.in_ok-root-in-Split.root us (put_in key value es) c.in-Split.middle c.in-Split.right
+    let whole = root_up c.args.tree.now.order (at c.args.pages.now.pages) c.args.edit.now.writes.items c.add_node.new.edit.writes.items (candidate c.args.pages.now.pages) c.args.edit.now.taken c.args.tree.now.height c.args.tree.now.root c.in_ok-root-in-Split.root us (set_in key (Some value) es) c.in-Split.middle c.in-Split.right
     c.requires.some_height (candidates_free c.args.pages.now.pages) used grew.grows c.in_ok-root-in-Split.ensures.number stands ws_is in
     let taken_is : suc c.args.edit.now.taken ≡ c.add_node.new.edit.taken = omega (arith, c.in_ok-root-in-Split.ensures.taken) in
     let height_is : c.args.tree.now.height + 1 ≡ suc c.args.tree.now.height = omega arith in
     next_inserted (at c.args.pages.now.pages) (overlay (at c.args.pages.now.pages) c.add_node.new.edit.writes.items) (candidate c.args.pages.now.pages) 0 c.add_node.new.edit.taken (suc c.args.tree.now.height) c.in_ok-root-in-Split.root c.args.tree.now c.grown_tree-in-Split.result es us key value None
-    refl (omega arith) holds (subst (λ (x : ℕ). Whole c.args.tree.now.order (at c.args.pages.now.pages) (overlay (at c.args.pages.now.pages) c.add_node.new.edit.writes.items) (candidate c.args.pages.now.pages) 0 x 1 (suc c.args.tree.now.height) c.in_ok-root-in-Split.root us (put_in key value es)) taken_is whole)
+    refl (omega arith) holds (subst (λ (x : ℕ). Whole c.args.tree.now.order (at c.args.pages.now.pages) (overlay (at c.args.pages.now.pages) c.add_node.new.edit.writes.items) (candidate c.args.pages.now.pages) 0 x 1 (suc c.args.tree.now.height) c.in_ok-root-in-Split.root us (set_in key (Some value) es)) taken_is whole)
     grew.told (ap (λ (t : Tree). t.order) next_is) (ap (λ (t : Tree). t.root) next_is) (ap (λ (t : Tree). t.height) next_is ∙ height_is) (ap (λ (t : Tree). t.count) next_is) (ap (λ (t : Tree). t.used) next_is)

@@ -1,12 +1,15 @@
-use Rattle.std.proofs.Common.{◌≡◌, ◌+◌, ◌-◌, ◌<◌, ℕ, List, ◌++◌, length, get_or, take, drop, ap, sym, ◌∙◌, subst, arith}
+use Rattle.std.proofs.Common.{◌≡◌, ◌+◌, ◌-◌, ◌<◌, ℕ, suc, Some, List, ◌++◌, length, get_or, take, drop, refl, ap, sym, ◌∙◌, subst, arith}
 use Rattle.std.proofs.lemmas.List.{take_rest}
 use Rattle.std.proofs.lemmas.Result.{err_from_is_err_and}
 use Rattle.page_store.specs.PagesView.{PagesView}
 use Rattle.page_store.specs.PageMap.{at}
 use Rattle.btree_node.specs.Lists.{Element}
+use Rattle.btree_insert.specs.declared.bounds.Bounds.{Bounds}
 use Rattle.btree_insert.specs.Bounds.{Between}
 use Rattle.btree_insert.specs.Growth.{IsOutside}
-use Rattle.btree_insert.specs.PageTrees.{Fan, TreeAt}
+use Rattle.btree_insert.specs.PageTrees.{Spells, Fan, TreeOf, TreeAt}
+use Rattle.btree_insert.specs.Reached.{Adds}
+use Rattle.btree_insert.proofs.ReachFacts.{on_ok, adds_leaf, adds_inner, adds_more, adds_below, rest_within}
 use Rattle.btree_insert.proofs.BoundFacts.{Between-left, Between-right}
 use Rattle.btree_insert.proofs.TreeFacts.{top, read_top}
 use Rattle.btree_insert.proofs.WalkFacts.{fan_first, added, one_page, pages_of_both, weaken, take_one, body_fan, nonempty}
@@ -56,3 +59,46 @@ walk_sons-returns-clause-walked g t c = λ steady es us fan between few.
     let second = c.in_ok-add_elements.ensures ∙ ap (λ zs. c.walk_below-2.new.out.items ++ zs) (take_one c.args.elements.now x some x_is) in
     weaken c.walk_sons.result ((c.walk_sons.new.out.items ≡ c.add_elements.new.out.items ++ one.ys) × (c.walk_sons.new.left + length one.rest ≡ c.walk_below-2.new.left)) ((c.walk_sons.new.out.items ≡ c.args.out.now.items ++ es) × (c.walk_sons.new.left + length us ≡ c.args.left.now))
     (λ both. (added c.args.out.now.items c.walk_below-2.new.out.items c.add_elements.new.out.items c.walk_sons.new.out.items one.xs one.ys es x first.0 second both.0 (one.es_is x x_is), omega (arith, both.1, first.1, size))) call
+
+pub walk_below-returns-then-height-eq1-clause-adds : goal.walk_below-returns-then-height-eq1-clause-adds
+walk_below-returns-then-height-eq1-clause-adds g t c = λ steady.
+    let node = c.in_ok-node.node in
+    adds_leaf (Spells c.args.order (at c.args.pages.now.pages)) c.args.height c.args.n c.args.bounds.now node c.args.out.now.items c.add_elements.new.out.items c.args.left.now (c.args.left.now - 1) (omega arith)
+    (c.in_ok-node.ensures.spells steady) (c.in_ok-node.ensures.stands.1 ∙ c.kind_of_level.ensures) c.in_ok-node.ensures.stands.0.some c.in_ok-node.ensures.stands.0.ascends c.in_ok-node.ensures.within
+    (c.in_ok-add_elements.ensures ∙ ap (λ (zs : List Element). c.args.out.now.items ++ zs) c.as_slice-elements.ensures.value) (omega arith)
+
+pub walk_below-returns-clause-adds : goal.walk_below-returns-clause-adds
+walk_below-returns-clause-adds g t c = λ steady.
+    let node = c.in_ok-node.node in
+    let k = c.args.order in
+    let pages_is : at c.read_node.new.pages.pages ≡ at c.args.pages.now.pages = ap (λ (v : PagesView). at v.pages) c.read_node.ensures.unchanged in
+    let between : Between c.args.bounds.now c.as_slice-elements.result.now = subst (Between c.args.bounds.now) (sym c.as_slice-elements.ensures.value) (record { ascends = c.in_ok-node.ensures.stands.0.ascends; within = c.in_ok-node.ensures.within }) in
+    let low_is : c.args.height - 1 ≡ suc (c.args.height - 2) = omega arith in
+    on_ok c.walk_sons.result (Adds (Fan (TreeOf (Spells k (at c.read_node.new.pages.pages)) 1 1 (c.args.height - 1)) c.as_slice.result.now c.as_slice-elements.result.now) c.args.bounds.now c.args.out.now.items c.walk_sons.new.out.items (c.args.left.now - 1) c.walk_sons.new.left)
+    (Adds (TreeOf (Spells k (at c.args.pages.now.pages)) 1 1 c.args.height c.args.n) c.args.bounds.now c.args.out.now.items c.walk_sons.new.out.items c.args.left.now c.walk_sons.new.left)
+    (λ adds. adds_inner (Spells k (at c.args.pages.now.pages)) c.args.height (c.args.height - 2) c.args.n c.args.bounds.now node c.args.out.now.items c.walk_sons.new.out.items c.args.left.now (c.args.left.now - 1) c.walk_sons.new.left (omega (arith, low_is))
+    (c.in_ok-node.ensures.spells steady) (c.in_ok-node.ensures.stands.1 ∙ c.kind_of_level.ensures) c.in_ok-node.ensures.stands.0.some (omega arith)
+    (adds_below k (at c.args.pages.now.pages) (at c.read_node.new.pages.pages) (c.args.height - 1) (suc (c.args.height - 2)) node.sons.items c.as_slice.result.now node.elements.items c.as_slice-elements.result.now c.args.bounds.now c.args.out.now.items c.walk_sons.new.out.items (c.args.left.now - 1) c.walk_sons.new.left
+    pages_is low_is c.as_slice.ensures.value c.as_slice-elements.ensures.value adds))
+    (c.walk_sons.ensures.adds (ap (λ (v : PagesView). v.steady) c.read_node.ensures.unchanged ∙ steady) between)
+
+pub walk_sons-returns-clause-adds : goal.walk_sons-returns-clause-adds
+walk_sons-returns-clause-adds g t c = λ steady between.
+    let x : Element = c.index-elements-0.result in
+    let x_is : x ≡ get_or c.args.elements.now 0 x = c.index-elements-0.is in
+    let some : 0 < length c.args.elements.now = nonempty c.args.elements.now c.is_empty.result c.is_empty.ensures c.if-is_empty.false in
+    let k = c.args.order in
+    let behind : Bounds = record { low = Some x.0; high = c.args.bounds.now.high } in
+    let pages_is : at c.walk_below-2.new.pages.pages ≡ at c.args.pages.now.pages = ap (λ (v : PagesView). at v.pages) c.in_ok-walk_below.ensures.unchanged in
+    let sons = take (length c.args.sons.now - 1) (drop 1 c.args.sons.now) in
+    let els = take (length c.args.elements.now - 1) (drop 1 c.args.elements.now) in
+    let els_is : els ≡ drop 1 c.args.elements.now = take_rest c.args.elements.now 1 in
+    let front = c.in_ok-walk_below.ensures.adds steady in
+    let one = c.in_ok-add_elements.ensures ∙ ap (λ zs. c.walk_below-2.new.out.items ++ zs) (take_one c.args.elements.now x some x_is) in
+    on_ok c.walk_sons.result (Adds (Fan (TreeOf (Spells k (at c.walk_below-2.new.pages.pages)) 1 1 c.args.height) sons els) behind c.add_elements.new.out.items c.walk_sons.new.out.items c.walk_below-2.new.left c.walk_sons.new.left)
+    (Adds (Fan (TreeOf (Spells k (at c.args.pages.now.pages)) 1 1 c.args.height) c.args.sons.now c.args.elements.now) c.args.bounds.now c.args.out.now.items c.walk_sons.new.out.items c.args.left.now c.walk_sons.new.left)
+    (λ back. adds_more (TreeOf (Spells k (at c.args.pages.now.pages)) 1 1 c.args.height) c.args.sons.now c.args.elements.now x c.args.bounds.now c.args.out.now.items c.walk_below-2.new.out.items c.add_elements.new.out.items c.walk_sons.new.out.items c.args.left.now c.walk_below-2.new.left c.walk_sons.new.left
+    some c.requires.sons x_is between front one
+    (adds_below k (at c.args.pages.now.pages) (at c.walk_below-2.new.pages.pages) c.args.height c.args.height (drop 1 c.args.sons.now) sons (drop 1 c.args.elements.now) els behind c.add_elements.new.out.items c.walk_sons.new.out.items c.walk_below-2.new.left c.walk_sons.new.left
+    pages_is refl (take_rest c.args.sons.now 1) els_is back))
+    (c.walk_sons.ensures.adds (ap (λ (v : PagesView). v.steady) c.in_ok-walk_below.ensures.unchanged ∙ steady) (subst (Between behind) (sym els_is) (rest_within c.args.bounds.now c.args.elements.now x some x_is between)))

@@ -2,6 +2,7 @@ use Rattle.std.proofs.Common.{◌++◌, ap, ◌∙◌, arith}
 use Rattle.std.proofs.lemmas.Result.{err_from_is_err_and}
 use Rattle.page_store.specs.PageMap.{at}
 use Rattle.btree_insert.proofs.BoundFacts.{Between-all}
+use Rattle.btree_insert.proofs.ApartFacts.{walked_there}
 use Rattle.btree_insert.proofs.TreeFacts.{root_tree}
 use Rattle.btree_insert.proofs.walking.walk.Goals as goal
 
@@ -14,3 +15,9 @@ pub returns-clause-walked : goal.returns-clause-walked
 returns-clause-walked g c = λ steady es us holds.
     let call = c.in_ok-walk_below.ensures.walked steady 1 es us (root_tree c.args.tree.now.order (at c.args.pages.now.pages) c.args.tree.now.height c.args.tree.now.root es us (omega arith) holds.tree) (Between-all es holds.ascends) (omega (arith, holds.used)) in
     call.0 ∙ ap (λ xs. xs ++ es) c.new-out.ensures.items
+
+pub returns-clause-there : goal.returns-clause-there
+returns-clause-there g c = λ steady. (
+  λ none. absurd (omega (arith, none)),
+  λ some. walked_there c.args.tree.now.order (at c.args.pages.now.pages) c.args.tree.now c.new-out.result.items c.walk_below.new.out.items c.walk_below.new.left (omega arith) c.new-out.ensures.items (c.in_ok-walk_below.ensures.adds steady),
+)
