@@ -1,6 +1,10 @@
 -- What was read of a script.
-use Rattle.std.specs.Prelude.{◌≡◌, ℕ, ◌≤◌, List, length, Option}
+use Rattle.std.specs.Prelude.{◌≡◌, ℕ, ◌≤◌, true, List, [], length, Option}
+use Rattle.std.specs.FinMap as maps
 use Rattle.std.specs.Io.KnownBytes.{Consumes, IsAtEnd}
+use Rattle.rec_types.specs.Table.{no_damage}
+use Rattle.record_file.specs.Abstract.{new_file}
+use Rattle.record_file.specs.Runs.{Seen}
 
 -- the script is all that a reader had, and has at most 1,048,576 bytes
 abbrev pub IsWhole : Option (List ℕ) → Option (List ℕ) → List ℕ → Type 0
@@ -13,3 +17,15 @@ IsTooLong left leaves = (taken : List ℕ) × Consumes left leaves taken × (len
 -- no more than so many bytes were taken
 abbrev pub TakesAtMost : Option (List ℕ) → Option (List ℕ) → ℕ → Type 0
 TakesAtMost left leaves most = (taken : List ℕ) × Consumes left leaves taken × (length taken ≤ most)
+
+-- an empty file in memory, with the greatest limits, in which nothing was begun
+abbrev pub greatest_file : Seen
+greatest_file = record {
+  file = new_file maps.empty (record { records = 1000000; log_records = 4000000; begins = 1000000 });
+  log = [];
+  records = maps.empty;
+  sound = true;
+  failures = 0;
+  refusals = 0;
+  damages = no_damage;
+}
