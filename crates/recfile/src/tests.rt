@@ -1,4 +1,5 @@
 use crate::scripts::{ScriptFault, run_script};
+use crate::sessions::run_memory;
 use crate::statuses::exit_status;
 use rec_types::{FlakyTable, Key, LimitFault, Limits, Record, SortedTable, Table};
 use record_file::RecordFile;
@@ -56,7 +57,7 @@ fn flaky_replies_to(
     run(alloc, &mut file, script)
 }
 
-/// Expects the replies, each with its end, and this many commands, once more where memory was refused.
+/// Expects the replies, each with its end, and this many commands.
 fn expect(
     rt: &impl Abort,
     alloc: Global,
@@ -66,18 +67,12 @@ fn expect(
     commands: u32,
 ) -> Result<(), Fail> {
     let (text, end) = replies_to(alloc, limits, script)?;
-    let (text, end) = if end.is_err() || text.contains("no Memory") {
-        replies_to(alloc, limits, script)?
-    } else {
-        (text, end)
-    };
     assert_eq!(rt; text.as_str(), replies);
     assert_eq!(rt; end, Ok(commands));
     Ok(())
 }
 
-/// Expects the replies over a table whose device fails at these calls of `set`, once more from the beginning where
-/// memory was refused.
+/// Expects the replies over a table whose device fails at these calls of `set`.
 fn expect_flaky(
     rt: &impl Abort,
     alloc: Global,
@@ -88,11 +83,6 @@ fn expect_flaky(
     commands: u32,
 ) -> Result<(), Fail> {
     let (text, end) = flaky_replies_to(rt, alloc, limits, numbers, script)?;
-    let (text, end) = if end.is_err() || text.contains("Memory") {
-        flaky_replies_to(rt, alloc, limits, numbers, script)?
-    } else {
-        (text, end)
-    };
     assert_eq!(rt; text.as_str(), replies);
     assert_eq!(rt; end, Ok(commands));
     Ok(())
@@ -573,12 +563,13 @@ fn scripts_that_are_not_run_to_their_end(rt: HostRuntime) -> Result<(), Fail> {
     let mut reader = comment.as_slice();
     assert_eq!(rt; run_script(alloc, &mut reader, &mut out, &mut file), Ok(0));
     comment.push(b'#')?;
+    comment[..6].copy_from_slice(b"begin\n");
     let mut reader = comment.as_slice();
     assert_eq!(rt;
         run_script(alloc, &mut reader, &mut out, &mut file),
         Err(ScriptFault::ScriptTooLong)
     );
-    assert_eq!(rt; out.len(), 0);
+    assert_eq!(rt; (out.len(), file.begun()), (0, 0));
     let mut reader = b"begin\n".as_slice();
     assert_eq!(rt;
         run_script(alloc, &mut reader, &mut Closing { writes: 0 }, &mut file),
@@ -586,4 +577,57 @@ fn scripts_that_are_not_run_to_their_end(rt: HostRuntime) -> Result<(), Fail> {
     );
     assert_eq!(rt; file.begun(), 1);
     Ok(())
+}
+
+/// Expects this status of the program's session, and what it writes to standard error.
+fn expect_session<R: Read, W: Write>(
+    rt: &impl Abort,
+    alloc: Global,
+    reader: &mut R,
+    out: &mut W,
+    fault: &str,
+    status: u8,
+) -> Result<(), Fail> {
+    let mut err = Vec::new(alloc);
+    assert_eq!(rt; run_memory(alloc, reader, out, &mut err), status);
+    let text = String::from_utf8(err)?;
+    assert_eq!(rt; text.as_str(), fault);
+    Ok(())
+}
+
+#[test]
+fn a_session_names_its_fault(rt: HostRuntime) -> Result<(), Fail> {
+    let alloc = rt.alloc();
+    let mut out = Vec::new(alloc);
+    expect_session(
+        &rt,
+        alloc,
+        &mut b"begin\nlist\n".as_slice(),
+        &mut out,
+        "",
+        0,
+    )?;
+    let text = String::from_utf8(out)?;
+    assert_eq!(rt; text.as_str(), "ok 1\nok 0\n");
+    let mut out = Vec::new(alloc);
+    let mut failing = Failing { reads: 1 };
+    expect_session(
+        &rt,
+        alloc,
+        &mut failing,
+        &mut out,
+        "recfile: ReadFault\n",
+        3,
+    )?;
+    assert_eq!(rt; out.len(), 0);
+    let mut closing = Closing { writes: 1 };
+    let mut reader = b"begin\nbegin\nbegin\n".as_slice();
+    expect_session(
+        &rt,
+        alloc,
+        &mut reader,
+        &mut closing,
+        "recfile: WriteFault 2\n",
+        3,
+    )
 }
