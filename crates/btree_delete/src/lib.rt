@@ -2,6 +2,8 @@
 #![tactic(auto)]
 
 mod deleting;
+#[cfg(test)]
+mod fault_texts;
 pub mod laws;
 mod mending;
 mod shrinking;

@@ -3,6 +3,8 @@
 
 mod calls;
 mod cutting;
+#[cfg(test)]
+mod fault_texts;
 mod scripts;
 mod sessions;
 mod statuses;
