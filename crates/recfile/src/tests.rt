@@ -551,20 +551,25 @@ fn readers_and_writers_fail_at_any_call(rt: HostRuntime) -> Result<(), Fail> {
     Ok(())
 }
 
+/// A script of these bytes and so many `#`.
+fn long_script(alloc: Global, first: &[u8], more: usize) -> Result<Vec<u8>, Fail> {
+    let mut script = Vec::from_slice(alloc, first)?;
+    for _ in 0..more {
+        script.push(b'#')?;
+    }
+    Ok(script)
+}
+
 #[test]
 fn scripts_that_are_not_run_to_their_end(rt: HostRuntime) -> Result<(), Fail> {
     let alloc = rt.alloc();
-    let mut comment = Vec::with_capacity(alloc, 1_048_577)?;
-    for _ in 0..1_048_576 {
-        comment.push(b'#')?;
-    }
     let mut out = Vec::new(alloc);
     let mut file = empty_file(alloc, greatest()?);
+    let comment = long_script(alloc, b"#", 1_048_575)?;
     let mut reader = comment.as_slice();
     assert_eq!(rt; run_script(alloc, &mut reader, &mut out, &mut file), Ok(0));
-    comment.push(b'#')?;
-    comment[..6].copy_from_slice(b"begin\n");
-    let mut reader = comment.as_slice();
+    let longer = long_script(alloc, b"begin\n", 1_048_571)?;
+    let mut reader = longer.as_slice();
     assert_eq!(rt;
         run_script(alloc, &mut reader, &mut out, &mut file),
         Err(ScriptFault::ScriptTooLong)

@@ -1,5 +1,5 @@
 -- A run: calls on a file one after another, each with its answer, and what came to it from outside.
-use Rattle.std.specs.Prelude.{◌≡◌, ◌≢◌, ℕ, ◌<◌, Bool, true, false, List, [], ◌∷◌, Option, Some, None, Result, Ok, Err, IsTrue, IfSome, IfOk, IfErr, OnErr}
+use Rattle.std.specs.Prelude.{◌≡◌, ◌≢◌, ℕ, ◌<◌, Bool, false, List, [], ◌∷◌, Option, Some, None, Result, Err, IsTrue, IfSome, IfOk, IfErr, OnErr}
 use Rattle.std.specs.FinMap as maps
 use Rattle.rec_types.specs.Contents.{Contents}
 use Rattle.rec_types.specs.History.{log_len}
@@ -116,18 +116,21 @@ pub record Gets (old : Seen) (t : TxId) (x : List ℕ) (answer : Result (Option 
 pub record RollsTo (old : Seen) (t : TxId) (n : ℕ) (answer : Result ℕ RollbackToFault) (new : Seen) : Type 0 where
   pub step : IsTrue old.sound → old.failures < greatest_count → old.refusals < greatest_count → RollbackToStep old.file t.0 n (rose old.failures new.failures) (rose old.refusals new.refusals) answer new.file
   pub rolled : RollsBackTo old.file t.0 n answer new.file
+  pub opening : IsTrue old.sound → new.file.opening ≡ old.file.opening
   pub refused : IfSome (rollback_refusal old.file t.0 n) (λ fault. (answer ≡ Err fault) × (new ≡ old))
   pub damages : TellsDamage old.damages (rollback_cause answer) new.damages
 
 pub record IsAborted (old : Seen) (t : TxId) (answer : Result ℕ AbortFault) (new : Seen) : Type 0 where
   pub step : IsTrue old.sound → old.failures < greatest_count → old.refusals < greatest_count → AbortStep old.file t.0 (rose old.failures new.failures) (rose old.refusals new.refusals) answer new.file
   pub rolled : Aborts old.file t.0 answer new.file
+  pub opening : IsTrue old.sound → new.file.opening ≡ old.file.opening
   pub refused : IfSome (abort_refusal old.file t.0) (λ fault. (answer ≡ Err fault) × (new ≡ old))
   pub damages : TellsDamage old.damages (abort_cause answer) new.damages
 
 pub record IsResumed (old : Seen) (t : TxId) (answer : Result ℕ ResumeFault) (new : Seen) : Type 0 where
   pub step : IsTrue old.sound → old.failures < greatest_count → old.refusals < greatest_count → ResumeStep old.file t.0 (rose old.failures new.failures) (rose old.refusals new.refusals) answer new.file
   pub rolled : Resumes old.file t.0 answer new.file
+  pub opening : IsTrue old.sound → new.file.opening ≡ old.file.opening
   pub refused : IfSome (resume_refusal old.file t.0) (λ fault. (answer ≡ Err fault) × (new ≡ old))
   pub damages : TellsDamage old.damages (resume_cause answer) new.damages
 

@@ -250,6 +250,8 @@ impl<T: Table> RecordFile<T> {
             (rose (T.memory_refusals self.old.table) (T.memory_refusals self.new.table))
             result self.new.file }
         ensures rolled { RollsBackTo self.old.file tx.0 n result self.new.file }
+        ensures opening { IsTrue (T.sound self.old.table)
+            → self.new.file.opening ≡ self.old.file.opening }
         ensures refused { IfSome (rollback_refusal self.old.file tx.0 n)
             (λ fault. (result ≡ Err fault) × (self.new ≡ self.old)) }
         ensures told { Tells (T.sound self.old.table) (T.contents self.old.table) self.old.log
@@ -299,6 +301,8 @@ impl<T: Table> RecordFile<T> {
             (rose (T.memory_refusals self.old.table) (T.memory_refusals self.new.table))
             result self.new.file }
         ensures rolled { Aborts self.old.file tx.0 result self.new.file }
+        ensures opening { IsTrue (T.sound self.old.table)
+            → self.new.file.opening ≡ self.old.file.opening }
         ensures refused { IfSome (abort_refusal self.old.file tx.0)
             (λ fault. (result ≡ Err fault) × (self.new ≡ self.old)) }
         ensures told { Tells (T.sound self.old.table) (T.contents self.old.table) self.old.log
@@ -345,6 +349,8 @@ impl<T: Table> RecordFile<T> {
             (rose (T.memory_refusals self.old.table) (T.memory_refusals self.new.table))
             result self.new.file }
         ensures rolled { Resumes self.old.file tx.0 result self.new.file }
+        ensures opening { IsTrue (T.sound self.old.table)
+            → self.new.file.opening ≡ self.old.file.opening }
         ensures refused { IfSome (resume_refusal self.old.file tx.0)
             (λ fault. (result ≡ Err fault) × (self.new ≡ self.old)) }
         ensures told { Tells (T.sound self.old.table) (T.contents self.old.table) self.old.log

@@ -95,7 +95,7 @@ returns-in-Back g c =
     (record {
       events = record { called = RollbackTo c.in-Back.tx c.in-Back.n c.rollback_to.result; failed = by_device (rollback_cause c.rollback_to.result); refused = (by_memory (rollback_cause c.rollback_to.result)) } ∷ [];
       told = refl;
-      ran = asks old new (RollbackTo c.in-Back.tx c.in-Back.n c.rollback_to.result) (by_device (rollback_cause c.rollback_to.result)) (by_memory (rollback_cause c.rollback_to.result)) c.rollback_to.ensures.device c.rollback_to.ensures.memory c.rollback_to.ensures.soundness (c.rollback_to.ensures.told) ((refl, refl), record { step = c.rollback_to.ensures.step; rolled = c.rollback_to.ensures.rolled; refused = refused_seen g.T.Table c.args.file.now c.rollback_to.new.self (rollback_refusal c.args.file.now.file c.in-Back.tx.0 c.in-Back.n) c.rollback_to.result c.rollback_to.ensures.refused; damages = c.rollback_to.ensures.damages });
+      ran = asks old new (RollbackTo c.in-Back.tx c.in-Back.n c.rollback_to.result) (by_device (rollback_cause c.rollback_to.result)) (by_memory (rollback_cause c.rollback_to.result)) c.rollback_to.ensures.device c.rollback_to.ensures.memory c.rollback_to.ensures.soundness (c.rollback_to.ensures.told) ((refl, refl), record { step = c.rollback_to.ensures.step; rolled = c.rollback_to.ensures.rolled; opening = c.rollback_to.ensures.opening; refused = refused_seen g.T.Table c.args.file.now c.rollback_to.new.self (rollback_refusal c.args.file.now.file c.in-Back.tx.0 c.in-Back.n) c.rollback_to.result c.rollback_to.ensures.refused; damages = c.rollback_to.ensures.damages });
     })
 
 pub returns-in-Abort : goal.returns-in-Abort
@@ -106,7 +106,7 @@ returns-in-Abort g c =
     (record {
       events = record { called = Abort c.in-Abort.tx c.abort.result; failed = by_device (abort_cause c.abort.result); refused = (by_memory (abort_cause c.abort.result)) } ∷ [];
       told = refl;
-      ran = asks old new (Abort c.in-Abort.tx c.abort.result) (by_device (abort_cause c.abort.result)) (by_memory (abort_cause c.abort.result)) c.abort.ensures.device c.abort.ensures.memory c.abort.ensures.soundness (c.abort.ensures.told) ((refl, refl), record { step = c.abort.ensures.step; rolled = c.abort.ensures.rolled; refused = refused_seen g.T.Table c.args.file.now c.abort.new.self (abort_refusal c.args.file.now.file c.in-Abort.tx.0) c.abort.result c.abort.ensures.refused; damages = c.abort.ensures.damages });
+      ran = asks old new (Abort c.in-Abort.tx c.abort.result) (by_device (abort_cause c.abort.result)) (by_memory (abort_cause c.abort.result)) c.abort.ensures.device c.abort.ensures.memory c.abort.ensures.soundness (c.abort.ensures.told) ((refl, refl), record { step = c.abort.ensures.step; rolled = c.abort.ensures.rolled; opening = c.abort.ensures.opening; refused = refused_seen g.T.Table c.args.file.now c.abort.new.self (abort_refusal c.args.file.now.file c.in-Abort.tx.0) c.abort.result c.abort.ensures.refused; damages = c.abort.ensures.damages });
     })
 
 pub returns-in-Resume : goal.returns-in-Resume
@@ -117,7 +117,7 @@ returns-in-Resume g c =
     (record {
       events = record { called = Resume c.in-Resume.tx c.resume.result; failed = by_device (resume_cause c.resume.result); refused = (by_memory (resume_cause c.resume.result)) } ∷ [];
       told = refl;
-      ran = asks old new (Resume c.in-Resume.tx c.resume.result) (by_device (resume_cause c.resume.result)) (by_memory (resume_cause c.resume.result)) c.resume.ensures.device c.resume.ensures.memory c.resume.ensures.soundness (c.resume.ensures.told) ((refl, refl), record { step = c.resume.ensures.step; rolled = c.resume.ensures.rolled; refused = refused_seen g.T.Table c.args.file.now c.resume.new.self (resume_refusal c.args.file.now.file c.in-Resume.tx.0) c.resume.result c.resume.ensures.refused; damages = c.resume.ensures.damages });
+      ran = asks old new (Resume c.in-Resume.tx c.resume.result) (by_device (resume_cause c.resume.result)) (by_memory (resume_cause c.resume.result)) c.resume.ensures.device c.resume.ensures.memory c.resume.ensures.soundness (c.resume.ensures.told) ((refl, refl), record { step = c.resume.ensures.step; rolled = c.resume.ensures.rolled; opening = c.resume.ensures.opening; refused = refused_seen g.T.Table c.args.file.now c.resume.new.self (resume_refusal c.args.file.now.file c.in-Resume.tx.0) c.resume.result c.resume.ensures.refused; damages = c.resume.ensures.damages });
     })
 
 pub returns-in-Log : goal.returns-in-Log

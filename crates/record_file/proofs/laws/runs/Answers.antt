@@ -1,12 +1,10 @@
-use Rattle.std.proofs.Common.{◌≡◌, ℕ, ◌≤◌, ◌<◌, ◌+◌, Bool, true, false, ◌&&◌, nat_le, List, refl, sym, ap, subst, ◌∙◌, arith}
+use Rattle.std.proofs.Common.{◌≡◌, ℕ, ◌≤◌, ◌+◌, Bool, true, false, ◌&&◌, nat_le, List, refl, sym, ap, ◌∙◌, arith}
 use Rattle.std.proofs.lemmas.Bool.Decides.{nat_tests}
 use Rattle.std.specs.FinMap as maps
 use Rattle.std.specs.FinMap.{len-empty}
 use Rattle.std.specs.Ordering.{nat_cmp}
 use Rattle.std.specs.Cmp.Lexicographic.{slice_cmp}
-use Rattle.rec_types.specs.Contents.{Contents}
 use Rattle.rec_types.specs.LimitBounds.{Bounds}
-use Rattle.rec_types.specs.Table.{counted, greatest_count}
 use Rattle.tx_log.specs.Transactions.{Transactions, fresh}
 use Rattle.record_file.specs.Abstract.{File, new_file, is_full}
 use Rattle.record_file.specs.Runs.{Seen}

@@ -1,4 +1,4 @@
-use Rattle.std.proofs.Common.{◌≤◌, Some, None, Ok, Err, false, sym, ap, subst, ◌∙◌, IsTrue}
+use Rattle.std.proofs.Common.{◌≤◌, Some, None, false, sym, ap, subst, ◌∙◌}
 use Rattle.tx_log.specs.Transactions.{depth_of}
 use Rattle.tx_log.specs.declared.phases.Phase.{Phase}
 use Rattle.record_file.specs.Abstract.{OpenFile, Tells, phase_at, tx_of}
@@ -17,11 +17,14 @@ returns-in-Ok-clause-rolled g c =
       started_back c.args.self.now.file c.start_rollback.new.self.file c.take_back.new.self.file c.args.tx.0 c.args.n c.in-Ok.undone false c.start_rollback.ensures.file c.in-Ok.ensures.rolled,
     )
 
+pub returns-in-Ok-clause-opening : goal.returns-in-Ok-clause-opening
+returns-in-Ok-clause-opening g c = λ sound. started_opening c.args.self.now.file c.start_rollback.new.self.file c.take_back.new.self.file c.args.tx.0 c.args.n false c.start_rollback.ensures.file (c.in-Ok.ensures.opening (ap (λ t. g.T.Table.sound t) c.start_rollback.ensures.table ∙ sound))
+
 pub returns-in-Ok-clause-step : goal.returns-in-Ok-clause-step
 returns-in-Ok-clause-step g c = λ sound few fewer.
     let here = ap (λ t. g.T.Table.sound t) c.start_rollback.ensures.table ∙ sound in (
       returns-in-Ok-clause-rolled g c,
-      started_opening c.args.self.now.file c.start_rollback.new.self.file c.take_back.new.self.file c.args.tx.0 c.args.n false c.start_rollback.ensures.file (c.in-Ok.ensures.opening here),
+      returns-in-Ok-clause-opening g c sound,
       ends_by (None) _ _ _ _ few fewer
           (c.in-Ok.ensures.device ∙ ap (λ t. counted (g.T.Table.device_failures t) (by_device (None))) c.start_rollback.ensures.table)
           (c.in-Ok.ensures.memory ∙ ap (λ t. counted (g.T.Table.memory_refusals t) (by_memory (None))) c.start_rollback.ensures.table)
@@ -40,11 +43,14 @@ returns-in-Err-clause-rolled g c =
       started_stop c.args.self.now.file c.start_rollback.new.self.file c.take_back.new.self.file c.args.tx.0 c.args.n false c.in-Err.field-0 c.start_rollback.ensures.file c.in-Err.ensures.rolled,
     )
 
+pub returns-in-Err-clause-opening : goal.returns-in-Err-clause-opening
+returns-in-Err-clause-opening g c = λ sound. started_opening c.args.self.now.file c.start_rollback.new.self.file c.take_back.new.self.file c.args.tx.0 c.args.n false c.start_rollback.ensures.file (c.in-Err.ensures.opening (ap (λ t. g.T.Table.sound t) c.start_rollback.ensures.table ∙ sound))
+
 pub returns-in-Err-clause-step : goal.returns-in-Err-clause-step
 returns-in-Err-clause-step g c = λ sound few fewer.
     let here = ap (λ t. g.T.Table.sound t) c.start_rollback.ensures.table ∙ sound in (
       returns-in-Err-clause-rolled g c,
-      started_opening c.args.self.now.file c.start_rollback.new.self.file c.take_back.new.self.file c.args.tx.0 c.args.n false c.start_rollback.ensures.file (c.in-Err.ensures.opening here),
+      returns-in-Err-clause-opening g c sound,
       ends_by (Some c.in-Err.field-0.cause) _ _ _ _ few fewer
           (c.in-Err.ensures.device ∙ ap (λ t. counted (g.T.Table.device_failures t) (by_device (Some c.in-Err.field-0.cause))) c.start_rollback.ensures.table)
           (c.in-Err.ensures.memory ∙ ap (λ t. counted (g.T.Table.memory_refusals t) (by_memory (Some c.in-Err.field-0.cause))) c.start_rollback.ensures.table)

@@ -1,5 +1,5 @@
 use Rattle.std.proofs.Common.{refl, ap, ◌∙◌}
-use Rattle.record_file.proofs.RollbackFacts.{rolled_none, rolled_some, rolled_more, rolled_out, rolled_all, rolled_stop}
+use Rattle.record_file.proofs.RollbackFacts.{rolled_none, rolled_some, rolled_more, rolled_out, rolled_all}
 use Rattle.record_file.proofs.FaultFacts.{tells_no_damage}
 use Rattle.record_file.proofs.GrowFacts.{tells_none, tells_on}
 use Rattle.record_file.proofs.file.RecordFile.take_back.Goals as goal

@@ -3,7 +3,7 @@ use Rattle.rec_types.specs.History.{undo_last}
 use Rattle.tx_log.specs.Transactions.{left_in}
 use Rattle.tx_log.specs.declared.phases.UndoStep.{UndoStep}
 use Rattle.std.specs.FinMap as maps
-use Rattle.tx_log.specs.LogState.{LogState, undo_step, tx_in, open_in}
+use Rattle.tx_log.specs.LogState.{undo_step, tx_in, open_in}
 use Rattle.rec_types.specs.Contents.{set_to}
 use Rattle.record_file.specs.Abstract.{File, OpenFile, file_of, tx_of}
 use Rattle.record_file.proofs.FaultFacts.{step_is}
