@@ -5,9 +5,9 @@ use Rattle.rec_types.specs.Sorted.{SortedState, is_sorted}
 use Rattle.rec_types.specs.declared.sorting.SortedTable.TheInside.{Inside}
 
 abbrev pub state_of : Inside → SortedState
-state_of t = record { contents = maps.from_sorted t.records.items; limit = t.limit; refusals = t.refusals }
+state_of t = record { contents = maps.from_sorted t.records.entries; limit = t.limit; refusals = t.refusals }
 
 pub record IsSortedTable (t : Inside) : Type 0 where
-  pub sorted : is_sorted t.records.items
-  pub within : length t.records.items ≤ t.limit
+  pub sorted : is_sorted t.records.entries
+  pub within : length t.records.entries ≤ t.limit
   pub limited : t.limit ≤ 1000000

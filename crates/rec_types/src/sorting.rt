@@ -1,18 +1,18 @@
-ghost use Rattle.std.specs.Prelude.{◌≡◌, ◌≢◌, ℕ, ◌≤◌, None, Ok, Err, false, IsOk, IsSome, IfOk, IfErr, OnOk, OnErr};
+ghost use Rattle.std.specs.Prelude.{◌≡◌, ◌≢◌, ℕ, ◌≤◌, None, Ok, Err, false, IsOk, IsSome, IfOk, OnOk, OnErr, nat_le, ◌&&◌, is_none};
 ghost use Rattle.std.specs.FinMap as maps;
 ghost use Rattle.rec_types.specs.Contents.{set_to};
 ghost use Rattle.rec_types.specs.Table.{is_device, is_memory, counted};
-ghost use Rattle.rec_types.specs.Sorted.{is_sorted, IsAt, IsGapFor, SortedState};
 
 use crate::{Key, Limits, Record, Table, TableFault};
-use std::alloc::Global;
+use std::alloc::{AllocError, Global};
+use std::collections::BTreeMap;
 use std::marker::Model;
-use std::mem;
 
-/// A table in a sorted vector. It is always sound, and never answers Device or Damaged.
+/// A table in an ordered map. It is always sound, and never answers Device or Damaged.
 #[derive(Debug, Drop)]
 pub struct SortedTable {
-    records: Vec<(Key, Record)>,
+    records: BTreeMap<Key, Record>,
+    alloc: Global,
     limit: u32,
     refusals: u64,
 }
@@ -38,20 +38,20 @@ impl SortedTable {
         ensures { result ≡ record { contents = maps.empty; limit = limits.records; refusals = 0 } }
     {
         SortedTable {
-            records: Vec::new(alloc),
+            records: BTreeMap::new(alloc),
+            alloc,
             limit: limits.records(),
             refusals: 0,
         }
     }
-}
 
-// Where the key is, or where it would go.
-fn search(records: &[(Key, Record)], key: &Key) -> Result<usize, usize>
-    requires { is_sorted records.now }
-    ensures found { IfOk result (IsAt records.now key.now) }
-    ensures absent { IfErr result (IsGapFor records.now key.now) }
-{
-    records.binary_search_by_key(key, |&(k, _)| k)
+    // Whether the table has as many records as it may, and none at the key.
+    fn is_full_for(&self, key: &Key) -> bool
+        ensures { result ≡ (nat_le self.now.limit (maps.len self.now.contents)
+            && is_none (maps.get self.now.contents key.now)) }
+    {
+        self.records.len() >= self.limit as usize && !self.records.contains_key(key)
+    }
 }
 
 impl Table for SortedTable {
@@ -71,10 +71,7 @@ impl Table for SortedTable {
     ghost damages = { λ _. no_damage };
 
     fn get(&mut self, key: &Key) -> Result<Option<Record>, TableFault> {
-        match search(&self.records, key) {
-            Ok(at) => Ok(Some(self.records[at].1)),
-            Err(_) => Ok(None),
-        }
+        Ok(self.records.get(key).copied())
     }
 
     /// Puts a record at the key, or takes the key out, and answers what stood there before. Faults:
@@ -98,32 +95,23 @@ impl Table for SortedTable {
         ensures present { IsSome (maps.get self.old.contents key) → IsOk result }
         ensures taken { to ≡ None → IsOk result }
     {
-        match search(&self.records, &key) {
-            Ok(at) => match to {
-                Some(record) => Ok(Some(mem::replace(&mut self.records[at], (key, record)).1)),
-                None => Ok(Some(self.records.remove(at).1)),
-            },
-            Err(at) => match to {
-                Some(record) => {
-                    if self.records.len() == self.limit as usize {
-                        return Err(TableFault::NoRoom);
-                    }
-                    match self.records.insert(at, (key, record)) {
-                        Ok(()) => Ok(None),
-                        Err(_) => {
-                            self.refusals = self.refusals.saturating_add(1);
-                            Err(TableFault::Memory)
-                        }
-                    }
-                }
-                None => Ok(None),
-            },
+        let Some(record) = to else {
+            return Ok(self.records.remove(&key));
+        };
+        if self.is_full_for(&key) {
+            return Err(TableFault::NoRoom);
+        }
+        match self.records.insert(key, record) {
+            Ok(before) => Ok(before),
+            Err(_) => {
+                self.refusals = self.refusals.saturating_add(1);
+                Err(TableFault::Memory)
+            }
         }
     }
 
     fn entries(&mut self) -> Result<Vec<(Key, Record)>, TableFault> {
-        let alloc = *self.records.allocator();
-        match Vec::from_slice(alloc, &self.records) {
+        match copied(self.alloc, &self.records) {
             Ok(records) => Ok(records),
             Err(_) => {
                 self.refusals = self.refusals.saturating_add(1);
@@ -139,4 +127,15 @@ impl Table for SortedTable {
     fn limit(&self) -> u32 {
         self.limit
     }
+}
+
+// The records in order.
+fn copied(alloc: Global, records: &BTreeMap<Key, Record>) -> Result<Vec<(Key, Record)>, AllocError>
+    ensures { IfOk result (λ list. list.items ≡ records.now.entries) }
+{
+    let mut list = Vec::with_capacity(alloc, records.len())?;
+    for (key, record) in records {
+        list.push((*key, *record))?;
+    }
+    Ok(list)
 }

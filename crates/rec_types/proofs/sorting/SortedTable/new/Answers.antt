@@ -1,6 +1,6 @@
-use Rattle.rec_types.proofs.Places.{made_state}
+use Rattle.rec_types.proofs.MapFacts.{new_state}
 use Rattle.rec_types.proofs.sorting.SortedTable.new.Goals as goal
 
--- no pairs make empty contents
+-- a map without entries makes empty contents
 pub returns : goal.returns
-returns c = made_state _ _ _ c.new.ensures.items c.records.ensures.value
+returns c = new_state _ _ _ c.new.ensures.empty c.records.ensures.value
