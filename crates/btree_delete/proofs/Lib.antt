@@ -13,3 +13,4 @@ pub mod TakeFacts
 pub mod CallFacts
 pub mod DropFacts
 pub mod RootFacts
+pub mod SurveyFacts

@@ -3,3 +3,4 @@ pub mod Deleted
 pub mod Tidy
 pub mod Shrinking
 pub mod Mending
+pub mod Survey

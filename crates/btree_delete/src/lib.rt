@@ -5,6 +5,7 @@ mod deleting;
 pub mod laws;
 mod mending;
 mod shrinking;
+mod surveying;
 #[cfg(test)]
 mod tests;
 mod visiting;
