@@ -14,3 +14,5 @@ pub mod CallFacts
 pub mod DropFacts
 pub mod RootFacts
 pub mod SurveyFacts
+pub mod MeasureFacts
+pub mod FreeNumberFacts

@@ -2,7 +2,9 @@
 #![tactic(auto)]
 
 mod deleting;
+mod free;
 pub mod laws;
+mod measuring;
 mod mending;
 mod shrinking;
 mod surveying;

@@ -51,6 +51,7 @@ impl Survey {
             → unreached self.new.reached + 1 ≡ unreached self.old.reached }
         ensures reached { result ≡ true
             → self.new ≡ record self.old { reached = slice_set self.old.reached n true } }
+        ensures long { length self.new.reached ≡ length self.old.reached }
     {
         let at = n as usize;
         if at >= self.reached.len() || self.reached[at] {
@@ -68,6 +69,7 @@ impl Survey {
             → (self.old.leaf ≡ None) ⊎ (self.old.leaf ≡ Some level) }
         ensures uneven { result ≡ false
             → ((self.old.leaf ≡ None) ⊎ (self.old.leaf ≡ Some level)) → ⊥ }
+        ensures long { length self.new.reached ≡ length self.old.reached }
         ensures added { result ≡ true → self.new
             ≡ record { reached = self.old.reached; leaf = Some level; keys = self.old.keys + keys } }
     {
@@ -177,6 +179,7 @@ pub(crate) fn survey_page<S: Store>(
     ensures no_memory { IfErr result (λ fault. fault ≢ TreeFault.Memory) }
     ensures room { OnOk result (survey.new.keys + 32 * unreached survey.new.reached
         ≤ survey.old.keys + 32 * unreached survey.old.reached) }
+    ensures long { length survey.new.reached ≡ length survey.old.reached }
     ensures device { pages.new.failures ≡ counted pages.old.failures (is_device result) }
     ensures unchanged { pages.new
         ≡ record pages.old { reads = pages.new.reads; failures = pages.new.failures } }
@@ -239,6 +242,7 @@ fn survey_sons<S: Store>(
     ensures no_memory { IfErr result (λ fault. fault ≢ TreeFault.Memory) }
     ensures room { OnOk result (survey.new.keys + 32 * unreached survey.new.reached
         ≤ survey.old.keys + length elements.now + 32 * unreached survey.old.reached) }
+    ensures long { length survey.new.reached ≡ length survey.old.reached }
     ensures device { pages.new.failures ≡ counted pages.old.failures (is_device result) }
     ensures unchanged { pages.new
         ≡ record pages.old { reads = pages.new.reads; failures = pages.new.failures } }
