@@ -4,3 +4,4 @@ pub mod Tidy
 pub mod Shrinking
 pub mod Mending
 pub mod Survey
+pub mod CleanFile

@@ -6,6 +6,7 @@ mod free;
 pub mod laws;
 mod measuring;
 mod mending;
+mod opening;
 mod shrinking;
 mod surveying;
 #[cfg(test)]
