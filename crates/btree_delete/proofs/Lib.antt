@@ -16,3 +16,4 @@ pub mod RootFacts
 pub mod SurveyFacts
 pub mod MeasureFacts
 pub mod FreeNumberFacts
+pub mod FileFacts

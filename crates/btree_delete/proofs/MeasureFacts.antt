@@ -105,7 +105,7 @@ tree_two k pages least (suc h) p es us order some (n, below, spells, least_is, b
 few_levels : (h count : ℕ) → 2 ^ suc h ≤ count + 1 → count ≤ 1000001 → h ≤ 18
 few_levels h count power most = let never : 19 ≤ h → ⊥ = λ high. (let up = pow-le-pow_right {n = 2} (omega arith) {i = 20} {j = suc h} (omega (arith, high)) in omega (arith, up, power, most)) in omega (arith, never)
 
-below_count : (pages : List (Option (List ℕ))) (q : ℕ) → (at pages q ≡ None → ⊥) → q < length pages
+pub below_count : (pages : List (Option (List ℕ))) (q : ℕ) → (at pages q ≡ None → ⊥) → q < length pages
 below_count [] q used = absurd (used refl)
 below_count (p ∷ pages) zero used = omega arith
 below_count (p ∷ pages) (suc q) used = let rest = below_count pages q used in omega arith
@@ -192,7 +192,7 @@ rooted_exact k pages root (suc h) es us start some order most start_is rooted =
     let sound = sound_root k pages h root es us start order most start_is rooted in
     (h, sound.1, seen_after (length pages) h es us start start_is)
 
-root_in_use : (k : ℕ) (pages : PageMap) (root height : ℕ) (es : List Element) (us : List ℕ) → RootAt k pages height root es us → (q : ℕ) → IsIn q us → pages q ≡ None → ⊥
+pub root_in_use : (k : ℕ) (pages : PageMap) (root height : ℕ) (es : List Element) (us : List ℕ) → RootAt k pages height root es us → (q : ℕ) → IsIn q us → pages q ≡ None → ⊥
 root_in_use k pages root zero es us tree q is = absurd (subst (IsIn q) tree.2 is)
 root_in_use k pages root (suc h) es us tree q is = in_each (λ x. pages x ≡ None → ⊥) us q (in_use k pages 1 (suc h) root es us tree) is
 

@@ -42,7 +42,7 @@ pub unmet-append : (us vs : List ℕ) (bits : List Bool) → AreUnmet us bits �
 unmet-append [] vs bits front back = back
 unmet-append (u ∷ us) vs bits front back = (front.0, unmet-append us vs (set bits u true) front.1 back)
 
-counted_before : (n calls : ℕ) → counted_times (counted n true) calls ≡ counted (counted_times n calls) true
+pub counted_before : (n calls : ℕ) → counted_times (counted n true) calls ≡ counted (counted_times n calls) true
 counted_before n zero = refl
 counted_before n (suc calls) = ap (λ (x : ℕ). counted x true) (counted_before n calls)
 

@@ -1,12 +1,16 @@
 -- Which lists of pages are a file that was closed, and why one is not opened.
-use Rattle.std.specs.Prelude.{◌≡◌, ℕ, ◌<◌, ◌≤◌, ◌⊎◌, Bool, true, false, List, length, Option, Some, None, ◌==◌, if◌then◌else◌, Result, Ok, Err, slice_get}
-use Rattle.page_store.specs.PageMap.{PageMap}
+use Rattle.std.specs.Prelude.{◌≡◌, ℕ, ◌<◌, ◌≤◌, ◌⊎◌, ◌+◌, Bool, true, false, List, length, Option, Some, None, ◌==◌, if◌then◌else◌, Result, Ok, Err, slice_get}
+use Rattle.page_store.specs.Calls.{counted_times}
+use Rattle.page_store.specs.PageMap.{PageMap, at}
+use Rattle.page_store.specs.PagesView.{PagesView}
 use Rattle.btree_node.specs.declared.headers.Header.{Header}
 use Rattle.btree_node.specs.declared.headers.HeaderFault.{HeaderFault}
 use Rattle.btree_node.specs.declared.headers.HeaderFault.TheVariants.{BadMagic as NoMagic, BadVersion as OtherVersion, BadOrder as NoOrder, NotClean as Unclean, BadHeader as NoHeader}
 use Rattle.btree_node.specs.HeaderSpelling.{HeaderFits, header_spelling, clean_state, FirstHeaderFault}
 use Rattle.btree_node.specs.Lists.{Element}
 use Rattle.btree_insert.specs.declared.trees.Tree.{Tree}
+use Rattle.btree_insert.specs.declared.trees.TreeFault.{TreeFault}
+use Rattle.btree_insert.specs.declared.trees.TreeFault.TheVariants.{Device as ReadFailed, Damaged as NoTreePage, Memory as NoMemory}
 use Rattle.btree_insert.specs.PageTrees.{Holds}
 use Rattle.btree_delete.specs.declared.opening.OpenFault.{OpenFault}
 use Rattle.btree_delete.specs.declared.opening.OpenFault.TheVariants.{Device, BadLength, BadMagic, BadVersion, BadOrder, NotClean, BadHeader, Damaged, WrongCount, TooManyRecords, Memory}
@@ -37,15 +41,15 @@ pub record Begins (stored : List (List ℕ)) (tail : ℕ) (h : Header) : Type 0 
   pub agrees : Agrees stored h
 
 -- the pages hold a tree of the class that has the header's order and root
-pub record HasTree (stored : List (List ℕ)) (h : Header) (tree : Tree) (es : List Element) (us : List ℕ) : Type 0 where
+pub record HasTree (pages : PageMap) (h : Header) (tree : Tree) (es : List Element) (us : List ℕ) : Type 0 where
   pub order : tree.order ≡ h.order
   pub root : tree.root ≡ h.root
-  pub holds : Holds (in_file stored) tree es us
+  pub holds : Holds pages tree es us
 
 -- a closed file: its header, and a tree with as many elements as the header says
 pub record IsCleanFile (stored : List (List ℕ)) (tail : ℕ) (h : Header) (tree : Tree) (es : List Element) (us : List ℕ) : Type 0 where
   pub begins : Begins stored tail h
-  pub there : HasTree stored h tree es us
+  pub there : HasTree (in_file stored) h tree es us
   pub count : tree.count ≡ h.count
 
 -- page 0 has that fault
@@ -66,7 +70,7 @@ pub record Disagrees (stored : List (List ℕ)) (tail : ℕ) : Type 0 where
 pub record HasNoTree (stored : List (List ℕ)) (tail : ℕ) : Type 0 where
   pub h : Header
   pub begins : Begins stored tail h
-  pub none : (tree : Tree) (es : List Element) (us : List ℕ) → HasTree stored h tree es us → ⊥
+  pub none : (tree : Tree) (es : List Element) (us : List ℕ) → HasTree (in_file stored) h tree es us → ⊥
 
 -- the tree has another number of elements than the header says
 pub record CountsOther (stored : List (List ℕ)) (tail : ℕ) : Type 0 where
@@ -75,7 +79,7 @@ pub record CountsOther (stored : List (List ℕ)) (tail : ℕ) : Type 0 where
   pub tree : Tree
   pub es : List Element
   pub us : List ℕ
-  pub there : HasTree stored h tree es us
+  pub there : HasTree (in_file stored) h tree es us
   pub fails : tree.count ≡ h.count → ⊥
 
 -- a closed file with more records than the limit
@@ -101,20 +105,48 @@ IsFirst stored tail limit WrongCount = CountsOther stored tail
 IsFirst stored tail limit TooManyRecords = IsTooLarge stored tail limit
 IsFirst stored tail limit Memory = Unit {0}
 
+-- the same of the pages behind a header
+abbrev pub FailsTree : PageMap → Header → ℕ → OpenFault → Type 0
+FailsTree pages h limit Device = Unit {0}
+FailsTree pages h limit BadLength = ⊥
+FailsTree pages h limit BadMagic = ⊥
+FailsTree pages h limit (BadVersion version) = ⊥
+FailsTree pages h limit BadOrder = ⊥
+FailsTree pages h limit NotClean = ⊥
+FailsTree pages h limit BadHeader = ⊥
+FailsTree pages h limit (Damaged page) = (tree : Tree) (es : List Element) (us : List ℕ) → HasTree pages h tree es us → ⊥
+FailsTree pages h limit WrongCount = (tree : Tree) × (es : List Element) × (us : List ℕ) × HasTree pages h tree es us × (tree.count ≡ h.count → ⊥)
+FailsTree pages h limit TooManyRecords = (tree : Tree) × (es : List Element) × (us : List ℕ) × HasTree pages h tree es us × (tree.count ≡ h.count) × (limit < h.count)
+FailsTree pages h limit Memory = Unit {0}
+
+-- a closed file was opened: its pages are there, its tree is known, and page 0 and each page of the tree were read once
+pub record Opens (stored : List (List ℕ)) (tail limit reads : ℕ) (pages : PagesView) (tree : Tree) : Type 0 where
+  pub h : Header
+  pub es : List Element
+  pub us : List ℕ
+  pub clean : IsCleanFile stored tail h tree es us
+  pub few : h.count ≤ limit
+  pub holds : Holds (at pages.pages) tree es us
+  pub count : length pages.pages ≡ length stored
+  pub read : pages.reads ≡ counted_times reads (tree.used + 1)
+
 -- whether a call of the store failed
+abbrev pub is_device_fault : OpenFault → Bool
+is_device_fault Device = true
+is_device_fault BadLength = false
+is_device_fault BadMagic = false
+is_device_fault (BadVersion version) = false
+is_device_fault BadOrder = false
+is_device_fault NotClean = false
+is_device_fault BadHeader = false
+is_device_fault (Damaged page) = false
+is_device_fault WrongCount = false
+is_device_fault TooManyRecords = false
+is_device_fault Memory = false
+
 abbrev pub is_device : {X : Type 0} → Result X OpenFault → Bool
 is_device (Ok x) = false
-is_device (Err Device) = true
-is_device (Err BadLength) = false
-is_device (Err BadMagic) = false
-is_device (Err (BadVersion version)) = false
-is_device (Err BadOrder) = false
-is_device (Err NotClean) = false
-is_device (Err BadHeader) = false
-is_device (Err (Damaged page)) = false
-is_device (Err WrongCount) = false
-is_device (Err TooManyRecords) = false
-is_device (Err Memory) = false
+is_device (Err fault) = is_device_fault fault
 
 -- the fault of a file whose header has a fault
 abbrev pub header_fault : HeaderFault → OpenFault
@@ -127,3 +159,9 @@ header_fault NoHeader = BadHeader
 -- a fault from outside
 abbrev pub IsOutside : OpenFault → Type 0
 IsOutside fault = (fault ≡ Device) ⊎ (fault ≡ Memory)
+
+-- the fault of a file whose tree has a fault
+abbrev pub tree_fault : TreeFault → OpenFault
+tree_fault ReadFailed = Device
+tree_fault (NoTreePage page) = Damaged page
+tree_fault NoMemory = Memory

@@ -2,6 +2,7 @@
 #![tactic(auto)]
 
 mod deleting;
+mod files;
 mod free;
 pub mod laws;
 mod measuring;

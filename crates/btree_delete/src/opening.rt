@@ -85,8 +85,8 @@ pub(crate) fn check_header<S: Store>(store: &mut S, pages: u32) -> Result<Header
     ensures only { IsTrue (S.steady store.old) → (h : HeaderValue)
         → Begins (S.pages store.old) (S.tail store.old) h
         → (result ≡ Ok h) ⊎ (result ≡ Err OpenFault.Device) }
-    ensures fault { IsTrue (S.steady store.old) → IfErr result
-        (IsFirst (S.pages store.old) (S.tail store.old) 0) }
+    ensures fault { IsTrue (S.steady store.old) → (limit : ℕ) → IfErr result
+        (IsFirst (S.pages store.old) (S.tail store.old) limit) }
     ensures no_memory { IfErr result (λ fault. fault ≢ OpenFault.Memory) }
     ensures pages { S.pages store.new ≡ S.pages store.old }
     ensures tail { S.tail store.new ≡ S.tail store.old }
