@@ -1,5 +1,5 @@
 -- The pages of a closed file.
-use Rattle.std.proofs.Common.{◌≡◌, ℕ, zero, suc, ◌+◌, ◌<◌, ◌≤◌, ◌⊎◌, inl, inr, Bool, true, false, cond, ◌||◌, eqb, nat_lt, Option, Some, None, Result, Ok, Err, List, [], ◌∷◌, length, get_or, slice_get, refl, ap, sym, ◌∙◌, subst, arith}
+use Rattle.std.proofs.Common.{◌≡◌, ℕ, zero, suc, ◌+◌, ◌^◌, ◌<◌, ◌≤◌, ◌⊎◌, inl, inr, Bool, true, false, cond, ◌||◌, eqb, nat_lt, Option, Some, None, IsSome, IsTrue, Result, Ok, Err, List, [], ◌∷◌, length, get_or, slice_get, refl, ap, sym, ◌∙◌, subst, arith}
 use Rattle.std.proofs.lemmas.Bool.Decides.{nat_tests}
 use Rattle.std.proofs.lemmas.List.{get_or_past}
 use Rattle.std.proofs.lemmas.Option.{slice_get_past}
@@ -7,16 +7,22 @@ use Rattle.rec_types.specs.Table.{counted}
 use Rattle.page_store.specs.Calls.{counted_times}
 use Rattle.page_store.specs.PageMap.{PageMap, at}
 use Rattle.page_store.specs.PagesView.{PagesView}
+use Rattle.page_store.specs.WritingBack.{AreStored}
 use Rattle.btree_node.specs.declared.headers.Header.{Header}
+use Rattle.btree_node.specs.HeaderSpelling.{header_spelling, clean_state}
 use Rattle.btree_node.specs.Lists.{Element, Each}
 use Rattle.btree_insert.specs.declared.trees.Tree.{Tree}
 use Rattle.btree_insert.specs.PageTrees.{IsIn, RootAt, Holds}
+use Rattle.btree_insert.specs.Contents.{contents_of}
+use Rattle.btree_insert.specs.Elements.{contents_at}
+use Rattle.btree_insert.proofs.ElementsFacts.{held_elements}
 use Rattle.btree_insert.proofs.GrowFacts.{tree_move}
 use Rattle.btree_insert.proofs.Membership.{each_in}
 use Rattle.btree_delete.specs.declared.opening.OpenFault.{OpenFault}
 use Rattle.btree_delete.specs.declared.opening.OpenFault.TheVariants.{Device, BadLength, BadMagic, BadVersion, BadOrder, NotClean, BadHeader, Damaged, WrongCount, TooManyRecords, Memory}
 use Rattle.btree_delete.specs.Survey.{Measured}
 use Rattle.btree_delete.specs.CleanFile.{in_file, Begins, HasTree, IsCleanFile, IsFirst, FailsTree, Opens}
+use Rattle.btree_delete.specs.TableView.{HoldsTree, IsClosed, IsTable}
 use Rattle.btree_delete.proofs.SurveyFacts.{counted_before}
 use Rattle.btree_delete.proofs.MeasureFacts.{root_in_use, below_count}
 
@@ -118,3 +124,72 @@ the_header x h (inr never) = absurd (cc)
 pub tree_there : (stored : List (List ℕ)) (pages : PageMap) (h x : Header) (tree : Tree) (es : List Element) (us : List ℕ) → pages ≡ in_file stored → x ≡ h → HasTree (in_file stored) h tree es us → HasTree pages x tree es us
 tree_there stored pages h x tree es us pages_is header_is there =
     subst (λ (f : PageMap). HasTree f x tree es us) (sym pages_is) (subst (λ (y : Header). HasTree (in_file stored) y tree es us) (sym header_is) there)
+
+some_of : (o : Option (List ℕ)) → (o ≡ None → ⊥) → IsSome o
+some_of (Some x) never = refl
+some_of None never = absurd (never refl)
+
+root_below : (k : ℕ) (pages : List (Option (List ℕ))) (height root : ℕ) (es : List Element) (us : List ℕ) → 1 ≤ length pages → RootAt k (at pages) height root es us → root < length pages
+root_below k pages zero root es us some tree = omega (arith, tree.0)
+root_below k pages (suc h) root es us some (n, below, spells, least, body, us_is) = below_count pages root (λ none. absurd (let never = sym spells.page ∙ none in cc))
+
+held_contents : (pages : PageMap) (tree : Tree) (es : List Element) (us : List ℕ) → tree.order ≤ 16 → Holds pages tree es us → contents_at tree.order pages tree.height tree.root ≡ contents_of es
+held_contents pages tree es us small holds = ap contents_of (held_elements pages tree es us small holds)
+
+-- a file that was opened is closed, and has the records of its pages
+pub opened_closed : (stored : List (List ℕ)) (tail limit reads : ℕ) (pages : PagesView) (tree : Tree) → tree.order ≤ 16 → Opens stored tail limit reads pages tree → IsClosed stored tail tree (contents_at tree.order (at pages.pages) tree.height tree.root)
+opened_closed stored tail limit reads pages tree small opens = record {
+  h = opens.h;
+  es = opens.es;
+  us = opens.us;
+  clean = opens.clean;
+  records = sym (held_contents (at pages.pages) tree opens.es opens.us small opens.holds);
+}
+
+-- what was written back is a closed file
+pub written_back : (pages : PagesView) (stored : List (List ℕ)) (tail count : ℕ) (tree : Tree) → HoldsTree pages tree → length stored ≡ length pages.pages → tail ≡ 0 → count ≡ length pages.pages → 1 ≤ count → count ≤ 1000001 → at pages.pages 0 ≡ None
+    → slice_get stored 0 ≡ Some (header_spelling (record { order = tree.order; pages = count; root = tree.root; count = tree.count }) clean_state) → AreStored (at pages.pages) stored
+    → 1 ≤ tree.order → tree.order ≤ 16 → tree.count ≤ 1000000 → IsClosed stored tail tree (contents_at tree.order (at pages.pages) tree.height tree.root)
+written_back pages stored tail count tree held long tail_is count_is some most header first same some_order most_order small =
+    let low = root_below tree.order pages.pages tree.height tree.root held.es held.us (omega (arith, some, count_is)) held.holds.tree in
+    record {
+      h = record { order = tree.order; pages = count; root = tree.root; count = tree.count };
+      es = held.es;
+      us = held.us;
+      clean = record {
+        begins = record {
+          long = record { no_tail = tail_is; some = omega (arith, some, count_is, long); most = omega (arith, most, count_is, long) };
+          header = record {
+            fits = record { some_order = some_order; most_order = most_order; pages = omega (arith, most); root = omega (arith, low, most, count_is); count = omega (arith, small) };
+            page = first;
+          };
+          agrees = record { pages = count_is ∙ sym long; root = omega (arith, low, long) };
+        };
+        there = record { order = refl; root = refl; holds = holds_move (at pages.pages) (in_file stored) tree held.es held.us held.holds (λ q is. stored_page q (root_in_use tree.order (at pages.pages) tree.root tree.height held.es held.us held.holds.tree q is)) };
+        count = refl;
+      };
+      records = sym (held_contents (at pages.pages) tree held.es held.us most_order held.holds);
+    }
+  where
+  nonzero : (q : ℕ) → (at pages.pages q ≡ None → ⊥) → eqb q 0 ≡ false
+  nonzero zero used = absurd (used header)
+  nonzero (suc q) used = grind (arith, nat_tests)
+  stored_page : (q : ℕ) → (at pages.pages q ≡ None → ⊥) → in_file stored q ≡ at pages.pages q
+  stored_page q used = ap (λ (b : Bool). cond b None (slice_get stored q)) (nonzero q used) ∙ same q (some_of (at pages.pages q) used)
+
+-- a table whose file was opened
+pub opened_table : (stored : List (List ℕ)) (tail most reads : ℕ) (pages : PagesView) (tree : Tree) (limit : ℕ) (steady : Bool) → pages.stored ≡ stored → pages.tail ≡ tail → pages.steady ≡ steady → (IsTrue steady → Opens stored tail most reads pages tree)
+    → 1 ≤ tree.order → tree.order ≤ 16 → tree.height ≤ 19 → tree.used ≤ 1000000 → tree.count ≤ most → limit ≡ most → limit ≤ 1000000 → IsTable (record { pages = pages; tree = tree; limit = limit })
+opened_table stored tail most reads pages tree limit steady stored_is tail_is steady_is found some_order most_order low used count limit_is limit_most = record {
+  some_order = some_order;
+  most_order = most_order;
+  low = low;
+  used = used;
+  small = omega (arith, count, limit_is, limit_most);
+  count = λ _. omega (arith, count, limit_is);
+  limit = limit_most;
+  holds = λ is. let opens = found (sym steady_is ∙ is) in record { es = opens.es; us = opens.us; holds = opens.holds };
+  closed = λ is _.
+      let contents = contents_at tree.order (at pages.pages) tree.height tree.root in
+      subst (λ (t : ℕ). IsClosed pages.stored t tree contents) (sym tail_is) (subst (λ (ps : List (List ℕ)). IsClosed ps tail tree contents) (sym stored_is) (opened_closed stored tail most reads pages tree most_order (found (sym steady_is ∙ is))));
+}

@@ -5,3 +5,5 @@ pub mod Shrinking
 pub mod Mending
 pub mod Survey
 pub mod CleanFile
+pub mod TableView
+pub mod Created

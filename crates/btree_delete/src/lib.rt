@@ -10,6 +10,7 @@ mod mending;
 mod opening;
 mod shrinking;
 mod surveying;
+mod tables;
 #[cfg(test)]
 mod tests;
 mod visiting;
