@@ -43,14 +43,15 @@ pub file_map : (stored stored2 : List (List ℕ)) (pages : List (Option (List �
     → ((n : ℕ) → n < count → at pages n ≡ shown_as stored2 free n) → ((n : ℕ) → free n ≡ false) → at pages ≡ in_file stored
 file_map stored stored2 pages count free stored_is count_is long shown none = λ i n. each n i
   where
-  decide : (n : ℕ) (b : Bool) → nat_lt n count ≡ b → at pages n ≡ in_file stored n
-  decide n true low =
-      shown n (grind (arith, nat_tests)) ∙ ap (λ (b : Bool). cond (eqb n 0 || b) None (slice_get stored2 n)) (none n) ∙ ap (λ (b : Bool). cond b None (slice_get stored2 n)) (or_false (eqb n 0)) ∙ ap (λ (xs : List (List ℕ)). cond (eqb n 0) None (slice_get xs n)) stored_is
-  decide n false past =
-      let high : count ≤ n = grind (arith, nat_tests) in
-      get_or_past pages n None (omega (arith, high, long)) ∙ none_twice (eqb n 0) ∙ ap (λ (o : Option (List ℕ)). cond (eqb n 0) None o) (sym (slice_get_past stored n (omega (arith, high, count_is))))
-  each : (n : ℕ) → at pages n ≡ in_file stored n
-  each n = decide n (nat_lt n count) refl
+    decide : (n : ℕ) (b : Bool) → nat_lt n count ≡ b → at pages n ≡ in_file stored n
+    decide n true low =
+        shown n (grind (arith, nat_tests)) ∙ ap (λ (b : Bool). cond (eqb n 0 || b) None (slice_get stored2 n)) (none n) ∙ ap (λ (b : Bool). cond b None (slice_get stored2 n)) (or_false (eqb n 0)) ∙ ap (λ (xs : List (List ℕ)). cond (eqb n 0) None (slice_get xs n)) stored_is
+    decide n false past =
+        let high : count ≤ n = grind (arith, nat_tests) in
+        get_or_past pages n None (omega (arith, high, long)) ∙ none_twice (eqb n 0) ∙ ap (λ (o : Option (List ℕ)). cond (eqb n 0) None o) (sym (slice_get_past stored n (omega (arith, high, count_is))))
+
+    each : (n : ℕ) → at pages n ≡ in_file stored n
+    each n = decide n (nat_lt n count) refl
 
 -- a tree whose pages are as they were
 pub holds_move : (old new : PageMap) (tree : Tree) (es : List Element) (us : List ℕ) → Holds old tree es us → ((q : ℕ) → IsIn q us → new q ≡ old q) → Holds new tree es us
@@ -62,9 +63,9 @@ holds_move old new tree es us holds same = record {
   used = holds.used;
 }
   where
-  root_move : (h : ℕ) → RootAt tree.order old h tree.root es us → RootAt tree.order new h tree.root es us
-  root_move zero root = root
-  root_move (suc h) root = tree_move tree.order old new 1 (suc h) tree.root es us root (each_in (λ q. new q ≡ old q) us same)
+    root_move : (h : ℕ) → RootAt tree.order old h tree.root es us → RootAt tree.order new h tree.root es us
+    root_move zero root = root
+    root_move (suc h) root = tree_move tree.order old new 1 (suc h) tree.root es us root (each_in (λ q. new q ≡ old q) us same)
 
 not_true : (b : Bool) → (b ≡ true → ⊥) → b ≡ false
 not_true true never = absurd (never refl)
@@ -97,8 +98,8 @@ opened stored tail limit h old pages tree free reads r0 r1 begins old_is old_lon
   read = last ∙ m.read ∙ ap (λ (r : ℕ). counted_times r tree.used) first ∙ counted_before reads tree.used ∙ ap (counted_times reads) (next tree.used);
 }
   where
-  next : (n : ℕ) → suc n ≡ n + 1
-  next n = omega arith
+    next : (n : ℕ) → suc n ≡ n + 1
+    next n = omega arith
 
 -- the first check that fails behind a header
 pub fails_first : (stored : List (List ℕ)) (tail limit : ℕ) (h : Header) (fault : OpenFault) → Begins stored tail h → FailsTree (in_file stored) h limit fault → IsFirst stored tail limit fault
@@ -117,8 +118,8 @@ fails_first stored tail limit h Memory begins fails = tt
 pub the_header : (x h : Header) → (◌≡◌ {A = Result Header OpenFault} (Ok x) (Ok h)) ⊎ (◌≡◌ {A = Result Header OpenFault} (Ok x) (Err Device)) → x ≡ h
 the_header x h (inl same) = header_one x h same
   where
-  header_one : (x h : Header) → ◌≡◌ {A = Result Header OpenFault} (Ok x) (Ok h) → x ≡ h
-  header_one x h same = cc
+    header_one : (x h : Header) → ◌≡◌ {A = Result Header OpenFault} (Ok x) (Ok h) → x ≡ h
+    header_one x h same = cc
 the_header x h (inr never) = absurd (cc)
 
 pub tree_there : (stored : List (List ℕ)) (pages : PageMap) (h x : Header) (tree : Tree) (es : List Element) (us : List ℕ) → pages ≡ in_file stored → x ≡ h → HasTree (in_file stored) h tree es us → HasTree pages x tree es us
@@ -171,11 +172,12 @@ written_back pages stored tail count tree held long tail_is count_is some most h
       records = sym (held_contents (at pages.pages) tree held.es held.us most_order held.holds);
     }
   where
-  nonzero : (q : ℕ) → (at pages.pages q ≡ None → ⊥) → eqb q 0 ≡ false
-  nonzero zero used = absurd (used header)
-  nonzero (suc q) used = grind (arith, nat_tests)
-  stored_page : (q : ℕ) → (at pages.pages q ≡ None → ⊥) → in_file stored q ≡ at pages.pages q
-  stored_page q used = ap (λ (b : Bool). cond b None (slice_get stored q)) (nonzero q used) ∙ same q (some_of (at pages.pages q) used)
+    nonzero : (q : ℕ) → (at pages.pages q ≡ None → ⊥) → eqb q 0 ≡ false
+    nonzero zero used = absurd (used header)
+    nonzero (suc q) used = grind (arith, nat_tests)
+
+    stored_page : (q : ℕ) → (at pages.pages q ≡ None → ⊥) → in_file stored q ≡ at pages.pages q
+    stored_page q used = ap (λ (b : Bool). cond b None (slice_get stored q)) (nonzero q used) ∙ same q (some_of (at pages.pages q) used)
 
 -- a table whose file was opened
 pub opened_table : (stored : List (List ℕ)) (tail most reads : ℕ) (pages : PagesView) (tree : Tree) (limit : ℕ) (steady : Bool) → pages.stored ≡ stored → pages.tail ≡ tail → pages.steady ≡ steady → (IsTrue steady → Opens stored tail most reads pages tree)

@@ -26,24 +26,24 @@ not_below false b c r = refl
 pub free_kept : (bits : List Bool) (n q : ℕ) → get_or bits n true ≡ true → is_free_below bits n q ≡ is_free_below bits (n + 1) q
 free_kept bits n q met = at (eqb q n) refl
   where
-  at : (b : Bool) → eqb q n ≡ b → is_free_below bits n q ≡ is_free_below bits (n + 1) q
-  at true same =
-      let q_is : q ≡ n = grind (arith, nat_tests) in
-      let past : nat_lt q n ≡ false = grind (arith, nat_tests) in
-      not_below (nat_le 1 q) (nat_lt q n) (not (get_or bits q true)) past ∙ sym (last_one (nat_le 1 q) (nat_lt q (n + 1)) (get_or bits q true) (ap (λ (x : ℕ). get_or bits x true) q_is ∙ met))
-  at false other = ap (λ (b : Bool). nat_le 1 q && (b && not (get_or bits q true))) (grind (arith, nat_tests))
+    at : (b : Bool) → eqb q n ≡ b → is_free_below bits n q ≡ is_free_below bits (n + 1) q
+    at true same =
+        let q_is : q ≡ n = grind (arith, nat_tests) in
+        let past : nat_lt q n ≡ false = grind (arith, nat_tests) in
+        not_below (nat_le 1 q) (nat_lt q n) (not (get_or bits q true)) past ∙ sym (last_one (nat_le 1 q) (nat_lt q (n + 1)) (get_or bits q true) (ap (λ (x : ℕ). get_or bits x true) q_is ∙ met))
+    at false other = ap (λ (b : Bool). nat_le 1 q && (b && not (get_or bits q true))) (grind (arith, nat_tests))
 
 -- and one that was not reached is one of them
 pub free_put : (bits : List Bool) (n q : ℕ) → 1 ≤ n → get_or bits n true ≡ false → cond (eqb q n) true (is_free_below bits n q) ≡ is_free_below bits (n + 1) q
 free_put bits n q some unmet = at (eqb q n) refl
   where
-  at : (b : Bool) → eqb q n ≡ b → cond (eqb q n) true (is_free_below bits n q) ≡ is_free_below bits (n + 1) q
-  at true same =
-      let q_is : q ≡ n = grind (arith, nat_tests) in
-      let from : nat_le 1 q ≡ true = grind (arith, nat_tests) in
-      let below : nat_lt q (n + 1) ≡ true = grind (arith, nat_tests) in
-      ap (λ (b : Bool). cond b true (is_free_below bits n q)) same ∙ sym (all_three (nat_le 1 q) (nat_lt q (n + 1)) (get_or bits q true) from below (ap (λ (x : ℕ). get_or bits x true) q_is ∙ unmet))
-  at false other = ap (λ (b : Bool). cond b true (is_free_below bits n q)) other ∙ ap (λ (b : Bool). nat_le 1 q && (b && not (get_or bits q true))) (grind (arith, nat_tests))
+    at : (b : Bool) → eqb q n ≡ b → cond (eqb q n) true (is_free_below bits n q) ≡ is_free_below bits (n + 1) q
+    at true same =
+        let q_is : q ≡ n = grind (arith, nat_tests) in
+        let from : nat_le 1 q ≡ true = grind (arith, nat_tests) in
+        let below : nat_lt q (n + 1) ≡ true = grind (arith, nat_tests) in
+        ap (λ (b : Bool). cond b true (is_free_below bits n q)) same ∙ sym (all_three (nat_le 1 q) (nat_lt q (n + 1)) (get_or bits q true) from below (ap (λ (x : ℕ). get_or bits x true) q_is ∙ unmet))
+    at false other = ap (λ (b : Bool). cond b true (is_free_below bits n q)) other ∙ ap (λ (b : Bool). nat_le 1 q && (b && not (get_or bits q true))) (grind (arith, nat_tests))
 
 pub free_added : (bits : List Bool) (n q : ℕ) (old new : Bool) → 1 ≤ n → get_or bits n true ≡ false → old ≡ is_free_below bits n q → new ≡ cond (is_at (nat_cmp n) q) true old → new ≡ is_free_below bits (n + 1) q
 free_added bits n q old new some unmet was is =
@@ -67,19 +67,21 @@ free_all bits n q b past is = (
   λ both. let low = within bits q both.1 in is ∙ all_three (nat_le 1 q) (nat_lt q n) (get_or bits q true) (up q both.0) (down q n (omega (arith, low, past))) both.1,
 )
   where
-  from : (q : ℕ) → nat_le 1 q ≡ true → 1 ≤ q
-  from q is = grind (arith, nat_tests)
-  up : (q : ℕ) → 1 ≤ q → nat_le 1 q ≡ true
-  up q is = grind (arith, nat_tests)
-  down : (q n : ℕ) → q < n → nat_lt q n ≡ true
-  down q n is = grind (arith, nat_tests)
+    from : (q : ℕ) → nat_le 1 q ≡ true → 1 ≤ q
+    from q is = grind (arith, nat_tests)
+
+    up : (q : ℕ) → 1 ≤ q → nat_le 1 q ≡ true
+    up q is = grind (arith, nat_tests)
+
+    down : (q n : ℕ) → q < n → nat_lt q n ≡ true
+    down q n is = grind (arith, nat_tests)
 
 pub none_free : (bits : List Bool) (q : ℕ) (b : Bool) → b ≡ false → b ≡ is_free_below bits 1 q
 none_free bits q b is = is ∙ sym (at q)
   where
-  at : (q : ℕ) → is_free_below bits 1 q ≡ false
-  at zero = refl
-  at (suc q) = not_below (nat_le 1 (suc q)) (nat_lt (suc q) 1) (not (get_or bits (suc q) true)) (grind (arith, nat_tests))
+    at : (q : ℕ) → is_free_below bits 1 q ≡ false
+    at zero = refl
+    at (suc q) = not_below (nat_le 1 (suc q)) (nat_lt (suc q) 1) (not (get_or bits (suc q) true)) (grind (arith, nat_tests))
 
 -- how many of them there are
 next_met : (bits : List Bool) (m : ℕ) → m < length bits → get_or bits m true ≡ true → unreached (take (suc m) bits) ≡ unreached (take m bits)
@@ -101,18 +103,19 @@ count_met bits zero some low is = absurd (omega arith)
 count_met [] (suc m) some low is = absurd (omega arith)
 count_met (b ∷ bits) (suc m) some low is = ap (λ (i : ℕ). unreached (drop 1 (take i (b ∷ bits)))) (next m) ∙ next_met bits m (omega arith) is
   where
-  next : (m : ℕ) → suc m + 1 ≡ suc (suc m)
-  next m = omega arith
+    next : (m : ℕ) → suc m + 1 ≡ suc (suc m)
+    next m = omega arith
 
 pub count_unmet : (bits : List Bool) (n : ℕ) → 1 ≤ n → get_or bits n true ≡ false → unreached (drop 1 (take (n + 1) bits)) ≡ unreached (drop 1 (take n bits)) + 1
 count_unmet bits zero some is = absurd (omega arith)
 count_unmet [] (suc m) some is = absurd (cc)
 count_unmet (b ∷ bits) (suc m) some is = ap (λ (i : ℕ). unreached (drop 1 (take i (b ∷ bits)))) (next m) ∙ next_unmet bits m is ∙ add (unreached (take m bits))
   where
-  next : (m : ℕ) → suc m + 1 ≡ suc (suc m)
-  next m = omega arith
-  add : (x : ℕ) → suc x ≡ x + 1
-  add x = omega arith
+    next : (m : ℕ) → suc m + 1 ≡ suc (suc m)
+    next m = omega arith
+
+    add : (x : ℕ) → suc x ≡ x + 1
+    add x = omega arith
 
 -- a number of the loop is none of those before it
 pub new_number : (bits : List Bool) (n : ℕ) (old : Bool) → old ≡ is_free_below bits n n → old ≡ false

@@ -134,10 +134,11 @@ sound_root k pages h root es us start order most start_is rooted =
 pub seen_after : (count h : ℕ) (es : List Element) (us : List ℕ) (start : Seen) → start ≡ record { reached = none_of count; leaf = None; keys = 0 } → after (18 - h) es us start ≡ seen_of count (suc h) es us
 seen_after count h es us start start_is = ap (after (18 - h) es us) start_is ∙ from_none (length es)
   where
-  zero_left : (n : ℕ) → 0 + n ≡ n
-  zero_left n = omega arith
-  from_none : (n : ℕ) → ◌≡◌ {A = Seen} (record { reached = mark us (none_of count); leaf = Some (18 - h); keys = 0 + n }) (record { reached = mark us (none_of count); leaf = Some (18 - h); keys = n })
-  from_none n = λ i. record { reached = mark us (none_of count); leaf = Some (18 - h); keys = zero_left n i }
+    zero_left : (n : ℕ) → 0 + n ≡ n
+    zero_left n = omega arith
+
+    from_none : (n : ℕ) → ◌≡◌ {A = Seen} (record { reached = mark us (none_of count); leaf = Some (18 - h); keys = 0 + n }) (record { reached = mark us (none_of count); leaf = Some (18 - h); keys = n })
+    from_none n = λ i. record { reached = mark us (none_of count); leaf = Some (18 - h); keys = zero_left n i }
 
 -- what was gone through from the root is a tree of the class
 pub rooted_found : (k : ℕ) (pages : List (Option (List ℕ))) (root : ℕ) (start new : Seen) (reads reads' : ℕ) → start ≡ record { reached = none_of (length pages); leaf = None; keys = 0 }
@@ -242,8 +243,8 @@ totals k pages root height es us new reached free order some most header rooted 
       );
     }
   where
-  below_none : (count n : ℕ) → get_or (none_of count) n true ≡ false → n < count
-  below_none count n is = let low = within (none_of count) n is in let long = length-replicate count false in omega (arith, low, long)
+    below_none : (count n : ℕ) → get_or (none_of count) n true ≡ false → n < count
+    below_none count n is = let low = within (none_of count) n is in let long = length-replicate count false in omega (arith, low, long)
 
 -- the tree of a root was measured
 pub measured : (k : ℕ) (pages : List (Option (List ℕ))) (root : ℕ) (tree : Tree) (new : Seen) (reached : List Bool) (free : ℕ) (among : ℕ → Bool) (reads reads' : ℕ) → 0 < k → 1 ≤ length pages → length pages ≤ 1000001 → at pages 0 ≡ None

@@ -49,12 +49,12 @@ counted_before n (suc calls) = ap (λ (x : ℕ). counted x true) (counted_before
 counted_both : (n a b : ℕ) → counted_times n (a + b) ≡ counted_times (counted_times n a) b
 counted_both n a zero = ap (counted_times n) (same a)
   where
-  same : (a : ℕ) → a + 0 ≡ a
-  same a = omega arith
+    same : (a : ℕ) → a + 0 ≡ a
+    same a = omega arith
 counted_both n a (suc b) = ap (counted_times n) (next a b) ∙ ap (λ (x : ℕ). counted x true) (counted_both n a b)
   where
-  next : (a b : ℕ) → a + suc b ≡ suc (a + b)
-  next a b = omega arith
+    next : (a b : ℕ) → a + suc b ≡ suc (a + b)
+    next a b = omega arith
 
 -- the trees below two neighbours, with the key between them
 abbrev pub with_key : Seen → Seen
@@ -74,8 +74,8 @@ leaf_one : (leaf : Option ℕ) (first level : ℕ) → leaf ≡ Some first → (
 leaf_one leaf first level is (inl none) = absurd (cc)
 leaf_one leaf first level is (inr some) = let same : Some first ≡ Some level = sym is ∙ some in some_one first level same
   where
-  some_one : (x y : ℕ) → Some x ≡ Some y → x ≡ y
-  some_one x y same = cc
+    some_one : (x y : ℕ) → Some x ≡ Some y → x ≡ y
+    some_one x y same = cc
 
 abbrev pub with_leaf : ℕ → ℕ → Seen → Seen
 with_leaf level keys s = record { reached = s.reached; leaf = Some level; keys = s.keys + keys }
@@ -264,8 +264,8 @@ more_found k pages left b sons els x old first second new r0 r1 r2 some size x_i
       read = back.read ∙ ap (λ (r : ℕ). counted_times r (length back.us)) front.read ∙ sym (counted_both r0 (length front.us) (length back.us)) ∙ ap (counted_times r0) (both_long front.us back.us);
     }
   where
-  both_long : (us vs : List ℕ) → length us + length vs ≡ length (us ++ vs)
-  both_long us vs = let size = length-append us vs in omega arith
+    both_long : (us vs : List ℕ) → length us + length vs ≡ length (us ++ vs)
+    both_long us vs = let size = length-append us vs in omega arith
 
 -- the first son of several, and the others
 pub record Apiece (k : ℕ) (pages : PageMap) (left : ℕ) (b : Bounds) (sons : List ℕ) (els : List Element) (x : Element) (old : Seen) (h level : ℕ) (es : List Element) (us : List ℕ) : Type 0 where

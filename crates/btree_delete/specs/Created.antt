@@ -35,8 +35,11 @@ IsCreateFault stored tail k Device = IsOrder k
 IsCreateFault stored tail k NotEmpty = IsOrder k × (IsEmpty stored tail → ⊥)
 
 -- whether a call of the store failed
+abbrev pub is_create_device_fault : CreateFault → Bool
+is_create_device_fault BadOrder = false
+is_create_device_fault Device = true
+is_create_device_fault NotEmpty = false
+
 abbrev pub is_create_device : {X : Type 0} → Result X CreateFault → Bool
 is_create_device (Ok x) = false
-is_create_device (Err BadOrder) = false
-is_create_device (Err Device) = true
-is_create_device (Err NotEmpty) = false
+is_create_device (Err fault) = is_create_device_fault fault

@@ -2,6 +2,8 @@
 #![tactic(auto)]
 
 mod deleting;
+#[cfg(test)]
+mod file_tests;
 mod files;
 mod free;
 pub mod laws;
@@ -16,3 +18,6 @@ mod tests;
 mod visiting;
 
 pub use deleting::delete;
+pub use files::OpenStop;
+pub use opening::OpenFault;
+pub use tables::{CloseStop, CreateFault, CreateStop, TreeTable};

@@ -73,7 +73,9 @@ impl Survey {
         ensures added { result ≡ true → self.new
             ≡ record { reached = self.old.reached; leaf = Some level; keys = self.old.keys + keys } }
     {
-        if let Some(first) = self.leaf && first != level {
+        if let Some(first) = self.leaf
+            && first != level
+        {
             return false;
         }
         self.leaf = Some(level);
@@ -248,18 +250,14 @@ fn survey_sons<S: Store>(
         ≡ record pages.old { reads = pages.new.reads; failures = pages.new.failures } }
 {
     if elements.is_empty() {
-        return survey_page(
-            pages, survey, order, order, left, from, sons[0], bounds,
-        );
+        return survey_page(pages, survey, order, order, left, from, sons[0], bounds);
     }
     let middle = elements[0];
     let before = Bounds {
         low: bounds.low,
         high: Some(middle.0),
     };
-    survey_page(
-        pages, survey, order, order, left, from, sons[0], &before,
-    )?;
+    survey_page(pages, survey, order, order, left, from, sons[0], &before)?;
     survey.add_key();
     let behind = Bounds {
         low: Some(middle.0),

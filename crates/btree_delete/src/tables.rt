@@ -7,7 +7,7 @@ ghost use Rattle.btree_node.specs.declared.headers.Header.{Header as HeaderValue
 ghost use Rattle.btree_insert.specs.declared.trees.Tree.{Tree as TreeValue};
 ghost use Rattle.btree_delete.specs.CleanFile.{IsCleanFile, IsFirst, Opens, IsOutside, is_device_fault};
 ghost use Rattle.btree_delete.specs.TableView.{TableView, IsClosed, table_contents};
-ghost use Rattle.btree_delete.specs.Created.{IsEmpty, IsCreated, IsCreateFault, is_create_device};
+ghost use Rattle.btree_delete.specs.Created.{IsEmpty, IsCreated, IsCreateFault, is_create_device, is_create_device_fault};
 
 use crate::files::{OpenStop, open_file};
 use btree_insert::Tree;
@@ -111,6 +111,8 @@ impl<S: Store> TreeTable<S> {
         ensures steady { IfErr result (λ stop. S.steady stop.store ≡ S.steady store) }
         ensures reads { IfErr result (λ stop. S.reads stop.store ≡ S.reads store) }
         ensures writes { IfErr result (λ stop. S.writes stop.store ≡ S.writes store) }
+        ensures failures { IfErr result (λ stop. S.failures stop.store
+            ≡ counted (S.failures store) (is_create_device_fault stop.fault)) }
     {
         let mut store = store;
         if !(1..=16).contains(&k) {
@@ -143,11 +145,7 @@ impl<S: Store> TreeTable<S> {
     /// Opens a file that was closed, of at most as many records as the limits say. It reads page 0 and
     /// each page of the tree once. The store comes back with a fault, its pages as they were: Device and
     /// Memory where they are met, and else the first check that fails, in the order of the faults.
-    pub fn open_from(
-        alloc: Global,
-        store: S,
-        limits: Limits,
-    ) -> Result<TreeTable<S>, OpenStop<S>>
+    pub fn open_from(alloc: Global, store: S, limits: Limits) -> Result<TreeTable<S>, OpenStop<S>>
         ensures found { IsTrue (S.steady store) → IfOk result (λ t. Opens (S.pages store)
             (S.tail store) limits.records (S.reads store) t.pages t.tree) }
         ensures exact { IsTrue (S.steady store) → (h : HeaderValue) (tree : TreeValue)
@@ -186,12 +184,14 @@ impl<S: Store> TreeTable<S> {
             × (S.reads store ≡ self.pages.reads) × (S.writes store ≡ self.pages.writes)
             × (S.failures store ≡ self.pages.failures)) }
         ensures idle_ok { self.pages.changed ≡ false → IsOk result }
-        ensures table { IfErr result (λ stop. stop.table ≡ record self { pages = record self.pages {
-          stored = stop.table.pages.stored;
-          tail = stop.table.pages.tail;
-          writes = stop.table.pages.writes;
-          failures = stop.table.pages.failures;
-        } }) }
+        ensures table { IfErr result (λ stop. stop.table ≡ record self {
+          pages = record self.pages {
+            stored = stop.table.pages.stored;
+            tail = stop.table.pages.tail;
+            writes = stop.table.pages.writes;
+            failures = stop.table.pages.failures;
+          };
+        }) }
     {
         let TreeTable {
             mut pages,
