@@ -17,3 +17,4 @@ pub mod SurveyFacts
 pub mod MeasureFacts
 pub mod FreeNumberFacts
 pub mod FileFacts
+pub mod FileExampleFacts

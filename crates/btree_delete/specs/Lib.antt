@@ -5,5 +5,6 @@ pub mod Shrinking
 pub mod Mending
 pub mod Survey
 pub mod CleanFile
+pub mod FileExamples
 pub mod TableView
 pub mod Created

@@ -2,6 +2,7 @@
 #![tactic(auto)]
 
 mod deleting;
+pub mod file_laws;
 #[cfg(test)]
 mod file_tests;
 mod files;
