@@ -1,5 +1,5 @@
-use crate::{CreateFault, OpenFault, TreeTable};
-use page_store::{MemStore, Store};
+use crate::{CloseStop, CreateFault, OpenFault, TreeTable};
+use page_store::{FlakyStore, MemStore, Store, WriteFault};
 use rec_types::Limits;
 use std::alloc::Global;
 use std::process::Abort;
@@ -179,7 +179,7 @@ fn a_file_with_more_records_than_the_limit(rt: HostRuntime) -> Result<(), Fail> 
 }
 
 /// Opens the store's file, of at most nine records.
-fn open(alloc: Global, store: MemStore) -> Result<TreeTable<MemStore>, Fail> {
+fn open<S: Store>(alloc: Global, store: S) -> Result<TreeTable<S>, Fail> {
     match TreeTable::open_from(alloc, store, Limits::new(9, 2, 1)?) {
         Ok(table) => Ok(table),
         Err(stop) => Err(Fail::from(stop.fault)),
@@ -255,4 +255,35 @@ fn no_table_is_made(rt: HostRuntime) -> Result<(), Fail> {
     check_create(&rt, rt.alloc(), 17, 1, 0, CreateFault::BadOrder)?;
     check_create(&rt, rt.alloc(), 16, 1, 0, CreateFault::NotEmpty)?;
     check_create(&rt, rt.alloc(), 1, 0, 1, CreateFault::NotEmpty)
+}
+
+/// Looks that a new table whose close fails at the call of that number is closed by a second one.
+fn check_close(rt: &impl Abort, alloc: Global, call: u64) -> Result<(), Fail> {
+    let mut writes = Vec::new(alloc);
+    if writes.push(call).is_err() {
+        writes.push(call)?;
+    }
+    let store = FlakyStore::new(store_of(rt, alloc, &[], 0)?, Vec::new(alloc), writes);
+    let Ok(table) = TreeTable::create(alloc, store, 2, Limits::new(9, 2, 1)?) else {
+        return Err(Fail::from(OpenFault::Device));
+    };
+    match table.close() {
+        Ok(_) => panic!(rt; "a call that failed was not told"),
+        Err(CloseStop { table, fault }) => {
+            assert!(rt; fault == WriteFault::Device);
+            let Ok(store) = table.close() else {
+                return Err(Fail::from(OpenFault::Device));
+            };
+            assert_eq!(rt; numbers_of(&open(alloc, store)?), (2, 0, 0, 1, 0));
+            Ok(())
+        }
+    }
+}
+
+#[test]
+fn a_table_is_closed_again(rt: HostRuntime) -> Result<(), Fail> {
+    for call in 1..7u64 {
+        check_close(&rt, rt.alloc(), call)?;
+    }
+    Ok(())
 }
