@@ -1,5 +1,5 @@
 -- A file that is closed, and files that aren't.
-use Rattle.std.proofs.Common.{◌≡◌, ℕ, ◌⊎◌, ⊎_elim, Option, Some, List, [], ◌∷◌, refl, ap, sym, ◌∙◌, subst, arith, unwrap_or}
+use Rattle.std.proofs.Common.{◌≡◌, ℕ, ⊎_elim, Option, Some, List, [], ◌∷◌, refl, ap, sym, ◌∙◌, subst, arith, unwrap_or}
 use Rattle.page_store.specs.PageMap.{at}
 use Rattle.btree_node.specs.declared.headers.Header.{Header}
 use Rattle.btree_node.specs.HeaderSpelling.{HeaderFits, header_spelling, clean_state, writing_state}

@@ -1,5 +1,5 @@
 -- The pages of a closed file.
-use Rattle.std.proofs.Common.{◌≡◌, ℕ, zero, suc, ◌+◌, ◌^◌, ◌<◌, ◌≤◌, ◌⊎◌, inl, inr, Bool, true, false, cond, ◌||◌, eqb, nat_lt, Option, Some, None, IsSome, IsTrue, Result, Ok, Err, List, [], ◌∷◌, length, get_or, slice_get, refl, ap, sym, ◌∙◌, subst, arith}
+use Rattle.std.proofs.Common.{◌≡◌, ℕ, zero, suc, ◌+◌, ◌<◌, ◌≤◌, ◌⊎◌, inl, inr, Bool, true, false, cond, ◌||◌, eqb, nat_lt, Option, Some, None, IsSome, IsTrue, Result, Ok, Err, List, length, slice_get, refl, ap, sym, ◌∙◌, subst, arith}
 use Rattle.std.proofs.lemmas.Bool.Decides.{nat_tests}
 use Rattle.std.proofs.lemmas.List.{get_or_past}
 use Rattle.std.proofs.lemmas.Option.{slice_get_past}
@@ -10,7 +10,7 @@ use Rattle.page_store.specs.PagesView.{PagesView}
 use Rattle.page_store.specs.WritingBack.{AreStored}
 use Rattle.btree_node.specs.declared.headers.Header.{Header}
 use Rattle.btree_node.specs.HeaderSpelling.{header_spelling, clean_state}
-use Rattle.btree_node.specs.Lists.{Element, Each}
+use Rattle.btree_node.specs.Lists.{Element}
 use Rattle.btree_insert.specs.declared.trees.Tree.{Tree}
 use Rattle.btree_insert.specs.PageTrees.{IsIn, RootAt, Holds}
 use Rattle.btree_insert.specs.Contents.{contents_of}
@@ -21,7 +21,7 @@ use Rattle.btree_insert.proofs.Membership.{each_in}
 use Rattle.btree_delete.specs.declared.opening.OpenFault.{OpenFault}
 use Rattle.btree_delete.specs.declared.opening.OpenFault.TheVariants.{Device, BadLength, BadMagic, BadVersion, BadOrder, NotClean, BadHeader, Damaged, WrongCount, TooManyRecords, Memory}
 use Rattle.btree_delete.specs.Survey.{Measured}
-use Rattle.btree_delete.specs.CleanFile.{in_file, Begins, HasTree, IsCleanFile, IsFirst, FailsTree, Opens}
+use Rattle.btree_delete.specs.CleanFile.{in_file, Begins, HasTree, IsFirst, FailsTree, Opens}
 use Rattle.btree_delete.specs.TableView.{HoldsTree, IsClosed, IsTable}
 use Rattle.btree_delete.proofs.SurveyFacts.{counted_before}
 use Rattle.btree_delete.proofs.MeasureFacts.{root_in_use, below_count}

@@ -1,13 +1,13 @@
 -- The tree of a root, gone through.
-use Rattle.std.proofs.Common.{◌≡◌, ℕ, zero, suc, ◌+◌, ◌-◌, ◌*◌, ◌^◌, ◌<◌, ◌≤◌, ◌≢◌, ◌↔◌, ◌⊎◌, ⊎_elim, inl, inr, Bool, true, false, Option, Some, None, List, [], ◌∷◌, ◌++◌, length, replicate, get_or, set, drop, refl, ap, sym, ◌∙◌, subst, arith, length-append}
+use Rattle.std.proofs.Common.{◌≡◌, ℕ, zero, suc, ◌+◌, ◌-◌, ◌*◌, ◌^◌, ◌<◌, ◌≤◌, ◌↔◌, ⊎_elim, inl, inr, Bool, true, false, Option, Some, None, List, [], ◌∷◌, length, get_or, set, drop, refl, ap, sym, ◌∙◌, subst, arith, length-append}
 use Rattle.std.proofs.Math.Nat.{pow-zero, pow-succ', pow-le-pow_right}
 use Rattle.std.proofs.lemmas.List.{length-replicate, get_or-replicate, get_or-set_other, length-set}
 use Rattle.page_store.specs.PageMap.{PageMap, at}
 use Rattle.page_store.specs.Calls.{counted_times}
-use Rattle.btree_node.specs.Lists.{Element, Each, Ascends}
+use Rattle.btree_node.specs.Lists.{Element}
 use Rattle.btree_insert.specs.declared.trees.Tree.{Tree}
 use Rattle.btree_insert.specs.Bounds.{unbounded}
-use Rattle.btree_insert.specs.PageTrees.{IsIn, Apart, Fan, Body, TreeAt, RootAt, Holds}
+use Rattle.btree_insert.specs.PageTrees.{IsIn, Apart, Fan, TreeAt, RootAt, Holds}
 use Rattle.btree_insert.proofs.BoundFacts.{Between-all}
 use Rattle.btree_insert.proofs.FanFacts.{Stands}
 use Rattle.btree_insert.proofs.GrowFacts.{in_use}

@@ -1,5 +1,5 @@
 -- Which lists of pages are a file that was closed, and why one is not opened.
-use Rattle.std.specs.Prelude.{◌≡◌, ℕ, ◌<◌, ◌≤◌, ◌⊎◌, ◌+◌, Bool, true, false, List, length, Option, Some, None, ◌==◌, if◌then◌else◌, Result, Ok, Err, slice_get}
+use Rattle.std.specs.Prelude.{◌≡◌, ℕ, ◌<◌, ◌≤◌, ◌⊎◌, ◌+◌, Bool, true, false, List, length, Some, None, ◌==◌, if◌then◌else◌, Result, Ok, Err, slice_get}
 use Rattle.page_store.specs.Calls.{counted_times}
 use Rattle.page_store.specs.PageMap.{PageMap, at}
 use Rattle.page_store.specs.PagesView.{PagesView}

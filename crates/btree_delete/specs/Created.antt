@@ -1,5 +1,5 @@
 -- What a new table is, and why none was made.
-use Rattle.std.specs.Prelude.{◌≡◌, ℕ, ◌≤◌, Bool, true, false, List, [], length, Result, Ok, Err}
+use Rattle.std.specs.Prelude.{◌≡◌, ℕ, ◌≤◌, Bool, true, false, List, length, Result, Ok, Err}
 use Rattle.btree_insert.specs.declared.trees.Tree.{Tree}
 use Rattle.btree_delete.specs.declared.tables.CreateFault.{CreateFault}
 use Rattle.btree_delete.specs.declared.tables.CreateFault.TheVariants.{BadOrder, Device, NotEmpty}

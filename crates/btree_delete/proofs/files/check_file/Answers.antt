@@ -1,4 +1,4 @@
-use Rattle.std.proofs.Common.{◌≡◌, ℕ, List, IfErr, ◌∙◌, subst}
+use Rattle.std.proofs.Common.{ℕ, List, IfErr, ◌∙◌, subst}
 use Rattle.btree_delete.specs.CleanFile.{IsFirst}
 use Rattle.btree_delete.proofs.files.check_file.Goals as goal
 

@@ -1,4 +1,4 @@
-use Rattle.std.proofs.Common.{◌≡◌, ℕ, ◌≤◌, length, drop, take}
+use Rattle.std.proofs.Common.{◌≡◌, ℕ, ◌≤◌, drop, take}
 use Rattle.std.specs.BTreeSet.{contains, btree_set_len}
 use Rattle.std.specs.Ordering.{nat_cmp}
 use Rattle.btree_delete.specs.Survey.{unreached}

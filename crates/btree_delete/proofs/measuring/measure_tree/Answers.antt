@@ -1,4 +1,4 @@
-use Rattle.std.proofs.Common.{◌≡◌, ℕ, ◌-◌, Bool, true, List, length, get_or, drop, ap, sym, ◌∙◌, arith, refl}
+use Rattle.std.proofs.Common.{ℕ, ◌-◌, Bool, List, drop, ap, ◌∙◌, arith, refl}
 use Rattle.std.specs.BTreeSet.{contains}
 use Rattle.std.specs.Ordering.{nat_cmp}
 use Rattle.page_store.specs.PageMap.{at}

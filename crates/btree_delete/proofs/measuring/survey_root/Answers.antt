@@ -1,7 +1,7 @@
-use Rattle.std.proofs.Common.{◌≡◌, ℕ, ◌-◌, Bool, List, Option, length, ap, sym, ◌∙◌, subst, arith}
+use Rattle.std.proofs.Common.{◌≡◌, ◌-◌, Bool, List, length, ap, sym, ◌∙◌, subst, arith}
 use Rattle.std.proofs.lemmas.Result.{err_from_is_err_and}
 use Rattle.btree_insert.specs.Growth.{IsOutside}
-use Rattle.btree_delete.specs.Survey.{Seen, none_of}
+use Rattle.btree_delete.specs.Survey.{none_of}
 use Rattle.btree_delete.proofs.MeasureFacts.{begin_with, room_start, rooted_found, rooted_exact}
 use Rattle.btree_delete.proofs.measuring.survey_root.Goals as goal
 

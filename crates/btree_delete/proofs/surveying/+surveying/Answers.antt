@@ -1,8 +1,8 @@
-use Rattle.std.proofs.Common.{◌≡◌, ◌-◌, ◌<◌, ◌++◌, ◌+◌, ◌⊎◌, ℕ, suc, true, Some, None, List, length, get_or, take, drop, refl, ap, sym, ◌∙◌, subst, arith}
+use Rattle.std.proofs.Common.{◌≡◌, ◌-◌, ◌<◌, ◌⊎◌, ℕ, Some, None, List, length, get_or, take, drop, refl, ap, sym, ◌∙◌, subst, arith}
 use Rattle.std.proofs.lemmas.List.{take_rest}
 use Rattle.std.proofs.lemmas.Result.{err_from_is_err_and}
 use Rattle.page_store.specs.PagesView.{PagesView}
-use Rattle.page_store.specs.PageMap.{PageMap, at}
+use Rattle.page_store.specs.PageMap.{at}
 use Rattle.btree_node.specs.declared.nodes.Node.{Node}
 use Rattle.btree_node.specs.Lists.{Element}
 use Rattle.btree_insert.specs.declared.bounds.Bounds.{Bounds}
@@ -10,7 +10,7 @@ use Rattle.btree_insert.specs.Bounds.{Between}
 use Rattle.btree_insert.proofs.ReachFacts.{on_ok, rest_within}
 use Rattle.btree_insert.proofs.WalkFacts.{nonempty}
 use Rattle.btree_insert.specs.declared.trees.TreeFault.TheVariants.{Device}
-use Rattle.btree_delete.specs.Survey.{Seen, after, below_page, below_sons, Sound, Surveyed}
+use Rattle.btree_delete.specs.Survey.{Seen, after, below_page, below_sons, Surveyed}
 use Rattle.btree_delete.proofs.SurveyFacts.{empty, Head, with_leaf, leaf_found, inner_found, head, leaf_exact, leaf_after, inner_exact, last_found, last_exact, more_found, more_exact, sons_found, sons_sound, match_ok}
 use Rattle.btree_delete.proofs.surveying.+surveying.Goals as goal
 

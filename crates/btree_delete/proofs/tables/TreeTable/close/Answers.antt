@@ -1,4 +1,4 @@
-use Rattle.std.proofs.Common.{◌≡◌, ℕ, List, Some, slice_get, ap, sym, ◌∙◌, subst, arith}
+use Rattle.std.proofs.Common.{ℕ, List, Some, ap, sym, ◌∙◌, subst}
 use Rattle.btree_delete.specs.TableView.{TableView, IsClosed, table_contents}
 use Rattle.btree_delete.proofs.FileFacts.{written_back}
 use Rattle.btree_delete.proofs.tables.TreeTable.close.Goals as goal

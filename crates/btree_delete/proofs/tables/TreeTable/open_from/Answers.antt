@@ -1,6 +1,3 @@
-use Rattle.std.proofs.Common.{◌≡◌, ℕ, List, ap, sym, ◌∙◌, subst, arith}
-use Rattle.page_store.specs.PageMap.{at}
-use Rattle.btree_delete.specs.TableView.{HoldsTree, IsClosed, table_contents}
 use Rattle.btree_delete.proofs.FileFacts.{opened_table}
 use Rattle.btree_delete.proofs.tables.TreeTable.open_from.Goals as goal
 
