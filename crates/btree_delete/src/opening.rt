@@ -1,8 +1,7 @@
-ghost use Rattle.std.specs.Prelude.{◌≡◌, ◌≢◌, ◌⊎◌, ℕ, ◌+◌, ◌<◌, ◌≤◌, List, length, true, IsTrue, Ok, Err, IfOk, IfErr, OnOk, MatchResult};
+ghost use Rattle.std.specs.Prelude.{◌≡◌, ◌≢◌, ◌⊎◌, ℕ, ◌<◌, ◌≤◌, length, true, IsTrue, Ok, Err, IfOk, IfErr};
 ghost use Rattle.rec_types.specs.Table.{counted};
-ghost use Rattle.btree_node.specs.Lists.{Element};
 ghost use Rattle.btree_node.specs.declared.headers.Header.{Header as HeaderValue};
-ghost use Rattle.btree_delete.specs.CleanFile.{HasLength, HasHeader, HasHeaderFault, Agrees, Begins, IsFirst, header_fault, is_device};
+ghost use Rattle.btree_delete.specs.CleanFile.{HasLength, HasHeader, Agrees, Begins, IsFirst, header_fault, is_device};
 
 use btree_node::{Header, HeaderFault, read_header};
 use page_store::Store;

@@ -1,4 +1,4 @@
-ghost use Rattle.std.specs.Prelude.{◌≡◌, ◌≢◌, ◌+◌, ◌*◌, ◌^◌, ◌<◌, ◌≤◌, ◌⊎◌, ℕ, true, false, List, Some, None, length, IsTrue, IfOk, IfErr, OnOk, MatchResult, slice_index_or, slice_set, if◌then◌else◌};
+ghost use Rattle.std.specs.Prelude.{◌≡◌, ◌≢◌, ◌+◌, ◌*◌, ◌^◌, ◌<◌, ◌≤◌, ◌⊎◌, ℕ, true, false, List, Some, None, length, IsTrue, IfOk, IfErr, OnOk, MatchResult, slice_index_or, slice_set};
 ghost use Rattle.rec_types.specs.Table.{counted};
 ghost use Rattle.page_store.specs.PageMap.{at};
 ghost use Rattle.btree_node.specs.Lists.{Element};
