@@ -13,3 +13,8 @@ pub mod TakeFacts
 pub mod CallFacts
 pub mod DropFacts
 pub mod RootFacts
+pub mod SurveyFacts
+pub mod MeasureFacts
+pub mod FreeNumberFacts
+pub mod FileFacts
+pub mod FileExampleFacts

@@ -3,3 +3,8 @@ pub mod Deleted
 pub mod Tidy
 pub mod Shrinking
 pub mod Mending
+pub mod Survey
+pub mod CleanFile
+pub mod FileExamples
+pub mod TableView
+pub mod Created

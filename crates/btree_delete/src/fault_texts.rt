@@ -1,3 +1,4 @@
+use crate::{CreateFault, OpenFault};
 use btree_insert::TreeFault;
 use btree_node::{HeaderFault, NodeFault};
 use page_store::{FetchFault, StoreFault, WriteFault};
@@ -96,6 +97,49 @@ fn texts_of_tree_faults(rt: HostRuntime) -> Result<(), Fail> {
             "page 7 is no page of a tree at its place",
         ),
         (TreeFault::Memory, "no memory"),
+    ] {
+        expect_text(&rt, alloc, &fault, text)?;
+    }
+    Ok(())
+}
+
+#[test]
+fn texts_of_files_and_tables(rt: HostRuntime) -> Result<(), Fail> {
+    let alloc = rt.alloc();
+    for (fault, text) in [
+        (OpenFault::Device, "a read of the file failed"),
+        (
+            OpenFault::BadLength,
+            "the file has a length that no record file has",
+        ),
+        (OpenFault::BadMagic, "the file is no record file"),
+        (OpenFault::BadVersion(7), "the file has version 7"),
+        (
+            OpenFault::BadOrder,
+            "the order of the tree is not from 1 to 16",
+        ),
+        (OpenFault::NotClean, "the file was not closed cleanly"),
+        (OpenFault::BadHeader, "the header is not that of this file"),
+        (OpenFault::Damaged(7), "page 7 is damaged"),
+        (
+            OpenFault::WrongCount,
+            "the header tells another number of records",
+        ),
+        (
+            OpenFault::TooManyRecords,
+            "the file has more records than the limit",
+        ),
+        (OpenFault::Memory, "out of memory"),
+    ] {
+        expect_text(&rt, alloc, &fault, text)?;
+    }
+    for (fault, text) in [
+        (
+            CreateFault::BadOrder,
+            "the order of the tree is not from 1 to 16",
+        ),
+        (CreateFault::Device, "the store failed"),
+        (CreateFault::NotEmpty, "the store is not empty"),
     ] {
         expect_text(&rt, alloc, &fault, text)?;
     }

@@ -39,8 +39,8 @@ fn is_below(low: &Key, high: &Key) -> bool
     low.cmp(high).is_lt()
 }
 
-/// Whether the keys of ascending elements are within the bounds.
-pub(crate) fn are_within(bounds: &Bounds, elements: &[(Key, Record)]) -> bool
+/// Whether the keys of ascending elements, of which there is one at least, are within the bounds.
+pub fn are_within(bounds: &Bounds, elements: &[(Key, Record)]) -> bool
     requires some { 0 < length elements.now }
     requires ascends { Ascends elements.now }
     ensures { IsTrue result ↔ AreWithin bounds.now elements.now }

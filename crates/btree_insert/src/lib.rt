@@ -12,7 +12,7 @@ mod tests;
 mod trees;
 mod walking;
 
-pub use bounds::{Bounds, bounds_of_son};
+pub use bounds::{Bounds, are_within, bounds_of_son};
 pub use finding::find;
 pub use growing::{element_fits, was_met, write_node};
 pub use inserting::insert;

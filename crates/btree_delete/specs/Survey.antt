@@ -1,0 +1,109 @@
+-- What a walk that looks at each page of a tree once goes through.
+use Rattle.std.specs.Prelude.{◌≡◌, ℕ, zero, suc, ◌+◌, ◌-◌, ◌<◌, ◌≤◌, ◌↔◌, Bool, true, false, ◌⊎◌, List, [], ◌∷◌, length, replicate, Option, Some, None, slice_index_or, slice_set}
+use Rattle.page_store.specs.PageMap.{PageMap, at}
+use Rattle.page_store.specs.Calls.{counted_times}
+use Rattle.btree_node.specs.Lists.{Element, Ascends}
+use Rattle.btree_insert.specs.declared.bounds.Bounds.{Bounds}
+use Rattle.btree_insert.specs.declared.trees.Tree.{Tree}
+use Rattle.btree_insert.specs.Bounds.{Between}
+use Rattle.btree_insert.specs.PageTrees.{IsIn, Apart, Fan, TreeAt, RootAt, Holds}
+
+-- which pages were reached, how many levels below the most a tree may have the first leaf stood, and how many keys were met
+pub record Seen : Type 0 where
+  pub reached : List Bool
+  pub leaf : Option ℕ
+  pub keys : ℕ
+
+-- pages reached one after another
+abbrev pub mark : List ℕ → List Bool → List Bool
+mark [] reached = reached
+mark (u ∷ us) reached = mark us (slice_set reached u true)
+
+-- each is below the page count and was not reached before, also not by those before it
+abbrev pub AreUnmet : List ℕ → List Bool → Type 0
+AreUnmet [] reached = Unit {0}
+AreUnmet (u ∷ us) reached = (slice_index_or reached u true ≡ false) × AreUnmet us (slice_set reached u true)
+
+-- how many pages were not reached
+abbrev pub unreached : List Bool → ℕ
+unreached [] = 0
+unreached (true ∷ reached) = unreached reached
+unreached (false ∷ reached) = suc (unreached reached)
+
+-- what was seen after a tree with these elements and pages whose leaves stand at a level
+abbrev pub after : ℕ → List Element → List ℕ → Seen → Seen
+after level es us old = record { reached = mark us old.reached; leaf = Some level; keys = old.keys + length es }
+
+-- the trees below a page by the levels below it, and below its sons
+abbrev pub below_page : ℕ → PageMap → ℕ → ℕ → ℕ → List Element → List ℕ → Type 0
+below_page k pages least p h es us = TreeAt k pages least (suc h) p es us
+
+abbrev pub below_sons : ℕ → PageMap → List ℕ → List Element → ℕ → List Element → List ℕ → Type 0
+below_sons k pages sons els h es us = Fan (TreeAt k pages k (suc h)) sons els es us
+
+-- a tree that fits what was seen: its keys are between the bounds, its pages are new, and its leaves stand where the others do. So many levels more are allowed below its root.
+pub record Sound (tree : ℕ → List Element → List ℕ → Type 0) (left : ℕ) (bounds : Bounds) (old : Seen) (h level : ℕ) (es : List Element) (us : List ℕ) : Type 0 where
+  pub stands : tree h es us
+  pub levels : left ≡ level + h
+  pub between : Between bounds es
+  pub unmet : AreUnmet us old.reached
+  pub leaf : (old.leaf ≡ None) ⊎ (old.leaf ≡ Some level)
+
+-- such a tree was gone through, with one read a page
+pub record Surveyed (tree : ℕ → List Element → List ℕ → Type 0) (left : ℕ) (bounds : Bounds) (old new : Seen) (reads reads' : ℕ) : Type 0 where
+  pub h : ℕ
+  pub level : ℕ
+  pub es : List Element
+  pub us : List ℕ
+  pub sound : Sound tree left bounds old h level es us
+  pub is : new ≡ after level es us old
+  pub read : reads' ≡ counted_times reads (length us)
+
+-- no page was reached, of so many
+abbrev pub none_of : ℕ → List Bool
+none_of count = replicate count false
+
+-- where the first leaf of a tree of a height stands: a tree has at most 19 levels
+abbrev pub leaf_of : ℕ → Option ℕ
+leaf_of zero = None
+leaf_of (suc h) = Some (18 - h)
+
+-- the height of the tree whose first leaf stands there
+abbrev pub height_of : Option ℕ → ℕ
+height_of None = 0
+height_of (Some level) = 19 - level
+
+-- what was seen of the whole tree of a root
+abbrev pub seen_of : ℕ → ℕ → List Element → List ℕ → Seen
+seen_of count height es us = record { reached = mark us (none_of count); leaf = leaf_of height; keys = length es }
+
+-- the tree of a root: in so many pages it has a height, elements and pages, none of them twice
+pub record IsRooted (k : ℕ) (pages : PageMap) (root height : ℕ) (es : List Element) (us : List ℕ) : Type 0 where
+  pub tree : RootAt k pages height root es us
+  pub ascends : Ascends es
+  pub apart : Apart us
+
+-- such a tree was gone through, with one read a page
+pub record WentThrough (k : ℕ) (pages : PageMap) (count root : ℕ) (new : Seen) (reads reads' : ℕ) : Type 0 where
+  pub height : ℕ
+  pub es : List Element
+  pub us : List ℕ
+  pub rooted : IsRooted k pages root height es us
+  pub low : height ≤ 19
+  pub is : new ≡ seen_of count height es us
+  pub read : reads' ≡ counted_times reads (length us)
+
+-- the numbers from 1 on below the page count that no page of the tree has
+abbrev pub AreFree : ℕ → List ℕ → (ℕ → Bool) → Type 0
+AreFree count us free = (n : ℕ) → (free n ≡ true) ↔ ((1 ≤ n) × (n < count) × (IsIn n us → ⊥))
+
+-- the pages hold the tree of a root, the other numbers are free, and each of its pages was read once
+pub record Measured (k : ℕ) (pages : List (Option (List ℕ))) (root : ℕ) (tree : Tree) (free : ℕ → Bool) (reads reads' : ℕ) : Type 0 where
+  pub es : List Element
+  pub us : List ℕ
+  pub holds : Holds (at pages) tree es us
+  pub order : tree.order ≡ k
+  pub root_is : tree.root ≡ root
+  pub low : tree.height ≤ 19
+  pub others : AreFree (length pages) us free
+  pub read : reads' ≡ counted_times reads tree.used

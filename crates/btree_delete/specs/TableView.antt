@@ -1,0 +1,48 @@
+-- What contracts see of a table in a tree, and what holds of it.
+use Rattle.std.specs.Prelude.{◌≡◌, ℕ, ◌≤◌, false, IsTrue, List}
+use Rattle.page_store.specs.PageMap.{at}
+use Rattle.page_store.specs.PagesView.{PagesView}
+use Rattle.btree_node.specs.declared.headers.Header.{Header}
+use Rattle.btree_node.specs.Lists.{Element}
+use Rattle.btree_insert.specs.declared.trees.Tree.{Tree}
+use Rattle.btree_insert.specs.PageTrees.{Holds}
+use Rattle.btree_insert.specs.Contents.{contents_of}
+use Rattle.btree_insert.specs.Elements.{contents_at}
+use Rattle.rec_types.specs.Contents.{Contents}
+use Rattle.btree_delete.specs.CleanFile.{IsCleanFile}
+
+-- the pages, the tree in them, and how many records there may be
+pub record TableView : Type 0 where
+  pub pages : PagesView
+  pub tree : Tree
+  pub limit : ℕ
+
+-- the records, as a function of the pages and the tree: total, whatever the pages hold
+abbrev pub table_contents : TableView → Contents
+table_contents t = contents_at t.tree.order (at t.pages.pages) t.tree.height t.tree.root
+
+-- the pages hold the tree
+pub record HoldsTree (pages : PagesView) (tree : Tree) : Type 0 where
+  pub es : List Element
+  pub us : List ℕ
+  pub holds : Holds (at pages.pages) tree es us
+
+-- the store's pages are a closed file with the tree and the records
+pub record IsClosed (stored : List (List ℕ)) (tail : ℕ) (tree : Tree) (contents : Contents) : Type 0 where
+  pub h : Header
+  pub es : List Element
+  pub us : List ℕ
+  pub clean : IsCleanFile stored tail h tree es us
+  pub records : contents_of es ≡ contents
+
+-- sizes within the limits; over a steady store the pages hold the tree, and where nothing was changed the store has them
+pub record IsTable (t : TableView) : Type 0 where
+  pub some_order : 1 ≤ t.tree.order
+  pub most_order : t.tree.order ≤ 16
+  pub low : t.tree.height ≤ 19
+  pub used : t.tree.used ≤ 1000000
+  pub small : t.tree.count ≤ 1000000
+  pub count : IsTrue t.pages.steady → t.tree.count ≤ t.limit
+  pub limit : t.limit ≤ 1000000
+  pub holds : IsTrue t.pages.steady → HoldsTree t.pages t.tree
+  pub closed : IsTrue t.pages.steady → t.pages.changed ≡ false → IsClosed t.pages.stored t.pages.tail t.tree (table_contents t)

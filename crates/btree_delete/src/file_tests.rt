@@ -1,0 +1,289 @@
+use crate::{CloseStop, CreateFault, OpenFault, TreeTable};
+use page_store::{FlakyStore, MemStore, Store, WriteFault};
+use rec_types::Limits;
+use std::alloc::Global;
+use std::process::Abort;
+use std::test::Fail;
+
+/// A page that begins with these bytes.
+fn page_with(bytes: &[u8; 25]) -> [u8; 4096] {
+    let mut page = [0; 4096];
+    page[..25].copy_from_slice(bytes);
+    page
+}
+
+/// A page of order 1 with one key and its record, and these sons.
+fn page_of(kind: u8, key: u8, record: u8, left: u8, right: u8) -> [u8; 4096] {
+    let mut page = [0; 4096];
+    page[0] = kind;
+    page[3] = 1;
+    page[8] = 1;
+    page[9] = key;
+    page[25] = 1;
+    page[26] = record;
+    page[111] = left;
+    page[115] = right;
+    page
+}
+
+/// The file of order 1 with the records x, y and z at the keys a, b and c.
+fn three_records() -> [[u8; 4096]; 4] {
+    [
+        page_with(b"BMKRFILE\x00\x01\x00\x01\x00\x00\x00\x04\x00\x00\x00\x03\x00\x00\x00\x03\x01"),
+        page_of(1, b'a', b'x', 0, 0),
+        page_of(1, b'c', b'z', 0, 0),
+        page_of(2, b'b', b'y', 1, 2),
+    ]
+}
+
+/// A store with these pages, and a tail.
+fn store_of(
+    rt: &impl Abort,
+    alloc: Global,
+    pages: &[[u8; 4096]],
+    tail: u16,
+) -> Result<MemStore, Fail> {
+    assert!(rt; tail <= 4095);
+    let mut stored = Vec::new(alloc);
+    if stored.reserve(pages.len()).is_err() {
+        stored.reserve(pages.len())?;
+    }
+    for page in pages {
+        stored.push(*page)?;
+    }
+    Ok(MemStore::new(stored, tail))
+}
+
+/// How the file of three records is changed: how many pages are left of it, with which tail, and which
+/// byte of which page becomes what; and how many records there may be.
+#[derive(Clone, Copy)]
+struct Change {
+    pages: usize,
+    tail: u16,
+    page: usize,
+    byte: usize,
+    value: u8,
+    records: u32,
+}
+
+/// Nothing is changed: the first byte of the file stays what it is.
+const NOTHING: Change = Change {
+    pages: 4,
+    tail: 0,
+    page: 0,
+    byte: 0,
+    value: 0x42,
+    records: 9,
+};
+
+/// Why the changed file isn't opened.
+fn fault_of(rt: &impl Abort, alloc: Global, change: &Change) -> Result<Option<OpenFault>, Fail> {
+    let mut pages = three_records();
+    assert!(rt; change.pages <= 4 && change.page < 4 && change.byte < 4096);
+    pages[change.page][change.byte] = change.value;
+    let store = store_of(rt, alloc, &pages[..change.pages], change.tail)?;
+    let limits = Limits::new(change.records, 2, 1)?;
+    match TreeTable::open_from(alloc, store, limits) {
+        Ok(_) => Ok(None),
+        Err(stop) => Ok(Some(stop.fault)),
+    }
+}
+
+/// Looks that the changed file isn't opened, for that reason, at the second time where memory was
+/// refused at the first.
+fn check_fault(
+    rt: &impl Abort,
+    alloc: Global,
+    change: &Change,
+    fault: Option<OpenFault>,
+) -> Result<(), Fail> {
+    let mut told = fault_of(rt, alloc, change)?;
+    if told == Some(OpenFault::Memory) {
+        told = fault_of(rt, alloc, change)?;
+    }
+    assert!(rt; told == fault);
+    Ok(())
+}
+
+/// One byte becomes another.
+fn check_byte(
+    rt: &impl Abort,
+    alloc: Global,
+    page: usize,
+    byte: usize,
+    value: u8,
+    fault: OpenFault,
+) -> Result<(), Fail> {
+    let change = Change {
+        page,
+        byte,
+        value,
+        ..NOTHING
+    };
+    check_fault(rt, alloc, &change, Some(fault))
+}
+
+/// The file is cut.
+fn check_cut(
+    rt: &impl Abort,
+    alloc: Global,
+    pages: usize,
+    tail: u16,
+    fault: OpenFault,
+) -> Result<(), Fail> {
+    let change = Change {
+        pages,
+        tail,
+        ..NOTHING
+    };
+    check_fault(rt, alloc, &change, Some(fault))
+}
+
+#[test]
+fn a_file_that_was_cut(rt: HostRuntime) -> Result<(), Fail> {
+    check_fault(&rt, rt.alloc(), &NOTHING, None)?;
+    check_cut(&rt, rt.alloc(), 0, 0, OpenFault::BadLength)?;
+    check_cut(&rt, rt.alloc(), 0, 4095, OpenFault::BadLength)?;
+    check_cut(&rt, rt.alloc(), 3, 4095, OpenFault::BadLength)?;
+    check_cut(&rt, rt.alloc(), 3, 0, OpenFault::BadHeader)
+}
+
+#[test]
+fn a_header_with_another_byte(rt: HostRuntime) -> Result<(), Fail> {
+    check_byte(&rt, rt.alloc(), 0, 0, 0, OpenFault::BadMagic)?;
+    check_byte(&rt, rt.alloc(), 0, 9, 9, OpenFault::BadVersion(9))?;
+    check_byte(&rt, rt.alloc(), 0, 11, 0, OpenFault::BadOrder)?;
+    check_byte(&rt, rt.alloc(), 0, 11, 17, OpenFault::BadOrder)?;
+    check_byte(&rt, rt.alloc(), 0, 24, 2, OpenFault::NotClean)?;
+    check_byte(&rt, rt.alloc(), 0, 24, 3, OpenFault::BadHeader)?;
+    check_byte(&rt, rt.alloc(), 0, 19, 4, OpenFault::BadHeader)?;
+    check_byte(&rt, rt.alloc(), 0, 23, 4, OpenFault::WrongCount)
+}
+
+#[test]
+fn a_page_with_another_byte(rt: HostRuntime) -> Result<(), Fail> {
+    check_byte(&rt, rt.alloc(), 1, 9, b'd', OpenFault::Damaged(1))?;
+    check_byte(&rt, rt.alloc(), 1, 3, 0, OpenFault::Damaged(1))?;
+    check_byte(&rt, rt.alloc(), 2, 2000, 1, OpenFault::Damaged(2))?;
+    check_byte(&rt, rt.alloc(), 3, 115, 3, OpenFault::Damaged(3))?;
+    check_byte(&rt, rt.alloc(), 3, 115, 4, OpenFault::Damaged(3))
+}
+
+#[test]
+fn a_file_with_more_records_than_the_limit(rt: HostRuntime) -> Result<(), Fail> {
+    let change = Change {
+        records: 2,
+        ..NOTHING
+    };
+    check_fault(&rt, rt.alloc(), &change, Some(OpenFault::TooManyRecords))
+}
+
+/// Opens the store's file, of at most nine records.
+fn open<S: Store>(alloc: Global, store: S) -> Result<TreeTable<S>, Fail> {
+    match TreeTable::open_from(alloc, store, Limits::new(9, 2, 1)?) {
+        Ok(table) => Ok(table),
+        Err(stop) => Err(Fail::from(stop.fault)),
+    }
+}
+
+/// What a table says of its tree: order, height, pages used, pages, free pages.
+fn numbers_of<S: Store>(table: &TreeTable<S>) -> (u16, u32, u32, u32, u32) {
+    (
+        table.order(),
+        table.height(),
+        table.pages_used(),
+        table.page_count(),
+        table.free_count(),
+    )
+}
+
+#[test]
+fn a_file_is_opened_and_closed(rt: HostRuntime) -> Result<(), Fail> {
+    let store = store_of(&rt, rt.alloc(), &three_records(), 0)?;
+    let table = open(rt.alloc(), store)?;
+    assert_eq!(rt; numbers_of(&table), (1, 2, 3, 4, 0));
+    let Ok(store) = table.close() else {
+        return Err(Fail::from(OpenFault::Device));
+    };
+    assert!(rt; store.pages() == three_records().as_slice());
+    Ok(())
+}
+
+#[test]
+fn a_table_is_made_and_closed(rt: HostRuntime) -> Result<(), Fail> {
+    let store = store_of(&rt, rt.alloc(), &[], 0)?;
+    let limits = Limits::new(9, 2, 1)?;
+    let Ok(table) = TreeTable::create(rt.alloc(), store, 2, limits) else {
+        return Err(Fail::from(OpenFault::Device));
+    };
+    assert_eq!(rt; numbers_of(&table), (2, 0, 0, 1, 0));
+    let Ok(store) = table.close() else {
+        return Err(Fail::from(OpenFault::Memory));
+    };
+    let page = page_with(
+        b"BMKRFILE\x00\x01\x00\x02\x00\x00\x00\x01\x00\x00\x00\x00\x00\x00\x00\x00\x01",
+    );
+    assert!(rt; store.pages() == [page].as_slice());
+    assert_eq!(rt; numbers_of(&open(rt.alloc(), store)?), (2, 0, 0, 1, 0));
+    Ok(())
+}
+
+/// Looks that no table of the order is made in a store with so many pages and that tail.
+fn check_create(
+    rt: &impl Abort,
+    alloc: Global,
+    order: u16,
+    pages: usize,
+    tail: u16,
+    fault: CreateFault,
+) -> Result<(), Fail> {
+    assert!(rt; pages <= 4);
+    let store = store_of(rt, alloc, &three_records()[..pages], tail)?;
+    match TreeTable::create(alloc, store, order, Limits::new(9, 2, 1)?) {
+        Ok(_) => panic!(rt; "a table was made"),
+        Err(stop) => {
+            assert!(rt; stop.fault == fault);
+            assert_eq!(rt; stop.store.pages().len(), pages);
+            Ok(())
+        }
+    }
+}
+
+#[test]
+fn no_table_is_made(rt: HostRuntime) -> Result<(), Fail> {
+    check_create(&rt, rt.alloc(), 0, 0, 0, CreateFault::BadOrder)?;
+    check_create(&rt, rt.alloc(), 17, 1, 0, CreateFault::BadOrder)?;
+    check_create(&rt, rt.alloc(), 16, 1, 0, CreateFault::NotEmpty)?;
+    check_create(&rt, rt.alloc(), 1, 0, 1, CreateFault::NotEmpty)
+}
+
+/// Looks that a new table whose close fails at the call of that number is closed by a second one.
+fn check_close(rt: &impl Abort, alloc: Global, call: u64) -> Result<(), Fail> {
+    let mut writes = Vec::new(alloc);
+    if writes.push(call).is_err() {
+        writes.push(call)?;
+    }
+    let store = FlakyStore::new(store_of(rt, alloc, &[], 0)?, Vec::new(alloc), writes);
+    let Ok(table) = TreeTable::create(alloc, store, 2, Limits::new(9, 2, 1)?) else {
+        return Err(Fail::from(OpenFault::Device));
+    };
+    match table.close() {
+        Ok(_) => panic!(rt; "a call that failed was not told"),
+        Err(CloseStop { table, fault }) => {
+            assert!(rt; fault == WriteFault::Device);
+            let Ok(store) = table.close() else {
+                return Err(Fail::from(OpenFault::Device));
+            };
+            assert_eq!(rt; numbers_of(&open(alloc, store)?), (2, 0, 0, 1, 0));
+            Ok(())
+        }
+    }
+}
+
+#[test]
+fn a_table_is_closed_again(rt: HostRuntime) -> Result<(), Fail> {
+    for call in 1..7u64 {
+        check_close(&rt, rt.alloc(), call)?;
+    }
+    Ok(())
+}

@@ -1,0 +1,256 @@
+ghost use Rattle.std.specs.Prelude.{◌≡◌, ◌⊎◌, ℕ, ◌<◌, ◌≤◌, List, length, true, false, IsTrue, Ok, Err, IsOk, IfOk, IfErr, OnOk, MatchResult};
+ghost use Rattle.rec_types.specs.Table.{counted};
+ghost use Rattle.page_store.specs.PageMap.{at};
+ghost use Rattle.page_store.specs.FreeNumbers.{free_numbers};
+ghost use Rattle.btree_node.specs.Lists.{Element};
+ghost use Rattle.btree_node.specs.declared.headers.Header.{Header as HeaderValue};
+ghost use Rattle.btree_insert.specs.declared.trees.Tree.{Tree as TreeValue};
+ghost use Rattle.btree_delete.specs.CleanFile.{IsCleanFile, IsFirst, Opens, IsOutside, is_device_fault};
+ghost use Rattle.btree_delete.specs.TableView.{TableView, IsClosed, table_contents};
+ghost use Rattle.btree_delete.specs.Created.{IsEmpty, IsCreated, IsCreateFault, is_create_device, is_create_device_fault};
+
+use crate::files::{OpenStop, open_file};
+use btree_insert::Tree;
+use btree_node::{Header, write_header};
+use page_store::{PageEdit, Pages, Store, WriteFault};
+use rec_types::Limits;
+use std::alloc::Global;
+use std::collections::BTreeSet;
+use std::marker::Model;
+use thiserror::Error;
+
+/// A finite map from keys to records, in the pages of a store. Contracts see its pages, its tree and
+/// its limit.
+#[derive(Drop)]
+pub struct TreeTable<S: Store> {
+    pages: Pages<S>,
+    tree: Tree,
+    limit: u32,
+}
+
+impl<S: Store> Model for TreeTable<S> {
+    ghost use Rattle.btree_delete.specs.TableView.{TableView, IsTable};
+
+    ghost Value = { TableView };
+
+    ghost view = { λ t. record { pages = t.pages; tree = t.tree; limit = t.limit } };
+
+    ghost invariant = { λ t. IsTable (record { pages = t.pages; tree = t.tree; limit = t.limit }) };
+}
+
+/// Why no table was made.
+#[derive(Clone, Copy, Debug, PartialEq, Eq, Error)]
+pub enum CreateFault {
+    #[error("the order of the tree is not from 1 to 16")]
+    BadOrder,
+    #[error("the store failed")]
+    Device,
+    #[error("the store is not empty")]
+    NotEmpty,
+}
+
+/// A table that was not made: the store as it was, and why.
+#[derive(Drop)]
+pub struct CreateStop<S: Store> {
+    /// The store.
+    pub store: S,
+    /// Why no table was made.
+    pub fault: CreateFault,
+}
+
+/// A table that was not closed: the table with its records as they were, and why.
+#[derive(Drop)]
+pub struct CloseStop<S: Store> {
+    /// The table, which can be closed again.
+    pub table: TreeTable<S>,
+    /// Why it was not closed: Device where the store failed, Memory where it was not made longer.
+    pub fault: WriteFault,
+}
+
+/// Whether a store has no page and no bytes after the last. Fault: Device.
+fn check_empty<S: Store>(store: &mut S) -> Result<(), CreateFault>
+    ensures ok { OnOk result (IsEmpty (S.pages store.old) (S.tail store.old)) }
+    ensures fault { IfErr result (λ fault. (fault ≡ CreateFault.Device)
+        ⊎ ((fault ≡ CreateFault.NotEmpty) × (IsEmpty (S.pages store.old) (S.tail store.old) → ⊥))) }
+    ensures pages { S.pages store.new ≡ S.pages store.old }
+    ensures tail { S.tail store.new ≡ S.tail store.old }
+    ensures steady { S.steady store.new ≡ S.steady store.old }
+    ensures reads { S.reads store.new ≡ S.reads store.old }
+    ensures writes { S.writes store.new ≡ S.writes store.old }
+    ensures failures { S.failures store.new
+        ≡ counted (S.failures store.old) (is_create_device result) }
+{
+    let Ok(shape) = store.shape() else {
+        return Err(CreateFault::Device);
+    };
+    if shape.pages != 0 || shape.tail != 0 {
+        return Err(CreateFault::NotEmpty);
+    }
+    Ok(())
+}
+
+impl<S: Store> TreeTable<S> {
+    /// An empty table of an order from 1 to 16 in a store that is empty. It takes no memory, and
+    /// nothing is written before `close`. The store comes back with a fault, as it was. Faults in this
+    /// order: BadOrder; Device; NotEmpty where the store has a page or a byte.
+    pub fn create(
+        alloc: Global,
+        store: S,
+        k: u16,
+        limits: Limits,
+    ) -> Result<TreeTable<S>, CreateStop<S>>
+        ensures made { IfOk result (λ t. IsCreated (S.pages store) (S.tail store) k t) }
+        ensures store { IfOk result (λ t. (t.pages.steady ≡ S.steady store)
+            × (t.pages.reads ≡ S.reads store) × (t.pages.writes ≡ S.writes store)
+            × (t.pages.failures ≡ S.failures store)) }
+        ensures limit { IfOk result (λ t. t.limit ≡ limits.records) }
+        ensures fault { IfErr result
+            (λ stop. IsCreateFault (S.pages store) (S.tail store) k stop.fault) }
+        ensures pages { IfErr result (λ stop. S.pages stop.store ≡ S.pages store) }
+        ensures tail { IfErr result (λ stop. S.tail stop.store ≡ S.tail store) }
+        ensures steady { IfErr result (λ stop. S.steady stop.store ≡ S.steady store) }
+        ensures reads { IfErr result (λ stop. S.reads stop.store ≡ S.reads store) }
+        ensures writes { IfErr result (λ stop. S.writes stop.store ≡ S.writes store) }
+        ensures failures { IfErr result (λ stop. S.failures stop.store
+            ≡ counted (S.failures store) (is_create_device_fault stop.fault)) }
+    {
+        let mut store = store;
+        if !(1..=16).contains(&k) {
+            let fault = CreateFault::BadOrder;
+            return Err(CreateStop { store, fault });
+        }
+        if let Err(fault) = check_empty(&mut store) {
+            return Err(CreateStop { store, fault });
+        }
+        let mut pages = Pages::new(alloc, store, 1, BTreeSet::new(alloc));
+        let nothing = PageEdit {
+            writes: Vec::new(alloc),
+            taken: 0,
+            freed: Vec::new(alloc),
+        };
+        let Ok(()) = pages.stage(nothing) else {
+            unreachable!();
+        };
+        let tree = Tree {
+            order: k,
+            root: 0,
+            height: 0,
+            count: 0,
+            used: 0,
+        };
+        let limit = limits.records();
+        Ok(TreeTable { pages, tree, limit })
+    }
+
+    /// Opens a file that was closed, of at most as many records as the limits say. It reads page 0 and
+    /// each page of the tree once. The store comes back with a fault, its pages as they were: Device and
+    /// Memory where they are met, and else the first check that fails, in the order of the faults.
+    pub fn open_from(alloc: Global, store: S, limits: Limits) -> Result<TreeTable<S>, OpenStop<S>>
+        ensures found { IsTrue (S.steady store) → IfOk result (λ t. Opens (S.pages store)
+            (S.tail store) limits.records (S.reads store) t.pages t.tree) }
+        ensures exact { IsTrue (S.steady store) → (h : HeaderValue) (tree : TreeValue)
+            → (es : List Element) (us : List ℕ)
+            → IsCleanFile (S.pages store) (S.tail store) h tree es us → h.count ≤ limits.records
+            → MatchResult result (λ t. t.tree ≡ tree) (λ stop. IsOutside stop.fault) }
+        ensures fault { IsTrue (S.steady store) → IfErr result
+            (λ stop. IsFirst (S.pages store) (S.tail store) limits.records stop.fault) }
+        ensures limit { IfOk result (λ t. t.limit ≡ limits.records) }
+        ensures idle { IfOk result (λ t. t.pages.changed ≡ false) }
+        ensures stored { IfOk result (λ t. (t.pages.stored ≡ S.pages store)
+            × (t.pages.tail ≡ S.tail store) × (t.pages.steady ≡ S.steady store)
+            × (t.pages.writes ≡ S.writes store) × (t.pages.failures ≡ S.failures store)) }
+        ensures pages { IfErr result (λ stop. S.pages stop.store ≡ S.pages store) }
+        ensures tail { IfErr result (λ stop. S.tail stop.store ≡ S.tail store) }
+        ensures steady { IfErr result (λ stop. S.steady stop.store ≡ S.steady store) }
+        ensures writes { IfErr result (λ stop. S.writes stop.store ≡ S.writes store) }
+        ensures failures { IfErr result (λ stop. S.failures stop.store
+            ≡ counted (S.failures store) (is_device_fault stop.fault)) }
+    {
+        let limit = limits.records();
+        let (pages, tree) = open_file(alloc, store, limits)?;
+        Ok(TreeTable { pages, tree, limit })
+    }
+
+    /// Writes the changed pages back and hands the store over, which is then a closed file with the
+    /// table's records. Where nothing was changed, the store isn't called. It takes no memory of its
+    /// own. Faults: Device, Memory.
+    pub fn close(self) -> Result<S, CloseStop<S>>
+        ensures closed { IsTrue self.pages.steady
+            → IfOk result (λ store. IsClosed (S.pages store) (S.tail store) self.tree
+            (table_contents self)) }
+        ensures steady { IfOk result (λ store. S.steady store ≡ self.pages.steady) }
+        ensures idle { self.pages.changed ≡ false → IfOk result
+            (λ store. (S.pages store ≡ self.pages.stored) × (S.tail store ≡ self.pages.tail)
+            × (S.reads store ≡ self.pages.reads) × (S.writes store ≡ self.pages.writes)
+            × (S.failures store ≡ self.pages.failures)) }
+        ensures idle_ok { self.pages.changed ≡ false → IsOk result }
+        ensures table { IfErr result (λ stop. stop.table ≡ record self {
+          pages = record self.pages {
+            stored = stop.table.pages.stored;
+            tail = stop.table.pages.tail;
+            writes = stop.table.pages.writes;
+            failures = stop.table.pages.failures;
+          };
+        }) }
+    {
+        let TreeTable {
+            mut pages,
+            tree,
+            limit,
+        } = self;
+        if !pages.changed() {
+            return Ok(pages.into_store());
+        }
+        let header = Header {
+            order: tree.order,
+            pages: pages.page_count(),
+            root: tree.root,
+            count: tree.count,
+        };
+        match pages.write_back(&write_header(&header, false), &write_header(&header, true)) {
+            Ok(()) => Ok(pages.into_store()),
+            Err(fault) => Err(CloseStop {
+                table: TreeTable { pages, tree, limit },
+                fault,
+            }),
+        }
+    }
+
+    /// The order of the tree, 1 to 16.
+    pub fn order(&self) -> u16
+        ensures value { result ≡ self.now.tree.order }
+        ensures some { 1 ≤ result }
+        ensures most { result ≤ 16 }
+    {
+        self.tree.order
+    }
+
+    /// How many levels the tree has, at most 19.
+    pub fn height(&self) -> u32
+        ensures value { result ≡ self.now.tree.height }
+        ensures most { result ≤ 19 }
+    {
+        self.tree.height
+    }
+
+    /// How many pages the tree has.
+    pub fn pages_used(&self) -> u32
+        ensures { result ≡ self.now.tree.used }
+    {
+        self.tree.used
+    }
+
+    /// How many pages there are, page 0 included.
+    pub fn page_count(&self) -> u32
+        ensures { result ≡ length self.now.pages.pages }
+    {
+        self.pages.page_count()
+    }
+
+    /// How many page numbers are free.
+    pub fn free_count(&self) -> u32
+        ensures { result ≡ length (free_numbers self.now.pages.pages) }
+    {
+        self.pages.free_count()
+    }
+}
