@@ -2,7 +2,7 @@
 use Rattle.std.specs.Prelude.{ℕ, ◌+◌, ◌==◌, min, Bool, true, List, refl}
 use Rattle.std.specs.Coded.{Coded, code_by, coded×, coded_ℕ, coded_list}
 use Rattle.std.specs.List.{list_any}
-use Rattle.rec_types.specs.Table.{counted}
+use Rattle.rec_types.specs.Table.{counted, greatest_count}
 
 -- the table below, the numbers of the calls of `set` that fail, how many calls of `set` there were, and how many of
 -- them failed here
@@ -25,4 +25,4 @@ with_set s failed = record s { sets = counted s.sets true; failures = counted s.
 
 -- how many calls a failed device read ended, below and here; it stays at the greatest value of 64 bits
 abbrev pub failures_of : {T : Type 0} → (T → ℕ) → FlakyState T → ℕ
-failures_of failures s = min (failures s.inner + s.failures) 18446744073709551615
+failures_of failures s = min (failures s.inner + s.failures) greatest_count

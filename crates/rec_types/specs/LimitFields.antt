@@ -1,6 +1,6 @@
 -- How limits lie in their fields.
 use Rattle.std.specs.Prelude.{◌≤◌}
-use Rattle.rec_types.specs.LimitBounds.{Bounds}
+use Rattle.rec_types.specs.LimitBounds.{Bounds, most_records, most_log_records, most_begins}
 use Rattle.rec_types.specs.declared.limiting.Limits.TheInside.{Inside}
 
 abbrev pub bounds_of : Inside → Bounds
@@ -11,8 +11,8 @@ fields_of b = record { records = b.records; log_records = b.log_records; begins 
 
 pub record AreLimits (l : Inside) : Type 0 where
   pub some_records : 1 ≤ l.records
-  pub most_records : l.records ≤ 1000000
+  pub most_records : l.records ≤ most_records
   pub some_log : 2 ≤ l.log_records
-  pub most_log : l.log_records ≤ 4000000
+  pub most_log : l.log_records ≤ most_log_records
   pub some_begins : 1 ≤ l.begins
-  pub most_begins : l.begins ≤ 1000000
+  pub most_begins : l.begins ≤ most_begins

@@ -25,7 +25,12 @@ impl<T: Table> Model for FlakyTable<T> {
 
     ghost coded = { coded_flaky_state T.code };
 
-    ghost view = { λ t. record { inner = t.inner; failing = t.failing.items; sets = t.sets; failures = t.failures } };
+    ghost view = { λ t. record {
+      inner = t.inner;
+      failing = t.failing.items;
+      sets = t.sets;
+      failures = t.failures;
+    } };
 }
 
 impl<T: Table> FlakyTable<T> {

@@ -12,7 +12,7 @@ mod transactions;
 
 pub use flaky::FlakyTable;
 pub use keys::{Key, KeyFault};
-pub use limiting::{LimitFault, Limits};
+pub use limiting::{LimitFault, Limits, MOST_BEGINS, MOST_LOG_RECORDS, MOST_RECORDS};
 pub use memory::Memory;
 pub use records::{Record, RecordFault};
 pub use sorting::SortedTable;

@@ -1,8 +1,18 @@
 ghost use Rattle.std.specs.Prelude.{◌≡◌, ◌≤◌};
+ghost use Rattle.rec_types.specs.LimitBounds.{most_records, most_log_records, most_begins};
 ghost use Rattle.rec_types.specs.Limits.{limits_of};
 
 use std::marker::Model;
 use thiserror::Error;
+
+/// The greatest limit of a file's records.
+pub const MOST_RECORDS: u32 = 1_000_000;
+
+/// The greatest limit of a session's log, in records.
+pub const MOST_LOG_RECORDS: u32 = 4_000_000;
+
+/// The greatest limit of the transactions that a session begins.
+pub const MOST_BEGINS: u32 = 1_000_000;
 
 /// Why numbers are no limits.
 #[derive(Clone, Copy, Debug, PartialEq, Eq, Error)]
@@ -46,13 +56,13 @@ impl Limits {
     pub fn new(records: u32, log_records: u32, begins: u32) -> Result<Limits, LimitFault>
         ensures { result ≡ limits_of records log_records begins }
     {
-        if records < 1 || records > 1_000_000 {
+        if records < 1 || records > MOST_RECORDS {
             return Err(LimitFault::Records);
         }
-        if log_records < 2 || log_records > 4_000_000 {
+        if log_records < 2 || log_records > MOST_LOG_RECORDS {
             return Err(LimitFault::Log);
         }
-        if begins < 1 || begins > 1_000_000 {
+        if begins < 1 || begins > MOST_BEGINS {
             return Err(LimitFault::Begins);
         }
         Ok(Limits {
@@ -66,7 +76,7 @@ impl Limits {
     pub fn records(&self) -> u32
         ensures value { result ≡ self.now.records }
         ensures some { 1 ≤ result }
-        ensures most { result ≤ 1000000 }
+        ensures most { result ≤ most_records }
     {
         self.records
     }
@@ -75,7 +85,7 @@ impl Limits {
     pub fn log_records(&self) -> u32
         ensures value { result ≡ self.now.log_records }
         ensures some { 2 ≤ result }
-        ensures most { result ≤ 4000000 }
+        ensures most { result ≤ most_log_records }
     {
         self.log_records
     }
@@ -84,7 +94,7 @@ impl Limits {
     pub fn begins(&self) -> u32
         ensures value { result ≡ self.now.begins }
         ensures some { 1 ≤ result }
-        ensures most { result ≤ 1000000 }
+        ensures most { result ≤ most_begins }
     {
         self.begins
     }

@@ -5,7 +5,6 @@ use Rattle.std.specs.List.{list_any}
 use Rattle.rec_types.specs.Contents.{same_key}
 use Rattle.rec_types.specs.Kept.{Kept, history_of, OnlyOf, IsOwned}
 use Rattle.rec_types.specs.Contents.{Contents}
-use Rattle.rec_types.specs.LimitBounds.{Bounds}
 use Rattle.rec_types.proofs.ContentsFacts.{same_key-is}
 use Rattle.std.specs.FinMap as maps
 use Rattle.tx_log.specs.Owners.{claims, owner_of, charged}
@@ -37,11 +36,11 @@ owner_is is_open (d ∷ cs) t x owned owns = at d.live (is_open d.tx) (same_key 
     at false opened same own live opened_is same_is own_is ih is = ih is
 
 -- what stays true of a file
-pub kept_file : (sound : Bool) (now : Contents) (limit : ℕ) (log : LogState) (limits : Bounds) → IsRecordFile sound now limit log limits → IsLog log → IsChained log.records log.changes → IsKeptFile sound now limit (file_of log now) log.records
-kept_file sound now limit log limits is kept chained = record {
-  limited = is.limited ∙ sym (ap (λ (b : Bounds). b.records) is.same_limits);
+pub kept_file : (sound : Bool) (now : Contents) (limit : ℕ) (log : LogState) → IsRecordFile sound now limit log → IsLog log → IsChained log.records log.changes → IsKeptFile sound now limit (file_of log now) log.records
+kept_file sound now limit log is kept chained = record {
+  limited = is.limited;
   replayed = λ here. (is.fits here).replayed;
-  within = λ here. subst (λ (b : Bounds). maps.len (charged_of (file_of log now)) ≤ b.records) (sym is.same_limits) (subst (λ (m : Contents). maps.len (charged (open_in log) (history_in log) m) ≤ limits.records) (is.fits here).replayed (is.within here));
+  within = λ here. subst (λ (m : Contents). maps.len (charged (open_in log) (history_in log) m) ≤ log.limits.records) (is.fits here).replayed (is.within here);
   owned = λ t x owns. owner_is (open_in log) log.changes t x kept.owned owns;
   written = is.told;
   chained = (log.changes, chained, refl, λ here. (is.fits here).befores);

@@ -10,7 +10,6 @@ use Rattle.tx_log.specs.declared.phases.Phase.TheVariants as phases
 use Rattle.record_file.specs.declared.faults.PutFault.TheVariants as put_faults
 use Rattle.record_file.specs.declared.faults.RemoveFault.TheVariants as remove_faults
 use Rattle.rec_types.specs.History.{Change}
-use Rattle.rec_types.specs.LimitBounds.{Bounds}
 use Rattle.tx_log.specs.LogState.{LogState, open_in, history_in}
 use Rattle.record_file.specs.Abstract.{File, Fits, file_of, records_of, open_of, phase_at, use_of, held_by, is_full, charged_of}
 use Rattle.record_file.specs.Steps.{put_refusal, put_in, put_held, remove_refusal, remove_in, remove_held}
@@ -84,10 +83,9 @@ remove_accepts f t x none = at (phase_at f t) (held_by f t x) (nat_lt f.limits.l
     at (Some phases.Active) None false p_is h_is l_is none = grind (arith, nat_tests)
 
 -- the same of the table's present contents
-pub room_now : (log : LogState) (now : Contents) (limits : Bounds) (x : List ℕ) → Fits log.changes now → log.limits ≡ limits → false ≡ is_full (file_of log now) x → has (charged (open_in log) (history_in log) now) x ≡ false → len (charged (open_in log) (history_in log) now) < limits.records
-room_now log now limits x fits same not_full =
-    subst (λ (m : Contents). has (charged (open_in log) (history_in log) m) x ≡ false → len (charged (open_in log) (history_in log) m) < limits.records) (sym fits.replayed)
-    (subst (λ (l : Bounds). has (charged_of (file_of log now)) x ≡ false → len (charged_of (file_of log now)) < l.records) same (room_of (file_of log now) x not_full))
+pub room_now : (log : LogState) (now : Contents) (x : List ℕ) → Fits log.changes now → false ≡ is_full (file_of log now) x → has (charged (open_in log) (history_in log) now) x ≡ false → len (charged (open_in log) (history_in log) now) < log.limits.records
+room_now log now x fits not_full =
+    subst (λ (m : Contents). has (charged (open_in log) (history_in log) m) x ≡ false → len (charged (open_in log) (history_in log) m) < log.limits.records) (sym fits.replayed) (room_of (file_of log now) x not_full)
 
 -- a key that has a record is charged
 pub present_charged : (is_open : ℕ → Bool) (h : List Change) (now : Contents) (x : List ℕ) (found : Option (List ℕ)) → found ≡ get now x → is_some found ≡ true → has (charged is_open h now) x ≡ false → ⊥

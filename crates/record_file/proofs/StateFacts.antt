@@ -3,7 +3,6 @@ use Rattle.std.proofs.Common.{◌≡◌, ℕ, ◌+◌, ◌≤◌, ◌<◌, Bool,
 use Rattle.std.specs.FinMap as maps
 use Rattle.std.specs.FinMap.{get, len}
 use Rattle.rec_types.specs.Contents.{Contents, set_to, has}
-use Rattle.rec_types.specs.LimitBounds.{Bounds}
 use Rattle.rec_types.specs.History.{Change, log_len, live_from, undo_last}
 use Rattle.rec_types.proofs.HistoryFacts.{newest_from-some, newest_from-live, history-undone}
 use Rattle.std.proofs.lemmas.Bool.Decides.{nat_tests}
@@ -106,73 +105,69 @@ undo_there cs t (Some tx) some = at tx.rollback some
     at (Some r) some = let u = found r.to some (newest_from cs t r.to) refl in (u.0, u.1, u.2, refl)
 
 -- a table that isn't sound may hold anything
-record_over : (sound : Bool) (now now2 : Contents) (limit : ℕ) (log : LogState) (limits : Bounds) → (IsTrue sound → now2 ≡ now) → IsRecordFile sound now limit log limits → IsRecordFile sound now2 limit log limits
-record_over sound now now2 limit log limits same old = record {
+record_over : (sound : Bool) (now now2 : Contents) (limit : ℕ) (log : LogState) → (IsTrue sound → now2 ≡ now) → IsRecordFile sound now limit log → IsRecordFile sound now2 limit log
+record_over sound now now2 limit log same old = record {
   limited = old.limited;
-  same_limits = old.same_limits;
   fits = λ is. subst (λ (m : Contents). Fits log.changes m) (sym (same is)) (old.fits is);
   told = λ is. subst (λ (m : Contents). (m ≡ written (opening_of log.changes m) log.records) × AllTold (opening_of log.changes m) log.records) (sym (same is)) (old.told is);
-  within = λ is. subst (λ (m : Contents). len (charged (open_in log) (history_in log) m) ≤ limits.records) (sym (same is)) (old.within is);
+  within = λ is. subst (λ (m : Contents). len (charged (open_in log) (history_in log) m) ≤ log.limits.records) (sym (same is)) (old.within is);
 }
 
-module _ (sound : Bool) (now : Contents) (limit : ℕ) (log : LogState) (limits : Bounds) (old : IsRecordFile sound now limit log limits) (kept : IsLog log) where
+module _ (sound : Bool) (now : Contents) (limit : ℕ) (log : LogState) (old : IsRecordFile sound now limit log) (kept : IsLog log) where
   -- other transactions are open, and none of those begun before opens
-  pub file_txs : (txs : Transactions) (begun : ℕ) (room : Option (List ℕ)) → OpensNone log.txs txs log.begun → IsRecordFile sound now limit (record log { txs = txs; begun = begun; room = room }) limits
+  pub file_txs : (txs : Transactions) (begun : ℕ) (room : Option (List ℕ)) → OpensNone log.txs txs log.begun → IsRecordFile sound now limit (record log { txs = txs; begun = begun; room = room })
   file_txs txs begun room none = record {
     limited = old.limited;
-    same_limits = old.same_limits;
     fits = old.fits;
     told = old.told;
-    within = λ is. charged_within (open_in log) (is_open txs) log.begun log.changes now limits.records none kept.begun (old.within is);
+    within = λ is. charged_within (open_in log) (is_open txs) log.begun log.changes now log.limits.records none kept.begun (old.within is);
   }
 
   -- the room for a change
-  pub file_room : (room : Option (List ℕ)) → IsRecordFile sound now limit (record log { room = room }) limits
-  file_room room = record { limited = old.limited; same_limits = old.same_limits; fits = old.fits; told = old.told; within = old.within }
+  pub file_room : (room : Option (List ℕ)) → IsRecordFile sound now limit (record log { room = room })
+  file_room room = record { limited = old.limited; fits = old.fits; told = old.told; within = old.within }
 
   -- one more live change, put into the table
-  pub file_put : (room : Option (List ℕ)) (r : LogRecord) (lsn t : ℕ) (x : List ℕ) (before w : Option (List ℕ)) → key_of r ≡ x → new_in r ≡ w → (IsTrue sound → Told now r) → (IsTrue sound → before ≡ get now x) → (IsTrue sound → has (charged (open_in log) (history_in log) now) x ≡ false → len (charged (open_in log) (history_in log) now) < limits.records)
-      → IsRecordFile sound (set_to now x w) limit (record log { records = log.records ++ r ∷ []; changes = log.changes ++ change lsn t x before w ∷ []; room = room }) limits
+  pub file_put : (room : Option (List ℕ)) (r : LogRecord) (lsn t : ℕ) (x : List ℕ) (before w : Option (List ℕ)) → key_of r ≡ x → new_in r ≡ w → (IsTrue sound → Told now r) → (IsTrue sound → before ≡ get now x) → (IsTrue sound → has (charged (open_in log) (history_in log) now) x ≡ false → len (charged (open_in log) (history_in log) now) < log.limits.records)
+      → IsRecordFile sound (set_to now x w) limit (record log { records = log.records ++ r ∷ []; changes = log.changes ++ change lsn t x before w ∷ []; room = room })
   file_put room r lsn t x before w key new tells stood room_for = record {
     limited = old.limited;
-    same_limits = old.same_limits;
     fits = λ is. fits_put log.changes now lsn t x before w (old.fits is) (stood is);
     told = λ is. told_push log.records r (opening_of log.changes now) (opening_of (log.changes ++ change lsn t x before w ∷ []) (set_to now x w)) now x w (sym (opening_put log.changes now lsn t x before w (stood is))) key new (tells is) (old.told is);
-    within = λ is. charged_put (open_in log) log.changes now limits.records lsn t x before w (old.within is) (room_for is);
+    within = λ is. charged_put (open_in log) log.changes now log.limits.records lsn t x before w (old.within is) (room_for is);
   }
 
   -- the newest live change of an open transaction taken back, in the table too
-  pub file_undo : (room : Option (List ℕ)) (r : LogRecord) (t : ℕ) (u : Kept) → key_of r ≡ u.key → new_in r ≡ u.before → Told now r → IsTrue (open_in log t) → newest_live t log.changes ≡ Some u → IsRecordFile sound (set_to now u.key u.before) limit (record log { records = log.records ++ r ∷ []; changes = undone t log.changes; room = room }) limits
+  pub file_undo : (room : Option (List ℕ)) (r : LogRecord) (t : ℕ) (u : Kept) → key_of r ≡ u.key → new_in r ≡ u.before → Told now r → IsTrue (open_in log t) → newest_live t log.changes ≡ Some u → IsRecordFile sound (set_to now u.key u.before) limit (record log { records = log.records ++ r ∷ []; changes = undone t log.changes; room = room })
   file_undo room r t u key new tells open_t newest = record {
     limited = old.limited;
-    same_limits = old.same_limits;
     fits = λ is. fits_undo (open_in log) log.changes now t u kept.owned open_t newest (old.fits is);
     told = λ is. told_push log.records r (opening_of log.changes now) (opening_of (undone t log.changes) (set_to now u.key u.before)) now u.key u.before (sym (opening_undo t log.changes u now newest)) key new tells (old.told is);
-    within = λ is. charged_undo (open_in log) log.changes now limits.records t u open_t newest (old.within is);
+    within = λ is. charged_undo (open_in log) log.changes now log.limits.records t u open_t newest (old.within is);
   }
 
   -- a transaction is begun, or none is
-  pub file_begun : (answer : Result TxId BeginFault) (new : LogState) → OnOk answer (new ≡ record log { begun = log.begun + 1; txs = maps.insert log.txs (log.begun + 1) fresh; room = None }) → OnErr answer (new ≡ record log { room = None }) → IsRecordFile sound now limit new limits
-  file_begun (Ok tx) new ok err = subst (λ (s : LogState). IsRecordFile sound now limit s limits) (sym ok) (file_txs (maps.insert log.txs (log.begun + 1) fresh) (log.begun + 1) None (none_by_new log.txs log.begun fresh))
-  file_begun (Err fault) new ok err = subst (λ (s : LogState). IsRecordFile sound now limit s limits) (sym err) (file_room None)
+  pub file_begun : (answer : Result TxId BeginFault) (new : LogState) → OnOk answer (new ≡ record log { begun = log.begun + 1; txs = maps.insert log.txs (log.begun + 1) fresh; room = None }) → OnErr answer (new ≡ record log { room = None }) → IsRecordFile sound now limit new
+  file_begun (Ok tx) new ok err = subst (λ (s : LogState). IsRecordFile sound now limit s) (sym ok) (file_txs (maps.insert log.txs (log.begun + 1) fresh) (log.begun + 1) None (none_by_new log.txs log.begun fresh))
+  file_begun (Err fault) new ok err = subst (λ (s : LogState). IsRecordFile sound now limit s) (sym err) (file_room None)
 
   -- what is known of an open transaction changed
-  pub file_known : (t : ℕ) (p : Phase) (answer : Option Phase) (tx : Tx) (new : LogState) → answer ≡ phase_in log t → answer ≡ Some p → new ≡ record log { txs = maps.insert log.txs t tx; room = None } → IsRecordFile sound now limit new limits
-  file_known t p answer tx new told is after = subst (λ (s : LogState). IsRecordFile sound now limit s limits) (sym after) (file_txs (maps.insert log.txs t tx) log.begun None (none_by_known log.txs log.begun t tx (open_by_phase (maps.get log.txs t) p (sym told ∙ is))))
+  pub file_known : (t : ℕ) (p : Phase) (answer : Option Phase) (tx : Tx) (new : LogState) → answer ≡ phase_in log t → answer ≡ Some p → new ≡ record log { txs = maps.insert log.txs t tx; room = None } → IsRecordFile sound now limit new
+  file_known t p answer tx new told is after = subst (λ (s : LogState). IsRecordFile sound now limit s) (sym after) (file_txs (maps.insert log.txs t tx) log.begun None (none_by_known log.txs log.begun t tx (open_by_phase (maps.get log.txs t) p (sym told ∙ is))))
 
   -- a transaction ended
-  pub file_ended : (t : ℕ) (new : LogState) → new ≡ record log { txs = maps.remove log.txs t; room = None } → IsRecordFile sound now limit new limits
-  file_ended t new after = subst (λ (s : LogState). IsRecordFile sound now limit s limits) (sym after) (file_txs (maps.remove log.txs t) log.begun None (none_by_end log.txs log.begun t))
+  pub file_ended : (t : ℕ) (new : LogState) → new ≡ record log { txs = maps.remove log.txs t; room = None } → IsRecordFile sound now limit new
+  file_ended t new after = subst (λ (s : LogState). IsRecordFile sound now limit s) (sym after) (file_txs (maps.remove log.txs t) log.begun None (none_by_end log.txs log.begun t))
 
   -- the log after room was made at the key and a change was accepted there
   pub change_kept : (sound2 : Bool) (limit2 : ℕ) (now2 : Contents) (log1 log2 : LogState) (t : TxId) (x : List ℕ) (before told w : Option (List ℕ)) → sound2 ≡ sound → limit2 ≡ limit → log1 ≡ record log { room = Some x } → (IsTrue sound → now2 ≡ set_to now x w) → (IsTrue sound → before ≡ get now x) → told ≡ before → log2 ≡ accepted log1 t x told w
-      → (IsTrue sound → has (charged (open_in log) (history_in log) now) x ≡ false → len (charged (open_in log) (history_in log) now) < limits.records) → IsRecordFile sound2 now2 limit2 log2 limits
+      → (IsTrue sound → has (charged (open_in log) (history_in log) now) x ≡ false → len (charged (open_in log) (history_in log) now) < log.limits.records) → IsRecordFile sound2 now2 limit2 log2
   change_kept sound2 limit2 now2 log1 log2 t x before told w sound_is limit_is reserved put stood copied accepts room_for =
       let after : log2 ≡ accepted (record log { room = Some x }) t x told w = accepts ∙ ap (λ (s : LogState). accepted s t x told w) reserved in
-      subst (λ (s : Bool). IsRecordFile s now2 limit2 log2 limits) (sym sound_is)
-      (subst (λ (n : ℕ). IsRecordFile sound now2 n log2 limits) (sym limit_is)
-      (record_over sound (set_to now x w) now2 limit log2 limits put
-      (subst (λ (s : LogState). IsRecordFile sound (set_to now x w) limit s limits) (sym after)
+      subst (λ (s : Bool). IsRecordFile s now2 limit2 log2) (sym sound_is)
+      (subst (λ (n : ℕ). IsRecordFile sound now2 n log2) (sym limit_is)
+      (record_over sound (set_to now x w) now2 limit log2 put
+      (subst (λ (s : LogState). IsRecordFile sound (set_to now x w) limit s) (sym after)
       (file_put None (update_in log t x told w) (log_len (history_in log) + 1) t.0 x told w refl refl (λ is. copied ∙ stood is) (λ is. copied ∙ stood is) room_for))))
 
   pub change_file : (now2 : Contents) (log1 log2 : LogState) (t : TxId) (x : List ℕ) (before told w : Option (List ℕ)) → log1 ≡ record log { room = Some x } → now2 ≡ set_to now x w → before ≡ get now x → told ≡ before → log2 ≡ accepted log1 t x told w → file_of log2 now2 ≡ with_change (file_of log now) t.0 x w
@@ -204,16 +199,16 @@ module _ (sound : Bool) (now : Contents) (limit : ℕ) (log : LogState) (limits 
   undo_record log2 t u next after = ap (λ (s : LogState). s.records) after ∙ ap (λ (o : Option Kept). log.records ++ compensations_of log t o) next
 
   -- a rollback is over
-  pub file_finished : (t : ℕ) (new : LogState) → new ≡ record log { txs = finished log.txs t (tx_in log t); room = None } → IsRecordFile sound now limit new limits
-  file_finished t new after = subst (λ (s : LogState). IsRecordFile sound now limit s limits) (sym after) (file_txs (finished log.txs t (tx_in log t)) log.begun None (none_by_finish log.txs log.begun t (tx_in log t) refl))
+  pub file_finished : (t : ℕ) (new : LogState) → new ≡ record log { txs = finished log.txs t (tx_in log t); room = None } → IsRecordFile sound now limit new
+  file_finished t new after = subst (λ (s : LogState). IsRecordFile sound now limit s) (sym after) (file_txs (finished log.txs t (tx_in log t)) log.begun None (none_by_finish log.txs log.begun t (tx_in log t) refl))
 
   -- the log after a change was taken back
-  pub undo_kept : (sound2 : Bool) (limit2 : ℕ) (now2 : Contents) (log2 : LogState) (t : TxId) (u : Kept) (step : UndoStep) → sound2 ≡ sound → limit2 ≡ limit → undo_in log t.0 ≡ Some u → newest_live t.0 log.changes ≡ Some u → IsTrue (open_in log t.0) → step ≡ undo_step u → (IsTrue sound → now2 ≡ set_to now step.key step.before) → log2 ≡ compensated log t → IsRecordFile sound2 now2 limit2 log2 limits
+  pub undo_kept : (sound2 : Bool) (limit2 : ℕ) (now2 : Contents) (log2 : LogState) (t : TxId) (u : Kept) (step : UndoStep) → sound2 ≡ sound → limit2 ≡ limit → undo_in log t.0 ≡ Some u → newest_live t.0 log.changes ≡ Some u → IsTrue (open_in log t.0) → step ≡ undo_step u → (IsTrue sound → now2 ≡ set_to now step.key step.before) → log2 ≡ compensated log t → IsRecordFile sound2 now2 limit2 log2
   undo_kept sound2 limit2 now2 log2 t u step sound_is limit_is next newest open_t is put after =
-      subst (λ (s : Bool). IsRecordFile s now2 limit2 log2 limits) (sym sound_is)
-      (subst (λ (n : ℕ). IsRecordFile sound now2 n log2 limits) (sym limit_is)
-      (record_over sound (set_to now u.key u.before) now2 limit log2 limits (λ here. put here ∙ ap (λ (s : UndoStep). set_to now s.key s.before) is)
-      (subst (λ (s : LogState). IsRecordFile sound (set_to now u.key u.before) limit s limits) (sym (after ∙ ap (λ (o : Option Kept). let s : LogState = record log { records = log.records ++ compensations_of log t o; changes = undone t.0 log.changes; room = None } in s) next))
+      subst (λ (s : Bool). IsRecordFile s now2 limit2 log2) (sym sound_is)
+      (subst (λ (n : ℕ). IsRecordFile sound now2 n log2) (sym limit_is)
+      (record_over sound (set_to now u.key u.before) now2 limit log2 (λ here. put here ∙ ap (λ (s : UndoStep). set_to now s.key s.before) is)
+      (subst (λ (s : LogState). IsRecordFile sound (set_to now u.key u.before) limit s) (sym (after ∙ ap (λ (o : Option Kept). let s : LogState = record log { records = log.records ++ compensations_of log t o; changes = undone t.0 log.changes; room = None } in s) next))
       (file_undo None (Compensation (length log.records + 1) (last_of t.0 (reverse log.records)) t u.key u.before (prev_in (record_at log.records u.lsn))) t.0 u refl refl tt open_t newest))))
 
   pub undo_file_is : (now2 : Contents) (log2 : LogState) (t : TxId) (u : Kept) (step : UndoStep) → newest_live t.0 log.changes ≡ Some u → step ≡ undo_step u → now2 ≡ set_to now step.key step.before → log2 ≡ compensated log t → file_of log2 now2 ≡ record (file_of log now) { history = undo_last t.0 (history_in log) }

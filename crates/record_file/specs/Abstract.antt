@@ -6,7 +6,7 @@ use Rattle.rec_types.specs.LimitBounds.{Bounds, coded_bounds}
 use Rattle.rec_types.specs.Contents.{Contents, coded_contents, set_to}
 use Rattle.rec_types.specs.History.{Change, replay, log_use}
 use Rattle.rec_types.specs.Kept.{Kept, history_of, opening_of, BeforesFit}
-use Rattle.tx_log.specs.Transactions.{Transactions, Tx, coded_transactions, is_open}
+use Rattle.tx_log.specs.Transactions.{Transactions, Tx, coded_transactions, is_open, most_savepoints}
 use Rattle.tx_log.specs.Owners.{owner_of, holder_of, claims, charged}
 use Rattle.tx_log.specs.LogLaws.{IsChained}
 use Rattle.std.specs.List.{list_any}
@@ -111,14 +111,13 @@ pub record Fits (cs : List Kept) (now : Contents) : Type 0 where
   pub replayed : now ≡ replay (opening_of cs now) (history_of cs)
   pub befores : BeforesFit (opening_of cs now) cs
 
--- what is true of every file over a table: the limits agree, and over a sound table the contents are the replay and
--- the charged keys don't exceed the limit
-pub record IsRecordFile (sound : Bool) (now : Contents) (limit : ℕ) (log : LogState) (limits : Bounds) : Type 0 where
-  pub limited : limit ≡ limits.records
-  pub same_limits : log.limits ≡ limits
+-- what is true of every file over a table: its limit is the log's, and over a sound table the contents are the replay
+-- and the charged keys don't exceed the limit
+pub record IsRecordFile (sound : Bool) (now : Contents) (limit : ℕ) (log : LogState) : Type 0 where
+  pub limited : limit ≡ log.limits.records
   pub fits : IsTrue sound → Fits log.changes now
   pub told : IsTrue sound → (now ≡ written (opening_of log.changes now) log.records) × AllTold (opening_of log.changes now) log.records
-  pub within : IsTrue sound → maps.len (charged (open_in log) (history_in log) now) ≤ limits.records
+  pub within : IsTrue sound → maps.len (charged (open_in log) (history_in log) now) ≤ log.limits.records
 
 -- the transaction hasn't ended, and one of its live changes is at the key
 abbrev pub owns : File → ℕ → List ℕ → Bool
@@ -126,7 +125,7 @@ owns f t x = list_any (λ c. claims (open_of f) x c && (c.tx == t)) f.history
 
 -- What stays true of a file from call to call: over a sound table the records are the replay, which the log leaves
 -- too, each change tells what stood at its key before it, and the charged keys don't exceed the limit; a transaction
--- that owns a key is the one that does; no transaction has more than 32 savepoints; and the log tells the history by
+-- that owns a key is the one that does; no transaction has more savepoints than it may; and the log tells the history by
 -- its laws.
 pub record IsKeptFile (sound : Bool) (now : Contents) (limit : ℕ) (f : File) (log : List LogRecord) : Type 0 where
   pub limited : limit ≡ f.limits.records
@@ -138,4 +137,4 @@ pub record IsKeptFile (sound : Bool) (now : Contents) (limit : ℕ) (f : File) (
   pub used : use_of f ≤ f.limits.log_records
   pub begun : f.begun ≤ f.limits.begins
   pub opens : (t : ℕ) → IsTrue (open_of f t) → (0 < t) × (t ≤ f.begun)
-  pub depths : (t : ℕ) → length (places_of (tx_of f t)) ≤ 32
+  pub depths : (t : ℕ) → length (places_of (tx_of f t)) ≤ most_savepoints

@@ -6,7 +6,7 @@ use Rattle.std.specs.FinMap as maps
 use Rattle.rec_types.specs.History.{Change, live_from, take_back, take_newest, own_count}
 use Rattle.rec_types.specs.declared.transactions.TxId.{TxId}
 use Rattle.rec_types.specs.declared.transactions.Entry.{Entry}
-use Rattle.tx_log.specs.Transactions.{Transactions, Tx, Rollback, fresh, place_in, depth_of}
+use Rattle.tx_log.specs.Transactions.{Transactions, Tx, Rollback, fresh, place_in, depth_of, most_savepoints}
 use Rattle.tx_log.specs.Owners.{owner_of, keys_owned}
 use Rattle.tx_log.specs.LogState.{active_with, rolling_to, places_of, finished}
 use Rattle.tx_log.specs.declared.phases.Phase.{Phase}
@@ -141,7 +141,7 @@ places_at f t = places_of (tx_of f t)
 abbrev pub savepoint_in : ℕ → Option Phase → Option SavepointFault
 savepoint_in depth None = Some savepoint_faults.NoSuchTx
 savepoint_in depth (Some (phases.Rolling ends)) = Some savepoint_faults.Rolling
-savepoint_in depth (Some phases.Active) = if nat_lt depth 32 then None else Some savepoint_faults.TooDeep
+savepoint_in depth (Some phases.Active) = if nat_lt depth most_savepoints then None else Some savepoint_faults.TooDeep
 
 abbrev pub savepoint_refusal : File → ℕ → Option SavepointFault
 savepoint_refusal f t = savepoint_in (depth_of (tx_of f t)) (phase_at f t)

@@ -16,14 +16,13 @@ use crate::faults::{
 use rec_types::{Entry, Key, Limits, Memory, Record, Table, TableFault, TxId};
 use std::alloc::Global;
 use std::marker::Model;
-use tx_log::{BeginFault, LogRecord, Phase, TxLog};
+use tx_log::{BeginFault, LogRecord, MOST_SAVEPOINTS, Phase, TxLog};
 
 /// Transactions over a table. Contracts see the table itself and the abstract file.
 #[derive(Drop)]
 pub struct RecordFile<T: Table> {
     table: T,
     log: TxLog,
-    limits: Limits,
 }
 
 /// A file some of whose transactions haven't ended, and how many.
@@ -40,22 +39,30 @@ impl<T: Table> Model for RecordFile<T> {
 
     ghost coded = { coded_open_file T.code };
 
-    ghost view = { λ f. record { table = f.table; file = file_of f.log (T.contents f.table); log = f.log.records } };
+    ghost view = { λ f. record {
+      table = f.table;
+      file = file_of f.log (T.contents f.table);
+      log = f.log.records;
+    } };
 
-    ghost invariant = { λ f. IsRecordFile (T.sound f.table) (T.contents f.table) (T.record_limit f.table) f.log f.limits };
+    ghost invariant = { λ f.
+        IsRecordFile (T.sound f.table) (T.contents f.table) (T.record_limit f.table) f.log };
 }
 
 impl<T: Table> RecordFile<T> {
     /// A file over the table, in which nothing was begun. It takes no memory.
     pub fn new(alloc: Global, table: T, limits: Limits) -> RecordFile<T>
         requires { T.record_limit table ≡ limits.records }
-        ensures { result ≡ record { table = table; file = new_file (T.contents table) limits; log = [] } }
+        ensures { result ≡ record {
+          table = table;
+          file = new_file (T.contents table) limits;
+          log = [];
+        } }
     {
         let _count = table.count();
         RecordFile {
             table,
             log: TxLog::new(alloc, limits),
-            limits,
         }
     }
 
@@ -65,7 +72,6 @@ impl<T: Table> RecordFile<T> {
         ensures table { self.new.table ≡ self.old.table }
         ensures log { self.new.log ≡ self.old.log }
     {
-        let _begun = self.log.begun();
         self.log.begin()
     }
 
@@ -101,7 +107,6 @@ impl<T: Table> RecordFile<T> {
         if self.is_full(&key)? {
             return Err(PutFault::Full);
         }
-        let _begun = self.log.begun();
         self.log.reserve(&key)?; // Nothing is put that the log has no room for.
         let before = self.table.set(key, Some(value))?;
         let told = before.as_ref().copied();
@@ -141,7 +146,6 @@ impl<T: Table> RecordFile<T> {
         if self.table.get(&key)?.is_none() {
             return Err(RemoveFault::Absent);
         }
-        let _begun = self.log.begun();
         self.log.reserve(&key)?;
         match self.table.set(key, None)? {
             Some(taken) => {
@@ -188,12 +192,11 @@ impl<T: Table> RecordFile<T> {
         ensures table { self.new.table ≡ self.old.table }
         ensures log { self.new.log ≡ self.old.log }
     {
-        let _begun = self.log.begun();
         match self.log.phase(tx) {
             None => Err(SavepointFault::NoSuchTx),
             Some(Phase::Rolling { .. }) => Err(SavepointFault::Rolling),
             Some(Phase::Active) => {
-                if self.log.depth(tx) >= 32 {
+                if self.log.depth(tx) as usize >= MOST_SAVEPOINTS {
                     return Err(SavepointFault::TooDeep);
                 }
                 Ok(self.log.savepoint(tx))
@@ -207,7 +210,6 @@ impl<T: Table> RecordFile<T> {
         ensures table { self.new.table ≡ self.old.table }
         ensures log { self.new.log ≡ self.old.log }
     {
-        let _begun = self.log.begun();
         match self.log.phase(tx) {
             None => Err(ReleaseFault::NoSuchTx),
             Some(Phase::Rolling { .. }) => Err(ReleaseFault::Rolling),
@@ -227,7 +229,6 @@ impl<T: Table> RecordFile<T> {
         ensures table { self.new.table ≡ self.old.table }
         ensures log { self.new.log ≡ self.old.log }
     {
-        let _begun = self.log.begun();
         match self.log.phase(tx) {
             None => Err(CommitFault::NoSuchTx),
             Some(Phase::Rolling { .. }) => Err(CommitFault::Rolling),
@@ -422,7 +423,6 @@ impl<T: Table> RecordFile<T> {
         ensures kept { IsKeptFile (T.sound self.now.table) (T.contents self.now.table)
             (T.record_limit self.now.table) self.now.file self.now.log }
     {
-        let _limits = &self.limits;
         self.log.begun()
     }
 
@@ -452,7 +452,6 @@ impl<T: Table> RecordFile<T> {
     pub fn charged(&self) -> u64
         ensures { IsTrue (T.sound self.now.table) → result ≡ maps.len (charged_of self.now.file) }
     {
-        let _begun = self.log.begun();
         u64::from(self.table.count()) + u64::from(self.log.absent_owned())
     }
 
@@ -477,7 +476,8 @@ impl<T: Table> RecordFile<T> {
     /// haven't. It takes no memory.
     pub fn into_table(self) -> Result<T, StillOpen<T>>
         ensures ended { maps.len self.file.txs ≡ 0 → result ≡ Ok self.table }
-        ensures still_open { maps.len self.file.txs ≢ 0 → result ≡ Err (record { file = self; count = maps.len self.file.txs }) }
+        ensures still_open { maps.len self.file.txs ≢ 0
+            → result ≡ Err (record { file = self; count = maps.len self.file.txs }) }
     {
         let count = self.log.open_count();
         if count == 0 {
@@ -506,7 +506,7 @@ impl<T: Table> RecordFile<T> {
         ensures damages { T.damages self.new.table
             ≡ damaged_by (T.damages self.old.table) result }
     {
-        if self.charged() < u64::from(self.limits.records()) {
+        if self.charged() < u64::from(self.table.limit()) {
             return Ok(false);
         }
         if self.log.owner(key).is_some() {
@@ -520,11 +520,12 @@ impl<T: Table> RecordFile<T> {
         requires active { phase_at self.old.file tx.0 ≡ Some Phase.Active }
         requires within { n ≤ depth_of (tx_of self.old.file tx.0) }
         requires whole { IsTrue ends → n ≡ 0 }
-        ensures file { self.new.file ≡ record self.old.file { txs = maps.insert self.old.file.txs tx.0 (rolling_to (places_at self.old.file tx.0) n ends) } }
+        ensures file { self.new.file ≡ record self.old.file {
+          txs = maps.insert self.old.file.txs tx.0 (rolling_to (places_at self.old.file tx.0) n ends);
+        } }
         ensures table { self.new.table ≡ self.old.table }
         ensures log { self.new.log ≡ self.old.log }
     {
-        let _begun = self.log.begun();
         self.log.start_rollback(tx, n, ends);
     }
 
@@ -571,11 +572,12 @@ impl<T: Table> RecordFile<T> {
     fn finish(&mut self, tx: TxId)
         requires rolling { IsRolling (phase_at self.old.file tx.0) }
         requires done { left_in self.old.file.history tx.0 (tx_of self.old.file tx.0) ≡ 0 }
-        ensures file { self.new.file ≡ record self.old.file { txs = finished self.old.file.txs tx.0 (tx_of self.old.file tx.0) } }
+        ensures file { self.new.file ≡ record self.old.file {
+          txs = finished self.old.file.txs tx.0 (tx_of self.old.file tx.0);
+        } }
         ensures table { self.new.table ≡ self.old.table }
         ensures log { self.new.log ≡ self.old.log }
     {
-        let _begun = self.log.begun();
         self.log.finish(tx);
     }
 
@@ -601,10 +603,7 @@ impl<T: Table> RecordFile<T> {
         ensures damages { TellsDamage (T.damages self.old.table) (step_cause result)
             (T.damages self.new.table) }
     {
-        let _begun = self.log.begun();
-        let Some(step) = self.log.next_undo(tx) else {
-            unreachable!()
-        };
+        let step = self.log.next_undo(tx).unwrap();
         match self.table.set(step.key, step.before) {
             Ok(_) => {
                 let _lsn = self.log.compensate(tx);
@@ -679,7 +678,8 @@ impl<T: Table> RecordFile<T> {
 
 // The records, each with the transaction that owns its key. Fault: Memory.
 fn with_owners(alloc: Global, log: &TxLog, records: &[(Key, Record)]) -> Result<Vec<Entry>, Memory>
-    ensures { IfOk result (λ entries. entries.items ≡ map (entry_with (open_in log.now) (history_in log.now)) records.now) }
+    ensures { IfOk result (λ entries. entries.items
+        ≡ map (entry_with (open_in log.now) (history_in log.now)) records.now) }
 {
     let Ok(mut entries) = Vec::with_capacity(alloc, records.len()) else {
         return Err(Memory);

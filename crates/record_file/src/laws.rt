@@ -19,7 +19,9 @@ pub fn runs()
         → old.file ≡ new_file maps.empty limits
         → (tx : TxId) → tx.0 ≡ 1
         → Run old (record { called = Begin (Ok tx); failed = false; refused = false } ∷ [])
-        (record old { file = record old.file { begun = 1; txs = maps.insert maps.empty 1 fresh } }) }
+        (record old {
+          file = record old.file { begun = 1; txs = maps.insert maps.empty 1 fresh };
+        }) }
     ensures room { (old new : Seen) (limits : Bounds) (tx : TxId) (key value : List ℕ)
         → (failed refused also_failed also_refused : Bool)
         → IsTrue old.sound → old.failures ≡ 0 → 1 ≤ limits.records

@@ -25,7 +25,7 @@ use Rattle.tx_log.specs.LogState.{IsRolling, phase_of, places_of, active_with, f
 use Rattle.tx_log.specs.Owners.{absence}
 use Rattle.tx_log.specs.Places.{place_at}
 use Rattle.tx_log.specs.Stages.{phase_at, ends_at, rollback_at, txs_of, tx_at, opens}
-use Rattle.tx_log.specs.Transactions.{Transactions, Tx, fresh}
+use Rattle.tx_log.specs.Transactions.{Transactions, Tx, fresh, most_savepoints}
 use Rattle.tx_log.specs.declared.log_records.LogRecord.{LogRecord}
 use Rattle.tx_log.specs.declared.opened.OpenTx.{OpenTx}
 use Rattle.tx_log.specs.declared.opened.Stage.{Stage}
@@ -122,7 +122,7 @@ begun_kept rs es es_new begun pending gone_keys new kept pushed number last live
       absent_keys = absent_none ∙ sym no_keys;
       removals = removals_none ∙ sym (ap (λ us. length (filter removes us)) nothing.1);
       saves = subst (AllUpTo (length rs)) (sym saves) tt;
-      depth = subst (λ (ss : List ℕ). length ss ≤ 32) (sym saves) (omega arith);
+      depth = subst (λ (ss : List ℕ). length ss ≤ most_savepoints) (sym saves) (omega arith);
       stage = subst (StageUpTo (length rs)) (sym stage) tt;
       some = omega arith;
       begun = omega arith;

@@ -1,10 +1,10 @@
 -- What a kept log says of a transaction, of its state and of the sizes of its counts.
-use Rattle.std.proofs.Common.{◌≡◌, ℕ, suc, ◌+◌, ◌<◌, ◌≤◌, Bool, true, false, cond, not, eqb, List, [], ◌∷◌, length, map, drop, get_or, Option, Some, None, option_map, is_some, IsSome, refl, sym, ap, subst, ◌∙◌, arith, length-drop}
+use Rattle.std.proofs.Common.{◌≡◌, ℕ, suc, ◌+◌, ◌<◌, ◌≤◌, Bool, true, false, cond, not, eqb, List, [], ◌∷◌, length, map, reverse, drop, get_or, Option, Some, None, option_map, is_some, IsSome, refl, sym, ap, subst, ◌∙◌, arith, length-drop}
 use Rattle.std.specs.FinMap as maps
 use Rattle.std.specs.List.{find, filter}
 use Rattle.std.specs.Cmp.Lexicographic.{slice_cmp}
 use Rattle.std.specs.Ordering.{nat_cmp}
-use Rattle.std.proofs.lemmas.List.{length-map}
+use Rattle.std.proofs.lemmas.List.{length-map, length-reverse}
 use Rattle.rec_types.specs.Contents.{Contents, set_to, has}
 use Rattle.rec_types.specs.History.{Change, is_pending, log_len, log_use, replay}
 use Rattle.rec_types.specs.Kept.{Kept, history_of, IsOwned, AllBegun}
@@ -21,15 +21,16 @@ use Rattle.tx_log.specs.declared.walks.LiveChange.{LiveChange}
 use Rattle.tx_log.specs.Finds.{find_tx, IsFirst}
 use Rattle.tx_log.specs.Fits.{AllFit}
 use Rattle.tx_log.specs.Log.{removes, tx_of, key_of, new_of, kept_of, stepped, stack, chain, noted, AllWritten}
-use Rattle.tx_log.specs.LogFields.{IsKept}
+use Rattle.tx_log.specs.LogFields.{state_of, IsKept, IsTxLog}
 use Rattle.tx_log.specs.LogState.{LogState, phase_of, open_in, use_in, places_of, IsLog}
 use Rattle.tx_log.specs.Owners.{holder_of, absence}
 use Rattle.tx_log.specs.Places.{place_at}
 use Rattle.tx_log.specs.Stages.{rollback_at, tx_at, txs_of, opens}
-use Rattle.tx_log.specs.Transactions.{Tx, Transactions, is_open}
+use Rattle.tx_log.specs.Transactions.{Tx, Transactions, is_open, most_savepoints}
 use Rattle.tx_log.specs.Walks.{change_in, is_at, takes_out}
 use Rattle.tx_log.specs.declared.log_records.LogRecord.{LogRecord}
 use Rattle.tx_log.specs.declared.log_records.LogRecord.TheVariants.{Update, Compensation}
+use Rattle.tx_log.specs.declared.logs.TxLog.TheInside.{Inside}
 use Rattle.tx_log.specs.declared.opened.OpenTx.{OpenTx}
 use Rattle.tx_log.specs.declared.opened.Stage.{Stage}
 use Rattle.tx_log.specs.declared.opened.Stage.TheVariants.{Forward, Back}
@@ -180,10 +181,10 @@ state_use rs es begun pending gone_keys kept =
     ap (λ (o : ℕ → Bool). log_use o (history_of (kept_of rs))) (opens_is (kept_of rs) es)
     ∙ (let n = log_len_is rs kept.written in let p = kept.pending_is in omega arith)
 
-depth_found : (rs : List LogRecord) (n t : ℕ) (es : List OpenTx) → AllFit rs n es → length (places_of (maps.get (txs_of (kept_of rs) es) t)) ≤ 32
-depth_found rs n t es fit = subst (λ (o : Option Tx). length (places_of o) ≤ 32) (sym (get-txs_of (kept_of rs) es t)) (depth_case (find_tx t es) refl)
+depth_found : (rs : List LogRecord) (n t : ℕ) (es : List OpenTx) → AllFit rs n es → length (places_of (maps.get (txs_of (kept_of rs) es) t)) ≤ most_savepoints
+depth_found rs n t es fit = subst (λ (o : Option Tx). length (places_of o) ≤ most_savepoints) (sym (get-txs_of (kept_of rs) es t)) (depth_case (find_tx t es) refl)
   where
-    depth_case : (o : Option OpenTx) → find_tx t es ≡ o → length (places_of (option_map (tx_at (kept_of rs)) o)) ≤ 32
+    depth_case : (o : Option OpenTx) → find_tx t es ≡ o → length (places_of (option_map (tx_at (kept_of rs)) o)) ≤ most_savepoints
     depth_case None f = omega arith
     depth_case (Some e) f = let low = (found_fits rs n t es e fit f).depth in omega (arith, length-map e.saves.items (λ s. place_at e.tx.0 s (kept_of rs)))
 
@@ -197,8 +198,13 @@ is_log s rs es pending gone_keys kept fits within cs_is txs_is =
       owned = subst (λ (o : ℕ → Bool). IsOwned o s.changes) (sym opened) (subst (IsOwned (opens es)) (sym cs_is) kept.owned);
       fits = omega arith;
       bounded = within;
-      depths = λ t. subst (λ (m : Transactions). length (places_of (maps.get m t)) ≤ 32) (sym txs_is) (depth_found rs s.begun t es kept.fit);
+      depths = λ t. subst (λ (m : Transactions). length (places_of (maps.get m t)) ≤ most_savepoints) (sym txs_is) (depth_found rs s.begun t es kept.fit);
     }
+
+-- what the fields of a log say of it
+pub kept_now : (l : Inside) → IsTxLog l → (s : LogState) → state_of l ≡ s → IsLog s
+kept_now l is s view =
+    subst IsLog view (is_log _ (reverse l.records.items) l.txs.items l.pending l.gone is.log_kept (omega (arith, is.roomy.fits, length-reverse l.records.items, l.records.ok.0)) is.roomy.within refl refl)
 
 -- ---- a count that was made again
 

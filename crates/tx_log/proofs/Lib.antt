@@ -19,3 +19,4 @@ pub mod StateFacts
 pub mod StepFacts
 pub mod WalkSteps
 pub mod OpenCount
+pub mod RemainingFacts

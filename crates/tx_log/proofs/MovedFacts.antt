@@ -19,7 +19,7 @@ use Rattle.tx_log.specs.LogFields.{IsKept}
 use Rattle.tx_log.specs.LogState.{places_of, places_in}
 use Rattle.tx_log.specs.Places.{place_at}
 use Rattle.tx_log.specs.Stages.{rollback_at, tx_at, txs_of}
-use Rattle.tx_log.specs.Transactions.{Tx, place_in}
+use Rattle.tx_log.specs.Transactions.{Tx, place_in, most_savepoints}
 use Rattle.tx_log.specs.declared.log_records.LogRecord.{LogRecord}
 use Rattle.tx_log.specs.declared.opened.OpenTx.{OpenTx}
 use Rattle.tx_log.specs.declared.opened.Stage.{Stage}
@@ -31,7 +31,7 @@ moved e s ss = record e { stage = s; saves = record { items = ss } }
 
 pub record IsMove (rs : List LogRecord) (s : Stage) (ss : List ℕ) : Type 0 where
   pub saves : AllUpTo (length rs) ss
-  pub depth : length ss ≤ 32
+  pub depth : length ss ≤ most_savepoints
   pub stage : StageUpTo (length rs) s
 
 moved_fits : (rs : List LogRecord) (n : ℕ) (e : OpenTx) (s : Stage) (ss : List ℕ) → FitsTx rs n e → IsMove rs s ss → FitsTx rs n (moved e s ss)

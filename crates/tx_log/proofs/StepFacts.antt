@@ -6,6 +6,7 @@ use Rattle.rec_types.specs.Contents.{Contents, set_to, has}
 use Rattle.rec_types.specs.History.{is_pending}
 use Rattle.rec_types.specs.Kept.{Kept, change_of, newest_live, undone, IsOwned, AllBegun}
 use Rattle.rec_types.specs.declared.transactions.TxId.{TxId}
+use Rattle.tx_log.specs.Transactions.{most_savepoints}
 use Rattle.tx_log.proofs.AbsentFacts.{only, without, absent_in, absent-push, absent-push_other, absent-undone_other, absent-parts, absent_is_gone, gone, lacks, has-gone, len-set_to, lack}
 use Rattle.tx_log.proofs.Chains.{last_of-le, chain_is_stack}
 use Rattle.tx_log.proofs.Counts.{count, count-push, pending-undone, newest_of_stack}
@@ -77,7 +78,7 @@ grow_own r rs n e new fits step =
       absent_keys = step.absent_keys ∙ ap (λ (k : ℕ). maps.len (absent_in (only k) (kept_of (r ∷ rs)))) (sym at);
       removals = step.removals ∙ ap (λ (k : ℕ). length (filter removes (stepped r (stack k rs)))) (sym at) ∙ sym (ap (λ (b : Bool). length (filter removes (cond b (stepped r (stack new.tx.0 rs)) (stack new.tx.0 rs)))) (here new.tx.0 at));
       saves = subst (AllUpTo (suc (length rs))) (sym step.saves) (up_to_more (length rs) e.saves.items fits.saves);
-      depth = subst (λ (ss : List ℕ). length ss ≤ 32) (sym step.saves) fits.depth;
+      depth = subst (λ (ss : List ℕ). length ss ≤ most_savepoints) (sym step.saves) fits.depth;
       stage = subst (StageUpTo (suc (length rs))) (sym step.stage) (stage_more (length rs) e.stage fits.stage);
       some = subst (λ (k : ℕ). 0 < k) (sym at) fits.some;
       begun = subst (λ (k : ℕ). k ≤ n) (sym at) fits.begun;

@@ -6,6 +6,7 @@ use Rattle.rec_types.specs.Kept.{history_of}
 use Rattle.tx_log.specs.Log.{tx_of, removes, last_of, stack, kept_of}
 use Rattle.tx_log.specs.Owners.{absent}
 use Rattle.tx_log.specs.Finds.{find_tx}
+use Rattle.tx_log.specs.Transactions.{most_savepoints}
 use Rattle.tx_log.specs.declared.log_records.LogRecord.{LogRecord}
 use Rattle.tx_log.specs.declared.opened.OpenTx.{OpenTx}
 use Rattle.tx_log.specs.declared.opened.Stage.{Stage}
@@ -31,7 +32,7 @@ pub record FitsTx (rs : List LogRecord) (n : ℕ) (e : OpenTx) : Type 0 where
   pub absent_keys : e.absent ≡ maps.len (absent (λ u. u == e.tx.0) (history_of (kept_of rs)))
   pub removals : e.removals ≡ length (filter removes (stack e.tx.0 rs))
   pub saves : AllUpTo (length rs) e.saves.items
-  pub depth : length e.saves.items ≤ 32
+  pub depth : length e.saves.items ≤ most_savepoints
   pub stage : StageUpTo (length rs) e.stage
   pub some : 0 < e.tx.0
   pub begun : e.tx.0 ≤ n

@@ -11,3 +11,4 @@ pub mod Places
 pub mod Stages
 pub mod Transactions
 pub mod Walks
+pub mod Remaining

@@ -4,7 +4,7 @@ use Rattle.std.specs.Vec.{vec_capacity}
 use Rattle.std.specs.FinMap as maps
 use Rattle.rec_types.specs.History.{is_pending}
 use Rattle.rec_types.specs.Kept.{history_of, IsOwned, AllBegun}
-use Rattle.rec_types.specs.LimitBounds.{Bounds}
+use Rattle.rec_types.specs.LimitBounds.{Bounds, most_log_records, most_begins}
 use Rattle.tx_log.specs.Fits.{AllFit, AllKnown}
 use Rattle.tx_log.specs.Log.{kept_of, IsNumbered, AllWritten}
 use Rattle.tx_log.specs.LogState.{LogState}
@@ -37,9 +37,9 @@ pub record IsKept (rs : List LogRecord) (es : List OpenTx) (begun pending gone :
 
 pub record IsRoomy (length pending capacity begun : ℕ) (limits : Bounds) (room : Option (List ℕ)) : Type 0 where
   pub fits : length + pending ≤ limits.log_records
-  pub most_records : limits.log_records ≤ 4000000
+  pub most_records : limits.log_records ≤ most_log_records
   pub within : begun ≤ limits.begins
-  pub most_begins : limits.begins ≤ 1000000
+  pub most_begins : limits.begins ≤ most_begins
   pub held : length + pending ≤ capacity
   pub spare : IfSome room (λ _. length + pending + 2 ≤ capacity)
 

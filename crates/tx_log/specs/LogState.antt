@@ -1,16 +1,16 @@
 -- What a log of transactions stands for.
-use Rattle.std.specs.Prelude.{ℕ, ◌+◌, ◌<◌, ◌≤◌, Bool, if◌then◌else◌, List, [], ◌∷◌, length, take, reverse, Option, Some, None, option_map, refl, IsTrue}
+use Rattle.std.specs.Prelude.{ℕ, ◌+◌, ◌<◌, ◌≤◌, Bool, true, if◌then◌else◌, List, [], ◌∷◌, ◌++◌, length, take, reverse, Option, Some, None, option_map, refl, IsTrue}
 use Rattle.std.specs.Coded.{Coded, code_by, coded×, coded_ℕ, coded_bool, coded_list, coded_option}
 use Rattle.std.specs.FinMap as maps
 use Rattle.rec_types.specs.LimitBounds.{Bounds, coded_bounds}
-use Rattle.rec_types.specs.History.{Change, log_use}
-use Rattle.rec_types.specs.Kept.{Kept, history_of, newest_from, IsOwned, AllBegun}
+use Rattle.rec_types.specs.History.{Change, log_len, log_use}
+use Rattle.rec_types.specs.Kept.{Kept, history_of, newest_from, undone, IsOwned, AllBegun}
 use Rattle.rec_types.specs.declared.transactions.TxId.{TxId}
 use Rattle.tx_log.specs.Log.{prev_of, record_at, last_of}
 use Rattle.tx_log.specs.LogCode.{coded_log_record}
 use Rattle.tx_log.specs.declared.log_records.LogRecord.{LogRecord}
 use Rattle.tx_log.specs.declared.log_records.LogRecord.TheVariants.{Update, Compensation}
-use Rattle.tx_log.specs.Transactions.{Transactions, Tx, Rollback, coded_transactions, is_open, place_in}
+use Rattle.tx_log.specs.Transactions.{Transactions, Tx, Rollback, coded_transactions, is_open, place_in, most_savepoints}
 use Rattle.tx_log.specs.declared.phases.Phase.{Phase}
 use Rattle.tx_log.specs.declared.phases.Phase.TheVariants.{Active, Rolling}
 use Rattle.tx_log.specs.declared.phases.UndoStep.{UndoStep}
@@ -102,6 +102,22 @@ places_of (Some tx) = tx.places
 abbrev pub places_in : LogState → ℕ → List ℕ
 places_in s t = places_of (tx_in s t)
 
+-- with these open transactions; the room is gone
+abbrev pub with_txs : LogState → Transactions → LogState
+with_txs s txs = record s { txs = txs; room = None }
+
+-- with one more change, live, and its record; the room is gone
+abbrev pub with_update : LogState → TxId → List ℕ → Option (List ℕ) → Option (List ℕ) → LogState
+with_update s tx key before after = record s {
+  records = s.records ++ update_in s tx key before after ∷ [];
+  changes = s.changes ++ record { lsn = log_len (history_in s) + 1; tx = tx.0; key = key; before = before; after = after; live = true } ∷ [];
+  room = None;
+}
+
+-- without the change that a rollback under way takes back next, and with its compensation; the room is gone
+abbrev pub with_compensation : LogState → TxId → LogState
+with_compensation s tx = record s { records = s.records ++ compensations_in s tx; changes = undone tx.0 s.changes; room = None }
+
 abbrev pub active_with : List ℕ → Tx
 active_with places = record { rollback = None; places = places }
 
@@ -131,4 +147,4 @@ pub record IsLog (s : LogState) : Type 0 where
   pub owned : IsOwned (open_in s) s.changes
   pub fits : use_in s ≤ s.limits.log_records
   pub bounded : s.begun ≤ s.limits.begins
-  pub depths : (t : ℕ) → length (places_in s t) ≤ 32
+  pub depths : (t : ℕ) → length (places_in s t) ≤ most_savepoints

@@ -36,6 +36,10 @@ is_open txs t = maps.contains_key txs t
 abbrev pub fresh : Tx
 fresh = record { rollback = None; places = [] }
 
+-- the greatest number of savepoints of a transaction
+abbrev pub most_savepoints : ℕ
+most_savepoints = 32
+
 -- the place of savepoint n, and the beginning for 0
 abbrev pub place_in : List ℕ → ℕ → ℕ
 place_in places zero = 0

@@ -12,4 +12,5 @@ mod walks;
 
 pub use log_records::LogRecord;
 pub use logs::TxLog;
+pub use opened::MOST_SAVEPOINTS;
 pub use phases::{BeginFault, Phase, UndoStep};

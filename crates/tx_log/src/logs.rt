@@ -1,12 +1,11 @@
-ghost use Rattle.std.specs.Prelude.{◌≡◌, ℕ, ◌+◌, ◌-◌, ◌<◌, ◌≤◌, ◌↔◌, true, [], ◌∷◌, ◌++◌, take, option_map, IfOk, OnOk, OnErr, IsTrue, IsSome};
+ghost use Rattle.std.specs.Prelude.{◌≡◌, ℕ, ◌+◌, ◌-◌, ◌<◌, ◌≤◌, ◌↔◌, [], ◌∷◌, ◌++◌, take, option_map, IfOk, OnOk, OnErr, IsTrue, IsSome};
 ghost use Rattle.std.specs.FinMap as maps;
 ghost use Rattle.rec_types.specs.History.{log_len, own_count};
-ghost use Rattle.rec_types.specs.Kept.{undone};
 ghost use Rattle.tx_log.specs.Log.{record_at};
 ghost use Rattle.tx_log.specs.LogLaws.{IsChained};
-ghost use Rattle.tx_log.specs.Transactions.{depth_of, live_in, left_in, fresh};
+ghost use Rattle.tx_log.specs.Transactions.{depth_of, live_in, left_in, fresh, most_savepoints};
 ghost use Rattle.tx_log.specs.Owners.{owner_of, holder_of, keys_owned, absent};
-ghost use Rattle.tx_log.specs.LogState.{new_log, history_in, open_in, tx_in, use_in, phase_in, undo_in, undo_step, places_in, active_with, rolling_to, finished, update_in, compensations_in, IsRolling, IsLog};
+ghost use Rattle.tx_log.specs.LogState.{new_log, history_in, open_in, tx_in, use_in, phase_in, undo_in, undo_step, places_in, active_with, rolling_to, finished, with_txs, with_update, with_compensation, IsRolling, IsLog};
 
 use crate::opened::{OpenTx, Stage, find_open, place_of, recount};
 use crate::walks::{
@@ -81,7 +80,7 @@ impl TxLog {
     /// How many savepoints the transaction has, and 0 where it isn't open.
     pub fn depth(&self, tx: TxId) -> u32
         ensures value { result ≡ depth_of (tx_in self.now tx.0) }
-        ensures most { result ≤ 32 }
+        ensures most { result ≤ most_savepoints }
     {
         match find_open(&self.txs, tx) {
             Some(open_tx) => open_tx.saves.len() as u32,
@@ -114,7 +113,8 @@ impl TxLog {
 
     /// The open transaction that owns the key.
     pub fn owner(&self, key: &Key) -> Option<TxId>
-        ensures { option_map (λ t. t.0) result ≡ owner_of (open_in self.now) (history_in self.now) key.now }
+        ensures { option_map (λ t. t.0) result
+            ≡ owner_of (open_in self.now) (history_in self.now) key.now }
     {
         for open_tx in &self.txs {
             if find_change(&self.records, open_tx.last, key).is_some() {
@@ -126,7 +126,8 @@ impl TxLog {
 
     /// How many owned keys have no record now.
     pub fn absent_owned(&self) -> u32
-        ensures { result ≡ maps.len (absent (open_in self.now) (history_in self.now)) }
+        ensures value { result ≡ maps.len (absent (open_in self.now) (history_in self.now)) }
+        ensures kept { IsLog self.now }
     {
         self.gone
     }
@@ -201,7 +202,8 @@ impl TxLog {
 
     /// The keys that the transaction owns, in order. Fault: Memory.
     pub fn keys_of(&self, tx: TxId) -> Result<Vec<Key>, Memory>
-        ensures { IfOk result (λ keys. keys.items ≡ keys_owned (open_in self.now) (history_in self.now) tx.0) }
+        ensures { IfOk result
+            (λ keys. keys.items ≡ keys_owned (open_in self.now) (history_in self.now) tx.0) }
     {
         let Some(open_tx) = find_open(&self.txs, tx) else {
             return Ok(Vec::new(self.alloc));
@@ -216,10 +218,17 @@ impl TxLog {
     /// Faults: BeginsSpent, Memory. A fault leaves everything but the room unchanged.
     pub fn begin(&mut self) -> Result<TxId, BeginFault>
         ensures number { IfOk result (λ tx. tx.0 ≡ self.old.begun + 1) }
-        ensures ok { OnOk result (self.new ≡ record self.old { begun = self.old.begun + 1; txs = maps.insert self.old.txs (self.old.begun + 1) fresh; room = None }) }
-        ensures spent { result ≡ Err BeginFault.BeginsSpent → self.old.limits.begins ≤ self.old.begun }
-        ensures spent_always { self.old.limits.begins ≤ self.old.begun → result ≡ Err BeginFault.BeginsSpent }
+        ensures ok { OnOk result (self.new ≡ record self.old {
+          begun = self.old.begun + 1;
+          txs = maps.insert self.old.txs (self.old.begun + 1) fresh;
+          room = None;
+        }) }
+        ensures spent { result ≡ Err BeginFault.BeginsSpent
+            → self.old.limits.begins ≤ self.old.begun }
+        ensures spent_always { self.old.limits.begins ≤ self.old.begun
+            → result ≡ Err BeginFault.BeginsSpent }
         ensures err { OnErr result (self.new ≡ record self.old { room = None }) }
+        ensures kept { IsLog self.old }
     {
         let most = self.limits.begins();
         self.room = None;
@@ -239,6 +248,7 @@ impl TxLog {
     pub fn reserve(&mut self, key: &Key) -> Result<(), Memory>
         ensures ok { OnOk result (self.new ≡ record self.old { room = Some key.now }) }
         ensures err { OnErr result (self.new ≡ record self.old { room = None }) }
+        ensures kept { IsLog self.old }
     {
         self.room = None;
         let needed = self.pending as usize + 2;
@@ -262,7 +272,7 @@ impl TxLog {
         requires fits { use_in self.old + 2 ≤ self.old.limits.log_records }
         requires room { self.old.room ≡ Some key }
         ensures lsn { result ≡ log_len (history_in self.old) + 1 }
-        ensures after { self.new ≡ record self.old { records = self.old.records ++ update_in self.old tx key before after ∷ []; changes = self.old.changes ++ record { lsn = log_len (history_in self.old) + 1; tx = tx.0; key = key; before = before; after = after; live = true } ∷ []; room = None } }
+        ensures after { self.new ≡ with_update self.old tx key before after }
     {
         let at = place_of(&self.txs, tx);
         let prev = self.txs[at].last;
@@ -295,7 +305,9 @@ impl TxLog {
         requires active { phase_in self.old tx.0 ≡ Some Phase.Active }
         requires within { n ≤ depth_of (tx_in self.old tx.0) }
         requires whole { IsTrue ends → n ≡ 0 }
-        ensures { self.new ≡ record self.old { txs = maps.insert self.old.txs tx.0 (rolling_to (places_in self.old tx.0) n ends); room = None } }
+        ensures after { self.new ≡ with_txs self.old
+            (maps.insert self.old.txs tx.0 (rolling_to (places_in self.old tx.0) n ends)) }
+        ensures kept { IsLog self.old }
     {
         let at = place_of(&self.txs, tx);
         self.room = None;
@@ -308,7 +320,8 @@ impl TxLog {
     pub fn compensate(&mut self, tx: TxId) -> u32
         requires { IsSome (undo_in self.old tx.0) }
         ensures lsn { result ≡ log_len (history_in self.old) + 1 }
-        ensures after { self.new ≡ record self.old { records = self.old.records ++ compensations_in self.old tx; changes = undone tx.0 self.old.changes; room = None } }
+        ensures after { self.new ≡ with_compensation self.old tx }
+        ensures kept { IsLog self.old }
     {
         let at = place_of(&self.txs, tx);
         let prev = self.txs[at].last;
@@ -343,7 +356,9 @@ impl TxLog {
     pub fn finish(&mut self, tx: TxId)
         requires rolling { IsRolling (phase_in self.old tx.0) }
         requires done { left_in (history_in self.old) tx.0 (tx_in self.old tx.0) ≡ 0 }
-        ensures { self.new ≡ record self.old { txs = finished self.old.txs tx.0 (tx_in self.old tx.0); room = None } }
+        ensures after { self.new ≡ with_txs self.old
+            (finished self.old.txs tx.0 (tx_in self.old tx.0)) }
+        ensures kept { IsLog self.old }
     {
         let at = place_of(&self.txs, tx);
         if self.txs[at].is_ending() {
@@ -356,9 +371,11 @@ impl TxLog {
     /// Sets a savepoint, and answers its number.
     pub fn savepoint(&mut self, tx: TxId) -> u32
         requires active { phase_in self.old tx.0 ≡ Some Phase.Active }
-        requires room { depth_of (tx_in self.old tx.0) < 32 }
+        requires room { depth_of (tx_in self.old tx.0) < most_savepoints }
         ensures number { result ≡ depth_of (tx_in self.old tx.0) + 1 }
-        ensures after { self.new ≡ record self.old { txs = maps.insert self.old.txs tx.0 (active_with (places_in self.old tx.0 ++ own_count (history_in self.old) tx.0 ∷ [])); room = None } }
+        ensures after { self.new ≡ with_txs self.old (maps.insert self.old.txs tx.0
+            (active_with (places_in self.old tx.0 ++ own_count (history_in self.old) tx.0 ∷ []))) }
+        ensures kept { IsLog self.old }
     {
         let at = place_of(&self.txs, tx);
         let number = self.txs[at].saves.len() as u32 + 1;
@@ -373,7 +390,9 @@ impl TxLog {
         requires active { phase_in self.old tx.0 ≡ Some Phase.Active }
         requires some { 0 < n }
         requires within { n ≤ depth_of (tx_in self.old tx.0) }
-        ensures { self.new ≡ record self.old { txs = maps.insert self.old.txs tx.0 (active_with (take (n - 1) (places_in self.old tx.0))); room = None } }
+        ensures after { self.new ≡ with_txs self.old
+            (maps.insert self.old.txs tx.0 (active_with (take (n - 1) (places_in self.old tx.0)))) }
+        ensures kept { IsLog self.old }
     {
         let at = place_of(&self.txs, tx);
         self.room = None;
@@ -384,7 +403,8 @@ impl TxLog {
     /// Ends an active transaction. Its live changes stay.
     pub fn end(&mut self, tx: TxId)
         requires { phase_in self.old tx.0 ≡ Some Phase.Active }
-        ensures { self.new ≡ record self.old { txs = maps.remove self.old.txs tx.0; room = None } }
+        ensures after { self.new ≡ with_txs self.old (maps.remove self.old.txs tx.0) }
+        ensures kept { IsLog self.old }
     {
         self.close(tx);
     }
@@ -392,7 +412,8 @@ impl TxLog {
     /// Takes the transaction out of the open ones.
     fn close(&mut self, tx: TxId)
         requires { IsSome (tx_in self.old tx.0) }
-        ensures { self.new ≡ record self.old { txs = maps.remove self.old.txs tx.0; room = None } }
+        ensures after { self.new ≡ with_txs self.old (maps.remove self.old.txs tx.0) }
+        ensures kept { IsLog self.old }
     {
         let at = place_of(&self.txs, tx);
         self.room = None;
@@ -404,7 +425,8 @@ impl TxLog {
     /// Makes the transaction active. Its savepoints stay.
     fn go_forward(&mut self, tx: TxId)
         requires { IsSome (tx_in self.old tx.0) }
-        ensures { self.new ≡ record self.old { txs = maps.insert self.old.txs tx.0 (active_with (places_in self.old tx.0)); room = None } }
+        ensures { self.new ≡ with_txs self.old
+            (maps.insert self.old.txs tx.0 (active_with (places_in self.old tx.0))) }
     {
         let at = place_of(&self.txs, tx);
         self.room = None;

@@ -1,12 +1,15 @@
 ghost use Rattle.std.specs.Prelude.{◌≡◌, ℕ, ◌+◌, ◌-◌, ◌<◌, ◌≤◌, [], ◌∷◌, ◌++◌, ◌==◌, length, take, option_map, IsSome, IsTrue, if◌then◌else◌};
 ghost use Rattle.std.specs.List.{position};
-ghost use Rattle.tx_log.specs.Transactions.{place_in};
+ghost use Rattle.tx_log.specs.Transactions.{place_in, most_savepoints};
 ghost use Rattle.tx_log.specs.Stages.{phase_at, ends_at};
 ghost use Rattle.tx_log.specs.Finds.{find_tx, IsFirst};
 
 use crate::Phase;
 use arrayvec::ArrayVec;
 use rec_types::TxId;
+
+/// How many savepoints a transaction has at most.
+pub const MOST_SAVEPOINTS: usize = 32;
 
 /// Which way a transaction goes.
 #[derive(Clone, Copy, Debug)]
@@ -30,13 +33,21 @@ pub struct OpenTx {
     /// How many of its live changes take their key out.
     pub removals: u32,
     /// What `last` was at each savepoint.
-    pub saves: ArrayVec<u32, 32>,
+    pub saves: ArrayVec<u32, MOST_SAVEPOINTS>,
 }
 
 impl OpenTx {
     /// A transaction without changes and savepoints.
     pub fn new(tx: TxId) -> OpenTx
-        ensures { result ≡ record { tx = tx; stage = Stage.Forward; last = 0; live = 0; absent = 0; removals = 0; saves = record { items = [] } } }
+        ensures { result ≡ record {
+          tx = tx;
+          stage = Stage.Forward;
+          last = 0;
+          live = 0;
+          absent = 0;
+          removals = 0;
+          saves = record { items = [] };
+        } }
     {
         OpenTx {
             tx,
@@ -71,8 +82,10 @@ impl OpenTx {
 
     /// Sets a savepoint.
     pub fn save(&mut self)
-        requires { length self.old.saves.items < 32 }
-        ensures { self.new ≡ record self.old { saves = record { items = self.old.saves.items ++ self.old.last ∷ [] } } }
+        requires { length self.old.saves.items < most_savepoints }
+        ensures { self.new ≡ record self.old {
+          saves = record { items = self.old.saves.items ++ self.old.last ∷ [] };
+        } }
     {
         let last = self.last;
         self.saves.push(last);
@@ -80,7 +93,9 @@ impl OpenTx {
 
     /// Keeps the first n savepoints.
     pub fn keep_saves(&mut self, n: u32)
-        ensures { self.new ≡ record self.old { saves = record { items = take n self.old.saves.items } } }
+        ensures { self.new ≡ record self.old {
+          saves = record { items = take n self.old.saves.items };
+        } }
     {
         self.saves.truncate(n as usize);
     }
@@ -88,7 +103,10 @@ impl OpenTx {
     /// Turns back to savepoint n, or to the beginning for 0, and drops the savepoints above it.
     pub fn turn_back(&mut self, n: u32, ends: bool)
         requires { n ≤ length self.old.saves.items }
-        ensures { self.new ≡ record self.old { stage = Stage.Back (place_in self.old.saves.items n) ends; saves = record { items = take n self.old.saves.items } } }
+        ensures { self.new ≡ record self.old {
+          stage = Stage.Back (place_in self.old.saves.items n) ends;
+          saves = record { items = take n self.old.saves.items };
+        } }
     {
         let to = if n == 0 {
             0

@@ -92,7 +92,8 @@ pub fn is_taken_out(log: &[LogRecord], from: u32, key: &Key, removals: u32) -> b
     requires numbered { IsNumbered (reverse log.now) }
     requires within { from ≤ length log.now }
     requires counted { removals ≡ length (filter removes (chain (reverse log.now) from)) }
-    ensures { result ≡ takes_out (option_map change_in (find (is_at key.now) (chain (reverse log.now) from))) }
+    ensures { result
+        ≡ takes_out (option_map change_in (find (is_at key.now) (chain (reverse log.now) from))) }
 {
     if removals == 0 {
         return false;

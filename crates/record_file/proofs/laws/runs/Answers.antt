@@ -38,7 +38,7 @@ both false b is = absurd (cc)
 
 not_full : (f : File) (limits : Bounds) (key : List ℕ) (begun : ℕ) (txs : Transactions) → f ≡ record (new_file maps.empty limits) { begun = begun; txs = txs } → 1 ≤ limits.records → is_full f key ≡ true → ⊥
 not_full f limits key begun txs is some full =
-    let reached = both _ _ (sym (ap (λ (g : File). is_full g key) is) ∙ full) in
+    let reached : nat_le limits.records (maps.len (maps.empty {K = List ℕ} {X = List ℕ} {R = slice_cmp nat_cmp})) ≡ true = both _ _ (sym (ap (λ (g : File). is_full g key) is) ∙ full) in
     let none = len-empty (slice_cmp nat_cmp) (List ℕ) in
     absurd (omega (arith, some, at_most limits.records (maps.len (maps.empty {K = List ℕ} {X = List ℕ} {R = slice_cmp nat_cmp})) reached, none))
   where

@@ -2,4 +2,4 @@ use Rattle.record_file.proofs.StateFacts.{file_begun}
 use Rattle.record_file.proofs.file.RecordFile.begin.Goals as goal
 
 pub invariant_of-self : goal.invariant_of-self
-invariant_of-self g c = file_begun _ _ _ c.self.inside.log _ c.self.invariant c.begun-begun.ensures.kept c.begin.result c.begin.new.self c.begin.ensures.ok c.begin.ensures.err
+invariant_of-self g c = file_begun _ _ _ c.self.inside.log c.self.invariant c.begin.ensures.kept c.begin.result c.begin.new.self c.begin.ensures.ok c.begin.ensures.err

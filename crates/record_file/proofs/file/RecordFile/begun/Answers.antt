@@ -6,4 +6,4 @@ use Rattle.record_file.proofs.file.RecordFile.begun.Goals as goal
 pub returns-clause-kept : goal.returns-clause-kept
 returns-clause-kept g c =
     subst (λ (s : OpenFile _). IsKeptFile (g.T.Table.sound s.table) (g.T.Table.contents s.table) (g.T.Table.record_limit s.table) s.file s.log) c.self.view_is
-    (kept_file _ _ _ c.self.inside.log _ c.self.invariant c.begun.ensures.kept c.begun.ensures.chained)
+    (kept_file _ _ _ c.self.inside.log c.self.invariant c.begun.ensures.kept c.begun.ensures.chained)

@@ -17,5 +17,4 @@ returns-clause-value g c = λ sound.
     let owner = c.owner.ensures ∙ ap (λ (s : OpenFile _). owner_of (open_of s.file) s.file.history key) c.self.view_is in
     let stood = c.in_ok-get.ensures.value here ∙ ap (λ m. maps.get m key) (c.self.invariant.fits here).replayed ∙ ap (λ (s : OpenFile _). maps.get (records_of s.file) key) c.self.view_is in
     let limits = ap (λ (s : OpenFile _). s.file.limits.records) c.self.view_is in
-    let same = ap (λ l. l.records) c.self.invariant.same_limits in
-    unowned_full c.args.self.now.file key c.charged.result c.owner.result c.in_ok-get.field-0 (c.charged.ensures sound) (omega (arith, limits, same, c.records.ensures.value, c.from.ensures, c.if-charged-from.false)) owner (sym c.if-is_some.ensures) stood c.is_none.result c.is_none.ensures
+    unowned_full c.args.self.now.file key c.charged.result c.owner.result c.in_ok-get.field-0 (c.charged.ensures sound) (omega (arith, limits, c.self.invariant.limited, c.limit.ensures, c.from.ensures, c.if-charged-from.false)) owner (sym c.if-is_some.ensures) stood c.is_none.result c.is_none.ensures

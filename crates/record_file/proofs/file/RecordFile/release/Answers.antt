@@ -2,4 +2,4 @@ use Rattle.record_file.proofs.StateFacts.{file_known}
 use Rattle.record_file.proofs.file.RecordFile.release.Goals as goal
 
 pub invariant_of-self : goal.invariant_of-self
-invariant_of-self g c = file_known _ _ _ c.self.inside.log _ c.self.invariant c.begun-begun.ensures.kept c.args.tx.0 _ c.phase.result _ c.release.new.self c.phase.ensures c.in-Some-Active.is c.release.ensures
+invariant_of-self g c = file_known _ _ _ c.self.inside.log c.self.invariant c.release.ensures.kept c.args.tx.0 _ c.phase.result _ c.release.new.self c.phase.ensures c.in-Some-Active.is c.release.ensures.after

@@ -19,7 +19,7 @@ accept-lsn-requires-clause-fits g c =
 pub invariant_of-self-in-Some-2 : goal.invariant_of-self-in-Some-2
 invariant_of-self-in-Some-2 g c =
     let key = c.args.key in
-    change_kept _ _ _ c.self.inside.log _ c.self.invariant c.begun-begun.ensures.kept
+    change_kept _ _ _ c.self.inside.log c.self.invariant c.in_ok-reserve.ensures.kept
     _ _ _ c.reserve.new.self c.accept-lsn.new.self c.args.tx key c.in_ok-taken.field-0 (Some c.in-Some-2.taken) None
     (c.in_ok-taken.ensures.soundness ∙ c.in_ok-get.ensures.soundness) (c.in_ok-taken.ensures.limit ∙ c.in_ok-get.ensures.limit) c.in_ok-reserve.ensures.ok (λ sound. c.in_ok-taken.ensures.ok (c.in_ok-get.ensures.soundness ∙ sound) ∙ ap (λ m. set_to m key None) c.in_ok-get.ensures.same)
     (λ sound. c.in_ok-taken.ensures.value (c.in_ok-get.ensures.soundness ∙ sound) ∙ ap (λ m. maps.get m key) c.in_ok-get.ensures.same)
@@ -37,14 +37,14 @@ returns-in-Some-2-clause-step g c = λ sound lt.
       none,
       rose_same (g.T.Table.device_failures c.args.self.now.table) (g.T.Table.device_failures c.set.new.self) counts,
       sym (sym c.in-Some-2.is ∙ stood ∙ ap (λ m. maps.get m key) (c.self.invariant.fits here).replayed ∙ ap (λ (f : File). maps.get (records_of f) key) link),
-      change_file _ _ _ c.self.inside.log _ c.self.invariant c.begun-begun.ensures.kept (g.T.Table.contents c.set.new.self) c.reserve.new.self c.accept-lsn.new.self c.args.tx key c.in_ok-taken.field-0 (Some c.in-Some-2.taken) None c.in_ok-reserve.ensures.ok (c.in_ok-taken.ensures.ok (c.in_ok-get.ensures.soundness ∙ here) ∙ ap (λ m. set_to m key None) c.in_ok-get.ensures.same) stood (sym c.in-Some-2.is) c.accept-lsn.ensures.after
+      change_file _ _ _ c.self.inside.log c.self.invariant c.in_ok-reserve.ensures.kept (g.T.Table.contents c.set.new.self) c.reserve.new.self c.accept-lsn.new.self c.args.tx key c.in_ok-taken.field-0 (Some c.in-Some-2.taken) None c.in_ok-reserve.ensures.ok (c.in_ok-taken.ensures.ok (c.in_ok-get.ensures.soundness ∙ here) ∙ ap (λ m. set_to m key None) c.in_ok-get.ensures.same) stood (sym c.in-Some-2.is) c.accept-lsn.ensures.after
           ∙ ap (λ (f : File). with_change f c.args.tx.0 key None) link,
     )
 
 pub returns-in-Some-2-clause-accepted : goal.returns-in-Some-2-clause-accepted
 returns-in-Some-2-clause-accepted g c =
     subst (λ (s : OpenFile _). Accepts s.file s.log c.args.tx c.args.key (Some c.in-Some-2.taken) None (file_of c.accept-lsn.new.self (g.T.Table.contents c.set.new.self)) c.accept-lsn.new.self.records) c.self.view_is
-    (change_accepted _ _ _ c.self.inside.log _ c.self.invariant c.begun-begun.ensures.kept (g.T.Table.contents c.set.new.self) c.reserve.new.self c.accept-lsn.new.self c.args.tx c.args.key (Some c.in-Some-2.taken) None c.in_ok-reserve.ensures.ok c.accept-lsn.ensures.after)
+    (change_accepted _ _ _ c.self.inside.log c.self.invariant c.in_ok-reserve.ensures.kept (g.T.Table.contents c.set.new.self) c.reserve.new.self c.accept-lsn.new.self c.args.tx c.args.key (Some c.in-Some-2.taken) None c.in_ok-reserve.ensures.ok c.accept-lsn.ensures.after)
 
 pub returns-in-Some-2-clause-told : goal.returns-in-Some-2-clause-told
 returns-in-Some-2-clause-told g c =

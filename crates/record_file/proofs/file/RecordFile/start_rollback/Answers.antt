@@ -5,4 +5,4 @@ use Rattle.record_file.proofs.StateFacts.{file_known}
 use Rattle.record_file.proofs.file.RecordFile.start_rollback.Goals as goal
 
 pub invariant_of-self : goal.invariant_of-self
-invariant_of-self g c = file_known _ _ _ c.self.inside.log _ c.self.invariant c.begun-begun.ensures.kept c.args.tx.0 _ (phase_in c.self.inside.log c.args.tx.0) _ c.start_rollback.new.self refl (ap (λ (s : OpenFile _). phase_at s.file c.args.tx.0) c.self.view_is ∙ c.requires.active) c.start_rollback.ensures
+invariant_of-self g c = file_known _ _ _ c.self.inside.log c.self.invariant c.start_rollback.ensures.kept c.args.tx.0 _ (phase_in c.self.inside.log c.args.tx.0) _ c.start_rollback.new.self refl (ap (λ (s : OpenFile _). phase_at s.file c.args.tx.0) c.self.view_is ∙ c.requires.active) c.start_rollback.ensures.after

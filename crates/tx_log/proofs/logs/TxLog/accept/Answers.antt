@@ -3,6 +3,7 @@ use Rattle.std.specs.List.{find, filter}
 use Rattle.std.proofs.lemmas.List.{length-reverse}
 use Rattle.std.specs.Vec.{vec_capacity}
 use Rattle.rec_types.specs.History.{log_len}
+use Rattle.rec_types.specs.LimitBounds.{most_log_records}
 use Rattle.tx_log.proofs.LogIndex.{reverse-push}
 use Rattle.tx_log.proofs.KeptFacts.{entry_is, open_of_phase, sized, counted_key, held_of_free, some_of, state_use, state_len, recounted, none_is}
 use Rattle.tx_log.proofs.OpenFacts.{found_fits, found_number}
@@ -60,7 +61,7 @@ overflow_add-open_tx c =
     let found = entry_is c.args.tx.0 c.deref.result.now l.txs.items c.place_of-at.result e c.deref.ensures.value c.place_of-at.ensures.first c.index_mut-open_tx.ensures.value in
     let size = sized (reverse l.records.items) l.txs.items l.begun l.pending l.gone c.args.tx.0 e c.self.invariant.log_kept found in
     let many : vec_len l.records ≡ length l.records.items = omega (arith, l.records.ok.0) in
-    let low : e.live ≤ 4000000 = omega (arith, size.live, length-reverse l.records.items, c.self.invariant.roomy.fits, c.self.invariant.roomy.most_records) in
+    let low : e.live ≤ most_log_records = omega (arith, size.live, length-reverse l.records.items, c.self.invariant.roomy.fits, c.self.invariant.roomy.most_records) in
     omega (arith, low)
 
 pub recount-open_tx-requires-clause-some : goal.recount-open_tx-requires-clause-some

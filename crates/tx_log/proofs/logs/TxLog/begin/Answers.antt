@@ -4,6 +4,7 @@ use Rattle.tx_log.proofs.EndFacts.{begun_kept, begun_state}
 use Rattle.tx_log.specs.LogState.{LogState}
 use Rattle.tx_log.specs.Transactions.{fresh}
 use Rattle.tx_log.specs.declared.opened.OpenTx.{OpenTx}
+use Rattle.tx_log.proofs.KeptFacts.{kept_now}
 use Rattle.tx_log.proofs.logs.TxLog.begin.Goals as goal
 
 pub invariant_of-self-2 : goal.invariant_of-self-2
@@ -33,3 +34,12 @@ returns-clause-ok c =
     let is = c.new.ensures in
     begun_state l.records.items l.txs.items c.push.new.self.items l.begun (l.begun + 1) l.limits l.room new c.self.invariant.log_kept.fit pushed (ap (λ (x : OpenTx). x.tx.0) is) refl (ap (λ (x : OpenTx). x.saves.items) is) (ap (λ (x : OpenTx). x.stage) is)
     ∙ ap (λ (s : LogState). record s { begun = s.begun + 1; txs = maps.insert s.txs (s.begun + 1) fresh; room = None }) c.self.view_is
+
+pub returns-then-self-most-clause-kept : goal.returns-then-self-most-clause-kept
+returns-then-self-most-clause-kept c = kept_now c.self.inside c.self.invariant _ c.self.view_is
+
+pub returns-then-is_err-clause-kept : goal.returns-then-is_err-clause-kept
+returns-then-is_err-clause-kept c = kept_now c.self.inside c.self.invariant _ c.self.view_is
+
+pub returns-clause-kept : goal.returns-clause-kept
+returns-clause-kept c = kept_now c.self.inside c.self.invariant _ c.self.view_is

@@ -1,16 +1,13 @@
 use Rattle.std.proofs.Common.{reverse, refl, subst, arith}
 use Rattle.std.proofs.lemmas.List.{length-reverse}
-use Rattle.tx_log.proofs.KeptFacts.{is_log}
+use Rattle.tx_log.proofs.KeptFacts.{is_log, kept_now}
 use Rattle.tx_log.proofs.LawFacts.{is_chained}
 use Rattle.tx_log.specs.LogLaws.{IsChained}
 use Rattle.tx_log.specs.LogState.{LogState, IsLog}
 use Rattle.tx_log.proofs.logs.TxLog.begun.Goals as goal
 
 pub returns-clause-kept : goal.returns-clause-kept
-returns-clause-kept c =
-    let l = c.self.inside in
-    let rs = reverse l.records.items in
-    subst IsLog c.self.view_is (is_log _ rs l.txs.items l.pending l.gone c.self.invariant.log_kept (omega (arith, c.self.invariant.roomy.fits, length-reverse l.records.items)) c.self.invariant.roomy.within refl refl)
+returns-clause-kept c = kept_now c.self.inside c.self.invariant _ c.self.view_is
 
 pub returns-clause-chained : goal.returns-clause-chained
 returns-clause-chained c =

@@ -1,7 +1,7 @@
 use Rattle.std.proofs.Common.{◌-◌, List, None, reverse, is_some, sym, ap, subst, ◌∙◌, arith}
 use Rattle.std.specs.FinMap as maps
 use Rattle.tx_log.proofs.EndFacts.{closed, closed_state, live_part}
-use Rattle.tx_log.proofs.KeptFacts.{entry_is, open_of_tx, sized}
+use Rattle.tx_log.proofs.KeptFacts.{entry_is, open_of_tx, sized, kept_now}
 use Rattle.tx_log.proofs.StateFacts.{state}
 use Rattle.tx_log.specs.Finds.{find_tx, IsFirst}
 use Rattle.tx_log.specs.Log.{kept_of}
@@ -55,8 +55,8 @@ invariant_of-self c =
       };
     }
 
-pub returns : goal.returns
-returns c =
+pub returns-clause-after : goal.returns-clause-after
+returns-clause-after c =
     let l = c.self.inside in
     let rs = reverse l.records.items in
     let t = c.args.tx.0 in
@@ -64,3 +64,6 @@ returns c =
     ap (λ (xs : List OpenTx). state l.records.items xs l.begun l.limits None) c.remove-closed.ensures.items
     ∙ closed_state l.records.items l.txs.items l.begun l.limits l.room t c.place_of-at.result c.self.invariant.log_kept.fit first
     ∙ ap (λ (s : LogState). record s { txs = maps.remove s.txs t; room = None }) c.self.view_is
+
+pub returns-clause-kept : goal.returns-clause-kept
+returns-clause-kept c = kept_now c.self.inside c.self.invariant _ c.self.view_is

@@ -4,7 +4,7 @@ use Rattle.std.specs.Vec.{vec_capacity}
 use Rattle.std.proofs.lemmas.List.{length-reverse}
 use Rattle.rec_types.specs.History.{log_len}
 use Rattle.rec_types.specs.Kept.{undone}
-use Rattle.tx_log.proofs.KeptFacts.{entry_is, sized, some_of, state_len, recounted, none_is, counted_change}
+use Rattle.tx_log.proofs.KeptFacts.{entry_is, sized, some_of, state_len, recounted, none_is, counted_change, kept_now}
 use Rattle.tx_log.proofs.LogIndex.{reverse-push, record_of_chain}
 use Rattle.tx_log.proofs.OpenFacts.{found_fits, found_number}
 use Rattle.tx_log.proofs.ReadFacts.{open_of_undo, undo_head, undo_told}
@@ -308,3 +308,6 @@ returns-clause-after c =
     let told = told_compensation (state l.records.items l.txs.items l.begun l.limits l.room) c.args.tx (c.len.result + 1) e.last change step.update (back.lsn_is ∙ ap (λ k. k + 1) (length-reverse l.records.items)) (fits.last ∙ ap (λ k. last_of k rs) (found_number t l.txs.items e found)) undo step.told (record_of_chain l.records.items e.last step.update step.rest kept.numbered step.is) in
     compensate_state l.records.items c.push.new.self.items l.txs.items _ l.begun l.limits l.room (c.len.result + 1) e.last c.args.tx change.key change.before change.prev (pushed c) told stay
     ∙ ap (λ (s : LogState). record s { records = s.records ++ compensations_in s c.args.tx; changes = undone t s.changes; room = None }) c.self.view_is
+
+pub returns-clause-kept : goal.returns-clause-kept
+returns-clause-kept c = kept_now c.self.inside c.self.invariant _ c.self.view_is

@@ -1,6 +1,6 @@
 use Rattle.std.proofs.Common.{ℕ, ◌-◌, List, None, length, take, reverse, is_some, sym, ap, subst, ◌∙◌}
 use Rattle.std.specs.FinMap as maps
-use Rattle.tx_log.proofs.KeptFacts.{entry_is, open_of_phase, active_stage}
+use Rattle.tx_log.proofs.KeptFacts.{entry_is, open_of_phase, active_stage, kept_now}
 use Rattle.tx_log.proofs.MovedFacts.{moved, IsMove, moved_kept, moved_state, places_are, up_to_take, kept_saves, short_take}
 use Rattle.tx_log.proofs.OpenFacts.{found_fits}
 use Rattle.tx_log.proofs.StateFacts.{state, unroomed}
@@ -37,8 +37,8 @@ invariant_of-self c =
       roomy = unroomed _ _ _ _ _ _ c.self.invariant.roomy;
     }
 
-pub returns : goal.returns
-returns c =
+pub returns-clause-after : goal.returns-clause-after
+returns-clause-after c =
     let l = c.self.inside in
     let rs = reverse l.records.items in
     let t = c.args.tx.0 in
@@ -54,3 +54,6 @@ returns c =
     moved_state l.records.items l.txs.items l.begun l.limits l.room t c.place_of-at.result e _ (Forward) (take (c.args.n - 1) e.saves.items) first found new_is
     ∙ ap (λ (x : Tx). record old { txs = maps.insert old.txs t x; room = None }) (kept_saves rs t (c.args.n - 1) e.saves.items ∙ ap (λ (ps : List ℕ). active_with (take (c.args.n - 1) ps)) (sym are))
     ∙ ap (λ (s : LogState). record s { txs = maps.insert s.txs t (active_with (take (c.args.n - 1) (places_in s t))); room = None }) c.self.view_is
+
+pub returns-clause-kept : goal.returns-clause-kept
+returns-clause-kept c = kept_now c.self.inside c.self.invariant _ c.self.view_is

@@ -3,7 +3,7 @@ use Rattle.std.specs.FinMap as maps
 use Rattle.rec_types.specs.History.{own_count}
 use Rattle.rec_types.specs.Kept.{history_of}
 use Rattle.tx_log.proofs.Chains.{last_of-le}
-use Rattle.tx_log.proofs.KeptFacts.{entry_is, open_of_phase, active_stage}
+use Rattle.tx_log.proofs.KeptFacts.{entry_is, open_of_phase, active_stage, kept_now}
 use Rattle.tx_log.proofs.MovedFacts.{moved, IsMove, moved_kept, moved_state, places_are, up_to_push, saved_is}
 use Rattle.tx_log.proofs.OpenFacts.{found_fits, found_number}
 use Rattle.tx_log.proofs.ReadFacts.{depth_is}
@@ -11,7 +11,7 @@ use Rattle.tx_log.proofs.StateFacts.{state, unroomed}
 use Rattle.tx_log.specs.Finds.{find_tx, IsFirst}
 use Rattle.tx_log.specs.Log.{kept_of, last_of}
 use Rattle.tx_log.specs.LogState.{LogState, phase_in, tx_in, places_in, history_in, active_with}
-use Rattle.tx_log.specs.Transactions.{Tx, depth_of}
+use Rattle.tx_log.specs.Transactions.{Tx, depth_of, most_savepoints}
 use Rattle.tx_log.specs.declared.opened.OpenTx.{OpenTx}
 use Rattle.tx_log.specs.declared.opened.Stage.TheVariants.{Forward}
 use Rattle.tx_log.specs.declared.phases.Phase.TheVariants.{Active}
@@ -31,7 +31,7 @@ save-requires c =
     let t = c.args.tx.0 in
     let e = c.index_mut-open_tx.result.now in
     let found = entry_is t c.deref.result.now l.txs.items c.place_of-at.result e c.deref.ensures.value c.place_of-at.ensures.first c.index_mut-open_tx.ensures.value in
-    subst (λ (n : ℕ). n < 32) (ap (λ (s : LogState). depth_of (tx_in s t)) (sym c.self.view_is) ∙ depth_is (kept_of rs) l.txs.items t e found) c.requires.room
+    subst (λ (n : ℕ). n < most_savepoints) (ap (λ (s : LogState). depth_of (tx_in s t)) (sym c.self.view_is) ∙ depth_is (kept_of rs) l.txs.items t e found) c.requires.room
 
 pub returns-clause-number : goal.returns-clause-number
 returns-clause-number c =
@@ -53,8 +53,8 @@ invariant_of-self c =
     let stage_is = active_stage (kept_of rs) l.txs.items t e found (ap (λ (s : LogState). phase_in s t) c.self.view_is ∙ c.requires.active) in
     let new_is = c.save.ensures ∙ ap (λ s. moved e s (e.saves.items ++ e.last ∷ [])) stage_is in
     let last_low : e.last ≤ length rs = (let at = fits.last in omega (arith, last_of-le rs e.tx.0 c.self.invariant.log_kept.numbered)) in
-    let depth_now : length e.saves.items < 32 = subst (λ (n : ℕ). n < 32) (ap (λ (s : LogState). depth_of (tx_in s t)) (sym c.self.view_is) ∙ depth_is (kept_of rs) l.txs.items t e found) c.requires.room in
-    let longer : length (e.saves.items ++ e.last ∷ []) ≤ 32 = omega (arith, length-append e.saves.items (e.last ∷ [])) in
+    let depth_now : length e.saves.items < most_savepoints = subst (λ (n : ℕ). n < most_savepoints) (ap (λ (s : LogState). depth_of (tx_in s t)) (sym c.self.view_is) ∙ depth_is (kept_of rs) l.txs.items t e found) c.requires.room in
+    let longer : length (e.saves.items ++ e.last ∷ []) ≤ most_savepoints = omega (arith, length-append e.saves.items (e.last ∷ [])) in
     let move : IsMove rs (Forward) (e.saves.items ++ e.last ∷ []) = record { saves = up_to_push (length rs) e.saves.items e.last last_low fits.saves; depth = longer; stage = tt } in
     record {
       log_kept = moved_kept rs l.txs.items l.begun l.pending l.gone t c.place_of-at.result e _ (Forward) (e.saves.items ++ e.last ∷ []) c.self.invariant.log_kept first found new_is move;
@@ -78,3 +78,6 @@ returns-clause-after c =
     moved_state l.records.items l.txs.items l.begun l.limits l.room t c.place_of-at.result e _ (Forward) (e.saves.items ++ e.last ∷ []) first found new_is
     ∙ ap (λ (x : Tx). record old { txs = maps.insert old.txs t x; room = None }) (saved_is rs t e.last e.saves.items c.self.invariant.log_kept.numbered (fits.last ∙ ap (λ k. last_of k rs) (found_number t l.txs.items e found)) ∙ ap (λ (ps : List ℕ). active_with (ps ++ own_count (history_of cs) t ∷ [])) (sym are))
     ∙ ap (λ (s : LogState). record s { txs = maps.insert s.txs t (active_with (places_in s t ++ own_count (history_in s) t ∷ [])); room = None }) c.self.view_is
+
+pub returns-clause-kept : goal.returns-clause-kept
+returns-clause-kept c = kept_now c.self.inside c.self.invariant _ c.self.view_is

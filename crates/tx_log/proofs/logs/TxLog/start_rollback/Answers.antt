@@ -1,6 +1,6 @@
 use Rattle.std.proofs.Common.{ℕ, ◌≤◌, List, None, length, take, reverse, is_some, sym, ap, subst, ◌∙◌}
 use Rattle.std.specs.FinMap as maps
-use Rattle.tx_log.proofs.KeptFacts.{entry_is, open_of_phase}
+use Rattle.tx_log.proofs.KeptFacts.{entry_is, open_of_phase, kept_now}
 use Rattle.tx_log.proofs.MovedFacts.{IsMove, moved_kept, moved_state, places_are, up_to_take, up_to_place, rolling_is, short_take}
 use Rattle.tx_log.proofs.OpenFacts.{found_fits}
 use Rattle.tx_log.proofs.ReadFacts.{depth_is}
@@ -45,8 +45,8 @@ invariant_of-self c =
       roomy = unroomed _ _ _ _ _ _ c.self.invariant.roomy;
     }
 
-pub returns : goal.returns
-returns c =
+pub returns-clause-after : goal.returns-clause-after
+returns-clause-after c =
     let l = c.self.inside in
     let rs = reverse l.records.items in
     let t = c.args.tx.0 in
@@ -60,3 +60,6 @@ returns c =
     moved_state l.records.items l.txs.items l.begun l.limits l.room t c.place_of-at.result e _ (Back (place_in e.saves.items c.args.n) c.args.ends) (take c.args.n e.saves.items) first found c.turn_back.ensures
     ∙ ap (λ (x : Tx). record old { txs = maps.insert old.txs t x; room = None }) (rolling_is rs t c.args.n c.args.ends e.saves.items c.self.invariant.log_kept.numbered ∙ ap (λ (ps : List ℕ). rolling_to ps c.args.n c.args.ends) (sym are))
     ∙ ap (λ (s : LogState). record s { txs = maps.insert s.txs t (rolling_to (places_in s t) c.args.n c.args.ends); room = None }) c.self.view_is
+
+pub returns-clause-kept : goal.returns-clause-kept
+returns-clause-kept c = kept_now c.self.inside c.self.invariant _ c.self.view_is
