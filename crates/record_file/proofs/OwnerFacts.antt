@@ -10,7 +10,7 @@ use Rattle.std.specs.FinMap as maps
 use Rattle.tx_log.specs.Owners.{claims, owner_of, charged}
 use Rattle.tx_log.specs.LogState.{LogState, IsLog, open_in, history_in}
 use Rattle.tx_log.specs.LogLaws.{IsChained}
-use Rattle.record_file.specs.Abstract.{IsRecordFile, IsKeptFile, file_of, charged_of}
+use Rattle.record_file.specs.Abstract.{IsRecordFile, IsKeptFile, file_of}
 
 -- another's change at a key that only one transaction changes
 only_owns : (is_open : ℕ → Bool) (cs : List Kept) (t u : ℕ) (x : List ℕ) → OnlyOf t x cs → list_any (λ c. claims is_open x c && (c.tx == u)) (history_of cs) ≡ true → u ≡ t

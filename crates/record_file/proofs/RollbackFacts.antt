@@ -6,7 +6,8 @@ use Rattle.rec_types.specs.Contents.{Contents}
 use Rattle.rec_types.specs.Table.{counted, greatest_count}
 use Rattle.rec_types.specs.History.{Change, live_from, take_newest, take_back, undo_last}
 use Rattle.rec_types.proofs.HistoryFacts.{live_from-take_newest, take_newest-none, take_newest-all, take_newest-more}
-use Rattle.tx_log.specs.Transactions.{Transactions, Tx, Rollback, left_in, left_of, place_in, depth_of}
+use Rattle.tx_log.specs.Transactions.{Transactions, Tx, left_in, left_of, place_in, depth_of}
+use Rattle.tx_log.specs.declared.phases.Rollback.{Rollback}
 use Rattle.tx_log.specs.LogState.{IsRolling, phase_of, finished, rolling_to, active_with}
 use Rattle.tx_log.specs.declared.phases.Phase.TheVariants as phases
 use Rattle.record_file.specs.declared.faults.Stop.{Stop}

@@ -7,7 +7,8 @@ use Rattle.rec_types.specs.History.{Change, log_len, live_from, undo_last}
 use Rattle.rec_types.proofs.HistoryFacts.{newest_from-some, newest_from-live, history-undone}
 use Rattle.std.proofs.lemmas.Bool.Decides.{nat_tests}
 use Rattle.rec_types.specs.Kept.{Kept, newest_live, newest_from, undone, history_of, opening_of}
-use Rattle.tx_log.specs.Transactions.{Transactions, Tx, Rollback, is_open, fresh, left_in, left_of}
+use Rattle.tx_log.specs.Transactions.{Transactions, Tx, is_open, fresh, left_in, left_of}
+use Rattle.tx_log.specs.declared.phases.Rollback.{Rollback}
 use Rattle.tx_log.specs.declared.phases.BeginFault.{BeginFault}
 use Rattle.rec_types.specs.declared.transactions.TxId.{TxId}
 use Rattle.tx_log.specs.Owners.{charged}

@@ -6,7 +6,8 @@ use Rattle.std.specs.FinMap as maps
 use Rattle.rec_types.specs.History.{Change, live_from, take_back, take_newest, own_count}
 use Rattle.rec_types.specs.declared.transactions.TxId.{TxId}
 use Rattle.rec_types.specs.declared.transactions.Entry.{Entry}
-use Rattle.tx_log.specs.Transactions.{Transactions, Tx, Rollback, fresh, place_in, depth_of, most_savepoints}
+use Rattle.tx_log.specs.Transactions.{Transactions, Tx, fresh, place_in, depth_of, most_savepoints}
+use Rattle.tx_log.specs.declared.phases.Rollback.{Rollback}
 use Rattle.tx_log.specs.Owners.{owner_of, keys_owned}
 use Rattle.tx_log.specs.LogState.{active_with, rolling_to, places_of, finished}
 use Rattle.tx_log.specs.declared.phases.Phase.{Phase}

@@ -18,18 +18,17 @@ use Rattle.tx_log.proofs.ReadFacts.{lives_length, phase_is}
 use Rattle.tx_log.proofs.KeptFacts.{tx_of_entry}
 use Rattle.tx_log.proofs.StateFacts.{state}
 use Rattle.tx_log.specs.Finds.{find_tx, IsFirst}
-use Rattle.tx_log.specs.Fits.{AllKnown, AllUpTo, StageUpTo, FitsTx, AllFit}
+use Rattle.tx_log.specs.Fits.{AllKnown, AllUpTo, RollbackUpTo, FitsTx, AllFit}
 use Rattle.tx_log.specs.Log.{removes, tx_of, lsn_of, kept_of, last_of, stepped, stack, noted}
 use Rattle.tx_log.specs.LogFields.{IsKept}
-use Rattle.tx_log.specs.LogState.{IsRolling, phase_of, places_of, active_with, finished, finished_by}
+use Rattle.tx_log.specs.LogState.{IsRolling, phase_of, places_of, active_with, finished, finished_by, rollback_phase}
 use Rattle.tx_log.specs.Owners.{absence}
 use Rattle.tx_log.specs.Places.{place_at}
-use Rattle.tx_log.specs.Stages.{phase_at, ends_at, rollback_at, txs_of, tx_at, opens}
+use Rattle.tx_log.specs.OpenTxs.{ends_at, rollback_at, txs_of, tx_at, opens}
 use Rattle.tx_log.specs.Transactions.{Transactions, Tx, fresh, most_savepoints}
 use Rattle.tx_log.specs.declared.log_records.LogRecord.{LogRecord}
 use Rattle.tx_log.specs.declared.opened.OpenTx.{OpenTx}
-use Rattle.tx_log.specs.declared.opened.Stage.{Stage}
-use Rattle.tx_log.specs.declared.opened.Stage.TheVariants.{Forward, Back}
+use Rattle.tx_log.specs.declared.phases.Rollback.{Rollback}
 
 -- ---- the end of a transaction
 
@@ -108,7 +107,7 @@ known_more : (n m : ℕ) (rs : List LogRecord) → n ≤ m → AllKnown n rs →
 known_more n m [] h known = tt
 known_more n m (r ∷ rs) h known = (let low = known.0 in omega arith, known_more n m rs h known.1)
 
-pub begun_kept : (rs : List LogRecord) (es es_new : List OpenTx) (begun pending gone_keys : ℕ) (new : OpenTx) → IsKept rs es begun pending gone_keys → es_new ≡ es ++ new ∷ [] → new.tx.0 ≡ begun + 1 → new.last ≡ 0 → new.live ≡ 0 → new.absent ≡ 0 → new.removals ≡ 0 → new.saves.items ≡ [] → new.stage ≡ Forward → IsKept rs es_new (begun + 1) pending gone_keys
+pub begun_kept : (rs : List LogRecord) (es es_new : List OpenTx) (begun pending gone_keys : ℕ) (new : OpenTx) → IsKept rs es begun pending gone_keys → es_new ≡ es ++ new ∷ [] → new.tx.0 ≡ begun + 1 → new.last ≡ 0 → new.live ≡ 0 → new.absent ≡ 0 → new.removals ≡ 0 → new.saves.items ≡ [] → new.rollback ≡ None → IsKept rs es_new (begun + 1) pending gone_keys
 begun_kept rs es es_new begun pending gone_keys new kept pushed number last live absent_none removals_none saves stage =
     let cs = kept_of rs in
     let up : begun < new.tx.0 = omega arith in
@@ -123,7 +122,7 @@ begun_kept rs es es_new begun pending gone_keys new kept pushed number last live
       removals = removals_none ∙ sym (ap (λ us. length (filter removes us)) nothing.1);
       saves = subst (AllUpTo (length rs)) (sym saves) tt;
       depth = subst (λ (ss : List ℕ). length ss ≤ most_savepoints) (sym saves) (omega arith);
-      stage = subst (StageUpTo (length rs)) (sym stage) tt;
+      rollback = subst (RollbackUpTo (length rs)) (sym stage) tt;
       some = omega arith;
       begun = omega arith;
     } in
@@ -132,7 +131,7 @@ begun_kept rs es es_new begun pending gone_keys new kept pushed number last live
     let there : IsKept rs (es ++ new ∷ []) (begun + 1) pending gone_keys = record {
       numbered = kept.numbered;
       written = kept.written;
-      fit = fit-push rs begun (begun + 1) es new (λ x fit. (record { last = fit.last; live = fit.live; absent_keys = fit.absent_keys; removals = fit.removals; saves = fit.saves; depth = fit.depth; stage = fit.stage; some = fit.some; begun = (let low = fit.begun in omega arith) }, differs new.tx.0 x.tx.0 (let low = fit.begun in omega arith))) none fits kept.fit;
+      fit = fit-push rs begun (begun + 1) es new (λ x fit. (record { last = fit.last; live = fit.live; absent_keys = fit.absent_keys; removals = fit.removals; saves = fit.saves; depth = fit.depth; rollback = fit.rollback; some = fit.some; begun = (let low = fit.begun in omega arith) }, differs new.tx.0 x.tx.0 (let low = fit.begun in omega arith))) none fits kept.fit;
       known = known_more begun (begun + 1) rs (omega arith) kept.known;
       all_begun = begun-more begun (begun + 1) cs (omega arith) kept.all_begun;
       owned = owned-fewer (opens es) (opens (es ++ new ∷ [])) begun cs kept.all_begun (λ u low h. sym (same u low) ∙ h) kept.owned;
@@ -141,7 +140,7 @@ begun_kept rs es es_new begun pending gone_keys new kept pushed number last live
     } in
     subst (λ (xs : List OpenTx). IsKept rs xs (begun + 1) pending gone_keys) (sym pushed) there
 
-pub begun_state : (records : List LogRecord) (es es_new : List OpenTx) (begun n : ℕ) (limits : Bounds) (room : Option (List ℕ)) (new : OpenTx) → AllFit (reverse records) begun es → es_new ≡ es ++ new ∷ [] → new.tx.0 ≡ begun + 1 → n ≡ begun + 1 → new.saves.items ≡ [] → new.stage ≡ Forward → state records es_new n limits None ≡ record (state records es begun limits room) { begun = begun + 1; txs = maps.insert (txs_of (kept_of (reverse records)) es) (begun + 1) fresh; room = None }
+pub begun_state : (records : List LogRecord) (es es_new : List OpenTx) (begun n : ℕ) (limits : Bounds) (room : Option (List ℕ)) (new : OpenTx) → AllFit (reverse records) begun es → es_new ≡ es ++ new ∷ [] → new.tx.0 ≡ begun + 1 → n ≡ begun + 1 → new.saves.items ≡ [] → new.rollback ≡ None → state records es_new n limits None ≡ record (state records es begun limits room) { begun = begun + 1; txs = maps.insert (txs_of (kept_of (reverse records)) es) (begun + 1) fresh; room = None }
 begun_state records es es_new begun n limits room new fit pushed number n_is saves stage =
     let cs = kept_of (reverse records) in
     let none = not_begun (reverse records) begun new.tx.0 es fit (omega arith) in
@@ -167,21 +166,21 @@ rolling_found cs es t h = rolling_case (find_tx t es) (subst (λ (o : Option Tx)
     rolling_case None h = absurd h
     rolling_case (Some e) h = refl
 
-finished_case : (cs : List Kept) (txs : Transactions) (t u : ℕ) (places : List ℕ) (s : Stage) → IsRolling (Some (phase_at s)) → finished_by txs t places (rollback_at u cs s) ≡ cond (ends_at s) (maps.remove txs t) (maps.insert txs t (active_with places))
-finished_case cs txs t u places Forward h = absurd h
-finished_case cs txs t u places (Back to ends) h = refl
+finished_case : (cs : List Kept) (txs : Transactions) (t u : ℕ) (places : List ℕ) (s : Option Rollback) → IsRolling (Some (rollback_phase s)) → finished_by txs t places (rollback_at u cs s) ≡ cond (ends_at s) (maps.remove txs t) (maps.insert txs t (active_with places))
+finished_case cs txs t u places None h = absurd h
+finished_case cs txs t u places (Some r) h = refl
 
-pub finished_is : (cs : List Kept) (es : List OpenTx) (t : ℕ) (e : OpenTx) → find_tx t es ≡ Some e → IsRolling (option_map phase_of (maps.get (txs_of cs es) t)) → finished (txs_of cs es) t (maps.get (txs_of cs es) t) ≡ cond (ends_at e.stage) (maps.remove (txs_of cs es) t) (maps.insert (txs_of cs es) t (active_with (places_of (maps.get (txs_of cs es) t))))
+pub finished_is : (cs : List Kept) (es : List OpenTx) (t : ℕ) (e : OpenTx) → find_tx t es ≡ Some e → IsRolling (option_map phase_of (maps.get (txs_of cs es) t)) → finished (txs_of cs es) t (maps.get (txs_of cs es) t) ≡ cond (ends_at e.rollback) (maps.remove (txs_of cs es) t) (maps.insert (txs_of cs es) t (active_with (places_of (maps.get (txs_of cs es) t))))
 finished_is cs es t e found h =
     let entry = tx_of_entry cs es t e found in
     ap (finished (txs_of cs es) t) entry
-    ∙ finished_case cs (txs_of cs es) t e.tx.0 (map (λ s. place_at e.tx.0 s cs) e.saves.items) e.stage (subst IsRolling (phase_is cs es t e found) h)
-    ∙ ap (λ (o : Option Tx). cond (ends_at e.stage) (maps.remove (txs_of cs es) t) (maps.insert (txs_of cs es) t (active_with (places_of o)))) (sym entry)
+    ∙ finished_case cs (txs_of cs es) t e.tx.0 (map (λ s. place_at e.tx.0 s cs) e.saves.items) e.rollback (subst IsRolling (phase_is cs es t e found) h)
+    ∙ ap (λ (o : Option Tx). cond (ends_at e.rollback) (maps.remove (txs_of cs es) t) (maps.insert (txs_of cs es) t (active_with (places_of o)))) (sym entry)
 
-pub finished_ends : (cs : List Kept) (es : List OpenTx) (t : ℕ) (e : OpenTx) → find_tx t es ≡ Some e → IsRolling (option_map phase_of (maps.get (txs_of cs es) t)) → ends_at e.stage ≡ true → finished (txs_of cs es) t (maps.get (txs_of cs es) t) ≡ maps.remove (txs_of cs es) t
+pub finished_ends : (cs : List Kept) (es : List OpenTx) (t : ℕ) (e : OpenTx) → find_tx t es ≡ Some e → IsRolling (option_map phase_of (maps.get (txs_of cs es) t)) → ends_at e.rollback ≡ true → finished (txs_of cs es) t (maps.get (txs_of cs es) t) ≡ maps.remove (txs_of cs es) t
 finished_ends cs es t e found h ends =
     finished_is cs es t e found h ∙ ap (λ (b : Bool). cond b (maps.remove (txs_of cs es) t) (maps.insert (txs_of cs es) t (active_with (places_of (maps.get (txs_of cs es) t))))) ends
 
-pub finished_goes : (cs : List Kept) (es : List OpenTx) (t : ℕ) (e : OpenTx) → find_tx t es ≡ Some e → IsRolling (option_map phase_of (maps.get (txs_of cs es) t)) → ends_at e.stage ≡ false → finished (txs_of cs es) t (maps.get (txs_of cs es) t) ≡ maps.insert (txs_of cs es) t (active_with (places_of (maps.get (txs_of cs es) t)))
+pub finished_goes : (cs : List Kept) (es : List OpenTx) (t : ℕ) (e : OpenTx) → find_tx t es ≡ Some e → IsRolling (option_map phase_of (maps.get (txs_of cs es) t)) → ends_at e.rollback ≡ false → finished (txs_of cs es) t (maps.get (txs_of cs es) t) ≡ maps.insert (txs_of cs es) t (active_with (places_of (maps.get (txs_of cs es) t)))
 finished_goes cs es t e found h goes =
     finished_is cs es t e found h ∙ ap (λ (b : Bool). cond b (maps.remove (txs_of cs es) t) (maps.insert (txs_of cs es) t (active_with (places_of (maps.get (txs_of cs es) t))))) goes

@@ -25,15 +25,14 @@ use Rattle.tx_log.specs.LogFields.{state_of, IsKept, IsTxLog}
 use Rattle.tx_log.specs.LogState.{LogState, phase_of, open_in, use_in, places_of, IsLog}
 use Rattle.tx_log.specs.Owners.{holder_of, absence}
 use Rattle.tx_log.specs.Places.{place_at}
-use Rattle.tx_log.specs.Stages.{rollback_at, tx_at, txs_of, opens}
+use Rattle.tx_log.specs.OpenTxs.{rollback_at, tx_at, txs_of, opens}
 use Rattle.tx_log.specs.Transactions.{Tx, Transactions, is_open, most_savepoints}
 use Rattle.tx_log.specs.Walks.{change_in, is_at, takes_out}
 use Rattle.tx_log.specs.declared.log_records.LogRecord.{LogRecord}
 use Rattle.tx_log.specs.declared.log_records.LogRecord.TheVariants.{Update, Compensation}
 use Rattle.tx_log.specs.declared.logs.TxLog.TheInside.{Inside}
 use Rattle.tx_log.specs.declared.opened.OpenTx.{OpenTx}
-use Rattle.tx_log.specs.declared.opened.Stage.{Stage}
-use Rattle.tx_log.specs.declared.opened.Stage.TheVariants.{Forward, Back}
+use Rattle.tx_log.specs.declared.phases.Rollback.{Rollback}
 use Rattle.tx_log.specs.declared.phases.Phase.{Phase}
 use Rattle.tx_log.specs.declared.phases.Phase.TheVariants.{Active}
 
@@ -56,16 +55,16 @@ some_entry cs (Some e) h = refl
 pub open_of_tx : (cs : List Kept) (es : List OpenTx) (t : ℕ) → is_some (maps.get (txs_of cs es) t) ≡ true → is_some (find_tx t es) ≡ true
 open_of_tx cs es t h = some_entry cs (find_tx t es) (ap is_some (sym (get-txs_of cs es t)) ∙ h)
 
-active_case : (cs : List Kept) (t : ℕ) (s : Stage) → phase_of (record { rollback = rollback_at t cs s; places = [] }) ≡ Active → s ≡ Forward
-active_case cs t Forward h = refl
-active_case cs t (Back to ends) h = absurd (cc)
+active_case : (cs : List Kept) (t : ℕ) (s : Option Rollback) → phase_of (record { rollback = rollback_at t cs s; places = [] }) ≡ Active → s ≡ None
+active_case cs t None h = refl
+active_case cs t (Some r) h = absurd (cc)
 
 pub some_of : {A : Type 0} (x y : A) → Some x ≡ Some y → x ≡ y
 some_of x y h = cc
 
-pub active_stage : (cs : List Kept) (es : List OpenTx) (t : ℕ) (e : OpenTx) → find_tx t es ≡ Some e → option_map phase_of (maps.get (txs_of cs es) t) ≡ Some Active → e.stage ≡ Forward
-active_stage cs es t e found h =
-    active_case cs e.tx.0 e.stage (some_of _ _ (ap (λ (o : Option OpenTx). option_map phase_of (option_map (tx_at cs) o)) (sym found) ∙ ap (option_map phase_of) (sym (get-txs_of cs es t)) ∙ h))
+pub active_rollback : (cs : List Kept) (es : List OpenTx) (t : ℕ) (e : OpenTx) → find_tx t es ≡ Some e → option_map phase_of (maps.get (txs_of cs es) t) ≡ Some Active → e.rollback ≡ None
+active_rollback cs es t e found h =
+    active_case cs e.tx.0 e.rollback (some_of _ _ (ap (λ (o : Option OpenTx). option_map phase_of (option_map (tx_at cs) o)) (sym found) ∙ ap (option_map phase_of) (sym (get-txs_of cs es t)) ∙ h))
 
 pub tx_of_entry : (cs : List Kept) (es : List OpenTx) (t : ℕ) (e : OpenTx) → find_tx t es ≡ Some e → maps.get (txs_of cs es) t ≡ Some (tx_at cs e)
 tx_of_entry cs es t e found = get-txs_of cs es t ∙ ap (option_map (tx_at cs)) found

@@ -13,28 +13,27 @@ use Rattle.tx_log.proofs.OpenFacts.{found_fits, found_number, fit-set, opens-set
 use Rattle.tx_log.proofs.PlaceFacts.{kept_rises, place-zero, place-new}
 use Rattle.tx_log.proofs.StateFacts.{state}
 use Rattle.tx_log.specs.Finds.{find_tx, IsFirst}
-use Rattle.tx_log.specs.Fits.{AllUpTo, StageUpTo, FitsTx}
+use Rattle.tx_log.specs.Fits.{AllUpTo, RollbackUpTo, FitsTx}
 use Rattle.tx_log.specs.Log.{kept_of, last_of, IsNumbered}
 use Rattle.tx_log.specs.LogFields.{IsKept}
 use Rattle.tx_log.specs.LogState.{places_of, places_in}
 use Rattle.tx_log.specs.Places.{place_at}
-use Rattle.tx_log.specs.Stages.{rollback_at, tx_at, txs_of}
+use Rattle.tx_log.specs.OpenTxs.{rollback_at, tx_at, txs_of}
 use Rattle.tx_log.specs.Transactions.{Tx, place_in, most_savepoints}
 use Rattle.tx_log.specs.declared.log_records.LogRecord.{LogRecord}
 use Rattle.tx_log.specs.declared.opened.OpenTx.{OpenTx}
-use Rattle.tx_log.specs.declared.opened.Stage.{Stage}
-use Rattle.tx_log.specs.declared.opened.Stage.TheVariants.{Forward, Back}
+use Rattle.tx_log.specs.declared.phases.Rollback.{Rollback}
 
 -- the transaction with the stage and the savepoints
-abbrev pub moved : OpenTx → Stage → List ℕ → OpenTx
-moved e s ss = record e { stage = s; saves = record { items = ss } }
+abbrev pub moved : OpenTx → Option Rollback → List ℕ → OpenTx
+moved e s ss = record e { rollback = s; saves = record { items = ss } }
 
-pub record IsMove (rs : List LogRecord) (s : Stage) (ss : List ℕ) : Type 0 where
+pub record IsMove (rs : List LogRecord) (s : Option Rollback) (ss : List ℕ) : Type 0 where
   pub saves : AllUpTo (length rs) ss
   pub depth : length ss ≤ most_savepoints
-  pub stage : StageUpTo (length rs) s
+  pub rollback : RollbackUpTo (length rs) s
 
-moved_fits : (rs : List LogRecord) (n : ℕ) (e : OpenTx) (s : Stage) (ss : List ℕ) → FitsTx rs n e → IsMove rs s ss → FitsTx rs n (moved e s ss)
+moved_fits : (rs : List LogRecord) (n : ℕ) (e : OpenTx) (s : Option Rollback) (ss : List ℕ) → FitsTx rs n e → IsMove rs s ss → FitsTx rs n (moved e s ss)
 moved_fits rs n e s ss fits move = record {
   last = fits.last;
   live = fits.live;
@@ -42,12 +41,12 @@ moved_fits rs n e s ss fits move = record {
   removals = fits.removals;
   saves = move.saves;
   depth = move.depth;
-  stage = move.stage;
+  rollback = move.rollback;
   some = fits.some;
   begun = fits.begun;
 }
 
-pub moved_kept : (rs : List LogRecord) (es : List OpenTx) (begun pending gone t i : ℕ) (e new : OpenTx) (s : Stage) (ss : List ℕ) → IsKept rs es begun pending gone → IsFirst t es i → find_tx t es ≡ Some e → new ≡ moved e s ss → IsMove rs s ss → IsKept rs (set es i new) begun pending gone
+pub moved_kept : (rs : List LogRecord) (es : List OpenTx) (begun pending gone t i : ℕ) (e new : OpenTx) (s : Option Rollback) (ss : List ℕ) → IsKept rs es begun pending gone → IsFirst t es i → find_tx t es ≡ Some e → new ≡ moved e s ss → IsMove rs s ss → IsKept rs (set es i new) begun pending gone
 moved_kept rs es begun pending gone t i e new s ss kept is found new_is move =
     let fits : FitsTx rs begun new = subst (FitsTx rs begun) (sym new_is) (moved_fits rs begun e s ss (found_fits rs begun t es e kept.fit found) move) in
     let own : new.tx.0 ≡ t = ap (λ (x : OpenTx). x.tx.0) new_is ∙ found_number t es e found in
@@ -63,10 +62,10 @@ moved_kept rs es begun pending gone t i e new s ss kept is found new_is move =
       absent_is = kept.absent_is ∙ ap (λ (o : ℕ → Bool). maps.len (absent_in o (kept_of rs))) (sym same);
     }
 
-abbrev pub moved_tx : List Kept → ℕ → Stage → List ℕ → Tx
+abbrev pub moved_tx : List Kept → ℕ → Option Rollback → List ℕ → Tx
 moved_tx cs t s ss = record { rollback = rollback_at t cs s; places = map (λ k. place_at t k cs) ss }
 
-pub moved_state : (records : List LogRecord) (es : List OpenTx) (begun : ℕ) (limits : Bounds) (room : Option (List ℕ)) (t i : ℕ) (e new : OpenTx) (s : Stage) (ss : List ℕ) → IsFirst t es i → find_tx t es ≡ Some e → new ≡ moved e s ss → state records (set es i new) begun limits None ≡ record (state records es begun limits room) { txs = maps.insert (txs_of (kept_of (reverse records)) es) t (moved_tx (kept_of (reverse records)) t s ss); room = None }
+pub moved_state : (records : List LogRecord) (es : List OpenTx) (begun : ℕ) (limits : Bounds) (room : Option (List ℕ)) (t i : ℕ) (e new : OpenTx) (s : Option Rollback) (ss : List ℕ) → IsFirst t es i → find_tx t es ≡ Some e → new ≡ moved e s ss → state records (set es i new) begun limits None ≡ record (state records es begun limits room) { txs = maps.insert (txs_of (kept_of (reverse records)) es) t (moved_tx (kept_of (reverse records)) t s ss); room = None }
 moved_state records es begun limits room t i e new s ss is found new_is =
     let cs = kept_of (reverse records) in
     let number = found_number t es e found in
@@ -103,20 +102,20 @@ place_in-map f (s ∷ ss) (suc zero) h = refl
 place_in-map f (s ∷ ss) (suc (suc n)) h = place_in-map f ss (suc n) h
 
 -- a rollback to savepoint n goes back to its place
-pub rolling_is : (rs : List LogRecord) (t n : ℕ) (ends : Bool) (ss : List ℕ) → IsNumbered rs → moved_tx (kept_of rs) t (Back (place_in ss n) ends) (take n ss) ≡ record { rollback = Some (record { to = place_in (map (λ k. place_at t k (kept_of rs)) ss) n; ends = ends }); places = take n (map (λ k. place_at t k (kept_of rs)) ss) }
+pub rolling_is : (rs : List LogRecord) (t n : ℕ) (ends : Bool) (ss : List ℕ) → IsNumbered rs → moved_tx (kept_of rs) t (Some (record { to = place_in ss n; ends = ends })) (take n ss) ≡ record { rollback = Some (record { to = place_in (map (λ k. place_at t k (kept_of rs)) ss) n; ends = ends }); places = take n (map (λ k. place_at t k (kept_of rs)) ss) }
 rolling_is rs t n ends ss is =
     let f : ℕ → ℕ = λ k. place_at t k (kept_of rs) in
     let none = place-zero t (kept_of rs) (length rs) (kept_rises rs is) in
     λ i. record { rollback = Some (record { to = sym (place_in-map f ss n none) i; ends = ends }); places = sym (take-map f n ss) i }
 
 -- a new savepoint's place is the count of the transaction's changes
-pub saved_is : (rs : List LogRecord) (t s : ℕ) (ss : List ℕ) → IsNumbered rs → s ≡ last_of t rs → moved_tx (kept_of rs) t Forward (ss ++ s ∷ []) ≡ record { rollback = None; places = map (λ k. place_at t k (kept_of rs)) ss ++ own_count (history_of (kept_of rs)) t ∷ [] }
+pub saved_is : (rs : List LogRecord) (t s : ℕ) (ss : List ℕ) → IsNumbered rs → s ≡ last_of t rs → moved_tx (kept_of rs) t None (ss ++ s ∷ []) ≡ record { rollback = None; places = map (λ k. place_at t k (kept_of rs)) ss ++ own_count (history_of (kept_of rs)) t ∷ [] }
 saved_is rs t s ss is last =
     let f : ℕ → ℕ = λ k. place_at t k (kept_of rs) in
     let new : f s ≡ own_count (history_of (kept_of rs)) t = ap f last ∙ place-new t rs is in
     λ i. record { rollback = None; places = (map-append f ss (s ∷ []) ∙ ap (λ p. map f ss ++ p ∷ []) new) i }
 
-pub kept_saves : (rs : List LogRecord) (t n : ℕ) (ss : List ℕ) → moved_tx (kept_of rs) t Forward (take n ss) ≡ record { rollback = None; places = take n (map (λ k. place_at t k (kept_of rs)) ss) }
+pub kept_saves : (rs : List LogRecord) (t n : ℕ) (ss : List ℕ) → moved_tx (kept_of rs) t None (take n ss) ≡ record { rollback = None; places = take n (map (λ k. place_at t k (kept_of rs)) ss) }
 kept_saves rs t n ss = λ i. record { rollback = None; places = sym (take-map (λ k. place_at t k (kept_of rs)) n ss) i }
 
 pub short_take : (n m : ℕ) (ss : List ℕ) → length ss ≤ m → length (take n ss) ≤ m

@@ -1,14 +1,12 @@
 -- How many transactions are open.
-use Rattle.std.proofs.Common.{◌≡◌, ℕ, ◌+◌, ◌-◌, ◌≤◌, ◌<◌, zero, suc, Bool, true, false, cond, if◌then◌else◌, is_some, List, [], ◌∷◌, length, Option, Some, None, refl, sym, ap, subst, ◌∙◌, IsTrue, arith, option_map}
+use Rattle.std.proofs.Common.{◌≡◌, ℕ, ◌+◌, ◌-◌, ◌≤◌, ◌<◌, zero, suc, Bool, true, false, cond, is_some, List, [], ◌∷◌, length, Option, Some, None, refl, sym, ap, ◌∙◌, IsTrue, arith, option_map}
 use Rattle.std.proofs.lemmas.Bool.Decides.{nat_tests}
-use Rattle.std.specs.FinMap as maps
 use Rattle.std.specs.FinMap.{get, len, insert, remove, empty, get-insert, get-remove, get-empty, len-empty, len-insert, len-remove, same_map, nat_cmp-IsAntisymmetric}
 use Rattle.std.specs.Ordering.{nat_cmp, eq_by_cmp}
 use Rattle.std.specs.Cmp.{nat_cmp_total, eq_by_cmp_equiv}
 use Rattle.rec_types.specs.Kept.{Kept}
 use Rattle.tx_log.specs.Fits.{AllFit}
-use Rattle.tx_log.specs.Finds.{find_tx}
-use Rattle.tx_log.specs.Stages.{txs_of, tx_at}
+use Rattle.tx_log.specs.OpenTxs.{txs_of, tx_at}
 use Rattle.tx_log.specs.Transactions.{Transactions, Tx, is_open}
 use Rattle.tx_log.specs.LogState.{LogState, IsLog}
 use Rattle.tx_log.specs.declared.log_records.LogRecord.{LogRecord}

@@ -12,15 +12,14 @@ use Rattle.tx_log.proofs.AbsentFacts.{without}
 use Rattle.tx_log.proofs.Lives.{eqb_sym}
 use Rattle.tx_log.proofs.PlaceFacts.{place-grows}
 use Rattle.tx_log.specs.Finds.{find_tx, IsFirst}
-use Rattle.tx_log.specs.Fits.{AllUpTo, StageUpTo, FitsTx, AllFit}
+use Rattle.tx_log.specs.Fits.{AllUpTo, RollbackUpTo, FitsTx, AllFit}
 use Rattle.tx_log.specs.Log.{lsn_of, kept_of}
 use Rattle.tx_log.specs.Places.{place_at}
-use Rattle.tx_log.specs.Stages.{rollback_at, tx_at, txs_of, opens}
+use Rattle.tx_log.specs.OpenTxs.{rollback_at, tx_at, txs_of, opens}
 use Rattle.tx_log.specs.Transactions.{Transactions, is_open}
 use Rattle.tx_log.specs.declared.log_records.LogRecord.{LogRecord}
 use Rattle.tx_log.specs.declared.opened.OpenTx.{OpenTx}
-use Rattle.tx_log.specs.declared.opened.Stage.{Stage}
-use Rattle.tx_log.specs.declared.opened.Stage.TheVariants.{Forward, Back}
+use Rattle.tx_log.specs.declared.phases.Rollback.{Rollback}
 
 number : OpenTx → ℕ
 number e = e.tx.0
@@ -155,16 +154,16 @@ places_grow : (t : ℕ) (r : LogRecord) (rs : List LogRecord) (ss : List ℕ) �
 places_grow t r rs [] is up = refl
 places_grow t r rs (s ∷ ss) is up = λ i. place-grows t s r rs (omega (arith, up.0)) i ∷ places_grow t r rs ss is up.1 i
 
-stage_grows : (t : ℕ) (r : LogRecord) (rs : List LogRecord) (s : Stage) → lsn_of r ≡ length rs + 1 → StageUpTo (length rs) s → rollback_at t (kept_of (r ∷ rs)) s ≡ rollback_at t (kept_of rs) s
-stage_grows t r rs Forward is up = refl
-stage_grows t r rs (Back to ends) is up = λ i. Some record { to = place-grows t to r rs (omega arith) i; ends = ends }
+rollback_grows : (t : ℕ) (r : LogRecord) (rs : List LogRecord) (s : Option Rollback) → lsn_of r ≡ length rs + 1 → RollbackUpTo (length rs) s → rollback_at t (kept_of (r ∷ rs)) s ≡ rollback_at t (kept_of rs) s
+rollback_grows t r rs None is up = refl
+rollback_grows t r rs (Some s) is up = λ i. Some record { to = place-grows t s.to r rs (omega arith) i; ends = s.ends }
 
-pub tx_at-grows : (r : LogRecord) (rs : List LogRecord) (e : OpenTx) → lsn_of r ≡ length rs + 1 → StageUpTo (length rs) e.stage → AllUpTo (length rs) e.saves.items → tx_at (kept_of (r ∷ rs)) e ≡ tx_at (kept_of rs) e
-tx_at-grows r rs e is stage saves = λ i. record { rollback = stage_grows e.tx.0 r rs e.stage is stage i; places = places_grow e.tx.0 r rs e.saves.items is saves i }
+pub tx_at-grows : (r : LogRecord) (rs : List LogRecord) (e : OpenTx) → lsn_of r ≡ length rs + 1 → RollbackUpTo (length rs) e.rollback → AllUpTo (length rs) e.saves.items → tx_at (kept_of (r ∷ rs)) e ≡ tx_at (kept_of rs) e
+tx_at-grows r rs e is stage saves = λ i. record { rollback = rollback_grows e.tx.0 r rs e.rollback is stage i; places = places_grow e.tx.0 r rs e.saves.items is saves i }
 
 pub txs-grow : (r : LogRecord) (rs : List LogRecord) (n : ℕ) (es : List OpenTx) → lsn_of r ≡ length rs + 1 → AllFit rs n es → txs_of (kept_of (r ∷ rs)) es ≡ txs_of (kept_of rs) es
 txs-grow r rs n [] is fit = refl
-txs-grow r rs n (e ∷ es) is fit = λ i. maps.insert (txs-grow r rs n es is fit.2 i) e.tx.0 (tx_at-grows r rs e is fit.0.stage fit.0.saves i)
+txs-grow r rs n (e ∷ es) is fit = λ i. maps.insert (txs-grow r rs n es is fit.2 i) e.tx.0 (tx_at-grows r rs e is fit.0.rollback fit.0.saves i)
 
 -- ---- what ties the transactions to the log
 

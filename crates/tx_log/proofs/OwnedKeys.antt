@@ -26,7 +26,7 @@ use Rattle.tx_log.specs.Finds.{find_tx}
 use Rattle.tx_log.specs.Log.{key_of, kept_of, last_of, stack, chain, noted}
 use Rattle.tx_log.specs.LogFields.{IsKept}
 use Rattle.tx_log.specs.Owners.{charged, keys_owned}
-use Rattle.tx_log.specs.Stages.{txs_of, opens}
+use Rattle.tx_log.specs.OpenTxs.{txs_of, opens}
 use Rattle.tx_log.specs.Transactions.{is_open}
 use Rattle.tx_log.specs.declared.log_records.LogRecord.{LogRecord}
 use Rattle.tx_log.specs.declared.opened.OpenTx.{OpenTx}

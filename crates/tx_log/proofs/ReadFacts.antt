@@ -15,27 +15,26 @@ use Rattle.std.proofs.lemmas.Bool.Decides.{nat_tests}
 use Rattle.tx_log.specs.Finds.{find_tx}
 use Rattle.tx_log.specs.Log.{kept_of, last_of, stack, chain, noted, IsNumbered}
 use Rattle.tx_log.specs.LogFields.{IsKept}
-use Rattle.tx_log.specs.LogState.{phase_of, undo_of, undo_step}
+use Rattle.tx_log.specs.LogState.{phase_of, undo_of, undo_step, rollback_phase}
 use Rattle.tx_log.specs.Places.{place_at}
-use Rattle.tx_log.specs.Stages.{phase_at, rollback_at, tx_at, txs_of}
+use Rattle.tx_log.specs.OpenTxs.{rollback_at, tx_at, txs_of}
 use Rattle.tx_log.specs.Transactions.{Tx, depth_of, live_in, left_in}
 use Rattle.tx_log.specs.Walks.{change_in, newest_in, is_after}
 use Rattle.tx_log.specs.declared.log_records.LogRecord.{LogRecord}
 use Rattle.tx_log.specs.declared.opened.OpenTx.{OpenTx}
-use Rattle.tx_log.specs.declared.opened.Stage.{Stage}
-use Rattle.tx_log.specs.declared.opened.Stage.TheVariants.{Forward, Back}
+use Rattle.tx_log.specs.declared.phases.Rollback.{Rollback}
 use Rattle.tx_log.specs.declared.phases.UndoStep.{UndoStep}
 use Rattle.tx_log.specs.declared.walks.LiveChange.{LiveChange}
 
 pub tx_none : (cs : List Kept) (es : List OpenTx) (t : ℕ) → find_tx t es ≡ None → maps.get (txs_of cs es) t ≡ None
 tx_none cs es t none = get-txs_of cs es t ∙ ap (option_map (tx_at cs)) none
 
-phase_case : (cs : List Kept) (t : ℕ) (s : Stage) (places : List ℕ) → phase_of (record { rollback = rollback_at t cs s; places = places }) ≡ phase_at s
-phase_case cs t Forward places = refl
-phase_case cs t (Back to ends) places = refl
+phase_case : (cs : List Kept) (t : ℕ) (s : Option Rollback) (places : List ℕ) → phase_of (record { rollback = rollback_at t cs s; places = places }) ≡ rollback_phase s
+phase_case cs t None places = refl
+phase_case cs t (Some r) places = refl
 
-pub phase_is : (cs : List Kept) (es : List OpenTx) (t : ℕ) (e : OpenTx) → find_tx t es ≡ Some e → option_map phase_of (maps.get (txs_of cs es) t) ≡ Some (phase_at e.stage)
-phase_is cs es t e found = ap (option_map phase_of) (tx_of_entry cs es t e found) ∙ ap Some (phase_case cs e.tx.0 e.stage (map (λ s. place_at e.tx.0 s cs) e.saves.items))
+pub phase_is : (cs : List Kept) (es : List OpenTx) (t : ℕ) (e : OpenTx) → find_tx t es ≡ Some e → option_map phase_of (maps.get (txs_of cs es) t) ≡ Some (rollback_phase e.rollback)
+phase_is cs es t e found = ap (option_map phase_of) (tx_of_entry cs es t e found) ∙ ap Some (phase_case cs e.tx.0 e.rollback (map (λ s. place_at e.tx.0 s cs) e.saves.items))
 
 pub depth_is : (cs : List Kept) (es : List OpenTx) (t : ℕ) (e : OpenTx) → find_tx t es ≡ Some e → depth_of (maps.get (txs_of cs es) t) ≡ length e.saves.items
 depth_is cs es t e found = ap depth_of (tx_of_entry cs es t e found) ∙ length-map e.saves.items (λ s. place_at e.tx.0 s cs)
@@ -75,34 +74,34 @@ above_is rs es begun pending gone t s e kept found =
     ∙ filter_noted s (stack t rs)
     ∙ ap (λ us. map noted (filter (is_after s) us)) (sym (chain_of rs t e.last kept.numbered kept.written ((found_fits rs begun t es e kept.fit found).last ∙ ap (λ k. last_of k rs) (found_number t es e found))))
 
-pub left_none : (cs : List Kept) (es : List OpenTx) (t : ℕ) (e : OpenTx) → find_tx t es ≡ Some e → e.stage ≡ Forward → left_in (history_of cs) t (maps.get (txs_of cs es) t) ≡ 0
+pub left_none : (cs : List Kept) (es : List OpenTx) (t : ℕ) (e : OpenTx) → find_tx t es ≡ Some e → e.rollback ≡ None → left_in (history_of cs) t (maps.get (txs_of cs es) t) ≡ 0
 left_none cs es t e found stage =
     ap (left_in (history_of cs) t) (tx_of_entry cs es t e found)
-    ∙ ap (λ (s : Stage). left_in (history_of cs) t (Some (record { rollback = rollback_at e.tx.0 cs s; places = map (λ k. place_at e.tx.0 k cs) e.saves.items }))) stage
+    ∙ ap (λ (s : Option Rollback). left_in (history_of cs) t (Some (record { rollback = rollback_at e.tx.0 cs s; places = map (λ k. place_at e.tx.0 k cs) e.saves.items }))) stage
 
-pub left_is : (rs : List LogRecord) (es : List OpenTx) (begun pending gone t to : ℕ) (ends : Bool) (e : OpenTx) → IsKept rs es begun pending gone → find_tx t es ≡ Some e → e.stage ≡ Back to ends → left_in (history_of (kept_of rs)) t (maps.get (txs_of (kept_of rs) es) t) ≡ length (filter (is_after to) (chain rs e.last))
-left_is rs es begun pending gone t to ends e kept found stage =
+pub left_is : (rs : List LogRecord) (es : List OpenTx) (begun pending gone t : ℕ) (r : Rollback) (e : OpenTx) → IsKept rs es begun pending gone → find_tx t es ≡ Some e → e.rollback ≡ Some r → left_in (history_of (kept_of rs)) t (maps.get (txs_of (kept_of rs) es) t) ≡ length (filter (is_after r.to) (chain rs e.last))
+left_is rs es begun pending gone t r e kept found stage =
     let cs = kept_of rs in
     ap (left_in (history_of cs) t) (tx_of_entry cs es t e found)
-    ∙ ap (λ (s : Stage). left_in (history_of cs) t (Some (record { rollback = rollback_at e.tx.0 cs s; places = map (λ k. place_at e.tx.0 k cs) e.saves.items }))) stage
-    ∙ ap (λ k. live_from (history_of cs) t (place_at k to cs)) (found_number t es e found)
-    ∙ live_from-place t to cs (length rs) (kept_rises rs kept.numbered)
-    ∙ ap length (above_is rs es begun pending gone t to e kept found)
-    ∙ length-map (filter (is_after to) (chain rs e.last)) noted
+    ∙ ap (λ (s : Option Rollback). left_in (history_of cs) t (Some (record { rollback = rollback_at e.tx.0 cs s; places = map (λ k. place_at e.tx.0 k cs) e.saves.items }))) stage
+    ∙ ap (λ k. live_from (history_of cs) t (place_at k r.to cs)) (found_number t es e found)
+    ∙ live_from-place t r.to cs (length rs) (kept_rises rs kept.numbered)
+    ∙ ap length (above_is rs es begun pending gone t r.to e kept found)
+    ∙ length-map (filter (is_after r.to) (chain rs e.last)) noted
 
-pub undo_none : (cs : List Kept) (es : List OpenTx) (t : ℕ) (e : OpenTx) → find_tx t es ≡ Some e → e.stage ≡ Forward → undo_of cs t (maps.get (txs_of cs es) t) ≡ None
+pub undo_none : (cs : List Kept) (es : List OpenTx) (t : ℕ) (e : OpenTx) → find_tx t es ≡ Some e → e.rollback ≡ None → undo_of cs t (maps.get (txs_of cs es) t) ≡ None
 undo_none cs es t e found stage =
     ap (undo_of cs t) (tx_of_entry cs es t e found)
-    ∙ ap (λ (s : Stage). undo_of cs t (Some (record { rollback = rollback_at e.tx.0 cs s; places = map (λ k. place_at e.tx.0 k cs) e.saves.items }))) stage
+    ∙ ap (λ (s : Option Rollback). undo_of cs t (Some (record { rollback = rollback_at e.tx.0 cs s; places = map (λ k. place_at e.tx.0 k cs) e.saves.items }))) stage
 
-pub undo_is : (rs : List LogRecord) (es : List OpenTx) (begun pending gone t to : ℕ) (ends : Bool) (e : OpenTx) → IsKept rs es begun pending gone → find_tx t es ≡ Some e → e.stage ≡ Back to ends → undo_of (kept_of rs) t (maps.get (txs_of (kept_of rs) es) t) ≡ first (map noted (filter (is_after to) (chain rs e.last)))
-undo_is rs es begun pending gone t to ends e kept found stage =
+pub undo_is : (rs : List LogRecord) (es : List OpenTx) (begun pending gone t : ℕ) (r : Rollback) (e : OpenTx) → IsKept rs es begun pending gone → find_tx t es ≡ Some e → e.rollback ≡ Some r → undo_of (kept_of rs) t (maps.get (txs_of (kept_of rs) es) t) ≡ first (map noted (filter (is_after r.to) (chain rs e.last)))
+undo_is rs es begun pending gone t r e kept found stage =
     let cs = kept_of rs in
     ap (undo_of cs t) (tx_of_entry cs es t e found)
-    ∙ ap (λ (s : Stage). undo_of cs t (Some (record { rollback = rollback_at e.tx.0 cs s; places = map (λ k. place_at e.tx.0 k cs) e.saves.items }))) stage
-    ∙ ap (λ k. newest_from cs t (place_at k to cs)) (found_number t es e found)
-    ∙ newest_from-place t to cs (length rs) (kept_rises rs kept.numbered)
-    ∙ ap first (above_is rs es begun pending gone t to e kept found)
+    ∙ ap (λ (s : Option Rollback). undo_of cs t (Some (record { rollback = rollback_at e.tx.0 cs s; places = map (λ k. place_at e.tx.0 k cs) e.saves.items }))) stage
+    ∙ ap (λ k. newest_from cs t (place_at k r.to cs)) (found_number t es e found)
+    ∙ newest_from-place t r.to cs (length rs) (kept_rises rs kept.numbered)
+    ∙ ap first (above_is rs es begun pending gone t r.to e kept found)
 
 abbrev pub undo_step_of : LiveChange → UndoStep
 undo_step_of c = record { key = c.key; before = c.before }
@@ -134,12 +133,12 @@ undo_head_case rs at to [] is e h = absurd (let no : false ≡ true = h in cc)
 undo_head_case rs at to (u ∷ us) is e h = (change_in u, refl)
 
 pub undo_head : (rs : List LogRecord) (es : List OpenTx) (begun pending gone t : ℕ) (e : OpenTx) → IsKept rs es begun pending gone → find_tx t es ≡ Some e → is_some (undo_of (kept_of rs) t (maps.get (txs_of (kept_of rs) es) t)) ≡ true → is_some (newest_in (chain rs e.last)) ≡ true
-undo_head rs es begun pending gone t e kept found h = stage_case e.stage refl
+undo_head rs es begun pending gone t e kept found h = rollback_case e.rollback refl
   where
-    stage_case : (s : Stage) → e.stage ≡ s → is_some (newest_in (chain rs e.last)) ≡ true
-    stage_case Forward f = absurd (let no : true ≡ false = sym h ∙ ap is_some (undo_none (kept_of rs) es t e found f) in cc)
-    stage_case (Back to ends) f =
-        let head = undo_head_case rs e.last to (chain rs e.last) kept.numbered refl (ap is_some (sym (undo_is rs es begun pending gone t to ends e kept found f)) ∙ h) in
+    rollback_case : (s : Option Rollback) → e.rollback ≡ s → is_some (newest_in (chain rs e.last)) ≡ true
+    rollback_case None f = absurd (let no : true ≡ false = sym h ∙ ap is_some (undo_none (kept_of rs) es t e found f) in cc)
+    rollback_case (Some r) f =
+        let head = undo_head_case rs e.last r.to (chain rs e.last) kept.numbered refl (ap is_some (sym (undo_is rs es begun pending gone t r e kept found f)) ∙ h) in
         ap is_some (sym head.1)
 
 above_case : (rs : List LogRecord) (at to : ℕ) (change : LiveChange) → IsNumbered rs → (step : IsStep rs at change) → is_some (first (map noted (filter (is_after to) (chain rs at)))) ≡ true → (b : Bool) → ltb to change.lsn ≡ b → first (map noted (filter (is_after to) (chain rs at))) ≡ Some (noted step.update)
@@ -153,10 +152,10 @@ above_case rs at to change is step h false up =
     absurd (let no : true ≡ false = sym h ∙ ap (λ xs. is_some (first (map noted xs))) (stops_at rs at change to is step low) in cc)
 
 pub undo_told : (rs : List LogRecord) (es : List OpenTx) (begun pending gone t : ℕ) (e : OpenTx) (change : LiveChange) → IsKept rs es begun pending gone → find_tx t es ≡ Some e → is_some (undo_of (kept_of rs) t (maps.get (txs_of (kept_of rs) es) t)) ≡ true → (step : IsStep rs e.last change) → undo_of (kept_of rs) t (maps.get (txs_of (kept_of rs) es) t) ≡ Some (noted step.update)
-undo_told rs es begun pending gone t e change kept found h step = stage_case e.stage refl
+undo_told rs es begun pending gone t e change kept found h step = rollback_case e.rollback refl
   where
-    stage_case : (s : Stage) → e.stage ≡ s → undo_of (kept_of rs) t (maps.get (txs_of (kept_of rs) es) t) ≡ Some (noted step.update)
-    stage_case Forward f = absurd (let no : true ≡ false = sym h ∙ ap is_some (undo_none (kept_of rs) es t e found f) in cc)
-    stage_case (Back to ends) f =
-        let told = undo_is rs es begun pending gone t to ends e kept found f in
-        told ∙ above_case rs e.last to change kept.numbered step (ap is_some (sym told) ∙ h) (ltb to change.lsn) refl
+    rollback_case : (s : Option Rollback) → e.rollback ≡ s → undo_of (kept_of rs) t (maps.get (txs_of (kept_of rs) es) t) ≡ Some (noted step.update)
+    rollback_case None f = absurd (let no : true ≡ false = sym h ∙ ap is_some (undo_none (kept_of rs) es t e found f) in cc)
+    rollback_case (Some r) f =
+        let told = undo_is rs es begun pending gone t r e kept found f in
+        told ∙ above_case rs e.last r.to change kept.numbered step (ap is_some (sym told) ∙ h) (ltb r.to change.lsn) refl

@@ -1,5 +1,5 @@
 -- Taking back makes no change live again, and a part of the live changes uses no more of the log.
-use Rattle.std.proofs.Common.{◌≡◌, ℕ, ◌+◌, ◌≤◌, zero, suc, Bool, true, false, cond, if◌then◌else◌, ◌&&◌, eqb, nat_lt, List, [], ◌∷◌, length, filter, refl, sym, subst, ◌∙◌, IsTrue, arith, inl, inr}
+use Rattle.std.proofs.Common.{◌≡◌, ℕ, ◌+◌, ◌≤◌, zero, suc, Bool, true, false, cond, if◌then◌else◌, ◌&&◌, eqb, nat_lt, List, [], ◌∷◌, length, filter, refl, sym, subst, ◌∙◌, arith, inl, inr}
 use Rattle.rec_types.specs.History.{Change, live_of, taken_back, live_from, take_back, take_newest, undo_last, is_taken, is_pending, log_use}
 use Rattle.tx_log.specs.Remaining.{Leaves, IsPart}
 

@@ -13,7 +13,7 @@ use Rattle.tx_log.specs.Fits.{AllFit}
 use Rattle.tx_log.specs.Log.{kept_of, last_of, stack, chain, noted}
 use Rattle.tx_log.specs.LogFields.{IsKept}
 use Rattle.tx_log.specs.Owners.{owner_of}
-use Rattle.tx_log.specs.Stages.{txs_of, opens}
+use Rattle.tx_log.specs.OpenTxs.{txs_of, opens}
 use Rattle.tx_log.specs.Transactions.{is_open}
 use Rattle.tx_log.specs.Walks.{change_in, is_at}
 use Rattle.tx_log.specs.declared.log_records.LogRecord.{LogRecord}

@@ -18,7 +18,7 @@ use Rattle.tx_log.specs.LogFields.{IsKept, IsRoomy}
 use Rattle.tx_log.specs.LogState.{LogState, update_in, undo_in, prev_in, compensations_of, compensations_in}
 use Rattle.tx_log.specs.Walks.{change_in}
 use Rattle.tx_log.specs.declared.walks.LiveChange.{LiveChange}
-use Rattle.tx_log.specs.Stages.{tx_at, txs_of}
+use Rattle.tx_log.specs.OpenTxs.{tx_at, txs_of}
 use Rattle.tx_log.specs.declared.log_records.LogRecord.{LogRecord}
 use Rattle.tx_log.specs.declared.log_records.LogRecord.TheVariants.{Update, Compensation}
 use Rattle.tx_log.specs.declared.opened.OpenTx.{OpenTx}

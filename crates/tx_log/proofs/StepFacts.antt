@@ -15,25 +15,24 @@ use Rattle.tx_log.proofs.OpenFacts.{found_fits, found_number, fit-set, opens-set
 use Rattle.tx_log.proofs.OwnerFacts.{kept_at, HeldBy, owned-push, owned-undone, begun-push, begun-undone}
 use Rattle.tx_log.proofs.WalkSteps.{IsStep}
 use Rattle.tx_log.specs.Finds.{find_tx, IsFirst}
-use Rattle.tx_log.specs.Fits.{AllUpTo, StageUpTo, FitsTx}
+use Rattle.tx_log.specs.Fits.{AllUpTo, RollbackUpTo, FitsTx}
 use Rattle.tx_log.specs.Log.{removes, leads_to, lsn_of, prev_of, tx_of, key_of, new_of, noted, kept_of, last_of, stepped, stack, chain, IsNumbered, Undoes, IsWritten, AllWritten}
 use Rattle.tx_log.specs.LogFields.{IsKept}
-use Rattle.tx_log.specs.Stages.{opens}
+use Rattle.tx_log.specs.OpenTxs.{opens}
 use Rattle.tx_log.specs.Walks.{change_in, is_at, takes_out}
 use Rattle.tx_log.specs.declared.log_records.LogRecord.{LogRecord}
 use Rattle.tx_log.specs.declared.log_records.LogRecord.TheVariants.{Update, Compensation}
 use Rattle.tx_log.specs.declared.opened.OpenTx.{OpenTx}
-use Rattle.tx_log.specs.declared.opened.Stage.{Stage}
-use Rattle.tx_log.specs.declared.opened.Stage.TheVariants.{Forward, Back}
+use Rattle.tx_log.specs.declared.phases.Rollback.{Rollback}
 use Rattle.tx_log.specs.declared.walks.LiveChange.{LiveChange}
 
 up_to_more : (n : ℕ) (ss : List ℕ) → AllUpTo n ss → AllUpTo (suc n) ss
 up_to_more n [] up = tt
 up_to_more n (s ∷ ss) up = (let low = up.0 in omega arith, up_to_more n ss up.1)
 
-stage_more : (n : ℕ) (s : Stage) → StageUpTo n s → StageUpTo (suc n) s
-stage_more n Forward up = tt
-stage_more n (Back to ends) up = omega arith
+rollback_more : (n : ℕ) (s : Option Rollback) → RollbackUpTo n s → RollbackUpTo (suc n) s
+rollback_more n None up = tt
+rollback_more n (Some r) up = omega arith
 
 -- ---- the other transactions
 
@@ -51,7 +50,7 @@ grow_other r rs n t e own other fits =
       removals = fits.removals ∙ sym (ap (λ (b : Bool). length (filter removes (cond b (stepped r (stack e.tx.0 rs)) (stack e.tx.0 rs)))) apart);
       saves = up_to_more (length rs) e.saves.items fits.saves;
       depth = fits.depth;
-      stage = stage_more (length rs) e.stage fits.stage;
+      rollback = rollback_more (length rs) e.rollback fits.rollback;
       some = fits.some;
       begun = fits.begun;
     }
@@ -60,7 +59,7 @@ grow_other r rs n t e own other fits =
 
 pub record IsOwnStep (r : LogRecord) (rs : List LogRecord) (n : ℕ) (e new : OpenTx) : Type 0 where
   pub tx : new.tx.0 ≡ e.tx.0
-  pub stage : new.stage ≡ e.stage
+  pub rollback : new.rollback ≡ e.rollback
   pub saves : new.saves.items ≡ e.saves.items
   pub mine : tx_of r ≡ e.tx.0
   pub last : new.last ≡ lsn_of r
@@ -79,7 +78,7 @@ grow_own r rs n e new fits step =
       removals = step.removals ∙ ap (λ (k : ℕ). length (filter removes (stepped r (stack k rs)))) (sym at) ∙ sym (ap (λ (b : Bool). length (filter removes (cond b (stepped r (stack new.tx.0 rs)) (stack new.tx.0 rs)))) (here new.tx.0 at));
       saves = subst (AllUpTo (suc (length rs))) (sym step.saves) (up_to_more (length rs) e.saves.items fits.saves);
       depth = subst (λ (ss : List ℕ). length ss ≤ most_savepoints) (sym step.saves) fits.depth;
-      stage = subst (StageUpTo (suc (length rs))) (sym step.stage) (stage_more (length rs) e.stage fits.stage);
+      rollback = subst (RollbackUpTo (suc (length rs))) (sym step.rollback) (rollback_more (length rs) e.rollback fits.rollback);
       some = subst (λ (k : ℕ). 0 < k) (sym at) fits.some;
       begun = subst (λ (k : ℕ). k ≤ n) (sym at) fits.begun;
     }
@@ -163,7 +162,7 @@ pub record IsAccepted (lsn prev : ℕ) (tx : TxId) (key : List ℕ) (after : Opt
   pub prev_is : prev ≡ e.last
   pub held : HeldBy (opens es) tx.0 key (kept_of rs)
   pub tx_same : new.tx.0 ≡ e.tx.0
-  pub stage_same : new.stage ≡ e.stage
+  pub rollback_same : new.rollback ≡ e.rollback
   pub saves_same : new.saves.items ≡ e.saves.items
   pub last_new : new.last ≡ lsn
   pub live_new : new.live ≡ e.live + 1
@@ -206,7 +205,7 @@ accepted lsn prev tx key before after rs es i begun pending gone_old pending_new
     let live_is : e.live ≡ length (stack e.tx.0 rs) = fits.live in
     let own : IsOwnStep r rs begun e new = record {
       tx = a.tx_same;
-      stage = a.stage_same;
+      rollback = a.rollback_same;
       saves = a.saves_same;
       mine = sym number;
       last = a.last_new;
@@ -233,7 +232,7 @@ pub record IsCompensated (lsn prev : ℕ) (tx : TxId) (change : LiveChange) (rs 
   pub prev_is : prev ≡ e.last
   pub step : IsStep rs prev change
   pub tx_same : new.tx.0 ≡ e.tx.0
-  pub stage_same : new.stage ≡ e.stage
+  pub rollback_same : new.rollback ≡ e.rollback
   pub saves_same : new.saves.items ≡ e.saves.items
   pub last_new : new.last ≡ lsn
   pub live_new : new.live + 1 ≡ e.live
@@ -302,7 +301,7 @@ compensated lsn prev tx change rs es i begun pending gone_old pending_new gone_n
     let live_left : new.live ≡ length us = (let n = a.live_new in omega arith) in
     let own : IsOwnStep r rs begun e new = record {
       tx = a.tx_same;
-      stage = a.stage_same;
+      rollback = a.rollback_same;
       saves = a.saves_same;
       mine = sym number;
       last = a.last_new;

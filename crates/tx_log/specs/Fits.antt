@@ -1,5 +1,5 @@
 -- What ties the open transactions to the log.
-use Rattle.std.specs.Prelude.{◌≡◌, ℕ, ◌<◌, ◌≤◌, ◌==◌, List, [], ◌∷◌, length, None}
+use Rattle.std.specs.Prelude.{◌≡◌, ℕ, ◌<◌, ◌≤◌, ◌==◌, List, [], ◌∷◌, length, Option, None, Some}
 use Rattle.std.specs.FinMap as maps
 use Rattle.std.specs.List.{filter}
 use Rattle.rec_types.specs.Kept.{history_of}
@@ -9,16 +9,15 @@ use Rattle.tx_log.specs.Finds.{find_tx}
 use Rattle.tx_log.specs.Transactions.{most_savepoints}
 use Rattle.tx_log.specs.declared.log_records.LogRecord.{LogRecord}
 use Rattle.tx_log.specs.declared.opened.OpenTx.{OpenTx}
-use Rattle.tx_log.specs.declared.opened.Stage.{Stage}
-use Rattle.tx_log.specs.declared.opened.Stage.TheVariants.{Forward, Back}
+use Rattle.tx_log.specs.declared.phases.Rollback.{Rollback}
 
 abbrev pub AllUpTo : ℕ → List ℕ → Type 0
 AllUpTo n [] = Unit {0}
 AllUpTo n (s ∷ ss) = (s ≤ n) × AllUpTo n ss
 
-abbrev pub StageUpTo : ℕ → Stage → Type 0
-StageUpTo n Forward = Unit {0}
-StageUpTo n (Back to ends) = to ≤ n
+abbrev pub RollbackUpTo : ℕ → Option Rollback → Type 0
+RollbackUpTo n None = Unit {0}
+RollbackUpTo n (Some r) = r.to ≤ n
 
 -- each record is of one of the first n transactions
 abbrev pub AllKnown : ℕ → List LogRecord → Type 0
@@ -33,7 +32,7 @@ pub record FitsTx (rs : List LogRecord) (n : ℕ) (e : OpenTx) : Type 0 where
   pub removals : e.removals ≡ length (filter removes (stack e.tx.0 rs))
   pub saves : AllUpTo (length rs) e.saves.items
   pub depth : length e.saves.items ≤ most_savepoints
-  pub stage : StageUpTo (length rs) e.stage
+  pub rollback : RollbackUpTo (length rs) e.rollback
   pub some : 0 < e.tx.0
   pub begun : e.tx.0 ≤ n
 

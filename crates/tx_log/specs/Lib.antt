@@ -8,7 +8,7 @@ pub mod LogLaws
 pub mod LogState
 pub mod Owners
 pub mod Places
-pub mod Stages
+pub mod OpenTxs
 pub mod Transactions
 pub mod Walks
 pub mod Remaining

@@ -9,7 +9,7 @@ use Rattle.tx_log.specs.Fits.{AllFit, AllKnown}
 use Rattle.tx_log.specs.Log.{kept_of, IsNumbered, AllWritten}
 use Rattle.tx_log.specs.LogState.{LogState}
 use Rattle.tx_log.specs.Owners.{absent}
-use Rattle.tx_log.specs.Stages.{txs_of, opens}
+use Rattle.tx_log.specs.OpenTxs.{txs_of, opens}
 use Rattle.tx_log.specs.declared.log_records.LogRecord.{LogRecord}
 use Rattle.tx_log.specs.declared.opened.OpenTx.{OpenTx}
 use Rattle.tx_log.specs.declared.logs.TxLog.TheInside.{Inside}

@@ -10,7 +10,8 @@ use Rattle.tx_log.specs.Log.{prev_of, record_at, last_of}
 use Rattle.tx_log.specs.LogCode.{coded_log_record}
 use Rattle.tx_log.specs.declared.log_records.LogRecord.{LogRecord}
 use Rattle.tx_log.specs.declared.log_records.LogRecord.TheVariants.{Update, Compensation}
-use Rattle.tx_log.specs.Transactions.{Transactions, Tx, Rollback, coded_transactions, is_open, place_in, most_savepoints}
+use Rattle.tx_log.specs.Transactions.{Transactions, Tx, coded_transactions, is_open, place_in, most_savepoints}
+use Rattle.tx_log.specs.declared.phases.Rollback.{Rollback}
 use Rattle.tx_log.specs.declared.phases.Phase.{Phase}
 use Rattle.tx_log.specs.declared.phases.Phase.TheVariants.{Active, Rolling}
 use Rattle.tx_log.specs.declared.phases.UndoStep.{UndoStep}

@@ -4,14 +4,10 @@ use Rattle.std.specs.Coded.{Coded, code_by, coded×, coded_ℕ, coded_bool, code
 use Rattle.std.specs.FinMap as maps
 use Rattle.std.specs.Ordering.{nat_cmp}
 use Rattle.rec_types.specs.History.{Change, live_from}
+use Rattle.tx_log.specs.declared.phases.Rollback.{Rollback}
 
--- a rollback under way: the place it goes back to, and whether the transaction ends with it
-pub record Rollback : Type 0 where
-  pub to : ℕ
-  pub ends : Bool
-
--- A transaction is active where no rollback is under way. Each savepoint keeps a place: how many changes the
--- transaction had made when it was set.
+-- A transaction is active where no rollback is under way; one goes back to a place. Each savepoint keeps a place: how
+-- many changes the transaction had made when it was set.
 pub record Tx : Type 0 where
   pub rollback : Option Rollback
   pub places : List ℕ

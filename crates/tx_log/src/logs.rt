@@ -7,7 +7,7 @@ ghost use Rattle.tx_log.specs.Transactions.{depth_of, live_in, left_in, fresh, m
 ghost use Rattle.tx_log.specs.Owners.{owner_of, holder_of, keys_owned, absent};
 ghost use Rattle.tx_log.specs.LogState.{new_log, history_in, open_in, tx_in, use_in, phase_in, undo_in, undo_step, places_in, active_with, rolling_to, finished, with_txs, with_update, with_compensation, IsRolling, IsLog};
 
-use crate::opened::{OpenTx, Stage, find_open, place_of, recount};
+use crate::opened::{OpenTx, find_open, place_of, recount};
 use crate::walks::{
     changed_keys, count_changes, find_change, is_taken_out, newest_above, newest_change,
 };
@@ -105,9 +105,9 @@ impl TxLog {
         let Some(open_tx) = find_open(&self.txs, tx) else {
             return 0;
         };
-        match open_tx.stage {
-            Stage::Forward => 0,
-            Stage::Back { to, .. } => count_changes(&self.records, open_tx.last, to),
+        match open_tx.rollback {
+            None => 0,
+            Some(rollback) => count_changes(&self.records, open_tx.last, rollback.to),
         }
     }
 
@@ -147,10 +147,10 @@ impl TxLog {
         let Some(open_tx) = find_open(&self.txs, tx) else {
             return None;
         };
-        let Stage::Back { to, .. } = open_tx.stage else {
+        let Some(rollback) = open_tx.rollback else {
             return None;
         };
-        match newest_above(&self.records, open_tx.last, to) {
+        match newest_above(&self.records, open_tx.last, rollback.to) {
             Some(change) => Some(UndoStep {
                 key: change.key,
                 before: change.before,
@@ -431,6 +431,6 @@ impl TxLog {
         let at = place_of(&self.txs, tx);
         self.room = None;
         let open_tx = &mut self.txs[at];
-        open_tx.stage = Stage::Forward;
+        open_tx.rollback = None;
     }
 }

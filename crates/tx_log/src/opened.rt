@@ -1,29 +1,23 @@
-ghost use Rattle.std.specs.Prelude.{◌≡◌, ℕ, ◌+◌, ◌-◌, ◌<◌, ◌≤◌, [], ◌∷◌, ◌++◌, ◌==◌, length, take, option_map, IsSome, IsTrue, if◌then◌else◌};
+ghost use Rattle.std.specs.Prelude.{◌≡◌, ℕ, ◌+◌, ◌-◌, ◌<◌, ◌≤◌, [], ◌∷◌, ◌++◌, ◌==◌, length, take, None, Some, option_map, IsSome, IsTrue, if◌then◌else◌};
 ghost use Rattle.std.specs.List.{position};
 ghost use Rattle.tx_log.specs.Transactions.{place_in, most_savepoints};
-ghost use Rattle.tx_log.specs.Stages.{phase_at, ends_at};
+ghost use Rattle.tx_log.specs.LogState.{rollback_phase};
+ghost use Rattle.tx_log.specs.OpenTxs.{ends_at};
 ghost use Rattle.tx_log.specs.Finds.{find_tx, IsFirst};
 
-use crate::Phase;
+use crate::phases::{Phase, Rollback};
 use arrayvec::ArrayVec;
 use rec_types::TxId;
 
 /// How many savepoints a transaction has at most.
 pub const MOST_SAVEPOINTS: usize = 32;
 
-/// Which way a transaction goes.
-#[derive(Clone, Copy, Debug)]
-pub enum Stage {
-    Forward,
-    /// Back, over the changes whose numbers are above `to`. Where `ends` is set the transaction ends there.
-    Back { to: u32, ends: bool },
-}
-
 /// A transaction that hasn't ended.
 #[derive(Drop)]
 pub struct OpenTx {
     pub tx: TxId,
-    pub stage: Stage,
+    /// The rollback under way, over the changes whose records have numbers above its `to`.
+    pub rollback: Option<Rollback>,
     /// The number of its newest log record, and 0 where it has none.
     pub last: u32,
     /// How many of its changes are live.
@@ -41,7 +35,7 @@ impl OpenTx {
     pub fn new(tx: TxId) -> OpenTx
         ensures { result ≡ record {
           tx = tx;
-          stage = Stage.Forward;
+          rollback = None;
           last = 0;
           live = 0;
           absent = 0;
@@ -51,7 +45,7 @@ impl OpenTx {
     {
         OpenTx {
             tx,
-            stage: Stage::Forward,
+            rollback: None,
             last: 0,
             live: 0,
             absent: 0,
@@ -62,21 +56,23 @@ impl OpenTx {
 
     /// Its phase.
     pub fn phase(&self) -> Phase
-        ensures { result ≡ phase_at self.now.stage }
+        ensures { result ≡ rollback_phase self.now.rollback }
     {
-        match self.stage {
-            Stage::Forward => Phase::Active,
-            Stage::Back { ends, .. } => Phase::Rolling { ends },
+        match self.rollback {
+            None => Phase::Active,
+            Some(rollback) => Phase::Rolling {
+                ends: rollback.ends,
+            },
         }
     }
 
     /// Whether it ends with the rollback under way.
     pub fn is_ending(&self) -> bool
-        ensures { result ≡ ends_at self.now.stage }
+        ensures { result ≡ ends_at self.now.rollback }
     {
-        match self.stage {
-            Stage::Forward => false,
-            Stage::Back { ends, .. } => ends,
+        match self.rollback {
+            None => false,
+            Some(rollback) => rollback.ends,
         }
     }
 
@@ -104,7 +100,7 @@ impl OpenTx {
     pub fn turn_back(&mut self, n: u32, ends: bool)
         requires { n ≤ length self.old.saves.items }
         ensures { self.new ≡ record self.old {
-          stage = Stage.Back (place_in self.old.saves.items n) ends;
+          rollback = Some (record { to = place_in self.old.saves.items n; ends = ends });
           saves = record { items = take n self.old.saves.items };
         } }
     {
@@ -114,7 +110,7 @@ impl OpenTx {
             self.saves[(n - 1) as usize]
         };
         self.keep_saves(n);
-        self.stage = Stage::Back { to, ends };
+        self.rollback = Some(Rollback { to, ends });
     }
 }
 

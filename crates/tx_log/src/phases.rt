@@ -9,6 +9,13 @@ pub enum Phase {
     Rolling { ends: bool },
 }
 
+/// A rollback under way: what it goes back to, and whether the transaction ends with it.
+#[derive(Clone, Copy, Debug)]
+pub struct Rollback {
+    pub to: u32,
+    pub ends: bool,
+}
+
 /// The next change that a rollback takes back: its key, and the record that stood there before.
 #[derive(Clone, Copy, Debug)]
 pub struct UndoStep {

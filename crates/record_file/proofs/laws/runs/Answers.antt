@@ -1,4 +1,4 @@
-use Rattle.std.proofs.Common.{◌≡◌, ℕ, ◌≤◌, ◌+◌, Bool, true, false, ◌&&◌, nat_le, List, refl, sym, ap, ◌∙◌, arith}
+use Rattle.std.proofs.Common.{◌≡◌, ℕ, ◌≤◌, ◌+◌, Bool, true, false, ◌&&◌, nat_le, is_none, List, refl, sym, ap, ◌∙◌, arith}
 use Rattle.std.proofs.lemmas.Bool.Decides.{nat_tests}
 use Rattle.std.specs.FinMap as maps
 use Rattle.std.specs.FinMap.{len-empty}
@@ -6,7 +6,7 @@ use Rattle.std.specs.Ordering.{nat_cmp}
 use Rattle.std.specs.Cmp.Lexicographic.{slice_cmp}
 use Rattle.rec_types.specs.LimitBounds.{Bounds}
 use Rattle.tx_log.specs.Transactions.{Transactions, fresh}
-use Rattle.record_file.specs.Abstract.{File, new_file, is_full}
+use Rattle.record_file.specs.Abstract.{File, new_file, is_full, charged_of}
 use Rattle.record_file.specs.Runs.{Seen}
 use Rattle.record_file.proofs.GrowFacts.{tells_none}
 use Rattle.record_file.proofs.laws.runs.Goals as goal
@@ -38,7 +38,8 @@ both false b is = absurd (cc)
 
 not_full : (f : File) (limits : Bounds) (key : List ℕ) (begun : ℕ) (txs : Transactions) → f ≡ record (new_file maps.empty limits) { begun = begun; txs = txs } → 1 ≤ limits.records → is_full f key ≡ true → ⊥
 not_full f limits key begun txs is some full =
-    let reached : nat_le limits.records (maps.len (maps.empty {K = List ℕ} {X = List ℕ} {R = slice_cmp nat_cmp})) ≡ true = both _ _ (sym (ap (λ (g : File). is_full g key) is) ∙ full) in
+    let started : File = record (new_file maps.empty limits) { begun = begun; txs = txs } in
+    let reached : nat_le limits.records (maps.len (maps.empty {K = List ℕ} {X = List ℕ} {R = slice_cmp nat_cmp})) ≡ true = both (is_none (maps.get (charged_of started) key)) (nat_le limits.records (maps.len (maps.empty {K = List ℕ} {X = List ℕ} {R = slice_cmp nat_cmp}))) (sym (ap (λ (g : File). is_full g key) is) ∙ full) in
     let none = len-empty (slice_cmp nat_cmp) (List ℕ) in
     absurd (omega (arith, some, at_most limits.records (maps.len (maps.empty {K = List ℕ} {X = List ℕ} {R = slice_cmp nat_cmp})) reached, none))
   where

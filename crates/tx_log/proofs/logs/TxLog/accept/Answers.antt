@@ -11,7 +11,7 @@ use Rattle.tx_log.proofs.StepFacts.{accepted, chain_of, IsAccepted}
 use Rattle.tx_log.proofs.StateFacts.{accept_state, kept_turned, txs_stay}
 use Rattle.tx_log.specs.Finds.{find_tx, IsFirst}
 use Rattle.tx_log.specs.Log.{removes, kept_of, last_of, stack, chain}
-use Rattle.tx_log.specs.Stages.{tx_at}
+use Rattle.tx_log.specs.OpenTxs.{tx_at}
 use Rattle.tx_log.specs.LogState.{LogState, phase_in, history_in, open_in, use_in, update_in}
 use Rattle.tx_log.specs.Owners.{holder_of}
 use Rattle.tx_log.specs.Walks.{change_in, is_at, takes_out}
@@ -133,7 +133,7 @@ pushed c =
     let ok = c.push.ensures.succeeds (omega (arith, spare)) in
     c.push.ensures.items ∙ ap (λ (b : Bool). cond b (l.records.items ++ Update (c.len.result + 1) c.index.result.now.last c.args.tx c.args.key c.args.before c.args.after ∷ []) l.records.items) ok
 
-step_of : (c : goal.After-self-4-1) → IsAccepted (c.len.result + 1) c.index.result.now.last c.args.tx c.args.key c.args.after (reverse c.self.inside.records.items) c.self.inside.txs.items c.self.inside.pending c.self.inside.gone (c.self.inside.pending + 1) c.recount-self-inside.result c.index.result.now record { tx = c.index_mut-open_tx.result.now.tx; stage = c.index_mut-open_tx.result.now.stage; last = c.len.result + 1; live = c.index_mut-open_tx.result.now.live + 1; absent = c.recount-open_tx.result; removals = c.recount-more.result; saves = c.index_mut-open_tx.result.now.saves }
+step_of : (c : goal.After-self-4-1) → IsAccepted (c.len.result + 1) c.index.result.now.last c.args.tx c.args.key c.args.after (reverse c.self.inside.records.items) c.self.inside.txs.items c.self.inside.pending c.self.inside.gone (c.self.inside.pending + 1) c.recount-self-inside.result c.index.result.now record { tx = c.index_mut-open_tx.result.now.tx; rollback = c.index_mut-open_tx.result.now.rollback; last = c.len.result + 1; live = c.index_mut-open_tx.result.now.live + 1; absent = c.recount-open_tx.result; removals = c.recount-more.result; saves = c.index_mut-open_tx.result.now.saves }
 step_of c =
     let l = c.self.inside in
     let rs = reverse l.records.items in
@@ -155,7 +155,7 @@ step_of c =
       prev_is = refl;
       held = held_of_free (kept_of rs) l.txs.items c.args.tx.0 c.args.key c.self.invariant.log_kept.owned (ap (λ (s : LogState). holder_of (open_in s) (history_in s) c.args.tx.0 c.args.key) c.self.view_is ∙ c.requires.free);
       tx_same = ap (λ (x : OpenTx). x.tx.0) same;
-      stage_same = ap (λ (x : OpenTx). x.stage) same;
+      rollback_same = ap (λ (x : OpenTx). x.rollback) same;
       saves_same = ap (λ (x : OpenTx). x.saves.items) same;
       last_new = refl;
       live_new = ap (λ (x : OpenTx). x.live + 1) same;
@@ -214,6 +214,6 @@ returns-clause-after c =
     let fits = found_fits rs l.begun t l.txs.items e kept.fit found in
     let step = step_of c in
     let r : LogRecord = Update (c.len.result + 1) e.last c.args.tx c.args.key c.args.before c.args.after in
-    let stay = txs_stay r rs l.begun t l.txs.items c.place_of-at.result record { tx = n.tx; stage = n.stage; last = c.len.result + 1; live = n.live + 1; absent = c.recount-open_tx.result; removals = c.recount-more.result; saves = n.saves } n step.lsn_is kept.fit first (step.tx_same ∙ found_number t l.txs.items e found) (ap (tx_at (kept_of (r ∷ rs))) c.index_mut-open_tx.ensures.value) in
+    let stay = txs_stay r rs l.begun t l.txs.items c.place_of-at.result record { tx = n.tx; rollback = n.rollback; last = c.len.result + 1; live = n.live + 1; absent = c.recount-open_tx.result; removals = c.recount-more.result; saves = n.saves } n step.lsn_is kept.fit first (step.tx_same ∙ found_number t l.txs.items e found) (ap (tx_at (kept_of (r ∷ rs))) c.index_mut-open_tx.ensures.value) in
     accept_state l.records.items c.push.new.self.items l.txs.items _ l.begun l.limits l.room (c.len.result + 1) e.last c.args.tx c.args.key c.args.before c.args.after kept.written (pushed c) (step.lsn_is ∙ ap (λ k. k + 1) (length-reverse l.records.items)) (fits.last ∙ ap (λ k. last_of k rs) (found_number t l.txs.items e found)) stay
     ∙ ap (λ (s : LogState). record s { records = s.records ++ update_in s c.args.tx c.args.key c.args.before c.args.after ∷ []; changes = s.changes ++ record { lsn = log_len (history_in s) + 1; tx = t; key = c.args.key; before = c.args.before; after = c.args.after; live = true } ∷ []; room = None }) c.self.view_is

@@ -15,7 +15,7 @@ invariant_of-self-2 c =
     let is = c.new.ensures in
     let roomy = c.self.invariant.roomy in
     record {
-      log_kept = begun_kept (reverse l.records.items) l.txs.items c.push.new.self.items l.begun l.pending l.gone new c.self.invariant.log_kept pushed (ap (λ (x : OpenTx). x.tx.0) is) (ap (λ (x : OpenTx). x.last) is) (ap (λ (x : OpenTx). x.live) is) (ap (λ (x : OpenTx). x.absent) is) (ap (λ (x : OpenTx). x.removals) is) (ap (λ (x : OpenTx). x.saves.items) is) (ap (λ (x : OpenTx). x.stage) is);
+      log_kept = begun_kept (reverse l.records.items) l.txs.items c.push.new.self.items l.begun l.pending l.gone new c.self.invariant.log_kept pushed (ap (λ (x : OpenTx). x.tx.0) is) (ap (λ (x : OpenTx). x.last) is) (ap (λ (x : OpenTx). x.live) is) (ap (λ (x : OpenTx). x.absent) is) (ap (λ (x : OpenTx). x.removals) is) (ap (λ (x : OpenTx). x.saves.items) is) (ap (λ (x : OpenTx). x.rollback) is);
       roomy = record {
         fits = roomy.fits;
         most_records = roomy.most_records;
@@ -32,7 +32,7 @@ returns-clause-ok c =
     let new = c.new.result in
     let pushed = c.push.ensures.items ∙ ap (λ (b : Bool). cond b (l.txs.items ++ new ∷ []) l.txs.items) (c.is_err.ensures.negation ∙ ap not c.if-is_err.false) in
     let is = c.new.ensures in
-    begun_state l.records.items l.txs.items c.push.new.self.items l.begun (l.begun + 1) l.limits l.room new c.self.invariant.log_kept.fit pushed (ap (λ (x : OpenTx). x.tx.0) is) refl (ap (λ (x : OpenTx). x.saves.items) is) (ap (λ (x : OpenTx). x.stage) is)
+    begun_state l.records.items l.txs.items c.push.new.self.items l.begun (l.begun + 1) l.limits l.room new c.self.invariant.log_kept.fit pushed (ap (λ (x : OpenTx). x.tx.0) is) refl (ap (λ (x : OpenTx). x.saves.items) is) (ap (λ (x : OpenTx). x.rollback) is)
     ∙ ap (λ (s : LogState). record s { begun = s.begun + 1; txs = maps.insert s.txs (s.begun + 1) fresh; room = None }) c.self.view_is
 
 pub returns-then-self-most-clause-kept : goal.returns-then-self-most-clause-kept

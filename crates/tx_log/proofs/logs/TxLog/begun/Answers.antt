@@ -1,9 +1,8 @@
-use Rattle.std.proofs.Common.{reverse, refl, subst, arith}
-use Rattle.std.proofs.lemmas.List.{length-reverse}
-use Rattle.tx_log.proofs.KeptFacts.{is_log, kept_now}
+use Rattle.std.proofs.Common.{subst}
+use Rattle.tx_log.proofs.KeptFacts.{kept_now}
 use Rattle.tx_log.proofs.LawFacts.{is_chained}
 use Rattle.tx_log.specs.LogLaws.{IsChained}
-use Rattle.tx_log.specs.LogState.{LogState, IsLog}
+use Rattle.tx_log.specs.LogState.{LogState}
 use Rattle.tx_log.proofs.logs.TxLog.begun.Goals as goal
 
 pub returns-clause-kept : goal.returns-clause-kept

@@ -14,7 +14,7 @@ use Rattle.tx_log.proofs.WalkSteps.{IsStep, walk_step}
 use Rattle.tx_log.specs.Finds.{find_tx, IsFirst}
 use Rattle.tx_log.specs.Log.{removes, kept_of, last_of, chain}
 use Rattle.tx_log.specs.LogState.{LogState, history_in, undo_in, compensations_in}
-use Rattle.tx_log.specs.Stages.{tx_at}
+use Rattle.tx_log.specs.OpenTxs.{tx_at}
 use Rattle.tx_log.specs.Walks.{change_in, newest_in, is_at, takes_out}
 use Rattle.tx_log.specs.declared.log_records.LogRecord.{LogRecord}
 use Rattle.tx_log.specs.declared.log_records.LogRecord.TheVariants.{Compensation}
@@ -220,7 +220,7 @@ pushed c =
     let ok = c.push.ensures.succeeds (omega (arith, counted.waits, c.self.invariant.roomy.held)) in
     c.push.ensures.items ∙ ap (λ (b : Bool). cond b (l.records.items ++ Compensation (c.len.result + 1) e.last c.args.tx change.key change.before change.prev ∷ []) l.records.items) ok
 
-taken_back : (c : goal.After-self-4-1) → IsCompensated (c.len.result + 1) c.index.result.now.last c.args.tx c.unwrap-change.result (reverse c.self.inside.records.items) c.self.inside.txs.items c.self.inside.pending c.self.inside.gone (c.self.inside.pending - 1) c.recount-self-inside.result c.index.result.now record { tx = c.index_mut-open_tx.result.now.tx; stage = c.index_mut-open_tx.result.now.stage; last = c.len.result + 1; live = c.index_mut-open_tx.result.now.live - 1; absent = c.recount-open_tx.result; removals = c.recount-fewer.result; saves = c.index_mut-open_tx.result.now.saves }
+taken_back : (c : goal.After-self-4-1) → IsCompensated (c.len.result + 1) c.index.result.now.last c.args.tx c.unwrap-change.result (reverse c.self.inside.records.items) c.self.inside.txs.items c.self.inside.pending c.self.inside.gone (c.self.inside.pending - 1) c.recount-self-inside.result c.index.result.now record { tx = c.index_mut-open_tx.result.now.tx; rollback = c.index_mut-open_tx.result.now.rollback; last = c.len.result + 1; live = c.index_mut-open_tx.result.now.live - 1; absent = c.recount-open_tx.result; removals = c.recount-fewer.result; saves = c.index_mut-open_tx.result.now.saves }
 taken_back c =
     let l = c.self.inside in
     let rs = reverse l.records.items in
@@ -245,7 +245,7 @@ taken_back c =
       prev_is = refl;
       step = step;
       tx_same = ap (λ (x : OpenTx). x.tx.0) same;
-      stage_same = ap (λ (x : OpenTx). x.stage) same;
+      rollback_same = ap (λ (x : OpenTx). x.rollback) same;
       saves_same = ap (λ (x : OpenTx). x.saves.items) same;
       last_new = refl;
       live_new = omega (arith, counted.live);
@@ -303,7 +303,7 @@ returns-clause-after c =
     let step = step_of c in
     let back = taken_back c in
     let r : LogRecord = Compensation (c.len.result + 1) e.last c.args.tx change.key change.before change.prev in
-    let stay = txs_stay r rs l.begun t l.txs.items c.place_of-at.result record { tx = n.tx; stage = n.stage; last = c.len.result + 1; live = n.live - 1; absent = c.recount-open_tx.result; removals = c.recount-fewer.result; saves = n.saves } n back.lsn_is kept.fit first (back.tx_same ∙ found_number t l.txs.items e found) (ap (tx_at (kept_of (r ∷ rs))) c.index_mut-open_tx.ensures.value) in
+    let stay = txs_stay r rs l.begun t l.txs.items c.place_of-at.result record { tx = n.tx; rollback = n.rollback; last = c.len.result + 1; live = n.live - 1; absent = c.recount-open_tx.result; removals = c.recount-fewer.result; saves = n.saves } n back.lsn_is kept.fit first (back.tx_same ∙ found_number t l.txs.items e found) (ap (tx_at (kept_of (r ∷ rs))) c.index_mut-open_tx.ensures.value) in
     let undo = undo_told rs l.txs.items l.begun l.pending l.gone t e change kept found (ap (λ (s : LogState). is_some (undo_in s t)) c.self.view_is ∙ c.requires) step in
     let told = told_compensation (state l.records.items l.txs.items l.begun l.limits l.room) c.args.tx (c.len.result + 1) e.last change step.update (back.lsn_is ∙ ap (λ k. k + 1) (length-reverse l.records.items)) (fits.last ∙ ap (λ k. last_of k rs) (found_number t l.txs.items e found)) undo step.told (record_of_chain l.records.items e.last step.update step.rest kept.numbered step.is) in
     compensate_state l.records.items c.push.new.self.items l.txs.items _ l.begun l.limits l.room (c.len.result + 1) e.last c.args.tx change.key change.before change.prev (pushed c) told stay

@@ -26,22 +26,22 @@ count_changes-requires-clause-within c =
     let t = c.args.tx.0 in
     let found = sym (c.in-Some.ensures ∙ ap (find_tx t) c.deref.ensures.value) in
     let size = sized (reverse l.records.items) l.txs.items l.begun l.pending l.gone t c.in-Some.open_tx.now c.self.invariant.log_kept found in
-    subst (λ (n : ℕ). c.in-Some.open_tx.now.last ≤ n) (length-reverse l.records.items ∙ ap length (sym c.deref-in-Back.ensures.value)) size.last
+    subst (λ (n : ℕ). c.in-Some.open_tx.now.last ≤ n) (length-reverse l.records.items ∙ ap length (sym c.deref-in-Some-rollback.ensures.value)) size.last
 
-pub returns-in-Forward : goal.returns-in-Forward
-returns-in-Forward c =
+pub returns-in-None : goal.returns-in-None
+returns-in-None c =
     let l = c.self.inside in
     let t = c.args.tx.0 in
     let found = sym (c.in-Some.ensures ∙ ap (find_tx t) c.deref.ensures.value) in
-    sym (left_none (kept_of (reverse l.records.items)) l.txs.items t c.in-Some.open_tx.now found c.in-Forward.is) ∙ ap (λ (s : LogState). left_in (history_in s) t (tx_in s t)) c.self.view_is
+    sym (left_none (kept_of (reverse l.records.items)) l.txs.items t c.in-Some.open_tx.now found c.in-None.is) ∙ ap (λ (s : LogState). left_in (history_in s) t (tx_in s t)) c.self.view_is
 
-pub returns-in-Back : goal.returns-in-Back
-returns-in-Back c =
+pub returns-in-Some-rollback : goal.returns-in-Some-rollback
+returns-in-Some-rollback c =
     let l = c.self.inside in
     let t = c.args.tx.0 in
     let e = c.in-Some.open_tx.now in
     let found = sym (c.in-Some.ensures ∙ ap (find_tx t) c.deref.ensures.value) in
     c.count_changes.ensures
-    ∙ ap (λ (log : List LogRecord). length (filter (is_after c.in-Back.to) (chain (reverse log) e.last))) c.deref-in-Back.ensures.value
-    ∙ sym (left_is (reverse l.records.items) l.txs.items l.begun l.pending l.gone t c.in-Back.to c.in-Back.ends e c.self.invariant.log_kept found c.in-Back.is)
+    ∙ ap (λ (log : List LogRecord). length (filter (is_after c.in-Some-rollback.rollback.to) (chain (reverse log) e.last))) c.deref-in-Some-rollback.ensures.value
+    ∙ sym (left_is (reverse l.records.items) l.txs.items l.begun l.pending l.gone t c.in-Some-rollback.rollback e c.self.invariant.log_kept found c.in-Some-rollback.is)
     ∙ ap (λ (s : LogState). left_in (history_in s) t (tx_in s t)) c.self.view_is

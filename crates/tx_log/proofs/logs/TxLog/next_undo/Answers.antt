@@ -26,12 +26,12 @@ newest_above-requires-clause-within c =
     let size = sized (reverse l.records.items) l.txs.items l.begun l.pending l.gone t c.in-Some.open_tx.now c.self.invariant.log_kept found in
     subst (λ (n : ℕ). c.in-Some.open_tx.now.last ≤ n) (length-reverse l.records.items ∙ ap length (sym c.deref-2.ensures.value)) size.last
 
-pub returns-in_default-stage : goal.returns-in_default-stage
-returns-in_default-stage c =
+pub returns-in_default-rollback : goal.returns-in_default-rollback
+returns-in_default-rollback c =
     let l = c.self.inside in
     let t = c.args.tx.0 in
     let found = sym (c.in-Some.ensures ∙ ap (find_tx t) c.deref.ensures.value) in
-    sym (ap (option_map undo_step) (undo_none (kept_of (reverse l.records.items)) l.txs.items t c.in-Some.open_tx.now found c.in_default-stage.is)) ∙ ap (λ (s : LogState). option_map undo_step (undo_in s t)) c.self.view_is
+    sym (ap (option_map undo_step) (undo_none (kept_of (reverse l.records.items)) l.txs.items t c.in-Some.open_tx.now found c.in_default-rollback.is)) ∙ ap (λ (s : LogState). option_map undo_step (undo_in s t)) c.self.view_is
 
 pub returns-in-Some-newest_above : goal.returns-in-Some-newest_above
 returns-in-Some-newest_above c =
@@ -39,9 +39,9 @@ returns-in-Some-newest_above c =
     let t = c.args.tx.0 in
     let e = c.in-Some.open_tx.now in
     let found = sym (c.in-Some.ensures ∙ ap (find_tx t) c.deref.ensures.value) in
-    undo_case (filter (is_after c.in-Back.to) (chain (reverse l.records.items) e.last)) c.in-Some-newest_above.change
-    (c.in-Some-newest_above.ensures ∙ ap (λ (log : List LogRecord). newest_in (filter (is_after c.in-Back.to) (chain (reverse log) e.last))) c.deref-2.ensures.value)
-    ∙ ap (option_map undo_step) (sym (undo_is (reverse l.records.items) l.txs.items l.begun l.pending l.gone t c.in-Back.to c.in-Back.ends e c.self.invariant.log_kept found c.in-Back.is))
+    undo_case (filter (is_after c.in-Some-rollback.rollback.to) (chain (reverse l.records.items) e.last)) c.in-Some-newest_above.change
+    (c.in-Some-newest_above.ensures ∙ ap (λ (log : List LogRecord). newest_in (filter (is_after c.in-Some-rollback.rollback.to) (chain (reverse log) e.last))) c.deref-2.ensures.value)
+    ∙ ap (option_map undo_step) (sym (undo_is (reverse l.records.items) l.txs.items l.begun l.pending l.gone t c.in-Some-rollback.rollback e c.self.invariant.log_kept found c.in-Some-rollback.is))
     ∙ ap (λ (s : LogState). option_map undo_step (undo_in s t)) c.self.view_is
 
 pub returns-in-None : goal.returns-in-None
@@ -50,7 +50,7 @@ returns-in-None c =
     let t = c.args.tx.0 in
     let e = c.in-Some.open_tx.now in
     let found = sym (c.in-Some.ensures ∙ ap (find_tx t) c.deref.ensures.value) in
-    no_undo_case (filter (is_after c.in-Back.to) (chain (reverse l.records.items) e.last))
-    (c.in-None.ensures ∙ ap (λ (log : List LogRecord). newest_in (filter (is_after c.in-Back.to) (chain (reverse log) e.last))) c.deref-2.ensures.value)
-    ∙ ap (option_map undo_step) (sym (undo_is (reverse l.records.items) l.txs.items l.begun l.pending l.gone t c.in-Back.to c.in-Back.ends e c.self.invariant.log_kept found c.in-Back.is))
+    no_undo_case (filter (is_after c.in-Some-rollback.rollback.to) (chain (reverse l.records.items) e.last))
+    (c.in-None.ensures ∙ ap (λ (log : List LogRecord). newest_in (filter (is_after c.in-Some-rollback.rollback.to) (chain (reverse log) e.last))) c.deref-2.ensures.value)
+    ∙ ap (option_map undo_step) (sym (undo_is (reverse l.records.items) l.txs.items l.begun l.pending l.gone t c.in-Some-rollback.rollback e c.self.invariant.log_kept found c.in-Some-rollback.is))
     ∙ ap (λ (s : LogState). option_map undo_step (undo_in s t)) c.self.view_is

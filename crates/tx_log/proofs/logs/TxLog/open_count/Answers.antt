@@ -1,4 +1,4 @@
-use Rattle.std.proofs.Common.{◌≡◌, ◌≤◌, ◌<◌, ℕ, length, reverse, vec_len, refl, sym, ap, subst, ◌∙◌, arith, Fits, w32}
+use Rattle.std.proofs.Common.{◌≡◌, length, reverse, vec_len, refl, sym, ap, ◌∙◌, arith}
 use Rattle.std.proofs.lemmas.List.{length-reverse}
 use Rattle.std.specs.FinMap as maps
 use Rattle.tx_log.specs.LogState.{LogState}

@@ -1,6 +1,6 @@
 use Rattle.std.proofs.Common.{ℕ, ◌-◌, List, None, length, take, reverse, is_some, sym, ap, subst, ◌∙◌}
 use Rattle.std.specs.FinMap as maps
-use Rattle.tx_log.proofs.KeptFacts.{entry_is, open_of_phase, active_stage, kept_now}
+use Rattle.tx_log.proofs.KeptFacts.{entry_is, open_of_phase, active_rollback, kept_now}
 use Rattle.tx_log.proofs.MovedFacts.{moved, IsMove, moved_kept, moved_state, places_are, up_to_take, kept_saves, short_take}
 use Rattle.tx_log.proofs.OpenFacts.{found_fits}
 use Rattle.tx_log.proofs.StateFacts.{state, unroomed}
@@ -9,7 +9,6 @@ use Rattle.tx_log.specs.Log.{kept_of}
 use Rattle.tx_log.specs.LogState.{LogState, phase_in, places_in, active_with}
 use Rattle.tx_log.specs.Transactions.{Tx}
 use Rattle.tx_log.specs.declared.opened.OpenTx.{OpenTx}
-use Rattle.tx_log.specs.declared.opened.Stage.TheVariants.{Forward}
 use Rattle.tx_log.specs.declared.phases.Phase.TheVariants.{Active}
 use Rattle.tx_log.proofs.logs.TxLog.release.Goals as goal
 
@@ -29,11 +28,11 @@ invariant_of-self c =
     let found = entry_is t c.deref.result.now l.txs.items c.place_of-at.result e c.deref.ensures.value c.place_of-at.ensures.first c.index_mut-open_tx.ensures.value in
     let first = subst (λ (xs : List OpenTx). IsFirst t xs c.place_of-at.result) c.deref.ensures.value c.place_of-at.ensures.first in
     let fits = found_fits rs l.begun t l.txs.items e c.self.invariant.log_kept.fit found in
-    let stage_is = active_stage (kept_of rs) l.txs.items t e found (ap (λ (s : LogState). phase_in s t) c.self.view_is ∙ c.requires.active) in
-    let new_is = c.keep_saves.ensures ∙ ap (λ s. moved e s (take (c.args.n - 1) e.saves.items)) stage_is in
-    let move : IsMove rs (Forward) (take (c.args.n - 1) e.saves.items) = record { saves = up_to_take (c.args.n - 1) (length rs) e.saves.items fits.saves; depth = short_take (c.args.n - 1) 32 e.saves.items fits.depth; stage = tt } in
+    let rollback_is = active_rollback (kept_of rs) l.txs.items t e found (ap (λ (s : LogState). phase_in s t) c.self.view_is ∙ c.requires.active) in
+    let new_is = c.keep_saves.ensures ∙ ap (λ s. moved e s (take (c.args.n - 1) e.saves.items)) rollback_is in
+    let move : IsMove rs None (take (c.args.n - 1) e.saves.items) = record { saves = up_to_take (c.args.n - 1) (length rs) e.saves.items fits.saves; depth = short_take (c.args.n - 1) 32 e.saves.items fits.depth; rollback = tt } in
     record {
-      log_kept = moved_kept rs l.txs.items l.begun l.pending l.gone t c.place_of-at.result e _ (Forward) (take (c.args.n - 1) e.saves.items) c.self.invariant.log_kept first found new_is move;
+      log_kept = moved_kept rs l.txs.items l.begun l.pending l.gone t c.place_of-at.result e _ None (take (c.args.n - 1) e.saves.items) c.self.invariant.log_kept first found new_is move;
       roomy = unroomed _ _ _ _ _ _ c.self.invariant.roomy;
     }
 
@@ -46,12 +45,12 @@ returns-clause-after c =
     let found = entry_is t c.deref.result.now l.txs.items c.place_of-at.result e c.deref.ensures.value c.place_of-at.ensures.first c.index_mut-open_tx.ensures.value in
     let first = subst (λ (xs : List OpenTx). IsFirst t xs c.place_of-at.result) c.deref.ensures.value c.place_of-at.ensures.first in
     let fits = found_fits rs l.begun t l.txs.items e c.self.invariant.log_kept.fit found in
-    let stage_is = active_stage (kept_of rs) l.txs.items t e found (ap (λ (s : LogState). phase_in s t) c.self.view_is ∙ c.requires.active) in
-    let new_is = c.keep_saves.ensures ∙ ap (λ s. moved e s (take (c.args.n - 1) e.saves.items)) stage_is in
+    let rollback_is = active_rollback (kept_of rs) l.txs.items t e found (ap (λ (s : LogState). phase_in s t) c.self.view_is ∙ c.requires.active) in
+    let new_is = c.keep_saves.ensures ∙ ap (λ s. moved e s (take (c.args.n - 1) e.saves.items)) rollback_is in
     let cs = kept_of rs in
     let old = state l.records.items l.txs.items l.begun l.limits l.room in
     let are = places_are l.records.items l.txs.items l.begun l.limits l.room t e found in
-    moved_state l.records.items l.txs.items l.begun l.limits l.room t c.place_of-at.result e _ (Forward) (take (c.args.n - 1) e.saves.items) first found new_is
+    moved_state l.records.items l.txs.items l.begun l.limits l.room t c.place_of-at.result e _ None (take (c.args.n - 1) e.saves.items) first found new_is
     ∙ ap (λ (x : Tx). record old { txs = maps.insert old.txs t x; room = None }) (kept_saves rs t (c.args.n - 1) e.saves.items ∙ ap (λ (ps : List ℕ). active_with (take (c.args.n - 1) ps)) (sym are))
     ∙ ap (λ (s : LogState). record s { txs = maps.insert s.txs t (active_with (take (c.args.n - 1) (places_in s t))); room = None }) c.self.view_is
 

@@ -3,7 +3,7 @@ use Rattle.std.specs.FinMap as maps
 use Rattle.rec_types.specs.History.{own_count}
 use Rattle.rec_types.specs.Kept.{history_of}
 use Rattle.tx_log.proofs.Chains.{last_of-le}
-use Rattle.tx_log.proofs.KeptFacts.{entry_is, open_of_phase, active_stage, kept_now}
+use Rattle.tx_log.proofs.KeptFacts.{entry_is, open_of_phase, active_rollback, kept_now}
 use Rattle.tx_log.proofs.MovedFacts.{moved, IsMove, moved_kept, moved_state, places_are, up_to_push, saved_is}
 use Rattle.tx_log.proofs.OpenFacts.{found_fits, found_number}
 use Rattle.tx_log.proofs.ReadFacts.{depth_is}
@@ -13,7 +13,6 @@ use Rattle.tx_log.specs.Log.{kept_of, last_of}
 use Rattle.tx_log.specs.LogState.{LogState, phase_in, tx_in, places_in, history_in, active_with}
 use Rattle.tx_log.specs.Transactions.{Tx, depth_of, most_savepoints}
 use Rattle.tx_log.specs.declared.opened.OpenTx.{OpenTx}
-use Rattle.tx_log.specs.declared.opened.Stage.TheVariants.{Forward}
 use Rattle.tx_log.specs.declared.phases.Phase.TheVariants.{Active}
 use Rattle.tx_log.proofs.logs.TxLog.savepoint.Goals as goal
 
@@ -50,14 +49,14 @@ invariant_of-self c =
     let found = entry_is t c.deref.result.now l.txs.items c.place_of-at.result e c.deref.ensures.value c.place_of-at.ensures.first c.index_mut-open_tx.ensures.value in
     let first = subst (λ (xs : List OpenTx). IsFirst t xs c.place_of-at.result) c.deref.ensures.value c.place_of-at.ensures.first in
     let fits = found_fits rs l.begun t l.txs.items e c.self.invariant.log_kept.fit found in
-    let stage_is = active_stage (kept_of rs) l.txs.items t e found (ap (λ (s : LogState). phase_in s t) c.self.view_is ∙ c.requires.active) in
-    let new_is = c.save.ensures ∙ ap (λ s. moved e s (e.saves.items ++ e.last ∷ [])) stage_is in
+    let rollback_is = active_rollback (kept_of rs) l.txs.items t e found (ap (λ (s : LogState). phase_in s t) c.self.view_is ∙ c.requires.active) in
+    let new_is = c.save.ensures ∙ ap (λ s. moved e s (e.saves.items ++ e.last ∷ [])) rollback_is in
     let last_low : e.last ≤ length rs = (let at = fits.last in omega (arith, last_of-le rs e.tx.0 c.self.invariant.log_kept.numbered)) in
     let depth_now : length e.saves.items < most_savepoints = subst (λ (n : ℕ). n < most_savepoints) (ap (λ (s : LogState). depth_of (tx_in s t)) (sym c.self.view_is) ∙ depth_is (kept_of rs) l.txs.items t e found) c.requires.room in
     let longer : length (e.saves.items ++ e.last ∷ []) ≤ most_savepoints = omega (arith, length-append e.saves.items (e.last ∷ [])) in
-    let move : IsMove rs (Forward) (e.saves.items ++ e.last ∷ []) = record { saves = up_to_push (length rs) e.saves.items e.last last_low fits.saves; depth = longer; stage = tt } in
+    let move : IsMove rs None (e.saves.items ++ e.last ∷ []) = record { saves = up_to_push (length rs) e.saves.items e.last last_low fits.saves; depth = longer; rollback = tt } in
     record {
-      log_kept = moved_kept rs l.txs.items l.begun l.pending l.gone t c.place_of-at.result e _ (Forward) (e.saves.items ++ e.last ∷ []) c.self.invariant.log_kept first found new_is move;
+      log_kept = moved_kept rs l.txs.items l.begun l.pending l.gone t c.place_of-at.result e _ None (e.saves.items ++ e.last ∷ []) c.self.invariant.log_kept first found new_is move;
       roomy = unroomed _ _ _ _ _ _ c.self.invariant.roomy;
     }
 
@@ -70,12 +69,12 @@ returns-clause-after c =
     let found = entry_is t c.deref.result.now l.txs.items c.place_of-at.result e c.deref.ensures.value c.place_of-at.ensures.first c.index_mut-open_tx.ensures.value in
     let first = subst (λ (xs : List OpenTx). IsFirst t xs c.place_of-at.result) c.deref.ensures.value c.place_of-at.ensures.first in
     let fits = found_fits rs l.begun t l.txs.items e c.self.invariant.log_kept.fit found in
-    let stage_is = active_stage (kept_of rs) l.txs.items t e found (ap (λ (s : LogState). phase_in s t) c.self.view_is ∙ c.requires.active) in
-    let new_is = c.save.ensures ∙ ap (λ s. moved e s (e.saves.items ++ e.last ∷ [])) stage_is in
+    let rollback_is = active_rollback (kept_of rs) l.txs.items t e found (ap (λ (s : LogState). phase_in s t) c.self.view_is ∙ c.requires.active) in
+    let new_is = c.save.ensures ∙ ap (λ s. moved e s (e.saves.items ++ e.last ∷ [])) rollback_is in
     let cs = kept_of rs in
     let old = state l.records.items l.txs.items l.begun l.limits l.room in
     let are = places_are l.records.items l.txs.items l.begun l.limits l.room t e found in
-    moved_state l.records.items l.txs.items l.begun l.limits l.room t c.place_of-at.result e _ (Forward) (e.saves.items ++ e.last ∷ []) first found new_is
+    moved_state l.records.items l.txs.items l.begun l.limits l.room t c.place_of-at.result e _ None (e.saves.items ++ e.last ∷ []) first found new_is
     ∙ ap (λ (x : Tx). record old { txs = maps.insert old.txs t x; room = None }) (saved_is rs t e.last e.saves.items c.self.invariant.log_kept.numbered (fits.last ∙ ap (λ k. last_of k rs) (found_number t l.txs.items e found)) ∙ ap (λ (ps : List ℕ). active_with (ps ++ own_count (history_of cs) t ∷ [])) (sym are))
     ∙ ap (λ (s : LogState). record s { txs = maps.insert s.txs t (active_with (places_in s t ++ own_count (history_in s) t ∷ [])); room = None }) c.self.view_is
 

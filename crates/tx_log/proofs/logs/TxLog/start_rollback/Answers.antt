@@ -1,4 +1,4 @@
-use Rattle.std.proofs.Common.{ℕ, ◌≤◌, List, None, length, take, reverse, is_some, sym, ap, subst, ◌∙◌}
+use Rattle.std.proofs.Common.{Some, ℕ, ◌≤◌, List, None, length, take, reverse, is_some, sym, ap, subst, ◌∙◌}
 use Rattle.std.specs.FinMap as maps
 use Rattle.tx_log.proofs.KeptFacts.{entry_is, open_of_phase, kept_now}
 use Rattle.tx_log.proofs.MovedFacts.{IsMove, moved_kept, moved_state, places_are, up_to_take, up_to_place, rolling_is, short_take}
@@ -10,7 +10,6 @@ use Rattle.tx_log.specs.Log.{kept_of}
 use Rattle.tx_log.specs.LogState.{LogState, phase_in, tx_in, places_in, rolling_to}
 use Rattle.tx_log.specs.Transactions.{Tx, depth_of, place_in}
 use Rattle.tx_log.specs.declared.opened.OpenTx.{OpenTx}
-use Rattle.tx_log.specs.declared.opened.Stage.TheVariants.{Back}
 use Rattle.tx_log.specs.declared.phases.Phase.TheVariants.{Active}
 use Rattle.tx_log.proofs.logs.TxLog.start_rollback.Goals as goal
 
@@ -39,9 +38,9 @@ invariant_of-self c =
     let found = entry_is t c.deref.result.now l.txs.items c.place_of-at.result e c.deref.ensures.value c.place_of-at.ensures.first c.index_mut-open_tx.ensures.value in
     let first = subst (λ (xs : List OpenTx). IsFirst t xs c.place_of-at.result) c.deref.ensures.value c.place_of-at.ensures.first in
     let fits = found_fits rs l.begun t l.txs.items e c.self.invariant.log_kept.fit found in
-    let move : IsMove rs (Back (place_in e.saves.items c.args.n) c.args.ends) (take c.args.n e.saves.items) = record { saves = up_to_take c.args.n (length rs) e.saves.items fits.saves; depth = short_take c.args.n 32 e.saves.items fits.depth; stage = up_to_place (length rs) e.saves.items c.args.n fits.saves } in
+    let move : IsMove rs (Some (record { to = place_in e.saves.items c.args.n; ends = c.args.ends })) (take c.args.n e.saves.items) = record { saves = up_to_take c.args.n (length rs) e.saves.items fits.saves; depth = short_take c.args.n 32 e.saves.items fits.depth; rollback = up_to_place (length rs) e.saves.items c.args.n fits.saves } in
     record {
-      log_kept = moved_kept rs l.txs.items l.begun l.pending l.gone t c.place_of-at.result e _ (Back (place_in e.saves.items c.args.n) c.args.ends) (take c.args.n e.saves.items) c.self.invariant.log_kept first found c.turn_back.ensures move;
+      log_kept = moved_kept rs l.txs.items l.begun l.pending l.gone t c.place_of-at.result e _ (Some (record { to = place_in e.saves.items c.args.n; ends = c.args.ends })) (take c.args.n e.saves.items) c.self.invariant.log_kept first found c.turn_back.ensures move;
       roomy = unroomed _ _ _ _ _ _ c.self.invariant.roomy;
     }
 
@@ -57,7 +56,7 @@ returns-clause-after c =
     let cs = kept_of rs in
     let old = state l.records.items l.txs.items l.begun l.limits l.room in
     let are = places_are l.records.items l.txs.items l.begun l.limits l.room t e found in
-    moved_state l.records.items l.txs.items l.begun l.limits l.room t c.place_of-at.result e _ (Back (place_in e.saves.items c.args.n) c.args.ends) (take c.args.n e.saves.items) first found c.turn_back.ensures
+    moved_state l.records.items l.txs.items l.begun l.limits l.room t c.place_of-at.result e _ (Some (record { to = place_in e.saves.items c.args.n; ends = c.args.ends })) (take c.args.n e.saves.items) first found c.turn_back.ensures
     ∙ ap (λ (x : Tx). record old { txs = maps.insert old.txs t x; room = None }) (rolling_is rs t c.args.n c.args.ends e.saves.items c.self.invariant.log_kept.numbered ∙ ap (λ (ps : List ℕ). rolling_to ps c.args.n c.args.ends) (sym are))
     ∙ ap (λ (s : LogState). record s { txs = maps.insert s.txs t (rolling_to (places_in s t) c.args.n c.args.ends); room = None }) c.self.view_is
 

@@ -1,7 +1,6 @@
-use Rattle.std.proofs.Common.{◌≡◌, ℕ, ◌-◌, ◌<◌, List, get_or, sym, ap, ◌∙◌, arith}
+use Rattle.std.proofs.Common.{Some, ◌≡◌, ℕ, ◌-◌, ◌<◌, List, get_or, sym, ap, ◌∙◌, arith}
 use Rattle.tx_log.proofs.LogIndex.{place_in-at}
 use Rattle.tx_log.specs.Transactions.{place_in}
-use Rattle.tx_log.specs.declared.opened.Stage.TheVariants.{Back}
 use Rattle.tx_log.proofs.opened.OpenTx.turn_back.Goals as goal
 use Rattle.tx_log.proofs.opened.OpenTx.turn_back.Goals.{then-n-eq0, else-n-eq0}
 
@@ -17,4 +16,4 @@ save_is c =
     ]
 
 pub returns : goal.returns
-returns c = λ i. record (c.keep_saves.ensures i) { stage = Back (save_is c i) c.args.ends }
+returns c = λ i. record (c.keep_saves.ensures i) { rollback = Some (record { to = save_is c i; ends = c.args.ends }) }
