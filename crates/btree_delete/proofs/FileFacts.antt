@@ -1,9 +1,10 @@
 -- The pages of a closed file.
-use Rattle.std.proofs.Common.{◌≡◌, ℕ, zero, suc, ◌+◌, ◌<◌, ◌≤◌, ◌⊎◌, inl, inr, Bool, true, false, cond, ◌||◌, eqb, nat_lt, Option, Some, None, IsSome, IsTrue, Result, Ok, Err, List, length, slice_get, refl, ap, sym, ◌∙◌, subst, arith}
+use Rattle.std.proofs.Common.{◌≡◌, ℕ, zero, suc, ◌+◌, ◌<◌, ◌≤◌, ◌⊎◌, ⊎_elim, inl, inr, Bool, true, false, cond, ◌||◌, eqb, nat_lt, Option, Some, None, IsSome, IsTrue, Result, Ok, Err, List, length, slice_get, refl, ap, sym, ◌∙◌, subst, arith}
 use Rattle.std.proofs.lemmas.Bool.Decides.{nat_tests}
 use Rattle.std.proofs.lemmas.List.{get_or_past}
 use Rattle.std.proofs.lemmas.Option.{slice_get_past}
-use Rattle.rec_types.specs.Table.{counted}
+use Rattle.rec_types.specs.Contents.{Contents}
+use Rattle.rec_types.specs.Table.{Damages, counted}
 use Rattle.page_store.specs.Calls.{counted_times}
 use Rattle.page_store.specs.PageMap.{PageMap, at}
 use Rattle.page_store.specs.PagesView.{PagesView}
@@ -20,11 +21,12 @@ use Rattle.btree_insert.proofs.GrowFacts.{tree_move}
 use Rattle.btree_insert.proofs.Membership.{each_in}
 use Rattle.btree_delete.specs.declared.opening.OpenFault.{OpenFault}
 use Rattle.btree_delete.specs.declared.opening.OpenFault.TheVariants.{Device, BadLength, BadMagic, BadVersion, BadOrder, NotClean, BadHeader, Damaged, WrongCount, TooManyRecords, Memory}
-use Rattle.btree_delete.specs.Survey.{Measured}
+use Rattle.btree_delete.specs.Survey.{AreFree, Measured}
 use Rattle.btree_delete.specs.CleanFile.{in_file, Begins, HasTree, IsFirst, FailsTree, Opens}
 use Rattle.btree_delete.specs.TableView.{HoldsTree, IsClosed, IsTable}
 use Rattle.btree_delete.proofs.SurveyFacts.{counted_before}
 use Rattle.btree_delete.proofs.MeasureFacts.{root_in_use, below_count}
+use Rattle.btree_delete.proofs.TableFacts.{is_in}
 
 -- page n of a file with free numbers
 abbrev pub shown_as : List (List ℕ) → (ℕ → Bool) → ℕ → Option (List ℕ)
@@ -79,6 +81,25 @@ moved stored pages count free old tree es us count_is long shown out old_is old_
     let no_free = not_true (free q) (out q is) in
     shown q (omega (arith, low, old_long)) ∙ ap (λ (b : Bool). cond (eqb q 0 || b) None (slice_get stored q)) no_free ∙ ap (λ (b : Bool). cond b None (slice_get stored q)) (or_false (eqb q 0)) ∙ sym (ap (λ (f : PageMap). f q) old_is))
 
+some_is_no_none : (o : Option (List ℕ)) → IsSome o → o ≡ None → ⊥
+some_is_no_none (Some x) some is = absurd (cc)
+some_is_no_none None some is = absurd (cc)
+
+-- where the other numbers are free, no other page is in use
+alone_in : (stored : List (List ℕ)) (pages : List (Option (List ℕ))) (free : ℕ → Bool) (us : List ℕ) (count : ℕ) → count ≡ length stored → length pages ≡ length stored → ((n : ℕ) → n < length stored → at pages n ≡ shown_as stored free n) → AreFree count us free
+    → (n : ℕ) → IsSome (at pages n) → IsIn n us
+alone_in stored pages free us count count_is long shown others n there =
+    ⊎_elim (λ is. is) (λ (out : IsIn n us → ⊥). absurd (hidden out (eqb n 0) refl)) (is_in n us)
+  where
+    low : n < length stored
+    low = let below = below_count pages n (some_is_no_none (at pages n) there) in omega (arith, below, long)
+
+    hidden : (IsIn n us → ⊥) → (b : Bool) → eqb n 0 ≡ b → ⊥
+    hidden out true is = some_is_no_none (at pages n) there (shown n low ∙ ap (λ (b : Bool). cond (b || free n) None (slice_get stored n)) is)
+    hidden out false is =
+        let is_free = (others n).1 (grind (arith, nat_tests), omega (arith, low, count_is), out) in
+        some_is_no_none (at pages n) there (shown n low ∙ ap (λ (b : Bool). cond (b || free n) None (slice_get stored n)) is ∙ ap (λ (b : Bool). cond b None (slice_get stored n)) is_free)
+
 -- a closed file was opened
 pub opened : (stored : List (List ℕ)) (tail limit : ℕ) (h : Header) (old : List (Option (List ℕ))) (pages : PagesView) (tree : Tree) (free : ℕ → Bool) (reads r0 r1 : ℕ) → Begins stored tail h → at old ≡ in_file stored → length old ≡ length stored
     → Measured h.order old h.root tree free r0 r1 → (tree.count ≡ h.count) × (h.count ≤ limit) → length pages.pages ≡ length stored → ((n : ℕ) → n < length stored → at pages.pages n ≡ shown_as stored free n)
@@ -94,6 +115,7 @@ opened stored tail limit h old pages tree free reads r0 r1 begins old_is old_lon
   };
   few = counts.1;
   holds = moved stored pages.pages (length stored) free old tree m.es m.us refl long shown (λ n is yes_is. ((m.others n).0 yes_is).2 is) old_is old_long m.holds;
+  alone = alone_in stored pages.pages free m.us (length old) old_long long shown m.others;
   count = long;
   read = last ∙ m.read ∙ ap (λ (r : ℕ). counted_times r tree.used) first ∙ counted_before reads tree.used ∙ ap (counted_times reads) (next tree.used);
 }
@@ -134,7 +156,7 @@ root_below : (k : ℕ) (pages : List (Option (List ℕ))) (height root : ℕ) (e
 root_below k pages zero root es us some tree = omega (arith, tree.0)
 root_below k pages (suc h) root es us some (n, below, spells, least, body, us_is) = below_count pages root (λ none. absurd (let never = sym spells.page ∙ none in cc))
 
-held_contents : (pages : PageMap) (tree : Tree) (es : List Element) (us : List ℕ) → tree.order ≤ 16 → Holds pages tree es us → contents_at tree.order pages tree.height tree.root ≡ contents_of es
+pub held_contents : (pages : PageMap) (tree : Tree) (es : List Element) (us : List ℕ) → tree.order ≤ 16 → Holds pages tree es us → contents_at tree.order pages tree.height tree.root ≡ contents_of es
 held_contents pages tree es us small holds = ap contents_of (held_elements pages tree es us small holds)
 
 -- a file that was opened is closed, and has the records of its pages
@@ -152,7 +174,7 @@ pub written_back : (pages : PagesView) (stored : List (List ℕ)) (tail count : 
     → slice_get stored 0 ≡ Some (header_spelling (record { order = tree.order; pages = count; root = tree.root; count = tree.count }) clean_state) → AreStored (at pages.pages) stored
     → 1 ≤ tree.order → tree.order ≤ 16 → tree.count ≤ 1000000 → IsClosed stored tail tree (contents_at tree.order (at pages.pages) tree.height tree.root)
 written_back pages stored tail count tree held long tail_is count_is some most header first same some_order most_order small =
-    let low = root_below tree.order pages.pages tree.height tree.root held.es held.us (omega (arith, some, count_is)) held.holds.tree in
+    let low = root_below tree.order pages.pages tree.height tree.root held.es held.us (omega (arith, some, count_is)) held.fills.holds.tree in
     record {
       h = record { order = tree.order; pages = count; root = tree.root; count = tree.count };
       es = held.es;
@@ -166,10 +188,10 @@ written_back pages stored tail count tree held long tail_is count_is some most h
           };
           agrees = record { pages = count_is ∙ sym long; root = omega (arith, low, long) };
         };
-        there = record { order = refl; root = refl; holds = holds_move (at pages.pages) (in_file stored) tree held.es held.us held.holds (λ q is. stored_page q (root_in_use tree.order (at pages.pages) tree.root tree.height held.es held.us held.holds.tree q is)) };
+        there = record { order = refl; root = refl; holds = holds_move (at pages.pages) (in_file stored) tree held.es held.us held.fills.holds (λ q is. stored_page q (root_in_use tree.order (at pages.pages) tree.root tree.height held.es held.us held.fills.holds.tree q is)) };
         count = refl;
       };
-      records = sym (held_contents (at pages.pages) tree held.es held.us most_order held.holds);
+      records = sym (held_contents (at pages.pages) tree held.es held.us most_order held.fills.holds);
     }
   where
     nonzero : (q : ℕ) → (at pages.pages q ≡ None → ⊥) → eqb q 0 ≡ false
@@ -180,9 +202,9 @@ written_back pages stored tail count tree held long tail_is count_is some most h
     stored_page q used = ap (λ (b : Bool). cond b None (slice_get stored q)) (nonzero q used) ∙ same q (some_of (at pages.pages q) used)
 
 -- a table whose file was opened
-pub opened_table : (stored : List (List ℕ)) (tail most reads : ℕ) (pages : PagesView) (tree : Tree) (limit : ℕ) (steady : Bool) → pages.stored ≡ stored → pages.tail ≡ tail → pages.steady ≡ steady → (IsTrue steady → Opens stored tail most reads pages tree)
-    → 1 ≤ tree.order → tree.order ≤ 16 → tree.height ≤ 19 → tree.used ≤ 1000000 → tree.count ≤ most → limit ≡ most → limit ≤ 1000000 → IsTable (record { pages = pages; tree = tree; limit = limit })
-opened_table stored tail most reads pages tree limit steady stored_is tail_is steady_is found some_order most_order low used count limit_is limit_most = record {
+pub opened_table : (stored : List (List ℕ)) (tail most reads : ℕ) (pages : PagesView) (tree : Tree) (limit refusals : ℕ) (damages : Damages) (steady : Bool) → pages.stored ≡ stored → pages.tail ≡ tail → pages.steady ≡ steady → (IsTrue steady → Opens stored tail most reads pages tree)
+    → 1 ≤ tree.order → tree.order ≤ 16 → tree.height ≤ 19 → tree.used ≤ 1000000 → tree.count ≤ most → limit ≡ most → limit ≤ 1000000 → IsTable (record { pages = pages; tree = tree; limit = limit; refusals = refusals; damages = damages })
+opened_table stored tail most reads pages tree limit refusals damages steady stored_is tail_is steady_is found some_order most_order low used count limit_is limit_most = record {
   some_order = some_order;
   most_order = most_order;
   low = low;
@@ -190,8 +212,17 @@ opened_table stored tail most reads pages tree limit steady stored_is tail_is st
   small = omega (arith, count, limit_is, limit_most);
   count = λ _. omega (arith, count, limit_is);
   limit = limit_most;
-  holds = λ is. let opens = found (sym steady_is ∙ is) in record { es = opens.es; us = opens.us; holds = opens.holds };
+  holds = λ is. let opens = found (sym steady_is ∙ is) in record { es = opens.es; us = opens.us; fills = record { holds = opens.holds; alone = opens.alone } };
   closed = λ is _.
       let contents = contents_at tree.order (at pages.pages) tree.height tree.root in
       subst (λ (t : ℕ). IsClosed pages.stored t tree contents) (sym tail_is) (subst (λ (ps : List (List ℕ)). IsClosed ps tail tree contents) (sym stored_is) (opened_closed stored tail most reads pages tree most_order (found (sym steady_is ∙ is))));
 }
+
+-- a closed file that was opened has the records that it was closed with
+pub same_records : (stored : List (List ℕ)) (tail limit reads : ℕ) (pages : PagesView) (tree t : Tree) (contents : Contents) → t.order ≤ 16 → Opens stored tail limit reads pages t → IsClosed stored tail tree contents → t ≡ tree → contents_at t.order (at pages.pages) t.height t.root ≡ contents
+same_records stored tail limit reads pages tree t contents small opens closed same =
+    held_contents (at pages.pages) t opens.es opens.us small opens.holds
+    ∙ sym (held_contents (in_file stored) t opens.es opens.us small opens.clean.there.holds)
+    ∙ ap (λ (x : Tree). contents_at x.order (in_file stored) x.height x.root) same
+    ∙ held_contents (in_file stored) tree closed.es closed.us (omega (arith, small, ap (λ (x : Tree). x.order) same)) closed.clean.there.holds
+    ∙ closed.records

@@ -18,3 +18,6 @@ pub mod MeasureFacts
 pub mod FreeNumberFacts
 pub mod FileFacts
 pub mod FileExampleFacts
+pub mod TableFacts
+pub mod ViewFacts
+pub mod AnswerFacts

@@ -1,5 +1,5 @@
 -- Which lists of pages are a file that was closed, and why one is not opened.
-use Rattle.std.specs.Prelude.{◌≡◌, ℕ, ◌<◌, ◌≤◌, ◌⊎◌, ◌+◌, Bool, true, false, List, length, Some, None, ◌==◌, if◌then◌else◌, Result, Ok, Err, slice_get}
+use Rattle.std.specs.Prelude.{◌≡◌, ℕ, ◌<◌, ◌≤◌, ◌⊎◌, ◌+◌, Bool, true, false, List, length, Some, None, IsSome, ◌==◌, if◌then◌else◌, Result, Ok, Err, slice_get}
 use Rattle.page_store.specs.Calls.{counted_times}
 use Rattle.page_store.specs.PageMap.{PageMap, at}
 use Rattle.page_store.specs.PagesView.{PagesView}
@@ -11,7 +11,7 @@ use Rattle.btree_node.specs.Lists.{Element}
 use Rattle.btree_insert.specs.declared.trees.Tree.{Tree}
 use Rattle.btree_insert.specs.declared.trees.TreeFault.{TreeFault}
 use Rattle.btree_insert.specs.declared.trees.TreeFault.TheVariants.{Device as ReadFailed, Damaged as NoTreePage, Memory as NoMemory}
-use Rattle.btree_insert.specs.PageTrees.{Holds}
+use Rattle.btree_insert.specs.PageTrees.{IsIn, Holds}
 use Rattle.btree_delete.specs.declared.opening.OpenFault.{OpenFault}
 use Rattle.btree_delete.specs.declared.opening.OpenFault.TheVariants.{Device, BadLength, BadMagic, BadVersion, BadOrder, NotClean, BadHeader, Damaged, WrongCount, TooManyRecords, Memory}
 
@@ -119,7 +119,7 @@ FailsTree pages h limit WrongCount = (tree : Tree) × (es : List Element) × (us
 FailsTree pages h limit TooManyRecords = (tree : Tree) × (es : List Element) × (us : List ℕ) × HasTree pages h tree es us × (tree.count ≡ h.count) × (limit < h.count)
 FailsTree pages h limit Memory = Unit {0}
 
--- a closed file was opened: its pages are there, its tree is known, and page 0 and each page of the tree were read once
+-- a closed file was opened: its pages are there, its tree is known, no other page is in use, and page 0 and each page of the tree were read once
 pub record Opens (stored : List (List ℕ)) (tail limit reads : ℕ) (pages : PagesView) (tree : Tree) : Type 0 where
   pub h : Header
   pub es : List Element
@@ -127,6 +127,7 @@ pub record Opens (stored : List (List ℕ)) (tail limit reads : ℕ) (pages : Pa
   pub clean : IsCleanFile stored tail h tree es us
   pub few : h.count ≤ limit
   pub holds : Holds (at pages.pages) tree es us
+  pub alone : (n : ℕ) → IsSome (at pages.pages n) → IsIn n us
   pub count : length pages.pages ≡ length stored
   pub read : pages.reads ≡ counted_times reads (tree.used + 1)
 

@@ -8,3 +8,4 @@ pub mod CleanFile
 pub mod FileExamples
 pub mod TableView
 pub mod Created
+pub mod TableAnswers

@@ -1,31 +1,39 @@
 -- What contracts see of a table in a tree, and what holds of it.
-use Rattle.std.specs.Prelude.{◌≡◌, ℕ, ◌≤◌, false, IsTrue, List}
+use Rattle.std.specs.Prelude.{◌≡◌, ℕ, ◌≤◌, false, IsTrue, List, Option, IsSome}
 use Rattle.page_store.specs.PageMap.{at}
 use Rattle.page_store.specs.PagesView.{PagesView}
 use Rattle.btree_node.specs.declared.headers.Header.{Header}
 use Rattle.btree_node.specs.Lists.{Element}
 use Rattle.btree_insert.specs.declared.trees.Tree.{Tree}
-use Rattle.btree_insert.specs.PageTrees.{Holds}
+use Rattle.btree_insert.specs.PageTrees.{IsIn, Holds}
 use Rattle.btree_insert.specs.Contents.{contents_of}
 use Rattle.btree_insert.specs.Elements.{contents_at}
 use Rattle.rec_types.specs.Contents.{Contents}
+use Rattle.rec_types.specs.Table.{Damages}
 use Rattle.btree_delete.specs.CleanFile.{IsCleanFile}
 
--- the pages, the tree in them, and how many records there may be
+-- the pages, the tree in them, how many records there may be, how many calls a refused growth ended, and what was told of damaged pages
 pub record TableView : Type 0 where
   pub pages : PagesView
   pub tree : Tree
   pub limit : ℕ
+  pub refusals : ℕ
+  pub damages : Damages
 
 -- the records, as a function of the pages and the tree: total, whatever the pages hold
 abbrev pub table_contents : TableView → Contents
 table_contents t = contents_at t.tree.order (at t.pages.pages) t.tree.height t.tree.root
 
--- the pages hold the tree
+-- the pages hold the tree of these elements in these pages, and no other page is in use
+pub record Fills (pages : List (Option (List ℕ))) (tree : Tree) (es : List Element) (us : List ℕ) : Type 0 where
+  pub holds : Holds (at pages) tree es us
+  pub alone : (n : ℕ) → IsSome (at pages n) → IsIn n us
+
+-- the pages hold the tree, and no other page is in use
 pub record HoldsTree (pages : PagesView) (tree : Tree) : Type 0 where
   pub es : List Element
   pub us : List ℕ
-  pub holds : Holds (at pages.pages) tree es us
+  pub fills : Fills pages.pages tree es us
 
 -- the store's pages are a closed file with the tree and the records
 pub record IsClosed (stored : List (List ℕ)) (tail : ℕ) (tree : Tree) (contents : Contents) : Type 0 where

@@ -1,6 +1,7 @@
 //! Deletion from a B-tree in the pages of a store.
 #![tactic(auto)]
 
+mod counting;
 mod deleting;
 #[cfg(test)]
 mod fault_texts;
@@ -13,6 +14,7 @@ pub mod laws;
 mod measuring;
 mod mending;
 mod opening;
+mod setting;
 mod shrinking;
 mod surveying;
 mod tables;

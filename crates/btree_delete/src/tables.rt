@@ -1,31 +1,38 @@
-ghost use Rattle.std.specs.Prelude.{◌≡◌, ◌⊎◌, ℕ, ◌<◌, ◌≤◌, List, length, true, false, IsTrue, Ok, Err, IsOk, IfOk, IfErr, OnOk, MatchResult};
-ghost use Rattle.rec_types.specs.Table.{counted};
+ghost use Rattle.std.specs.Prelude.{◌≡◌, ◌≢◌, ◌⊎◌, ℕ, ◌<◌, ◌≤◌, List, length, true, false, IsTrue, Ok, Err, IsOk, ◌+◌, ◌-◌, ◌*◌, Some, None, IsSome, OnErr, IfOk, IfErr, OnOk, MatchResult};
+ghost use Rattle.std.specs.FinMap as maps;
+ghost use Rattle.rec_types.specs.Contents.{Contents, set_to};
+ghost use Rattle.rec_types.specs.Table.{no_damage, counted, is_device as is_device_answer, is_memory, damaged_by};
 ghost use Rattle.page_store.specs.PageMap.{at};
 ghost use Rattle.page_store.specs.FreeNumbers.{free_numbers};
 ghost use Rattle.btree_node.specs.Lists.{Element};
 ghost use Rattle.btree_node.specs.declared.headers.Header.{Header as HeaderValue};
 ghost use Rattle.btree_insert.specs.declared.trees.Tree.{Tree as TreeValue};
 ghost use Rattle.btree_delete.specs.CleanFile.{IsCleanFile, IsFirst, Opens, IsOutside, is_device_fault};
-ghost use Rattle.btree_delete.specs.TableView.{TableView, IsClosed, table_contents};
+ghost use Rattle.btree_delete.specs.TableView.{TableView, HoldsTree, IsClosed, table_contents};
 ghost use Rattle.btree_delete.specs.Created.{IsEmpty, IsCreated, IsCreateFault, is_create_device, is_create_device_fault};
 
+use crate::counting::{FaultCounts, NO_FAULTS, told};
 use crate::files::{OpenStop, open_file};
-use btree_insert::Tree;
+use crate::setting::change;
+use btree_insert::{Tree, find, walk};
 use btree_node::{Header, write_header};
 use page_store::{PageEdit, Pages, Store, WriteFault};
-use rec_types::Limits;
+use rec_types::{Key, Limits, Record, Table, TableFault};
 use std::alloc::Global;
 use std::collections::BTreeSet;
 use std::marker::Model;
 use thiserror::Error;
 
-/// A finite map from keys to records, in the pages of a store. Contracts see its pages, its tree and
-/// its limit.
+/// A finite map from keys to records, in the pages of a store. Contracts see its pages, its tree, its
+/// limit, and how many of its answers were refused growths and damaged pages. It is sound where its
+/// store is steady.
 #[derive(Drop)]
 pub struct TreeTable<S: Store> {
     pages: Pages<S>,
     tree: Tree,
     limit: u32,
+    faults: FaultCounts,
+    alloc: Global,
 }
 
 impl<S: Store> Model for TreeTable<S> {
@@ -33,9 +40,21 @@ impl<S: Store> Model for TreeTable<S> {
 
     ghost Value = { TableView };
 
-    ghost view = { λ t. record { pages = t.pages; tree = t.tree; limit = t.limit } };
+    ghost view = { λ t. record {
+      pages = t.pages;
+      tree = t.tree;
+      limit = t.limit;
+      refusals = t.faults.refusals;
+      damages = record { count = t.faults.damaged; page = t.faults.page };
+    } };
 
-    ghost invariant = { λ t. IsTable (record { pages = t.pages; tree = t.tree; limit = t.limit }) };
+    ghost invariant = { λ t. IsTable (record {
+      pages = t.pages;
+      tree = t.tree;
+      limit = t.limit;
+      refusals = t.faults.refusals;
+      damages = record { count = t.faults.damaged; page = t.faults.page };
+    }) };
 }
 
 /// Why no table was made.
@@ -104,6 +123,8 @@ impl<S: Store> TreeTable<S> {
             × (t.pages.reads ≡ S.reads store) × (t.pages.writes ≡ S.writes store)
             × (t.pages.failures ≡ S.failures store)) }
         ensures limit { IfOk result (λ t. t.limit ≡ limits.records) }
+        ensures empty { IfOk result (λ t. table_contents t ≡ maps.empty) }
+        ensures no_faults { IfOk result (λ t. (t.refusals ≡ 0) × (t.damages ≡ no_damage)) }
         ensures fault { IfErr result
             (λ stop. IsCreateFault (S.pages store) (S.tail store) k stop.fault) }
         ensures pages { IfErr result (λ stop. S.pages stop.store ≡ S.pages store) }
@@ -138,8 +159,13 @@ impl<S: Store> TreeTable<S> {
             count: 0,
             used: 0,
         };
-        let limit = limits.records();
-        Ok(TreeTable { pages, tree, limit })
+        Ok(TreeTable {
+            pages,
+            tree,
+            limit: limits.records(),
+            faults: NO_FAULTS,
+            alloc,
+        })
     }
 
     /// Opens a file that was closed, of at most as many records as the limits say. It reads page 0 and
@@ -152,9 +178,14 @@ impl<S: Store> TreeTable<S> {
             → (es : List Element) (us : List ℕ)
             → IsCleanFile (S.pages store) (S.tail store) h tree es us → h.count ≤ limits.records
             → MatchResult result (λ t. t.tree ≡ tree) (λ stop. IsOutside stop.fault) }
+        ensures reopened { IsTrue (S.steady store) → (tree : TreeValue) (contents : Contents)
+            → IsClosed (S.pages store) (S.tail store) tree contents
+            → tree.count ≤ limits.records → MatchResult result
+            (λ t. (t.tree ≡ tree) × (table_contents t ≡ contents)) (λ stop. IsOutside stop.fault) }
         ensures fault { IsTrue (S.steady store) → IfErr result
             (λ stop. IsFirst (S.pages store) (S.tail store) limits.records stop.fault) }
         ensures limit { IfOk result (λ t. t.limit ≡ limits.records) }
+        ensures no_faults { IfOk result (λ t. (t.refusals ≡ 0) × (t.damages ≡ no_damage)) }
         ensures idle { IfOk result (λ t. t.pages.changed ≡ false) }
         ensures stored { IfOk result (λ t. (t.pages.stored ≡ S.pages store)
             × (t.pages.tail ≡ S.tail store) × (t.pages.steady ≡ S.steady store)
@@ -168,7 +199,13 @@ impl<S: Store> TreeTable<S> {
     {
         let limit = limits.records();
         let (pages, tree) = open_file(alloc, store, limits)?;
-        Ok(TreeTable { pages, tree, limit })
+        Ok(TreeTable {
+            pages,
+            tree,
+            limit,
+            faults: NO_FAULTS,
+            alloc,
+        })
     }
 
     /// Writes the changed pages back and hands the store over, which is then a closed file with the
@@ -197,6 +234,8 @@ impl<S: Store> TreeTable<S> {
             mut pages,
             tree,
             limit,
+            faults,
+            alloc,
         } = self;
         if !pages.changed() {
             return Ok(pages.into_store());
@@ -210,7 +249,13 @@ impl<S: Store> TreeTable<S> {
         match pages.write_back(&write_header(&header, false), &write_header(&header, true)) {
             Ok(()) => Ok(pages.into_store()),
             Err(fault) => Err(CloseStop {
-                table: TreeTable { pages, tree, limit },
+                table: TreeTable {
+                    pages,
+                    tree,
+                    limit,
+                    faults,
+                    alloc,
+                },
                 fault,
             }),
         }
@@ -252,5 +297,154 @@ impl<S: Store> TreeTable<S> {
         ensures { result ≡ length (free_numbers self.now.pages.pages) }
     {
         self.pages.free_count()
+    }
+}
+
+// A method's clauses stand in place of its trait's, so these are written again before those that tell
+// of the tree, its pages and its store.
+impl<S: Store> Table for TreeTable<S> {
+    ghost contents = { table_contents };
+
+    ghost record_limit = { λ t. t.limit };
+
+    ghost sound = { λ t. t.pages.steady };
+
+    ghost device_failures = { λ t. t.pages.failures };
+
+    ghost memory_refusals = { λ t. t.refusals };
+
+    ghost damages = { λ t. t.damages };
+
+    /// The record at the key. It makes at most as many reads of the store as the tree has levels.
+    /// Faults: Device, Damaged. It takes no memory, and no page changes.
+    fn get(&mut self, key: &Key) -> Result<Option<Record>, TableFault>
+        ensures value { IsTrue self.old.pages.steady
+            → IfOk result (λ found. found ≡ maps.get (table_contents self.old) key.now) }
+        ensures same { table_contents self.new ≡ table_contents self.old }
+        ensures no_memory { result ≢ Err TableFault.Memory }
+        ensures no_room { result ≢ Err TableFault.NoRoom }
+        ensures damaged { IsTrue self.old.pages.steady
+            → (page : ℕ) → result ≢ Err (TableFault.Damaged page) }
+        ensures limit { self.new.limit ≡ self.old.limit }
+        ensures soundness { self.new.pages.steady ≡ self.old.pages.steady }
+        ensures device { self.new.pages.failures
+            ≡ counted self.old.pages.failures (is_device_answer result) }
+        ensures memory { self.new.refusals ≡ self.old.refusals }
+        ensures damages { self.new.damages ≡ damaged_by self.old.damages result }
+        ensures rest { self.new ≡ record self.old {
+          pages = record self.old.pages {
+            reads = self.new.pages.reads;
+            failures = self.new.pages.failures;
+          };
+          damages = self.new.damages;
+        } }
+        ensures reads { self.new.pages.reads ≤ self.old.pages.reads + self.old.tree.height }
+    {
+        let found = told(find(&mut self.pages, &self.tree, key));
+        self.faults.note(&found);
+        found
+    }
+
+    /// Puts a record at the key, or takes the key out, and answers what stood there before. Faults:
+    /// Device, Damaged, NoRoom, Memory. NoRoom comes exactly where all reads succeeded, a record is
+    /// put at an absent key and the table has as many records as it may; the key is looked up for that
+    /// alone, before memory is asked for. Where the table has fewer records, a put makes one descent.
+    /// The store isn't written. After a fault no page and no record has changed.
+    fn set(&mut self, key: Key, to: Option<Record>) -> Result<Option<Record>, TableFault>
+        ensures value { IsTrue self.old.pages.steady
+            → IfOk result (λ before. before ≡ maps.get (table_contents self.old) key) }
+        ensures ok { IsTrue self.old.pages.steady → OnOk result
+            (table_contents self.new ≡ set_to (table_contents self.old) key to) }
+        ensures err { OnErr result (table_contents self.new ≡ table_contents self.old) }
+        ensures no_room { IsTrue self.old.pages.steady → result ≡ Err TableFault.NoRoom
+            → IsSome to × (maps.get (table_contents self.old) key ≡ None)
+            × (self.old.limit ≤ maps.len (table_contents self.old)) }
+        ensures full { IsTrue self.old.pages.steady → IsSome to
+            → maps.get (table_contents self.old) key ≡ None
+            → self.old.limit ≤ maps.len (table_contents self.old)
+            → is_device_answer result ≡ false → result ≡ Err TableFault.NoRoom }
+        ensures taken_out_none { to ≡ None → result ≡ Ok None
+            → table_contents self.new ≡ table_contents self.old }
+        ensures damaged { IsTrue self.old.pages.steady
+            → (page : ℕ) → result ≢ Err (TableFault.Damaged page) }
+        ensures limit { self.new.limit ≡ self.old.limit }
+        ensures soundness { self.new.pages.steady ≡ self.old.pages.steady }
+        ensures device { self.new.pages.failures
+            ≡ counted self.old.pages.failures (is_device_answer result) }
+        ensures memory { self.new.refusals
+            ≡ counted self.old.refusals (is_memory result) }
+        ensures damages { self.new.damages ≡ damaged_by self.old.damages result }
+        ensures in_class { IsTrue self.old.pages.steady → HoldsTree self.new.pages self.new.tree }
+        ensures order { self.new.tree.order ≡ self.old.tree.order }
+        ensures staged { IsOk result → (IsSome to ⊎ (result ≢ Ok None))
+            → self.new.pages.changed ≡ true }
+        ensures nothing_staged { to ≡ None → result ≡ Ok None
+            → (self.new.tree ≡ self.old.tree)
+            × (self.new.pages.pages ≡ self.old.pages.pages)
+            × (self.new.pages.changed ≡ self.old.pages.changed) }
+        ensures refused { OnErr result ((self.new.tree ≡ self.old.tree) × (self.new.pages
+            ≡ record self.old.pages {
+              reads = self.new.pages.reads;
+              failures = self.new.pages.failures;
+            })) }
+        ensures store { self.new.pages ≡ record self.old.pages {
+          pages = self.new.pages.pages;
+          changed = self.new.pages.changed;
+          in_memory = self.new.pages.in_memory;
+          reads = self.new.pages.reads;
+          failures = self.new.pages.failures;
+        } }
+        ensures one_descent { IsSome to → self.old.tree.count < self.old.limit
+            → self.new.pages.reads ≤ self.old.pages.reads + self.old.tree.height }
+        ensures reads { self.new.pages.reads ≤ self.old.pages.reads + 2 * self.old.tree.height }
+    {
+        let changed = change(self.alloc, &mut self.pages, &self.tree, self.limit, key, to);
+        self.faults.note(&changed);
+        match changed {
+            Ok((tree, before)) => {
+                self.tree = tree;
+                Ok(before)
+            }
+            Err(fault) => Err(fault),
+        }
+    }
+
+    /// The records in key order. It makes at most as many reads of the store as the tree has pages.
+    /// Faults: Device, Damaged, Memory. No page changes.
+    fn entries(&mut self) -> Result<Vec<(Key, Record)>, TableFault>
+        ensures value { IsTrue self.old.pages.steady → IfOk result
+            (λ records. records.items ≡ maps.entries (table_contents self.old)) }
+        ensures same { table_contents self.new ≡ table_contents self.old }
+        ensures no_room { result ≢ Err TableFault.NoRoom }
+        ensures damaged { IsTrue self.old.pages.steady
+            → (page : ℕ) → result ≢ Err (TableFault.Damaged page) }
+        ensures limit { self.new.limit ≡ self.old.limit }
+        ensures soundness { self.new.pages.steady ≡ self.old.pages.steady }
+        ensures device { self.new.pages.failures
+            ≡ counted self.old.pages.failures (is_device_answer result) }
+        ensures memory { self.new.refusals
+            ≡ counted self.old.refusals (is_memory result) }
+        ensures damages { self.new.damages ≡ damaged_by self.old.damages result }
+        ensures rest { self.new ≡ record self.old {
+          pages = record self.old.pages {
+            reads = self.new.pages.reads;
+            failures = self.new.pages.failures;
+          };
+          refusals = self.new.refusals;
+          damages = self.new.damages;
+        } }
+        ensures reads { self.new.pages.reads ≤ self.old.pages.reads + self.old.tree.used }
+    {
+        let records = told(walk(self.alloc, &mut self.pages, &self.tree));
+        self.faults.note(&records);
+        records
+    }
+
+    fn count(&self) -> u32 {
+        self.tree.count
+    }
+
+    fn limit(&self) -> u32 {
+        self.limit
     }
 }
