@@ -13,7 +13,7 @@ returns c =
     let l = c.self.inside in
     let rs = reverse l.records.items in
     let many : vec_len l.txs ≡ length l.txs.items = omega (arith, l.txs.ok.0) in
-    c.len.ensures ∙ many ∙ sym (len-txs_of (kept_of rs) rs l.begun l.txs.items c.self.invariant.log_kept.fit) ∙ ap (λ (s : LogState). maps.len s.txs) c.self.view_is
+    omega (arith, c.len.ensures, many, sym (len-txs_of (kept_of rs) rs l.begun l.txs.items c.self.invariant.log_kept.fit) ∙ ap (λ (s : LogState). maps.len s.txs) c.self.view_is)
 
 pub overflow_cast-result : goal.overflow_cast-result
 overflow_cast-result c =
