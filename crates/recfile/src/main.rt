@@ -7,6 +7,7 @@ mod endings;
 #[cfg(test)]
 mod fault_texts;
 mod laws;
+mod reading;
 mod scripts;
 mod sessions;
 mod statuses;
