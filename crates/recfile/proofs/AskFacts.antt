@@ -1,5 +1,5 @@
 -- What calls one after another ask of the table.
-use Rattle.std.proofs.Common.{◌≡◌, ℕ, ◌<◌, Bool, true, false, nat_lt, Option, Some, None, Result, Ok, Err, inl, refl, sym, ap, subst, ◌∙◌, IsTrue, arith}
+use Rattle.std.proofs.Common.{◌≡◌, ℕ, ◌<◌, false, nat_lt, Option, None, Result, Ok, Err, inl, refl, sym, ap, subst, ◌∙◌, arith}
 use Rattle.std.proofs.lemmas.Bool.Decides.{nat_tests}
 use Rattle.rec_types.specs.Table.{counted, Damages, greatest_count}
 use Rattle.rec_types.specs.declared.transactions.TxId.{TxId}

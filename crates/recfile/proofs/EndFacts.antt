@@ -1,5 +1,5 @@
 -- What ending transactions one after another does to the file.
-use Rattle.std.proofs.Common.{◌≡◌, ◌≢◌, ℕ, zero, suc, ◌+◌, ◌-◌, ◌<◌, ◌≤◌, Bool, true, false, cond, if◌then◌else◌, not, ◌&&◌, eqb, nat_lt, List, [], ◌∷◌, map, filter, Option, Some, None, is_some, refl, sym, ap, subst, ◌∙◌, IsTrue, arith, add-one}
+use Rattle.std.proofs.Common.{◌≡◌, ℕ, zero, suc, ◌+◌, ◌-◌, ◌<◌, ◌≤◌, Bool, true, false, cond, not, ◌&&◌, eqb, nat_lt, List, [], ◌∷◌, Option, Some, None, is_some, refl, sym, ap, subst, ◌∙◌, IsTrue, arith, add-one}
 use Rattle.std.proofs.lemmas.Bool.Decides.{nat_tests}
 use Rattle.std.specs.FinMap as maps
 use Rattle.std.specs.FinMap.{get, len, len-remove, len-empty, get-empty, same_map, nat_cmp-IsAntisymmetric}
@@ -8,7 +8,7 @@ use Rattle.std.specs.Cmp.{nat_cmp_total}
 use Rattle.rec_types.specs.Contents.{Contents}
 use Rattle.rec_types.specs.History.{Change, applied, replay, live_of, taken_back, take_back, is_pending}
 use Rattle.tx_log.specs.Transactions.{Transactions, Tx, is_open}
-use Rattle.record_file.specs.Abstract.{File, open_of, tx_of}
+use Rattle.record_file.specs.Abstract.{File, open_of}
 use Rattle.record_file.specs.Steps.{Becomes}
 use Rattle.record_file.proofs.TxFacts.{same_tx, same_tx-is, get-remove_tx}
 use Rattle.recfile.specs.Examples.{change, four_changes, two_taken_back}

@@ -1,16 +1,15 @@
 -- How one open transaction ends, by going on with its rollback and by its abort.
-use Rattle.std.proofs.Common.{◌≡◌, ◌≢◌, ℕ, zero, Bool, true, false, cond, nat_lt, List, Option, Some, None, is_some, option_map, Result, Ok, Err, inl, inr, refl, sym, ap, subst, ◌∙◌, IsTrue}
+use Rattle.std.proofs.Common.{◌≡◌, ◌≢◌, ℕ, zero, Bool, true, false, cond, List, Option, Some, None, is_some, option_map, Result, Ok, Err, inl, inr, refl, sym, ap, subst, ◌∙◌, IsTrue}
 use Rattle.std.specs.FinMap as maps
 use Rattle.std.specs.FinMap.{get}
-use Rattle.rec_types.specs.History.{Change, take_back}
+use Rattle.rec_types.specs.History.{take_back}
 use Rattle.rec_types.specs.declared.transactions.TxId.{TxId}
-use Rattle.tx_log.specs.Transactions.{Transactions, Tx, Rollback, place_in}
+use Rattle.tx_log.specs.Transactions.{Transactions, Tx, Rollback}
 use Rattle.tx_log.specs.LogState.{phase_of, rollback_phase, active_with, rolling_to, finished, finished_by, IsRolling}
 use Rattle.tx_log.specs.declared.phases.Phase.{Phase}
 use Rattle.tx_log.specs.declared.phases.Phase.TheVariants as phases
 use Rattle.record_file.specs.Abstract.{File, open_of, tx_of, phase_at}
 use Rattle.record_file.specs.Steps.{Becomes, Aborts, Resumes, abort_in, abort_refusal, resume_in, resume_refusal, rolling_place, places_at}
-use Rattle.record_file.specs.declared.faults.Cause.{Cause}
 use Rattle.record_file.specs.declared.faults.AbortFault.{AbortFault}
 use Rattle.record_file.specs.declared.faults.AbortFault.TheVariants as abort_faults
 use Rattle.record_file.specs.declared.faults.ResumeFault.{ResumeFault}
@@ -18,7 +17,7 @@ use Rattle.record_file.specs.declared.faults.ResumeFault.TheVariants as resume_f
 use Rattle.record_file.proofs.TxFacts.{same_tx, same_tx-is, get-insert_tx, get-remove_tx, get-inserted_tx, remove-insert_tx, same_tx-refl}
 use Rattle.recfile.specs.declared.endings.EndFault.{EndFault}
 use Rattle.recfile.specs.declared.endings.EndFault.TheVariants.{Stopped}
-use Rattle.recfile.specs.Ending.{EndsOne, EndsOpen, EndsBelow, StopsOne, StopsEnding, IsWholeTx, EndsAtBeginning, resumed, aborted, stopped_tx}
+use Rattle.recfile.specs.Ending.{EndsOne, EndsBelow, StopsOne, StopsEnding, IsWholeTx, resumed, aborted, stopped_tx}
 use Rattle.recfile.proofs.EndFacts.{becomes_on, becomes_as, taken_twice}
 
 -- a transaction with a rollback under way

@@ -1,14 +1,13 @@
 -- Each rollback that ends its transaction goes back to the beginning, from call to call.
-use Rattle.std.proofs.Common.{◌≡◌, ℕ, ◌+◌, zero, Bool, true, false, cond, if◌then◌else◌, List, [], ◌∷◌, take, Option, Some, None, Result, Ok, Err, MatchResult, inl, inr, refl, sym, ap, subst, ◌∙◌, IsTrue}
+use Rattle.std.proofs.Common.{◌≡◌, ℕ, ◌+◌, zero, Bool, true, false, cond, if◌then◌else◌, List, [], ◌∷◌, Option, Some, None, Result, Ok, Err, MatchResult, inl, inr, refl, sym, ap, subst}
 use Rattle.std.specs.FinMap as maps
 use Rattle.std.specs.FinMap.{get, get-empty}
 use Rattle.std.specs.Ordering.{nat_cmp}
 use Rattle.tx_log.specs.Transactions.{Transactions, Tx, Rollback, fresh}
 use Rattle.tx_log.specs.LogState.{active_with, rolling_to, finished, finished_by}
 use Rattle.tx_log.specs.declared.phases.BeginFault.TheVariants as begin_faults
-use Rattle.rec_types.specs.declared.transactions.TxId.{TxId}
 use Rattle.record_file.specs.Abstract.{File, tx_of}
-use Rattle.record_file.specs.Runs.{Called, Event, Seen, Step, Run, Answers, Begin, Put, Remove, Get, Savepoint, Release, RollbackTo, Abort, Resume, Commit, Entries, KeysOf, StatusOf, Charged, Begun, LogLen, LogUse, RecordAt, IntoTable}
+use Rattle.record_file.specs.Runs.{Called, Event, Seen, Run, Answers, Begin, Put, Remove, Get, Savepoint, Release, RollbackTo, Abort, Resume, Commit, Entries, KeysOf, StatusOf, Charged, Begun, LogLen, LogUse, RecordAt, IntoTable}
 use Rattle.record_file.specs.Steps.{places_at}
 use Rattle.record_file.specs.declared.faults.RollbackToFault.TheVariants as rollback_faults
 use Rattle.record_file.specs.declared.faults.AbortFault.TheVariants as abort_faults

@@ -1,8 +1,8 @@
-use Rattle.std.proofs.Common.{◌≡◌, ℕ, ◌+◌, Some, None, refl, sym, ap, subst, ◌∙◌, arith}
+use Rattle.std.proofs.Common.{◌≡◌, ℕ, ◌+◌, Some, None, subst, ◌∙◌, arith}
 use Rattle.rec_types.specs.History.{replay}
 use Rattle.record_file.specs.Abstract.{open_of}
 use Rattle.record_file.specs.Runs.{seen}
-use Rattle.recfile.specs.Ending.{EndsAll, EndsBelow, stop_of}
+use Rattle.recfile.specs.Ending.{EndsBelow, stop_of}
 use Rattle.recfile.proofs.AskFacts.{asks_nothing, asks_on}
 use Rattle.recfile.proofs.EndFacts.{below_first, below_next, count_next, few_next, all_ended, replay_without}
 use Rattle.recfile.proofs.OneFacts.{stops_ending}

@@ -1,4 +1,4 @@
-use Rattle.std.proofs.Common.{◌≡◌, ℕ, ◌+◌, ◌≤◌, None}
+use Rattle.std.proofs.Common.{◌≡◌, ◌+◌, ◌≤◌, None}
 use Rattle.std.specs.FinMap as maps
 use Rattle.record_file.specs.Runs.{seen}
 use Rattle.recfile.specs.Ending.{Asks, EndsBelow}
