@@ -11,10 +11,9 @@ use Rattle.command_text.specs.declared.replies.Reply.{Reply}
 use Rattle.command_text.specs.Grammar.{Read}
 use Rattle.command_text.specs.Script.{entries_of, keep}
 use Rattle.command_text.specs.Texts.{text_of}
-use Rattle.recfile.specs.Run.{HasReply, LineHasReply, Session, Served, StopsAt, IsUnsent, is_command, says_command, commands, done_of, IsFront}
+use Rattle.recfile.specs.Run.{HasReply, LineHasReply, Session, Served, StopsAt, IsUnsent, is_command, says_command, commands}
 use Rattle.record_file.specs.Runs.{Seen}
 use Rattle.recfile.specs.declared.scripts.ScriptFault.{ScriptFault}
-use Rattle.recfile.specs.declared.scripts.ScriptFault.TheVariants as faults
 
 pub session-more : (old mid new : Seen) (front : List (Read Command)) (replies : List Reply) (said : Read Command) (answer : Reply) → Session old front replies mid → HasReply mid said answer new → Session old (front ++ said ∷ []) (replies ++ answer ∷ []) new
 session-more old mid new [] [] said answer ran step = (new, subst (λ (s : Seen). HasReply s said answer new) ran step, refl)

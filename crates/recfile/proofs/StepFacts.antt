@@ -1,16 +1,15 @@
 -- The run of one call, from what its contract says.
-use Rattle.std.proofs.Common.{◌≡◌, ℕ, Bool, true, false, List, [], ◌∷◌, Option, Some, None, Result, Ok, Err, refl, sym, ap, ◌∙◌, IsTrue, IfSome}
+use Rattle.std.proofs.Common.{◌≡◌, Bool, false, List, [], ◌∷◌, Option, Some, None, Result, Ok, Err, refl, sym, ap, ◌∙◌, IfSome}
 use Rattle.std.proofs.lemmas.List.{append-nil}
 use Rattle.rec_types.specs.Contents.{Contents}
 use Rattle.rec_types.specs.Table.{counted}
 use Rattle.rec_types.specs.declared.tables.Table.{Ghosts}
 use Rattle.tx_log.specs.declared.log_records.LogRecord.{LogRecord}
-use Rattle.record_file.specs.declared.faults.Cause.{Cause}
 use Rattle.record_file.specs.declared.faults.GetFault.{GetFault}
 use Rattle.record_file.specs.declared.faults.GetFault.TheVariants as get_faults
 use Rattle.record_file.specs.Abstract.{OpenFile, Tells}
-use Rattle.record_file.specs.Outside.{get_cause, by_device, by_memory}
-use Rattle.record_file.specs.Runs.{Called, Event, Seen, Step, Run, Answers, seen}
+use Rattle.record_file.specs.Outside.{get_cause, by_memory}
+use Rattle.record_file.specs.Runs.{Called, Seen, Step, Run, Answers, seen}
 
 -- nothing was written
 pub tells_nothing : (sound : Bool) (m n : Contents) (old new : List LogRecord) → n ≡ m → new ≡ old → Tells sound m old n new

@@ -1,2 +1,4 @@
 pub mod Whole
 pub mod Run
+pub mod Ending
+pub mod Examples

@@ -1,3 +1,4 @@
+use crate::endings::EndFault;
 use crate::scripts::ScriptFault;
 use command_text::LineFault;
 use rec_types::{KeyFault, LimitFault, RecordFault, TableFault, TxId};
@@ -258,6 +259,25 @@ fn texts_of_script_faults(rt: HostRuntime) -> Result<(), Fail> {
         (ScriptFault::WriteFault { done: 1 }, "WriteFault 1"),
         (ScriptFault::Memory { done: 1 }, "Memory 1"),
     ] {
+        expect_text(&rt, alloc, &fault, text)?;
+    }
+    Ok(())
+}
+
+#[test]
+fn texts_of_end_faults(rt: HostRuntime) -> Result<(), Fail> {
+    let alloc = rt.alloc();
+    for (cause, text) in [
+        (Cause::Device, "Stopped 7 1 2 Device"),
+        (Cause::Damaged(9), "Stopped 7 1 2 Damaged 9"),
+        (Cause::Memory, "Stopped 7 1 2 Memory"),
+    ] {
+        let fault = EndFault::Stopped {
+            tx: TxId(7),
+            undone: 1,
+            left: 2,
+            cause,
+        };
         expect_text(&rt, alloc, &fault, text)?;
     }
     Ok(())

@@ -1,4 +1,4 @@
-ghost use Rattle.std.specs.Prelude.{◌≡◌, ◌<◌, ◌≤◌, List, length, take, IfOk, IfErr, OnOk};
+ghost use Rattle.std.specs.Prelude.{◌≡◌, ◌+◌, ◌<◌, ◌≤◌, List, length, take, IfOk, IfErr, OnOk};
 ghost use Rattle.std.specs.List.{flat_map};
 ghost use Rattle.std.specs.Io.KnownBytes.{Appends};
 ghost use Rattle.recfile.specs.Whole.{IsWhole};
@@ -10,11 +10,14 @@ ghost use Rattle.command_text.specs.declared.replies.Reply.{Reply};
 
 use crate::calls::{command_count, reply_to};
 use crate::cutting::next_line;
+use crate::reading::Reads;
 use command_text::{Reply, read_line, write_reply};
 use rec_types::Table;
 use record_file::RecordFile;
 use std::alloc::Global;
 use std::io::{Read, Write};
+use std::marker::Brand;
+use std::sync::ledger::{Blank, Ledger};
 use thiserror::Error;
 
 /// Why a script wasn't run to its end. `done` commands were run, the last one included whose reply could not
@@ -36,9 +39,14 @@ const SCRIPT_LIMIT: usize = 1_048_576;
 
 // All that the reader has, in at most 1,048,578 reads. Faults: ScriptTooLong, ReadFault, Memory { done: 0 },
 // each where it is met.
-fn read_script<R: Read>(alloc: Global, reader: &mut R) -> Result<Vec<u8>, ScriptFault>
+fn read_script<L: Ledger, R: Read>(
+    alloc: Global,
+    reader: &mut R,
+    reads: &mut Reads<L>,
+) -> Result<Vec<u8>, ScriptFault>
     ensures whole { IfOk result (λ script. IsWhole (R.remaining reader.old) (R.remaining reader.new) script.items) }
     ensures stops { IfErr result (ReadStops (R.remaining reader.old) (R.remaining reader.new)) }
+    ensures reads { reads.new ≤ reads.old + 1048578 }
 {
     let mut script = Vec::new(alloc);
     let mut chunk = [0; 4096];
@@ -47,7 +55,7 @@ fn read_script<R: Read>(alloc: Global, reader: &mut R) -> Result<Vec<u8>, Script
         if room == 0 {
             return Err(ScriptFault::ScriptTooLong);
         }
-        match reader.read(&mut chunk[..room]) {
+        match reads.read(reader, &mut chunk[..room]) {
             Err(_) => return Err(ScriptFault::ReadFault),
             Ok(0) => return Ok(script),
             Ok(n) => {
@@ -61,8 +69,8 @@ fn read_script<R: Read>(alloc: Global, reader: &mut R) -> Result<Vec<u8>, Script
 }
 
 /// Runs the whole script that a reader has, and answers how many commands it had. Each reply is written
-/// before the next command is run. Faults: ScriptTooLong, where no command is run; ReadFault, WriteFault and
-/// Memory where they are met.
+/// before the next command is run. It makes at most 1,048,578 reads. Faults: ScriptTooLong, where no command is run;
+/// ReadFault, WriteFault and Memory where they are met.
 pub fn run_script<T: Table, R: Read, W: Write>(
     alloc: Global,
     reader: &mut R,
@@ -76,7 +84,48 @@ pub fn run_script<T: Table, R: Read, W: Write>(
         (W.contents writer.old) (W.contents writer.new)
         (seen T.Table file.old) (seen T.Table file.new)) }
 {
-    match read_script(alloc, reader) {
+    run_from::<Brand, T, R, W>(alloc, reader, writer, file, Blank::new(1))
+}
+
+// The same, with a count of its own.
+fn run_from<L: Ledger, T: Table, R: Read, W: Write>(
+    alloc: Global,
+    reader: &mut R,
+    writer: &mut W,
+    file: &mut RecordFile<T>,
+    blank: Blank,
+) -> Result<u32, ScriptFault>
+    requires name { blank.name ≡ L.name }
+    requires parts { blank.parts ≡ L.parts }
+    requires some { 0 < L.parts }
+    ensures finished { IfOk result (Finished (R.remaining reader.old) (R.remaining reader.new)
+        (W.contents writer.old) (W.contents writer.new)
+        (seen T.Table file.old) (seen T.Table file.new)) }
+    ensures faulted { IfErr result (Faulted (R.remaining reader.old) (R.remaining reader.new)
+        (W.contents writer.old) (W.contents writer.new)
+        (seen T.Table file.old) (seen T.Table file.new)) }
+{
+    let mut reads = Reads::<L>::new(blank);
+    run_script_counted(alloc, reader, writer, file, &mut reads)
+}
+
+/// Runs the whole script that a reader has, and counts its reads; the rest is as `run_script` says.
+pub fn run_script_counted<L: Ledger, T: Table, R: Read, W: Write>(
+    alloc: Global,
+    reader: &mut R,
+    writer: &mut W,
+    file: &mut RecordFile<T>,
+    reads: &mut Reads<L>,
+) -> Result<u32, ScriptFault>
+    ensures finished { IfOk result (Finished (R.remaining reader.old) (R.remaining reader.new)
+        (W.contents writer.old) (W.contents writer.new)
+        (seen T.Table file.old) (seen T.Table file.new)) }
+    ensures faulted { IfErr result (Faulted (R.remaining reader.old) (R.remaining reader.new)
+        (W.contents writer.old) (W.contents writer.new)
+        (seen T.Table file.old) (seen T.Table file.new)) }
+    ensures reads { reads.new ≤ reads.old + 1048578 }
+{
+    match read_script(alloc, reader, reads) {
         Ok(script) => run_lines(alloc, &script, writer, file),
         Err(fault) => Err(fault),
     }

@@ -1,8 +1,10 @@
+use crate::endings::{EndFault, end_all};
+use crate::laws::{aborts_are_whole, endings_by_example};
 use crate::scripts::{ScriptFault, run_script};
 use crate::sessions::run_memory;
 use crate::statuses::exit_status;
-use rec_types::{FlakyTable, Key, LimitFault, Limits, Record, SortedTable, Table};
-use record_file::RecordFile;
+use rec_types::{FlakyTable, Key, LimitFault, Limits, Record, SortedTable, Table, TxId};
+use record_file::{Cause, RecordFile};
 use std::alloc::Global;
 use std::io;
 use std::io::{Read, Write};
@@ -47,10 +49,7 @@ fn flaky_replies_to(
     numbers: &[u64],
     script: &str,
 ) -> Result<(String, Result<u32, ScriptFault>), Fail> {
-    let failing = match Vec::from_slice(alloc, numbers) {
-        Ok(failing) => failing,
-        Err(_) => Vec::from_slice(alloc, numbers)?,
-    };
+    let failing = Vec::from_slice(alloc, numbers)?;
     let table = FlakyTable::new(SortedTable::new(alloc, limits), failing);
     assert!(rt; table.limit() == limits.records());
     let mut file = RecordFile::new(alloc, table, limits);
@@ -273,6 +272,19 @@ fn lines_that_say_nothing_or_cannot_be_read(rt: HostRuntime) -> Result<(), Fail>
         "\n# note\nfrob\nget 1\nget -1 a\nget 4294967296 a\nput 1 a x\nbegin\n  commit   01",
         "bad UnknownCommand\nbad WordCount\nbad BadNumber\nbad BadNumber\nbad NoRecordMark\nok 1\nok\n",
         2,
+    )
+}
+
+// Ends of lines, spaces, comments, numbers, and a word too many and too few.
+#[test]
+fn lines_of_every_kind(rt: HostRuntime) -> Result<(), Fail> {
+    expect(
+        &rt,
+        rt.alloc(),
+        greatest()?,
+        "  begin  \r\nsave 1\r\r\n  # note\nsave 1#\n#save 1\n\r\n   \nsave 00000000000000000000000000000000000001\nsave 4294967295\nsave 4294967296\ncommit 1 1\ncommit\nlog",
+        "ok 1\nbad BadNumber\nbad BadNumber\nok 1\nno NoSuchTx\nbad BadNumber\nbad WordCount\nbad WordCount\nok 0 0\n",
+        4,
     )
 }
 
@@ -615,6 +627,11 @@ fn a_session_names_its_fault(rt: HostRuntime) -> Result<(), Fail> {
     let text = String::from_utf8(out)?;
     assert_eq!(rt; text.as_str(), "ok 1\nok 0\n");
     let mut out = Vec::new(alloc);
+    let mut open = b"begin\nbegin\nput 1 a =x\nsave 2\nput 2 b =y\n".as_slice();
+    expect_session(&rt, alloc, &mut open, &mut out, "", 0)?;
+    let text = String::from_utf8(out)?;
+    assert_eq!(rt; text.as_str(), "ok 1\nok 2\nok none\nok 1\nok none\n");
+    let mut out = Vec::new(alloc);
     let mut failing = Failing { reads: 1 };
     expect_session(
         &rt,
@@ -635,4 +652,143 @@ fn a_session_names_its_fault(rt: HostRuntime) -> Result<(), Fail> {
         "recfile: WriteFault 2\n",
         3,
     )
+}
+
+/// Runs the script over an empty table whose device fails at these calls of `set`, and ends what is open: what that
+/// answered, and the list and the log then.
+fn end_after(
+    rt: &impl Abort,
+    alloc: Global,
+    numbers: &[u64],
+    script: &str,
+) -> Result<(Result<u32, EndFault>, String), Fail> {
+    let limits = greatest()?;
+    let table = FlakyTable::new(
+        SortedTable::new(alloc, limits),
+        Vec::from_slice(alloc, numbers)?,
+    );
+    assert!(rt; table.limit() == limits.records());
+    let mut file = RecordFile::new(alloc, table, limits);
+    let (_, end) = run(alloc, &mut file, script)?;
+    assert!(rt; end.is_ok());
+    let ended = end_all(&mut file);
+    let (text, _) = run(alloc, &mut file, "list\nlog\n")?;
+    Ok((ended, text))
+}
+
+/// Expects so many to be ended, and this list and log then.
+fn expect_ended(
+    rt: &impl Abort,
+    alloc: Global,
+    numbers: &[u64],
+    script: &str,
+    count: u32,
+    after: &str,
+) -> Result<(), Fail> {
+    let (ended, text) = end_after(rt, alloc, numbers, script)?;
+    assert_eq!(rt; ended, Ok(count));
+    assert_eq!(rt; text.as_str(), after);
+    Ok(())
+}
+
+/// Expects the device to stop ending at this transaction with one change left, and this list and log then.
+fn expect_stop(
+    rt: &impl Abort,
+    alloc: Global,
+    numbers: &[u64],
+    script: &str,
+    tx: u32,
+    undone: u32,
+    after: &str,
+) -> Result<(), Fail> {
+    let (ended, text) = end_after(rt, alloc, numbers, script)?;
+    let fault = EndFault::Stopped {
+        tx: TxId(tx),
+        undone,
+        left: 1,
+        cause: Cause::Device,
+    };
+    assert_eq!(rt; ended, Err(fault));
+    assert_eq!(rt; text.as_str(), after);
+    Ok(())
+}
+
+#[test]
+fn open_transactions_are_ended(rt: HostRuntime) -> Result<(), Fail> {
+    for (script, count, after) in [
+        ("", 0, "ok 0\nok 0 0\n"),
+        ("begin\nput 1 a =x\ncommit 1\n", 0, "- a =x\nok 1\nok 1 1\n"),
+        (
+            "begin\nbegin\nbegin\nput 3 m =keep\ncommit 3\nput 1 a =x\nput 2 b =y\n",
+            2,
+            "- m =keep\nok 1\nok 5 5\n",
+        ),
+        (
+            "begin\nbegin\nput 1 a =1\nsave 1\nput 1 a =2\nback 1 1\nput 2 b =3\n",
+            2,
+            "ok 0\nok 6 6\n",
+        ),
+    ] {
+        expect_ended(&rt, rt.alloc(), &[], script, count, after)?;
+    }
+    Ok(())
+}
+
+// Three transactions with one change each; and one whose rollback to a savepoint was stopped.
+#[test]
+fn ending_stops_at_the_first_stop(rt: HostRuntime) -> Result<(), Fail> {
+    let alloc = rt.alloc();
+    let three = "begin\nbegin\nbegin\nput 1 a =1\nput 2 b =2\nput 3 c =3\n";
+    let back = "begin\nput 1 a =1\nsave 1\nput 1 b =2\nback 1 1\n";
+    expect_stop(
+        &rt,
+        alloc,
+        &[5],
+        three,
+        2,
+        0,
+        "- b =2 @2\n- c =3 @3\nok 2\nok 4 6\n",
+    )?;
+    expect_ended(&rt, alloc, &[3], back, 1, "ok 0\nok 4 4\n")?;
+    expect_stop(
+        &rt,
+        alloc,
+        &[3, 4],
+        back,
+        1,
+        0,
+        "- a =1 @1\n- b =2 @1\nok 2\nok 2 4\n",
+    )?;
+    expect_stop(&rt, alloc, &[3, 5], back, 1, 0, "- a =1 @1\nok 1\nok 3 4\n")
+}
+
+// The transaction that was stopped goes on, and the one above it is aborted.
+#[test]
+fn ending_goes_on_after_a_stop(rt: HostRuntime) -> Result<(), Fail> {
+    let alloc = rt.alloc();
+    let limits = greatest()?;
+    let table = FlakyTable::new(
+        SortedTable::new(alloc, limits),
+        Vec::from_slice(alloc, &[4, 5])?,
+    );
+    assert!(rt; table.limit() == limits.records());
+    let mut file = RecordFile::new(alloc, table, limits);
+    let (_, end) = run(
+        alloc,
+        &mut file,
+        "begin\nbegin\nput 1 a =1\nput 1 b =2\nput 2 c =3\n",
+    )?;
+    assert_eq!(rt; end, Ok(5));
+    assert!(rt; end_all(&mut file).is_err());
+    assert!(rt; end_all(&mut file).is_err());
+    assert_eq!(rt; end_all(&mut file), Ok(2));
+    let (text, _) = run(alloc, &mut file, "list\nlog\n")?;
+    assert_eq!(rt; text.as_str(), "ok 0\nok 6 6\n");
+    Ok(())
+}
+
+#[test]
+fn laws_hold(_rt: HostRuntime) {
+    endings_by_example();
+    aborts_are_whole();
 }

@@ -1,11 +1,9 @@
-use Rattle.std.proofs.Common.{ℕ, [], ◌∷◌, Some, Ok, Err, Result, false, refl, sym, ap, subst}
+use Rattle.std.proofs.Common.{[], ◌∷◌, Ok, false, refl, sym, subst}
 use Rattle.command_text.specs.declared.commands.Command.{Command}
-use Rattle.command_text.specs.declared.commands.Command.TheVariants as commands
 use Rattle.command_text.specs.declared.replies.Reply.TheVariants as replies
-use Rattle.record_file.specs.Abstract.{OpenFile}
 use Rattle.record_file.specs.Outside.{put_cause, remove_cause, get_cause, rollback_cause, abort_cause, resume_cause, by_device, by_memory}
 use Rattle.record_file.specs.Steps.{put_refusal, remove_refusal, get_refusal, rollback_refusal, abort_refusal, resume_refusal}
-use Rattle.record_file.specs.Runs.{seen, Event, Begin, Put, Remove, Get, Savepoint, Release, RollbackTo, Abort, Resume, Commit, LogLen, LogUse}
+use Rattle.record_file.specs.Runs.{seen, Begin, Put, Remove, Get, Savepoint, Release, RollbackTo, Abort, Resume, Commit, LogLen, LogUse}
 use Rattle.recfile.specs.Run.{HasReply}
 use Rattle.recfile.proofs.StepFacts.{tells_nothing, same_but_file, quiet_step, quiet, asks, refused_seen, get_wants_none}
 use Rattle.recfile.proofs.calls.call.Goals as goal

@@ -1,9 +1,6 @@
-use Rattle.std.proofs.Common.{ℕ, List, [], ◌∷◌, Ok, Err, Result, false, refl, sym, subst}
-use Rattle.command_text.specs.declared.commands.Command.TheVariants as commands
-use Rattle.command_text.specs.declared.replies.Reply.TheVariants as replies
+use Rattle.std.proofs.Common.{ℕ, List, [], ◌∷◌, Ok, Err, false, refl, sym, subst}
 use Rattle.record_file.specs.Steps.{KeysOfStep}
 use Rattle.record_file.specs.Runs.{seen, KeysOf}
-use Rattle.recfile.specs.Run.{HasReply}
 use Rattle.recfile.proofs.StepFacts.{quiet}
 use Rattle.recfile.proofs.calls.keys.Goals as goal
 

@@ -1,10 +1,9 @@
-use Rattle.std.proofs.Common.{ℕ, List, [], ◌∷◌, Ok, Err, Result, false, refl, sym, subst}
+use Rattle.std.proofs.Common.{List, [], ◌∷◌, Ok, Err, false, refl, sym, subst}
 use Rattle.rec_types.specs.declared.transactions.Entry.{Entry}
 use Rattle.command_text.specs.declared.commands.Command.TheVariants as commands
 use Rattle.command_text.specs.declared.replies.Reply.TheVariants as replies
-use Rattle.record_file.specs.declared.faults.EntriesFault.{EntriesFault}
 use Rattle.record_file.specs.Outside.{entries_cause, by_device}
-use Rattle.record_file.specs.Runs.{seen, Entries, Event}
+use Rattle.record_file.specs.Runs.{seen, Entries}
 use Rattle.recfile.specs.Run.{HasReply}
 use Rattle.recfile.proofs.StepFacts.{tells_nothing, asks}
 use Rattle.recfile.proofs.calls.list.Goals as goal

@@ -1,4 +1,4 @@
-use Rattle.std.proofs.Common.{◌≡◌, true, [], Result, Ok, Err, refl, sym, ap, subst, ◌∙◌}
+use Rattle.std.proofs.Common.{◌≡◌, true, [], Result, Ok, Err, IfOk, IfErr, MatchResult, if◌then◌else◌, refl, sym, ap, subst, ◌∙◌}
 use Rattle.std.specs.FinMap as maps
 use Rattle.rec_types.specs.LimitBounds.{Bounds}
 use Rattle.rec_types.specs.Sorted.{SortedState}
@@ -9,6 +9,7 @@ use Rattle.record_file.specs.Abstract.{OpenFile, new_file}
 use Rattle.record_file.specs.Runs.{Seen, seen}
 use Rattle.recfile.specs.Run.{Finished, Faulted}
 use Rattle.recfile.specs.Whole.{greatest_file}
+use Rattle.recfile.proofs.WholeFacts.{whole_empty, whole_script}
 use Rattle.recfile.proofs.sessions.run_memory.Goals as goal
 
 abbrev greatest : Bounds
@@ -36,22 +37,26 @@ fresh t f table limits is are contents sound failures refusals damages =
       damages = damages i;
     })
 
-pub returns-in-Ok-run_script : goal.returns-in-Ok-run_script
-returns-in-Ok-run_script g c = (
-  Ok c.in-Ok-run_script.field-0,
-  seen sorted c.run_script.new.file,
-  subst (λ (s : Seen). Finished (g.R.Read.remaining c.args.reader.now) (g.R.Read.remaining c.run_script.new.reader) (g.W.Write.contents c.args.out.now) (g.W.Write.contents c.run_script.new.writer) s (seen sorted c.run_script.new.file) c.in-Ok-run_script.field-0)
-      (fresh sorted c.new-file.result c.new-2.result c.in-Ok.limits c.new-file.ensures (ok_is c.in-Ok.limits greatest (sym c.in-Ok.is ∙ c.new.ensures)) (ap (λ (s : SortedState). s.contents) c.new-2.ensures) refl refl (ap (λ (s : SortedState). s.refusals) c.new-2.ensures) refl)
-      c.in-Ok-run_script.ensures.finished,
-  c.exit_status.ensures,
-)
+matched : {A F : Type 0} (answer : Result A F) (P : A → Type 0) (Q : F → Type 0) → IfOk answer P → IfErr answer Q → MatchResult answer P Q
+matched (Ok x) P Q ok err = ok
+matched (Err x) P Q ok err = err
 
 pub returns : goal.returns
-returns g c = (
-  Err c.in-Err.fault,
-  seen sorted c.run_script.new.file,
-  subst (λ (s : Seen). Faulted (g.R.Read.remaining c.args.reader.now) (g.R.Read.remaining c.run_script.new.reader) (g.W.Write.contents c.args.out.now) (g.W.Write.contents c.run_script.new.writer) s (seen sorted c.run_script.new.file) c.in-Err.fault)
-      (fresh sorted c.new-file.result c.new-2.result c.in-Ok.limits c.new-file.ensures (ok_is c.in-Ok.limits greatest (sym c.in-Ok.is ∙ c.new.ensures)) (ap (λ (s : SortedState). s.contents) c.new-2.ensures) refl refl (ap (λ (s : SortedState). s.refusals) c.new-2.ensures) refl)
-      c.in-Err.ensures.faulted,
-  c.exit_status-in-Err.ensures,
-)
+returns g c =
+    let start : seen sorted c.new-file.result ≡ greatest_file = fresh sorted c.new-file.result c.new-2.result c.in-Ok.limits c.new-file.ensures (ok_is c.in-Ok.limits greatest (sym c.in-Ok.is ∙ c.new.ensures)) (ap (λ (s : SortedState). s.contents) c.new-2.ensures) refl refl (ap (λ (s : SortedState). s.refusals) c.new-2.ensures) refl in
+    let known =
+    subst (λ (s : Seen). MatchResult c.run_script-script.result
+    (Finished (g.R.Read.remaining c.args.reader.now) (g.R.Read.remaining c.run_script-script.new.reader) (g.W.Write.contents c.args.out.now) (g.W.Write.contents c.run_script-script.new.writer) s (seen sorted c.run_script-script.new.file))
+    (Faulted (g.R.Read.remaining c.args.reader.now) (g.R.Read.remaining c.run_script-script.new.reader) (g.W.Write.contents c.args.out.now) (g.W.Write.contents c.run_script-script.new.writer) s (seen sorted c.run_script-script.new.file)))
+    start (matched c.run_script-script.result _ _ c.run_script-script.ensures.finished c.run_script-script.ensures.faulted)
+    in (
+      c.run_script-script.result,
+      c.end_all-ended.result,
+      seen sorted c.run_script-script.new.file,
+      seen sorted c.end_all-ended.new.file,
+      known,
+      whole_script c.run_script-script.result _ _ _ _ greatest_file (seen sorted c.run_script-script.new.file) known whole_empty,
+      matched c.end_all-ended.result _ _ c.end_all-ended.ensures.ended c.end_all-ended.ensures.stopped,
+      c.end_all-ended.ensures.asks,
+      c.exit_status.ensures ∙ (λ i. if c.is_err.ensures.value i then 4 else (if c.is_err-2.ensures.value i then 3 else 0)),
+    )

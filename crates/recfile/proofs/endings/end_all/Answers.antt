@@ -1,0 +1,46 @@
+use Rattle.std.proofs.Common.{◌≡◌, ℕ, ◌+◌, Some, None, subst, ◌∙◌, arith}
+use Rattle.rec_types.specs.History.{replay}
+use Rattle.record_file.specs.Abstract.{open_of}
+use Rattle.record_file.specs.Runs.{seen}
+use Rattle.recfile.specs.Ending.{EndsBelow, stop_of}
+use Rattle.recfile.proofs.AskFacts.{asks_nothing, asks_on}
+use Rattle.recfile.proofs.EndFacts.{below_first, below_next, count_next, few_next, all_ended, replay_without}
+use Rattle.recfile.proofs.OneFacts.{stops_ending}
+use Rattle.recfile.proofs.endings.end_all.Goals as goal
+
+pub loop-number-init : goal.loop-number-init
+loop-number-init g c = record {
+  ended = below_first c.args.file.now.file c.begun-number-end.ensures.kept.opens;
+  asks = asks_nothing (seen g.T.Table c.args.file.now);
+  count = omega arith;
+  few = omega arith;
+}
+
+pub returns-in-Err-clause-stopped : goal.returns-in-Err-clause-stopped
+returns-in-Err-clause-stopped g c = stops_ending c.args.file.now.file c.loop-number.file.file c.end_one.new.file.file (c.loop-number.number + 1) c.in-Err.fault c.loop-number.invariant.ended c.in-Err.ensures.stopped c.in-Err.ensures.number
+
+pub returns-in-Err-clause-asks : goal.returns-in-Err-clause-asks
+returns-in-Err-clause-asks g c = asks_on (seen g.T.Table c.args.file.now) (seen g.T.Table c.loop-number.file) (seen g.T.Table c.end_one.new.file) (Some (stop_of c.in-Err.fault)) c.loop-number.invariant.asks c.in-Err.ensures.asks
+
+pub loop-number-preserved : goal.loop-number-preserved
+loop-number-preserved g c =
+    let known = c.loop-number.invariant in
+    record {
+      ended = below_next c.args.file.now.file c.loop-number.file.file c.end_one.new.file.file (c.loop-number.number + 1) c.in-Ok.was_open known.ended c.in-Ok.ensures.ended;
+      asks = asks_on (seen g.T.Table c.args.file.now) (seen g.T.Table c.loop-number.file) (seen g.T.Table c.end_one.new.file) None known.asks c.in-Ok.ensures.asks;
+      count = count_next c.loop-number.file.file c.end_one.new.file.file (c.loop-number.number + 1) c.loop-number.ended c.one_if-ended.result _ c.in-Ok.was_open known.count c.in-Ok.ensures.ended c.one_if-ended.ensures;
+      few = few_next c.loop-number.number c.loop-number.ended c.one_if-ended.result c.in-Ok.was_open known.few c.one_if-ended.ensures;
+    }
+
+pub returns-clause-ended : goal.returns-clause-ended
+returns-clause-ended g c =
+    let all : c.loop-number.number ≡ c.args.file.now.file.begun = omega (arith, c.loop-number-test.false, c.loop-number.auto.number-end, c.begun-number-end.ensures.value) in
+    all_ended c.args.file.now.file c.loop-number.file.file c.loop-number.ended c.begun-number-end.ensures.kept.opens (subst (λ (k : ℕ). EndsBelow c.args.file.now.file (k + 1) c.loop-number.file.file) all c.loop-number.invariant.ended) c.loop-number.invariant.count
+
+pub returns-clause-records : goal.returns-clause-records
+returns-clause-records g c = λ sound whole.
+    let known = c.loop-number.invariant in
+    let all = returns-clause-ended g c in
+    c.begun-begun.ensures.kept.replayed (known.asks.sound ∙ sound)
+    ∙ (λ i. replay (known.asks.opening sound i) (all.history whole i))
+    ∙ replay_without c.args.file.now.file.opening (open_of c.args.file.now.file) c.args.file.now.file.history

@@ -1,0 +1,14 @@
+use Rattle.std.proofs.Common.{◌≡◌, ◌+◌, ◌≤◌, None}
+use Rattle.std.specs.FinMap as maps
+use Rattle.record_file.specs.Runs.{seen}
+use Rattle.recfile.specs.Ending.{Asks, EndsBelow}
+use Rattle.recfile.proofs.endings.end_all.Given as goal
+
+-- the open transactions up to this number have ended
+abbrev pub invariant-loop-number : goal.invariant-loop-number
+invariant-loop-number g l = record {
+  ended : EndsBelow l.fn.file.file (l.number + 1) l.file.file;
+  asks : Asks (seen g.T.Table l.fn.file) None (seen g.T.Table l.file);
+  count : l.ended + maps.len l.file.file.txs ≡ maps.len l.fn.file.file.txs;
+  few : l.ended ≤ l.number;
+}

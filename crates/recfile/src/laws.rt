@@ -1,0 +1,26 @@
+//! Facts of the definitions that contracts of this crate cite.
+ghost use Rattle.std.specs.Prelude.{◌≡◌, ℕ, List, true, false};
+ghost use Rattle.std.specs.FinMap as maps;
+ghost use Rattle.rec_types.specs.Contents.{Contents};
+ghost use Rattle.rec_types.specs.LimitBounds.{Bounds};
+ghost use Rattle.record_file.specs.Abstract.{File, new_file, open_of};
+ghost use Rattle.record_file.specs.Runs.{Event, Run, Seen};
+ghost use Rattle.recfile.specs.Ending.{AbortsWhole, EndsAll, without};
+ghost use Rattle.recfile.specs.Examples.{four_changes, two_taken_back};
+
+/// Ending takes back the live changes of open transactions and no others; it is no commit.
+pub fn endings_by_example()
+    ensures taken { (old : File) → open_of old 1 ≡ true → open_of old 2 ≡ false
+        → open_of old 3 ≡ true → without (open_of old) four_changes ≡ two_taken_back }
+    ensures committed { (old : File) (ended : ℕ) → open_of old 1 ≡ true
+        → old.history ≡ four_changes → AbortsWhole old.txs
+        → EndsAll old ended (record old { txs = maps.empty }) → ⊥ }
+{}
+
+/// In a new file, and after any run from there, each rollback under way that ends its transaction goes back to the
+/// beginning.
+pub fn aborts_are_whole()
+    ensures begins { (m : Contents) (limits : Bounds) → AbortsWhole (new_file m limits).txs }
+    ensures kept { (old new : Seen) (events : List Event) → Run old events new
+        → AbortsWhole old.file.txs → AbortsWhole new.file.txs }
+{}
