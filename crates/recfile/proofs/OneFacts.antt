@@ -4,7 +4,8 @@ use Rattle.std.specs.FinMap as maps
 use Rattle.std.specs.FinMap.{get}
 use Rattle.rec_types.specs.History.{take_back}
 use Rattle.rec_types.specs.declared.transactions.TxId.{TxId}
-use Rattle.tx_log.specs.Transactions.{Transactions, Tx, Rollback}
+use Rattle.tx_log.specs.Transactions.{Transactions, Tx}
+use Rattle.tx_log.specs.declared.phases.Rollback.{Rollback}
 use Rattle.tx_log.specs.LogState.{phase_of, rollback_phase, active_with, rolling_to, finished, finished_by, IsRolling}
 use Rattle.tx_log.specs.declared.phases.Phase.{Phase}
 use Rattle.tx_log.specs.declared.phases.Phase.TheVariants as phases

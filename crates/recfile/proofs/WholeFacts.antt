@@ -3,7 +3,8 @@ use Rattle.std.proofs.Common.{◌≡◌, ℕ, ◌+◌, zero, Bool, true, false, 
 use Rattle.std.specs.FinMap as maps
 use Rattle.std.specs.FinMap.{get, get-empty}
 use Rattle.std.specs.Ordering.{nat_cmp}
-use Rattle.tx_log.specs.Transactions.{Transactions, Tx, Rollback, fresh}
+use Rattle.tx_log.specs.Transactions.{Transactions, Tx, fresh}
+use Rattle.tx_log.specs.declared.phases.Rollback.{Rollback}
 use Rattle.tx_log.specs.LogState.{active_with, rolling_to, finished, finished_by}
 use Rattle.tx_log.specs.declared.phases.BeginFault.TheVariants as begin_faults
 use Rattle.record_file.specs.Abstract.{File, tx_of}

@@ -4,7 +4,8 @@ use Rattle.std.specs.FinMap as maps
 use Rattle.rec_types.specs.History.{Change, is_pending, taken_back, take_back}
 use Rattle.rec_types.specs.Table.{counted, greatest_count}
 use Rattle.rec_types.specs.declared.transactions.TxId.{TxId}
-use Rattle.tx_log.specs.Transactions.{Transactions, Tx, Rollback, is_open}
+use Rattle.tx_log.specs.Transactions.{Transactions, Tx, is_open}
+use Rattle.tx_log.specs.declared.phases.Rollback.{Rollback}
 use Rattle.tx_log.specs.LogState.{IsRolling}
 use Rattle.record_file.specs.Abstract.{File, Tells, open_of, tx_of, phase_at}
 use Rattle.record_file.specs.Outside.{by_device, by_memory, TellsDamage}

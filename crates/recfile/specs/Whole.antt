@@ -2,6 +2,7 @@
 use Rattle.std.specs.Prelude.{◌≡◌, ℕ, ◌≤◌, true, List, [], length, Option}
 use Rattle.std.specs.FinMap as maps
 use Rattle.std.specs.Io.KnownBytes.{Consumes, IsAtEnd}
+use Rattle.rec_types.specs.LimitBounds.{most_records, most_log_records, most_begins}
 use Rattle.rec_types.specs.Table.{no_damage}
 use Rattle.record_file.specs.Abstract.{new_file}
 use Rattle.record_file.specs.Runs.{Seen}
@@ -21,7 +22,7 @@ TakesAtMost left leaves most = (taken : List ℕ) × Consumes left leaves taken 
 -- an empty file in memory, with the greatest limits, in which nothing was begun
 abbrev pub greatest_file : Seen
 greatest_file = record {
-  file = new_file maps.empty (record { records = 1000000; log_records = 4000000; begins = 1000000 });
+  file = new_file maps.empty (record { records = most_records; log_records = most_log_records; begins = most_begins });
   log = [];
   records = maps.empty;
   sound = true;

@@ -10,7 +10,7 @@ ghost use Rattle.recfile.specs.declared.scripts.ScriptFault.{ScriptFault};
 use crate::endings::end_all;
 use crate::scripts::run_script;
 use crate::statuses::exit_status;
-use rec_types::{Limits, SortedTable};
+use rec_types::{Limits, MOST_BEGINS, MOST_LOG_RECORDS, MOST_RECORDS, SortedTable};
 use record_file::RecordFile;
 use std::alloc::Global;
 use std::fmt::Display;
@@ -37,7 +37,7 @@ pub fn run_memory<R: Read, W: Write, E: Write>(
         × Asks mid (end_cause ended) new
         × (result ≡ (if is_err ended then 4 else (if is_err answer then 3 else 0))) }
 {
-    let Ok(limits) = Limits::new(1_000_000, 4_000_000, 1_000_000) else {
+    let Ok(limits) = Limits::new(MOST_RECORDS, MOST_LOG_RECORDS, MOST_BEGINS) else {
         unreachable!()
     };
     let mut file = RecordFile::new(alloc, SortedTable::new(alloc, limits), limits);
