@@ -49,7 +49,7 @@ returns-then-height-eq1-clause-removes g c = λ steady least es us below low spe
     let P = at c.args.pages.now.pages in
     let level = c.args.height - 1 in
     let top : Top c.args.order P least c.args.height level c.args.n es us c.args.bounds.now n = record { below = below; spells = spells; least_is = least_is; kind = c.requires.node.kind; within = c.requires.node.within; body = body; us_is = us_is } in
-    let done = drop_leaf c.args.order P c.args.edit.now.writes.items c.settle.new.edit.writes.items c.args.edit.now.freed.items least c.args.height level c.args.n es us c.args.bounds.now c.args.bounds.now n m i x c.in_ok-settle.field-0 c.args.met.now.items (omega arith) c.requires.some_order low c.requires.unwritten c.requires.unfreed apart between top
+    let done = drop_leaf c.args.order P c.args.edit.now.writes.items c.settle.new.edit.writes.items c.args.edit.now.freed.items least c.args.height level c.args.n es us c.args.bounds.now c.args.bounds.now n m i x c.in_ok-settle.field-0 c.args.met.now.items (omega arith) c.requires.order.0 low c.requires.unwritten c.requires.unfreed apart between top
     (subst (λ (h : ℕ). IsThin c.args.order h c.args.bounds.now m) (sym c.if-height-eq1.true) without) c.requires.node.ascends c.requires.place e_is refl c.remove.ensures.items c.in_ok-settle.ensures.settles in
     subst (λ (fs : List ℕ). Removes c.args.order P (after P c.settle.new.edit.writes.items fs) 0 (length fs) least level c.args.n es us c.args.met.now.items c.args.met.now.items (element_at n i).0 (Some c.in_ok-settle.field-0)) (sym (ap (λ v. v.items) c.in_ok-settle.ensures.freed)) done
 
@@ -218,7 +218,7 @@ returns-in_ok-settle-in-Whole-clause-removes g c = λ steady least es us below l
     let took = took_here c.args.order c.args.pages.now.pages c.args.pages.now.pages ws fs level (level - 1) (get_or c.deref-2.result.now (i + 1) 0) (son_at n (suc i)) son.xs son.mine c.args.met.now.items c.args.met.now.items met2 c.in_ok-next.field-0 (Whole c.in-Whole.next) refl n_is refl up c.in-Whole.is
     (c.in_ok-next.ensures.takes steady c.args.order son.xs son.mine (omega arith) there.tree there.between there.apart there.unmet) in
     let untouched = c.in_ok-next.ensures.visit.older c.args.n c.requires.met in
-    let done = next_whole c.args.order P ws c.settle-in-Whole.new.edit.writes.items fs least c.args.height (level - 1) c.args.n es us c.args.bounds.now c.args.bounds.now n m i x c.in-Whole.next c.in_ok-settle-in-Whole.field-0 c.args.met.now.items met2 c.requires.some_order low apart between head son took thin e_is c.set_element.ensures.kind c.set_element.ensures.elements sons_is untouched c.in_ok-settle-in-Whole.ensures.settles in
+    let done = next_whole c.args.order P ws c.settle-in-Whole.new.edit.writes.items fs least c.args.height (level - 1) c.args.n es us c.args.bounds.now c.args.bounds.now n m i x c.in-Whole.next c.in_ok-settle-in-Whole.field-0 c.args.met.now.items met2 c.requires.order.0 low apart between head son took thin e_is c.set_element.ensures.kind c.set_element.ensures.elements sons_is untouched c.in_ok-settle-in-Whole.ensures.settles in
     subst (λ (z : List ℕ). Removes c.args.order P (after P c.settle-in-Whole.new.edit.writes.items z) 0 (length z) least level c.args.n es us c.args.met.now.items met2 key (Some c.in_ok-settle-in-Whole.field-0)) (sym (ap (λ v. v.items) c.in_ok-settle-in-Whole.ensures.freed))
     (subst (λ (h : ℕ). Removes c.args.order P (after P c.settle-in-Whole.new.edit.writes.items fs) 0 (length fs) least h c.args.n es us c.args.met.now.items met2 key (Some c.in_ok-settle-in-Whole.field-0)) (sym up) done)
 
@@ -298,7 +298,7 @@ returns-in_ok-settle-in-Short-clause-removes g c = λ steady least es us below l
     let fs2 = c.mend.new.edit.freed.items in
     let ws3 = c.settle-in-Short.new.edit.writes.items in
     let met3 = c.mend.new.met.items in
-    let mended = mend_son c.args.order P met2 met3 0 (level - 1) level c.args.n (son_at n (suc i)) c.in-Short.son m G ws ws2 fs fs2 (set_in key None es) us c.args.bounds.now (i + 1) c.requires.some_order (sym up) (omega (arith, size, c.requires.place)) (omega (arith, size, c.requires.place)) s_is fair
+    let mended = mend_son c.args.order P met2 met3 0 (level - 1) level c.args.n (son_at n (suc i)) c.in-Short.son m G ws ws2 fs fs2 (set_in key None es) us c.args.bounds.now (i + 1) c.requires.order.0 (sym up) (omega (arith, size, c.requires.place)) (omega (arith, size, c.requires.place)) s_is fair
     (subst (λ (z : ℕ). Untouched ws fs z) (n_is ∙ s_is) goes.4) c.in_ok-next.ensures.tidy.unmet broken
     (λ less o spells2 kind within free. c.in_ok-mend-in-Short.ensures.right later_steady less o (subst (λ (z : List (Option (List ℕ))). Spells c.args.order (at z) (son_at m (suc (i + 1))) o) (sym later_is) spells2) kind within free)
     (λ j is last o spells2 kind within free. c.in_ok-mend-in-Short.ensures.left later_steady j is last o (subst (λ (z : List (Option (List ℕ))). Spells c.args.order (at z) (son_at m j) o) (sym later_is) spells2) kind within free) in
@@ -307,7 +307,7 @@ returns-in_ok-settle-in-Short-clause-removes g c = λ steady least es us below l
     let fresh = subst (λ (z : ℕ). is_met c.args.met.now.items z ≡ false) (n_is ∙ s_is) c.in_ok-next.ensures.visit.fresh in
     let page = c.in_ok-mend-in-Short.ensures.others c.args.n (c.in_ok-next.ensures.visit.stays c.args.n c.requires.met) (met_differs c.args.met.now.items c.args.n (son_at m (i + 1)) c.requires.met fresh) (c.in_ok-next.ensures.visit.older c.args.n c.requires.met) in
     let found = ap (lookup_in key) son.es_is ∙ lookup-here key son.pre (element_at n i) (son.xs ++ son.post) son.below refl in
-    let drops = drop_mended c.args.order P ws ws2 ws3 fs fs2 least c.args.height (level - 1) c.args.n (son_at n (suc i)) es us c.args.bounds.now m G c.in-Short.son x (element_at n i) c.in_ok-settle-in-Short.field-0 met2 met3 key c.requires.some_order low broken mended thin2 (thin2.kind ∙ sym c.requires.node.kind ∙ head.body.0) page e_is found c.in_ok-settle-in-Short.ensures.settles in
+    let drops = drop_mended c.args.order P ws ws2 ws3 fs fs2 least c.args.height (level - 1) c.args.n (son_at n (suc i)) es us c.args.bounds.now m G c.in-Short.son x (element_at n i) c.in_ok-settle-in-Short.field-0 met2 met3 key c.requires.order.0 low broken mended thin2 (thin2.kind ∙ sym c.requires.node.kind ∙ head.body.0) page e_is found c.in_ok-settle-in-Short.ensures.settles in
     let unmet3 = on_unmet c.args.met.now.items met2 met3 mended.t us son.mine (below_in c.args.n us son.upre son.mine son.upost all_is) (broken.loses.left.within mended.t (inr mended.t_in)) took.unmet mended.met_is in
     let done : Removes c.args.order P (after P ws3 fs2) 0 (length fs2) least (suc (level - 1)) c.args.n es us c.args.met.now.items met3 key (Some c.in_ok-settle-in-Short.field-0) = record { drops = drops; unmet = unmet3 } in
     subst (λ (z : List ℕ). Removes c.args.order P (after P ws3 z) 0 (length z) least level c.args.n es us c.args.met.now.items met3 key (Some c.in_ok-settle-in-Short.field-0)) (sym (ap (λ v. v.items) c.in_ok-settle-in-Short.ensures.freed))
