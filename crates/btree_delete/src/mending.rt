@@ -100,7 +100,8 @@ pub(crate) fn mend<S: Store>(
     requires place { i ≤ length father.old.elements.items }
     requires son { IsThin order level (son_bounds father.old.elements.items i bounds.now) son }
     requires in_use { IsSome (at pages.old.pages (son_at father.old i)) }
-    requires tidy { IsTidy pages.old.pages met.old.items edit.old.writes.items edit.old.freed.items }
+    requires tidy { IsTidy pages.old.pages met.old.items
+        edit.old.writes.items edit.old.freed.items }
     requires untouched { Untouched edit.old.writes.items edit.old.freed.items
         (son_at father.old i) }
     requires met { is_met met.old.items (son_at father.old i) ≡ true }

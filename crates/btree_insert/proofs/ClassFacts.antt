@@ -1,14 +1,14 @@
 -- Trees in pages are the trees of the class.
-use Rattle.std.proofs.Common.{◌≡◌, ℕ, zero, suc, ◌+◌, ◌≤◌, Option, Some, None, List, [], ◌∷◌, ◌++◌, length, refl, ap, sym, ◌∙◌, subst, arith, append-nil}
-use Rattle.btree_node.specs.Lists.{Element, Each, Below, Ascends}
-use Rattle.btree_node.proofs.OrderFacts.{Each-append, Each-right, Each-map, Below-trans}
+use Rattle.std.proofs.Common.{◌≡◌, ℕ, zero, suc, ◌+◌, ◌≤◌, Some, None, List, [], ◌∷◌, ◌++◌, length, refl, ap, sym, ◌∙◌, subst, arith, append-nil}
+use Rattle.btree_node.specs.Lists.{Element, Each, Ascends}
+use Rattle.btree_node.proofs.OrderFacts.{Each-right}
 use Rattle.page_store.specs.PageMap.{PageMap}
 use Rattle.btree_insert.specs.declared.bounds.Bounds.{Bounds}
 use Rattle.btree_insert.specs.declared.trees.Tree.{Tree}
 use Rattle.btree_insert.specs.Bounds.{Over, Under, Between}
 use Rattle.btree_insert.specs.Classes.{BTree, between_trees, in_order, Filled, Sides, Ordered, InClass, AllStand, Stands, StandsFor}
 use Rattle.btree_insert.specs.PageTrees.{Fan, TreeAt, RootAt, Holds}
-use Rattle.btree_insert.proofs.BoundFacts.{all_units, Between-left, Between-right, Between-all}
+use Rattle.btree_insert.proofs.BoundFacts.{Between-left, Between-right, Between-all}
 use Rattle.btree_insert.proofs.ReachFacts.{Between-join}
 
 -- sons that stand for trees make a fan
