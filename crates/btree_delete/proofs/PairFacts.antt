@@ -2,19 +2,12 @@
 use Rattle.std.proofs.Common.{◌≡◌, ℕ, zero, suc, ◌<◌, Some, List, [], ◌∷◌, ◌++◌, length, get_or, set, refl, ap, sym, ◌∙◌, subst, arith, append_assoc, append-nil}
 use Rattle.std.specs.List.{remove}
 use Rattle.btree_node.specs.Lists.{Element, Each, Below, IsAt}
-use Rattle.btree_node.proofs.OrderFacts.{Each-append, Each-left, Each-right, Each-map, Below-trans}
+use Rattle.btree_node.proofs.OrderFacts.{Each-append, Each-left, Each-right}
 use Rattle.btree_insert.specs.declared.bounds.Bounds.{Bounds}
 use Rattle.btree_insert.specs.Bounds.{Between, high_at, son_bounds}
 use Rattle.btree_insert.specs.PageTrees.{Fan}
 use Rattle.btree_insert.proofs.BoundFacts.{low_first, Ascends-before, Between-left, Between-right}
-use Rattle.btree_insert.proofs.FanFacts.{Stands, fan_move}
-
-nil2 : (new : Stands) (s : ℕ) (ys : List Element) (vs : List ℕ) → new s ys vs → new s (ys ++ []) (vs ++ [])
-nil2 new s ys vs is =
-    subst (λ (ws : List ℕ). new s (ys ++ []) ws) (sym (append-nil vs)) (subst (λ (zs : List Element). new s zs vs) (sym (append-nil ys)) is)
-
-regroup_pre : (xs : List Element) (e : Element) (pre mid : List Element) → (xs ++ e ∷ pre) ++ mid ≡ xs ++ e ∷ (pre ++ mid)
-regroup_pre xs e pre mid = append_assoc xs (e ∷ pre) mid
+use Rattle.btree_insert.proofs.FanFacts.{Stands, fan_move, nil2, regroup_pre, below_rest}
 
 -- the first son and what stands behind it. Another son may take its place.
 pub record First (tree new : Stands) (Same : ℕ → Type 0) (s : ℕ) (ss : List ℕ) (els es : List Element) (us : List ℕ) (b : Bounds) : Type 0 where
@@ -162,9 +155,6 @@ pub record Next (tree new : Stands) (Same : ℕ → Type 0) (sons : List ℕ) (e
   pub below : Each (λ e. Below e.0 key) pre
   pub between : Between (son_bounds els (suc i) b) xs
   pub keep : Each Same upre → Each Same upost → (y : Element) (zs : List Element) (vs : List ℕ) → new (get_or sons (suc i) 0) zs vs → Fan new sons (set els i y) (pre ++ y ∷ (zs ++ post)) (upre ++ (vs ++ upost))
-
-below_rest : (key : List ℕ) (e : Element) (xs : List Element) → Below e.0 key → Each (λ x. Below x.0 e.0) xs → Each (λ x. Below x.0 key) xs
-below_rest key e xs below up = Each-map (λ (x : Element). Below x.0 e.0) (λ x. Below x.0 key) xs (λ x under. Below-trans x.0 e.0 key under below) up
 
 pub next : (tree new : Stands) (Same : ℕ → Type 0) → ((s : ℕ) (xs : List Element) (us : List ℕ) → tree s xs us → Each Same us → new s xs us)
     → (sons : List ℕ) (els es : List Element) (us : List ℕ) (key : List ℕ) (i : ℕ) (b : Bounds) (x : Element) → Fan tree sons els es us → Between b es → IsAt els key i → x ≡ get_or els i x → Next tree new Same sons els es us key i b x

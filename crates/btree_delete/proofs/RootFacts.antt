@@ -117,14 +117,14 @@ all_inl pages [] all = tt
 all_inl pages (w ∷ ws) all = (inl all.0, all_inl pages ws all.1)
 
 -- a tidy edit that takes no number can be staged
-pub tidy_stages : (pages : List (Option (List ℕ))) (met : List ℕ) (ws : List (ℕ × List ℕ)) (fs : List ℕ) (taken : ℕ) → taken ≡ 0 → length pages ≤ 1000001 → IsTidy pages met ws fs → CanStage pages ws taken fs
-tidy_stages pages met ws fs taken none most tidy =
+pub tidy_stages : (pages : List (Option (List ℕ))) (met : List ℕ) (ws : List (ℕ × List ℕ)) (fs : List ℕ) (taken : ℕ) → taken ≡ 0 → IsTidy pages met ws fs → CanStage pages ws taken fs
+tidy_stages pages met ws fs taken none tidy =
     subst (λ (x : ℕ). CanStage pages ws x fs) (sym none) (record {
       written = all_inl pages ws tidy.written;
       taken_written = λ i low. absurd (omega (arith, low));
       freed_in_use = tidy.freed_in_use;
       freed_not_written = tidy.freed_not_written;
-      room = omega (arith, most);
+      room = λ some. absurd (omega (arith, some));
     })
 
 -- what the root's page adds

@@ -12,7 +12,7 @@ use Rattle.btree_node.specs.Layout.{first_layout}
 use Rattle.btree_node.specs.Lists.{Element, Each, Below, Ascends}
 use Rattle.btree_node.specs.Spelling.{spelling, ElementFits, IsSon, SonsFit, CanStand}
 use Rattle.btree_node.proofs.CutFacts.{Each-take, Each-drop, Ascends-take, Ascends-drop, around}
-use Rattle.btree_node.proofs.OrderFacts.{Each-append, Each-map, Each_at, Below-trans, Ascends-right}
+use Rattle.btree_node.proofs.OrderFacts.{Each-append, Each-map, Each_at, Ascends-right}
 use Rattle.btree_insert.specs.declared.bounds.Bounds.{Bounds}
 use Rattle.btree_insert.specs.Bounds.{Over, Under, AreWithin, low_at, high_at, son_bounds}
 use Rattle.btree_insert.specs.Growth.{IsWithin}
@@ -22,13 +22,8 @@ use Rattle.btree_insert.proofs.PlaceFacts.{within_place, son_within}
 use Rattle.btree_insert.proofs.TreeFacts.{kind_above}
 use Rattle.btree_delete.specs.Mending.{element_at, son_at, both, Distributes, Mends}
 use Rattle.btree_delete.specs.Shrinking.{IsThin, behind}
-
-pub ascends_join : (xs : List Element) (e : Element) (ys : List Element) → Ascends xs → Each (λ x. Below x.0 e.0) xs → Each (λ y. Below e.0 y.0) ys → Ascends ys → Ascends (xs ++ e ∷ ys)
-ascends_join [] e ys up below above later = (above, later)
-ascends_join (x ∷ xs) e ys up below above later = (
-  Each-append (λ y. Below x.0 y.0) xs (e ∷ ys) up.0 (below.0, Each-map (λ (y : Element). Below e.0 y.0) (λ y. Below x.0 y.0) ys (λ y over. Below-trans x.0 e.0 y.0 below.0 over) above),
-  ascends_join xs e ys up.1 below.1 above later,
-)
+use Rattle.btree_insert.proofs.ReachFacts.{ascends_join}
+use Rattle.btree_insert.proofs.SettleFacts.{set_split}
 
 -- an element that could stand at place i in the place of the one there
 pub record Stands (i : ℕ) (els : List Element) (b : Bounds) (e : Element) : Type 0 where
@@ -125,11 +120,6 @@ are_brothers k level i b F L R low father left right =
       left_sons = left.sons;
       right_sons = right.sons;
     }
-
-set_split : (els : List Element) (i : ℕ) (y : Element) → i < length els → set els i y ≡ take i els ++ y ∷ drop (suc i) els
-set_split [] i y low = absurd (omega arith)
-set_split (e ∷ els) zero y low = refl
-set_split (e ∷ els) (suc i) y low = ap (λ rest. e ∷ rest) (set_split els i y (omega (arith, low)))
 
 -- the keys still ascend
 pub set_up : (els : List Element) (i : ℕ) (b : Bounds) (y : Element) → i < length els → Ascends els → Stands i els b y → Ascends (set els i y)

@@ -10,10 +10,7 @@ use Rattle.btree_node.specs.Joined.{half_of_both}
 use Rattle.btree_node.specs.Spelling.{spelling}
 use Rattle.btree_delete.specs.Mending.{son_at, both, Mends}
 use Rattle.btree_delete.specs.Tidy.{is_met, Untouched, IsTidy}
-
-pub or_true : (b c : Bool) → c ≡ true → (b || c) ≡ true
-or_true true c is = refl
-or_true false c is = is
+use Rattle.btree_insert.proofs.FitFacts.{or_true}
 
 or_left : (b c : Bool) → (b || c) ≡ false → b ≡ false
 or_left true c is = is

@@ -1,6 +1,6 @@
-ghost use Rattle.std.specs.Prelude.{◌≡◌, ◌+◌, ◌-◌, ◌*◌, ◌<◌, ◌≤◌, ◌⊎◌, ℕ, List, Some, None, true, false, IsTrue, IsSome, IfOk, IfErr, OnErr, OnOk, MatchResult, length};
+ghost use Rattle.std.specs.Prelude.{◌≡◌, ◌+◌, ◌-◌, ◌*◌, ◌<◌, ◌≤◌, ◌⊎◌, ℕ, List, Option, Some, None, true, false, IsTrue, IsSome, IfOk, IfErr, OnErr, OnOk, MatchResult, length};
 ghost use Rattle.rec_types.specs.Table.{counted};
-ghost use Rattle.page_store.specs.PageMap.{at, after};
+ghost use Rattle.page_store.specs.PageMap.{PageMap, at, after};
 ghost use Rattle.btree_node.specs.Lists.{Element};
 ghost use Rattle.btree_insert.specs.Faults.{is_device};
 ghost use Rattle.btree_insert.specs.Growth.{IsOutside};
@@ -12,6 +12,8 @@ ghost use Rattle.btree_delete.specs.Mending.{son_at};
 ghost use Rattle.btree_delete.specs.Shrinking.{IsThin, GoesUp, Leaves, ShrinksRoot, gone};
 ghost use Rattle.btree_insert.specs.declared.bounds.Bounds.{Bounds};
 ghost use Rattle.btree_delete.specs.Tidy.{is_met, IsTidy};
+ghost use Rattle.btree_node.specs.Layout.{IsOrder};
+ghost use Rattle.btree_insert.specs.Sizes.{IsTree};
 
 use crate::mending::free_page;
 use crate::shrinking::{Shrunk, delete_below};
@@ -55,10 +57,10 @@ fn fewer(tree: &Tree, page: u32, freed: usize) -> Result<Tree, TreeFault>
 /// Writes the short node of the root. A root without a key is freed: its one son is the root, or the
 /// tree is empty.
 fn shrink_root(edit: &mut PageEdit, tree: &Tree, node: &Node) -> Result<Tree, Memory>
-    requires some_order { 1 ≤ tree.now.order }
-    requires most_order { tree.now.order ≤ 16 }
+    requires order { IsOrder tree.now.order }
     requires height { 0 < tree.now.height }
-    requires thin { (height : ℕ) × (bounds : Bounds) × IsThin tree.now.order height bounds node.now }
+    requires thin { (height : ℕ) × (bounds : Bounds)
+        × IsThin tree.now.order height bounds node.now }
     ensures shrinks { IfOk result (λ next. ShrinksRoot tree.now next node.now
         edit.old.writes.items edit.new.writes.items edit.old.freed.items edit.new.freed.items) }
     ensures taken { edit.new.taken ≡ edit.old.taken }
@@ -77,31 +79,30 @@ fn shrink_root(edit: &mut PageEdit, tree: &Tree, node: &Node) -> Result<Tree, Me
 
 /// The tree and what stood at the key, after an element was taken out below the root. Faults: Memory;
 /// Damaged with the root where the tree says that it has no key, or fewer pages than are freed.
-fn shrink_tree<S: Store>(
-    pages: &Pages<S>,
+fn shrink_tree(
     edit: &mut PageEdit,
     tree: &Tree,
     shrunk: Shrunk,
 ) -> Result<(Tree, Option<Record>), TreeFault>
-    requires some_order { 1 ≤ tree.now.order }
-    requires most_order { tree.now.order ≤ 16 }
+    requires order { IsOrder tree.now.order }
     requires height { 0 < tree.now.height }
-    requires in_use { IsSome (at pages.now.pages tree.now.root) }
-    requires tidy { (met : List ℕ) × (is_met met tree.now.root ≡ true)
-        × IsTidy pages.now.pages met edit.old.writes.items edit.old.freed.items }
-    requires up { GoesUp tree.now.order tree.now.height (record { low = None; high = None }) tree.now.root
+    requires up { GoesUp tree.now.order tree.now.height
+        (record { low = None; high = None }) tree.now.root
         edit.old.writes.items edit.old.freed.items shrunk }
     requires none_taken { edit.old.taken ≡ 0 }
-    ensures deleted { (es : List Element) (us key : List ℕ) → Holds (at pages.now.pages) tree.now es us
-        → lookup_in key es ≡ Some (gone shrunk).1
-        → Leaves tree.now.order (at pages.now.pages) (after (at pages.now.pages) edit.old.writes.items edit.old.freed.items)
-        0 (length edit.old.freed.items) 1 (tree.now.height - 1) tree.now.root us (set_in key None es) shrunk
+    ensures deleted { (pages : PageMap) (es : List Element) (us key : List ℕ)
+        → Holds pages tree.now es us → lookup_in key es ≡ Some (gone shrunk).1
+        → Leaves tree.now.order pages (after pages edit.old.writes.items edit.old.freed.items)
+        0 (length edit.old.freed.items) 1 (tree.now.height - 1) tree.now.root us
+        (set_in key None es) shrunk
         → MatchResult result
-        (λ r. Deleted (at pages.now.pages) (after (at pages.now.pages) edit.new.writes.items edit.new.freed.items)
+        (λ r. Deleted pages (after pages edit.new.writes.items edit.new.freed.items)
         tree.now r.0 es us key r.1)
         IsOutside }
-    ensures fits { OnOk result
-        (CanStage pages.now.pages edit.new.writes.items edit.new.taken edit.new.freed.items) }
+    ensures fits { (pages : List (Option (List ℕ))) (met : List ℕ)
+        → IsSome (at pages tree.now.root) → is_met met tree.now.root ≡ true
+        → IsTidy pages met edit.old.writes.items edit.old.freed.items
+        → OnOk result (CanStage pages edit.new.writes.items edit.new.taken edit.new.freed.items) }
     ensures none_taken { edit.new.taken ≡ 0 }
     ensures some { IfOk result (λ r. IsSome r.1) }
     ensures height { IfOk result (λ r. r.0.height ≤ tree.now.height) }
@@ -110,7 +111,6 @@ fn shrink_tree<S: Store>(
     ensures order { IfOk result (λ r. r.0.order ≡ tree.now.order) }
     ensures no_device { is_device result ≡ false }
 {
-    let _count = pages.page_count();
     match shrunk {
         Shrunk::Whole(removed) => {
             let next = fewer(tree, tree.root, edit.freed.len())?;
@@ -137,11 +137,7 @@ pub fn delete<S: Store>(
     tree: &Tree,
     key: &Key,
 ) -> Result<(Tree, Option<Record>), TreeFault>
-    requires some_order { 1 ≤ tree.now.order }
-    requires most_order { tree.now.order ≤ 16 }
-    requires height { tree.now.height ≤ 19 }
-    requires count { tree.now.count ≤ 1000000 }
-    requires used { tree.now.used ≤ 1000000 }
+    requires tree { IsTree tree.now }
     ensures deleted { IsTrue pages.old.steady → (es : List Element) (us : List ℕ)
         → Holds (at pages.old.pages) tree.now es us
         → MatchResult result
@@ -193,7 +189,7 @@ pub fn delete<S: Store>(
     let Some(shrunk) = shrunk else {
         return Ok((*tree, None));
     };
-    let shrunk = shrink_tree(pages, &mut edit, tree, shrunk)?;
+    let shrunk = shrink_tree(&mut edit, tree, shrunk)?;
     pages.stage(edit)?;
     Ok(shrunk)
 }

@@ -12,6 +12,7 @@ ghost use Rattle.btree_insert.specs.PageTrees.{Spells, kind_of_level};
 ghost use Rattle.btree_delete.specs.Mending.{element_at, son_at, both, Mends};
 ghost use Rattle.btree_delete.specs.Shrinking.{IsThin};
 ghost use Rattle.btree_delete.specs.Tidy.{is_met, Untouched, IsTidy};
+ghost use Rattle.btree_node.specs.Layout.{IsOrder};
 
 use crate::visiting::visit;
 use arrayvec::ArrayVec;
@@ -26,10 +27,7 @@ pub(crate) fn free_page(edit: &mut PageEdit, n: u32) -> Result<(), Memory>
     ensures writes { edit.new.writes ≡ edit.old.writes }
     ensures taken { edit.new.taken ≡ edit.old.taken }
 {
-    if edit.freed.push(n).is_err() {
-        return Err(Memory);
-    }
-    Ok(())
+    edit.freed.push(n).map_err(|_| Memory)
 }
 
 /// Puts an element in the place of element i.
@@ -52,8 +50,7 @@ fn mend_pair(
     left: Node,
     right: Node,
 ) -> Result<(), Memory>
-    requires some_order { 1 ≤ order }
-    requires most_order { order ≤ 16 }
+    requires order { IsOrder order }
     requires place { i < length father.old.elements.items }
     requires sons { length father.old.sons.items ≡ length father.old.elements.items + 1 }
     requires brothers { AreBrothers left (element_at father.old i) right }
@@ -95,8 +92,7 @@ pub(crate) fn mend<S: Store>(
     i: usize,
     son: Node,
 ) -> Result<(), TreeFault>
-    requires some_order { 1 ≤ order }
-    requires most_order { order ≤ 16 }
+    requires order { IsOrder order }
     requires some_level { 1 ≤ level }
     requires room { length met.old.items < 37 }
     requires father { IsThin order (level + 1) bounds.now father.old }
@@ -104,10 +100,13 @@ pub(crate) fn mend<S: Store>(
     requires place { i ≤ length father.old.elements.items }
     requires son { IsThin order level (son_bounds father.old.elements.items i bounds.now) son }
     requires in_use { IsSome (at pages.old.pages (son_at father.old i)) }
-    requires tidy { IsTidy pages.old.pages met.old.items edit.old.writes.items edit.old.freed.items }
-    requires untouched { Untouched edit.old.writes.items edit.old.freed.items (son_at father.old i) }
+    requires tidy { IsTidy pages.old.pages met.old.items
+        edit.old.writes.items edit.old.freed.items }
+    requires untouched { Untouched edit.old.writes.items edit.old.freed.items
+        (son_at father.old i) }
     requires met { is_met met.old.items (son_at father.old i) ≡ true }
-    ensures right { IsTrue pages.old.steady → i < length father.old.elements.items → (brother : Node)
+    ensures right { IsTrue pages.old.steady → i < length father.old.elements.items
+        → (brother : Node)
         → Spells order (at pages.old.pages) (son_at father.old (suc i)) brother
         → brother.kind ≡ kind_of_level level
         → AreWithin (son_bounds father.old.elements.items (suc i) bounds.now) brother.elements.items
@@ -117,7 +116,8 @@ pub(crate) fn mend<S: Store>(
         × Mends order father.old father.new i son brother
         edit.old.writes.items edit.new.writes.items edit.old.freed.items edit.new.freed.items)
         IsOutside }
-    ensures left { IsTrue pages.old.steady → (j : ℕ) → i ≡ suc j → i ≡ length father.old.elements.items → (brother : Node)
+    ensures left { IsTrue pages.old.steady → (j : ℕ) → i ≡ suc j
+        → i ≡ length father.old.elements.items → (brother : Node)
         → Spells order (at pages.old.pages) (son_at father.old j) brother
         → brother.kind ≡ kind_of_level level
         → AreWithin (son_bounds father.old.elements.items j bounds.now) brother.elements.items
@@ -128,11 +128,14 @@ pub(crate) fn mend<S: Store>(
         edit.old.writes.items edit.new.writes.items edit.old.freed.items edit.new.freed.items)
         IsOutside }
     ensures father { OnOk result (IsThin order (level + 1) bounds.now father.new) }
-    ensures tidy { OnOk result (IsTidy pages.old.pages met.new.items edit.new.writes.items edit.new.freed.items) }
-    ensures others { OnOk result ((q : ℕ) → is_met met.old.items q ≡ true → (q ≡ son_at father.old i → ⊥)
+    ensures tidy { OnOk result
+        (IsTidy pages.old.pages met.new.items edit.new.writes.items edit.new.freed.items) }
+    ensures others { OnOk result ((q : ℕ) → is_met met.old.items q ≡ true
+        → (q ≡ son_at father.old i → ⊥)
         → Untouched edit.old.writes.items edit.old.freed.items q
         → Untouched edit.new.writes.items edit.new.freed.items q) }
-    ensures stays { OnOk result ((q : ℕ) → is_met met.old.items q ≡ true → is_met met.new.items q ≡ true) }
+    ensures stays { OnOk result ((q : ℕ) → is_met met.old.items q ≡ true
+        → is_met met.new.items q ≡ true) }
     ensures one_more { OnOk result (length met.new.items ≡ length met.old.items + 1) }
     ensures taken { edit.new.taken ≡ edit.old.taken }
     ensures device { pages.new.failures ≡ counted pages.old.failures (is_device result) }

@@ -10,6 +10,7 @@ ghost use Rattle.btree_insert.specs.PageTrees.{TreeAt, Apart, Body, Spells};
 ghost use Rattle.btree_delete.specs.Shrinking.{IsThin, Settles, GoesUp, GoesUpBehind, MayGoUp, Takes, Removes};
 ghost use Rattle.btree_delete.specs.Tidy.{is_met, Untouched, IsTidy, IsVisit};
 ghost use Rattle.btree_delete.specs.Mending.{element_at};
+ghost use Rattle.btree_node.specs.Layout.{IsOrder};
 
 use crate::mending::{mend, set_element};
 use crate::visiting::visit;
@@ -36,10 +37,10 @@ fn settle(
     removed: (Key, Record),
     node: Node,
 ) -> Result<Shrunk, Memory>
-    requires some_order { 1 ≤ order }
-    requires most_order { order ≤ 16 }
+    requires order { IsOrder order }
     requires thin { (height : ℕ) × (bounds : Bounds) × IsThin order height bounds node }
-    ensures settles { IfOk result (Settles order edit.old.writes.items edit.new.writes.items n removed node) }
+    ensures settles { IfOk result
+        (Settles order edit.old.writes.items edit.new.writes.items n removed node) }
     ensures taken { edit.new.taken ≡ edit.old.taken }
     ensures freed { edit.new.freed ≡ edit.old.freed }
 {
@@ -62,22 +63,26 @@ fn take_first_below<S: Store>(
     n: u32,
     bounds: &Bounds,
 ) -> Result<Shrunk, TreeFault>
-    requires some_order { 1 ≤ order }
-    requires most_order { order ≤ 16 }
+    requires order { IsOrder order }
     requires height { 0 < height }
     requires levels { length met.old.items + 2 * height ≤ 38 }
     requires unwritten { edit.old.writes.items ≡ [] }
     requires unfreed { edit.old.freed.items ≡ [] }
-    ensures takes { IsTrue pages.old.steady → (least : ℕ) (es : List Element) (us : List ℕ) → least ≤ order
+    ensures takes { IsTrue pages.old.steady → (least : ℕ) (es : List Element) (us : List ℕ)
+        → least ≤ order
         → TreeAt order (at pages.old.pages) least height n es us → Between bounds.now es → Apart us
         → Each (λ u. is_met met.old.items u ≡ false) us
         → MatchResult result
-        (Takes order (at pages.old.pages) (after (at pages.old.pages) edit.new.writes.items edit.new.freed.items)
+        (Takes order (at pages.old.pages)
+        (after (at pages.old.pages) edit.new.writes.items edit.new.freed.items)
         0 (length edit.new.freed.items) least (height - 1) n es us met.old.items met.new.items)
         IsOutside }
-    ensures up { IfOk result (GoesUpBehind order height bounds.now n edit.new.writes.items edit.new.freed.items) }
-    ensures tidy { OnOk result (IsTidy pages.old.pages met.new.items edit.new.writes.items edit.new.freed.items) }
-    ensures visit { OnOk result (IsVisit met.old.items met.new.items edit.new.writes.items edit.new.freed.items height n) }
+    ensures up { IfOk result
+        (GoesUpBehind order height bounds.now n edit.new.writes.items edit.new.freed.items) }
+    ensures tidy { OnOk result
+        (IsTidy pages.old.pages met.new.items edit.new.writes.items edit.new.freed.items) }
+    ensures visit { OnOk result
+        (IsVisit met.old.items met.new.items edit.new.writes.items edit.new.freed.items height n) }
     ensures in_use { OnOk result (IsSome (at pages.old.pages n)) }
     ensures taken { edit.new.taken ≡ edit.old.taken }
     ensures device { pages.new.failures ≡ counted pages.old.failures (is_device result) }
@@ -118,8 +123,7 @@ fn delete_here<S: Store>(
     mut node: Node,
     i: usize,
 ) -> Result<Shrunk, TreeFault>
-    requires some_order { 1 ≤ order }
-    requires most_order { order ≤ 16 }
+    requires order { IsOrder order }
     requires height { 0 < height }
     requires levels { length met.old.items + 2 * height ≤ 39 }
     requires node { IsThin order height bounds.now node }
@@ -127,21 +131,27 @@ fn delete_here<S: Store>(
     requires met { is_met met.old.items n ≡ true }
     requires unwritten { edit.old.writes.items ≡ [] }
     requires unfreed { edit.old.freed.items ≡ [] }
-    ensures removes { IsTrue pages.old.steady → (least : ℕ) (es : List Element) (us below : List ℕ) → least ≤ order
+    ensures removes { IsTrue pages.old.steady
+        → (least : ℕ) (es : List Element) (us below : List ℕ) → least ≤ order
         → Spells order (at pages.old.pages) n node → least ≤ length node.elements.items
         → Body (TreeAt order (at pages.old.pages) order (height - 1)) (height - 1) node es below
         → us ≡ n ∷ below → Between bounds.now es → Apart us
         → Each (λ u. is_met met.old.items u ≡ false) below
         → MatchResult result
-        (λ g. Removes order (at pages.old.pages) (after (at pages.old.pages) edit.new.writes.items edit.new.freed.items)
-        0 (length edit.new.freed.items) least (height - 1) n es us met.old.items met.new.items (element_at node i).0 (Some g))
+        (λ g. Removes order (at pages.old.pages)
+        (after (at pages.old.pages) edit.new.writes.items edit.new.freed.items)
+        0 (length edit.new.freed.items) least (height - 1) n es us met.old.items met.new.items
+        (element_at node i).0 (Some g))
         IsOutside }
-    ensures up { IfOk result (GoesUp order height bounds.now n edit.new.writes.items edit.new.freed.items) }
+    ensures up { IfOk result
+        (GoesUp order height bounds.now n edit.new.writes.items edit.new.freed.items) }
     ensures tidy { IsSome (at pages.old.pages n)
-        → OnOk result (IsTidy pages.old.pages met.new.items edit.new.writes.items edit.new.freed.items) }
+        → OnOk result
+        (IsTidy pages.old.pages met.new.items edit.new.writes.items edit.new.freed.items) }
     ensures older { OnOk result ((q : ℕ) → is_met met.old.items q ≡ true → (q ≡ n → ⊥)
         → Untouched edit.new.writes.items edit.new.freed.items q) }
-    ensures stays { OnOk result ((q : ℕ) → is_met met.old.items q ≡ true → is_met met.new.items q ≡ true) }
+    ensures stays { OnOk result ((q : ℕ) → is_met met.old.items q ≡ true
+        → is_met met.new.items q ≡ true) }
     ensures few { OnOk result (length met.new.items + 2 ≤ length met.old.items + 2 * height) }
     ensures taken { edit.new.taken ≡ edit.old.taken }
     ensures device { pages.new.failures ≡ counted pages.old.failures (is_device result) }
@@ -191,22 +201,27 @@ pub(crate) fn delete_below<S: Store>(
     bounds: &Bounds,
     key: &Key,
 ) -> Result<Option<Shrunk>, TreeFault>
-    requires some_order { 1 ≤ order }
-    requires most_order { order ≤ 16 }
+    requires order { IsOrder order }
     requires height { 0 < height }
     requires levels { length met.old.items + 2 * height ≤ 38 }
     requires unwritten { edit.old.writes.items ≡ [] }
     requires unfreed { edit.old.freed.items ≡ [] }
-    ensures removes { IsTrue pages.old.steady → (least : ℕ) (es : List Element) (us : List ℕ) → least ≤ order
+    ensures removes { IsTrue pages.old.steady → (least : ℕ) (es : List Element) (us : List ℕ)
+        → least ≤ order
         → TreeAt order (at pages.old.pages) least height n es us → Between bounds.now es → Apart us
         → Each (λ u. is_met met.old.items u ≡ false) us
         → MatchResult result
-        (Removes order (at pages.old.pages) (after (at pages.old.pages) edit.new.writes.items edit.new.freed.items)
-        0 (length edit.new.freed.items) least (height - 1) n es us met.old.items met.new.items key.now)
+        (Removes order (at pages.old.pages)
+        (after (at pages.old.pages) edit.new.writes.items edit.new.freed.items)
+        0 (length edit.new.freed.items) least
+        (height - 1) n es us met.old.items met.new.items key.now)
         IsOutside }
-    ensures up { IfOk result (MayGoUp order height bounds.now n edit.new.writes.items edit.new.freed.items) }
-    ensures tidy { OnOk result (IsTidy pages.old.pages met.new.items edit.new.writes.items edit.new.freed.items) }
-    ensures visit { OnOk result (IsVisit met.old.items met.new.items edit.new.writes.items edit.new.freed.items height n) }
+    ensures up { IfOk result
+        (MayGoUp order height bounds.now n edit.new.writes.items edit.new.freed.items) }
+    ensures tidy { OnOk result
+        (IsTidy pages.old.pages met.new.items edit.new.writes.items edit.new.freed.items) }
+    ensures visit { OnOk result
+        (IsVisit met.old.items met.new.items edit.new.writes.items edit.new.freed.items height n) }
     ensures absent { IfOk result (λ g. g ≡ None → edit.new ≡ edit.old) }
     ensures in_use { OnOk result (IsSome (at pages.old.pages n)) }
     ensures taken { edit.new.taken ≡ edit.old.taken }

@@ -7,6 +7,7 @@ ghost use Rattle.btree_insert.specs.Faults.{is_device};
 ghost use Rattle.btree_insert.specs.PageTrees.{Spells, kind_of_level};
 ghost use Rattle.btree_delete.specs.Shrinking.{IsThin};
 ghost use Rattle.btree_delete.specs.Tidy.{is_met};
+ghost use Rattle.btree_node.specs.Layout.{greatest_order};
 
 use arrayvec::ArrayVec;
 use btree_insert::{Bounds, TreeFault, kind_of_level, read_node, was_met};
@@ -24,10 +25,11 @@ pub(crate) fn visit<S: Store>(
     n: u32,
     bounds: &Bounds,
 ) -> Result<Node, TreeFault>
-    requires order { order ≤ 16 }
+    requires order { order ≤ greatest_order }
     requires room { length met.old.items < 37 }
     ensures exact { IsTrue pages.old.steady → (node : Node)
-        → Spells order (at pages.old.pages) n node → node.kind ≡ kind_of_level level → AreWithin bounds.now node.elements.items
+        → Spells order (at pages.old.pages) n node → node.kind ≡ kind_of_level level
+        → AreWithin bounds.now node.elements.items
         → is_met met.old.items n ≡ false
         → MatchResult result (λ r. r ≡ node) (λ fault. fault ≡ TreeFault.Device) }
     ensures fault { IfErr result

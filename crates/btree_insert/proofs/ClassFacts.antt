@@ -1,14 +1,15 @@
 -- Trees in pages are the trees of the class.
-use Rattle.std.proofs.Common.{◌≡◌, ℕ, zero, suc, ◌+◌, ◌≤◌, Option, Some, None, List, [], ◌∷◌, ◌++◌, length, refl, ap, sym, ◌∙◌, subst, arith, append-nil}
-use Rattle.btree_node.specs.Lists.{Element, Each, Below, Ascends}
-use Rattle.btree_node.proofs.OrderFacts.{Each-append, Each-right, Each-map, Below-trans}
+use Rattle.std.proofs.Common.{◌≡◌, ℕ, zero, suc, ◌+◌, ◌≤◌, Some, None, List, [], ◌∷◌, ◌++◌, length, refl, ap, sym, ◌∙◌, subst, arith, append-nil}
+use Rattle.btree_node.specs.Lists.{Element, Each, Ascends}
+use Rattle.btree_node.proofs.OrderFacts.{Each-right}
 use Rattle.page_store.specs.PageMap.{PageMap}
 use Rattle.btree_insert.specs.declared.bounds.Bounds.{Bounds}
 use Rattle.btree_insert.specs.declared.trees.Tree.{Tree}
 use Rattle.btree_insert.specs.Bounds.{Over, Under, Between}
 use Rattle.btree_insert.specs.Classes.{BTree, between_trees, in_order, Filled, Sides, Ordered, InClass, AllStand, Stands, StandsFor}
 use Rattle.btree_insert.specs.PageTrees.{Fan, TreeAt, RootAt, Holds}
-use Rattle.btree_insert.proofs.BoundFacts.{all_units, Between-left, Between-right, Between-all}
+use Rattle.btree_insert.proofs.BoundFacts.{Between-left, Between-right, Between-all}
+use Rattle.btree_insert.proofs.ReachFacts.{Between-join}
 
 -- sons that stand for trees make a fan
 to_fan : (X : Type 0) (tree : ℕ → List Element → List ℕ → Type 0) (elements : X → List Element) (stands : ℕ → X → List ℕ → Type 0) (fill : X → Type 0) → ((s : ℕ) (t : X) (us : List ℕ) → fill t → stands s t us → tree s (elements t) us)
@@ -74,36 +75,12 @@ from_tree k pages least (suc h) p es us (n, below, spells, least_is, (kind, fan)
     let grove = to_grove (BTree (suc h)) (TreeAt k pages k (suc h)) (in_order (suc h)) (λ s u vs. Stands k pages (suc h) s u vs) (Filled k k (suc h)) (λ s xs vs tree. from_tree k pages k h s xs vs tree) n.sons.items n.elements.items es below fan in
     ((n.elements.items, grove.ts), (least_is, spells.stands.most, grove.size, grove.filled), (n, below, spells, kind, refl, grove.all, us_is), grove.es_is)
 
-over_each : (low : Option (List ℕ)) (e : Element) (ys : List Element) → Over low e.0 → Each (λ y. Below e.0 y.0) ys → Each (λ y. Over low y.0) ys
-over_each None e ys over up = all_units ys
-over_each (Some low) e ys over up = Each-map (λ (y : Element). Below e.0 y.0) (λ y. Below low y.0) ys (λ y above. Below-trans low e.0 y.0 over above) up
-
-under_each : (high : Option (List ℕ)) (e : Element) (xs : List Element) → Under high e.0 → Each (λ x. Below x.0 e.0) xs → Each (λ x. Under high x.0) xs
-under_each None e xs under up = all_units xs
-under_each (Some high) e xs under up = Each-map (λ (x : Element). Below x.0 e.0) (λ x. Below x.0 high) xs (λ x below. Below-trans x.0 e.0 high below under) up
-
-ascends_join : (xs : List Element) (e : Element) (ys : List Element) → Ascends xs → Each (λ x. Below x.0 e.0) xs → Each (λ y. Below e.0 y.0) ys → Ascends ys → Ascends (xs ++ e ∷ ys)
-ascends_join [] e ys up below above later = (above, later)
-ascends_join (x ∷ xs) e ys up below above later = (
-  Each-append (λ y. Below x.0 y.0) xs (e ∷ ys) up.0 (below.0, Each-map (λ (y : Element). Below e.0 y.0) (λ y. Below x.0 y.0) ys (λ y over. Below-trans x.0 e.0 y.0 below.0 over) above),
-  ascends_join xs e ys up.1 below.1 above later,
-)
-
-between_join : (b : Bounds) (xs : List Element) (e : Element) (ys : List Element) → Between (record { low = b.low; high = Some e.0 }) xs → Over b.low e.0 → Under b.high e.0 → Between (record { low = Some e.0; high = b.high }) ys → Between b (xs ++ e ∷ ys)
-between_join b xs e ys front over under back = record {
-  ascends = ascends_join xs e ys front.ascends front.within.under back.within.over back.ascends;
-  within = record {
-    over = Each-append (λ x. Over b.low x.0) xs (e ∷ ys) front.within.over (over, over_each b.low e ys over back.within.over);
-    under = Each-append (λ x. Under b.high x.0) xs (e ∷ ys) (under_each b.high e xs under front.within.under) (under, back.within.under);
-  };
-}
-
 sides_between : (X : Type 0) (tree : Bounds → X → Type 0) (elements : X → List Element) → ((b : Bounds) (t : X) → tree b t → Between b (elements t)) → (b : Bounds) (els : List Element) (ts : List X) → Sides tree b els ts → Between b (between_trees elements els ts)
 sides_between X tree elements at b els [] sides = absurd sides
 sides_between X tree elements at b [] (t ∷ []) sides = at b t sides
 sides_between X tree elements at b [] (t ∷ (u ∷ ts)) sides = absurd sides
 sides_between X tree elements at b (e ∷ els) (t ∷ ts) (first, over, under, more) =
-    between_join b (elements t) e (between_trees elements els ts) (at (record { low = b.low; high = Some e.0 }) t first) over under (sides_between X tree elements at (record { low = Some e.0; high = b.high }) els ts more)
+    Between-join b (elements t) e (between_trees elements els ts) over under (at (record { low = b.low; high = Some e.0 }) t first) (sides_between X tree elements at (record { low = Some e.0; high = b.high }) els ts more)
 
 -- trees in the order of the class have their elements in order
 ordered_between : (h : ℕ) (b : Bounds) (t : BTree (suc h)) → Ordered b (suc h) t → Between b (in_order (suc h) t)

@@ -42,20 +42,20 @@ pub record Focus (tree new : Stands) (Same : ℕ → Type 0) (sons : List ℕ) (
   pub split : Each Same upre → Each Same upost → (ys : List Element) (vs : List ℕ) (e : Element) (r : ℕ) (zs : List Element) (ws : List ℕ) → new (get_or sons i 0) ys vs → new r zs ws
       → Fan new (insert sons (suc i) r) (insert els i e) (pre ++ ((ys ++ e ∷ zs) ++ post)) (upre ++ ((vs ++ ws) ++ upost))
 
-nil2 : (new : Stands) (s : ℕ) (ys : List Element) (vs : List ℕ) → new s ys vs → new s (ys ++ []) (vs ++ [])
+pub nil2 : (new : Stands) (s : ℕ) (ys : List Element) (vs : List ℕ) → new s ys vs → new s (ys ++ []) (vs ++ [])
 nil2 new s ys vs is =
     subst (λ (ws : List ℕ). new s (ys ++ []) ws) (sym (append-nil vs)) (subst (λ (zs : List Element). new s zs vs) (sym (append-nil ys)) is)
 
 regroup_split : (ys : List Element) (e : Element) (zs : List Element) (x : Element) (rest : List Element) → (ys ++ e ∷ zs) ++ x ∷ rest ≡ ys ++ e ∷ (zs ++ x ∷ rest)
 regroup_split ys e zs x rest = append_assoc ys (e ∷ zs) (x ∷ rest)
 
-regroup_pre : (xs : List Element) (e : Element) (pre mid : List Element) → (xs ++ e ∷ pre) ++ mid ≡ xs ++ e ∷ (pre ++ mid)
+pub regroup_pre : (xs : List Element) (e : Element) (pre mid : List Element) → (xs ++ e ∷ pre) ++ mid ≡ xs ++ e ∷ (pre ++ mid)
 regroup_pre xs e pre mid = append_assoc xs (e ∷ pre) mid
 
 above_rest : (key : List ℕ) (e : Element) (ys : List Element) → Below key e.0 → Each (λ later. Below e.0 later.0) ys → Each (λ x. Below key x.0) ys
 above_rest key e ys above up = Each-map (λ (later : Element). Below e.0 later.0) (λ later. Below key later.0) ys (λ later over. Below-trans key e.0 later.0 above over) up
 
-below_rest : (key : List ℕ) (e : Element) (xs : List Element) → Below e.0 key → Each (λ x. Below x.0 e.0) xs → Each (λ x. Below x.0 key) xs
+pub below_rest : (key : List ℕ) (e : Element) (xs : List Element) → Below e.0 key → Each (λ x. Below x.0 e.0) xs → Each (λ x. Below x.0 key) xs
 below_rest key e xs below up = Each-map (λ (x : Element). Below x.0 e.0) (λ x. Below x.0 key) xs (λ x under. Below-trans x.0 e.0 key under below) up
 
 pub focus : (tree new : Stands) (Same : ℕ → Type 0) → ((s : ℕ) (xs : List Element) (us : List ℕ) → tree s xs us → Each Same us → new s xs us)

@@ -36,7 +36,7 @@ written_more pages taken (w ∷ ws) all =
 still_written : (ws : List (ℕ × List ℕ)) (w : ℕ × List ℕ) (q : ℕ) → is_written ws q ≡ true → is_written (ws ++ w ∷ []) q ≡ true
 still_written ws w q is = list_any-append (λ (v : ℕ × List ℕ). eqb q v.0) ws (w ∷ []) ∙ ap (λ b. b || list_any (λ (v : ℕ × List ℕ). eqb q v.0) (w ∷ [])) is
 
-or_true : (b c : Bool) → c ≡ true → (b || c) ≡ true
+pub or_true : (b c : Bool) → c ≡ true → (b || c) ≡ true
 or_true true c is = refl
 or_true false c is = is
 

@@ -138,7 +138,7 @@ plant_inserted old ws ws2 fresh n taken tree next es us key value empty one hold
 -- an edit that frees nothing can be staged
 pub can_stage : (pages : List (Option (List ℕ))) (ws : List (ℕ × List ℕ)) (taken : ℕ) (freed : List ℕ) → freed ≡ [] → WritesFit pages ws taken → count_after pages taken ≤ 1000001 → CanStage pages ws taken freed
 can_stage pages ws taken freed none fits room =
-    subst (λ (xs : List ℕ). CanStage pages ws taken xs) (sym none) (record { written = fits.written; taken_written = fits.taken_written; freed_in_use = tt; freed_not_written = tt; room = room })
+    subst (λ (xs : List ℕ). CanStage pages ws taken xs) (sym none) (record { written = fits.written; taken_written = fits.taken_written; freed_in_use = tt; freed_not_written = tt; room = λ _. room })
 
 -- and leaves what it wrote
 pub after_writes : (pages : PageMap) (ws : List (ℕ × List ℕ)) (freed : List ℕ) (q : ℕ) → freed ≡ [] → after pages ws freed q ≡ overlay pages ws q

@@ -47,7 +47,7 @@ pub leads_from : (spells : ℕ → Node → Type 0) (key : List ℕ) (height h r
 leads_from spells key height h root found is leads =
     subst (λ x. LeadsFrom spells key x root found) is (subst (λ x. Leads spells key x root unbounded found) (sym is) leads)
 
-ascends_join : (xs : List Element) (m : Element) (ys : List Element) → Ascends xs → Each (λ x. Below x.0 m.0) xs → Each (λ y. Below m.0 y.0) ys → Ascends ys → Ascends (xs ++ m ∷ ys)
+pub ascends_join : (xs : List Element) (m : Element) (ys : List Element) → Ascends xs → Each (λ x. Below x.0 m.0) xs → Each (λ y. Below m.0 y.0) ys → Ascends ys → Ascends (xs ++ m ∷ ys)
 ascends_join [] m ys front under over back = (over, back)
 ascends_join (x ∷ xs) m ys front under over back = (
   Each-append (λ later. Below x.0 later.0) xs (m ∷ ys) front.0 (under.0, Each-map (λ (y : Element). Below m.0 y.0) (λ y. Below x.0 y.0) ys (λ y above. Below-trans x.0 m.0 y.0 under.0 above) over),

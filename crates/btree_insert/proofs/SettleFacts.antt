@@ -242,7 +242,7 @@ grow_leaf k old ws ws2 fresh lo hi2 least height zero p es us b n m key value i 
           (kind_is ∙ head.body.0, es_is, head.body.2);
     })
 
-set_split : (els : List Element) (i : ℕ) (y : Element) → i < length els → set els i y ≡ take i els ++ y ∷ drop (suc i) els
+pub set_split : (els : List Element) (i : ℕ) (y : Element) → i < length els → set els i y ≡ take i els ++ y ∷ drop (suc i) els
 set_split [] i y low = absurd (omega arith)
 set_split (e ∷ els) zero y low = refl
 set_split (e ∷ els) (suc i) y low = ap (λ rest. e ∷ rest) (set_split els i y (omega arith))

@@ -1,7 +1,7 @@
 -- What an insertion into a tree comes to.
 use Rattle.std.specs.Prelude.{◌≡◌, ℕ, ◌≤◌, List, [], ◌∷◌, Option, Some}
 use Rattle.page_store.specs.PageMap.{PageMap, at}
-use Rattle.page_store.specs.FreeNumbers.{candidate, count_after}
+use Rattle.page_store.specs.FreeNumbers.{candidate, count_after, greatest_page_count}
 use Rattle.btree_node.specs.declared.nodes.Node.{Node}
 use Rattle.btree_node.specs.declared.nodes.NodeKind.TheVariants.{Leaf, Inner}
 use Rattle.btree_node.specs.Lists.{Element}
@@ -11,6 +11,7 @@ use Rattle.btree_insert.specs.declared.trees.TreeFault.TheVariants.{Device, Dama
 use Rattle.btree_insert.specs.Contents.{lookup_in, set_in}
 use Rattle.btree_insert.specs.Kept.{Kept}
 use Rattle.btree_insert.specs.PageTrees.{Holds}
+use Rattle.btree_insert.specs.Sizes.{greatest_height, greatest_count}
 
 -- a leaf with one element
 abbrev pub leaf_of : Element → Node
@@ -30,10 +31,10 @@ pub record Inserted (old new : PageMap) (fresh : ℕ → ℕ) (taken : ℕ) (tre
 
 -- a tree and a page count within the limits of a file
 pub record IsSmall (tree : Tree) (page_count : ℕ) : Type 0 where
-  pub height : tree.height ≤ 19
-  pub count : tree.count ≤ 1000000
-  pub used : tree.used ≤ 1000000
-  pub pages : page_count ≤ 1000001
+  pub height : tree.height ≤ greatest_height
+  pub count : tree.count ≤ greatest_count
+  pub used : tree.used ≤ greatest_count
+  pub pages : page_count ≤ greatest_page_count
 
 -- a fault from outside, or the tree with the record at the key would pass a limit
 abbrev pub IsRefused : List (Option (List ℕ)) → Tree → List Element → List ℕ → List ℕ → List ℕ → TreeFault → Type 0

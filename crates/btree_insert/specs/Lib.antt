@@ -1,6 +1,7 @@
 pub mod Bounds
 pub mod Contents
 pub mod Faults
+pub mod Sizes
 pub mod PageTrees
 pub mod Growth
 pub mod Kept

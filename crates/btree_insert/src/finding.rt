@@ -7,6 +7,8 @@ ghost use Rattle.btree_insert.specs.Contents.{lookup_in};
 ghost use Rattle.btree_insert.specs.Faults.{is_device};
 ghost use Rattle.btree_insert.specs.PageTrees.{Spells, TreeAt, Holds};
 ghost use Rattle.btree_insert.specs.Reached.{Leads, LeadsFrom};
+ghost use Rattle.btree_node.specs.Layout.{IsOrder, greatest_order};
+ghost use Rattle.btree_insert.specs.Sizes.{greatest_height};
 
 use crate::bounds::{Bounds, bounds_of_son};
 use crate::reading::{kind_of_level, read_node};
@@ -24,9 +26,8 @@ pub fn find<S: Store>(
     tree: &Tree,
     key: &Key,
 ) -> Result<Option<Record>, TreeFault>
-    requires some_order { 1 ≤ tree.now.order }
-    requires most_order { tree.now.order ≤ 16 }
-    requires height { tree.now.height ≤ 19 }
+    requires order { IsOrder tree.now.order }
+    requires height { tree.now.height ≤ greatest_height }
     ensures found { IsTrue pages.old.steady → (es : List Element) (us : List ℕ)
         → Holds (at pages.old.pages) tree.now es us
         → MatchResult result (λ found. found ≡ lookup_in key.now es)
@@ -58,7 +59,7 @@ fn find_below<S: Store>(
     bounds: &Bounds,
     key: &Key,
 ) -> Result<Option<Record>, TreeFault>
-    requires order { order ≤ 16 }
+    requires order { order ≤ greatest_order }
     requires height { 0 < height }
     ensures found { IsTrue pages.old.steady → (least : ℕ) (es : List Element) (us : List ℕ)
         → TreeAt order (at pages.old.pages) least height n es us → Between bounds.now es

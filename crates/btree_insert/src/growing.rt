@@ -10,6 +10,8 @@ ghost use Rattle.btree_insert.specs.declared.bounds.Bounds.{Bounds};
 ghost use Rattle.btree_insert.specs.Faults.{is_device};
 ghost use Rattle.btree_insert.specs.Growth.{IsOutside, IsWithin, IsLoose, WritesFit, Takes, GoesUp, Settles, Grew};
 ghost use Rattle.btree_insert.specs.PageTrees.{TreeAt, Apart};
+ghost use Rattle.btree_node.specs.Layout.{IsOrder, greatest_order};
+ghost use Rattle.btree_insert.specs.Sizes.{greatest_height};
 
 use crate::bounds::{Bounds, bounds_of_son};
 use crate::reading::{kind_of_level, read_node};
@@ -33,17 +35,16 @@ pub(crate) enum Grown {
 /// Adds a node to the edit as page n. The conditions are an order of at most 16 and a node that fits a
 /// page. Fault: Memory.
 pub fn write_node(edit: &mut PageEdit, order: u16, n: u32, node: &Node) -> Result<(), Memory>
-    requires order { order ≤ 16 }
+    requires order { order ≤ greatest_order }
     requires stands { CanStand node.now order }
     ensures writes { OnOk result (edit.new.writes.items
         ≡ edit.old.writes.items ++ (n, spelling node.now order) ∷ []) }
     ensures taken { edit.new.taken ≡ edit.old.taken }
     ensures freed { edit.new.freed ≡ edit.old.freed }
 {
-    if edit.writes.push((n, encode(node, order))).is_err() {
-        return Err(Memory);
-    }
-    Ok(())
+    edit.writes
+        .push((n, encode(node, order)))
+        .map_err(|_| Memory)
 }
 
 /// Writes a node that may have one key too many, as page n, or as page n and a new page.
@@ -54,8 +55,7 @@ fn settle<S: Store>(
     n: u32,
     node: Node,
 ) -> Result<Grown, Memory>
-    requires some_order { 1 ≤ order }
-    requires most_order { order ≤ 16 }
+    requires order { IsOrder order }
     requires loose { IsLoose order node }
     requires taken { edit.old.taken ≤ 100 }
     requires in_use { IsSome (at pages.now.pages n) }
@@ -68,7 +68,6 @@ fn settle<S: Store>(
         → IfOk result (GoesUp bounds) }
     ensures freed { edit.new.freed ≡ edit.old.freed }
 {
-    let _count = pages.page_count();
     if node.elements.len() <= 2 * order as usize {
         write_node(edit, order, n, &node)?;
         return Ok(Grown::Fits);
@@ -101,18 +100,20 @@ pub(crate) fn grow_below<S: Store>(
     bounds: &Bounds,
     element: (Key, Record),
 ) -> Result<Grown, TreeFault>
-    requires some_order { 1 ≤ order }
-    requires most_order { order ≤ 16 }
+    requires order { IsOrder order }
     requires height { 0 < height }
-    requires levels { length met.old.items + height ≤ 19 }
+    requires levels { length met.old.items + height ≤ greatest_height }
+    requires element { IsElement element }
     requires within { IsWithin bounds.now element.0 }
     requires taken { edit.old.taken ≤ 50 }
     requires fits { WritesFit pages.old.pages edit.old.writes.items edit.old.taken }
-    ensures grew { IsTrue pages.old.steady → edit.old.writes.items ≡ [] → (least : ℕ) (es : List Element) (us : List ℕ)
+    ensures grew { IsTrue pages.old.steady → edit.old.writes.items ≡ []
+        → (least : ℕ) (es : List Element) (us : List ℕ)
         → TreeAt order (at pages.old.pages) least height n es us → Between bounds.now es → Apart us
         → Each (λ u. list_any (λ m. m == u) met.old.items ≡ false) us
         → MatchResult result
-        (Grew order (at pages.old.pages) (overlay (at pages.old.pages) edit.new.writes.items) (candidate pages.old.pages)
+        (Grew order (at pages.old.pages) (overlay (at pages.old.pages) edit.new.writes.items)
+        (candidate pages.old.pages)
         edit.old.taken edit.new.taken least height n es us element.0 element.1)
         IsOutside }
     ensures fits { OnOk result (WritesFit pages.old.pages edit.new.writes.items edit.new.taken) }
@@ -121,6 +122,7 @@ pub(crate) fn grow_below<S: Store>(
     ensures freed { edit.new.freed ≡ edit.old.freed }
     ensures met { OnOk result (0 < length met.new.items) }
     ensures in_use { OnOk result (IsSome (at pages.old.pages n)) }
+    ensures some_page { OnOk result (0 < n) }
     ensures device { pages.new.failures ≡ counted pages.old.failures (is_device result) }
     ensures unchanged { pages.new
         ≡ record pages.old { reads = pages.new.reads; failures = pages.new.failures } }
@@ -131,7 +133,6 @@ pub(crate) fn grow_below<S: Store>(
     }
     met.push(n);
     let mut node = read_node(pages, order, kind_of_level(height), n, bounds)?;
-    element_fits(&element);
     match place_of(&node, &element.0) {
         Ok(i) => {
             let old = replace(&mut node, i, element);
@@ -155,14 +156,6 @@ pub(crate) fn grow_below<S: Store>(
             }
         }
     }
-}
-
-/// Has a proof learn how long a key and a record are.
-pub fn element_fits(element: &(Key, Record))
-    ensures { IsElement element.now }
-{
-    let _key = element.0.bytes();
-    let _value = element.1.bytes();
 }
 
 /// Puts an element in the place of another, and answers that one's record.

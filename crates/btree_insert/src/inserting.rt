@@ -3,17 +3,19 @@ ghost use Rattle.rec_types.specs.Table.{counted};
 ghost use Rattle.page_store.specs.FreeNumbers.{candidate, count_after};
 ghost use Rattle.page_store.specs.PageMap.{at, overlay};
 ghost use Rattle.btree_node.specs.Lists.{Element};
-ghost use Rattle.btree_node.specs.Spelling.{spelling, CanStand};
+ghost use Rattle.btree_node.specs.Spelling.{spelling, CanStand, IsElement};
 ghost use Rattle.btree_insert.specs.Faults.{is_device};
 ghost use Rattle.btree_insert.specs.Growth.{IsOutside, WritesFit, Takes, GoesUp, Grew};
 ghost use Rattle.btree_insert.specs.Inserted.{leaf_of, root_of, Inserted, IsSmall, IsRefused};
 ghost use Rattle.btree_insert.specs.PageTrees.{Holds};
+ghost use Rattle.btree_node.specs.Layout.{greatest_order};
+ghost use Rattle.btree_insert.specs.Sizes.{IsTree, greatest_count};
 
 use crate::bounds::Bounds;
-use crate::growing::{Grown, element_fits, grow_below, write_node};
-use crate::trees::{Tree, TreeFault};
+use crate::growing::{Grown, grow_below, write_node};
+use crate::trees::{GREATEST_COUNT, GREATEST_HEIGHT, GREATEST_PAGE_COUNT, Tree, TreeFault};
 use arrayvec::ArrayVec;
-use btree_node::{Node, NodeKind};
+use btree_node::{KEY_WIDTH, Node, NodeKind, RECORD_WIDTH};
 use page_store::{PageEdit, Pages, Store};
 use rec_types::{Key, Memory, Record};
 use std::alloc::Global;
@@ -35,7 +37,7 @@ fn add_node<S: Store>(
     order: u16,
     node: &Node,
 ) -> Result<u32, Memory>
-    requires order { order ≤ 16 }
+    requires order { order ≤ greatest_order }
     requires stands { CanStand node.now order }
     requires taken { edit.old.taken ≤ 100 }
     requires fits { WritesFit pages.now.pages edit.old.writes.items edit.old.taken }
@@ -85,7 +87,10 @@ fn is_small<S: Store>(pages: &Pages<S>, tree: &Tree, taken: u32) -> bool
     ensures { IsTrue result ↔ IsSmall tree.now (count_after pages.now.pages taken) }
 {
     let count = pages.page_count() + taken.saturating_sub(pages.free_count());
-    tree.height <= 19 && tree.count <= 1_000_000 && tree.used <= 1_000_000 && count <= 1_000_001
+    tree.height <= GREATEST_HEIGHT
+        && tree.count <= GREATEST_COUNT
+        && tree.used <= GREATEST_COUNT
+        && count <= GREATEST_PAGE_COUNT
 }
 
 /// Puts the record at the key of a tree, and collects the pages to write.
@@ -95,17 +100,15 @@ fn grow_tree<S: Store>(
     tree: &Tree,
     element: (Key, Record),
 ) -> Result<Changed, TreeFault>
-    requires some_order { 1 ≤ tree.now.order }
-    requires most_order { tree.now.order ≤ 16 }
-    requires height { tree.now.height ≤ 19 }
-    requires count { tree.now.count ≤ 1000000 }
-    requires used { tree.now.used ≤ 1000000 }
+    requires tree { IsTree tree.now }
+    requires element { IsElement element }
     requires empty { edit.old.writes.items ≡ [] }
     requires none_taken { edit.old.taken ≡ 0 }
     ensures grew { IsTrue pages.old.steady → (es : List Element) (us : List ℕ)
         → Holds (at pages.old.pages) tree.now es us
         → MatchResult result
-        (λ changed. Inserted (at pages.old.pages) (overlay (at pages.old.pages) edit.new.writes.items) (candidate pages.old.pages)
+        (λ changed. Inserted (at pages.old.pages)
+        (overlay (at pages.old.pages) edit.new.writes.items) (candidate pages.old.pages)
         edit.new.taken tree.now changed.tree es us element.0 element.1 changed.old)
         IsOutside }
     ensures fits { OnOk result (WritesFit pages.old.pages edit.new.writes.items edit.new.taken) }
@@ -149,21 +152,23 @@ fn changed_tree<S: Store>(
     grown: Grown,
     leaf: u32,
 ) -> Result<Changed, Memory>
-    requires some_order { 1 ≤ tree.now.order }
-    requires most_order { tree.now.order ≤ 16 }
-    requires some_height { 0 < tree.now.height }
-    requires height { tree.now.height ≤ 19 }
-    requires count { tree.now.count ≤ 1000000 }
-    requires used { tree.now.used ≤ 1000000 }
+    requires tree { IsTree tree.now }
+    requires height { 0 < tree.now.height }
     requires in_use { IsSome (at pages.now.pages tree.now.root) }
+    requires some_root { 0 < tree.now.root }
     requires fits { WritesFit pages.now.pages edit.old.writes.items edit.old.taken }
     requires takes { Takes tree.now.height 0 edit.old.taken grown }
     requires goes_up { GoesUp (record { low = None; high = None }) grown }
-    ensures grew { (es : List Element) (us key value : List ℕ) → Holds (at pages.now.pages) tree.now es us
-        → Grew tree.now.order (at pages.now.pages) (overlay (at pages.now.pages) edit.old.writes.items) (candidate pages.now.pages)
+    ensures grew { (es : List Element) (us key value : List ℕ)
+        → Holds (at pages.now.pages) tree.now es us
+        → Grew tree.now.order (at pages.now.pages)
+        (overlay (at pages.now.pages) edit.old.writes.items) (candidate pages.now.pages)
         0 edit.old.taken 1 tree.now.height tree.now.root es us key value grown
-        → IfOk result (λ changed. Inserted (at pages.now.pages) (overlay (at pages.now.pages) edit.new.writes.items)
-        (candidate pages.now.pages) edit.new.taken tree.now changed.tree es us key value changed.old) }
+        → IfOk result
+        (λ changed. Inserted (at pages.now.pages)
+        (overlay (at pages.now.pages) edit.new.writes.items)
+        (candidate pages.now.pages) edit.new.taken tree.now changed.tree es us key value
+        changed.old) }
     ensures fits { OnOk result (WritesFit pages.now.pages edit.new.writes.items edit.new.taken) }
     ensures few { OnOk result (edit.new.taken ≤ 20) }
     ensures order { IfOk result (λ changed. changed.tree.order ≡ tree.now.order) }
@@ -182,7 +187,6 @@ fn changed_tree<S: Store>(
             leaf,
         }),
         Grown::Split(middle, right) => {
-            let _count = pages.page_count();
             let root = add_node(
                 pages,
                 edit,
@@ -205,23 +209,23 @@ fn plant<S: Store>(
     tree: &Tree,
     element: (Key, Record),
 ) -> Result<Changed, Memory>
-    requires some_order { 1 ≤ tree.now.order }
-    requires most_order { tree.now.order ≤ 16 }
+    requires tree { IsTree tree.now }
     requires height { tree.now.height ≡ 0 }
-    requires count { tree.now.count ≤ 1000000 }
-    requires used { tree.now.used ≤ 1000000 }
+    requires element { IsElement element }
     requires empty { edit.old.writes.items ≡ [] }
     requires none_taken { edit.old.taken ≡ 0 }
     ensures grew { (es : List Element) (us : List ℕ) → Holds (at pages.now.pages) tree.now es us
-        → IfOk result (λ changed. Inserted (at pages.now.pages) (overlay (at pages.now.pages) edit.new.writes.items)
-        (candidate pages.now.pages) edit.new.taken tree.now changed.tree es us element.0 element.1 changed.old) }
+        → IfOk result
+        (λ changed. Inserted (at pages.now.pages)
+        (overlay (at pages.now.pages) edit.new.writes.items)
+        (candidate pages.now.pages) edit.new.taken tree.now changed.tree es us element.0
+        element.1 changed.old) }
     ensures fits { OnOk result (WritesFit pages.now.pages edit.new.writes.items edit.new.taken) }
     ensures few { OnOk result (edit.new.taken ≤ 20) }
     ensures order { IfOk result (λ changed. changed.tree.order ≡ tree.now.order) }
     ensures used { IfOk result (λ changed. changed.tree.used ≡ tree.now.used + edit.new.taken) }
     ensures freed { edit.new.freed ≡ edit.old.freed }
 {
-    element_fits(&element);
     let root = add_node(pages, edit, tree.order, &leaf_node(element))?;
     Ok(Changed {
         tree: grown_tree(tree, root, 1, edit.taken),
@@ -232,8 +236,8 @@ fn plant<S: Store>(
 
 /// The tree with one key more, and so many pages more.
 fn grown_tree(tree: &Tree, root: u32, height: u32, taken: u32) -> Tree
-    requires count { tree.now.count ≤ 1000000 }
-    requires used { tree.now.used ≤ 1000000 }
+    requires count { tree.now.count ≤ greatest_count }
+    requires used { tree.now.used ≤ greatest_count }
     requires taken { taken ≤ 100 }
     ensures { result ≡ record {
       order = tree.now.order;
@@ -252,6 +256,15 @@ fn grown_tree(tree: &Tree, root: u32, height: u32, taken: u32) -> Tree
     }
 }
 
+/// A key and its record, for which a page has room.
+fn element_of(key: Key, value: Record) -> (Key, Record)
+    ensures value { result ≡ (key, value) }
+    ensures fits { IsElement result }
+{
+    prove!(key.bytes().len() <= KEY_WIDTH && value.bytes().len() <= RECORD_WIDTH);
+    (key, value)
+}
+
 /// Puts the record at the key, and answers the new tree and the record that stood there. The
 /// conditions are an order from 1 to 16, a height of at most 19, and a `count` and a `used` of at most
 /// 1,000,000. It reads each page of the path to the key once. Faults: Device; Damaged with the page
@@ -266,11 +279,7 @@ pub fn insert<S: Store>(
     key: Key,
     value: Record,
 ) -> Result<(Tree, Option<Record>), TreeFault>
-    requires some_order { 1 ≤ tree.now.order }
-    requires most_order { tree.now.order ≤ 16 }
-    requires height { tree.now.height ≤ 19 }
-    requires count { tree.now.count ≤ 1000000 }
-    requires used { tree.now.used ≤ 1000000 }
+    requires tree { IsTree tree.now }
     ensures inserted { IsTrue pages.old.steady → (es : List Element) (us : List ℕ)
         → Holds (at pages.old.pages) tree.now es us
         → MatchResult result
@@ -299,7 +308,7 @@ pub fn insert<S: Store>(
         taken: 0,
         freed: Vec::new(alloc),
     };
-    let changed = grow_tree(pages, &mut edit, tree, (key, value))?;
+    let changed = grow_tree(pages, &mut edit, tree, element_of(key, value))?;
     if !is_small(pages, &changed.tree, edit.taken) {
         return Err(TreeFault::Damaged(changed.leaf));
     }

@@ -29,7 +29,8 @@ pub fn trees_of_the_class()
     ensures lists { (pages : PageMap) (tree : Tree) (t : BTree tree.height) (us : List ℕ)
         → StandsFor pages tree t us → Holds pages tree (in_order tree.height t) us }
     ensures class { (pages : PageMap) (tree : Tree) (es : List Element) (us : List ℕ)
-        → Holds pages tree es us → (t : BTree tree.height) × StandsFor pages tree t us × (in_order tree.height t ≡ es) }
+        → Holds pages tree es us
+        → (t : BTree tree.height) × StandsFor pages tree t us × (in_order tree.height t ≡ es) }
 {}
 
 /// What pages hold, as a function of the pages: where they hold a tree, its elements are those that

@@ -1,4 +1,4 @@
-ghost use Rattle.std.specs.Prelude.{◌≡◌, ◌+◌, ◌≤◌, ◌⊎◌, ℕ, IsTrue, IsSome, IfOk, IfErr, OnOk, MatchResult};
+ghost use Rattle.std.specs.Prelude.{◌≡◌, ◌+◌, ◌<◌, ◌≤◌, ◌⊎◌, ℕ, IsTrue, IsSome, IfOk, IfErr, OnOk, MatchResult};
 ghost use Rattle.rec_types.specs.Table.{counted};
 ghost use Rattle.page_store.specs.PageMap.{at};
 ghost use Rattle.btree_node.specs.Spelling.{CanStand};
@@ -6,6 +6,7 @@ ghost use Rattle.btree_node.specs.declared.nodes.Node.{Node};
 ghost use Rattle.btree_insert.specs.Bounds.{AreWithin};
 ghost use Rattle.btree_insert.specs.Faults.{is_device};
 ghost use Rattle.btree_insert.specs.PageTrees.{Spells, kind_of_level};
+ghost use Rattle.btree_node.specs.Layout.{greatest_order};
 
 use crate::bounds::{Bounds, are_within};
 use crate::trees::TreeFault;
@@ -22,15 +23,17 @@ pub fn read_node<S: Store>(
     n: u32,
     bounds: &Bounds,
 ) -> Result<Node, TreeFault>
-    requires { order ≤ 16 }
+    requires { order ≤ greatest_order }
     ensures exact { IsTrue pages.old.steady → (node : Node)
-        → Spells order (at pages.old.pages) n node → node.kind ≡ kind → AreWithin bounds.now node.elements.items
+        → Spells order (at pages.old.pages) n node → node.kind ≡ kind
+        → AreWithin bounds.now node.elements.items
         → MatchResult result (λ r. r ≡ node) (λ fault. fault ≡ TreeFault.Device) }
     ensures stands { IfOk result (λ node. CanStand node order × (node.kind ≡ kind)) }
     ensures spells { IsTrue pages.old.steady → IfOk result (Spells order (at pages.old.pages) n) }
     ensures fault { IfErr result
         (λ fault. (fault ≡ TreeFault.Device) ⊎ (fault ≡ TreeFault.Damaged n)) }
     ensures in_use { OnOk result (IsSome (at pages.old.pages n)) }
+    ensures some_page { OnOk result (0 < n) }
     ensures within { IfOk result (λ node. AreWithin bounds.now node.elements.items) }
     ensures device { pages.new.failures ≡ counted pages.old.failures (is_device result) }
     ensures unchanged { pages.new

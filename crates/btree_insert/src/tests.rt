@@ -3,7 +3,7 @@ ghost use Rattle.btree_node.specs.Spelling.{CanStand};
 
 use crate::{Tree, TreeFault, find, insert, walk};
 use arrayvec::ArrayVec;
-use btree_node::{Node, NodeKind, decode, encode};
+use btree_node::{KEY_WIDTH, Node, NodeKind, RECORD_WIDTH, decode, encode};
 use page_store::{MemStore, PageEdit, Pages, Store};
 use rec_types::{Key, Memory, Record};
 use std::alloc::Global;
@@ -327,8 +327,7 @@ fn leaf(key: u8) -> Result<Node, Fail>
 {
     let value = Record::new(&[key])?;
     let key = Key::new(&[key])?;
-    let _key = key.bytes().len();
-    let _value = value.bytes().len();
+    prove!(key.bytes().len() <= KEY_WIDTH && value.bytes().len() <= RECORD_WIDTH);
     let mut elements = ArrayVec::new();
     elements.push((key, value));
     Ok(Node {

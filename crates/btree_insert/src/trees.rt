@@ -1,6 +1,15 @@
 use rec_types::Memory;
 use thiserror::Error;
 
+/// The most levels of a tree.
+pub const GREATEST_HEIGHT: u32 = 19;
+
+/// The most keys of a tree, and the most pages.
+pub const GREATEST_COUNT: u32 = 1_000_000;
+
+/// The most pages of a file, page 0 included.
+pub const GREATEST_PAGE_COUNT: u32 = 1 + GREATEST_COUNT;
+
 /// A tree in pages: where it begins, and how large it is.
 #[derive(Clone, Copy, Debug, PartialEq, Eq)]
 pub struct Tree {

@@ -7,6 +7,8 @@ ghost use Rattle.btree_insert.specs.Faults.{is_device};
 ghost use Rattle.btree_insert.specs.Growth.{IsOutside};
 ghost use Rattle.btree_insert.specs.PageTrees.{Spells, Fan, TreeOf, TreeAt, Holds};
 ghost use Rattle.btree_insert.specs.Reached.{Adds, Walks};
+ghost use Rattle.btree_node.specs.Layout.{greatest_order};
+ghost use Rattle.btree_insert.specs.Sizes.{IsTree};
 
 use crate::bounds::Bounds;
 use crate::reading::{kind_of_level, read_node};
@@ -24,11 +26,7 @@ pub fn walk<S: Store>(
     pages: &mut Pages<S>,
     tree: &Tree,
 ) -> Result<Vec<(Key, Record)>, TreeFault>
-    requires some_order { 1 ≤ tree.now.order }
-    requires most_order { tree.now.order ≤ 16 }
-    requires height { tree.now.height ≤ 19 }
-    requires count { tree.now.count ≤ 1000000 }
-    requires used { tree.now.used ≤ 1000000 }
+    requires tree { IsTree tree.now }
     ensures walked { IsTrue pages.old.steady → (es : List Element) (us : List ℕ)
         → Holds (at pages.old.pages) tree.now es us
         → MatchResult result (λ elements. elements.items ≡ es) IsOutside }
@@ -71,12 +69,13 @@ fn walk_below<S: Store>(
     n: u32,
     bounds: &Bounds,
 ) -> Result<(), TreeFault>
-    requires order { order ≤ 16 }
+    requires order { order ≤ greatest_order }
     requires height { 0 < height }
     ensures walked { IsTrue pages.old.steady → (least : ℕ) (es : List Element) (us : List ℕ)
         → TreeAt order (at pages.old.pages) least height n es us → Between bounds.now es
         → length us ≤ left.old
-        → MatchResult result (λ _. (out.new.items ≡ out.old.items ++ es) × (left.new + length us ≡ left.old)) IsOutside }
+        → MatchResult result
+        (λ _. (out.new.items ≡ out.old.items ++ es) × (left.new + length us ≡ left.old)) IsOutside }
     ensures adds { IsTrue pages.old.steady → OnOk result
         (Adds (TreeOf (Spells order (at pages.old.pages)) 1 1 height n)
         bounds.now out.old.items out.new.items left.old left.new) }
@@ -119,13 +118,15 @@ fn walk_sons<S: Store>(
     elements: &[(Key, Record)],
     bounds: &Bounds,
 ) -> Result<(), TreeFault>
-    requires order { order ≤ 16 }
+    requires order { order ≤ greatest_order }
     requires height { 0 < height }
     requires sons { length sons.now ≡ length elements.now + 1 }
     ensures walked { IsTrue pages.old.steady → (es : List Element) (us : List ℕ)
-        → Fan (TreeAt order (at pages.old.pages) order height) sons.now elements.now es us → Between bounds.now es
+        → Fan (TreeAt order (at pages.old.pages) order height) sons.now elements.now es us
+        → Between bounds.now es
         → length us ≤ left.old
-        → MatchResult result (λ _. (out.new.items ≡ out.old.items ++ es) × (left.new + length us ≡ left.old)) IsOutside }
+        → MatchResult result
+        (λ _. (out.new.items ≡ out.old.items ++ es) × (left.new + length us ≡ left.old)) IsOutside }
     ensures adds { IsTrue pages.old.steady → Between bounds.now elements.now → OnOk result
         (Adds (Fan (TreeOf (Spells order (at pages.old.pages)) 1 1 height) sons.now elements.now)
         bounds.now out.old.items out.new.items left.old left.new) }
@@ -163,8 +164,5 @@ fn walk_sons<S: Store>(
 fn add_elements(out: &mut Vec<(Key, Record)>, elements: &[(Key, Record)]) -> Result<(), Memory>
     ensures { OnOk result (out.new.items ≡ out.old.items ++ elements.now) }
 {
-    if out.extend_from_slice(elements).is_err() {
-        return Err(Memory);
-    }
-    Ok(())
+    out.extend_from_slice(elements).map_err(|_| Memory)
 }

@@ -1,5 +1,5 @@
 -- Where the parts of a node page stand.
-use Rattle.std.specs.Prelude.{ℕ, ◌+◌, ◌*◌}
+use Rattle.std.specs.Prelude.{ℕ, ◌+◌, ◌*◌, ◌≤◌}
 use Rattle.btree_node.specs.declared.layouts.Layout.{Layout}
 
 -- the layout of the first file version: records of up to 32 bytes
@@ -17,6 +17,10 @@ first_version = 1
 -- the greatest order of a tree: a page of it has room for its places and sons
 abbrev pub greatest_order : ℕ
 greatest_order = 16
+
+-- an order that a tree can have
+abbrev pub IsOrder : ℕ → Type 0
+IsOrder k = (1 ≤ k) × (k ≤ greatest_order)
 
 -- the bytes of a page
 abbrev pub page_width : ℕ

@@ -35,7 +35,8 @@ fn decode_in(layout: Layout, page: &[u8; 4096], k: u16) -> Result<Node, NodeFaul
     requires width { layout.record_width ≤ widest_record }
     requires order { k ≤ 16 }
     ensures found { IfOk result (λ n. CanStandIn layout n k × (page.now ≡ spelling_in layout n k)) }
-    ensures only { (n : Node) → CanStandIn layout n k → page.now ≡ spelling_in layout n k → result ≡ Ok n }
+    ensures only { (n : Node) → CanStandIn layout n k → page.now ≡ spelling_in layout n k
+        → result ≡ Ok n }
     ensures fault { IfErr result (λ e. FirstFaultIn layout k page.now e) }
 {
     let node = node_of(layout, page, k)?;

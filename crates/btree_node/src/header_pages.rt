@@ -40,7 +40,8 @@ pub fn read_header(page: &[u8; 4096]) -> Result<Header, HeaderFault>
     ensures found { IfOk result (λ h. HeaderFits h × (page.now ≡ header_spelling h clean_state)) }
 
     // What is spelled so is read.
-    ensures only { (h : Header) → HeaderFits h → page.now ≡ header_spelling h clean_state → result ≡ Ok h }
+    ensures only { (h : Header) → HeaderFits h → page.now ≡ header_spelling h clean_state
+        → result ≡ Ok h }
 
     // Which fault it is.
     ensures fault { IfErr result (λ e. FirstHeaderFault page.now e) }

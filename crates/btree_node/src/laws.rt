@@ -20,7 +20,8 @@ pub fn one_spelling()
 /// A page spells at most one header, in one state.
 pub fn one_header_spelling()
     ensures { (page : List ℕ) (h g : Header) (here there : ℕ)
-        → HeaderFits h → page ≡ header_spelling h here → HeaderFits g → page ≡ header_spelling g there
+        → HeaderFits h → page ≡ header_spelling h here → HeaderFits g
+        → page ≡ header_spelling g there
         → (h ≡ g) × (here ≡ there) }
 {}
 

@@ -7,6 +7,9 @@ pub const PAGE_WIDTH: usize = 4096;
 /// The bytes that a key may take.
 pub const KEY_WIDTH: usize = 16;
 
+/// The bytes that a record may take in the first file version.
+pub const RECORD_WIDTH: usize = 32;
+
 /// Where the record's length stands in a place, behind the key's length and the key.
 pub const RECORD_AT: usize = 1 + KEY_WIDTH;
 
@@ -24,7 +27,9 @@ pub struct Layout {
 }
 
 /// The node pages of the first file version.
-pub const FIRST_LAYOUT: Layout = Layout { record_width: 32 };
+pub const FIRST_LAYOUT: Layout = Layout {
+    record_width: RECORD_WIDTH,
+};
 
 impl Layout {
     /// The bytes of a place: a key and a record, each behind its length.

@@ -20,6 +20,7 @@ pub use decoding::decode;
 pub use encoding::encode;
 pub use header_pages::{read_header, write_header};
 pub use headers::{Header, HeaderFault};
+pub use layouts::{KEY_WIDTH, RECORD_WIDTH};
 pub use mending::{catenate, distribute};
 pub use nodes::{Node, NodeFault, NodeKind};
 pub use searching::place_of;

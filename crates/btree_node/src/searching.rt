@@ -10,13 +10,15 @@ pub fn place_of(node: &Node, key: &Key) -> Result<usize, usize>
     ensures within { MatchResult result (λ i. i < length node.now.elements.items)
         (λ i. i ≤ length node.now.elements.items) }
     ensures found { Ascends node.now.elements.items
-        → MatchResult result (IsAt node.now.elements.items key.now) (IsPlace node.now.elements.items key.now) }
+        → MatchResult result (IsAt node.now.elements.items key.now)
+        (IsPlace node.now.elements.items key.now) }
 {
     place_among(node.elements.as_slice(), key)
 }
 
 fn place_among(elements: &[(Key, Record)], key: &Key) -> Result<usize, usize>
-    ensures within { MatchResult result (λ i. i < length elements.now) (λ i. i ≤ length elements.now) }
+    ensures within { MatchResult result (λ i. i < length elements.now)
+        (λ i. i ≤ length elements.now) }
     ensures found { Ascends elements.now
         → MatchResult result (IsAt elements.now key.now) (IsPlace elements.now key.now) }
 {

@@ -3,6 +3,7 @@ ghost use Rattle.btree_node.specs.Joined.{AreBrothers};
 ghost use Rattle.btree_node.specs.Spelling.{SonsFit, CanStand};
 
 use crate::decoding::{ascends, sons_stand};
+use crate::layouts::{KEY_WIDTH, RECORD_WIDTH};
 use crate::{
     Header, HeaderFault, Node, NodeFault, NodeKind, catenate, decode, distribute, encode, place_of,
     read_header, split, write_header,
@@ -57,8 +58,7 @@ fn leaf(element: (Key, Record)) -> Node
     ensures one { length result.elements.items ≡ 1 }
 {
     let (key, value) = element;
-    let _key = key.bytes().len();
-    let _value = value.bytes().len();
+    prove!(key.bytes().len() <= KEY_WIDTH && value.bytes().len() <= RECORD_WIDTH);
     let mut elements = ArrayVec::new();
     elements.push((key, value));
     Node {

@@ -9,7 +9,7 @@ can_free_one pages n used room = record {
   taken_written = λ i below. absurd (omega arith);
   freed_in_use = (used, tt);
   freed_not_written = (refl, tt);
-  room = omega arith;
+  room = λ some. absurd (omega (arith, some));
 }
 
 can_write_one : (pages : List (Option (List ℕ))) (n : ℕ) (page : List ℕ) → IsSome (at pages n) → length pages < 1000 → CanStage pages ((n, page) ∷ []) 0 []
@@ -18,7 +18,7 @@ can_write_one pages n page used room = record {
   taken_written = λ i below. absurd (omega arith);
   freed_in_use = tt;
   freed_not_written = tt;
-  room = omega arith;
+  room = λ some. absurd (omega (arith, some));
 }
 
 pub can_free : (pages : List (Option (List ℕ))) (n : ℕ) (writes : List (ℕ × List ℕ)) (freed : List ℕ) → IsSome (at pages n) → length pages < 1000 → writes ≡ [] → freed ≡ n ∷ [] → CanStage pages writes 0 freed
@@ -36,5 +36,5 @@ can_nothing pages writes freed room none gone =
       taken_written = λ i below. absurd (omega arith);
       freed_in_use = tt;
       freed_not_written = tt;
-      room = omega arith;
+      room = λ some. absurd (omega (arith, some));
     }))

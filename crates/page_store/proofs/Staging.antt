@@ -46,6 +46,11 @@ same_range : (f g : ℕ → Option (List ℕ)) (a n : ℕ) → ((k : ℕ) → f 
 same_range f g a zero same = refl
 same_range f g a (suc n) same = λ i. same a i ∷ same_range f g (a + 1) n same i
 
+-- a page count that grows is within its limit, and one that stays is, too
+pub roomy : (pages : List (Option (List ℕ))) (taken : ℕ) → length pages ≤ 1000001 → (0 < taken → count_after pages taken ≤ 1000001) → count_after pages taken ≤ 1000001
+roomy pages zero most room = omega (arith, most)
+roomy pages (suc taken) most room = room (omega arith)
+
 module _ (stored : List (List ℕ)) (slots : List (Option (List ℕ))) (free : List ℕ) (count : ℕ) (changed : Bool) (are : ArePages stored slots free count changed) where
   -- slots and free numbers that are the same at each number make the same pages
   pub pages_stay : (slots' : List (Option (List ℕ))) (free' : List ℕ) → ((n : ℕ) → at slots' n ≡ at slots n) → ((n : ℕ) → is_among free' n ≡ is_among free n) → pages_of stored slots' free' count ≡ pages_of stored slots free count
@@ -225,7 +230,7 @@ module _ (stored : List (List ℕ)) (slots : List (Option (List ℕ))) (free : L
             let size = length-pages_of stored slots free count in
             let first = are.some in
             let fit = are.store_fits in
-            let room = can.room in
+            let room = roomy (pages_of stored slots free count) taken (omega (arith, size, are.most)) can.room in
             record {
               some = omega arith;
               most = omega arith;

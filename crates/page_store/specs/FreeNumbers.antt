@@ -24,6 +24,10 @@ candidate pages i = nth_or_above (free_numbers pages) (length pages) i
 abbrev pub count_after : List (Option (List ℕ)) → ℕ → ℕ
 count_after pages taken = length pages + (taken - length (free_numbers pages))
 
+-- the most pages that there can be, page 0 included
+abbrev pub greatest_page_count : ℕ
+greatest_page_count = 1000001
+
 -- no number comes twice
 abbrev pub AreDistinct : List ℕ → Type 0
 AreDistinct [] = Unit {0}

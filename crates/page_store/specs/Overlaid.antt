@@ -6,6 +6,7 @@ use Rattle.std.specs.Ordering.{nat_cmp}
 use Rattle.std.specs.BTreeMap.{is_at}
 use Rattle.std.specs.declared.boxed.Box.{Box}
 use Rattle.page_store.specs.PageMap.{at}
+use Rattle.page_store.specs.FreeNumbers.{greatest_page_count}
 
 -- whether the numbers of a set have n
 abbrev pub is_among : List ℕ → ℕ → Bool
@@ -31,7 +32,7 @@ pages_of stored slots free count = map (page_at stored slots free) (range_with_l
 -- what holds of them: a page in use that the store lacks was changed, and nothing was where no edit was staged
 pub record ArePages (stored : List (List ℕ)) (slots : List (Option (List ℕ))) (free : List ℕ) (count : ℕ) (changed : Bool) : Type 0 where
   pub some : 1 ≤ count
-  pub most : count ≤ 1000001
+  pub most : count ≤ greatest_page_count
   pub store_fits : length stored ≤ count
   pub free_fits : (n : ℕ) → is_among free n ≡ true → (1 ≤ n) × (n < count)
   pub there : (n : ℕ) → 1 ≤ n → n < count → is_among free n ≡ false → length stored ≤ n → IsSome (at slots n)

@@ -2,14 +2,14 @@ ghost use Rattle.std.specs.Prelude.{◌≡◌, ℕ, ◌+◌, ◌-◌, ◌<◌, �
 ghost use Rattle.std.specs.BTreeSet.{contains, IsOrdered};
 ghost use Rattle.std.specs.Ordering.{nat_cmp};
 ghost use Rattle.page_store.specs.PageMap.{is_freed};
-ghost use Rattle.page_store.specs.FreeNumbers.{nth_or_above};
+ghost use Rattle.page_store.specs.FreeNumbers.{nth_or_above, greatest_page_count};
 
 use rec_types::Memory;
 use std::collections::BTreeSet;
 
 /// The i-th number of the set, from 0, or where it has fewer the count or a number above it.
 pub(crate) fn nth_number(free: &BTreeSet<u32>, count: u32, i: u32) -> u32
-    requires count { count ≤ 1000001 }
+    requires count { count ≤ greatest_page_count }
     requires i { i ≤ 1000 }
     ensures value { result ≡ nth_or_above free.now.keys count i }
     ensures ordered { IsOrdered nat_cmp free.now }
@@ -23,7 +23,8 @@ pub(crate) fn nth_number(free: &BTreeSet<u32>, count: u32, i: u32) -> u32
 /// Takes numbers out of the set.
 pub(crate) fn remove_all(free: &mut BTreeSet<u32>, numbers: &[u32])
     ensures { (q : ℕ) →
-        contains nat_cmp free.new q ≡ (contains nat_cmp free.old q && not (is_freed numbers.now q)) }
+        contains nat_cmp free.new q ≡
+        (contains nat_cmp free.old q && not (is_freed numbers.now q)) }
 {
     for n in numbers {
         free.remove(n);

@@ -5,7 +5,7 @@ ghost use Rattle.rec_types.specs.Table.{counted};
 ghost use Rattle.page_store.specs.PageMap.{at, after, is_written, is_freed};
 ghost use Rattle.page_store.specs.PagesView.{is_in_memory, is_read};
 ghost use Rattle.page_store.specs.Calls.{counted_times, CountedUpTo, how_many};
-ghost use Rattle.page_store.specs.FreeNumbers.{free_numbers, candidate, count_after};
+ghost use Rattle.page_store.specs.FreeNumbers.{free_numbers, candidate, count_after, greatest_page_count};
 ghost use Rattle.page_store.specs.CanStage.{CanStage};
 ghost use Rattle.page_store.specs.FetchFaults.{is_device};
 ghost use Rattle.page_store.specs.Blank.{blanks};
@@ -68,7 +68,7 @@ impl<S: Store> Pages<S> {
     /// each page from 1 on that the store lacks is free.
     pub fn new(alloc: Global, store: S, count: u32, free: BTreeSet<u32>) -> Pages<S>
         requires some { 1 ≤ count }
-        requires most { count ≤ 1000001 }
+        requires most { count ≤ greatest_page_count }
         requires store_fits { length (S.pages store) ≤ count }
         requires free_fits { (n : ℕ) → IsTrue (contains nat_cmp free n) → (1 ≤ n) × (n < count) }
         requires lacking_free { (n : ℕ) → length (S.pages store) ≤ n → 1 ≤ n → n < count
@@ -112,6 +112,7 @@ impl<S: Store> Pages<S> {
         ensures nothing_read { at self.old.pages n ≡ None → to.new ≡ to.old }
         ensures from_memory { is_in_memory self.old n ≡ true
             → (self.new ≡ self.old) × IsOk result × (at self.old.pages n ≡ Some to.new) }
+        ensures some { OnOk result (0 < n) }
         ensures reads { self.new.reads ≡ counted self.old.reads (is_read self.old n) }
         ensures from_store { self.old.changed ≡ false → IsSome (at self.old.pages n)
             → self.new.reads ≡ counted self.old.reads true }
@@ -131,7 +132,7 @@ impl<S: Store> Pages<S> {
 
     /// Puts all of an edit in place, in memory: takes the first candidates, writes the pages and frees
     /// the numbers. The condition is that what is written is in use or taken, each taken number is
-    /// written, what is freed is in use and not written, and the new page count is at most 1,000,001.
+    /// written, what is freed is in use and not written, and a page count that grows is at most 1,000,001.
     /// Fault: Memory; nothing has changed then. An edit that writes and frees nothing takes none.
     pub fn stage(&mut self, edit: PageEdit) -> Result<(), Memory>
         requires { CanStage self.old.pages edit.writes.items edit.taken edit.freed.items }
@@ -166,7 +167,7 @@ impl<S: Store> Pages<S> {
     pub fn page_count(&self) -> u32
         ensures value { result ≡ length self.now.pages }
         ensures some { 1 ≤ result }
-        ensures most { result ≤ 1000001 }
+        ensures most { result ≤ greatest_page_count }
         ensures header { at self.now.pages 0 ≡ None }
     {
         self.count
@@ -183,7 +184,8 @@ impl<S: Store> Pages<S> {
     /// in ascending order, and then the page count and the numbers above it.
     pub fn candidate(&self, i: u32) -> u32
         requires { i ≤ 1000 }
-        ensures { result ≡ candidate self.now.pages i }
+        ensures value { result ≡ candidate self.now.pages i }
+        ensures some { 0 < result }
     {
         nth_number(&self.free, self.count, i)
     }

@@ -103,7 +103,8 @@ pub(crate) fn put_pages(
 
 /// Drops the changed page of that number.
 pub(crate) fn drop_page(changed: &mut Vec<Slot>, n: u32)
-    ensures { (q : ℕ) → q ≢ n → at (slots_of changed.new.items) q ≡ at (slots_of changed.old.items) q }
+    ensures { (q : ℕ) → q ≢ n
+        → at (slots_of changed.new.items) q ≡ at (slots_of changed.old.items) q }
 {
     let at = n as usize;
     if at >= changed.len() {

@@ -124,7 +124,8 @@ pub(crate) fn write_out<S: Store>(
     ensures steady { S.steady store.new ≡ S.steady store.old }
     ensures reads { S.reads store.new ≡ S.reads store.old }
     ensures writes { OnOk result (S.writes store.new ≡ counted_times (S.writes store.old)
-        (6 + how_many (λ n. is_some (to_write (slots_of changed.now) free.now.keys count n)) count)) }
+        (6 + how_many
+        (λ n. is_some (to_write (slots_of changed.now) free.now.keys count n)) count)) }
     ensures writes_err { OnErr result (CountedUpTo (6 + how_many
         (λ n. is_some (to_write (slots_of changed.now) free.now.keys count n)) count)
         (S.writes store.old) (S.writes store.new)) }

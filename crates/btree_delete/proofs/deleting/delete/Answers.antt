@@ -1,5 +1,6 @@
 use Rattle.std.proofs.Common.{◌-◌, ℕ, List, Option, length, ap, sym, subst, arith, None}
 use Rattle.std.proofs.lemmas.Result.{err_from_is_err_and}
+use Rattle.page_store.specs.CanStage.{CanStage}
 use Rattle.page_store.specs.PageMap.{at, after}
 use Rattle.page_store.specs.PagesView.{PagesView}
 use Rattle.btree_insert.specs.PageTrees.{Holds}
@@ -9,7 +10,6 @@ use Rattle.btree_insert.proofs.TreeFacts.{root_tree}
 use Rattle.btree_delete.specs.declared.shrinking.Shrunk.{Shrunk}
 use Rattle.btree_insert.specs.Contents.{set_in}
 use Rattle.btree_delete.specs.Shrinking.{Leaves, Removes}
-use Rattle.btree_delete.specs.Tidy.{IsTidy}
 use Rattle.btree_delete.proofs.RootFacts.{deleted_at, deleted_none}
 use Rattle.btree_delete.proofs.deleting.delete.Goals as goal
 
@@ -17,7 +17,7 @@ pub returns-in_err-shrunk-clause-deleted : goal.returns-in_err-shrunk-clause-del
 returns-in_err-shrunk-clause-deleted g c = λ steady es us holds.
     let p = err_from_is_err_and c.from_residual.result c.from_residual.ensures.1 in
     let T = c.args.tree.now in
-    rw (p.1, p.2) (c.in_err-shrunk.ensures.removes steady 1 es us c.requires.some_order (root_tree T.order (at c.args.pages.now.pages) T.height T.root es us (omega arith) holds.tree) (Between-all es holds.ascends) holds.apart (unmet_none c.new-met.result.items us c.new-met.ensures))
+    rw (p.1, p.2) (c.in_err-shrunk.ensures.removes steady 1 es us c.requires.tree.order.0 (root_tree T.order (at c.args.pages.now.pages) T.height T.root es us (omega arith) holds.tree) (Between-all es holds.ascends) holds.apart (unmet_none c.new-met.result.items us c.new-met.ensures))
 
 pub returns-in_default-clause-deleted : goal.returns-in_default-clause-deleted
 returns-in_default-clause-deleted g c = λ steady es us holds.
@@ -25,14 +25,15 @@ returns-in_default-clause-deleted g c = λ steady es us holds.
     let P = at c.args.pages.now.pages in
     let ws = c.delete_below.new.edit.writes.items in
     let fs = c.delete_below.new.edit.freed.items in
-    let call = c.in_ok-shrunk.ensures.removes steady 1 es us c.requires.some_order (root_tree T.order P T.height T.root es us (omega arith) holds.tree) (Between-all es holds.ascends) holds.apart (unmet_none c.new-met.result.items us c.new-met.ensures) in
+    let call = c.in_ok-shrunk.ensures.removes steady 1 es us c.requires.tree.order.0 (root_tree T.order P T.height T.root es us (omega arith) holds.tree) (Between-all es holds.ascends) holds.apart (unmet_none c.new-met.result.items us c.new-met.ensures) in
     let none = subst (λ (s : Option Shrunk). Removes T.order P (after P ws fs) 0 (length fs) 1 (T.height - 1) T.root es us c.new-met.result.items c.delete_below.new.met.items c.args.key.now s) c.in_default.is call in
     deleted_none P (at c.delete_below.new.pages.pages) T es us c.args.key.now (ap (λ (v : PagesView). at v.pages) c.delete_below.ensures.unchanged) holds none.drops
 
-pub shrink_tree-requires-clause-tidy : goal.shrink_tree-requires-clause-tidy
-shrink_tree-requires-clause-tidy g c =
+pub stage-requires : goal.stage-requires
+stage-requires g c =
     let pages_is = ap (λ (v : PagesView). v.pages) c.delete_below.ensures.unchanged in
-    (c.delete_below.new.met.items, c.in_ok-shrunk.ensures.visit.here, subst (λ (ps : List (Option (List ℕ))). IsTidy ps c.delete_below.new.met.items c.delete_below.new.edit.writes.items c.delete_below.new.edit.freed.items) (sym pages_is) c.in_ok-shrunk.ensures.tidy)
+    let can = c.in_ok-shrunk-2.ensures.fits c.args.pages.now.pages c.delete_below.new.met.items c.in_ok-shrunk.ensures.in_use c.in_ok-shrunk.ensures.visit.here c.in_ok-shrunk.ensures.tidy in
+    subst (λ (ps : List (Option (List ℕ))). CanStage ps c.shrink_tree.new.edit.writes.items c.shrink_tree.new.edit.taken c.shrink_tree.new.edit.freed.items) (sym pages_is) can
 
 pub returns-in_err-shrunk-2-clause-deleted : goal.returns-in_err-shrunk-2-clause-deleted
 returns-in_err-shrunk-2-clause-deleted g c = λ steady es us holds.
@@ -42,11 +43,9 @@ returns-in_err-shrunk-2-clause-deleted g c = λ steady es us holds.
     let ws = c.delete_below.new.edit.writes.items in
     let fs = c.delete_below.new.edit.freed.items in
     let pages_is = ap (λ (v : PagesView). v.pages) c.delete_below.ensures.unchanged in
-    let call = c.in_ok-shrunk.ensures.removes steady 1 es us c.requires.some_order (root_tree T.order P T.height T.root es us (omega arith) holds.tree) (Between-all es holds.ascends) holds.apart (unmet_none c.new-met.result.items us c.new-met.ensures) in
+    let call = c.in_ok-shrunk.ensures.removes steady 1 es us c.requires.tree.order.0 (root_tree T.order P T.height T.root es us (omega arith) holds.tree) (Between-all es holds.ascends) holds.apart (unmet_none c.new-met.result.items us c.new-met.ensures) in
     let some = subst (λ (s : Option Shrunk). Removes T.order P (after P ws fs) 0 (length fs) 1 (T.height - 1) T.root es us c.new-met.result.items c.delete_below.new.met.items c.args.key.now s) c.in-Some.is call in
-    let there = subst (λ (ps : List (Option (List ℕ))). Holds (at ps) T es us) (sym pages_is) holds in
-    let leaves = subst (λ (ps : List (Option (List ℕ))). Leaves T.order (at ps) (after (at ps) ws fs) 0 (length fs) 1 (T.height - 1) T.root us (set_in c.args.key.now None es) c.in-Some.shrunk) (sym pages_is) some.drops.1 in
-    rw (p.1, p.2) (c.in_err-shrunk-2.ensures.deleted es us c.args.key.now there some.drops.0 leaves)
+    rw (p.1, p.2) (c.in_err-shrunk-2.ensures.deleted P es us c.args.key.now holds some.drops.0 some.drops.1)
 
 pub returns-clause-deleted : goal.returns-clause-deleted
 returns-clause-deleted g c = λ steady es us holds.
@@ -55,9 +54,9 @@ returns-clause-deleted g c = λ steady es us holds.
     let ws = c.delete_below.new.edit.writes.items in
     let fs = c.delete_below.new.edit.freed.items in
     let pages_is = ap (λ (v : PagesView). v.pages) c.delete_below.ensures.unchanged in
-    let call = c.in_ok-shrunk.ensures.removes steady 1 es us c.requires.some_order (root_tree T.order P T.height T.root es us (omega arith) holds.tree) (Between-all es holds.ascends) holds.apart (unmet_none c.new-met.result.items us c.new-met.ensures) in
+    let call = c.in_ok-shrunk.ensures.removes steady 1 es us c.requires.tree.order.0 (root_tree T.order P T.height T.root es us (omega arith) holds.tree) (Between-all es holds.ascends) holds.apart (unmet_none c.new-met.result.items us c.new-met.ensures) in
     let some = subst (λ (s : Option Shrunk). Removes T.order P (after P ws fs) 0 (length fs) 1 (T.height - 1) T.root es us c.new-met.result.items c.delete_below.new.met.items c.args.key.now s) c.in-Some.is call in
     let there = subst (λ (ps : List (Option (List ℕ))). Holds (at ps) T es us) (sym pages_is) holds in
     let leaves = subst (λ (ps : List (Option (List ℕ))). Leaves T.order (at ps) (after (at ps) ws fs) 0 (length fs) 1 (T.height - 1) T.root us (set_in c.args.key.now None es) c.in-Some.shrunk) (sym pages_is) some.drops.1 in
-    let done = c.in_ok-shrunk-2.ensures.deleted es us c.args.key.now there some.drops.0 leaves in
+    let done = c.in_ok-shrunk-2.ensures.deleted (at c.delete_below.new.pages.pages) es us c.args.key.now there some.drops.0 leaves in
     deleted_at P (at c.delete_below.new.pages.pages) (after (at c.delete_below.new.pages.pages) c.shrink_tree.new.edit.writes.items c.shrink_tree.new.edit.freed.items) (at c.stage.new.self.pages) T c.in_ok-shrunk-2.shrunk.0 es us c.args.key.now c.in_ok-shrunk-2.shrunk.1 (ap (λ (v : PagesView). at v.pages) c.delete_below.ensures.unchanged) c.in_ok-stage.ensures.pages done

@@ -1,5 +1,5 @@
-use Rattle.std.proofs.Common.{◌≡◌, ◌-◌, ℕ, Some, None, length, ap, ◌∙◌, subst, arith, ◌≤◌}
-use Rattle.page_store.specs.PageMap.{at, after}
+use Rattle.std.proofs.Common.{◌≡◌, ◌-◌, ℕ, Some, None, length, ap, ◌∙◌, subst, ◌≤◌}
+use Rattle.page_store.specs.PageMap.{after}
 use Rattle.btree_delete.specs.declared.shrinking.Shrunk.{Shrunk}
 use Rattle.btree_insert.specs.Contents.{set_in}
 use Rattle.btree_delete.specs.Shrinking.{GoesUp, Leaves, gone}
@@ -7,8 +7,7 @@ use Rattle.btree_delete.proofs.RootFacts.{shrank_whole, shrank_short, shrank_del
 use Rattle.btree_delete.proofs.deleting.shrink_tree.Goals as goal
 
 pub returns-in_ok-next-in-Whole-clause-deleted : goal.returns-in_ok-next-in-Whole-clause-deleted
-returns-in_ok-next-in-Whole-clause-deleted g c = λ es us key holds found leaves.
-    let P = at c.args.pages.now.pages in
+returns-in_ok-next-in-Whole-clause-deleted c = λ P es us key holds found leaves.
     let ws = c.args.edit.now.writes.items in
     let fs = c.args.edit.now.freed.items in
     let T = c.args.tree.now in
@@ -20,12 +19,11 @@ returns-in_ok-next-in-Whole-clause-deleted g c = λ es us key holds found leaves
     shrank_deleted P (after P ws fs) T T c.in_ok-next-in-Whole.next es us key c.in-Whole.removed.1 (length fs) holds found2 shrank c.in_ok-next-in-Whole.ensures.enough.0 (subst (λ (n : ℕ). n ≤ T.used) len_is c.in_ok-next-in-Whole.ensures.enough.1) next_is
 
 pub returns-in_ok-next-in-Whole-clause-fits : goal.returns-in_ok-next-in-Whole-clause-fits
-returns-in_ok-next-in-Whole-clause-fits g c =
-    tidy_stages c.args.pages.now.pages c.requires.tidy.0 c.args.edit.now.writes.items c.args.edit.now.freed.items c.args.edit.now.taken c.requires.none_taken (omega (arith, c.page_count-count.ensures.value, c.page_count-count.ensures.most)) c.requires.tidy.2
+returns-in_ok-next-in-Whole-clause-fits c = λ pages met used here tidy.
+    tidy_stages pages met c.args.edit.now.writes.items c.args.edit.now.freed.items c.args.edit.now.taken c.requires.none_taken tidy
 
 pub returns-in_ok-next-in-Short-clause-deleted : goal.returns-in_ok-next-in-Short-clause-deleted
-returns-in_ok-next-in-Short-clause-deleted g c = λ es us key holds found leaves.
-    let P = at c.args.pages.now.pages in
+returns-in_ok-next-in-Short-clause-deleted c = λ P es us key holds found leaves.
     let ws = c.args.edit.now.writes.items in
     let fs = c.args.edit.now.freed.items in
     let ws2 = c.shrink_root.new.edit.writes.items in
@@ -35,14 +33,14 @@ returns-in_ok-next-in-Short-clause-deleted g c = λ es us key holds found leaves
     let found2 = found ∙ ap (λ (s : Shrunk). Some (gone s).1) c.in-Short.is in
     let leaves2 = subst (λ (s : Shrunk). Leaves T.order P (after P ws fs) 0 (length fs) 1 (T.height - 1) T.root us (set_in key None es) s) c.in-Short.is leaves in
     let up = subst (GoesUp T.order T.height (record { low = None; high = None }) T.root ws fs) c.in-Short.is c.requires.up in
-    let shrank = shrank_short P T S ws ws2 fs fs2 us (set_in key None es) c.in-Short.removed c.in-Short.node (record { low = None; high = None }) c.requires.some_order c.requires.height up.0 up.2 leaves2 c.in_ok-shrunk-in-Short.ensures.shrinks in
+    let shrank = shrank_short P T S ws ws2 fs fs2 us (set_in key None es) c.in-Short.removed c.in-Short.node (record { low = None; high = None }) c.requires.order.0 c.requires.height up.0 up.2 leaves2 c.in_ok-shrunk-in-Short.ensures.shrinks in
     let len_is : c.len-in-Short.result ≡ length fs2 = c.len-in-Short.ensures ∙ c.shrink_root.new.edit.freed.ok.0 in
     let next_is = c.in_ok-next-in-Short.ensures.value ∙ ap (λ (n : ℕ). record S { count = S.count - 1; used = S.used - n }) len_is in
     shrank_deleted P (after P ws2 fs2) T S c.in_ok-next-in-Short.next es us key c.in-Short.removed.1 (length fs2) holds found2 shrank c.in_ok-next-in-Short.ensures.enough.0 (subst (λ (n : ℕ). n ≤ S.used) len_is c.in_ok-next-in-Short.ensures.enough.1) next_is
 
 pub returns-in_ok-next-in-Short-clause-fits : goal.returns-in_ok-next-in-Short-clause-fits
-returns-in_ok-next-in-Short-clause-fits g c =
+returns-in_ok-next-in-Short-clause-fits c = λ pages met used here tidy.
     let T = c.args.tree.now in
     let up = subst (GoesUp T.order T.height (record { low = None; high = None }) T.root c.args.edit.now.writes.items c.args.edit.now.freed.items) c.in-Short.is c.requires.up in
-    let tidy = shrink_tidy c.args.pages.now.pages c.requires.tidy.0 T c.in_ok-shrunk-in-Short.shrunk c.in-Short.node c.args.edit.now.writes.items c.shrink_root.new.edit.writes.items c.args.edit.now.freed.items c.shrink_root.new.edit.freed.items c.requires.in_use c.requires.tidy.1 up.2 c.in_ok-shrunk-in-Short.ensures.shrinks c.requires.tidy.2 in
-    tidy_stages c.args.pages.now.pages c.requires.tidy.0 c.shrink_root.new.edit.writes.items c.shrink_root.new.edit.freed.items c.shrink_root.new.edit.taken (c.in_ok-shrunk-in-Short.ensures.taken ∙ c.requires.none_taken) (omega (arith, c.page_count-count.ensures.value, c.page_count-count.ensures.most)) tidy
+    let next_tidy = shrink_tidy pages met T c.in_ok-shrunk-in-Short.shrunk c.in-Short.node c.args.edit.now.writes.items c.shrink_root.new.edit.writes.items c.args.edit.now.freed.items c.shrink_root.new.edit.freed.items used here up.2 c.in_ok-shrunk-in-Short.ensures.shrinks tidy in
+    tidy_stages pages met c.shrink_root.new.edit.writes.items c.shrink_root.new.edit.freed.items c.shrink_root.new.edit.taken (c.in_ok-shrunk-in-Short.ensures.taken ∙ c.requires.none_taken) next_tidy

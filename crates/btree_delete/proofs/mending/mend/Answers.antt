@@ -43,7 +43,7 @@ returns-then-i-len-clause-father g c =
     let next : c.args.i + 1 ≡ suc c.args.i = omega arith in
     let below_is = c.bounds_of_son-below.ensures ∙ ap (λ (xs : List Element). son_bounds xs (c.args.i + 1) c.args.bounds.now) c.as_slice.ensures.value ∙ ap (λ j. son_bounds F.elements.items j c.args.bounds.now) next in
     mended_thin c.args.order c.args.level c.args.i c.args.bounds.now F c.mend_pair.new.father c.args.son c.in_ok-brother.brother c.args.edit.now.writes.items c.mend_pair.new.edit.writes.items c.args.edit.now.freed.items c.mend_pair.new.edit.freed.items
-    c.requires.some_order c.requires.some_level (omega arith) c.requires.father c.requires.son (subst (λ b. IsThin c.args.order c.args.level b c.in_ok-brother.brother) below_is c.in_ok-brother.ensures.stands) c.in_ok-mend_pair.ensures.mends
+    c.requires.order.0 c.requires.some_level (omega arith) c.requires.father c.requires.son (subst (λ b. IsThin c.args.order c.args.level b c.in_ok-brother.brother) below_is c.in_ok-brother.ensures.stands) c.in_ok-mend_pair.ensures.mends
 
 pub returns-then-i-len-clause-tidy : goal.returns-then-i-len-clause-tidy
 returns-then-i-len-clause-tidy g c =
@@ -88,7 +88,7 @@ returns-clause-father g c =
     let i_is : c.args.i ≡ suc j = omega (arith, c.requires.some) in
     let below_is = c.bounds_of_son-below-2.ensures ∙ ap (λ (xs : List Element). son_bounds xs j c.args.bounds.now) c.as_slice-2.ensures.value in
     mended_thin c.args.order c.args.level j c.args.bounds.now F c.mend_pair-2.new.father c.in_ok-brother-2.brother c.args.son c.args.edit.now.writes.items c.mend_pair-2.new.edit.writes.items c.args.edit.now.freed.items c.mend_pair-2.new.edit.freed.items
-    c.requires.some_order c.requires.some_level (omega (arith, c.requires.place)) c.requires.father (subst (λ b. IsThin c.args.order c.args.level b c.in_ok-brother-2.brother) below_is c.in_ok-brother-2.ensures.stands)
+    c.requires.order.0 c.requires.some_level (omega (arith, c.requires.place)) c.requires.father (subst (λ b. IsThin c.args.order c.args.level b c.in_ok-brother-2.brother) below_is c.in_ok-brother-2.ensures.stands)
     (subst (λ (x : ℕ). IsThin c.args.order c.args.level (son_bounds F.elements.items x c.args.bounds.now) c.args.son) i_is c.requires.son) c.in_ok-mend_pair-2.ensures.mends
 
 pub returns-clause-tidy : goal.returns-clause-tidy

@@ -174,11 +174,11 @@ returns-in_ok-settle-in-Some-Short-clause-removes g t c = λ steady least es us 
     let visited = subst (λ (x : ℕ). IsVisit c.visit.new.met.items met2 ws fs level x) n_is c.in_ok-removed-in-Err.ensures.visit in
     let page = mended_page c.args.met.now.items c.visit.new.met.items met2 level c.args.n (son_at n i) ws ws2 fs fs2 c.in_ok-node.ensures.met visited c.in_ok-mend-in-Some-Short.ensures.others in
     let goes = subst (MayGoUp c.args.order level c.bounds_of_son-below.result (get_or c.deref.result.now i 0) ws fs) (c.in-Some-Short.is ∙ ap Some c.in-Some-Short.field-0-is) c.in_ok-removed-in-Err.ensures.up in
-    let mended = mend_son c.args.order P met2 met3 0 (level - 1) level c.args.n (son_at n i) c.in-Some-Short.son n G ws ws2 fs fs2 (set_in c.args.key.now None es) us c.args.bounds.now i c.requires.some_order (sym up) c.in_ok-node.ensures.some c.in-Err.ensures.within refl fair
+    let mended = mend_son c.args.order P met2 met3 0 (level - 1) level c.args.n (son_at n i) c.in-Some-Short.son n G ws ws2 fs fs2 (set_in c.args.key.now None es) us c.args.bounds.now i c.requires.order.0 (sym up) c.in_ok-node.ensures.some c.in-Err.ensures.within refl fair
     (subst (λ (z : ℕ). Untouched ws fs z) n_is goes.2) c.in_ok-removed-in-Err.ensures.tidy.unmet broken.0
     (λ less o spells2 kind within free. c.in_ok-mend-in-Some-Short.ensures.right later_steady less o (subst (λ (z : List (Option (List ℕ))). Spells c.args.order (at z) (son_at n (suc i)) o) (sym later_is) spells2) kind within free)
     (λ j is last o spells2 kind within free. c.in_ok-mend-in-Some-Short.ensures.left later_steady j is last o (subst (λ (z : List (Option (List ℕ))). Spells c.args.order (at z) (son_at n j) o) (sym later_is) spells2) kind within free) in
-    let drops = drop_mended c.args.order P ws ws2 ws3 fs fs2 least c.args.height (level - 1) c.args.n (son_at n i) es us c.args.bounds.now n G c.in-Some-Short.son c.in-Some-Short.removed c.in-Some-Short.removed c.in_ok-settle-in-Some-Short.field-0 met2 met3 c.args.key.now c.requires.some_order low broken.0 mended thin
+    let drops = drop_mended c.args.order P ws ws2 ws3 fs fs2 least c.args.height (level - 1) c.args.n (son_at n i) es us c.args.bounds.now n G c.in-Some-Short.son c.in-Some-Short.removed c.in-Some-Short.removed c.in_ok-settle-in-Some-Short.field-0 met2 met3 c.args.key.now c.requires.order.0 low broken.0 mended thin
     (thin.kind ∙ sym c.in_ok-node.ensures.stands.kind ∙ head.body.0) page refl broken.1 c.in_ok-settle-in-Some-Short.ensures.settles in
     let unmet3 = still_unmet c.args.met.now.items met2 met3 c.args.n mended.t us son.mine (page_in c.args.n us (son.upre ++ (son.mine ++ son.upost)) us_is) (below_in c.args.n us son.upre son.mine son.upost us_is) (broken.0.loses.left.within mended.t (inr mended.t_in)) done.unmet mended.met_is in
     let all : Removes c.args.order P (after P ws3 fs2) 0 (length fs2) least (suc (level - 1)) c.args.n es us c.args.met.now.items met3 c.args.key.now (Some c.in_ok-settle-in-Some-Short.field-0) = record { drops = drops; unmet = unmet3 } in

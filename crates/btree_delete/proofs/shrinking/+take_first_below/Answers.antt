@@ -48,7 +48,7 @@ returns-then-height-eq1-clause-takes g t c = λ steady least es us low tree betw
     let m : Node = record { kind = n.kind; elements = c.remove-first.new.self; sons = n.sons } in
     let without = leaf_without c.args.order c.args.bounds.now n m 0 thin.kind c.in_ok-node.ensures.some thin refl c.remove-first.ensures.items refl in
     let taken = take_leaf c.args.order P c.args.edit.now.writes.items c.settle.new.edit.writes.items c.args.edit.now.freed.items least c.args.height (c.args.height - 1) c.args.n es us c.args.bounds.now c.args.bounds.now n m c.remove-first.result c.in_ok-settle.field-0 c.args.met.now.items
-    (omega arith) c.requires.some_order low c.requires.unwritten c.requires.unfreed apart head (subst (λ (x : ℕ). IsThin c.args.order x c.args.bounds.now m) (sym c.if-height-eq1.true) without) c.remove-first.ensures.value c.in_ok-node.ensures.some refl c.remove-first.ensures.items c.in_ok-settle.ensures.settles in
+    (omega arith) c.requires.order.0 low c.requires.unwritten c.requires.unfreed apart head (subst (λ (x : ℕ). IsThin c.args.order x c.args.bounds.now m) (sym c.if-height-eq1.true) without) c.remove-first.ensures.value c.in_ok-node.ensures.some refl c.remove-first.ensures.items c.in_ok-settle.ensures.settles in
     let freed = ap (λ v. v.items) c.in_ok-settle.ensures.freed in
     subst (λ (fs : List ℕ). Takes c.args.order P (after P c.settle.new.edit.writes.items fs) 0 (length fs) least (c.args.height - 1) c.args.n es us c.args.met.now.items c.visit.new.met.items c.in_ok-settle.field-0) (sym freed)
     (subst (λ (ms : List ℕ). Takes c.args.order P (after P c.settle.new.edit.writes.items c.args.edit.now.freed.items) 0 (length c.args.edit.now.freed.items) least (c.args.height - 1) c.args.n es us c.args.met.now.items ms c.in_ok-settle.field-0) (sym c.in_ok-node.ensures.met) taken)
@@ -162,7 +162,7 @@ returns-in_ok-settle-in-Short-clause-takes g t c = λ steady least es us low tre
     let later_is = ap (λ (v : PagesView). v.pages) c.take_first_below.ensures.unchanged ∙ pages_is in
     let later_steady = ap (λ (v : PagesView). v.steady) c.take_first_below.ensures.unchanged ∙ ap (λ (v : PagesView). v.steady) c.visit.ensures.unchanged ∙ steady in
     let goes = subst (GoesUpBehind c.args.order level c.bounds_of_son-below.result (get_or c.deref.result.now 0 0) ws fs) c.in-Short.is c.in_ok-whole.ensures.up in
-    let mended = mend_son c.args.order P met2 met3 0 (level - 1) level c.args.n (son_at n 0) c.in-Short.son n G ws ws2 fs fs2 (took.rest ++ son.post) us (behind first c.args.bounds.now) 0 c.requires.some_order (sym up) c.in_ok-node.ensures.some (omega arith) refl fair
+    let mended = mend_son c.args.order P met2 met3 0 (level - 1) level c.args.n (son_at n 0) c.in-Short.son n G ws ws2 fs fs2 (took.rest ++ son.post) us (behind first c.args.bounds.now) 0 c.requires.order.0 (sym up) c.in_ok-node.ensures.some (omega arith) refl fair
     (subst (λ (x : ℕ). Untouched ws fs x) n_is goes.4) c.in_ok-whole.ensures.tidy.unmet broken
     (λ less m spells kind within free. c.in_ok-mend-in-Short.ensures.right later_steady less m (subst (λ (x : List (Option (List ℕ))). Spells c.args.order (at x) (son_at n 1) m) (sym later_is) spells) kind within free)
     (λ j is last m spells kind within free. absurd (omega (arith, is))) in
@@ -170,7 +170,7 @@ returns-in_ok-settle-in-Short-clause-takes g t c = λ steady least es us low tre
     let thin = subst (λ (x : ℕ). IsThin c.args.order x (behind first c.args.bounds.now) G) level_is c.in_ok-mend-in-Short.ensures.father in
     let page = mended_page c.args.met.now.items c.visit.new.met.items met2 level c.args.n (son_at n 0) ws ws2 fs fs2 c.in_ok-node.ensures.met (subst (λ (x : ℕ). IsVisit c.visit.new.met.items met2 ws fs level x) n_is c.in_ok-whole.ensures.visit) c.in_ok-mend-in-Short.ensures.others in
     let taken = take_short c.args.order P ws ws2 c.settle-in-Short.new.edit.writes.items fs fs2 least c.args.height (level - 1) c.args.n es us c.args.bounds.now (behind first c.args.bounds.now) n G first c.in-Short.son c.in_ok-settle-in-Short.field-0 c.args.met.now.items met2 met3
-    c.requires.some_order low apart head son took broken mended thin (thin.kind ∙ sym c.in_ok-node.ensures.stands.kind) page c.in_ok-settle-in-Short.ensures.settles in
+    c.requires.order.0 low apart head son took broken mended thin (thin.kind ∙ sym c.in_ok-node.ensures.stands.kind) page c.in_ok-settle-in-Short.ensures.settles in
     subst (λ (x : List ℕ). Takes c.args.order P (after P c.settle-in-Short.new.edit.writes.items x) 0 (length x) least level c.args.n es us c.args.met.now.items met3 c.in_ok-settle-in-Short.field-0) (sym (ap (λ v. v.items) c.in_ok-settle-in-Short.ensures.freed))
     (subst (λ (x : ℕ). Takes c.args.order P (after P c.settle-in-Short.new.edit.writes.items fs2) 0 (length fs2) least x c.args.n es us c.args.met.now.items met3 c.in_ok-settle-in-Short.field-0) (sym up) taken)
 

@@ -39,14 +39,14 @@ returns-in_err-node-clause-grew g t c = λ steady none least es us tree between 
 
 pub write_node-requires-clause-stands : goal.write_node-requires-clause-stands
 write_node-requires-clause-stands g t c =
-    set_stands c.args.order c.in_ok-node.node c.replace-old.new.node c.in-Ok.i c.args.element c.in_ok-node.ensures.stands.0 (c.in-Ok.ensures.found c.in_ok-node.ensures.stands.0.ascends) c.element_fits.ensures
+    set_stands c.args.order c.in_ok-node.node c.replace-old.new.node c.in-Ok.i c.args.element c.in_ok-node.ensures.stands.0 (c.in-Ok.ensures.found c.in_ok-node.ensures.stands.0.ascends) c.requires.element
     c.replace-old.ensures.kind c.replace-old.ensures.elements (ap (λ s. s.items) c.replace-old.ensures.sons)
 
 pub settle-requires-clause-loose : goal.settle-requires-clause-loose
 settle-requires-clause-loose g t c =
     let leaf : c.in_ok-node.node.kind ≡ Leaf = c.in_ok-node.ensures.stands.1 ∙ c.kind_of_level.ensures ∙ ap kind_of_level c.if-height-eq1.true in
     leaf_loose c.args.order c.in_ok-node.node (record { kind = c.in_ok-node.node.kind; elements = c.insert.new.self; sons = c.in_ok-node.node.sons }) c.in-Err.i c.args.element c.in_ok-node.ensures.stands.0 leaf
-    (c.in-Err.ensures.found c.in_ok-node.ensures.stands.0.ascends) c.element_fits.ensures refl c.insert.ensures.items refl
+    (c.in-Err.ensures.found c.in_ok-node.ensures.stands.0.ascends) c.requires.element refl c.insert.ensures.items refl
 
 pub returns-then-height-eq1-clause-grew : goal.returns-then-height-eq1-clause-grew
 returns-then-height-eq1-clause-grew g t c = λ steady none least es us tree between apart unmet.
@@ -54,10 +54,10 @@ returns-then-height-eq1-clause-grew g t c = λ steady none least es us tree betw
     let leaf : c.in_ok-node.node.kind ≡ Leaf = c.in_ok-node.ensures.stands.1 ∙ c.kind_of_level.ensures ∙ ap kind_of_level c.if-height-eq1.true in
     let place = c.in-Err.ensures.found c.in_ok-node.ensures.stands.0.ascends in
     let m : Node = record { kind = c.in_ok-node.node.kind; elements = c.insert.new.self; sons = c.in_ok-node.node.sons } in
-    let loose = leaf_loose c.args.order c.in_ok-node.node m c.in-Err.i c.args.element c.in_ok-node.ensures.stands.0 leaf place c.element_fits.ensures refl c.insert.ensures.items refl in
+    let loose = leaf_loose c.args.order c.in_ok-node.node m c.in-Err.i c.args.element c.in_ok-node.ensures.stands.0 leaf place c.requires.element refl c.insert.ensures.items refl in
     let size = ap length c.insert.ensures.items ∙ length-insert c.in_ok-node.node.elements.items c.in-Err.i c.args.element place.within in
     grow_leaf c.args.order (at c.args.pages.now.pages) c.args.edit.now.writes.items c.settle.new.edit.writes.items (candidate c.args.pages.now.pages) c.args.edit.now.taken c.settle.new.edit.taken least c.args.height (c.args.height - 1) c.args.n es us c.args.bounds.now
-    c.in_ok-node.node m c.args.element.0 c.args.element.1 c.in-Err.i c.in_ok-settle-in-Err.field-0 (omega arith) (omega arith) c.requires.some_order none (candidates_free c.args.pages.now.pages) (in_use c.args.order (at c.args.pages.now.pages) least c.args.height c.args.n es us tree) apart head place
+    c.in_ok-node.node m c.args.element.0 c.args.element.1 c.in-Err.i c.in_ok-settle-in-Err.field-0 (omega arith) (omega arith) c.requires.order.0 none (candidates_free c.args.pages.now.pages) (in_use c.args.order (at c.args.pages.now.pages) least c.args.height c.args.n es us tree) apart head place
     loose (omega (arith, size, head.least_is)) refl c.insert.ensures.items
     (subst (λ (v : PagesView). Settles c.args.order (candidate v.pages c.args.edit.now.taken) c.args.edit.now.writes.items c.settle.new.edit.writes.items c.args.edit.now.taken c.settle.new.edit.taken c.args.n m c.in_ok-settle-in-Err.field-0) c.read_node.ensures.unchanged c.in_ok-settle-in-Err.ensures.settles)
 
@@ -71,7 +71,7 @@ grow_below-requires g t c = λ κs sub.
     let b_is = c.bounds_of_son-below.ensures ∙ ap (λ (els : List Element). son_bounds els c.in-Err.i c.args.bounds.now) c.as_slice-in-Err.ensures.value in
     let inside = subst (λ b. IsWithin b c.args.element.0) (sym b_is) (place_within c.in_ok-node.node.elements.items c.in-Err.i c.args.bounds.now c.args.element.0 c.requires.within place) in
     let fits = subst (λ (v : PagesView). WritesFit v.pages c.args.edit.now.writes.items c.args.edit.now.taken) (sym c.read_node.ensures.unchanged) c.requires.fits in
-    (omega (arith, c.decreases), (sub, (c.requires.some_order, (c.requires.most_order, (omega arith, (omega (arith, c.push.ensures.len, c.requires.levels), (inside, (c.requires.taken, fits))))))))
+    (omega (arith, c.decreases), (sub, (c.requires.order, (omega arith, (omega (arith, c.push.ensures.len, c.requires.levels), (c.requires.element, (inside, (c.requires.taken, fits))))))))
 
 pub returns-in_err-done-in-Err-clause-grew : goal.returns-in_err-done-in-Err-clause-grew
 returns-in_err-done-in-Err-clause-grew g t c = λ steady none least es us tree between apart unmet.
@@ -106,7 +106,7 @@ returns-in_ok-write_node-in-Ok-clause-grew g t c = λ steady none least es us tr
     let head = read_top c.args.order (at c.args.pages.now.pages) least c.args.height c.args.n es us c.args.bounds.now c.kind_of_level.result c.in_ok-node.node c.requires.height c.kind_of_level.ensures (c.in_ok-node.ensures.exact steady) tree between in
     let place = c.in-Ok.ensures.found c.in_ok-node.ensures.stands.0.ascends in
     let x : Element = get_or c.in_ok-node.node.elements.items c.in-Ok.i c.args.element in
-    let stands = set_stands c.args.order c.in_ok-node.node c.replace-old.new.node c.in-Ok.i c.args.element c.in_ok-node.ensures.stands.0 place c.element_fits.ensures c.replace-old.ensures.kind c.replace-old.ensures.elements (ap (λ s. s.items) c.replace-old.ensures.sons) in
+    let stands = set_stands c.args.order c.in_ok-node.node c.replace-old.new.node c.in-Ok.i c.args.element c.in_ok-node.ensures.stands.0 place c.requires.element c.replace-old.ensures.kind c.replace-old.ensures.elements (ap (λ s. s.items) c.replace-old.ensures.sons) in
     let size = ap length c.replace-old.ensures.elements ∙ length-set c.in_ok-node.node.elements.items c.in-Ok.i c.args.element in
     let grew = grow_replaced c.args.order (at c.args.pages.now.pages) c.args.edit.now.writes.items c.write_node.new.edit.writes.items (candidate c.args.pages.now.pages) c.args.edit.now.taken c.write_node.new.edit.taken least c.args.height (c.args.height - 1) c.args.n es us c.args.bounds.now
     c.in_ok-node.node c.replace-old.new.node c.args.element.0 c.args.element.1 c.in-Ok.i x (omega arith) none c.in_ok-write_node-in-Ok.ensures.taken (candidates_free c.args.pages.now.pages) (in_use c.args.order (at c.args.pages.now.pages) least c.args.height c.args.n es us tree) apart head between.ascends place
@@ -143,7 +143,7 @@ returns-in_ok-settle-in-Split-clause-grew g t c = λ steady none least es us tre
     let size = ap length c.insert-in-Split.ensures.items ∙ length-insert c.in_ok-node.node.elements.items c.in-Err.i c.in-Split.middle among.within in
     let counted = subst (Takes (c.args.height - 1) c.args.edit.now.taken c.grow_below.new.edit.taken) c.in-Split.is c.in_ok-done-in-Err.ensures.takes in
     grow_split c.args.order (at c.args.pages.now.pages) c.grow_below.new.edit.writes.items c.settle-in-Split.new.edit.writes.items (candidate c.args.pages.now.pages) c.args.edit.now.taken c.grow_below.new.edit.taken c.settle-in-Split.new.edit.taken least c.args.height (c.args.height - 1) c.args.n es us c.args.bounds.now
-    c.in_ok-node.node m c.args.element.0 c.args.element.1 c.in-Err.i c.in-Split.middle c.in-Split.right c.in_ok-settle-in-Split.field-0 (omega arith) (omega arith) c.requires.some_order counted.0 (candidates_free c.args.pages.now.pages) (in_use c.args.order (at c.args.pages.now.pages) least c.args.height c.args.n es us tree) apart head son
+    c.in_ok-node.node m c.args.element.0 c.args.element.1 c.in-Err.i c.in-Split.middle c.in-Split.right c.in_ok-settle-in-Split.field-0 (omega arith) (omega arith) c.requires.order.0 counted.0 (candidates_free c.args.pages.now.pages) (in_use c.args.order (at c.args.pages.now.pages) least c.args.height c.args.n es us tree) apart head son
     (subst (λ (r : Grown). Grew c.args.order (at c.args.pages.now.pages) (overlay (at c.args.pages.now.pages) c.grow_below.new.edit.writes.items) (candidate c.args.pages.now.pages) c.args.edit.now.taken c.grow_below.new.edit.taken c.args.order (c.args.height - 1) (get_or c.in_ok-node.node.sons.items c.in-Err.i 0) son.xs son.mine c.args.element.0 c.args.element.1 r) c.in-Split.is grew)
     loose (omega (arith, size, head.least_is)) refl c.insert-in-Split.ensures.items sons_is
     (subst (λ (ps : List (Option (List ℕ))). Settles c.args.order (candidate ps c.grow_below.new.edit.taken) c.grow_below.new.edit.writes.items c.settle-in-Split.new.edit.writes.items c.grow_below.new.edit.taken c.settle-in-Split.new.edit.taken c.args.n m c.in_ok-settle-in-Split.field-0)
@@ -186,6 +186,7 @@ returns-in_default g t c = record {
   freed = c.in_ok-done-in-Err.ensures.freed;
   met = c.in_ok-done-in-Err.ensures.met;
   in_use = c.in_ok-node.ensures.in_use;
+  some_page = c.in_ok-node.ensures.some_page;
   device = search rules;
   unchanged = search rules;
   reads = omega (arith, c.in_ok-done-in-Err.ensures.reads, c.read_node.ensures.one_read);

@@ -6,4 +6,4 @@ use Rattle.btree_insert.proofs.inserting.add_node.Goals as goal
 pub returns-clause-fits : goal.returns-clause-fits
 returns-clause-fits g c =
     took_fits c.args.pages.now.pages c.args.edit.now.writes.items c.write_node.new.edit.writes.items c.args.edit.now.taken (c.write_node.new.edit.taken + 1) c.candidate-number.result (spelling c.args.node.now c.args.order)
-    c.in_ok-write_node.ensures.writes (omega (arith, c.in_ok-write_node.ensures.taken)) c.candidate-number.ensures c.requires.fits
+    c.in_ok-write_node.ensures.writes (omega (arith, c.in_ok-write_node.ensures.taken)) c.candidate-number.ensures.value c.requires.fits

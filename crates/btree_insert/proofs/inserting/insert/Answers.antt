@@ -2,7 +2,9 @@ use Rattle.std.proofs.Common.{◌≡◌, ℕ, Option, List, ap, sym, ◌∙◌, 
 use Rattle.page_store.specs.FreeNumbers.{candidate}
 use Rattle.page_store.specs.PagesView.{PagesView}
 use Rattle.page_store.specs.PageMap.{at, overlay}
+use Rattle.btree_node.specs.Lists.{Element}
 use Rattle.btree_insert.specs.Growth.{WritesFit}
+use Rattle.btree_insert.specs.Inserted.{Inserted}
 use Rattle.btree_insert.proofs.InsertFacts.{inserted_at, can_stage, after_writes}
 use Rattle.btree_insert.proofs.inserting.insert.Goals as goal
 
@@ -17,7 +19,8 @@ pub returns-clause-inserted : goal.returns-clause-inserted
 returns-clause-inserted g c = λ steady es us holds.
     let pages_is = ap (λ (v : PagesView). v.pages) c.in_ok-changed.ensures.unchanged in
     let none = ap (λ v. v.items) c.in_ok-changed.ensures.freed ∙ c.new-2.ensures.items in
-    let done = c.in_ok-changed.ensures.grew steady es us holds in
+    let done = subst (λ (e : Element). Inserted (at c.args.pages.now.pages) (overlay (at c.args.pages.now.pages) c.grow_tree.new.edit.writes.items) (candidate c.args.pages.now.pages) c.grow_tree.new.edit.taken c.args.tree.now c.in_ok-changed.changed.tree es us e.0 e.1 c.in_ok-changed.changed.old)
+    c.element_of.ensures.value (c.in_ok-changed.ensures.grew steady es us holds) in
     let same : (q : ℕ) → overlay (at c.args.pages.now.pages) c.grow_tree.new.edit.writes.items q ≡ at c.stage.new.self.pages q =
     λ q. sym (c.in_ok-stage.ensures.pages q ∙ after_writes (at c.grow_tree.new.pages.pages) c.grow_tree.new.edit.writes.items c.grow_tree.new.edit.freed.items q none ∙ ap (λ (ps : List (Option (List ℕ))). overlay (at ps) c.grow_tree.new.edit.writes.items q) pages_is) in
     (c.grow_tree.new.edit.taken, inserted_at (at c.args.pages.now.pages) (overlay (at c.args.pages.now.pages) c.grow_tree.new.edit.writes.items) (at c.stage.new.self.pages) (candidate c.args.pages.now.pages) c.grow_tree.new.edit.taken c.args.tree.now c.in_ok-changed.changed.tree es us c.args.key c.args.value c.in_ok-changed.changed.old same done)
