@@ -14,6 +14,8 @@ pub mod laws;
 mod measuring;
 mod mending;
 mod opening;
+#[cfg(test)]
+mod set_tests;
 mod setting;
 mod shrinking;
 mod surveying;

@@ -1,5 +1,4 @@
 use Rattle.std.proofs.Common.{arith}
-use Rattle.rec_types.specs.Table.{no_damage}
 use Rattle.btree_delete.proofs.FileFacts.{opened_table, same_records}
 use Rattle.btree_delete.proofs.tables.TreeTable.open_from.Goals as goal
 
@@ -7,8 +6,8 @@ pub invariant_of-result : goal.invariant_of-result
 invariant_of-result g c =
     let sizes = c.in_ok-pages.ensures.small in
     let stored = c.in_ok-pages.ensures.stored in
-    opened_table (g.S.Store.pages c.args.store) (g.S.Store.tail c.args.store) c.args.limits.records (g.S.Store.reads c.args.store) c.in_ok-pages.pages c.in_ok-pages.tree c.records-limit.result 0 no_damage (g.S.Store.steady c.args.store)
-    stored.0 stored.1 stored.2 c.in_ok-pages.ensures.found sizes.0 sizes.1 sizes.2 sizes.3 sizes.4 c.records-limit.ensures.value c.records-limit.ensures.most
+    opened_table (g.S.Store.pages c.args.store) (g.S.Store.tail c.args.store) c.args.limits.records (g.S.Store.reads c.args.store) c.in_ok-pages.pages c.in_ok-pages.tree _ _ _ (g.S.Store.steady c.args.store)
+    stored.0 stored.1 stored.2 c.in_ok-pages.ensures.found sizes.0 sizes.1 sizes.2 sizes.3 sizes.4 (omega (arith, c.records-limit.ensures.value)) (omega (arith, c.records-limit.ensures.most))
 
 pub returns-clause-reopened : goal.returns-clause-reopened
 returns-clause-reopened g c = λ steady tree contents closed few.

@@ -1,0 +1,282 @@
+use crate::{CloseStop, OpenFault, TreeTable};
+use btree_node::decode;
+use page_store::{FlakyStore, MemStore, Store, WriteFault};
+use rec_types::{Key, Limits, Record, SortedTable, Table, TableFault};
+use std::alloc::Global;
+use std::process::Abort;
+use std::test::Fail;
+
+/// A store without pages.
+fn no_pages(alloc: Global) -> MemStore {
+    MemStore::new(Vec::new(alloc), 0)
+}
+
+/// A new table of the order in the store, for so many records.
+fn make<S: Store>(alloc: Global, store: S, order: u16, records: u32) -> Result<TreeTable<S>, Fail> {
+    match TreeTable::create(alloc, store, order, Limits::new(records, 2, 1)?) {
+        Ok(table) => Ok(table),
+        Err(stop) => Err(Fail::from(stop.fault)),
+    }
+}
+
+/// Opens the store's file, of at most so many records, once more where memory was refused.
+fn open<S: Store>(alloc: Global, store: S, records: u32) -> Result<TreeTable<S>, Fail> {
+    let limits = Limits::new(records, 2, 1)?;
+    match TreeTable::open_from(alloc, store, limits) {
+        Ok(table) => Ok(table),
+        Err(stop) if stop.fault == OpenFault::Memory => {
+            match TreeTable::open_from(alloc, stop.store, limits) {
+                Ok(table) => Ok(table),
+                Err(stop) => Err(Fail::from(stop.fault)),
+            }
+        }
+        Err(stop) => Err(Fail::from(stop.fault)),
+    }
+}
+
+/// Closes a table, whose store does not fail.
+fn close<S: Store>(table: TreeTable<S>) -> Result<S, Fail> {
+    match table.close() {
+        Ok(store) => Ok(store),
+        Err(CloseStop { table, .. }) => match table.close() {
+            Ok(store) => Ok(store),
+            Err(stop) => Err(Fail::from(stop.fault)),
+        },
+    }
+}
+
+/// Sets, once more where memory was refused.
+fn set<T: Table>(
+    table: &mut T,
+    key: Key,
+    to: Option<Record>,
+) -> Result<Option<Record>, TableFault> {
+    match table.set(key, to.as_ref().copied()) {
+        Err(TableFault::Memory) => table.set(key, to),
+        answer => answer,
+    }
+}
+
+/// Puts a record that is the key at each small letter, and takes each great letter's small one out.
+fn run<T: Table>(rt: &impl Abort, table: &mut T, steps: &[u8]) -> Result<(), Fail> {
+    for step in steps {
+        let letter = step.to_ascii_lowercase();
+        let record = Record::new(&[letter])?;
+        let taken = step.is_ascii_uppercase();
+        let to = if taken { None } else { Some(record) };
+        let before = set(table, Key::new(&[letter])?, to)?;
+        assert!(rt; before.is_some() == taken);
+    }
+    Ok(())
+}
+
+/// What a page spells: its keys, with the numbers of the sons around each in an inner one. A page that
+/// spells nothing is empty.
+fn push_page(
+    rt: &impl Abort,
+    text: &mut String,
+    page: &[u8; 4096],
+    order: u16,
+) -> Result<(), Fail> {
+    assert!(rt; 1 <= order && order <= 16);
+    let Ok(node) = decode(page, order) else {
+        return Ok(());
+    };
+    for son in node.sons.as_slice().iter().take(1) {
+        assert!(rt; *son <= 9);
+        text.push((b'0' + *son as u8) as char)?;
+    }
+    for (i, (key, record)) in node.elements.as_slice().iter().enumerate() {
+        assert!(rt; key.bytes() == record.bytes());
+        text.push(key.bytes()[0] as char)?;
+        for son in node.sons.as_slice().iter().skip(i + 1).take(1) {
+            assert!(rt; *son <= 9);
+            text.push((b'0' + *son as u8) as char)?;
+        }
+    }
+    Ok(())
+}
+
+/// Looks at the file of a new table after these steps: its root and its count, and what each page
+/// spells.
+fn check_steps(
+    rt: &impl Abort,
+    alloc: Global,
+    order: u16,
+    steps: &[u8],
+    root: u8,
+    count: u8,
+    pages: &str,
+) -> Result<(), Fail> {
+    let mut table = make(alloc, no_pages(alloc), order, 26)?;
+    run(rt, &mut table, steps)?;
+    let store = close(table)?;
+    let stored = store.pages();
+    assert!(rt; !stored.is_empty());
+    assert!(rt; stored[0][19] == root && stored[0][23] == count);
+    let mut text = String::new(alloc);
+    for page in &stored[1..] {
+        push_page(rt, &mut text, page, order)?;
+        text.push(' ')?;
+    }
+    assert_eq!(rt; text.as_str(), pages);
+    open(alloc, store, 26)?;
+    Ok(())
+}
+
+#[test]
+fn pages_are_split(rt: HostRuntime) -> Result<(), Fail> {
+    check_steps(&rt, rt.alloc(), 1, b"ab", 1, 2, "ab ")?;
+    check_steps(&rt, rt.alloc(), 1, b"abc", 3, 3, "a c 1b2 ")?;
+    check_steps(&rt, rt.alloc(), 1, b"abcCBA", 0, 0, "   ")?;
+    check_steps(&rt, rt.alloc(), 2, b"abcdefg", 3, 7, "ab defg 1c2 ")
+}
+
+#[test]
+fn pages_are_levelled_and_catenated(rt: HostRuntime) -> Result<(), Fail> {
+    check_steps(&rt, rt.alloc(), 2, b"abcdefgA", 3, 6, "bc efg 1d2 ")?;
+    check_steps(&rt, rt.alloc(), 2, b"abcdefgAC", 3, 5, "bd fg 1e2 ")?;
+    check_steps(&rt, rt.alloc(), 2, b"abcdefgACB", 1, 4, "defg   ")?;
+    check_steps(&rt, rt.alloc(), 2, b"abcdefgACBbcaGFEDCBA", 0, 0, "   ")
+}
+
+#[test]
+fn the_next_key_stands_for_one_of_the_root(rt: HostRuntime) -> Result<(), Fail> {
+    check_steps(&rt, rt.alloc(), 2, b"abcde", 3, 5, "ab de 1c2 ")?;
+    check_steps(&rt, rt.alloc(), 2, b"abcdeC", 1, 4, "abde   ")
+}
+
+/// A page of order 1 with one key and its record, and these sons.
+fn page_of(kind: u8, key: u8, record: u8, left: u8, right: u8) -> [u8; 4096] {
+    let mut page = [0; 4096];
+    page[0] = kind;
+    page[3] = 1;
+    page[8] = 1;
+    page[9] = key;
+    page[25] = 1;
+    page[26] = record;
+    page[111] = left;
+    page[115] = right;
+    page
+}
+
+/// The header page of the file of order 1 with the records x, y and z at the keys a, b and c.
+fn header_of_three() -> [u8; 4096] {
+    let mut page = [0; 4096];
+    page[..25].copy_from_slice(
+        b"BMKRFILE\x00\x01\x00\x01\x00\x00\x00\x04\x00\x00\x00\x03\x00\x00\x00\x03\x01",
+    );
+    page
+}
+
+#[test]
+fn the_file_of_three_records(rt: HostRuntime) -> Result<(), Fail> {
+    let mut table = make(rt.alloc(), no_pages(rt.alloc()), 1, 3)?;
+    for (key, record) in [(b"a", b"x"), (b"b", b"y"), (b"c", b"z")] {
+        set(&mut table, Key::new(key)?, Some(Record::new(record)?))?;
+    }
+    let store = close(table)?;
+    let pages = [
+        header_of_three(),
+        page_of(1, b'a', b'x', 0, 0),
+        page_of(1, b'c', b'z', 0, 0),
+        page_of(2, b'b', b'y', 1, 2),
+    ];
+    assert!(rt; store.pages() == pages.as_slice());
+    let mut table = open(rt.alloc(), store, 3)?;
+    assert!(rt; table.get(&Key::new(b"c")?)? == Some(Record::new(b"z")?));
+    let answer = set(&mut table, Key::new(b"d")?, Some(Record::new(b"w")?));
+    assert!(rt; answer == Err(TableFault::NoRoom));
+    assert!(rt; close(table)?.pages() == pages.as_slice());
+    Ok(())
+}
+
+/// Looks that a table of one record whose close fails at the call of that number has it still, and that
+/// a second close leaves a file that has it.
+fn check_close(rt: &impl Abort, alloc: Global, call: u64) -> Result<(), Fail> {
+    let mut writes = Vec::new(alloc);
+    if writes.push(call).is_err() {
+        writes.push(call)?;
+    }
+    let store = FlakyStore::new(no_pages(alloc), Vec::new(alloc), writes);
+    let mut table = make(alloc, store, 1, 9)?;
+    run(rt, &mut table, b"a")?;
+    let Err(CloseStop { table, fault }) = table.close() else {
+        panic!(rt; "a call that failed was not told");
+    };
+    assert!(rt; fault == WriteFault::Device && table.count() == 1);
+    let mut table = open(alloc, close(table)?, 9)?;
+    assert!(rt; table.get(&Key::new(b"a")?)? == Some(Record::new(b"a")?));
+    Ok(())
+}
+
+#[test]
+fn a_table_with_a_record_is_closed_again(rt: HostRuntime) -> Result<(), Fail> {
+    for call in 1..8u64 {
+        check_close(&rt, rt.alloc(), call)?;
+    }
+    Ok(())
+}
+
+/// The key number i of a shuffle of 41.
+fn key_of(i: u32, factor: u32) -> [u8; 1] {
+    [33 + (u64::from(i) * u64::from(factor) % 41) as u8]
+}
+
+/// One change in the table and in a sorted one. The table's file is opened again after it, which looks
+/// at every page, and then has the records of the sorted one.
+fn change_both(
+    rt: &impl Abort,
+    alloc: Global,
+    table: TreeTable<MemStore>,
+    sorted: &mut SortedTable,
+    key: &[u8],
+    to: Option<Record>,
+) -> Result<TreeTable<MemStore>, Fail> {
+    let mut table = table;
+    let before = set(&mut table, Key::new(key)?, to.as_ref().copied())?;
+    let expected = set(sorted, Key::new(key)?, to)?;
+    assert!(rt; before == expected);
+    let mut table = open(alloc, close(table)?, 41)?;
+    assert!(rt; table.count() == sorted.count());
+    assert!(rt; table.entries()? == sorted.entries()?);
+    Ok(table)
+}
+
+/// All keys are put in one shuffled order and taken out in another.
+fn check_shuffled(rt: &impl Abort, alloc: Global, order: u16) -> Result<(), Fail> {
+    let mut table = make(alloc, no_pages(alloc), order, 41)?;
+    let mut sorted = SortedTable::new(alloc, Limits::new(41, 2, 1)?);
+    for i in 0..41u32 {
+        let key = key_of(i, 16);
+        table = change_both(
+            rt,
+            alloc,
+            table,
+            &mut sorted,
+            &key,
+            Some(Record::new(&key)?),
+        )?;
+    }
+    for i in 0..41u32 {
+        table = change_both(rt, alloc, table, &mut sorted, &key_of(i, 26), None)?;
+    }
+    assert!(rt; table.count() == 0 && table.height() == 0);
+    Ok(())
+}
+
+#[test]
+fn all_keys_go_in_and_out_at_order_1(rt: HostRuntime) -> Result<(), Fail> {
+    check_shuffled(&rt, rt.alloc(), 1)
+}
+
+#[test]
+fn all_keys_go_in_and_out_at_orders_2_and_3(rt: HostRuntime) -> Result<(), Fail> {
+    check_shuffled(&rt, rt.alloc(), 2)?;
+    check_shuffled(&rt, rt.alloc(), 3)
+}
+
+#[test]
+fn all_keys_go_in_and_out_at_order_16(rt: HostRuntime) -> Result<(), Fail> {
+    check_shuffled(&rt, rt.alloc(), 16)
+}
