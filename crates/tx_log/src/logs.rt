@@ -127,7 +127,7 @@ impl TxLog {
     /// How many owned keys have no record now.
     pub fn absent_owned(&self) -> u32
         ensures value { result ≡ maps.len (absent (open_in self.now) (history_in self.now)) }
-        ensures kept { IsLog self.now }
+        ensures log { IsLog self.now }
     {
         self.gone
     }

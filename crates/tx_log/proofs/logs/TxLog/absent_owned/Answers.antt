@@ -16,5 +16,5 @@ returns-clause-value c =
     ∙ ap (λ (o : ℕ → Bool). maps.len (absent o (history_of cs))) (sym (opens_is cs l.txs.items))
     ∙ ap (λ (s : LogState). maps.len (absent (open_in s) (history_in s))) c.self.view_is
 
-pub returns-clause-kept : goal.returns-clause-kept
-returns-clause-kept c = kept_now c.self.inside c.self.invariant _ c.self.view_is
+pub returns-clause-log : goal.returns-clause-log
+returns-clause-log c = kept_now c.self.inside c.self.invariant _ c.self.view_is
