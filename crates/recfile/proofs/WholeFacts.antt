@@ -1,5 +1,5 @@
 -- Each rollback that ends its transaction goes back to the beginning, from call to call.
-use Rattle.std.proofs.Common.{◌≡◌, ℕ, ◌+◌, zero, Bool, true, false, cond, if◌then◌else◌, List, [], ◌∷◌, Option, Some, None, Result, Ok, Err, MatchResult, inl, inr, refl, sym, ap, subst}
+use Rattle.std.proofs.Common.{◌≡◌, ℕ, ◌+◌, zero, Bool, true, false, cond, if◌then◌else◌, List, [], ◌∷◌, Option, Some, None, Result, Ok, Err, MatchResult, inl, inr, refl, sym, ap, subst, ◌∙◌}
 use Rattle.std.specs.FinMap as maps
 use Rattle.std.specs.FinMap.{get, get-empty}
 use Rattle.std.specs.Ordering.{nat_cmp}
@@ -114,3 +114,20 @@ pub whole_script : (answer : Result ℕ ScriptFault) (left leaves held holds : O
 whole_script (Ok done) left leaves held holds old new finished whole = whole_session old new (entries_of finished.0) finished.1 finished.3 whole
 whole_script (Err fault) left leaves held holds old new (inl unread) whole = same_seen old new unread.1 whole
 whole_script (Err fault) left leaves held holds old new (inr stopped) whole = whole_session old new stopped.2.served.front _ stopped.2.served.ran whole
+
+-- a table stays sound
+sound_run : (old new : Seen) (events : List Event) → Run old events new → new.sound ≡ old.sound
+sound_run old new [] ran = ap (λ (s : Seen). s.sound) ran
+sound_run old new (e ∷ es) ran = sound_run ran.0 new es ran.2 ∙ ran.1.sound
+
+sound_session : (old new : Seen) (entries : List (Read Command)) (replies : List Reply) → Session old entries replies new → new.sound ≡ old.sound
+sound_session old new [] [] ran = ap (λ (s : Seen). s.sound) ran
+sound_session old new [] (answer ∷ replies) ran = absurd ran
+sound_session old new (entry ∷ entries) [] ran = absurd ran
+sound_session old new (entry ∷ entries) (answer ∷ replies) ran = sound_session ran.0 new entries replies ran.2 ∙ sound_run old ran.0 ran.1.events ran.1.ran
+
+-- so it is over a script
+pub sound_script : (answer : Result ℕ ScriptFault) (left leaves held holds : Option (List ℕ)) (old new : Seen) → MatchResult answer (Finished left leaves held holds old new) (Faulted left leaves held holds old new) → new.sound ≡ old.sound
+sound_script (Ok done) left leaves held holds old new finished = sound_session old new (entries_of finished.0) finished.1 finished.3
+sound_script (Err fault) left leaves held holds old new (inl unread) = ap (λ (s : Seen). s.sound) unread.1
+sound_script (Err fault) left leaves held holds old new (inr stopped) = sound_session old new stopped.2.served.front _ stopped.2.served.ran

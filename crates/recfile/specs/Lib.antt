@@ -1,4 +1,5 @@
 pub mod Whole
+pub mod WholeSession
 pub mod Run
 pub mod Ending
 pub mod Examples

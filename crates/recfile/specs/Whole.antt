@@ -2,7 +2,7 @@
 use Rattle.std.specs.Prelude.{◌≡◌, ℕ, ◌≤◌, true, List, [], length, Option}
 use Rattle.std.specs.FinMap as maps
 use Rattle.std.specs.Io.KnownBytes.{Consumes, IsAtEnd}
-use Rattle.rec_types.specs.LimitBounds.{most_records, most_log_records, most_begins}
+use Rattle.rec_types.specs.LimitBounds.{Bounds}
 use Rattle.rec_types.specs.Table.{no_damage}
 use Rattle.record_file.specs.Abstract.{new_file}
 use Rattle.record_file.specs.Runs.{Seen}
@@ -19,10 +19,10 @@ IsTooLong left leaves = (taken : List ℕ) × Consumes left leaves taken × (len
 abbrev pub TakesAtMost : Option (List ℕ) → Option (List ℕ) → ℕ → Type 0
 TakesAtMost left leaves most = (taken : List ℕ) × Consumes left leaves taken × (length taken ≤ most)
 
--- an empty file in memory, with the greatest limits, in which nothing was begun
-abbrev pub greatest_file : Seen
-greatest_file = record {
-  file = new_file maps.empty (record { records = most_records; log_records = most_log_records; begins = most_begins });
+-- an empty file in memory, with these limits, in which nothing was begun
+abbrev pub empty_file : Bounds → Seen
+empty_file limits = record {
+  file = new_file maps.empty limits;
   log = [];
   records = maps.empty;
   sound = true;

@@ -1,0 +1,50 @@
+-- A script over a file, and the end of what it leaves open.
+use Rattle.std.specs.Prelude.{◌≡◌, ℕ, Bool, true, List, [], Option, Result, MatchResult, OnOk, IsTrue, if◌then◌else◌}
+use Rattle.std.specs.Result.{is_err}
+use Rattle.rec_types.specs.Contents.{Contents}
+use Rattle.rec_types.specs.History.{replay}
+use Rattle.rec_types.specs.LimitBounds.{Bounds}
+use Rattle.rec_types.specs.Table.{no_damage}
+use Rattle.record_file.specs.Abstract.{new_file, open_of}
+use Rattle.record_file.specs.Runs.{Seen}
+use Rattle.recfile.specs.Ending.{AbortsWhole, Asks, EndsAll, StopsEnding, end_cause, rest_of}
+use Rattle.recfile.specs.Run.{Finished, Faulted}
+use Rattle.recfile.specs.declared.endings.EndFault.{EndFault}
+use Rattle.recfile.specs.declared.scripts.ScriptFault.{ScriptFault}
+
+-- The script leads from a file to mid, with its answer; then every open transaction is ended, or one
+-- was stopped. Where all are, the records are what the changes of the others leave.
+pub record IsSession (left leaves held holds : Option (List ℕ)) (old mid : Seen)
+    (answer : Result ℕ ScriptFault) (ended : Result ℕ EndFault) (new : Seen) : Type 0 where
+  pub script : MatchResult answer (Finished left leaves held holds old mid)
+      (Faulted left leaves held holds old mid)
+  pub ending : MatchResult ended (λ count. EndsAll mid.file count new.file)
+      (λ fault. StopsEnding mid.file fault new.file)
+  pub asks : Asks mid (end_cause ended) new
+  pub records : IsTrue mid.sound → AbortsWhole mid.file.txs → OnOk ended
+      (new.records ≡ replay mid.file.opening (rest_of (open_of mid.file) mid.file.history))
+
+-- a page file with these records, over a steady store that failed so often; nothing was begun
+abbrev pub opened_file : Contents → Bounds → ℕ → Seen
+opened_file contents limits failures = record {
+  file = new_file contents limits;
+  log = [];
+  records = contents;
+  sound = true;
+  failures = failures;
+  refusals = 0;
+  damages = no_damage;
+}
+
+-- A session that began with a file of sound records. Where a transaction couldn't be ended the status is 4; else the
+-- file closes, by what that means, with the records that are left, and a status of 3 where the script had a fault.
+pub record EndsFile (left leaves held holds : Option (List ℕ)) (old : Seen)
+    (Closes : Contents → ℕ → Type 0) (status : ℕ) : Type 0 where
+  pub answer : Result ℕ ScriptFault
+  pub ended : Result ℕ EndFault
+  pub mid : Seen
+  pub new : Seen
+  pub session : IsSession left leaves held holds old mid answer ended new
+  pub whole : AbortsWhole mid.file.txs
+  pub sound : IsTrue mid.sound
+  pub ending : MatchResult ended (λ _. Closes new.records (if is_err answer then 3 else 0)) (λ _. status ≡ 4)

@@ -1,0 +1,69 @@
+use btree_delete::{CreateFault, OpenFault};
+use page_store::WriteFault;
+use thiserror::Error;
+
+/// Why a page file was not made, opened or closed, by its name.
+#[derive(Clone, Copy, Debug, PartialEq, Eq, Error)]
+pub enum FileFault {
+    #[error("Device")]
+    Device,
+    #[error("NotEmpty")]
+    NotEmpty,
+    #[error("BadLength")]
+    BadLength,
+    #[error("BadMagic")]
+    BadMagic,
+    #[error("BadVersion {0}")]
+    BadVersion(u16),
+    #[error("BadOrder")]
+    BadOrder,
+    #[error("NotClean")]
+    NotClean,
+    #[error("BadHeader")]
+    BadHeader,
+    #[error("Damaged {0}")]
+    Damaged(u32),
+    #[error("WrongCount")]
+    WrongCount,
+    #[error("TooManyRecords")]
+    TooManyRecords,
+    #[error("Memory")]
+    Memory,
+}
+
+impl From<CreateFault> for FileFault {
+    fn from(fault: CreateFault) -> FileFault {
+        match fault {
+            CreateFault::BadOrder => FileFault::BadOrder,
+            CreateFault::Device => FileFault::Device,
+            CreateFault::NotEmpty => FileFault::NotEmpty,
+        }
+    }
+}
+
+impl From<OpenFault> for FileFault {
+    fn from(fault: OpenFault) -> FileFault {
+        match fault {
+            OpenFault::Device => FileFault::Device,
+            OpenFault::BadLength => FileFault::BadLength,
+            OpenFault::BadMagic => FileFault::BadMagic,
+            OpenFault::BadVersion(version) => FileFault::BadVersion(version),
+            OpenFault::BadOrder => FileFault::BadOrder,
+            OpenFault::NotClean => FileFault::NotClean,
+            OpenFault::BadHeader => FileFault::BadHeader,
+            OpenFault::Damaged(page) => FileFault::Damaged(page),
+            OpenFault::WrongCount => FileFault::WrongCount,
+            OpenFault::TooManyRecords => FileFault::TooManyRecords,
+            OpenFault::Memory => FileFault::Memory,
+        }
+    }
+}
+
+impl From<WriteFault> for FileFault {
+    fn from(fault: WriteFault) -> FileFault {
+        match fault {
+            WriteFault::Device => FileFault::Device,
+            WriteFault::Memory => FileFault::Memory,
+        }
+    }
+}

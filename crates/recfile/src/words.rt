@@ -1,0 +1,171 @@
+use crate::limits::greatest_limits;
+use clap::{Arg, ArgAction, ArgMatches, Command, Error, value_parser};
+use rec_types::{LimitFault, Limits, MOST_BEGINS, MOST_LOG_RECORDS, MOST_RECORDS};
+use std::alloc::{AllocError, Global};
+
+/// Why the words ask for nothing: a fault of the words, or help that was asked for, each with its text; or a limit that
+/// no file has.
+#[derive(Debug, Drop)]
+pub enum UsageFault {
+    Words(Error),
+    Limits(LimitFault),
+}
+
+impl From<Error> for UsageFault {
+    fn from(error: Error) -> UsageFault {
+        UsageFault::Words(error)
+    }
+}
+
+impl From<AllocError> for UsageFault {
+    fn from(error: AllocError) -> UsageFault {
+        UsageFault::Words(error.into())
+    }
+}
+
+impl From<LimitFault> for UsageFault {
+    fn from(fault: LimitFault) -> UsageFault {
+        UsageFault::Limits(fault)
+    }
+}
+
+/// What the program is asked to do.
+#[derive(Clone, Copy)]
+pub enum Task<'a> {
+    /// To make a page file with an empty tree.
+    Create { order: u16, path: &'a str },
+    /// To run a script over a page file.
+    Run { limits: Limits, path: &'a str },
+    /// To open a page file, and tell of its tree.
+    Check { path: &'a str },
+    /// To run a script over an empty file in memory.
+    Memory { limits: Limits },
+}
+
+fn order_option<'a>(alloc: Global) -> Arg<'a> {
+    Arg::new(alloc, "order")
+        .long("order")
+        .value_name("K")
+        .help("Keys in half a page, 1 to 16: a page has at most 2K")
+        .required(true)
+        .action(ArgAction::Set)
+        .value_parser(value_parser!(u16).range(1..=16))
+}
+
+fn file_word<'a>(alloc: Global, help: &'a str) -> Arg<'a> {
+    Arg::new(alloc, "FILE").help(help).required(true)
+}
+
+fn records_option<'a>(alloc: Global) -> Arg<'a> {
+    Arg::new(alloc, "records")
+        .long("records")
+        .value_name("N")
+        .help("Records that the file may have, 1 to 1000000")
+        .default_value("1000000")
+        .action(ArgAction::Set)
+        .value_parser(value_parser!(u32).range(1..=1000000))
+}
+
+fn log_option<'a>(alloc: Global) -> Arg<'a> {
+    Arg::new(alloc, "log")
+        .long("log")
+        .value_name("N")
+        .help("Log records that the session may need, 2 to 4000000")
+        .default_value("4000000")
+        .action(ArgAction::Set)
+        .value_parser(value_parser!(u32).range(2..=4000000))
+}
+
+fn begins_option<'a>(alloc: Global) -> Arg<'a> {
+    Arg::new(alloc, "begins")
+        .long("begins")
+        .value_name("N")
+        .help("Transactions that the session may begin, 1 to 1000000")
+        .default_value("1000000")
+        .action(ArgAction::Set)
+        .value_parser(value_parser!(u32).range(1..=1000000))
+}
+
+fn with_limits<'a>(alloc: Global, command: Command<'a>) -> Result<Command<'a>, AllocError> {
+    command
+        .arg(records_option(alloc))?
+        .arg(log_option(alloc))?
+        .arg(begins_option(alloc))
+}
+
+fn create_command<'a>(alloc: Global) -> Result<Command<'a>, AllocError> {
+    Command::new(alloc, "create")
+        .about("Makes a page file with no records")
+        .arg(order_option(alloc))?
+        .arg(file_word(
+            alloc,
+            "The path of the new file; a file that is there is left alone",
+        ))
+}
+
+fn run_command<'a>(alloc: Global) -> Result<Command<'a>, AllocError> {
+    let run = Command::new(alloc, "run").about(
+        "Runs the script of standard input over a page file, and writes its replies",
+    );
+    with_limits(alloc, run)?.arg(file_word(alloc, "The path of the page file"))
+}
+
+fn check_command<'a>(alloc: Global) -> Result<Command<'a>, AllocError> {
+    Command::new(alloc, "check")
+        .about("Checks a whole page file, and tells of its tree")
+        .arg(file_word(alloc, "The path of the page file"))
+}
+
+fn memory_command<'a>(alloc: Global) -> Result<Command<'a>, AllocError> {
+    let memory = Command::new(alloc, "memory").about(
+        "Runs the script of standard input over an empty file in memory",
+    );
+    with_limits(alloc, memory)
+}
+
+fn program<'a>(alloc: Global) -> Result<Command<'a>, AllocError> {
+    Command::new(alloc, "recfile")
+        .bin_name("recfile")?
+        .about("A keyed record file under transactions; with no words, the same as memory")
+        .subcommand(create_command(alloc)?)?
+        .subcommand(run_command(alloc)?)?
+        .subcommand(check_command(alloc)?)?
+        .subcommand(memory_command(alloc)?)
+}
+
+// The limits that were asked for; those that were not are the greatest.
+fn limits_of(found: &ArgMatches<'_>) -> Result<Limits, LimitFault> {
+    Limits::new(
+        found.get_one::<u32>("records").unwrap_or(MOST_RECORDS),
+        found.get_one::<u32>("log").unwrap_or(MOST_LOG_RECORDS),
+        found.get_one::<u32>("begins").unwrap_or(MOST_BEGINS),
+    )
+}
+
+fn path_of<'a>(found: &ArgMatches<'a>) -> &'a str {
+    found.get_str("FILE").unwrap_or("")
+}
+
+/// What the words ask for; the first is the program's name.
+pub fn read_words<'a>(alloc: Global, words: &'a [&'a str]) -> Result<Task<'a>, UsageFault> {
+    let matches = program(alloc)?.try_get_matches_from(words)?;
+    match matches.subcommand() {
+        Some(("create", found)) => Ok(Task::Create {
+            order: found.get_one::<u16>("order").unwrap_or(0),
+            path: path_of(found),
+        }),
+        Some(("run", found)) => Ok(Task::Run {
+            limits: limits_of(found)?,
+            path: path_of(found),
+        }),
+        Some(("check", found)) => Ok(Task::Check {
+            path: path_of(found),
+        }),
+        Some((_, found)) => Ok(Task::Memory {
+            limits: limits_of(found)?,
+        }),
+        None => Ok(Task::Memory {
+            limits: greatest_limits(),
+        }),
+    }
+}

@@ -1,0 +1,316 @@
+use crate::running::{flaky_file, greatest, run};
+use rec_types::{Limits, SortedTable, TxId};
+use recfile::laws::{aborts_are_whole, endings_by_example};
+use recfile::{EndFault, ScriptFault, end_all, exit_status, run_memory, run_script};
+use record_file::{Cause, RecordFile};
+use std::alloc::Global;
+use std::io;
+use std::io::{Read, Write};
+use std::process::Abort;
+use std::test::Fail;
+
+fn empty_file(alloc: Global, limits: Limits) -> RecordFile<SortedTable> {
+    RecordFile::new(alloc, SortedTable::new(alloc, limits), limits)
+}
+
+/// A writer that refuses every write after so many.
+#[derive(Drop)]
+struct Closing {
+    writes: u32,
+}
+
+impl Write for Closing {
+    fn write(&mut self, bytes: &[u8]) -> io::Result<usize> {
+        if self.writes == 0 {
+            return Err(io::Error::from(io::ErrorKind::BrokenPipe));
+        }
+        self.writes -= 1;
+        Ok(bytes.len())
+    }
+
+    fn flush(&mut self) -> io::Result<()> {
+        Ok(())
+    }
+}
+
+/// A reader of line ends that fails after so many reads.
+#[derive(Drop)]
+struct Failing {
+    reads: u32,
+}
+
+impl Read for Failing {
+    fn read(&mut self, bytes: &mut [u8]) -> io::Result<usize> {
+        if self.reads == 0 || bytes.is_empty() {
+            return Err(io::Error::from(io::ErrorKind::BrokenPipe));
+        }
+        self.reads -= 1;
+        bytes[0] = b'\n';
+        Ok(1)
+    }
+}
+
+#[test]
+fn statuses_of_the_program(rt: HostRuntime) {
+    for (end_stopped, file_fault, script_fault, status) in [
+        (false, false, false, 0),
+        (false, false, true, 3),
+        (false, true, false, 1),
+        (false, true, true, 1),
+        (true, false, false, 4),
+        (true, false, true, 4),
+        (true, true, false, 4),
+        (true, true, true, 4),
+    ] {
+        assert_eq!(rt; exit_status(end_stopped, file_fault, script_fault), status);
+    }
+}
+
+#[test]
+fn readers_and_writers_fail_at_any_call(rt: HostRuntime) -> Result<(), Fail> {
+    let alloc = rt.alloc();
+    for calls in 0..3 {
+        let mut file = empty_file(alloc, greatest()?);
+        let mut out = Vec::new(alloc);
+        let mut reader = Failing { reads: calls };
+        assert_eq!(rt;
+            run_script(alloc, &mut reader, &mut out, &mut file),
+            Err(ScriptFault::ReadFault)
+        );
+        assert_eq!(rt; out.len(), 0);
+        let mut reader = b"begin\nbegin\nbegin\nbegin\n".as_slice();
+        let mut writer = Closing { writes: calls };
+        let done = calls + 1;
+        assert_eq!(rt;
+            run_script(alloc, &mut reader, &mut writer, &mut file),
+            Err(ScriptFault::WriteFault { done })
+        );
+        assert_eq!(rt; file.begun(), done);
+    }
+    Ok(())
+}
+
+/// A script of these bytes and so many `#`.
+fn long_script(alloc: Global, first: &[u8], more: usize) -> Result<Vec<u8>, Fail> {
+    let mut script = Vec::from_slice(alloc, first)?;
+    for _ in 0..more {
+        script.push(b'#')?;
+    }
+    Ok(script)
+}
+
+#[test]
+fn scripts_that_are_not_run_to_their_end(rt: HostRuntime) -> Result<(), Fail> {
+    let alloc = rt.alloc();
+    let mut out = Vec::new(alloc);
+    let mut file = empty_file(alloc, greatest()?);
+    let comment = long_script(alloc, b"#", 1_048_575)?;
+    let mut reader = comment.as_slice();
+    assert_eq!(rt; run_script(alloc, &mut reader, &mut out, &mut file), Ok(0));
+    let longer = long_script(alloc, b"begin\n", 1_048_571)?;
+    let mut reader = longer.as_slice();
+    assert_eq!(rt;
+        run_script(alloc, &mut reader, &mut out, &mut file),
+        Err(ScriptFault::ScriptTooLong)
+    );
+    assert_eq!(rt; (out.len(), file.begun()), (0, 0));
+    let mut reader = b"begin\n".as_slice();
+    assert_eq!(rt;
+        run_script(alloc, &mut reader, &mut Closing { writes: 0 }, &mut file),
+        Err(ScriptFault::WriteFault { done: 1 })
+    );
+    assert_eq!(rt; file.begun(), 1);
+    Ok(())
+}
+
+/// Expects this status of the program's session, and what it writes to standard error.
+fn expect_session<R: Read, W: Write>(
+    rt: &impl Abort,
+    alloc: Global,
+    reader: &mut R,
+    out: &mut W,
+    fault: &str,
+    status: u8,
+) -> Result<(), Fail> {
+    let mut err = Vec::new(alloc);
+    assert_eq!(rt;
+        run_memory(alloc, greatest()?, reader, out, &mut err),
+        status
+    );
+    let text = String::from_utf8(err)?;
+    assert_eq!(rt; text.as_str(), fault);
+    Ok(())
+}
+
+#[test]
+fn a_session_names_its_fault(rt: HostRuntime) -> Result<(), Fail> {
+    let alloc = rt.alloc();
+    let mut out = Vec::new(alloc);
+    expect_session(
+        &rt,
+        alloc,
+        &mut b"begin\nlist\n".as_slice(),
+        &mut out,
+        "",
+        0,
+    )?;
+    let text = String::from_utf8(out)?;
+    assert_eq!(rt; text.as_str(), "ok 1\nok 0\n");
+    let mut out = Vec::new(alloc);
+    let mut open = b"begin\nbegin\nput 1 a =x\nsave 2\nput 2 b =y\n".as_slice();
+    expect_session(&rt, alloc, &mut open, &mut out, "", 0)?;
+    let text = String::from_utf8(out)?;
+    assert_eq!(rt; text.as_str(), "ok 1\nok 2\nok none\nok 1\nok none\n");
+    let mut out = Vec::new(alloc);
+    let mut failing = Failing { reads: 1 };
+    expect_session(
+        &rt,
+        alloc,
+        &mut failing,
+        &mut out,
+        "recfile: ReadFault\n",
+        3,
+    )?;
+    assert_eq!(rt; out.len(), 0);
+    let mut closing = Closing { writes: 1 };
+    let mut reader = b"begin\nbegin\nbegin\n".as_slice();
+    expect_session(
+        &rt,
+        alloc,
+        &mut reader,
+        &mut closing,
+        "recfile: WriteFault 2\n",
+        3,
+    )
+}
+
+/// Runs the script over an empty table whose device fails at these calls of `set`, and ends what is open: what that
+/// answered, and the list and the log then.
+fn end_after(
+    rt: &impl Abort,
+    alloc: Global,
+    numbers: &[u64],
+    script: &str,
+) -> Result<(Result<u32, EndFault>, String), Fail> {
+    let limits = greatest()?;
+    let table = SortedTable::new(alloc, limits);
+    let mut file = flaky_file(rt, alloc, table, limits, numbers)?;
+    let (_, end) = run(alloc, &mut file, script)?;
+    assert!(rt; end.is_ok());
+    let ended = end_all(&mut file);
+    let (text, _) = run(alloc, &mut file, "list\nlog\n")?;
+    Ok((ended, text))
+}
+
+/// Expects so many to be ended, and this list and log then.
+fn expect_ended(
+    rt: &impl Abort,
+    alloc: Global,
+    numbers: &[u64],
+    script: &str,
+    count: u32,
+    after: &str,
+) -> Result<(), Fail> {
+    let (ended, text) = end_after(rt, alloc, numbers, script)?;
+    assert_eq!(rt; ended, Ok(count));
+    assert_eq!(rt; text.as_str(), after);
+    Ok(())
+}
+
+/// Expects the device to stop ending at this transaction with one change left, and this list and log then.
+fn expect_stop(
+    rt: &impl Abort,
+    alloc: Global,
+    numbers: &[u64],
+    script: &str,
+    tx: u32,
+    undone: u32,
+    after: &str,
+) -> Result<(), Fail> {
+    let (ended, text) = end_after(rt, alloc, numbers, script)?;
+    let fault = EndFault::Stopped {
+        tx: TxId(tx),
+        undone,
+        left: 1,
+        cause: Cause::Device,
+    };
+    assert_eq!(rt; ended, Err(fault));
+    assert_eq!(rt; text.as_str(), after);
+    Ok(())
+}
+
+#[test]
+fn open_transactions_are_ended(rt: HostRuntime) -> Result<(), Fail> {
+    for (script, count, after) in [
+        ("", 0, "ok 0\nok 0 0\n"),
+        ("begin\nput 1 a =x\ncommit 1\n", 0, "- a =x\nok 1\nok 1 1\n"),
+        (
+            "begin\nbegin\nbegin\nput 3 m =keep\ncommit 3\nput 1 a =x\nput 2 b =y\n",
+            2,
+            "- m =keep\nok 1\nok 5 5\n",
+        ),
+        (
+            "begin\nbegin\nput 1 a =1\nsave 1\nput 1 a =2\nback 1 1\nput 2 b =3\n",
+            2,
+            "ok 0\nok 6 6\n",
+        ),
+    ] {
+        expect_ended(&rt, rt.alloc(), &[], script, count, after)?;
+    }
+    Ok(())
+}
+
+// Three transactions with one change each; and one whose rollback to a savepoint was stopped.
+#[test]
+fn ending_stops_at_the_first_stop(rt: HostRuntime) -> Result<(), Fail> {
+    let alloc = rt.alloc();
+    let three = "begin\nbegin\nbegin\nput 1 a =1\nput 2 b =2\nput 3 c =3\n";
+    let back = "begin\nput 1 a =1\nsave 1\nput 1 b =2\nback 1 1\n";
+    expect_stop(
+        &rt,
+        alloc,
+        &[5],
+        three,
+        2,
+        0,
+        "- b =2 @2\n- c =3 @3\nok 2\nok 4 6\n",
+    )?;
+    expect_ended(&rt, alloc, &[3], back, 1, "ok 0\nok 4 4\n")?;
+    expect_stop(
+        &rt,
+        alloc,
+        &[3, 4],
+        back,
+        1,
+        0,
+        "- a =1 @1\n- b =2 @1\nok 2\nok 2 4\n",
+    )?;
+    expect_stop(&rt, alloc, &[3, 5], back, 1, 0, "- a =1 @1\nok 1\nok 3 4\n")
+}
+
+// The transaction that was stopped goes on, and the one above it is aborted.
+#[test]
+fn ending_goes_on_after_a_stop(rt: HostRuntime) -> Result<(), Fail> {
+    let alloc = rt.alloc();
+    let limits = greatest()?;
+    let table = SortedTable::new(alloc, limits);
+    let mut file = flaky_file(&rt, alloc, table, limits, &[4, 5])?;
+    let (_, end) = run(
+        alloc,
+        &mut file,
+        "begin\nbegin\nput 1 a =1\nput 1 b =2\nput 2 c =3\n",
+    )?;
+    assert_eq!(rt; end, Ok(5));
+    assert!(rt; end_all(&mut file).is_err());
+    assert!(rt; end_all(&mut file).is_err());
+    assert_eq!(rt; end_all(&mut file), Ok(2));
+    let (text, _) = run(alloc, &mut file, "list\nlog\n")?;
+    assert_eq!(rt; text.as_str(), "ok 0\nok 6 6\n");
+    Ok(())
+}
+
+#[test]
+fn laws_hold(_rt: HostRuntime) {
+    endings_by_example();
+    aborts_are_whole();
+}
