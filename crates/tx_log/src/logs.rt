@@ -7,7 +7,8 @@ ghost use Rattle.tx_log.specs.Transactions.{depth_of, live_in, left_in, fresh, m
 ghost use Rattle.tx_log.specs.Owners.{owner_of, holder_of, keys_owned, absent};
 ghost use Rattle.tx_log.specs.LogState.{new_log, history_in, open_in, tx_in, use_in, phase_in, undo_in, undo_step, places_in, active_with, rolling_to, finished, with_txs, with_update, with_compensation, IsRolling, IsLog};
 
-use crate::opened::{OpenTx, find_open, place_of, recount};
+use crate::opened::{OpenTx, OpenTxs, find_open, place_of, recount, take_out};
+use crate::phases::Rollback;
 use crate::walks::{
     changed_keys, count_changes, find_change, is_taken_out, newest_above, newest_change,
 };
@@ -22,8 +23,7 @@ pub struct TxLog {
     alloc: Global,
     /// Has room for the compensation of each pending change, and for two records more where a key has room.
     records: Vec<LogRecord>,
-    /// In the order of their numbers.
-    txs: Vec<OpenTx>,
+    txs: OpenTxs,
     begun: u32,
     limits: Limits,
     room: Option<Key>,
@@ -58,7 +58,7 @@ impl TxLog {
         TxLog {
             alloc,
             records: Vec::new(alloc),
-            txs: Vec::new(alloc),
+            txs: OpenTxs::new(alloc),
             begun: 0,
             limits,
             room: None,
@@ -102,12 +102,9 @@ impl TxLog {
     pub fn left(&self, tx: TxId) -> u32
         ensures { result ≡ left_in (history_in self.now) tx.0 (tx_in self.now tx.0) }
     {
-        let Some(open_tx) = find_open(&self.txs, tx) else {
-            return 0;
-        };
-        match open_tx.rollback {
+        match find_open(&self.txs, tx) {
+            Some(open_tx) => open_tx.left,
             None => 0,
-            Some(rollback) => count_changes(&self.records, open_tx.last, rollback.to),
         }
     }
 
@@ -116,9 +113,11 @@ impl TxLog {
         ensures { option_map (λ t. t.0) result
             ≡ owner_of (open_in self.now) (history_in self.now) key.now }
     {
-        for open_tx in &self.txs {
+        let count = self.txs.len();
+        for at in 0..count {
+            let (tx, open_tx) = self.txs.get_index(at).unwrap();
             if find_change(&self.records, open_tx.last, key).is_some() {
-                return Some(open_tx.tx);
+                return Some(*tx);
             }
         }
         None
@@ -236,11 +235,13 @@ impl TxLog {
             return Err(BeginFault::BeginsSpent);
         }
         let tx = TxId(self.begun + 1);
-        if self.txs.push(OpenTx::new(tx)).is_err() {
-            return Err(BeginFault::Memory);
+        match self.txs.insert(tx, OpenTx::new()) {
+            Ok(_) => {
+                self.begun = tx.0;
+                Ok(tx)
+            }
+            Err(_) => Err(BeginFault::Memory),
         }
-        self.begun = tx.0;
-        Ok(tx)
     }
 
     /// Makes room for the next change, at this key, and for taking it back. Fault: Memory, which leaves
@@ -310,9 +311,11 @@ impl TxLog {
         ensures kept { IsLog self.old }
     {
         let at = place_of(&self.txs, tx);
+        let to = self.txs[at].save_at(n);
+        let left = count_changes(&self.records, self.txs[at].last, to);
         self.room = None;
         let open_tx = &mut self.txs[at];
-        open_tx.turn_back(n, ends);
+        open_tx.turn_back(n, Rollback { to, ends }, left);
     }
 
     /// Takes back the next change of a rollback under way, and answers the LSN of its compensation. It takes
@@ -346,6 +349,7 @@ impl TxLog {
         let open_tx = &mut self.txs[at];
         open_tx.last = lsn;
         open_tx.live -= 1;
+        open_tx.left -= 1;
         open_tx.removals = fewer;
         open_tx.absent = recount(open_tx.absent, was, will);
         lsn
@@ -361,10 +365,14 @@ impl TxLog {
         ensures kept { IsLog self.old }
     {
         let at = place_of(&self.txs, tx);
+        self.room = None;
         if self.txs[at].is_ending() {
-            self.close(tx);
+            let closed = take_out(&mut self.txs, at);
+            self.pending -= closed.live;
+            self.gone -= closed.absent;
         } else {
-            self.go_forward(tx);
+            let open_tx = &mut self.txs[at];
+            open_tx.rollback = None;
         }
     }
 
@@ -406,31 +414,10 @@ impl TxLog {
         ensures after { self.new ≡ with_txs self.old (maps.remove self.old.txs tx.0) }
         ensures kept { IsLog self.old }
     {
-        self.close(tx);
-    }
-
-    /// Takes the transaction out of the open ones.
-    fn close(&mut self, tx: TxId)
-        requires { IsSome (tx_in self.old tx.0) }
-        ensures after { self.new ≡ with_txs self.old (maps.remove self.old.txs tx.0) }
-        ensures kept { IsLog self.old }
-    {
         let at = place_of(&self.txs, tx);
         self.room = None;
-        let closed = self.txs.remove(at);
+        let closed = take_out(&mut self.txs, at);
         self.pending -= closed.live;
         self.gone -= closed.absent;
-    }
-
-    /// Makes the transaction active. Its savepoints stay.
-    fn go_forward(&mut self, tx: TxId)
-        requires { IsSome (tx_in self.old tx.0) }
-        ensures { self.new ≡ with_txs self.old
-            (maps.insert self.old.txs tx.0 (active_with (places_in self.old tx.0))) }
-    {
-        let at = place_of(&self.txs, tx);
-        self.room = None;
-        let open_tx = &mut self.txs[at];
-        open_tx.rollback = None;
     }
 }
