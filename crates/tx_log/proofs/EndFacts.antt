@@ -90,7 +90,7 @@ closed_state records es fs begun limits room t puts =
 
 -- ---- a new transaction
 
-known_last : (rs : List LogRecord) (n t : ℕ) → n < t → AllKnown n rs → (last_of t rs ≡ 0) × (stack t rs ≡ [])
+pub known_last : (rs : List LogRecord) (n t : ℕ) → n < t → AllKnown n rs → (last_of t rs ≡ 0) × (stack t rs ≡ [])
 known_last [] n t up known = (refl, refl)
 known_last (r ∷ rs) n t up known =
     let rest = known_last rs n t up known.1 in

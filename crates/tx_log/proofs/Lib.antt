@@ -19,4 +19,7 @@ pub mod WalkSteps
 pub mod OpenCount
 pub mod RemainingFacts
 pub mod PlaceOf
-pub mod ScanFacts
+pub mod HoldFacts
+pub mod KeyPlaces
+pub mod HoldSteps
+pub mod HoldCalls

@@ -1,5 +1,5 @@
 -- How a log lies in its fields.
-use Rattle.std.specs.Prelude.{◌≡◌, ℕ, ◌+◌, ◌≤◌, List, length, filter, reverse, Option, IfSome, vec_len}
+use Rattle.std.specs.Prelude.{◌≡◌, ℕ, ◌+◌, ◌≤◌, List, length, filter, reverse, true, Option, IfSome, is_some, vec_len}
 use Rattle.std.specs.Vec.{vec_capacity}
 use Rattle.std.specs.FinMap as maps
 use Rattle.rec_types.specs.History.{is_pending}
@@ -8,6 +8,7 @@ use Rattle.rec_types.specs.LimitBounds.{Bounds, most_log_records, most_begins}
 use Rattle.tx_log.specs.Finds.{Txs, found}
 use Rattle.tx_log.specs.Fits.{AllFit, AllKnown}
 use Rattle.tx_log.specs.Log.{kept_of, IsNumbered, AllWritten}
+use Rattle.tx_log.specs.Holdings.{held, IsHeld, AllBusy}
 use Rattle.tx_log.specs.LogState.{LogState}
 use Rattle.tx_log.specs.Owners.{absent}
 use Rattle.tx_log.specs.OpenTxs.{txs_of, opens}
@@ -45,4 +46,7 @@ pub record IsRoomy (length pending capacity begun : ℕ) (limits : Bounds) (room
 
 pub record IsTxLog (l : Inside) : Type 0 where
   pub log_kept : IsKept (reverse l.records.items) (found l.txs) l.begun l.pending l.gone
+  pub holding : IsHeld (reverse l.records.items) (opens (found l.txs)) (held l.holdings)
+  pub busy_keys : AllBusy (held l.holdings) l.over
+  pub reserved : IfSome l.room (λ k. is_some (held l.holdings k) ≡ true)
   pub roomy : IsRoomy (vec_len l.records) l.pending (vec_capacity l.records) l.begun l.limits l.room

@@ -7,11 +7,10 @@ ghost use Rattle.tx_log.specs.Transactions.{depth_of, live_in, left_in, fresh, m
 ghost use Rattle.tx_log.specs.Owners.{owner_of, holder_of, keys_owned, absent};
 ghost use Rattle.tx_log.specs.LogState.{new_log, history_in, open_in, tx_in, use_in, phase_in, undo_in, undo_step, places_in, active_with, rolling_to, finished, with_txs, with_update, with_compensation, IsRolling, IsLog};
 
+use crate::holdings::{Holdings, find_holder, free_keys, lower, make_room, raise};
 use crate::opened::{OpenTx, OpenTxs, find_open, place_of, recount, take_out};
 use crate::phases::Rollback;
-use crate::walks::{
-    changed_keys, count_changes, find_change, is_taken_out, newest_above, newest_change,
-};
+use crate::walks::{changed_keys, count_changes, is_taken_out, newest_above, newest_change};
 use crate::{BeginFault, LogRecord, Phase, UndoStep};
 use rec_types::{Key, Limits, Memory, Record, TxId};
 use std::alloc::Global;
@@ -24,6 +23,10 @@ pub struct TxLog {
     /// Has room for the compensation of each pending change, and for two records more where a key has room.
     records: Vec<LogRecord>,
     txs: OpenTxs,
+    /// The keys of live changes of open transactions, and the key that has room.
+    holdings: Holdings,
+    /// The key at which no change may be live.
+    over: Option<Key>,
     begun: u32,
     limits: Limits,
     room: Option<Key>,
@@ -59,6 +62,8 @@ impl TxLog {
             alloc,
             records: Vec::new(alloc),
             txs: OpenTxs::new(alloc),
+            holdings: Holdings::new(alloc),
+            over: None,
             begun: 0,
             limits,
             room: None,
@@ -113,14 +118,7 @@ impl TxLog {
         ensures { option_map (λ t. t.0) result
             ≡ owner_of (open_in self.now) (history_in self.now) key.now }
     {
-        let count = self.txs.len();
-        for at in 0..count {
-            let (tx, open_tx) = self.txs.get_index(at).unwrap();
-            if find_change(&self.records, open_tx.last, key).is_some() {
-                return Some(*tx);
-            }
-        }
-        None
+        find_holder(&self.holdings, key)
     }
 
     /// How many owned keys have no record now.
@@ -256,6 +254,10 @@ impl TxLog {
         if self.records.reserve(needed).is_err() {
             return Err(Memory);
         }
+        if make_room(&mut self.holdings, self.over, key).is_err() {
+            return Err(Memory);
+        }
+        self.over = Some(*key);
         self.room = Some(*key);
         Ok(())
     }
@@ -278,8 +280,8 @@ impl TxLog {
         let at = place_of(&self.txs, tx);
         let prev = self.txs[at].last;
         let removals = self.txs[at].removals;
-        let was = is_taken_out(&self.records, prev, &key, removals);
         let will = after.is_none();
+        let was = raise(&mut self.holdings, &key, tx, will);
         let more = recount(removals, false, will);
         let lsn = self.records.len() as u32 + 1;
         let _ = self.records.push(LogRecord::Update {
@@ -334,6 +336,7 @@ impl TxLog {
         let was = change.after.is_none();
         let fewer = recount(removals, was, false);
         let will = is_taken_out(&self.records, change.prev, &change.key, fewer);
+        lower(&mut self.holdings, &change.key, will);
         let lsn = self.records.len() as u32 + 1;
         let _ = self.records.push(LogRecord::Compensation {
             lsn,
@@ -368,6 +371,7 @@ impl TxLog {
         self.room = None;
         if self.txs[at].is_ending() {
             let closed = take_out(&mut self.txs, at);
+            free_keys(&mut self.holdings, &self.records, closed.last);
             self.pending -= closed.live;
             self.gone -= closed.absent;
         } else {
@@ -417,6 +421,7 @@ impl TxLog {
         let at = place_of(&self.txs, tx);
         self.room = None;
         let closed = take_out(&mut self.txs, at);
+        free_keys(&mut self.holdings, &self.records, closed.last);
         self.pending -= closed.live;
         self.gone -= closed.absent;
     }

@@ -1,11 +1,14 @@
-use Rattle.std.proofs.Common.{not, ◌≡◌, ◌∷◌, [], ◌++◌, cond, Option, IfSome, refl, ℕ, ◌+◌, ◌<◌, ◌≤◌, Bool, true, List, Some, None, length, reverse, option_map, is_some, vec_len, sym, ap, subst, ◌∙◌, arith}
-use Rattle.std.specs.List.{find, filter}
+use Rattle.std.proofs.Common.{not, ◌≡◌, ◌∷◌, [], ◌++◌, cond, Option, IfSome, refl, ℕ, ◌+◌, ◌<◌, ◌≤◌, Bool, true, List, Some, None, length, reverse, is_some, vec_len, sym, ap, subst, ◌∙◌, arith}
 use Rattle.std.proofs.lemmas.List.{length-reverse}
 use Rattle.std.specs.Vec.{vec_capacity}
 use Rattle.rec_types.specs.History.{log_len}
 use Rattle.rec_types.specs.declared.transactions.TxId.{TxId}
 use Rattle.rec_types.specs.LimitBounds.{most_log_records}
 use Rattle.tx_log.proofs.LogIndex.{reverse-push}
+use Rattle.tx_log.proofs.HoldCalls.{free_key, accepted_keys}
+use Rattle.tx_log.specs.Holdings.{held, IsHeld}
+use Rattle.tx_log.specs.OpenTxs.{opens}
+use Rattle.tx_log.specs.declared.holdings.Holding.{Holding}
 use Rattle.tx_log.proofs.KeptFacts.{active_rollback, open_of_phase, sized, counted_key, held_of_free, some_of, state_use, state_len, recounted, none_is}
 use Rattle.tx_log.proofs.PlaceOf.{read_at, write_at}
 use Rattle.indexmap.specs.IndexMap.{with_value_at}
@@ -13,10 +16,9 @@ use Rattle.tx_log.proofs.OpenFacts.{found_fits, txs_stay}
 use Rattle.tx_log.proofs.StepFacts.{accepted, chain_of, IsAccepted}
 use Rattle.tx_log.proofs.StateFacts.{accept_state, kept_turned}
 use Rattle.tx_log.specs.Finds.{finding, Puts}
-use Rattle.tx_log.specs.Log.{removes, kept_of, chain}
+use Rattle.tx_log.specs.Log.{kept_of}
 use Rattle.tx_log.specs.LogState.{LogState, phase_in, history_in, open_in, use_in, update_in}
 use Rattle.tx_log.specs.Owners.{holder_of}
-use Rattle.tx_log.specs.Walks.{change_in, is_at, takes_out}
 use Rattle.tx_log.specs.declared.log_records.LogRecord.{LogRecord}
 use Rattle.tx_log.specs.declared.log_records.LogRecord.TheVariants.{Update}
 use Rattle.tx_log.specs.declared.opened.OpenTx.{OpenTx}
@@ -30,13 +32,23 @@ place_of-at-requires c =
     let some = open_of_phase (kept_of (reverse l.records.items)) l.txs.entries t Active (ap (λ (s : LogState). phase_in s t) c.self.view_is ∙ c.requires.active) in
     some
 
-pub is_taken_out-was-requires-clause-within : goal.is_taken_out-was-requires-clause-within
-is_taken_out-was-requires-clause-within c =
+pub raise-was-requires-clause-there : goal.raise-was-requires-clause-there
+raise-was-requires-clause-there c =
     let l = c.self.inside in
     let e = c.index.result.now in
     let found = read_at l.txs c.args.tx.0 c.place_of-at.result e c.place_of-at.ensures.stands c.index.ensures in
-    let size = sized (reverse l.records.items) l.txs.entries l.begun l.pending l.gone c.args.tx.0 e c.self.invariant.log_kept found in
-    subst (λ (n : ℕ). e.last ≤ n) (length-reverse l.records.items ∙ ap length (sym c.deref.ensures.value)) size.last
+    let free = free_key l c.self.invariant c.args.self.now c.self.view_is c.args.tx.0 c.args.key e c.requires.room c.requires.free found in
+    ap is_some free.there
+
+pub raise-was-requires-clause-most : goal.raise-was-requires-clause-most
+raise-was-requires-clause-most c = λ h there.
+    let l = c.self.inside in
+    let e = c.index.result.now in
+    let found = read_at l.txs c.args.tx.0 c.place_of-at.result e c.place_of-at.ensures.stands c.index.ensures in
+    let free = free_key l c.self.invariant c.args.self.now c.self.view_is c.args.tx.0 c.args.key e c.requires.room c.requires.free found in
+    let many : vec_len l.records ≡ length l.records.items = omega (arith, l.records.ok.0) in
+    let few : free.hold.live < 4294967295 = omega (arith, free.few, c.self.invariant.roomy.fits, c.self.invariant.roomy.most_records) in
+    subst (λ (x : Holding). x.live < 4294967295) (some_of free.hold h (sym free.there ∙ there)) few
 
 pub recount-self-inside-requires-clause-some : goal.recount-self-inside-requires-clause-some
 recount-self-inside-requires-clause-some c = λ was.
@@ -44,7 +56,8 @@ recount-self-inside-requires-clause-some c = λ was.
     let e = c.index.result.now in
     let found = read_at l.txs c.args.tx.0 c.place_of-at.result e c.place_of-at.ensures.stands c.index.ensures in
     let size = sized (reverse l.records.items) l.txs.entries l.begun l.pending l.gone c.args.tx.0 e c.self.invariant.log_kept found in
-    let told = c.is_taken_out-was.ensures ∙ ap (λ (log : List LogRecord). takes_out (option_map change_in (find (is_at c.args.key) (chain (reverse log) e.last)))) c.deref.ensures.value in
+    let free = free_key l c.self.invariant c.args.self.now c.self.view_is c.args.tx.0 c.args.key e c.requires.room c.requires.free found in
+    let told = (c.raise-was.ensures free.hold free.there).0 ∙ free.lacks in
     let some = counted_key (reverse l.records.items) l.txs.entries l.begun l.pending l.gone c.args.tx.0 e.last c.args.key e c.self.invariant.log_kept found refl (sym told ∙ was) in
     omega (arith, some, size.absent_part)
 
@@ -73,7 +86,8 @@ recount-open_tx-requires-clause-some c = λ was.
     let n = c.index_mut-open_tx.result.now in
     let found = read_at l.txs c.args.tx.0 c.place_of-at.result e c.place_of-at.ensures.stands c.index.ensures in
     let again = read_at l.txs c.args.tx.0 c.place_of-at.result n c.place_of-at.ensures.stands c.index_mut-open_tx.ensures.value in
-    let told = c.is_taken_out-was.ensures ∙ ap (λ (log : List LogRecord). takes_out (option_map change_in (find (is_at c.args.key) (chain (reverse log) e.last)))) c.deref.ensures.value in
+    let free = free_key l c.self.invariant c.args.self.now c.self.view_is c.args.tx.0 c.args.key e c.requires.room c.requires.free found in
+    let told = (c.raise-was.ensures free.hold free.there).0 ∙ free.lacks in
     let some = counted_key (reverse l.records.items) l.txs.entries l.begun l.pending l.gone c.args.tx.0 e.last c.args.key e c.self.invariant.log_kept found refl (sym told ∙ was) in
     let same : e ≡ n = some_of e n (sym found ∙ again) in
     subst (λ (x : OpenTx). 0 < x.absent) same some
@@ -85,25 +99,6 @@ recount-open_tx-requires-clause-most c =
     let found = read_at l.txs c.args.tx.0 c.place_of-at.result e c.place_of-at.ensures.stands c.index_mut-open_tx.ensures.value in
     let size = sized (reverse l.records.items) l.txs.entries l.begun l.pending l.gone c.args.tx.0 e c.self.invariant.log_kept found in
     omega (arith, size.absent_part, size.gone_keys, c.self.invariant.roomy.fits, c.self.invariant.roomy.most_records)
-
-pub is_taken_out-was-requires-clause-counted : goal.is_taken_out-was-requires-clause-counted
-is_taken_out-was-requires-clause-counted c =
-    let l = c.self.inside in
-    let rs = reverse l.records.items in
-    let t = c.args.tx.0 in
-    let e = c.index.result.now in
-    let f = c.index-2.result.now in
-    let found = read_at l.txs t c.place_of-at.result e c.place_of-at.ensures.stands c.index.ensures in
-    let second = read_at l.txs t c.place_of-at.result f c.place_of-at.ensures.stands c.index-2.ensures in
-    let one : f ≡ e = some_of f e (sym second ∙ found) in
-    let kept = c.self.invariant.log_kept in
-    let fits = found_fits rs l.begun t (finding l.txs.entries) e kept.fit found in
-    let size = sized rs l.txs.entries l.begun l.pending l.gone t e kept found in
-    let there = chain_of rs t e.last kept.numbered kept.written (fits.last) in
-    ap (λ (x : OpenTx). x.removals) one
-    ∙ fits.removals
-    ∙ ap (λ us. length (filter removes us)) (sym there)
-    ∙ ap (λ (log : List LogRecord). length (filter removes (chain (reverse log) e.last))) (sym c.deref.ensures.value)
 
 pub recount-more-requires-clause-most : goal.recount-more-requires-clause-most
 recount-more-requires-clause-most c =
@@ -151,7 +146,8 @@ step_of c =
     let found = read_at l.txs c.args.tx.0 c.place_of-at.result e c.place_of-at.ensures.stands c.index.ensures in
     let again = read_at l.txs c.args.tx.0 c.place_of-at.result n c.place_of-at.ensures.stands c.index_mut-open_tx.ensures.value in
     let same : n ≡ e = some_of n e (sym again ∙ found) in
-    let told = c.is_taken_out-was.ensures ∙ ap (λ (log : List LogRecord). takes_out (option_map change_in (find (is_at c.args.key) (chain (reverse log) e.last)))) c.deref.ensures.value in
+    let free = free_key l c.self.invariant c.args.self.now c.self.view_is c.args.tx.0 c.args.key e c.requires.room c.requires.free found in
+    let told = (c.raise-was.ensures free.hold free.there).0 ∙ free.lacks in
     let was = told in
     let f = c.index-2.result.now in
     let second = read_at l.txs c.args.tx.0 c.place_of-at.result f c.place_of-at.ensures.stands c.index-2.ensures in
@@ -169,10 +165,10 @@ step_of c =
       live_new = ap (λ (x : OpenTx). x.live + 1) same;
       calm = active_rollback (kept_of rs) l.txs.entries c.args.tx.0 e found (ap (λ (s : LogState). phase_in s c.args.tx.0) c.self.view_is ∙ c.requires.active);
       left_same = ap (λ (x : OpenTx). x.left) same;
-      absent_new = recounted c.recount-open_tx.result n.absent e.absent c.is_taken_out-was.result _ c.is_none-will.result _ was will (ap (λ (x : OpenTx). x.absent) same) c.recount-open_tx.ensures;
+      absent_new = recounted c.recount-open_tx.result n.absent e.absent c.raise-was.result _ c.is_none-will.result _ was will (ap (λ (x : OpenTx). x.absent) same) c.recount-open_tx.ensures;
       removals_new = more ∙ ap (λ (b : Bool). f.removals + cond b 1 0) will ∙ ap (λ (x : OpenTx). x.removals + cond (not (is_some c.args.after)) 1 0) once;
       pending_one = refl;
-      gone_one = recounted c.recount-self-inside.result l.gone l.gone c.is_taken_out-was.result _ c.is_none-will.result _ was will refl c.recount-self-inside.ensures;
+      gone_one = recounted c.recount-self-inside.result l.gone l.gone c.raise-was.result _ c.is_none-will.result _ was will refl c.recount-self-inside.ensures;
     }
 
 pub invariant_of-self : goal.invariant_of-self
@@ -190,10 +186,16 @@ invariant_of-self c =
     let room : l.room ≡ Some c.args.key = ap (λ (s : LogState). s.room) c.self.view_is ∙ c.requires.room in
     let spare = subst (λ (o : Option (List ℕ)). IfSome o (λ _. vec_len l.records + l.pending + 2 ≤ vec_capacity l.records)) room roomy.spare in
     let longer : vec_len c.push.new.self ≤ vec_len l.records + 1 = c.push.ensures.upper_bound in
-    let held : vec_capacity l.records ≤ vec_capacity c.push.new.self = c.push.ensures.capacity in
+    let wider : vec_capacity l.records ≤ vec_capacity c.push.new.self = c.push.ensures.capacity in
     let wanted = c.requires.fits in
+    let free = free_key l c.self.invariant c.args.self.now c.self.view_is c.args.tx.0 c.args.key e c.requires.room c.requires.free found in
+    let will = none_is (is_some c.args.after) c.is_none-will.result c.is_none-will.ensures in
+    let keys = accepted_keys l c.self.invariant c.args.tx c.args.key e (new_of c) free (finding (table_of c)) (held c.raise-was.new.holdings) (c.len.result + 1) e.last c.args.before c.args.after c.is_none-will.result found (puts_of c) will (c.raise-was.ensures free.hold free.there).1 in
     record {
       log_kept = kept_turned _ _ _ _ _ _ turned kept;
+      holding = subst (λ (xs : List LogRecord). IsHeld xs (opens (finding (table_of c))) (held c.raise-was.new.holdings)) (sym turned) keys.holding;
+      busy_keys = keys.busy_keys;
+      reserved = tt;
       roomy = record {
         fits = omega (arith, length-reverse l.records.items);
         most_records = roomy.most_records;

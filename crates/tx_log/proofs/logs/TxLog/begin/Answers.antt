@@ -1,6 +1,8 @@
 use Rattle.std.proofs.Common.{◌+◌, None, Some, cond, eqb, reverse, ap, ◌∙◌, arith}
 use Rattle.std.specs.FinMap as maps
-use Rattle.tx_log.proofs.EndFacts.{fresh_entry, begun_kept, begun_state}
+use Rattle.tx_log.proofs.EndFacts.{fresh_entry, known_last, begun_kept, begun_state}
+use Rattle.tx_log.proofs.HoldSteps.{held_more}
+use Rattle.tx_log.specs.Holdings.{held}
 use Rattle.tx_log.proofs.KeptFacts.{kept_now}
 use Rattle.tx_log.specs.Finds.{finding, Puts}
 use Rattle.tx_log.specs.LogState.{LogState}
@@ -18,6 +20,9 @@ invariant_of-self-in-Ok c =
     let roomy = c.self.invariant.roomy in
     record {
       log_kept = begun_kept (reverse l.records.items) (finding l.txs.entries) (finding c.insert.new.self.entries) l.begun l.pending l.gone c.self.invariant.log_kept (puts_of c);
+      holding = held_more (reverse l.records.items) (finding l.txs.entries) (finding c.insert.new.self.entries) (held l.holdings) l.begun fresh_entry c.self.invariant.log_kept.fit (puts_of c) (known_last (reverse l.records.items) l.begun (l.begun + 1) (omega arith) c.self.invariant.log_kept.known).1 c.self.invariant.holding;
+      busy_keys = c.self.invariant.busy_keys;
+      reserved = tt;
       roomy = record {
         fits = roomy.fits;
         most_records = roomy.most_records;

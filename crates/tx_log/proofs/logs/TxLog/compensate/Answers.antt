@@ -5,6 +5,10 @@ use Rattle.std.proofs.lemmas.List.{length-reverse}
 use Rattle.rec_types.specs.History.{log_len}
 use Rattle.rec_types.specs.Kept.{undone}
 use Rattle.rec_types.specs.declared.transactions.TxId.{TxId}
+use Rattle.tx_log.proofs.HoldCalls.{key_of_change, compensated_keys}
+use Rattle.tx_log.specs.Holdings.{held, IsHeld}
+use Rattle.tx_log.specs.OpenTxs.{opens}
+use Rattle.tx_log.specs.declared.holdings.Holding.{Holding}
 use Rattle.tx_log.proofs.KeptFacts.{sized, some_of, state_len, recounted, none_is, counted_change, kept_now}
 use Rattle.tx_log.proofs.LogIndex.{reverse-push, record_of_chain}
 use Rattle.tx_log.proofs.PlaceOf.{read_at, write_at}
@@ -57,6 +61,31 @@ is_taken_out-will-requires-clause-within c =
     let step = walk_step rs e.last change c.self.invariant.log_kept.numbered (ap (λ (log : List LogRecord). newest_in (chain (reverse log) e.last)) (sym c.deref.ensures.value) ∙ sym c.newest_change-newest.ensures ∙ c.unwrap-change.ensures) in
     let low : change.prev ≤ length rs = omega (arith, step.falls, step.within) in
     subst (λ (k : ℕ). change.prev ≤ k) (length-reverse l.records.items ∙ ap length (sym c.deref-2.ensures.value)) low
+
+pub lower-requires-clause-there : goal.lower-requires-clause-there
+lower-requires-clause-there c =
+    let l = c.self.inside in
+    let rs = reverse l.records.items in
+    let e = c.index.result.now in
+    let found = read_at l.txs c.args.tx.0 c.place_of-at.result e c.place_of-at.ensures.stands c.index.ensures in
+    let change = c.unwrap-change.result in
+    let step = walk_step rs e.last change c.self.invariant.log_kept.numbered (ap (λ (log : List LogRecord). newest_in (chain (reverse log) e.last)) (sym c.deref.ensures.value) ∙ sym c.newest_change-newest.ensures ∙ c.unwrap-change.ensures) in
+    ap is_some (key_of_change l c.self.invariant c.args.tx.0 e change found step).there
+
+pub lower-requires-clause-some : goal.lower-requires-clause-some
+lower-requires-clause-some c = λ h there.
+    let l = c.self.inside in
+    let rs = reverse l.records.items in
+    let e = c.index.result.now in
+    let found = read_at l.txs c.args.tx.0 c.place_of-at.result e c.place_of-at.ensures.stands c.index.ensures in
+    let change = c.unwrap-change.result in
+    let step = walk_step rs e.last change c.self.invariant.log_kept.numbered (ap (λ (log : List LogRecord). newest_in (chain (reverse log) e.last)) (sym c.deref.ensures.value) ∙ sym c.newest_change-newest.ensures ∙ c.unwrap-change.ensures) in
+    let at = key_of_change l c.self.invariant c.args.tx.0 e change found step in
+    let same : at.hold.hold ≡ h = some_hold_of (sym at.there ∙ there) in
+    subst (λ (x : Holding). 0 < x.live) same (omega (arith, at.hold.live))
+  where
+    some_hold_of : {x y : Holding} → Some x ≡ Some y → x ≡ y
+    some_hold_of same = cc
 
 pub overflow_sub-self : goal.overflow_sub-self
 overflow_sub-self c =
@@ -290,10 +319,16 @@ invariant_of-self c =
     let kept = compensated (c.len.result + 1) e.last c.args.tx change rs (finding l.txs.entries) (finding (table_of c)) l.begun l.pending l.gone (l.pending - 1) c.recount-self-inside.result e (new_of c) c.self.invariant.log_kept found (puts_of c) back in
     let roomy = c.self.invariant.roomy in
     let longer : vec_len c.push.new.self ≤ vec_len l.records + 1 = c.push.ensures.upper_bound in
-    let held : vec_capacity l.records ≤ vec_capacity c.push.new.self = c.push.ensures.capacity in
+    let wider : vec_capacity l.records ≤ vec_capacity c.push.new.self = c.push.ensures.capacity in
     let one = back.pending_one in
+    let at = key_of_change l c.self.invariant c.args.tx.0 e change found (step_of c) in
+    let will = c.is_taken_out-will.ensures ∙ ap (λ (log : List LogRecord). takes_out (option_map change_in (find (is_at change.key) (chain (reverse log) change.prev)))) c.deref-2.ensures.value ∙ ap (λ us. takes_out (option_map change_in (find (is_at change.key) us))) (step_of c).tail in
+    let keys = compensated_keys l c.self.invariant c.args.tx e (new_of c) change (step_of c).update (step_of c).rest at (finding (table_of c)) (held c.lower.new.holdings) (c.len.result + 1) e.last c.is_taken_out-will.result found (puts_of c) will (c.lower.ensures at.hold.hold at.there) in
     record {
       log_kept = kept_turned _ _ _ _ _ _ turned kept;
+      holding = subst (λ (xs : List LogRecord). IsHeld xs (opens (finding (table_of c))) (held c.lower.new.holdings)) (sym turned) keys.holding;
+      busy_keys = keys.busy_keys;
+      reserved = tt;
       roomy = record {
         fits = omega (arith, roomy.fits);
         most_records = roomy.most_records;

@@ -1,15 +1,22 @@
-use Rattle.std.proofs.Common.{◌≡◌, None, reverse, refl, sym, ap, subst, ◌∙◌, arith}
+use Rattle.std.proofs.Common.{ℕ, ◌≤◌, List, length, cond, ◌≡◌, None, reverse, refl, sym, ap, subst, ◌∙◌, arith}
 use Rattle.std.specs.FinMap as maps
 use Rattle.indexmap.specs.IndexMap.{with_value_at}
 use Rattle.tx_log.proofs.EndFacts.{closed, closed_state, live_part, rolling_found, finished_ends, finished_goes}
+use Rattle.std.specs.List.{list_any}
+use Rattle.std.proofs.lemmas.List.{length-reverse}
+use Rattle.tx_log.proofs.HoldFacts.{Freed}
+use Rattle.tx_log.proofs.HoldSteps.{held_closed, busy_freed, held_put}
+use Rattle.tx_log.proofs.ReadFacts.{entry_chain, left_stored}
+use Rattle.tx_log.specs.Holdings.{held}
+use Rattle.tx_log.specs.Walks.{is_at}
+use Rattle.tx_log.specs.declared.log_records.LogRecord.{LogRecord}
 use Rattle.tx_log.proofs.KeptFacts.{sized, kept_now}
 use Rattle.tx_log.proofs.MovedFacts.{IsMove, moved_kept, moved_state, places_are}
 use Rattle.tx_log.proofs.OpenFacts.{found_fits}
 use Rattle.tx_log.proofs.PlaceOf.{read_at, write_at}
-use Rattle.tx_log.proofs.ReadFacts.{left_stored}
 use Rattle.tx_log.proofs.StateFacts.{state, unroomed}
 use Rattle.tx_log.specs.Finds.{finding}
-use Rattle.tx_log.specs.Log.{kept_of}
+use Rattle.tx_log.specs.Log.{kept_of, stack, chain}
 use Rattle.tx_log.specs.LogState.{LogState, IsRolling, phase_in, tx_in, places_in, history_in, active_with, finished}
 use Rattle.tx_log.specs.Transactions.{Tx, Transactions, left_in}
 use Rattle.tx_log.specs.declared.opened.OpenTx.{OpenTx}
@@ -33,15 +40,38 @@ overflow_sub-self-then-is_ending c =
     let t = c.args.tx.0 in
     (sized (reverse l.records.items) l.txs.entries l.begun l.pending l.gone t c.take_out-closed.result c.self.invariant.log_kept (c.take_out-closed.ensures t c.place_of-at.ensures.stands).0).absent_part
 
+-- the walk down from the newest record frees the transaction's keys
+freed : (c : goal.After-self-then-is_ending-2-1) → Freed (held c.self.inside.holdings) (held c.free_keys.new.holdings) (stack c.args.tx.0 (reverse c.self.inside.records.items))
+freed c =
+    let l = c.self.inside in
+    let t = c.args.tx.0 in
+    let out = c.take_out-closed.ensures t c.place_of-at.ensures.stands in
+    λ q. c.free_keys.ensures q
+    ∙ ap (λ (log : List LogRecord). cond (list_any (is_at q) (chain (reverse log) c.take_out-closed.result.last)) None (held l.holdings q)) c.deref.ensures.value
+    ∙ ap (λ (us : List LogRecord). cond (list_any (is_at q) us) None (held l.holdings q)) (entry_chain (reverse l.records.items) l.txs.entries l.begun l.pending l.gone t c.take_out-closed.result c.self.invariant.log_kept out.0)
+
+pub free_keys-requires-clause-within : goal.free_keys-requires-clause-within
+free_keys-requires-clause-within c =
+    let l = c.self.inside in
+    let t = c.args.tx.0 in
+    let e = c.take_out-closed.result in
+    let out = c.take_out-closed.ensures t c.place_of-at.ensures.stands in
+    let size = sized (reverse l.records.items) l.txs.entries l.begun l.pending l.gone t e c.self.invariant.log_kept out.0 in
+    subst (λ (n : ℕ). e.last ≤ n) (length-reverse l.records.items ∙ ap length (sym c.deref.ensures.value)) size.last
+
 pub invariant_of-self : goal.invariant_of-self
 invariant_of-self c =
     let l = c.self.inside in
     let t = c.args.tx.0 in
+    let rs = reverse l.records.items in
     let e = c.take_out-closed.result in
     let out = c.take_out-closed.ensures t c.place_of-at.ensures.stands in
     let roomy = c.self.invariant.roomy in
     record {
       log_kept = closed (reverse l.records.items) (finding l.txs.entries) (finding c.take_out-closed.new.txs.entries) l.begun l.pending l.gone t e c.self.invariant.log_kept out.0 out.1;
+      holding = held_closed rs (finding l.txs.entries) (finding c.take_out-closed.new.txs.entries) (held l.holdings) (held c.free_keys.new.holdings) t e out.1 out.0 (freed c) c.self.invariant.holding;
+      busy_keys = busy_freed (held l.holdings) (held c.free_keys.new.holdings) (stack t rs) l.over (freed c) c.self.invariant.busy_keys;
+      reserved = tt;
       roomy = record {
         fits = omega (arith, roomy.fits);
         most_records = roomy.most_records;
@@ -71,6 +101,9 @@ invariant_of-self-else-is_ending c =
     let move : IsMove rs t None e.left (e.saves.items) = record { remaining = nothing; saves = fits.saves; depth = fits.depth; rollback = tt } in
     record {
       log_kept = moved_kept rs (finding l.txs.entries) (finding m.entries) l.begun l.pending l.gone t e w None e.left (e.saves.items) c.self.invariant.log_kept found puts refl move;
+      holding = held_put rs (finding l.txs.entries) (finding m.entries) (held l.holdings) t e w puts found c.self.invariant.holding;
+      busy_keys = c.self.invariant.busy_keys;
+      reserved = tt;
       roomy = unroomed _ _ _ _ _ _ c.self.invariant.roomy;
     }
 

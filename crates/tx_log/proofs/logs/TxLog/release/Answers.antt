@@ -1,5 +1,7 @@
 use Rattle.std.proofs.Common.{ℕ, ◌-◌, List, None, length, take, reverse, sym, ap, ◌∙◌}
 use Rattle.std.specs.FinMap as maps
+use Rattle.tx_log.proofs.HoldSteps.{held_put}
+use Rattle.tx_log.specs.Holdings.{held}
 use Rattle.tx_log.proofs.KeptFacts.{open_of_phase, active_rollback, kept_now}
 use Rattle.tx_log.proofs.MovedFacts.{moved, IsMove, moved_kept, moved_state, places_are, up_to_take, kept_saves, short_take}
 use Rattle.tx_log.proofs.PlaceOf.{read_at, write_at}
@@ -37,6 +39,9 @@ invariant_of-self c =
     let move : IsMove rs t None e.left (take (c.args.n - 1) e.saves.items) = record { remaining = fits.left ∙ ap (left_above (stack t rs)) rollback_is; saves = up_to_take (c.args.n - 1) (length rs) e.saves.items fits.saves; depth = short_take (c.args.n - 1) 32 e.saves.items fits.depth; rollback = tt } in
     record {
       log_kept = moved_kept rs (finding l.txs.entries) (finding m.entries) l.begun l.pending l.gone t e w None e.left (take (c.args.n - 1) e.saves.items) c.self.invariant.log_kept found puts new_is move;
+      holding = held_put rs (finding l.txs.entries) (finding m.entries) (held l.holdings) t e w puts found c.self.invariant.holding;
+      busy_keys = c.self.invariant.busy_keys;
+      reserved = tt;
       roomy = unroomed _ _ _ _ _ _ c.self.invariant.roomy;
     }
 

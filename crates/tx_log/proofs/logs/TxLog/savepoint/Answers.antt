@@ -3,6 +3,8 @@ use Rattle.std.specs.FinMap as maps
 use Rattle.rec_types.specs.History.{own_count}
 use Rattle.rec_types.specs.Kept.{history_of}
 use Rattle.tx_log.proofs.Chains.{last_of-le}
+use Rattle.tx_log.proofs.HoldSteps.{held_put}
+use Rattle.tx_log.specs.Holdings.{held}
 use Rattle.tx_log.proofs.KeptFacts.{open_of_phase, active_rollback, kept_now}
 use Rattle.tx_log.proofs.MovedFacts.{moved, IsMove, moved_kept, moved_state, places_are, up_to_push, saved_is}
 use Rattle.tx_log.proofs.PlaceOf.{read_at, write_at}
@@ -61,6 +63,9 @@ invariant_of-self c =
     let move : IsMove rs t None e.left (e.saves.items ++ e.last ∷ []) = record { remaining = fits.left ∙ ap (left_above (stack t rs)) rollback_is; saves = up_to_push (length rs) e.saves.items e.last last_low fits.saves; depth = longer; rollback = tt } in
     record {
       log_kept = moved_kept rs (finding l.txs.entries) (finding m.entries) l.begun l.pending l.gone t e w None e.left (e.saves.items ++ e.last ∷ []) c.self.invariant.log_kept found puts new_is move;
+      holding = held_put rs (finding l.txs.entries) (finding m.entries) (held l.holdings) t e w puts found c.self.invariant.holding;
+      busy_keys = c.self.invariant.busy_keys;
+      reserved = tt;
       roomy = unroomed _ _ _ _ _ _ c.self.invariant.roomy;
     }
 

@@ -1,5 +1,7 @@
 use Rattle.std.proofs.Common.{◌≡◌, Option, Some, ℕ, ◌≤◌, List, None, length, take, reverse, sym, ap, subst, ◌∙◌}
 use Rattle.std.specs.FinMap as maps
+use Rattle.tx_log.proofs.HoldSteps.{held_put}
+use Rattle.tx_log.specs.Holdings.{held}
 use Rattle.tx_log.proofs.KeptFacts.{open_of_phase, kept_now, sized, some_of}
 use Rattle.tx_log.proofs.MovedFacts.{IsMove, moved_tx, moved_kept, moved_state, places_are, up_to_take, up_to_place, rolling_is, short_take}
 use Rattle.tx_log.proofs.PlaceOf.{read_at, write_at}
@@ -80,6 +82,9 @@ invariant_of-self c =
     let move : IsMove rs t rollback c.count_changes-left.result (take c.args.n e.saves.items) = record { remaining = left_is c; saves = up_to_take c.args.n (length rs) e.saves.items fits.saves; depth = short_take c.args.n 32 e.saves.items fits.depth; rollback = subst (λ (k : ℕ). k ≤ length rs) (sym (to_is c)) (up_to_place (length rs) e.saves.items c.args.n fits.saves) } in
     record {
       log_kept = moved_kept rs (finding l.txs.entries) (finding m.entries) l.begun l.pending l.gone t e w rollback c.count_changes-left.result (take c.args.n e.saves.items) c.self.invariant.log_kept found puts c.turn_back.ensures move;
+      holding = held_put rs (finding l.txs.entries) (finding m.entries) (held l.holdings) t e w puts found c.self.invariant.holding;
+      busy_keys = c.self.invariant.busy_keys;
+      reserved = tt;
       roomy = unroomed _ _ _ _ _ _ c.self.invariant.roomy;
     }
 
