@@ -132,6 +132,18 @@ fn a_rollback_takes_every_change_back(rt: HostRuntime) -> Result<(), Fail> {
 }
 
 #[test]
+fn keys_are_listed_in_their_order(rt: HostRuntime) -> Result<(), Fail> {
+    expect(
+        &rt,
+        rt.alloc(),
+        greatest()?,
+        "begin\nput 1 c =v\nput 1 a =v\nput 1 d =v\nput 1 b =v\ndel 1 a\nkeys 1\nback 1 0\nkeys 1\n",
+        "ok 1\nok none\nok none\nok none\nok none\nok =v\n- a\n- b\n- c\n- d\nok 4\nok 5\nok 0\n",
+        9,
+    )
+}
+
+#[test]
 fn one_transaction_may_be_begun(rt: HostRuntime) -> Result<(), Fail> {
     expect(
         &rt,

@@ -1,5 +1,5 @@
 -- Where a key stands, and what is written there.
-use Rattle.std.proofs.Common.{◌≡◌, ℕ, zero, suc, Bool, true, false, cond, List, [], ◌∷◌, slice_get, Option, Some, None, refl, sym, ap, ◌∙◌}
+use Rattle.std.proofs.Common.{◌≡◌, ℕ, zero, suc, Bool, true, false, cond, List, [], ◌∷◌, slice_get, Option, Some, None, IfSome, eq-eqb, refl, sym, ap, subst, ◌∙◌}
 use Rattle.std.specs.Cmp.{IsEquivalence}
 use Rattle.std.proofs.lemmas.Cmp.{nat_eq_equiv, lists_equiv}
 use Rattle.std.specs.Map.{lookup_key, values_of}
@@ -7,7 +7,7 @@ use Rattle.indexmap.specs.IndexMap.{IndexMap, with_value_at, IsUnique, Updates}
 use Rattle.indexmap.proofs.CallerLemmas.{updates-with_value_at}
 use Rattle.tx_log.proofs.HoldFacts.{same_bytes-key}
 use Rattle.tx_log.proofs.KeyFacts.{same_key-is}
-use Rattle.tx_log.specs.Holdings.{held, same_bytes, Places, HeldAt}
+use Rattle.tx_log.specs.Holdings.{held, same_bytes, Places, HeldAt, busy}
 use Rattle.tx_log.specs.declared.holdings.Holding.{Holding}
 
 pub same_bytes-equiv : IsEquivalence same_bytes
@@ -20,7 +20,7 @@ key_case : (k x y : List ℕ) (o : Option (List ℕ)) → (o ≡ Some y → y �
 key_case k x y o step true f h = let same : x ≡ y = cc in sym same ∙ sym (same_bytes-is k x f)
 key_case k x y o step false f h = step h
 
-found_key : (k : List ℕ) (es : List (List ℕ × Holding)) (y : List ℕ) → lookup_key (same_bytes k) es ≡ Some y → y ≡ k
+pub found_key : (k : List ℕ) (es : List (List ℕ × Holding)) (y : List ℕ) → lookup_key (same_bytes k) es ≡ Some y → y ≡ k
 found_key k [] y h = absurd (cc)
 found_key k (e ∷ es) y h = key_case k e.0 y (lookup_key (same_bytes k) es) (found_key k es y) (same_bytes k e.0) refl h
 
@@ -53,3 +53,13 @@ key_taken m n k i p s at updates =
   where
     some_is : {x y : List ℕ × Holding} → Some x ≡ Some y → x ≡ y
     some_is h = cc
+
+-- a key without a live change is taken out
+pub idle_taken : {S : Type 0} (m n : IndexMap (List ℕ) Holding S) (k y : List ℕ) (i j : ℕ) (h : Holding) (r : Option (List ℕ × Holding)) → slice_get m.entries i ≡ Some (y, h) → i ≡ j → Some y ≡ lookup_key (same_bytes k) m.entries → Some h ≡ held m k → h.live ≡ 0 → r ≡ slice_get m.entries j → IfSome r (λ p. Updates same_bytes m n p.0 None) → Places (held m) (held n) k (busy (held m k))
+idle_taken m n k y i j h r at places key value none taken updates =
+    let there : r ≡ Some (y, h) = taken ∙ ap (slice_get m.entries) (sym places) ∙ at in
+    let out : Updates same_bytes m n y None = subst (λ (o : Option (List ℕ × Holding)). IfSome o (λ p. Updates same_bytes m n p.0 None)) there updates in
+    let gone : busy (held m k) ≡ None = ap busy (sym value) ∙ ap (λ (b : Bool). cond b None (Some h)) (eq-eqb h.live 0 none) in
+    λ q. out.0 q
+    ∙ ap (λ (x : List ℕ). cond (same_bytes x q) None (held m q)) (found_key k m.entries y (sym key))
+    ∙ ap (λ (o : Option Holding). cond (same_bytes k q) o (held m q)) (sym gone)

@@ -92,7 +92,8 @@ pub fn lower(holdings: &mut Holdings, key: &Key, absent: bool)
         → Places (held holdings.old) (held holdings.new) key.now (lowered h absent) }
 {
     let at = place_of_key(holdings, key);
-    if holdings[at].live == 1 {
+    let last = holdings[at].live == 1;
+    if last {
         let _ = holdings.swap_remove_index(at);
     } else {
         let holding = &mut holdings[at];
@@ -119,12 +120,12 @@ pub fn free_keys(holdings: &mut Holdings, log: &[LogRecord], from: u32)
 fn drop_idle(holdings: &mut Holdings, key: &Key)
     ensures { Places (held holdings.old) (held holdings.new) key.now (busy (held holdings.old key.now)) }
 {
-    let idle = match holdings.get(key) {
-        Some(holding) => holding.live == 0,
-        None => false,
+    let idle = match holdings.get_full(key) {
+        Some((at, _, holding)) => { if holding.live == 0 { Some(at) } else { None } }
+        None => None,
     };
-    if idle {
-        let _ = holdings.swap_remove(key);
+    if let Some(at) = idle {
+        let _ = holdings.swap_remove_index(at);
     }
 }
 

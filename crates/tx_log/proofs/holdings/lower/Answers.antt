@@ -6,8 +6,8 @@ use Rattle.tx_log.specs.Holdings.{held, same_bytes}
 use Rattle.tx_log.specs.declared.holdings.Holding.{Holding}
 use Rattle.tx_log.proofs.holdings.lower.Goals as goal
 
-pub returns-else-index-eq1 : goal.returns-else-index-eq1
-returns-else-index-eq1 c = λ h there q.
+pub returns-else-last : goal.returns-else-last
+returns-else-last c = λ h there q.
     let m = c.args.holdings.now in
     let k = c.args.key.now in
     let at = c.place_of_key-at.result in
@@ -16,7 +16,7 @@ returns-else-index-eq1 c = λ h there q.
     let stands = c.place_of_key-at.ensures.stands in
     let same : d ≡ h = some_of d h (sym (key_read m k at d stands c.index_mut-holding.ensures.value) ∙ there) in
     let read : e ≡ h = some_of e h (sym (key_read m k at e stands c.index.ensures) ∙ there) in
-    let more : eqb h.live 1 ≡ false = ap (λ (x : Holding). eqb x.live 1) (sym read) ∙ differs_from e.live c.if-index-eq1.false in
+    let more : eqb h.live 1 ≡ false = ap (λ (x : Holding). eqb x.live 1) (sym read) ∙ differs_from e.live c.if-last.false in
     key_write m k at (record { owner = d.owner; live = d.live - 1; absent = c.args.absent }) stands q
     ∙ ap (λ (x : Holding). cond (same_bytes k q) (Some (record { owner = x.owner; live = x.live - 1; absent = c.args.absent })) (held m q)) same
     ∙ ap (λ (b : Bool). cond (same_bytes k q) (cond b None (Some (record { owner = h.owner; live = h.live - 1; absent = c.args.absent }))) (held m q)) (sym more)
