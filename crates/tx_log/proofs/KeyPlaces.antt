@@ -63,3 +63,6 @@ idle_taken m n k y i j h r at places key value none taken updates =
     λ q. out.0 q
     ∙ ap (λ (x : List ℕ). cond (same_bytes x q) None (held m q)) (found_key k m.entries y (sym key))
     ∙ ap (λ (o : Option Holding). cond (same_bytes k q) o (held m q)) (sym gone)
+
+pub taken_there : {S : Type 0} (m n : IndexMap (List ℕ) Holding S) (k : List ℕ) (i : ℕ) (r : Option (List ℕ × Holding)) → (s : HeldAt m k i) → r ≡ slice_get m.entries i → IfSome r (λ p. Updates same_bytes m n p.0 None) → Places (held m) (held n) k None
+taken_there m n k i r s taken updates = (subst (λ (o : Option (List ℕ × Holding)). IfSome o (λ p. Updates same_bytes m n p.0 None)) (taken ∙ s.entry) updates).0

@@ -10,7 +10,7 @@ ghost use Rattle.tx_log.specs.LogState.{new_log, history_in, open_in, tx_in, use
 use crate::holdings::{Holdings, find_holder, free_keys, lower, make_room, raise};
 use crate::opened::{OpenTx, OpenTxs, find_open, place_of, recount, take_out};
 use crate::phases::Rollback;
-use crate::walks::{changed_keys, count_changes, is_taken_out, newest_above, newest_change};
+use crate::walks::{changed_keys, count_changes, newest_above, newest_change};
 use crate::{BeginFault, LogRecord, Phase, UndoStep};
 use rec_types::{Key, Limits, Memory, Record, TxId};
 use std::alloc::Global;
@@ -335,8 +335,13 @@ impl TxLog {
         let change = newest.unwrap();
         let was = change.after.is_none();
         let fewer = recount(removals, was, false);
-        let will = is_taken_out(&self.records, change.prev, &change.key, fewer);
-        lower(&mut self.holdings, &change.key, will);
+        let will = lower(
+            &mut self.holdings,
+            &change.key,
+            &self.records,
+            change.prev,
+            fewer,
+        );
         let lsn = self.records.len() as u32 + 1;
         let _ = self.records.push(LogRecord::Compensation {
             lsn,

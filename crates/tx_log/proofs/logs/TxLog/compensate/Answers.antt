@@ -6,7 +6,7 @@ use Rattle.rec_types.specs.History.{log_len}
 use Rattle.rec_types.specs.Kept.{undone}
 use Rattle.rec_types.specs.declared.transactions.TxId.{TxId}
 use Rattle.tx_log.proofs.HoldCalls.{key_of_change, compensated_keys}
-use Rattle.tx_log.specs.Holdings.{held, IsHeld}
+use Rattle.tx_log.specs.Holdings.{held, live_at, IsHeld}
 use Rattle.tx_log.specs.OpenTxs.{opens}
 use Rattle.tx_log.specs.declared.holdings.Holding.{Holding}
 use Rattle.tx_log.proofs.KeptFacts.{sized, some_of, state_len, recounted, none_is, counted_change, kept_now}
@@ -52,8 +52,8 @@ unwrap-change-requires c =
     let head = undo_head rs l.txs.entries l.begun l.pending l.gone c.args.tx.0 e c.self.invariant.log_kept found (ap (λ (s : LogState). is_some (undo_in s c.args.tx.0)) c.self.view_is ∙ c.requires) in
     ap is_some (c.newest_change-newest.ensures ∙ ap (λ (log : List LogRecord). newest_in (chain (reverse log) e.last)) c.deref.ensures.value) ∙ head
 
-pub is_taken_out-will-requires-clause-within : goal.is_taken_out-will-requires-clause-within
-is_taken_out-will-requires-clause-within c =
+pub lower-will-requires-clause-within : goal.lower-will-requires-clause-within
+lower-will-requires-clause-within c =
     let l = c.self.inside in
     let rs = reverse l.records.items in
     let e = c.index.result.now in
@@ -62,8 +62,8 @@ is_taken_out-will-requires-clause-within c =
     let low : change.prev ≤ length rs = omega (arith, step.falls, step.within) in
     subst (λ (k : ℕ). change.prev ≤ k) (length-reverse l.records.items ∙ ap length (sym c.deref-2.ensures.value)) low
 
-pub lower-requires-clause-there : goal.lower-requires-clause-there
-lower-requires-clause-there c =
+pub lower-will-requires-clause-there : goal.lower-will-requires-clause-there
+lower-will-requires-clause-there c =
     let l = c.self.inside in
     let rs = reverse l.records.items in
     let e = c.index.result.now in
@@ -72,8 +72,8 @@ lower-requires-clause-there c =
     let step = walk_step rs e.last change c.self.invariant.log_kept.numbered (ap (λ (log : List LogRecord). newest_in (chain (reverse log) e.last)) (sym c.deref.ensures.value) ∙ sym c.newest_change-newest.ensures ∙ c.unwrap-change.ensures) in
     ap is_some (key_of_change l c.self.invariant c.args.tx.0 e change found step).there
 
-pub lower-requires-clause-some : goal.lower-requires-clause-some
-lower-requires-clause-some c = λ h there.
+pub lower-will-requires-clause-left : goal.lower-will-requires-clause-left
+lower-will-requires-clause-left c = λ h there.
     let l = c.self.inside in
     let rs = reverse l.records.items in
     let e = c.index.result.now in
@@ -82,7 +82,11 @@ lower-requires-clause-some c = λ h there.
     let step = walk_step rs e.last change c.self.invariant.log_kept.numbered (ap (λ (log : List LogRecord). newest_in (chain (reverse log) e.last)) (sym c.deref.ensures.value) ∙ sym c.newest_change-newest.ensures ∙ c.unwrap-change.ensures) in
     let at = key_of_change l c.self.invariant c.args.tx.0 e change found step in
     let same : at.hold.hold ≡ h = some_hold_of (sym at.there ∙ there) in
-    subst (λ (x : Holding). 0 < x.live) same (omega (arith, at.hold.live))
+    ap (λ (x : Holding). x.live) (sym same)
+    ∙ at.hold.live
+    ∙ ap (λ k. live_at k step.rest + 1) at.key
+    ∙ ap (λ us. live_at change.key us + 1) (sym step.tail)
+    ∙ ap (λ (log : List LogRecord). live_at change.key (chain (reverse log) change.prev) + 1) (sym c.deref-2.ensures.value)
   where
     some_hold_of : {x y : Holding} → Some x ≡ Some y → x ≡ y
     some_hold_of same = cc
@@ -214,8 +218,8 @@ recount-fewer-requires-clause-most c =
     let few : e.removals < 4294967295 = omega (arith, size.removals, size.live, length-reverse l.records.items, c.self.invariant.roomy.fits, c.self.invariant.roomy.most_records) in
     subst (λ (x : OpenTx). x.removals < 4294967295) (sym one) few
 
-pub is_taken_out-will-requires-clause-counted : goal.is_taken_out-will-requires-clause-counted
-is_taken_out-will-requires-clause-counted c =
+pub lower-will-requires-clause-counted : goal.lower-will-requires-clause-counted
+lower-will-requires-clause-counted c =
     let l = c.self.inside in
     let rs = reverse l.records.items in
     let t = c.args.tx.0 in
@@ -283,7 +287,8 @@ taken_back c =
     let again = read_at l.txs c.args.tx.0 c.place_of-at.result n c.place_of-at.ensures.stands c.index_mut-open_tx.ensures.value in
     let same : n ≡ e = some_of n e (sym again ∙ found) in
     let was_is : c.is_none-was.result ≡ not (is_some change.after) = none_is (is_some change.after) c.is_none-was.result c.is_none-was.ensures in
-    let will = c.is_taken_out-will.ensures ∙ ap (λ (log : List LogRecord). takes_out (option_map change_in (find (is_at change.key) (chain (reverse log) change.prev)))) c.deref-2.ensures.value in
+    let at = key_of_change l c.self.invariant c.args.tx.0 e change found step in
+    let will = (c.lower-will.ensures at.hold.hold at.there).0 ∙ ap (λ (log : List LogRecord). takes_out (option_map change_in (find (is_at change.key) (chain (reverse log) change.prev)))) c.deref-2.ensures.value in
     let many : vec_len l.records ≡ length l.records.items = omega (arith, l.records.ok.0) in
     let f = c.index-2.result.now in
     let second = read_at l.txs c.args.tx.0 c.place_of-at.result f c.place_of-at.ensures.stands c.index-2.ensures in
@@ -301,10 +306,10 @@ taken_back c =
       live_new = omega (arith, counted.live);
       left_new = (let more = left_some rs l.txs.entries l.begun l.pending l.gone c.args.tx.0 e c.self.invariant.log_kept found asked in let left_is : n.left ≡ e.left = ap (λ (x : OpenTx). x.left) same in omega arith);
       above = undo_above rs l.txs.entries l.begun l.pending l.gone c.args.tx.0 e change c.self.invariant.log_kept found asked step;
-      absent_new = recounted c.recount-open_tx.result n.absent e.absent c.is_none-was.result _ c.is_taken_out-will.result _ was_is will (ap (λ (x : OpenTx). x.absent) same) c.recount-open_tx.ensures;
+      absent_new = recounted c.recount-open_tx.result n.absent e.absent c.is_none-was.result _ c.lower-will.result _ was_is will (ap (λ (x : OpenTx). x.absent) same) c.recount-open_tx.ensures;
       removals_new = ap (λ (b : Bool). c.recount-fewer.result + cond b 1 0) (sym was_is) ∙ fewer;
       pending_one = omega (arith, counted.waits);
-      gone_one = recounted c.recount-self-inside.result l.gone l.gone c.is_none-was.result _ c.is_taken_out-will.result _ was_is will refl c.recount-self-inside.ensures;
+      gone_one = recounted c.recount-self-inside.result l.gone l.gone c.is_none-was.result _ c.lower-will.result _ was_is will refl c.recount-self-inside.ensures;
     }
 
 pub invariant_of-self : goal.invariant_of-self
@@ -322,11 +327,11 @@ invariant_of-self c =
     let wider : vec_capacity l.records ≤ vec_capacity c.push.new.self = c.push.ensures.capacity in
     let one = back.pending_one in
     let at = key_of_change l c.self.invariant c.args.tx.0 e change found (step_of c) in
-    let will = c.is_taken_out-will.ensures ∙ ap (λ (log : List LogRecord). takes_out (option_map change_in (find (is_at change.key) (chain (reverse log) change.prev)))) c.deref-2.ensures.value ∙ ap (λ us. takes_out (option_map change_in (find (is_at change.key) us))) (step_of c).tail in
-    let keys = compensated_keys l c.self.invariant c.args.tx e (new_of c) change (step_of c).update (step_of c).rest at (finding (table_of c)) (held c.lower.new.holdings) (c.len.result + 1) e.last c.is_taken_out-will.result found (puts_of c) will (c.lower.ensures at.hold.hold at.there) in
+    let will = (c.lower-will.ensures at.hold.hold at.there).0 ∙ ap (λ (log : List LogRecord). takes_out (option_map change_in (find (is_at change.key) (chain (reverse log) change.prev)))) c.deref-2.ensures.value ∙ ap (λ us. takes_out (option_map change_in (find (is_at change.key) us))) (step_of c).tail in
+    let keys = compensated_keys l c.self.invariant c.args.tx e (new_of c) change (step_of c).update (step_of c).rest at (finding (table_of c)) (held c.lower-will.new.holdings) (c.len.result + 1) e.last c.lower-will.result found (puts_of c) will (c.lower-will.ensures at.hold.hold at.there).1 in
     record {
       log_kept = kept_turned _ _ _ _ _ _ turned kept;
-      holding = subst (λ (xs : List LogRecord). IsHeld xs (opens (finding (table_of c))) (held c.lower.new.holdings)) (sym turned) keys.holding;
+      holding = subst (λ (xs : List LogRecord). IsHeld xs (opens (finding (table_of c))) (held c.lower-will.new.holdings)) (sym turned) keys.holding;
       busy_keys = keys.busy_keys;
       reserved = tt;
       roomy = record {
