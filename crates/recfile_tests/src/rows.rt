@@ -84,6 +84,14 @@ fn what_one_transaction_sees(rt: HostRuntime) -> Result<(), Fail> {
             replies: "ok 1\nok none\nok none\nok none\nok none\nok none\nok none\nok none\nok =v\nok =v\nok =v\nok 10\nok 0\n",
             commands: 13,
         },
+        Row {
+            name: "keys are listed in their order",
+            limits: (1_000_000, 4_000_000, 1_000_000),
+            failing: &[],
+            script: "begin\nput 1 c =v\nput 1 a =v\nput 1 d =v\nput 1 b =v\ndel 1 a\nkeys 1\nback 1 0\nkeys 1\n",
+            replies: "ok 1\nok none\nok none\nok none\nok none\nok =v\n- a\n- b\n- c\n- d\nok 4\nok 5\nok 0\n",
+            commands: 9,
+        },
     ] {
         expect_row(&rt, rt.alloc(), &row)?;
     }

@@ -1,5 +1,5 @@
 -- What a kept log says of a transaction, of its state and of the sizes of its counts.
-use Rattle.std.proofs.Common.{◌≡◌, ℕ, suc, ◌+◌, ◌<◌, ◌≤◌, Bool, true, false, cond, not, eqb, List, [], ◌∷◌, length, map, reverse, drop, get_or, Option, Some, None, option_map, is_some, IsSome, refl, sym, ap, subst, ◌∙◌, arith, length-drop}
+use Rattle.std.proofs.Common.{◌≡◌, ℕ, suc, ◌+◌, ◌<◌, ◌≤◌, Bool, true, false, cond, not, eqb, List, [], ◌∷◌, length, map, reverse, drop, Option, Some, None, option_map, is_some, IsSome, refl, sym, ap, subst, ◌∙◌, arith, length-drop}
 use Rattle.std.specs.FinMap as maps
 use Rattle.std.specs.List.{find, filter}
 use Rattle.std.specs.Cmp.Lexicographic.{slice_cmp}
@@ -7,18 +7,19 @@ use Rattle.std.specs.Ordering.{nat_cmp}
 use Rattle.std.proofs.lemmas.List.{length-map, length-reverse}
 use Rattle.rec_types.specs.Contents.{Contents, set_to, has}
 use Rattle.rec_types.specs.History.{Change, is_pending, log_len, log_use, replay}
+use Rattle.rec_types.specs.declared.transactions.TxId.{TxId}
 use Rattle.rec_types.specs.Kept.{Kept, history_of, IsOwned, AllBegun}
 use Rattle.tx_log.proofs.AbsentFacts.{only, pending_of, absent_in, absent-parts, absent_is_gone, gone, lack, len-set_to, none_of_len, has-set_to}
 use Rattle.tx_log.proofs.Chains.{last_of-le}
 use Rattle.tx_log.proofs.Counts.{count, log_len_is, newest_of_stack, pending-undone}
 use Rattle.tx_log.proofs.Lives.{lives, stack_is_lives}
-use Rattle.tx_log.proofs.OpenFacts.{get-txs_of, opens_is, first-found, found_fits, found_number, begun_of}
+use Rattle.tx_log.proofs.OpenFacts.{get-txs_of, opens_is, found_fits, begun_of}
 use Rattle.tx_log.proofs.OwnerFacts.{HeldBy, held-free}
 use Rattle.tx_log.proofs.KeyFacts.{same_key-refl}
 use Rattle.tx_log.proofs.StepFacts.{taken_out_is, chain_of}
 use Rattle.tx_log.proofs.WalkSteps.{IsStep}
 use Rattle.tx_log.specs.declared.walks.LiveChange.{LiveChange}
-use Rattle.tx_log.specs.Finds.{find_tx, IsFirst}
+use Rattle.tx_log.specs.Finds.{finding}
 use Rattle.tx_log.specs.Fits.{AllFit}
 use Rattle.tx_log.specs.Log.{removes, tx_of, key_of, new_of, kept_of, stepped, stack, chain, noted, AllWritten}
 use Rattle.tx_log.specs.LogFields.{state_of, IsKept, IsTxLog}
@@ -38,22 +39,19 @@ use Rattle.tx_log.specs.declared.phases.Phase.TheVariants.{Active}
 
 -- ---- the transaction that a call names
 
-pub entry_is : (t : ℕ) (read es : List OpenTx) (i : ℕ) (e : OpenTx) → read ≡ es → IsFirst t read i → e ≡ get_or es i e → find_tx t es ≡ Some e
-entry_is t read es i e same is at = first-found t es i e (subst (λ (xs : List OpenTx). IsFirst t xs i) same is) ∙ ap Some (sym at)
+phase_found : (t : ℕ) (cs : List Kept) (o : Option OpenTx) (p : Phase) → option_map phase_of (option_map (tx_at t cs) o) ≡ Some p → IsSome o
+phase_found t cs None p h = absurd (cc)
+phase_found t cs (Some e) p h = refl
 
-phase_found : (cs : List Kept) (o : Option OpenTx) (p : Phase) → option_map phase_of (option_map (tx_at cs) o) ≡ Some p → IsSome o
-phase_found cs None p h = absurd (cc)
-phase_found cs (Some e) p h = refl
+pub open_of_phase : (cs : List Kept) (es : List (TxId × OpenTx)) (t : ℕ) (p : Phase) → option_map phase_of (maps.get (txs_of cs es) t) ≡ Some p → IsSome (finding es t)
+open_of_phase cs es t p h = phase_found t cs (finding es t) p (ap (option_map phase_of) (sym (get-txs_of cs es t)) ∙ h)
 
-pub open_of_phase : (cs : List Kept) (es : List OpenTx) (t : ℕ) (p : Phase) → option_map phase_of (maps.get (txs_of cs es) t) ≡ Some p → IsSome (find_tx t es)
-open_of_phase cs es t p h = phase_found cs (find_tx t es) p (ap (option_map phase_of) (sym (get-txs_of cs es t)) ∙ h)
+some_entry : (t : ℕ) (cs : List Kept) (o : Option OpenTx) → is_some (option_map (tx_at t cs) o) ≡ true → is_some o ≡ true
+some_entry t cs None h = h
+some_entry t cs (Some e) h = refl
 
-some_entry : (cs : List Kept) (o : Option OpenTx) → is_some (option_map (tx_at cs) o) ≡ true → is_some o ≡ true
-some_entry cs None h = h
-some_entry cs (Some e) h = refl
-
-pub open_of_tx : (cs : List Kept) (es : List OpenTx) (t : ℕ) → is_some (maps.get (txs_of cs es) t) ≡ true → is_some (find_tx t es) ≡ true
-open_of_tx cs es t h = some_entry cs (find_tx t es) (ap is_some (sym (get-txs_of cs es t)) ∙ h)
+pub open_of_tx : (cs : List Kept) (es : List (TxId × OpenTx)) (t : ℕ) → is_some (maps.get (txs_of cs es) t) ≡ true → is_some (finding es t) ≡ true
+open_of_tx cs es t h = some_entry t cs (finding es t) (ap is_some (sym (get-txs_of cs es t)) ∙ h)
 
 active_case : (cs : List Kept) (t : ℕ) (s : Option Rollback) → phase_of (record { rollback = rollback_at t cs s; places = [] }) ≡ Active → s ≡ None
 active_case cs t None h = refl
@@ -62,15 +60,15 @@ active_case cs t (Some r) h = absurd (cc)
 pub some_of : {A : Type 0} (x y : A) → Some x ≡ Some y → x ≡ y
 some_of x y h = cc
 
-pub active_rollback : (cs : List Kept) (es : List OpenTx) (t : ℕ) (e : OpenTx) → find_tx t es ≡ Some e → option_map phase_of (maps.get (txs_of cs es) t) ≡ Some Active → e.rollback ≡ None
+pub active_rollback : (cs : List Kept) (es : List (TxId × OpenTx)) (t : ℕ) (e : OpenTx) → finding es t ≡ Some e → option_map phase_of (maps.get (txs_of cs es) t) ≡ Some Active → e.rollback ≡ None
 active_rollback cs es t e found h =
-    active_case cs e.tx.0 e.rollback (some_of _ _ (ap (λ (o : Option OpenTx). option_map phase_of (option_map (tx_at cs) o)) (sym found) ∙ ap (option_map phase_of) (sym (get-txs_of cs es t)) ∙ h))
+    active_case cs t e.rollback (some_of _ _ (ap (λ (o : Option OpenTx). option_map phase_of (option_map (tx_at t cs) o)) (sym found) ∙ ap (option_map phase_of) (sym (get-txs_of cs es t)) ∙ h))
 
-pub tx_of_entry : (cs : List Kept) (es : List OpenTx) (t : ℕ) (e : OpenTx) → find_tx t es ≡ Some e → maps.get (txs_of cs es) t ≡ Some (tx_at cs e)
-tx_of_entry cs es t e found = get-txs_of cs es t ∙ ap (option_map (tx_at cs)) found
+pub tx_of_entry : (cs : List Kept) (es : List (TxId × OpenTx)) (t : ℕ) (e : OpenTx) → finding es t ≡ Some e → maps.get (txs_of cs es) t ≡ Some (tx_at t cs e)
+tx_of_entry cs es t e found = get-txs_of cs es t ∙ ap (option_map (tx_at t cs)) found
 
-pub held_of_free : (cs : List Kept) (es : List OpenTx) (t : ℕ) (x : List ℕ) → IsOwned (opens es) cs → holder_of (is_open (txs_of cs es)) (history_of cs) t x ≡ None → HeldBy (opens es) t x cs
-held_of_free cs es t x owned h = held-free (opens es) t x cs owned (ap (λ (o : ℕ → Bool). holder_of o (history_of cs) t x) (sym (opens_is cs es)) ∙ h)
+pub held_of_free : (cs : List Kept) (es : List (TxId × OpenTx)) (t : ℕ) (x : List ℕ) → IsOwned (opens (finding es)) cs → holder_of (is_open (txs_of cs es)) (history_of cs) t x ≡ None → HeldBy (opens (finding es)) t x cs
+held_of_free cs es t x owned h = held-free (opens (finding es)) t x cs owned (ap (λ (o : ℕ → Bool). holder_of o (history_of cs) t x) (sym (opens_is cs es)) ∙ h)
 
 -- ---- sizes
 
@@ -133,41 +131,40 @@ pub record IsSized (rs : List LogRecord) (pending gone : ℕ) (e : OpenTx) : Typ
   pub gone_keys : gone ≤ pending
   pub absent_part : e.absent ≤ gone
 
-pub sized : (rs : List LogRecord) (es : List OpenTx) (begun pending gone_keys t : ℕ) (e : OpenTx) → IsKept rs es begun pending gone_keys → find_tx t es ≡ Some e → IsSized rs pending gone_keys e
+pub sized : (rs : List LogRecord) (es : List (TxId × OpenTx)) (begun pending gone_keys t : ℕ) (e : OpenTx) → IsKept rs (finding es) begun pending gone_keys → finding es t ≡ Some e → IsSized rs pending gone_keys e
 sized rs es begun pending gone_keys t e kept found =
-    let fits = found_fits rs begun t es e kept.fit found in
-    let number = found_number t es e found in
-    let opened : opens es e.tx.0 ≡ true = ap (opens es) number ∙ ap is_some found in
-    let parts = absent-parts (opens es) e.tx.0 (kept_of rs) kept.owned opened in
+    let fits = found_fits rs begun t (finding es) e kept.fit found in
+    let opened : opens (finding es) t ≡ true = ap is_some found in
+    let parts = absent-parts (opens (finding es)) t (kept_of rs) kept.owned opened in
     let last_is = fits.last in
     let live_is = fits.live in
-    let absent_is : e.absent ≡ maps.len (absent_in (only e.tx.0) (kept_of rs)) = fits.absent_keys in
-    let keys : maps.len (absent_in (only e.tx.0) (kept_of rs)) ≤ length (lives e.tx.0 (kept_of rs)) = subst (λ (m : Contents). maps.len m ≤ length (lives e.tx.0 (kept_of rs))) (sym (absent_is_gone e.tx.0 (kept_of rs))) (gone-le (lives e.tx.0 (kept_of rs))) in
-    let many : length (lives e.tx.0 (kept_of rs)) ≡ length (stack e.tx.0 rs) = ap length (sym (stack_is_lives e.tx.0 rs)) ∙ length-map (stack e.tx.0 rs) noted in
+    let absent_is : e.absent ≡ maps.len (absent_in (only t) (kept_of rs)) = fits.absent_keys in
+    let keys : maps.len (absent_in (only t) (kept_of rs)) ≤ length (lives t (kept_of rs)) = subst (λ (m : Contents). maps.len m ≤ length (lives t (kept_of rs))) (sym (absent_is_gone t (kept_of rs))) (gone-le (lives t (kept_of rs))) in
+    let many : length (lives t (kept_of rs)) ≡ length (stack t rs) = ap length (sym (stack_is_lives t rs)) ∙ length-map (stack t rs) noted in
     let all_is = kept.absent_is in
     let pending_is = kept.pending_is in
-    let most = absent_at_most (opens es) (kept_of rs) in
+    let most = absent_at_most (opens (finding es)) (kept_of rs) in
     record {
-      last = omega (arith, last_of-le rs e.tx.0 kept.numbered);
-      live = omega (arith, stack-le e.tx.0 rs);
+      last = omega (arith, last_of-le rs t kept.numbered);
+      live = omega (arith, stack-le t rs);
       absent_keys = omega arith;
-      removals = (let removals_is = fits.removals in let few = filter_le (stack e.tx.0 rs) in omega arith);
+      removals = (let removals_is = fits.removals in let few = filter_le (stack t rs) in omega arith);
       gone_keys = omega arith;
       absent_part = omega arith;
     }
 
 -- a key that is absent is counted
-pub counted_key : (rs : List LogRecord) (es : List OpenTx) (begun pending gone_keys t prev : ℕ) (x : List ℕ) (e : OpenTx) → IsKept rs es begun pending gone_keys → find_tx t es ≡ Some e → prev ≡ e.last → takes_out (option_map change_in (find (is_at x) (chain rs prev))) ≡ true → 0 < e.absent
+pub counted_key : (rs : List LogRecord) (es : List (TxId × OpenTx)) (begun pending gone_keys t prev : ℕ) (x : List ℕ) (e : OpenTx) → IsKept rs (finding es) begun pending gone_keys → finding es t ≡ Some e → prev ≡ e.last → takes_out (option_map change_in (find (is_at x) (chain rs prev))) ≡ true → 0 < e.absent
 counted_key rs es begun pending gone_keys t prev x e kept found at is =
-    let fits = found_fits rs begun t es e kept.fit found in
-    let there = chain_of rs e.tx.0 prev kept.numbered kept.written (at ∙ fits.last) in
-    let had : has (absent_in (only e.tx.0) (kept_of rs)) x ≡ true =
-    ap (λ m. has m x) (absent_is_gone e.tx.0 (kept_of rs) ∙ ap gone (sym (stack_is_lives e.tx.0 rs)))
-    ∙ sym (taken_out_is x (stack e.tx.0 rs))
+    let fits = found_fits rs begun t (finding es) e kept.fit found in
+    let there = chain_of rs t prev kept.numbered kept.written (at ∙ fits.last) in
+    let had : has (absent_in (only t) (kept_of rs)) x ≡ true =
+    ap (λ m. has m x) (absent_is_gone t (kept_of rs) ∙ ap gone (sym (stack_is_lives t rs)))
+    ∙ sym (taken_out_is x (stack t rs))
     ∙ ap (λ us. takes_out (option_map change_in (find (is_at x) us))) (sym there)
     ∙ is in
-    let some = none_of_len (absent_in (only e.tx.0) (kept_of rs)) x had in
-    let absent_is : e.absent ≡ maps.len (absent_in (only e.tx.0) (kept_of rs)) = fits.absent_keys in
+    let some = none_of_len (absent_in (only t) (kept_of rs)) x had in
+    let absent_is : e.absent ≡ maps.len (absent_in (only t) (kept_of rs)) = fits.absent_keys in
     omega arith
 
 -- ---- the state
@@ -175,26 +172,26 @@ counted_key rs es begun pending gone_keys t prev x e kept found at is =
 pub state_len : (rs : List LogRecord) → AllWritten rs → log_len (history_of (kept_of rs)) ≡ length rs
 state_len rs w = log_len_is rs w
 
-pub state_use : (rs : List LogRecord) (es : List OpenTx) (begun pending gone_keys : ℕ) → IsKept rs es begun pending gone_keys → log_use (is_open (txs_of (kept_of rs) es)) (history_of (kept_of rs)) ≡ length rs + pending
+pub state_use : (rs : List LogRecord) (es : List (TxId × OpenTx)) (begun pending gone_keys : ℕ) → IsKept rs (finding es) begun pending gone_keys → log_use (is_open (txs_of (kept_of rs) es)) (history_of (kept_of rs)) ≡ length rs + pending
 state_use rs es begun pending gone_keys kept =
     ap (λ (o : ℕ → Bool). log_use o (history_of (kept_of rs))) (opens_is (kept_of rs) es)
     ∙ (let n = log_len_is rs kept.written in let p = kept.pending_is in omega arith)
 
-depth_found : (rs : List LogRecord) (n t : ℕ) (es : List OpenTx) → AllFit rs n es → length (places_of (maps.get (txs_of (kept_of rs) es) t)) ≤ most_savepoints
-depth_found rs n t es fit = subst (λ (o : Option Tx). length (places_of o) ≤ most_savepoints) (sym (get-txs_of (kept_of rs) es t)) (depth_case (find_tx t es) refl)
+depth_found : (rs : List LogRecord) (n t : ℕ) (es : List (TxId × OpenTx)) → AllFit rs n (finding es) → length (places_of (maps.get (txs_of (kept_of rs) es) t)) ≤ most_savepoints
+depth_found rs n t es fit = subst (λ (o : Option Tx). length (places_of o) ≤ most_savepoints) (sym (get-txs_of (kept_of rs) es t)) (depth_case (finding es t) refl)
   where
-    depth_case : (o : Option OpenTx) → find_tx t es ≡ o → length (places_of (option_map (tx_at (kept_of rs)) o)) ≤ most_savepoints
+    depth_case : (o : Option OpenTx) → finding es t ≡ o → length (places_of (option_map (tx_at t (kept_of rs)) o)) ≤ most_savepoints
     depth_case None f = omega arith
-    depth_case (Some e) f = let low = (found_fits rs n t es e fit f).depth in omega (arith, length-map e.saves.items (λ s. place_at e.tx.0 s (kept_of rs)))
+    depth_case (Some e) f = let low = (found_fits rs n t (finding es) e fit f).depth in omega (arith, length-map e.saves.items (λ s. place_at t s (kept_of rs)))
 
-pub is_log : (s : LogState) (rs : List LogRecord) (es : List OpenTx) (pending gone_keys : ℕ) → IsKept rs es s.begun pending gone_keys → length rs + pending ≤ s.limits.log_records → s.begun ≤ s.limits.begins → s.changes ≡ kept_of rs → s.txs ≡ txs_of (kept_of rs) es → IsLog s
+pub is_log : (s : LogState) (rs : List LogRecord) (es : List (TxId × OpenTx)) (pending gone_keys : ℕ) → IsKept rs (finding es) s.begun pending gone_keys → length rs + pending ≤ s.limits.log_records → s.begun ≤ s.limits.begins → s.changes ≡ kept_of rs → s.txs ≡ txs_of (kept_of rs) es → IsLog s
 is_log s rs es pending gone_keys kept fits within cs_is txs_is =
-    let opened : open_in s ≡ opens es = ap is_open txs_is ∙ opens_is (kept_of rs) es in
+    let opened : open_in s ≡ opens (finding es) = ap is_open txs_is ∙ opens_is (kept_of rs) es in
     let used : use_in s ≡ length rs + pending = (λ i. log_use (is_open (txs_is i)) (history_of (cs_is i))) ∙ state_use rs es s.begun pending gone_keys kept in
     record {
-      opens = λ t h. begun_of rs s.begun t es kept.fit (sym (ap (λ (o : ℕ → Bool). o t) opened) ∙ h);
+      opens = λ t h. begun_of rs s.begun t (finding es) kept.fit (sym (ap (λ (o : ℕ → Bool). o t) opened) ∙ h);
       begun = subst (AllBegun s.begun) (sym cs_is) kept.all_begun;
-      owned = subst (λ (o : ℕ → Bool). IsOwned o s.changes) (sym opened) (subst (IsOwned (opens es)) (sym cs_is) kept.owned);
+      owned = subst (λ (o : ℕ → Bool). IsOwned o s.changes) (sym opened) (subst (IsOwned (opens (finding es))) (sym cs_is) kept.owned);
       fits = omega arith;
       bounded = within;
       depths = λ t. subst (λ (m : Transactions). length (places_of (maps.get m t)) ≤ most_savepoints) (sym txs_is) (depth_found rs s.begun t es kept.fit);
@@ -203,7 +200,7 @@ is_log s rs es pending gone_keys kept fits within cs_is txs_is =
 -- what the fields of a log say of it
 pub kept_now : (l : Inside) → IsTxLog l → (s : LogState) → state_of l ≡ s → IsLog s
 kept_now l is s view =
-    subst IsLog view (is_log _ (reverse l.records.items) l.txs.items l.pending l.gone is.log_kept (omega (arith, is.roomy.fits, length-reverse l.records.items, l.records.ok.0)) is.roomy.within refl refl)
+    subst IsLog view (is_log _ (reverse l.records.items) l.txs.entries l.pending l.gone is.log_kept (omega (arith, is.roomy.fits, length-reverse l.records.items, l.records.ok.0)) is.roomy.within refl refl)
 
 -- ---- a count that was made again
 
@@ -227,28 +224,27 @@ lack_some : (w : Option (List ℕ)) → not (is_some w) ≡ true → is_some (la
 lack_some None h = refl
 lack_some (Some r) h = absurd (let no : false ≡ true = h in cc)
 
-pub counted_change : (rs : List LogRecord) (es : List OpenTx) (begun pending gone_keys t : ℕ) (e : OpenTx) (change : LiveChange) → IsKept rs es begun pending gone_keys → find_tx t es ≡ Some e → IsStep rs e.last change → IsCounted pending change e
+pub counted_change : (rs : List LogRecord) (es : List (TxId × OpenTx)) (begun pending gone_keys t : ℕ) (e : OpenTx) (change : LiveChange) → IsKept rs (finding es) begun pending gone_keys → finding es t ≡ Some e → IsStep rs e.last change → IsCounted pending change e
 counted_change rs es begun pending gone_keys t e change kept found step =
-    let fits = found_fits rs begun t es e kept.fit found in
-    let number = found_number t es e found in
-    let opened : opens es e.tx.0 ≡ true = ap (opens es) number ∙ ap is_some found in
-    let there = chain_of rs e.tx.0 e.last kept.numbered kept.written fits.last in
-    let whole : stack e.tx.0 rs ≡ step.update ∷ step.rest = sym there ∙ step.is in
+    let fits = found_fits rs begun t (finding es) e kept.fit found in
+    let opened : opens (finding es) t ≡ true = ap is_some found in
+    let there = chain_of rs t e.last kept.numbered kept.written fits.last in
+    let whole : stack t rs ≡ step.update ∷ step.rest = sym there ∙ step.is in
     let live_is : e.live ≡ suc (length step.rest) = fits.live ∙ ap length whole in
-    let newest = newest_of_stack e.tx.0 rs step.rest step.update whole in
-    let fewer = pending-undone (opens es) e.tx.0 (kept_of rs) (noted step.update) opened newest in
+    let newest = newest_of_stack t rs step.rest step.update whole in
+    let fewer = pending-undone (opens (finding es)) t (kept_of rs) (noted step.update) opened newest in
     let pending_is = kept.pending_is in
-    let absent_is : e.absent ≡ maps.len (absent_in (only e.tx.0) (kept_of rs)) = fits.absent_keys in
-    let now : lives e.tx.0 (kept_of rs) ≡ noted step.update ∷ map noted step.rest = sym (stack_is_lives e.tx.0 rs) ∙ ap (map noted) whole in
+    let absent_is : e.absent ≡ maps.len (absent_in (only t) (kept_of rs)) = fits.absent_keys in
+    let now : lives t (kept_of rs) ≡ noted step.update ∷ map noted step.rest = sym (stack_is_lives t rs) ∙ ap (map noted) whole in
     let after_is : new_of step.update ≡ change.after = ap (λ (c : LiveChange). c.after) step.told in
     let x = key_of step.update in
-    let had : not (is_some change.after) ≡ true → has (absent_in (only e.tx.0) (kept_of rs)) x ≡ true = λ h.
-    ap (λ m. has m x) (absent_is_gone e.tx.0 (kept_of rs) ∙ ap gone now)
+    let had : not (is_some change.after) ≡ true → has (absent_in (only t) (kept_of rs)) x ≡ true = λ h.
+    ap (λ m. has m x) (absent_is_gone t (kept_of rs) ∙ ap gone now)
     ∙ has-set_to (gone (map noted step.rest)) x (lack (new_of step.update)) x
     ∙ ap (λ (b : Bool). cond b (is_some (lack (new_of step.update))) (has (gone (map noted step.rest)) x)) (same_key-refl x x refl)
     ∙ lack_some (new_of step.update) (ap (λ (w : Option (List ℕ)). not (is_some w)) after_is ∙ h) in
     record {
       live = omega arith;
       waits = omega arith;
-      lacking = λ h. (let some = none_of_len (absent_in (only e.tx.0) (kept_of rs)) x (had h) in omega arith);
+      lacking = λ h. (let some = none_of_len (absent_in (only t) (kept_of rs)) x (had h) in omega arith);
     }

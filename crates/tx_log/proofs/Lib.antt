@@ -12,11 +12,14 @@ pub mod OpenFacts
 pub mod OwnerFacts
 pub mod OwnedKeys
 pub mod PlaceFacts
-pub mod PositionFacts
 pub mod ReadFacts
-pub mod ScanFacts
 pub mod StateFacts
 pub mod StepFacts
 pub mod WalkSteps
 pub mod OpenCount
 pub mod RemainingFacts
+pub mod PlaceOf
+pub mod HoldFacts
+pub mod KeyPlaces
+pub mod HoldSteps
+pub mod HoldCalls

@@ -1,20 +1,21 @@
 -- An open transaction whose stage and savepoints change.
-use Rattle.std.proofs.Common.{◌≡◌, ℕ, zero, suc, ◌≤◌, Bool, List, [], ◌∷◌, ◌++◌, length, map, take, reverse, set, Option, Some, None, refl, sym, ap, subst, ◌∙◌, arith, length-take}
+use Rattle.std.proofs.Common.{◌≡◌, ℕ, zero, suc, ◌≤◌, Bool, List, [], ◌∷◌, ◌++◌, length, map, take, reverse, Option, Some, None, refl, sym, ap, subst, ◌∙◌, arith, length-take}
 use Rattle.std.specs.FinMap as maps
 use Rattle.std.specs.List.{take-map}
 use Rattle.std.proofs.lemmas.List.{map-append}
 use Rattle.rec_types.specs.History.{is_pending, own_count}
 use Rattle.rec_types.specs.Kept.{Kept, history_of, IsOwned}
+use Rattle.rec_types.specs.declared.transactions.TxId.{TxId}
 use Rattle.rec_types.specs.LimitBounds.{Bounds}
 use Rattle.tx_log.proofs.AbsentFacts.{absent_in}
 use Rattle.tx_log.proofs.Counts.{count}
 use Rattle.tx_log.proofs.KeptFacts.{tx_of_entry}
-use Rattle.tx_log.proofs.OpenFacts.{found_fits, found_number, fit-set, opens-set, txs-set}
+use Rattle.tx_log.proofs.OpenFacts.{found_fits, fit-put, opens-put, txs-put}
 use Rattle.tx_log.proofs.PlaceFacts.{kept_rises, place-zero, place-new}
 use Rattle.tx_log.proofs.StateFacts.{state}
-use Rattle.tx_log.specs.Finds.{find_tx, IsFirst}
-use Rattle.tx_log.specs.Fits.{AllUpTo, RollbackUpTo, FitsTx}
-use Rattle.tx_log.specs.Log.{kept_of, last_of, IsNumbered}
+use Rattle.tx_log.specs.Finds.{Txs, finding, Puts}
+use Rattle.tx_log.specs.Fits.{AllUpTo, RollbackUpTo, FitsTx, left_above}
+use Rattle.tx_log.specs.Log.{kept_of, last_of, stack, IsNumbered}
 use Rattle.tx_log.specs.LogFields.{IsKept}
 use Rattle.tx_log.specs.LogState.{places_of, places_in}
 use Rattle.tx_log.specs.Places.{place_at}
@@ -25,18 +26,20 @@ use Rattle.tx_log.specs.declared.opened.OpenTx.{OpenTx}
 use Rattle.tx_log.specs.declared.phases.Rollback.{Rollback}
 
 -- the transaction with the stage and the savepoints
-abbrev pub moved : OpenTx → Option Rollback → List ℕ → OpenTx
-moved e s ss = record e { rollback = s; saves = record { items = ss } }
+abbrev pub moved : OpenTx → Option Rollback → ℕ → List ℕ → OpenTx
+moved e s left ss = record e { rollback = s; left = left; saves = record { items = ss } }
 
-pub record IsMove (rs : List LogRecord) (s : Option Rollback) (ss : List ℕ) : Type 0 where
+pub record IsMove (rs : List LogRecord) (t : ℕ) (s : Option Rollback) (left : ℕ) (ss : List ℕ) : Type 0 where
+  pub remaining : left ≡ left_above (stack t rs) s
   pub saves : AllUpTo (length rs) ss
   pub depth : length ss ≤ most_savepoints
   pub rollback : RollbackUpTo (length rs) s
 
-moved_fits : (rs : List LogRecord) (n : ℕ) (e : OpenTx) (s : Option Rollback) (ss : List ℕ) → FitsTx rs n e → IsMove rs s ss → FitsTx rs n (moved e s ss)
-moved_fits rs n e s ss fits move = record {
+moved_fits : (rs : List LogRecord) (n t : ℕ) (e : OpenTx) (s : Option Rollback) (left : ℕ) (ss : List ℕ) → FitsTx rs n t e → IsMove rs t s left ss → FitsTx rs n t (moved e s left ss)
+moved_fits rs n t e s left ss fits move = record {
   last = fits.last;
   live = fits.live;
+  left = move.remaining;
   absent_keys = fits.absent_keys;
   removals = fits.removals;
   saves = move.saves;
@@ -46,15 +49,14 @@ moved_fits rs n e s ss fits move = record {
   begun = fits.begun;
 }
 
-pub moved_kept : (rs : List LogRecord) (es : List OpenTx) (begun pending gone t i : ℕ) (e new : OpenTx) (s : Option Rollback) (ss : List ℕ) → IsKept rs es begun pending gone → IsFirst t es i → find_tx t es ≡ Some e → new ≡ moved e s ss → IsMove rs s ss → IsKept rs (set es i new) begun pending gone
-moved_kept rs es begun pending gone t i e new s ss kept is found new_is move =
-    let fits : FitsTx rs begun new = subst (FitsTx rs begun) (sym new_is) (moved_fits rs begun e s ss (found_fits rs begun t es e kept.fit found) move) in
-    let own : new.tx.0 ≡ t = ap (λ (x : OpenTx). x.tx.0) new_is ∙ found_number t es e found in
-    let same = opens-set t es i new is own in
+pub moved_kept : (rs : List LogRecord) (old new : Txs) (begun pending gone t : ℕ) (e d : OpenTx) (s : Option Rollback) (left : ℕ) (ss : List ℕ) → IsKept rs old begun pending gone → old t ≡ Some e → Puts old new t (Some d) → d ≡ moved e s left ss → IsMove rs t s left ss → IsKept rs new begun pending gone
+moved_kept rs old new begun pending gone t e d s left ss kept there puts new_is move =
+    let fits : FitsTx rs begun t d = subst (FitsTx rs begun t) (sym new_is) (moved_fits rs begun t e s left ss (found_fits rs begun t old e kept.fit there) move) in
+    let same = opens-put t old new d e puts there in
     record {
       numbered = kept.numbered;
       written = kept.written;
-      fit = fit-set rs begun rs begun t es i new (λ x apart fit. fit) is own fits kept.fit;
+      fit = fit-put rs begun rs begun t old new (Some d) (λ u x apart fit. fit) puts fits kept.fit;
       known = kept.known;
       all_begun = kept.all_begun;
       owned = subst (λ (o : ℕ → Bool). IsOwned o (kept_of rs)) (sym same) kept.owned;
@@ -65,18 +67,16 @@ moved_kept rs es begun pending gone t i e new s ss kept is found new_is move =
 abbrev pub moved_tx : List Kept → ℕ → Option Rollback → List ℕ → Tx
 moved_tx cs t s ss = record { rollback = rollback_at t cs s; places = map (λ k. place_at t k cs) ss }
 
-pub moved_state : (records : List LogRecord) (es : List OpenTx) (begun : ℕ) (limits : Bounds) (room : Option (List ℕ)) (t i : ℕ) (e new : OpenTx) (s : Option Rollback) (ss : List ℕ) → IsFirst t es i → find_tx t es ≡ Some e → new ≡ moved e s ss → state records (set es i new) begun limits None ≡ record (state records es begun limits room) { txs = maps.insert (txs_of (kept_of (reverse records)) es) t (moved_tx (kept_of (reverse records)) t s ss); room = None }
-moved_state records es begun limits room t i e new s ss is found new_is =
+pub moved_state : (records : List LogRecord) (es fs : List (TxId × OpenTx)) (begun : ℕ) (limits : Bounds) (room : Option (List ℕ)) (t : ℕ) (e new : OpenTx) (s : Option Rollback) (left : ℕ) (ss : List ℕ) → Puts (finding es) (finding fs) t (Some new) → new ≡ moved e s left ss → state records fs begun limits None ≡ record (state records es begun limits room) { txs = maps.insert (txs_of (kept_of (reverse records)) es) t (moved_tx (kept_of (reverse records)) t s ss); room = None }
+moved_state records es fs begun limits room t e new s left ss puts new_is =
     let cs = kept_of (reverse records) in
-    let number = found_number t es e found in
-    let own : new.tx.0 ≡ t = ap (λ (x : OpenTx). x.tx.0) new_is ∙ number in
-    let txs_are = txs-set cs t es i new is own ∙ ap (λ (x : OpenTx). maps.insert (txs_of cs es) t (tx_at cs x)) new_is ∙ ap (λ k. maps.insert (txs_of cs es) t (moved_tx cs k s ss)) number in
+    let txs_are = txs-put cs es fs t new puts ∙ ap (λ (x : OpenTx). maps.insert (txs_of cs es) t (tx_at t cs x)) new_is in
     λ j. record { records = records; changes = cs; txs = txs_are j; begun = begun; limits = limits; room = None }
 
 -- the places of a transaction
-pub places_are : (records : List LogRecord) (es : List OpenTx) (begun : ℕ) (limits : Bounds) (room : Option (List ℕ)) (t : ℕ) (e : OpenTx) → find_tx t es ≡ Some e → places_in (state records es begun limits room) t ≡ map (λ k. place_at t k (kept_of (reverse records))) e.saves.items
+pub places_are : (records : List LogRecord) (es : List (TxId × OpenTx)) (begun : ℕ) (limits : Bounds) (room : Option (List ℕ)) (t : ℕ) (e : OpenTx) → finding es t ≡ Some e → places_in (state records es begun limits room) t ≡ map (λ k. place_at t k (kept_of (reverse records))) e.saves.items
 places_are records es begun limits room t e found =
-    ap places_of (tx_of_entry (kept_of (reverse records)) es t e found) ∙ ap (λ n. map (λ k. place_at n k (kept_of (reverse records))) e.saves.items) (found_number t es e found)
+    ap places_of (tx_of_entry (kept_of (reverse records)) es t e found)
 
 -- ---- savepoints
 

@@ -16,14 +16,15 @@ use Rattle.std.proofs.lemmas.List.Sorted.{Contains-permutation, IsPermutation-sy
 use Rattle.std.proofs.lemmas.Map.Views.{Contains-from_any, list_any-from_Contains}
 use Rattle.rec_types.specs.Contents.{Contents, set_to, same_key}
 use Rattle.rec_types.specs.History.{is_pending}
+use Rattle.rec_types.specs.declared.transactions.TxId.{TxId}
 use Rattle.rec_types.specs.Kept.{Kept, change_of, history_of, is_own}
 use Rattle.tx_log.proofs.Chains.{same_number}
 use Rattle.tx_log.proofs.KeyFacts.{same_key-is, get-set_to}
 use Rattle.tx_log.proofs.Lives.{single, lives, stack_is_lives}
-use Rattle.tx_log.proofs.OpenFacts.{opens_is, found_fits, found_number}
+use Rattle.tx_log.proofs.OpenFacts.{opens_is, found_fits}
 use Rattle.tx_log.proofs.StepFacts.{chain_of}
-use Rattle.tx_log.specs.Finds.{find_tx}
-use Rattle.tx_log.specs.Log.{key_of, kept_of, last_of, stack, chain, noted}
+use Rattle.tx_log.specs.Finds.{finding}
+use Rattle.tx_log.specs.Log.{key_of, kept_of, stack, chain, noted}
 use Rattle.tx_log.specs.LogFields.{IsKept}
 use Rattle.tx_log.specs.Owners.{charged, keys_owned}
 use Rattle.tx_log.specs.OpenTxs.{txs_of, opens}
@@ -147,16 +148,16 @@ keys_noted : (us : List LogRecord) → keys_in (map noted us) ≡ map key_of us
 keys_noted [] = refl
 keys_noted (u ∷ us) = ap (λ ks. key_of u ∷ ks) (keys_noted us)
 
-pub owned_keys : (rs : List LogRecord) (es : List OpenTx) (begun pending gone t : ℕ) (e : OpenTx) (ks ps out : List (List ℕ)) → IsKept rs es begun pending gone → find_tx t es ≡ Some e → ks ≡ map key_of (chain rs e.last) → IsPermutation ks ps → IsSorted (slice_cmp nat_cmp) ps → out ≡ dedup (pointwise eqb) ps → out ≡ keys_owned (is_open (txs_of (kept_of rs) es)) (history_of (kept_of rs)) t
+pub owned_keys : (rs : List LogRecord) (es : List (TxId × OpenTx)) (begun pending gone t : ℕ) (e : OpenTx) (ks ps out : List (List ℕ)) → IsKept rs (finding es) begun pending gone → finding es t ≡ Some e → ks ≡ map key_of (chain rs e.last) → IsPermutation ks ps → IsSorted (slice_cmp nat_cmp) ps → out ≡ dedup (pointwise eqb) ps → out ≡ keys_owned (is_open (txs_of (kept_of rs) es)) (history_of (kept_of rs)) t
 owned_keys rs es begun pending gone t e ks ps out kept found are moved up out_is =
     let cs = kept_of rs in
-    let opened : opens es t ≡ true = ap is_some found in
-    let there = chain_of rs t e.last kept.numbered kept.written ((found_fits rs begun t es e kept.fit found).last ∙ ap (λ k. last_of k rs) (found_number t es e found)) in
+    let opened : opens (finding es) t ≡ true = ap is_some found in
+    let there = chain_of rs t e.last kept.numbered kept.written ((found_fits rs begun t (finding es) e kept.fit found).last) in
     let live_keys : keys_in (lives t cs) ≡ ks = ap keys_in (sym (stack_is_lives t rs)) ∙ keys_noted (stack t rs) ∙ ap (map key_of) (sym there) ∙ sym are in
     let strict : IsStrictlySortedBy (slice_cmp nat_cmp) (dedup (pointwise eqb) ps) = IsStrictlySortedBy-dedup nat_list_cmp_total texts_ties ps up in
-    let m = charged (owns t (opens es)) (history_of cs) maps.empty in
+    let m = charged (owns t (opens (finding es))) (history_of cs) maps.empty in
     let has : (q : List ℕ) → maps.get m q ≡ told (among q (dedup (pointwise eqb) ps)) = λ q.
-    get_owned (opens es) t cs q opened ∙ ap (λ xs. told (among q xs)) live_keys ∙ ap told (sym (among_sorted ks ps q moved)) in
+    get_owned (opens (finding es)) t cs q opened ∙ ap (λ xs. told (among q xs)) live_keys ∙ ap told (sym (among_sorted ks ps q moved)) in
     out_is ∙ sym (keys_are m (dedup (pointwise eqb) ps) strict has) ∙ ap (λ (o : ℕ → Bool). keys_owned o (history_of cs) t) (sym (opens_is cs es))
 
 no_order : IsStrictlySortedBy (slice_cmp nat_cmp) []
@@ -179,7 +180,7 @@ no_keys is_open t (c ∷ cs) shut =
     ap (λ (b : Bool). cond b (set_to (charged (owns t is_open) (history_of cs) maps.empty) c.key (Some [])) (charged (owns t is_open) (history_of cs) maps.empty)) (shut_pending is_open t c shut)
     ∙ no_keys is_open t cs shut
 
-pub unowned_keys : (cs : List Kept) (es : List OpenTx) (t : ℕ) → find_tx t es ≡ None → [] ≡ keys_owned (is_open (txs_of cs es)) (history_of cs) t
+pub unowned_keys : (cs : List Kept) (es : List (TxId × OpenTx)) (t : ℕ) → finding es t ≡ None → [] ≡ keys_owned (is_open (txs_of cs es)) (history_of cs) t
 unowned_keys cs es t none =
     let nothing : (q : List ℕ) → maps.get {X = List ℕ} {R = slice_cmp nat_cmp} maps.empty q ≡ told (among q []) = λ q. maps.get-empty (slice_cmp nat_cmp) q in
-    sym (ap (λ (o : ℕ → Bool). keys_owned o (history_of cs) t) (opens_is cs es) ∙ ap (λ (m : Contents). maps.keys m) (no_keys (opens es) t cs (ap is_some none)) ∙ keys_are maps.empty [] no_order nothing)
+    sym (ap (λ (o : ℕ → Bool). keys_owned o (history_of cs) t) (opens_is cs es) ∙ ap (λ (m : Contents). maps.keys m) (no_keys (opens (finding es)) t cs (ap is_some none)) ∙ keys_are maps.empty [] no_order nothing)

@@ -73,7 +73,7 @@ held_from_only : (is_open : ℕ → Bool) (t : ℕ) (x : List ℕ) (cs : List Ke
 held_from_only is_open t x [] is = tt
 held_from_only is_open t x (c ∷ cs) is = (λ live opened at. is.0 live at, held_from_only is_open t x cs is.1)
 
-none_other : (t u : ℕ) → other_than t (Some u) ≡ None → u ≡ t
+pub none_other : (t u : ℕ) → other_than t (Some u) ≡ None → u ≡ t
 none_other t u e = none_other_case (eqb u t) refl e
   where
     none_other_case : (b : Bool) → eqb u t ≡ b → cond b None (Some u) ≡ None → u ≡ t

@@ -1,5 +1,5 @@
 -- The state that a log stands for, along its changes.
-use Rattle.std.proofs.Common.{◌≡◌, ℕ, ◌+◌, true, List, [], ◌∷◌, ◌++◌, length, reverse, set, get_or, Option, Some, None, refl, sym, ap, subst, ◌∙◌}
+use Rattle.std.proofs.Common.{◌≡◌, ℕ, ◌+◌, true, List, [], ◌∷◌, ◌++◌, length, reverse, Option, Some, None, refl, sym, ap, subst, ◌∙◌}
 use Rattle.std.specs.FinMap as maps
 use Rattle.std.specs.Ordering.{nat_cmp}
 use Rattle.std.specs.Cmp.Lexicographic.{slice_cmp}
@@ -10,20 +10,18 @@ use Rattle.rec_types.specs.LimitBounds.{Bounds}
 use Rattle.rec_types.specs.declared.transactions.TxId.{TxId}
 use Rattle.tx_log.proofs.KeptFacts.{state_len}
 use Rattle.tx_log.proofs.LogIndex.{reverse-push}
-use Rattle.tx_log.proofs.OpenFacts.{txs-same, txs-grow}
-use Rattle.tx_log.specs.Finds.{IsFirst}
-use Rattle.tx_log.specs.Fits.{AllFit}
+use Rattle.tx_log.specs.Finds.{Txs, finding}
 use Rattle.tx_log.specs.Log.{lsn_of, key_of, old_of, noted, last_of, record_at, kept_of, AllWritten}
 use Rattle.tx_log.specs.LogFields.{IsKept, IsRoomy}
 use Rattle.tx_log.specs.LogState.{LogState, update_in, undo_in, prev_in, compensations_of, compensations_in}
 use Rattle.tx_log.specs.Walks.{change_in}
 use Rattle.tx_log.specs.declared.walks.LiveChange.{LiveChange}
-use Rattle.tx_log.specs.OpenTxs.{tx_at, txs_of}
+use Rattle.tx_log.specs.OpenTxs.{txs_of}
 use Rattle.tx_log.specs.declared.log_records.LogRecord.{LogRecord}
 use Rattle.tx_log.specs.declared.log_records.LogRecord.TheVariants.{Update, Compensation}
 use Rattle.tx_log.specs.declared.opened.OpenTx.{OpenTx}
 
-abbrev pub state : List LogRecord → List OpenTx → ℕ → Bounds → Option (List ℕ) → LogState
+abbrev pub state : List LogRecord → List (TxId × OpenTx) → ℕ → Bounds → Option (List ℕ) → LogState
 state records es begun limits room = record {
   records = records;
   changes = kept_of (reverse records);
@@ -33,11 +31,11 @@ state records es begun limits room = record {
   room = room;
 }
 
-pub kept_empty : (rs : List LogRecord) (es : List OpenTx) → rs ≡ [] → es ≡ [] → IsKept rs es 0 0 0
+pub kept_empty : (rs : List LogRecord) (es : List (TxId × OpenTx)) → rs ≡ [] → es ≡ [] → IsKept rs (finding es) 0 0 0
 kept_empty [] [] rs_is es_is = record {
   numbered = tt;
   written = tt;
-  fit = tt;
+  fit = λ t. tt;
   known = tt;
   all_begun = tt;
   owned = tt;
@@ -47,7 +45,7 @@ kept_empty [] [] rs_is es_is = record {
 kept_empty [] (e ∷ es) rs_is es_is = absurd (cc)
 kept_empty (r ∷ rs) es rs_is es_is = absurd (cc)
 
-pub accept_state : (records records_new : List LogRecord) (es es_new : List OpenTx) (begun : ℕ) (limits : Bounds) (room : Option (List ℕ)) (lsn prev : ℕ) (tx : TxId) (key : List ℕ) (before after : Option (List ℕ)) → AllWritten (reverse records) → records_new ≡ records ++ Update lsn prev tx key before after ∷ [] → lsn ≡ length records + 1 → prev ≡ last_of tx.0 (reverse records) → txs_of (kept_of (Update lsn prev tx key before after ∷ reverse records)) es_new ≡ txs_of (kept_of (reverse records)) es → state records_new es_new begun limits None ≡ record (state records es begun limits room) { records = records ++ update_in (state records es begun limits room) tx key before after ∷ []; changes = kept_of (reverse records) ++ record { lsn = log_len (history_of (kept_of (reverse records))) + 1; tx = tx.0; key = key; before = before; after = after; live = true } ∷ []; room = None }
+pub accept_state : (records records_new : List LogRecord) (es es_new : List (TxId × OpenTx)) (begun : ℕ) (limits : Bounds) (room : Option (List ℕ)) (lsn prev : ℕ) (tx : TxId) (key : List ℕ) (before after : Option (List ℕ)) → AllWritten (reverse records) → records_new ≡ records ++ Update lsn prev tx key before after ∷ [] → lsn ≡ length records + 1 → prev ≡ last_of tx.0 (reverse records) → txs_of (kept_of (Update lsn prev tx key before after ∷ reverse records)) es_new ≡ txs_of (kept_of (reverse records)) es → state records_new es_new begun limits None ≡ record (state records es begun limits room) { records = records ++ update_in (state records es begun limits room) tx key before after ∷ []; changes = kept_of (reverse records) ++ record { lsn = log_len (history_of (kept_of (reverse records))) + 1; tx = tx.0; key = key; before = before; after = after; live = true } ∷ []; room = None }
 accept_state records records_new es es_new begun limits room lsn prev tx key before after w pushed lsn_is prev_is txs_is =
     let r : LogRecord = Update lsn prev tx key before after in
     let rs = reverse records in
@@ -60,14 +58,10 @@ accept_state records records_new es es_new begun limits room lsn prev tx key bef
     let txs_are = ap (λ xs. txs_of (kept_of xs) es_new) turned ∙ txs_is in
     λ i. record { records = records_are i; changes = changes_are i; txs = txs_are i; begun = begun; limits = limits; room = None }
 
--- an entry whose stage and savepoints stay, beside a log that grows
-pub txs_stay : (r : LogRecord) (rs : List LogRecord) (n t : ℕ) (es : List OpenTx) (i : ℕ) (new d : OpenTx) → lsn_of r ≡ length rs + 1 → AllFit rs n es → IsFirst t es i → new.tx.0 ≡ t → tx_at (kept_of (r ∷ rs)) new ≡ tx_at (kept_of (r ∷ rs)) (get_or es i d) → txs_of (kept_of (r ∷ rs)) (set es i new) ≡ txs_of (kept_of rs) es
-txs_stay r rs n t es i new d is fit first own same = txs-same (kept_of (r ∷ rs)) t es i new d first own same ∙ txs-grow r rs n es is fit
+pub kept_turned : (xs ys : List LogRecord) (txs : Txs) (begun pending gone : ℕ) → xs ≡ ys → IsKept ys txs begun pending gone → IsKept xs txs begun pending gone
+kept_turned xs ys txs begun pending gone same kept = subst (λ (zs : List LogRecord). IsKept zs txs begun pending gone) (sym same) kept
 
-pub kept_turned : (xs ys : List LogRecord) (es : List OpenTx) (begun pending gone : ℕ) → xs ≡ ys → IsKept ys es begun pending gone → IsKept xs es begun pending gone
-kept_turned xs ys es begun pending gone same kept = subst (λ (zs : List LogRecord). IsKept zs es begun pending gone) (sym same) kept
-
-pub compensate_state : (records records_new : List LogRecord) (es es_new : List OpenTx) (begun : ℕ) (limits : Bounds) (room : Option (List ℕ)) (lsn prev : ℕ) (tx : TxId) (key : List ℕ) (restored : Option (List ℕ)) (undo_next : ℕ) → records_new ≡ records ++ Compensation lsn prev tx key restored undo_next ∷ [] → Compensation lsn prev tx key restored undo_next ∷ [] ≡ compensations_in (state records es begun limits room) tx → txs_of (kept_of (Compensation lsn prev tx key restored undo_next ∷ reverse records)) es_new ≡ txs_of (kept_of (reverse records)) es → state records_new es_new begun limits None ≡ record (state records es begun limits room) { records = records ++ compensations_in (state records es begun limits room) tx; changes = undone tx.0 (kept_of (reverse records)); room = None }
+pub compensate_state : (records records_new : List LogRecord) (es es_new : List (TxId × OpenTx)) (begun : ℕ) (limits : Bounds) (room : Option (List ℕ)) (lsn prev : ℕ) (tx : TxId) (key : List ℕ) (restored : Option (List ℕ)) (undo_next : ℕ) → records_new ≡ records ++ Compensation lsn prev tx key restored undo_next ∷ [] → Compensation lsn prev tx key restored undo_next ∷ [] ≡ compensations_in (state records es begun limits room) tx → txs_of (kept_of (Compensation lsn prev tx key restored undo_next ∷ reverse records)) es_new ≡ txs_of (kept_of (reverse records)) es → state records_new es_new begun limits None ≡ record (state records es begun limits room) { records = records ++ compensations_in (state records es begun limits room) tx; changes = undone tx.0 (kept_of (reverse records)); room = None }
 compensate_state records records_new es es_new begun limits room lsn prev tx key restored undo_next pushed told txs_is =
     let r : LogRecord = Compensation lsn prev tx key restored undo_next in
     let turned : reverse records_new ≡ r ∷ reverse records = ap reverse pushed ∙ reverse-push records r in

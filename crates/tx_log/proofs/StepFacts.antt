@@ -1,5 +1,5 @@
 -- A log that grows by a record, beside the open transactions and the counts.
-use Rattle.std.proofs.Common.{◌≡◌, ℕ, suc, ◌+◌, ◌<◌, ◌≤◌, Bool, true, false, cond, not, eqb, ◌&&◌, List, [], ◌∷◌, ◌++◌, length, map, drop, set, Option, Some, None, option_map, is_some, refl, sym, ap, subst, ◌∙◌, arith, eq-eqb}
+use Rattle.std.proofs.Common.{◌≡◌, ℕ, suc, ◌+◌, ◌≤◌, Bool, true, false, cond, not, eqb, ◌&&◌, List, [], ◌∷◌, ◌++◌, length, map, drop, Option, Some, None, option_map, is_some, refl, sym, ap, subst, ◌∙◌, arith, eq-eqb}
 use Rattle.std.specs.FinMap as maps
 use Rattle.std.specs.List.{find, filter}
 use Rattle.rec_types.specs.Contents.{Contents, set_to, has}
@@ -10,12 +10,12 @@ use Rattle.tx_log.specs.Transactions.{most_savepoints}
 use Rattle.tx_log.proofs.AbsentFacts.{only, without, absent_in, absent-push, absent-push_other, absent-undone_other, absent-parts, absent_is_gone, gone, lacks, has-gone, len-set_to, lack}
 use Rattle.tx_log.proofs.Chains.{last_of-le, chain_is_stack}
 use Rattle.tx_log.proofs.Counts.{count, count-push, pending-undone, newest_of_stack}
-use Rattle.tx_log.proofs.Lives.{lives, lives-undone, stack_is_lives, eqb_sym}
-use Rattle.tx_log.proofs.OpenFacts.{found_fits, found_number, fit-set, opens-set, begun_of}
+use Rattle.tx_log.proofs.Lives.{lives, lives-undone, stack_is_lives}
+use Rattle.tx_log.proofs.OpenFacts.{found_fits, fit-put, opens-put, begun_of}
 use Rattle.tx_log.proofs.OwnerFacts.{kept_at, HeldBy, owned-push, owned-undone, begun-push, begun-undone}
 use Rattle.tx_log.proofs.WalkSteps.{IsStep}
-use Rattle.tx_log.specs.Finds.{find_tx, IsFirst}
-use Rattle.tx_log.specs.Fits.{AllUpTo, RollbackUpTo, FitsTx}
+use Rattle.tx_log.specs.Finds.{Txs, Puts}
+use Rattle.tx_log.specs.Fits.{AllUpTo, RollbackUpTo, FitsTx, left_above}
 use Rattle.tx_log.specs.Log.{removes, leads_to, lsn_of, prev_of, tx_of, key_of, new_of, noted, kept_of, last_of, stepped, stack, chain, IsNumbered, Undoes, IsWritten, AllWritten}
 use Rattle.tx_log.specs.LogFields.{IsKept}
 use Rattle.tx_log.specs.OpenTxs.{opens}
@@ -40,14 +40,15 @@ absent_other : (r : LogRecord) (rs : List LogRecord) (u : ℕ) → eqb (tx_of r)
 absent_other (Update lsn prev tx key before after) rs u other = absent-push_other (only u) (kept_of rs) (noted (Update lsn prev tx key before after)) other
 absent_other (Compensation lsn prev tx key restored undo_next) rs u other = absent-undone_other (only u) tx.0 (kept_of rs) other
 
-pub grow_other : (r : LogRecord) (rs : List LogRecord) (n t : ℕ) (e : OpenTx) → tx_of r ≡ t → eqb e.tx.0 t ≡ false → FitsTx rs n e → FitsTx (r ∷ rs) n e
-grow_other r rs n t e own other fits =
-    let apart : eqb (tx_of r) e.tx.0 ≡ false = ap (λ k. eqb k e.tx.0) own ∙ eqb_sym t e.tx.0 ∙ other in
+pub grow_other : (r : LogRecord) (rs : List LogRecord) (n t u : ℕ) (e : OpenTx) → tx_of r ≡ t → eqb t u ≡ false → FitsTx rs n u e → FitsTx (r ∷ rs) n u e
+grow_other r rs n t u e own other fits =
+    let apart : eqb (tx_of r) u ≡ false = ap (λ k. eqb k u) own ∙ other in
     record {
-      last = fits.last ∙ sym (ap (λ (b : Bool). cond b (lsn_of r) (last_of e.tx.0 rs)) apart);
-      live = fits.live ∙ sym (ap (λ (b : Bool). length (cond b (stepped r (stack e.tx.0 rs)) (stack e.tx.0 rs))) apart);
-      absent_keys = fits.absent_keys ∙ sym (ap maps.len (absent_other r rs e.tx.0 apart));
-      removals = fits.removals ∙ sym (ap (λ (b : Bool). length (filter removes (cond b (stepped r (stack e.tx.0 rs)) (stack e.tx.0 rs)))) apart);
+      last = fits.last ∙ sym (ap (λ (b : Bool). cond b (lsn_of r) (last_of u rs)) apart);
+      live = fits.live ∙ sym (ap (λ (b : Bool). length (cond b (stepped r (stack u rs)) (stack u rs))) apart);
+      left = fits.left ∙ sym (ap (λ (b : Bool). left_above (cond b (stepped r (stack u rs)) (stack u rs)) e.rollback) apart);
+      absent_keys = fits.absent_keys ∙ sym (ap maps.len (absent_other r rs u apart));
+      removals = fits.removals ∙ sym (ap (λ (b : Bool). length (filter removes (cond b (stepped r (stack u rs)) (stack u rs)))) apart);
       saves = up_to_more (length rs) e.saves.items fits.saves;
       depth = fits.depth;
       rollback = rollback_more (length rs) e.rollback fits.rollback;
@@ -57,55 +58,53 @@ grow_other r rs n t e own other fits =
 
 -- ---- the transaction of the record
 
-pub record IsOwnStep (r : LogRecord) (rs : List LogRecord) (n : ℕ) (e new : OpenTx) : Type 0 where
-  pub tx : new.tx.0 ≡ e.tx.0
+pub record IsOwnStep (r : LogRecord) (rs : List LogRecord) (t : ℕ) (e new : OpenTx) : Type 0 where
   pub rollback : new.rollback ≡ e.rollback
   pub saves : new.saves.items ≡ e.saves.items
-  pub mine : tx_of r ≡ e.tx.0
+  pub mine : tx_of r ≡ t
   pub last : new.last ≡ lsn_of r
-  pub live : new.live ≡ length (stepped r (stack e.tx.0 rs))
-  pub absent_keys : new.absent ≡ maps.len (absent_in (only e.tx.0) (kept_of (r ∷ rs)))
-  pub removals : new.removals ≡ length (filter removes (stepped r (stack e.tx.0 rs)))
+  pub live : new.live ≡ length (stepped r (stack t rs))
+  pub left : new.left ≡ left_above (stepped r (stack t rs)) e.rollback
+  pub absent_keys : new.absent ≡ maps.len (absent_in (only t) (kept_of (r ∷ rs)))
+  pub removals : new.removals ≡ length (filter removes (stepped r (stack t rs)))
 
-pub grow_own : (r : LogRecord) (rs : List LogRecord) (n : ℕ) (e new : OpenTx) → FitsTx rs n e → IsOwnStep r rs n e new → FitsTx (r ∷ rs) n new
-grow_own r rs n e new fits step =
-    let here : (t : ℕ) → t ≡ e.tx.0 → eqb (tx_of r) t ≡ true = λ t same. eq-eqb (tx_of r) t (step.mine ∙ sym same) in
-    let at = step.tx in
+pub grow_own : (r : LogRecord) (rs : List LogRecord) (n t : ℕ) (e new : OpenTx) → FitsTx rs n t e → IsOwnStep r rs t e new → FitsTx (r ∷ rs) n t new
+grow_own r rs n t e new fits step =
+    let here : eqb (tx_of r) t ≡ true = eq-eqb (tx_of r) t step.mine in
     record {
-      last = step.last ∙ sym (ap (λ (b : Bool). cond b (lsn_of r) (last_of new.tx.0 rs)) (here new.tx.0 at));
-      live = step.live ∙ ap (λ (k : ℕ). length (stepped r (stack k rs))) (sym at) ∙ sym (ap (λ (b : Bool). length (cond b (stepped r (stack new.tx.0 rs)) (stack new.tx.0 rs))) (here new.tx.0 at));
-      absent_keys = step.absent_keys ∙ ap (λ (k : ℕ). maps.len (absent_in (only k) (kept_of (r ∷ rs)))) (sym at);
-      removals = step.removals ∙ ap (λ (k : ℕ). length (filter removes (stepped r (stack k rs)))) (sym at) ∙ sym (ap (λ (b : Bool). length (filter removes (cond b (stepped r (stack new.tx.0 rs)) (stack new.tx.0 rs)))) (here new.tx.0 at));
+      last = step.last ∙ sym (ap (λ (b : Bool). cond b (lsn_of r) (last_of t rs)) here);
+      live = step.live ∙ sym (ap (λ (b : Bool). length (cond b (stepped r (stack t rs)) (stack t rs))) here);
+      left = step.left ∙ (λ i. left_above (sym (ap (λ (b : Bool). cond b (stepped r (stack t rs)) (stack t rs)) here) i) (sym step.rollback i));
+      absent_keys = step.absent_keys;
+      removals = step.removals ∙ sym (ap (λ (b : Bool). length (filter removes (cond b (stepped r (stack t rs)) (stack t rs)))) here);
       saves = subst (AllUpTo (suc (length rs))) (sym step.saves) (up_to_more (length rs) e.saves.items fits.saves);
       depth = subst (λ (ss : List ℕ). length ss ≤ most_savepoints) (sym step.saves) fits.depth;
       rollback = subst (RollbackUpTo (suc (length rs))) (sym step.rollback) (rollback_more (length rs) e.rollback fits.rollback);
-      some = subst (λ (k : ℕ). 0 < k) (sym at) fits.some;
-      begun = subst (λ (k : ℕ). k ≤ n) (sym at) fits.begun;
+      some = fits.some;
+      begun = fits.begun;
     }
 
 -- ---- a record more
 
-pub record IsGrowth (r : LogRecord) (rs : List LogRecord) (es : List OpenTx) (i begun pending gone pending_new gone_new : ℕ) (e new : OpenTx) : Type 0 where
-  pub own : IsOwnStep r rs begun e new
+pub record IsGrowth (r : LogRecord) (rs : List LogRecord) (txs : Txs) (t begun pending_new gone_new : ℕ) (e new : OpenTx) : Type 0 where
+  pub own : IsOwnStep r rs t e new
   pub lsn : lsn_of r ≡ length rs + 1
-  pub prev : prev_of r ≡ last_of e.tx.0 rs
+  pub prev : prev_of r ≡ last_of t rs
   pub leads : leads_to r ≤ length rs
   pub written : IsWritten r rs
   pub all_begun : AllBegun begun (kept_of (r ∷ rs))
-  pub owned : IsOwned (opens es) (kept_of (r ∷ rs))
-  pub pending_is : pending_new ≡ count (is_pending (opens es)) (kept_of (r ∷ rs))
-  pub absent_is : gone_new ≡ maps.len (absent_in (opens es) (kept_of (r ∷ rs)))
+  pub owned : IsOwned (opens txs) (kept_of (r ∷ rs))
+  pub pending_is : pending_new ≡ count (is_pending (opens txs)) (kept_of (r ∷ rs))
+  pub absent_is : gone_new ≡ maps.len (absent_in (opens txs) (kept_of (r ∷ rs)))
 
-pub grown : (r : LogRecord) (rs : List LogRecord) (es : List OpenTx) (i begun pending gone pending_new gone_new t : ℕ) (e new : OpenTx) → IsKept rs es begun pending gone → IsFirst t es i → find_tx t es ≡ Some e → IsGrowth r rs es i begun pending gone pending_new gone_new e new → IsKept (r ∷ rs) (set es i new) begun pending_new gone_new
-grown r rs es i begun pending gone pending_new gone_new t e new kept is found g =
-    let fits = found_fits rs begun t es e kept.fit found in
-    let number : e.tx.0 ≡ t = found_number t es e found in
-    let own : new.tx.0 ≡ t = g.own.tx ∙ number in
-    let same = opens-set t es i new is own in
+pub grown : (r : LogRecord) (rs : List LogRecord) (txs txs_new : Txs) (begun pending gone pending_new gone_new t : ℕ) (e new : OpenTx) → IsKept rs txs begun pending gone → txs t ≡ Some e → Puts txs txs_new t (Some new) → IsGrowth r rs txs t begun pending_new gone_new e new → IsKept (r ∷ rs) txs_new begun pending_new gone_new
+grown r rs txs txs_new begun pending gone pending_new gone_new t e new kept found puts g =
+    let fits = found_fits rs begun t txs e kept.fit found in
+    let same = opens-put t txs txs_new new e puts found in
     record {
-      numbered = (g.lsn, (let p = g.prev in omega (arith, last_of-le rs e.tx.0 kept.numbered)), g.leads, kept.numbered);
+      numbered = (g.lsn, (let p = g.prev in omega (arith, last_of-le rs t kept.numbered)), g.leads, kept.numbered);
       written = (g.written, kept.written);
-      fit = fit-set rs begun (r ∷ rs) begun t es i new (λ x. grow_other r rs begun t x (g.own.mine ∙ number)) is own (grow_own r rs begun e new fits g.own) kept.fit;
+      fit = fit-put rs begun (r ∷ rs) begun t txs txs_new (Some new) (λ u x. grow_other r rs begun t u x g.own.mine) puts (grow_own r rs begun t e new fits g.own) kept.fit;
       known = ((let low = fits.begun in let mine = g.own.mine in omega arith), kept.known);
       all_begun = g.all_begun;
       owned = subst (λ (o : ℕ → Bool). IsOwned o (kept_of (r ∷ rs))) (sym same) g.owned;
@@ -157,30 +156,30 @@ total_goes all others one all_new others_new one_new count count_new was will a 
 one_goes : (one one_new count count_new was will : ℕ) → one_new + was ≡ one + will → count ≡ one → count_new + was ≡ count + will → count_new ≡ one_new
 one_goes one one_new count count_new was will d e f = omega arith
 
-pub record IsAccepted (lsn prev : ℕ) (tx : TxId) (key : List ℕ) (after : Option (List ℕ)) (rs : List LogRecord) (es : List OpenTx) (pending gone pending_new gone_new : ℕ) (e new : OpenTx) : Type 0 where
+pub record IsAccepted (lsn prev : ℕ) (tx : TxId) (key : List ℕ) (after : Option (List ℕ)) (rs : List LogRecord) (txs : Txs) (pending gone pending_new gone_new : ℕ) (e new : OpenTx) : Type 0 where
   pub lsn_is : lsn ≡ length rs + 1
   pub prev_is : prev ≡ e.last
-  pub held : HeldBy (opens es) tx.0 key (kept_of rs)
-  pub tx_same : new.tx.0 ≡ e.tx.0
+  pub held : HeldBy (opens txs) tx.0 key (kept_of rs)
   pub rollback_same : new.rollback ≡ e.rollback
   pub saves_same : new.saves.items ≡ e.saves.items
   pub last_new : new.last ≡ lsn
   pub live_new : new.live ≡ e.live + 1
+  pub calm : e.rollback ≡ None
+  pub left_same : new.left ≡ e.left
   pub absent_new : new.absent + cond (takes_out (option_map change_in (find (is_at key) (chain rs prev)))) 1 0 ≡ e.absent + cond (not (is_some after)) 1 0
   pub removals_new : new.removals ≡ e.removals + cond (not (is_some after)) 1 0
   pub pending_one : pending_new ≡ pending + 1
   pub gone_one : gone_new + cond (takes_out (option_map change_in (find (is_at key) (chain rs prev)))) 1 0 ≡ gone + cond (not (is_some after)) 1 0
 
-pub accepted : (lsn prev : ℕ) (tx : TxId) (key : List ℕ) (before after : Option (List ℕ)) (rs : List LogRecord) (es : List OpenTx) (i begun pending gone_old pending_new gone_new : ℕ) (e new : OpenTx) → IsKept rs es begun pending gone_old → IsFirst tx.0 es i → find_tx tx.0 es ≡ Some e → IsAccepted lsn prev tx key after rs es pending gone_old pending_new gone_new e new → IsKept (Update lsn prev tx key before after ∷ rs) (set es i new) begun pending_new gone_new
-accepted lsn prev tx key before after rs es i begun pending gone_old pending_new gone_new e new kept is found a =
+pub accepted : (lsn prev : ℕ) (tx : TxId) (key : List ℕ) (before after : Option (List ℕ)) (rs : List LogRecord) (txs txs_new : Txs) (begun pending gone_old pending_new gone_new : ℕ) (e new : OpenTx) → IsKept rs txs begun pending gone_old → txs tx.0 ≡ Some e → Puts txs txs_new tx.0 (Some new) → IsAccepted lsn prev tx key after rs txs pending gone_old pending_new gone_new e new → IsKept (Update lsn prev tx key before after ∷ rs) txs_new begun pending_new gone_new
+accepted lsn prev tx key before after rs txs txs_new begun pending gone_old pending_new gone_new e new kept found puts a =
     let r : LogRecord = Update lsn prev tx key before after in
     let d : Kept = noted r in
     let cs = kept_of rs in
     let t = tx.0 in
-    let fits = found_fits rs begun t es e kept.fit found in
-    let number : e.tx.0 ≡ t = found_number t es e found in
-    let prev_last : prev ≡ last_of t rs = a.prev_is ∙ fits.last ∙ ap (λ k. last_of k rs) number in
-    let opened : opens es t ≡ true = ap is_some found in
+    let fits = found_fits rs begun t txs e kept.fit found in
+    let prev_last : prev ≡ last_of t rs = a.prev_is ∙ fits.last in
+    let opened : opens txs t ≡ true = ap is_some found in
     let there : chain rs prev ≡ stack t rs = chain_of rs t prev kept.numbered kept.written prev_last in
     let was : takes_out (option_map change_in (find (is_at key) (chain rs prev))) ≡ has (absent_in (only t) cs) key =
     ap (λ us. takes_out (option_map change_in (find (is_at key) us))) there
@@ -191,35 +190,35 @@ accepted lsn prev tx key before after rs es i begun pending gone_old pending_new
     let mine : only t t ≡ true = eq-eqb t t refl in
     let one : maps.len (absent_in (only t) (cs ++ d ∷ [])) + cond (has (absent_in (only t) cs) key) 1 0 ≡ maps.len (absent_in (only t) cs) + cond (not (is_some after)) 1 0 =
     ap (λ (m : Contents). maps.len m + cond (has (absent_in (only t) cs) key) 1 0) (absent-push (only t) cs d refl mine) ∙ len-set_to (absent_in (only t) cs) key after in
-    let owned = owned-push (opens es) cs d kept.owned a.held in
-    let all = absent-parts (opens es) t cs kept.owned opened in
-    let all_new = absent-parts (opens es) t (cs ++ d ∷ []) owned opened in
-    let others = ap maps.len (absent-push_other (without t (opens es)) cs d (shut_itself t (opens es))) in
-    let e_absent : e.absent ≡ maps.len (absent_in (only t) cs) = fits.absent_keys ∙ ap (λ k. maps.len (absent_in (only k) cs)) number in
+    let owned = owned-push (opens txs) cs d kept.owned a.held in
+    let all = absent-parts (opens txs) t cs kept.owned opened in
+    let all_new = absent-parts (opens txs) t (cs ++ d ∷ []) owned opened in
+    let others = ap maps.len (absent-push_other (without t (opens txs)) cs d (shut_itself t (opens txs))) in
+    let e_absent : e.absent ≡ maps.len (absent_in (only t) cs) = fits.absent_keys in
     let new_absent : new.absent ≡ maps.len (absent_in (only t) (cs ++ d ∷ [])) =
     one_goes _ _ e.absent new.absent (cond (has (absent_in (only t) cs) key) 1 0) (cond (not (is_some after)) 1 0) one e_absent (ap (λ n. new.absent + n) (sym was_count) ∙ a.absent_new) in
-    let total : gone_new ≡ maps.len (absent_in (opens es) (cs ++ d ∷ [])) =
+    let total : gone_new ≡ maps.len (absent_in (opens txs) (cs ++ d ∷ [])) =
     total_goes _ _ _ _ _ _ gone_old gone_new (cond (has (absent_in (only t) cs) key) 1 0) (cond (not (is_some after)) 1 0) all all_new others one kept.absent_is (ap (λ n. gone_new + n) (sym was_count) ∙ a.gone_one) in
-    let pending_push : count (is_pending (opens es)) (cs ++ d ∷ []) ≡ count (is_pending (opens es)) cs + cond (is_pending (opens es) (change_of d)) 1 0 = count-push (is_pending (opens es)) cs d in
-    let is_one : ◌≡◌ {A = ℕ} (cond (is_pending (opens es) (change_of d)) 1 0) 1 = ap (λ (b : Bool). cond b 1 0) opened in
-    let live_is : e.live ≡ length (stack e.tx.0 rs) = fits.live in
-    let own : IsOwnStep r rs begun e new = record {
-      tx = a.tx_same;
+    let pending_push : count (is_pending (opens txs)) (cs ++ d ∷ []) ≡ count (is_pending (opens txs)) cs + cond (is_pending (opens txs) (change_of d)) 1 0 = count-push (is_pending (opens txs)) cs d in
+    let is_one : ◌≡◌ {A = ℕ} (cond (is_pending (opens txs) (change_of d)) 1 0) 1 = ap (λ (b : Bool). cond b 1 0) opened in
+    let live_is : e.live ≡ length (stack t rs) = fits.live in
+    let own : IsOwnStep r rs t e new = record {
       rollback = a.rollback_same;
       saves = a.saves_same;
-      mine = sym number;
+      mine = refl;
       last = a.last_new;
       live = a.live_new ∙ (omega arith);
-      absent_keys = new_absent ∙ ap (λ k. maps.len (absent_in (only k) (cs ++ d ∷ []))) (sym number);
-      removals = a.removals_new ∙ ap (λ n. n + cond (not (is_some after)) 1 0) fits.removals ∙ one_more_if (not (is_some after)) r (filter removes (stack e.tx.0 rs));
+      left = a.left_same ∙ fits.left ∙ ap (left_above (stack t rs)) a.calm ∙ sym (ap (left_above (r ∷ stack t rs)) a.calm);
+      absent_keys = new_absent;
+      removals = a.removals_new ∙ ap (λ n. n + cond (not (is_some after)) 1 0) fits.removals ∙ one_more_if (not (is_some after)) r (filter removes (stack t rs));
     } in
-    grown r rs es i begun pending gone_old pending_new gone_new t e new kept is found record {
+    grown r rs txs txs_new begun pending gone_old pending_new gone_new t e new kept found puts record {
       own = own;
       lsn = a.lsn_is;
-      prev = prev_last ∙ ap (λ k. last_of k rs) (sym number);
+      prev = prev_last;
       leads = omega (arith, last_of-le rs t kept.numbered);
       written = prev_last;
-      all_begun = begun-push begun cs d kept.all_begun (begun_of rs begun t es kept.fit opened).1;
+      all_begun = begun-push begun cs d kept.all_begun (begun_of rs begun t txs kept.fit opened).1;
       owned = owned;
       pending_is = a.pending_one ∙ (let p = kept.pending_is in omega arith);
       absent_is = total;
@@ -227,25 +226,25 @@ accepted lsn prev tx key before after rs es i begun pending gone_old pending_new
 
 -- ---- a compensation
 
-pub record IsCompensated (lsn prev : ℕ) (tx : TxId) (change : LiveChange) (rs : List LogRecord) (es : List OpenTx) (pending gone pending_new gone_new : ℕ) (e new : OpenTx) : Type 0 where
+pub record IsCompensated (lsn prev : ℕ) (tx : TxId) (change : LiveChange) (rs : List LogRecord) (txs : Txs) (pending gone pending_new gone_new : ℕ) (e new : OpenTx) : Type 0 where
   pub lsn_is : lsn ≡ length rs + 1
   pub prev_is : prev ≡ e.last
   pub step : IsStep rs prev change
-  pub tx_same : new.tx.0 ≡ e.tx.0
   pub rollback_same : new.rollback ≡ e.rollback
   pub saves_same : new.saves.items ≡ e.saves.items
   pub last_new : new.last ≡ lsn
   pub live_new : new.live + 1 ≡ e.live
+  pub left_new : new.left + 1 ≡ e.left
+  pub above : left_above (step.update ∷ step.rest) e.rollback ≡ left_above step.rest e.rollback + 1
   pub absent_new : new.absent + cond (not (is_some change.after)) 1 0 ≡ e.absent + cond (takes_out (option_map change_in (find (is_at change.key) (chain rs change.prev)))) 1 0
   pub removals_new : new.removals + cond (not (is_some change.after)) 1 0 ≡ e.removals
   pub pending_one : pending_new + 1 ≡ pending
   pub gone_one : gone_new + cond (not (is_some change.after)) 1 0 ≡ gone + cond (takes_out (option_map change_in (find (is_at change.key) (chain rs change.prev)))) 1 0
 
 -- the changes that take their key out, with the newest change and without it
-pub removals_of : (rs : List LogRecord) (n t at : ℕ) (e : OpenTx) (change : LiveChange) → FitsTx rs n e → e.tx.0 ≡ t → (step : IsStep rs at change) → chain rs at ≡ stack t rs → e.removals ≡ length (filter removes step.rest) + cond (not (is_some change.after)) 1 0
-removals_of rs n t at e change fits number step there =
+pub removals_of : (rs : List LogRecord) (n t at : ℕ) (e : OpenTx) (change : LiveChange) → FitsTx rs n t e → (step : IsStep rs at change) → chain rs at ≡ stack t rs → e.removals ≡ length (filter removes step.rest) + cond (not (is_some change.after)) 1 0
+removals_of rs n t at e change fits step there =
     fits.removals
-    ∙ ap (λ k. length (filter removes (stack k rs))) number
     ∙ ap (λ us. length (filter removes us)) (sym there ∙ step.is)
     ∙ sym (one_more_if (removes step.update) step.update (filter removes step.rest))
     ∙ ap (λ (c : LiveChange). length (filter removes step.rest) + cond (not (is_some c.after)) 1 0) step.told
@@ -255,15 +254,14 @@ undoes_step rs prev t change step there =
     subst (Undoes change.key change.before change.prev) (sym step.is ∙ there)
     (ap (λ (c : LiveChange). c.prev) (sym step.told), ap (λ (c : LiveChange). c.key) (sym step.told), ap (λ (c : LiveChange). c.before) (sym step.told))
 
-pub compensated : (lsn prev : ℕ) (tx : TxId) (change : LiveChange) (rs : List LogRecord) (es : List OpenTx) (i begun pending gone_old pending_new gone_new : ℕ) (e new : OpenTx) → IsKept rs es begun pending gone_old → IsFirst tx.0 es i → find_tx tx.0 es ≡ Some e → IsCompensated lsn prev tx change rs es pending gone_old pending_new gone_new e new → IsKept (Compensation lsn prev tx change.key change.before change.prev ∷ rs) (set es i new) begun pending_new gone_new
-compensated lsn prev tx change rs es i begun pending gone_old pending_new gone_new e new kept is found a =
+pub compensated : (lsn prev : ℕ) (tx : TxId) (change : LiveChange) (rs : List LogRecord) (txs txs_new : Txs) (begun pending gone_old pending_new gone_new : ℕ) (e new : OpenTx) → IsKept rs txs begun pending gone_old → txs tx.0 ≡ Some e → Puts txs txs_new tx.0 (Some new) → IsCompensated lsn prev tx change rs txs pending gone_old pending_new gone_new e new → IsKept (Compensation lsn prev tx change.key change.before change.prev ∷ rs) txs_new begun pending_new gone_new
+compensated lsn prev tx change rs txs txs_new begun pending gone_old pending_new gone_new e new kept found puts a =
     let r : LogRecord = Compensation lsn prev tx change.key change.before change.prev in
     let cs = kept_of rs in
     let t = tx.0 in
-    let fits = found_fits rs begun t es e kept.fit found in
-    let number : e.tx.0 ≡ t = found_number t es e found in
-    let prev_last : prev ≡ last_of t rs = a.prev_is ∙ fits.last ∙ ap (λ k. last_of k rs) number in
-    let opened : opens es t ≡ true = ap is_some found in
+    let fits = found_fits rs begun t txs e kept.fit found in
+    let prev_last : prev ≡ last_of t rs = a.prev_is ∙ fits.last in
+    let opened : opens txs t ≡ true = ap is_some found in
     let there : chain rs prev ≡ stack t rs = chain_of rs t prev kept.numbered kept.written prev_last in
     let u = a.step.update in
     let us = a.step.rest in
@@ -283,36 +281,38 @@ compensated lsn prev tx change rs es i begun pending gone_old pending_new gone_n
     ap (λ (m : Contents). maps.len m + cond (has (gone (map noted us)) change.key) 1 0) old_gone ∙ len-set_to (gone (map noted us)) change.key change.after in
     let one : maps.len (absent_in (only t) (undone t cs)) + cond (not (is_some change.after)) 1 0 ≡ maps.len (absent_in (only t) cs) + cond (has (gone (map noted us)) change.key) 1 0 =
     ap (λ (m : Contents). maps.len m + cond (not (is_some change.after)) 1 0) new_gone ∙ sym put in
-    let owned = owned-undone (opens es) t cs kept.owned in
-    let all = absent-parts (opens es) t cs kept.owned opened in
-    let all_new = absent-parts (opens es) t (undone t cs) owned opened in
-    let others = ap maps.len (absent-undone_other (without t (opens es)) t cs (shut_itself t (opens es))) in
-    let e_absent : e.absent ≡ maps.len (absent_in (only t) cs) = fits.absent_keys ∙ ap (λ k. maps.len (absent_in (only k) cs)) number in
+    let owned = owned-undone (opens txs) t cs kept.owned in
+    let all = absent-parts (opens txs) t cs kept.owned opened in
+    let all_new = absent-parts (opens txs) t (undone t cs) owned opened in
+    let others = ap maps.len (absent-undone_other (without t (opens txs)) t cs (shut_itself t (opens txs))) in
+    let e_absent : e.absent ≡ maps.len (absent_in (only t) cs) = fits.absent_keys in
     let new_absent : new.absent ≡ maps.len (absent_in (only t) (undone t cs)) =
     one_goes _ _ e.absent new.absent (cond (not (is_some change.after)) 1 0) (cond (has (gone (map noted us)) change.key) 1 0) one e_absent (a.absent_new ∙ ap (λ n. e.absent + n) will_count) in
-    let total : gone_new ≡ maps.len (absent_in (opens es) (undone t cs)) =
+    let total : gone_new ≡ maps.len (absent_in (opens txs) (undone t cs)) =
     total_goes _ _ _ _ _ _ gone_old gone_new (cond (not (is_some change.after)) 1 0) (cond (has (gone (map noted us)) change.key) 1 0) all all_new others one kept.absent_is (a.gone_one ∙ ap (λ n. gone_old + n) will_count) in
-    let fewer = pending-undone (opens es) t cs (noted u) opened newest in
-    let live_is : e.live ≡ suc (length us) = fits.live ∙ ap (λ k. length (stack k rs)) number ∙ ap length whole in
-    let dropped : length us ≡ length (drop 1 (stack e.tx.0 rs)) = ap (λ xs. length (drop 1 xs)) (sym whole) ∙ ap (λ k. length (drop 1 (stack k rs))) (sym number) in
-    let removed : e.removals ≡ length (filter removes us) + cond (not (is_some change.after)) 1 0 = removals_of rs begun t prev e change fits number a.step there in
+    let fewer = pending-undone (opens txs) t cs (noted u) opened newest in
+    let live_is : e.live ≡ suc (length us) = fits.live ∙ ap length whole in
+    let dropped : length us ≡ length (drop 1 (stack t rs)) = ap (λ xs. length (drop 1 xs)) (sym whole) in
+    let removed : e.removals ≡ length (filter removes us) + cond (not (is_some change.after)) 1 0 = removals_of rs begun t prev e change fits a.step there in
     let fewer_removals : new.removals ≡ length (filter removes us) = less_if (not (is_some change.after)) new.removals e.removals (length (filter removes us)) a.removals_new removed in
-    let dropped_removals : length (filter removes us) ≡ length (filter removes (drop 1 (stack e.tx.0 rs))) = ap (λ xs. length (filter removes (drop 1 xs))) (sym whole) ∙ ap (λ k. length (filter removes (drop 1 (stack k rs)))) (sym number) in
+    let dropped_removals : length (filter removes us) ≡ length (filter removes (drop 1 (stack t rs))) = ap (λ xs. length (filter removes (drop 1 xs))) (sym whole) in
     let live_left : new.live ≡ length us = (let n = a.live_new in omega arith) in
-    let own : IsOwnStep r rs begun e new = record {
-      tx = a.tx_same;
+    let left_all : e.left ≡ left_above us e.rollback + 1 = fits.left ∙ ap (λ xs. left_above xs e.rollback) whole ∙ a.above in
+    let left_left : new.left ≡ left_above us e.rollback = (let n = a.left_new in omega arith) in
+    let own : IsOwnStep r rs t e new = record {
       rollback = a.rollback_same;
       saves = a.saves_same;
-      mine = sym number;
+      mine = refl;
       last = a.last_new;
       live = live_left ∙ dropped;
-      absent_keys = new_absent ∙ ap (λ k. maps.len (absent_in (only k) (undone t cs))) (sym number);
+      left = left_left ∙ ap (λ xs. left_above (drop 1 xs) e.rollback) (sym whole);
+      absent_keys = new_absent;
       removals = fewer_removals ∙ dropped_removals;
     } in
-    grown r rs es i begun pending gone_old pending_new gone_new t e new kept is found record {
+    grown r rs txs txs_new begun pending gone_old pending_new gone_new t e new kept found puts record {
       own = own;
       lsn = a.lsn_is;
-      prev = prev_last ∙ ap (λ k. last_of k rs) (sym number);
+      prev = prev_last;
       leads = omega (arith, a.step.falls, a.step.within);
       written = (prev_last, undoes_step rs prev t change a.step there);
       all_begun = begun-undone begun t cs kept.all_begun;

@@ -1,13 +1,30 @@
 -- Open transactions by their numbers.
-use Rattle.std.specs.Prelude.{◌≡◌, ℕ, zero, suc, true, false, ◌==◌, List, [], ◌∷◌, Option}
-use Rattle.std.specs.List.{find}
+use Rattle.std.specs.Prelude.{◌≡◌, ℕ, Bool, ◌==◌, List, Option, Some, slice_get, if◌then◌else◌}
+use Rattle.std.specs.Map.{lookup}
+use Rattle.indexmap.specs.IndexMap.{IndexMap, IsUnique}
+use Rattle.rec_types.specs.declared.transactions.TxId.{TxId}
 use Rattle.tx_log.specs.declared.opened.OpenTx.{OpenTx}
 
-abbrev pub find_tx : ℕ → List OpenTx → Option OpenTx
-find_tx t es = find (λ e. e.tx.0 == t) es
+-- what is kept of each open transaction
+abbrev pub Txs : Type 0
+Txs = ℕ → Option OpenTx
 
--- the first transaction with the number stands at the place
-abbrev pub IsFirst : ℕ → List OpenTx → ℕ → Type 0
-IsFirst t [] i = ⊥
-IsFirst t (e ∷ es) zero = (e.tx.0 == t) ≡ true
-IsFirst t (e ∷ es) (suc i) = ((e.tx.0 == t) ≡ false) × IsFirst t es i
+abbrev pub finding : List (TxId × OpenTx) → Txs
+finding es t = lookup (λ (k : TxId). t == k.0) es
+
+abbrev pub found : {S : Type 0} → IndexMap TxId OpenTx S → Txs
+found m = finding m.entries
+
+-- the same transactions, but at the number t
+abbrev pub Puts : Txs → Txs → ℕ → Option OpenTx → Type 0
+Puts old new t e = (q : ℕ) → new q ≡ (if t == q then e else old q)
+
+abbrev pub same_tx : TxId → TxId → Bool
+same_tx a b = a.0 == b.0
+
+-- the transaction stands at the place
+pub record StandsAt {S : Type 0} (m : IndexMap TxId OpenTx S) (t i : ℕ) : Type 0 where
+  pub tx : OpenTx
+  pub entry : slice_get m.entries i ≡ Some (record { 0 = t }, tx)
+  pub there : found m t ≡ Some tx
+  pub unique : IsUnique same_tx m

@@ -1,12 +1,13 @@
 -- What ties the open transactions to the log.
-use Rattle.std.specs.Prelude.{◌≡◌, ℕ, ◌<◌, ◌≤◌, ◌==◌, List, [], ◌∷◌, length, Option, None, Some}
+use Rattle.std.specs.Prelude.{◌≡◌, ℕ, ◌<◌, ◌≤◌, ◌==◌, List, [], ◌∷◌, length, Option, None, Some, IfSome}
 use Rattle.std.specs.FinMap as maps
 use Rattle.std.specs.List.{filter}
 use Rattle.rec_types.specs.Kept.{history_of}
 use Rattle.tx_log.specs.Log.{tx_of, removes, last_of, stack, kept_of}
 use Rattle.tx_log.specs.Owners.{absent}
-use Rattle.tx_log.specs.Finds.{find_tx}
+use Rattle.tx_log.specs.Finds.{Txs}
 use Rattle.tx_log.specs.Transactions.{most_savepoints}
+use Rattle.tx_log.specs.Walks.{is_after}
 use Rattle.tx_log.specs.declared.log_records.LogRecord.{LogRecord}
 use Rattle.tx_log.specs.declared.opened.OpenTx.{OpenTx}
 use Rattle.tx_log.specs.declared.phases.Rollback.{Rollback}
@@ -24,19 +25,24 @@ abbrev pub AllKnown : ℕ → List LogRecord → Type 0
 AllKnown n [] = Unit {0}
 AllKnown n (r ∷ rs) = (tx_of r ≤ n) × AllKnown n rs
 
+-- how many of the live changes the rollback under way is still to take back
+abbrev pub left_above : List LogRecord → Option Rollback → ℕ
+left_above us None = 0
+left_above us (Some r) = length (filter (is_after r.to) us)
+
 -- the numbers that are kept of a transaction are those of the log, and among the first n begun
-pub record FitsTx (rs : List LogRecord) (n : ℕ) (e : OpenTx) : Type 0 where
-  pub last : e.last ≡ last_of e.tx.0 rs
-  pub live : e.live ≡ length (stack e.tx.0 rs)
-  pub absent_keys : e.absent ≡ maps.len (absent (λ u. u == e.tx.0) (history_of (kept_of rs)))
-  pub removals : e.removals ≡ length (filter removes (stack e.tx.0 rs))
+pub record FitsTx (rs : List LogRecord) (n t : ℕ) (e : OpenTx) : Type 0 where
+  pub last : e.last ≡ last_of t rs
+  pub live : e.live ≡ length (stack t rs)
+  pub left : e.left ≡ left_above (stack t rs) e.rollback
+  pub absent_keys : e.absent ≡ maps.len (absent (λ u. u == t) (history_of (kept_of rs)))
+  pub removals : e.removals ≡ length (filter removes (stack t rs))
   pub saves : AllUpTo (length rs) e.saves.items
   pub depth : length e.saves.items ≤ most_savepoints
   pub rollback : RollbackUpTo (length rs) e.rollback
-  pub some : 0 < e.tx.0
-  pub begun : e.tx.0 ≤ n
+  pub some : 0 < t
+  pub begun : t ≤ n
 
--- of each, and no two are one
-abbrev pub AllFit : List LogRecord → ℕ → List OpenTx → Type 0
-AllFit rs n [] = Unit {0}
-AllFit rs n (e ∷ es) = FitsTx rs n e × (find_tx e.tx.0 es ≡ None) × AllFit rs n es
+-- of each
+abbrev pub AllFit : List LogRecord → ℕ → Txs → Type 0
+AllFit rs n txs = (t : ℕ) → IfSome (txs t) (FitsTx rs n t)

@@ -12,3 +12,4 @@ pub mod OpenTxs
 pub mod Transactions
 pub mod Walks
 pub mod Remaining
+pub mod Holdings

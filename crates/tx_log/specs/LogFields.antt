@@ -1,39 +1,40 @@
 -- How a log lies in its fields.
-use Rattle.std.specs.Prelude.{◌≡◌, ℕ, ◌+◌, ◌≤◌, List, length, filter, reverse, Option, IfSome, vec_len}
+use Rattle.std.specs.Prelude.{◌≡◌, ℕ, ◌+◌, ◌≤◌, List, length, filter, reverse, true, Option, IfSome, is_some, vec_len}
 use Rattle.std.specs.Vec.{vec_capacity}
 use Rattle.std.specs.FinMap as maps
 use Rattle.rec_types.specs.History.{is_pending}
 use Rattle.rec_types.specs.Kept.{history_of, IsOwned, AllBegun}
 use Rattle.rec_types.specs.LimitBounds.{Bounds, most_log_records, most_begins}
+use Rattle.tx_log.specs.Finds.{Txs, found}
 use Rattle.tx_log.specs.Fits.{AllFit, AllKnown}
 use Rattle.tx_log.specs.Log.{kept_of, IsNumbered, AllWritten}
+use Rattle.tx_log.specs.Holdings.{held, IsHeld, AllBusy}
 use Rattle.tx_log.specs.LogState.{LogState}
 use Rattle.tx_log.specs.Owners.{absent}
 use Rattle.tx_log.specs.OpenTxs.{txs_of, opens}
 use Rattle.tx_log.specs.declared.log_records.LogRecord.{LogRecord}
-use Rattle.tx_log.specs.declared.opened.OpenTx.{OpenTx}
 use Rattle.tx_log.specs.declared.logs.TxLog.TheInside.{Inside}
 
 abbrev pub state_of : Inside → LogState
 state_of l = record {
   records = l.records.items;
   changes = kept_of (reverse l.records.items);
-  txs = txs_of (kept_of (reverse l.records.items)) l.txs.items;
+  txs = txs_of (kept_of (reverse l.records.items)) l.txs.entries;
   begun = l.begun;
   limits = l.limits;
   room = l.room;
 }
 
 -- a log, newest first, beside the open transactions, the number of those begun, and the counts
-pub record IsKept (rs : List LogRecord) (es : List OpenTx) (begun pending gone : ℕ) : Type 0 where
+pub record IsKept (rs : List LogRecord) (txs : Txs) (begun pending gone : ℕ) : Type 0 where
   pub numbered : IsNumbered rs
   pub written : AllWritten rs
-  pub fit : AllFit rs begun es
+  pub fit : AllFit rs begun txs
   pub known : AllKnown begun rs
   pub all_begun : AllBegun begun (kept_of rs)
-  pub owned : IsOwned (opens es) (kept_of rs)
-  pub pending_is : pending ≡ length (filter (is_pending (opens es)) (history_of (kept_of rs)))
-  pub absent_is : gone ≡ maps.len (absent (opens es) (history_of (kept_of rs)))
+  pub owned : IsOwned (opens txs) (kept_of rs)
+  pub pending_is : pending ≡ length (filter (is_pending (opens txs)) (history_of (kept_of rs)))
+  pub absent_is : gone ≡ maps.len (absent (opens txs) (history_of (kept_of rs)))
 
 pub record IsRoomy (length pending capacity begun : ℕ) (limits : Bounds) (room : Option (List ℕ)) : Type 0 where
   pub fits : length + pending ≤ limits.log_records
@@ -44,5 +45,8 @@ pub record IsRoomy (length pending capacity begun : ℕ) (limits : Bounds) (room
   pub spare : IfSome room (λ _. length + pending + 2 ≤ capacity)
 
 pub record IsTxLog (l : Inside) : Type 0 where
-  pub log_kept : IsKept (reverse l.records.items) l.txs.items l.begun l.pending l.gone
+  pub log_kept : IsKept (reverse l.records.items) (found l.txs) l.begun l.pending l.gone
+  pub holding : IsHeld (reverse l.records.items) (opens (found l.txs)) (held l.holdings)
+  pub busy_keys : AllBusy (held l.holdings) l.over
+  pub reserved : IfSome l.room (λ k. is_some (held l.holdings k) ≡ true)
   pub roomy : IsRoomy (vec_len l.records) l.pending (vec_capacity l.records) l.begun l.limits l.room

@@ -2,7 +2,8 @@
 use Rattle.std.specs.Prelude.{ℕ, Bool, false, List, [], ◌∷◌, map, Option, Some, None, is_some}
 use Rattle.std.specs.FinMap as maps
 use Rattle.rec_types.specs.Kept.{Kept}
-use Rattle.tx_log.specs.Finds.{find_tx}
+use Rattle.rec_types.specs.declared.transactions.TxId.{TxId}
+use Rattle.tx_log.specs.Finds.{Txs}
 use Rattle.tx_log.specs.Places.{place_at}
 use Rattle.tx_log.specs.Transactions.{Transactions, Tx}
 use Rattle.tx_log.specs.declared.opened.OpenTx.{OpenTx}
@@ -17,13 +18,13 @@ abbrev pub rollback_at : ℕ → List Kept → Option Rollback → Option Rollba
 rollback_at t cs None = None
 rollback_at t cs (Some r) = Some (record { to = place_at t r.to cs; ends = r.ends })
 
-abbrev pub tx_at : List Kept → OpenTx → Tx
-tx_at cs e = record { rollback = rollback_at e.tx.0 cs e.rollback; places = map (λ s. place_at e.tx.0 s cs) e.saves.items }
+abbrev pub tx_at : ℕ → List Kept → OpenTx → Tx
+tx_at t cs e = record { rollback = rollback_at t cs e.rollback; places = map (λ s. place_at t s cs) e.saves.items }
 
-abbrev pub txs_of : List Kept → List OpenTx → Transactions
+abbrev pub txs_of : List Kept → List (TxId × OpenTx) → Transactions
 txs_of cs [] = maps.empty
-txs_of cs (e ∷ es) = maps.insert (txs_of cs es) e.tx.0 (tx_at cs e)
+txs_of cs (p ∷ es) = maps.insert (txs_of cs es) p.0.0 (tx_at p.0.0 cs p.1)
 
--- whether the transaction is among them
-abbrev pub opens : List OpenTx → ℕ → Bool
-opens es t = is_some (find_tx t es)
+-- whether the transaction is open
+abbrev pub opens : Txs → ℕ → Bool
+opens txs t = is_some (txs t)

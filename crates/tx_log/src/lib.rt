@@ -1,6 +1,7 @@
 //! Transactions, owners of keys and savepoints.
 #![tactic(auto)]
 
+mod holdings;
 pub mod laws;
 mod log_records;
 mod logs;

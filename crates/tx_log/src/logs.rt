@@ -7,10 +7,10 @@ ghost use Rattle.tx_log.specs.Transactions.{depth_of, live_in, left_in, fresh, m
 ghost use Rattle.tx_log.specs.Owners.{owner_of, holder_of, keys_owned, absent};
 ghost use Rattle.tx_log.specs.LogState.{new_log, history_in, open_in, tx_in, use_in, phase_in, undo_in, undo_step, places_in, active_with, rolling_to, finished, with_txs, with_update, with_compensation, IsRolling, IsLog};
 
-use crate::opened::{OpenTx, find_open, place_of, recount};
-use crate::walks::{
-    changed_keys, count_changes, find_change, is_taken_out, newest_above, newest_change,
-};
+use crate::holdings::{Holdings, find_holder, free_keys, lower, make_room, raise};
+use crate::opened::{OpenTx, OpenTxs, find_open, place_of, recount, take_out};
+use crate::phases::Rollback;
+use crate::walks::{changed_keys, count_changes, newest_above, newest_change};
 use crate::{BeginFault, LogRecord, Phase, UndoStep};
 use rec_types::{Key, Limits, Memory, Record, TxId};
 use std::alloc::Global;
@@ -22,8 +22,11 @@ pub struct TxLog {
     alloc: Global,
     /// Has room for the compensation of each pending change, and for two records more where a key has room.
     records: Vec<LogRecord>,
-    /// In the order of their numbers.
-    txs: Vec<OpenTx>,
+    txs: OpenTxs,
+    /// The keys of live changes of open transactions, and the key that has room.
+    holdings: Holdings,
+    /// The key at which no change may be live.
+    over: Option<Key>,
     begun: u32,
     limits: Limits,
     room: Option<Key>,
@@ -58,7 +61,9 @@ impl TxLog {
         TxLog {
             alloc,
             records: Vec::new(alloc),
-            txs: Vec::new(alloc),
+            txs: OpenTxs::new(alloc),
+            holdings: Holdings::new(alloc),
+            over: None,
             begun: 0,
             limits,
             room: None,
@@ -102,12 +107,9 @@ impl TxLog {
     pub fn left(&self, tx: TxId) -> u32
         ensures { result ≡ left_in (history_in self.now) tx.0 (tx_in self.now tx.0) }
     {
-        let Some(open_tx) = find_open(&self.txs, tx) else {
-            return 0;
-        };
-        match open_tx.rollback {
+        match find_open(&self.txs, tx) {
+            Some(open_tx) => open_tx.left,
             None => 0,
-            Some(rollback) => count_changes(&self.records, open_tx.last, rollback.to),
         }
     }
 
@@ -116,12 +118,7 @@ impl TxLog {
         ensures { option_map (λ t. t.0) result
             ≡ owner_of (open_in self.now) (history_in self.now) key.now }
     {
-        for open_tx in &self.txs {
-            if find_change(&self.records, open_tx.last, key).is_some() {
-                return Some(open_tx.tx);
-            }
-        }
-        None
+        find_holder(&self.holdings, key)
     }
 
     /// How many owned keys have no record now.
@@ -236,11 +233,13 @@ impl TxLog {
             return Err(BeginFault::BeginsSpent);
         }
         let tx = TxId(self.begun + 1);
-        if self.txs.push(OpenTx::new(tx)).is_err() {
-            return Err(BeginFault::Memory);
+        match self.txs.insert(tx, OpenTx::new()) {
+            Ok(_) => {
+                self.begun = tx.0;
+                Ok(tx)
+            }
+            Err(_) => Err(BeginFault::Memory),
         }
-        self.begun = tx.0;
-        Ok(tx)
     }
 
     /// Makes room for the next change, at this key, and for taking it back. Fault: Memory, which leaves
@@ -255,6 +254,10 @@ impl TxLog {
         if self.records.reserve(needed).is_err() {
             return Err(Memory);
         }
+        if make_room(&mut self.holdings, self.over, key).is_err() {
+            return Err(Memory);
+        }
+        self.over = Some(*key);
         self.room = Some(*key);
         Ok(())
     }
@@ -277,8 +280,8 @@ impl TxLog {
         let at = place_of(&self.txs, tx);
         let prev = self.txs[at].last;
         let removals = self.txs[at].removals;
-        let was = is_taken_out(&self.records, prev, &key, removals);
         let will = after.is_none();
+        let was = raise(&mut self.holdings, &key, tx, will);
         let more = recount(removals, false, will);
         let lsn = self.records.len() as u32 + 1;
         let _ = self.records.push(LogRecord::Update {
@@ -310,9 +313,11 @@ impl TxLog {
         ensures kept { IsLog self.old }
     {
         let at = place_of(&self.txs, tx);
+        let to = self.txs[at].save_at(n);
+        let left = count_changes(&self.records, self.txs[at].last, to);
         self.room = None;
         let open_tx = &mut self.txs[at];
-        open_tx.turn_back(n, ends);
+        open_tx.turn_back(n, Rollback { to, ends }, left);
     }
 
     /// Takes back the next change of a rollback under way, and answers the LSN of its compensation. It takes
@@ -330,7 +335,13 @@ impl TxLog {
         let change = newest.unwrap();
         let was = change.after.is_none();
         let fewer = recount(removals, was, false);
-        let will = is_taken_out(&self.records, change.prev, &change.key, fewer);
+        let will = lower(
+            &mut self.holdings,
+            &change.key,
+            &self.records,
+            change.prev,
+            fewer,
+        );
         let lsn = self.records.len() as u32 + 1;
         let _ = self.records.push(LogRecord::Compensation {
             lsn,
@@ -346,6 +357,7 @@ impl TxLog {
         let open_tx = &mut self.txs[at];
         open_tx.last = lsn;
         open_tx.live -= 1;
+        open_tx.left -= 1;
         open_tx.removals = fewer;
         open_tx.absent = recount(open_tx.absent, was, will);
         lsn
@@ -361,10 +373,15 @@ impl TxLog {
         ensures kept { IsLog self.old }
     {
         let at = place_of(&self.txs, tx);
+        self.room = None;
         if self.txs[at].is_ending() {
-            self.close(tx);
+            let closed = take_out(&mut self.txs, at);
+            free_keys(&mut self.holdings, &self.records, closed.last);
+            self.pending -= closed.live;
+            self.gone -= closed.absent;
         } else {
-            self.go_forward(tx);
+            let open_tx = &mut self.txs[at];
+            open_tx.rollback = None;
         }
     }
 
@@ -406,31 +423,11 @@ impl TxLog {
         ensures after { self.new ≡ with_txs self.old (maps.remove self.old.txs tx.0) }
         ensures kept { IsLog self.old }
     {
-        self.close(tx);
-    }
-
-    /// Takes the transaction out of the open ones.
-    fn close(&mut self, tx: TxId)
-        requires { IsSome (tx_in self.old tx.0) }
-        ensures after { self.new ≡ with_txs self.old (maps.remove self.old.txs tx.0) }
-        ensures kept { IsLog self.old }
-    {
         let at = place_of(&self.txs, tx);
         self.room = None;
-        let closed = self.txs.remove(at);
+        let closed = take_out(&mut self.txs, at);
+        free_keys(&mut self.holdings, &self.records, closed.last);
         self.pending -= closed.live;
         self.gone -= closed.absent;
-    }
-
-    /// Makes the transaction active. Its savepoints stay.
-    fn go_forward(&mut self, tx: TxId)
-        requires { IsSome (tx_in self.old tx.0) }
-        ensures { self.new ≡ with_txs self.old
-            (maps.insert self.old.txs tx.0 (active_with (places_in self.old tx.0))) }
-    {
-        let at = place_of(&self.txs, tx);
-        self.room = None;
-        let open_tx = &mut self.txs[at];
-        open_tx.rollback = None;
     }
 }

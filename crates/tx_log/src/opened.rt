@@ -1,12 +1,14 @@
-ghost use Rattle.std.specs.Prelude.{◌≡◌, ℕ, ◌+◌, ◌-◌, ◌<◌, ◌≤◌, [], ◌∷◌, ◌++◌, ◌==◌, length, take, None, Some, option_map, IsSome, IsTrue, if◌then◌else◌};
-ghost use Rattle.std.specs.List.{position};
+ghost use Rattle.std.specs.Prelude.{◌≡◌, ℕ, ◌+◌, ◌-◌, ◌<◌, ◌≤◌, [], ◌∷◌, ◌++◌, length, slice_get, take, None, Some, option_map, IsSome, IsTrue, if◌then◌else◌};
+ghost use Rattle.indexmap.specs.IndexMap.{index_map_len};
 ghost use Rattle.tx_log.specs.Transactions.{place_in, most_savepoints};
 ghost use Rattle.tx_log.specs.LogState.{rollback_phase};
 ghost use Rattle.tx_log.specs.OpenTxs.{ends_at};
-ghost use Rattle.tx_log.specs.Finds.{find_tx, IsFirst};
+ghost use Rattle.tx_log.specs.Finds.{found, Puts, StandsAt};
+ghost use Rattle.tx_log.specs.declared.opened.OpenTx.{OpenTx};
 
 use crate::phases::{Phase, Rollback};
 use arrayvec::ArrayVec;
+use indexmap::IndexMap;
 use rec_types::TxId;
 
 /// How many savepoints a transaction has at most.
@@ -15,13 +17,14 @@ pub const MOST_SAVEPOINTS: usize = 32;
 /// A transaction that hasn't ended.
 #[derive(Drop)]
 pub struct OpenTx {
-    pub tx: TxId,
     /// The rollback under way, over the changes whose records have numbers above its `to`.
     pub rollback: Option<Rollback>,
     /// The number of its newest log record, and 0 where it has none.
     pub last: u32,
     /// How many of its changes are live.
     pub live: u32,
+    /// How many of them the rollback under way is still to take back, and 0 where none is.
+    pub left: u32,
     /// How many of its keys have no record now.
     pub absent: u32,
     /// How many of its live changes take their key out.
@@ -32,22 +35,22 @@ pub struct OpenTx {
 
 impl OpenTx {
     /// A transaction without changes and savepoints.
-    pub fn new(tx: TxId) -> OpenTx
+    pub fn new() -> OpenTx
         ensures { result ≡ record {
-          tx = tx;
           rollback = None;
           last = 0;
           live = 0;
+          left = 0;
           absent = 0;
           removals = 0;
           saves = record { items = [] };
         } }
     {
         OpenTx {
-            tx,
             rollback: None,
             last: 0,
             live: 0,
+            left: 0,
             absent: 0,
             removals: 0,
             saves: ArrayVec::new(),
@@ -96,45 +99,62 @@ impl OpenTx {
         self.saves.truncate(n as usize);
     }
 
-    /// Turns back to savepoint n, or to the beginning for 0, and drops the savepoints above it.
-    pub fn turn_back(&mut self, n: u32, ends: bool)
-        requires { n ≤ length self.old.saves.items }
-        ensures { self.new ≡ record self.old {
-          rollback = Some (record { to = place_in self.old.saves.items n; ends = ends });
-          saves = record { items = take n self.old.saves.items };
-        } }
+    /// What its newest record was at savepoint n, and 0 for 0.
+    pub fn save_at(&self, n: u32) -> u32
+        requires { n ≤ length self.now.saves.items }
+        ensures { result ≡ place_in self.now.saves.items n }
     {
-        let to = if n == 0 {
+        if n == 0 {
             0
         } else {
             self.saves[(n - 1) as usize]
-        };
+        }
+    }
+
+    /// Starts the rollback, which is to take back so many changes, and keeps the first n savepoints.
+    pub fn turn_back(&mut self, n: u32, rollback: Rollback, left: u32)
+        ensures { self.new ≡ record self.old {
+          rollback = Some rollback;
+          left = left;
+          saves = record { items = take n self.old.saves.items };
+        } }
+    {
         self.keep_saves(n);
-        self.rollback = Some(Rollback { to, ends });
+        self.rollback = Some(rollback);
+        self.left = left;
     }
 }
 
-/// The open transaction with the number.
-pub fn find_open(txs: &[OpenTx], tx: TxId) -> Option<&OpenTx>
-    ensures { option_map (λ e. e.now) result ≡ find_tx tx.0 txs.now }
-{
-    txs.iter().find(|e| e.tx == tx)
-}
+/// The open transactions by their numbers.
+pub type OpenTxs = IndexMap<TxId, OpenTx>;
 
-/// Where the open transaction with the number stands first.
-fn position_of(txs: &[OpenTx], tx: TxId) -> Option<usize>
-    ensures { result ≡ position (λ e. e.tx.0 == tx.0) txs.now }
+/// The open transaction with the number.
+pub fn find_open(txs: &OpenTxs, tx: TxId) -> Option<&OpenTx>
+    ensures { option_map (λ e. e.now) result ≡ found txs.now tx.0 }
 {
-    txs.iter().position(|e| e.tx == tx)
+    txs.get(&tx)
 }
 
 /// Where the open transaction with the number stands.
-pub fn place_of(txs: &[OpenTx], tx: TxId) -> usize
-    requires { IsSome (find_tx tx.0 txs.now) }
-    ensures within { result < length txs.now }
-    ensures first { IsFirst tx.0 txs.now result }
+pub fn place_of(txs: &OpenTxs, tx: TxId) -> usize
+    requires { IsSome (found txs.now tx.0) }
+    ensures within { result < index_map_len txs.now }
+    ensures stands { StandsAt txs.now tx.0 result }
 {
-    position_of(txs, tx).unwrap()
+    // What this says is that no number stands twice.
+    let _count = txs.len();
+    let (at, _, _) = txs.get_full(&tx).unwrap();
+    at
+}
+
+/// Takes out the transaction that stands there.
+pub fn take_out(txs: &mut OpenTxs, at: usize) -> OpenTx
+    requires { at < index_map_len txs.old }
+    ensures { (t : ℕ) → StandsAt txs.old t at
+        → (found txs.old t ≡ Some result) × Puts (found txs.old) (found txs.new) t None }
+{
+    let (_, closed) = txs.swap_remove_index(at).unwrap();
+    closed
 }
 
 /// A count after one of the things that were counted changed.

@@ -1,20 +1,24 @@
-use Rattle.std.proofs.Common.{not, ◌≡◌, ◌∷◌, [], ◌++◌, cond, Option, IfSome, refl, ℕ, ◌+◌, ◌<◌, ◌≤◌, Bool, true, List, Some, None, length, reverse, option_map, is_some, vec_len, sym, ap, subst, ◌∙◌, arith}
-use Rattle.std.specs.List.{find, filter}
+use Rattle.std.proofs.Common.{not, ◌≡◌, ◌∷◌, [], ◌++◌, cond, Option, IfSome, refl, ℕ, ◌+◌, ◌<◌, ◌≤◌, Bool, true, List, Some, None, length, reverse, is_some, vec_len, sym, ap, subst, ◌∙◌, arith}
 use Rattle.std.proofs.lemmas.List.{length-reverse}
 use Rattle.std.specs.Vec.{vec_capacity}
 use Rattle.rec_types.specs.History.{log_len}
+use Rattle.rec_types.specs.declared.transactions.TxId.{TxId}
 use Rattle.rec_types.specs.LimitBounds.{most_log_records}
 use Rattle.tx_log.proofs.LogIndex.{reverse-push}
-use Rattle.tx_log.proofs.KeptFacts.{entry_is, open_of_phase, sized, counted_key, held_of_free, some_of, state_use, state_len, recounted, none_is}
-use Rattle.tx_log.proofs.OpenFacts.{found_fits, found_number}
+use Rattle.tx_log.proofs.HoldCalls.{free_key, accepted_keys}
+use Rattle.tx_log.specs.Holdings.{held, IsHeld}
+use Rattle.tx_log.specs.OpenTxs.{opens}
+use Rattle.tx_log.specs.declared.holdings.Holding.{Holding}
+use Rattle.tx_log.proofs.KeptFacts.{active_rollback, open_of_phase, sized, counted_key, held_of_free, some_of, state_use, state_len, recounted, none_is}
+use Rattle.tx_log.proofs.PlaceOf.{read_at, write_at}
+use Rattle.indexmap.specs.IndexMap.{with_value_at}
+use Rattle.tx_log.proofs.OpenFacts.{found_fits, txs_stay}
 use Rattle.tx_log.proofs.StepFacts.{accepted, chain_of, IsAccepted}
-use Rattle.tx_log.proofs.StateFacts.{accept_state, kept_turned, txs_stay}
-use Rattle.tx_log.specs.Finds.{find_tx, IsFirst}
-use Rattle.tx_log.specs.Log.{removes, kept_of, last_of, stack, chain}
-use Rattle.tx_log.specs.OpenTxs.{tx_at}
+use Rattle.tx_log.proofs.StateFacts.{accept_state, kept_turned}
+use Rattle.tx_log.specs.Finds.{finding, Puts}
+use Rattle.tx_log.specs.Log.{kept_of}
 use Rattle.tx_log.specs.LogState.{LogState, phase_in, history_in, open_in, use_in, update_in}
 use Rattle.tx_log.specs.Owners.{holder_of}
-use Rattle.tx_log.specs.Walks.{change_in, is_at, takes_out}
 use Rattle.tx_log.specs.declared.log_records.LogRecord.{LogRecord}
 use Rattle.tx_log.specs.declared.log_records.LogRecord.TheVariants.{Update}
 use Rattle.tx_log.specs.declared.opened.OpenTx.{OpenTx}
@@ -25,41 +29,52 @@ pub place_of-at-requires : goal.place_of-at-requires
 place_of-at-requires c =
     let l = c.self.inside in
     let t = c.args.tx.0 in
-    let some = open_of_phase (kept_of (reverse l.records.items)) l.txs.items t Active (ap (λ (s : LogState). phase_in s t) c.self.view_is ∙ c.requires.active) in
-    ap (λ (es : List OpenTx). is_some (find_tx t es)) c.deref.ensures.value ∙ some
+    let some = open_of_phase (kept_of (reverse l.records.items)) l.txs.entries t Active (ap (λ (s : LogState). phase_in s t) c.self.view_is ∙ c.requires.active) in
+    some
 
-pub is_taken_out-was-requires-clause-within : goal.is_taken_out-was-requires-clause-within
-is_taken_out-was-requires-clause-within c =
+pub raise-was-requires-clause-there : goal.raise-was-requires-clause-there
+raise-was-requires-clause-there c =
     let l = c.self.inside in
     let e = c.index.result.now in
-    let found = entry_is c.args.tx.0 c.deref.result.now l.txs.items c.place_of-at.result e c.deref.ensures.value c.place_of-at.ensures.first c.index.ensures in
-    let size = sized (reverse l.records.items) l.txs.items l.begun l.pending l.gone c.args.tx.0 e c.self.invariant.log_kept found in
-    subst (λ (n : ℕ). e.last ≤ n) (length-reverse l.records.items ∙ ap length (sym c.deref-2.ensures.value)) size.last
+    let found = read_at l.txs c.args.tx.0 c.place_of-at.result e c.place_of-at.ensures.stands c.index.ensures in
+    let free = free_key l c.self.invariant c.args.self.now c.self.view_is c.args.tx.0 c.args.key e c.requires.room c.requires.free found in
+    ap is_some free.there
+
+pub raise-was-requires-clause-most : goal.raise-was-requires-clause-most
+raise-was-requires-clause-most c = λ h there.
+    let l = c.self.inside in
+    let e = c.index.result.now in
+    let found = read_at l.txs c.args.tx.0 c.place_of-at.result e c.place_of-at.ensures.stands c.index.ensures in
+    let free = free_key l c.self.invariant c.args.self.now c.self.view_is c.args.tx.0 c.args.key e c.requires.room c.requires.free found in
+    let many : vec_len l.records ≡ length l.records.items = omega (arith, l.records.ok.0) in
+    let few : free.hold.live < 4294967295 = omega (arith, free.few, c.self.invariant.roomy.fits, c.self.invariant.roomy.most_records) in
+    subst (λ (x : Holding). x.live < 4294967295) (some_of free.hold h (sym free.there ∙ there)) few
 
 pub recount-self-inside-requires-clause-some : goal.recount-self-inside-requires-clause-some
 recount-self-inside-requires-clause-some c = λ was.
     let l = c.self.inside in
     let e = c.index.result.now in
-    let found = entry_is c.args.tx.0 c.deref.result.now l.txs.items c.place_of-at.result e c.deref.ensures.value c.place_of-at.ensures.first c.index.ensures in
-    let size = sized (reverse l.records.items) l.txs.items l.begun l.pending l.gone c.args.tx.0 e c.self.invariant.log_kept found in
-    let told = c.is_taken_out-was.ensures ∙ ap (λ (log : List LogRecord). takes_out (option_map change_in (find (is_at c.args.key) (chain (reverse log) e.last)))) c.deref-2.ensures.value in
-    let some = counted_key (reverse l.records.items) l.txs.items l.begun l.pending l.gone c.args.tx.0 e.last c.args.key e c.self.invariant.log_kept found refl (sym told ∙ was) in
+    let found = read_at l.txs c.args.tx.0 c.place_of-at.result e c.place_of-at.ensures.stands c.index.ensures in
+    let size = sized (reverse l.records.items) l.txs.entries l.begun l.pending l.gone c.args.tx.0 e c.self.invariant.log_kept found in
+    let free = free_key l c.self.invariant c.args.self.now c.self.view_is c.args.tx.0 c.args.key e c.requires.room c.requires.free found in
+    let told = (c.raise-was.ensures free.hold free.there).0 ∙ free.lacks in
+    let some = counted_key (reverse l.records.items) l.txs.entries l.begun l.pending l.gone c.args.tx.0 e.last c.args.key e c.self.invariant.log_kept found refl (sym told ∙ was) in
     omega (arith, some, size.absent_part)
 
 pub recount-self-inside-requires-clause-most : goal.recount-self-inside-requires-clause-most
 recount-self-inside-requires-clause-most c =
     let l = c.self.inside in
     let e = c.index.result.now in
-    let found = entry_is c.args.tx.0 c.deref.result.now l.txs.items c.place_of-at.result e c.deref.ensures.value c.place_of-at.ensures.first c.index.ensures in
-    let size = sized (reverse l.records.items) l.txs.items l.begun l.pending l.gone c.args.tx.0 e c.self.invariant.log_kept found in
+    let found = read_at l.txs c.args.tx.0 c.place_of-at.result e c.place_of-at.ensures.stands c.index.ensures in
+    let size = sized (reverse l.records.items) l.txs.entries l.begun l.pending l.gone c.args.tx.0 e c.self.invariant.log_kept found in
     omega (arith, size.gone_keys, c.self.invariant.roomy.fits, c.self.invariant.roomy.most_records)
 
 pub overflow_add-open_tx : goal.overflow_add-open_tx
 overflow_add-open_tx c =
     let l = c.self.inside in
     let e = c.index_mut-open_tx.result.now in
-    let found = entry_is c.args.tx.0 c.deref.result.now l.txs.items c.place_of-at.result e c.deref.ensures.value c.place_of-at.ensures.first c.index_mut-open_tx.ensures.value in
-    let size = sized (reverse l.records.items) l.txs.items l.begun l.pending l.gone c.args.tx.0 e c.self.invariant.log_kept found in
+    let found = read_at l.txs c.args.tx.0 c.place_of-at.result e c.place_of-at.ensures.stands c.index_mut-open_tx.ensures.value in
+    let size = sized (reverse l.records.items) l.txs.entries l.begun l.pending l.gone c.args.tx.0 e c.self.invariant.log_kept found in
     let many : vec_len l.records ≡ length l.records.items = omega (arith, l.records.ok.0) in
     let low : e.live ≤ most_log_records = omega (arith, size.live, length-reverse l.records.items, c.self.invariant.roomy.fits, c.self.invariant.roomy.most_records) in
     omega (arith, low)
@@ -69,10 +84,11 @@ recount-open_tx-requires-clause-some c = λ was.
     let l = c.self.inside in
     let e = c.index.result.now in
     let n = c.index_mut-open_tx.result.now in
-    let found = entry_is c.args.tx.0 c.deref.result.now l.txs.items c.place_of-at.result e c.deref.ensures.value c.place_of-at.ensures.first c.index.ensures in
-    let again = entry_is c.args.tx.0 c.deref.result.now l.txs.items c.place_of-at.result n c.deref.ensures.value c.place_of-at.ensures.first c.index_mut-open_tx.ensures.value in
-    let told = c.is_taken_out-was.ensures ∙ ap (λ (log : List LogRecord). takes_out (option_map change_in (find (is_at c.args.key) (chain (reverse log) e.last)))) c.deref-2.ensures.value in
-    let some = counted_key (reverse l.records.items) l.txs.items l.begun l.pending l.gone c.args.tx.0 e.last c.args.key e c.self.invariant.log_kept found refl (sym told ∙ was) in
+    let found = read_at l.txs c.args.tx.0 c.place_of-at.result e c.place_of-at.ensures.stands c.index.ensures in
+    let again = read_at l.txs c.args.tx.0 c.place_of-at.result n c.place_of-at.ensures.stands c.index_mut-open_tx.ensures.value in
+    let free = free_key l c.self.invariant c.args.self.now c.self.view_is c.args.tx.0 c.args.key e c.requires.room c.requires.free found in
+    let told = (c.raise-was.ensures free.hold free.there).0 ∙ free.lacks in
+    let some = counted_key (reverse l.records.items) l.txs.entries l.begun l.pending l.gone c.args.tx.0 e.last c.args.key e c.self.invariant.log_kept found refl (sym told ∙ was) in
     let same : e ≡ n = some_of e n (sym found ∙ again) in
     subst (λ (x : OpenTx). 0 < x.absent) same some
 
@@ -80,30 +96,9 @@ pub recount-open_tx-requires-clause-most : goal.recount-open_tx-requires-clause-
 recount-open_tx-requires-clause-most c =
     let l = c.self.inside in
     let e = c.index_mut-open_tx.result.now in
-    let found = entry_is c.args.tx.0 c.deref.result.now l.txs.items c.place_of-at.result e c.deref.ensures.value c.place_of-at.ensures.first c.index_mut-open_tx.ensures.value in
-    let size = sized (reverse l.records.items) l.txs.items l.begun l.pending l.gone c.args.tx.0 e c.self.invariant.log_kept found in
+    let found = read_at l.txs c.args.tx.0 c.place_of-at.result e c.place_of-at.ensures.stands c.index_mut-open_tx.ensures.value in
+    let size = sized (reverse l.records.items) l.txs.entries l.begun l.pending l.gone c.args.tx.0 e c.self.invariant.log_kept found in
     omega (arith, size.absent_part, size.gone_keys, c.self.invariant.roomy.fits, c.self.invariant.roomy.most_records)
-
-pub is_taken_out-was-requires-clause-counted : goal.is_taken_out-was-requires-clause-counted
-is_taken_out-was-requires-clause-counted c =
-    let l = c.self.inside in
-    let rs = reverse l.records.items in
-    let t = c.args.tx.0 in
-    let e = c.index.result.now in
-    let f = c.index-2.result.now in
-    let found = entry_is t c.deref.result.now l.txs.items c.place_of-at.result e c.deref.ensures.value c.place_of-at.ensures.first c.index.ensures in
-    let second = entry_is t c.deref.result.now l.txs.items c.place_of-at.result f c.deref.ensures.value c.place_of-at.ensures.first c.index-2.ensures in
-    let one : f ≡ e = some_of f e (sym second ∙ found) in
-    let kept = c.self.invariant.log_kept in
-    let fits = found_fits rs l.begun t l.txs.items e kept.fit found in
-    let number = found_number t l.txs.items e found in
-    let size = sized rs l.txs.items l.begun l.pending l.gone t e kept found in
-    let there = chain_of rs t e.last kept.numbered kept.written (fits.last ∙ ap (λ k. last_of k rs) number) in
-    ap (λ (x : OpenTx). x.removals) one
-    ∙ fits.removals
-    ∙ ap (λ k. length (filter removes (stack k rs))) number
-    ∙ ap (λ us. length (filter removes us)) (sym there)
-    ∙ ap (λ (log : List LogRecord). length (filter removes (chain (reverse log) e.last))) (sym c.deref-2.ensures.value)
 
 pub recount-more-requires-clause-most : goal.recount-more-requires-clause-most
 recount-more-requires-clause-most c =
@@ -112,14 +107,13 @@ recount-more-requires-clause-most c =
     let t = c.args.tx.0 in
     let e = c.index.result.now in
     let f = c.index-2.result.now in
-    let found = entry_is t c.deref.result.now l.txs.items c.place_of-at.result e c.deref.ensures.value c.place_of-at.ensures.first c.index.ensures in
-    let second = entry_is t c.deref.result.now l.txs.items c.place_of-at.result f c.deref.ensures.value c.place_of-at.ensures.first c.index-2.ensures in
+    let found = read_at l.txs t c.place_of-at.result e c.place_of-at.ensures.stands c.index.ensures in
+    let second = read_at l.txs t c.place_of-at.result f c.place_of-at.ensures.stands c.index-2.ensures in
     let one : f ≡ e = some_of f e (sym second ∙ found) in
     let kept = c.self.invariant.log_kept in
-    let fits = found_fits rs l.begun t l.txs.items e kept.fit found in
-    let number = found_number t l.txs.items e found in
-    let size = sized rs l.txs.items l.begun l.pending l.gone t e kept found in
-    let there = chain_of rs t e.last kept.numbered kept.written (fits.last ∙ ap (λ k. last_of k rs) number) in
+    let fits = found_fits rs l.begun t (finding l.txs.entries) e kept.fit found in
+    let size = sized rs l.txs.entries l.begun l.pending l.gone t e kept found in
+    let there = chain_of rs t e.last kept.numbered kept.written (fits.last) in
     let many : vec_len l.records ≡ length l.records.items = omega (arith, l.records.ok.0) in
     let few : e.removals < 4294967295 = omega (arith, size.removals, size.live, length-reverse l.records.items, c.self.invariant.roomy.fits, c.self.invariant.roomy.most_records) in
     subst (λ (x : OpenTx). x.removals < 4294967295) (sym one) few
@@ -133,19 +127,30 @@ pushed c =
     let ok = c.push.ensures.succeeds (omega (arith, spare)) in
     c.push.ensures.items ∙ ap (λ (b : Bool). cond b (l.records.items ++ Update (c.len.result + 1) c.index.result.now.last c.args.tx c.args.key c.args.before c.args.after ∷ []) l.records.items) ok
 
-step_of : (c : goal.After-self-4-1) → IsAccepted (c.len.result + 1) c.index.result.now.last c.args.tx c.args.key c.args.after (reverse c.self.inside.records.items) c.self.inside.txs.items c.self.inside.pending c.self.inside.gone (c.self.inside.pending + 1) c.recount-self-inside.result c.index.result.now record { tx = c.index_mut-open_tx.result.now.tx; rollback = c.index_mut-open_tx.result.now.rollback; last = c.len.result + 1; live = c.index_mut-open_tx.result.now.live + 1; absent = c.recount-open_tx.result; removals = c.recount-more.result; saves = c.index_mut-open_tx.result.now.saves }
+-- the transaction's new entry, and the table with it
+abbrev new_of : goal.After-self-4-1 → OpenTx
+new_of c = let n = c.index_mut-open_tx.result.now in record { rollback = n.rollback; last = c.len.result + 1; live = n.live + 1; left = n.left; absent = c.recount-open_tx.result; removals = c.recount-more.result; saves = n.saves }
+
+abbrev table_of : goal.After-self-4-1 → List (TxId × OpenTx)
+table_of c = (with_value_at c.self.inside.txs c.place_of-at.result (new_of c)).entries
+
+puts_of : (c : goal.After-self-4-1) → Puts (finding c.self.inside.txs.entries) (finding (table_of c)) c.args.tx.0 (Some (new_of c))
+puts_of c = write_at c.self.inside.txs c.args.tx.0 c.place_of-at.result (new_of c) c.place_of-at.ensures.stands
+
+step_of : (c : goal.After-self-4-1) → IsAccepted (c.len.result + 1) c.index.result.now.last c.args.tx c.args.key c.args.after (reverse c.self.inside.records.items) (finding c.self.inside.txs.entries) c.self.inside.pending c.self.inside.gone (c.self.inside.pending + 1) c.recount-self-inside.result c.index.result.now (new_of c)
 step_of c =
     let l = c.self.inside in
     let rs = reverse l.records.items in
     let e = c.index.result.now in
     let n = c.index_mut-open_tx.result.now in
-    let found = entry_is c.args.tx.0 c.deref.result.now l.txs.items c.place_of-at.result e c.deref.ensures.value c.place_of-at.ensures.first c.index.ensures in
-    let again = entry_is c.args.tx.0 c.deref.result.now l.txs.items c.place_of-at.result n c.deref.ensures.value c.place_of-at.ensures.first c.index_mut-open_tx.ensures.value in
+    let found = read_at l.txs c.args.tx.0 c.place_of-at.result e c.place_of-at.ensures.stands c.index.ensures in
+    let again = read_at l.txs c.args.tx.0 c.place_of-at.result n c.place_of-at.ensures.stands c.index_mut-open_tx.ensures.value in
     let same : n ≡ e = some_of n e (sym again ∙ found) in
-    let told = c.is_taken_out-was.ensures ∙ ap (λ (log : List LogRecord). takes_out (option_map change_in (find (is_at c.args.key) (chain (reverse log) e.last)))) c.deref-2.ensures.value in
+    let free = free_key l c.self.invariant c.args.self.now c.self.view_is c.args.tx.0 c.args.key e c.requires.room c.requires.free found in
+    let told = (c.raise-was.ensures free.hold free.there).0 ∙ free.lacks in
     let was = told in
     let f = c.index-2.result.now in
-    let second = entry_is c.args.tx.0 c.deref.result.now l.txs.items c.place_of-at.result f c.deref.ensures.value c.place_of-at.ensures.first c.index-2.ensures in
+    let second = read_at l.txs c.args.tx.0 c.place_of-at.result f c.place_of-at.ensures.stands c.index-2.ensures in
     let once : f ≡ e = some_of f e (sym second ∙ found) in
     let more : c.recount-more.result ≡ f.removals + cond c.is_none-will.result 1 0 = omega (arith, c.recount-more.ensures) in
     let will = none_is (is_some c.args.after) c.is_none-will.result c.is_none-will.ensures in
@@ -153,16 +158,17 @@ step_of c =
     record {
       lsn_is = ap (λ k. k + 1) (c.len.ensures ∙ many ∙ sym (length-reverse l.records.items));
       prev_is = refl;
-      held = held_of_free (kept_of rs) l.txs.items c.args.tx.0 c.args.key c.self.invariant.log_kept.owned (ap (λ (s : LogState). holder_of (open_in s) (history_in s) c.args.tx.0 c.args.key) c.self.view_is ∙ c.requires.free);
-      tx_same = ap (λ (x : OpenTx). x.tx.0) same;
+      held = held_of_free (kept_of rs) l.txs.entries c.args.tx.0 c.args.key c.self.invariant.log_kept.owned (ap (λ (s : LogState). holder_of (open_in s) (history_in s) c.args.tx.0 c.args.key) c.self.view_is ∙ c.requires.free);
       rollback_same = ap (λ (x : OpenTx). x.rollback) same;
       saves_same = ap (λ (x : OpenTx). x.saves.items) same;
       last_new = refl;
       live_new = ap (λ (x : OpenTx). x.live + 1) same;
-      absent_new = recounted c.recount-open_tx.result n.absent e.absent c.is_taken_out-was.result _ c.is_none-will.result _ was will (ap (λ (x : OpenTx). x.absent) same) c.recount-open_tx.ensures;
+      calm = active_rollback (kept_of rs) l.txs.entries c.args.tx.0 e found (ap (λ (s : LogState). phase_in s c.args.tx.0) c.self.view_is ∙ c.requires.active);
+      left_same = ap (λ (x : OpenTx). x.left) same;
+      absent_new = recounted c.recount-open_tx.result n.absent e.absent c.raise-was.result _ c.is_none-will.result _ was will (ap (λ (x : OpenTx). x.absent) same) c.recount-open_tx.ensures;
       removals_new = more ∙ ap (λ (b : Bool). f.removals + cond b 1 0) will ∙ ap (λ (x : OpenTx). x.removals + cond (not (is_some c.args.after)) 1 0) once;
       pending_one = refl;
-      gone_one = recounted c.recount-self-inside.result l.gone l.gone c.is_taken_out-was.result _ c.is_none-will.result _ was will refl c.recount-self-inside.ensures;
+      gone_one = recounted c.recount-self-inside.result l.gone l.gone c.raise-was.result _ c.is_none-will.result _ was will refl c.recount-self-inside.ensures;
     }
 
 pub invariant_of-self : goal.invariant_of-self
@@ -170,21 +176,26 @@ invariant_of-self c =
     let l = c.self.inside in
     let rs = reverse l.records.items in
     let e = c.index.result.now in
-    let found = entry_is c.args.tx.0 c.deref.result.now l.txs.items c.place_of-at.result e c.deref.ensures.value c.place_of-at.ensures.first c.index.ensures in
-    let first = subst (λ (xs : List OpenTx). IsFirst c.args.tx.0 xs c.place_of-at.result) c.deref.ensures.value c.place_of-at.ensures.first in
+    let found = read_at l.txs c.args.tx.0 c.place_of-at.result e c.place_of-at.ensures.stands c.index.ensures in
     let many : vec_len l.records ≡ length l.records.items = omega (arith, l.records.ok.0) in
-    let used : use_in c.args.self.now ≡ length rs + l.pending = ap use_in (sym c.self.view_is) ∙ state_use rs l.txs.items l.begun l.pending l.gone c.self.invariant.log_kept in
+    let used : use_in c.args.self.now ≡ length rs + l.pending = ap use_in (sym c.self.view_is) ∙ state_use rs l.txs.entries l.begun l.pending l.gone c.self.invariant.log_kept in
     let limit : l.limits.log_records ≡ c.args.self.now.limits.log_records = ap (λ (s : LogState). s.limits.log_records) c.self.view_is in
     let turned : reverse c.push.new.self.items ≡ Update (c.len.result + 1) e.last c.args.tx c.args.key c.args.before c.args.after ∷ rs = ap reverse (pushed c) ∙ reverse-push l.records.items _ in
-    let kept = accepted (c.len.result + 1) e.last c.args.tx c.args.key c.args.before c.args.after rs l.txs.items c.place_of-at.result l.begun l.pending l.gone (l.pending + 1) c.recount-self-inside.result e _ c.self.invariant.log_kept first found (step_of c) in
+    let kept = accepted (c.len.result + 1) e.last c.args.tx c.args.key c.args.before c.args.after rs (finding l.txs.entries) (finding (table_of c)) l.begun l.pending l.gone (l.pending + 1) c.recount-self-inside.result e (new_of c) c.self.invariant.log_kept found (puts_of c) (step_of c) in
     let roomy = c.self.invariant.roomy in
     let room : l.room ≡ Some c.args.key = ap (λ (s : LogState). s.room) c.self.view_is ∙ c.requires.room in
     let spare = subst (λ (o : Option (List ℕ)). IfSome o (λ _. vec_len l.records + l.pending + 2 ≤ vec_capacity l.records)) room roomy.spare in
     let longer : vec_len c.push.new.self ≤ vec_len l.records + 1 = c.push.ensures.upper_bound in
-    let held : vec_capacity l.records ≤ vec_capacity c.push.new.self = c.push.ensures.capacity in
+    let wider : vec_capacity l.records ≤ vec_capacity c.push.new.self = c.push.ensures.capacity in
     let wanted = c.requires.fits in
+    let free = free_key l c.self.invariant c.args.self.now c.self.view_is c.args.tx.0 c.args.key e c.requires.room c.requires.free found in
+    let will = none_is (is_some c.args.after) c.is_none-will.result c.is_none-will.ensures in
+    let keys = accepted_keys l c.self.invariant c.args.tx c.args.key e (new_of c) free (finding (table_of c)) (held c.raise-was.new.holdings) (c.len.result + 1) e.last c.args.before c.args.after c.is_none-will.result found (puts_of c) will (c.raise-was.ensures free.hold free.there).1 in
     record {
       log_kept = kept_turned _ _ _ _ _ _ turned kept;
+      holding = subst (λ (xs : List LogRecord). IsHeld xs (opens (finding (table_of c))) (held c.raise-was.new.holdings)) (sym turned) keys.holding;
+      busy_keys = keys.busy_keys;
+      reserved = tt;
       roomy = record {
         fits = omega (arith, length-reverse l.records.items);
         most_records = roomy.most_records;
@@ -209,11 +220,10 @@ returns-clause-after c =
     let e = c.index.result.now in
     let n = c.index_mut-open_tx.result.now in
     let kept = c.self.invariant.log_kept in
-    let found = entry_is t c.deref.result.now l.txs.items c.place_of-at.result e c.deref.ensures.value c.place_of-at.ensures.first c.index.ensures in
-    let first = subst (λ (xs : List OpenTx). IsFirst t xs c.place_of-at.result) c.deref.ensures.value c.place_of-at.ensures.first in
-    let fits = found_fits rs l.begun t l.txs.items e kept.fit found in
+    let found = read_at l.txs t c.place_of-at.result e c.place_of-at.ensures.stands c.index.ensures in
+    let fits = found_fits rs l.begun t (finding l.txs.entries) e kept.fit found in
     let step = step_of c in
     let r : LogRecord = Update (c.len.result + 1) e.last c.args.tx c.args.key c.args.before c.args.after in
-    let stay = txs_stay r rs l.begun t l.txs.items c.place_of-at.result record { tx = n.tx; rollback = n.rollback; last = c.len.result + 1; live = n.live + 1; absent = c.recount-open_tx.result; removals = c.recount-more.result; saves = n.saves } n step.lsn_is kept.fit first (step.tx_same ∙ found_number t l.txs.items e found) (ap (tx_at (kept_of (r ∷ rs))) c.index_mut-open_tx.ensures.value) in
-    accept_state l.records.items c.push.new.self.items l.txs.items _ l.begun l.limits l.room (c.len.result + 1) e.last c.args.tx c.args.key c.args.before c.args.after kept.written (pushed c) (step.lsn_is ∙ ap (λ k. k + 1) (length-reverse l.records.items)) (fits.last ∙ ap (λ k. last_of k rs) (found_number t l.txs.items e found)) stay
+    let stay = txs_stay r rs l.begun t l.txs.entries (table_of c) (new_of c) e step.lsn_is kept.fit (puts_of c) found step.rollback_same step.saves_same in
+    accept_state l.records.items c.push.new.self.items l.txs.entries (table_of c) l.begun l.limits l.room (c.len.result + 1) e.last c.args.tx c.args.key c.args.before c.args.after kept.written (pushed c) (step.lsn_is ∙ ap (λ k. k + 1) (length-reverse l.records.items)) (fits.last) stay
     ∙ ap (λ (s : LogState). record s { records = s.records ++ update_in s c.args.tx c.args.key c.args.before c.args.after ∷ []; changes = s.changes ++ record { lsn = log_len (history_in s) + 1; tx = t; key = c.args.key; before = c.args.before; after = c.args.after; live = true } ∷ []; room = None }) c.self.view_is

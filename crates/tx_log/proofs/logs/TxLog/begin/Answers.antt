@@ -1,21 +1,28 @@
-use Rattle.std.proofs.Common.{◌+◌, ◌∷◌, [], ◌++◌, Bool, not, cond, None, reverse, refl, ap, ◌∙◌, arith}
+use Rattle.std.proofs.Common.{◌+◌, None, Some, cond, eqb, reverse, ap, ◌∙◌, arith}
 use Rattle.std.specs.FinMap as maps
-use Rattle.tx_log.proofs.EndFacts.{begun_kept, begun_state}
+use Rattle.tx_log.proofs.EndFacts.{fresh_entry, known_last, begun_kept, begun_state}
+use Rattle.tx_log.proofs.HoldSteps.{held_more}
+use Rattle.tx_log.specs.Holdings.{held}
+use Rattle.tx_log.proofs.KeptFacts.{kept_now}
+use Rattle.tx_log.specs.Finds.{finding, Puts}
 use Rattle.tx_log.specs.LogState.{LogState}
 use Rattle.tx_log.specs.Transactions.{fresh}
 use Rattle.tx_log.specs.declared.opened.OpenTx.{OpenTx}
-use Rattle.tx_log.proofs.KeptFacts.{kept_now}
 use Rattle.tx_log.proofs.logs.TxLog.begin.Goals as goal
 
-pub invariant_of-self-2 : goal.invariant_of-self-2
-invariant_of-self-2 c =
+-- the new transaction is put in
+puts_of : (c : goal.After-self-in-Ok-1) → Puts (finding c.self.inside.txs.entries) (finding c.insert.new.self.entries) (c.self.inside.begun + 1) (Some fresh_entry)
+puts_of c = λ q. c.in-Ok.ensures.updates.0 (record { 0 = q }) ∙ ap (λ (e : OpenTx). cond (eqb (c.self.inside.begun + 1) q) (Some e) (finding c.self.inside.txs.entries q)) c.new.ensures
+
+pub invariant_of-self-in-Ok : goal.invariant_of-self-in-Ok
+invariant_of-self-in-Ok c =
     let l = c.self.inside in
-    let new = c.new.result in
-    let pushed = c.push.ensures.items ∙ ap (λ (b : Bool). cond b (l.txs.items ++ new ∷ []) l.txs.items) (c.is_err.ensures.negation ∙ ap not c.if-is_err.false) in
-    let is = c.new.ensures in
     let roomy = c.self.invariant.roomy in
     record {
-      log_kept = begun_kept (reverse l.records.items) l.txs.items c.push.new.self.items l.begun l.pending l.gone new c.self.invariant.log_kept pushed (ap (λ (x : OpenTx). x.tx.0) is) (ap (λ (x : OpenTx). x.last) is) (ap (λ (x : OpenTx). x.live) is) (ap (λ (x : OpenTx). x.absent) is) (ap (λ (x : OpenTx). x.removals) is) (ap (λ (x : OpenTx). x.saves.items) is) (ap (λ (x : OpenTx). x.rollback) is);
+      log_kept = begun_kept (reverse l.records.items) (finding l.txs.entries) (finding c.insert.new.self.entries) l.begun l.pending l.gone c.self.invariant.log_kept (puts_of c);
+      holding = held_more (reverse l.records.items) (finding l.txs.entries) (finding c.insert.new.self.entries) (held l.holdings) l.begun fresh_entry c.self.invariant.log_kept.fit (puts_of c) (known_last (reverse l.records.items) l.begun (l.begun + 1) (omega arith) c.self.invariant.log_kept.known).1 c.self.invariant.holding;
+      busy_keys = c.self.invariant.busy_keys;
+      reserved = tt;
       roomy = record {
         fits = roomy.fits;
         most_records = roomy.most_records;
@@ -26,20 +33,17 @@ invariant_of-self-2 c =
       };
     }
 
-pub returns-clause-ok : goal.returns-clause-ok
-returns-clause-ok c =
+pub returns-in-Ok-clause-ok : goal.returns-in-Ok-clause-ok
+returns-in-Ok-clause-ok c =
     let l = c.self.inside in
-    let new = c.new.result in
-    let pushed = c.push.ensures.items ∙ ap (λ (b : Bool). cond b (l.txs.items ++ new ∷ []) l.txs.items) (c.is_err.ensures.negation ∙ ap not c.if-is_err.false) in
-    let is = c.new.ensures in
-    begun_state l.records.items l.txs.items c.push.new.self.items l.begun (l.begun + 1) l.limits l.room new c.self.invariant.log_kept.fit pushed (ap (λ (x : OpenTx). x.tx.0) is) refl (ap (λ (x : OpenTx). x.saves.items) is) (ap (λ (x : OpenTx). x.rollback) is)
+    begun_state l.records.items l.txs.entries c.insert.new.self.entries l.begun l.limits l.room (puts_of c)
     ∙ ap (λ (s : LogState). record s { begun = s.begun + 1; txs = maps.insert s.txs (s.begun + 1) fresh; room = None }) c.self.view_is
 
 pub returns-then-self-most-clause-kept : goal.returns-then-self-most-clause-kept
 returns-then-self-most-clause-kept c = kept_now c.self.inside c.self.invariant _ c.self.view_is
 
-pub returns-then-is_err-clause-kept : goal.returns-then-is_err-clause-kept
-returns-then-is_err-clause-kept c = kept_now c.self.inside c.self.invariant _ c.self.view_is
+pub returns-in-Ok-clause-kept : goal.returns-in-Ok-clause-kept
+returns-in-Ok-clause-kept c = kept_now c.self.inside c.self.invariant _ c.self.view_is
 
-pub returns-clause-kept : goal.returns-clause-kept
-returns-clause-kept c = kept_now c.self.inside c.self.invariant _ c.self.view_is
+pub returns-in-Err-clause-kept : goal.returns-in-Err-clause-kept
+returns-in-Err-clause-kept c = kept_now c.self.inside c.self.invariant _ c.self.view_is

@@ -1,4 +1,4 @@
-use Rattle.std.proofs.Common.{◌≡◌, length, reverse, vec_len, refl, sym, ap, ◌∙◌, arith}
+use Rattle.std.proofs.Common.{reverse, refl, sym, ap, ◌∙◌, arith}
 use Rattle.std.proofs.lemmas.List.{length-reverse}
 use Rattle.std.specs.FinMap as maps
 use Rattle.tx_log.specs.LogState.{LogState}
@@ -12,14 +12,12 @@ pub returns : goal.returns
 returns c =
     let l = c.self.inside in
     let rs = reverse l.records.items in
-    let many : vec_len l.txs ≡ length l.txs.items = omega (arith, l.txs.ok.0) in
-    omega (arith, c.len.ensures, many, sym (len-txs_of (kept_of rs) rs l.begun l.txs.items c.self.invariant.log_kept.fit) ∙ ap (λ (s : LogState). maps.len s.txs) c.self.view_is)
+    omega (arith, c.len.ensures.len, sym (len-txs_of (kept_of rs) l.txs.entries c.len.ensures.unique) ∙ ap (λ (s : LogState). maps.len s.txs) c.self.view_is)
 
 pub overflow_cast-result : goal.overflow_cast-result
 overflow_cast-result c =
     let l = c.self.inside in
     let rs = reverse l.records.items in
-    let many : vec_len l.txs ≡ length l.txs.items = omega (arith, l.txs.ok.0) in
-    let counted = len-txs_of (kept_of rs) rs l.begun l.txs.items c.self.invariant.log_kept.fit in
-    let few = len-begun (state_of l) (is_log (state_of l) rs l.txs.items l.pending l.gone c.self.invariant.log_kept (omega (arith, c.self.invariant.roomy.fits, length-reverse l.records.items)) c.self.invariant.roomy.within refl refl) in
-    omega (arith, c.len.ensures, many, counted, few, c.self.invariant.roomy.within, c.self.invariant.roomy.most_begins)
+    let counted = len-txs_of (kept_of rs) l.txs.entries c.len.ensures.unique in
+    let few = len-begun (state_of l) (is_log (state_of l) rs l.txs.entries l.pending l.gone c.self.invariant.log_kept (omega (arith, c.self.invariant.roomy.fits, length-reverse l.records.items)) c.self.invariant.roomy.within refl refl) in
+    omega (arith, c.len.ensures.len, counted, few, c.self.invariant.roomy.within, c.self.invariant.roomy.most_begins)

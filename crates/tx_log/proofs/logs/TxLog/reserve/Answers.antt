@@ -6,3 +6,6 @@ returns-then-is_err-clause-kept c = kept_now c.self.inside c.self.invariant _ c.
 
 pub returns-clause-kept : goal.returns-clause-kept
 returns-clause-kept c = kept_now c.self.inside c.self.invariant _ c.self.view_is
+
+pub returns-then-is_err-2-clause-kept : goal.returns-then-is_err-2-clause-kept
+returns-then-is_err-2-clause-kept c = kept_now c.self.inside c.self.invariant _ c.self.view_is

@@ -1,18 +1,22 @@
-use Rattle.std.proofs.Common.{ℕ, ◌+◌, ◌<◌, ◌≤◌, ◌∷◌, [], ◌++◌, List, None, length, reverse, is_some, sym, ap, subst, ◌∙◌, arith, length-append}
+use Rattle.std.proofs.Common.{ℕ, ◌+◌, ◌<◌, ◌≤◌, ◌∷◌, [], ◌++◌, List, None, length, reverse, sym, ap, subst, ◌∙◌, arith, length-append}
 use Rattle.std.specs.FinMap as maps
 use Rattle.rec_types.specs.History.{own_count}
 use Rattle.rec_types.specs.Kept.{history_of}
 use Rattle.tx_log.proofs.Chains.{last_of-le}
-use Rattle.tx_log.proofs.KeptFacts.{entry_is, open_of_phase, active_rollback, kept_now}
+use Rattle.tx_log.proofs.HoldSteps.{held_put}
+use Rattle.tx_log.specs.Holdings.{held}
+use Rattle.tx_log.proofs.KeptFacts.{open_of_phase, active_rollback, kept_now}
 use Rattle.tx_log.proofs.MovedFacts.{moved, IsMove, moved_kept, moved_state, places_are, up_to_push, saved_is}
-use Rattle.tx_log.proofs.OpenFacts.{found_fits, found_number}
+use Rattle.tx_log.proofs.PlaceOf.{read_at, write_at}
+use Rattle.indexmap.specs.IndexMap.{with_value_at}
+use Rattle.tx_log.proofs.OpenFacts.{found_fits}
 use Rattle.tx_log.proofs.ReadFacts.{depth_is}
 use Rattle.tx_log.proofs.StateFacts.{state, unroomed}
-use Rattle.tx_log.specs.Finds.{find_tx, IsFirst}
-use Rattle.tx_log.specs.Log.{kept_of, last_of}
+use Rattle.tx_log.specs.Finds.{finding}
+use Rattle.tx_log.specs.Fits.{left_above}
+use Rattle.tx_log.specs.Log.{stack, kept_of}
 use Rattle.tx_log.specs.LogState.{LogState, phase_in, tx_in, places_in, history_in, active_with}
 use Rattle.tx_log.specs.Transactions.{Tx, depth_of, most_savepoints}
-use Rattle.tx_log.specs.declared.opened.OpenTx.{OpenTx}
 use Rattle.tx_log.specs.declared.phases.Phase.TheVariants.{Active}
 use Rattle.tx_log.proofs.logs.TxLog.savepoint.Goals as goal
 
@@ -20,8 +24,8 @@ pub place_of-at-requires : goal.place_of-at-requires
 place_of-at-requires c =
     let l = c.self.inside in
     let t = c.args.tx.0 in
-    let some = open_of_phase (kept_of (reverse l.records.items)) l.txs.items t Active (ap (λ (s : LogState). phase_in s t) c.self.view_is ∙ c.requires.active) in
-    ap (λ (es : List OpenTx). is_some (find_tx t es)) c.deref.ensures.value ∙ some
+    let some = open_of_phase (kept_of (reverse l.records.items)) l.txs.entries t Active (ap (λ (s : LogState). phase_in s t) c.self.view_is ∙ c.requires.active) in
+    some
 
 pub save-requires : goal.save-requires
 save-requires c =
@@ -29,16 +33,16 @@ save-requires c =
     let rs = reverse l.records.items in
     let t = c.args.tx.0 in
     let e = c.index_mut-open_tx.result.now in
-    let found = entry_is t c.deref.result.now l.txs.items c.place_of-at.result e c.deref.ensures.value c.place_of-at.ensures.first c.index_mut-open_tx.ensures.value in
-    subst (λ (n : ℕ). n < most_savepoints) (ap (λ (s : LogState). depth_of (tx_in s t)) (sym c.self.view_is) ∙ depth_is (kept_of rs) l.txs.items t e found) c.requires.room
+    let found = read_at l.txs t c.place_of-at.result e c.place_of-at.ensures.stands c.index_mut-open_tx.ensures.value in
+    subst (λ (n : ℕ). n < most_savepoints) (ap (λ (s : LogState). depth_of (tx_in s t)) (sym c.self.view_is) ∙ depth_is (kept_of rs) l.txs.entries t e found) c.requires.room
 
 pub returns-clause-number : goal.returns-clause-number
 returns-clause-number c =
     let l = c.self.inside in
     let t = c.args.tx.0 in
     let e = c.index.result.now in
-    let found = entry_is t c.deref.result.now l.txs.items c.place_of-at.result e c.deref.ensures.value c.place_of-at.ensures.first c.index.ensures in
-    ap (λ n. n + 1) (c.len.ensures.value ∙ sym (depth_is (kept_of (reverse l.records.items)) l.txs.items t e found) ∙ ap (λ (s : LogState). depth_of (tx_in s t)) c.self.view_is)
+    let found = read_at l.txs t c.place_of-at.result e c.place_of-at.ensures.stands c.index.ensures in
+    ap (λ n. n + 1) (c.len.ensures.value ∙ sym (depth_is (kept_of (reverse l.records.items)) l.txs.entries t e found) ∙ ap (λ (s : LogState). depth_of (tx_in s t)) c.self.view_is)
 
 pub invariant_of-self : goal.invariant_of-self
 invariant_of-self c =
@@ -46,17 +50,22 @@ invariant_of-self c =
     let rs = reverse l.records.items in
     let t = c.args.tx.0 in
     let e = c.index_mut-open_tx.result.now in
-    let found = entry_is t c.deref.result.now l.txs.items c.place_of-at.result e c.deref.ensures.value c.place_of-at.ensures.first c.index_mut-open_tx.ensures.value in
-    let first = subst (λ (xs : List OpenTx). IsFirst t xs c.place_of-at.result) c.deref.ensures.value c.place_of-at.ensures.first in
-    let fits = found_fits rs l.begun t l.txs.items e c.self.invariant.log_kept.fit found in
-    let rollback_is = active_rollback (kept_of rs) l.txs.items t e found (ap (λ (s : LogState). phase_in s t) c.self.view_is ∙ c.requires.active) in
-    let new_is = c.save.ensures ∙ ap (λ s. moved e s (e.saves.items ++ e.last ∷ [])) rollback_is in
-    let last_low : e.last ≤ length rs = (let at = fits.last in omega (arith, last_of-le rs e.tx.0 c.self.invariant.log_kept.numbered)) in
-    let depth_now : length e.saves.items < most_savepoints = subst (λ (n : ℕ). n < most_savepoints) (ap (λ (s : LogState). depth_of (tx_in s t)) (sym c.self.view_is) ∙ depth_is (kept_of rs) l.txs.items t e found) c.requires.room in
+    let found = read_at l.txs t c.place_of-at.result e c.place_of-at.ensures.stands c.index_mut-open_tx.ensures.value in
+    let fits = found_fits rs l.begun t (finding l.txs.entries) e c.self.invariant.log_kept.fit found in
+    let w = c.save.new.self in
+    let m = with_value_at l.txs c.place_of-at.result w in
+    let puts = write_at l.txs t c.place_of-at.result w c.place_of-at.ensures.stands in
+    let rollback_is = active_rollback (kept_of rs) l.txs.entries t e found (ap (λ (s : LogState). phase_in s t) c.self.view_is ∙ c.requires.active) in
+    let new_is = c.save.ensures ∙ ap (λ s. moved e s e.left (e.saves.items ++ e.last ∷ [])) rollback_is in
+    let last_low : e.last ≤ length rs = (let at = fits.last in omega (arith, last_of-le rs t c.self.invariant.log_kept.numbered)) in
+    let depth_now : length e.saves.items < most_savepoints = subst (λ (n : ℕ). n < most_savepoints) (ap (λ (s : LogState). depth_of (tx_in s t)) (sym c.self.view_is) ∙ depth_is (kept_of rs) l.txs.entries t e found) c.requires.room in
     let longer : length (e.saves.items ++ e.last ∷ []) ≤ most_savepoints = omega (arith, length-append e.saves.items (e.last ∷ [])) in
-    let move : IsMove rs None (e.saves.items ++ e.last ∷ []) = record { saves = up_to_push (length rs) e.saves.items e.last last_low fits.saves; depth = longer; rollback = tt } in
+    let move : IsMove rs t None e.left (e.saves.items ++ e.last ∷ []) = record { remaining = fits.left ∙ ap (left_above (stack t rs)) rollback_is; saves = up_to_push (length rs) e.saves.items e.last last_low fits.saves; depth = longer; rollback = tt } in
     record {
-      log_kept = moved_kept rs l.txs.items l.begun l.pending l.gone t c.place_of-at.result e _ None (e.saves.items ++ e.last ∷ []) c.self.invariant.log_kept first found new_is move;
+      log_kept = moved_kept rs (finding l.txs.entries) (finding m.entries) l.begun l.pending l.gone t e w None e.left (e.saves.items ++ e.last ∷ []) c.self.invariant.log_kept found puts new_is move;
+      holding = held_put rs (finding l.txs.entries) (finding m.entries) (held l.holdings) t e w puts found c.self.invariant.holding;
+      busy_keys = c.self.invariant.busy_keys;
+      reserved = tt;
       roomy = unroomed _ _ _ _ _ _ c.self.invariant.roomy;
     }
 
@@ -66,16 +75,18 @@ returns-clause-after c =
     let rs = reverse l.records.items in
     let t = c.args.tx.0 in
     let e = c.index_mut-open_tx.result.now in
-    let found = entry_is t c.deref.result.now l.txs.items c.place_of-at.result e c.deref.ensures.value c.place_of-at.ensures.first c.index_mut-open_tx.ensures.value in
-    let first = subst (λ (xs : List OpenTx). IsFirst t xs c.place_of-at.result) c.deref.ensures.value c.place_of-at.ensures.first in
-    let fits = found_fits rs l.begun t l.txs.items e c.self.invariant.log_kept.fit found in
-    let rollback_is = active_rollback (kept_of rs) l.txs.items t e found (ap (λ (s : LogState). phase_in s t) c.self.view_is ∙ c.requires.active) in
-    let new_is = c.save.ensures ∙ ap (λ s. moved e s (e.saves.items ++ e.last ∷ [])) rollback_is in
+    let found = read_at l.txs t c.place_of-at.result e c.place_of-at.ensures.stands c.index_mut-open_tx.ensures.value in
+    let fits = found_fits rs l.begun t (finding l.txs.entries) e c.self.invariant.log_kept.fit found in
+    let w = c.save.new.self in
+    let m = with_value_at l.txs c.place_of-at.result w in
+    let puts = write_at l.txs t c.place_of-at.result w c.place_of-at.ensures.stands in
+    let rollback_is = active_rollback (kept_of rs) l.txs.entries t e found (ap (λ (s : LogState). phase_in s t) c.self.view_is ∙ c.requires.active) in
+    let new_is = c.save.ensures ∙ ap (λ s. moved e s e.left (e.saves.items ++ e.last ∷ [])) rollback_is in
     let cs = kept_of rs in
-    let old = state l.records.items l.txs.items l.begun l.limits l.room in
-    let are = places_are l.records.items l.txs.items l.begun l.limits l.room t e found in
-    moved_state l.records.items l.txs.items l.begun l.limits l.room t c.place_of-at.result e _ None (e.saves.items ++ e.last ∷ []) first found new_is
-    ∙ ap (λ (x : Tx). record old { txs = maps.insert old.txs t x; room = None }) (saved_is rs t e.last e.saves.items c.self.invariant.log_kept.numbered (fits.last ∙ ap (λ k. last_of k rs) (found_number t l.txs.items e found)) ∙ ap (λ (ps : List ℕ). active_with (ps ++ own_count (history_of cs) t ∷ [])) (sym are))
+    let old = state l.records.items l.txs.entries l.begun l.limits l.room in
+    let are = places_are l.records.items l.txs.entries l.begun l.limits l.room t e found in
+    moved_state l.records.items l.txs.entries m.entries l.begun l.limits l.room t e w None e.left (e.saves.items ++ e.last ∷ []) puts new_is
+    ∙ ap (λ (x : Tx). record old { txs = maps.insert old.txs t x; room = None }) (saved_is rs t e.last e.saves.items c.self.invariant.log_kept.numbered (fits.last) ∙ ap (λ (ps : List ℕ). active_with (ps ++ own_count (history_of cs) t ∷ [])) (sym are))
     ∙ ap (λ (s : LogState). record s { txs = maps.insert s.txs t (active_with (places_in s t ++ own_count (history_in s) t ∷ [])); room = None }) c.self.view_is
 
 pub returns-clause-kept : goal.returns-clause-kept
