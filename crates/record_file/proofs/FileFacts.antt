@@ -20,7 +20,7 @@ pub history-push : (cs : List Kept) (c : Kept) → history_of (cs ++ c ∷ []) �
 history-push [] c = refl
 history-push (d ∷ cs) c = ap (λ h. change_of d ∷ h) (history-push cs c)
 
-replay-push : (h : List Change) (c : Change) (m : Contents) → replay m (h ++ c ∷ []) ≡ applied c (replay m h)
+pub replay-push : (h : List Change) (c : Change) (m : Contents) → replay m (h ++ c ∷ []) ≡ applied c (replay m h)
 replay-push [] c m = refl
 replay-push (d ∷ h) c m = replay-push h c (applied d m)
 

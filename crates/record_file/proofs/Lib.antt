@@ -8,3 +8,6 @@ pub mod FaultFacts
 pub mod RollbackFacts
 pub mod GrowFacts
 pub mod OwnerFacts
+pub mod MoveFacts
+pub mod RunFacts
+pub mod UndoFacts

@@ -3,3 +3,5 @@ pub mod Outside
 pub mod Steps
 pub mod Faults
 pub mod Runs
+pub mod Undo
+pub mod Remaining

@@ -1,12 +1,15 @@
 //! Facts of the definitions that contracts of this crate cite.
-ghost use Rattle.std.specs.Prelude.{◌≡◌, ℕ, ◌+◌, ◌<◌, ◌≤◌, Bool, false, [], ◌∷◌, List, Ok, Err, IsTrue};
+ghost use Rattle.std.specs.Prelude.{◌≡◌, ℕ, ◌+◌, ◌<◌, ◌≤◌, zero, Bool, true, false, List, [], ◌∷◌, ◌++◌, length, Option, Some, None, Ok, Err, IsTrue, slice_get};
 ghost use Rattle.std.specs.FinMap as maps;
+ghost use Rattle.rec_types.specs.Contents.{Contents, set_to};
+ghost use Rattle.rec_types.specs.History.{Change, replay, live_of, live_from};
 ghost use Rattle.rec_types.specs.LimitBounds.{Bounds};
 ghost use Rattle.rec_types.specs.Table.{greatest_count};
 ghost use Rattle.rec_types.specs.declared.transactions.TxId.{TxId};
 ghost use Rattle.tx_log.specs.Transactions.{fresh};
-ghost use Rattle.record_file.specs.Abstract.{new_file};
-ghost use Rattle.record_file.specs.Runs.{Seen, Event, Run, Begin, Put, Entries};
+ghost use Rattle.record_file.specs.Abstract.{new_file, open_of, records_of};
+ghost use Rattle.record_file.specs.Undo.{Starts, old_records, quiet, wrote};
+ghost use Rattle.record_file.specs.Runs.{Seen, Event, Run, Begin, Put, Remove, Commit, Entries};
 ghost use Rattle.record_file.specs.Steps.{rose};
 ghost use Rattle.record_file.specs.declared.faults.PutFault.TheVariants as put_faults;
 ghost use Rattle.record_file.specs.declared.faults.EntriesFault.TheVariants as entries_faults;
@@ -38,4 +41,41 @@ pub fn runs()
           failed = failed;
           refused = refused;
         } ∷ []) new → rose old.failures new.failures ≡ false → ⊥ }
+{}
+
+/// Undo commutes. After every run from a start the old record that a live change's call answered is what the live
+/// changes before it leave at its key; and for the newest live change of a transaction that hasn't ended the replay
+/// without it is the replay with that old record put back. Of a transaction that has ended it isn't: another may
+/// have written there since.
+pub fn undo_commutes()
+    ensures answered { (old new : Seen) (events : List Event)
+        → Starts old → Run old events new → new.failures < greatest_count
+        → (earlier later : List Change) (change : Change)
+        → new.file.history ≡ earlier ++ change ∷ later → IsTrue change.live
+        → slice_get (old_records events) (length earlier)
+        ≡ Some (maps.get (replay old.records earlier) change.key) }
+    ensures put_back { (old new : Seen) (events : List Event)
+        → Starts old → Run old events new → new.failures < greatest_count
+        → (t : ℕ) → IsTrue (open_of new.file t)
+        → (earlier later : List Change) (change : Change)
+        → new.file.history ≡ earlier ++ change ∷ later
+        → IsTrue (live_of t change) → live_from later t zero ≡ 0
+        → (before : Option (List ℕ))
+        → slice_get (old_records events) (length earlier) ≡ Some before
+        → replay old.records (earlier ++ later)
+        ≡ set_to (records_of new.file) change.key before }
+    ensures example { (t : TxId) → old_records (
+        quiet (Begin (Ok t))
+        ∷ quiet (Put t (97 ∷ []) (120 ∷ []) (Ok None))
+        ∷ quiet (Put t (98 ∷ []) (120 ∷ []) (Err put_faults.Full))
+        ∷ quiet (Remove t (97 ∷ []) (Ok (120 ∷ [])))
+        ∷ quiet (Commit t (Ok tt))
+        ∷ []
+        ) ≡ None ∷ Some (120 ∷ []) ∷ [] }
+    ensures of_two { (opening : Contents) → replay opening (wrote 1 97 120 ∷ [])
+        ≡ set_to (replay opening (wrote 1 97 120 ∷ wrote 1 97 121 ∷ []))
+        (97 ∷ []) (Some (120 ∷ [])) }
+    ensures ended { (opening : Contents) → replay opening (wrote 2 97 121 ∷ [])
+        ≡ set_to (replay opening (wrote 1 97 120 ∷ wrote 2 97 121 ∷ []))
+        (97 ∷ []) None → ⊥ }
 {}
