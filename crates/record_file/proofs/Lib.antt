@@ -11,3 +11,6 @@ pub mod OwnerFacts
 pub mod MoveFacts
 pub mod RunFacts
 pub mod UndoFacts
+pub mod LeadFacts
+pub mod PartFacts
+pub mod AloneFacts

@@ -71,11 +71,11 @@ pub data Move (old : File) (called : Called) (new : File) : Type 0 where
   WentBack : (t p n : ℕ) → (txs : Transactions) → open_of old t ≡ true → n ≤ live_from old.history t p → new ≡ record old { history = take_newest old.history t p n; txs = txs } → SameOpen old.txs txs → AllEnd txs → old_record called ≡ None → begins_or_commits called ≡ false → Move old called new
   Ended : (t : ℕ) → open_of old t ≡ true → new ≡ record old { history = take_back old.history t zero; txs = maps.remove old.txs t } → old_record called ≡ None → begins_or_commits called ≡ false → Move old called new
 
-some_phase : (o : Option Tx) → (option_map phase_of o ≡ None → ⊥) → is_some o ≡ true
+pub some_phase : (o : Option Tx) → (option_map phase_of o ≡ None → ⊥) → is_some o ≡ true
 some_phase None none = absurd (none refl)
 some_phase (Some tx) none = refl
 
-no_refusal : {X : Type 0} (fault : X) (o : Option X) → o ≡ Some fault → o ≡ None → ⊥
+pub no_refusal : {X : Type 0} (fault : X) (o : Option X) → o ≡ Some fault → o ≡ None → ⊥
 no_refusal fault o some none = absurd (cc (sym some ∙ none))
 
 -- the place of the newest of all is the place itself

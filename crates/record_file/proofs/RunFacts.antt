@@ -233,6 +233,10 @@ run_failures old new [] ran = omega (arith, ap (λ (s : Seen). s.failures) ran)
 run_failures old new (e ∷ es) ran =
     omega (arith, ran.1.failures, counted_least old.failures e.failed, run_failures ran.0 new es ran.2)
 
+pub run_sound : (old new : Seen) (es : List Event) → IsTrue old.sound → Run old es new → IsTrue new.sound
+run_sound old new [] sound ran = ap (λ (s : Seen). s.sound) ran ∙ sound
+run_sound old new (e ∷ es) sound ran = run_sound ran.0 new es (ran.1.sound ∙ sound) ran.2
+
 with_added : (answered : List (Option (List ℕ))) (o : Option (Option (List ℕ))) (later : List (Option (List ℕ))) → added answered o ++ later ≡ answered ++ with_first o later
 with_added answered None later = refl
 with_added [] (Some before) later = refl

@@ -26,7 +26,7 @@ abbrev pub NoneLiveAt : List ℕ → List Change → Type 0
 NoneLiveAt x [] = Unit {0}
 NoneLiveAt x (d ∷ ds) = (IsTrue d.live → d.key ≡ x → ⊥) × NoneLiveAt x ds
 
-apart_of : (a b : List ℕ) → (a ≡ b → ⊥) → same_key a b ≡ false
+pub apart_of : (a b : List ℕ) → (a ≡ b → ⊥) → same_key a b ≡ false
 apart_of a b differ = at (same_key a b) refl
   where
     at : (s : Bool) → same_key a b ≡ s → same_key a b ≡ false

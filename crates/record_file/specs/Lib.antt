@@ -5,3 +5,4 @@ pub mod Faults
 pub mod Runs
 pub mod Undo
 pub mod Remaining
+pub mod Leads

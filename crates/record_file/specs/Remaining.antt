@@ -1,5 +1,5 @@
 -- The calls of a run that remain once what was taken back is left out.
-use Rattle.std.specs.Prelude.{Bool, true, false, if◌then◌else◌, List, [], ◌∷◌, Ok, is_some}
+use Rattle.std.specs.Prelude.{◌≡◌, Bool, true, false, if◌then◌else◌, List, [], ◌∷◌, Ok, is_some}
 use Rattle.rec_types.specs.History.{Change}
 use Rattle.record_file.specs.Runs.{Called, Event, Begin, Commit}
 use Rattle.record_file.specs.Undo.{old_record}
@@ -35,3 +35,8 @@ front_if false e es = es
 abbrev pub remaining : List Event → List Change → List Event
 remaining [] g = []
 remaining (e ∷ es) g = front_if (remains e.called g) e (remaining es (if is_change e.called then past_first g else g))
+
+-- nothing comes from outside: no device fails, and no memory is refused
+abbrev pub NothingFails : List Event → Type 0
+NothingFails [] = Unit {0}
+NothingFails (e ∷ es) = (e.failed ≡ false) × (e.refused ≡ false) × NothingFails es
