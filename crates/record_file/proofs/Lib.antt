@@ -14,3 +14,5 @@ pub mod UndoFacts
 pub mod LeadFacts
 pub mod PartFacts
 pub mod AloneFacts
+pub mod CallFacts
+pub mod ExactFacts

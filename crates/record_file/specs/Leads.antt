@@ -9,14 +9,16 @@ NoneLeft t [] g = Unit {0}
 NoneLeft t (c ∷ h) [] = Unit {0}
 NoneLeft t (c ∷ h) (d ∷ g) = (c.tx ≡ t → d.live ≡ false) × NoneLeft t h g
 
--- The changes so far are those at the front of the final ones. None is live again; and where a live one was taken back,
--- its transaction hadn't ended, and no later change of it so far is live in the end.
+-- The changes so far are those at the front of the final ones. None is live again; and where a live
+-- one was taken back, its transaction hadn't ended, and no later change of it so far is live in the
+-- end.
 abbrev pub LeadsTo : (ℕ → Bool) → List Change → List Change → Type 0
 LeadsTo opened [] g = Unit {0}
 LeadsTo opened (c ∷ h) [] = ⊥
 LeadsTo opened (c ∷ h) (d ∷ g) =
     (d ≡ record c { live = d.live }) × (IsTrue d.live → IsTrue c.live)
-    × (IsTrue c.live → d.live ≡ false → IsTrue (opened c.tx) × NoneLeft c.tx h g) × LeadsTo opened h g
+    × (IsTrue c.live → d.live ≡ false → IsTrue (opened c.tx) × NoneLeft c.tx h g)
+    × LeadsTo opened h g
 
 -- the changes so far that are live in the end
 abbrev pub part : List Change → List Change → List Change

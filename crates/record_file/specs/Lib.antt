@@ -6,3 +6,5 @@ pub mod Runs
 pub mod Undo
 pub mod Remaining
 pub mod Leads
+pub mod Calls
+pub mod Exact

@@ -30,11 +30,13 @@ abbrev pub front_if : Bool → Event → List Event → List Event
 front_if true e es = e ∷ es
 front_if false e es = es
 
--- The remaining calls of a run, where g is what became of its changes in the end: accepted begins, accepted commits,
--- and the accepted puts and removals whose change is live.
+-- The remaining calls of a run, where g is what became of its changes in the end: accepted begins,
+-- accepted commits, and the accepted puts and removals whose change is live.
 abbrev pub remaining : List Event → List Change → List Event
 remaining [] g = []
-remaining (e ∷ es) g = front_if (remains e.called g) e (remaining es (if is_change e.called then past_first g else g))
+remaining (e ∷ es) g =
+    front_if (remains e.called g) e
+    (remaining es (if is_change e.called then past_first g else g))
 
 -- nothing comes from outside: no device fails, and no memory is refused
 abbrev pub NothingFails : List Event → Type 0

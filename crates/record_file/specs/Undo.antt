@@ -1,4 +1,5 @@
--- What a run's calls answered of the records that stood before their changes, and the files that a run starts from.
+-- What a run's calls answered of the records that stood before their changes, and the files that a
+-- run starts from.
 use Rattle.std.specs.Prelude.{◌≡◌, ℕ, ◌≤◌, true, false, List, [], ◌∷◌, Option, Some, None, Ok, IsTrue}
 use Rattle.std.specs.FinMap as maps
 use Rattle.rec_types.specs.History.{Change}
@@ -22,7 +23,8 @@ abbrev pub with_first : Option (Option (List ℕ)) → List (Option (List ℕ)) 
 with_first None later = later
 with_first (Some first) later = first ∷ later
 
--- The old records that the accepted changes of a run answered, in order: the n-th is that of the history's n-th change.
+-- The old records that the accepted changes of a run answered, in order: the n-th is that of the
+-- history's n-th change.
 abbrev pub old_records : List Event → List (Option (List ℕ))
 old_records [] = []
 old_records (e ∷ es) = with_first (old_record e.called) (old_records es)

@@ -45,10 +45,11 @@ pub fn runs()
         } ∷ []) new → rose old.failures new.failures ≡ false → ⊥ }
 {}
 
-/// Undo commutes. After every run from a start the old record that a live change's call answered is what the live
-/// changes before it leave at its key; and for the newest live change of a transaction that hasn't ended the replay
-/// without it is the replay with that old record put back. Of a transaction that has ended it isn't, since another may
-/// have written there; but no run takes back a change of one.
+/// Undo commutes. After every run from a start the old record that a live change's call answered is
+/// what the live changes before it leave at its key; and for the newest live change of a transaction
+/// that hasn't ended the replay without it is the replay with that old record put back. Of a
+/// transaction that has ended it isn't, since another may have written there; but no run takes back a
+/// change of one.
 pub fn undo_commutes()
     ensures answered { (old new : Seen) (events : List Event)
         → Starts old → Run old events new → new.failures < greatest_count
@@ -87,10 +88,11 @@ pub fn undo_commutes()
         (97 ∷ []) None → ⊥ }
 {}
 
-/// What remains of a run is a run by itself. After every run from a start the accepted begins, the accepted commits,
-/// and the puts and removals whose change is live at the end, each with its answer, are a run from the same start, in
-/// which nothing fails from outside. It ends with the same records, and each transaction that is open at the end owns
-/// the same keys.
+/// What remains of a run is a run by itself. After every run from a start the accepted begins, the
+/// accepted commits, and the puts and removals whose change is live at the end, each with its answer,
+/// are a run from the same start, in which nothing fails from outside. It ends with the same records,
+/// and each transaction that is open at the end owns the same keys. With another answer a remaining
+/// put is no step.
 pub fn remaining_alone()
     ensures alone { (old new : Seen) (events : List Event)
         → Starts old → Run old events new → new.failures < greatest_count
