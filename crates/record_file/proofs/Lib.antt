@@ -16,3 +16,4 @@ pub mod PartFacts
 pub mod AloneFacts
 pub mod CallFacts
 pub mod ExactFacts
+pub mod OnceFacts

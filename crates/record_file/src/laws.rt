@@ -2,17 +2,19 @@
 ghost use Rattle.std.specs.Prelude.{◌≡◌, ℕ, ◌+◌, ◌<◌, ◌≤◌, zero, Bool, true, false, List, [], ◌∷◌, ◌++◌, length, Option, Some, None, Ok, Err, IsTrue, slice_get};
 ghost use Rattle.std.specs.FinMap as maps;
 ghost use Rattle.rec_types.specs.Contents.{Contents, set_to};
-ghost use Rattle.rec_types.specs.History.{Change, replay, live_of, live_from, taken_back};
+ghost use Rattle.rec_types.specs.History.{Change, replay, live_of, live_from, take_back, taken_back};
 ghost use Rattle.rec_types.specs.LimitBounds.{Bounds};
 ghost use Rattle.rec_types.specs.Table.{greatest_count};
 ghost use Rattle.rec_types.specs.declared.transactions.TxId.{TxId};
 ghost use Rattle.tx_log.specs.Owners.{keys_owned};
-ghost use Rattle.tx_log.specs.Transactions.{fresh};
-ghost use Rattle.record_file.specs.Abstract.{new_file, open_of, records_of};
+ghost use Rattle.tx_log.specs.Transactions.{fresh, place_in};
+ghost use Rattle.record_file.specs.Abstract.{File, new_file, open_of, records_of, tx_of};
+ghost use Rattle.record_file.specs.Exact.{IsExact, IsExactSeen, CompensatesOnce, one};
 ghost use Rattle.record_file.specs.Remaining.{NothingFails, remaining};
 ghost use Rattle.record_file.specs.Undo.{Starts, old_records, quiet, wrote};
-ghost use Rattle.record_file.specs.Runs.{Seen, Event, Run, Begin, Put, Remove, Savepoint, RollbackTo, Commit, Entries};
-ghost use Rattle.record_file.specs.Steps.{rose};
+ghost use Rattle.record_file.specs.Runs.{Seen, Event, Step, Run, Begin, Put, Remove, Savepoint, RollbackTo, Abort, Resume, Commit, Entries};
+ghost use Rattle.tx_log.specs.declared.log_records.LogRecord.TheVariants.{Update, Compensation};
+ghost use Rattle.record_file.specs.Steps.{rose, places_at, rolling_place};
 ghost use Rattle.record_file.specs.declared.faults.PutFault.TheVariants as put_faults;
 ghost use Rattle.record_file.specs.declared.faults.EntriesFault.TheVariants as entries_faults;
 
@@ -120,4 +122,38 @@ pub fn remaining_alone()
         → Run old (
         quiet (Begin (Ok t)) ∷ quiet (Put t key value (Ok (Some other))) ∷ []
         ) new → ⊥ }
+{}
+
+/// A finished rollback takes back exactly the changes of its take, and compensates each of them once. So it
+/// is with every step between exact files: the log grows by one compensation of each change that was live
+/// and is no longer, and of no other. A file is not exact whose log compensates a change twice.
+pub fn compensated_once()
+    ensures step { (old new : Seen) (event : Event) → IsExactSeen old → IsExactSeen new
+        → Step old event new → CompensatesOnce old new }
+    ensures rollback_to { (old new : Seen) (failed refused : Bool) (t : TxId) (n undone : ℕ)
+        → Step old (record {
+          called = RollbackTo t n (Ok undone);
+          failed = failed;
+          refused = refused;
+        }) new → new.file.history
+        ≡ take_back old.file.history t.0 (place_in (places_at old.file t.0) n) }
+    ensures abort { (old new : Seen) (failed refused : Bool) (t : TxId) (undone : ℕ)
+        → Step old (record {
+          called = Abort t (Ok undone);
+          failed = failed;
+          refused = refused;
+        }) new → new.file.history ≡ take_back old.file.history t.0 zero }
+    ensures resume { (old new : Seen) (failed refused : Bool) (t : TxId) (undone : ℕ)
+        → Step old (record {
+          called = Resume t (Ok undone);
+          failed = failed;
+          refused = refused;
+        }) new → new.file.history
+        ≡ take_back old.file.history t.0 (rolling_place (tx_of old.file t.0)) }
+    ensures twice { (sound : Bool) (m : Contents) (f : File) → IsExact sound m f (
+        Update 1 0 one (97 ∷ []) None (Some (120 ∷ []))
+        ∷ Compensation 2 1 one (97 ∷ []) None 0
+        ∷ Compensation 3 2 one (97 ∷ []) None 0
+        ∷ []
+        ) → ⊥ }
 {}
