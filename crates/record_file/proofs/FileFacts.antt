@@ -20,7 +20,7 @@ pub history-push : (cs : List Kept) (c : Kept) → history_of (cs ++ c ∷ []) �
 history-push [] c = refl
 history-push (d ∷ cs) c = ap (λ h. change_of d ∷ h) (history-push cs c)
 
-replay-push : (h : List Change) (c : Change) (m : Contents) → replay m (h ++ c ∷ []) ≡ applied c (replay m h)
+pub replay-push : (h : List Change) (c : Change) (m : Contents) → replay m (h ++ c ∷ []) ≡ applied c (replay m h)
 replay-push [] c m = refl
 replay-push (d ∷ h) c m = replay-push h c (applied d m)
 
@@ -77,15 +77,15 @@ fits_undo is_open cs m t u owned open_t newest fits =
 
 -- room
 
-or_either : (a b : Bool) → a || b ≡ true → (P : Type 0) → (a ≡ true → P) → (b ≡ true → P) → P
+pub or_either : (a b : Bool) → a || b ≡ true → (P : Type 0) → (a ≡ true → P) → (b ≡ true → P) → P
 or_either true b is P first second = first refl
 or_either false b is P first second = second is
 
-or_first : (a b : Bool) → a ≡ true → a || b ≡ true
+pub or_first : (a b : Bool) → a ≡ true → a || b ≡ true
 or_first true b is = refl
 or_first false b is = absurd (cc)
 
-or_second : (a b : Bool) → b ≡ true → a || b ≡ true
+pub or_second : (a b : Bool) → b ≡ true → a || b ≡ true
 or_second true b is = refl
 or_second false b is = is
 

@@ -8,3 +8,12 @@ pub mod FaultFacts
 pub mod RollbackFacts
 pub mod GrowFacts
 pub mod OwnerFacts
+pub mod MoveFacts
+pub mod RunFacts
+pub mod UndoFacts
+pub mod LeadFacts
+pub mod PartFacts
+pub mod AloneFacts
+pub mod CallFacts
+pub mod ExactFacts
+pub mod OnceFacts

@@ -3,3 +3,8 @@ pub mod Outside
 pub mod Steps
 pub mod Faults
 pub mod Runs
+pub mod Undo
+pub mod Remaining
+pub mod Leads
+pub mod Calls
+pub mod Exact

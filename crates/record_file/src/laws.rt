@@ -1,13 +1,20 @@
 //! Facts of the definitions that contracts of this crate cite.
-ghost use Rattle.std.specs.Prelude.{◌≡◌, ℕ, ◌+◌, ◌<◌, ◌≤◌, Bool, false, [], ◌∷◌, List, Ok, Err, IsTrue};
+ghost use Rattle.std.specs.Prelude.{◌≡◌, ℕ, ◌+◌, ◌<◌, ◌≤◌, zero, Bool, true, false, List, [], ◌∷◌, ◌++◌, length, Option, Some, None, Ok, Err, IsTrue, slice_get};
 ghost use Rattle.std.specs.FinMap as maps;
+ghost use Rattle.rec_types.specs.Contents.{Contents, set_to};
+ghost use Rattle.rec_types.specs.History.{Change, replay, live_of, live_from, take_back, taken_back};
 ghost use Rattle.rec_types.specs.LimitBounds.{Bounds};
 ghost use Rattle.rec_types.specs.Table.{greatest_count};
 ghost use Rattle.rec_types.specs.declared.transactions.TxId.{TxId};
-ghost use Rattle.tx_log.specs.Transactions.{fresh};
-ghost use Rattle.record_file.specs.Abstract.{new_file};
-ghost use Rattle.record_file.specs.Runs.{Seen, Event, Run, Begin, Put, Entries};
-ghost use Rattle.record_file.specs.Steps.{rose};
+ghost use Rattle.tx_log.specs.Owners.{keys_owned};
+ghost use Rattle.tx_log.specs.Transactions.{fresh, place_in};
+ghost use Rattle.record_file.specs.Abstract.{File, new_file, open_of, records_of, tx_of};
+ghost use Rattle.record_file.specs.Exact.{IsExact, IsExactSeen, CompensatesOnce, one};
+ghost use Rattle.record_file.specs.Remaining.{NothingFails, remaining};
+ghost use Rattle.record_file.specs.Undo.{Starts, old_records, quiet, wrote};
+ghost use Rattle.record_file.specs.Runs.{Seen, Event, Step, Run, Begin, Put, Remove, Savepoint, RollbackTo, Abort, Resume, Commit, Entries};
+ghost use Rattle.tx_log.specs.declared.log_records.LogRecord.TheVariants.{Update, Compensation};
+ghost use Rattle.record_file.specs.Steps.{rose, places_at, rolling_place};
 ghost use Rattle.record_file.specs.declared.faults.PutFault.TheVariants as put_faults;
 ghost use Rattle.record_file.specs.declared.faults.EntriesFault.TheVariants as entries_faults;
 
@@ -38,4 +45,115 @@ pub fn runs()
           failed = failed;
           refused = refused;
         } ∷ []) new → rose old.failures new.failures ≡ false → ⊥ }
+{}
+
+/// Undo commutes. After every run from a start the old record that a live change's call answered is
+/// what the live changes before it leave at its key; and for the newest live change of a transaction
+/// that hasn't ended the replay without it is the replay with that old record put back. Of a
+/// transaction that has ended it isn't, since another may have written there; but no run takes back a
+/// change of one.
+pub fn undo_commutes()
+    ensures answered { (old new : Seen) (events : List Event)
+        → Starts old → Run old events new → new.failures < greatest_count
+        → (earlier later : List Change) (change : Change)
+        → new.file.history ≡ earlier ++ change ∷ later → IsTrue change.live
+        → slice_get (old_records events) (length earlier)
+        ≡ Some (maps.get (replay old.records earlier) change.key) }
+    ensures put_back { (old new : Seen) (events : List Event)
+        → Starts old → Run old events new → new.failures < greatest_count
+        → (t : ℕ) → IsTrue (open_of new.file t)
+        → (earlier later : List Change) (change : Change)
+        → new.file.history ≡ earlier ++ change ∷ later
+        → IsTrue (live_of t change) → live_from later t zero ≡ 0
+        → (before : Option (List ℕ))
+        → slice_get (old_records events) (length earlier) ≡ Some before
+        → replay old.records (earlier ++ later)
+        ≡ set_to (records_of new.file) change.key before }
+    ensures never_ended { (old mid new : Seen) (events more : List Event)
+        → Starts old → Run old events mid → Run mid more new → new.failures < greatest_count
+        → (n : ℕ) (past now : Change) → slice_get mid.file.history n ≡ Some past
+        → IsTrue past.live → open_of mid.file past.tx ≡ false
+        → slice_get new.file.history n ≡ Some now → now.live ≡ false → ⊥ }
+    ensures example { (t : TxId) → old_records (
+        quiet (Begin (Ok t))
+        ∷ quiet (Put t (97 ∷ []) (120 ∷ []) (Ok None))
+        ∷ quiet (Put t (98 ∷ []) (120 ∷ []) (Err put_faults.Full))
+        ∷ quiet (Remove t (97 ∷ []) (Ok (120 ∷ [])))
+        ∷ quiet (Commit t (Ok tt))
+        ∷ []
+        ) ≡ None ∷ Some (120 ∷ []) ∷ [] }
+    ensures of_two { (opening : Contents) → replay opening (wrote 1 97 120 ∷ [])
+        ≡ set_to (replay opening (wrote 1 97 120 ∷ wrote 1 97 121 ∷ []))
+        (97 ∷ []) (Some (120 ∷ [])) }
+    ensures ended { (opening : Contents) → replay opening (wrote 2 97 121 ∷ [])
+        ≡ set_to (replay opening (wrote 1 97 120 ∷ wrote 2 97 121 ∷ []))
+        (97 ∷ []) None → ⊥ }
+{}
+
+/// What remains of a run is a run by itself. After every run from a start the accepted begins, the
+/// accepted commits, and the puts and removals whose change is live at the end, each with its answer,
+/// are a run from the same start, in which nothing fails from outside. It ends with the same records,
+/// and each transaction that is open at the end owns the same keys. With another answer a remaining
+/// put is no step.
+pub fn remaining_alone()
+    ensures alone { (old new : Seen) (events : List Event)
+        → Starts old → Run old events new → new.failures < greatest_count
+        → (end : Seen) × Run old (remaining events new.file.history) end
+        × NothingFails (remaining events new.file.history)
+        × (records_of end.file ≡ records_of new.file)
+        × ((t : ℕ) → IsTrue (open_of new.file t)
+        → keys_owned (open_of end.file) end.file.history t
+        ≡ keys_owned (open_of new.file) new.file.history t) }
+    ensures example { (t : TxId) → remaining (
+        quiet (Begin (Ok t))
+        ∷ quiet (Put t (97 ∷ []) (120 ∷ []) (Ok None))
+        ∷ quiet (Savepoint t (Ok 1))
+        ∷ quiet (Put t (97 ∷ []) (121 ∷ []) (Ok (Some (120 ∷ []))))
+        ∷ quiet (RollbackTo t 1 (Ok 1))
+        ∷ quiet (Commit t (Ok tt))
+        ∷ []
+        ) (wrote 1 97 120 ∷ taken_back (wrote 1 97 121) ∷ [])
+        ≡ quiet (Begin (Ok t))
+        ∷ quiet (Put t (97 ∷ []) (120 ∷ []) (Ok None))
+        ∷ quiet (Commit t (Ok tt))
+        ∷ [] }
+    ensures differs { (old new : Seen) (t : TxId) (key value other : List ℕ)
+        → Starts old → old.records ≡ maps.empty → old.failures < greatest_count
+        → Run old (
+        quiet (Begin (Ok t)) ∷ quiet (Put t key value (Ok (Some other))) ∷ []
+        ) new → ⊥ }
+{}
+
+/// A finished rollback takes back exactly the changes of its take, and compensates each of them once. So it
+/// is with every step between exact files: the log grows by one compensation of each change that was live
+/// and is no longer, and of no other. A file is not exact whose log compensates a change twice.
+pub fn compensated_once()
+    ensures step { (old new : Seen) (event : Event) → IsExactSeen old → IsExactSeen new
+        → Step old event new → CompensatesOnce old new }
+    ensures rollback_to { (old new : Seen) (failed refused : Bool) (t : TxId) (n undone : ℕ)
+        → Step old (record {
+          called = RollbackTo t n (Ok undone);
+          failed = failed;
+          refused = refused;
+        }) new → new.file.history
+        ≡ take_back old.file.history t.0 (place_in (places_at old.file t.0) n) }
+    ensures abort { (old new : Seen) (failed refused : Bool) (t : TxId) (undone : ℕ)
+        → Step old (record {
+          called = Abort t (Ok undone);
+          failed = failed;
+          refused = refused;
+        }) new → new.file.history ≡ take_back old.file.history t.0 zero }
+    ensures resume { (old new : Seen) (failed refused : Bool) (t : TxId) (undone : ℕ)
+        → Step old (record {
+          called = Resume t (Ok undone);
+          failed = failed;
+          refused = refused;
+        }) new → new.file.history
+        ≡ take_back old.file.history t.0 (rolling_place (tx_of old.file t.0)) }
+    ensures twice { (sound : Bool) (m : Contents) (f : File) → IsExact sound m f (
+        Update 1 0 one (97 ∷ []) None (Some (120 ∷ []))
+        ∷ Compensation 2 1 one (97 ∷ []) None 0
+        ∷ Compensation 3 2 one (97 ∷ []) None 0
+        ∷ []
+        ) → ⊥ }
 {}

@@ -1,6 +1,6 @@
 use crate::{
-    AbortFault, Cause, EntriesFault, KeysOfFault, PutFault, RecordFile, ResumeFault, Status,
-    StatusFault,
+    AbortFault, Answer, Call, Cause, EntriesFault, KeysOfFault, PutFault, RecordFile, ResumeFault,
+    Status, StatusFault, run_calls,
 };
 use rec_types::{Entry, FlakyTable, Key, Limits, Record, SortedTable, Table, TxId};
 use std::alloc::Global;
@@ -224,4 +224,107 @@ fn the_table_comes_back_once_all_have_ended(rt: HostRuntime) -> Result<(), Fail>
     };
     assert_eq!(rt; table.get(&Key::new(b"a")?)?, Some(Record::new(b"x")?));
     Ok(())
+}
+
+/// Whether the log takes back the change of this update.
+fn is_compensated(file: &RecordFile<FlakyTable<SortedTable>>, of: TxId, number: u32) -> bool {
+    for lsn in 1..=file.log_len() {
+        if let Some(LogRecord::Compensation { tx, undo_next, .. }) = file.log_record(lsn) {
+            if tx == of && undo_next == number {
+                return true;
+            }
+        }
+    }
+    false
+}
+
+/// Which of the changes are live, oldest first.
+fn live_changes(
+    alloc: Global,
+    file: &RecordFile<FlakyTable<SortedTable>>,
+) -> Result<Vec<bool>, Fail> {
+    let mut lives = Vec::new(alloc);
+    for lsn in 1..=file.log_len() {
+        if let Some(LogRecord::Update { tx, prev, .. }) = file.log_record(lsn) {
+            lives.push(!is_compensated(file, tx, prev))?;
+        }
+    }
+    Ok(lives)
+}
+
+/// The accepted begins, the accepted commits, and the puts and removals whose change is live.
+fn remaining_calls(
+    alloc: Global,
+    calls: &[Call],
+    answers: &[Answer],
+    lives: &[bool],
+) -> Result<Vec<Call>, Fail> {
+    let mut changes = lives.iter();
+    let mut remaining = Vec::new(alloc);
+    for (&call, answer) in calls.iter().zip(answers) {
+        let stays = match answer {
+            Answer::Begin(Ok(_)) | Answer::Commit(Ok(())) => true,
+            Answer::Put(Ok(_)) | Answer::Remove(Ok(_)) => changes.next() == Some(&true),
+            _ => false,
+        };
+        if stays {
+            remaining.push(call)?;
+        }
+    }
+    Ok(remaining)
+}
+
+/// The record of one byte.
+fn record(byte: u8) -> Result<Record, Fail> {
+    Ok(Record::new(&[byte])?)
+}
+
+/// Makes the calls, and answers which of them remain.
+fn made(
+    alloc: Global,
+    file: &mut RecordFile<FlakyTable<SortedTable>>,
+    calls: &[Call],
+) -> Result<Vec<Call>, Fail> {
+    let answers = run_calls(alloc, file, calls)?;
+    let lives = live_changes(alloc, file)?;
+    remaining_calls(alloc, calls, &answers, &lives)
+}
+
+/// Both files list the same records, with the same owners.
+fn list_the_same(
+    rt: &impl Abort,
+    one: &mut RecordFile<FlakyTable<SortedTable>>,
+    other: &mut RecordFile<FlakyTable<SortedTable>>,
+) -> Result<(), Fail> {
+    let (one, other) = (entries(one)?, entries(other)?);
+    assert_eq!(rt; one.len(), other.len());
+    for (a, b) in one.iter().zip(&other) {
+        assert_eq!(rt; (a.key, a.value, a.owner), (b.key, b.value, b.owner));
+    }
+    Ok(())
+}
+
+/// A rollback to a savepoint, beside a transaction that commits.
+fn beside_a_commit() -> Result<[Call; 8], Fail> {
+    let (b, d) = (Key::new(b"b")?, Key::new(b"d")?);
+    Ok([
+        Call::Begin,
+        Call::Begin,
+        Call::Put(TxId(1), b, record(b'0')?),
+        Call::Savepoint(TxId(1)),
+        Call::Put(TxId(1), b, record(b'1')?),
+        Call::Put(TxId(2), d, record(b'2')?),
+        Call::Commit(TxId(2)),
+        Call::RollbackTo(TxId(1), 1),
+    ])
+}
+
+#[test]
+fn what_remains_stands_alone(rt: HostRuntime) -> Result<(), Fail> {
+    let mut file = flaky_file(&rt, rt.alloc(), &[])?;
+    let remaining = made(rt.alloc(), &mut file, &beside_a_commit()?)?;
+    assert_eq!(rt; remaining.len(), 5);
+    let mut alone = flaky_file(&rt, rt.alloc(), &[])?;
+    assert_eq!(rt; made(rt.alloc(), &mut alone, &remaining)?.len(), 5);
+    list_the_same(&rt, &mut file, &mut alone)
 }
