@@ -110,12 +110,17 @@ pub fn count_changes(log: &[LogRecord], from: u32, to: u32) -> u32
 {
     let mut count = 0;
     let mut at = from;
-    while let Some(change) = newest_change(log, at) {
-        if change.lsn <= to {
-            return count;
+    while at > to {
+        match newest_change(log, at) {
+            Some(change) => {
+                if change.lsn <= to {
+                    return count;
+                }
+                count += 1;
+                at = change.prev;
+            }
+            None => return count,
         }
-        count += 1;
-        at = change.prev;
     }
     count
 }
