@@ -241,37 +241,29 @@ fn files_that_are_not_opened(rt: HostRuntime) -> Result<(), Fail> {
     Ok(())
 }
 
-/// A file of order 1 with the records x, y and z at the keys a, b and c: its bytes.
-fn three_records<F: OpenFile + FileExt + Drop, H: Files<File = F> + Abort>(
-    rt: &H,
-    alloc: Global,
-    path: &str,
-) -> Result<(), Fail> {
-    let put = "begin\nput 1 a =x\nput 1 b =y\nput 1 c =z\ncommit 1\n";
-    for call in [
-        good(&["recfile", "create", "--order", "1", path], "", ""),
-        good(
-            &["recfile", "run", path],
-            put,
-            "ok 1\nok none\nok none\nok none\nok\n",
-        ),
-        good(
-            &["recfile", "check", path],
-            "",
-            "order 1 height 2 records 3 pages 4 free 0\n",
-        ),
-    ] {
-        expect_call(rt, alloc, &call)?;
-    }
-    Ok(())
-}
+// Three records at a, b and c, the replies, and what a check tells of their file of order 1.
+const THREE_RECORDS: &str = "begin\nput 1 a =x\nput 1 b =y\nput 1 c =z\ncommit 1\n";
+
+const THREE_REPLIES: &str = "ok 1\nok none\nok none\nok none\nok\n";
+
+const THREE_CHECKED: &str = "order 1 height 2 records 3 pages 4 free 0\n";
 
 // Each change is of one byte of the file, by its place.
 #[test]
 fn damaged_files_are_named(rt: HostRuntime) -> Result<(), Fail> {
     let alloc = rt.alloc();
     let _ = fs::remove_file(&rt, "three.rec");
-    three_records(&rt, alloc, "three.rec")?;
+    for call in [
+        good(&["recfile", "create", "--order", "1", "three.rec"], "", ""),
+        good(
+            &["recfile", "run", "three.rec"],
+            THREE_RECORDS,
+            THREE_REPLIES,
+        ),
+        good(&["recfile", "check", "three.rec"], "", THREE_CHECKED),
+    ] {
+        expect_call(&rt, alloc, &call)?;
+    }
     let bytes = fs::read(&rt, "three.rec")?;
     for (place, value, fault) in [
         (0, 0, "recfile: BadMagic\n"),
@@ -316,7 +308,17 @@ fn damaged_files_are_named(rt: HostRuntime) -> Result<(), Fail> {
 fn files_that_stay_as_they_are(rt: HostRuntime) -> Result<(), Fail> {
     let alloc = rt.alloc();
     let _ = fs::remove_file(&rt, "stays.rec");
-    three_records(&rt, alloc, "stays.rec")?;
+    for call in [
+        good(&["recfile", "create", "--order", "1", "stays.rec"], "", ""),
+        good(
+            &["recfile", "run", "stays.rec"],
+            THREE_RECORDS,
+            THREE_REPLIES,
+        ),
+        good(&["recfile", "check", "stays.rec"], "", THREE_CHECKED),
+    ] {
+        expect_call(&rt, alloc, &call)?;
+    }
     let bytes = fs::read(&rt, "stays.rec")?;
     let mut long = String::new(alloc);
     for _ in 0..131_073 {
