@@ -76,25 +76,186 @@ fn roll_back(rt: &impl Abort, log: &mut TxLog, tx: TxId, n: u32, ends: bool) -> 
     count
 }
 
+/// A call of a log, or looks at it, with what they must answer. Keys and records are of one byte.
+#[derive(Clone, Copy)]
+enum Step {
+    /// The number, or none where no more may begin.
+    Begin(Option<u32>),
+    /// A change of a transaction: the key, the records before and after, and the number of its record.
+    Put(u32, u8, Option<u8>, Option<u8>, u32),
+    /// The number of the savepoint.
+    Save(u32, u32),
+    /// From this savepoint on.
+    Release(u32, u32),
+    /// To this savepoint, whether it ends, and how many changes go.
+    Back(u32, u32, bool, u32),
+    /// The start of a rollback alone.
+    Start(u32, u32, bool),
+    /// One change back: its key, the record before, and the number of the compensation.
+    Undo(u32, u8, Option<u8>, u32),
+    Finish(u32),
+    End(u32),
+    Owner(u8, Option<u32>),
+    Keys(u32, &'static [u8]),
+    Phase(u32, Option<Phase>),
+    /// Depth, live and left.
+    Counts(u32, u32, u32, u32),
+    /// Length, use, owned keys without a record, transactions begun.
+    Whole(u32, u32, u32, u32),
+}
+
+fn key_of(byte: u8) -> Result<Key, Fail> {
+    Ok(Key::new(&[byte])?)
+}
+
+fn record_of(byte: Option<u8>) -> Result<Option<Record>, Fail> {
+    match byte {
+        Some(byte) => Ok(Some(Record::new(&[byte])?)),
+        None => Ok(None),
+    }
+}
+
+fn expect_begin(rt: &impl Abort, log: &mut TxLog, number: Option<u32>) {
+    match begin(rt, log) {
+        Ok(tx) => assert_eq!(rt; Some(tx.0), number),
+        Err(fault) => assert_eq!(rt; (fault, number), (BeginFault::BeginsSpent, None)),
+    }
+}
+
+fn release(rt: &impl Abort, log: &mut TxLog, tx: TxId, n: u32) {
+    assert!(rt; log.phase(tx) == Some(Phase::Active));
+    assert!(rt; 0 < n);
+    assert!(rt; n <= log.depth(tx));
+    log.release(tx, n);
+}
+
+fn start(rt: &impl Abort, log: &mut TxLog, tx: TxId, n: u32, ends: bool) {
+    assert!(rt; log.phase(tx) == Some(Phase::Active));
+    assert!(rt; n <= log.depth(tx));
+    assert!(rt; n == 0 || !ends);
+    log.start_rollback(tx, n, ends);
+}
+
+fn expect_undo(
+    rt: &impl Abort,
+    log: &mut TxLog,
+    tx: TxId,
+    key: Key,
+    before: Option<Record>,
+    lsn: u32,
+) {
+    let step = log.next_undo(tx);
+    assert!(rt; step.is_some());
+    if let Some(step) = step {
+        assert_eq!(rt; (step.key, step.before), (key, before));
+    }
+    assert_eq!(rt; log.compensate(tx), lsn);
+}
+
+fn finish(rt: &impl Abort, log: &mut TxLog, tx: TxId, ends: bool) {
+    assert!(rt; log.phase(tx) == Some(Phase::Rolling { ends }));
+    assert!(rt; log.left(tx) == 0);
+    log.finish(tx);
+}
+
+fn end(rt: &impl Abort, log: &mut TxLog, tx: TxId) {
+    assert!(rt; log.phase(tx) == Some(Phase::Active));
+    log.end(tx);
+}
+
+fn expect_keys(rt: &impl Abort, log: &TxLog, tx: TxId, bytes: &[u8]) -> Result<(), Fail> {
+    let keys = keys_of(log, tx)?;
+    assert_eq!(rt; keys.len(), bytes.len());
+    for (key, byte) in keys.iter().zip(bytes) {
+        assert!(rt; key.bytes() == [*byte].as_slice());
+    }
+    Ok(())
+}
+
+/// Makes the changing calls of a step.
+fn change(rt: &impl Abort, log: &mut TxLog, step: &Step) -> Result<(), Fail> {
+    match *step {
+        Step::Begin(number) => expect_begin(rt, log, number),
+        Step::Put(tx, key, before, after, lsn) => {
+            let (before, after) = (record_of(before)?, record_of(after)?);
+            let answer = put(rt, log, TxId(tx), &key_of(key)?, before, after)?;
+            assert_eq!(rt; answer, lsn);
+        }
+        Step::Save(tx, number) => assert_eq!(rt; save(rt, log, TxId(tx)), number),
+        Step::Release(tx, n) => release(rt, log, TxId(tx), n),
+        Step::Back(tx, n, ends, count) => {
+            assert_eq!(rt; roll_back(rt, log, TxId(tx), n, ends), count);
+        }
+        Step::Start(tx, n, ends) => start(rt, log, TxId(tx), n, ends),
+        Step::Undo(tx, key, before, lsn) => {
+            expect_undo(rt, log, TxId(tx), key_of(key)?, record_of(before)?, lsn);
+        }
+        Step::Finish(tx) => finish(rt, log, TxId(tx), true),
+        Step::End(tx) => end(rt, log, TxId(tx)),
+        _ => look(rt, log, step)?,
+    }
+    Ok(())
+}
+
+/// Makes the looks of a step.
+fn look(rt: &impl Abort, log: &TxLog, step: &Step) -> Result<(), Fail> {
+    match *step {
+        Step::Owner(key, owner) => {
+            assert_eq!(rt; log.owner(&key_of(key)?).map(|tx| tx.0), owner);
+        }
+        Step::Keys(tx, bytes) => expect_keys(rt, log, TxId(tx), bytes)?,
+        Step::Phase(tx, phase) => assert_eq!(rt; log.phase(TxId(tx)), phase),
+        Step::Counts(tx, depth, live, left) => {
+            let tx = TxId(tx);
+            assert_eq!(rt;
+                (log.depth(tx), log.live(tx), log.left(tx)),
+                (depth, live, left)
+            );
+        }
+        Step::Whole(len, log_use, absent, begun) => assert_eq!(rt;
+            (log.len(), log.log_use(), log.absent_owned(), log.begun()),
+            (len, log_use, absent, begun)
+        ),
+        _ => {}
+    }
+    Ok(())
+}
+
 #[test]
 fn two_partial_rollbacks(rt: HostRuntime) -> Result<(), Fail> {
-    let (a, b, c) = (Key::new(b"a")?, Key::new(b"b")?, Key::new(b"c")?);
-    let (one, two) = (Some(Record::new(b"1")?), Some(Record::new(b"2")?));
-    let (three, four) = (Some(Record::new(b"3")?), Some(Record::new(b"4")?));
     let mut log = TxLog::new(rt.alloc(), Limits::new(10, 100, 10)?);
-    let tx = begin(&rt, &mut log)?;
-    assert_eq!(rt; save(&rt, &mut log, tx), 1);
-    assert_eq!(rt; put(&rt, &mut log, tx, &a, None, one)?, 1);
-    assert_eq!(rt; save(&rt, &mut log, tx), 2);
-    assert_eq!(rt; put(&rt, &mut log, tx, &a, one, two)?, 2);
-    assert_eq!(rt; save(&rt, &mut log, tx), 3);
-    assert_eq!(rt; put(&rt, &mut log, tx, &b, None, three)?, 3);
-    assert_eq!(rt; roll_back(&rt, &mut log, tx, 2, false), 2);
-    assert_eq!(rt; log.depth(tx), 2);
-    assert_eq!(rt; put(&rt, &mut log, tx, &c, None, four)?, 6);
-    assert_eq!(rt; save(&rt, &mut log, tx), 3);
-    assert_eq!(rt; roll_back(&rt, &mut log, tx, 1, false), 2);
-    assert_eq!(rt; (log.len(), log.log_use(), log.live(tx)), (8, 8, 0));
+    for step in [
+        Step::Begin(Some(1)),
+        Step::Save(1, 1),
+        Step::Put(1, b'a', None, Some(b'1'), 1),
+        Step::Save(1, 2),
+        Step::Put(1, b'a', Some(b'1'), Some(b'2'), 2),
+        Step::Save(1, 3),
+        Step::Put(1, b'b', None, Some(b'3'), 3),
+        Step::Back(1, 2, false, 2),
+        Step::Counts(1, 2, 1, 0),
+        Step::Put(1, b'c', None, Some(b'4'), 6),
+        Step::Save(1, 3),
+        Step::Back(1, 1, false, 2),
+        Step::Counts(1, 1, 0, 0),
+        Step::Whole(8, 8, 0, 1),
+    ] {
+        change(&rt, &mut log, &step)?;
+    }
+    let mut lsn: u32 = 0;
+    for entry in &eight_records(TxId(1))? {
+        lsn = lsn.saturating_add(1);
+        assert_eq!(rt; log.entry_at(lsn), Some(*entry), "record {lsn}");
+    }
+    assert_eq!(rt; (log.entry_at(0), log.entry_at(9)), (None, None));
+    Ok(())
+}
+
+/// The log of two partial rollbacks.
+fn eight_records(tx: TxId) -> Result<[LogRecord; 8], Fail> {
+    let (a, b, c) = (key_of(b'a')?, key_of(b'b')?, key_of(b'c')?);
+    let (one, two) = (record_of(Some(b'1'))?, record_of(Some(b'2'))?);
+    let (three, four) = (record_of(Some(b'3'))?, record_of(Some(b'4'))?);
     let update = |lsn, prev, key, before, after| LogRecord::Update {
         lsn,
         prev,
@@ -111,7 +272,7 @@ fn two_partial_rollbacks(rt: HostRuntime) -> Result<(), Fail> {
         restored,
         undo_next,
     };
-    let table = [
+    Ok([
         update(1, 0, a, None, one),
         update(2, 1, a, one, two),
         update(3, 2, b, None, three),
@@ -120,109 +281,94 @@ fn two_partial_rollbacks(rt: HostRuntime) -> Result<(), Fail> {
         update(6, 5, c, None, four),
         compensation(7, 6, c, None, 5),
         compensation(8, 7, a, None, 0),
-    ];
-    let mut lsn: u32 = 0;
-    for entry in &table {
-        lsn = lsn.saturating_add(1);
-        assert_eq!(rt; log.entry_at(lsn), Some(*entry), "record {lsn}");
-    }
-    assert_eq!(rt; (log.entry_at(0), log.entry_at(9)), (None, None));
-    Ok(())
+    ])
 }
 
 #[test]
 fn owners_and_keys(rt: HostRuntime) -> Result<(), Fail> {
-    let (a, b, c) = (Key::new(b"a")?, Key::new(b"b")?, Key::new(b"c")?);
-    let some = Some(Record::new(b"x")?);
     let mut log = TxLog::new(rt.alloc(), Limits::new(10, 100, 10)?);
-    let (first, second) = (begin(&rt, &mut log)?, begin(&rt, &mut log)?);
-    assert_eq!(rt; (first, second, log.begun()), (TxId(1), TxId(2), 2));
-    put(&rt, &mut log, first, &b, None, some)?;
-    put(&rt, &mut log, first, &a, None, some)?;
-    save(&rt, &mut log, first);
-    put(&rt, &mut log, first, &b, some, None)?;
-    put(&rt, &mut log, second, &c, some, None)?;
-    assert_eq!(rt; keys_of(&log, first)?.as_slice(), [a, b].as_slice());
-    assert_eq!(rt; (log.owner(&a), log.owner(&c)), (Some(first), Some(second)));
-    assert!(rt; !is_free(&log, second, &b));
-    assert_eq!(rt; (log.absent_owned(), log.log_use()), (2, 8));
-    assert_eq!(rt; roll_back(&rt, &mut log, first, 1, false), 1);
-    assert_eq!(rt; (log.owner(&b), log.absent_owned()), (Some(first), 1));
-    assert_eq!(rt; roll_back(&rt, &mut log, first, 0, true), 2);
-    assert_eq!(rt;
-        (log.owner(&a), log.owner(&b), log.owner(&c)),
-        (None, None, Some(second))
-    );
-    assert_eq!(rt; (log.phase(first), keys_of(&log, first)?.len()), (None, 0));
-    assert_eq!(rt;
-        (log.depth(first), log.live(first), log.left(first)),
-        (0, 0, 0)
-    );
-    assert_eq!(rt; log.phase(second), Some(Phase::Active));
-    log.end(second);
-    assert_eq!(rt; (log.owner(&c), log.absent_owned()), (None, 0));
-    assert_eq!(rt; (log.len(), log.log_use()), (7, 7));
+    for step in [
+        Step::Begin(Some(1)),
+        Step::Begin(Some(2)),
+        Step::Put(1, b'b', None, Some(b'x'), 1),
+        Step::Put(1, b'a', None, Some(b'x'), 2),
+        Step::Save(1, 1),
+        Step::Put(1, b'b', Some(b'x'), None, 3),
+        Step::Put(2, b'c', Some(b'x'), None, 4),
+        Step::Keys(1, b"ab"),
+        Step::Owner(b'a', Some(1)),
+        Step::Owner(b'c', Some(2)),
+        Step::Whole(4, 8, 2, 2),
+        Step::Back(1, 1, false, 1),
+        Step::Owner(b'b', Some(1)),
+        Step::Whole(5, 8, 1, 2),
+        Step::Back(1, 0, true, 2),
+        Step::Owner(b'a', None),
+        Step::Owner(b'b', None),
+        Step::Owner(b'c', Some(2)),
+        Step::Phase(1, None),
+        Step::Keys(1, b""),
+        Step::Counts(1, 0, 0, 0),
+        Step::End(2),
+        Step::Owner(b'c', None),
+        Step::Whole(7, 7, 0, 2),
+    ] {
+        change(&rt, &mut log, &step)?;
+    }
     Ok(())
 }
 
 #[test]
 fn a_rollback_between_other_changes(rt: HostRuntime) -> Result<(), Fail> {
-    let (a, b) = (Key::new(b"a")?, Key::new(b"b")?);
-    let (one, two) = (Some(Record::new(b"1")?), Some(Record::new(b"2")?));
     let mut log = TxLog::new(rt.alloc(), Limits::new(10, 100, 10)?);
-    let (first, second) = (begin(&rt, &mut log)?, begin(&rt, &mut log)?);
-    put(&rt, &mut log, first, &a, None, one)?;
-    put(&rt, &mut log, first, &a, one, two)?;
-    assert!(rt; log.phase(first) == Some(Phase::Active));
-    log.start_rollback(first, 0, true);
-    let step = log.next_undo(first);
-    assert!(rt; step.is_some());
-    if let Some(step) = step {
-        assert_eq!(rt; (step.key, step.before), (a, one));
+    for step in [
+        Step::Begin(Some(1)),
+        Step::Begin(Some(2)),
+        Step::Put(1, b'a', None, Some(b'1'), 1),
+        Step::Put(1, b'a', Some(b'1'), Some(b'2'), 2),
+        Step::Start(1, 0, true),
+        Step::Undo(1, b'a', Some(b'1'), 3),
+        Step::Put(2, b'b', None, Some(b'1'), 4),
+        Step::Phase(1, Some(Phase::Rolling { ends: true })),
+        Step::Counts(1, 0, 1, 1),
+        Step::Owner(b'a', Some(1)),
+        Step::Undo(1, b'a', None, 5),
+        Step::Counts(1, 0, 0, 0),
+        Step::Owner(b'a', None),
+        Step::Finish(1),
+        Step::Phase(1, None),
+        Step::Counts(2, 0, 1, 0),
+    ] {
+        change(&rt, &mut log, &step)?;
     }
-    log.compensate(first);
-    put(&rt, &mut log, second, &b, None, one)?;
-    assert_eq!(rt;
-        (log.phase(first), log.left(first)),
-        (Some(Phase::Rolling { ends: true }), 1)
-    );
-    assert_eq!(rt;
-        (log.owner(&a), log.next_undo(second).is_none()),
-        (Some(first), true)
-    );
-    assert!(rt; log.next_undo(first).is_some());
-    assert_eq!(rt; log.compensate(first), 5);
-    assert_eq!(rt; (log.left(first), log.owner(&a)), (0, None));
-    assert!(rt; log.phase(first) == Some(Phase::Rolling { ends: true }));
-    assert!(rt; log.left(first) == 0);
-    log.finish(first);
-    assert_eq!(rt; (log.phase(first), log.live(second)), (None, 1));
+    assert!(rt; log.next_undo(TxId(2)).is_none());
     Ok(())
 }
 
 #[test]
 fn savepoints_and_limits(rt: HostRuntime) -> Result<(), Fail> {
-    let (a, b) = (Key::new(b"a")?, Key::new(b"b")?);
-    let some = Some(Record::new(b"x")?);
     let mut log = TxLog::new(rt.alloc(), Limits::new(10, 4, 2)?);
-    let tx = begin(&rt, &mut log)?;
+    expect_begin(&rt, &mut log, Some(1));
     for number in 1..33 {
-        assert_eq!(rt; save(&rt, &mut log, tx), number);
+        assert_eq!(rt; save(&rt, &mut log, TxId(1)), number);
     }
-    assert!(rt; log.phase(tx) == Some(Phase::Active));
-    assert!(rt; 32 <= log.depth(tx));
-    log.release(tx, 32);
-    assert_eq!(rt; log.depth(tx), 31);
-    assert_eq!(rt; save(&rt, &mut log, tx), 32);
-    assert_eq!(rt; roll_back(&rt, &mut log, tx, 0, false), 0);
-    assert_eq!(rt; log.depth(tx), 0);
-    put(&rt, &mut log, tx, &a, None, some)?;
-    put(&rt, &mut log, tx, &b, None, some)?;
-    assert_eq!(rt; (log.len(), log.log_use(), log.can_accept()), (2, 4, false));
-    assert_eq!(rt; roll_back(&rt, &mut log, tx, 0, false), 2);
-    assert_eq!(rt; (log.len(), log.log_use(), log.can_accept()), (4, 4, false));
-    assert_eq!(rt; begin(&rt, &mut log)?, TxId(2));
-    assert_eq!(rt; begin(&rt, &mut log), Err(BeginFault::BeginsSpent));
-    assert_eq!(rt; log.begun(), 2);
+    for step in [
+        Step::Release(1, 32),
+        Step::Counts(1, 31, 0, 0),
+        Step::Save(1, 32),
+        Step::Back(1, 0, false, 0),
+        Step::Counts(1, 0, 0, 0),
+        Step::Put(1, b'a', None, Some(b'x'), 1),
+        Step::Put(1, b'b', None, Some(b'x'), 2),
+        Step::Whole(2, 4, 0, 1),
+        Step::Back(1, 0, false, 2),
+        Step::Whole(4, 4, 0, 1),
+        Step::Begin(Some(2)),
+        Step::Begin(None),
+        Step::Whole(4, 4, 0, 2),
+    ] {
+        change(&rt, &mut log, &step)?;
+    }
+    assert!(rt; !log.can_accept());
     Ok(())
 }
