@@ -7,8 +7,6 @@ mod growing;
 mod inserting;
 pub mod laws;
 mod reading;
-#[cfg(test)]
-mod tests;
 mod trees;
 mod walking;
 

@@ -8,8 +8,6 @@ mod lists;
 mod reading;
 mod refusals;
 mod replies;
-#[cfg(test)]
-mod tests;
 mod words;
 
 pub use commands::{Command, LineFault};

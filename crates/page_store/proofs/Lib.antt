@@ -1,10 +1,8 @@
 pub mod BlankFacts
 pub mod CallFacts
 pub mod Candidates
-pub mod Fetched
 pub mod FreeFacts
 pub mod MemoryFacts
-pub mod OnePage
 pub mod Overlays
 pub mod PageFacts
 mod RealFiles

@@ -13,8 +13,6 @@ mod mem;
 mod paging;
 mod slots;
 mod stores;
-#[cfg(test)]
-mod tests;
 mod writing;
 
 pub use answers::{Shape, StoreFault};

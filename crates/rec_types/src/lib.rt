@@ -18,6 +18,3 @@ pub use records::{Record, RecordFault};
 pub use sorting::SortedTable;
 pub use tables::{Table, TableFault};
 pub use transactions::{Entry, TxId};
-
-#[cfg(test)]
-mod tests;

@@ -4,8 +4,6 @@
 mod calls;
 mod cutting;
 mod endings;
-#[cfg(test)]
-mod fault_texts;
 mod file_faults;
 pub mod laws;
 mod limits;

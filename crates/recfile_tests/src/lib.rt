@@ -1,6 +1,18 @@
-//! Tests of what crosses crates: scripts over every table, and the program over files.
+//! The tests: each crate by its public contract, scripts over every table, and the program over files.
 #![tactic(auto)]
 
+#[cfg(test)]
+mod commands;
+#[cfg(test)]
+mod deletions;
+#[cfg(test)]
+mod engine;
+#[cfg(test)]
+mod fault_texts;
+#[cfg(test)]
+mod insertions;
+#[cfg(test)]
+mod logs;
 #[cfg(test)]
 mod long_scripts;
 #[cfg(test)]
@@ -11,3 +23,11 @@ mod rows;
 mod running;
 #[cfg(test)]
 mod sessions;
+#[cfg(test)]
+mod stores;
+#[cfg(test)]
+mod table_files;
+#[cfg(test)]
+mod tables;
+#[cfg(test)]
+mod values;

@@ -13,6 +13,3 @@ pub use faults::{
 };
 pub use file::{RecordFile, StillOpen};
 pub use tx_log::BeginFault;
-
-#[cfg(test)]
-mod tests;

@@ -7,8 +7,6 @@ mod log_records;
 mod logs;
 mod opened;
 mod phases;
-#[cfg(test)]
-mod tests;
 mod walks;
 
 pub use log_records::LogRecord;

@@ -2,10 +2,10 @@ ghost use Rattle.std.specs.Prelude.{◌≡◌, None, IsTrue};
 ghost use Rattle.tx_log.specs.Owners.{holder_of};
 ghost use Rattle.tx_log.specs.LogState.{history_in, open_in};
 
-use crate::{BeginFault, LogRecord, Phase, TxLog};
 use rec_types::{Key, Limits, Memory, Record, TxId};
 use std::process::Abort;
 use std::test::Fail;
+use tx_log::{BeginFault, LogRecord, Phase, TxLog};
 
 fn is_free(log: &TxLog, tx: TxId, key: &Key) -> bool
     ensures { IsTrue result → holder_of (open_in log.now) (history_in log.now) tx.0 key.now ≡ None }

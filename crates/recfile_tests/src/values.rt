@@ -1,4 +1,4 @@
-use crate::{
+use rec_types::{
     FlakyTable, Key, KeyFault, LimitFault, Limits, Record, RecordFault, SortedTable, Table,
     TableFault,
 };

@@ -1,4 +1,4 @@
-use crate::{Command, EntryList, KeyList, LineFault, Reply, read_line, write_reply};
+use command_text::{Command, EntryList, KeyList, LineFault, Reply, read_line, write_reply};
 use rec_types::{Entry, Key, Record, TxId};
 use record_file::{
     AbortFault, BeginFault, Cause, CommitFault, EntriesFault, GetFault, KeysOfFault, PutFault,

@@ -1,8 +1,8 @@
-use crate::{
+use rec_types::{Entry, FlakyTable, Key, Limits, Record, SortedTable, Table, TxId};
+use record_file::{
     AbortFault, Answer, Call, Cause, EntriesFault, KeysOfFault, PutFault, RecordFile, ResumeFault,
     Status, StatusFault, run_calls,
 };
-use rec_types::{Entry, FlakyTable, Key, Limits, Record, SortedTable, Table, TxId};
 use std::alloc::Global;
 use std::process::Abort;
 use std::test::Fail;

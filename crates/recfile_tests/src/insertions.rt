@@ -1,8 +1,8 @@
 ghost use Rattle.std.specs.Prelude.{◌≡◌, ◌<◌, ◌≤◌, IfOk, length};
 ghost use Rattle.btree_node.specs.Spelling.{CanStand};
 
-use crate::{Tree, TreeFault, find, insert, walk};
 use arrayvec::ArrayVec;
+use btree_insert::{Tree, TreeFault, find, insert, walk};
 use btree_node::{KEY_WIDTH, Node, NodeKind, RECORD_WIDTH, decode, encode};
 use page_store::{MemStore, PageEdit, Pages, Store};
 use rec_types::{Key, Memory, Record};

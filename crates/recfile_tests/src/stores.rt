@@ -1,7 +1,8 @@
+ghost use Rattle.std.specs.Prelude.{◌≡◌, true};
 ghost use Rattle.page_store.specs.CanStage.{CanStage};
+ghost use Rattle.rec_types.specs.Table.{counted};
 
-use crate::counts::count_up;
-use crate::{
+use page_store::{
     FetchFault, FileStore, FlakyStore, MemStore, PageEdit, Pages, Shape, Store, StoreFault,
     WriteFault,
 };
@@ -29,6 +30,15 @@ enum Stop {
 
 fn filled(with: u8) -> [u8; 4096] {
     [with; 4096]
+}
+
+/// Counts one more, up to the greatest number.
+fn count_up(n: &mut u64)
+    ensures { n.new ≡ counted n.old true }
+{
+    if *n < u64::MAX {
+        *n += 1;
+    }
 }
 
 /// A store in memory of which one call answers Memory, where it is one of `set_pages`. The changing

@@ -1,4 +1,4 @@
-use crate::{CloseStop, CreateFault, OpenFault, TreeTable};
+use btree_delete::{CloseStop, CreateFault, OpenFault, TreeTable};
 use page_store::{FlakyStore, MemStore, Store, WriteFault};
 use rec_types::Limits;
 use std::alloc::Global;

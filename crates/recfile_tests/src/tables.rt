@@ -1,4 +1,4 @@
-use crate::{CloseStop, OpenFault, TreeTable};
+use btree_delete::{CloseStop, OpenFault, TreeTable};
 use btree_node::decode;
 use page_store::{FlakyStore, MemStore, Store, WriteFault};
 use rec_types::{Key, Limits, Record, SortedTable, Table, TableFault};

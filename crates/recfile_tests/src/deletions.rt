@@ -1,4 +1,4 @@
-use crate::delete;
+use btree_delete::delete;
 use btree_insert::{Tree, TreeFault, find, insert, walk};
 use btree_node::{NodeKind, decode};
 use page_store::{MemStore, Pages, Store};

@@ -1,9 +1,9 @@
 use Rattle.std.proofs.Common.{ℕ, List, [], ◌∷◌, ◌++◌, IsSome, length, sym, ap, subst, ◌∙◌, arith}
 use Rattle.page_store.specs.PagesView.{PagesView}
 use Rattle.page_store.specs.PageMap.{at}
-use Rattle.page_store.proofs.Fetched.{in_use_where_fetched}
-use Rattle.page_store.proofs.OnePage.{can_write}
-use Rattle.page_store.proofs.tests.write_page.Goals as goal
+use Rattle.recfile_tests.proofs.Fetched.{in_use_where_fetched}
+use Rattle.recfile_tests.proofs.OnePage.{can_write}
+use Rattle.recfile_tests.proofs.stores.write_page.Goals as goal
 
 pub staged-requires : goal.staged-requires
 staged-requires g c =
