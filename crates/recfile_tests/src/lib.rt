@@ -2,6 +2,8 @@
 #![tactic(auto)]
 
 #[cfg(test)]
+mod answers;
+#[cfg(test)]
 mod commands;
 #[cfg(test)]
 mod deletions;
@@ -17,6 +19,8 @@ mod logs;
 mod long_scripts;
 #[cfg(test)]
 mod program;
+#[cfg(test)]
+mod remaining;
 #[cfg(test)]
 mod rows;
 #[cfg(test)]

@@ -1,6 +1,51 @@
 use crate::running::{Row, expect_row};
 use std::test::Fail;
 
+pub const COMMIT_BESIDE: Row<'static> = Row {
+    name: "a rollback leaves what another committed",
+    limits: (1_000_000, 4_000_000, 1_000_000),
+    failing: &[],
+    script: "begin\nbegin\nsave 1\nput 1 b =1\nput 2 d =2\ncommit 2\nback 1 1\nlist\n",
+    replies: "ok 1\nok 2\nok 1\nok none\nok none\nok\nok 1\n- d =2\nok 1\n",
+    commands: 8,
+};
+
+pub const OWNER_LEFT: Row<'static> = Row {
+    name: "a partial rollback frees what no change names",
+    limits: (1_000_000, 4_000_000, 1_000_000),
+    failing: &[],
+    script: "begin\nbegin\nput 1 a =1\nsave 1\nput 1 a =2\nback 1 1\nput 2 a =9\nget 1 a\n",
+    replies: "ok 1\nok 2\nok none\nok 1\nok =1\nok 1\nno Held 1\nok =1\n",
+    commands: 8,
+};
+
+pub const TWO_ROLLBACKS: Row<'static> = Row {
+    name: "two partial rollbacks",
+    limits: (1_000_000, 4_000_000, 1_000_000),
+    failing: &[],
+    script: "begin\nsave 1\nput 1 a =1\nsave 1\nput 1 a =2\nsave 1\nput 1 b =3\nback 1 2\nput 1 c =4\nsave 1\nback 1 1\nlist\nlog\n",
+    replies: "ok 1\nok 1\nok none\nok 2\nok =1\nok 3\nok none\nok 2\nok none\nok 3\nok 2\nok 0\nok 8 8\n",
+    commands: 13,
+};
+
+pub const CHARGED_KEYS: Row<'static> = Row {
+    name: "charged keys fill a file",
+    limits: (2, 4_000_000, 1_000_000),
+    failing: &[],
+    script: "begin\nput 1 a =x\nput 1 b =y\ncommit 1\nbegin\nbegin\ndel 2 a\ndel 2 a\nput 3 c =z\nput 2 c =z\ncommit 2\nput 3 c =z\n",
+    replies: "ok 1\nok none\nok none\nok\nok 2\nok 3\nok =x\nno Absent\nno Full\nno Full\nok\nok none\n",
+    commands: 12,
+};
+
+pub const STOPPED: Row<'static> = Row {
+    name: "a stopped rollback goes on",
+    limits: (1_000_000, 4_000_000, 1_000_000),
+    failing: &[5],
+    script: "begin\nbegin\nput 1 a =1\nput 1 b =2\nput 1 c =3\nback 1 0\nput 1 d =4\nput 2 e =5\nput 2 b =9\nput 2 c =9\nresume 1\nlist\nlog\ncommit 1\n",
+    replies: "ok 1\nok 2\nok none\nok none\nok none\nstopped 1 2 Device\nno Rolling\nok none\nno Held 1\nok none\nok 2\n- c =9 @2\n- e =5 @2\nok 2\nok 8 10\nok\n",
+    commands: 14,
+};
+
 #[test]
 fn what_one_transaction_sees(rt: HostRuntime) -> Result<(), Fail> {
     for row in [
@@ -36,14 +81,7 @@ fn what_one_transaction_sees(rt: HostRuntime) -> Result<(), Fail> {
             replies: "ok 1\nok none\nok none\nok =x\nno NoSuchSave\nok 3\nok 0\nok 0\n",
             commands: 8,
         },
-        Row {
-            name: "two partial rollbacks",
-            limits: (1_000_000, 4_000_000, 1_000_000),
-            failing: &[],
-            script: "begin\nsave 1\nput 1 a =1\nsave 1\nput 1 a =2\nsave 1\nput 1 b =3\nback 1 2\nput 1 c =4\nsave 1\nback 1 1\nlist\nlog\n",
-            replies: "ok 1\nok 1\nok none\nok 2\nok =1\nok 3\nok none\nok 2\nok none\nok 3\nok 2\nok 0\nok 8 8\n",
-            commands: 13,
-        },
+        TWO_ROLLBACKS,
         Row {
             name: "the log keeps room to take back",
             limits: (1_000_000, 4, 1_000_000),
@@ -109,14 +147,7 @@ fn what_several_transactions_see(rt: HostRuntime) -> Result<(), Fail> {
             replies: "ok 1\nok none\nok =x\nno BeginsSpent\n- a =y @1\nok 1\n",
             commands: 5,
         },
-        Row {
-            name: "a rollback leaves what another committed",
-            limits: (1_000_000, 4_000_000, 1_000_000),
-            failing: &[],
-            script: "begin\nbegin\nsave 1\nput 1 b =1\nput 2 d =2\ncommit 2\nback 1 1\nlist\n",
-            replies: "ok 1\nok 2\nok 1\nok none\nok none\nok\nok 1\n- d =2\nok 1\n",
-            commands: 8,
-        },
+        COMMIT_BESIDE,
         Row {
             name: "an owned key is held",
             limits: (1_000_000, 4_000_000, 1_000_000),
@@ -133,14 +164,7 @@ fn what_several_transactions_see(rt: HostRuntime) -> Result<(), Fail> {
             replies: "ok 1\nok 2\nok none\nok none\nok none\nok 1\n- a =2 @2\n- c =3 @2\nok 2\n",
             commands: 7,
         },
-        Row {
-            name: "a partial rollback frees what no change names",
-            limits: (1_000_000, 4_000_000, 1_000_000),
-            failing: &[],
-            script: "begin\nbegin\nput 1 a =1\nsave 1\nput 1 a =2\nback 1 1\nput 2 a =9\nget 1 a\n",
-            replies: "ok 1\nok 2\nok none\nok 1\nok =1\nok 1\nno Held 1\nok =1\n",
-            commands: 8,
-        },
+        OWNER_LEFT,
         Row {
             name: "a partial rollback frees what no change names, 2",
             limits: (1_000_000, 4_000_000, 1_000_000),
@@ -149,14 +173,7 @@ fn what_several_transactions_see(rt: HostRuntime) -> Result<(), Fail> {
             replies: "ok 1\nok 2\nok 1\nok none\nno Held 1\nok 1\nok none\nno Held 2\n",
             commands: 8,
         },
-        Row {
-            name: "charged keys fill a file",
-            limits: (2, 4_000_000, 1_000_000),
-            failing: &[],
-            script: "begin\nput 1 a =x\nput 1 b =y\ncommit 1\nbegin\nbegin\ndel 2 a\ndel 2 a\nput 3 c =z\nput 2 c =z\ncommit 2\nput 3 c =z\n",
-            replies: "ok 1\nok none\nok none\nok\nok 2\nok 3\nok =x\nno Absent\nno Full\nno Full\nok\nok none\n",
-            commands: 12,
-        },
+        CHARGED_KEYS,
         Row {
             name: "ended transactions are gone",
             limits: (1_000_000, 4_000_000, 2),
@@ -206,14 +223,7 @@ fn what_several_transactions_see(rt: HostRuntime) -> Result<(), Fail> {
 #[test]
 fn rollbacks_that_the_device_stops(rt: HostRuntime) -> Result<(), Fail> {
     for row in [
-        Row {
-            name: "a stopped rollback goes on",
-            limits: (1_000_000, 4_000_000, 1_000_000),
-            failing: &[5],
-            script: "begin\nbegin\nput 1 a =1\nput 1 b =2\nput 1 c =3\nback 1 0\nput 1 d =4\nput 2 e =5\nput 2 b =9\nput 2 c =9\nresume 1\nlist\nlog\ncommit 1\n",
-            replies: "ok 1\nok 2\nok none\nok none\nok none\nstopped 1 2 Device\nno Rolling\nok none\nno Held 1\nok none\nok 2\n- c =9 @2\n- e =5 @2\nok 2\nok 8 10\nok\n",
-            commands: 14,
-        },
+        STOPPED,
         Row {
             name: "a stopped rollback goes on, 2",
             limits: (1_000_000, 4_000_000, 1_000_000),
