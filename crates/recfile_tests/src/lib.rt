@@ -14,6 +14,8 @@ mod fault_texts;
 #[cfg(test)]
 mod insertions;
 #[cfg(test)]
+mod large_scripts;
+#[cfg(test)]
 mod logs;
 #[cfg(test)]
 mod long_scripts;
