@@ -1,7 +1,6 @@
 -- Transactions that begin and end.
 use Rattle.std.proofs.Common.{◌≡◌, ℕ, suc, ◌+◌, ◌-◌, ◌<◌, ◌≤◌, Bool, true, false, cond, not, eqb, ◌&&◌, List, [], ◌∷◌, ◌++◌, length, map, reverse, Option, Some, None, option_map, is_some, refl, sym, ap, subst, ◌∙◌, arith, length-append}
 use Rattle.std.specs.FinMap as maps
-use Rattle.std.specs.List.{filter}
 use Rattle.std.specs.Ordering.{nat_cmp}
 use Rattle.std.specs.Cmp.Lexicographic.{slice_cmp}
 use Rattle.std.proofs.lemmas.List.{append-nil}
@@ -20,7 +19,7 @@ use Rattle.tx_log.proofs.KeptFacts.{tx_of_entry}
 use Rattle.tx_log.proofs.StateFacts.{state}
 use Rattle.tx_log.specs.Finds.{Txs, finding, Puts}
 use Rattle.tx_log.specs.Fits.{AllKnown, FitsTx}
-use Rattle.tx_log.specs.Log.{removes, tx_of, lsn_of, kept_of, last_of, stepped, stack, noted}
+use Rattle.tx_log.specs.Log.{tx_of, lsn_of, kept_of, last_of, stepped, stack, noted}
 use Rattle.tx_log.specs.LogFields.{IsKept}
 use Rattle.tx_log.specs.LogState.{IsRolling, phase_of, places_of, active_with, finished, finished_by, rollback_phase}
 use Rattle.tx_log.specs.Owners.{absence}
@@ -108,10 +107,10 @@ known_more n m [] h known = tt
 known_more n m (r ∷ rs) h known = (let low = known.0 in omega arith, known_more n m rs h known.1)
 
 more_begun : (rs : List LogRecord) (n t : ℕ) (e : OpenTx) → FitsTx rs n t e → FitsTx rs (n + 1) t e
-more_begun rs n t e fit = record { last = fit.last; live = fit.live; left = fit.left; absent_keys = fit.absent_keys; removals = fit.removals; saves = fit.saves; depth = fit.depth; rollback = fit.rollback; some = fit.some; begun = (let low = fit.begun in omega arith) }
+more_begun rs n t e fit = record { last = fit.last; live = fit.live; left = fit.left; absent_keys = fit.absent_keys; saves = fit.saves; depth = fit.depth; rollback = fit.rollback; some = fit.some; begun = (let low = fit.begun in omega arith) }
 
 abbrev pub fresh_entry : OpenTx
-fresh_entry = record { rollback = None; last = 0; live = 0; left = 0; absent = 0; removals = 0; saves = record { items = [] } }
+fresh_entry = record { rollback = None; last = 0; live = 0; left = 0; absent = 0; saves = record { items = [] } }
 
 fresh_fits : (rs : List LogRecord) (n t : ℕ) → n < t → t ≤ n + 1 → AllKnown n rs → FitsTx rs (n + 1) t fresh_entry
 fresh_fits rs n t up most known =
@@ -123,7 +122,6 @@ fresh_fits rs n t up most known =
       live = sym (ap length nothing.1);
       left = refl;
       absent_keys = sym no_keys;
-      removals = sym (ap (λ us. length (filter removes us)) nothing.1);
       saves = tt;
       depth = omega arith;
       rollback = tt;

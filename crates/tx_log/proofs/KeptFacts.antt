@@ -1,7 +1,7 @@
 -- What a kept log says of a transaction, of its state and of the sizes of its counts.
 use Rattle.std.proofs.Common.{◌≡◌, ℕ, suc, ◌+◌, ◌<◌, ◌≤◌, Bool, true, false, cond, not, eqb, List, [], ◌∷◌, length, map, reverse, drop, Option, Some, None, option_map, is_some, IsSome, refl, sym, ap, subst, ◌∙◌, arith, length-drop}
 use Rattle.std.specs.FinMap as maps
-use Rattle.std.specs.List.{find, filter}
+use Rattle.std.specs.List.{find}
 use Rattle.std.specs.Cmp.Lexicographic.{slice_cmp}
 use Rattle.std.specs.Ordering.{nat_cmp}
 use Rattle.std.proofs.lemmas.List.{length-map, length-reverse}
@@ -21,7 +21,7 @@ use Rattle.tx_log.proofs.WalkSteps.{IsStep}
 use Rattle.tx_log.specs.declared.walks.LiveChange.{LiveChange}
 use Rattle.tx_log.specs.Finds.{finding}
 use Rattle.tx_log.specs.Fits.{AllFit}
-use Rattle.tx_log.specs.Log.{removes, tx_of, key_of, new_of, kept_of, stepped, stack, chain, noted, AllWritten}
+use Rattle.tx_log.specs.Log.{tx_of, key_of, new_of, kept_of, stepped, stack, chain, noted, AllWritten}
 use Rattle.tx_log.specs.LogFields.{state_of, IsKept, IsTxLog}
 use Rattle.tx_log.specs.LogState.{LogState, phase_of, open_in, use_in, places_of, IsLog}
 use Rattle.tx_log.specs.Owners.{holder_of, absence}
@@ -115,19 +115,10 @@ absent_at_most is_open cs =
     let low = absent-le maps.empty (pending_of is_open cs) in
     omega arith
 
-filter_le : (us : List LogRecord) → length (filter removes us) ≤ length us
-filter_le [] = omega arith
-filter_le (u ∷ us) = filter_case (removes u) (filter_le us)
-  where
-    filter_case : (b : Bool) → length (filter removes us) ≤ length us → length (cond b (u ∷ filter removes us) (filter removes us)) ≤ suc (length us)
-    filter_case true h = omega arith
-    filter_case false h = omega arith
-
 pub record IsSized (rs : List LogRecord) (pending gone : ℕ) (e : OpenTx) : Type 0 where
   pub last : e.last ≤ length rs
   pub live : e.live ≤ length rs
   pub absent_keys : e.absent ≤ e.live
-  pub removals : e.removals ≤ e.live
   pub gone_keys : gone ≤ pending
   pub absent_part : e.absent ≤ gone
 
@@ -148,7 +139,6 @@ sized rs es begun pending gone_keys t e kept found =
       last = omega (arith, last_of-le rs t kept.numbered);
       live = omega (arith, stack-le t rs);
       absent_keys = omega arith;
-      removals = (let removals_is = fits.removals in let few = filter_le (stack t rs) in omega arith);
       gone_keys = omega arith;
       absent_part = omega arith;
     }

@@ -23,3 +23,4 @@ pub mod HoldFacts
 pub mod KeyPlaces
 pub mod HoldSteps
 pub mod HoldCalls
+pub mod MarkFacts

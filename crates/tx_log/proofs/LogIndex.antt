@@ -15,8 +15,8 @@ reverse-push xs x = reverse-append xs (x ∷ [])
 pub reverse_cons : {A : Type 0} (x : A) (xs : List A) → reverse (x ∷ xs) ≡ reverse xs ++ x ∷ []
 reverse_cons x xs = reverse-append (x ∷ []) xs
 
--- the log cut at its record n
-pub cut_at : (log : List LogRecord) (n : ℕ) (d r : LogRecord) → n < length log → get_or log n d ≡ r → reverse log ≡ reverse (drop (n + 1) log) ++ r ∷ reverse (take n log)
+-- a list cut at its element n
+pub cut_at : {A : Type 0} (log : List A) (n : ℕ) (d r : A) → n < length log → get_or log n d ≡ r → reverse log ≡ reverse (drop (n + 1) log) ++ r ∷ reverse (take n log)
 cut_at log n d r within read =
     let whole : log ≡ take n log ++ (r ∷ drop (n + 1) log) = sym (take-append-drop n log) ∙ ap (λ xs. take n log ++ xs) (drop-cons log n d within ∙ ap (λ x. x ∷ drop (suc n) log) read ∙ ap (λ k. r ∷ drop k log) (sym (add-one n))) in
     ap reverse whole

@@ -41,7 +41,6 @@ moved_fits rs n t e s left ss fits move = record {
   live = fits.live;
   left = move.remaining;
   absent_keys = fits.absent_keys;
-  removals = fits.removals;
   saves = move.saves;
   depth = move.depth;
   rollback = move.rollback;

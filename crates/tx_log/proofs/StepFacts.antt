@@ -1,7 +1,7 @@
 -- A log that grows by a record, beside the open transactions and the counts.
 use Rattle.std.proofs.Common.{◌≡◌, ℕ, suc, ◌+◌, ◌≤◌, Bool, true, false, cond, not, eqb, ◌&&◌, List, [], ◌∷◌, ◌++◌, length, map, drop, Option, Some, None, option_map, is_some, refl, sym, ap, subst, ◌∙◌, arith, eq-eqb}
 use Rattle.std.specs.FinMap as maps
-use Rattle.std.specs.List.{find, filter}
+use Rattle.std.specs.List.{find}
 use Rattle.rec_types.specs.Contents.{Contents, set_to, has}
 use Rattle.rec_types.specs.History.{is_pending}
 use Rattle.rec_types.specs.Kept.{Kept, change_of, newest_live, undone, IsOwned, AllBegun}
@@ -16,7 +16,7 @@ use Rattle.tx_log.proofs.OwnerFacts.{kept_at, HeldBy, owned-push, owned-undone, 
 use Rattle.tx_log.proofs.WalkSteps.{IsStep}
 use Rattle.tx_log.specs.Finds.{Txs, Puts}
 use Rattle.tx_log.specs.Fits.{AllUpTo, RollbackUpTo, FitsTx, left_above}
-use Rattle.tx_log.specs.Log.{removes, leads_to, lsn_of, prev_of, tx_of, key_of, new_of, noted, kept_of, last_of, stepped, stack, chain, IsNumbered, Undoes, IsWritten, AllWritten}
+use Rattle.tx_log.specs.Log.{leads_to, lsn_of, prev_of, tx_of, key_of, new_of, noted, kept_of, last_of, stepped, stack, chain, IsNumbered, Undoes, IsWritten, AllWritten}
 use Rattle.tx_log.specs.LogFields.{IsKept}
 use Rattle.tx_log.specs.OpenTxs.{opens}
 use Rattle.tx_log.specs.Walks.{change_in, is_at, takes_out}
@@ -48,7 +48,6 @@ grow_other r rs n t u e own other fits =
       live = fits.live ∙ sym (ap (λ (b : Bool). length (cond b (stepped r (stack u rs)) (stack u rs))) apart);
       left = fits.left ∙ sym (ap (λ (b : Bool). left_above (cond b (stepped r (stack u rs)) (stack u rs)) e.rollback) apart);
       absent_keys = fits.absent_keys ∙ sym (ap maps.len (absent_other r rs u apart));
-      removals = fits.removals ∙ sym (ap (λ (b : Bool). length (filter removes (cond b (stepped r (stack u rs)) (stack u rs)))) apart);
       saves = up_to_more (length rs) e.saves.items fits.saves;
       depth = fits.depth;
       rollback = rollback_more (length rs) e.rollback fits.rollback;
@@ -66,7 +65,6 @@ pub record IsOwnStep (r : LogRecord) (rs : List LogRecord) (t : ℕ) (e new : Op
   pub live : new.live ≡ length (stepped r (stack t rs))
   pub left : new.left ≡ left_above (stepped r (stack t rs)) e.rollback
   pub absent_keys : new.absent ≡ maps.len (absent_in (only t) (kept_of (r ∷ rs)))
-  pub removals : new.removals ≡ length (filter removes (stepped r (stack t rs)))
 
 pub grow_own : (r : LogRecord) (rs : List LogRecord) (n t : ℕ) (e new : OpenTx) → FitsTx rs n t e → IsOwnStep r rs t e new → FitsTx (r ∷ rs) n t new
 grow_own r rs n t e new fits step =
@@ -76,7 +74,6 @@ grow_own r rs n t e new fits step =
       live = step.live ∙ sym (ap (λ (b : Bool). length (cond b (stepped r (stack t rs)) (stack t rs))) here);
       left = step.left ∙ (λ i. left_above (sym (ap (λ (b : Bool). cond b (stepped r (stack t rs)) (stack t rs)) here) i) (sym step.rollback i));
       absent_keys = step.absent_keys;
-      removals = step.removals ∙ sym (ap (λ (b : Bool). length (filter removes (cond b (stepped r (stack t rs)) (stack t rs)))) here);
       saves = subst (AllUpTo (suc (length rs))) (sym step.saves) (up_to_more (length rs) e.saves.items fits.saves);
       depth = subst (λ (ss : List ℕ). length ss ≤ most_savepoints) (sym step.saves) fits.depth;
       rollback = subst (RollbackUpTo (suc (length rs))) (sym step.rollback) (rollback_more (length rs) e.rollback fits.rollback);
@@ -141,14 +138,6 @@ shut_itself t is_open = ap (λ b. is_open t && not b) (eq-eqb t t refl) ∙ shut
     shut_case true = refl
     shut_case false = refl
 
-one_more_if : (b : Bool) (r : LogRecord) (us : List LogRecord) → length us + cond b 1 0 ≡ length (cond b (r ∷ us) us)
-one_more_if true r us = omega arith
-one_more_if false r us = omega arith
-
-pub less_if : (b : Bool) (new old left : ℕ) → new + cond b 1 0 ≡ old → old ≡ left + cond b 1 0 → new ≡ left
-less_if true new old left e f = omega arith
-less_if false new old left e f = omega arith
-
 -- the count over all goes as that of the transaction
 total_goes : (all others one all_new others_new one_new count count_new was will : ℕ) → all ≡ others + one → all_new ≡ others_new + one_new → others_new ≡ others → one_new + was ≡ one + will → count ≡ all → count_new + was ≡ count + will → count_new ≡ all_new
 total_goes all others one all_new others_new one_new count count_new was will a b c d e f = omega arith
@@ -167,7 +156,6 @@ pub record IsAccepted (lsn prev : ℕ) (tx : TxId) (key : List ℕ) (after : Opt
   pub calm : e.rollback ≡ None
   pub left_same : new.left ≡ e.left
   pub absent_new : new.absent + cond (takes_out (option_map change_in (find (is_at key) (chain rs prev)))) 1 0 ≡ e.absent + cond (not (is_some after)) 1 0
-  pub removals_new : new.removals ≡ e.removals + cond (not (is_some after)) 1 0
   pub pending_one : pending_new ≡ pending + 1
   pub gone_one : gone_new + cond (takes_out (option_map change_in (find (is_at key) (chain rs prev)))) 1 0 ≡ gone + cond (not (is_some after)) 1 0
 
@@ -210,7 +198,6 @@ accepted lsn prev tx key before after rs txs txs_new begun pending gone_old pend
       live = a.live_new ∙ (omega arith);
       left = a.left_same ∙ fits.left ∙ ap (left_above (stack t rs)) a.calm ∙ sym (ap (left_above (r ∷ stack t rs)) a.calm);
       absent_keys = new_absent;
-      removals = a.removals_new ∙ ap (λ n. n + cond (not (is_some after)) 1 0) fits.removals ∙ one_more_if (not (is_some after)) r (filter removes (stack t rs));
     } in
     grown r rs txs txs_new begun pending gone_old pending_new gone_new t e new kept found puts record {
       own = own;
@@ -237,17 +224,8 @@ pub record IsCompensated (lsn prev : ℕ) (tx : TxId) (change : LiveChange) (rs 
   pub left_new : new.left + 1 ≡ e.left
   pub above : left_above (step.update ∷ step.rest) e.rollback ≡ left_above step.rest e.rollback + 1
   pub absent_new : new.absent + cond (not (is_some change.after)) 1 0 ≡ e.absent + cond (takes_out (option_map change_in (find (is_at change.key) (chain rs change.prev)))) 1 0
-  pub removals_new : new.removals + cond (not (is_some change.after)) 1 0 ≡ e.removals
   pub pending_one : pending_new + 1 ≡ pending
   pub gone_one : gone_new + cond (not (is_some change.after)) 1 0 ≡ gone + cond (takes_out (option_map change_in (find (is_at change.key) (chain rs change.prev)))) 1 0
-
--- the changes that take their key out, with the newest change and without it
-pub removals_of : (rs : List LogRecord) (n t at : ℕ) (e : OpenTx) (change : LiveChange) → FitsTx rs n t e → (step : IsStep rs at change) → chain rs at ≡ stack t rs → e.removals ≡ length (filter removes step.rest) + cond (not (is_some change.after)) 1 0
-removals_of rs n t at e change fits step there =
-    fits.removals
-    ∙ ap (λ us. length (filter removes us)) (sym there ∙ step.is)
-    ∙ sym (one_more_if (removes step.update) step.update (filter removes step.rest))
-    ∙ ap (λ (c : LiveChange). length (filter removes step.rest) + cond (not (is_some c.after)) 1 0) step.told
 
 undoes_step : (rs : List LogRecord) (prev t : ℕ) (change : LiveChange) → IsStep rs prev change → chain rs prev ≡ stack t rs → Undoes change.key change.before change.prev (stack t rs)
 undoes_step rs prev t change step there =
@@ -293,9 +271,6 @@ compensated lsn prev tx change rs txs txs_new begun pending gone_old pending_new
     let fewer = pending-undone (opens txs) t cs (noted u) opened newest in
     let live_is : e.live ≡ suc (length us) = fits.live ∙ ap length whole in
     let dropped : length us ≡ length (drop 1 (stack t rs)) = ap (λ xs. length (drop 1 xs)) (sym whole) in
-    let removed : e.removals ≡ length (filter removes us) + cond (not (is_some change.after)) 1 0 = removals_of rs begun t prev e change fits a.step there in
-    let fewer_removals : new.removals ≡ length (filter removes us) = less_if (not (is_some change.after)) new.removals e.removals (length (filter removes us)) a.removals_new removed in
-    let dropped_removals : length (filter removes us) ≡ length (filter removes (drop 1 (stack t rs))) = ap (λ xs. length (filter removes (drop 1 xs))) (sym whole) in
     let live_left : new.live ≡ length us = (let n = a.live_new in omega arith) in
     let left_all : e.left ≡ left_above us e.rollback + 1 = fits.left ∙ ap (λ xs. left_above xs e.rollback) whole ∙ a.above in
     let left_left : new.left ≡ left_above us e.rollback = (let n = a.left_new in omega arith) in
@@ -307,7 +282,6 @@ compensated lsn prev tx change rs txs txs_new begun pending gone_old pending_new
       live = live_left ∙ dropped;
       left = left_left ∙ ap (λ xs. left_above (drop 1 xs) e.rollback) (sym whole);
       absent_keys = new_absent;
-      removals = fewer_removals ∙ dropped_removals;
     } in
     grown r rs txs txs_new begun pending gone_old pending_new gone_new t e new kept found puts record {
       own = own;

@@ -1,11 +1,10 @@
 -- One step of a walk along a chain.
-use Rattle.std.proofs.Common.{◌≡◌, ℕ, ◌+◌, ◌<◌, ◌≤◌, Bool, true, false, cond, eqb, ltb, List, [], ◌∷◌, length, map, Some, None, option_map, refl, sym, ap, ◌∙◌, arith}
+use Rattle.std.proofs.Common.{◌≡◌, ℕ, ◌+◌, ◌<◌, ◌≤◌, Bool, true, false, cond, eqb, ltb, List, [], ◌∷◌, length, map, Some, None, refl, sym, ap, ◌∙◌, arith}
 use Rattle.std.proofs.lemmas.Bool.Decides.{nat_tests}
-use Rattle.std.specs.List.{filter, find}
+use Rattle.std.specs.List.{filter}
 use Rattle.tx_log.proofs.Chains.{chain-head, same_number}
-use Rattle.tx_log.specs.Log.{removes, lsn_of, prev_of, key_of, leads_to, led, is_update, chain, IsNumbered}
-use Rattle.rec_types.specs.Contents.{same_key}
-use Rattle.tx_log.specs.Walks.{change_in, newest_in, is_at, is_after, takes_out}
+use Rattle.tx_log.specs.Log.{lsn_of, prev_of, key_of, leads_to, led, is_update, chain, IsNumbered}
+use Rattle.tx_log.specs.Walks.{change_in, newest_in, is_after}
 use Rattle.tx_log.specs.declared.log_records.LogRecord.{LogRecord}
 use Rattle.tx_log.specs.declared.log_records.LogRecord.TheVariants.{Update, Compensation}
 use Rattle.tx_log.specs.declared.walks.LiveChange.{LiveChange}
@@ -98,14 +97,6 @@ goes_on rs at change s step h =
     let rest : length (filter (is_after s) (chain rs change.prev)) ≡ length us = ap (λ xs. length (filter (is_after s) xs)) step.tail in
     omega arith
 
-pub find_on : (rs : List LogRecord) (at : ℕ) (change : LiveChange) (x : List ℕ) → IsStep rs at change → same_key change.key x ≡ false → option_map change_in (find (is_at x) (chain rs at)) ≡ option_map change_in (find (is_at x) (chain rs change.prev))
-find_on rs at change x step other =
-    let key_is : key_of step.update ≡ change.key = ap (λ (c : LiveChange). c.key) step.told in
-    let missed : same_key (key_of step.update) x ≡ false = ap (λ k. same_key k x) key_is ∙ other in
-    ap (λ us. option_map change_in (find (is_at x) us)) step.is
-    ∙ ap (λ (b : Bool). option_map change_in (cond b (Some step.update) (find (is_at x) step.rest))) missed
-    ∙ ap (λ us. option_map change_in (find (is_at x) us)) (sym step.tail)
-
 pub keys_on : (rs : List LogRecord) (at : ℕ) (change : LiveChange) → IsStep rs at change → map key_of (chain rs at) ≡ change.key ∷ map key_of (chain rs change.prev)
 keys_on rs at change step =
     ap (map key_of) step.is
@@ -122,13 +113,3 @@ first_above rs at s change step up =
     ap Some (sym step.told)
     ∙ sym (ap (λ (b : Bool). newest_in (cond b (u ∷ us) us)) up_is)
     ∙ ap (λ xs. newest_in (filter (is_after s) xs)) (sym step.is)
-
--- where no change takes its key out, none at the key does
-none_removed_case : (x : List ℕ) (u : LogRecord) (us : List LogRecord) → (length (filter removes us) ≡ 0 → takes_out (option_map change_in (find (is_at x) us)) ≡ false) → (b : Bool) → removes u ≡ b → length (cond b (u ∷ filter removes us) (filter removes us)) ≡ 0 → (a : Bool) → takes_out (option_map change_in (cond a (Some u) (find (is_at x) us))) ≡ false
-none_removed_case x u us step true e h a = absurd (omega arith)
-none_removed_case x u us step false e h true = e
-none_removed_case x u us step false e h false = step h
-
-pub none_removed : (x : List ℕ) (us : List LogRecord) → length (filter removes us) ≡ 0 → takes_out (option_map change_in (find (is_at x) us)) ≡ false
-none_removed x [] h = refl
-none_removed x (u ∷ us) h = none_removed_case x u us (none_removed x us) (removes u) refl h (is_at x u)

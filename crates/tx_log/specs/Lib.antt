@@ -13,3 +13,4 @@ pub mod Transactions
 pub mod Walks
 pub mod Remaining
 pub mod Holdings
+pub mod Marks

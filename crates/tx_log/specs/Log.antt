@@ -1,5 +1,5 @@
 -- The log of a session. A list of its records that is called rs stands newest first.
-use Rattle.std.specs.Prelude.{◌≡◌, ℕ, ◌+◌, ◌≤◌, zero, suc, Bool, true, false, ◌==◌, if◌then◌else◌, List, [], ◌∷◌, ◌++◌, length, drop, Option, None, not, is_some}
+use Rattle.std.specs.Prelude.{◌≡◌, ℕ, ◌+◌, ◌≤◌, zero, suc, Bool, true, false, ◌==◌, if◌then◌else◌, List, [], ◌∷◌, ◌++◌, length, drop, Option, None}
 use Rattle.std.specs.List.{slice_get}
 use Rattle.rec_types.specs.Kept.{Kept, undone}
 use Rattle.tx_log.specs.declared.log_records.LogRecord.{LogRecord}
@@ -30,10 +30,6 @@ old_of (Compensation lsn prev tx key restored undo_next) = restored
 abbrev pub new_of : LogRecord → Option (List ℕ)
 new_of (Update lsn prev tx key before after) = after
 new_of (Compensation lsn prev tx key restored undo_next) = restored
-
--- the record takes its key out
-abbrev pub removes : LogRecord → Bool
-removes r = not (is_some (new_of r))
 
 -- where the undo of the transaction goes on below the record
 abbrev pub leads_to : LogRecord → ℕ

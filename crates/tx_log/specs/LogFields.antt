@@ -10,6 +10,7 @@ use Rattle.tx_log.specs.Fits.{AllFit, AllKnown}
 use Rattle.tx_log.specs.Log.{kept_of, IsNumbered, AllWritten}
 use Rattle.tx_log.specs.Holdings.{held, IsHeld, AllBusy}
 use Rattle.tx_log.specs.LogState.{LogState}
+use Rattle.tx_log.specs.Marks.{AreMarked}
 use Rattle.tx_log.specs.Owners.{absent}
 use Rattle.tx_log.specs.OpenTxs.{txs_of, opens}
 use Rattle.tx_log.specs.declared.log_records.LogRecord.{LogRecord}
@@ -44,9 +45,16 @@ pub record IsRoomy (length pending capacity begun : ℕ) (limits : Bounds) (room
   pub held : length + pending ≤ capacity
   pub spare : IfSome room (λ _. length + pending + 2 ≤ capacity)
 
+-- room without taking memory: for the taking back of each pending change, and for two more where a key has room
+pub record HasRoom (length pending capacity : ℕ) (room : Option (List ℕ)) : Type 0 where
+  pub held : length + pending ≤ capacity
+  pub spare : IfSome room (λ _. length + pending + 2 ≤ capacity)
+
 pub record IsTxLog (l : Inside) : Type 0 where
   pub log_kept : IsKept (reverse l.records.items) (found l.txs) l.begun l.pending l.gone
+  pub marked : AreMarked (reverse l.records.items) (reverse l.marks.items)
   pub holding : IsHeld (reverse l.records.items) (opens (found l.txs)) (held l.holdings)
   pub busy_keys : AllBusy (held l.holdings) l.over
   pub reserved : IfSome l.room (λ k. is_some (held l.holdings k) ≡ true)
   pub roomy : IsRoomy (vec_len l.records) l.pending (vec_capacity l.records) l.begun l.limits l.room
+  pub marks_room : HasRoom (vec_len l.marks) l.pending (vec_capacity l.marks) l.room

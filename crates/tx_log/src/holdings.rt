@@ -1,14 +1,16 @@
 ghost use Rattle.std.specs.Prelude.{◌≡◌, ℕ, ◌+◌, ◌<◌, ◌≤◌, Bool, List, IsSome, None, Some, length, reverse, OnOk, OnErr, if◌then◌else◌};
-ghost use Rattle.std.specs.List.{filter, list_any};
+ghost use Rattle.std.specs.List.{list_any};
 ghost use Rattle.indexmap.specs.IndexMap.{index_map_len};
-ghost use Rattle.tx_log.specs.Log.{chain, removes, IsNumbered};
+ghost use Rattle.tx_log.specs.Log.{chain, IsNumbered};
 ghost use Rattle.tx_log.specs.Walks.{is_at};
-ghost use Rattle.tx_log.specs.Holdings.{held, Places, HeldAt, holder, lowered, live_at, absent_at, busy, or_idle, idle, IsHeld, AllBusy};
+ghost use Rattle.tx_log.specs.Marks.{AreMarked};
+ghost use Rattle.tx_log.specs.Holdings.{held, Places, HeldAt, holder, lowered, busy, or_idle, idle, IsHeld, AllBusy};
 ghost use Rattle.tx_log.specs.declared.holdings.Holding.{Holding};
 ghost use Rattle.tx_log.specs.declared.log_records.LogRecord.{LogRecord};
 
 use crate::LogRecord;
-use crate::walks::{is_taken_out, newest_change};
+use crate::marks::Mark;
+use crate::walks::newest_change;
 use indexmap::IndexMap;
 use rec_types::{Key, Memory, TxId};
 
@@ -84,49 +86,35 @@ pub fn raise(holdings: &mut Holdings, key: &Key, tx: TxId, absent: bool) -> bool
     was
 }
 
-/// Counts one live change less at a key, and forgets the key with its last one. Answers whether the key is absent by
-/// the changes that are left, on the way down from the record with the number `from`. `removals` is how many changes
-/// on that way take their key out.
-pub fn lower(
-    holdings: &mut Holdings,
-    key: &Key,
-    log: &[LogRecord],
-    from: u32,
-    removals: u32,
-) -> bool
+/// Counts one live change less at a key, and forgets the key with its last one. `absent` is whether the changes that
+/// are left take the key out.
+pub fn lower(holdings: &mut Holdings, key: &Key, absent: bool)
     requires there { IsSome (held holdings.old key.now) }
-    requires numbered { IsNumbered (reverse log.now) }
-    requires within { from ≤ length log.now }
-    requires counted { removals ≡ length (filter removes (chain (reverse log.now) from)) }
-    requires left { (h : Holding) → held holdings.old key.now ≡ Some h
-        → h.live ≡ live_at key.now (chain (reverse log.now) from) + 1 }
+    requires some { (h : Holding) → held holdings.old key.now ≡ Some h → 0 < h.live }
     ensures { (h : Holding) → held holdings.old key.now ≡ Some h
-        → (result ≡ absent_at key.now (chain (reverse log.now) from))
-        × Places (held holdings.old) (held holdings.new) key.now (lowered h result) }
+        → Places (held holdings.old) (held holdings.new) key.now (lowered h absent) }
 {
     let at = place_of_key(holdings, key);
     let last = holdings[at].live == 1;
     if last {
         let _ = holdings.swap_remove_index(at);
-        false
     } else {
-        let absent = is_taken_out(log, from, key, removals);
         let holding = &mut holdings[at];
         holding.live -= 1;
         holding.absent = absent;
-        absent
     }
 }
 
 /// Forgets the keys of the changes that aren't taken back, on the way down from the record with the number `from`.
-pub fn free_keys(holdings: &mut Holdings, log: &[LogRecord], from: u32)
+pub fn free_keys(holdings: &mut Holdings, log: &[LogRecord], marks: &[Mark], from: u32)
     requires numbered { IsNumbered (reverse log.now) }
+    requires marked { AreMarked (reverse log.now) (reverse marks.now) }
     requires within { from ≤ length log.now }
     ensures { (q : List ℕ) → held holdings.new q
         ≡ (if list_any (is_at q) (chain (reverse log.now) from) then None else held holdings.old q) }
 {
     let mut at = from;
-    while let Some(change) = newest_change(log, at) {
+    while let Some(change) = newest_change(log, marks, at) {
         let _ = holdings.swap_remove(&change.key);
         at = change.prev;
     }

@@ -5,6 +5,7 @@ mod holdings;
 pub mod laws;
 mod log_records;
 mod logs;
+mod marks;
 mod opened;
 mod phases;
 mod walks;

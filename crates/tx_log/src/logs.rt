@@ -8,6 +8,7 @@ ghost use Rattle.tx_log.specs.Owners.{owner_of, holder_of, keys_owned, absent};
 ghost use Rattle.tx_log.specs.LogState.{new_log, history_in, open_in, tx_in, use_in, phase_in, undo_in, undo_step, places_in, active_with, rolling_to, finished, with_txs, with_update, with_compensation, IsRolling, IsLog};
 
 use crate::holdings::{Holdings, find_holder, free_keys, lower, make_room, raise};
+use crate::marks::{Mark, is_absent_below, newest_number};
 use crate::opened::{OpenTx, OpenTxs, find_open, place_of, recount, take_out};
 use crate::phases::Rollback;
 use crate::walks::{changed_keys, count_changes, newest_above, newest_change};
@@ -22,6 +23,8 @@ pub struct TxLog {
     alloc: Global,
     /// Has room for the compensation of each pending change, and for two records more where a key has room.
     records: Vec<LogRecord>,
+    /// One for each record, and the same room.
+    marks: Vec<Mark>,
     txs: OpenTxs,
     /// The keys of live changes of open transactions, and the key that has room.
     holdings: Holdings,
@@ -61,6 +64,7 @@ impl TxLog {
         TxLog {
             alloc,
             records: Vec::new(alloc),
+            marks: Vec::new(alloc),
             txs: OpenTxs::new(alloc),
             holdings: Holdings::new(alloc),
             over: None,
@@ -147,7 +151,7 @@ impl TxLog {
         let Some(rollback) = open_tx.rollback else {
             return None;
         };
-        match newest_above(&self.records, open_tx.last, rollback.to) {
+        match newest_above(&self.records, &self.marks, open_tx.last, rollback.to) {
             Some(change) => Some(UndoStep {
                 key: change.key,
                 before: change.before,
@@ -205,7 +209,13 @@ impl TxLog {
         let Some(open_tx) = find_open(&self.txs, tx) else {
             return Ok(Vec::new(self.alloc));
         };
-        let mut keys = changed_keys(self.alloc, &self.records, open_tx.last, open_tx.live)?;
+        let mut keys = changed_keys(
+            self.alloc,
+            &self.records,
+            &self.marks,
+            open_tx.last,
+            open_tx.live,
+        )?;
         keys.sort_unstable();
         keys.dedup();
         Ok(keys)
@@ -254,6 +264,9 @@ impl TxLog {
         if self.records.reserve(needed).is_err() {
             return Err(Memory);
         }
+        if self.marks.reserve(needed).is_err() {
+            return Err(Memory);
+        }
         if make_room(&mut self.holdings, self.over, key).is_err() {
             return Err(Memory);
         }
@@ -279,10 +292,8 @@ impl TxLog {
     {
         let at = place_of(&self.txs, tx);
         let prev = self.txs[at].last;
-        let removals = self.txs[at].removals;
         let will = after.is_none();
         let was = raise(&mut self.holdings, &key, tx, will);
-        let more = recount(removals, false, will);
         let lsn = self.records.len() as u32 + 1;
         let _ = self.records.push(LogRecord::Update {
             lsn,
@@ -292,13 +303,16 @@ impl TxLog {
             before,
             after,
         });
+        let _ = self.marks.push(Mark {
+            newest: lsn,
+            absent: was,
+        });
         self.room = None;
         self.pending += 1;
         self.gone = recount(self.gone, was, will);
         let open_tx = &mut self.txs[at];
         open_tx.last = lsn;
         open_tx.live += 1;
-        open_tx.removals = more;
         open_tx.absent = recount(open_tx.absent, was, will);
         lsn
     }
@@ -314,7 +328,7 @@ impl TxLog {
     {
         let at = place_of(&self.txs, tx);
         let to = self.txs[at].save_at(n);
-        let left = count_changes(&self.records, self.txs[at].last, to);
+        let left = count_changes(&self.records, &self.marks, self.txs[at].last, to);
         self.room = None;
         let open_tx = &mut self.txs[at];
         open_tx.turn_back(n, Rollback { to, ends }, left);
@@ -330,18 +344,12 @@ impl TxLog {
     {
         let at = place_of(&self.txs, tx);
         let prev = self.txs[at].last;
-        let removals = self.txs[at].removals;
-        let newest = newest_change(&self.records, prev);
+        let newest = newest_change(&self.records, &self.marks, prev);
         let change = newest.unwrap();
         let was = change.after.is_none();
-        let fewer = recount(removals, was, false);
-        let will = lower(
-            &mut self.holdings,
-            &change.key,
-            &self.records,
-            change.prev,
-            fewer,
-        );
+        let will = is_absent_below(&self.marks, change.lsn);
+        lower(&mut self.holdings, &change.key, will);
+        let below = newest_number(&self.marks, change.prev);
         let lsn = self.records.len() as u32 + 1;
         let _ = self.records.push(LogRecord::Compensation {
             lsn,
@@ -351,6 +359,10 @@ impl TxLog {
             restored: change.before,
             undo_next: change.prev,
         });
+        let _ = self.marks.push(Mark {
+            newest: below,
+            absent: will,
+        });
         self.room = None;
         self.pending -= 1;
         self.gone = recount(self.gone, was, will);
@@ -358,7 +370,6 @@ impl TxLog {
         open_tx.last = lsn;
         open_tx.live -= 1;
         open_tx.left -= 1;
-        open_tx.removals = fewer;
         open_tx.absent = recount(open_tx.absent, was, will);
         lsn
     }
@@ -376,7 +387,7 @@ impl TxLog {
         self.room = None;
         if self.txs[at].is_ending() {
             let closed = take_out(&mut self.txs, at);
-            free_keys(&mut self.holdings, &self.records, closed.last);
+            free_keys(&mut self.holdings, &self.records, &self.marks, closed.last);
             self.pending -= closed.live;
             self.gone -= closed.absent;
         } else {
@@ -426,7 +437,7 @@ impl TxLog {
         let at = place_of(&self.txs, tx);
         self.room = None;
         let closed = take_out(&mut self.txs, at);
-        free_keys(&mut self.holdings, &self.records, closed.last);
+        free_keys(&mut self.holdings, &self.records, &self.marks, closed.last);
         self.pending -= closed.live;
         self.gone -= closed.absent;
     }

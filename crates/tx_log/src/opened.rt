@@ -27,8 +27,6 @@ pub struct OpenTx {
     pub left: u32,
     /// How many of its keys have no record now.
     pub absent: u32,
-    /// How many of its live changes take their key out.
-    pub removals: u32,
     /// What `last` was at each savepoint.
     pub saves: ArrayVec<u32, MOST_SAVEPOINTS>,
 }
@@ -42,7 +40,6 @@ impl OpenTx {
           live = 0;
           left = 0;
           absent = 0;
-          removals = 0;
           saves = record { items = [] };
         } }
     {
@@ -52,7 +49,6 @@ impl OpenTx {
             live: 0,
             left: 0,
             absent: 0,
-            removals: 0,
             saves: ArrayVec::new(),
         }
     }

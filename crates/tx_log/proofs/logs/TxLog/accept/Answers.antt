@@ -1,10 +1,11 @@
-use Rattle.std.proofs.Common.{not, ◌≡◌, ◌∷◌, [], ◌++◌, cond, Option, IfSome, refl, ℕ, ◌+◌, ◌<◌, ◌≤◌, Bool, true, List, Some, None, length, reverse, is_some, vec_len, sym, ap, subst, ◌∙◌, arith}
+use Rattle.std.proofs.Common.{◌≡◌, ◌∷◌, [], ◌++◌, cond, Option, IfSome, refl, ℕ, ◌+◌, ◌<◌, ◌≤◌, Bool, true, List, Some, None, length, reverse, is_some, vec_len, sym, ap, subst, ◌∙◌, arith}
 use Rattle.std.proofs.lemmas.List.{length-reverse}
 use Rattle.std.specs.Vec.{vec_capacity}
 use Rattle.rec_types.specs.History.{log_len}
 use Rattle.rec_types.specs.declared.transactions.TxId.{TxId}
 use Rattle.rec_types.specs.LimitBounds.{most_log_records}
 use Rattle.tx_log.proofs.LogIndex.{reverse-push}
+use Rattle.tx_log.proofs.MarkFacts.{marked_more}
 use Rattle.tx_log.proofs.HoldCalls.{free_key, accepted_keys}
 use Rattle.tx_log.specs.Holdings.{held, IsHeld}
 use Rattle.tx_log.specs.OpenTxs.{opens}
@@ -13,7 +14,7 @@ use Rattle.tx_log.proofs.KeptFacts.{active_rollback, open_of_phase, sized, count
 use Rattle.tx_log.proofs.PlaceOf.{read_at, write_at}
 use Rattle.indexmap.specs.IndexMap.{with_value_at}
 use Rattle.tx_log.proofs.OpenFacts.{found_fits, txs_stay}
-use Rattle.tx_log.proofs.StepFacts.{accepted, chain_of, IsAccepted}
+use Rattle.tx_log.proofs.StepFacts.{accepted, IsAccepted}
 use Rattle.tx_log.proofs.StateFacts.{accept_state, kept_turned}
 use Rattle.tx_log.specs.Finds.{finding, Puts}
 use Rattle.tx_log.specs.Log.{kept_of}
@@ -21,6 +22,7 @@ use Rattle.tx_log.specs.LogState.{LogState, phase_in, history_in, open_in, use_i
 use Rattle.tx_log.specs.Owners.{holder_of}
 use Rattle.tx_log.specs.declared.log_records.LogRecord.{LogRecord}
 use Rattle.tx_log.specs.declared.log_records.LogRecord.TheVariants.{Update}
+use Rattle.tx_log.specs.declared.marks.Mark.{Mark}
 use Rattle.tx_log.specs.declared.opened.OpenTx.{OpenTx}
 use Rattle.tx_log.specs.declared.phases.Phase.TheVariants.{Active}
 use Rattle.tx_log.proofs.logs.TxLog.accept.Goals as goal
@@ -100,24 +102,6 @@ recount-open_tx-requires-clause-most c =
     let size = sized (reverse l.records.items) l.txs.entries l.begun l.pending l.gone c.args.tx.0 e c.self.invariant.log_kept found in
     omega (arith, size.absent_part, size.gone_keys, c.self.invariant.roomy.fits, c.self.invariant.roomy.most_records)
 
-pub recount-more-requires-clause-most : goal.recount-more-requires-clause-most
-recount-more-requires-clause-most c =
-    let l = c.self.inside in
-    let rs = reverse l.records.items in
-    let t = c.args.tx.0 in
-    let e = c.index.result.now in
-    let f = c.index-2.result.now in
-    let found = read_at l.txs t c.place_of-at.result e c.place_of-at.ensures.stands c.index.ensures in
-    let second = read_at l.txs t c.place_of-at.result f c.place_of-at.ensures.stands c.index-2.ensures in
-    let one : f ≡ e = some_of f e (sym second ∙ found) in
-    let kept = c.self.invariant.log_kept in
-    let fits = found_fits rs l.begun t (finding l.txs.entries) e kept.fit found in
-    let size = sized rs l.txs.entries l.begun l.pending l.gone t e kept found in
-    let there = chain_of rs t e.last kept.numbered kept.written (fits.last) in
-    let many : vec_len l.records ≡ length l.records.items = omega (arith, l.records.ok.0) in
-    let few : e.removals < 4294967295 = omega (arith, size.removals, size.live, length-reverse l.records.items, c.self.invariant.roomy.fits, c.self.invariant.roomy.most_records) in
-    subst (λ (x : OpenTx). x.removals < 4294967295) (sym one) few
-
 -- the record that was pushed
 pushed : (c : goal.After-self-4-1) → c.push.new.self.items ≡ c.self.inside.records.items ++ Update (c.len.result + 1) c.index.result.now.last c.args.tx c.args.key c.args.before c.args.after ∷ []
 pushed c =
@@ -127,9 +111,19 @@ pushed c =
     let ok = c.push.ensures.succeeds (omega (arith, spare)) in
     c.push.ensures.items ∙ ap (λ (b : Bool). cond b (l.records.items ++ Update (c.len.result + 1) c.index.result.now.last c.args.tx c.args.key c.args.before c.args.after ∷ []) l.records.items) ok
 
+-- and its mark
+mark_pushed : (c : goal.After-self-4-1) → c.push-2.new.self.items ≡ c.self.inside.marks.items ++ record { newest = c.len.result + 1; absent = c.raise-was.result } ∷ []
+mark_pushed c =
+    let l = c.self.inside in
+    let m : Mark = record { newest = c.len.result + 1; absent = c.raise-was.result } in
+    let room : l.room ≡ Some c.args.key = ap (λ (s : LogState). s.room) c.self.view_is ∙ c.requires.room in
+    let spare = subst (λ (o : Option (List ℕ)). IfSome o (λ _. vec_len l.marks + l.pending + 2 ≤ vec_capacity l.marks)) room c.self.invariant.marks_room.spare in
+    let ok = c.push-2.ensures.succeeds (omega (arith, spare)) in
+    c.push-2.ensures.items ∙ ap (λ (b : Bool). cond b (l.marks.items ++ m ∷ []) l.marks.items) ok
+
 -- the transaction's new entry, and the table with it
 abbrev new_of : goal.After-self-4-1 → OpenTx
-new_of c = let n = c.index_mut-open_tx.result.now in record { rollback = n.rollback; last = c.len.result + 1; live = n.live + 1; left = n.left; absent = c.recount-open_tx.result; removals = c.recount-more.result; saves = n.saves }
+new_of c = let n = c.index_mut-open_tx.result.now in record { rollback = n.rollback; last = c.len.result + 1; live = n.live + 1; left = n.left; absent = c.recount-open_tx.result; saves = n.saves }
 
 abbrev table_of : goal.After-self-4-1 → List (TxId × OpenTx)
 table_of c = (with_value_at c.self.inside.txs c.place_of-at.result (new_of c)).entries
@@ -149,10 +143,6 @@ step_of c =
     let free = free_key l c.self.invariant c.args.self.now c.self.view_is c.args.tx.0 c.args.key e c.requires.room c.requires.free found in
     let told = (c.raise-was.ensures free.hold free.there).0 ∙ free.lacks in
     let was = told in
-    let f = c.index-2.result.now in
-    let second = read_at l.txs c.args.tx.0 c.place_of-at.result f c.place_of-at.ensures.stands c.index-2.ensures in
-    let once : f ≡ e = some_of f e (sym second ∙ found) in
-    let more : c.recount-more.result ≡ f.removals + cond c.is_none-will.result 1 0 = omega (arith, c.recount-more.ensures) in
     let will = none_is (is_some c.args.after) c.is_none-will.result c.is_none-will.ensures in
     let many : vec_len l.records ≡ length l.records.items = omega (arith, l.records.ok.0) in
     record {
@@ -166,7 +156,6 @@ step_of c =
       calm = active_rollback (kept_of rs) l.txs.entries c.args.tx.0 e found (ap (λ (s : LogState). phase_in s c.args.tx.0) c.self.view_is ∙ c.requires.active);
       left_same = ap (λ (x : OpenTx). x.left) same;
       absent_new = recounted c.recount-open_tx.result n.absent e.absent c.raise-was.result _ c.is_none-will.result _ was will (ap (λ (x : OpenTx). x.absent) same) c.recount-open_tx.ensures;
-      removals_new = more ∙ ap (λ (b : Bool). f.removals + cond b 1 0) will ∙ ap (λ (x : OpenTx). x.removals + cond (not (is_some c.args.after)) 1 0) once;
       pending_one = refl;
       gone_one = recounted c.recount-self-inside.result l.gone l.gone c.raise-was.result _ c.is_none-will.result _ was will refl c.recount-self-inside.ensures;
     }
@@ -188,11 +177,15 @@ invariant_of-self c =
     let longer : vec_len c.push.new.self ≤ vec_len l.records + 1 = c.push.ensures.upper_bound in
     let wider : vec_capacity l.records ≤ vec_capacity c.push.new.self = c.push.ensures.capacity in
     let wanted = c.requires.fits in
+    let spare_marks = subst (λ (o : Option (List ℕ)). IfSome o (λ _. vec_len l.marks + l.pending + 2 ≤ vec_capacity l.marks)) room c.self.invariant.marks_room.spare in
+    let more_marks : vec_len c.push-2.new.self ≤ vec_len l.marks + 1 = c.push-2.ensures.upper_bound in
+    let marks_wider : vec_capacity l.marks ≤ vec_capacity c.push-2.new.self = c.push-2.ensures.capacity in
     let free = free_key l c.self.invariant c.args.self.now c.self.view_is c.args.tx.0 c.args.key e c.requires.room c.requires.free found in
     let will = none_is (is_some c.args.after) c.is_none-will.result c.is_none-will.ensures in
     let keys = accepted_keys l c.self.invariant c.args.tx c.args.key e (new_of c) free (finding (table_of c)) (held c.raise-was.new.holdings) (c.len.result + 1) e.last c.args.before c.args.after c.is_none-will.result found (puts_of c) will (c.raise-was.ensures free.hold free.there).1 in
     record {
       log_kept = kept_turned _ _ _ _ _ _ turned kept;
+      marked = marked_more l.records.items c.push.new.self.items l.marks.items c.push-2.new.self.items _ _ turned (mark_pushed c) (record { newest = refl; absent = (c.raise-was.ensures free.hold free.there).0 ∙ free.lacks }) c.self.invariant.marked;
       holding = subst (λ (xs : List LogRecord). IsHeld xs (opens (finding (table_of c))) (held c.raise-was.new.holdings)) (sym turned) keys.holding;
       busy_keys = keys.busy_keys;
       reserved = tt;
@@ -204,6 +197,7 @@ invariant_of-self c =
         held = omega arith;
         spare = tt;
       };
+      marks_room = record { held = omega arith; spare = tt };
     }
 
 pub returns-clause-lsn : goal.returns-clause-lsn

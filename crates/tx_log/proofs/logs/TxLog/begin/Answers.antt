@@ -20,6 +20,7 @@ invariant_of-self-in-Ok c =
     let roomy = c.self.invariant.roomy in
     record {
       log_kept = begun_kept (reverse l.records.items) (finding l.txs.entries) (finding c.insert.new.self.entries) l.begun l.pending l.gone c.self.invariant.log_kept (puts_of c);
+      marked = c.self.invariant.marked;
       holding = held_more (reverse l.records.items) (finding l.txs.entries) (finding c.insert.new.self.entries) (held l.holdings) l.begun fresh_entry c.self.invariant.log_kept.fit (puts_of c) (known_last (reverse l.records.items) l.begun (l.begun + 1) (omega arith) c.self.invariant.log_kept.known).1 c.self.invariant.holding;
       busy_keys = c.self.invariant.busy_keys;
       reserved = tt;
@@ -31,6 +32,7 @@ invariant_of-self-in-Ok c =
         held = roomy.held;
         spare = tt;
       };
+      marks_room = record { held = c.self.invariant.marks_room.held; spare = tt };
     }
 
 pub returns-in-Ok-clause-ok : goal.returns-in-Ok-clause-ok

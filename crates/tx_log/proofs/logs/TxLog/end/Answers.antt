@@ -63,6 +63,7 @@ invariant_of-self c =
     let roomy = c.self.invariant.roomy in
     record {
       log_kept = closed (reverse l.records.items) (finding l.txs.entries) (finding c.take_out-closed.new.txs.entries) l.begun l.pending l.gone t e c.self.invariant.log_kept out.0 out.1;
+      marked = c.self.invariant.marked;
       holding = held_closed rs (finding l.txs.entries) (finding c.take_out-closed.new.txs.entries) (held l.holdings) (held c.free_keys.new.holdings) t e out.1 out.0 (freed c) c.self.invariant.holding;
       busy_keys = busy_freed (held l.holdings) (held c.free_keys.new.holdings) (stack t rs) l.over (freed c) c.self.invariant.busy_keys;
       reserved = tt;
@@ -74,6 +75,7 @@ invariant_of-self c =
         held = omega (arith, roomy.held);
         spare = tt;
       };
+      marks_room = record { held = omega (arith, c.self.invariant.marks_room.held); spare = tt };
     }
 
 pub returns-clause-after : goal.returns-clause-after

@@ -69,6 +69,7 @@ invariant_of-self c =
     let roomy = c.self.invariant.roomy in
     record {
       log_kept = closed (reverse l.records.items) (finding l.txs.entries) (finding c.take_out-closed.new.txs.entries) l.begun l.pending l.gone t e c.self.invariant.log_kept out.0 out.1;
+      marked = c.self.invariant.marked;
       holding = held_closed rs (finding l.txs.entries) (finding c.take_out-closed.new.txs.entries) (held l.holdings) (held c.free_keys.new.holdings) t e out.1 out.0 (freed c) c.self.invariant.holding;
       busy_keys = busy_freed (held l.holdings) (held c.free_keys.new.holdings) (stack t rs) l.over (freed c) c.self.invariant.busy_keys;
       reserved = tt;
@@ -80,6 +81,7 @@ invariant_of-self c =
         held = omega (arith, roomy.held);
         spare = tt;
       };
+      marks_room = record { held = omega (arith, c.self.invariant.marks_room.held); spare = tt };
     }
 
 -- the entry without its rollback
@@ -101,10 +103,12 @@ invariant_of-self-else-is_ending c =
     let move : IsMove rs t None e.left (e.saves.items) = record { remaining = nothing; saves = fits.saves; depth = fits.depth; rollback = tt } in
     record {
       log_kept = moved_kept rs (finding l.txs.entries) (finding m.entries) l.begun l.pending l.gone t e w None e.left (e.saves.items) c.self.invariant.log_kept found puts refl move;
+      marked = c.self.invariant.marked;
       holding = held_put rs (finding l.txs.entries) (finding m.entries) (held l.holdings) t e w puts found c.self.invariant.holding;
       busy_keys = c.self.invariant.busy_keys;
       reserved = tt;
       roomy = unroomed _ _ _ _ _ _ c.self.invariant.roomy;
+      marks_room = record { held = c.self.invariant.marks_room.held; spare = tt };
     }
 
 pub returns-then-is_ending-clause-kept : goal.returns-then-is_ending-clause-kept

@@ -39,10 +39,12 @@ invariant_of-self c =
     let move : IsMove rs t None e.left (take (c.args.n - 1) e.saves.items) = record { remaining = fits.left ∙ ap (left_above (stack t rs)) rollback_is; saves = up_to_take (c.args.n - 1) (length rs) e.saves.items fits.saves; depth = short_take (c.args.n - 1) 32 e.saves.items fits.depth; rollback = tt } in
     record {
       log_kept = moved_kept rs (finding l.txs.entries) (finding m.entries) l.begun l.pending l.gone t e w None e.left (take (c.args.n - 1) e.saves.items) c.self.invariant.log_kept found puts new_is move;
+      marked = c.self.invariant.marked;
       holding = held_put rs (finding l.txs.entries) (finding m.entries) (held l.holdings) t e w puts found c.self.invariant.holding;
       busy_keys = c.self.invariant.busy_keys;
       reserved = tt;
       roomy = unroomed _ _ _ _ _ _ c.self.invariant.roomy;
+      marks_room = record { held = c.self.invariant.marks_room.held; spare = tt };
     }
 
 pub returns-clause-after : goal.returns-clause-after

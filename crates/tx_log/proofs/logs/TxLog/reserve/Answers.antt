@@ -9,3 +9,6 @@ returns-clause-kept c = kept_now c.self.inside c.self.invariant _ c.self.view_is
 
 pub returns-then-is_err-2-clause-kept : goal.returns-then-is_err-2-clause-kept
 returns-then-is_err-2-clause-kept c = kept_now c.self.inside c.self.invariant _ c.self.view_is
+
+pub returns-then-is_err-3-clause-kept : goal.returns-then-is_err-3-clause-kept
+returns-then-is_err-3-clause-kept c = kept_now c.self.inside c.self.invariant _ c.self.view_is

@@ -63,10 +63,12 @@ invariant_of-self c =
     let move : IsMove rs t None e.left (e.saves.items ++ e.last ∷ []) = record { remaining = fits.left ∙ ap (left_above (stack t rs)) rollback_is; saves = up_to_push (length rs) e.saves.items e.last last_low fits.saves; depth = longer; rollback = tt } in
     record {
       log_kept = moved_kept rs (finding l.txs.entries) (finding m.entries) l.begun l.pending l.gone t e w None e.left (e.saves.items ++ e.last ∷ []) c.self.invariant.log_kept found puts new_is move;
+      marked = c.self.invariant.marked;
       holding = held_put rs (finding l.txs.entries) (finding m.entries) (held l.holdings) t e w puts found c.self.invariant.holding;
       busy_keys = c.self.invariant.busy_keys;
       reserved = tt;
       roomy = unroomed _ _ _ _ _ _ c.self.invariant.roomy;
+      marks_room = record { held = c.self.invariant.marks_room.held; spare = tt };
     }
 
 pub returns-clause-after : goal.returns-clause-after

@@ -82,10 +82,12 @@ invariant_of-self c =
     let move : IsMove rs t rollback c.count_changes-left.result (take c.args.n e.saves.items) = record { remaining = left_is c; saves = up_to_take c.args.n (length rs) e.saves.items fits.saves; depth = short_take c.args.n 32 e.saves.items fits.depth; rollback = subst (λ (k : ℕ). k ≤ length rs) (sym (to_is c)) (up_to_place (length rs) e.saves.items c.args.n fits.saves) } in
     record {
       log_kept = moved_kept rs (finding l.txs.entries) (finding m.entries) l.begun l.pending l.gone t e w rollback c.count_changes-left.result (take c.args.n e.saves.items) c.self.invariant.log_kept found puts c.turn_back.ensures move;
+      marked = c.self.invariant.marked;
       holding = held_put rs (finding l.txs.entries) (finding m.entries) (held l.holdings) t e w puts found c.self.invariant.holding;
       busy_keys = c.self.invariant.busy_keys;
       reserved = tt;
       roomy = unroomed _ _ _ _ _ _ c.self.invariant.roomy;
+      marks_room = record { held = c.self.invariant.marks_room.held; spare = tt };
     }
 
 pub returns-clause-after : goal.returns-clause-after

@@ -1,0 +1,23 @@
+-- What is kept beside each record of a log. Both lists stand newest first.
+use Rattle.std.specs.Prelude.{◌≡◌, ℕ, List, [], ◌∷◌}
+use Rattle.tx_log.specs.Holdings.{absent_at}
+use Rattle.tx_log.specs.Log.{lsn_of, key_of, leads_to, led, chain}
+use Rattle.tx_log.specs.declared.log_records.LogRecord.{LogRecord}
+use Rattle.tx_log.specs.declared.marks.Mark.{Mark}
+
+-- the number of the first, and 0 where there is none
+abbrev pub first_lsn : List LogRecord → ℕ
+first_lsn [] = 0
+first_lsn (u ∷ us) = lsn_of u
+
+-- the mark of a record above others: the newest live change on the way down from it, and whether the live changes
+-- below it leave its key absent
+pub record IsMarked (r : LogRecord) (rs : List LogRecord) (m : Mark) : Type 0 where
+  pub newest : m.newest ≡ first_lsn (led r (chain rs (leads_to r)))
+  pub absent : m.absent ≡ absent_at (key_of r) (chain rs (leads_to r))
+
+abbrev pub AreMarked : List LogRecord → List Mark → Type 0
+AreMarked [] [] = Unit {0}
+AreMarked [] (m ∷ ms) = ⊥
+AreMarked (r ∷ rs) [] = ⊥
+AreMarked (r ∷ rs) (m ∷ ms) = IsMarked r rs m × AreMarked rs ms
