@@ -12,7 +12,7 @@ use Rattle.tx_log.proofs.KeptFacts.{state_len}
 use Rattle.tx_log.proofs.LogIndex.{reverse-push}
 use Rattle.tx_log.specs.Finds.{Txs, finding}
 use Rattle.tx_log.specs.Log.{lsn_of, key_of, old_of, noted, last_of, record_at, kept_of, AllWritten}
-use Rattle.tx_log.specs.LogFields.{IsKept, IsRoomy}
+use Rattle.tx_log.specs.LogFields.{IsKept, HasRoom}
 use Rattle.tx_log.specs.LogState.{LogState, update_in, undo_in, prev_in, compensations_of, compensations_in}
 use Rattle.tx_log.specs.Walks.{change_in}
 use Rattle.tx_log.specs.declared.walks.LiveChange.{LiveChange}
@@ -78,5 +78,5 @@ told_compensation s tx lsn prev change u lsn_is prev_is undo told found =
     ∙ ap (compensations_of s tx) (sym undo)
 
 -- the room is used up
-pub unroomed : (length pending capacity begun : ℕ) (limits : Bounds) (room : Option (List ℕ)) → IsRoomy length pending capacity begun limits room → IsRoomy length pending capacity begun limits None
-unroomed length pending capacity begun limits room r = record { fits = r.fits; most_records = r.most_records; within = r.within; most_begins = r.most_begins; held = r.held; spare = tt }
+pub unroomed : (length pending capacity : ℕ) (room : Option (List ℕ)) → HasRoom length pending capacity room → HasRoom length pending capacity None
+unroomed length pending capacity room r = record { held = r.held; spare = tt }

@@ -37,13 +37,11 @@ pub record IsKept (rs : List LogRecord) (txs : Txs) (begun pending gone : ℕ) :
   pub pending_is : pending ≡ length (filter (is_pending (opens txs)) (history_of (kept_of rs)))
   pub absent_is : gone ≡ maps.len (absent (opens txs) (history_of (kept_of rs)))
 
-pub record IsRoomy (length pending capacity begun : ℕ) (limits : Bounds) (room : Option (List ℕ)) : Type 0 where
+pub record IsBounded (length pending begun : ℕ) (limits : Bounds) : Type 0 where
   pub fits : length + pending ≤ limits.log_records
   pub most_records : limits.log_records ≤ most_log_records
   pub within : begun ≤ limits.begins
   pub most_begins : limits.begins ≤ most_begins
-  pub held : length + pending ≤ capacity
-  pub spare : IfSome room (λ _. length + pending + 2 ≤ capacity)
 
 -- room without taking memory: for the taking back of each pending change, and for two more where a key has room
 pub record HasRoom (length pending capacity : ℕ) (room : Option (List ℕ)) : Type 0 where
@@ -56,5 +54,6 @@ pub record IsTxLog (l : Inside) : Type 0 where
   pub holding : IsHeld (reverse l.records.items) (opens (found l.txs)) (held l.holdings)
   pub busy_keys : AllBusy (held l.holdings) l.over
   pub reserved : IfSome l.room (λ k. is_some (held l.holdings k) ≡ true)
-  pub roomy : IsRoomy (vec_len l.records) l.pending (vec_capacity l.records) l.begun l.limits l.room
+  pub bounded : IsBounded (vec_len l.records) l.pending l.begun l.limits
+  pub records_room : HasRoom (vec_len l.records) l.pending (vec_capacity l.records) l.room
   pub marks_room : HasRoom (vec_len l.marks) l.pending (vec_capacity l.marks) l.room

@@ -49,7 +49,7 @@ raise-was-requires-clause-most c = λ h there.
     let found = read_at l.txs c.args.tx.0 c.place_of-at.result e c.place_of-at.ensures.stands c.index.ensures in
     let free = free_key l c.self.invariant c.args.self.now c.self.view_is c.args.tx.0 c.args.key e c.requires.room c.requires.free found in
     let many : vec_len l.records ≡ length l.records.items = omega (arith, l.records.ok.0) in
-    let few : free.hold.live < 4294967295 = omega (arith, free.few, c.self.invariant.roomy.fits, c.self.invariant.roomy.most_records) in
+    let few : free.hold.live < 4294967295 = omega (arith, free.few, c.self.invariant.bounded.fits, c.self.invariant.bounded.most_records) in
     subst (λ (x : Holding). x.live < 4294967295) (some_of free.hold h (sym free.there ∙ there)) few
 
 pub recount-self-inside-requires-clause-some : goal.recount-self-inside-requires-clause-some
@@ -69,7 +69,7 @@ recount-self-inside-requires-clause-most c =
     let e = c.index.result.now in
     let found = read_at l.txs c.args.tx.0 c.place_of-at.result e c.place_of-at.ensures.stands c.index.ensures in
     let size = sized (reverse l.records.items) l.txs.entries l.begun l.pending l.gone c.args.tx.0 e c.self.invariant.log_kept found in
-    omega (arith, size.gone_keys, c.self.invariant.roomy.fits, c.self.invariant.roomy.most_records)
+    omega (arith, size.gone_keys, c.self.invariant.bounded.fits, c.self.invariant.bounded.most_records)
 
 pub overflow_add-open_tx : goal.overflow_add-open_tx
 overflow_add-open_tx c =
@@ -78,7 +78,7 @@ overflow_add-open_tx c =
     let found = read_at l.txs c.args.tx.0 c.place_of-at.result e c.place_of-at.ensures.stands c.index_mut-open_tx.ensures.value in
     let size = sized (reverse l.records.items) l.txs.entries l.begun l.pending l.gone c.args.tx.0 e c.self.invariant.log_kept found in
     let many : vec_len l.records ≡ length l.records.items = omega (arith, l.records.ok.0) in
-    let low : e.live ≤ most_log_records = omega (arith, size.live, length-reverse l.records.items, c.self.invariant.roomy.fits, c.self.invariant.roomy.most_records) in
+    let low : e.live ≤ most_log_records = omega (arith, size.live, length-reverse l.records.items, c.self.invariant.bounded.fits, c.self.invariant.bounded.most_records) in
     omega (arith, low)
 
 pub recount-open_tx-requires-clause-some : goal.recount-open_tx-requires-clause-some
@@ -100,14 +100,14 @@ recount-open_tx-requires-clause-most c =
     let e = c.index_mut-open_tx.result.now in
     let found = read_at l.txs c.args.tx.0 c.place_of-at.result e c.place_of-at.ensures.stands c.index_mut-open_tx.ensures.value in
     let size = sized (reverse l.records.items) l.txs.entries l.begun l.pending l.gone c.args.tx.0 e c.self.invariant.log_kept found in
-    omega (arith, size.absent_part, size.gone_keys, c.self.invariant.roomy.fits, c.self.invariant.roomy.most_records)
+    omega (arith, size.absent_part, size.gone_keys, c.self.invariant.bounded.fits, c.self.invariant.bounded.most_records)
 
 -- the record that was pushed
 pushed : (c : goal.After-self-4-1) → c.push.new.self.items ≡ c.self.inside.records.items ++ Update (c.len.result + 1) c.index.result.now.last c.args.tx c.args.key c.args.before c.args.after ∷ []
 pushed c =
     let l = c.self.inside in
     let room : l.room ≡ Some c.args.key = ap (λ (s : LogState). s.room) c.self.view_is ∙ c.requires.room in
-    let spare = subst (λ (o : Option (List ℕ)). IfSome o (λ _. vec_len l.records + l.pending + 2 ≤ vec_capacity l.records)) room c.self.invariant.roomy.spare in
+    let spare = subst (λ (o : Option (List ℕ)). IfSome o (λ _. vec_len l.records + l.pending + 2 ≤ vec_capacity l.records)) room c.self.invariant.records_room.spare in
     let ok = c.push.ensures.succeeds (omega (arith, spare)) in
     c.push.ensures.items ∙ ap (λ (b : Bool). cond b (l.records.items ++ Update (c.len.result + 1) c.index.result.now.last c.args.tx c.args.key c.args.before c.args.after ∷ []) l.records.items) ok
 
@@ -171,9 +171,9 @@ invariant_of-self c =
     let limit : l.limits.log_records ≡ c.args.self.now.limits.log_records = ap (λ (s : LogState). s.limits.log_records) c.self.view_is in
     let turned : reverse c.push.new.self.items ≡ Update (c.len.result + 1) e.last c.args.tx c.args.key c.args.before c.args.after ∷ rs = ap reverse (pushed c) ∙ reverse-push l.records.items _ in
     let kept = accepted (c.len.result + 1) e.last c.args.tx c.args.key c.args.before c.args.after rs (finding l.txs.entries) (finding (table_of c)) l.begun l.pending l.gone (l.pending + 1) c.recount-self-inside.result e (new_of c) c.self.invariant.log_kept found (puts_of c) (step_of c) in
-    let roomy = c.self.invariant.roomy in
+    let bounded = c.self.invariant.bounded in
     let room : l.room ≡ Some c.args.key = ap (λ (s : LogState). s.room) c.self.view_is ∙ c.requires.room in
-    let spare = subst (λ (o : Option (List ℕ)). IfSome o (λ _. vec_len l.records + l.pending + 2 ≤ vec_capacity l.records)) room roomy.spare in
+    let spare = subst (λ (o : Option (List ℕ)). IfSome o (λ _. vec_len l.records + l.pending + 2 ≤ vec_capacity l.records)) room c.self.invariant.records_room.spare in
     let longer : vec_len c.push.new.self ≤ vec_len l.records + 1 = c.push.ensures.upper_bound in
     let wider : vec_capacity l.records ≤ vec_capacity c.push.new.self = c.push.ensures.capacity in
     let wanted = c.requires.fits in
@@ -189,14 +189,13 @@ invariant_of-self c =
       holding = subst (λ (xs : List LogRecord). IsHeld xs (opens (finding (table_of c))) (held c.raise-was.new.holdings)) (sym turned) keys.holding;
       busy_keys = keys.busy_keys;
       reserved = tt;
-      roomy = record {
+      bounded = record {
         fits = omega (arith, length-reverse l.records.items);
-        most_records = roomy.most_records;
-        within = roomy.within;
-        most_begins = roomy.most_begins;
-        held = omega arith;
-        spare = tt;
+        most_records = bounded.most_records;
+        within = bounded.within;
+        most_begins = bounded.most_begins;
       };
+      records_room = record { held = omega arith; spare = tt };
       marks_room = record { held = omega arith; spare = tt };
     }
 

@@ -17,21 +17,20 @@ puts_of c = λ q. c.in-Ok.ensures.updates.0 (record { 0 = q }) ∙ ap (λ (e : O
 pub invariant_of-self-in-Ok : goal.invariant_of-self-in-Ok
 invariant_of-self-in-Ok c =
     let l = c.self.inside in
-    let roomy = c.self.invariant.roomy in
+    let bounded = c.self.invariant.bounded in
     record {
       log_kept = begun_kept (reverse l.records.items) (finding l.txs.entries) (finding c.insert.new.self.entries) l.begun l.pending l.gone c.self.invariant.log_kept (puts_of c);
       marked = c.self.invariant.marked;
       holding = held_more (reverse l.records.items) (finding l.txs.entries) (finding c.insert.new.self.entries) (held l.holdings) l.begun fresh_entry c.self.invariant.log_kept.fit (puts_of c) (known_last (reverse l.records.items) l.begun (l.begun + 1) (omega arith) c.self.invariant.log_kept.known).1 c.self.invariant.holding;
       busy_keys = c.self.invariant.busy_keys;
       reserved = tt;
-      roomy = record {
-        fits = roomy.fits;
-        most_records = roomy.most_records;
+      bounded = record {
+        fits = bounded.fits;
+        most_records = bounded.most_records;
         within = (let below = c.if-self-most.false in omega (arith, c.begins-most.ensures.value));
-        most_begins = roomy.most_begins;
-        held = roomy.held;
-        spare = tt;
+        most_begins = bounded.most_begins;
       };
+      records_room = record { held = c.self.invariant.records_room.held; spare = tt };
       marks_room = record { held = c.self.invariant.marks_room.held; spare = tt };
     }
 

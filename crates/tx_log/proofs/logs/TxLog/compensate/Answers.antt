@@ -138,7 +138,7 @@ recount-self-inside-requires-clause-most c =
     let e = c.index.result.now in
     let found = read_at l.txs c.args.tx.0 c.place_of-at.result e c.place_of-at.ensures.stands c.index.ensures in
     let size = sized rs l.txs.entries l.begun l.pending l.gone c.args.tx.0 e c.self.invariant.log_kept found in
-    omega (arith, size.gone_keys, c.self.invariant.roomy.fits, c.self.invariant.roomy.most_records)
+    omega (arith, size.gone_keys, c.self.invariant.bounded.fits, c.self.invariant.bounded.most_records)
 
 pub overflow_sub-open_tx-2 : goal.overflow_sub-open_tx-2
 overflow_sub-open_tx-2 c =
@@ -191,7 +191,7 @@ recount-open_tx-requires-clause-most c =
     let n = c.index_mut-open_tx.result.now in
     let again = read_at l.txs c.args.tx.0 c.place_of-at.result n c.place_of-at.ensures.stands c.index_mut-open_tx.ensures.value in
     let same : n ≡ e = some_of n e (sym again ∙ found) in
-    subst (λ (x : OpenTx). x.absent < 4294967295) (sym same) (omega (arith, size.absent_part, size.gone_keys, c.self.invariant.roomy.fits, c.self.invariant.roomy.most_records))
+    subst (λ (x : OpenTx). x.absent < 4294967295) (sym same) (omega (arith, size.absent_part, size.gone_keys, c.self.invariant.bounded.fits, c.self.invariant.bounded.most_records))
 
 -- the change that is taken back
 step_of : (c : goal.After-self-4-1) → IsStep (reverse c.self.inside.records.items) c.index.result.now.last c.unwrap-change.result
@@ -212,7 +212,7 @@ pushed c =
     let found = read_at l.txs c.args.tx.0 c.place_of-at.result e c.place_of-at.ensures.stands c.index.ensures in
     let change = c.unwrap-change.result in
     let counted = counted_change rs l.txs.entries l.begun l.pending l.gone c.args.tx.0 e change c.self.invariant.log_kept found (step_of c) in
-    let ok = c.push.ensures.succeeds (omega (arith, counted.waits, c.self.invariant.roomy.held)) in
+    let ok = c.push.ensures.succeeds (omega (arith, counted.waits, c.self.invariant.records_room.held)) in
     c.push.ensures.items ∙ ap (λ (b : Bool). cond b (l.records.items ++ Compensation (c.len.result + 1) e.last c.args.tx change.key change.before change.prev ∷ []) l.records.items) ok
 
 -- and its mark
@@ -290,7 +290,7 @@ invariant_of-self c =
     let turned : reverse c.push.new.self.items ≡ Compensation (c.len.result + 1) e.last c.args.tx change.key change.before change.prev ∷ rs = ap reverse (pushed c) ∙ reverse-push l.records.items _ in
     let back = taken_back c in
     let kept = compensated (c.len.result + 1) e.last c.args.tx change rs (finding l.txs.entries) (finding (table_of c)) l.begun l.pending l.gone (l.pending - 1) c.recount-self-inside.result e (new_of c) c.self.invariant.log_kept found (puts_of c) back in
-    let roomy = c.self.invariant.roomy in
+    let bounded = c.self.invariant.bounded in
     let longer : vec_len c.push.new.self ≤ vec_len l.records + 1 = c.push.ensures.upper_bound in
     let wider : vec_capacity l.records ≤ vec_capacity c.push.new.self = c.push.ensures.capacity in
     let one = back.pending_one in
@@ -306,14 +306,13 @@ invariant_of-self c =
       holding = subst (λ (xs : List LogRecord). IsHeld xs (opens (finding (table_of c))) (held c.lower.new.holdings)) (sym turned) keys.holding;
       busy_keys = keys.busy_keys;
       reserved = tt;
-      roomy = record {
-        fits = omega (arith, roomy.fits);
-        most_records = roomy.most_records;
-        within = roomy.within;
-        most_begins = roomy.most_begins;
-        held = omega (arith, roomy.held);
-        spare = tt;
+      bounded = record {
+        fits = omega (arith, bounded.fits);
+        most_records = bounded.most_records;
+        within = bounded.within;
+        most_begins = bounded.most_begins;
       };
+      records_room = record { held = omega (arith, c.self.invariant.records_room.held); spare = tt };
       marks_room = record { held = omega (arith, c.self.invariant.marks_room.held); spare = tt };
     }
 

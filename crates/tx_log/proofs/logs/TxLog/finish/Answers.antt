@@ -66,21 +66,20 @@ invariant_of-self c =
     let rs = reverse l.records.items in
     let e = c.take_out-closed.result in
     let out = c.take_out-closed.ensures t c.place_of-at.ensures.stands in
-    let roomy = c.self.invariant.roomy in
+    let bounded = c.self.invariant.bounded in
     record {
       log_kept = closed (reverse l.records.items) (finding l.txs.entries) (finding c.take_out-closed.new.txs.entries) l.begun l.pending l.gone t e c.self.invariant.log_kept out.0 out.1;
       marked = c.self.invariant.marked;
       holding = held_closed rs (finding l.txs.entries) (finding c.take_out-closed.new.txs.entries) (held l.holdings) (held c.free_keys.new.holdings) t e out.1 out.0 (freed c) c.self.invariant.holding;
       busy_keys = busy_freed (held l.holdings) (held c.free_keys.new.holdings) (stack t rs) l.over (freed c) c.self.invariant.busy_keys;
       reserved = tt;
-      roomy = record {
-        fits = omega (arith, roomy.fits);
-        most_records = roomy.most_records;
-        within = roomy.within;
-        most_begins = roomy.most_begins;
-        held = omega (arith, roomy.held);
-        spare = tt;
+      bounded = record {
+        fits = omega (arith, bounded.fits);
+        most_records = bounded.most_records;
+        within = bounded.within;
+        most_begins = bounded.most_begins;
       };
+      records_room = record { held = omega (arith, c.self.invariant.records_room.held); spare = tt };
       marks_room = record { held = omega (arith, c.self.invariant.marks_room.held); spare = tt };
     }
 
@@ -107,8 +106,9 @@ invariant_of-self-else-is_ending c =
       holding = held_put rs (finding l.txs.entries) (finding m.entries) (held l.holdings) t e w puts found c.self.invariant.holding;
       busy_keys = c.self.invariant.busy_keys;
       reserved = tt;
-      roomy = unroomed _ _ _ _ _ _ c.self.invariant.roomy;
-      marks_room = record { held = c.self.invariant.marks_room.held; spare = tt };
+      bounded = c.self.invariant.bounded;
+      records_room = unroomed _ _ _ _ c.self.invariant.records_room;
+      marks_room = unroomed _ _ _ _ c.self.invariant.marks_room;
     }
 
 pub returns-then-is_ending-clause-kept : goal.returns-then-is_ending-clause-kept

@@ -17,13 +17,12 @@ invariant_of-result c = record {
   holding = subst (λ (xs : List LogRecord). IsHeld xs (opens (found c.new-3.result)) (held c.new-4.result)) (sym (ap reverse c.new.ensures.items)) (held_nothing (held c.new-4.result) (opens (found c.new-3.result)) (λ k. ap (lookup (same_bytes k)) c.new-4.ensures.empty));
   busy_keys = λ k. subst (λ (o : Option Holding). IfSome o (λ h. h.live ≡ 0 → None ≡ Some k)) (sym (ap (lookup (same_bytes k)) c.new-4.ensures.empty)) tt;
   reserved = tt;
-  roomy = record {
+  bounded = record {
     fits = omega (arith, c.new.ensures.len);
     most_records = omega (arith, c.log_records-log_records.ensures.value, c.log_records-log_records.ensures.most);
     within = omega arith;
     most_begins = omega (arith, c.begins-begins.ensures.value, c.begins-begins.ensures.most);
-    held = omega (arith, c.new.ensures.len);
-    spare = tt;
   };
+  records_room = record { held = omega (arith, c.new.ensures.len); spare = tt };
   marks_room = record { held = omega (arith, c.new-2.ensures.len); spare = tt };
 }

@@ -19,5 +19,5 @@ overflow_cast-result c =
     let l = c.self.inside in
     let rs = reverse l.records.items in
     let counted = len-txs_of (kept_of rs) l.txs.entries c.len.ensures.unique in
-    let few = len-begun (state_of l) (is_log (state_of l) rs l.txs.entries l.pending l.gone c.self.invariant.log_kept (omega (arith, c.self.invariant.roomy.fits, length-reverse l.records.items)) c.self.invariant.roomy.within refl refl) in
-    omega (arith, c.len.ensures.len, counted, few, c.self.invariant.roomy.within, c.self.invariant.roomy.most_begins)
+    let few = len-begun (state_of l) (is_log (state_of l) rs l.txs.entries l.pending l.gone c.self.invariant.log_kept (omega (arith, c.self.invariant.bounded.fits, length-reverse l.records.items)) c.self.invariant.bounded.within refl refl) in
+    omega (arith, c.len.ensures.len, counted, few, c.self.invariant.bounded.within, c.self.invariant.bounded.most_begins)

@@ -43,8 +43,9 @@ invariant_of-self c =
       holding = held_put rs (finding l.txs.entries) (finding m.entries) (held l.holdings) t e w puts found c.self.invariant.holding;
       busy_keys = c.self.invariant.busy_keys;
       reserved = tt;
-      roomy = unroomed _ _ _ _ _ _ c.self.invariant.roomy;
-      marks_room = record { held = c.self.invariant.marks_room.held; spare = tt };
+      bounded = c.self.invariant.bounded;
+      records_room = unroomed _ _ _ _ c.self.invariant.records_room;
+      marks_room = unroomed _ _ _ _ c.self.invariant.marks_room;
     }
 
 pub returns-clause-after : goal.returns-clause-after
