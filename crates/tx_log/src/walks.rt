@@ -46,6 +46,7 @@ pub fn newest_change(log: &[LogRecord], marks: &[Mark], from: u32) -> Option<Liv
             before,
             after,
         }),
+        // No mark leads here.
         LogRecord::Compensation { .. } => None,
     }
 }
