@@ -3,3 +3,4 @@ pub mod WordFacts
 pub mod NumberFacts
 pub mod EscapeFacts
 pub mod EscapeLaws
+pub mod PlainFacts

@@ -1,8 +1,22 @@
--- Cutting words off a line.
-use Rattle.std.specs.Prelude.{◌≡◌, ℕ, false, List, [], ◌∷◌}
-use Rattle.command_text.specs.Grammar.{is_space}
+-- Cutting words off a line, and the bytes of a word.
+use Rattle.std.specs.Prelude.{◌≡◌, ℕ, Bool, false, ◌==◌, List, [], ◌∷◌}
+use Rattle.rec_types.specs.Key.{key_of}
+use Rattle.rec_types.specs.Record.{record_of}
+use Rattle.command_text.specs.declared.commands.LineFault.TheVariants.{KeyTooLong, RecordTooLong}
+use Rattle.command_text.specs.Grammar.{Read, or_fault, is_space}
 
 -- nothing, or a byte first that is no space
 abbrev pub StartsWord : List ℕ → Type 0
 StartsWord [] = Unit {0}
 StartsWord (b ∷ bs) = is_space b ≡ false
+
+-- the byte with which an escape begins
+abbrev pub is_percent : ℕ → Bool
+is_percent b = b == 37
+
+-- a key or a record of the bytes themselves
+abbrev pub key_from : List ℕ → Read (List ℕ)
+key_from bytes = or_fault KeyTooLong (key_of bytes)
+
+abbrev pub record_from : List ℕ → Read (List ℕ)
+record_from bytes = or_fault RecordTooLong (record_of bytes)

@@ -1,7 +1,9 @@
 ghost use Rattle.std.specs.Prelude.{◌≡◌, ◌-◌, ◌≤◌, true, false, MatchOption, length, IfSome, ◌↔◌};
+ghost use Rattle.std.specs.List.{list_any};
 ghost use Rattle.std.specs.Option.{IsSome};
 ghost use Rattle.percent_encoding.specs.Percent.{percent_decode};
 ghost use Rattle.command_text.specs.Grammar.{is_digit, number_of, number_at, tx_at, key_at, record_at};
+ghost use Rattle.command_text.specs.Words.{is_percent, key_from, record_from};
 
 use crate::LineFault;
 use arrayvec::ArrayVec;
@@ -67,13 +69,51 @@ fn decoded<const N: usize>(word: &[u8]) -> Option<ArrayVec<u8, N>>
     Some(bytes)
 }
 
+// Whether a word may have an escape.
+fn has_percent(word: &[u8]) -> bool
+    ensures { result ≡ list_any is_percent word.now }
+{
+    word.iter().any(|b| *b == b'%')
+}
+
+// The key of these bytes. Fault: KeyTooLong.
+fn key_of_bytes(bytes: &[u8]) -> Result<Key, LineFault>
+    ensures { result ≡ key_from bytes.now }
+{
+    Key::new(bytes).map_err(|_| LineFault::KeyTooLong)
+}
+
+// The record of these bytes. Fault: RecordTooLong.
+fn record_of_bytes(bytes: &[u8]) -> Result<Record, LineFault>
+    ensures { result ≡ record_from bytes.now }
+{
+    Record::new(bytes).map_err(|_| LineFault::RecordTooLong)
+}
+
 /// The key that a word stands for. Fault: KeyTooLong.
 pub fn key_at(word: &[u8]) -> Result<Key, LineFault>
     ensures { result ≡ key_at word.now }
 {
+    // A word without `%` stands for itself, and is copied once.
+    if !has_percent(word) {
+        return key_of_bytes(word);
+    }
     match decoded::<16>(word) {
-        Some(bytes) => Key::new(&bytes).map_err(|_| LineFault::KeyTooLong),
+        Some(bytes) => key_of_bytes(&bytes),
         None => Err(LineFault::KeyTooLong),
+    }
+}
+
+// The record whose bytes stand escaped. Fault: RecordTooLong.
+fn escaped_record(escaped: &[u8]) -> Result<Record, LineFault>
+    ensures { result ≡ record_from (percent_decode escaped.now) }
+{
+    if !has_percent(escaped) {
+        return record_of_bytes(escaped);
+    }
+    match decoded::<32>(escaped) {
+        Some(bytes) => record_of_bytes(&bytes),
+        None => Err(LineFault::RecordTooLong),
     }
 }
 
@@ -81,11 +121,8 @@ pub fn key_at(word: &[u8]) -> Result<Key, LineFault>
 pub fn record_at(word: &[u8]) -> Result<Record, LineFault>
     ensures { result ≡ record_at word.now }
 {
-    let Some(escaped) = word.strip_prefix(b"=") else {
-        return Err(LineFault::NoRecordMark);
-    };
-    match decoded::<32>(escaped) {
-        Some(bytes) => Record::new(&bytes).map_err(|_| LineFault::RecordTooLong),
-        None => Err(LineFault::RecordTooLong),
+    match word.strip_prefix(b"=") {
+        Some(escaped) => escaped_record(escaped),
+        None => Err(LineFault::NoRecordMark),
     }
 }
