@@ -1,13 +1,15 @@
 ghost use Rattle.std.specs.Prelude.{◌≡◌};
-ghost use Rattle.command_text.specs.Grammar.{words_of, tx_of, tx_number_of, tx_key_of, tx_key_record_of, command_of, line_of};
+ghost use Rattle.command_text.specs.Grammar.{words_of, tx_of, tx_number_of, tx_key_of, tx_key_record_of, command_of, line_of, read_as};
+ghost use Rattle.command_text.specs.declared.commands.Command.TheVariants as commands;
 
 use crate::arguments::{key_at, number_at, record_at, tx_at};
 use crate::words::{alone, next_word, one_word, three_words, two_words};
 use crate::{Command, LineFault};
-use rec_types::{Key, Record, TxId};
+use rec_types::{Key, TxId};
 
-// The arguments of a command: a transaction, or one and a number, a key, or a key and a record. Faults: WordCount,
+// The arguments of a command: a transaction, or one and a number or a key. Faults: WordCount,
 // and then those of the arguments from left to right.
+#[inline(never)]
 fn tx(text: &[u8]) -> Result<TxId, LineFault>
     ensures { result ≡ tx_of (words_of text.now) }
 {
@@ -30,13 +32,47 @@ fn tx_key(text: &[u8]) -> Result<(TxId, Key), LineFault>
     Ok((tx, key_at(second)?))
 }
 
-fn tx_key_record(text: &[u8]) -> Result<(TxId, Key, Record), LineFault>
-    ensures { result ≡ tx_key_record_of (words_of text.now) }
+// Commands with arguments. Each is a function of its own in the program too, so that a line pays for one alone.
+#[inline(never)]
+fn put(rest: &[u8]) -> Result<Command, LineFault>
+    ensures { result ≡ read_as (λ a. commands.Put a.0 a.1 a.2) (tx_key_record_of (words_of rest.now)) }
 {
-    let (first, second, third) = three_words(text)?;
+    let (first, second, third) = three_words(rest)?;
     let tx = tx_at(first)?;
     let key = key_at(second)?;
-    Ok((tx, key, record_at(third)?))
+    Ok(Command::Put(tx, key, record_at(third)?))
+}
+
+#[inline(never)]
+fn del(rest: &[u8]) -> Result<Command, LineFault>
+    ensures { result ≡ read_as (λ a. commands.Del a.0 a.1) (tx_key_of (words_of rest.now)) }
+{
+    let (tx, key) = tx_key(rest)?;
+    Ok(Command::Del(tx, key))
+}
+
+#[inline(never)]
+fn get(rest: &[u8]) -> Result<Command, LineFault>
+    ensures { result ≡ read_as (λ a. commands.Get a.0 a.1) (tx_key_of (words_of rest.now)) }
+{
+    let (tx, key) = tx_key(rest)?;
+    Ok(Command::Get(tx, key))
+}
+
+#[inline(never)]
+fn release(rest: &[u8]) -> Result<Command, LineFault>
+    ensures { result ≡ read_as (λ a. commands.Release a.0 a.1) (tx_number_of (words_of rest.now)) }
+{
+    let (tx, n) = tx_number(rest)?;
+    Ok(Command::Release(tx, n))
+}
+
+#[inline(never)]
+fn back(rest: &[u8]) -> Result<Command, LineFault>
+    ensures { result ≡ read_as (λ a. commands.Back a.0 a.1) (tx_number_of (words_of rest.now)) }
+{
+    let (tx, n) = tx_number(rest)?;
+    Ok(Command::Back(tx, n))
 }
 
 // The command of a name and the words after it.
@@ -47,22 +83,17 @@ fn command(name: &[u8], rest: &[u8]) -> Result<Command, LineFault>
     if name == b"begin".as_slice() {
         alone(rest, Command::Begin)
     } else if name == b"put".as_slice() {
-        let (tx, key, record) = tx_key_record(rest)?;
-        Ok(Command::Put(tx, key, record))
+        put(rest)
     } else if name == b"del".as_slice() {
-        let (tx, key) = tx_key(rest)?;
-        Ok(Command::Del(tx, key))
+        del(rest)
     } else if name == b"get".as_slice() {
-        let (tx, key) = tx_key(rest)?;
-        Ok(Command::Get(tx, key))
+        get(rest)
     } else if name == b"save".as_slice() {
         Ok(Command::Save(tx(rest)?))
     } else if name == b"release".as_slice() {
-        let (tx, n) = tx_number(rest)?;
-        Ok(Command::Release(tx, n))
+        release(rest)
     } else if name == b"back".as_slice() {
-        let (tx, n) = tx_number(rest)?;
-        Ok(Command::Back(tx, n))
+        back(rest)
     } else if name == b"resume".as_slice() {
         Ok(Command::Resume(tx(rest)?))
     } else if name == b"abort".as_slice() {
