@@ -1,4 +1,4 @@
-ghost use Rattle.std.specs.Prelude.{◌≡◌};
+ghost use Rattle.std.specs.Prelude.{◌≡◌, Some};
 ghost use Rattle.command_text.specs.Grammar.{words_of, tx_of, tx_number_of, tx_key_of, tx_key_record_of, command_of, line_of, read_as};
 ghost use Rattle.command_text.specs.declared.commands.Command.TheVariants as commands;
 
@@ -32,53 +32,98 @@ fn tx_key(text: &[u8]) -> Result<(TxId, Key), LineFault>
     Ok((tx, key_at(second)?))
 }
 
-// Commands with arguments. Each is a function of its own in the program too, so that a line pays for one alone.
+// Each command with arguments is a function of its own in the program too, so that a line pays for one alone.
 #[inline(never)]
-fn put(rest: &[u8]) -> Result<Command, LineFault>
-    ensures { result ≡ read_as (λ a. commands.Put a.0 a.1 a.2) (tx_key_record_of (words_of rest.now)) }
+fn save(rest: &[u8]) -> Result<Option<Command>, LineFault>
+    ensures { result
+        ≡ read_as Some (read_as commands.Save (tx_of (words_of rest.now))) }
+{
+    Ok(Some(Command::Save(tx(rest)?)))
+}
+
+#[inline(never)]
+fn resume(rest: &[u8]) -> Result<Option<Command>, LineFault>
+    ensures { result
+        ≡ read_as Some (read_as commands.Resume (tx_of (words_of rest.now))) }
+{
+    Ok(Some(Command::Resume(tx(rest)?)))
+}
+
+#[inline(never)]
+fn abort(rest: &[u8]) -> Result<Option<Command>, LineFault>
+    ensures { result
+        ≡ read_as Some (read_as commands.Abort (tx_of (words_of rest.now))) }
+{
+    Ok(Some(Command::Abort(tx(rest)?)))
+}
+
+#[inline(never)]
+fn commit(rest: &[u8]) -> Result<Option<Command>, LineFault>
+    ensures { result
+        ≡ read_as Some (read_as commands.Commit (tx_of (words_of rest.now))) }
+{
+    Ok(Some(Command::Commit(tx(rest)?)))
+}
+
+#[inline(never)]
+fn keys(rest: &[u8]) -> Result<Option<Command>, LineFault>
+    ensures { result
+        ≡ read_as Some (read_as commands.Keys (tx_of (words_of rest.now))) }
+{
+    Ok(Some(Command::Keys(tx(rest)?)))
+}
+
+#[inline(never)]
+fn put(rest: &[u8]) -> Result<Option<Command>, LineFault>
+    ensures { result
+        ≡ read_as Some (read_as (λ a. commands.Put a.0 a.1 a.2) (tx_key_record_of (words_of rest.now))) }
 {
     let (first, second, third) = three_words(rest)?;
     let tx = tx_at(first)?;
     let key = key_at(second)?;
-    Ok(Command::Put(tx, key, record_at(third)?))
+    Ok(Some(Command::Put(tx, key, record_at(third)?)))
 }
 
 #[inline(never)]
-fn del(rest: &[u8]) -> Result<Command, LineFault>
-    ensures { result ≡ read_as (λ a. commands.Del a.0 a.1) (tx_key_of (words_of rest.now)) }
+fn del(rest: &[u8]) -> Result<Option<Command>, LineFault>
+    ensures { result
+        ≡ read_as Some (read_as (λ a. commands.Del a.0 a.1) (tx_key_of (words_of rest.now))) }
 {
     let (tx, key) = tx_key(rest)?;
-    Ok(Command::Del(tx, key))
+    Ok(Some(Command::Del(tx, key)))
 }
 
 #[inline(never)]
-fn get(rest: &[u8]) -> Result<Command, LineFault>
-    ensures { result ≡ read_as (λ a. commands.Get a.0 a.1) (tx_key_of (words_of rest.now)) }
+fn get(rest: &[u8]) -> Result<Option<Command>, LineFault>
+    ensures { result
+        ≡ read_as Some (read_as (λ a. commands.Get a.0 a.1) (tx_key_of (words_of rest.now))) }
 {
     let (tx, key) = tx_key(rest)?;
-    Ok(Command::Get(tx, key))
+    Ok(Some(Command::Get(tx, key)))
 }
 
 #[inline(never)]
-fn release(rest: &[u8]) -> Result<Command, LineFault>
-    ensures { result ≡ read_as (λ a. commands.Release a.0 a.1) (tx_number_of (words_of rest.now)) }
+fn release(rest: &[u8]) -> Result<Option<Command>, LineFault>
+    ensures { result
+        ≡ read_as Some (read_as (λ a. commands.Release a.0 a.1) (tx_number_of (words_of rest.now))) }
 {
     let (tx, n) = tx_number(rest)?;
-    Ok(Command::Release(tx, n))
+    Ok(Some(Command::Release(tx, n)))
 }
 
 #[inline(never)]
-fn back(rest: &[u8]) -> Result<Command, LineFault>
-    ensures { result ≡ read_as (λ a. commands.Back a.0 a.1) (tx_number_of (words_of rest.now)) }
+fn back(rest: &[u8]) -> Result<Option<Command>, LineFault>
+    ensures { result
+        ≡ read_as Some (read_as (λ a. commands.Back a.0 a.1) (tx_number_of (words_of rest.now))) }
 {
     let (tx, n) = tx_number(rest)?;
-    Ok(Command::Back(tx, n))
+    Ok(Some(Command::Back(tx, n)))
 }
 
 // The command of a name and the words after it.
 #[tactic(auto, unfolding(crate::specs::Grammar::command_of))]
-fn command(name: &[u8], rest: &[u8]) -> Result<Command, LineFault>
-    ensures { result ≡ command_of name.now (words_of rest.now) }
+fn command(name: &[u8], rest: &[u8]) -> Result<Option<Command>, LineFault>
+    ensures { result ≡ read_as Some (command_of name.now (words_of rest.now)) }
 {
     if name == b"begin".as_slice() {
         alone(rest, Command::Begin)
@@ -89,21 +134,21 @@ fn command(name: &[u8], rest: &[u8]) -> Result<Command, LineFault>
     } else if name == b"get".as_slice() {
         get(rest)
     } else if name == b"save".as_slice() {
-        Ok(Command::Save(tx(rest)?))
+        save(rest)
     } else if name == b"release".as_slice() {
         release(rest)
     } else if name == b"back".as_slice() {
         back(rest)
     } else if name == b"resume".as_slice() {
-        Ok(Command::Resume(tx(rest)?))
+        resume(rest)
     } else if name == b"abort".as_slice() {
-        Ok(Command::Abort(tx(rest)?))
+        abort(rest)
     } else if name == b"commit".as_slice() {
-        Ok(Command::Commit(tx(rest)?))
+        commit(rest)
     } else if name == b"list".as_slice() {
         alone(rest, Command::List)
     } else if name == b"keys".as_slice() {
-        Ok(Command::Keys(tx(rest)?))
+        keys(rest)
     } else if name == b"log".as_slice() {
         alone(rest, Command::Log)
     } else {
@@ -125,5 +170,5 @@ pub fn read_line(line: &[u8]) -> Result<Option<Command>, LineFault>
     if name.starts_with(b"#") {
         return Ok(None);
     }
-    Ok(Some(command(name, rest)?))
+    command(name, rest)
 }

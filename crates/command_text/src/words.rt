@@ -1,4 +1,4 @@
-ghost use Rattle.std.specs.Prelude.{◌≡◌, [], ◌∷◌, not, position, MatchOption};
+ghost use Rattle.std.specs.Prelude.{◌≡◌, [], ◌∷◌, not, position, MatchOption, Some};
 ghost use Rattle.command_text.specs.Grammar.{is_space, words_of, read_as, alone, one_of, two_of, three_of};
 ghost use Rattle.command_text.specs.Words.{StartsWord};
 
@@ -45,11 +45,12 @@ pub fn next_word(text: &[u8]) -> Option<(&[u8], &[u8])>
 }
 
 /// The command, where no word is left. Fault: WordCount.
-pub fn alone(text: &[u8], command: Command) -> Result<Command, LineFault>
-    ensures { result ≡ alone (words_of text.now) command }
+#[inline(never)]
+pub fn alone(text: &[u8], command: Command) -> Result<Option<Command>, LineFault>
+    ensures { result ≡ read_as Some (alone (words_of text.now) command) }
 {
     match next_word(text) {
-        None => Ok(command),
+        None => Ok(Some(command)),
         Some(_) => Err(LineFault::WordCount),
     }
 }
