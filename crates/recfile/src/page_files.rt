@@ -1,8 +1,9 @@
-ghost use Rattle.std.specs.Prelude.{◌≡◌, ◌⊎◌, ◌≤◌, IsTrue, IfOk, OnOk, MatchOption, if◌then◌else◌};
+ghost use Rattle.std.specs.Prelude.{◌≡◌, ◌≤◌, None, IsTrue, IfOk, IfSome, OnOk, MatchOption, if◌then◌else◌};
 ghost use Rattle.std.specs.FinMap as maps;
 ghost use Rattle.rec_types.specs.Contents.{Contents};
-ghost use Rattle.rec_types.specs.Table.{no_damage};
+ghost use Rattle.rec_types.specs.Table.{counted, no_damage};
 ghost use Rattle.btree_insert.specs.declared.trees.Tree.{Tree as TreeValue};
+ghost use Rattle.btree_delete.specs.CleanFile.{IsFirst, IsOutside, is_device_fault};
 ghost use Rattle.btree_delete.specs.TableView.{IsClosed, table_contents};
 ghost use Rattle.recfile.specs.WholeSession.{EndsFile, opened_file};
 
@@ -10,7 +11,7 @@ use crate::file_faults::FileFault;
 use crate::sessions::run_session;
 use crate::statuses::exit_status;
 use crate::telling::tell;
-use btree_delete::TreeTable;
+use btree_delete::{OpenFault, TreeTable};
 use page_store::Store;
 use rec_types::{Limits, Table};
 use record_file::RecordFile;
@@ -61,11 +62,13 @@ pub fn check_in<S: Store, W: Write>(
     Ok(())
 }
 
-/// How a session over a page file ended: its status, and the store, where the file wasn't opened or is closed.
+/// How a session over a page file ended: its status; the store, where the file wasn't opened or is closed; and why it
+/// wasn't opened.
 #[derive(Drop)]
 pub struct FileEnd<S: Store> {
     pub status: u8,
     pub store: Option<S>,
+    pub unopened: Option<OpenFault>,
 }
 
 // Closes the file of a table in which no transaction is open. A fault has its line.
@@ -75,7 +78,8 @@ fn close_file<S: Store, E: Write>(
     err: &mut E,
 ) -> FileEnd<S>
     requires ended { maps.len file.file.txs ≡ 0 }
-    ensures { IsTrue file.table.pages.steady → MatchOption result.store (result.status ≡ 1)
+    ensures opened { result.unopened ≡ None }
+    ensures closed { IsTrue file.table.pages.steady → MatchOption result.store (result.status ≡ 1)
         (λ s. IsClosed (S.pages s) (S.tail s) file.table.tree (table_contents file.table)
         × (result.status ≡ (if script_fault then 3 else 0))) }
 {
@@ -86,12 +90,14 @@ fn close_file<S: Store, E: Write>(
         Ok(store) => FileEnd {
             status: exit_status(false, false, script_fault),
             store: Some(store),
+            unopened: None,
         },
         Err(stop) => {
             tell(err, &FileFault::from(stop.fault));
             FileEnd {
                 status: exit_status(false, true, script_fault),
                 store: None,
+                unopened: None,
             }
         }
     }
@@ -107,7 +113,8 @@ fn run_opened<S: Store, R: Read, W: Write, E: Write>(
     err: &mut E,
 ) -> FileEnd<S>
     requires limit { table.limit ≡ limits.records }
-    ensures { IsTrue table.pages.steady → table.refusals ≡ 0 → table.damages ≡ no_damage
+    ensures opened { result.unopened ≡ None }
+    ensures session { IsTrue table.pages.steady → table.refusals ≡ 0 → table.damages ≡ no_damage
         → EndsFile (R.remaining reader.old) (R.remaining reader.new)
         (W.contents out.old) (W.contents out.new)
         (opened_file (table_contents table) limits table.pages.failures)
@@ -123,13 +130,14 @@ fn run_opened<S: Store, R: Read, W: Write, E: Write>(
         Err(_) => FileEnd {
             status: exit_status(true, false, script_fault),
             store: None,
+            unopened: None,
         },
     }
 }
 
 /// Runs a session over a page file, and closes the file. A fault of the file has a line on `err` when it is met. The
-/// status is that of `exit_status`. No script is read where the file can't be opened, and nothing is written to the
-/// store where a transaction can't be ended.
+/// status is that of `exit_status`. Where the file can't be opened no script is read, and the store comes back with its
+/// pages as they were and the fault of opening. Nothing is written to the store where a transaction can't be ended.
 pub fn run_in<S: Store, R: Read, W: Write, E: Write>(
     alloc: Global,
     store: S,
@@ -138,15 +146,22 @@ pub fn run_in<S: Store, R: Read, W: Write, E: Write>(
     out: &mut W,
     err: &mut E,
 ) -> FileEnd<S>
-    ensures { IsTrue (S.steady store) → (tree : TreeValue) → (contents : Contents)
+    ensures unread { IfSome result.unopened (λ _. (result.status ≡ 1)
+        × (reader.new ≡ reader.old) × (out.new ≡ out.old)) }
+    ensures untouched { IfSome result.unopened (λ fault. MatchOption result.store ⊥
+        (λ s. (S.pages s ≡ S.pages store) × (S.tail s ≡ S.tail store)
+        × (S.writes s ≡ S.writes store)
+        × (S.failures s ≡ counted (S.failures store) (is_device_fault fault)))) }
+    ensures first { IsTrue (S.steady store) → IfSome result.unopened
+        (IsFirst (S.pages store) (S.tail store) limits.records) }
+    ensures session { IsTrue (S.steady store) → (tree : TreeValue) → (contents : Contents)
         → IsClosed (S.pages store) (S.tail store) tree contents → tree.count ≤ limits.records
-        → ((result.status ≡ 1) × (reader.new ≡ reader.old) × (out.new ≡ out.old))
-        ⊎ EndsFile (R.remaining reader.old) (R.remaining reader.new)
+        → MatchOption result.unopened (EndsFile (R.remaining reader.old) (R.remaining reader.new)
         (W.contents out.old) (W.contents out.new)
         (opened_file contents limits (S.failures store))
         (λ records good. MatchOption result.store (result.status ≡ 1)
         (λ s. ((tree : TreeValue) × IsClosed (S.pages s) (S.tail s) tree records)
-        × (result.status ≡ good))) result.status }
+        × (result.status ≡ good))) result.status) IsOutside }
 {
     match TreeTable::open_from(alloc, store, limits) {
         Ok(table) => run_opened(alloc, table, limits, reader, out, err),
@@ -155,6 +170,7 @@ pub fn run_in<S: Store, R: Read, W: Write, E: Write>(
             FileEnd {
                 status: exit_status(false, true, false),
                 store: Some(stop.store),
+                unopened: Some(stop.fault),
             }
         }
     }

@@ -48,8 +48,8 @@ close_file-requires g c = record {
       ap (λ (f : File). maps.len f.txs) ended.rest ∙ maps.len-empty nat_cmp Tx;
 }
 
-pub returns-in-Ok : goal.returns-in-Ok
-returns-in-Ok g c steady refusals damages =
+pub returns-in-Ok-clause-session : goal.returns-in-Ok-clause-session
+returns-in-Ok-clause-session g c steady refusals damages =
     let old = opened_file (table_contents c.args.table) c.args.limits c.args.table.pages.failures in
     let mid = c.run_session-end.ensures.0 in
     let new = seen treed c.run_session-end.new.file in
@@ -64,11 +64,11 @@ returns-in-Ok g c steady refusals damages =
       session = subst (λ e. IsSession (g.R.Read.remaining c.args.reader.now) (g.R.Read.remaining c.run_session-end.new.reader) (g.W.Write.contents c.args.out.now) (g.W.Write.contents c.run_session-end.new.out) old mid c.run_session-end.result.script e new) c.in-Ok.is known;
       whole = whole_script c.run_session-end.result.script _ _ _ _ old mid known.script whole_empty;
       sound = sound;
-      ending = closes c.close_file.result.store (c.close_file.result.status ≡ 1) (λ (t : Tree) s. IsClosed (g.S.Store.pages s) (g.S.Store.tail s) t (table_contents c.run_session-end.new.file.table)) c.close_file.result.status c.run_session-end.new.file.table.tree c.is_err-script_fault.result (is_err c.run_session-end.result.script) c.is_err-script_fault.ensures.value (c.close_file.ensures (known.asks.sound ∙ sound));
+      ending = closes c.close_file.result.store (c.close_file.result.status ≡ 1) (λ (t : Tree) s. IsClosed (g.S.Store.pages s) (g.S.Store.tail s) t (table_contents c.run_session-end.new.file.table)) c.close_file.result.status c.run_session-end.new.file.table.tree c.is_err-script_fault.result (is_err c.run_session-end.result.script) c.is_err-script_fault.ensures.value (c.close_file.ensures.closed (known.asks.sound ∙ sound));
     }
 
-pub returns-in-Err : goal.returns-in-Err
-returns-in-Err g c steady refusals damages =
+pub returns-in-Err-clause-session : goal.returns-in-Err-clause-session
+returns-in-Err-clause-session g c steady refusals damages =
     let old = opened_file (table_contents c.args.table) c.args.limits c.args.table.pages.failures in
     let mid = c.run_session-end.ensures.0 in
     let new = seen treed c.run_session-end.new.file in
