@@ -51,7 +51,7 @@ pub fn check_in<S: Store, W: Write>(
 {
     let table = match TreeTable::open_from(alloc, store, limits) {
         Ok(table) => table,
-        Err(stop) => return Err(stop.fault.into()),
+        Err(stop) => return Err(FileFault::from(stop.fault)),
     };
     let (order, height, records) = (table.order(), table.height(), table.count());
     let (pages, free) = (table.page_count(), table.free_count());
