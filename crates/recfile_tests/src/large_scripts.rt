@@ -109,24 +109,42 @@ fn push_key(text: &mut String, number: u32) -> Result<(), Fail> {
     Ok(())
 }
 
+/// The number of the key that comes n-th, of 80,000.
+fn shuffled(n: u32) -> u32 {
+    (u64::from(n) * 30_011 % 80_000) as u32
+}
+
+/// Puts the keys of all numbers below the count.
+fn put_all(session: &mut Session, count: u32) -> Result<(), Fail> {
+    for n in 0..count {
+        session.script.push_str("put 1 ")?;
+        push_key(&mut session.script, shuffled(n))?;
+        session.script.push_str(" =\n")?;
+        session.replies.push_str("ok none\n")?;
+    }
+    Ok(())
+}
+
+/// The list of them.
+fn list_all(session: &mut Session, count: u32) -> Result<(), Fail> {
+    session.script.push_str("list\n")?;
+    for n in 0..count {
+        session.replies.push_str("- ")?;
+        push_key(&mut session.replies, n)?;
+        session.replies.push_str(" =\n")?;
+    }
+    writeln!(session.replies, "ok {count}")?;
+    Ok(())
+}
+
 #[test]
 fn eighty_thousand_keys_come_in_random_order(rt: HostRuntime) -> Result<(), Fail> {
     let mut session = new_session(rt.alloc());
     session.script.push_str("begin\n")?;
     session.replies.push_str("ok 1\n")?;
-    for n in 0..80_000u32 {
-        session.script.push_str("put 1 ")?;
-        push_key(&mut session.script, n * 30_011 % 80_000)?;
-        session.script.push_str(" =\n")?;
-        session.replies.push_str("ok none\n")?;
-    }
-    session.script.push_str("commit 1\nlist\n")?;
+    put_all(&mut session, 80_000)?;
+    session.script.push_str("commit 1\n")?;
     session.replies.push_str("ok\n")?;
-    for n in 0..80_000u32 {
-        session.replies.push_str("- ")?;
-        push_key(&mut session.replies, n)?;
-        session.replies.push_str(" =\n")?;
-    }
-    session.replies.push_str("ok 80000\n")?;
+    list_all(&mut session, 80_000)?;
     expect(&rt, rt.alloc(), &session, 80_003)
 }
