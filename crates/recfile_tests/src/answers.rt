@@ -1,6 +1,6 @@
 use command_text::{Command, read_line};
-use rec_types::{Entry, Key, Record};
-use record_file::{Answer, Call, Status};
+use rec_types::{Entry, Key, Record, Table};
+use record_file::{Answer, Call, RecordFile, Status, run_calls};
 use std::alloc::Global;
 use std::fmt::Debug;
 use std::test::Fail;
@@ -155,6 +155,15 @@ fn push_look(text: &mut String, answer: &Answer) -> Result<(), Fail> {
         Answer::LogRecord(record) => push_log_record(text, record),
         _ => Ok(()),
     }
+}
+
+/// Makes the calls.
+pub fn answers_to<T: Table>(
+    alloc: Global,
+    file: &mut RecordFile<T>,
+    calls: &[Call],
+) -> Result<Vec<Answer>, Fail> {
+    Ok(run_calls(alloc, file, calls)?)
 }
 
 /// Appends an answer as a line.

@@ -1,16 +1,30 @@
-use crate::answers::{calls_of, text_of};
+use crate::answers::{answers_to, calls_of, text_of};
 use crate::rows::TWO_ROLLBACKS;
 use crate::running::flaky_file;
 use rec_types::{FlakyTable, Key, Limits, Record, SortedTable, Table, TxId};
-use record_file::{Call, RecordFile, run_calls};
+use record_file::{Call, RecordFile};
 use std::alloc::Global;
 use std::process::Abort;
 use std::test::Fail;
 
 // What the replies of scripts show is tested by scripts. Here are the calls that no script makes.
 
-/// Runs a script over a file whose device fails at these calls of `set`, makes these calls, and expects what
-/// they answer, a line each.
+/// Runs a script over the file, makes these calls, and expects what they answer, a line each.
+fn expect_of<T: Table>(
+    rt: &impl Abort,
+    alloc: Global,
+    file: &mut RecordFile<T>,
+    script: &str,
+    calls: &[Call],
+    wanted: &str,
+) -> Result<(), Fail> {
+    answers_to(alloc, file, &calls_of(alloc, script)?)?;
+    let text = text_of(alloc, &answers_to(alloc, file, calls)?)?;
+    assert_eq!(rt; text.as_str(), wanted);
+    Ok(())
+}
+
+/// Does so over a new file whose device fails at these calls of `set`.
 fn expect(
     rt: &impl Abort,
     alloc: Global,
@@ -21,10 +35,7 @@ fn expect(
 ) -> Result<(), Fail> {
     let limits = Limits::new(9, 99, 9)?;
     let mut file = flaky_file(rt, alloc, SortedTable::new(alloc, limits), limits, failing)?;
-    run_calls(alloc, &mut file, &calls_of(alloc, script)?)?;
-    let answers = run_calls(alloc, &mut file, calls)?;
-    assert_eq!(rt; text_of(alloc, &answers)?.as_str(), wanted);
-    Ok(())
+    expect_of(rt, alloc, &mut file, script, calls, wanted)
 }
 
 #[test]
@@ -110,7 +121,7 @@ fn the_table_comes_back_once_all_have_ended(rt: HostRuntime) -> Result<(), Fail>
     let limits = Limits::new(9, 99, 9)?;
     let table = SortedTable::new(rt.alloc(), limits);
     let mut file = flaky_file(&rt, rt.alloc(), table, limits, &[])?;
-    run_calls(
+    answers_to(
         rt.alloc(),
         &mut file,
         &calls_of(rt.alloc(), "begin\nput 1 a =x\n")?,
@@ -119,7 +130,7 @@ fn the_table_comes_back_once_all_have_ended(rt: HostRuntime) -> Result<(), Fail>
         panic!(rt; "a transaction is open");
     };
     assert_eq!(rt; still.count, 1);
-    run_calls(rt.alloc(), &mut still.file, &[Call::Commit(TxId(1))])?;
+    answers_to(rt.alloc(), &mut still.file, &[Call::Commit(TxId(1))])?;
     let found = find_behind(&rt, still.file, &Key::new(b"a")?)?;
     assert_eq!(rt; found, Some(Record::new(b"x")?));
     Ok(())

@@ -1,20 +1,16 @@
-use crate::answers::{calls_of, push_answer, text_of};
+use crate::answers::{answers_to, calls_of, push_answer, text_of};
 use crate::rows::{CHARGED_KEYS, COMMIT_BESIDE, OWNER_LEFT, STOPPED, TWO_ROLLBACKS};
 use crate::running::{Row, flaky_file, tree};
-use btree_delete::TreeTable;
-use page_store::MemStore;
-use rec_types::{FlakyTable, Limits, TxId};
-use record_file::{Answer, Call, RecordFile, run_calls};
+use rec_types::{Limits, Table, TxId};
+use record_file::{Answer, Call, RecordFile};
 use std::alloc::Global;
 use std::process::Abort;
 use std::test::Fail;
 use tx_log::LogRecord;
 
-type TreeFile = RecordFile<FlakyTable<TreeTable<MemStore>>>;
-
 /// Whether the log takes back the change of this transaction whose update has the record before it with this
 /// number.
-fn is_compensated(file: &TreeFile, of: TxId, number: u32) -> bool {
+fn is_compensated<T: Table>(file: &RecordFile<T>, of: TxId, number: u32) -> bool {
     for lsn in 1..=file.log_len() {
         if let Some(LogRecord::Compensation { tx, undo_next, .. }) = file.log_record(lsn) {
             if tx == of && undo_next == number {
@@ -26,7 +22,7 @@ fn is_compensated(file: &TreeFile, of: TxId, number: u32) -> bool {
 }
 
 /// Which of the changes are live, oldest first.
-fn live_changes(alloc: Global, file: &TreeFile) -> Result<Vec<bool>, Fail> {
+fn live_changes<T: Table>(alloc: Global, file: &RecordFile<T>) -> Result<Vec<bool>, Fail> {
     let mut lives = Vec::new(alloc);
     for lsn in 1..=file.log_len() {
         if let Some(LogRecord::Update { tx, prev, .. }) = file.log_record(lsn) {
@@ -61,36 +57,59 @@ fn remaining_calls(
 }
 
 /// The records with their owners, and the keys of each transaction.
-fn seen(alloc: Global, file: &mut TreeFile) -> Result<String, Fail> {
+fn seen<T: Table>(alloc: Global, file: &mut RecordFile<T>) -> Result<String, Fail> {
     let calls = [
         Call::Entries,
         Call::KeysOf(TxId(1)),
         Call::KeysOf(TxId(2)),
         Call::KeysOf(TxId(3)),
     ];
-    text_of(alloc, &run_calls(alloc, file, &calls)?)
+    text_of(alloc, &answers_to(alloc, file, &calls)?)
 }
 
-/// Makes the calls of the row over a tree, and then those that remain, of which there are so many, over a new
-/// one: what they answer is the same, and so are the records, their owners and the keys of each transaction.
-fn expect_alone(rt: &impl Abort, alloc: Global, row: &Row<'_>, count: usize) -> Result<(), Fail> {
+/// Runs the script: the calls that remain, and what they answered.
+fn run_whole<T: Table>(
+    alloc: Global,
+    file: &mut RecordFile<T>,
+    script: &str,
+) -> Result<(Vec<Call>, String), Fail> {
+    let calls = calls_of(alloc, script)?;
+    let answers = answers_to(alloc, file, &calls)?;
+    let lives = live_changes(alloc, file)?;
+    remaining_calls(alloc, &calls, &answers, &lives)
+}
+
+/// Runs the row's script over one file, and the calls that remain, of which there are so many, over a new one:
+/// what they answer is the same, and so are the records, their owners and the keys of each transaction.
+fn expect_alone<T: Table>(
+    rt: &impl Abort,
+    alloc: Global,
+    file: &mut RecordFile<T>,
+    alone: &mut RecordFile<T>,
+    row: &Row<'_>,
+    count: usize,
+) -> Result<(), Fail> {
+    let (remaining, wanted) = run_whole(alloc, file, row.script)?;
+    assert_eq!(rt; (row.name, remaining.len()), (row.name, count));
+    let text = text_of(alloc, &answers_to(alloc, alone, &remaining)?)?;
+    assert_eq!(rt; (row.name, text.as_str()), (row.name, wanted.as_str()));
+    let (one, other) = (seen(alloc, file)?, seen(alloc, alone)?);
+    assert_eq!(rt; (row.name, one.as_str()), (row.name, other.as_str()));
+    Ok(())
+}
+
+/// Does so over trees of order 1 with the row's limits.
+fn expect_over_trees(
+    rt: &impl Abort,
+    alloc: Global,
+    row: &Row<'_>,
+    count: usize,
+) -> Result<(), Fail> {
     let (records, log_records, begins) = row.limits;
     let limits = Limits::new(records, log_records, begins)?;
     let mut file = flaky_file(rt, alloc, tree(alloc, 1, limits)?, limits, row.failing)?;
-    let calls = calls_of(alloc, row.script)?;
-    let answers = run_calls(alloc, &mut file, &calls)?;
-    let lives = live_changes(alloc, &file)?;
-    let (remaining, wanted) = remaining_calls(alloc, &calls, &answers, &lives)?;
-    assert_eq!(rt; (row.name, remaining.len()), (row.name, count));
     let mut alone = flaky_file(rt, alloc, tree(alloc, 1, limits)?, limits, &[])?;
-    let answers = run_calls(alloc, &mut alone, &remaining)?;
-    assert_eq!(rt;
-        (row.name, text_of(alloc, &answers)?.as_str()),
-        (row.name, wanted.as_str())
-    );
-    let (one, other) = (seen(alloc, &mut file)?, seen(alloc, &mut alone)?);
-    assert_eq!(rt; (row.name, one.as_str()), (row.name, other.as_str()));
-    Ok(())
+    expect_alone(rt, alloc, &mut file, &mut alone, row, count)
 }
 
 #[test]
@@ -102,7 +121,7 @@ fn what_remains_stands_alone(rt: HostRuntime) -> Result<(), Fail> {
         (CHARGED_KEYS, 9),
         (STOPPED, 5),
     ] {
-        expect_alone(&rt, rt.alloc(), &row, count)?;
+        expect_over_trees(&rt, rt.alloc(), &row, count)?;
     }
     Ok(())
 }
