@@ -92,8 +92,8 @@ fn a_hundred_thousand_changes_go_back_from_savepoints(rt: HostRuntime) -> Result
     for number in 1..33 {
         change_from_savepoint(&mut session, number)?;
     }
-    for number in 1..33 {
-        writeln!(session.script, "back 1 {}", 33 - number)?;
+    for number in (1..33u32).rev() {
+        writeln!(session.script, "back 1 {number}")?;
         session.replies.push_str("ok 3125\n")?;
     }
     session.script.push_str("keys 1\nlist\nlog\n")?;
