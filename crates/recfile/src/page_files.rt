@@ -1,4 +1,4 @@
-ghost use Rattle.std.specs.Prelude.{◌≡◌, ◌≤◌, None, IsTrue, IfOk, IfSome, OnOk, MatchOption, if◌then◌else◌};
+ghost use Rattle.std.specs.Prelude.{◌≡◌, ◌≤◌, None, IsTrue, IfErr, IfOk, IfSome, OnOk, MatchOption, if◌then◌else◌};
 ghost use Rattle.std.specs.FinMap as maps;
 ghost use Rattle.rec_types.specs.Contents.{Contents};
 ghost use Rattle.rec_types.specs.Table.{counted, no_damage};
@@ -45,13 +45,19 @@ pub fn check_in<S: Store, W: Write>(
     store: S,
     limits: Limits,
     out: &mut W,
-) -> Result<(), FileFault>
-    ensures { IsTrue (S.steady store) → OnOk result ((tree : TreeValue) × (contents : Contents)
-        × IsClosed (S.pages store) (S.tail store) tree contents × (tree.count ≤ limits.records)) }
+) -> Result<(), OpenFault>
+    ensures closed { IsTrue (S.steady store) → OnOk result ((tree : TreeValue)
+        × (contents : Contents) × IsClosed (S.pages store) (S.tail store) tree contents
+        × (tree.count ≤ limits.records)) }
+    ensures first { IsTrue (S.steady store)
+        → IfErr result (IsFirst (S.pages store) (S.tail store) limits.records) }
+    ensures opens { IsTrue (S.steady store) → (tree : TreeValue) → (contents : Contents)
+        → IsClosed (S.pages store) (S.tail store) tree contents → tree.count ≤ limits.records
+        → IfErr result IsOutside }
 {
     let table = match TreeTable::open_from(alloc, store, limits) {
         Ok(table) => table,
-        Err(stop) => return Err(FileFault::from(stop.fault)),
+        Err(stop) => return Err(stop.fault),
     };
     let (order, height, records) = (table.order(), table.height(), table.count());
     let (pages, free) = (table.page_count(), table.free_count());

@@ -42,7 +42,7 @@ fn check<F: OpenFile + FileExt + Drop, H: Files<File = F>, W: Write>(
     out: &mut W,
 ) -> Result<(), FileFault> {
     let store = FileStore::open_path(rt, path)?;
-    check_in(alloc, store, greatest_limits(), out)
+    Ok(check_in(alloc, store, greatest_limits(), out)?)
 }
 
 // The status where only a file was asked for; its fault is named.

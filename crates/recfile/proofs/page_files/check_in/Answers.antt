@@ -2,8 +2,8 @@ use Rattle.std.proofs.Common.{◌≡◌, ◌≤◌, ℕ, refl, sym, subst}
 use Rattle.btree_insert.specs.Contents.{contents_of}
 use Rattle.recfile.proofs.page_files.check_in.Goals as goal
 
-pub returns : goal.returns
-returns g c steady =
+pub returns-clause-closed : goal.returns-clause-closed
+returns-clause-closed g c steady =
     let opened = c.in-Ok.ensures.found steady in (
       c.in-Ok.table.tree,
       contents_of opened.es,
