@@ -3,6 +3,8 @@ use Rattle.std.specs.Prelude.{◌≡◌, ℕ, ◌<◌, ◌≤◌, ◌⊎◌, ◌
 use Rattle.page_store.specs.Calls.{counted_times}
 use Rattle.page_store.specs.PageMap.{PageMap, at}
 use Rattle.page_store.specs.PagesView.{PagesView}
+use Rattle.page_store.specs.declared.edits.WriteFault.{WriteFault}
+use Rattle.page_store.specs.declared.edits.WriteFault.TheVariants.{Device as WriteFailed, Memory as NoGrowth}
 use Rattle.btree_node.specs.declared.headers.Header.{Header}
 use Rattle.btree_node.specs.declared.headers.HeaderFault.{HeaderFault}
 use Rattle.btree_node.specs.declared.headers.HeaderFault.TheVariants.{BadMagic as NoMagic, BadVersion as OtherVersion, BadOrder as NoOrder, NotClean as Unclean, BadHeader as NoHeader}
@@ -166,3 +168,7 @@ abbrev pub tree_fault : TreeFault → OpenFault
 tree_fault ReadFailed = Device
 tree_fault (NoTreePage page) = Damaged page
 tree_fault NoMemory = Memory
+
+abbrev pub is_close_device_fault : WriteFault → Bool
+is_close_device_fault WriteFailed = true
+is_close_device_fault NoGrowth = false

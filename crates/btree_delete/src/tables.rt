@@ -7,7 +7,7 @@ ghost use Rattle.page_store.specs.FreeNumbers.{free_numbers};
 ghost use Rattle.btree_node.specs.Lists.{Element};
 ghost use Rattle.btree_node.specs.declared.headers.Header.{Header as HeaderValue};
 ghost use Rattle.btree_insert.specs.declared.trees.Tree.{Tree as TreeValue};
-ghost use Rattle.btree_delete.specs.CleanFile.{IsCleanFile, IsFirst, Opens, IsOutside, is_device_fault};
+ghost use Rattle.btree_delete.specs.CleanFile.{IsCleanFile, IsFirst, Opens, IsOutside, is_device_fault, is_close_device_fault};
 ghost use Rattle.btree_delete.specs.TableView.{TableView, HoldsTree, IsClosed, table_contents};
 ghost use Rattle.btree_delete.specs.Created.{IsEmpty, IsCreated, IsCreateFault, is_create_device, is_create_device_fault};
 
@@ -221,6 +221,10 @@ impl<S: Store> TreeTable<S> {
             × (S.reads store ≡ self.pages.reads) × (S.writes store ≡ self.pages.writes)
             × (S.failures store ≡ self.pages.failures)) }
         ensures idle_ok { self.pages.changed ≡ false → IsOk result }
+        ensures reads { IfOk result (λ store. S.reads store ≡ self.pages.reads) }
+        ensures failures { IfOk result (λ store. S.failures store ≡ self.pages.failures) }
+        ensures device { IfErr result (λ stop. stop.table.pages.failures
+            ≡ counted self.pages.failures (is_close_device_fault stop.fault)) }
         ensures table { IfErr result (λ stop. stop.table ≡ record self {
           pages = record self.pages {
             stored = stop.table.pages.stored;
@@ -248,16 +252,16 @@ impl<S: Store> TreeTable<S> {
         };
         match pages.write_back(&write_header(&header, false), &write_header(&header, true)) {
             Ok(()) => Ok(pages.into_store()),
-            Err(fault) => Err(CloseStop {
-                table: TreeTable {
+            Err(fault) => {
+                let table = TreeTable {
                     pages,
                     tree,
                     limit,
                     faults,
                     alloc,
-                },
-                fault,
-            }),
+                };
+                Err(CloseStop { table, fault })
+            }
         }
     }
 
