@@ -3,3 +3,4 @@ pub mod WholeSession
 pub mod Run
 pub mod Ending
 pub mod Examples
+pub mod FileFaults

@@ -32,6 +32,11 @@ pub enum FileFault {
 }
 
 impl From<CreateFault> for FileFault {
+    ghost use Rattle.std.specs.Prelude.{◌≡◌};
+    ghost use Rattle.recfile.specs.FileFaults.{fault_of_making};
+
+    ghost from_gives = { λ fault named. named ≡ fault_of_making fault };
+
     fn from(fault: CreateFault) -> FileFault {
         match fault {
             CreateFault::BadOrder => FileFault::BadOrder,
@@ -42,6 +47,11 @@ impl From<CreateFault> for FileFault {
 }
 
 impl From<OpenFault> for FileFault {
+    ghost use Rattle.std.specs.Prelude.{◌≡◌};
+    ghost use Rattle.recfile.specs.FileFaults.{fault_of_opening};
+
+    ghost from_gives = { λ fault named. named ≡ fault_of_opening fault };
+
     fn from(fault: OpenFault) -> FileFault {
         match fault {
             OpenFault::Device => FileFault::Device,
@@ -60,6 +70,11 @@ impl From<OpenFault> for FileFault {
 }
 
 impl From<WriteFault> for FileFault {
+    ghost use Rattle.std.specs.Prelude.{◌≡◌};
+    ghost use Rattle.recfile.specs.FileFaults.{fault_of_closing};
+
+    ghost from_gives = { λ fault named. named ≡ fault_of_closing fault };
+
     fn from(fault: WriteFault) -> FileFault {
         match fault {
             WriteFault::Device => FileFault::Device,

@@ -5,6 +5,7 @@ ghost use Rattle.rec_types.specs.Table.{counted, no_damage};
 ghost use Rattle.btree_insert.specs.declared.trees.Tree.{Tree as TreeValue};
 ghost use Rattle.btree_delete.specs.CleanFile.{IsFirst, IsOutside, is_device_fault};
 ghost use Rattle.btree_delete.specs.TableView.{IsClosed, table_contents};
+ghost use Rattle.recfile.specs.FileFaults.{IsMakingFault};
 ghost use Rattle.recfile.specs.WholeSession.{EndsFile, opened_file};
 
 use crate::file_faults::FileFault;
@@ -25,16 +26,17 @@ pub fn create_in<S: Store>(
     order: u16,
     limits: Limits,
 ) -> Result<S, FileFault>
-    ensures { IsTrue (S.steady store) → IfOk result (λ s. (tree : TreeValue)
+    ensures made { IsTrue (S.steady store) → IfOk result (λ s. (tree : TreeValue)
         × (tree.order ≡ order) × IsClosed (S.pages s) (S.tail s) tree maps.empty) }
+    ensures fault { IfErr result (IsMakingFault (S.pages store) (S.tail store) order) }
 {
     let table = match TreeTable::create(alloc, store, order, limits) {
         Ok(table) => table,
-        Err(stop) => return Err(stop.fault.into()),
+        Err(stop) => return Err(FileFault::from(stop.fault)),
     };
     match table.close() {
         Ok(store) => Ok(store),
-        Err(stop) => Err(stop.fault.into()),
+        Err(stop) => Err(FileFault::from(stop.fault)),
     }
 }
 

@@ -17,6 +17,11 @@ const USAGE: u8 = 2;
 
 // A file that the system doesn't open or make.
 impl From<StoreFault> for FileFault {
+    ghost use Rattle.std.specs.Prelude.{◌≡◌};
+    ghost use Rattle.recfile.specs.declared.file_faults.FileFault.TheVariants.{Device};
+
+    ghost from_gives = { λ _ named. named ≡ Device };
+
     fn from(_: StoreFault) -> FileFault {
         FileFault::Device
     }

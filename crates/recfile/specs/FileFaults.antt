@@ -1,0 +1,42 @@
+-- The names of what goes wrong with a page file.
+use Rattle.std.specs.Prelude.{ℕ, List}
+use Rattle.page_store.specs.declared.edits.WriteFault.{WriteFault}
+use Rattle.page_store.specs.declared.edits.WriteFault.TheVariants as closing
+use Rattle.btree_delete.specs.Created.{IsEmpty, IsOrder}
+use Rattle.btree_delete.specs.declared.opening.OpenFault.{OpenFault}
+use Rattle.btree_delete.specs.declared.opening.OpenFault.TheVariants as opening
+use Rattle.btree_delete.specs.declared.tables.CreateFault.{CreateFault}
+use Rattle.btree_delete.specs.declared.tables.CreateFault.TheVariants as making
+use Rattle.recfile.specs.declared.file_faults.FileFault.{FileFault}
+use Rattle.recfile.specs.declared.file_faults.FileFault.TheVariants.{Device, NotEmpty, BadLength, BadMagic, BadVersion, BadOrder, NotClean, BadHeader, Damaged, WrongCount, TooManyRecords, Memory}
+
+abbrev pub fault_of_making : CreateFault → FileFault
+fault_of_making making.BadOrder = BadOrder
+fault_of_making making.Device = Device
+fault_of_making making.NotEmpty = NotEmpty
+
+abbrev pub fault_of_opening : OpenFault → FileFault
+fault_of_opening opening.Device = Device
+fault_of_opening opening.BadLength = BadLength
+fault_of_opening opening.BadMagic = BadMagic
+fault_of_opening (opening.BadVersion version) = BadVersion version
+fault_of_opening opening.BadOrder = BadOrder
+fault_of_opening opening.NotClean = NotClean
+fault_of_opening opening.BadHeader = BadHeader
+fault_of_opening (opening.Damaged page) = Damaged page
+fault_of_opening opening.WrongCount = WrongCount
+fault_of_opening opening.TooManyRecords = TooManyRecords
+fault_of_opening opening.Memory = Memory
+
+abbrev pub fault_of_closing : WriteFault → FileFault
+fault_of_closing closing.Device = Device
+fault_of_closing closing.Memory = Memory
+
+-- Why no page file was made: the first check that fails has that name. Device and Memory come from outside, Memory
+-- once the file is being written.
+abbrev pub IsMakingFault : List (List ℕ) → ℕ → ℕ → FileFault → Type 0
+IsMakingFault stored tail k BadOrder = IsOrder k → ⊥
+IsMakingFault stored tail k Device = IsOrder k
+IsMakingFault stored tail k NotEmpty = IsOrder k × (IsEmpty stored tail → ⊥)
+IsMakingFault stored tail k Memory = IsOrder k × IsEmpty stored tail
+IsMakingFault stored tail k other = ⊥
