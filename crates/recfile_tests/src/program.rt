@@ -127,6 +127,40 @@ fn two_sessions_over_a_file(rt: HostRuntime) -> Result<(), Fail> {
     Ok(())
 }
 
+// The session over a page file that the README shows.
+#[test]
+fn fruit_in_a_file(rt: HostRuntime) -> Result<(), Fail> {
+    let alloc = rt.alloc();
+    let _ = fs::remove_file(&rt, "fruit.rec");
+    let change = "begin\nbegin\nput 1 apple =red\nput 2 pear =yellow\ncommit 1\n";
+    let check = ["recfile", "check", "fruit.rec"];
+    for call in [
+        good(&["recfile", "create", "--order", "2", "fruit.rec"], "", ""),
+        good(&check, "", "order 2 height 0 records 0 pages 1 free 0\n"),
+        good(
+            &["recfile", "run", "fruit.rec"],
+            change,
+            "ok 1\nok 2\nok none\nok none\nok\n",
+        ),
+        good(
+            &["recfile", "run", "fruit.rec"],
+            "list\n",
+            "- apple =red\nok 1\n",
+        ),
+        good(&check, "", "order 2 height 1 records 1 pages 2 free 0\n"),
+    ] {
+        expect_call(&rt, alloc, &call)?;
+    }
+    let mut bytes = fs::read(&rt, "fruit.rec")?;
+    if let Some(byte) = bytes.get_mut(4096) {
+        *byte = b'X';
+    }
+    fs::write(&rt, "fruit.rec", &bytes)?;
+    expect_call(&rt, alloc, &bad(&check, "", "", "recfile: Damaged 1\n", 1))?;
+    fs::remove_file(&rt, "fruit.rec")?;
+    Ok(())
+}
+
 #[test]
 fn words_that_ask_for_nothing(rt: HostRuntime) -> Result<(), Fail> {
     for call in [
