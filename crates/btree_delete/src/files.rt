@@ -49,7 +49,8 @@ fn measure_file<S: Store>(
     requires some_order { 1 ≤ header.now.order }
     requires most_order { header.now.order ≤ 16 }
     requires idle { pages.old.changed ≡ false }
-    ensures found { IsTrue pages.old.steady → IfOk result (λ r. Measured header.now.order pages.old.pages
+    ensures found { IsTrue pages.old.steady → IfOk result
+        (λ r. Measured header.now.order pages.old.pages
         header.now.root r.0 (contains nat_cmp r.1) pages.old.reads pages.new.reads) }
     ensures count { IfOk result (λ r. (r.0.count ≡ header.now.count) × (header.now.count ≤ limit)) }
     ensures exact { IsTrue pages.old.steady → (tree : TreeValue) (es : List Element) (us : List ℕ)
@@ -114,7 +115,8 @@ pub(crate) fn open_file<S: Store>(
 ) -> Result<(Pages<S>, Tree), OpenStop<S>>
     ensures found { IsTrue (S.steady store) → IfOk result
         (λ r. Opens (S.pages store) (S.tail store) limits.records (S.reads store) r.0 r.1) }
-    ensures exact { IsTrue (S.steady store) → (h : HeaderValue) (tree : TreeValue) (es : List Element)
+    ensures exact { IsTrue (S.steady store)
+        → (h : HeaderValue) (tree : TreeValue) (es : List Element)
         → (us : List ℕ) → IsCleanFile (S.pages store) (S.tail store) h tree es us
         → h.count ≤ limits.records
         → MatchResult result (λ r. r.1 ≡ tree) (λ stop. IsOutside stop.fault) }

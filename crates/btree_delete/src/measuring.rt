@@ -32,7 +32,8 @@ pub(crate) fn measure_tree<S: Store>(
     requires some_order { 1 ≤ order }
     requires most_order { order ≤ 16 }
     requires idle { pages.old.changed ≡ false }
-    ensures found { IsTrue pages.old.steady → IfOk result (λ r. Measured order pages.old.pages root r.0
+    ensures found { IsTrue pages.old.steady → IfOk result
+        (λ r. Measured order pages.old.pages root r.0
         (contains nat_cmp r.1) pages.old.reads pages.new.reads) }
     ensures exact { IsTrue pages.old.steady → (tree : TreeOf) (es : List Element) (us : List ℕ)
         → tree.order ≡ order → tree.root ≡ root → Holds (at pages.old.pages) tree es us
@@ -86,7 +87,8 @@ fn survey_root<S: Store>(
         (at pages.old.pages) (length pages.old.pages) root new pages.old.reads pages.new.reads) }
     ensures exact { IsTrue pages.old.steady → (height : ℕ) (es : List Element) (us : List ℕ)
         → IsRooted order (at pages.old.pages) root height es us
-        → MatchResult result (λ new. new ≡ seen_of (length pages.old.pages) height es us) IsOutside }
+        → MatchResult result (λ new. new ≡ seen_of (length pages.old.pages) height es us)
+        IsOutside }
     ensures long { IfOk result (λ new. length new.reached ≡ length pages.old.pages) }
     ensures some { 1 ≤ length pages.old.pages }
     ensures most { length pages.old.pages ≤ 1000001 }

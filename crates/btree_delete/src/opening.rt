@@ -43,7 +43,8 @@ pub(crate) fn check_length<S: Store>(store: &mut S) -> Result<u32, OpenFault>
     ensures ok { IfOk result (λ pages. HasLength (S.pages store.old) (S.tail store.old)
         × (pages ≡ length (S.pages store.old))) }
     ensures fault { IfErr result (λ fault. (fault ≡ OpenFault.Device)
-        ⊎ ((fault ≡ OpenFault.BadLength) × (HasLength (S.pages store.old) (S.tail store.old) → ⊥))) }
+        ⊎ ((fault ≡ OpenFault.BadLength)
+        × (HasLength (S.pages store.old) (S.tail store.old) → ⊥))) }
     ensures pages { S.pages store.new ≡ S.pages store.old }
     ensures tail { S.tail store.new ≡ S.tail store.old }
     ensures steady { S.steady store.new ≡ S.steady store.old }
@@ -78,7 +79,8 @@ fn header_fault(fault: HeaderFault) -> OpenFault
 pub(crate) fn check_header<S: Store>(store: &mut S, pages: u32) -> Result<Header, OpenFault>
     requires long { HasLength (S.pages store.old) (S.tail store.old) }
     requires count { pages ≡ length (S.pages store.old) }
-    ensures found { IsTrue (S.steady store.old) → IfOk result (λ h. HasHeader (S.pages store.old) h) }
+    ensures found { IsTrue (S.steady store.old)
+        → IfOk result (λ h. HasHeader (S.pages store.old) h) }
     ensures agrees { IfOk result (λ h. Agrees (S.pages store.old) h) }
     ensures order { IfOk result (λ h. (1 ≤ h.order) × (h.order ≤ 16)) }
     ensures only { IsTrue (S.steady store.old) → (h : HeaderValue)

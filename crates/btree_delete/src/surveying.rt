@@ -71,7 +71,11 @@ impl Survey {
             → ((self.old.leaf ≡ None) ⊎ (self.old.leaf ≡ Some level)) → ⊥ }
         ensures long { length self.new.reached ≡ length self.old.reached }
         ensures added { result ≡ true → self.new
-            ≡ record { reached = self.old.reached; leaf = Some level; keys = self.old.keys + keys } }
+            ≡ record {
+              reached = self.old.reached;
+              leaf = Some level;
+              keys = self.old.keys + keys;
+            } }
     {
         if let Some(first) = self.leaf
             && first != level
@@ -175,7 +179,8 @@ pub(crate) fn survey_page<S: Store>(
         (Surveyed (below_page order (at pages.old.pages) least n) left bounds.now
         survey.old survey.new pages.old.reads pages.new.reads) }
     ensures exact { IsTrue pages.old.steady → (h level : ℕ) (es : List Element) (us : List ℕ)
-        → Sound (below_page order (at pages.old.pages) least n) left bounds.now survey.old h level es us
+        → Sound (below_page order (at pages.old.pages) least n)
+        left bounds.now survey.old h level es us
         → MatchResult result (λ _. survey.new ≡ after level es us survey.old)
         (λ fault. fault ≡ TreeFault.Device) }
     ensures no_memory { IfErr result (λ fault. fault ≢ TreeFault.Memory) }
@@ -238,7 +243,8 @@ fn survey_sons<S: Store>(
         (Surveyed (below_sons order (at pages.old.pages) sons.now elements.now) left bounds.now
         survey.old survey.new pages.old.reads pages.new.reads) }
     ensures exact { IsTrue pages.old.steady → (h level : ℕ) (es : List Element) (us : List ℕ)
-        → Sound (below_sons order (at pages.old.pages) sons.now elements.now) left bounds.now survey.old h level es us
+        → Sound (below_sons order (at pages.old.pages) sons.now elements.now)
+        left bounds.now survey.old h level es us
         → MatchResult result (λ _. survey.new ≡ after level es us survey.old)
         (λ fault. fault ≡ TreeFault.Device) }
     ensures no_memory { IfErr result (λ fault. fault ≢ TreeFault.Memory) }

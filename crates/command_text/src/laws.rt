@@ -52,8 +52,10 @@ pub fn keys_of_words()
 
 /// What is written of bytes is read as the same bytes, and needs no escape itself: no space, no line's end.
 pub fn escapes()
-    ensures read_back { (bytes : List ℕ) → All (λ b. b < 256) bytes → percent_decode (escaped bytes) ≡ bytes }
-    ensures plain { (bytes : List ℕ) → All (λ b. b < 256) bytes → list_all is_plain (escaped bytes) ≡ true }
+    ensures read_back { (bytes : List ℕ) → All (λ b. b < 256) bytes
+        → percent_decode (escaped bytes) ≡ bytes }
+    ensures plain { (bytes : List ℕ) → All (λ b. b < 256) bytes
+        → list_all is_plain (escaped bytes) ≡ true }
     ensures upper_case { escaped (codes "%a" ++ 195 ∷ 32 ∷ []) ≡ codes "%25a%C3%20" }
     ensures lower_case { escaped (195 ∷ []) ≢ codes "%c3" }
 {}
@@ -62,7 +64,8 @@ pub fn escapes()
 pub fn replies_by_example()
     ensures begun { text_of (reply.Begin (Ok (tx 12))) ≡ codes "ok 12" ++ 10 ∷ [] }
     ensures none { text_of (reply.Get (Ok None)) ≡ codes "ok none" ++ 10 ∷ [] }
-    ensures held { text_of (reply.Put (Err (put_faults.Held (tx 3)))) ≡ codes "no Held 3" ++ 10 ∷ [] }
+    ensures held { text_of (reply.Put (Err (put_faults.Held (tx 3))))
+        ≡ codes "no Held 3" ++ 10 ∷ [] }
     ensures stopped { text_of (reply.Back (Err (rollback_faults.Stopped 1 20 (causes.Damaged 5))))
         ≡ codes "stopped 1 20 Damaged 5" ++ 10 ∷ [] }
     ensures list { text_of (reply.List (Ok (free ∷ owned ∷ [])))

@@ -76,7 +76,8 @@ fn keys(rest: &[u8]) -> Result<Option<Command>, LineFault>
 #[inline(never)]
 fn put(rest: &[u8]) -> Result<Option<Command>, LineFault>
     ensures { result
-        ≡ read_as Some (read_as (λ a. commands.Put a.0 a.1 a.2) (tx_key_record_of (words_of rest.now))) }
+        ≡ read_as Some (read_as (λ a. commands.Put a.0 a.1 a.2)
+        (tx_key_record_of (words_of rest.now))) }
 {
     let (first, second, third) = three_words(rest)?;
     let tx = tx_at(first)?;
@@ -105,7 +106,8 @@ fn get(rest: &[u8]) -> Result<Option<Command>, LineFault>
 #[inline(never)]
 fn release(rest: &[u8]) -> Result<Option<Command>, LineFault>
     ensures { result
-        ≡ read_as Some (read_as (λ a. commands.Release a.0 a.1) (tx_number_of (words_of rest.now))) }
+        ≡ read_as Some (read_as (λ a. commands.Release a.0 a.1)
+        (tx_number_of (words_of rest.now))) }
 {
     let (tx, n) = tx_number(rest)?;
     Ok(Some(Command::Release(tx, n)))

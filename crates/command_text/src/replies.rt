@@ -157,7 +157,8 @@ fn push_lines_of_entries(text: &mut String, entries: &[Entry]) -> Result<(), All
 }
 
 fn push_entries(text: &mut String, entries: &EntryList) -> Result<(), AllocError>
-    ensures { OnOk result (string_bytes text.new ≡ string_bytes text.old ++ entries_text entries.now) }
+    ensures { OnOk result
+        (string_bytes text.new ≡ string_bytes text.old ++ entries_text entries.now) }
 {
     let entries = entries.as_slice();
     push_lines_of_entries(text, entries)?;

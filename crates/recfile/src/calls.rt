@@ -19,7 +19,8 @@ fn list<T: Table>(file: &mut RecordFile<T>) -> Reply
 
 // The keys that a transaction owns.
 fn keys<T: Table>(file: &mut RecordFile<T>, tx: TxId) -> Reply
-    ensures { HasReply (seen T.Table file.old) (Ok (commands.Keys tx)) result (seen T.Table file.new) }
+    ensures { HasReply (seen T.Table file.old) (Ok (commands.Keys tx)) result
+        (seen T.Table file.new) }
 {
     match file.keys_of(tx) {
         Ok(keys) => Reply::Keys(Ok(KeyList::new(keys))),

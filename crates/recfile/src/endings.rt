@@ -137,7 +137,8 @@ pub fn end_all<T: Table>(file: &mut RecordFile<T>) -> Result<u32, EndFault>
     ensures stopped { IfErr result (λ fault. StopsEnding file.old.file fault file.new.file) }
     ensures asks { Asks (seen T.Table file.old) (end_cause result) (seen T.Table file.new) }
     ensures records { IsTrue (T.sound file.old.table) → AbortsWhole file.old.file.txs
-        → OnOk result (T.contents file.new.table ≡ replay file.old.file.opening (rest_of (open_of file.old.file) file.old.file.history)) }
+        → OnOk result (T.contents file.new.table ≡ replay file.old.file.opening
+        (rest_of (open_of file.old.file) file.old.file.history)) }
 {
     let mut ended = 0;
     for number in 0..file.begun() {

@@ -5,7 +5,11 @@ use rec_types::{Limits, MOST_BEGINS, MOST_LOG_RECORDS, MOST_RECORDS};
 
 /// The greatest limits.
 pub fn greatest_limits() -> Limits
-    ensures { result ≡ record { records = most_records; log_records = most_log_records; begins = most_begins } }
+    ensures { result ≡ record {
+      records = most_records;
+      log_records = most_log_records;
+      begins = most_begins;
+    } }
 {
     let Ok(limits) = Limits::new(MOST_RECORDS, MOST_LOG_RECORDS, MOST_BEGINS) else {
         unreachable!()

@@ -40,7 +40,8 @@ impl<L: Ledger> Reads<L> {
     pub fn read<R: Read>(&mut self, reader: &mut R, to: &mut [u8]) -> io::Result<usize>
         ensures count { self.new ≡ self.old + 1 }
         ensures bound { ReadsAtMost result to.new }
-        ensures bytes { ReadConsumes (R.remaining reader.old) (R.remaining reader.new) result to.new }
+        ensures bytes { ReadConsumes (R.remaining reader.old) (R.remaining reader.new)
+            result to.new }
     {
         self.book.add(&mut self.share, 1);
         reader.read(to)

@@ -44,7 +44,8 @@ fn read_script<L: Ledger, R: Read>(
     reader: &mut R,
     reads: &mut Reads<L>,
 ) -> Result<Vec<u8>, ScriptFault>
-    ensures whole { IfOk result (λ script. IsWhole (R.remaining reader.old) (R.remaining reader.new) script.items) }
+    ensures whole { IfOk result (λ script. IsWhole (R.remaining reader.old)
+        (R.remaining reader.new) script.items) }
     ensures stops { IfErr result (ReadStops (R.remaining reader.old) (R.remaining reader.new)) }
     ensures reads { reads.new ≤ reads.old + 1048578 }
 {
@@ -141,7 +142,8 @@ fn run_lines<T: Table, W: Write>(
     requires { length script.now ≤ 1048576 }
     ensures finished { IfOk result (λ done. (replies : List Reply)
         × Session (seen T.Table file.old) (entries_of script.now) replies (seen T.Table file.new)
-        × Appends (W.contents writer.old) (W.contents writer.new) (flat_map text_of replies) × (done ≡ commands (entries_of script.now))) }
+        × Appends (W.contents writer.old) (W.contents writer.new) (flat_map text_of replies)
+        × (done ≡ commands (entries_of script.now))) }
     ensures stops { IfErr result (StopsAt (W.contents writer.old) (W.contents writer.new)
         (seen T.Table file.old) (seen T.Table file.new) script.now) }
 {

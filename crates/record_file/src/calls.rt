@@ -98,7 +98,8 @@ pub fn make_call<T: Table>(file: &mut RecordFile<T>, call: Call) -> Answer
 
 // What stays true of a file.
 fn exact<T: Table>(file: &RecordFile<T>)
-    ensures { IsExact (T.sound file.now.table) (T.contents file.now.table) file.now.file file.now.log }
+    ensures { IsExact (T.sound file.now.table) (T.contents file.now.table)
+        file.now.file file.now.log }
 {
     let _begun = file.begun();
 }

@@ -521,7 +521,8 @@ impl<T: Table> RecordFile<T> {
         requires within { n ≤ depth_of (tx_of self.old.file tx.0) }
         requires whole { IsTrue ends → n ≡ 0 }
         ensures file { self.new.file ≡ record self.old.file {
-          txs = maps.insert self.old.file.txs tx.0 (rolling_to (places_at self.old.file tx.0) n ends);
+          txs = maps.insert self.old.file.txs tx.0
+              (rolling_to (places_at self.old.file tx.0) n ends);
         } }
         ensures table { self.new.table ≡ self.old.table }
         ensures log { self.new.log ≡ self.old.log }

@@ -111,7 +111,8 @@ pub fn free_keys(holdings: &mut Holdings, log: &[LogRecord], marks: &[Mark], fro
     requires marked { AreMarked (reverse log.now) (reverse marks.now) }
     requires within { from ≤ length log.now }
     ensures { (q : List ℕ) → held holdings.new q
-        ≡ (if list_any (is_at q) (chain (reverse log.now) from) then None else held holdings.old q) }
+        ≡ (if list_any (is_at q) (chain (reverse log.now) from) then None
+        else held holdings.old q) }
 {
     let mut at = from;
     while let Some(change) = newest_change(log, marks, at) {
@@ -122,7 +123,8 @@ pub fn free_keys(holdings: &mut Holdings, log: &[LogRecord], marks: &[Mark], fro
 
 /// Forgets the key where no change is live there.
 fn drop_idle(holdings: &mut Holdings, key: &Key)
-    ensures { Places (held holdings.old) (held holdings.new) key.now (busy (held holdings.old key.now)) }
+    ensures { Places (held holdings.old) (held holdings.new) key.now
+        (busy (held holdings.old key.now)) }
 {
     let idle = match holdings.get_full(key) {
         Some((at, _, holding)) => { if holding.live == 0 { Some(at) } else { None } }
