@@ -111,23 +111,31 @@ tx_key_record_of words =
 abbrev pub is_text : List ℕ → List ℕ → Bool
 is_text a b = pointwise ◌==◌ a b
 
--- the command of a name and the words after it
-unfoldable pub command_of : List ℕ → List (List ℕ) → Read Command
-command_of name words =
+-- A command on the whole file, on a transaction, or on a key, by its name and the words after it.
+unfoldable pub file_command_of : List ℕ → List (List ℕ) → Read Command
+file_command_of name words =
+    if is_text name (codes "list") then alone words command.List
+    else (if is_text name (codes "keys") then read_as command.Keys (tx_of words)
+    else (if is_text name (codes "log") then alone words command.Log
+    else Err UnknownCommand))
+
+unfoldable pub tx_command_of : List ℕ → List (List ℕ) → Read Command
+tx_command_of name words =
     if is_text name (codes "begin") then alone words command.Begin
-    else (if is_text name (codes "put") then read_as (λ a. command.Put a.0 a.1 a.2) (tx_key_record_of words)
-    else (if is_text name (codes "del") then read_as (λ a. command.Del a.0 a.1) (tx_key_of words)
-    else (if is_text name (codes "get") then read_as (λ a. command.Get a.0 a.1) (tx_key_of words)
     else (if is_text name (codes "save") then read_as command.Save (tx_of words)
     else (if is_text name (codes "release") then read_as (λ a. command.Release a.0 a.1) (tx_number_of words)
     else (if is_text name (codes "back") then read_as (λ a. command.Back a.0 a.1) (tx_number_of words)
     else (if is_text name (codes "resume") then read_as command.Resume (tx_of words)
     else (if is_text name (codes "abort") then read_as command.Abort (tx_of words)
     else (if is_text name (codes "commit") then read_as command.Commit (tx_of words)
-    else (if is_text name (codes "list") then alone words command.List
-    else (if is_text name (codes "keys") then read_as command.Keys (tx_of words)
-    else (if is_text name (codes "log") then alone words command.Log
-    else Err UnknownCommand))))))))))))
+    else file_command_of name words))))))
+
+unfoldable pub command_of : List ℕ → List (List ℕ) → Read Command
+command_of name words =
+    if is_text name (codes "put") then read_as (λ a. command.Put a.0 a.1 a.2) (tx_key_record_of words)
+    else (if is_text name (codes "del") then read_as (λ a. command.Del a.0 a.1) (tx_key_of words)
+    else (if is_text name (codes "get") then read_as (λ a. command.Get a.0 a.1) (tx_key_of words)
+    else tx_command_of name words))
 
 abbrev pub begins_with_hash : List ℕ → Bool
 begins_with_hash [] = false

@@ -1,5 +1,5 @@
 ghost use Rattle.std.specs.Prelude.{◌≡◌, Some};
-ghost use Rattle.command_text.specs.Grammar.{words_of, tx_of, tx_number_of, tx_key_of, tx_key_record_of, command_of, line_of, read_as};
+ghost use Rattle.command_text.specs.Grammar.{words_of, tx_of, tx_number_of, tx_key_of, tx_key_record_of, file_command_of, tx_command_of, command_of, line_of, read_as};
 ghost use Rattle.command_text.specs.declared.commands.Command.TheVariants as commands;
 
 use crate::arguments::{key_at, number_at, record_at, tx_at};
@@ -122,19 +122,31 @@ fn back(rest: &[u8]) -> Result<Option<Command>, LineFault>
     Ok(Some(Command::Back(tx, n)))
 }
 
-// The command of a name and the words after it.
-#[tactic(auto, unfolding(crate::specs::Grammar::command_of))]
-fn command(name: &[u8], rest: &[u8]) -> Result<Option<Command>, LineFault>
-    ensures { result ≡ read_as Some (command_of name.now (words_of rest.now)) }
+// A command on the whole file, by its name and the words after it. Fault: UnknownCommand, then those of the arguments.
+#[inline(never)]
+#[tactic(auto, unfolding(crate::specs::Grammar::file_command_of))]
+fn file_command(name: &[u8], rest: &[u8]) -> Result<Option<Command>, LineFault>
+    ensures { result ≡ read_as Some (file_command_of name.now (words_of rest.now)) }
+{
+    if name == b"list".as_slice() {
+        alone(rest, Command::List)
+    } else if name == b"keys".as_slice() {
+        keys(rest)
+    } else if name == b"log".as_slice() {
+        alone(rest, Command::Log)
+    } else {
+        Err(LineFault::UnknownCommand)
+    }
+}
+
+// A command on a transaction, or one on the whole file.
+#[inline(never)]
+#[tactic(auto, unfolding(crate::specs::Grammar::tx_command_of))]
+fn tx_command(name: &[u8], rest: &[u8]) -> Result<Option<Command>, LineFault>
+    ensures { result ≡ read_as Some (tx_command_of name.now (words_of rest.now)) }
 {
     if name == b"begin".as_slice() {
         alone(rest, Command::Begin)
-    } else if name == b"put".as_slice() {
-        put(rest)
-    } else if name == b"del".as_slice() {
-        del(rest)
-    } else if name == b"get".as_slice() {
-        get(rest)
     } else if name == b"save".as_slice() {
         save(rest)
     } else if name == b"release".as_slice() {
@@ -147,14 +159,24 @@ fn command(name: &[u8], rest: &[u8]) -> Result<Option<Command>, LineFault>
         abort(rest)
     } else if name == b"commit".as_slice() {
         commit(rest)
-    } else if name == b"list".as_slice() {
-        alone(rest, Command::List)
-    } else if name == b"keys".as_slice() {
-        keys(rest)
-    } else if name == b"log".as_slice() {
-        alone(rest, Command::Log)
     } else {
-        Err(LineFault::UnknownCommand)
+        file_command(name, rest)
+    }
+}
+
+// The command of a name and the words after it: those on a key first, which are most lines of a script.
+#[tactic(auto, unfolding(crate::specs::Grammar::command_of))]
+fn command(name: &[u8], rest: &[u8]) -> Result<Option<Command>, LineFault>
+    ensures { result ≡ read_as Some (command_of name.now (words_of rest.now)) }
+{
+    if name == b"put".as_slice() {
+        put(rest)
+    } else if name == b"del".as_slice() {
+        del(rest)
+    } else if name == b"get".as_slice() {
+        get(rest)
+    } else {
+        tx_command(name, rest)
     }
 }
 

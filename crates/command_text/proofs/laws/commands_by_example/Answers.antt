@@ -1,10 +1,10 @@
 use Rattle.std.proofs.Common.{refl}
 use Rattle.percent_encoding.specs.Percent.{percent_decode}
-use Rattle.command_text.specs.Grammar.{line_of, command_of, value_of}
+use Rattle.command_text.specs.Grammar.{line_of, command_of, tx_command_of, file_command_of, value_of}
 use Rattle.command_text.proofs.laws.commands_by_example.Goals as goal
 
 pub returns : goal.returns
-unfolding line_of command_of value_of percent_decode
+unfolding line_of command_of tx_command_of file_command_of value_of percent_decode
 returns c = record {
   put = refl;
   escapes = refl;
