@@ -3,6 +3,7 @@ pub mod Fields
 pub mod HistoryFacts
 pub mod KeptFacts
 pub mod MapFacts
+pub mod NumberOrder
 pub mod Padding
 pub mod Sizes
 pub mod UseFacts

@@ -1,6 +1,8 @@
-ghost use Rattle.std.specs.Prelude.{◌≡◌, ◌<◌, ◌≤◌, length, Result, Ok, Err};
+ghost use Rattle.std.specs.Prelude.{◌≡◌, ℕ, ◌<◌, ◌≤◌, length, slice_index, Result, Ok, Err};
+ghost use Rattle.byteorder.specs.Endian.{big_number};
 ghost use Rattle.rec_types.specs.Key.{key_of};
 
+use byteorder::{BigEndian, ByteOrder};
 use std::cmp::Ordering;
 use std::hash::{Hash, Hasher};
 use std::marker::Model;
@@ -95,7 +97,7 @@ impl PartialEq for Key {
     ghost laws = { Prim.search (comparing, rules) };
 
     fn eq(&self, other: &Key) -> bool {
-        self.bytes() == other.bytes()
+        self.cmp(other).is_eq()
     }
 }
 
@@ -121,8 +123,18 @@ impl Ord for Key {
     ghost matches_eq = { Prim.search (comparing, rules) };
 
     fn cmp(&self, other: &Key) -> Ordering {
-        self.bytes().cmp(other.bytes())
+        number_of(&self.bytes)
+            .cmp(&number_of(&other.bytes))
+            .then(self.len.cmp(&other.len))
     }
+}
+
+/// The padded bytes of a key as one number, so that a comparison of keys is one of numbers.
+fn number_of(bytes: &[u8; 16]) -> u128
+    ensures value { result ≡ big_number 16 bytes.now }
+    ensures bytes { (i : ℕ) → slice_index bytes.now i < 256 }
+{
+    BigEndian::read_u128(bytes)
 }
 
 impl PartialOrd for Key {
