@@ -7,3 +7,4 @@ pub mod NumberOrder
 pub mod Padding
 pub mod Sizes
 pub mod UseFacts
+pub mod ZeroFacts

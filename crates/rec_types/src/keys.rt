@@ -1,8 +1,8 @@
-ghost use Rattle.std.specs.Prelude.{◌≡◌, ℕ, ◌<◌, ◌≤◌, length, slice_index, Result, Ok, Err};
-ghost use Rattle.byteorder.specs.Endian.{big_number};
+ghost use Rattle.std.specs.Prelude.{◌≡◌, ◌<◌, ◌≤◌, ◌↔◌, length, take, Result, Ok, Err, IfSome, IsSome};
 ghost use Rattle.rec_types.specs.Key.{key_of};
+ghost use Rattle.rec_types.specs.Padded.{IsZeroFrom};
 
-use byteorder::{BigEndian, ByteOrder};
+use crate::numbers::{is_zero_from, number_of};
 use std::cmp::Ordering;
 use std::hash::{Hash, Hasher};
 use std::marker::Model;
@@ -60,6 +60,18 @@ impl Key {
             bytes: padded,
             len: bytes.len() as u8,
         })
+    }
+
+    /// The key in the first `len` bytes of a field of the greatest length. None where no key has that
+    /// length, or a byte behind it isn't zero.
+    pub fn in_field(field: &[u8; 16], len: u8) -> Option<Key>
+        ensures value { IfSome result (λ bytes. bytes ≡ take len field.now) }
+        ensures some { IsSome result ↔ ((0 < len) × (len ≤ 16) × IsZeroFrom len field.now) }
+    {
+        if len == 0 || len > 16 || !is_zero_from(field, len) {
+            return None;
+        }
+        Some(Key { bytes: *field, len })
     }
 
     /// The bytes of the key.
@@ -127,14 +139,6 @@ impl Ord for Key {
             .cmp(&number_of(&other.bytes))
             .then(self.len.cmp(&other.len))
     }
-}
-
-/// The padded bytes of a key as one number, so that a comparison of keys is one of numbers.
-fn number_of(bytes: &[u8; 16]) -> u128
-    ensures value { result ≡ big_number 16 bytes.now }
-    ensures bytes { (i : ℕ) → slice_index bytes.now i < 256 }
-{
-    BigEndian::read_u128(bytes)
 }
 
 impl PartialOrd for Key {

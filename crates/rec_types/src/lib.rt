@@ -5,6 +5,7 @@ mod flaky;
 mod keys;
 mod limiting;
 mod memory;
+mod numbers;
 mod records;
 mod sorting;
 mod tables;

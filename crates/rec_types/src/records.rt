@@ -1,6 +1,8 @@
-ghost use Rattle.std.specs.Prelude.{◌≡◌, ◌≤◌, length};
+ghost use Rattle.std.specs.Prelude.{◌≡◌, ◌≤◌, ◌↔◌, length, take, IfSome, IsSome};
+ghost use Rattle.rec_types.specs.Padded.{IsZeroFrom};
 ghost use Rattle.rec_types.specs.Record.{record_of};
 
+use crate::numbers::is_zero_behind;
 use std::marker::Model;
 use thiserror::Error;
 
@@ -51,6 +53,18 @@ impl Record {
             bytes: padded,
             len: bytes.len() as u8,
         })
+    }
+
+    /// The record in the first `len` bytes of a field of the greatest length. None where no record has
+    /// that length, or a byte behind it isn't zero.
+    pub fn in_field(field: &[u8; 32], len: u8) -> Option<Record>
+        ensures value { IfSome result (λ bytes. bytes ≡ take len field.now) }
+        ensures some { IsSome result ↔ ((len ≤ 32) × IsZeroFrom len field.now) }
+    {
+        if len > 32 || !is_zero_behind(field, len) {
+            return None;
+        }
+        Some(Record { bytes: *field, len })
     }
 
     /// The bytes of the record.
