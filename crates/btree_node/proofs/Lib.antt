@@ -1,3 +1,4 @@
+pub mod AcceptFacts
 pub mod BlockFacts
 pub mod CutFacts
 pub mod HeaderFacts

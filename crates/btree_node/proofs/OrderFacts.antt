@@ -1,5 +1,5 @@
 -- What holds of each element, and ascending keys.
-use Rattle.std.proofs.lemmas.List.{take_more, get_or_default}
+use Rattle.std.proofs.lemmas.List.{take_all, take_more, get_or_default}
 use Rattle.std.proofs.Common.{◌≡◌, ℕ, zero, suc, ◌+◌, ◌-◌, ◌<◌, ◌≤◌, List, [], ◌∷◌, ◌++◌, length, get_or, take, ap, sym, ◌∙◌, subst, arith}
 use Rattle.std.specs.Ordering.{nat_cmp, ordering_reverse}
 use Rattle.std.specs.declared.cmp.Ordering.TheVariants.{Greater}
@@ -75,6 +75,18 @@ Ascends-more xs (suc j) d e some low up above =
     let next : take (suc j + 1) xs ≡ (take j xs ++ x ∷ []) ++ y ∷ [] =
     take_more xs (suc j) e low ∙ ap (λ (front : List Element). front ++ y ∷ []) last in
     subst Ascends (sym next) (Ascends-push (take j xs) x y (subst Ascends last up) above)
+
+-- a first key, and one more above the last of a list of known length
+pub Ascends-first : (xs : List Element) (e : Element) → length xs ≡ 0 → Ascends (xs ++ e ∷ [])
+Ascends-first [] e none = (tt, tt)
+Ascends-first (x ∷ xs) e none = absurd (omega (arith, none))
+
+pub Ascends-last : (xs : List Element) (i : ℕ) (d e : Element) → 1 ≤ i → length xs ≡ i → Ascends xs → Below (get_or xs (i - 1) d).0 e.0 → Ascends (xs ++ e ∷ [])
+Ascends-last xs i d e some size up above =
+    let j = i - 1 in
+    let whole : length xs ≡ j + 1 = omega (arith, some, size) in
+    let last : xs ≡ take j xs ++ get_or xs j d ∷ [] = sym (take_all (j + 1) xs (omega (arith, whole))) ∙ take_more xs j d (omega (arith, whole)) in
+    subst (λ (ys : List Element). Ascends (ys ++ e ∷ [])) (sym last) (Ascends-push (take j xs) (get_or xs j d) e (subst Ascends last up) above)
 
 neighbours : (xs : List Element) (j : ℕ) (d e : Element) → Ascends xs → suc j < length xs → Below (get_or xs j d).0 (get_or xs (suc j) e).0
 neighbours [] j d e up low = absurd (omega arith)

@@ -75,7 +75,7 @@ head_is page bytes within some second last =
     ∙ ap (λ front. front ++ part 4 4 page) (two_bytes 2 page bytes (omega arith))
     ∙ ap (λ back. big_bytes 2 (count_at page) ++ back) (zero_part 4 4 page (omega arith) last)))
 
-length-sons : (kind : NodeKind) (layout : Layout) (k : ℕ) (page : List ℕ) (count : ℕ) → length (sons_of_kind kind layout k page count) ≤ count + 1
+pub length-sons : (kind : NodeKind) (layout : Layout) (k : ℕ) (page : List ℕ) (count : ℕ) → length (sons_of_kind kind layout k page count) ≤ count + 1
 unfolding sons_at
 length-sons Leaf layout k page count = omega arith
 length-sons Inner layout k page count = omega (arith, length-map-range_with_len (son_at layout k page) 0 (count + 1))

@@ -89,6 +89,14 @@ pub record PaddingIsZero (layout : Layout) (k : ℕ) (page : List ℕ) (count so
   pub places : IsZero (part (place_start layout count) (place_width layout * (2 * k - count)) page)
   pub rest : IsZero (drop (sons_start layout k + 4 * sons) page)
 
+-- a place of the first layout that passes all tests of its own: its lengths, and the zeros past its key and its record
+pub record IsGoodPlace (place : List ℕ) : Type 0 where
+  pub some : 0 < key_length place
+  pub most : key_length place ≤ key_width
+  pub fits : record_length place ≤ first_layout.record_width
+  pub behind_key : IsZero (part (1 + key_length place) (key_width - key_length place) place)
+  pub behind_record : IsZero (part (record_at + 1 + record_length place) (first_layout.record_width - record_length place) place)
+
 -- the page passes the test for a fault
 unfoldable pub Passes : Layout → ℕ → List ℕ → NodeFault → Type 0
 Passes layout k page Kind = IsSome (kind_at page)

@@ -1,4 +1,4 @@
-ghost use Rattle.std.specs.Prelude.{◌≡◌, ℕ, ◌+◌, ◌*◌, ◌^◌, ◌<◌, ◌≤◌, ◌↔◌, Ok, IfOk, IfErr, MatchResult, length, All, IsTrue};
+ghost use Rattle.std.specs.Prelude.{◌≡◌, ℕ, ◌+◌, ◌*◌, ◌^◌, ◌<◌, ◌≤◌, ◌↔◌, [], Ok, IfOk, IfErr, OnOk, IsOk, MatchResult, length, All, IsTrue};
 ghost use Rattle.btree_node.specs.Layout.{key_width, record_at, place_width, sons_start, widest_record};
 ghost use Rattle.btree_node.specs.Lists.{Below, Ascends};
 ghost use Rattle.btree_node.specs.Spelling.{spelling, spelling_in, CanStand, CanStandIn};
@@ -6,6 +6,7 @@ ghost use Rattle.btree_node.specs.Reading.{kind_at, count_at, place_at, element_
 ghost use Rattle.btree_node.specs.declared.nodes.Node.{Node};
 ghost use Rattle.btree_node.specs.declared.nodes.NodeFault.TheVariants.{NotZero};
 
+use crate::accepting::read_first;
 use crate::encoding::spell;
 use crate::layouts::{FIRST_LAYOUT, KEY_WIDTH, Layout, RECORD_AT, SON_WIDTH};
 use crate::nodes::{Node, NodeFault, NodeKind};
@@ -27,7 +28,36 @@ pub fn decode(page: &[u8; 4096], k: u16) -> Result<Node, NodeFault>
     // Which fault it is.
     ensures fault { IfErr result (λ e. FirstFault page.now k e) }
 {
-    decode_in(FIRST_LAYOUT, page, k)
+    let mut node = Node {
+        kind: NodeKind::Leaf,
+        elements: ArrayVec::new(),
+        sons: ArrayVec::new(),
+    };
+    match decode_into(page, k, &mut node) {
+        Ok(()) => Ok(node),
+        Err(fault) => Err(fault),
+    }
+}
+
+/// The same as `decode`, into a node that there is: nothing as large as a node is made or moved. After
+/// a fault the node may be any.
+pub fn decode_into(page: &[u8; 4096], k: u16, node: &mut Node) -> Result<(), NodeFault>
+    requires { k ≤ 16 }
+    ensures found { OnOk result (CanStand node.new k × (page.now ≡ spelling node.new k)) }
+    ensures only { (n : Node) → CanStand n k → page.now ≡ spelling n k
+        → IsOk result × (node.new ≡ n) }
+    ensures fault { IfErr result (λ e. FirstFault page.now k e) }
+{
+    if read_first(page, k, node) {
+        return Ok(());
+    }
+    match decode_in(FIRST_LAYOUT, page, k) {
+        Ok(read) => {
+            *node = read;
+            Ok(())
+        }
+        Err(fault) => Err(fault),
+    }
 }
 
 /// The node that the page spells in a layout.
@@ -85,7 +115,7 @@ fn node_of(layout: Layout, page: &[u8; 4096], k: u16) -> Result<Node, NodeFault>
 }
 
 #[tactic(auto, unfolding(crate::specs::Reading::kind_at))]
-fn kind_of(page: &[u8; 4096]) -> Option<NodeKind>
+pub(crate) fn kind_of(page: &[u8; 4096]) -> Option<NodeKind>
     ensures { result ≡ kind_at page.now }
 {
     match page[0] {
@@ -95,20 +125,20 @@ fn kind_of(page: &[u8; 4096]) -> Option<NodeKind>
     }
 }
 
-fn count_of(page: &[u8; 4096]) -> usize
+pub(crate) fn count_of(page: &[u8; 4096]) -> usize
     ensures { result ≡ count_at page.now }
 {
     u16_of(page, 2) as usize
 }
 
-fn count_fits(count: usize, k: u16) -> bool
+pub(crate) fn count_fits(count: usize, k: u16) -> bool
     requires { k ≤ 16 }
     ensures { IsTrue result ↔ ((0 < count) × (count ≤ 2 * k)) }
 {
     0 < count && count <= 2 * k as usize
 }
 
-fn place_of_page(layout: Layout, page: &[u8; 4096], i: usize) -> &[u8]
+pub(crate) fn place_of_page(layout: Layout, page: &[u8; 4096], i: usize) -> &[u8]
     requires width { layout.record_width ≤ widest_record }
     requires index { i < 32 }
     ensures value { result.now ≡ place_at layout page.now i }
@@ -188,7 +218,7 @@ pub(crate) fn ascends(elements: &[(Key, Record)]) -> bool
 }
 
 #[tactic(auto, unfolding(crate::specs::Lists::Below))]
-fn is_below(low: &Key, high: &Key) -> bool
+pub(crate) fn is_below(low: &Key, high: &Key) -> bool
     ensures { IsTrue result ↔ Below low.now high.now }
 {
     low.cmp(high).is_lt()
@@ -212,19 +242,36 @@ fn sons_of(
     }
 }
 
-#[tactic(auto, unfolding(crate::specs::Reading::sons_at))]
 fn numbers_of(layout: Layout, page: &[u8; 4096], k: u16, count: usize) -> ArrayVec<u32, 34>
     requires width { layout.record_width ≤ widest_record }
     requires order { k ≤ 16 }
     requires count { count ≤ 33 }
     ensures { result.items ≡ sons_at layout k page.now count }
 {
-    let start = layout.sons_start(k);
     let mut sons = ArrayVec::new();
+    push_sons(layout, page, k, count, &mut sons);
+    sons
+}
+
+/// Puts the first sons of the page into an empty list.
+#[tactic(auto, unfolding(crate::specs::Reading::sons_at))]
+pub(crate) fn push_sons(
+    layout: Layout,
+    page: &[u8; 4096],
+    k: u16,
+    count: usize,
+    sons: &mut ArrayVec<u32, 34>,
+)
+    requires width { layout.record_width ≤ widest_record }
+    requires order { k ≤ 16 }
+    requires count { count ≤ 33 }
+    requires empty { sons.old.items ≡ [] }
+    ensures { sons.new.items ≡ sons_at layout k page.now count }
+{
+    let start = layout.sons_start(k);
     for j in 0..count {
         sons.push(u32_of(page, start + SON_WIDTH * j));
     }
-    sons
 }
 
 /// Whether no son is 0.

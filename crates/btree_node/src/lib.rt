@@ -1,6 +1,7 @@
 //! The pages of a record file: node pages, and the header page.
 #![tactic(auto)]
 
+mod accepting;
 mod decoding;
 mod encoding;
 mod header_pages;
@@ -16,7 +17,7 @@ mod splitting;
 mod tests;
 mod writing;
 
-pub use decoding::decode;
+pub use decoding::{decode, decode_into};
 pub use encoding::encode;
 pub use header_pages::{read_header, write_header};
 pub use headers::{Header, HeaderFault};

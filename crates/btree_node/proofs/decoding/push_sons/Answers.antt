@@ -1,7 +1,7 @@
 use Rattle.std.proofs.Common.{arith, ap, ◌∙◌, ◌+◌, ◌*◌}
 use Rattle.btree_node.specs.Reading.{number_at, son_at, sons_at}
 use Rattle.btree_node.proofs.BlockFacts.{read_more}
-use Rattle.btree_node.proofs.decoding.numbers_of.Goals as goal
+use Rattle.btree_node.proofs.decoding.push_sons.Goals as goal
 
 pub loop-j-preserved : goal.loop-j-preserved
 unfolding sons_at
