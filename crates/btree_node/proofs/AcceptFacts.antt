@@ -1,17 +1,17 @@
 -- What the quick path knows of a place and of the rest of a page.
-use Rattle.std.proofs.Common.{◌≡◌, ℕ, ◌+◌, ◌-◌, ◌*◌, ◌<◌, ◌≤◌, Some, IsSome, unwrap_or, List, [], ◌∷◌, ◌++◌, length, get_or, take, drop, slice_index, slice_index_or, bit_or, subst, refl, ap, sym, ◌∙◌, arith, inl, inr}
+use Rattle.std.proofs.Common.{◌≡◌, ℕ, ◌+◌, ◌-◌, ◌*◌, ◌<◌, ◌≤◌, Some, IsSome, unwrap_or, List, [], ◌∷◌, length, get_or, take, drop, slice_index, slice_index_or, bit_or, subst, refl, ap, sym, ◌∙◌, arith}
 use Rattle.std.proofs.lemmas.List.{get_or-drop, get_or-take, get_or_default, length-drop, take-take, take_all, take_more}
 use Rattle.std.proofs.lemmas.Nat.{le_or_l, le_or_r}
 use Rattle.rec_types.specs.Padded.{IsZeroFrom}
 use Rattle.std.specs.List.{All}
 use Rattle.btree_node.specs.Layout.{first_layout, place_width, place_start, sons_start}
-use Rattle.btree_node.specs.Lists.{Element, Ascends}
+use Rattle.btree_node.specs.Lists.{Ascends}
 use Rattle.btree_node.specs.Reading.{part, kind_at, kind_read, count_at, place_at, key_length, record_length, element_in, elements_at, sons_of_kind, IsZero, IsGoodPlace, Passes, PassesBefore}
 use Rattle.btree_node.specs.declared.nodes.NodeKind.{NodeKind}
 use Rattle.btree_node.specs.declared.nodes.NodeKind.TheVariants.{Leaf}
 use Rattle.btree_node.specs.declared.nodes.NodeFault.TheVariants.{NotZero}
 use Rattle.btree_node.proofs.BlockFacts.{length-part}
-use Rattle.btree_node.proofs.OrderFacts.{Each-append, Each_from, Ascends-first, Ascends-last}
+use Rattle.btree_node.proofs.OrderFacts.{Each-append, Each_from}
 
 -- a byte of a part
 byte_of_part : (at width i d : ℕ) (bytes : List ℕ) → i < width → get_or (part at width bytes) i d ≡ get_or bytes (at + i) d
@@ -23,14 +23,14 @@ pub part_zero : (at width len : ℕ) (bytes : List ℕ) → at + width ≤ lengt
 part_zero at width len bytes within short zeros =
     Each_from (λ byte. byte ≡ 0) (part (at + len) (width - len) bytes)
     (λ i d low.
-        let size = length-part (at + len) (width - len) bytes (omega (arith, within, short)) in
-        let behind : i < width - len = omega (arith, low, size) in
-        let same : at + (len + i) ≡ at + len + i = omega arith in
-        let inside : at + len + i < length bytes = omega (arith, behind, within, short) in
-        byte_of_part (at + len) (width - len) i d bytes behind
-        ∙ get_or_default bytes (at + len + i) d 0 inside
-        ∙ sym (byte_of_part at width (len + i) 0 bytes (omega (arith, behind)) ∙ ap (slice_index bytes) same)
-        ∙ zeros (len + i) (omega arith))
+    let size = length-part (at + len) (width - len) bytes (omega (arith, within, short)) in
+    let behind : i < width - len = omega (arith, low, size) in
+    let same : at + (len + i) ≡ at + len + i = omega arith in
+    let inside : at + len + i < length bytes = omega (arith, behind, within, short) in
+    byte_of_part (at + len) (width - len) i d bytes behind
+    ∙ get_or_default bytes (at + len + i) d 0 inside
+    ∙ sym (byte_of_part at width (len + i) 0 bytes (omega (arith, behind)) ∙ ap (slice_index bytes) same)
+    ∙ zeros (len + i) (omega arith))
 
 -- a place whose two fields are a key and a record
 pub good_place : (place key_field value_field : List ℕ) (key_len value_len : ℕ) → length place ≡ 50
@@ -87,8 +87,7 @@ kind_found k page kind count a = ap (λ o. unwrap_or o Leaf) (sym a.kind_is)
 pub passes_before : (k : ℕ) (page : List ℕ) (kind : NodeKind) (count : ℕ) → Accepted k page kind count → PassesBefore first_layout k page NotZero
 unfolding Passes
 passes_before k page kind count a =
-    let below = λ (i : ℕ) (low : i < count_at page). a.good i (omega (arith, low, a.count_is)) in
-    (
+    let below = λ (i : ℕ) (low : i < count_at page). a.good i (omega (arith, low, a.count_is)) in (
       subst IsSome (sym a.kind_is) refl,
       (omega (arith, a.some, a.count_is), omega (arith, a.most, a.count_is)),
       record { some = λ i low. (below i low).some; most = λ i low. (below i low).most },

@@ -77,12 +77,12 @@ Ascends-more xs (suc j) d e some low up above =
     subst Ascends (sym next) (Ascends-push (take j xs) x y (subst Ascends last up) above)
 
 -- a first key, and one more above the last of a list of known length
-pub Ascends-first : (xs : List Element) (e : Element) → length xs ≡ 0 → Ascends (xs ++ e ∷ [])
-Ascends-first [] e none = (tt, tt)
-Ascends-first (x ∷ xs) e none = absurd (omega (arith, none))
+pub ascends_first : (xs : List Element) (e : Element) → length xs ≡ 0 → Ascends (xs ++ e ∷ [])
+ascends_first [] e none = (tt, tt)
+ascends_first (x ∷ xs) e none = absurd (omega (arith, none))
 
-pub Ascends-last : (xs : List Element) (i : ℕ) (d e : Element) → 1 ≤ i → length xs ≡ i → Ascends xs → Below (get_or xs (i - 1) d).0 e.0 → Ascends (xs ++ e ∷ [])
-Ascends-last xs i d e some size up above =
+pub ascends_last : (xs : List Element) (i : ℕ) (d e : Element) → 1 ≤ i → length xs ≡ i → Ascends xs → Below (get_or xs (i - 1) d).0 e.0 → Ascends (xs ++ e ∷ [])
+ascends_last xs i d e some size up above =
     let j = i - 1 in
     let whole : length xs ≡ j + 1 = omega (arith, some, size) in
     let last : xs ≡ take j xs ++ get_or xs j d ∷ [] = sym (take_all (j + 1) xs (omega (arith, whole))) ∙ take_more xs j d (omega (arith, whole)) in

@@ -1,4 +1,4 @@
-ghost use Rattle.std.specs.Prelude.{◌≡◌, ℕ, ◌+◌, ◌-◌, ◌*◌, ◌<◌, ◌≤◌, IsTrue, length, drop};
+ghost use Rattle.std.specs.Prelude.{◌≡◌, ℕ, ◌+◌, ◌-◌, ◌*◌, ◌<◌, ◌≤◌, List, [], ◌∷◌, ◌++◌, IsTrue, length, drop};
 ghost use Rattle.btree_node.specs.Layout.{first_layout, place_width, place_start, sons_start};
 ghost use Rattle.btree_node.specs.Lists.{Ascends};
 ghost use Rattle.btree_node.specs.Reading.{part, place_at, elements_at, sons_of_kind, node_at, IsZero, IsGoodPlace, Passes, PassesBefore};
@@ -65,12 +65,23 @@ fn fill_elements(
         else {
             return false;
         };
-        if i != 0 && !is_below(&elements.as_slice()[i - 1].0, &key) {
+        if !may_follow(elements.as_slice(), &key) {
             return false;
         }
         elements.push((key, value));
     }
     true
+}
+
+/// Whether the key may stand behind ascending elements.
+#[tactic(auto, using(crate::proofs::OrderFacts::ascends_first))]
+fn may_follow(elements: &[(Key, Record)], key: &Key) -> bool
+    requires { Ascends elements.now }
+    ensures { IsTrue result → (value : List ℕ)
+        → Ascends (elements.now ++ (key.now, value) ∷ []) }
+{
+    let len = elements.len();
+    len == 0 || is_below(&elements[len - 1].0, key)
 }
 
 fn sixteen(bytes: &[u8], at: usize) -> [u8; 16]
@@ -91,13 +102,7 @@ fn thirty_two(bytes: &[u8], at: usize) -> [u8; 32]
     copy
 }
 
-fn fill_sons(
-    page: &[u8; 4096],
-    k: u16,
-    kind: NodeKind,
-    count: usize,
-    sons: &mut ArrayVec<u32, 34>,
-)
+fn fill_sons(page: &[u8; 4096], k: u16, kind: NodeKind, count: usize, sons: &mut ArrayVec<u32, 34>)
     requires order { k ≤ 16 }
     requires count { count ≤ 32 }
     ensures { sons.new.items ≡ sons_of_kind kind first_layout k page.now count }
@@ -130,8 +135,7 @@ fn rest_is_zero(page: &[u8; 4096], k: u16, count: usize, sons: usize) -> bool
     let places = FIRST_LAYOUT.place_start(count);
     let start = FIRST_LAYOUT.sons_start(k);
     let end = start + SON_WIDTH * sons;
-    is_zero(part_of(page, places, start - places))
-        && is_zero(part_of(page, end, PAGE_WIDTH - end))
+    is_zero(part_of(page, places, start - places)) && is_zero(part_of(page, end, PAGE_WIDTH - end))
 }
 
 /// Whether each byte is zero. It looks at all of them, which takes less time than to stop at the first

@@ -1,14 +1,11 @@
-use Rattle.std.proofs.Common.{◌≡◌, [], ◌∷◌, ◌++◌, refl, ap, sym, subst, ◌∙◌, get_or, slice_index, arith, ◌+◌, ◌-◌, inl, inr}
+use Rattle.std.proofs.Common.{◌≡◌, [], ◌∷◌, ◌++◌, refl, ap, sym, subst, ◌∙◌, slice_index, arith, inl, inr}
 use Rattle.std.proofs.lemmas.Bool.{cases_lt}
-use Rattle.std.proofs.lemmas.Bool.Decides.{nat_tests}
 use Rattle.btree_node.specs.Layout.{first_layout}
-use Rattle.btree_node.specs.Lists.{Below, Ascends}
+use Rattle.btree_node.specs.Lists.{Ascends}
 use Rattle.btree_node.specs.Reading.{element_in, elements_at, place_at, IsGoodPlace}
 use Rattle.btree_node.proofs.AcceptFacts.{good_place, element_is}
 use Rattle.btree_node.proofs.BlockFacts.{read_more}
-use Rattle.btree_node.proofs.OrderFacts.{Ascends-first, Ascends-last}
 use Rattle.btree_node.proofs.accepting.fill_elements.Goals as goal
-use Rattle.btree_node.proofs.accepting.fill_elements.Goals.{else-i-ne0-via-then-i-ne0+else-not-is_below, else-i-ne0-via-else-i-ne0}
 
 -- one good place more
 pub loop-i-preserved : goal.loop-i-preserved
@@ -22,17 +19,11 @@ loop-i-preserved c =
     good_place place c.sixteen.result c.thirty_two.result (slice_index place 0) (slice_index place 17) c.place_of_page-place.ensures.len c.sixteen.ensures c.thirty_two.ensures refl refl key_fits value_fits in
     let element =
     element_is place c.sixteen.result c.thirty_two.result c.in-Some.key value (slice_index place 0) (slice_index place 17) c.sixteen.ensures c.thirty_two.ensures refl refl key_fits.1 value_fits.0 c.in-Some.ensures.value c.in-Some-in_field.ensures.value in
-    let ascends : Ascends (c.loop-i.elements.items ++ (c.in-Some.key, value) ∷ []) =
-    elim c.else-i-ne0.branch [
-      | else-i-ne0-via-then-i-ne0+else-not-is_below w ↦
-          Ascends-last c.loop-i.elements.items c.loop-i.i w.index-as_slice-i.result (c.in-Some.key, value) (grind (arith, nat_tests)) c.loop-i.invariant.len c.loop-i.invariant.ascends (subst (λ es. Below (get_or es (c.loop-i.i - 1) w.index-as_slice-i.result).0 c.in-Some.key) w.as_slice.ensures.value (w.is_below.ensures.0 w.if-not-is_below.false))
-      | else-i-ne0-via-else-i-ne0 w ↦ Ascends-first c.loop-i.elements.items (c.in-Some.key, value) (grind (arith, nat_tests))
-    ] in
     record {
       items = read_more (λ i. element_in (place_at first_layout c.args.page.now i)) c.loop-i.i c.loop-i.elements.items _ _ c.loop-i.invariant.items c.push.ensures.items
           (element ∙ ap element_in c.place_of_page-place.ensures.value);
       len = omega arith;
-      ascends = subst Ascends (sym c.push.ensures.items) ascends;
+      ascends = subst Ascends (sym c.push.ensures.items) (subst (λ es. Ascends (es ++ (c.in-Some.key, value) ∷ [])) c.as_slice.ensures.value (c.may_follow.ensures c.if-not-may_follow.false value));
       good = λ j low. elim (cases_lt j c.loop-i.i) [
         | inl before ↦ c.loop-i.invariant.good j before
         | inr here ↦ let same : c.loop-i.i ≡ j = omega (arith, here, low) in

@@ -1,4 +1,4 @@
-use Rattle.std.proofs.Common.{◌≡◌, subst, ap, ◌∙◌, ◌+◌, ◌-◌, ◌*◌, arith}
+use Rattle.std.proofs.Common.{◌≡◌, subst, ap, ◌∙◌, ◌+◌, ◌-◌, ◌*◌}
 use Rattle.btree_node.specs.Layout.{first_layout, sons_start}
 use Rattle.btree_node.specs.Reading.{part, IsZero}
 use Rattle.btree_node.proofs.AcceptFacts.{rest_part}

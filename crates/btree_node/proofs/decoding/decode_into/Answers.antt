@@ -8,8 +8,7 @@ use Rattle.btree_node.proofs.decoding.decode_into.Goals as goal
 pub returns-then-read_first-clause-found : goal.returns-then-read_first-clause-found
 returns-then-read_first-clause-found c =
     let before = c.read_first.ensures.before c.if-read_first.true in
-    let value = c.read_first.ensures.value c.if-read_first.true in
-    (
+    let value = c.read_first.ensures.value c.if-read_first.true in (
       read_stands first_layout c.args.k c.args.page.now c.read_first.new.node c.requires (omega arith) c.told-page c.fits-page before value,
       spelled first_layout c.args.k c.args.page.now c.requires (omega arith) c.told-page c.fits-page before (c.read_first.ensures.padding c.if-read_first.true)
           ∙ ap (λ n. spelling n c.args.k) (sym value),
