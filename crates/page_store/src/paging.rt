@@ -1,4 +1,4 @@
-ghost use Rattle.std.specs.Prelude.{◌≡◌, ℕ, ◌≢◌, ◌+◌, ◌-◌, ◌<◌, ◌≤◌, ◌++◌, ◌↔◌, ◌==◌, ◌||◌, ◌&&◌, if◌then◌else◌, [], false, true, not, length, Some, None, Err, is_some, IsTrue, IsSome, IsOk, OnOk, OnErr, slice_get};
+ghost use Rattle.std.specs.Prelude.{◌≡◌, ℕ, ◌≢◌, ◌+◌, ◌-◌, ◌<◌, ◌≤◌, ◌++◌, ◌↔◌, ◌==◌, ◌||◌, ◌&&◌, if◌then◌else◌, [], false, true, not, length, Some, None, Err, is_some, IsTrue, IsSome, IfSome, OnSome, IsOk, OnOk, OnErr, slice_get};
 ghost use Rattle.std.specs.Ordering.{nat_cmp};
 ghost use Rattle.std.specs.BTreeSet.{contains};
 ghost use Rattle.rec_types.specs.Table.{counted};
@@ -128,6 +128,19 @@ impl<S: Store> Pages<S> {
             Ok(()) => Ok(()),
             Err(_) => Err(FetchFault::Device),
         }
+    }
+
+    /// Page n's newest bytes where they lie in memory, without a copy. None where the page isn't in use
+    /// or has to be read from the store.
+    pub fn in_memory(&self, n: u32) -> Option<&[u8; 4096]>
+        ensures page { IfSome result (λ page. at self.now.pages n ≡ Some page.now) }
+        ensures number { OnSome result (0 < n) }
+        ensures some { is_some result ≡ is_in_memory self.now n }
+    {
+        if !is_in_use(self.count, &self.free, n) {
+            return None;
+        }
+        changed_page(&self.changed, n)
     }
 
     /// Puts all of an edit in place, in memory: takes the first candidates, writes the pages and frees
