@@ -14,6 +14,6 @@ pub use bounds::{Bounds, are_within, bounds_of_son};
 pub use finding::find;
 pub use growing::{was_met, write_node};
 pub use inserting::insert;
-pub use reading::{kind_of_level, read_node};
+pub use reading::{kind_of_level, read_into, read_node};
 pub use trees::{Tree, TreeFault};
 pub use walking::walk;

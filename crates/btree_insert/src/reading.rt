@@ -1,7 +1,7 @@
-ghost use Rattle.std.specs.Prelude.{◌≡◌, ◌+◌, ◌<◌, ◌≤◌, ◌⊎◌, ℕ, IsTrue, IsSome, IfOk, IfErr, OnOk, MatchResult};
+ghost use Rattle.std.specs.Prelude.{◌≡◌, ◌+◌, ◌<◌, ◌≤◌, ◌⊎◌, ℕ, IsTrue, IsSome, IfOk, IfErr, OnOk, IsOk, MatchResult};
 ghost use Rattle.rec_types.specs.Table.{counted};
 ghost use Rattle.page_store.specs.PageMap.{at};
-ghost use Rattle.btree_node.specs.Spelling.{CanStand};
+ghost use Rattle.btree_node.specs.Spelling.{spelling, CanStand};
 ghost use Rattle.btree_node.specs.declared.nodes.Node.{Node};
 ghost use Rattle.btree_insert.specs.Bounds.{AreWithin};
 ghost use Rattle.btree_insert.specs.Faults.{is_device};
@@ -10,7 +10,7 @@ ghost use Rattle.btree_node.specs.Layout.{greatest_order};
 
 use crate::bounds::{Bounds, are_within};
 use crate::trees::TreeFault;
-use btree_node::{Node, NodeKind, decode};
+use btree_node::{Node, NodeKind, decode_into};
 use page_store::{FetchFault, Pages, Store};
 
 /// The node of page n, which is of a kind and has its keys within the bounds. The condition is an
@@ -40,19 +40,74 @@ pub fn read_node<S: Store>(
         ≡ record pages.old { reads = pages.new.reads; failures = pages.new.failures } }
     ensures one_read { pages.new.reads ≤ pages.old.reads + 1 }
 {
+    let mut node = Node::blank();
+    read_into(pages, order, kind, n, bounds, &mut node)?;
+    Ok(node)
+}
+
+/// The same as `read_node`, into a node that there is: nothing as large as a node is made or moved, and a
+/// page in memory is read where it lies. After a fault the node may be any.
+pub fn read_into<S: Store>(
+    pages: &mut Pages<S>,
+    order: u16,
+    kind: NodeKind,
+    n: u32,
+    bounds: &Bounds,
+    node: &mut Node,
+) -> Result<(), TreeFault>
+    requires { order ≤ greatest_order }
+    ensures exact { IsTrue pages.old.steady → (m : Node)
+        → Spells order (at pages.old.pages) n m → m.kind ≡ kind
+        → AreWithin bounds.now m.elements.items
+        → MatchResult result (λ _. node.new ≡ m) (λ fault. fault ≡ TreeFault.Device) }
+    ensures stands { OnOk result (CanStand node.new order × (node.new.kind ≡ kind)) }
+    ensures spells { IsTrue pages.old.steady
+        → OnOk result (Spells order (at pages.old.pages) n node.new) }
+    ensures fault { IfErr result
+        (λ fault. (fault ≡ TreeFault.Device) ⊎ (fault ≡ TreeFault.Damaged n)) }
+    ensures in_use { OnOk result (IsSome (at pages.old.pages n)) }
+    ensures some_page { OnOk result (0 < n) }
+    ensures within { OnOk result (AreWithin bounds.now node.new.elements.items) }
+    ensures device { pages.new.failures ≡ counted pages.old.failures (is_device result) }
+    ensures unchanged { pages.new
+        ≡ record pages.old { reads = pages.new.reads; failures = pages.new.failures } }
+    ensures one_read { pages.new.reads ≤ pages.old.reads + 1 }
+{
+    if let Some(page) = pages.in_memory(n) {
+        return take_into(page, order, kind, n, bounds, node);
+    }
     let mut page = [0; 4096];
     match pages.fetch(n, &mut page) {
-        Ok(()) => {}
-        Err(FetchFault::Device) => return Err(TreeFault::Device),
-        Err(FetchFault::OutOfRange) => return Err(TreeFault::Damaged(n)),
+        Ok(()) => take_into(&page, order, kind, n, bounds, node),
+        Err(FetchFault::Device) => Err(TreeFault::Device),
+        Err(FetchFault::OutOfRange) => Err(TreeFault::Damaged(n)),
     }
-    let Ok(node) = decode(&page, order) else {
+}
+
+/// Fills the node with what the bytes of page n spell. Fault: Damaged(n).
+fn take_into(
+    page: &[u8; 4096],
+    order: u16,
+    kind: NodeKind,
+    n: u32,
+    bounds: &Bounds,
+    node: &mut Node,
+) -> Result<(), TreeFault>
+    requires { order ≤ greatest_order }
+    ensures exact { (m : Node) → CanStand m order → page.now ≡ spelling m order
+        → m.kind ≡ kind → AreWithin bounds.now m.elements.items → IsOk result × (node.new ≡ m) }
+    ensures stands { OnOk result (CanStand node.new order × (node.new.kind ≡ kind)) }
+    ensures spells { OnOk result (page.now ≡ spelling node.new order) }
+    ensures fault { IfErr result (λ fault. fault ≡ TreeFault.Damaged n) }
+    ensures within { OnOk result (AreWithin bounds.now node.new.elements.items) }
+{
+    if decode_into(page, order, node).is_err() {
         return Err(TreeFault::Damaged(n));
-    };
+    }
     if node.kind != kind || !are_within(bounds, node.elements.as_slice()) {
         return Err(TreeFault::Damaged(n));
     }
-    Ok(node)
+    Ok(())
 }
 
 /// Which kind of page stands at a level, where level 1 is the lowest.

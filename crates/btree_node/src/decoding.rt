@@ -28,11 +28,7 @@ pub fn decode(page: &[u8; 4096], k: u16) -> Result<Node, NodeFault>
     // Which fault it is.
     ensures fault { IfErr result (λ e. FirstFault page.now k e) }
 {
-    let mut node = Node {
-        kind: NodeKind::Leaf,
-        elements: ArrayVec::new(),
-        sons: ArrayVec::new(),
-    };
+    let mut node = Node::blank();
     match decode_into(page, k, &mut node) {
         Ok(()) => Ok(node),
         Err(fault) => Err(fault),

@@ -1,3 +1,6 @@
+ghost use Rattle.std.specs.Prelude.{◌≡◌, []};
+ghost use Rattle.btree_node.specs.declared.nodes.NodeKind.TheVariants.{Leaf};
+
 use arrayvec::ArrayVec;
 use rec_types::{Key, Record};
 use thiserror::Error;
@@ -21,6 +24,21 @@ pub struct Node {
     pub elements: ArrayVec<(Key, Record), 33>,
     /// The numbers of the pages below, from left to right. A leaf has none.
     pub sons: ArrayVec<u32, 34>,
+}
+
+impl Node {
+    /// A leaf with no keys, to be filled. No page spells it.
+    pub fn blank() -> Node
+        ensures kind { result.kind ≡ Leaf }
+        ensures elements { result.elements.items ≡ [] }
+        ensures sons { result.sons.items ≡ [] }
+    {
+        Node {
+            kind: NodeKind::Leaf,
+            elements: ArrayVec::new(),
+            sons: ArrayVec::new(),
+        }
+    }
 }
 
 /// Why a page is no node. The faults are tested in this order.
