@@ -11,9 +11,9 @@ ghost use Rattle.btree_node.specs.Layout.{IsOrder, greatest_order};
 ghost use Rattle.btree_insert.specs.Sizes.{greatest_height};
 
 use crate::bounds::{Bounds, bounds_of_son};
-use crate::reading::{kind_of_level, read_node};
+use crate::reading::{kind_of_level, read_into};
 use crate::trees::{Tree, TreeFault};
-use btree_node::place_of;
+use btree_node::{Node, place_of};
 use page_store::{Pages, Store};
 use rec_types::{Key, Record};
 
@@ -47,10 +47,20 @@ pub fn find<S: Store>(
         low: None,
         high: None,
     };
-    find_below(pages, tree.order, tree.height, tree.root, &bounds, key)
+    let mut node = Node::blank();
+    find_below(
+        pages,
+        tree.order,
+        tree.height,
+        tree.root,
+        &bounds,
+        key,
+        &mut node,
+    )
 }
 
-/// The record at the key in the tree of a height below page n.
+/// The record at the key in the tree of a height below page n. Each page on the way is read into the
+/// one node.
 fn find_below<S: Store>(
     pages: &mut Pages<S>,
     order: u16,
@@ -58,6 +68,7 @@ fn find_below<S: Store>(
     n: u32,
     bounds: &Bounds,
     key: &Key,
+    node: &mut Node,
 ) -> Result<Option<Record>, TreeFault>
     requires order { order ≤ greatest_order }
     requires height { 0 < height }
@@ -73,15 +84,15 @@ fn find_below<S: Store>(
         ≡ record pages.old { reads = pages.new.reads; failures = pages.new.failures } }
     ensures reads { pages.new.reads ≤ pages.old.reads + height }
 {
-    let node = read_node(pages, order, kind_of_level(height), n, bounds)?;
-    match place_of(&node, key) {
+    read_into(pages, order, kind_of_level(height), n, bounds, node)?;
+    match place_of(node, key) {
         Ok(i) => Ok(Some(node.elements[i].1)),
         Err(i) => {
             if height == 1 {
                 return Ok(None);
             }
             let below = bounds_of_son(bounds, node.elements.as_slice(), i);
-            find_below(pages, order, height - 1, node.sons[i], &below, key)
+            find_below(pages, order, height - 1, node.sons[i], &below, key, node)
         }
     }
 }

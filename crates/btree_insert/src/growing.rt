@@ -14,7 +14,7 @@ ghost use Rattle.btree_node.specs.Layout.{IsOrder, greatest_order};
 ghost use Rattle.btree_insert.specs.Sizes.{greatest_height};
 
 use crate::bounds::{Bounds, bounds_of_son};
-use crate::reading::{kind_of_level, read_node};
+use crate::reading::{kind_of_level, read_into};
 use crate::trees::TreeFault;
 use arrayvec::ArrayVec;
 use btree_node::{Node, encode, place_of, split};
@@ -132,7 +132,8 @@ pub(crate) fn grow_below<S: Store>(
         return Err(TreeFault::Damaged(n));
     }
     met.push(n);
-    let mut node = read_node(pages, order, kind_of_level(height), n, bounds)?;
+    let mut node = Node::blank();
+    read_into(pages, order, kind_of_level(height), n, bounds, &mut node)?;
     match place_of(&node, &element.0) {
         Ok(i) => {
             let old = replace(&mut node, i, element);

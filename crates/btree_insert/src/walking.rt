@@ -11,8 +11,9 @@ ghost use Rattle.btree_node.specs.Layout.{greatest_order};
 ghost use Rattle.btree_insert.specs.Sizes.{IsTree};
 
 use crate::bounds::Bounds;
-use crate::reading::{kind_of_level, read_node};
+use crate::reading::{kind_of_level, read_into};
 use crate::trees::{Tree, TreeFault};
+use btree_node::Node;
 use page_store::{Pages, Store};
 use rec_types::{Key, Memory, Record};
 use std::alloc::Global;
@@ -89,7 +90,8 @@ fn walk_below<S: Store>(
         return Err(TreeFault::Damaged(n));
     }
     *left -= 1;
-    let node = read_node(pages, order, kind_of_level(height), n, bounds)?;
+    let mut node = Node::blank();
+    read_into(pages, order, kind_of_level(height), n, bounds, &mut node)?;
     let elements = node.elements.as_slice();
     if height == 1 {
         return Ok(add_elements(out, elements)?);

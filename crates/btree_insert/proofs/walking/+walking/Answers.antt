@@ -15,22 +15,22 @@ use Rattle.btree_insert.proofs.TreeFacts.{top, read_top}
 use Rattle.btree_insert.proofs.WalkFacts.{fan_first, added, one_page, pages_of_both, weaken, take_one, body_fan, nonempty}
 use Rattle.btree_insert.proofs.walking.+walking.Goals as goal
 
-pub walk_below-returns-in_err-node-clause-walked : goal.walk_below-returns-in_err-node-clause-walked
-walk_below-returns-in_err-node-clause-walked g t c = λ steady least es us tree between few.
+pub walk_below-returns-in_err-read_into-clause-walked : goal.walk_below-returns-in_err-read_into-clause-walked
+walk_below-returns-in_err-read_into-clause-walked g t c = λ steady least es us tree between few.
     let p = err_from_is_err_and c.from_residual.result c.from_residual.ensures.1 in
     let head = top c.args.order (at c.args.pages.now.pages) least c.args.height (c.args.height - 1) c.args.n es us c.args.bounds.now (omega arith) tree between in
-    rw (p.1, p.2) (subst IsOutside (sym (c.in_err-node.ensures.exact steady head.0 head.1.spells (head.1.kind ∙ sym c.kind_of_level.ensures) head.1.within)) tt)
+    rw (p.1, p.2) (subst IsOutside (sym (c.in_err-read_into.ensures.exact steady head.0 head.1.spells (head.1.kind ∙ sym c.kind_of_level.ensures) head.1.within)) tt)
 
 pub walk_below-returns-clause-walked : goal.walk_below-returns-clause-walked
 walk_below-returns-clause-walked g t c = λ steady least es us tree between few.
-    let head = read_top c.args.order (at c.args.pages.now.pages) least c.args.height c.args.n es us c.args.bounds.now c.kind_of_level.result c.in_ok-node.node c.requires.height c.kind_of_level.ensures (c.in_ok-node.ensures.exact steady) tree between in
+    let head = read_top c.args.order (at c.args.pages.now.pages) least c.args.height c.args.n es us c.args.bounds.now c.kind_of_level.result c.read_into.new.node c.requires.height c.kind_of_level.ensures (c.in_ok-read_into.ensures.exact steady) tree between in
     let h = c.args.height - 1 in
-    let fan = body_fan (TreeAt c.args.order (at c.args.pages.now.pages) c.args.order h) h c.in_ok-node.node es head.below (omega arith) head.body in
+    let fan = body_fan (TreeAt c.args.order (at c.args.pages.now.pages) c.args.order h) h c.read_into.new.node es head.below (omega arith) head.body in
     let fan2 = subst (λ (ss : List ℕ). Fan (TreeAt c.args.order (at c.args.pages.now.pages) c.args.order h) ss c.as_slice-elements.result.now es head.below) (sym c.as_slice.ensures.value)
-    (subst (λ (els : List Element). Fan (TreeAt c.args.order (at c.args.pages.now.pages) c.args.order h) c.in_ok-node.node.sons.items els es head.below) (sym c.as_slice-elements.ensures.value) fan) in
-    let fan3 = subst (λ (v : PagesView). Fan (TreeAt c.args.order (at v.pages) c.args.order h) c.as_slice.result.now c.as_slice-elements.result.now es head.below) (sym c.read_node.ensures.unchanged) fan2 in
+    (subst (λ (els : List Element). Fan (TreeAt c.args.order (at c.args.pages.now.pages) c.args.order h) c.read_into.new.node.sons.items els es head.below) (sym c.as_slice-elements.ensures.value) fan) in
+    let fan3 = subst (λ (v : PagesView). Fan (TreeAt c.args.order (at v.pages) c.args.order h) c.as_slice.result.now c.as_slice-elements.result.now es head.below) (sym c.read_into.ensures.unchanged) fan2 in
     let size = one_page us c.args.n head.below head.us_is in
-    let call = c.walk_sons.ensures.walked (ap (λ (v : PagesView). v.steady) c.read_node.ensures.unchanged ∙ steady) es head.below fan3 between (omega (arith, size, few)) in
+    let call = c.walk_sons.ensures.walked (ap (λ (v : PagesView). v.steady) c.read_into.ensures.unchanged ∙ steady) es head.below fan3 between (omega (arith, size, few)) in
     weaken c.walk_sons.result ((c.walk_sons.new.out.items ≡ c.args.out.now.items ++ es) × (c.walk_sons.new.left + length head.below ≡ c.args.left.now - 1)) ((c.walk_sons.new.out.items ≡ c.args.out.now.items ++ es) × (c.walk_sons.new.left + length us ≡ c.args.left.now))
     (λ both. (both.0, omega (arith, both.1, size, few))) call
 
@@ -62,25 +62,25 @@ walk_sons-returns-clause-walked g t c = λ steady es us fan between few.
 
 pub walk_below-returns-then-height-eq1-clause-adds : goal.walk_below-returns-then-height-eq1-clause-adds
 walk_below-returns-then-height-eq1-clause-adds g t c = λ steady.
-    let node = c.in_ok-node.node in
+    let node = c.read_into.new.node in
     adds_leaf (Spells c.args.order (at c.args.pages.now.pages)) c.args.height c.args.n c.args.bounds.now node c.args.out.now.items c.add_elements.new.out.items c.args.left.now (c.args.left.now - 1) (omega arith)
-    (c.in_ok-node.ensures.spells steady) (c.in_ok-node.ensures.stands.1 ∙ c.kind_of_level.ensures) c.in_ok-node.ensures.stands.0.some c.in_ok-node.ensures.stands.0.ascends c.in_ok-node.ensures.within
+    (c.in_ok-read_into.ensures.spells steady) (c.in_ok-read_into.ensures.stands.1 ∙ c.kind_of_level.ensures) c.in_ok-read_into.ensures.stands.0.some c.in_ok-read_into.ensures.stands.0.ascends c.in_ok-read_into.ensures.within
     (c.in_ok-add_elements.ensures ∙ ap (λ (zs : List Element). c.args.out.now.items ++ zs) c.as_slice-elements.ensures.value) (omega arith)
 
 pub walk_below-returns-clause-adds : goal.walk_below-returns-clause-adds
 walk_below-returns-clause-adds g t c = λ steady.
-    let node = c.in_ok-node.node in
+    let node = c.read_into.new.node in
     let k = c.args.order in
-    let pages_is : at c.read_node.new.pages.pages ≡ at c.args.pages.now.pages = ap (λ (v : PagesView). at v.pages) c.read_node.ensures.unchanged in
-    let between : Between c.args.bounds.now c.as_slice-elements.result.now = subst (Between c.args.bounds.now) (sym c.as_slice-elements.ensures.value) (record { ascends = c.in_ok-node.ensures.stands.0.ascends; within = c.in_ok-node.ensures.within }) in
+    let pages_is : at c.read_into.new.pages.pages ≡ at c.args.pages.now.pages = ap (λ (v : PagesView). at v.pages) c.read_into.ensures.unchanged in
+    let between : Between c.args.bounds.now c.as_slice-elements.result.now = subst (Between c.args.bounds.now) (sym c.as_slice-elements.ensures.value) (record { ascends = c.in_ok-read_into.ensures.stands.0.ascends; within = c.in_ok-read_into.ensures.within }) in
     let low_is : c.args.height - 1 ≡ suc (c.args.height - 2) = omega arith in
-    on_ok c.walk_sons.result (Adds (Fan (TreeOf (Spells k (at c.read_node.new.pages.pages)) 1 1 (c.args.height - 1)) c.as_slice.result.now c.as_slice-elements.result.now) c.args.bounds.now c.args.out.now.items c.walk_sons.new.out.items (c.args.left.now - 1) c.walk_sons.new.left)
+    on_ok c.walk_sons.result (Adds (Fan (TreeOf (Spells k (at c.read_into.new.pages.pages)) 1 1 (c.args.height - 1)) c.as_slice.result.now c.as_slice-elements.result.now) c.args.bounds.now c.args.out.now.items c.walk_sons.new.out.items (c.args.left.now - 1) c.walk_sons.new.left)
     (Adds (TreeOf (Spells k (at c.args.pages.now.pages)) 1 1 c.args.height c.args.n) c.args.bounds.now c.args.out.now.items c.walk_sons.new.out.items c.args.left.now c.walk_sons.new.left)
     (λ adds. adds_inner (Spells k (at c.args.pages.now.pages)) c.args.height (c.args.height - 2) c.args.n c.args.bounds.now node c.args.out.now.items c.walk_sons.new.out.items c.args.left.now (c.args.left.now - 1) c.walk_sons.new.left (omega (arith, low_is))
-    (c.in_ok-node.ensures.spells steady) (c.in_ok-node.ensures.stands.1 ∙ c.kind_of_level.ensures) c.in_ok-node.ensures.stands.0.some (omega arith)
-    (adds_below k (at c.args.pages.now.pages) (at c.read_node.new.pages.pages) (c.args.height - 1) (suc (c.args.height - 2)) node.sons.items c.as_slice.result.now node.elements.items c.as_slice-elements.result.now c.args.bounds.now c.args.out.now.items c.walk_sons.new.out.items (c.args.left.now - 1) c.walk_sons.new.left
+    (c.in_ok-read_into.ensures.spells steady) (c.in_ok-read_into.ensures.stands.1 ∙ c.kind_of_level.ensures) c.in_ok-read_into.ensures.stands.0.some (omega arith)
+    (adds_below k (at c.args.pages.now.pages) (at c.read_into.new.pages.pages) (c.args.height - 1) (suc (c.args.height - 2)) node.sons.items c.as_slice.result.now node.elements.items c.as_slice-elements.result.now c.args.bounds.now c.args.out.now.items c.walk_sons.new.out.items (c.args.left.now - 1) c.walk_sons.new.left
     pages_is low_is c.as_slice.ensures.value c.as_slice-elements.ensures.value adds))
-    (c.walk_sons.ensures.adds (ap (λ (v : PagesView). v.steady) c.read_node.ensures.unchanged ∙ steady) between)
+    (c.walk_sons.ensures.adds (ap (λ (v : PagesView). v.steady) c.read_into.ensures.unchanged ∙ steady) between)
 
 pub walk_sons-returns-clause-adds : goal.walk_sons-returns-clause-adds
 walk_sons-returns-clause-adds g t c = λ steady between.
