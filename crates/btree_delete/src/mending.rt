@@ -143,13 +143,30 @@ pub(crate) fn mend<S: Store>(
         ≡ record pages.old { reads = pages.new.reads; failures = pages.new.failures } }
     ensures one_read { pages.new.reads ≤ pages.old.reads + 1 }
 {
+    let mut brother = Node::blank();
     if i < father.elements.len() {
         let below = bounds_of_son(bounds, father.elements.as_slice(), i + 1);
-        let brother = visit(pages, met, order, level, father.sons[i + 1], &below)?;
+        visit(
+            pages,
+            met,
+            order,
+            level,
+            father.sons[i + 1],
+            &below,
+            &mut brother,
+        )?;
         return Ok(mend_pair(edit, order, father, i, son, brother)?);
     }
     let before = i - 1;
     let below = bounds_of_son(bounds, father.elements.as_slice(), before);
-    let brother = visit(pages, met, order, level, father.sons[before], &below)?;
+    visit(
+        pages,
+        met,
+        order,
+        level,
+        father.sons[before],
+        &below,
+        &mut brother,
+    )?;
     Ok(mend_pair(edit, order, father, before, brother, son)?)
 }

@@ -90,7 +90,8 @@ fn take_first_below<S: Store>(
         ≡ record pages.old { reads = pages.new.reads; failures = pages.new.failures } }
     ensures reads { pages.new.reads + 1 ≤ pages.old.reads + 2 * height }
 {
-    let mut node = visit(pages, met, order, height, n, bounds)?;
+    let mut node = Node::blank();
+    visit(pages, met, order, height, n, bounds, &mut node)?;
     if height == 1 {
         let first = node.elements.remove(0);
         return Ok(settle(edit, order, n, first, node)?);
@@ -230,7 +231,8 @@ pub(crate) fn delete_below<S: Store>(
         ≡ record pages.old { reads = pages.new.reads; failures = pages.new.failures } }
     ensures reads { pages.new.reads + 1 ≤ pages.old.reads + 2 * height }
 {
-    let mut node = visit(pages, met, order, height, n, bounds)?;
+    let mut node = Node::blank();
+    visit(pages, met, order, height, n, bounds, &mut node)?;
     match place_of(&node, key) {
         Ok(i) => {
             let shrunk = delete_here(pages, edit, met, order, height, n, bounds, node, i)?;

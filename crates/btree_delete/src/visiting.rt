@@ -10,13 +10,13 @@ ghost use Rattle.btree_delete.specs.Tidy.{is_met};
 ghost use Rattle.btree_node.specs.Layout.{greatest_order};
 
 use arrayvec::ArrayVec;
-use btree_insert::{Bounds, TreeFault, kind_of_level, read_node, was_met};
+use btree_insert::{Bounds, TreeFault, kind_of_level, read_into, was_met};
 use btree_node::Node;
 use page_store::{Pages, Store};
 
-/// The node of page n, at a level where 1 is the lowest, with its keys within the bounds. `met` gains
-/// the page. Faults: Device, and Damaged(n) where the page was met before, is not in use or spells no
-/// such node.
+/// Fills the node with that of page n, at a level where 1 is the lowest, with its keys within the bounds.
+/// `met` gains the page. Faults: Device, and Damaged(n) where the page was met before, is not in use or
+/// spells no such node; the node may then be any.
 pub(crate) fn visit<S: Store>(
     pages: &mut Pages<S>,
     met: &mut ArrayVec<u32, 37>,
@@ -24,18 +24,19 @@ pub(crate) fn visit<S: Store>(
     level: u32,
     n: u32,
     bounds: &Bounds,
-) -> Result<Node, TreeFault>
+    node: &mut Node,
+) -> Result<(), TreeFault>
     requires order { order ≤ greatest_order }
     requires room { length met.old.items < 37 }
-    ensures exact { IsTrue pages.old.steady → (node : Node)
-        → Spells order (at pages.old.pages) n node → node.kind ≡ kind_of_level level
-        → AreWithin bounds.now node.elements.items
+    ensures exact { IsTrue pages.old.steady → (m : Node)
+        → Spells order (at pages.old.pages) n m → m.kind ≡ kind_of_level level
+        → AreWithin bounds.now m.elements.items
         → is_met met.old.items n ≡ false
-        → MatchResult result (λ r. r ≡ node) (λ fault. fault ≡ TreeFault.Device) }
+        → MatchResult result (λ _. node.new ≡ m) (λ fault. fault ≡ TreeFault.Device) }
     ensures fault { IfErr result
         (λ fault. (fault ≡ TreeFault.Device) ⊎ (fault ≡ TreeFault.Damaged n)) }
-    ensures some { IfOk result (λ node. 0 < length node.elements.items) }
-    ensures stands { IfOk result (IsThin order level bounds.now) }
+    ensures some { OnOk result (0 < length node.new.elements.items) }
+    ensures stands { OnOk result (IsThin order level bounds.now node.new) }
     ensures met { OnOk result (met.new.items ≡ met.old.items ++ n ∷ []) }
     ensures unmet { OnOk result (is_met met.old.items n ≡ false) }
     ensures in_use { OnOk result (IsSome (at pages.old.pages n)) }
@@ -48,5 +49,5 @@ pub(crate) fn visit<S: Store>(
         return Err(TreeFault::Damaged(n));
     }
     met.push(n);
-    read_node(pages, order, kind_of_level(level), n, bounds)
+    read_into(pages, order, kind_of_level(level), n, bounds, node)
 }
