@@ -10,7 +10,7 @@ ghost use Rattle.btree_insert.specs.PageTrees.{Spells};
 ghost use Rattle.btree_delete.specs.Survey.{Seen, unreached, after, below_page, below_sons, Sound, Surveyed};
 
 use btree_insert::{Bounds, TreeFault, are_within};
-use btree_node::{Node, NodeKind, decode};
+use btree_node::{Node, NodeKind, decode_into};
 use page_store::{FetchFault, Pages, Store};
 use rec_types::{Key, Record};
 use std::marker::Model;
@@ -118,25 +118,28 @@ impl Survey {
     }
 }
 
-/// The node of page n, which has at least so many keys, all within the bounds. Faults: Device, and
-/// Damaged(n) where the page is not in use or spells no such node. No page changes.
+/// Fills the node with that of page n, which has at least so many keys, all within the bounds. Faults:
+/// Device, and Damaged(n) where the page is not in use or spells no such node; the node may then be any.
+/// No page changes.
 fn read_page<S: Store>(
     pages: &mut Pages<S>,
     order: u16,
     least: u16,
     n: u32,
     bounds: &Bounds,
-) -> Result<Node, TreeFault>
+    node: &mut Node,
+) -> Result<(), TreeFault>
     requires order { order ≤ 16 }
     requires idle { pages.old.changed ≡ false }
-    ensures exact { IsTrue pages.old.steady → (node : Node)
-        → Spells order (at pages.old.pages) n node → least ≤ length node.elements.items
-        → AreWithin bounds.now node.elements.items
-        → MatchResult result (λ r. r ≡ node) (λ fault. fault ≡ TreeFault.Device) }
-    ensures stands { IfOk result (λ node. CanStand node order) }
-    ensures spells { IsTrue pages.old.steady → IfOk result (Spells order (at pages.old.pages) n) }
-    ensures least { IfOk result (λ node. least ≤ length node.elements.items) }
-    ensures within { IfOk result (λ node. AreWithin bounds.now node.elements.items) }
+    ensures exact { IsTrue pages.old.steady → (m : Node)
+        → Spells order (at pages.old.pages) n m → least ≤ length m.elements.items
+        → AreWithin bounds.now m.elements.items
+        → MatchResult result (λ _. node.new ≡ m) (λ fault. fault ≡ TreeFault.Device) }
+    ensures stands { OnOk result (CanStand node.new order) }
+    ensures spells { IsTrue pages.old.steady
+        → OnOk result (Spells order (at pages.old.pages) n node.new) }
+    ensures least { OnOk result (least ≤ length node.new.elements.items) }
+    ensures within { OnOk result (AreWithin bounds.now node.new.elements.items) }
     ensures no_memory { IfErr result (λ fault. fault ≢ TreeFault.Memory) }
     ensures device { pages.new.failures ≡ counted pages.old.failures (is_device result) }
     ensures unchanged { pages.new
@@ -149,14 +152,14 @@ fn read_page<S: Store>(
         Err(FetchFault::Device) => return Err(TreeFault::Device),
         Err(FetchFault::OutOfRange) => return Err(TreeFault::Damaged(n)),
     }
-    let Ok(node) = decode(&page, order) else {
+    if decode_into(&page, order, node).is_err() {
         return Err(TreeFault::Damaged(n));
-    };
+    }
     let elements = node.elements.as_slice();
     if elements.len() < least as usize || !are_within(bounds, elements) {
         return Err(TreeFault::Damaged(n));
     }
-    Ok(node)
+    Ok(())
 }
 
 /// Goes through the tree below page n, whose number stands in page `from`. So many more levels are
@@ -194,7 +197,8 @@ pub(crate) fn survey_page<S: Store>(
     if !survey.reach(n) {
         return Err(TreeFault::Damaged(from));
     }
-    let node = read_page(pages, order, least, n, bounds)?;
+    let mut node = Node::blank();
+    read_page(pages, order, least, n, bounds, &mut node)?;
     let elements = node.elements.as_slice();
     match node.kind {
         NodeKind::Leaf => {

@@ -14,25 +14,25 @@ use Rattle.btree_delete.specs.Survey.{Seen, after, below_page, below_sons, Surve
 use Rattle.btree_delete.proofs.SurveyFacts.{empty, Head, with_leaf, leaf_found, inner_found, head, leaf_exact, leaf_after, inner_exact, last_found, last_exact, more_found, more_exact, sons_found, sons_sound, match_ok}
 use Rattle.btree_delete.proofs.surveying.+surveying.Goals as goal
 
-pub survey_page-returns-in_err-node-clause-exact : goal.survey_page-returns-in_err-node-clause-exact
-survey_page-returns-in_err-node-clause-exact g t c = λ steady h level es us sound.
+pub survey_page-returns-in_err-read_page-clause-exact : goal.survey_page-returns-in_err-read_page-clause-exact
+survey_page-returns-in_err-read_page-clause-exact g t c = λ steady h level es us sound.
     let p = err_from_is_err_and c.from_residual.result c.from_residual.ensures.1 in
     let top = head c.args.order (at c.args.pages.now.pages) c.args.least c.args.left c.args.n c.args.bounds.now c.args.survey.now h level es us sound in
-    rw (p.1, p.2) (c.in_err-node.ensures.exact steady top.0 top.1.spells top.1.some top.1.within)
+    rw (p.1, p.2) (c.in_err-read_page.ensures.exact steady top.0 top.1.spells top.1.some top.1.within)
 
 pub survey_page-returns-then-add_leaf-clause-found : goal.survey_page-returns-then-add_leaf-clause-found
 survey_page-returns-then-add_leaf-clause-found g t c = λ steady.
-    let node = c.in_ok-node.node in
+    let node = c.read_page.new.node in
     leaf_found c.args.order (at c.args.pages.now.pages) c.args.least c.args.left c.args.n c.args.bounds.now node c.args.survey.now c.reach.new.self c.add_leaf.new.self c.args.pages.now.reads c.read_page.new.pages.reads
-    (c.in_ok-node.ensures.spells steady) c.in-Leaf.is c.in_ok-node.ensures.least c.in_ok-node.ensures.within (c.if-not-reach.ensures.unmet refl) (c.if-not-reach.ensures.reached refl) (c.if-add_leaf.ensures.fits refl)
+    (c.in_ok-read_page.ensures.spells steady) c.in-Leaf.is c.in_ok-read_page.ensures.least c.in_ok-read_page.ensures.within (c.if-not-reach.ensures.unmet refl) (c.if-not-reach.ensures.reached refl) (c.if-add_leaf.ensures.fits refl)
     (c.if-add_leaf.ensures.added refl ∙ ap (λ (els : List Element). with_leaf c.args.left (length els) c.reach.new.self) c.as_slice-elements.ensures.value)
-    c.in_ok-node.ensures.one_read
+    c.in_ok-read_page.ensures.one_read
 
 pub survey_page-returns-then-add_leaf-clause-exact : goal.survey_page-returns-then-add_leaf-clause-exact
 survey_page-returns-then-add_leaf-clause-exact g t c = λ steady h level es us sound.
-    let node = c.in_ok-node.node in
+    let node = c.read_page.new.node in
     let top = head c.args.order (at c.args.pages.now.pages) c.args.least c.args.left c.args.n c.args.bounds.now c.args.survey.now h level es us sound in
-    let same : node ≡ top.0 = c.in_ok-node.ensures.exact steady top.0 top.1.spells top.1.some top.1.within in
+    let same : node ≡ top.0 = c.in_ok-read_page.ensures.exact steady top.0 top.1.spells top.1.some top.1.within in
     let here = subst (λ (n : Node). Head c.args.order (at c.args.pages.now.pages) c.args.least c.args.left c.args.n c.args.bounds.now c.args.survey.now h level es us n) (sym same) top.1 in
     let is = leaf_exact c.args.order (at c.args.pages.now.pages) c.args.least c.args.left c.args.n c.args.bounds.now node c.args.survey.now h level es us c.in-Leaf.is sound here in
     leaf_after level c.args.left c.args.n node es us c.args.survey.now c.reach.new.self c.add_leaf.new.self is.0 is.1 is.2 (c.if-not-reach.ensures.reached refl)
@@ -40,38 +40,38 @@ survey_page-returns-then-add_leaf-clause-exact g t c = λ steady h level es us s
 
 pub survey_page-returns-else-add_leaf-clause-exact : goal.survey_page-returns-else-add_leaf-clause-exact
 survey_page-returns-else-add_leaf-clause-exact g t c = λ steady h level es us sound.
-    let node = c.in_ok-node.node in
+    let node = c.read_page.new.node in
     let top = head c.args.order (at c.args.pages.now.pages) c.args.least c.args.left c.args.n c.args.bounds.now c.args.survey.now h level es us sound in
-    let same : node ≡ top.0 = c.in_ok-node.ensures.exact steady top.0 top.1.spells top.1.some top.1.within in
+    let same : node ≡ top.0 = c.in_ok-read_page.ensures.exact steady top.0 top.1.spells top.1.some top.1.within in
     let here = subst (λ (n : Node). Head c.args.order (at c.args.pages.now.pages) c.args.least c.args.left c.args.n c.args.bounds.now c.args.survey.now h level es us n) (sym same) top.1 in
     let is = leaf_exact c.args.order (at c.args.pages.now.pages) c.args.least c.args.left c.args.n c.args.bounds.now node c.args.survey.now h level es us c.in-Leaf.is sound here in
     absurd (c.if-add_leaf.ensures.uneven refl (subst (λ (s : Seen). (s.leaf ≡ None) ⊎ (s.leaf ≡ Some c.args.left)) (sym (c.if-not-reach.ensures.reached refl)) (subst (λ (l : ℕ). (c.args.survey.now.leaf ≡ None) ⊎ (c.args.survey.now.leaf ≡ Some l)) is.0 sound.leaf)))
 
 pub survey_page-returns-else-left-eq0-clause-found : goal.survey_page-returns-else-left-eq0-clause-found
 survey_page-returns-else-left-eq0-clause-found g t c = λ steady.
-    let node = c.in_ok-node.node in
+    let node = c.read_page.new.node in
     let k = c.args.order in
     let pages = at c.args.pages.now.pages in
     let pages2 = at c.read_page.new.pages.pages in
     let pages_is : pages2 ≡ pages = ap (λ (v : PagesView). at v.pages) c.read_page.ensures.unchanged in
-    let between : Between c.args.bounds.now c.as_slice-elements.result.now = subst (Between c.args.bounds.now) (sym c.as_slice-elements.ensures.value) (record { ascends = c.in_ok-node.ensures.stands.ascends; within = c.in_ok-node.ensures.within }) in
+    let between : Between c.args.bounds.now c.as_slice-elements.result.now = subst (Between c.args.bounds.now) (sym c.as_slice-elements.ensures.value) (record { ascends = c.in_ok-read_page.ensures.stands.ascends; within = c.in_ok-read_page.ensures.within }) in
     on_ok c.survey_sons.result (Surveyed (below_sons k pages2 c.as_slice.result.now c.as_slice-elements.result.now) (c.args.left - 1) c.args.bounds.now c.reach.new.self c.survey_sons.new.survey c.read_page.new.pages.reads c.survey_sons.new.pages.reads)
     (Surveyed (below_page k pages c.args.least c.args.n) c.args.left c.args.bounds.now c.args.survey.now c.survey_sons.new.survey c.args.pages.now.reads c.survey_sons.new.pages.reads)
     (λ sub. inner_found k pages c.args.least c.args.left c.args.n c.args.bounds.now node c.args.survey.now c.reach.new.self c.survey_sons.new.survey c.args.pages.now.reads c.read_page.new.pages.reads c.survey_sons.new.pages.reads
-    (c.in_ok-node.ensures.spells steady) c.in-Inner.is c.in_ok-node.ensures.least (omega arith) (c.if-not-reach.ensures.unmet refl) (c.if-not-reach.ensures.reached refl) c.in_ok-node.ensures.one_read
+    (c.in_ok-read_page.ensures.spells steady) c.in-Inner.is c.in_ok-read_page.ensures.least (omega arith) (c.if-not-reach.ensures.unmet refl) (c.if-not-reach.ensures.reached refl) c.in_ok-read_page.ensures.one_read
     (sons_found k pages pages2 node.sons.items c.as_slice.result.now node.elements.items c.as_slice-elements.result.now (c.args.left - 1) c.args.bounds.now c.reach.new.self c.survey_sons.new.survey c.read_page.new.pages.reads c.survey_sons.new.pages.reads
     pages_is c.as_slice.ensures.value c.as_slice-elements.ensures.value sub))
     (c.survey_sons.ensures.found (ap (λ (v : PagesView). v.steady) c.read_page.ensures.unchanged ∙ steady) between)
 
 pub survey_page-returns-else-left-eq0-clause-exact : goal.survey_page-returns-else-left-eq0-clause-exact
 survey_page-returns-else-left-eq0-clause-exact g t c = λ steady h level es us sound.
-    let node = c.in_ok-node.node in
+    let node = c.read_page.new.node in
     let k = c.args.order in
     let pages = at c.args.pages.now.pages in
     let pages2 = at c.read_page.new.pages.pages in
     let pages_is : pages2 ≡ pages = ap (λ (v : PagesView). at v.pages) c.read_page.ensures.unchanged in
     let top = head k pages c.args.least c.args.left c.args.n c.args.bounds.now c.args.survey.now h level es us sound in
-    let same : node ≡ top.0 = c.in_ok-node.ensures.exact steady top.0 top.1.spells top.1.some top.1.within in
+    let same : node ≡ top.0 = c.in_ok-read_page.ensures.exact steady top.0 top.1.spells top.1.some top.1.within in
     let here = subst (λ (n : Node). Head k pages c.args.least c.args.left c.args.n c.args.bounds.now c.args.survey.now h level es us n) (sym same) top.1 in
     let down = inner_exact k pages c.args.least c.args.left c.args.n c.args.bounds.now node c.args.survey.now c.reach.new.self h level es us c.in-Inner.is (c.if-not-reach.ensures.reached refl) sound here in
     match_ok c.survey_sons.result (c.survey_sons.new.survey ≡ after level es down.below c.reach.new.self) (c.survey_sons.new.survey ≡ after level es us c.args.survey.now) (λ fault. fault ≡ Device) (down.back c.survey_sons.new.survey)
