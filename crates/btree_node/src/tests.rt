@@ -5,8 +5,8 @@ ghost use Rattle.btree_node.specs.Spelling.{SonsFit, CanStand};
 use crate::decoding::{ascends, sons_stand};
 use crate::layouts::{KEY_WIDTH, RECORD_WIDTH};
 use crate::{
-    Header, HeaderFault, Node, NodeFault, NodeKind, catenate, decode, distribute, encode, place_of,
-    read_header, split, write_header,
+    Header, HeaderFault, Node, NodeFault, NodeKind, catenate, decode, decode_into, distribute,
+    encode, place_of, read_header, split, write_header,
 };
 use arrayvec::ArrayVec;
 use rec_types::{Key, Record};
@@ -182,6 +182,30 @@ fn the_three_record_file_is_read(rt: HostRuntime) -> Result<(), Fail> {
     assert_eq!(rt; root.kind, NodeKind::Inner);
     assert_eq!(rt; root.elements.as_slice(), [element(b"b", b"y")?].as_slice());
     assert_eq!(rt; root.sons.as_slice(), [1, 2].as_slice());
+    Ok(())
+}
+
+#[test]
+fn a_node_is_read_into_again(rt: HostRuntime) -> Result<(), Fail> {
+    let pages = three_record_file();
+    let mut node = Node::blank();
+    decode_into(&pages[3], 1, &mut node)?;
+    assert_eq!(rt; node, inner(element(b"b", b"y")?, 1, 2));
+    decode_into(&pages[1], 1, &mut node)?;
+    assert_eq!(rt; node, leaf(element(b"a", b"x")?));
+    Ok(())
+}
+
+#[test]
+fn keys_and_records_in_their_fields(rt: HostRuntime) -> Result<(), Fail> {
+    let field = b"ab\x00\x00\x00\x00\x00\x00\x00\x00\x00\x00\x00\x00\x00\x00";
+    assert_eq!(rt; Key::in_field(field, 2), Some(Key::new(b"ab")?));
+    assert_eq!(rt; Key::in_field(field, 1), None);
+    let mut field = [0; 32];
+    assert_eq!(rt; Record::in_field(&field, 0), Some(Record::new(b"")?));
+    field[31] = b'z';
+    assert_eq!(rt; Record::in_field(&field, 32), Some(Record::new(&field)?));
+    assert_eq!(rt; Record::in_field(&field, 31), None);
     Ok(())
 }
 
