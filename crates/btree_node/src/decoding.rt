@@ -47,6 +47,20 @@ pub fn decode_into(page: &[u8; 4096], k: u16, node: &mut Node) -> Result<(), Nod
     if read_first(page, k, node) {
         return Ok(());
     }
+    decode_by_tests(page, k, node)
+}
+
+/// The same by the tests one by one. It is never inlined, so that the quick pass doesn't clear its
+/// locals.
+#[cold]
+#[inline(never)]
+fn decode_by_tests(page: &[u8; 4096], k: u16, node: &mut Node) -> Result<(), NodeFault>
+    requires { k ≤ 16 }
+    ensures found { OnOk result (CanStand node.new k × (page.now ≡ spelling node.new k)) }
+    ensures only { (n : Node) → CanStand n k → page.now ≡ spelling n k
+        → IsOk result × (node.new ≡ n) }
+    ensures fault { IfErr result (λ e. FirstFault page.now k e) }
+{
     match decode_in(FIRST_LAYOUT, page, k) {
         Ok(read) => {
             *node = read;
