@@ -16,9 +16,13 @@ mod insertions;
 #[cfg(test)]
 mod large_scripts;
 #[cfg(test)]
+mod lies;
+#[cfg(test)]
 mod logs;
 #[cfg(test)]
 mod long_scripts;
+#[cfg(test)]
+mod lying;
 #[cfg(test)]
 mod program;
 #[cfg(test)]
@@ -35,5 +39,7 @@ mod stores;
 mod table_files;
 #[cfg(test)]
 mod tables;
+#[cfg(test)]
+mod turns;
 #[cfg(test)]
 mod values;

@@ -46,6 +46,24 @@ pub const STOPPED: Row<'static> = Row {
     commands: 14,
 };
 
+pub const SPLITS: Row<'static> = Row {
+    name: "keys split and catenate",
+    limits: (1_000_000, 4_000_000, 1_000_000),
+    failing: &[],
+    script: "begin\nput 1 a =v\nput 1 b =v\nput 1 c =v\nput 1 d =v\nput 1 e =v\nput 1 f =v\nput 1 g =v\ndel 1 a\ndel 1 c\ndel 1 b\nback 1 0\nlist\n",
+    replies: "ok 1\nok none\nok none\nok none\nok none\nok none\nok none\nok none\nok =v\nok =v\nok =v\nok 10\nok 0\n",
+    commands: 13,
+};
+
+pub const BESIDE_A_ROOT: Row<'static> = Row {
+    name: "an owned key is held, 2",
+    limits: (1_000_000, 4_000_000, 1_000_000),
+    failing: &[],
+    script: "begin\nbegin\nput 1 b =1\nput 2 a =2\nput 2 c =3\nback 1 0\nlist\n",
+    replies: "ok 1\nok 2\nok none\nok none\nok none\nok 1\n- a =2 @2\n- c =3 @2\nok 2\n",
+    commands: 7,
+};
+
 #[test]
 fn what_one_transaction_sees(rt: HostRuntime) -> Result<(), Fail> {
     for row in [
@@ -114,14 +132,7 @@ fn what_one_transaction_sees(rt: HostRuntime) -> Result<(), Fail> {
             replies: "ok 1\nok none\nbad KeyTooLong\nok none\nbad RecordTooLong\nok none\n- %00 =abcdefghijklmnopqrstuvwxyz012345 @1\n- %25zz =%C3%A9%25 @1\n- abcdefghijklmnop = @1\nok 3\n",
             commands: 5,
         },
-        Row {
-            name: "keys split and catenate",
-            limits: (1_000_000, 4_000_000, 1_000_000),
-            failing: &[],
-            script: "begin\nput 1 a =v\nput 1 b =v\nput 1 c =v\nput 1 d =v\nput 1 e =v\nput 1 f =v\nput 1 g =v\ndel 1 a\ndel 1 c\ndel 1 b\nback 1 0\nlist\n",
-            replies: "ok 1\nok none\nok none\nok none\nok none\nok none\nok none\nok none\nok =v\nok =v\nok =v\nok 10\nok 0\n",
-            commands: 13,
-        },
+        SPLITS,
         Row {
             name: "keys are listed in their order",
             limits: (1_000_000, 4_000_000, 1_000_000),
@@ -156,14 +167,7 @@ fn what_several_transactions_see(rt: HostRuntime) -> Result<(), Fail> {
             replies: "ok 1\nok 2\nok none\nno Held 1\nok none\nok 1\nok none\nok\nok =3\nok 1\n- a =2\n- b =3\nok 2\nno NoSuchTx\n",
             commands: 12,
         },
-        Row {
-            name: "an owned key is held, 2",
-            limits: (1_000_000, 4_000_000, 1_000_000),
-            failing: &[],
-            script: "begin\nbegin\nput 1 b =1\nput 2 a =2\nput 2 c =3\nback 1 0\nlist\n",
-            replies: "ok 1\nok 2\nok none\nok none\nok none\nok 1\n- a =2 @2\n- c =3 @2\nok 2\n",
-            commands: 7,
-        },
+        BESIDE_A_ROOT,
         OWNER_LEFT,
         Row {
             name: "a partial rollback frees what no change names, 2",

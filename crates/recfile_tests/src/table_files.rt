@@ -27,7 +27,7 @@ fn page_of(kind: u8, key: u8, record: u8, left: u8, right: u8) -> [u8; 4096] {
 }
 
 /// The file of order 1 with the records x, y and z at the keys a, b and c.
-fn three_records() -> [[u8; 4096]; 4] {
+pub fn three_records() -> [[u8; 4096]; 4] {
     [
         page_with(b"BMKRFILE\x00\x01\x00\x01\x00\x00\x00\x04\x00\x00\x00\x03\x00\x00\x00\x03\x01"),
         page_of(1, b'a', b'x', 0, 0),
@@ -37,7 +37,7 @@ fn three_records() -> [[u8; 4096]; 4] {
 }
 
 /// A store with these pages, and a tail.
-fn store_of(
+pub fn store_of(
     rt: &impl Abort,
     alloc: Global,
     pages: &[[u8; 4096]],
@@ -178,8 +178,102 @@ fn a_file_with_more_records_than_the_limit(rt: HostRuntime) -> Result<(), Fail> 
     check_fault(&rt, rt.alloc(), &change, Some(OpenFault::TooManyRecords))
 }
 
+/// Looks that two copies of the changed file are refused alike, and as is expected.
+fn check_twice(
+    rt: &impl Abort,
+    alloc: Global,
+    change: &Change,
+    fault: Option<OpenFault>,
+) -> Result<(), Fail> {
+    let one = fault_of(rt, alloc, change)?;
+    let other = fault_of(rt, alloc, change)?;
+    let place = (change.pages, change.tail, change.page, change.byte);
+    assert_eq!(rt; (place, one), (place, fault));
+    assert_eq!(rt; (place, other), (place, fault));
+    Ok(())
+}
+
+/// Why the header isn't read once this byte of it is turned into its complement.
+fn fault_of_header(byte: usize) -> OpenFault {
+    match byte {
+        0..8 => OpenFault::BadMagic,
+        8 => OpenFault::BadVersion(0xff01),
+        9 => OpenFault::BadVersion(0x00fe),
+        10 | 11 => OpenFault::BadOrder,
+        20..24 => OpenFault::WrongCount,
+        _ => OpenFault::BadHeader,
+    }
+}
+
+/// Why the file isn't opened once this byte is turned into its complement. A record may be any byte, and the last key
+/// any greater one; the key in the root is then above the key on its right.
+fn fault_of_byte(page: usize, byte: usize) -> Option<OpenFault> {
+    match (page, byte) {
+        (0, _) => Some(fault_of_header(byte)),
+        (_, 26) | (2, 9) => None,
+        (1, _) => Some(OpenFault::Damaged(1)),
+        (2, _) | (3, 9) => Some(OpenFault::Damaged(2)),
+        _ => Some(OpenFault::Damaged(3)),
+    }
+}
+
+/// Turns each byte of a page into its complement.
+fn check_complements(
+    rt: &impl Abort,
+    alloc: Global,
+    page: usize,
+    bytes: usize,
+) -> Result<(), Fail> {
+    let pages = three_records();
+    assert!(rt; page < 4 && bytes <= 4096);
+    for byte in 0..bytes {
+        let change = Change {
+            page,
+            byte,
+            value: !pages[page][byte],
+            ..NOTHING
+        };
+        check_twice(rt, alloc, &change, fault_of_byte(page, byte))?;
+    }
+    Ok(())
+}
+
+#[test]
+fn each_byte_is_turned_into_its_complement(rt: HostRuntime) -> Result<(), Fail> {
+    for page in 0..4 {
+        check_complements(&rt, rt.alloc(), page, 4096)?;
+    }
+    Ok(())
+}
+
+/// Cuts the file within a page, and before it.
+fn check_cuts(rt: &impl Abort, alloc: Global, pages: usize, most: u16) -> Result<(), Fail> {
+    for tail in 0..most {
+        let fault = if tail == 0 && pages > 0 {
+            OpenFault::BadHeader
+        } else {
+            OpenFault::BadLength
+        };
+        let change = Change {
+            pages,
+            tail,
+            ..NOTHING
+        };
+        check_twice(rt, alloc, &change, Some(fault))?;
+    }
+    Ok(())
+}
+
+#[test]
+fn a_file_is_cut_to_each_length(rt: HostRuntime) -> Result<(), Fail> {
+    for pages in 0..4 {
+        check_cuts(&rt, rt.alloc(), pages, 4096)?;
+    }
+    Ok(())
+}
+
 /// Opens the store's file, of at most nine records.
-fn open<S: Store>(alloc: Global, store: S) -> Result<TreeTable<S>, Fail> {
+pub fn open<S: Store>(alloc: Global, store: S) -> Result<TreeTable<S>, Fail> {
     match TreeTable::open_from(alloc, store, Limits::new(9, 2, 1)?) {
         Ok(table) => Ok(table),
         Err(stop) => Err(Fail::from(stop.fault)),

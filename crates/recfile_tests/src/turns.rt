@@ -1,0 +1,356 @@
+use crate::answers::{answers_to, calls_of, push_answer, text_of};
+use crate::rows::{BESIDE_A_ROOT, CHARGED_KEYS, COMMIT_BESIDE, SPLITS, TWO_ROLLBACKS};
+use crate::running::{Row, flaky_file, run, tree};
+use crate::table_files::{open, store_of, three_records};
+use btree_delete::{CloseStop, TreeTable};
+use page_store::{FlakyStore, MemStore, Store, WriteFault};
+use rec_types::{Limits, SortedTable, Table};
+use recfile::run_in;
+use record_file::{
+    AbortFault, Answer, Call, EntriesFault, GetFault, PutFault, RecordFile, RemoveFault,
+    ResumeFault, RollbackToFault, make_call,
+};
+use std::alloc::Global;
+use std::process::Abort;
+use std::test::Fail;
+
+/// Whether the device refused the call.
+fn is_refused(answer: &Answer) -> bool {
+    matches!(
+        answer,
+        Answer::Put(Err(PutFault::Device))
+            | Answer::Remove(Err(RemoveFault::Device))
+            | Answer::Get(Err(GetFault::Device))
+            | Answer::Entries(Err(EntriesFault::Device))
+    )
+}
+
+/// How many changes a rollback had taken back when it was stopped.
+fn undone_before(answer: &Answer) -> Option<u32> {
+    match answer {
+        Answer::RollbackTo(Err(RollbackToFault::Stopped { undone, .. })) => Some(*undone),
+        Answer::Abort(Err(AbortFault::Stopped { undone, .. })) => Some(*undone),
+        Answer::Resume(Err(ResumeFault::Stopped { undone, .. })) => Some(*undone),
+        _ => None,
+    }
+}
+
+/// What the call would have answered, had its rollback not been stopped after so many changes, by what going on
+/// with it answers.
+fn whole<T: Table>(
+    file: &mut RecordFile<T>,
+    call: Call,
+    undone: u32,
+    faults: &mut String,
+) -> Result<Answer, Fail> {
+    let (Call::RollbackTo(tx, _) | Call::Abort(tx) | Call::Resume(tx)) = call else {
+        return Err(Fail::from("another call was stopped"));
+    };
+    let resumed = file.resume(tx);
+    push_answer(faults, &Answer::Resume(resumed))?;
+    let Ok(more) = resumed else {
+        return Err(Fail::from("a rollback was stopped twice"));
+    };
+    let all = undone.saturating_add(more);
+    Ok(match call {
+        Call::RollbackTo(..) => Answer::RollbackTo(Ok(all)),
+        Call::Abort(_) => Answer::Abort(Ok(all)),
+        _ => Answer::Resume(Ok(all)),
+    })
+}
+
+/// Makes the call, once more where the device refused it, and goes on where it stopped its rollback. What was said of
+/// that goes to the text of the faults.
+fn persist<T: Table>(
+    file: &mut RecordFile<T>,
+    call: Call,
+    faults: &mut String,
+) -> Result<Answer, Fail> {
+    let answer = make_call(file, call);
+    if is_refused(&answer) {
+        push_answer(faults, &answer)?;
+        return Ok(make_call(file, call));
+    }
+    match undone_before(&answer) {
+        Some(undone) => {
+            push_answer(faults, &answer)?;
+            whole(file, call, undone, faults)
+        }
+        None => Ok(answer),
+    }
+}
+
+/// Makes the calls so: what they answered in the end, a line each.
+fn persist_all<T: Table>(
+    alloc: Global,
+    file: &mut RecordFile<T>,
+    calls: &[Call],
+    faults: &mut String,
+) -> Result<String, Fail> {
+    let mut text = String::new(alloc);
+    for &call in calls {
+        let answer = persist(file, call, faults)?;
+        push_answer(&mut text, &answer)?;
+    }
+    Ok(text)
+}
+
+/// A file over the table.
+fn file_over<T: Table>(rt: &impl Abort, alloc: Global, table: T) -> Result<RecordFile<T>, Fail> {
+    let limits = Limits::new(9, 99, 9)?;
+    assert!(rt; table.limit() == limits.records());
+    Ok(RecordFile::new(alloc, table, limits))
+}
+
+/// The file of three records, in a store that fails at this read.
+fn with_read_failing(
+    rt: &impl Abort,
+    alloc: Global,
+    number: u64,
+) -> Result<RecordFile<TreeTable<FlakyStore<MemStore>>>, Fail> {
+    let store = store_of(rt, alloc, &three_records(), 0)?;
+    let reads = Vec::from_slice(alloc, &[number])?;
+    let table = open(alloc, FlakyStore::new(store, reads, Vec::new(alloc)))?;
+    file_over(rt, alloc, table)
+}
+
+/// Makes the calls over the file of three records with each read failing in turn, from this one on, until none fails.
+/// Their answers are the same each time. Answers what was said of the failures.
+fn fail_each_read(
+    rt: &impl Abort,
+    alloc: Global,
+    calls: &[Call],
+    wanted: &str,
+    first: u64,
+    most: u64,
+) -> Result<String, Fail> {
+    let mut all = String::new(alloc);
+    for number in first..most {
+        let mut file = with_read_failing(rt, alloc, number)?;
+        let mut faults = String::new(alloc);
+        let text = persist_all(alloc, &mut file, calls, &mut faults)?;
+        assert_eq!(rt; (number, text.as_str()), (number, wanted));
+        if faults.is_empty() {
+            return Ok(all);
+        }
+        all.push_str(&faults)?;
+    }
+    Err(Fail::from("a read failed each time"))
+}
+
+// Opening makes four reads, and they are good.
+#[test]
+fn each_read_fails_in_turn(rt: HostRuntime) -> Result<(), Fail> {
+    let script = "begin\nbegin\nput 1 a =1\nput 1 a =2\nput 2 c =3\nback 1 0\nlist\n";
+    let wanted = "1\n2\nx\n1\nz\nOk(2)\na=x b=y c=3@2 \n";
+    let faults =
+        "Device\nDevice\nDevice\nDevice\nDevice\nErr(Stopped { undone: 0, left: 2, cause: Device })\nOk(2)\nErr(Stopped { undone: 1, left: 1, cause: Device })\nOk(1)\nDevice\n";
+    let alloc = rt.alloc();
+    let calls = calls_of(alloc, script)?;
+    let all = fail_each_read(&rt, alloc, &calls, wanted, 5, 99)?;
+    assert_eq!(rt; all.as_str(), faults);
+    Ok(())
+}
+
+/// Makes the calls over the file, and expects these answers, and a failure where one is to be met.
+fn expect_persistent<T: Table>(
+    rt: &impl Abort,
+    alloc: Global,
+    file: &mut RecordFile<T>,
+    calls: &[Call],
+    wanted: &str,
+    fails: bool,
+) -> Result<(), Fail> {
+    let mut faults = String::new(alloc);
+    let text = persist_all(alloc, file, calls, &mut faults)?;
+    assert_eq!(rt; text.as_str(), wanted);
+    assert!(rt; faults.is_empty() != fails);
+    Ok(())
+}
+
+/// Makes the row's calls over a sorted table and over a tree of order 1 with each `set` failing in turn, of which there
+/// are so many: the answers are those of a run in which none fails.
+fn fail_each_set(rt: &impl Abort, alloc: Global, row: &Row<'_>, sets: u64) -> Result<(), Fail> {
+    let (records, log_records, begins) = row.limits;
+    let limits = Limits::new(records, log_records, begins)?;
+    let calls = calls_of(alloc, row.script)?;
+    let sorted = SortedTable::new(alloc, limits);
+    let mut file = flaky_file(rt, alloc, sorted, limits, &[])?;
+    let wanted = text_of(alloc, &answers_to(alloc, &mut file, &calls)?)?;
+    for number in 1..=sets + 1 {
+        let fails = number <= sets;
+        let sorted = SortedTable::new(alloc, limits);
+        let mut file = flaky_file(rt, alloc, sorted, limits, &[number])?;
+        expect_persistent(rt, alloc, &mut file, &calls, &wanted, fails)?;
+        let tree = tree(alloc, 1, limits)?;
+        let mut file = flaky_file(rt, alloc, tree, limits, &[number])?;
+        expect_persistent(rt, alloc, &mut file, &calls, &wanted, fails)?;
+    }
+    Ok(())
+}
+
+#[test]
+fn each_set_fails_in_turn(rt: HostRuntime) -> Result<(), Fail> {
+    for (row, sets) in [
+        (COMMIT_BESIDE, 3),
+        (BESIDE_A_ROOT, 4),
+        (TWO_ROLLBACKS, 8),
+        (CHARGED_KEYS, 4),
+        (SPLITS, 20),
+    ] {
+        fail_each_set(&rt, rt.alloc(), &row, sets)?;
+    }
+    Ok(())
+}
+
+/// What the file lists.
+fn list<T: Table>(alloc: Global, file: &mut RecordFile<T>) -> Result<String, Fail> {
+    let (text, _) = run(alloc, file, "list\n")?;
+    Ok(text)
+}
+
+/// Expects the table to have x at the key a alone, as a file over it lists it.
+fn expect_record<T: Table>(rt: &impl Abort, alloc: Global, table: T) -> Result<T, Fail> {
+    let mut file = file_over(rt, alloc, table)?;
+    let text = list(alloc, &mut file)?;
+    assert_eq!(rt; text.as_str(), "- a =x\nok 1\n");
+    match file.into_table() {
+        Ok(table) => Ok(table),
+        Err(_) => Err(Fail::from("a transaction is open")),
+    }
+}
+
+/// A table of order 1 in the store, in which a transaction has put x at the key a.
+fn filled<S: Store>(rt: &impl Abort, alloc: Global, store: S) -> Result<TreeTable<S>, Fail> {
+    let Ok(table) = TreeTable::create(alloc, store, 1, Limits::new(9, 2, 1)?) else {
+        return Err(Fail::from("the table isn't made"));
+    };
+    let mut file = file_over(rt, alloc, table)?;
+    let (_, end) = run(alloc, &mut file, "begin\nput 1 a =x\ncommit 1\n")?;
+    assert_eq!(rt; end, Ok(3));
+    match file.into_table() {
+        Ok(table) => expect_record(rt, alloc, table),
+        Err(_) => Err(Fail::from("a transaction is open")),
+    }
+}
+
+/// Expects a table that was not closed to have its record still, and to be closed again.
+fn expect_second_close<S: Store>(
+    rt: &impl Abort,
+    alloc: Global,
+    stop: CloseStop<S>,
+) -> Result<(), Fail> {
+    assert!(rt; stop.fault == WriteFault::Device);
+    match expect_record(rt, alloc, stop.table)?.close() {
+        Ok(store) => {
+            expect_record(rt, alloc, open(alloc, store)?)?;
+            Ok(())
+        }
+        Err(_) => Err(Fail::from("the second close failed")),
+    }
+}
+
+/// Closes a table of one record with each write, each lengthening and each sync failing in turn, until none fails, and
+/// answers how many failed.
+fn fail_each_write(rt: &impl Abort, alloc: Global, most: u64) -> Result<u64, Fail> {
+    for number in 1..most {
+        let writes = Vec::from_slice(alloc, &[number])?;
+        let store = FlakyStore::new(store_of(rt, alloc, &[], 0)?, Vec::new(alloc), writes);
+        match filled(rt, alloc, store)?.close() {
+            Ok(_) => return Ok(number - 1),
+            Err(stop) => expect_second_close(rt, alloc, stop)?,
+        }
+    }
+    Err(Fail::from("a write failed each time"))
+}
+
+// The pages, the header twice, the page of the record, and three syncs.
+#[test]
+fn each_write_of_a_close_fails_in_turn(rt: HostRuntime) -> Result<(), Fail> {
+    assert_eq!(rt; fail_each_write(&rt, rt.alloc(), 99)?, 7);
+    Ok(())
+}
+
+/// A session over the file of three records, in a store that fails at these reads and writes: its replies and the line
+/// of its fault, and its status.
+fn session(
+    rt: &impl Abort,
+    alloc: Global,
+    reads: &[u64],
+    writes: &[u64],
+    script: &str,
+) -> Result<(String, u8), Fail> {
+    let reads = Vec::from_slice(alloc, reads)?;
+    let writes = Vec::from_slice(alloc, writes)?;
+    let store = FlakyStore::new(store_of(rt, alloc, &three_records(), 0)?, reads, writes);
+    let mut reader = script.as_bytes();
+    let (mut out, mut err) = (Vec::new(alloc), Vec::new(alloc));
+    let end = run_in(
+        alloc,
+        store,
+        Limits::new(9, 99, 9)?,
+        &mut reader,
+        &mut out,
+        &mut err,
+    );
+    let mut text = String::from_utf8(out)?;
+    text.push_str(&String::from_utf8(err)?)?;
+    Ok((text, end.status))
+}
+
+// Reads 1 to 4 are those of opening, 5 to 8 those of the script, and the last two those of ending its transaction.
+#[test]
+fn each_read_of_a_session_fails_in_turn(rt: HostRuntime) -> Result<(), Fail> {
+    let script = "begin\nput 1 a =1\nput 1 c =2\n";
+    for (number, text, status) in [
+        (1, "recfile: Device\n", 1),
+        (2, "recfile: Device\n", 1),
+        (3, "recfile: Device\n", 1),
+        (4, "recfile: Device\n", 1),
+        (5, "ok 1\nno Device\nok =z\n", 0),
+        (6, "ok 1\nno Device\nok =z\n", 0),
+        (7, "ok 1\nok =x\nno Device\n", 0),
+        (8, "ok 1\nok =x\nno Device\n", 0),
+        (9, "ok 1\nok =x\nok =z\nrecfile: Stopped 1 0 2 Device\n", 4),
+        (10, "ok 1\nok =x\nok =z\nrecfile: Stopped 1 1 1 Device\n", 4),
+        (11, "ok 1\nok =x\nok =z\n", 0),
+    ] {
+        let (told, end) = session(&rt, rt.alloc(), &[number], &[], script)?;
+        assert_eq!(rt; (number, told.as_str(), end), (number, text, status));
+    }
+    Ok(())
+}
+
+#[test]
+fn each_write_of_a_session_fails_in_turn(rt: HostRuntime) -> Result<(), Fail> {
+    let script = "begin\nput 1 a =1\ncommit 1\n";
+    for number in 1..=7 {
+        let (told, end) = session(&rt, rt.alloc(), &[], &[number], script)?;
+        assert_eq!(rt;
+            (number, told.as_str(), end),
+            (number, "ok 1\nok =x\nok\nrecfile: Device\n", 1)
+        );
+    }
+    let (told, end) = session(&rt, rt.alloc(), &[], &[8], script)?;
+    assert_eq!(rt; (told.as_str(), end), ("ok 1\nok =x\nok\n", 0));
+    Ok(())
+}
+
+// Opening makes two reads.
+#[test]
+fn a_look_and_a_list_are_made_again(rt: HostRuntime) -> Result<(), Fail> {
+    let alloc = rt.alloc();
+    let empty = store_of(&rt, alloc, &[], 0)?;
+    let Ok(store) = filled(&rt, alloc, empty)?.close() else {
+        return Err(Fail::from("the table isn't closed"));
+    };
+    let reads = Vec::from_slice(alloc, &[3, 5])?;
+    let table = open(alloc, FlakyStore::new(store, reads, Vec::new(alloc)))?;
+    let mut file = file_over(&rt, alloc, table)?;
+    let (text, _) = run(alloc, &mut file, "begin\nget 1 a\nget 1 a\nlist\nlist\n")?;
+    assert_eq!(rt;
+        text.as_str(),
+        "ok 1\nno Device\nok =x\nno Device\n- a =x\nok 1\n"
+    );
+    Ok(())
+}
