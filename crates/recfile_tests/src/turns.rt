@@ -3,7 +3,7 @@ use crate::rows::{BESIDE_A_ROOT, CHARGED_KEYS, COMMIT_BESIDE, SPLITS, TWO_ROLLBA
 use crate::running::{Row, flaky_file, run, tree};
 use crate::table_files::{open, store_of, three_records};
 use btree_delete::{CloseStop, TreeTable};
-use page_store::{FlakyStore, MemStore, Store, WriteFault};
+use page_store::{FlakyStore, Store, WriteFault};
 use rec_types::{Limits, SortedTable, Table};
 use recfile::run_in;
 use record_file::{
@@ -63,18 +63,18 @@ fn whole<T: Table>(
 /// that goes to the text of the faults.
 fn persist<T: Table>(
     file: &mut RecordFile<T>,
-    call: Call,
+    call: &Call,
     faults: &mut String,
 ) -> Result<Answer, Fail> {
-    let answer = make_call(file, call);
+    let answer = make_call(file, *call);
     if is_refused(&answer) {
         push_answer(faults, &answer)?;
-        return Ok(make_call(file, call));
+        return Ok(make_call(file, *call));
     }
     match undone_before(&answer) {
         Some(undone) => {
             push_answer(faults, &answer)?;
-            whole(file, call, undone, faults)
+            whole(file, *call, undone, faults)
         }
         None => Ok(answer),
     }
@@ -88,7 +88,7 @@ fn persist_all<T: Table>(
     faults: &mut String,
 ) -> Result<String, Fail> {
     let mut text = String::new(alloc);
-    for &call in calls {
+    for call in calls {
         let answer = persist(file, call, faults)?;
         push_answer(&mut text, &answer)?;
     }
@@ -102,16 +102,30 @@ fn file_over<T: Table>(rt: &impl Abort, alloc: Global, table: T) -> Result<Recor
     Ok(RecordFile::new(alloc, table, limits))
 }
 
-/// The file of three records, in a store that fails at this read.
+/// Makes the calls so over a new file in the table.
+fn persist_over<T: Table>(
+    rt: &impl Abort,
+    alloc: Global,
+    table: T,
+    calls: &[Call],
+    faults: &mut String,
+) -> Result<String, Fail> {
+    let mut file = file_over(rt, alloc, table)?;
+    persist_all(alloc, &mut file, calls, faults)
+}
+
+/// Makes the calls so over the file of three records, in a store that fails at this read.
 fn with_read_failing(
     rt: &impl Abort,
     alloc: Global,
     number: u64,
-) -> Result<RecordFile<TreeTable<FlakyStore<MemStore>>>, Fail> {
+    calls: &[Call],
+    faults: &mut String,
+) -> Result<String, Fail> {
     let store = store_of(rt, alloc, &three_records(), 0)?;
     let reads = Vec::from_slice(alloc, &[number])?;
     let table = open(alloc, FlakyStore::new(store, reads, Vec::new(alloc)))?;
-    file_over(rt, alloc, table)
+    persist_over(rt, alloc, table, calls, faults)
 }
 
 /// Makes the calls over the file of three records with each read failing in turn, from this one on, until none fails.
@@ -126,9 +140,8 @@ fn fail_each_read(
 ) -> Result<String, Fail> {
     let mut all = String::new(alloc);
     for number in first..most {
-        let mut file = with_read_failing(rt, alloc, number)?;
         let mut faults = String::new(alloc);
-        let text = persist_all(alloc, &mut file, calls, &mut faults)?;
+        let text = with_read_failing(rt, alloc, number, calls, &mut faults)?;
         assert_eq!(rt; (number, text.as_str()), (number, wanted));
         if faults.is_empty() {
             return Ok(all);
@@ -152,67 +165,66 @@ fn each_read_fails_in_turn(rt: HostRuntime) -> Result<(), Fail> {
     Ok(())
 }
 
-/// Makes the calls over the file, and expects these answers, and a failure where one is to be met.
-fn expect_persistent<T: Table>(
+/// Makes the row's calls over the table with this `set` failing, where there are so many: the answers are those of a run
+/// in which none fails.
+fn fail_set<T: Table>(
     rt: &impl Abort,
     alloc: Global,
-    file: &mut RecordFile<T>,
-    calls: &[Call],
-    wanted: &str,
-    fails: bool,
+    table: T,
+    row: &Row<'_>,
+    number: u64,
+    sets: u64,
 ) -> Result<(), Fail> {
-    let mut faults = String::new(alloc);
-    let text = persist_all(alloc, file, calls, &mut faults)?;
-    assert_eq!(rt; text.as_str(), wanted);
-    assert!(rt; faults.is_empty() != fails);
-    Ok(())
-}
-
-/// Makes the row's calls over a sorted table and over a tree of order 1 with each `set` failing in turn, of which there
-/// are so many: the answers are those of a run in which none fails.
-fn fail_each_set(rt: &impl Abort, alloc: Global, row: &Row<'_>, sets: u64) -> Result<(), Fail> {
     let (records, log_records, begins) = row.limits;
     let limits = Limits::new(records, log_records, begins)?;
     let calls = calls_of(alloc, row.script)?;
     let sorted = SortedTable::new(alloc, limits);
-    let mut file = flaky_file(rt, alloc, sorted, limits, &[])?;
-    let wanted = text_of(alloc, &answers_to(alloc, &mut file, &calls)?)?;
-    for number in 1..=sets + 1 {
-        let fails = number <= sets;
-        let sorted = SortedTable::new(alloc, limits);
-        let mut file = flaky_file(rt, alloc, sorted, limits, &[number])?;
-        expect_persistent(rt, alloc, &mut file, &calls, &wanted, fails)?;
-        let tree = tree(alloc, 1, limits)?;
-        let mut file = flaky_file(rt, alloc, tree, limits, &[number])?;
-        expect_persistent(rt, alloc, &mut file, &calls, &wanted, fails)?;
+    let mut calm = flaky_file(rt, alloc, sorted, limits, &[])?;
+    let wanted = text_of(alloc, &answers_to(alloc, &mut calm, &calls)?)?;
+    let mut file = flaky_file(rt, alloc, table, limits, &[number])?;
+    let mut faults = String::new(alloc);
+    let text = persist_all(alloc, &mut file, &calls, &mut faults)?;
+    assert_eq!(rt; (row.name, text.as_str()), (row.name, wanted.as_str()));
+    assert_eq!(rt;
+        (row.name, number, faults.is_empty()),
+        (row.name, number, number > sets)
+    );
+    Ok(())
+}
+
+/// Makes the row's calls over a sorted table and over a tree of order 1 with each `set` failing in turn, of which there
+/// are so many, and once with none failing.
+fn fail_each_set(rt: &impl Abort, alloc: Global, row: &Row<'_>, sets: u64) -> Result<(), Fail> {
+    let (records, log_records, begins) = row.limits;
+    let limits = Limits::new(records, log_records, begins)?;
+    for number in 0..=sets {
+        fail_set(
+            rt,
+            alloc,
+            SortedTable::new(alloc, limits),
+            row,
+            number + 1,
+            sets,
+        )?;
+        fail_set(rt, alloc, tree(alloc, 1, limits)?, row, number + 1, sets)?;
     }
     Ok(())
 }
 
 #[test]
 fn each_set_fails_in_turn(rt: HostRuntime) -> Result<(), Fail> {
-    for (row, sets) in [
-        (COMMIT_BESIDE, 3),
-        (BESIDE_A_ROOT, 4),
-        (TWO_ROLLBACKS, 8),
-        (CHARGED_KEYS, 4),
-        (SPLITS, 20),
-    ] {
-        fail_each_set(&rt, rt.alloc(), &row, sets)?;
-    }
-    Ok(())
-}
-
-/// What the file lists.
-fn list<T: Table>(alloc: Global, file: &mut RecordFile<T>) -> Result<String, Fail> {
-    let (text, _) = run(alloc, file, "list\n")?;
-    Ok(text)
+    let alloc = rt.alloc();
+    fail_each_set(&rt, alloc, &COMMIT_BESIDE, 3)?;
+    fail_each_set(&rt, alloc, &BESIDE_A_ROOT, 4)?;
+    fail_each_set(&rt, alloc, &TWO_ROLLBACKS, 8)?;
+    fail_each_set(&rt, alloc, &CHARGED_KEYS, 4)?;
+    fail_each_set(&rt, alloc, &SPLITS, 20)
 }
 
 /// Expects the table to have x at the key a alone, as a file over it lists it.
 fn expect_record<T: Table>(rt: &impl Abort, alloc: Global, table: T) -> Result<T, Fail> {
     let mut file = file_over(rt, alloc, table)?;
-    let text = list(alloc, &mut file)?;
+    let (text, _) = run(alloc, &mut file, "list\n")?;
     assert_eq!(rt; text.as_str(), "- a =x\nok 1\n");
     match file.into_table() {
         Ok(table) => Ok(table),
@@ -250,15 +262,25 @@ fn expect_second_close<S: Store>(
     }
 }
 
+/// Whether the store closes a table of one record at the first time. Else it does at the second.
+fn is_closed<S: Store>(rt: &impl Abort, alloc: Global, store: S) -> Result<bool, Fail> {
+    match filled(rt, alloc, store)?.close() {
+        Ok(_) => Ok(true),
+        Err(stop) => {
+            expect_second_close(rt, alloc, stop)?;
+            Ok(false)
+        }
+    }
+}
+
 /// Closes a table of one record with each write, each lengthening and each sync failing in turn, until none fails, and
 /// answers how many failed.
 fn fail_each_write(rt: &impl Abort, alloc: Global, most: u64) -> Result<u64, Fail> {
-    for number in 1..most {
-        let writes = Vec::from_slice(alloc, &[number])?;
+    for failed in 0..most {
+        let writes = Vec::from_slice(alloc, &[failed + 1])?;
         let store = FlakyStore::new(store_of(rt, alloc, &[], 0)?, Vec::new(alloc), writes);
-        match filled(rt, alloc, store)?.close() {
-            Ok(_) => return Ok(number - 1),
-            Err(stop) => expect_second_close(rt, alloc, stop)?,
+        if is_closed(rt, alloc, store)? {
+            return Ok(failed);
         }
     }
     Err(Fail::from("a write failed each time"))
@@ -336,18 +358,34 @@ fn each_write_of_a_session_fails_in_turn(rt: HostRuntime) -> Result<(), Fail> {
     Ok(())
 }
 
+/// The replies to the script over a new file in the table.
+fn replies_over<T: Table>(
+    rt: &impl Abort,
+    alloc: Global,
+    table: T,
+    script: &str,
+) -> Result<String, Fail> {
+    let mut file = file_over(rt, alloc, table)?;
+    let (text, _) = run(alloc, &mut file, script)?;
+    Ok(text)
+}
+
+/// A closed file of one record.
+fn closed<S: Store>(rt: &impl Abort, alloc: Global, store: S) -> Result<S, Fail> {
+    match filled(rt, alloc, store)?.close() {
+        Ok(store) => Ok(store),
+        Err(_) => Err(Fail::from("the table isn't closed")),
+    }
+}
+
 // Opening makes two reads.
 #[test]
 fn a_look_and_a_list_are_made_again(rt: HostRuntime) -> Result<(), Fail> {
     let alloc = rt.alloc();
-    let empty = store_of(&rt, alloc, &[], 0)?;
-    let Ok(store) = filled(&rt, alloc, empty)?.close() else {
-        return Err(Fail::from("the table isn't closed"));
-    };
+    let store = closed(&rt, alloc, store_of(&rt, alloc, &[], 0)?)?;
     let reads = Vec::from_slice(alloc, &[3, 5])?;
     let table = open(alloc, FlakyStore::new(store, reads, Vec::new(alloc)))?;
-    let mut file = file_over(&rt, alloc, table)?;
-    let (text, _) = run(alloc, &mut file, "begin\nget 1 a\nget 1 a\nlist\nlist\n")?;
+    let text = replies_over(&rt, alloc, table, "begin\nget 1 a\nget 1 a\nlist\nlist\n")?;
     assert_eq!(rt;
         text.as_str(),
         "ok 1\nno Device\nok =x\nno Device\n- a =x\nok 1\n"

@@ -1,0 +1,296 @@
+#!/bin/sh
+# Runs the built program over page files with each growth of its memory refused in turn, alone and with all later ones,
+# and stopped before each of its changes of the file in turn. A number is counted upwards until a run doesn't meet it.
+#
+# Where memory is refused: the status and the fault are among those that the README names; every command that was run has
+# its reply, but the one whose reply found no memory; the file is as it was, byte for byte, where the session wasn't run
+# or couldn't be ended, and else it opens and has the records that the accepted commands leave by themselves.
+#
+# Where the program is stopped: every command has its reply; the file is as it was, or is refused as one that wasn't
+# closed, or is what a run that nobody stops leaves, byte for byte.
+set -eu
+cd "$(dirname "$0")/.."
+program=$PWD/crates/recfile_program/out/recfile_program
+room=$(mktemp -d)
+trap 'rm -rf "$room"' EXIT
+[ -x "$program" ] || {
+    echo "refusals: there is no $program: rt ci makes it, and so does rt run in crates/recfile_program"
+    exit 1
+}
+cc -O2 -shared -fPIC -o "$room/refuse.so" tests/refuse.c
+cd "$room"
+runs=0
+
+fail() {
+    echo "refusals: FAILED: $row, $variable $number: $*"
+    echo "status $status, faults and replies:"
+    cat err out
+    exit 1
+}
+
+# Runs the program with these words over the script, disturbed by the variable: its status, replies and faults.
+disturbed() {
+    rm -f met
+    runs=$((runs + 1))
+    status=0
+    env "$variable=$number" MET="$room/met" LD_PRELOAD="$room/refuse.so" \
+        "$program" "$@" < script > out 2> err || status=$?
+    [ ! -e met ] || { echo "$variable: status $status $(tr '\n' ' ' < err)" >> outcomes; }
+}
+
+# How many replies there are in a file: lines but those of a list.
+count_replies() {
+    grep -c -v '^- ' "$1" || true
+}
+
+# The commands of the script that were accepted, by their replies, and the one of that number, whose reply is missing.
+accepted_commands() {
+    grep -v '^- ' out > replies || true
+    awk -v done="$1" '
+        FILENAME == "replies" { reply[FNR] = $0; next }
+        FNR in reply ? reply[FNR] ~ /^ok/ : FNR == done' replies script
+}
+
+# The accepted replies, each with its list.
+accepted_replies() {
+    awk '/^- / { rows = rows $0 "\n"; next } /^ok/ { printf "%s%s\n", rows, $0 } { rows = "" }' out
+}
+
+# What the file of that path lists.
+list_of() {
+    printf 'list\n' > list
+    "$program" run "$1" < list
+}
+
+# Expects the file to have what the accepted commands leave, and these to have had the same replies. A rollback that was
+# stopped has another reply, and its transaction ends as if it had been aborted.
+expect_accepted() {
+    accepted_commands "$1" > alone
+    cp old calm_file
+    "$program" run $options calm_file < alone > alone_out 2> alone_err || fail "the accepted commands aren't run alone"
+    if ! grep -q '^stopped ' out; then
+        accepted_replies > kept
+        head -n "$(wc -l < kept)" alone_out | cmp -s - kept || fail "an accepted command has another reply alone"
+    fi
+    list_of file > listed || fail "the file isn't opened"
+    list_of calm_file > calm_listed
+    cmp -s listed calm_listed || fail "the file has other records than the accepted commands leave"
+}
+
+# Expects so many replies.
+expect_replies() {
+    [ "$(count_replies out)" -eq "$1" ] || fail "there aren't $1 replies"
+}
+
+expect_old() {
+    cmp -s file old || fail "the file isn't as it was"
+}
+
+# Expects one of the faults that a refused growth may have, with its status and what it leaves. The program's own words
+# and its file's path take memory before anything is done.
+expect_refused_run() {
+    commands=$(wc -l < script)
+    case "$status:$(tr '\n' ';' < err)" in
+    0:)
+        expect_replies "$commands"
+        expect_accepted 0
+        ;;
+    1:'Error: Kind(OutOfMemory);' | 1:'recfile: Device;' | 1:'recfile: Memory;' | 2:'error: out of memory;')
+        expect_replies 0
+        expect_old
+        ;;
+    3:'recfile: Memory 0;')
+        expect_replies 0
+        expect_old
+        ;;
+    3:'recfile: Memory '[0-9]*';')
+        done=$(sed 's/[^0-9]//g' err)
+        expect_replies $((done - 1))
+        expect_accepted "$done"
+        ;;
+    4:'recfile: Stopped '[0-9]*' '[0-9]*' '[0-9]*' Memory;')
+        expect_replies "$commands"
+        expect_old
+        ;;
+    4:'recfile: Memory '[0-9]*';recfile: Stopped '[0-9]*' '[0-9]*' '[0-9]*' Memory;')
+        done=$(head -n 1 err | sed 's/[^0-9]//g')
+        expect_replies $((done - 1))
+        expect_old
+        ;;
+    *) fail "no such status and fault" ;;
+    esac
+}
+
+# Refuses each growth of the row's session in turn: one alone, or all from that one on.
+refuse_in_turn() {
+    variable=$1
+    number=0
+    while number=$((number + 1)); do
+        cp old file
+        disturbed run $options file
+        [ -e met ] || break
+        expect_refused_run
+    done
+    expect_refused_run
+    echo "refusals: $row: $variable: $((number - 1)) refused"
+}
+
+# Expects the file to be refused, as one that wasn't closed.
+expect_unclosed() {
+    "$program" check file > check_out 2> check_err && fail "the file is neither old nor new"
+    case $(cat check_err) in
+    'recfile: NotClean' | 'recfile: BadHeader' | 'recfile: BadLength') ;;
+    *) fail "the file is refused as $(cat check_err)" ;;
+    esac
+}
+
+# Expects a new file to be refused: it is empty, or its first page is blank or marked.
+expect_unmade() {
+    "$program" check file > check_out 2> check_err && return
+    case $(cat check_err) in
+    'recfile: BadLength' | 'recfile: BadMagic' | 'recfile: NotClean') ;;
+    *) fail "the file is refused as $(cat check_err)" ;;
+    esac
+}
+
+# Stops the row's session before each change of the file in turn.
+stop_in_turn() {
+    variable=STOP_AT
+    number=0
+    cp old new
+    "$program" run $options new < script > whole || fail "the session failed"
+    while number=$((number + 1)); do
+        cp old file
+        disturbed run $options file
+        [ -e met ] || break
+        [ "$status" -eq 99 ] || fail "the program wasn't stopped"
+        cmp -s out whole || fail "a reply is lost"
+        cmp -s file old || cmp -s file new || expect_unclosed
+    done
+    [ "$status" -eq 0 ] && cmp -s file new || fail "the last run failed"
+    echo "refusals: $row: $variable: $((number - 1)) stopped"
+}
+
+# Runs a row: its name, the file that it begins with, the options of its session, and its script on standard input. The
+# file that it leaves is `new`.
+session() {
+    row=$1
+    cp "$2" old
+    options=$3
+    cat > script
+    refuse_in_turn REFUSE_GROWTH
+    refuse_in_turn REFUSE_FROM
+    stop_in_turn
+}
+
+# Makes a new file of that order for the rows. Where it isn't made whole, it isn't there or is refused.
+make_file() {
+    row="a new file of order $1"
+    : > script
+    for variable in REFUSE_GROWTH REFUSE_FROM STOP_AT; do
+        number=0
+        while number=$((number + 1)); do
+            rm -f file
+            disturbed create --order "$1" file
+            [ -e met ] || break
+            [ ! -e file ] || expect_unmade
+        done
+        [ "$status" -eq 0 ] || fail "the last run failed"
+        echo "refusals: $row: $variable: $((number - 1)) met"
+    done
+    mv file "order_$1"
+}
+
+make_file 1
+make_file 2
+
+session "a rollback beside a commit" order_1 "" << 'END'
+begin
+begin
+save 1
+put 1 b =1
+put 2 d =2
+commit 2
+back 1 1
+list
+END
+
+session "a key in the root goes back" order_1 "" << 'END'
+begin
+begin
+put 1 b =1
+put 2 a =2
+put 2 c =3
+back 1 0
+list
+END
+
+session "two partial rollbacks" order_1 "" << 'END'
+begin
+save 1
+put 1 a =1
+save 1
+put 1 a =2
+save 1
+put 1 b =3
+back 1 2
+put 1 c =4
+save 1
+back 1 1
+list
+log
+END
+
+session "charged keys" order_1 "--records 2" << 'END'
+begin
+put 1 a =x
+put 1 b =y
+commit 1
+begin
+begin
+del 2 a
+del 2 a
+put 3 c =z
+put 2 c =z
+commit 2
+put 3 c =z
+END
+
+session "pages are split and catenated" order_2 "" << 'END'
+begin
+put 1 a =v
+put 1 b =v
+put 1 c =v
+put 1 d =v
+put 1 e =v
+put 1 f =v
+put 1 g =v
+del 1 a
+del 1 c
+del 1 b
+back 1 0
+list
+END
+
+session "committed and open transactions" order_2 "" << 'END'
+begin
+begin
+begin
+put 3 m =keep
+commit 3
+put 1 a =x
+put 2 b =y
+END
+
+cp new kept_file
+session "a second session" kept_file "" << 'END'
+list
+begin
+put 1 m =other
+put 1 n =more
+commit 1
+keys 1
+END
+
+sed -E 's/(Memory|Stopped)( [0-9]+)+/\1 N/g' outcomes | sort | uniq -c
+echo "refusals: $runs passed, 0 failed"
