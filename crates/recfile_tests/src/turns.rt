@@ -197,16 +197,11 @@ fn fail_set<T: Table>(
 fn fail_each_set(rt: &impl Abort, alloc: Global, row: &Row<'_>, sets: u64) -> Result<(), Fail> {
     let (records, log_records, begins) = row.limits;
     let limits = Limits::new(records, log_records, begins)?;
-    for number in 0..=sets {
-        fail_set(
-            rt,
-            alloc,
-            SortedTable::new(alloc, limits),
-            row,
-            number + 1,
-            sets,
-        )?;
-        fail_set(rt, alloc, tree(alloc, 1, limits)?, row, number + 1, sets)?;
+    for failed in 0..=sets {
+        let number = failed.saturating_add(1);
+        let sorted = SortedTable::new(alloc, limits);
+        fail_set(rt, alloc, sorted, row, number, sets)?;
+        fail_set(rt, alloc, tree(alloc, 1, limits)?, row, number, sets)?;
     }
     Ok(())
 }
