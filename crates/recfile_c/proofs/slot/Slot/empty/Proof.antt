@@ -1,0 +1,68 @@
+-- `empty` makes a null pointer, which owns nothing.
+use mathlib.Core.Path.{◌≡◌, refl, sym, subst, ap, ◌∙◌}
+use mathlib.Core.List.{List, [], ◌∷◌, ◌++◌}
+use lib.Dec.{lit<}
+use seplogic.Ra.Ura.{Ura}
+use mir.Val.{Val, vptr, vnull, vstruct}
+use mir.Raw.{raw as bare}
+use base.Logic.{SProp, ent, emp, id⊢, never, fst∗}
+use base.Fml.{ftrue, fsep}
+use prog.Memory.{Memory}
+use prog.Routine.{Routine}
+use prog.Wp.{WpFn, Tables}
+use types.Logic.{Logic, sem}
+use contract.Monad.{Fun, fact}
+use contract.Running.{tables, tables_of}
+use sound.WpLaws.{WpFn-mono}
+use types.Kit.{Item, ‵, raw, ◌⊛◌, ◌$◌, ◌∵◌, !, qed, by, move, keep, drop, use0, use1, join, split, fsplit, fjoin, rewrite, suffices, done}
+use types.Part.{whole, sub, agg}
+use types.Run.{stop, fld, no_more, and_then, of_opd, lit, returns, enter}
+use types.ByLocal.{alloc_all, pass_all, free_all, look_at, get, get_in, sets}
+use denote.Exit.{yes}
+use denote.RawPtr.{Ptr, ptr_val, block_ptr, null_ptr, in_a_block}
+use denote.Memory.{lone}
+use denote.Signature.{type_at, plain}
+use denote.Steps.{nothing, heard}
+use denote.Triple.Spec.{triple_of}
+use denote.Triple.Table.{entered}
+use denote.Triple.Walked.{says, Stays, stay_dropped, walk_of, ends_at, Goes-dropped, walk_Meets}
+use Rattle.std.specs.Prelude.{Option, Some, None, IsSome}
+use Rattle.std.specs.Box.Ownership.{box_owns}
+use Rattle.std.specs.contracts.alloc.Global as heap
+use Rattle.std.specs.contracts.impls.GlobalAllocator.TheImpl.{ghosts}
+use Rattle.std.proofs.alloc.Global.TheLaws as heap_laws
+use Rattle.std.proofs.alloc.Calls.{handle_tells}
+use Rattle.recfile_c.specs.Slots.{slot_owns}
+use Rattle.recfile_c.specs.declared.slot.Held.{Held as HeldFile}
+use Rattle.recfile_c.specs.contracts.slot.Held as held
+use Rattle.recfile_c.specs.contracts.slot.Slot as slot
+use Rattle.recfile_c.proofs.Values.{both, alone, HeldLoose, loose_good, loose_in, loose_out, slot_in, slot_out, al, file_of, file_is}
+use Rattle.recfile_c.specs.contracts.slot.Slot.empty as F
+use Rattle.recfile_c.specs.contracts.slot.Slot.empty.Key.{name as #self}
+use Rattle.recfile_c.proofs.slot.Slot.empty.Statement as stated
+use Rattle.recfile_c.proofs.slot.Slot.empty.Code as code
+
+abbrev stayed : Stays (F.ended).signature.params (F.ended).kept
+stayed = tt
+
+module _ {M : Type 1} {𝓤 : Ura M} (𝓛 : Logic 𝓤) (at_mem : Memory → SProp 𝓤) (run : Routine → Fun 𝓤) (𝓣 : Tables 𝓤 𝓛.H) where
+  open 𝓛 use {H}
+
+  walk : (z : (walk_of 𝓛 F.ended stayed (F.clauses 𝓛 at_mem run)).Ghost)
+      → ent 𝓤 ((walk_of 𝓛 F.ended stayed (F.clauses 𝓛 at_mem run)).pre z) (WpFn 𝓤 H 𝓣.C 𝓣.Λ code.function ([]) ((walk_of 𝓛 F.ended stayed (F.clauses 𝓛 at_mem run)).post z))
+  walk z =
+      let Post = (walk_of 𝓛 F.ended stayed (F.clauses 𝓛 at_mem run)).post z in
+      let made : slot.the_row.Denot = record { at = null_ptr; value = None } in
+      qed 𝓛 ((‵ ftrue ⊛ ‵ ftrue) ∷ raw (emp 𝓤) ∷ []) ∵ split ! $ keep ! (0 ∷ []) $ slot_in ! null_ptr None $
+      enter ! 𝓣.C 𝓣.Λ code.function [] _ $ alloc_all ! (λ ls. pass_all ! refl tt $
+      sets ! (agg ! (and_then ! (lit ! tt) (no_more !))) refl (tt, (record { fits = lit< tt }, tt)) $ returns ! (look_at ! 0 refl) $ free_all ! refl $
+      suffices ! _ (ends_at 𝓛 F.ended stayed (F.clauses 𝓛 at_mem run) z (alone vnull) made tt tt) $ says ! refl $
+      nothing ! $ join ! $ nothing ! $ join ! $ done !)
+
+pub empty_spec : {M : Type 1} → stated.statement M
+unfolding tables_of
+empty_spec 𝓤 𝓛 𝓜 𝓡 wired =
+    let 𝓣 : Tables 𝓤 𝓛.H = tables_of 𝓤 𝓛.H 𝓜 (tables 𝓤 𝓛.H 𝓜 𝓡 𝓡.env) in
+    entered 𝓤 𝓛.H (triple_of 𝓛 F.signature (F.spec 𝓛 𝓜.mem 𝓡.returns)) 𝓣.C 𝓣.Λ #self code.function (code.unfolded 𝓤 𝓛.H 𝓜 𝓡 wired)
+    (walk_Meets 𝓛 F.ended stayed tt (F.clauses 𝓛 𝓜.mem 𝓡.returns) (WpFn 𝓤 𝓛.H 𝓣.C 𝓣.Λ code.function) (WpFn-mono 𝓤 𝓛.H 𝓛.laws 𝓣 code.function)
+    (walk 𝓛 𝓜.mem 𝓡.returns 𝓣))

@@ -1,0 +1,31 @@
+-- A table of one of two kinds, as one table.
+use Rattle.std.specs.Prelude.{ℕ, Bool, true}
+use Rattle.rec_types.specs.Contents.{Contents}
+use Rattle.rec_types.specs.Table.{Damages, no_damage}
+use Rattle.btree_delete.specs.TableView.{table_contents}
+use Rattle.recfile_c.specs.declared.tables.FileTable.{FileTable}
+use Rattle.recfile_c.specs.declared.tables.FileTable.TheVariants.{Memory, Paged}
+
+abbrev pub contents_of : FileTable → Contents
+contents_of (Memory table) = table.contents
+contents_of (Paged table) = table_contents table
+
+abbrev pub limit_of : FileTable → ℕ
+limit_of (Memory table) = table.limit
+limit_of (Paged table) = table.limit
+
+abbrev pub is_sound : FileTable → Bool
+is_sound (Memory table) = true
+is_sound (Paged table) = table.pages.steady
+
+abbrev pub failures_of : FileTable → ℕ
+failures_of (Memory table) = 0
+failures_of (Paged table) = table.pages.failures
+
+abbrev pub refusals_of : FileTable → ℕ
+refusals_of (Memory table) = table.refusals
+refusals_of (Paged table) = table.refusals
+
+abbrev pub damages_of : FileTable → Damages
+damages_of (Memory table) = no_damage
+damages_of (Paged table) = table.damages

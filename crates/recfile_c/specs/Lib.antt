@@ -1,0 +1,2 @@
+pub mod FileTables
+pub mod Slots

@@ -1,0 +1,6 @@
+//! Calls from C.
+#![tactic(auto)]
+
+mod loose;
+mod slot;
+mod tables;

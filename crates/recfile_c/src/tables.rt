@@ -1,0 +1,61 @@
+use btree_delete::TreeTable;
+use page_store::MemStore;
+use rec_types::{Key, Record, SortedTable, Table, TableFault};
+
+/// A table in memory, or in the pages of a file.
+#[derive(Drop)]
+pub enum FileTable {
+    Memory(SortedTable),
+    Paged(TreeTable<MemStore>),
+}
+
+impl Table for FileTable {
+    ghost use Rattle.recfile_c.specs.FileTables.{contents_of, limit_of, is_sound, failures_of, refusals_of, damages_of};
+
+    ghost contents = { contents_of };
+
+    ghost record_limit = { limit_of };
+
+    ghost sound = { is_sound };
+
+    ghost device_failures = { failures_of };
+
+    ghost memory_refusals = { refusals_of };
+
+    ghost damages = { damages_of };
+
+    fn get(&mut self, key: &Key) -> Result<Option<Record>, TableFault> {
+        match self {
+            FileTable::Memory(table) => table.get(key),
+            FileTable::Paged(table) => table.get(key),
+        }
+    }
+
+    fn set(&mut self, key: Key, to: Option<Record>) -> Result<Option<Record>, TableFault> {
+        match self {
+            FileTable::Memory(table) => table.set(key, to),
+            FileTable::Paged(table) => table.set(key, to),
+        }
+    }
+
+    fn entries(&mut self) -> Result<Vec<(Key, Record)>, TableFault> {
+        match self {
+            FileTable::Memory(table) => table.entries(),
+            FileTable::Paged(table) => table.entries(),
+        }
+    }
+
+    fn count(&self) -> u32 {
+        match self {
+            FileTable::Memory(table) => table.count(),
+            FileTable::Paged(table) => table.count(),
+        }
+    }
+
+    fn limit(&self) -> u32 {
+        match self {
+            FileTable::Memory(table) => table.limit(),
+            FileTable::Paged(table) => table.limit(),
+        }
+    }
+}
