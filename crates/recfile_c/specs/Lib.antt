@@ -1,2 +1,4 @@
 pub mod FileTables
+pub mod Outcomes
+pub mod Shown
 pub mod Slots

@@ -2,5 +2,7 @@
 #![tactic(auto)]
 
 mod loose;
+mod outcomes;
+mod shown;
 mod slot;
 mod tables;

@@ -1,0 +1,27 @@
+-- What the structs that a caller reads stand for.
+use Rattle.std.specs.Prelude.{ℕ, ◌==◌, List, take, Option, Some, None, if◌then◌else◌}
+use Rattle.rec_types.specs.declared.transactions.TxId.{TxId}
+use Rattle.rec_types.specs.declared.transactions.Entry.{Entry}
+use Rattle.tx_log.specs.declared.log_records.LogRecord.{LogRecord}
+use Rattle.tx_log.specs.declared.log_records.LogRecord.TheVariants.{Update, Compensation}
+use Rattle.recfile_c.specs.declared.shown.KeyBytes.{KeyBytes}
+use Rattle.recfile_c.specs.declared.shown.Found.{Found}
+use Rattle.recfile_c.specs.declared.shown.LogEntry.{LogEntry}
+use Rattle.recfile_c.specs.declared.shown.ListedEntry.{ListedEntry}
+
+abbrev pub key_shown : KeyBytes → List ℕ
+key_shown k = take k.len k.bytes
+
+-- a record, where there is one
+abbrev pub shown : Found → Option (List ℕ)
+shown f = if f.is_there == 0 then None else Some (take f.len f.bytes)
+
+abbrev pub tx_shown : ℕ → TxId
+tx_shown t = record { 0 = t }
+
+-- a record of the log, where there is one
+abbrev pub log_shown : LogEntry → Option LogRecord
+log_shown e =
+    if e.kind == 0 then None
+    else (if e.kind == 1 then Some (Update e.lsn e.prev (tx_shown e.tx) (key_shown e.key) (shown e.before) (shown e.after))
+    else Some (Compensation e.lsn e.prev (tx_shown e.tx) (key_shown e.key) (shown e.after) e.undo_next))

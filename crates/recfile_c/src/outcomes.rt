@@ -1,0 +1,292 @@
+ghost use Rattle.std.specs.Prelude.{◌≡◌, pos};
+ghost use Rattle.recfile_c.specs.Outcomes as outcomes;
+
+use rec_types::TxId;
+use record_file::{BeginFault, Cause, AbortFault, CommitFault, EntriesFault, GetFault, KeysOfFault, PutFault, ReleaseFault, RemoveFault, ResumeFault, RollbackToFault, SavepointFault, StatusFault};
+
+/// The call did what it was asked.
+pub const OK: i32 = 0;
+/// The handle has no open file.
+pub const CLOSED: i32 = 1;
+/// A key has at least one byte.
+pub const EMPTY_KEY: i32 = 2;
+/// A key has at most 16 bytes.
+pub const LONG_KEY: i32 = 3;
+/// A record has at most 32 bytes.
+pub const LONG_RECORD: i32 = 4;
+/// As many transactions were begun as may be.
+pub const BEGINS_SPENT: i32 = 5;
+/// No such open transaction.
+pub const NO_SUCH_TX: i32 = 6;
+/// The transaction is being rolled back.
+pub const ROLLING: i32 = 7;
+/// The transaction isn't being rolled back.
+pub const NOT_ROLLING: i32 = 8;
+/// Another transaction holds the key: `owner`.
+pub const HELD: i32 = 9;
+/// The log is full.
+pub const LOG_FULL: i32 = 10;
+/// The device failed.
+pub const DEVICE: i32 = 11;
+/// A page is damaged: `page`.
+pub const DAMAGED: i32 = 12;
+/// The file has as many records as it may.
+pub const FULL: i32 = 13;
+/// The key has no record.
+pub const ABSENT: i32 = 14;
+/// The transaction has 32 savepoints.
+pub const TOO_DEEP: i32 = 15;
+/// No such savepoint.
+pub const NO_SUCH_SAVE: i32 = 16;
+/// A rollback stopped: `undone`, `left`, `cause`, and `page` where that is a damaged one.
+pub const STOPPED: i32 = 17;
+/// Out of memory.
+pub const MEMORY: i32 = 18;
+
+/// What a call answered: its status, and what that carries; the rest is 0.
+#[repr(C)]
+#[derive(Clone, Copy)]
+pub struct Outcome {
+    /// The status.
+    pub status: i32,
+    /// The transaction that holds the key.
+    pub owner: u32,
+    /// The damaged page.
+    pub page: u32,
+    /// How many changes a stopped rollback took back in this call.
+    pub undone: u32,
+    /// How many it has left.
+    pub left: u32,
+    /// Why it stopped: DEVICE, DAMAGED or MEMORY.
+    pub cause: i32,
+}
+
+impl Outcome {
+    // A status that carries nothing.
+    pub(crate) fn just(status: i32) -> Outcome
+        ensures { result ≡ record (outcomes.just outcomes.ok) { status = status } }
+    {
+        Outcome {
+            status,
+            owner: 0,
+            page: 0,
+            undone: 0,
+            left: 0,
+            cause: OK,
+        }
+    }
+
+    // A damaged page.
+    fn at_page(page: u32) -> Outcome
+        ensures { result ≡ outcomes.at_page page }
+    {
+        Outcome {
+            page,
+            ..Outcome::just(DAMAGED)
+        }
+    }
+
+    // A key that another transaction holds.
+    fn held_by(owner: TxId) -> Outcome
+        ensures { result ≡ outcomes.held_by owner }
+    {
+        Outcome {
+            owner: owner.0,
+            ..Outcome::just(HELD)
+        }
+    }
+
+    // A rollback that stopped.
+    fn stopped_by(undone: u32, left: u32, cause: Cause) -> Outcome
+        ensures { result ≡ outcomes.stopped_by undone left cause }
+    {
+        let (cause, page) = match cause {
+            Cause::Device => (DEVICE, 0),
+            Cause::Damaged(page) => (DAMAGED, page),
+            Cause::Memory => (MEMORY, 0),
+        };
+        Outcome {
+            page,
+            undone,
+            left,
+            cause,
+            ..Outcome::just(STOPPED)
+        }
+    }
+
+    // The outcome of `begin`.
+    pub(crate) fn of_begin<A>(answer: &Result<A, BeginFault>) -> Outcome
+        ensures { result ≡ outcomes.begin_outcome answer.now }
+    {
+        match answer {
+            Ok(_) => Outcome::just(OK),
+            Err(BeginFault::BeginsSpent) => Outcome::just(BEGINS_SPENT),
+            Err(BeginFault::Memory) => Outcome::just(MEMORY),
+        }
+    }
+
+    // The outcome of `put`.
+    pub(crate) fn of_put<A>(answer: &Result<A, PutFault>) -> Outcome
+        ensures { result ≡ outcomes.put_outcome answer.now }
+    {
+        match answer {
+            Ok(_) => Outcome::just(OK),
+            Err(PutFault::NoSuchTx) => Outcome::just(NO_SUCH_TX),
+            Err(PutFault::Rolling) => Outcome::just(ROLLING),
+            Err(PutFault::Held(owner)) => Outcome::held_by(*owner),
+            Err(PutFault::LogFull) => Outcome::just(LOG_FULL),
+            Err(PutFault::Device) => Outcome::just(DEVICE),
+            Err(PutFault::Damaged(page)) => Outcome::at_page(*page),
+            Err(PutFault::Full) => Outcome::just(FULL),
+            Err(PutFault::Memory) => Outcome::just(MEMORY),
+        }
+    }
+
+    // The outcome of `remove`.
+    pub(crate) fn of_remove<A>(answer: &Result<A, RemoveFault>) -> Outcome
+        ensures { result ≡ outcomes.remove_outcome answer.now }
+    {
+        match answer {
+            Ok(_) => Outcome::just(OK),
+            Err(RemoveFault::NoSuchTx) => Outcome::just(NO_SUCH_TX),
+            Err(RemoveFault::Rolling) => Outcome::just(ROLLING),
+            Err(RemoveFault::Held(owner)) => Outcome::held_by(*owner),
+            Err(RemoveFault::LogFull) => Outcome::just(LOG_FULL),
+            Err(RemoveFault::Device) => Outcome::just(DEVICE),
+            Err(RemoveFault::Damaged(page)) => Outcome::at_page(*page),
+            Err(RemoveFault::Absent) => Outcome::just(ABSENT),
+            Err(RemoveFault::Memory) => Outcome::just(MEMORY),
+        }
+    }
+
+    // The outcome of `get`.
+    pub(crate) fn of_get<A>(answer: &Result<A, GetFault>) -> Outcome
+        ensures { result ≡ outcomes.get_outcome answer.now }
+    {
+        match answer {
+            Ok(_) => Outcome::just(OK),
+            Err(GetFault::NoSuchTx) => Outcome::just(NO_SUCH_TX),
+            Err(GetFault::Rolling) => Outcome::just(ROLLING),
+            Err(GetFault::Held(owner)) => Outcome::held_by(*owner),
+            Err(GetFault::Device) => Outcome::just(DEVICE),
+            Err(GetFault::Damaged(page)) => Outcome::at_page(*page),
+        }
+    }
+
+    // The outcome of `savepoint`.
+    pub(crate) fn of_savepoint<A>(answer: &Result<A, SavepointFault>) -> Outcome
+        ensures { result ≡ outcomes.savepoint_outcome answer.now }
+    {
+        match answer {
+            Ok(_) => Outcome::just(OK),
+            Err(SavepointFault::NoSuchTx) => Outcome::just(NO_SUCH_TX),
+            Err(SavepointFault::Rolling) => Outcome::just(ROLLING),
+            Err(SavepointFault::TooDeep) => Outcome::just(TOO_DEEP),
+        }
+    }
+
+    // The outcome of `release`.
+    pub(crate) fn of_release<A>(answer: &Result<A, ReleaseFault>) -> Outcome
+        ensures { result ≡ outcomes.release_outcome answer.now }
+    {
+        match answer {
+            Ok(_) => Outcome::just(OK),
+            Err(ReleaseFault::NoSuchTx) => Outcome::just(NO_SUCH_TX),
+            Err(ReleaseFault::Rolling) => Outcome::just(ROLLING),
+            Err(ReleaseFault::NoSuchSave) => Outcome::just(NO_SUCH_SAVE),
+        }
+    }
+
+    // The outcome of `rollback_to`.
+    pub(crate) fn of_rollback_to<A>(answer: &Result<A, RollbackToFault>) -> Outcome
+        ensures { result ≡ outcomes.rollback_to_outcome answer.now }
+    {
+        match answer {
+            Ok(_) => Outcome::just(OK),
+            Err(RollbackToFault::NoSuchTx) => Outcome::just(NO_SUCH_TX),
+            Err(RollbackToFault::Rolling) => Outcome::just(ROLLING),
+            Err(RollbackToFault::NoSuchSave) => Outcome::just(NO_SUCH_SAVE),
+            Err(RollbackToFault::Stopped {
+                undone,
+                left,
+                cause,
+            }) => Outcome::stopped_by(*undone, *left, *cause),
+        }
+    }
+
+    // The outcome of `abort`.
+    pub(crate) fn of_abort<A>(answer: &Result<A, AbortFault>) -> Outcome
+        ensures { result ≡ outcomes.abort_outcome answer.now }
+    {
+        match answer {
+            Ok(_) => Outcome::just(OK),
+            Err(AbortFault::NoSuchTx) => Outcome::just(NO_SUCH_TX),
+            Err(AbortFault::Rolling) => Outcome::just(ROLLING),
+            Err(AbortFault::Stopped {
+                undone,
+                left,
+                cause,
+            }) => Outcome::stopped_by(*undone, *left, *cause),
+        }
+    }
+
+    // The outcome of `resume`.
+    pub(crate) fn of_resume<A>(answer: &Result<A, ResumeFault>) -> Outcome
+        ensures { result ≡ outcomes.resume_outcome answer.now }
+    {
+        match answer {
+            Ok(_) => Outcome::just(OK),
+            Err(ResumeFault::NoSuchTx) => Outcome::just(NO_SUCH_TX),
+            Err(ResumeFault::NotRolling) => Outcome::just(NOT_ROLLING),
+            Err(ResumeFault::Stopped {
+                undone,
+                left,
+                cause,
+            }) => Outcome::stopped_by(*undone, *left, *cause),
+        }
+    }
+
+    // The outcome of `commit`.
+    pub(crate) fn of_commit<A>(answer: &Result<A, CommitFault>) -> Outcome
+        ensures { result ≡ outcomes.commit_outcome answer.now }
+    {
+        match answer {
+            Ok(_) => Outcome::just(OK),
+            Err(CommitFault::NoSuchTx) => Outcome::just(NO_SUCH_TX),
+            Err(CommitFault::Rolling) => Outcome::just(ROLLING),
+        }
+    }
+
+    // The outcome of `entries`.
+    pub(crate) fn of_entries<A>(answer: &Result<A, EntriesFault>) -> Outcome
+        ensures { result ≡ outcomes.entries_outcome answer.now }
+    {
+        match answer {
+            Ok(_) => Outcome::just(OK),
+            Err(EntriesFault::Device) => Outcome::just(DEVICE),
+            Err(EntriesFault::Damaged(page)) => Outcome::at_page(*page),
+            Err(EntriesFault::Memory) => Outcome::just(MEMORY),
+        }
+    }
+
+    // The outcome of `keys_of`.
+    pub(crate) fn of_keys_of<A>(answer: &Result<A, KeysOfFault>) -> Outcome
+        ensures { result ≡ outcomes.keys_of_outcome answer.now }
+    {
+        match answer {
+            Ok(_) => Outcome::just(OK),
+            Err(KeysOfFault::NoSuchTx) => Outcome::just(NO_SUCH_TX),
+            Err(KeysOfFault::Memory) => Outcome::just(MEMORY),
+        }
+    }
+
+    // The outcome of `status`.
+    pub(crate) fn of_status<A>(answer: &Result<A, StatusFault>) -> Outcome
+        ensures { result ≡ outcomes.status_outcome answer.now }
+    {
+        match answer {
+            Ok(_) => Outcome::just(OK),
+            Err(StatusFault::NoSuchTx) => Outcome::just(NO_SUCH_TX),
+        }
+    }
+}

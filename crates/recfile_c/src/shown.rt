@@ -1,0 +1,173 @@
+// What a caller reads. No field has a value that C may not leave in memory.
+ghost use Rattle.std.specs.Prelude.{◌≡◌, None, Some, ◌≤◌, length, take};
+ghost use Rattle.recfile_c.specs.Shown.{key_shown, shown, log_shown};
+
+use rec_types::{Key, Record};
+use tx_log::LogRecord;
+
+/// A key: its first `len` bytes.
+#[repr(C)]
+#[derive(Clone, Copy)]
+pub struct KeyBytes {
+    pub bytes: [u8; 16],
+    pub len: u8,
+}
+
+/// A record, where `is_there` isn't 0: its first `len` bytes.
+#[repr(C)]
+#[derive(Clone, Copy)]
+pub struct Found {
+    pub bytes: [u8; 32],
+    pub len: u8,
+    pub is_there: u8,
+}
+
+/// A record of the log. `kind` is 0 where there is none, 1 for an update, 2 for a compensation, whose `after` is
+/// what it restored.
+#[repr(C)]
+#[derive(Clone, Copy)]
+pub struct LogEntry {
+    pub kind: u32,
+    pub lsn: u32,
+    pub prev: u32,
+    pub tx: u32,
+    pub undo_next: u32,
+    pub key: KeyBytes,
+    pub before: Found,
+    pub after: Found,
+}
+
+/// An entry of a list.
+#[repr(C)]
+#[derive(Clone, Copy)]
+pub struct ListedEntry {
+    pub owner: u32,
+    pub is_owned: u8,
+    pub key: KeyBytes,
+    pub record: Found,
+}
+
+impl KeyBytes {
+    // No key.
+    pub(crate) fn none() -> KeyBytes {
+        KeyBytes {
+            bytes: [0; 16],
+            len: 0,
+        }
+    }
+
+    // The bytes of a key.
+    pub(crate) fn of(key: &Key) -> KeyBytes
+        ensures { key_shown result ≡ key.now }
+    {
+        let from = key.bytes();
+        let mut bytes = [0; 16];
+        bytes[..from.len()].copy_from_slice(from);
+        KeyBytes {
+            bytes,
+            len: from.len() as u8,
+        }
+    }
+}
+
+impl Found {
+    // No record.
+    pub(crate) fn none() -> Found
+        ensures { shown result ≡ None }
+    {
+        Found {
+            bytes: [0; 32],
+            len: 0,
+            is_there: 0,
+        }
+    }
+
+    // A record.
+    pub(crate) fn some(record: &Record) -> Found
+        ensures { shown result ≡ Some record.now }
+    {
+        let from = record.bytes();
+        let mut bytes = [0; 32];
+        bytes[..from.len()].copy_from_slice(from);
+        Found {
+            bytes,
+            len: from.len() as u8,
+            is_there: 1,
+        }
+    }
+
+    // A record, where there is one.
+    pub(crate) fn of(record: &Option<Record>) -> Found
+        ensures { shown result ≡ record.now }
+    {
+        match record {
+            Some(record) => Found::some(record),
+            None => Found::none(),
+        }
+    }
+}
+
+impl LogEntry {
+    // No record of the log.
+    pub(crate) fn none() -> LogEntry
+        ensures { log_shown result ≡ None }
+    {
+        LogEntry {
+            kind: 0,
+            lsn: 0,
+            prev: 0,
+            tx: 0,
+            undo_next: 0,
+            key: KeyBytes::none(),
+            before: Found::none(),
+            after: Found::none(),
+        }
+    }
+
+    // A record of the log, where there is one.
+    pub(crate) fn of(record: &Option<LogRecord>) -> LogEntry
+        ensures { log_shown result ≡ record.now }
+    {
+        match record {
+            None => LogEntry::none(),
+            Some(
+                LogRecord::Update {
+                    lsn,
+                    prev,
+                    tx,
+                    key,
+                    before,
+                    after,
+                },
+            ) => LogEntry {
+                kind: 1,
+                lsn: *lsn,
+                prev: *prev,
+                tx: tx.0,
+                undo_next: 0,
+                key: KeyBytes::of(key),
+                before: Found::of(before),
+                after: Found::of(after),
+            },
+            Some(
+                LogRecord::Compensation {
+                    lsn,
+                    prev,
+                    tx,
+                    key,
+                    restored,
+                    undo_next,
+                },
+            ) => LogEntry {
+                kind: 2,
+                lsn: *lsn,
+                prev: *prev,
+                tx: tx.0,
+                undo_next: *undo_next,
+                key: KeyBytes::of(key),
+                before: Found::none(),
+                after: Found::of(restored),
+            },
+        }
+    }
+}
