@@ -31,8 +31,8 @@ use Rattle.std.specs.contracts.alloc.Global as heap
 use Rattle.std.specs.contracts.impls.GlobalAllocator.TheImpl.{ghosts}
 use Rattle.std.proofs.alloc.Global.TheLaws as heap_laws
 use Rattle.recfile_c.specs.Slots.{slot_owns}
-use Rattle.recfile_c.specs.declared.slot.Held.{Held as HeldFile}
-use Rattle.recfile_c.specs.contracts.slot.Held as held
+use Rattle.recfile_c.specs.declared.held.Held.{Held as HeldFile}
+use Rattle.recfile_c.specs.contracts.held.Held as held
 use Rattle.recfile_c.specs.contracts.slot.Slot as slot
 
 abbrev pub both : Val → Val → Val

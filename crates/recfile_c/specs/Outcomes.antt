@@ -1,5 +1,7 @@
 -- What a call answers to C: its status, and what the status carries.
 use Rattle.std.specs.Prelude.{ℕ, pos, Result, Ok, Err}
+use Rattle.rec_types.specs.declared.keys.KeyFault.{KeyFault}
+use Rattle.rec_types.specs.declared.keys.KeyFault.TheVariants.{Empty, TooLong}
 use Rattle.rec_types.specs.declared.transactions.TxId.{TxId}
 use Rattle.tx_log.specs.declared.phases.BeginFault.{BeginFault}
 use Rattle.tx_log.specs.declared.phases.BeginFault.TheVariants as begin_faults
@@ -93,6 +95,11 @@ memory = 18
 -- a status that carries nothing
 abbrev pub just : ℕ → Outcome
 just status = record { status = pos status; owner = 0; page = 0; undone = 0; left = 0; cause = pos ok }
+
+-- bytes that are no key
+abbrev pub key_outcome : KeyFault → Outcome
+key_outcome Empty = just empty_key
+key_outcome TooLong = just long_key
 
 -- a damaged page
 abbrev pub at_page : ℕ → Outcome

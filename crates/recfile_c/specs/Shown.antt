@@ -1,5 +1,5 @@
 -- What the structs that a caller reads stand for.
-use Rattle.std.specs.Prelude.{ℕ, ◌==◌, List, take, Option, Some, None, if◌then◌else◌}
+use Rattle.std.specs.Prelude.{ℕ, ◌==◌, not, List, take, Option, Some, None, if◌then◌else◌}
 use Rattle.rec_types.specs.declared.transactions.TxId.{TxId}
 use Rattle.rec_types.specs.declared.transactions.Entry.{Entry}
 use Rattle.tx_log.specs.declared.log_records.LogRecord.{LogRecord}
@@ -8,6 +8,9 @@ use Rattle.recfile_c.specs.declared.shown.KeyBytes.{KeyBytes}
 use Rattle.recfile_c.specs.declared.shown.Found.{Found}
 use Rattle.recfile_c.specs.declared.shown.LogEntry.{LogEntry}
 use Rattle.recfile_c.specs.declared.shown.ListedEntry.{ListedEntry}
+use Rattle.recfile_c.specs.declared.shown.TxStatus.{TxStatus}
+use Rattle.record_file.specs.declared.faults.Status.{Status}
+use Rattle.record_file.specs.declared.faults.Status.TheVariants.{Active, Rolling}
 
 abbrev pub key_shown : KeyBytes → List ℕ
 key_shown k = take k.len k.bytes
@@ -25,3 +28,7 @@ log_shown e =
     if e.kind == 0 then None
     else (if e.kind == 1 then Some (Update e.lsn e.prev (tx_shown e.tx) (key_shown e.key) (shown e.before) (shown e.after))
     else Some (Compensation e.lsn e.prev (tx_shown e.tx) (key_shown e.key) (shown e.after) e.undo_next))
+
+-- what an open transaction is doing
+abbrev pub status_shown : TxStatus → Status
+status_shown s = if s.is_rolling == 0 then Active s.saves s.live else Rolling s.left (not (s.ends == 0))

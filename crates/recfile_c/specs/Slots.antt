@@ -5,8 +5,8 @@ use Rattle.std.specs.Box.Ownership.{box_owns}
 use Rattle.std.specs.contracts.impls.GlobalAllocator.TheImpl.{ghosts}
 use base.Fml.{Fml, ftrue}
 use denote.RawPtr.{Ptr}
-use Rattle.recfile_c.specs.contracts.slot.Held as held
-use Rattle.recfile_c.specs.declared.slot.Held.{Held}
+use Rattle.recfile_c.specs.contracts.held.Held as held
+use Rattle.recfile_c.specs.declared.held.Held.{Held}
 
 abbrev pub coded_slot : Coded (Option Held)
 coded_slot = coded_option held.the_row.coded

@@ -1,6 +1,9 @@
 //! Calls from C.
 #![tactic(auto)]
 
+mod calls;
+mod handle;
+mod held;
 mod loose;
 mod outcomes;
 mod shown;

@@ -1,7 +1,7 @@
 ghost use Rattle.std.specs.Prelude.{◌≡◌, pos};
 ghost use Rattle.recfile_c.specs.Outcomes as outcomes;
 
-use rec_types::TxId;
+use rec_types::{KeyFault, TxId};
 use record_file::{BeginFault, Cause, AbortFault, CommitFault, EntriesFault, GetFault, KeysOfFault, PutFault, ReleaseFault, RemoveFault, ResumeFault, RollbackToFault, SavepointFault, StatusFault};
 
 /// The call did what it was asked.
@@ -73,6 +73,16 @@ impl Outcome {
             undone: 0,
             left: 0,
             cause: OK,
+        }
+    }
+
+    // Bytes that are no key.
+    pub(crate) fn of_key(fault: KeyFault) -> Outcome
+        ensures { result ≡ outcomes.key_outcome fault }
+    {
+        match fault {
+            KeyFault::Empty => Outcome::just(EMPTY_KEY),
+            KeyFault::TooLong => Outcome::just(LONG_KEY),
         }
     }
 

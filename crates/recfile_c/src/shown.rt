@@ -1,8 +1,10 @@
 // What a caller reads. No field has a value that C may not leave in memory.
-ghost use Rattle.std.specs.Prelude.{◌≡◌, None, Some, ◌≤◌, length, take};
-ghost use Rattle.recfile_c.specs.Shown.{key_shown, shown, log_shown};
+ghost use Rattle.std.specs.Prelude.{◌≡◌, if◌then◌else◌, None, Some, ◌≤◌, length, take};
+ghost use Rattle.recfile_c.specs.Shown.{key_shown, shown, log_shown, status_shown};
+ghost use Rattle.recfile_c.specs.Answers.{found_in, taken_in, TellsStatus};
 
 use rec_types::{Key, Record};
+use record_file::{Status, StatusFault};
 use tx_log::LogRecord;
 
 /// A key: its first `len` bytes.
@@ -35,6 +37,18 @@ pub struct LogEntry {
     pub key: KeyBytes,
     pub before: Found,
     pub after: Found,
+}
+
+/// What an open transaction is doing. Where `is_rolling` is 0 it has `saves` savepoints and `live` live changes;
+/// else its rollback has `left` changes left, and `ends` isn't 0 where it ends with it.
+#[repr(C)]
+#[derive(Clone, Copy)]
+pub struct TxStatus {
+    pub is_rolling: u8,
+    pub ends: u8,
+    pub saves: u32,
+    pub live: u32,
+    pub left: u32,
 }
 
 /// An entry of a list.
@@ -83,10 +97,10 @@ impl Found {
     }
 
     // A record.
-    pub(crate) fn some(record: &Record) -> Found
-        ensures { shown result ≡ Some record.now }
+    pub(crate) fn some(taken: &Record) -> Found
+        ensures { shown result ≡ Some taken.now }
     {
-        let from = record.bytes();
+        let from = taken.bytes();
         let mut bytes = [0; 32];
         bytes[..from.len()].copy_from_slice(from);
         Found {
@@ -97,12 +111,32 @@ impl Found {
     }
 
     // A record, where there is one.
-    pub(crate) fn of(record: &Option<Record>) -> Found
-        ensures { shown result ≡ record.now }
+    pub(crate) fn of(from: &Option<Record>) -> Found
+        ensures { shown result ≡ from.now }
     {
-        match record {
-            Some(record) => Found::some(record),
+        match from {
+            Some(from) => Found::some(from),
             None => Found::none(),
+        }
+    }
+
+    // The record that an answer found.
+    pub(crate) fn in_answer<E>(answer: &Result<Option<Record>, E>) -> Found
+        ensures { shown result ≡ found_in answer.now }
+    {
+        match answer {
+            Ok(found) => Found::of(found),
+            Err(_) => Found::none(),
+        }
+    }
+
+    // The record that an answer took out.
+    pub(crate) fn taken<E>(answer: &Result<Record, E>) -> Found
+        ensures { shown result ≡ taken_in answer.now }
+    {
+        match answer {
+            Ok(taken) => Found::some(taken),
+            Err(_) => Found::none(),
         }
     }
 }
@@ -125,10 +159,10 @@ impl LogEntry {
     }
 
     // A record of the log, where there is one.
-    pub(crate) fn of(record: &Option<LogRecord>) -> LogEntry
-        ensures { log_shown result ≡ record.now }
+    pub(crate) fn of(from: &Option<LogRecord>) -> LogEntry
+        ensures { log_shown result ≡ from.now }
     {
-        match record {
+        match from {
             None => LogEntry::none(),
             Some(
                 LogRecord::Update {
@@ -168,6 +202,58 @@ impl LogEntry {
                 before: Found::none(),
                 after: Found::of(restored),
             },
+        }
+    }
+}
+
+// 1 where the test holds, else 0.
+fn byte_of(test: bool) -> u8
+    ensures { result ≡ (if test then 1 else 0) }
+{
+    if test { 1 } else { 0 }
+}
+
+impl TxStatus {
+    // What no transaction is doing.
+    pub(crate) fn none() -> TxStatus {
+        TxStatus {
+            is_rolling: 0,
+            ends: 0,
+            saves: 0,
+            live: 0,
+            left: 0,
+        }
+    }
+
+    // What a transaction is doing.
+    fn some(status: Status) -> TxStatus
+        ensures { status_shown result ≡ status }
+    {
+        match status {
+            Status::Active { saves, live } => TxStatus {
+                is_rolling: 0,
+                ends: 0,
+                saves,
+                live,
+                left: 0,
+            },
+            Status::Rolling { left, ends } => TxStatus {
+                is_rolling: 1,
+                ends: byte_of(ends),
+                saves: 0,
+                live: 0,
+                left,
+            },
+        }
+    }
+
+    // What an answer says of a transaction.
+    pub(crate) fn in_answer(answer: &Result<Status, StatusFault>) -> TxStatus
+        ensures { TellsStatus answer.now result }
+    {
+        match answer {
+            Ok(status) => TxStatus::some(*status),
+            Err(_) => TxStatus::none(),
         }
     }
 }

@@ -1,19 +1,12 @@
 // A file behind a pointer that says nothing of it, which may cross to C.
 ghost use Rattle.std.specs.Prelude.{◌≡◌, Option, Some, None, IsSome};
 ghost use Rattle.recfile_c.specs.Slots.{coded_slot};
-ghost use Rattle.recfile_c.specs.declared.slot.Held.{Held as HeldFile};
+ghost use Rattle.recfile_c.specs.declared.held.Held.{Held as HeldFile};
 
+use crate::held::Held;
 use crate::loose::Loose;
-use crate::tables::FileTable;
-use record_file::RecordFile;
 use std::alloc::Global;
 use std::marker::Model;
-
-/// A file of either kind.
-#[derive(Drop)]
-pub struct Held {
-    pub file: RecordFile<FileTable>,
-}
 
 /// What a pointer of a `Slot` is said to point to: nobody reads it.
 #[repr(C)]

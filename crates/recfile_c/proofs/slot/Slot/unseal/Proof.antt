@@ -32,8 +32,8 @@ use Rattle.std.specs.contracts.impls.GlobalAllocator.TheImpl.{ghosts}
 use Rattle.std.proofs.alloc.Global.TheLaws as heap_laws
 use Rattle.std.proofs.alloc.Calls.{handle_tells}
 use Rattle.recfile_c.specs.Slots.{slot_owns}
-use Rattle.recfile_c.specs.declared.slot.Held.{Held as HeldFile}
-use Rattle.recfile_c.specs.contracts.slot.Held as held
+use Rattle.recfile_c.specs.declared.held.Held.{Held as HeldFile}
+use Rattle.recfile_c.specs.contracts.held.Held as held
 use Rattle.recfile_c.specs.contracts.slot.Slot as slot
 use Rattle.recfile_c.proofs.Values.{both, alone, HeldLoose, loose_good, loose_in, loose_out, slot_in, slot_out, al, file_of, file_is}
 use Rattle.recfile_c.specs.contracts.slot.Slot.unseal as F

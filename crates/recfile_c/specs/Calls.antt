@@ -1,0 +1,158 @@
+-- What the calls do to a file behind a handle.
+use Rattle.std.specs.Prelude.{◌≡◌, ℕ, ℤ, pos, ◌<◌, ◌==◌, Bool, not, List, Option, Some, None, Result, Ok, Err, IsTrue, if◌then◌else◌}
+use Rattle.std.specs.FinMap as maps
+use Rattle.rec_types.specs.Table.{greatest_count}
+use Rattle.rec_types.specs.History.{log_len}
+use Rattle.rec_types.specs.declared.keys.KeyFault.{KeyFault}
+use Rattle.rec_types.specs.declared.keys.KeyFault.TheVariants.{Empty, TooLong}
+use Rattle.rec_types.specs.declared.records.RecordFault.{RecordFault}
+use Rattle.rec_types.specs.declared.transactions.TxId.{TxId}
+use Rattle.tx_log.specs.Log.{record_at}
+use Rattle.tx_log.specs.declared.phases.BeginFault.{BeginFault}
+use Rattle.tx_log.specs.declared.log_records.LogRecord.{LogRecord}
+use Rattle.record_file.specs.Abstract.{OpenFile, Tells, charged_of, use_of}
+use Rattle.record_file.specs.Steps.{rose, BeginStep, PutStep, RemoveStep, GetStep, SavepointStep, ReleaseStep, CommitStep, RollbackToStep, AbortStep, ResumeStep, status_of}
+use Rattle.record_file.specs.declared.faults.PutFault.{PutFault}
+use Rattle.record_file.specs.declared.faults.RemoveFault.{RemoveFault}
+use Rattle.record_file.specs.declared.faults.GetFault.{GetFault}
+use Rattle.record_file.specs.declared.faults.SavepointFault.{SavepointFault}
+use Rattle.record_file.specs.declared.faults.ReleaseFault.{ReleaseFault}
+use Rattle.record_file.specs.declared.faults.RollbackToFault.{RollbackToFault}
+use Rattle.record_file.specs.declared.faults.AbortFault.{AbortFault}
+use Rattle.record_file.specs.declared.faults.ResumeFault.{ResumeFault}
+use Rattle.record_file.specs.declared.faults.CommitFault.{CommitFault}
+use Rattle.recfile_c.specs.declared.tables.FileTable.{FileTable}
+use Rattle.recfile_c.specs.declared.held.Held.{Held}
+use Rattle.recfile_c.specs.declared.held.Held.TheVariants.{Image, Open}
+use Rattle.recfile_c.specs.declared.outcomes.Outcome.{Outcome}
+use Rattle.recfile_c.specs.declared.shown.TxStatus.{TxStatus}
+use Rattle.recfile_c.specs.FileTables.{contents_of, is_sound, failures_of, refusals_of}
+use Rattle.recfile_c.specs.Answers.{found_in, taken_in, number_in, tx_in, TellsStatus}
+use Rattle.recfile_c.specs.Outcomes.{just, empty_key, long_key, long_record, begin_outcome, put_outcome, remove_outcome, get_outcome, savepoint_outcome, release_outcome, rollback_to_outcome, abort_outcome, resume_outcome, commit_outcome, status_outcome, ok}
+
+abbrev pub FileState : Type 0
+FileState = OpenFile FileTable
+
+-- On an open file the step, which leaves the lists. Else nothing is done, and the answer says so.
+abbrev pub OnFile : Type 0 → Held → Held → (FileState → FileState → Type 0) → Type 0
+OnFile closed (Open old) (Open new) step = step old.file new.file × (new ≡ record old { file = new.file })
+OnFile closed (Open old) (Image pages) step = ⊥
+OnFile closed (Image pages) new step = closed × (new ≡ Image pages)
+
+-- the same of a handle, behind which nothing may lie
+abbrev pub OnHandle : Type 0 → Option Held → Option Held → (FileState → FileState → Type 0) → Type 0
+OnHandle closed (Some old) (Some new) step = OnFile closed old new step
+OnHandle closed (Some old) None step = ⊥
+OnHandle closed None new step = closed × (new ≡ None)
+
+-- over a sound table, while its failures and refusals can be counted
+abbrev pub Sure : FileState → Type 0 → Type 0
+Sure old says = IsTrue (is_sound old.table) → failures_of old.table < greatest_count → refusals_of old.table < greatest_count → says
+
+-- whether the device failed between the two
+abbrev pub failed : FileState → FileState → Bool
+failed old new = rose (failures_of old.table) (failures_of new.table)
+
+-- whether memory was refused between the two
+abbrev pub refused : FileState → FileState → Bool
+refused old new = rose (refusals_of old.table) (refusals_of new.table)
+
+-- the table is as sound as before, and the log tells what became of its records
+abbrev pub Keeps : FileState → FileState → Type 0
+Keeps old new = (is_sound new.table ≡ is_sound old.table) × Tells (is_sound old.table) (contents_of old.table) old.log (contents_of new.table) new.log
+
+-- neither the table nor the log is touched
+abbrev pub Spares : FileState → FileState → Type 0
+Spares old new = (new.table ≡ old.table) × (new.log ≡ old.log)
+
+-- the calls
+
+abbrev pub Begin : ℤ → ℕ → FileState → FileState → Type 0
+Begin status tx old new =
+    (answer : Result TxId BeginFault) × (status ≡ (begin_outcome answer).status) × (tx ≡ tx_in answer)
+    × BeginStep old.file answer new.file × Spares old new
+
+abbrev pub Put : TxId → List ℕ → List ℕ → Outcome → Option (List ℕ) → FileState → FileState → Type 0
+Put t x r told before old new =
+    (answer : Result (Option (List ℕ)) PutFault) × (told ≡ put_outcome answer) × (before ≡ found_in answer)
+    × Sure old (PutStep old.file t.0 x r (failed old new) answer new.file) × Keeps old new
+
+-- bytes that are no key, and bytes that are no record
+abbrev pub PutBytes : TxId → Result (List ℕ) KeyFault → Result (List ℕ) RecordFault → Outcome → Option (List ℕ) → FileState → FileState → Type 0
+PutBytes t (Err Empty) record_bytes told before old new = (told ≡ just empty_key) × (before ≡ None) × (new ≡ old)
+PutBytes t (Err TooLong) record_bytes told before old new = (told ≡ just long_key) × (before ≡ None) × (new ≡ old)
+PutBytes t (Ok x) (Err fault) told before old new = (told ≡ just long_record) × (before ≡ None) × (new ≡ old)
+PutBytes t (Ok x) (Ok r) told before old new = Put t x r told before old new
+
+abbrev pub Remove : TxId → List ℕ → Outcome → Option (List ℕ) → FileState → FileState → Type 0
+Remove t x told taken old new =
+    (answer : Result (List ℕ) RemoveFault) × (told ≡ remove_outcome answer) × (taken ≡ taken_in answer)
+    × Sure old (RemoveStep old.file t.0 x (failed old new) answer new.file) × Keeps old new
+
+abbrev pub RemoveBytes : TxId → Result (List ℕ) KeyFault → Outcome → Option (List ℕ) → FileState → FileState → Type 0
+RemoveBytes t (Err Empty) told taken old new = (told ≡ just empty_key) × (taken ≡ None) × (new ≡ old)
+RemoveBytes t (Err TooLong) told taken old new = (told ≡ just long_key) × (taken ≡ None) × (new ≡ old)
+RemoveBytes t (Ok x) told taken old new = Remove t x told taken old new
+
+abbrev pub Get : TxId → List ℕ → Outcome → Option (List ℕ) → FileState → FileState → Type 0
+Get t x told found old new =
+    (answer : Result (Option (List ℕ)) GetFault) × (told ≡ get_outcome answer) × (found ≡ found_in answer)
+    × Sure old (GetStep old.file t.0 x (failed old new) answer new.file)
+    × (is_sound new.table ≡ is_sound old.table) × (contents_of new.table ≡ contents_of old.table) × (new.log ≡ old.log)
+
+abbrev pub GetBytes : TxId → Result (List ℕ) KeyFault → Outcome → Option (List ℕ) → FileState → FileState → Type 0
+GetBytes t (Err Empty) told found old new = (told ≡ just empty_key) × (found ≡ None) × (new ≡ old)
+GetBytes t (Err TooLong) told found old new = (told ≡ just long_key) × (found ≡ None) × (new ≡ old)
+GetBytes t (Ok x) told found old new = Get t x told found old new
+
+abbrev pub Savepoint : TxId → ℤ → ℕ → FileState → FileState → Type 0
+Savepoint t status n old new =
+    (answer : Result ℕ SavepointFault) × (status ≡ (savepoint_outcome answer).status) × (n ≡ number_in answer)
+    × SavepointStep old.file t.0 answer new.file × Spares old new
+
+abbrev pub Release : TxId → ℕ → ℤ → FileState → FileState → Type 0
+Release t n status old new =
+    (answer : Result (Unit {0}) ReleaseFault) × (status ≡ (release_outcome answer).status)
+    × ReleaseStep old.file t.0 n answer new.file × Spares old new
+
+abbrev pub RollbackTo : TxId → ℕ → Outcome → ℕ → FileState → FileState → Type 0
+RollbackTo t n told undone old new =
+    (answer : Result ℕ RollbackToFault) × (told ≡ rollback_to_outcome answer) × (undone ≡ number_in answer)
+    × Sure old (RollbackToStep old.file t.0 n (failed old new) (refused old new) answer new.file) × Keeps old new
+
+abbrev pub Abort : TxId → Outcome → ℕ → FileState → FileState → Type 0
+Abort t told undone old new =
+    (answer : Result ℕ AbortFault) × (told ≡ abort_outcome answer) × (undone ≡ number_in answer)
+    × Sure old (AbortStep old.file t.0 (failed old new) (refused old new) answer new.file) × Keeps old new
+
+abbrev pub Resume : TxId → Outcome → ℕ → FileState → FileState → Type 0
+Resume t told undone old new =
+    (answer : Result ℕ ResumeFault) × (told ≡ resume_outcome answer) × (undone ≡ number_in answer)
+    × Sure old (ResumeStep old.file t.0 (failed old new) (refused old new) answer new.file) × Keeps old new
+
+abbrev pub Commit : TxId → ℤ → FileState → FileState → Type 0
+Commit t status old new =
+    (answer : Result (Unit {0}) CommitFault) × (status ≡ (commit_outcome answer).status)
+    × CommitStep old.file t.0 answer new.file × Spares old new
+
+-- looks
+
+abbrev pub StatusOf : TxId → ℤ → TxStatus → FileState → FileState → Type 0
+StatusOf t status told old new =
+    (status ≡ (status_outcome (status_of old.file t.0)).status) × TellsStatus (status_of old.file t.0) told × (new ≡ old)
+
+abbrev pub Charged : ℤ → ℕ → FileState → FileState → Type 0
+Charged status n old new =
+    (status ≡ pos ok) × (IsTrue (is_sound old.table) → n ≡ maps.len (charged_of old.file)) × (new ≡ old)
+
+abbrev pub Begun : ℤ → ℕ → FileState → FileState → Type 0
+Begun status n old new = (status ≡ pos ok) × (n ≡ old.file.begun) × (new ≡ old)
+
+abbrev pub LogLen : ℤ → ℕ → FileState → FileState → Type 0
+LogLen status n old new = (status ≡ pos ok) × (n ≡ log_len old.file.history) × (new ≡ old)
+
+abbrev pub LogUse : ℤ → ℕ → FileState → FileState → Type 0
+LogUse status n old new = (status ≡ pos ok) × (n ≡ use_of old.file) × (new ≡ old)
+
+abbrev pub RecordAt : ℕ → ℤ → Option LogRecord → FileState → FileState → Type 0
+RecordAt lsn status entry old new = (status ≡ pos ok) × (entry ≡ record_at old.log lsn) × (new ≡ old)

@@ -1,0 +1,24 @@
+// What lies behind a handle that isn't closed.
+use crate::tables::FileTable;
+use rec_types::{Entry, Key};
+use record_file::RecordFile;
+
+/// An open file, with the lists that were made last.
+#[derive(Drop)]
+pub struct Session {
+    /// The file.
+    pub file: RecordFile<FileTable>,
+    /// The records that were listed last.
+    pub entries: Vec<Entry>,
+    /// The keys that were listed last.
+    pub keys: Vec<Key>,
+}
+
+/// What lies behind a handle.
+#[derive(Drop)]
+pub enum Held {
+    /// The pages of a file that is to be opened.
+    Image(Vec<[u8; 4096]>),
+    /// An open file.
+    Open(Session),
+}
