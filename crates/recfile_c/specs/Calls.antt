@@ -24,6 +24,7 @@ use Rattle.record_file.specs.declared.faults.CommitFault.{CommitFault}
 use Rattle.recfile_c.specs.declared.tables.FileTable.{FileTable}
 use Rattle.recfile_c.specs.declared.held.Held.{Held}
 use Rattle.recfile_c.specs.declared.held.Held.TheVariants.{Image, Open}
+use Rattle.recfile_c.specs.declared.held.Session.{Session}
 use Rattle.recfile_c.specs.declared.outcomes.Outcome.{Outcome}
 use Rattle.recfile_c.specs.declared.shown.TxStatus.{TxStatus}
 use Rattle.recfile_c.specs.FileTables.{contents_of, is_sound, failures_of, refusals_of}
@@ -33,17 +34,21 @@ use Rattle.recfile_c.specs.Outcomes.{just, empty_key, long_key, long_record, beg
 abbrev pub FileState : Type 0
 FileState = OpenFile FileTable
 
--- On an open file the step, which leaves the lists. Else nothing is done, and the answer says so.
-abbrev pub OnFile : Type 0 → Held → Held → (FileState → FileState → Type 0) → Type 0
-OnFile closed (Open old) (Open new) step = step old.file new.file × (new ≡ record old { file = new.file })
-OnFile closed (Open old) (Image pages) step = ⊥
-OnFile closed (Image pages) new step = closed × (new ≡ Image pages)
+-- On an open file the step. Else nothing is done, and the answer says so.
+abbrev pub OnSession : Type 0 → Held → Held → (Session → Session → Type 0) → Type 0
+OnSession closed (Open old) (Open new) step = step old new
+OnSession closed (Open old) (Image pages) step = ⊥
+OnSession closed (Image pages) new step = closed × (new ≡ Image pages)
 
 -- the same of a handle, behind which nothing may lie
-abbrev pub OnHandle : Type 0 → Option Held → Option Held → (FileState → FileState → Type 0) → Type 0
-OnHandle closed (Some old) (Some new) step = OnFile closed old new step
+abbrev pub OnHandle : Type 0 → Option Held → Option Held → (Session → Session → Type 0) → Type 0
+OnHandle closed (Some old) (Some new) step = OnSession closed old new step
 OnHandle closed (Some old) None step = ⊥
 OnHandle closed None new step = closed × (new ≡ None)
+
+-- a step of the file, which leaves the lists
+abbrev pub InFile : (FileState → FileState → Type 0) → Session → Session → Type 0
+InFile step old new = step old.file new.file × (new ≡ record old { file = new.file })
 
 -- over a sound table, while its failures and refusals can be counted
 abbrev pub Sure : FileState → Type 0 → Type 0

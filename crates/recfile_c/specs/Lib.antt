@@ -1,6 +1,7 @@
 pub mod Answers
 pub mod Calls
 pub mod FileTables
+pub mod Lists
 pub mod Outcomes
 pub mod Shown
 pub mod Slots

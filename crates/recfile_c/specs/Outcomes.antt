@@ -2,6 +2,8 @@
 use Rattle.std.specs.Prelude.{ℕ, pos, Result, Ok, Err}
 use Rattle.rec_types.specs.declared.keys.KeyFault.{KeyFault}
 use Rattle.rec_types.specs.declared.keys.KeyFault.TheVariants.{Empty, TooLong}
+use Rattle.rec_types.specs.declared.limiting.LimitFault.{LimitFault}
+use Rattle.rec_types.specs.declared.limiting.LimitFault.TheVariants.{Records, Log, Begins}
 use Rattle.rec_types.specs.declared.transactions.TxId.{TxId}
 use Rattle.tx_log.specs.declared.phases.BeginFault.{BeginFault}
 use Rattle.tx_log.specs.declared.phases.BeginFault.TheVariants as begin_faults
@@ -92,6 +94,24 @@ stopped = 17
 abbrev pub memory : ℕ
 memory = 18
 
+abbrev pub no_such_entry : ℕ
+no_such_entry = 19
+
+abbrev pub not_closed : ℕ
+not_closed = 20
+
+abbrev pub bad_records : ℕ
+bad_records = 21
+
+abbrev pub bad_log : ℕ
+bad_log = 22
+
+abbrev pub bad_begins : ℕ
+bad_begins = 23
+
+abbrev pub still_open : ℕ
+still_open = 24
+
 -- a status that carries nothing
 abbrev pub just : ℕ → Outcome
 just status = record { status = pos status; owner = 0; page = 0; undone = 0; left = 0; cause = pos ok }
@@ -100,6 +120,16 @@ just status = record { status = pos status; owner = 0; page = 0; undone = 0; lef
 abbrev pub key_outcome : KeyFault → Outcome
 key_outcome Empty = just empty_key
 key_outcome TooLong = just long_key
+
+-- numbers that are no limits
+abbrev pub limits_outcome : LimitFault → Outcome
+limits_outcome Records = just bad_records
+limits_outcome Log = just bad_log
+limits_outcome Begins = just bad_begins
+
+-- transactions that have not ended
+abbrev pub still_open_by : ℕ → Outcome
+still_open_by count = record (just still_open) { left = count }
 
 -- a damaged page
 abbrev pub at_page : ℕ → Outcome

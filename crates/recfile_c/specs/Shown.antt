@@ -1,5 +1,5 @@
 -- What the structs that a caller reads stand for.
-use Rattle.std.specs.Prelude.{ℕ, ◌==◌, not, List, take, Option, Some, None, if◌then◌else◌}
+use Rattle.std.specs.Prelude.{◌≡◌, ℕ, ◌==◌, not, List, take, Option, Some, None, if◌then◌else◌}
 use Rattle.rec_types.specs.declared.transactions.TxId.{TxId}
 use Rattle.rec_types.specs.declared.transactions.Entry.{Entry}
 use Rattle.tx_log.specs.declared.log_records.LogRecord.{LogRecord}
@@ -32,3 +32,9 @@ log_shown e =
 -- what an open transaction is doing
 abbrev pub status_shown : TxStatus → Status
 status_shown s = if s.is_rolling == 0 then Active s.saves s.live else Rolling s.left (not (s.ends == 0))
+
+-- what is shown is the entry: a record at its key, with the transaction that owns the key where one does
+abbrev pub Shows : ListedEntry → Entry → Type 0
+Shows told e =
+    (key_shown told.key ≡ e.key) × (shown told.value ≡ Some e.value)
+    × ((if told.is_owned == 0 then None else Some (tx_shown told.owner)) ≡ e.owner)

@@ -5,7 +5,7 @@ ghost use Rattle.rec_types.specs.Record.{record_of};
 ghost use Rattle.recfile_c.specs.Answers.{number_in, tx_in};
 ghost use Rattle.recfile_c.specs.Shown.{shown, log_shown};
 ghost use Rattle.recfile_c.specs.Outcomes.{just, closed};
-ghost use Rattle.recfile_c.specs.Calls.{OnFile, Begin, PutBytes, RemoveBytes, GetBytes, Savepoint, Release, RollbackTo, Abort, Resume, Commit, StatusOf, Charged, Begun, LogLen, LogUse, RecordAt};
+ghost use Rattle.recfile_c.specs.Calls.{OnSession, InFile, Begin, PutBytes, RemoveBytes, GetBytes, Savepoint, Release, RollbackTo, Abort, Resume, Commit, StatusOf, Charged, Begun, LogLen, LogUse, RecordAt};
 
 use crate::held::Held;
 use crate::outcomes::{CLOSED, LONG_RECORD, OK, Outcome};
@@ -38,8 +38,8 @@ pub(crate) fn begin(
     held: &mut Held,
     tx: &mut u32,
 ) -> i32
-    ensures { OnFile ((result ≡ pos closed) × (tx.new ≡ 0)) held.old held.new
-        (Begin result tx.new) }
+    ensures { OnSession ((result ≡ pos closed) × (tx.new ≡ 0)) held.old held.new
+        (InFile (Begin result tx.new)) }
 {
     *tx = 0;
     match held {
@@ -60,8 +60,8 @@ pub(crate) fn put(
     value: &[u8],
     before: &mut Found,
 ) -> Outcome
-    ensures { OnFile ((result ≡ just closed) × (shown before.new ≡ None)) held.old held.new
-        (PutBytes tx (key_of key.now) (record_of value.now) result (shown before.new)) }
+    ensures { OnSession ((result ≡ just closed) × (shown before.new ≡ None)) held.old held.new
+        (InFile (PutBytes tx (key_of key.now) (record_of value.now) result (shown before.new))) }
 {
     *before = Found::none();
     match held {
@@ -88,8 +88,8 @@ pub(crate) fn remove(
     key: &[u8],
     taken: &mut Found,
 ) -> Outcome
-    ensures { OnFile ((result ≡ just closed) × (shown taken.new ≡ None)) held.old held.new
-        (RemoveBytes tx (key_of key.now) result (shown taken.new)) }
+    ensures { OnSession ((result ≡ just closed) × (shown taken.new ≡ None)) held.old held.new
+        (InFile (RemoveBytes tx (key_of key.now) result (shown taken.new))) }
 {
     *taken = Found::none();
     match held {
@@ -113,8 +113,8 @@ pub(crate) fn get(
     key: &[u8],
     found: &mut Found,
 ) -> Outcome
-    ensures { OnFile ((result ≡ just closed) × (shown found.new ≡ None)) held.old held.new
-        (GetBytes tx (key_of key.now) result (shown found.new)) }
+    ensures { OnSession ((result ≡ just closed) × (shown found.new ≡ None)) held.old held.new
+        (InFile (GetBytes tx (key_of key.now) result (shown found.new))) }
 {
     *found = Found::none();
     match held {
@@ -137,8 +137,8 @@ pub(crate) fn savepoint(
     tx: TxId,
     n: &mut u32,
 ) -> i32
-    ensures { OnFile ((result ≡ pos closed) × (n.new ≡ 0)) held.old held.new
-        (Savepoint tx result n.new) }
+    ensures { OnSession ((result ≡ pos closed) × (n.new ≡ 0)) held.old held.new
+        (InFile (Savepoint tx result n.new)) }
 {
     *n = 0;
     match held {
@@ -157,8 +157,8 @@ pub(crate) fn release(
     tx: TxId,
     n: u32,
 ) -> i32
-    ensures { OnFile (result ≡ pos closed) held.old held.new
-        (Release tx n result) }
+    ensures { OnSession (result ≡ pos closed) held.old held.new
+        (InFile (Release tx n result)) }
 {
     match held {
         Held::Open(session) => {
@@ -176,8 +176,8 @@ pub(crate) fn rollback_to(
     n: u32,
     undone: &mut u32,
 ) -> Outcome
-    ensures { OnFile ((result ≡ just closed) × (undone.new ≡ 0)) held.old held.new
-        (RollbackTo tx n result undone.new) }
+    ensures { OnSession ((result ≡ just closed) × (undone.new ≡ 0)) held.old held.new
+        (InFile (RollbackTo tx n result undone.new)) }
 {
     *undone = 0;
     match held {
@@ -196,8 +196,8 @@ pub(crate) fn abort(
     tx: TxId,
     undone: &mut u32,
 ) -> Outcome
-    ensures { OnFile ((result ≡ just closed) × (undone.new ≡ 0)) held.old held.new
-        (Abort tx result undone.new) }
+    ensures { OnSession ((result ≡ just closed) × (undone.new ≡ 0)) held.old held.new
+        (InFile (Abort tx result undone.new)) }
 {
     *undone = 0;
     match held {
@@ -216,8 +216,8 @@ pub(crate) fn resume(
     tx: TxId,
     undone: &mut u32,
 ) -> Outcome
-    ensures { OnFile ((result ≡ just closed) × (undone.new ≡ 0)) held.old held.new
-        (Resume tx result undone.new) }
+    ensures { OnSession ((result ≡ just closed) × (undone.new ≡ 0)) held.old held.new
+        (InFile (Resume tx result undone.new)) }
 {
     *undone = 0;
     match held {
@@ -235,8 +235,8 @@ pub(crate) fn commit(
     held: &mut Held,
     tx: TxId,
 ) -> i32
-    ensures { OnFile (result ≡ pos closed) held.old held.new
-        (Commit tx result) }
+    ensures { OnSession (result ≡ pos closed) held.old held.new
+        (InFile (Commit tx result)) }
 {
     match held {
         Held::Open(session) => {
@@ -253,8 +253,8 @@ pub(crate) fn status(
     tx: TxId,
     status: &mut TxStatus,
 ) -> i32
-    ensures { OnFile (result ≡ pos closed) held.old held.new
-        (StatusOf tx result status.new) }
+    ensures { OnSession (result ≡ pos closed) held.old held.new
+        (InFile (StatusOf tx result status.new)) }
 {
     *status = TxStatus::none();
     match held {
@@ -272,8 +272,8 @@ pub(crate) fn charged(
     held: &mut Held,
     n: &mut u64,
 ) -> i32
-    ensures { OnFile ((result ≡ pos closed) × (n.new ≡ 0)) held.old held.new
-        (Charged result n.new) }
+    ensures { OnSession ((result ≡ pos closed) × (n.new ≡ 0)) held.old held.new
+        (InFile (Charged result n.new)) }
 {
     *n = 0;
     match held {
@@ -290,8 +290,8 @@ pub(crate) fn begun(
     held: &mut Held,
     n: &mut u32,
 ) -> i32
-    ensures { OnFile ((result ≡ pos closed) × (n.new ≡ 0)) held.old held.new
-        (Begun result n.new) }
+    ensures { OnSession ((result ≡ pos closed) × (n.new ≡ 0)) held.old held.new
+        (InFile (Begun result n.new)) }
 {
     *n = 0;
     match held {
@@ -308,8 +308,8 @@ pub(crate) fn log_len(
     held: &mut Held,
     n: &mut u32,
 ) -> i32
-    ensures { OnFile ((result ≡ pos closed) × (n.new ≡ 0)) held.old held.new
-        (LogLen result n.new) }
+    ensures { OnSession ((result ≡ pos closed) × (n.new ≡ 0)) held.old held.new
+        (InFile (LogLen result n.new)) }
 {
     *n = 0;
     match held {
@@ -326,8 +326,8 @@ pub(crate) fn log_use(
     held: &mut Held,
     n: &mut u32,
 ) -> i32
-    ensures { OnFile ((result ≡ pos closed) × (n.new ≡ 0)) held.old held.new
-        (LogUse result n.new) }
+    ensures { OnSession ((result ≡ pos closed) × (n.new ≡ 0)) held.old held.new
+        (InFile (LogUse result n.new)) }
 {
     *n = 0;
     match held {
@@ -345,8 +345,8 @@ pub(crate) fn log_record(
     lsn: u32,
     entry: &mut LogEntry,
 ) -> i32
-    ensures { OnFile ((result ≡ pos closed) × (log_shown entry.new ≡ None)) held.old held.new
-        (RecordAt lsn result (log_shown entry.new)) }
+    ensures { OnSession ((result ≡ pos closed) × (log_shown entry.new ≡ None)) held.old held.new
+        (InFile (RecordAt lsn result (log_shown entry.new))) }
 {
     *entry = LogEntry::none();
     match held {

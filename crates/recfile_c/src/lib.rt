@@ -4,6 +4,7 @@
 mod calls;
 mod handle;
 mod held;
+mod lists;
 mod loose;
 mod outcomes;
 mod shown;

@@ -1,7 +1,7 @@
 ghost use Rattle.std.specs.Prelude.{◌≡◌, pos};
 ghost use Rattle.recfile_c.specs.Outcomes as outcomes;
 
-use rec_types::{KeyFault, TxId};
+use rec_types::{KeyFault, LimitFault, TxId};
 use record_file::{BeginFault, Cause, AbortFault, CommitFault, EntriesFault, GetFault, KeysOfFault, PutFault, ReleaseFault, RemoveFault, ResumeFault, RollbackToFault, SavepointFault, StatusFault};
 
 /// The call did what it was asked.
@@ -42,6 +42,18 @@ pub const NO_SUCH_SAVE: i32 = 16;
 pub const STOPPED: i32 = 17;
 /// Out of memory.
 pub const MEMORY: i32 = 18;
+/// The list has no such entry.
+pub const NO_SUCH_ENTRY: i32 = 19;
+/// The handle is not closed.
+pub const NOT_CLOSED: i32 = 20;
+/// The records limit is 1 to 1,000,000.
+pub const BAD_RECORDS: i32 = 21;
+/// The log limit is 2 to 4,000,000.
+pub const BAD_LOG: i32 = 22;
+/// The begins limit is 1 to 1,000,000.
+pub const BAD_BEGINS: i32 = 23;
+/// Some transactions have not ended: `left`.
+pub const STILL_OPEN: i32 = 24;
 
 /// What a call answered: its status, and what that carries; the rest is 0.
 #[repr(C)]
@@ -83,6 +95,27 @@ impl Outcome {
         match fault {
             KeyFault::Empty => Outcome::just(EMPTY_KEY),
             KeyFault::TooLong => Outcome::just(LONG_KEY),
+        }
+    }
+
+    // Numbers that are no limits.
+    pub(crate) fn of_limits(fault: LimitFault) -> Outcome
+        ensures { result ≡ outcomes.limits_outcome fault }
+    {
+        match fault {
+            LimitFault::Records => Outcome::just(BAD_RECORDS),
+            LimitFault::Log => Outcome::just(BAD_LOG),
+            LimitFault::Begins => Outcome::just(BAD_BEGINS),
+        }
+    }
+
+    // Transactions that have not ended.
+    pub(crate) fn still_open(count: u32) -> Outcome
+        ensures { result ≡ outcomes.still_open_by count }
+    {
+        Outcome {
+            left: count,
+            ..Outcome::just(STILL_OPEN)
         }
     }
 

@@ -1,9 +1,9 @@
 // What a caller reads. No field has a value that C may not leave in memory.
-ghost use Rattle.std.specs.Prelude.{◌≡◌, if◌then◌else◌, None, Some, ◌≤◌, length, take};
-ghost use Rattle.recfile_c.specs.Shown.{key_shown, shown, log_shown, status_shown};
+ghost use Rattle.std.specs.Prelude.{◌≡◌, [], if◌then◌else◌, None, Some, ◌≤◌, length, take};
+ghost use Rattle.recfile_c.specs.Shown.{key_shown, shown, log_shown, status_shown, Shows};
 ghost use Rattle.recfile_c.specs.Answers.{found_in, taken_in, TellsStatus};
 
-use rec_types::{Key, Record};
+use rec_types::{Entry, Key, Record};
 use record_file::{Status, StatusFault};
 use tx_log::LogRecord;
 
@@ -58,12 +58,14 @@ pub struct ListedEntry {
     pub owner: u32,
     pub is_owned: u8,
     pub key: KeyBytes,
-    pub record: Found,
+    pub value: Found,
 }
 
 impl KeyBytes {
     // No key.
-    pub(crate) fn none() -> KeyBytes {
+    pub(crate) fn none() -> KeyBytes
+        ensures { key_shown result ≡ [] }
+    {
         KeyBytes {
             bytes: [0; 16],
             len: 0,
@@ -254,6 +256,34 @@ impl TxStatus {
         match answer {
             Ok(status) => TxStatus::some(*status),
             Err(_) => TxStatus::none(),
+        }
+    }
+}
+
+impl ListedEntry {
+    // No entry.
+    pub(crate) fn none() -> ListedEntry {
+        ListedEntry {
+            owner: 0,
+            is_owned: 0,
+            key: KeyBytes::none(),
+            value: Found::none(),
+        }
+    }
+
+    // An entry.
+    pub(crate) fn of(entry: &Entry) -> ListedEntry
+        ensures { Shows result entry.now }
+    {
+        let (owner, is_owned) = match entry.owner {
+            Some(owner) => (owner.0, 1),
+            None => (0, 0),
+        };
+        ListedEntry {
+            owner,
+            is_owned,
+            key: KeyBytes::of(&entry.key),
+            value: Found::some(&entry.value),
         }
     }
 }

@@ -1,0 +1,50 @@
+-- Lists that are made once, and read entry by entry.
+use Rattle.std.specs.Prelude.{◌≡◌, ℕ, ℤ, pos, List, [], length, Option, Some, None, Result, Ok, Err, slice_get}
+use Rattle.rec_types.specs.declared.transactions.Entry.{Entry}
+use Rattle.rec_types.specs.declared.transactions.TxId.{TxId}
+use Rattle.record_file.specs.Steps.{EntriesStep, KeysOfStep}
+use Rattle.record_file.specs.declared.faults.EntriesFault.{EntriesFault}
+use Rattle.record_file.specs.declared.faults.KeysOfFault.{KeysOfFault}
+use Rattle.recfile_c.specs.declared.held.Session.{Session}
+use Rattle.recfile_c.specs.declared.outcomes.Outcome.{Outcome}
+use Rattle.recfile_c.specs.declared.shown.ListedEntry.{ListedEntry}
+use Rattle.recfile_c.specs.FileTables.{contents_of, is_sound}
+use Rattle.recfile_c.specs.Shown.{Shows}
+use Rattle.recfile_c.specs.Outcomes.{entries_outcome, keys_of_outcome, ok, no_such_entry}
+use Rattle.recfile_c.specs.Calls.{Sure, failed}
+
+-- the list that an answer has, and else none
+abbrev pub list_in : {X E : Type 0} → Result (List X) E → List X
+list_in (Ok list) = list
+list_in (Err fault) = []
+
+-- the records are listed, and the list is kept; the keys listed last stay
+abbrev pub ListsEntries : Outcome → ℕ → Session → Session → Type 0
+ListsEntries told n old new =
+    (answer : Result (List Entry) EntriesFault) × (told ≡ entries_outcome answer) × (n ≡ length (list_in answer))
+    × Sure old.file (EntriesStep old.file.file (failed old.file new.file) answer new.file.file)
+    × (is_sound new.file.table ≡ is_sound old.file.table) × (contents_of new.file.table ≡ contents_of old.file.table)
+    × (new.file.log ≡ old.file.log) × (new.entries.items ≡ list_in answer) × (new.keys ≡ old.keys)
+
+-- the keys of a transaction are listed, and the list is kept; the records listed last stay
+abbrev pub ListsKeys : TxId → ℤ → ℕ → Session → Session → Type 0
+ListsKeys t status n old new =
+    (answer : Result (List (List ℕ)) KeysOfFault) × (status ≡ (keys_of_outcome answer).status) × (n ≡ length (list_in answer))
+    × KeysOfStep old.file.file t.0 answer × (new.file ≡ old.file)
+    × (new.keys.items ≡ list_in answer) × (new.entries ≡ old.entries)
+
+-- the i-th entry of the list, from 0, where there is one
+abbrev pub ShowsAt : Option Entry → ℤ → ListedEntry → Type 0
+ShowsAt (Some e) status told = (status ≡ pos ok) × Shows told e
+ShowsAt None status told = status ≡ pos no_such_entry
+
+abbrev pub EntryAt : ℕ → ℤ → ListedEntry → Session → Session → Type 0
+EntryAt i status told old new = ShowsAt (slice_get old.entries.items i) status told × (new ≡ old)
+
+-- the i-th key of the list, from 0, where there is one
+abbrev pub ShowsKey : Option (List ℕ) → ℤ → List ℕ → Type 0
+ShowsKey (Some x) status told = (status ≡ pos ok) × (told ≡ x)
+ShowsKey None status told = (status ≡ pos no_such_entry) × (told ≡ [])
+
+abbrev pub KeyAt : ℕ → ℤ → List ℕ → Session → Session → Type 0
+KeyAt i status told old new = ShowsKey (slice_get old.keys.items i) status told × (new ≡ old)
