@@ -34,6 +34,9 @@ use Rattle.recfile_c.specs.Slots.{slot_owns}
 use Rattle.recfile_c.specs.declared.held.Held.{Held as HeldFile}
 use Rattle.recfile_c.specs.contracts.held.Held as held
 use Rattle.recfile_c.specs.contracts.slot.Slot as slot
+use Rattle.recfile_c.specs.Roots.{root_owns}
+use Rattle.recfile_c.specs.contracts.handle.RecFile as handle
+use Rattle.recfile_c.specs.contracts.root.Root as root
 
 abbrev pub both : Val → Val → Val
 both v w = vstruct (vcons v (vcons w vnil))
@@ -100,3 +103,15 @@ pub file_is : (x : Option HeldFile) (some : IsSome x) → x ≡ Some (file_of x 
 unfolding file_of
 file_is (Some file) some = refl
 file_is None some = absurd (cc)
+
+-- a box of a handle, as its pointer
+abbrev pub HandleLoose : RattleType
+HandleLoose = loose.the_row handle.the_row heap.the_row ghosts
+
+module _ {M : Type 1} {𝓤 : Ura M} {𝓛 : Logic 𝓤} {K : Type 0} {Γ : List (Item 𝓤)} {G : Goal 𝓤 𝓛.H} where
+  pub root_out : K → (d : root.the_row.Denot) (vs : List Val)
+      → (vs ≡ alone (ptr_val d.at) ∷ [] → Seq K 𝓛 (‵ (root_owns d.at d.value) ∷ Γ) G)
+      → Seq K 𝓛 (‵ (root.the_row.own_val d vs) ∷ Γ) G
+  root_out t d vs k =
+      fsplit t $ fpick t (λ vss. fsplit t $ feq_l t (λ ev. fsplit t $ feq_l t (λ ep. drop t $ k
+      (subst (λ (ps : List Val). vs ≡ vstruct (of_list (ps ++ [])) ∷ []) ep ev))))

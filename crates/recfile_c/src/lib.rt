@@ -7,6 +7,7 @@ mod held;
 mod lists;
 mod loose;
 mod outcomes;
+mod root;
 mod shown;
 mod slot;
 mod tables;
