@@ -2,6 +2,7 @@ pub mod Answers
 pub mod Calls
 pub mod FileTables
 pub mod Lists
+pub mod Opening
 pub mod Outcomes
 pub mod Roots
 pub mod Shown

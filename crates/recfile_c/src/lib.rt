@@ -2,10 +2,12 @@
 #![tactic(auto)]
 
 mod calls;
+mod exports;
 mod handle;
 mod held;
 mod lists;
 mod loose;
+mod opening;
 mod outcomes;
 mod root;
 mod shown;

@@ -1,0 +1,47 @@
+// What is put behind a handle.
+ghost use Rattle.rec_types.specs.Limits.{limits_of};
+ghost use Rattle.recfile_c.specs.Opening.{IsOpened, MakesBox, MakesMemory, memory_file, unboxed};
+
+use crate::held::{Held, Session};
+use crate::outcomes::{MEMORY, Outcome};
+use crate::tables::FileTable;
+use rec_types::{Limits, SortedTable};
+use record_file::RecordFile;
+use std::alloc::Global;
+
+// A session over an empty file in memory.
+fn memory_session(alloc: Global, limits: Limits) -> Held
+    ensures { IsOpened (memory_file limits) result }
+{
+    let table = FileTable::Memory(SortedTable::new(alloc, limits));
+    Held::Open(Session {
+        file: RecordFile::new(alloc, table, limits),
+        entries: Vec::new(alloc),
+        keys: Vec::new(alloc),
+    })
+}
+
+// On the heap. Fault: MEMORY.
+fn boxed(alloc: Global, held: Held) -> Result<Box<Held, Global>, i32>
+    ensures { MakesBox held result }
+{
+    match Box::new(alloc, held) {
+        Ok(held) => Ok(held),
+        Err(_) => Err(MEMORY),
+    }
+}
+
+// An empty file in memory. Faults: those of limits in their order, MEMORY.
+pub(crate) fn memory(
+    alloc: Global,
+    records: u32,
+    log_records: u32,
+    begins: u32,
+) -> Result<Box<Held, Global>, i32>
+    ensures { MakesMemory (limits_of records log_records begins) (unboxed result) }
+{
+    match Limits::new(records, log_records, begins) {
+        Ok(limits) => boxed(alloc, memory_session(alloc, limits)),
+        Err(fault) => Err(Outcome::of_limits(fault).status),
+    }
+}
