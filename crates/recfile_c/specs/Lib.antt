@@ -7,3 +7,4 @@ pub mod Outcomes
 pub mod Roots
 pub mod Shown
 pub mod Slots
+pub mod Steps
