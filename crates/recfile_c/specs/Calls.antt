@@ -23,7 +23,7 @@ use Rattle.record_file.specs.declared.faults.ResumeFault.{ResumeFault}
 use Rattle.record_file.specs.declared.faults.CommitFault.{CommitFault}
 use Rattle.recfile_c.specs.declared.tables.FileTable.{FileTable}
 use Rattle.recfile_c.specs.declared.held.Held.{Held}
-use Rattle.recfile_c.specs.declared.held.Held.TheVariants.{Image, Open}
+use Rattle.recfile_c.specs.declared.held.Held.TheVariants.{Open}
 use Rattle.recfile_c.specs.declared.held.Session.{Session}
 use Rattle.recfile_c.specs.declared.outcomes.Outcome.{Outcome}
 use Rattle.recfile_c.specs.declared.shown.TxStatus.{TxStatus}
@@ -37,8 +37,8 @@ FileState = OpenFile FileTable
 -- On an open file the step. Else nothing is done, and the answer says so.
 abbrev pub OnSession : Type 0 → Held → Held → (Session → Session → Type 0) → Type 0
 OnSession closed (Open old) (Open new) step = step old new
-OnSession closed (Open old) (Image pages) step = ⊥
-OnSession closed (Image pages) new step = closed × (new ≡ Image pages)
+OnSession closed (Open old) new step = ⊥
+OnSession closed held new step = closed × (new ≡ held)
 
 -- the same of a handle, behind which nothing may lie
 abbrev pub OnHandle : Type 0 → Option Held → Option Held → (Session → Session → Type 0) → Type 0

@@ -1,5 +1,9 @@
 -- What a call answers to C: its status, and what the status carries.
 use Rattle.std.specs.Prelude.{ℕ, pos, Result, Ok, Err}
+use Rattle.btree_delete.specs.declared.opening.OpenFault.{OpenFault}
+use Rattle.btree_delete.specs.declared.opening.OpenFault.TheVariants as open_faults
+use Rattle.btree_delete.specs.declared.tables.CreateFault.{CreateFault}
+use Rattle.btree_delete.specs.declared.tables.CreateFault.TheVariants as create_faults
 use Rattle.rec_types.specs.declared.keys.KeyFault.{KeyFault}
 use Rattle.rec_types.specs.declared.keys.KeyFault.TheVariants.{Empty, TooLong}
 use Rattle.rec_types.specs.declared.limiting.LimitFault.{LimitFault}
@@ -112,6 +116,30 @@ bad_begins = 23
 abbrev pub still_open : ℕ
 still_open = 24
 
+abbrev pub bad_length : ℕ
+bad_length = 25
+
+abbrev pub bad_magic : ℕ
+bad_magic = 26
+
+abbrev pub bad_version : ℕ
+bad_version = 27
+
+abbrev pub bad_order : ℕ
+bad_order = 28
+
+abbrev pub not_clean : ℕ
+not_clean = 29
+
+abbrev pub bad_header : ℕ
+bad_header = 30
+
+abbrev pub wrong_count : ℕ
+wrong_count = 31
+
+abbrev pub too_many_records : ℕ
+too_many_records = 32
+
 -- a status that carries nothing
 abbrev pub just : ℕ → Outcome
 just status = record { status = pos status; owner = 0; page = 0; undone = 0; left = 0; cause = pos ok }
@@ -134,6 +162,26 @@ still_open_by count = record (just still_open) { left = count }
 -- a damaged page
 abbrev pub at_page : ℕ → Outcome
 at_page n = record (just damaged) { page = n }
+
+-- why a file was not opened
+abbrev pub open_outcome : OpenFault → Outcome
+open_outcome open_faults.Device = just device
+open_outcome open_faults.BadLength = just bad_length
+open_outcome open_faults.BadMagic = just bad_magic
+open_outcome (open_faults.BadVersion version) = record (just bad_version) { page = version }
+open_outcome open_faults.BadOrder = just bad_order
+open_outcome open_faults.NotClean = just not_clean
+open_outcome open_faults.BadHeader = just bad_header
+open_outcome (open_faults.Damaged n) = at_page n
+open_outcome open_faults.WrongCount = just wrong_count
+open_outcome open_faults.TooManyRecords = just too_many_records
+open_outcome open_faults.Memory = just memory
+
+-- why no file was made
+abbrev pub create_outcome : CreateFault → Outcome
+create_outcome create_faults.BadOrder = just bad_order
+create_outcome create_faults.Device = just device
+create_outcome create_faults.NotEmpty = just bad_length
 
 -- a key that another transaction holds
 abbrev pub held_by : TxId → Outcome

@@ -48,7 +48,7 @@ pub(crate) fn begin(
             *tx = tx_in(&answer);
             Outcome::of_begin(&answer).status
         }
-        Held::Image(_) => CLOSED,
+        Held::Image(_) | Held::Unclosed(_) | Held::Closed(_) => CLOSED,
     }
 }
 
@@ -77,7 +77,7 @@ pub(crate) fn put(
             *before = Found::in_answer(&answer);
             Outcome::of_put(&answer)
         }
-        Held::Image(_) => Outcome::just(CLOSED),
+        Held::Image(_) | Held::Unclosed(_) | Held::Closed(_) => Outcome::just(CLOSED),
     }
 }
 
@@ -102,7 +102,7 @@ pub(crate) fn remove(
             *taken = Found::taken(&answer);
             Outcome::of_remove(&answer)
         }
-        Held::Image(_) => Outcome::just(CLOSED),
+        Held::Image(_) | Held::Unclosed(_) | Held::Closed(_) => Outcome::just(CLOSED),
     }
 }
 
@@ -127,7 +127,7 @@ pub(crate) fn get(
             *found = Found::in_answer(&answer);
             Outcome::of_get(&answer)
         }
-        Held::Image(_) => Outcome::just(CLOSED),
+        Held::Image(_) | Held::Unclosed(_) | Held::Closed(_) => Outcome::just(CLOSED),
     }
 }
 
@@ -147,7 +147,7 @@ pub(crate) fn savepoint(
             *n = number_in(&answer);
             Outcome::of_savepoint(&answer).status
         }
-        Held::Image(_) => CLOSED,
+        Held::Image(_) | Held::Unclosed(_) | Held::Closed(_) => CLOSED,
     }
 }
 
@@ -165,7 +165,7 @@ pub(crate) fn release(
             let answer = session.file.release(tx, n);
             Outcome::of_release(&answer).status
         }
-        Held::Image(_) => CLOSED,
+        Held::Image(_) | Held::Unclosed(_) | Held::Closed(_) => CLOSED,
     }
 }
 
@@ -186,7 +186,7 @@ pub(crate) fn rollback_to(
             *undone = number_in(&answer);
             Outcome::of_rollback_to(&answer)
         }
-        Held::Image(_) => Outcome::just(CLOSED),
+        Held::Image(_) | Held::Unclosed(_) | Held::Closed(_) => Outcome::just(CLOSED),
     }
 }
 
@@ -206,7 +206,7 @@ pub(crate) fn abort(
             *undone = number_in(&answer);
             Outcome::of_abort(&answer)
         }
-        Held::Image(_) => Outcome::just(CLOSED),
+        Held::Image(_) | Held::Unclosed(_) | Held::Closed(_) => Outcome::just(CLOSED),
     }
 }
 
@@ -226,7 +226,7 @@ pub(crate) fn resume(
             *undone = number_in(&answer);
             Outcome::of_resume(&answer)
         }
-        Held::Image(_) => Outcome::just(CLOSED),
+        Held::Image(_) | Held::Unclosed(_) | Held::Closed(_) => Outcome::just(CLOSED),
     }
 }
 
@@ -243,7 +243,7 @@ pub(crate) fn commit(
             let answer = session.file.commit(tx);
             Outcome::of_commit(&answer).status
         }
-        Held::Image(_) => CLOSED,
+        Held::Image(_) | Held::Unclosed(_) | Held::Closed(_) => CLOSED,
     }
 }
 
@@ -263,7 +263,7 @@ pub(crate) fn status(
             *status = TxStatus::in_answer(&answer);
             Outcome::of_status(&answer).status
         }
-        Held::Image(_) => CLOSED,
+        Held::Image(_) | Held::Unclosed(_) | Held::Closed(_) => CLOSED,
     }
 }
 
@@ -281,7 +281,7 @@ pub(crate) fn charged(
             *n = session.file.charged();
             OK
         }
-        Held::Image(_) => CLOSED,
+        Held::Image(_) | Held::Unclosed(_) | Held::Closed(_) => CLOSED,
     }
 }
 
@@ -299,7 +299,7 @@ pub(crate) fn begun(
             *n = session.file.begun();
             OK
         }
-        Held::Image(_) => CLOSED,
+        Held::Image(_) | Held::Unclosed(_) | Held::Closed(_) => CLOSED,
     }
 }
 
@@ -317,7 +317,7 @@ pub(crate) fn log_len(
             *n = session.file.log_len();
             OK
         }
-        Held::Image(_) => CLOSED,
+        Held::Image(_) | Held::Unclosed(_) | Held::Closed(_) => CLOSED,
     }
 }
 
@@ -335,7 +335,7 @@ pub(crate) fn log_use(
             *n = session.file.log_use();
             OK
         }
-        Held::Image(_) => CLOSED,
+        Held::Image(_) | Held::Unclosed(_) | Held::Closed(_) => CLOSED,
     }
 }
 
@@ -354,6 +354,6 @@ pub(crate) fn log_record(
             *entry = LogEntry::of(&session.file.log_record(lsn));
             OK
         }
-        Held::Image(_) => CLOSED,
+        Held::Image(_) | Held::Unclosed(_) | Held::Closed(_) => CLOSED,
     }
 }

@@ -1,5 +1,7 @@
 // What lies behind a handle that isn't closed.
+use crate::journal::JournalStore;
 use crate::tables::FileTable;
+use btree_delete::TreeTable;
 use rec_types::{Entry, Key};
 use record_file::RecordFile;
 
@@ -21,4 +23,8 @@ pub enum Held {
     Image(Vec<[u8; 4096]>),
     /// An open file.
     Open(Session),
+    /// A table whose closing found no memory.
+    Unclosed(TreeTable<JournalStore>),
+    /// What is to be done to a file that was closed.
+    Closed(JournalStore),
 }

@@ -36,7 +36,7 @@ pub(crate) fn entries(alloc: Global, held: &mut Held, n: &mut u64) -> Outcome
             *n = session.entries.len() as u64;
             told
         }
-        Held::Image(_) => Outcome::just(CLOSED),
+        Held::Image(_) | Held::Unclosed(_) | Held::Closed(_) => Outcome::just(CLOSED),
     }
 }
 
@@ -54,7 +54,7 @@ pub(crate) fn keys_of(alloc: Global, held: &mut Held, tx: TxId, n: &mut u64) -> 
             *n = session.keys.len() as u64;
             told.status
         }
-        Held::Image(_) => CLOSED,
+        Held::Image(_) | Held::Unclosed(_) | Held::Closed(_) => CLOSED,
     }
 }
 
@@ -71,7 +71,7 @@ pub(crate) fn entry(held: &mut Held, i: u64, told: &mut ListedEntry) -> i32
             }
             None => NO_SUCH_ENTRY,
         },
-        Held::Image(_) => CLOSED,
+        Held::Image(_) | Held::Unclosed(_) | Held::Closed(_) => CLOSED,
     }
 }
 
@@ -89,6 +89,6 @@ pub(crate) fn key(held: &mut Held, i: u64, told: &mut KeyBytes) -> i32
             }
             None => NO_SUCH_ENTRY,
         },
-        Held::Image(_) => CLOSED,
+        Held::Image(_) | Held::Unclosed(_) | Held::Closed(_) => CLOSED,
     }
 }

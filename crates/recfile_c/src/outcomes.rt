@@ -1,6 +1,7 @@
 ghost use Rattle.std.specs.Prelude.{◌≡◌, pos};
 ghost use Rattle.recfile_c.specs.Outcomes as outcomes;
 
+use btree_delete::{CreateFault, OpenFault};
 use rec_types::{KeyFault, LimitFault, TxId};
 use record_file::{BeginFault, Cause, AbortFault, CommitFault, EntriesFault, GetFault, KeysOfFault, PutFault, ReleaseFault, RemoveFault, ResumeFault, RollbackToFault, SavepointFault, StatusFault};
 
@@ -54,6 +55,22 @@ pub const BAD_LOG: i32 = 22;
 pub const BAD_BEGINS: i32 = 23;
 /// Some transactions have not ended: `left`.
 pub const STILL_OPEN: i32 = 24;
+/// The file has a length that no record file has.
+pub const BAD_LENGTH: i32 = 25;
+/// The file is no record file.
+pub const BAD_MAGIC: i32 = 26;
+/// The file has another version: `page`.
+pub const BAD_VERSION: i32 = 27;
+/// The order of the tree is not from 1 to 16.
+pub const BAD_ORDER: i32 = 28;
+/// The file was not closed cleanly.
+pub const NOT_CLEAN: i32 = 29;
+/// The header is not that of this file.
+pub const BAD_HEADER: i32 = 30;
+/// The header tells another number of records.
+pub const WRONG_COUNT: i32 = 31;
+/// The file has more records than the limit.
+pub const TOO_MANY_RECORDS: i32 = 32;
 
 /// What a call answered: its status, and what that carries; the rest is 0.
 #[repr(C)]
@@ -106,6 +123,39 @@ impl Outcome {
             LimitFault::Records => Outcome::just(BAD_RECORDS),
             LimitFault::Log => Outcome::just(BAD_LOG),
             LimitFault::Begins => Outcome::just(BAD_BEGINS),
+        }
+    }
+
+    // Why a file was not opened.
+    pub(crate) fn of_open(fault: OpenFault) -> Outcome
+        ensures { result ≡ outcomes.open_outcome fault }
+    {
+        match fault {
+            OpenFault::Device => Outcome::just(DEVICE),
+            OpenFault::BadLength => Outcome::just(BAD_LENGTH),
+            OpenFault::BadMagic => Outcome::just(BAD_MAGIC),
+            OpenFault::BadVersion(version) => Outcome {
+                page: u32::from(version),
+                ..Outcome::just(BAD_VERSION)
+            },
+            OpenFault::BadOrder => Outcome::just(BAD_ORDER),
+            OpenFault::NotClean => Outcome::just(NOT_CLEAN),
+            OpenFault::BadHeader => Outcome::just(BAD_HEADER),
+            OpenFault::Damaged(page) => Outcome::at_page(page),
+            OpenFault::WrongCount => Outcome::just(WRONG_COUNT),
+            OpenFault::TooManyRecords => Outcome::just(TOO_MANY_RECORDS),
+            OpenFault::Memory => Outcome::just(MEMORY),
+        }
+    }
+
+    // Why no file was made.
+    pub(crate) fn of_create(fault: CreateFault) -> Outcome
+        ensures { result ≡ outcomes.create_outcome fault }
+    {
+        match fault {
+            CreateFault::BadOrder => Outcome::just(BAD_ORDER),
+            CreateFault::Device => Outcome::just(DEVICE),
+            CreateFault::NotEmpty => Outcome::just(BAD_LENGTH),
         }
     }
 

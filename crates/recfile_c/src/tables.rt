@@ -1,12 +1,12 @@
+use crate::journal::JournalStore;
 use btree_delete::TreeTable;
-use page_store::MemStore;
 use rec_types::{Key, Record, SortedTable, Table, TableFault};
 
 /// A table in memory, or in the pages of a file.
 #[derive(Drop)]
 pub enum FileTable {
     Memory(SortedTable),
-    Paged(TreeTable<MemStore>),
+    Paged(TreeTable<JournalStore>),
 }
 
 impl Table for FileTable {
