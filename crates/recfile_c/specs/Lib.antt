@@ -4,6 +4,7 @@ pub mod FileTables
 pub mod Lists
 pub mod Opening
 pub mod Outcomes
+pub mod Paged
 pub mod Roots
 pub mod Shown
 pub mod Slots

@@ -9,6 +9,9 @@ use Rattle.recfile_c.specs.declared.shown.Found.{Found}
 use Rattle.recfile_c.specs.declared.shown.LogEntry.{LogEntry}
 use Rattle.recfile_c.specs.declared.shown.ListedEntry.{ListedEntry}
 use Rattle.recfile_c.specs.declared.shown.TxStatus.{TxStatus}
+use Rattle.recfile_c.specs.declared.shown.StepShown.{StepShown}
+use Rattle.recfile_c.specs.declared.steps.Step.{Step}
+use Rattle.recfile_c.specs.declared.steps.Step.TheVariants.{SetPages, Write, Sync}
 use Rattle.record_file.specs.declared.faults.Status.{Status}
 use Rattle.record_file.specs.declared.faults.Status.TheVariants.{Active, Rolling}
 
@@ -38,3 +41,7 @@ abbrev pub Shows : ListedEntry → Entry → Type 0
 Shows told e =
     (key_shown told.key ≡ e.key) × (shown told.value ≡ Some e.value)
     × ((if told.is_owned == 0 then None else Some (tx_shown told.owner)) ≡ e.owner)
+
+-- a step, with the page that it writes
+abbrev pub step_shown : StepShown → List ℕ → Step
+step_shown s page = if s.kind == 1 then SetPages s.number else (if s.kind == 2 then Write s.number page else Sync)

@@ -100,6 +100,13 @@ impl JournalStore {
         }
     }
 
+    /// The steps, in the order in which they are to be carried out.
+    pub fn steps(&self) -> &[Step]
+        ensures { result.now ≡ self.now.steps }
+    {
+        self.steps.as_slice()
+    }
+
     // One more step. Fault: Failed, where it finds no memory.
     fn note(&mut self, step: Step, count: u64) -> Result<(), StoreFault>
         requires { count ≡ length (carry (pages_of self.old) step) }

@@ -2,6 +2,7 @@
 #![tactic(auto)]
 
 mod calls;
+mod closing;
 mod exports;
 mod handle;
 mod held;
@@ -10,6 +11,7 @@ mod lists;
 mod loose;
 mod opening;
 mod outcomes;
+mod paged;
 mod root;
 mod shown;
 mod slot;

@@ -1,8 +1,9 @@
 // What a caller reads. No field has a value that C may not leave in memory.
 ghost use Rattle.std.specs.Prelude.{◌≡◌, [], if◌then◌else◌, None, Some, ◌≤◌, length, take};
-ghost use Rattle.recfile_c.specs.Shown.{key_shown, shown, log_shown, status_shown, Shows};
+ghost use Rattle.recfile_c.specs.Shown.{key_shown, shown, log_shown, status_shown, step_shown, Shows};
 ghost use Rattle.recfile_c.specs.Answers.{found_in, taken_in, TellsStatus};
 
+use crate::steps::Step;
 use rec_types::{Entry, Key, Record};
 use record_file::{Status, StatusFault};
 use tx_log::LogRecord;
@@ -49,6 +50,15 @@ pub struct TxStatus {
     pub saves: u32,
     pub live: u32,
     pub left: u32,
+}
+
+/// A step. `kind` is 1 where the file is to be made `number` pages long, 2 where page `number` is to be written, 3
+/// where the device is to keep what was written.
+#[repr(C)]
+#[derive(Clone, Copy)]
+pub struct StepShown {
+    pub kind: u32,
+    pub number: u32,
 }
 
 /// An entry of a list.
@@ -284,6 +294,33 @@ impl ListedEntry {
             is_owned,
             key: KeyBytes::of(&entry.key),
             value: Found::some(&entry.value),
+        }
+    }
+}
+
+impl StepShown {
+    // No step.
+    pub(crate) fn none() -> StepShown {
+        StepShown { kind: 0, number: 0 }
+    }
+
+    // A step, and the page that it writes.
+    pub(crate) fn of(step: &Step, page: &mut [u8; 4096]) -> StepShown
+        ensures { step_shown result page.new ≡ step.now }
+    {
+        match step {
+            Step::SetPages(number) => StepShown {
+                kind: 1,
+                number: *number,
+            },
+            Step::Write(number, written) => {
+                *page = *written;
+                StepShown {
+                    kind: 2,
+                    number: *number,
+                }
+            }
+            Step::Sync => StepShown { kind: 3, number: 0 },
         }
     }
 }

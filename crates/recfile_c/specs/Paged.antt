@@ -1,0 +1,118 @@
+-- Opening and closing a page file, of which the pages are handed in and the steps handed out.
+use Rattle.std.specs.Prelude.{◌≡◌, ◌≢◌, ◌⊎◌, ℕ, ℤ, pos, Bool, true, false, List, [], ◌∷◌, ◌++◌, Option, Some, None, Result, Ok, Err, IsTrue, length, slice_get}
+use Rattle.std.specs.FinMap as maps
+use Rattle.std.specs.declared.boxed.Box.{Box}
+use Rattle.rec_types.specs.LimitBounds.{Bounds}
+use Rattle.rec_types.specs.declared.limiting.LimitFault.{LimitFault}
+use Rattle.btree_delete.specs.declared.opening.OpenFault.{OpenFault}
+use Rattle.btree_delete.specs.declared.tables.CreateFault.{CreateFault}
+use Rattle.btree_delete.specs.CleanFile.{IsFirst, Opens}
+use Rattle.btree_delete.specs.Created.{IsCreated, IsCreateFault}
+use Rattle.btree_delete.specs.TableView.{TableView, IsClosed, table_contents}
+use Rattle.record_file.specs.Abstract.{new_file}
+use Rattle.recfile_c.specs.declared.tables.FileTable.{FileTable}
+use Rattle.recfile_c.specs.declared.tables.FileTable.TheVariants.{Memory, Paged}
+use Rattle.recfile_c.specs.declared.held.Held.{Held}
+use Rattle.recfile_c.specs.declared.held.Held.TheVariants.{Image, Open, Unclosed, Closed}
+use Rattle.recfile_c.specs.declared.held.Session.{Session}
+use Rattle.recfile_c.specs.declared.outcomes.Outcome.{Outcome}
+use Rattle.recfile_c.specs.declared.steps.Step.{Step}
+use Rattle.recfile_c.specs.declared.shown.StepShown.{StepShown}
+use Rattle.recfile_c.specs.Shown.{step_shown}
+use Rattle.recfile_c.specs.Steps.{Journal, pages_of}
+use Rattle.recfile_c.specs.Outcomes.{just, ok, closed, memory, not_closed, no_such_entry, limits_outcome, open_outcome, create_outcome, still_open_by}
+use Rattle.recfile_c.specs.Calls.{FileState}
+use Rattle.recfile_c.specs.Opening.{IsOpened}
+
+-- a file over a table, in which nothing was begun
+abbrev pub paged_file : TableView → Bounds → FileState
+paged_file t limits = record { table = Paged t; file = new_file (table_contents t) limits; log = [] }
+
+-- The pages are a closed file, whose tree and records the table has; its store is steady, and has these pages.
+pub record OpensPages (pages : List (List ℕ)) (limits : Bounds) (t : TableView) : Type 0 where
+  pub opens : Opens pages 0 limits.records 0 t.pages t.tree
+  pub stored : t.pages.stored ≡ pages
+  pub idle : t.pages.changed ≡ false
+  pub steady : t.pages.steady ≡ true
+  pub failures : t.pages.failures ≡ 0
+  pub refusals : t.refusals ≡ 0
+  pub limit : t.limit ≡ limits.records
+
+-- an empty table of that order over no pages
+pub record MakesPages (k : ℕ) (limits : Bounds) (t : TableView) : Type 0 where
+  pub created : IsCreated [] 0 k t
+  pub empty : table_contents t ≡ maps.empty
+  pub steady : t.pages.steady ≡ true
+  pub failures : t.pages.failures ≡ 0
+  pub refusals : t.refusals ≡ 0
+  pub limit : t.limit ≡ limits.records
+
+-- A file is opened from these pages, or the first check that fails is named.
+abbrev pub OpensFrom : List (List ℕ) → Result Bounds LimitFault → Result Held Outcome → Type 0
+OpensFrom pages (Ok limits) (Ok held) = (t : TableView) × OpensPages pages limits t × IsOpened (paged_file t limits) held
+OpensFrom pages (Ok limits) (Err told) = (fault : OpenFault) × IsFirst pages 0 limits.records fault × (told ≡ open_outcome fault)
+OpensFrom pages (Err fault) (Ok held) = ⊥
+OpensFrom pages (Err fault) (Err told) = told ≡ limits_outcome fault
+
+-- A new file of an order, or why there is none.
+abbrev pub CreatesOf : ℕ → Result Bounds LimitFault → Result Held Outcome → Type 0
+CreatesOf k (Ok limits) (Ok held) = (t : TableView) × MakesPages k limits t × IsOpened (paged_file t limits) held
+CreatesOf k (Ok limits) (Err told) = (fault : CreateFault) × IsCreateFault [] 0 k fault × (told ≡ create_outcome fault)
+CreatesOf k (Err fault) (Ok held) = ⊥
+CreatesOf k (Err fault) (Err told) = told ≡ limits_outcome fault
+
+-- closing
+
+-- The steps lead from the old pages to a closed file with the table's tree and records; where nothing was changed they lead to
+-- the pages that the table had been opened with.
+pub record Settles (t : TableView) (j : Journal) : Type 0 where
+  pub closed : IsTrue t.pages.steady → IsClosed (pages_of j) 0 t.tree (table_contents t)
+  pub idle : t.pages.changed ≡ false → pages_of j ≡ t.pages.stored
+
+-- a table whose closing found no memory has its tree and its records
+pub record KeepsTable (old new : TableView) : Type 0 where
+  pub tree : new.tree ≡ old.tree
+  pub contents : table_contents new ≡ table_contents old
+  pub steady : new.pages.steady ≡ old.pages.steady
+
+abbrev pub ClosesTable : Outcome → TableView → Held → Type 0
+ClosesTable told t (Closed j) = (told ≡ just ok) × Settles t j
+ClosesTable told t (Unclosed u) = (told ≡ just memory) × KeepsTable t u
+ClosesTable told t held = ⊥
+
+-- a file in memory leaves nothing to be done
+abbrev pub ClosesKind : Outcome → FileTable → Held → Type 0
+ClosesKind told (Memory t) (Closed j) = (told ≡ just ok) × (j.steps ≡ [])
+ClosesKind told (Memory t) held = ⊥
+ClosesKind told (Paged t) held = ClosesTable told t held
+
+-- A file is closed once every transaction has ended.
+abbrev pub Closes : Outcome → Held → Held → Type 0
+Closes told (Open old) new =
+    ((maps.len old.file.file.txs ≡ 0) × ClosesKind told old.file.table new)
+    ⊎ ((maps.len old.file.file.txs ≢ 0) × (told ≡ still_open_by (maps.len old.file.file.txs)) × (new ≡ Open old))
+Closes told (Unclosed t) new = ClosesTable told t new
+Closes told held new = (told ≡ just closed) × (new ≡ held)
+
+-- handing pages in
+
+-- one more page, or no memory for it
+abbrev pub AddsPage : List ℕ → ℤ → Held → Held → Type 0
+AddsPage page status (Image old) (Image new) = ((status ≡ pos ok) × (new.items ≡ old.items ++ page ∷ [])) ⊎ ((status ≡ pos memory) × (new.items ≡ old.items))
+AddsPage page status (Image old) new = ⊥
+AddsPage page status held new = (status ≡ pos not_closed) × (new ≡ held)
+
+-- handing steps out
+
+abbrev pub CountsSteps : ℤ → ℕ → Held → Held → Type 0
+CountsSteps status n (Closed j) new = (status ≡ pos ok) × (n ≡ length j.steps) × (new ≡ Closed j)
+CountsSteps status n held new = (status ≡ pos not_closed) × (n ≡ 0) × (new ≡ held)
+
+abbrev pub ShowsStep : Option Step → ℤ → StepShown → List ℕ → Type 0
+ShowsStep (Some s) status told page = (status ≡ pos ok) × (step_shown told page ≡ s)
+ShowsStep None status told page = status ≡ pos no_such_entry
+
+-- the i-th step, from 0, where there is one
+abbrev pub StepAt : ℕ → ℤ → StepShown → List ℕ → Held → Held → Type 0
+StepAt i status told page (Closed j) new = ShowsStep (slice_get j.steps i) status told page × (new ≡ Closed j)
+StepAt i status told page held new = (status ≡ pos not_closed) × (new ≡ held)
