@@ -36,15 +36,15 @@ FileState = OpenFile FileTable
 
 -- On an open file the step. Else nothing is done, and the answer says so.
 abbrev pub OnSession : Type 0 → Held → Held → (Session → Session → Type 0) → Type 0
-OnSession closed (Open old) (Open new) step = step old new
-OnSession closed (Open old) new step = ⊥
-OnSession closed held new step = closed × (new ≡ held)
+OnSession nothing (Open old) (Open new) step = step old new
+OnSession nothing (Open old) new step = ⊥
+OnSession nothing held new step = nothing × (new ≡ held)
 
 -- the same of a handle, behind which nothing may lie
 abbrev pub OnHandle : Type 0 → Option Held → Option Held → (Session → Session → Type 0) → Type 0
-OnHandle closed (Some old) (Some new) step = OnSession closed old new step
-OnHandle closed (Some old) None step = ⊥
-OnHandle closed None new step = closed × (new ≡ None)
+OnHandle nothing (Some old) (Some new) step = OnSession nothing old new step
+OnHandle nothing (Some old) None step = ⊥
+OnHandle nothing None new step = nothing × (new ≡ None)
 
 -- a step of the file, which leaves the lists
 abbrev pub InFile : (FileState → FileState → Type 0) → Session → Session → Type 0

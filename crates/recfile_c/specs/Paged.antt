@@ -20,7 +20,7 @@ use Rattle.recfile_c.specs.declared.steps.Step.{Step}
 use Rattle.recfile_c.specs.declared.shown.StepShown.{StepShown}
 use Rattle.recfile_c.specs.Shown.{step_shown}
 use Rattle.recfile_c.specs.Steps.{Journal, pages_of}
-use Rattle.recfile_c.specs.Outcomes.{just, ok, closed, memory, not_closed, no_such_entry, limits_outcome, open_outcome, create_outcome, still_open_by}
+use Rattle.recfile_c.specs.Outcomes.{just, ok, closed, memory, not_closed, no_such_entry, bad_length, limits_outcome, open_outcome, create_outcome, still_open_by}
 use Rattle.recfile_c.specs.Calls.{FileState}
 use Rattle.recfile_c.specs.Opening.{IsOpened}
 
@@ -60,6 +60,53 @@ CreatesOf k (Ok limits) (Ok held) = (t : TableView) × MakesPages k limits t × 
 CreatesOf k (Ok limits) (Err told) = (fault : CreateFault) × IsCreateFault [] 0 k fault × (told ≡ create_outcome fault)
 CreatesOf k (Err fault) (Ok held) = ⊥
 CreatesOf k (Err fault) (Err told) = told ≡ limits_outcome fault
+
+-- what lies behind a handle opens a file from its pages, or has no page left
+abbrev pub BecomesOpen : (Result Held Outcome → Type 0) → Outcome → Held → Type 0
+BecomesOpen makes told (Open s) = (told ≡ just ok) × makes (Ok (Open s))
+BecomesOpen makes told (Image rest) = (rest.items ≡ []) × makes (Err told)
+BecomesOpen makes told held = ⊥
+
+abbrev pub OpensImage : Result Bounds LimitFault → Outcome → Held → Held → Type 0
+OpensImage limits told (Image pages) new = BecomesOpen (OpensFrom pages.items limits) told new
+OpensImage limits told held new = (told ≡ just not_closed) × (new ≡ held)
+
+-- a new file where no page was handed in
+abbrev pub CreatesImage : ℕ → Result Bounds LimitFault → Outcome → Held → Held → Type 0
+CreatesImage k limits told (Image pages) new = (pages.items ≡ [] → BecomesOpen (CreatesOf k limits) told new) × (pages.items ≢ [] → (told ≡ just bad_length) × (new ≡ Image pages))
+CreatesImage k limits told held new = (told ≡ just not_closed) × (new ≡ held)
+
+-- handles
+
+-- no page was handed in yet
+abbrev pub IsBlank : Held → Type 0
+IsBlank (Image pages) = pages.items ≡ []
+IsBlank held = ⊥
+
+-- A handle behind which nothing lies is taken for one whose file has no page yet, or there is no memory for that.
+abbrev pub OnImage : Type 0 → Option Held → Option Held → (Held → Held → Type 0) → Type 0
+OnImage refused (Some old) (Some new) step = step old new
+OnImage refused (Some old) None step = ⊥
+OnImage refused None (Some new) step = (blank : Held) × IsBlank blank × step blank new
+OnImage refused None None step = refused
+
+-- nothing is done to a handle behind which nothing lies
+abbrev pub OnHeld : Type 0 → Option Held → Option Held → (Held → Held → Type 0) → Type 0
+OnHeld nothing (Some old) (Some new) step = step old new
+OnHeld nothing (Some old) None step = ⊥
+OnHeld nothing None new step = nothing × (new ≡ None)
+
+-- whatever lies behind a handle is given up
+abbrev pub Discards : ℤ → Option Held → Option Held → Type 0
+Discards status (Some old) new = (status ≡ pos ok) × (new ≡ None)
+Discards status None new = (status ≡ pos closed) × (new ≡ None)
+
+-- what is taken from a handle: what lies behind it, or a file with no page, or nothing for want of memory
+abbrev pub TakesImage : {Z : Type 0} → Option Held → Option (Box Held Z) → Type 0
+TakesImage (Some old) (Some b) = b.value ≡ old
+TakesImage (Some old) None = ⊥
+TakesImage None (Some b) = IsBlank b.value
+TakesImage None None = Unit {0}
 
 -- closing
 

@@ -4,18 +4,21 @@ ghost use Rattle.rec_types.specs.Key.{key_of};
 ghost use Rattle.rec_types.specs.Record.{record_of};
 ghost use Rattle.rec_types.specs.Limits.{limits_of};
 ghost use Rattle.recfile_c.specs.Shown.{key_shown, shown, log_shown, tx_shown};
-ghost use Rattle.recfile_c.specs.Outcomes.{just, closed};
+ghost use Rattle.recfile_c.specs.Outcomes.{just, closed, memory};
 ghost use Rattle.recfile_c.specs.Calls.{OnHandle, InFile, Begin, PutBytes, RemoveBytes, GetBytes, Savepoint, Release, RollbackTo, Abort, Resume, Commit, StatusOf, Charged, Begun, LogLen, LogUse, RecordAt};
 ghost use Rattle.recfile_c.specs.Lists.{ListsEntries, ListsKeys, EntryAt, KeyAt};
 ghost use Rattle.recfile_c.specs.Opening.{Opens, MakesMemory};
+ghost use Rattle.recfile_c.specs.Paged.{OnImage, OnHeld, AddsPage, OpensImage, CreatesImage, Closes, CountsSteps, StepAt, Discards};
 
 use crate::calls;
+use crate::closing;
 use crate::handle::RecFile;
 use crate::lists;
 use crate::opening;
+use crate::paged;
 use crate::outcomes::{CLOSED, MEMORY, NOT_CLOSED, OK, Outcome};
 use crate::root::Root;
-use crate::shown::{Found, KeyBytes, ListedEntry, LogEntry, TxStatus};
+use crate::shown::{Found, KeyBytes, ListedEntry, LogEntry, StepShown, TxStatus};
 use rec_types::TxId;
 use std::alloc::Global;
 
@@ -484,4 +487,145 @@ pub extern "C" fn recfile_key(
     let status = lists::key(&mut held, i, told);
     file.give(held);
     status
+}
+
+/// Hands in the next page of a file that is to be opened, to a closed handle. Statuses: OK, NOT_CLOSED, MEMORY.
+#[unsafe(no_mangle)]
+pub extern "C" fn recfile_page(
+    alloc: Global,
+    file: &mut RecFile,
+    page: &[u8; 4096],
+) -> i32
+    ensures { OnImage (result ≡ pos memory) file.old.slot.value file.new.slot.value
+        (AddsPage page.now result) }
+{
+    let Some(mut held) = paged::take_image(alloc, file) else {
+        return MEMORY;
+    };
+    let status = closing::add_page(&mut held, page);
+    file.give(held);
+    status
+}
+
+/// Opens the file whose pages were handed in, every page in order; where it is not opened, the handle has none left.
+/// Statuses: OK, NOT_CLOSED, BAD_RECORDS, BAD_LOG, BAD_BEGINS, then the first check that fails: BAD_LENGTH, BAD_MAGIC,
+/// BAD_VERSION, BAD_ORDER, NOT_CLEAN, BAD_HEADER, DAMAGED, WRONG_COUNT, TOO_MANY_RECORDS; DEVICE never; MEMORY.
+#[unsafe(no_mangle)]
+pub extern "C" fn recfile_open(
+    alloc: Global,
+    file: &mut RecFile,
+    records: u32,
+    log_records: u32,
+    begins: u32,
+    detail: &mut Outcome,
+) -> i32
+    ensures step { OnImage (detail.new ≡ just memory) file.old.slot.value file.new.slot.value
+        (OpensImage (limits_of records log_records begins) detail.new) }
+    ensures status { result ≡ detail.new.status }
+{
+    let Some(mut held) = paged::take_image(alloc, file) else {
+        *detail = Outcome::just(MEMORY);
+        return MEMORY;
+    };
+    *detail = paged::open_image(alloc, &mut held, records, log_records, begins);
+    file.give(held);
+    detail.status
+}
+
+/// Makes a file of an order from 1 to 16, where no page was handed in. Statuses: OK, NOT_CLOSED, BAD_LENGTH where a page
+/// was handed in, BAD_RECORDS, BAD_LOG, BAD_BEGINS, BAD_ORDER, MEMORY.
+#[unsafe(no_mangle)]
+pub extern "C" fn recfile_create(
+    alloc: Global,
+    file: &mut RecFile,
+    order: u16,
+    records: u32,
+    log_records: u32,
+    begins: u32,
+    detail: &mut Outcome,
+) -> i32
+    ensures step { OnImage (detail.new ≡ just memory) file.old.slot.value file.new.slot.value
+        (CreatesImage order (limits_of records log_records begins) detail.new) }
+    ensures status { result ≡ detail.new.status }
+{
+    let Some(mut held) = paged::take_image(alloc, file) else {
+        *detail = Outcome::just(MEMORY);
+        return MEMORY;
+    };
+    *detail = paged::create_image(alloc, &mut held, order, records, log_records, begins);
+    file.give(held);
+    detail.status
+}
+
+/// Closes a file of which every transaction has ended; the steps are then to be carried out. Statuses: OK, CLOSED,
+/// STILL_OPEN with the number of open transactions in `left`, MEMORY, after which the file can only be closed again.
+#[unsafe(no_mangle)]
+pub extern "C" fn recfile_close(
+    alloc: Global,
+    file: &mut RecFile,
+    detail: &mut Outcome,
+) -> i32
+    ensures step { OnHeld (detail.new ≡ just closed) file.old.slot.value file.new.slot.value
+        (Closes detail.new) }
+    ensures status { result ≡ detail.new.status }
+{
+    let Some(mut held) = file.take(alloc) else {
+        *detail = Outcome::just(CLOSED);
+        return CLOSED;
+    };
+    *detail = closing::close(alloc, &mut held);
+    file.give(held);
+    detail.status
+}
+
+/// How many steps a closed file leaves to be carried out. Statuses: OK, CLOSED, NOT_CLOSED.
+#[unsafe(no_mangle)]
+pub extern "C" fn recfile_step_count(
+    alloc: Global,
+    file: &mut RecFile,
+    n: &mut u64,
+) -> i32
+    ensures { OnHeld ((result ≡ pos closed) × (n.new ≡ 0)) file.old.slot.value file.new.slot.value
+        (CountsSteps result n.new) }
+{
+    let Some(mut held) = file.take(alloc) else {
+        *n = 0;
+        return CLOSED;
+    };
+    let status = closing::step_count(&mut held, n);
+    file.give(held);
+    status
+}
+
+/// A step, from 0, and the page that it writes. Statuses: OK, CLOSED, NOT_CLOSED, NO_SUCH_ENTRY.
+#[unsafe(no_mangle)]
+pub extern "C" fn recfile_step(
+    alloc: Global,
+    file: &mut RecFile,
+    i: u64,
+    told: &mut StepShown,
+    page: &mut [u8; 4096],
+) -> i32
+    ensures { OnHeld (result ≡ pos closed) file.old.slot.value file.new.slot.value
+        (StepAt i result told.new page.new) }
+{
+    let Some(mut held) = file.take(alloc) else {
+        *told = StepShown::none();
+        return CLOSED;
+    };
+    let status = closing::step(&mut held, i, told, page);
+    file.give(held);
+    status
+}
+
+/// Gives up whatever lies behind a handle, which is closed then: an open file with its changes, pages handed in, steps.
+/// Statuses: OK, CLOSED.
+#[unsafe(no_mangle)]
+pub extern "C" fn recfile_discard(alloc: Global, file: &mut RecFile) -> i32
+    ensures { Discards result file.old.slot.value file.new.slot.value }
+{
+    match file.take(alloc) {
+        Some(_held) => OK,
+        None => CLOSED,
+    }
 }
