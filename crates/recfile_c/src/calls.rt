@@ -34,10 +34,7 @@ fn tx_in(answer: &Result<TxId, BeginFault>) -> u32
 }
 
 // Begins a transaction.
-pub(crate) fn begin(
-    held: &mut Held,
-    tx: &mut u32,
-) -> i32
+pub(crate) fn begin(held: &mut Held, tx: &mut u32) -> i32
     ensures { OnSession ((result ≡ pos closed) × (tx.new ≡ 0)) held.old held.new
         (InFile (Begin result tx.new)) }
 {
@@ -82,12 +79,7 @@ pub(crate) fn put(
 }
 
 // Takes a record out.
-pub(crate) fn remove(
-    held: &mut Held,
-    tx: TxId,
-    key: &[u8],
-    taken: &mut Found,
-) -> Outcome
+pub(crate) fn remove(held: &mut Held, tx: TxId, key: &[u8], taken: &mut Found) -> Outcome
     ensures { OnSession ((result ≡ just closed) × (shown taken.new ≡ None)) held.old held.new
         (InFile (RemoveBytes tx (key_of key.now) result (shown taken.new))) }
 {
@@ -107,12 +99,7 @@ pub(crate) fn remove(
 }
 
 // Looks a record up.
-pub(crate) fn get(
-    held: &mut Held,
-    tx: TxId,
-    key: &[u8],
-    found: &mut Found,
-) -> Outcome
+pub(crate) fn get(held: &mut Held, tx: TxId, key: &[u8], found: &mut Found) -> Outcome
     ensures { OnSession ((result ≡ just closed) × (shown found.new ≡ None)) held.old held.new
         (InFile (GetBytes tx (key_of key.now) result (shown found.new))) }
 {
@@ -132,11 +119,7 @@ pub(crate) fn get(
 }
 
 // Sets a savepoint.
-pub(crate) fn savepoint(
-    held: &mut Held,
-    tx: TxId,
-    n: &mut u32,
-) -> i32
+pub(crate) fn savepoint(held: &mut Held, tx: TxId, n: &mut u32) -> i32
     ensures { OnSession ((result ≡ pos closed) × (n.new ≡ 0)) held.old held.new
         (InFile (Savepoint tx result n.new)) }
 {
@@ -152,11 +135,7 @@ pub(crate) fn savepoint(
 }
 
 // Drops a savepoint and those above it.
-pub(crate) fn release(
-    held: &mut Held,
-    tx: TxId,
-    n: u32,
-) -> i32
+pub(crate) fn release(held: &mut Held, tx: TxId, n: u32) -> i32
     ensures { OnSession (result ≡ pos closed) held.old held.new
         (InFile (Release tx n result)) }
 {
@@ -170,12 +149,7 @@ pub(crate) fn release(
 }
 
 // Goes back to a savepoint.
-pub(crate) fn rollback_to(
-    held: &mut Held,
-    tx: TxId,
-    n: u32,
-    undone: &mut u32,
-) -> Outcome
+pub(crate) fn rollback_to(held: &mut Held, tx: TxId, n: u32, undone: &mut u32) -> Outcome
     ensures { OnSession ((result ≡ just closed) × (undone.new ≡ 0)) held.old held.new
         (InFile (RollbackTo tx n result undone.new)) }
 {
@@ -191,11 +165,7 @@ pub(crate) fn rollback_to(
 }
 
 // Takes a transaction back, and ends it.
-pub(crate) fn abort(
-    held: &mut Held,
-    tx: TxId,
-    undone: &mut u32,
-) -> Outcome
+pub(crate) fn abort(held: &mut Held, tx: TxId, undone: &mut u32) -> Outcome
     ensures { OnSession ((result ≡ just closed) × (undone.new ≡ 0)) held.old held.new
         (InFile (Abort tx result undone.new)) }
 {
@@ -211,11 +181,7 @@ pub(crate) fn abort(
 }
 
 // Goes on with a rollback that stopped.
-pub(crate) fn resume(
-    held: &mut Held,
-    tx: TxId,
-    undone: &mut u32,
-) -> Outcome
+pub(crate) fn resume(held: &mut Held, tx: TxId, undone: &mut u32) -> Outcome
     ensures { OnSession ((result ≡ just closed) × (undone.new ≡ 0)) held.old held.new
         (InFile (Resume tx result undone.new)) }
 {
@@ -231,10 +197,7 @@ pub(crate) fn resume(
 }
 
 // Ends a transaction; its changes stay.
-pub(crate) fn commit(
-    held: &mut Held,
-    tx: TxId,
-) -> i32
+pub(crate) fn commit(held: &mut Held, tx: TxId) -> i32
     ensures { OnSession (result ≡ pos closed) held.old held.new
         (InFile (Commit tx result)) }
 {
@@ -248,11 +211,7 @@ pub(crate) fn commit(
 }
 
 // What a transaction is doing.
-pub(crate) fn status(
-    held: &mut Held,
-    tx: TxId,
-    status: &mut TxStatus,
-) -> i32
+pub(crate) fn status(held: &mut Held, tx: TxId, status: &mut TxStatus) -> i32
     ensures { OnSession (result ≡ pos closed) held.old held.new
         (InFile (StatusOf tx result status.new)) }
 {
@@ -268,10 +227,7 @@ pub(crate) fn status(
 }
 
 // How many keys have a record or an owner.
-pub(crate) fn charged(
-    held: &mut Held,
-    n: &mut u64,
-) -> i32
+pub(crate) fn charged(held: &mut Held, n: &mut u64) -> i32
     ensures { OnSession ((result ≡ pos closed) × (n.new ≡ 0)) held.old held.new
         (InFile (Charged result n.new)) }
 {
@@ -286,10 +242,7 @@ pub(crate) fn charged(
 }
 
 // How many transactions were begun.
-pub(crate) fn begun(
-    held: &mut Held,
-    n: &mut u32,
-) -> i32
+pub(crate) fn begun(held: &mut Held, n: &mut u32) -> i32
     ensures { OnSession ((result ≡ pos closed) × (n.new ≡ 0)) held.old held.new
         (InFile (Begun result n.new)) }
 {
@@ -304,10 +257,7 @@ pub(crate) fn begun(
 }
 
 // The length of the log.
-pub(crate) fn log_len(
-    held: &mut Held,
-    n: &mut u32,
-) -> i32
+pub(crate) fn log_len(held: &mut Held, n: &mut u32) -> i32
     ensures { OnSession ((result ≡ pos closed) × (n.new ≡ 0)) held.old held.new
         (InFile (LogLen result n.new)) }
 {
@@ -322,10 +272,7 @@ pub(crate) fn log_len(
 }
 
 // The length of the log, and the live changes of open transactions.
-pub(crate) fn log_use(
-    held: &mut Held,
-    n: &mut u32,
-) -> i32
+pub(crate) fn log_use(held: &mut Held, n: &mut u32) -> i32
     ensures { OnSession ((result ≡ pos closed) × (n.new ≡ 0)) held.old held.new
         (InFile (LogUse result n.new)) }
 {
@@ -340,11 +287,7 @@ pub(crate) fn log_use(
 }
 
 // A record of the log.
-pub(crate) fn log_record(
-    held: &mut Held,
-    lsn: u32,
-    entry: &mut LogEntry,
-) -> i32
+pub(crate) fn log_record(held: &mut Held, lsn: u32, entry: &mut LogEntry) -> i32
     ensures { OnSession ((result ≡ pos closed) × (log_shown entry.new ≡ None)) held.old held.new
         (InFile (RecordAt lsn result (log_shown entry.new))) }
 {

@@ -10,15 +10,11 @@ ghost use Rattle.recfile_c.specs.Lists.{ListsEntries, ListsKeys, EntryAt, KeyAt}
 ghost use Rattle.recfile_c.specs.Opening.{Opens, MakesMemory};
 ghost use Rattle.recfile_c.specs.Paged.{OnImage, OnHeld, AddsPage, OpensImage, CreatesImage, Closes, CountsSteps, StepAt, Discards};
 
-use crate::calls;
-use crate::closing;
 use crate::handle::RecFile;
-use crate::lists;
-use crate::opening;
-use crate::paged;
 use crate::outcomes::{CLOSED, MEMORY, NOT_CLOSED, OK, Outcome};
 use crate::root::Root;
 use crate::shown::{Found, KeyBytes, ListedEntry, LogEntry, StepShown, TxStatus};
+use crate::{calls, closing, lists, opening, paged};
 use rec_types::TxId;
 use std::alloc::Global;
 
@@ -69,11 +65,7 @@ pub extern "C" fn recfile_memory(
 
 /// Begins a transaction. Statuses: OK, CLOSED, BEGINS_SPENT, MEMORY.
 #[unsafe(no_mangle)]
-pub extern "C" fn recfile_begin(
-    alloc: Global,
-    file: &mut RecFile,
-    tx: &mut u32,
-) -> i32
+pub extern "C" fn recfile_begin(alloc: Global, file: &mut RecFile, tx: &mut u32) -> i32
     ensures { OnHandle ((result ≡ pos closed) × (tx.new ≡ 0)) file.old.slot.value file.new.slot.value
         (InFile (Begin result tx.new)) }
 {
@@ -164,12 +156,7 @@ pub extern "C" fn recfile_get(
 
 /// Sets a savepoint; `n` is its number. Statuses: OK, CLOSED, NO_SUCH_TX, ROLLING, TOO_DEEP.
 #[unsafe(no_mangle)]
-pub extern "C" fn recfile_savepoint(
-    alloc: Global,
-    file: &mut RecFile,
-    tx: u32,
-    n: &mut u32,
-) -> i32
+pub extern "C" fn recfile_savepoint(alloc: Global, file: &mut RecFile, tx: u32, n: &mut u32) -> i32
     ensures { OnHandle ((result ≡ pos closed) × (n.new ≡ 0)) file.old.slot.value file.new.slot.value
         (InFile (Savepoint (tx_shown tx) result n.new)) }
 {
@@ -184,12 +171,7 @@ pub extern "C" fn recfile_savepoint(
 
 /// Drops savepoint n and those above it. Statuses: OK, CLOSED, NO_SUCH_TX, ROLLING, NO_SUCH_SAVE.
 #[unsafe(no_mangle)]
-pub extern "C" fn recfile_release(
-    alloc: Global,
-    file: &mut RecFile,
-    tx: u32,
-    n: u32,
-) -> i32
+pub extern "C" fn recfile_release(alloc: Global, file: &mut RecFile, tx: u32, n: u32) -> i32
     ensures { OnHandle (result ≡ pos closed) file.old.slot.value file.new.slot.value
         (InFile (Release (tx_shown tx) n result)) }
 {
@@ -274,11 +256,7 @@ pub extern "C" fn recfile_resume(
 
 /// Ends a transaction; its changes stay. Statuses: OK, CLOSED, NO_SUCH_TX, ROLLING.
 #[unsafe(no_mangle)]
-pub extern "C" fn recfile_commit(
-    alloc: Global,
-    file: &mut RecFile,
-    tx: u32,
-) -> i32
+pub extern "C" fn recfile_commit(alloc: Global, file: &mut RecFile, tx: u32) -> i32
     ensures { OnHandle (result ≡ pos closed) file.old.slot.value file.new.slot.value
         (InFile (Commit (tx_shown tx) result)) }
 {
@@ -312,11 +290,7 @@ pub extern "C" fn recfile_status(
 
 /// How many keys have a record or an owner. Statuses: OK, CLOSED.
 #[unsafe(no_mangle)]
-pub extern "C" fn recfile_charged(
-    alloc: Global,
-    file: &mut RecFile,
-    n: &mut u64,
-) -> i32
+pub extern "C" fn recfile_charged(alloc: Global, file: &mut RecFile, n: &mut u64) -> i32
     ensures { OnHandle ((result ≡ pos closed) × (n.new ≡ 0)) file.old.slot.value file.new.slot.value
         (InFile (Charged result n.new)) }
 {
@@ -331,11 +305,7 @@ pub extern "C" fn recfile_charged(
 
 /// How many transactions were begun. Statuses: OK, CLOSED.
 #[unsafe(no_mangle)]
-pub extern "C" fn recfile_begun(
-    alloc: Global,
-    file: &mut RecFile,
-    n: &mut u32,
-) -> i32
+pub extern "C" fn recfile_begun(alloc: Global, file: &mut RecFile, n: &mut u32) -> i32
     ensures { OnHandle ((result ≡ pos closed) × (n.new ≡ 0)) file.old.slot.value file.new.slot.value
         (InFile (Begun result n.new)) }
 {
@@ -350,11 +320,7 @@ pub extern "C" fn recfile_begun(
 
 /// The length of the log. Statuses: OK, CLOSED.
 #[unsafe(no_mangle)]
-pub extern "C" fn recfile_log_len(
-    alloc: Global,
-    file: &mut RecFile,
-    n: &mut u32,
-) -> i32
+pub extern "C" fn recfile_log_len(alloc: Global, file: &mut RecFile, n: &mut u32) -> i32
     ensures { OnHandle ((result ≡ pos closed) × (n.new ≡ 0)) file.old.slot.value file.new.slot.value
         (InFile (LogLen result n.new)) }
 {
@@ -369,11 +335,7 @@ pub extern "C" fn recfile_log_len(
 
 /// The length of the log, and the live changes of open transactions. Statuses: OK, CLOSED.
 #[unsafe(no_mangle)]
-pub extern "C" fn recfile_log_use(
-    alloc: Global,
-    file: &mut RecFile,
-    n: &mut u32,
-) -> i32
+pub extern "C" fn recfile_log_use(alloc: Global, file: &mut RecFile, n: &mut u32) -> i32
     ensures { OnHandle ((result ≡ pos closed) × (n.new ≡ 0)) file.old.slot.value file.new.slot.value
         (InFile (LogUse result n.new)) }
 {
@@ -451,12 +413,7 @@ pub extern "C" fn recfile_entry(
 /// Lists the keys that an open transaction owns in order, `n` of them, for `recfile_key`. Statuses: OK, CLOSED,
 /// NO_SUCH_TX, MEMORY.
 #[unsafe(no_mangle)]
-pub extern "C" fn recfile_keys_of(
-    alloc: Global,
-    file: &mut RecFile,
-    tx: u32,
-    n: &mut u64,
-) -> i32
+pub extern "C" fn recfile_keys_of(alloc: Global, file: &mut RecFile, tx: u32, n: &mut u64) -> i32
     ensures { OnHandle ((result ≡ pos closed) × (n.new ≡ 0)) file.old.slot.value file.new.slot.value
         (ListsKeys (tx_shown tx) result n.new) }
 {
@@ -471,12 +428,7 @@ pub extern "C" fn recfile_keys_of(
 
 /// A key of those that were listed last, from 0. Statuses: OK, CLOSED, NO_SUCH_ENTRY.
 #[unsafe(no_mangle)]
-pub extern "C" fn recfile_key(
-    alloc: Global,
-    file: &mut RecFile,
-    i: u64,
-    told: &mut KeyBytes,
-) -> i32
+pub extern "C" fn recfile_key(alloc: Global, file: &mut RecFile, i: u64, told: &mut KeyBytes) -> i32
     ensures { OnHandle ((result ≡ pos closed) × (key_shown told.new ≡ [])) file.old.slot.value file.new.slot.value
         (KeyAt i result (key_shown told.new)) }
 {
@@ -491,11 +443,7 @@ pub extern "C" fn recfile_key(
 
 /// Hands in the next page of a file that is to be opened, to a closed handle. Statuses: OK, NOT_CLOSED, MEMORY.
 #[unsafe(no_mangle)]
-pub extern "C" fn recfile_page(
-    alloc: Global,
-    file: &mut RecFile,
-    page: &[u8; 4096],
-) -> i32
+pub extern "C" fn recfile_page(alloc: Global, file: &mut RecFile, page: &[u8; 4096]) -> i32
     ensures { OnImage (result ≡ pos memory) file.old.slot.value file.new.slot.value
         (AddsPage page.now result) }
 {
@@ -560,11 +508,7 @@ pub extern "C" fn recfile_create(
 /// Closes a file of which every transaction has ended; the steps are then to be carried out. Statuses: OK, CLOSED,
 /// STILL_OPEN with the number of open transactions in `left`, MEMORY, after which the file can only be closed again.
 #[unsafe(no_mangle)]
-pub extern "C" fn recfile_close(
-    alloc: Global,
-    file: &mut RecFile,
-    detail: &mut Outcome,
-) -> i32
+pub extern "C" fn recfile_close(alloc: Global, file: &mut RecFile, detail: &mut Outcome) -> i32
     ensures step { OnHeld (detail.new ≡ just closed) file.old.slot.value file.new.slot.value
         (Closes detail.new) }
     ensures status { result ≡ detail.new.status }
@@ -580,11 +524,7 @@ pub extern "C" fn recfile_close(
 
 /// How many steps a closed file leaves to be carried out. Statuses: OK, CLOSED, NOT_CLOSED.
 #[unsafe(no_mangle)]
-pub extern "C" fn recfile_step_count(
-    alloc: Global,
-    file: &mut RecFile,
-    n: &mut u64,
-) -> i32
+pub extern "C" fn recfile_step_count(alloc: Global, file: &mut RecFile, n: &mut u64) -> i32
     ensures { OnHeld ((result ≡ pos closed) × (n.new ≡ 0)) file.old.slot.value file.new.slot.value
         (CountsSteps result n.new) }
 {

@@ -40,7 +40,7 @@ impl Model for JournalStore {
 }
 
 // A page of zeros.
-fn blank_page() -> [u8; 4096]
+pub(crate) fn blank_page() -> [u8; 4096]
     ensures { result ≡ blank }
 {
     [0; 4096]

@@ -17,3 +17,5 @@ mod shown;
 mod slot;
 mod steps;
 mod tables;
+#[cfg(test)]
+mod tests;

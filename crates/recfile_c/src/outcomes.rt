@@ -3,7 +3,10 @@ ghost use Rattle.recfile_c.specs.Outcomes as outcomes;
 
 use btree_delete::{CreateFault, OpenFault};
 use rec_types::{KeyFault, LimitFault, TxId};
-use record_file::{BeginFault, Cause, AbortFault, CommitFault, EntriesFault, GetFault, KeysOfFault, PutFault, ReleaseFault, RemoveFault, ResumeFault, RollbackToFault, SavepointFault, StatusFault};
+use record_file::{
+    AbortFault, BeginFault, Cause, CommitFault, EntriesFault, GetFault, KeysOfFault, PutFault,
+    ReleaseFault, RemoveFault, ResumeFault, RollbackToFault, SavepointFault, StatusFault,
+};
 
 /// The call did what it was asked.
 pub const OK: i32 = 0;
@@ -299,11 +302,13 @@ impl Outcome {
             Err(RollbackToFault::NoSuchTx) => Outcome::just(NO_SUCH_TX),
             Err(RollbackToFault::Rolling) => Outcome::just(ROLLING),
             Err(RollbackToFault::NoSuchSave) => Outcome::just(NO_SUCH_SAVE),
-            Err(RollbackToFault::Stopped {
-                undone,
-                left,
-                cause,
-            }) => Outcome::stopped_by(*undone, *left, *cause),
+            Err(
+                RollbackToFault::Stopped {
+                    undone,
+                    left,
+                    cause,
+                },
+            ) => Outcome::stopped_by(*undone, *left, *cause),
         }
     }
 
@@ -315,11 +320,13 @@ impl Outcome {
             Ok(_) => Outcome::just(OK),
             Err(AbortFault::NoSuchTx) => Outcome::just(NO_SUCH_TX),
             Err(AbortFault::Rolling) => Outcome::just(ROLLING),
-            Err(AbortFault::Stopped {
-                undone,
-                left,
-                cause,
-            }) => Outcome::stopped_by(*undone, *left, *cause),
+            Err(
+                AbortFault::Stopped {
+                    undone,
+                    left,
+                    cause,
+                },
+            ) => Outcome::stopped_by(*undone, *left, *cause),
         }
     }
 
@@ -331,11 +338,13 @@ impl Outcome {
             Ok(_) => Outcome::just(OK),
             Err(ResumeFault::NoSuchTx) => Outcome::just(NO_SUCH_TX),
             Err(ResumeFault::NotRolling) => Outcome::just(NOT_ROLLING),
-            Err(ResumeFault::Stopped {
-                undone,
-                left,
-                cause,
-            }) => Outcome::stopped_by(*undone, *left, *cause),
+            Err(
+                ResumeFault::Stopped {
+                    undone,
+                    left,
+                    cause,
+                },
+            ) => Outcome::stopped_by(*undone, *left, *cause),
         }
     }
 

@@ -44,13 +44,18 @@ impl Slot {
         ensures { self.value ≡ Some result.value }
     {
         let Slot { at } = self;
-        Loose { at: at.cast(), alloc }
+        Loose {
+            at: at.cast(),
+            alloc,
+        }
     }
 
     /// No file.
     pub(crate) fn empty() -> Slot
         ensures { result.value ≡ None }
     {
-        Slot { at: std::ptr::null_mut() }
+        Slot {
+            at: std::ptr::null_mut(),
+        }
     }
 }

@@ -1,0 +1,146 @@
+/* A session over a page file: two transactions, a partial rollback, a key that is held; then the file is opened again.
+ *
+ *     session FILE          makes FILE, and opens it again
+ *     session --list FILE   opens FILE, lists its records, and closes it
+ */
+#include "recfile_file.h"
+
+#include <inttypes.h>
+#include <stdlib.h>
+#include <string.h>
+
+/* Ends the program where a call did not answer as it should. */
+static void check(int32_t status, int32_t expected, const char *what) {
+    if (status != expected) {
+        fprintf(stderr, "%s: status %" PRId32 "\n", what, status);
+        exit(1);
+    }
+}
+
+static void check_file(int result, recfile_failure failure) {
+    if (result != 0) {
+        fprintf(stderr, "%s: %s\n", failure.call, strerror(failure.error));
+        exit(1);
+    }
+}
+
+static const uint8_t *bytes(const char *text) { return (const uint8_t *)text; }
+
+static int32_t put(recfile *file, uint32_t tx, const char *key, const char *value, recfile_detail *detail) {
+    recfile_record before;
+    int32_t status = recfile_put(file, tx, bytes(key), strlen(key), bytes(value), strlen(value), &before, detail);
+    if (status == RECFILE_OK && before.is_there)
+        printf("put %" PRIu32 " %s: before %.*s\n", tx, key, (int)before.len, (const char *)before.bytes);
+    else if (status == RECFILE_OK)
+        printf("put %" PRIu32 " %s: none before\n", tx, key);
+    return status;
+}
+
+static void list(recfile *file) {
+    recfile_detail detail;
+    recfile_listed told;
+    uint64_t count;
+    check(recfile_entries(file, &count, &detail), RECFILE_OK, "entries");
+    for (uint64_t i = 0; i < count; i++) {
+        check(recfile_entry(file, i, &told), RECFILE_OK, "entry");
+        printf("%.*s = %.*s", (int)told.key.len, (const char *)told.key.bytes, (int)told.value.len,
+               (const char *)told.value.bytes);
+        if (told.is_owned)
+            printf(" (of %" PRIu32 ")", told.owner);
+        printf("\n");
+    }
+    printf("%" PRIu64 " records\n", count);
+}
+
+static void work(recfile *file) {
+    recfile_detail detail;
+    recfile_key_bytes key;
+    recfile_record found;
+    uint32_t first, second, save, undone, length, use;
+    uint64_t keys;
+    check(recfile_begin(file, &first), RECFILE_OK, "begin");
+    check(recfile_begin(file, &second), RECFILE_OK, "begin");
+    check(put(file, first, "apple", "red", &detail), RECFILE_OK, "put");
+    check(recfile_savepoint(file, first, &save), RECFILE_OK, "savepoint");
+    check(put(file, first, "apple", "green", &detail), RECFILE_OK, "put");
+    check(put(file, first, "plum", "dark blue", &detail), RECFILE_OK, "put");
+    check(put(file, second, "pear", "yellow", &detail), RECFILE_OK, "put");
+    check(put(file, first, "pear", "brown", &detail), RECFILE_HELD, "put");
+    printf("pear is held by %" PRIu32 "\n", detail.owner);
+    check(recfile_rollback_to(file, first, save, &undone, &detail), RECFILE_OK, "rollback_to");
+    printf("%" PRIu32 " changes taken back\n", undone);
+    check(recfile_get(file, first, bytes("apple"), 5, &found, &detail), RECFILE_OK, "get");
+    printf("apple is %.*s\n", (int)found.len, (const char *)found.bytes);
+    check(recfile_keys_of(file, first, &keys), RECFILE_OK, "keys_of");
+    for (uint64_t i = 0; i < keys; i++) {
+        check(recfile_key(file, i, &key), RECFILE_OK, "key");
+        printf("%" PRIu32 " owns %.*s\n", first, (int)key.len, (const char *)key.bytes);
+    }
+    list(file);
+    check(recfile_log_len(file, &length), RECFILE_OK, "log_len");
+    check(recfile_log_use(file, &use), RECFILE_OK, "log_use");
+    printf("log %" PRIu32 " %" PRIu32 "\n", length, use);
+    check(recfile_close(file, &detail), RECFILE_STILL_OPEN, "close");
+    printf("%" PRIu32 " transactions are open\n", detail.left);
+    check(recfile_commit(file, first), RECFILE_OK, "commit");
+    check(recfile_abort(file, second, &undone, &detail), RECFILE_OK, "abort");
+    printf("%" PRIu32 " changes taken back\n", undone);
+}
+
+/* Closes the file, and carries its steps out. */
+static void finish(recfile *file, int descriptor) {
+    recfile_detail detail;
+    recfile_failure failure;
+    uint64_t steps;
+    check(recfile_close(file, &detail), RECFILE_OK, "close");
+    check(recfile_begin(file, &(uint32_t){0}), RECFILE_CLOSED, "begin");
+    check(recfile_step_count(file, &steps), RECFILE_OK, "step_count");
+    printf("%" PRIu64 " steps\n", steps);
+    check_file(recfile_carry_out(file, descriptor, &failure), failure);
+    check(recfile_discard(file), RECFILE_OK, "discard");
+}
+
+static void make(recfile *file, const char *path) {
+    recfile_detail detail;
+    int descriptor = open(path, O_RDWR | O_CREAT | O_EXCL, 0666);
+    if (descriptor < 0) {
+        perror(path);
+        exit(1);
+    }
+    check(recfile_create(file, 2, 1000, 1000, 1000, &detail), RECFILE_OK, "create");
+    work(file);
+    finish(file, descriptor);
+    close(descriptor);
+}
+
+static void list_file(recfile *file, const char *path) {
+    recfile_detail detail;
+    recfile_failure failure;
+    int32_t status;
+    int descriptor = open(path, O_RDWR);
+    if (descriptor < 0) {
+        perror(path);
+        exit(1);
+    }
+    check_file(recfile_read_file(file, descriptor, &status, &failure), failure);
+    check(status, RECFILE_OK, "page");
+    check(recfile_open(file, 1000, 1000, 1000, &detail), RECFILE_OK, "open");
+    list(file);
+    finish(file, descriptor);
+    close(descriptor);
+}
+
+int main(int count, char **words) {
+    recfile *file;
+    int only_list = count == 3 && strcmp(words[1], "--list") == 0;
+    if (count != 2 && !only_list) {
+        fprintf(stderr, "usage: session [--list] FILE\n");
+        return 2;
+    }
+    check(recfile_new(&file), RECFILE_OK, "new");
+    if (!only_list)
+        make(file, words[1]);
+    list_file(file, words[count - 1]);
+    recfile_free(file);
+    return 0;
+}
