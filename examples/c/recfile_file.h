@@ -3,6 +3,13 @@
 #ifndef RECFILE_FILE_H
 #define RECFILE_FILE_H
 
+#ifndef _POSIX_C_SOURCE
+#define _POSIX_C_SOURCE 200809L
+#endif
+#ifndef _FILE_OFFSET_BITS
+#define _FILE_OFFSET_BITS 64
+#endif
+
 #include "recfile.h"
 
 #include <errno.h>

@@ -1,0 +1,163 @@
+"""A session over a page file, by the shared library: what session.c does.
+
+    session.py LIBRARY FILE          makes FILE, and opens it again
+    session.py LIBRARY --list FILE   opens FILE, lists its records, and closes it
+"""
+
+import ctypes
+import os
+import sys
+
+OK, CLOSED, HELD, STILL_OPEN = 0, 1, 9, 24
+SET_PAGES, WRITE, SYNC = 1, 2, 3
+PAGE = 4096
+
+u8, u32, u64 = ctypes.c_uint8, ctypes.c_uint32, ctypes.c_uint64
+
+
+class Detail(ctypes.Structure):
+    _fields_ = [("status", ctypes.c_int32), ("owner", u32), ("page", u32), ("undone", u32), ("left", u32),
+                ("cause", ctypes.c_int32)]
+
+
+class KeyBytes(ctypes.Structure):
+    _fields_ = [("bytes", u8 * 16), ("len", u8)]
+
+
+class Record(ctypes.Structure):
+    _fields_ = [("bytes", u8 * 32), ("len", u8), ("is_there", u8)]
+
+
+class Listed(ctypes.Structure):
+    _fields_ = [("owner", u32), ("is_owned", u8), ("key", KeyBytes), ("value", Record)]
+
+
+class Step(ctypes.Structure):
+    _fields_ = [("kind", u32), ("number", u32)]
+
+
+def text(shown):
+    return bytes(shown.bytes[:shown.len]).decode()
+
+
+class File:
+    """A handle. A call that does not answer as it should raises."""
+
+    def __init__(self, library):
+        self.library = library
+        self.handle = ctypes.c_void_p()
+        self.detail = Detail()
+        library.recfile_free.restype = None
+        self.check(library.recfile_new(ctypes.byref(self.handle)), OK, "new")
+
+    @staticmethod
+    def check(status, expected, what):
+        if status != expected:
+            raise RuntimeError(f"{what}: status {status}")
+
+    def call(self, name, *words, expected=OK):
+        self.check(getattr(self.library, "recfile_" + name)(self.handle, *words), expected, name)
+
+    def number(self, name, *words, kind=u32):
+        n = kind()
+        self.call(name, *words, ctypes.byref(n))
+        return n.value
+
+    def put(self, tx, key, value, expected=OK):
+        before = Record()
+        key_bytes, value_bytes = key.encode(), value.encode()
+        self.call("put", u32(tx), key_bytes, ctypes.c_size_t(len(key_bytes)), value_bytes,
+                  ctypes.c_size_t(len(value_bytes)), ctypes.byref(before), ctypes.byref(self.detail), expected=expected)
+        if expected == OK:
+            print(f"put {tx} {key}: " + (f"before {text(before)}" if before.is_there else "none before"))
+
+    def taken_back(self, name, *words):
+        undone = u32()
+        self.call(name, *words, ctypes.byref(undone), ctypes.byref(self.detail))
+        print(f"{undone.value} changes taken back")
+
+    def list(self):
+        count = u64()
+        self.call("entries", ctypes.byref(count), ctypes.byref(self.detail))
+        for i in range(count.value):
+            told = Listed()
+            self.call("entry", u64(i), ctypes.byref(told))
+            print(f"{text(told.key)} = {text(told.value)}" + (f" (of {told.owner})" if told.is_owned else ""))
+        print(f"{count.value} records")
+
+    def work(self):
+        first, second = self.number("begin"), self.number("begin")
+        self.put(first, "apple", "red")
+        save = self.number("savepoint", u32(first))
+        self.put(first, "apple", "green")
+        self.put(first, "plum", "dark blue")
+        self.put(second, "pear", "yellow")
+        self.put(first, "pear", "brown", expected=HELD)
+        print(f"pear is held by {self.detail.owner}")
+        self.taken_back("rollback_to", u32(first), u32(save))
+        found = Record()
+        self.call("get", u32(first), b"apple", ctypes.c_size_t(5), ctypes.byref(found), ctypes.byref(self.detail))
+        print(f"apple is {text(found)}")
+        for i in range(self.number("keys_of", u32(first), kind=u64)):
+            key = KeyBytes()
+            self.call("key", u64(i), ctypes.byref(key))
+            print(f"{first} owns {text(key)}")
+        self.list()
+        print(f"log {self.number('log_len')} {self.number('log_use')}")
+        self.call("close", ctypes.byref(self.detail), expected=STILL_OPEN)
+        print(f"{self.detail.left} transactions are open")
+        self.call("commit", u32(first))
+        self.taken_back("abort", u32(second))
+
+    def finish(self, descriptor):
+        """Closes the file, and carries its steps out."""
+        self.call("close", ctypes.byref(self.detail))
+        self.call("begin", ctypes.byref(u32()), expected=CLOSED)
+        count = self.number("step_count", kind=u64)
+        print(f"{count} steps")
+        for i in range(count):
+            step, page = Step(), (u8 * PAGE)()
+            self.call("step", u64(i), ctypes.byref(step), page)
+            if step.kind == SET_PAGES:
+                os.ftruncate(descriptor, step.number * PAGE)
+            elif step.kind == WRITE:
+                assert os.pwrite(descriptor, bytes(page), step.number * PAGE) == PAGE
+            elif step.kind == SYNC:
+                os.fsync(descriptor)
+        self.call("discard")
+
+    def make(self, path):
+        descriptor = os.open(path, os.O_RDWR | os.O_CREAT | os.O_EXCL, 0o666)
+        self.call("create", ctypes.c_uint16(2), u32(1000), u32(1000), u32(1000), ctypes.byref(self.detail))
+        self.work()
+        self.finish(descriptor)
+        os.close(descriptor)
+
+    def list_file(self, path):
+        descriptor = os.open(path, os.O_RDWR)
+        for n in range(os.fstat(descriptor).st_size // PAGE):
+            self.call("page", os.pread(descriptor, PAGE, n * PAGE))
+        self.call("open", u32(1000), u32(1000), u32(1000), ctypes.byref(self.detail))
+        self.list()
+        self.finish(descriptor)
+        os.close(descriptor)
+
+    def free(self):
+        self.library.recfile_free(self.handle)
+
+
+def main(words):
+    only_list = len(words) == 4 and words[2] == "--list"
+    if len(words) != 3 and not only_list:
+        print("usage: session.py LIBRARY [--list] FILE", file=sys.stderr)
+        return 2
+    file = File(ctypes.CDLL(words[1]))
+    if not only_list:
+        file.make(words[-1])
+    file.list_file(words[-1])
+    file.free()
+    return 0
+
+
+if __name__ == "__main__":
+    sys.exit(main(sys.argv))
