@@ -1,5 +1,5 @@
 -- What the calls do to a file behind a handle.
-use Rattle.std.specs.Prelude.{◌≡◌, ℕ, ℤ, pos, ◌<◌, ◌==◌, Bool, not, List, Option, Some, None, Result, Ok, Err, IsTrue, if◌then◌else◌}
+use Rattle.std.specs.Prelude.{◌≡◌, ℕ, ℤ, pos, ◌<◌, Bool, List, Option, Some, None, Result, Ok, Err, IsTrue}
 use Rattle.std.specs.FinMap as maps
 use Rattle.rec_types.specs.Table.{greatest_count}
 use Rattle.rec_types.specs.History.{log_len}

@@ -1,17 +1,14 @@
 -- Opening and closing a handle.
-use Rattle.std.specs.Prelude.{◌≡◌, ◌≢◌, ◌⊎◌, ℕ, ℤ, pos, List, [], Option, Some, None, Result, Ok, Err}
+use Rattle.std.specs.Prelude.{◌≡◌, ℤ, pos, [], Option, Some, None, Result, Ok, Err}
 use Rattle.std.specs.FinMap as maps
 use Rattle.std.specs.declared.boxed.Box.{Box}
 use Rattle.rec_types.specs.LimitBounds.{Bounds}
 use Rattle.rec_types.specs.declared.limiting.LimitFault.{LimitFault}
 use Rattle.record_file.specs.Abstract.{new_file}
-use Rattle.recfile_c.specs.declared.tables.FileTable.{FileTable}
-use Rattle.recfile_c.specs.declared.tables.FileTable.TheVariants.{Memory, Paged}
+use Rattle.recfile_c.specs.declared.tables.FileTable.TheVariants.{Memory}
 use Rattle.recfile_c.specs.declared.held.Held.{Held}
-use Rattle.recfile_c.specs.declared.held.Held.TheVariants.{Image, Open}
-use Rattle.recfile_c.specs.declared.held.Session.{Session}
-use Rattle.recfile_c.specs.declared.outcomes.Outcome.{Outcome}
-use Rattle.recfile_c.specs.Outcomes.{just, ok, closed, memory, not_closed, limits_outcome, still_open_by}
+use Rattle.recfile_c.specs.declared.held.Held.TheVariants.{Open}
+use Rattle.recfile_c.specs.Outcomes.{ok, memory, not_closed, limits_outcome}
 use Rattle.recfile_c.specs.Calls.{FileState}
 
 -- an empty file in memory, in which nothing was begun

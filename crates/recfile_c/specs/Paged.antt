@@ -1,5 +1,5 @@
 -- Opening and closing a page file, of which the pages are handed in and the steps handed out.
-use Rattle.std.specs.Prelude.{◌≡◌, ◌≢◌, ◌⊎◌, ℕ, ℤ, pos, Bool, true, false, List, [], ◌∷◌, ◌++◌, Option, Some, None, Result, Ok, Err, IsTrue, length, slice_get}
+use Rattle.std.specs.Prelude.{◌≡◌, ◌≢◌, ◌⊎◌, ℕ, ℤ, pos, true, false, List, [], ◌∷◌, ◌++◌, Option, Some, None, Result, Ok, Err, IsTrue, length, slice_get}
 use Rattle.std.specs.FinMap as maps
 use Rattle.std.specs.declared.boxed.Box.{Box}
 use Rattle.rec_types.specs.LimitBounds.{Bounds}
@@ -14,7 +14,6 @@ use Rattle.recfile_c.specs.declared.tables.FileTable.{FileTable}
 use Rattle.recfile_c.specs.declared.tables.FileTable.TheVariants.{Memory, Paged}
 use Rattle.recfile_c.specs.declared.held.Held.{Held}
 use Rattle.recfile_c.specs.declared.held.Held.TheVariants.{Image, Open, Unclosed, Closed}
-use Rattle.recfile_c.specs.declared.held.Session.{Session}
 use Rattle.recfile_c.specs.declared.outcomes.Outcome.{Outcome}
 use Rattle.recfile_c.specs.declared.steps.Step.{Step}
 use Rattle.recfile_c.specs.declared.shown.StepShown.{StepShown}

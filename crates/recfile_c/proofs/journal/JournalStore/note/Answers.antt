@@ -1,5 +1,4 @@
-use Rattle.std.proofs.Common.{◌≡◌, List, [], ◌∷◌, ◌++◌, length, ap, sym, ◌∙◌}
-use Rattle.recfile_c.specs.declared.steps.Step.{Step}
+use Rattle.std.proofs.Common.{length, ap, sym, ◌∙◌}
 use Rattle.recfile_c.specs.Steps.{Journal, carried, pages_of, carry}
 use Rattle.recfile_c.proofs.Journals.{carried-snoc}
 use Rattle.recfile_c.proofs.journal.JournalStore.note.Goals as goal

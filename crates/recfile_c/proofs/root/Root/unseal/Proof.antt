@@ -2,31 +2,29 @@
 use mathlib.Core.Path.{◌≡◌, refl, sym, subst, ap, ◌∙◌}
 use mathlib.Core.List.{List, [], ◌∷◌, ◌++◌}
 use seplogic.Ra.Ura.{Ura}
-use mir.Val.{Val, vptr, vnull, vstruct}
+use mir.Val.{Val, vptr}
 use mir.Raw.{raw as bare}
-use base.Logic.{SProp, ent, emp, id⊢, never, fst∗}
+use base.Logic.{SProp, ent, emp, never, fst∗}
 use base.Fml.{ftrue, fsep}
 use prog.Memory.{Memory}
 use prog.Routine.{Routine}
 use prog.Wp.{WpFn, Tables}
 use types.Logic.{Logic, sem}
-use contract.Monad.{Fun, fact}
+use contract.Monad.{Fun}
 use contract.Running.{tables, tables_of}
 use sound.WpLaws.{WpFn-mono}
 use types.Kit.{Item, ‵, raw, ◌⊛◌, ◌$◌, ◌∵◌, !, qed, by, move, keep, drop, use0, use1, join, split, fsplit, fjoin, rewrite, suffices, done}
 use types.Part.{whole, sub, agg}
-use types.Run.{stop, fld, no_more, and_then, of_opd, lit, returns, enter}
+use types.Run.{stop, fld, no_more, and_then, of_opd, returns, enter}
 use types.ByLocal.{alloc_all, pass_all, free_all, look_at, get, get_in, sets}
 use denote.Exit.{yes}
 use denote.RawPtr.{Ptr, ptr_val, block_ptr, null_ptr, in_a_block}
 use denote.Memory.{lone}
-use denote.Signature.{type_at, plain}
-use denote.Steps.{nothing, heard}
+use denote.Signature.{plain}
+use denote.Steps.{nothing}
 use denote.Triple.Spec.{triple_of}
 use denote.Triple.Table.{entered}
 use denote.Triple.Walked.{says, Stays, stay_dropped, walk_of, ends_at, Goes-dropped, walk_Meets}
-use Rattle.std.specs.Prelude.{Option, Some, None, IsSome}
-use Rattle.std.specs.Box.Ownership.{box_owns}
 use Rattle.std.specs.contracts.alloc.Global as heap
 use Rattle.std.specs.contracts.impls.GlobalAllocator.TheImpl.{ghosts}
 use Rattle.std.proofs.alloc.Global.TheLaws as heap_laws

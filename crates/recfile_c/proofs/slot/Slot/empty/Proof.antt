@@ -1,42 +1,30 @@
 -- `empty` makes a null pointer, which owns nothing.
-use mathlib.Core.Path.{◌≡◌, refl, sym, subst, ap, ◌∙◌}
-use mathlib.Core.List.{List, [], ◌∷◌, ◌++◌}
+use mathlib.Core.Path.{refl}
+use mathlib.Core.List.{[], ◌∷◌}
 use lib.Dec.{lit<}
 use seplogic.Ra.Ura.{Ura}
-use mir.Val.{Val, vptr, vnull, vstruct}
-use mir.Raw.{raw as bare}
-use base.Logic.{SProp, ent, emp, id⊢, never, fst∗}
-use base.Fml.{ftrue, fsep}
+use mir.Val.{vnull}
+use base.Logic.{SProp, ent, emp}
+use base.Fml.{ftrue}
 use prog.Memory.{Memory}
 use prog.Routine.{Routine}
 use prog.Wp.{WpFn, Tables}
-use types.Logic.{Logic, sem}
-use contract.Monad.{Fun, fact}
+use types.Logic.{Logic}
+use contract.Monad.{Fun}
 use contract.Running.{tables, tables_of}
 use sound.WpLaws.{WpFn-mono}
-use types.Kit.{Item, ‵, raw, ◌⊛◌, ◌$◌, ◌∵◌, !, qed, by, move, keep, drop, use0, use1, join, split, fsplit, fjoin, rewrite, suffices, done}
-use types.Part.{whole, sub, agg}
-use types.Run.{stop, fld, no_more, and_then, of_opd, lit, returns, enter}
-use types.ByLocal.{alloc_all, pass_all, free_all, look_at, get, get_in, sets}
-use denote.Exit.{yes}
-use denote.RawPtr.{Ptr, ptr_val, block_ptr, null_ptr, in_a_block}
-use denote.Memory.{lone}
-use denote.Signature.{type_at, plain}
-use denote.Steps.{nothing, heard}
+use types.Kit.{‵, raw, ◌⊛◌, ◌$◌, ◌∵◌, !, qed, keep, join, split, suffices, done}
+use types.Part.{agg}
+use types.Run.{no_more, and_then, lit, returns, enter}
+use types.ByLocal.{alloc_all, pass_all, free_all, look_at, sets}
+use denote.RawPtr.{null_ptr}
+use denote.Steps.{nothing}
 use denote.Triple.Spec.{triple_of}
 use denote.Triple.Table.{entered}
-use denote.Triple.Walked.{says, Stays, stay_dropped, walk_of, ends_at, Goes-dropped, walk_Meets}
-use Rattle.std.specs.Prelude.{Option, Some, None, IsSome}
-use Rattle.std.specs.Box.Ownership.{box_owns}
-use Rattle.std.specs.contracts.alloc.Global as heap
-use Rattle.std.specs.contracts.impls.GlobalAllocator.TheImpl.{ghosts}
-use Rattle.std.proofs.alloc.Global.TheLaws as heap_laws
-use Rattle.std.proofs.alloc.Calls.{handle_tells}
-use Rattle.recfile_c.specs.Slots.{slot_owns}
-use Rattle.recfile_c.specs.declared.held.Held.{Held as HeldFile}
-use Rattle.recfile_c.specs.contracts.held.Held as held
+use denote.Triple.Walked.{says, Stays, walk_of, ends_at, walk_Meets}
+use Rattle.std.specs.Prelude.{None}
 use Rattle.recfile_c.specs.contracts.slot.Slot as slot
-use Rattle.recfile_c.proofs.Values.{both, alone, HeldLoose, loose_good, loose_in, loose_out, slot_in, slot_out, al, file_of, file_is}
+use Rattle.recfile_c.proofs.Values.{alone, slot_in}
 use Rattle.recfile_c.specs.contracts.slot.Slot.empty as F
 use Rattle.recfile_c.specs.contracts.slot.Slot.empty.Key.{name as #self}
 use Rattle.recfile_c.proofs.slot.Slot.empty.Statement as stated
