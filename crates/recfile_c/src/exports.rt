@@ -457,7 +457,8 @@ pub extern "C" fn recfile_page(alloc: Global, file: &mut RecFile, page: &[u8; 40
 
 /// Opens the file whose pages were handed in, every page in order; where it is not opened, the handle has none left.
 /// Statuses: OK, NOT_CLOSED, BAD_RECORDS, BAD_LOG, BAD_BEGINS, then the first check that fails: BAD_LENGTH, BAD_MAGIC,
-/// BAD_VERSION, BAD_ORDER, NOT_CLEAN, BAD_HEADER, DAMAGED, WRONG_COUNT, TOO_MANY_RECORDS; DEVICE never; MEMORY.
+/// BAD_VERSION, BAD_ORDER, NOT_CLEAN, BAD_HEADER, DAMAGED, WRONG_COUNT, TOO_MANY_RECORDS; and DEVICE and MEMORY where they
+/// are met.
 #[unsafe(no_mangle)]
 pub extern "C" fn recfile_open(
     alloc: Global,
