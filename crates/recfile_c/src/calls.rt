@@ -33,7 +33,7 @@ fn tx_in(answer: &Result<TxId, BeginFault>) -> u32
     }
 }
 
-// Begins a transaction.
+/// Begins a transaction.
 pub(crate) fn begin(held: &mut Held, tx: &mut u32) -> i32
     ensures { OnSession ((result ≡ pos closed) × (tx.new ≡ 0)) held.old held.new
         (InFile (Begin result tx.new)) }
@@ -49,7 +49,7 @@ pub(crate) fn begin(held: &mut Held, tx: &mut u32) -> i32
     }
 }
 
-// Puts a record.
+/// Puts a record.
 pub(crate) fn put(
     held: &mut Held,
     tx: TxId,
@@ -78,7 +78,7 @@ pub(crate) fn put(
     }
 }
 
-// Takes a record out.
+/// Takes a record out.
 pub(crate) fn remove(held: &mut Held, tx: TxId, key: &[u8], taken: &mut Found) -> Outcome
     ensures { OnSession ((result ≡ just closed) × (shown taken.new ≡ None)) held.old held.new
         (InFile (RemoveBytes tx (key_of key.now) result (shown taken.new))) }
@@ -98,7 +98,7 @@ pub(crate) fn remove(held: &mut Held, tx: TxId, key: &[u8], taken: &mut Found) -
     }
 }
 
-// Looks a record up.
+/// Looks a record up.
 pub(crate) fn get(held: &mut Held, tx: TxId, key: &[u8], found: &mut Found) -> Outcome
     ensures { OnSession ((result ≡ just closed) × (shown found.new ≡ None)) held.old held.new
         (InFile (GetBytes tx (key_of key.now) result (shown found.new))) }
@@ -118,7 +118,7 @@ pub(crate) fn get(held: &mut Held, tx: TxId, key: &[u8], found: &mut Found) -> O
     }
 }
 
-// Sets a savepoint.
+/// Sets a savepoint.
 pub(crate) fn savepoint(held: &mut Held, tx: TxId, n: &mut u32) -> i32
     ensures { OnSession ((result ≡ pos closed) × (n.new ≡ 0)) held.old held.new
         (InFile (Savepoint tx result n.new)) }
@@ -134,7 +134,7 @@ pub(crate) fn savepoint(held: &mut Held, tx: TxId, n: &mut u32) -> i32
     }
 }
 
-// Drops a savepoint and those above it.
+/// Drops a savepoint and those above it.
 pub(crate) fn release(held: &mut Held, tx: TxId, n: u32) -> i32
     ensures { OnSession (result ≡ pos closed) held.old held.new
         (InFile (Release tx n result)) }
@@ -148,7 +148,7 @@ pub(crate) fn release(held: &mut Held, tx: TxId, n: u32) -> i32
     }
 }
 
-// Goes back to a savepoint.
+/// Goes back to a savepoint.
 pub(crate) fn rollback_to(held: &mut Held, tx: TxId, n: u32, undone: &mut u32) -> Outcome
     ensures { OnSession ((result ≡ just closed) × (undone.new ≡ 0)) held.old held.new
         (InFile (RollbackTo tx n result undone.new)) }
@@ -164,7 +164,7 @@ pub(crate) fn rollback_to(held: &mut Held, tx: TxId, n: u32, undone: &mut u32) -
     }
 }
 
-// Takes a transaction back, and ends it.
+/// Takes a transaction back, and ends it.
 pub(crate) fn abort(held: &mut Held, tx: TxId, undone: &mut u32) -> Outcome
     ensures { OnSession ((result ≡ just closed) × (undone.new ≡ 0)) held.old held.new
         (InFile (Abort tx result undone.new)) }
@@ -180,7 +180,7 @@ pub(crate) fn abort(held: &mut Held, tx: TxId, undone: &mut u32) -> Outcome
     }
 }
 
-// Goes on with a rollback that stopped.
+/// Goes on with a rollback that stopped.
 pub(crate) fn resume(held: &mut Held, tx: TxId, undone: &mut u32) -> Outcome
     ensures { OnSession ((result ≡ just closed) × (undone.new ≡ 0)) held.old held.new
         (InFile (Resume tx result undone.new)) }
@@ -196,7 +196,7 @@ pub(crate) fn resume(held: &mut Held, tx: TxId, undone: &mut u32) -> Outcome
     }
 }
 
-// Ends a transaction; its changes stay.
+/// Ends a transaction; its changes stay.
 pub(crate) fn commit(held: &mut Held, tx: TxId) -> i32
     ensures { OnSession (result ≡ pos closed) held.old held.new
         (InFile (Commit tx result)) }
@@ -210,7 +210,7 @@ pub(crate) fn commit(held: &mut Held, tx: TxId) -> i32
     }
 }
 
-// What a transaction is doing.
+/// What a transaction is doing.
 pub(crate) fn status(held: &mut Held, tx: TxId, status: &mut TxStatus) -> i32
     ensures { OnSession (result ≡ pos closed) held.old held.new
         (InFile (StatusOf tx result status.new)) }
@@ -226,7 +226,7 @@ pub(crate) fn status(held: &mut Held, tx: TxId, status: &mut TxStatus) -> i32
     }
 }
 
-// How many keys have a record or an owner.
+/// How many keys have a record or an owner.
 pub(crate) fn charged(held: &mut Held, n: &mut u64) -> i32
     ensures { OnSession ((result ≡ pos closed) × (n.new ≡ 0)) held.old held.new
         (InFile (Charged result n.new)) }
@@ -241,7 +241,7 @@ pub(crate) fn charged(held: &mut Held, n: &mut u64) -> i32
     }
 }
 
-// How many transactions were begun.
+/// How many transactions were begun.
 pub(crate) fn begun(held: &mut Held, n: &mut u32) -> i32
     ensures { OnSession ((result ≡ pos closed) × (n.new ≡ 0)) held.old held.new
         (InFile (Begun result n.new)) }
@@ -256,7 +256,7 @@ pub(crate) fn begun(held: &mut Held, n: &mut u32) -> i32
     }
 }
 
-// The length of the log.
+/// The length of the log.
 pub(crate) fn log_len(held: &mut Held, n: &mut u32) -> i32
     ensures { OnSession ((result ≡ pos closed) × (n.new ≡ 0)) held.old held.new
         (InFile (LogLen result n.new)) }
@@ -271,7 +271,7 @@ pub(crate) fn log_len(held: &mut Held, n: &mut u32) -> i32
     }
 }
 
-// The length of the log, and the live changes of open transactions.
+/// The length of the log, and the live changes of open transactions.
 pub(crate) fn log_use(held: &mut Held, n: &mut u32) -> i32
     ensures { OnSession ((result ≡ pos closed) × (n.new ≡ 0)) held.old held.new
         (InFile (LogUse result n.new)) }
@@ -286,7 +286,7 @@ pub(crate) fn log_use(held: &mut Held, n: &mut u32) -> i32
     }
 }
 
-// A record of the log.
+/// A record of the log.
 pub(crate) fn log_record(held: &mut Held, lsn: u32, entry: &mut LogEntry) -> i32
     ensures { OnSession ((result ≡ pos closed) × (log_shown entry.new ≡ None)) held.old held.new
         (InFile (RecordAt lsn result (log_shown entry.new))) }

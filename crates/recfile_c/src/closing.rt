@@ -62,7 +62,7 @@ fn close_session(alloc: Global, session: Session) -> (Held, Outcome)
     }
 }
 
-// Closes what lies behind a handle. Faults: CLOSED, STILL_OPEN, MEMORY.
+/// Closes what lies behind a handle. Faults: CLOSED, STILL_OPEN, MEMORY.
 pub(crate) fn close(alloc: Global, held: &mut Held) -> Outcome
     ensures { Closes result held.old held.new }
 {
@@ -76,7 +76,7 @@ pub(crate) fn close(alloc: Global, held: &mut Held) -> Outcome
     told
 }
 
-// Adds a page to those of a file that is to be opened. Faults: NOT_CLOSED, MEMORY.
+/// Adds a page to those of a file that is to be opened. Faults: NOT_CLOSED, MEMORY.
 pub(crate) fn add_page(held: &mut Held, page: &[u8; 4096]) -> i32
     ensures { AddsPage page.now result held.old held.new }
 {
@@ -89,7 +89,7 @@ pub(crate) fn add_page(held: &mut Held, page: &[u8; 4096]) -> i32
     }
 }
 
-// How many steps are to be carried out.
+/// How many steps are to be carried out.
 pub(crate) fn step_count(held: &mut Held, n: &mut u64) -> i32
     ensures { CountsSteps result n.new held.old held.new }
 {
@@ -103,7 +103,7 @@ pub(crate) fn step_count(held: &mut Held, n: &mut u64) -> i32
     }
 }
 
-// A step, and the page that it writes.
+/// A step, and the page that it writes.
 pub(crate) fn step(held: &mut Held, i: u64, told: &mut StepShown, page: &mut [u8; 4096]) -> i32
     ensures { StepAt i result told.new page.new held.old held.new }
 {

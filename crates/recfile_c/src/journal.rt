@@ -39,7 +39,7 @@ impl Model for JournalStore {
     ghost invariant = { λ s. s.count ≡ length (carried s.opened.items s.steps.items) };
 }
 
-// A page of zeros.
+/// A page of zeros.
 pub(crate) fn blank_page() -> [u8; 4096]
     ensures { result ≡ blank }
 {

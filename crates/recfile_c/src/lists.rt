@@ -22,7 +22,7 @@ fn list_in<X: Drop, E: Drop>(alloc: Global, answer: Result<Vec<X>, E>) -> Vec<X>
     }
 }
 
-// Lists the records, and keeps the list.
+/// Lists the records, and keeps the list.
 pub(crate) fn entries(alloc: Global, held: &mut Held, n: &mut u64) -> Outcome
     ensures { OnSession ((result ≡ just closed) × (n.new ≡ 0)) held.old held.new
         (ListsEntries result n.new) }
@@ -40,7 +40,7 @@ pub(crate) fn entries(alloc: Global, held: &mut Held, n: &mut u64) -> Outcome
     }
 }
 
-// Lists the keys that a transaction owns, and keeps the list.
+/// Lists the keys that a transaction owns, and keeps the list.
 pub(crate) fn keys_of(alloc: Global, held: &mut Held, tx: TxId, n: &mut u64) -> i32
     ensures { OnSession ((result ≡ pos closed) × (n.new ≡ 0)) held.old held.new
         (ListsKeys tx result n.new) }
@@ -58,7 +58,7 @@ pub(crate) fn keys_of(alloc: Global, held: &mut Held, tx: TxId, n: &mut u64) -> 
     }
 }
 
-// An entry of the records that were listed last.
+/// An entry of the records that were listed last.
 pub(crate) fn entry(held: &mut Held, i: u64, told: &mut ListedEntry) -> i32
     ensures { OnSession (result ≡ pos closed) held.old held.new (EntryAt i result told.new) }
 {
@@ -75,7 +75,7 @@ pub(crate) fn entry(held: &mut Held, i: u64, told: &mut ListedEntry) -> i32
     }
 }
 
-// A key of those that were listed last.
+/// A key of those that were listed last.
 pub(crate) fn key(held: &mut Held, i: u64, told: &mut KeyBytes) -> i32
     ensures { OnSession ((result ≡ pos closed) × (key_shown told.new ≡ [])) held.old held.new
         (KeyAt i result (key_shown told.new)) }

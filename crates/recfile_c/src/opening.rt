@@ -31,7 +31,7 @@ fn boxed(alloc: Global, held: Held) -> Result<Box<Held, Global>, i32>
     }
 }
 
-// An empty file in memory. Faults: those of limits in their order, MEMORY.
+/// An empty file in memory. Faults: those of limits in their order, MEMORY.
 pub(crate) fn memory(
     alloc: Global,
     records: u32,

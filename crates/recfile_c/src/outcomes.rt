@@ -94,7 +94,7 @@ pub struct Outcome {
 }
 
 impl Outcome {
-    // A status that carries nothing.
+    /// A status that carries nothing.
     pub(crate) fn just(status: i32) -> Outcome
         ensures { result ≡ record (outcomes.just outcomes.ok) { status = status } }
     {
@@ -108,7 +108,7 @@ impl Outcome {
         }
     }
 
-    // Bytes that are no key.
+    /// Bytes that are no key.
     pub(crate) fn of_key(fault: KeyFault) -> Outcome
         ensures { result ≡ outcomes.key_outcome fault }
     {
@@ -118,7 +118,7 @@ impl Outcome {
         }
     }
 
-    // Numbers that are no limits.
+    /// Numbers that are no limits.
     pub(crate) fn of_limits(fault: LimitFault) -> Outcome
         ensures { result ≡ outcomes.limits_outcome fault }
     {
@@ -129,7 +129,7 @@ impl Outcome {
         }
     }
 
-    // Why a file was not opened.
+    /// Why a file was not opened.
     pub(crate) fn of_open(fault: OpenFault) -> Outcome
         ensures { result ≡ outcomes.open_outcome fault }
     {
@@ -151,7 +151,7 @@ impl Outcome {
         }
     }
 
-    // Why no file was made.
+    /// Why no file was made.
     pub(crate) fn of_create(fault: CreateFault) -> Outcome
         ensures { result ≡ outcomes.create_outcome fault }
     {
@@ -162,7 +162,7 @@ impl Outcome {
         }
     }
 
-    // Transactions that have not ended.
+    /// Transactions that have not ended.
     pub(crate) fn still_open(count: u32) -> Outcome
         ensures { result ≡ outcomes.still_open_by count }
     {
@@ -210,7 +210,7 @@ impl Outcome {
         }
     }
 
-    // The outcome of `begin`.
+    /// The outcome of `begin`.
     pub(crate) fn of_begin<A>(answer: &Result<A, BeginFault>) -> Outcome
         ensures { result ≡ outcomes.begin_outcome answer.now }
     {
@@ -221,7 +221,7 @@ impl Outcome {
         }
     }
 
-    // The outcome of `put`.
+    /// The outcome of `put`.
     pub(crate) fn of_put<A>(answer: &Result<A, PutFault>) -> Outcome
         ensures { result ≡ outcomes.put_outcome answer.now }
     {
@@ -238,7 +238,7 @@ impl Outcome {
         }
     }
 
-    // The outcome of `remove`.
+    /// The outcome of `remove`.
     pub(crate) fn of_remove<A>(answer: &Result<A, RemoveFault>) -> Outcome
         ensures { result ≡ outcomes.remove_outcome answer.now }
     {
@@ -255,7 +255,7 @@ impl Outcome {
         }
     }
 
-    // The outcome of `get`.
+    /// The outcome of `get`.
     pub(crate) fn of_get<A>(answer: &Result<A, GetFault>) -> Outcome
         ensures { result ≡ outcomes.get_outcome answer.now }
     {
@@ -269,7 +269,7 @@ impl Outcome {
         }
     }
 
-    // The outcome of `savepoint`.
+    /// The outcome of `savepoint`.
     pub(crate) fn of_savepoint<A>(answer: &Result<A, SavepointFault>) -> Outcome
         ensures { result ≡ outcomes.savepoint_outcome answer.now }
     {
@@ -281,7 +281,7 @@ impl Outcome {
         }
     }
 
-    // The outcome of `release`.
+    /// The outcome of `release`.
     pub(crate) fn of_release<A>(answer: &Result<A, ReleaseFault>) -> Outcome
         ensures { result ≡ outcomes.release_outcome answer.now }
     {
@@ -293,7 +293,7 @@ impl Outcome {
         }
     }
 
-    // The outcome of `rollback_to`.
+    /// The outcome of `rollback_to`.
     pub(crate) fn of_rollback_to<A>(answer: &Result<A, RollbackToFault>) -> Outcome
         ensures { result ≡ outcomes.rollback_to_outcome answer.now }
     {
@@ -312,7 +312,7 @@ impl Outcome {
         }
     }
 
-    // The outcome of `abort`.
+    /// The outcome of `abort`.
     pub(crate) fn of_abort<A>(answer: &Result<A, AbortFault>) -> Outcome
         ensures { result ≡ outcomes.abort_outcome answer.now }
     {
@@ -330,7 +330,7 @@ impl Outcome {
         }
     }
 
-    // The outcome of `resume`.
+    /// The outcome of `resume`.
     pub(crate) fn of_resume<A>(answer: &Result<A, ResumeFault>) -> Outcome
         ensures { result ≡ outcomes.resume_outcome answer.now }
     {
@@ -348,7 +348,7 @@ impl Outcome {
         }
     }
 
-    // The outcome of `commit`.
+    /// The outcome of `commit`.
     pub(crate) fn of_commit<A>(answer: &Result<A, CommitFault>) -> Outcome
         ensures { result ≡ outcomes.commit_outcome answer.now }
     {
@@ -359,7 +359,7 @@ impl Outcome {
         }
     }
 
-    // The outcome of `entries`.
+    /// The outcome of `entries`.
     pub(crate) fn of_entries<A>(answer: &Result<A, EntriesFault>) -> Outcome
         ensures { result ≡ outcomes.entries_outcome answer.now }
     {
@@ -371,7 +371,7 @@ impl Outcome {
         }
     }
 
-    // The outcome of `keys_of`.
+    /// The outcome of `keys_of`.
     pub(crate) fn of_keys_of<A>(answer: &Result<A, KeysOfFault>) -> Outcome
         ensures { result ≡ outcomes.keys_of_outcome answer.now }
     {
@@ -382,7 +382,7 @@ impl Outcome {
         }
     }
 
-    // The outcome of `status`.
+    /// The outcome of `status`.
     pub(crate) fn of_status<A>(answer: &Result<A, StatusFault>) -> Outcome
         ensures { result ≡ outcomes.status_outcome answer.now }
     {

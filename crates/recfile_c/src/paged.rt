@@ -26,7 +26,7 @@ fn session_over(alloc: Global, table: TreeTable<JournalStore>, limits: Limits) -
     })
 }
 
-// Opens a file of these pages. Faults: those of limits in their order, and then those of a file that is not opened.
+/// Opens a file of these pages. Faults: those of limits in their order, and then those of a file that is not opened.
 pub(crate) fn open_pages(
     alloc: Global,
     pages: Vec<[u8; 4096]>,
@@ -46,7 +46,7 @@ pub(crate) fn open_pages(
     }
 }
 
-// Makes a file of an order. Faults: those of limits in their order, and BAD_ORDER.
+/// Makes a file of an order. Faults: those of limits in their order, and BAD_ORDER.
 pub(crate) fn create_pages(
     alloc: Global,
     order: u16,
@@ -67,7 +67,7 @@ pub(crate) fn create_pages(
     }
 }
 
-// Opens a file of the pages that were handed in; where it is not opened, none is left.
+/// Opens a file of the pages that were handed in; where it is not opened, none is left.
 pub(crate) fn open_image(
     alloc: Global,
     held: &mut Held,
@@ -90,7 +90,7 @@ pub(crate) fn open_image(
     told
 }
 
-// Makes a file of an order, where no page was handed in.
+/// Makes a file of an order, where no page was handed in.
 pub(crate) fn create_image(
     alloc: Global,
     held: &mut Held,
@@ -118,7 +118,7 @@ pub(crate) fn create_image(
     }
 }
 
-// Takes out what lies behind a handle, or a file with no page; None, where that finds no memory.
+/// Takes out what lies behind a handle, or a file with no page; None, where that finds no memory.
 pub(crate) fn take_image(alloc: Global, file: &mut RecFile) -> Option<Box<Held, Global>>
     ensures taken { TakesImage file.old.slot.value result }
     ensures after { file.new.slot.value ≡ None }

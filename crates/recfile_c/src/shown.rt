@@ -72,7 +72,7 @@ pub struct ListedEntry {
 }
 
 impl KeyBytes {
-    // No key.
+    /// No key.
     pub(crate) fn none() -> KeyBytes
         ensures { key_shown result ≡ [] }
     {
@@ -82,7 +82,7 @@ impl KeyBytes {
         }
     }
 
-    // The bytes of a key.
+    /// The bytes of a key.
     pub(crate) fn of(key: &Key) -> KeyBytes
         ensures { key_shown result ≡ key.now }
     {
@@ -97,7 +97,7 @@ impl KeyBytes {
 }
 
 impl Found {
-    // No record.
+    /// No record.
     pub(crate) fn none() -> Found
         ensures { shown result ≡ None }
     {
@@ -108,7 +108,7 @@ impl Found {
         }
     }
 
-    // A record.
+    /// A record.
     pub(crate) fn some(taken: &Record) -> Found
         ensures { shown result ≡ Some taken.now }
     {
@@ -122,7 +122,7 @@ impl Found {
         }
     }
 
-    // A record, where there is one.
+    /// A record, where there is one.
     pub(crate) fn of(from: &Option<Record>) -> Found
         ensures { shown result ≡ from.now }
     {
@@ -132,7 +132,7 @@ impl Found {
         }
     }
 
-    // The record that an answer found.
+    /// The record that an answer found.
     pub(crate) fn in_answer<E>(answer: &Result<Option<Record>, E>) -> Found
         ensures { shown result ≡ found_in answer.now }
     {
@@ -142,7 +142,7 @@ impl Found {
         }
     }
 
-    // The record that an answer took out.
+    /// The record that an answer took out.
     pub(crate) fn taken<E>(answer: &Result<Record, E>) -> Found
         ensures { shown result ≡ taken_in answer.now }
     {
@@ -154,7 +154,7 @@ impl Found {
 }
 
 impl LogEntry {
-    // No record of the log.
+    /// No record of the log.
     pub(crate) fn none() -> LogEntry
         ensures { log_shown result ≡ None }
     {
@@ -170,7 +170,7 @@ impl LogEntry {
         }
     }
 
-    // A record of the log, where there is one.
+    /// A record of the log, where there is one.
     pub(crate) fn of(from: &Option<LogRecord>) -> LogEntry
         ensures { log_shown result ≡ from.now }
     {
@@ -226,7 +226,7 @@ fn byte_of(test: bool) -> u8
 }
 
 impl TxStatus {
-    // What no transaction is doing.
+    /// What no transaction is doing.
     pub(crate) fn none() -> TxStatus {
         TxStatus {
             is_rolling: 0,
@@ -259,7 +259,7 @@ impl TxStatus {
         }
     }
 
-    // What an answer says of a transaction.
+    /// What an answer says of a transaction.
     pub(crate) fn in_answer(answer: &Result<Status, StatusFault>) -> TxStatus
         ensures { TellsStatus answer.now result }
     {
@@ -271,7 +271,7 @@ impl TxStatus {
 }
 
 impl ListedEntry {
-    // No entry.
+    /// No entry.
     pub(crate) fn none() -> ListedEntry {
         ListedEntry {
             owner: 0,
@@ -281,7 +281,7 @@ impl ListedEntry {
         }
     }
 
-    // An entry.
+    /// An entry.
     pub(crate) fn of(entry: &Entry) -> ListedEntry
         ensures { Shows result entry.now }
     {
@@ -299,12 +299,12 @@ impl ListedEntry {
 }
 
 impl StepShown {
-    // No step.
+    /// No step.
     pub(crate) fn none() -> StepShown {
         StepShown { kind: 0, number: 0 }
     }
 
-    // A step, and the page that it writes.
+    /// A step, and the page that it writes.
     pub(crate) fn of(step: &Step, page: &mut [u8; 4096]) -> StepShown
         ensures { step_shown result page.new ≡ step.now }
     {
