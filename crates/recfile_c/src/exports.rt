@@ -1,10 +1,10 @@
 // The calls that C makes. A call on a closed handle answers CLOSED, and its results are empty.
-ghost use Rattle.std.specs.Prelude.{◌≡◌, [], pos, None};
+ghost use Rattle.std.specs.Prelude.{◌≡◌, ◌⊎◌, [], pos, None};
 ghost use Rattle.rec_types.specs.Key.{key_of};
 ghost use Rattle.rec_types.specs.Record.{record_of};
 ghost use Rattle.rec_types.specs.Limits.{limits_of};
 ghost use Rattle.recfile_c.specs.Shown.{key_shown, shown, log_shown, tx_shown};
-ghost use Rattle.recfile_c.specs.Outcomes.{just, closed, memory};
+ghost use Rattle.recfile_c.specs.Outcomes.{just, ok, closed, memory};
 ghost use Rattle.recfile_c.specs.Calls.{OnHandle, InFile, Begin, PutBytes, RemoveBytes, GetBytes, Savepoint, Release, RollbackTo, Abort, Resume, Commit, StatusOf, Charged, Begun, LogLen, LogUse, RecordAt};
 ghost use Rattle.recfile_c.specs.Lists.{ListsEntries, ListsKeys, EntryAt, KeyAt};
 ghost use Rattle.recfile_c.specs.Opening.{Opens, MakesMemory};
@@ -20,7 +20,9 @@ use std::alloc::Global;
 
 /// Makes a closed handle. Statuses: OK; MEMORY, and the pointer is as it was.
 #[unsafe(no_mangle)]
-pub extern "C" fn recfile_new(alloc: Global, out: &mut *mut RecFile) -> i32 {
+pub extern "C" fn recfile_new(alloc: Global, out: &mut *mut RecFile) -> i32
+    ensures { (result ≡ pos ok) ⊎ ((result ≡ pos memory) × (out.new ≡ out.old)) }
+{
     match Box::new(alloc, RecFile::closed()) {
         Ok(file) => {
             *out = Box::into_raw(file);
