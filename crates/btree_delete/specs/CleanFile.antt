@@ -3,19 +3,19 @@ use Rattle.std.specs.Prelude.{◌≡◌, ℕ, ◌<◌, ◌≤◌, ◌⊎◌, ◌
 use Rattle.page_store.specs.Calls.{counted_times}
 use Rattle.page_store.specs.PageMap.{PageMap, at}
 use Rattle.page_store.specs.PagesView.{PagesView}
-use Rattle.page_store.specs.declared.edits.WriteFault.{WriteFault}
-use Rattle.page_store.specs.declared.edits.WriteFault.TheVariants.{Device as WriteFailed, Memory as NoGrowth}
-use Rattle.btree_node.specs.declared.headers.Header.{Header}
-use Rattle.btree_node.specs.declared.headers.HeaderFault.{HeaderFault}
-use Rattle.btree_node.specs.declared.headers.HeaderFault.TheVariants.{BadMagic as NoMagic, BadVersion as OtherVersion, BadOrder as NoOrder, NotClean as Unclean, BadHeader as NoHeader}
+use Rattle.page_store.specs.declared.page_edit.WriteFault.{WriteFault}
+use Rattle.page_store.specs.declared.page_edit.WriteFault.TheVariants.{Device as WriteFailed, Memory as NoGrowth}
+use Rattle.btree_node.specs.declared.header.Header.{Header}
+use Rattle.btree_node.specs.declared.header.HeaderFault.{HeaderFault}
+use Rattle.btree_node.specs.declared.header.HeaderFault.TheVariants.{BadMagic as NoMagic, BadVersion as OtherVersion, BadOrder as NoOrder, NotClean as Unclean, BadHeader as NoHeader}
 use Rattle.btree_node.specs.HeaderSpelling.{HeaderFits, header_spelling, clean_state, FirstHeaderFault}
 use Rattle.btree_node.specs.Lists.{Element}
-use Rattle.btree_insert.specs.declared.trees.Tree.{Tree}
-use Rattle.btree_insert.specs.declared.trees.TreeFault.{TreeFault}
-use Rattle.btree_insert.specs.declared.trees.TreeFault.TheVariants.{Device as ReadFailed, Damaged as NoTreePage, Memory as NoMemory}
+use Rattle.btree_insert.specs.declared.tree.Tree.{Tree}
+use Rattle.btree_insert.specs.declared.tree.TreeFault.{TreeFault}
+use Rattle.btree_insert.specs.declared.tree.TreeFault.TheVariants.{Device as ReadFailed, Damaged as NoTreePage, Memory as NoMemory}
 use Rattle.btree_insert.specs.PageTrees.{IsIn, Holds}
-use Rattle.btree_delete.specs.declared.opening.OpenFault.{OpenFault}
-use Rattle.btree_delete.specs.declared.opening.OpenFault.TheVariants.{Device, BadLength, BadMagic, BadVersion, BadOrder, NotClean, BadHeader, Damaged, WrongCount, TooManyRecords, Memory}
+use Rattle.btree_delete.specs.declared.open_fault.OpenFault.{OpenFault}
+use Rattle.btree_delete.specs.declared.open_fault.OpenFault.TheVariants.{Device, BadLength, BadMagic, BadVersion, BadOrder, NotClean, BadHeader, Damaged, WrongCount, TooManyRecords, Memory}
 
 -- the pages of a file by their numbers: page 0 is no page of the tree
 abbrev pub in_file : List (List ℕ) → PageMap

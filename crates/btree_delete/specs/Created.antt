@@ -1,8 +1,8 @@
 -- What a new table is, and why none was made.
 use Rattle.std.specs.Prelude.{◌≡◌, ℕ, ◌≤◌, Bool, true, false, List, length, Result, Ok, Err}
-use Rattle.btree_insert.specs.declared.trees.Tree.{Tree}
-use Rattle.btree_delete.specs.declared.tables.CreateFault.{CreateFault}
-use Rattle.btree_delete.specs.declared.tables.CreateFault.TheVariants.{BadOrder, Device, NotEmpty}
+use Rattle.btree_insert.specs.declared.tree.Tree.{Tree}
+use Rattle.btree_delete.specs.declared.tree_table.CreateFault.{CreateFault}
+use Rattle.btree_delete.specs.declared.tree_table.CreateFault.TheVariants.{BadOrder, Device, NotEmpty}
 use Rattle.btree_delete.specs.TableView.{TableView}
 
 -- a store with no page and no further byte

@@ -2,10 +2,10 @@
 use Rattle.std.specs.Prelude.{◌≡◌, ℕ, List, Option, None}
 use Rattle.page_store.specs.PageMap.{PageMap}
 use Rattle.btree_node.specs.Lists.{Element}
-use Rattle.btree_insert.specs.declared.trees.Tree.{Tree}
+use Rattle.btree_insert.specs.declared.tree.Tree.{Tree}
 use Rattle.btree_insert.specs.Contents.{lookup_in, set_in}
 use Rattle.btree_insert.specs.PageTrees.{Holds}
-use Rattle.btree_delete.specs.Left.{Left}
+use Rattle.btree_delete.specs.PagesLeft.{PagesLeft}
 
 -- the old pages held a tree with the elements es; the new pages hold the next tree, without the key, made of some of the old tree's pages; and what stood at the key
 pub record Deleted (old new : PageMap) (tree next : Tree) (es : List Element) (us : List ℕ) (key : List ℕ) (before : Option (List ℕ)) : Type 0 where
@@ -13,4 +13,4 @@ pub record Deleted (old new : PageMap) (tree next : Tree) (es : List Element) (u
   pub holds : Holds new next (set_in key None es) vs
   pub answer : before ≡ lookup_in key es
   pub order : next.order ≡ tree.order
-  pub left : Left old new us vs
+  pub left : PagesLeft old new us vs

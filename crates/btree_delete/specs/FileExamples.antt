@@ -1,6 +1,6 @@
 -- Files by example, of order 1: the records x, y and z at the keys a, b and c.
 use Rattle.std.specs.Prelude.{ℕ, List, [], ◌∷◌}
-use Rattle.btree_node.specs.declared.headers.Header.{Header}
+use Rattle.btree_node.specs.declared.header.Header.{Header}
 use Rattle.btree_node.specs.HeaderSpelling.{header_spelling, clean_state, writing_state}
 use Rattle.btree_node.specs.Spelling.{spelling}
 use Rattle.btree_insert.specs.Examples.{ax, by, cz}
@@ -22,5 +22,5 @@ abbrev pub unclean_records : List (List ℕ)
 unclean_records = header_spelling three_header writing_state ∷ three_nodes
 
 -- the same without the root
-abbrev pub short_records : List (List ℕ)
-short_records = header_spelling three_header clean_state ∷ spelling (leaf_of ax) 1 ∷ spelling (leaf_of cz) 1 ∷ []
+abbrev pub underfull_records : List (List ℕ)
+underfull_records = header_spelling three_header clean_state ∷ spelling (leaf_of ax) 1 ∷ spelling (leaf_of cz) 1 ∷ []

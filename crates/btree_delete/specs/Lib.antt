@@ -1,10 +1,12 @@
-pub mod Left
+pub mod PagesLeft
 pub mod Deleted
 pub mod Tidy
+pub mod Treatment
+pub mod Subtrees
 pub mod Shrinking
-pub mod Mending
 pub mod Survey
 pub mod CleanFile
+pub mod Closing
 pub mod FileExamples
 pub mod TableView
 pub mod Created

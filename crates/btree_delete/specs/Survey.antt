@@ -4,12 +4,12 @@ use Rattle.page_store.specs.PageMap.{PageMap, at}
 use Rattle.page_store.specs.Calls.{counted_times}
 use Rattle.btree_node.specs.Lists.{Element, Ascends}
 use Rattle.btree_insert.specs.declared.bounds.Bounds.{Bounds}
-use Rattle.btree_insert.specs.declared.trees.Tree.{Tree}
+use Rattle.btree_insert.specs.declared.tree.Tree.{Tree}
 use Rattle.btree_insert.specs.Bounds.{Between}
 use Rattle.btree_insert.specs.PageTrees.{IsIn, Apart, Fan, TreeAt, RootAt, Holds}
 
 -- which pages were reached, how many levels below the most a tree may have the first leaf stood, and how many keys were met
-pub record Seen : Type 0 where
+pub record SeenSoFar : Type 0 where
   pub reached : List Bool
   pub leaf : Option ℕ
   pub keys : ℕ
@@ -20,9 +20,9 @@ mark [] reached = reached
 mark (u ∷ us) reached = mark us (slice_set reached u true)
 
 -- each is below the page count and was not reached before, also not by those before it
-abbrev pub AreUnmet : List ℕ → List Bool → Type 0
-AreUnmet [] reached = Unit {0}
-AreUnmet (u ∷ us) reached = (slice_index_or reached u true ≡ false) × AreUnmet us (slice_set reached u true)
+abbrev pub AreUnvisited : List ℕ → List Bool → Type 0
+AreUnvisited [] reached = Unit {0}
+AreUnvisited (u ∷ us) reached = (slice_index_or reached u true ≡ false) × AreUnvisited us (slice_set reached u true)
 
 -- how many pages were not reached
 abbrev pub unreached : List Bool → ℕ
@@ -31,7 +31,7 @@ unreached (true ∷ reached) = unreached reached
 unreached (false ∷ reached) = suc (unreached reached)
 
 -- what was seen after a tree with these elements and pages whose leaves stand at a level
-abbrev pub after : ℕ → List Element → List ℕ → Seen → Seen
+abbrev pub after : ℕ → List Element → List ℕ → SeenSoFar → SeenSoFar
 after level es us old = record { reached = mark us old.reached; leaf = Some level; keys = old.keys + length es }
 
 -- the trees below a page by the levels below it, and below its sons
@@ -42,15 +42,15 @@ abbrev pub below_sons : ℕ → PageMap → List ℕ → List Element → ℕ �
 below_sons k pages sons els h es us = Fan (TreeAt k pages k (suc h)) sons els es us
 
 -- a tree that fits what was seen: its keys are between the bounds, its pages are new, and its leaves stand where the others do. So many levels more are allowed below its root.
-pub record Sound (tree : ℕ → List Element → List ℕ → Type 0) (left : ℕ) (bounds : Bounds) (old : Seen) (h level : ℕ) (es : List Element) (us : List ℕ) : Type 0 where
+pub record Sound (tree : ℕ → List Element → List ℕ → Type 0) (left : ℕ) (bounds : Bounds) (old : SeenSoFar) (h level : ℕ) (es : List Element) (us : List ℕ) : Type 0 where
   pub stands : tree h es us
   pub levels : left ≡ level + h
   pub between : Between bounds es
-  pub unmet : AreUnmet us old.reached
+  pub unvisited : AreUnvisited us old.reached
   pub leaf : (old.leaf ≡ None) ⊎ (old.leaf ≡ Some level)
 
 -- such a tree was gone through, with one read a page
-pub record Surveyed (tree : ℕ → List Element → List ℕ → Type 0) (left : ℕ) (bounds : Bounds) (old new : Seen) (reads reads' : ℕ) : Type 0 where
+pub record Surveyed (tree : ℕ → List Element → List ℕ → Type 0) (left : ℕ) (bounds : Bounds) (old new : SeenSoFar) (reads reads' : ℕ) : Type 0 where
   pub h : ℕ
   pub level : ℕ
   pub es : List Element
@@ -74,7 +74,7 @@ height_of None = 0
 height_of (Some level) = 19 - level
 
 -- what was seen of the whole tree of a root
-abbrev pub seen_of : ℕ → ℕ → List Element → List ℕ → Seen
+abbrev pub seen_of : ℕ → ℕ → List Element → List ℕ → SeenSoFar
 seen_of count height es us = record { reached = mark us (none_of count); leaf = leaf_of height; keys = length es }
 
 -- the tree of a root: in so many pages it has a height, elements and pages, none of them twice
@@ -84,7 +84,7 @@ pub record IsRooted (k : ℕ) (pages : PageMap) (root height : ℕ) (es : List E
   pub apart : Apart us
 
 -- such a tree was gone through, with one read a page
-pub record WentThrough (k : ℕ) (pages : PageMap) (count root : ℕ) (new : Seen) (reads reads' : ℕ) : Type 0 where
+pub record WentThrough (k : ℕ) (pages : PageMap) (count root : ℕ) (new : SeenSoFar) (reads reads' : ℕ) : Type 0 where
   pub height : ℕ
   pub es : List Element
   pub us : List ℕ

@@ -1,11 +1,11 @@
 -- What a table in a tree answers.
 use Rattle.std.specs.Prelude.{◌≡◌, ℕ, ◌≤◌, List, Option, None, IsSome, Result, Ok, Err}
-use Rattle.rec_types.specs.declared.tables.TableFault.{TableFault}
-use Rattle.rec_types.specs.declared.tables.TableFault.TheVariants.{Device, Damaged, NoRoom, Memory}
+use Rattle.rec_types.specs.declared.table.TableFault.{TableFault}
+use Rattle.rec_types.specs.declared.table.TableFault.TheVariants.{Device, Damaged, NoRoom, Memory}
 use Rattle.btree_node.specs.Lists.{Element}
-use Rattle.btree_insert.specs.declared.trees.Tree.{Tree}
-use Rattle.btree_insert.specs.declared.trees.TreeFault.{TreeFault}
-use Rattle.btree_insert.specs.declared.trees.TreeFault.TheVariants.{Device as ReadFailed, Damaged as NoTreePage, Memory as NoMemory}
+use Rattle.btree_insert.specs.declared.tree.Tree.{Tree}
+use Rattle.btree_insert.specs.declared.tree.TreeFault.{TreeFault}
+use Rattle.btree_insert.specs.declared.tree.TreeFault.TheVariants.{Device as ReadFailed, Damaged as NoTreePage, Memory as NoMemory}
 use Rattle.btree_insert.specs.Contents.{lookup_in, set_in}
 use Rattle.btree_delete.specs.TableView.{Fills}
 

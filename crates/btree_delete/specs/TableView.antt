@@ -2,10 +2,11 @@
 use Rattle.std.specs.Prelude.{◌≡◌, ℕ, ◌≤◌, false, IsTrue, List, Option, IsSome}
 use Rattle.page_store.specs.PageMap.{at}
 use Rattle.page_store.specs.PagesView.{PagesView}
-use Rattle.btree_node.specs.declared.headers.Header.{Header}
+use Rattle.btree_node.specs.declared.header.Header.{Header}
 use Rattle.btree_node.specs.Lists.{Element}
-use Rattle.btree_insert.specs.declared.trees.Tree.{Tree}
+use Rattle.btree_insert.specs.declared.tree.Tree.{Tree}
 use Rattle.btree_insert.specs.PageTrees.{IsIn, Holds}
+use Rattle.btree_insert.specs.Spelt.{AreSpeltIn}
 use Rattle.btree_insert.specs.Contents.{contents_of}
 use Rattle.btree_insert.specs.Elements.{contents_at}
 use Rattle.rec_types.specs.Contents.{Contents}
@@ -43,7 +44,7 @@ pub record IsClosed (stored : List (List ℕ)) (tail : ℕ) (tree : Tree) (conte
   pub clean : IsCleanFile stored tail h tree es us
   pub records : contents_of es ≡ contents
 
--- sizes within the limits; over a steady store the pages hold the tree, and where nothing was changed the store has them
+-- sizes within the limits; each page in memory spells a node; over a steady store the pages hold the tree, and where nothing was changed the store has them
 pub record IsTable (t : TableView) : Type 0 where
   pub some_order : 1 ≤ t.tree.order
   pub most_order : t.tree.order ≤ 16
@@ -52,5 +53,6 @@ pub record IsTable (t : TableView) : Type 0 where
   pub small : t.tree.count ≤ 1000000
   pub count : IsTrue t.pages.steady → t.tree.count ≤ t.limit
   pub limit : t.limit ≤ 1000000
+  pub spelt : AreSpeltIn t.tree.order t.pages
   pub holds : IsTrue t.pages.steady → HoldsTree t.pages t.tree
   pub closed : IsTrue t.pages.steady → t.pages.changed ≡ false → IsClosed t.pages.stored t.pages.tail t.tree (table_contents t)

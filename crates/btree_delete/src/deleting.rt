@@ -2,21 +2,24 @@ ghost use Rattle.std.specs.Prelude.{◌≡◌, ◌+◌, ◌-◌, ◌*◌, ◌<�
 ghost use Rattle.rec_types.specs.Table.{counted};
 ghost use Rattle.page_store.specs.PageMap.{PageMap, at, after};
 ghost use Rattle.btree_node.specs.Lists.{Element};
+ghost use Rattle.btree_node.specs.Spelling.{AreSpelt};
 ghost use Rattle.btree_insert.specs.Faults.{is_device};
 ghost use Rattle.btree_insert.specs.Growth.{IsOutside};
 ghost use Rattle.btree_insert.specs.PageTrees.{Holds};
+ghost use Rattle.btree_insert.specs.Spelt.{AreSpeltIn};
 ghost use Rattle.btree_insert.specs.Contents.{lookup_in, set_in};
 ghost use Rattle.page_store.specs.CanStage.{CanStage};
 ghost use Rattle.btree_delete.specs.Deleted.{Deleted};
-ghost use Rattle.btree_delete.specs.Mending.{son_at};
-ghost use Rattle.btree_delete.specs.Shrinking.{IsThin, GoesUp, Leaves, ShrinksRoot, gone};
+ghost use Rattle.btree_delete.specs.Treatment.{son_at};
+ghost use Rattle.btree_delete.specs.Shrinking.{MayBeUnderfull, UnderfullGoesUp, LeavesTree, ShrinksRoot, gone};
 ghost use Rattle.btree_insert.specs.declared.bounds.Bounds.{Bounds};
-ghost use Rattle.btree_delete.specs.Tidy.{is_met, IsTidy};
+ghost use Rattle.btree_delete.specs.Tidy.{is_visited, IsTidy};
 ghost use Rattle.btree_node.specs.Layout.{IsOrder};
 ghost use Rattle.btree_insert.specs.Sizes.{IsTree};
 
-use crate::mending::free_page;
-use crate::shrinking::{Shrunk, delete_below};
+use crate::delete_below::{Shrunk, delete_below};
+use crate::subtree::Subtree;
+use crate::underflow::free_page;
 use arrayvec::ArrayVec;
 use btree_insert::{Bounds, Tree, TreeFault, write_node};
 use btree_node::Node;
@@ -54,15 +57,17 @@ fn fewer(tree: &Tree, page: u32, freed: usize) -> Result<Tree, TreeFault>
     })
 }
 
-/// Writes the short node of the root. A root without a key is freed: its one son is the root, or the
+/// Writes the underfull node of the root. A root without a key is freed: its one son is the root, or the
 /// tree is empty.
 fn shrink_root(edit: &mut PageEdit, tree: &Tree, node: &Node) -> Result<Tree, Memory>
     requires order { IsOrder tree.now.order }
     requires height { 0 < tree.now.height }
-    requires thin { (height : ℕ) × (bounds : Bounds)
-        × IsThin tree.now.order height bounds node.now }
+    requires may_be_underfull { (height : ℕ) × (bounds : Bounds)
+        × MayBeUnderfull tree.now.order height bounds node.now }
     ensures shrinks { IfOk result (λ next. ShrinksRoot tree.now next node.now
         edit.old.writes.items edit.new.writes.items edit.old.freed.items edit.new.freed.items) }
+    ensures spelt { AreSpelt tree.now.order edit.old.writes.items
+        → OnOk result (AreSpelt tree.now.order edit.new.writes.items) }
     ensures taken { edit.new.taken ≡ edit.old.taken }
 {
     if node.elements.is_empty() {
@@ -86,23 +91,25 @@ fn shrink_tree(
 ) -> Result<(Tree, Option<Record>), TreeFault>
     requires order { IsOrder tree.now.order }
     requires height { 0 < tree.now.height }
-    requires up { GoesUp tree.now.order tree.now.height
+    requires up { UnderfullGoesUp tree.now.order tree.now.height
         (record { low = None; high = None }) tree.now.root
         edit.old.writes.items edit.old.freed.items shrunk }
     requires none_taken { edit.old.taken ≡ 0 }
     ensures deleted { (pages : PageMap) (es : List Element) (us key : List ℕ)
         → Holds pages tree.now es us → lookup_in key es ≡ Some (gone shrunk).1
-        → Leaves tree.now.order pages (after pages edit.old.writes.items edit.old.freed.items)
+        → LeavesTree tree.now.order pages (after pages edit.old.writes.items edit.old.freed.items)
         0 (length edit.old.freed.items) 1 (tree.now.height - 1) tree.now.root us
         (set_in key None es) shrunk
         → MatchResult result
         (λ r. Deleted pages (after pages edit.new.writes.items edit.new.freed.items)
         tree.now r.0 es us key r.1)
         IsOutside }
-    ensures fits { (pages : List (Option (List ℕ))) (met : List ℕ)
-        → IsSome (at pages tree.now.root) → is_met met tree.now.root ≡ true
-        → IsTidy pages met edit.old.writes.items edit.old.freed.items
+    ensures fits { (pages : List (Option (List ℕ))) (visited : List ℕ)
+        → IsSome (at pages tree.now.root) → is_visited visited tree.now.root ≡ true
+        → IsTidy pages visited edit.old.writes.items edit.old.freed.items
         → OnOk result (CanStage pages edit.new.writes.items edit.new.taken edit.new.freed.items) }
+    ensures spelt { AreSpelt tree.now.order edit.old.writes.items
+        → OnOk result (AreSpelt tree.now.order edit.new.writes.items) }
     ensures none_taken { edit.new.taken ≡ 0 }
     ensures some { IfOk result (λ r. IsSome r.1) }
     ensures height { IfOk result (λ r. r.0.height ≤ tree.now.height) }
@@ -116,7 +123,7 @@ fn shrink_tree(
             let next = fewer(tree, tree.root, edit.freed.len())?;
             Ok((next, Some(removed.1)))
         }
-        Shrunk::Short(removed, node) => {
+        Shrunk::Underfull(removed, node) => {
             let shrunk = shrink_root(edit, tree, &node)?;
             let next = fewer(&shrunk, tree.root, edit.freed.len())?;
             Ok((next, Some(removed.1)))
@@ -129,7 +136,7 @@ fn shrink_tree(
 /// a `count` and a `used` of at most 1,000,000. It reads each page of the path to the key once, and
 /// one brother at most of each page below the root. Faults: Device; Damaged with the page that is not
 /// in use, spells no node of the order, is of a kind that does not fit its level, has a key that is not
-/// strictly between the bounds from all levels above, or is met twice; Damaged with the root where
+/// strictly between the bounds from all levels above, or is visited twice; Damaged with the root where
 /// `count` or `used` would pass 0; Memory. After a fault no page has changed.
 pub fn delete<S: Store>(
     alloc: Global,
@@ -147,6 +154,7 @@ pub fn delete<S: Store>(
     ensures count { IfOk result (λ r. r.0.count ≤ tree.now.count) }
     ensures used { IfOk result (λ r. r.0.used ≤ tree.now.used) }
     ensures order { IfOk result (λ r. r.0.order ≡ tree.now.order) }
+    ensures spelt { AreSpeltIn tree.now.order pages.old → AreSpeltIn tree.now.order pages.new }
     ensures absent { IfOk result (λ r. r.1 ≡ None → (r.0 ≡ tree.now)
         × (pages.new.pages ≡ pages.old.pages) × (pages.new.changed ≡ pages.old.changed)) }
     ensures changed { IfOk result (λ r. IsSome r.1 → pages.new.changed ≡ true) }
@@ -171,21 +179,17 @@ pub fn delete<S: Store>(
         taken: 0,
         freed: Vec::new(alloc),
     };
-    let bounds = Bounds {
-        low: None,
-        high: None,
+    let whole = Subtree {
+        order: tree.order,
+        height: tree.height,
+        page: tree.root,
+        bounds: Bounds {
+            low: None,
+            high: None,
+        },
     };
-    let mut met = ArrayVec::new();
-    let shrunk = delete_below(
-        pages,
-        &mut edit,
-        &mut met,
-        tree.order,
-        tree.height,
-        tree.root,
-        &bounds,
-        key,
-    )?;
+    let mut visited = ArrayVec::new();
+    let shrunk = delete_below(pages, &mut edit, &mut visited, &whole, &Some(*key))?;
     let Some(shrunk) = shrunk else {
         return Ok((*tree, None));
     };

@@ -6,7 +6,7 @@ ghost use Rattle.page_store.specs.PageMap.{PageMap};
 ghost use Rattle.btree_node.specs.Lists.{Element};
 ghost use Rattle.btree_insert.specs.Elements.{contents_at};
 ghost use Rattle.btree_insert.specs.PageTrees.{Holds};
-ghost use Rattle.btree_insert.specs.declared.trees.Tree.{Tree};
+ghost use Rattle.btree_insert.specs.declared.tree.Tree.{Tree};
 ghost use Rattle.btree_delete.specs.Deleted.{Deleted};
 
 /// A deletion takes the key out of the contents that the pages hold, and answers what they had there.

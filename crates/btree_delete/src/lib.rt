@@ -1,22 +1,23 @@
 //! Deletion from a B-tree in the pages of a store.
 #![tactic(auto)]
 
-mod counting;
+mod change;
+mod delete_below;
 mod deleting;
+mod fault_counts;
 pub mod file_laws;
-mod files;
-mod free;
+mod free_numbers;
 pub mod laws;
-mod measuring;
-mod mending;
-mod opening;
-mod setting;
-mod shrinking;
-mod surveying;
-mod tables;
-mod visiting;
+mod measure;
+mod open_fault;
+mod open_file;
+mod subtree;
+mod survey;
+mod tree_table;
+mod underflow;
+mod visit;
 
 pub use deleting::delete;
-pub use files::OpenStop;
-pub use opening::OpenFault;
-pub use tables::{CloseStop, CreateFault, CreateStop, TreeTable};
+pub use open_fault::OpenFault;
+pub use open_file::OpenStop;
+pub use tree_table::{CloseStop, CreateFault, CreateStop, TreeTable};

@@ -1,7 +1,7 @@
 -- The elements of a tree as a function of the pages: total, whatever the pages hold.
 use Rattle.std.specs.Prelude.{ℕ, zero, suc, List, []}
 use Rattle.std.specs.Option.{unwrap_or}
-use Rattle.btree_node.specs.declared.nodes.Node.{Node}
+use Rattle.btree_node.specs.declared.node.Node.{Node}
 use Rattle.btree_node.specs.Layout.{first_layout}
 use Rattle.btree_node.specs.Lists.{Element}
 use Rattle.btree_node.specs.Reading.{node_at}

@@ -1,7 +1,7 @@
 -- Which fault of a tree an answer is.
 use Rattle.std.specs.Prelude.{Bool, true, false, Result, Ok, Err}
-use Rattle.btree_insert.specs.declared.trees.TreeFault.{TreeFault}
-use Rattle.btree_insert.specs.declared.trees.TreeFault.TheVariants.{Device, Damaged, Memory}
+use Rattle.btree_insert.specs.declared.tree.TreeFault.{TreeFault}
+use Rattle.btree_insert.specs.declared.tree.TreeFault.TheVariants.{Device, Damaged, Memory}
 
 -- whether a read of the store failed
 abbrev pub is_device : {X : Type 0} → Result X TreeFault → Bool

@@ -4,18 +4,18 @@ use Rattle.std.specs.List.{AllByRecursion}
 use Rattle.page_store.specs.PageMap.{PageMap, at, is_written}
 use Rattle.page_store.specs.FreeNumbers.{candidate}
 use Rattle.page_store.specs.CanStage.{IsTaken}
-use Rattle.btree_node.specs.declared.nodes.Node.{Node}
+use Rattle.btree_node.specs.declared.node.Node.{Node}
 use Rattle.btree_node.specs.Cut.{left_of, right_of}
 use Rattle.btree_node.specs.Lists.{Element, Each, Ascends}
 use Rattle.btree_node.specs.Spelling.{spelling, IsElement, IsSon, SonsFit}
 use Rattle.btree_insert.specs.declared.bounds.Bounds.{Bounds}
-use Rattle.btree_insert.specs.declared.growing.Grown.{Grown}
-use Rattle.btree_insert.specs.declared.growing.Grown.TheVariants.{Replaced, Fits, Split}
-use Rattle.btree_insert.specs.declared.trees.TreeFault.{TreeFault}
-use Rattle.btree_insert.specs.declared.trees.TreeFault.TheVariants.{Device, Damaged, Memory}
+use Rattle.btree_insert.specs.declared.insert_below.Grown.{Grown}
+use Rattle.btree_insert.specs.declared.insert_below.Grown.TheVariants.{Replaced, Fits, Split}
+use Rattle.btree_insert.specs.declared.tree.TreeFault.{TreeFault}
+use Rattle.btree_insert.specs.declared.tree.TreeFault.TheVariants.{Device, Damaged, Memory}
 use Rattle.btree_insert.specs.Bounds.{Over, Under}
 use Rattle.btree_insert.specs.Contents.{lookup_in, set_in}
-use Rattle.btree_insert.specs.Kept.{Kept}
+use Rattle.btree_insert.specs.PagesGrown.{PagesGrown}
 use Rattle.btree_insert.specs.PageTrees.{TreeAt}
 
 -- the fault is not of the pages
@@ -29,7 +29,7 @@ abbrev pub IsWithin : Bounds → List ℕ → Type 0
 IsWithin bounds key = Over bounds.low key × Under bounds.high key
 
 -- a node that can stand in a page, or could without one of its keys
-pub record IsLoose (k : ℕ) (n : Node) : Type 0 where
+pub record MayBeOverfull (k : ℕ) (n : Node) : Type 0 where
   pub some : 0 < length n.elements.items
   pub most : length n.elements.items ≤ 2 * k + 1
   pub fit : Each (IsElement) n.elements.items
@@ -42,23 +42,23 @@ pub record WritesFit (pages : List (Option (List ℕ))) (writes : List (ℕ × L
   pub taken_written : (i : ℕ) → i < taken → is_written writes (candidate pages i) ≡ true
 
 -- how many numbers an insertion through so many levels takes: none where the key was there
-abbrev pub Takes : ℕ → ℕ → ℕ → Grown → Type 0
-Takes height old new (Replaced value) = new ≡ old
-Takes height old new Fits = (old ≤ new) × (new ≤ old + height)
-Takes height old new (Split middle right) = (old ≤ new) × (new ≤ old + height)
+abbrev pub TakesNumbers : ℕ → ℕ → ℕ → Grown → Type 0
+TakesNumbers height old new (Replaced value) = new ≡ old
+TakesNumbers height old new Fits = (old ≤ new) × (new ≤ old + height)
+TakesNumbers height old new (Split middle right) = (old ≤ new) × (new ≤ old + height)
 
 -- what goes up can stand in the father, within the bounds of the page
-abbrev pub GoesUp : Bounds → Grown → Type 0
-GoesUp bounds (Replaced value) = Unit {0}
-GoesUp bounds Fits = Unit {0}
-GoesUp bounds (Split middle right) = IsElement middle × IsWithin bounds middle.0 × IsSon right
+abbrev pub SplitGoesUp : Bounds → Grown → Type 0
+SplitGoesUp bounds (Replaced value) = Unit {0}
+SplitGoesUp bounds Fits = Unit {0}
+SplitGoesUp bounds (Split middle right) = IsElement middle × IsWithin bounds middle.0 × IsSon right
 
 -- a node written as page n, or cut in two around its middle key, the right half as a new page
-abbrev pub Settles : ℕ → ℕ → List (ℕ × List ℕ) → List (ℕ × List ℕ) → ℕ → ℕ → ℕ → Node → Grown → Type 0
-Settles k fresh writes writes' taken taken' n node (Replaced value) = ⊥
-Settles k fresh writes writes' taken taken' n node Fits =
+abbrev pub WritesOrSplits : ℕ → ℕ → List (ℕ × List ℕ) → List (ℕ × List ℕ) → ℕ → ℕ → ℕ → Node → Grown → Type 0
+WritesOrSplits k fresh writes writes' taken taken' n node (Replaced value) = ⊥
+WritesOrSplits k fresh writes writes' taken taken' n node Fits =
     (length node.elements.items ≤ 2 * k) × (writes' ≡ writes ++ (n, spelling node k) ∷ []) × (taken' ≡ taken)
-Settles k fresh writes writes' taken taken' n node (Split middle right) =
+WritesOrSplits k fresh writes writes' taken taken' n node (Split middle right) =
     (length node.elements.items ≡ 2 * k + 1) × ((d : Element) → middle ≡ slice_index_or node.elements.items k d) × (right ≡ fresh)
     × (writes' ≡ (writes ++ (n, spelling (left_of k node) k) ∷ []) ++ (fresh, spelling (right_of k node) k) ∷ []) × (taken' ≡ taken + 1)
 
@@ -66,7 +66,7 @@ Settles k fresh writes writes' taken taken' n node (Split middle right) =
 pub record Whole (k : ℕ) (old new : PageMap) (fresh : ℕ → ℕ) (lo hi least h p : ℕ) (us : List ℕ) (es : List Element) : Type 0 where
   pub vs : List ℕ
   pub tree : TreeAt k new least h p es vs
-  pub kept : Kept old new fresh lo hi us vs
+  pub kept : PagesGrown old new fresh lo hi us vs
 
 -- the trees below page p and a new page, with the key between them, now have the elements es
 pub record Parts (k : ℕ) (old new : PageMap) (fresh : ℕ → ℕ) (lo hi h p : ℕ) (us : List ℕ) (es : List Element) (middle : Element) (right : ℕ) : Type 0 where
@@ -77,7 +77,7 @@ pub record Parts (k : ℕ) (old new : PageMap) (fresh : ℕ → ℕ) (lo hi h p 
   pub left_tree : TreeAt k new k h p xs before
   pub right_tree : TreeAt k new k h right ys behind
   pub es_is : es ≡ xs ++ middle ∷ ys
-  pub kept : Kept old new fresh lo hi us (before ++ behind)
+  pub kept : PagesGrown old new fresh lo hi us (before ++ behind)
 
 -- the elements es stand below page p, or below it and a new page
 abbrev pub Grows : ℕ → PageMap → PageMap → (ℕ → ℕ) → ℕ → ℕ → ℕ → ℕ → ℕ → List ℕ → List Element → Grown → Type 0
@@ -86,12 +86,12 @@ Grows k old new fresh lo hi least h p us es Fits = Whole k old new fresh lo hi l
 Grows k old new fresh lo hi least h p us es (Split middle right) = Parts k old new fresh lo hi h p us es middle right
 
 -- what an insertion says of the record that stood at the key
-abbrev pub Told : List ℕ → List Element → Grown → Type 0
-Told key es (Replaced value) = lookup_in key es ≡ Some value
-Told key es Fits = lookup_in key es ≡ None
-Told key es (Split middle right) = lookup_in key es ≡ None
+abbrev pub TellsOld : List ℕ → List Element → Grown → Type 0
+TellsOld key es (Replaced value) = lookup_in key es ≡ Some value
+TellsOld key es Fits = lookup_in key es ≡ None
+TellsOld key es (Split middle right) = lookup_in key es ≡ None
 
 -- the record stands at the key, and everything else is as it was
 pub record Grew (k : ℕ) (old new : PageMap) (fresh : ℕ → ℕ) (lo hi least h p : ℕ) (es : List Element) (us : List ℕ) (key value : List ℕ) (g : Grown) : Type 0 where
-  pub told : Told key es g
+  pub told : TellsOld key es g
   pub grows : Grows k old new fresh lo hi least h p us (set_in key (Some value) es) g

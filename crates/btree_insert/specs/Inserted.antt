@@ -2,14 +2,14 @@
 use Rattle.std.specs.Prelude.{◌≡◌, ℕ, ◌≤◌, List, [], ◌∷◌, Option, Some}
 use Rattle.page_store.specs.PageMap.{PageMap, at}
 use Rattle.page_store.specs.FreeNumbers.{candidate, count_after, greatest_page_count}
-use Rattle.btree_node.specs.declared.nodes.Node.{Node}
-use Rattle.btree_node.specs.declared.nodes.NodeKind.TheVariants.{Leaf, Inner}
+use Rattle.btree_node.specs.declared.node.Node.{Node}
+use Rattle.btree_node.specs.declared.node.NodeKind.TheVariants.{Leaf, Inner}
 use Rattle.btree_node.specs.Lists.{Element}
-use Rattle.btree_insert.specs.declared.trees.Tree.{Tree}
-use Rattle.btree_insert.specs.declared.trees.TreeFault.{TreeFault}
-use Rattle.btree_insert.specs.declared.trees.TreeFault.TheVariants.{Device, Damaged, Memory}
+use Rattle.btree_insert.specs.declared.tree.Tree.{Tree}
+use Rattle.btree_insert.specs.declared.tree.TreeFault.{TreeFault}
+use Rattle.btree_insert.specs.declared.tree.TreeFault.TheVariants.{Device, Damaged, Memory}
 use Rattle.btree_insert.specs.Contents.{lookup_in, set_in}
-use Rattle.btree_insert.specs.Kept.{Kept}
+use Rattle.btree_insert.specs.PagesGrown.{PagesGrown}
 use Rattle.btree_insert.specs.PageTrees.{Holds}
 use Rattle.btree_insert.specs.Sizes.{greatest_height, greatest_count}
 
@@ -27,7 +27,7 @@ pub record Inserted (old new : PageMap) (fresh : ℕ → ℕ) (taken : ℕ) (tre
   pub holds : Holds new next (set_in key (Some value) es) vs
   pub answer : before ≡ lookup_in key es
   pub order : next.order ≡ tree.order
-  pub kept : Kept old new fresh 0 taken us vs
+  pub kept : PagesGrown old new fresh 0 taken us vs
 
 -- a tree and a page count within the limits of a file
 pub record IsSmall (tree : Tree) (page_count : ℕ) : Type 0 where

@@ -4,9 +4,11 @@ pub mod Faults
 pub mod Sizes
 pub mod PageTrees
 pub mod Growth
-pub mod Kept
+pub mod PagesGrown
 pub mod Inserted
 pub mod Classes
 pub mod Reached
 pub mod Elements
 pub mod Examples
+pub mod Spelt
+pub mod Steps

@@ -1,14 +1,14 @@
 -- The tree below a page number: its elements in order and the numbers of its pages.
 use Rattle.std.specs.Prelude.{◌≡◌, ℕ, zero, suc, ◌≤◌, ◌⊎◌, List, [], ◌∷◌, ◌++◌, length, Some, ◌==◌, if◌then◌else◌}
-use Rattle.btree_node.specs.declared.nodes.Node.{Node}
-use Rattle.btree_node.specs.declared.nodes.NodeKind.{NodeKind}
-use Rattle.btree_node.specs.declared.nodes.NodeKind.TheVariants.{Leaf, Inner}
+use Rattle.btree_node.specs.declared.node.Node.{Node}
+use Rattle.btree_node.specs.declared.node.NodeKind.{NodeKind}
+use Rattle.btree_node.specs.declared.node.NodeKind.TheVariants.{Leaf, Inner}
 use Rattle.btree_node.specs.Lists.{Element, Ascends}
-use Rattle.btree_node.specs.declared.layouts.Layout.{Layout}
+use Rattle.btree_node.specs.declared.layout.Layout.{Layout}
 use Rattle.btree_node.specs.Layout.{first_layout}
 use Rattle.btree_node.specs.Spelling.{spelling_in, CanStandIn}
 use Rattle.page_store.specs.PageMap.{PageMap}
-use Rattle.btree_insert.specs.declared.trees.Tree.{Tree}
+use Rattle.btree_insert.specs.declared.tree.Tree.{Tree}
 
 -- u is one of the numbers
 abbrev pub IsIn : ℕ → List ℕ → Type 0

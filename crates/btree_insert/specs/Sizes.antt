@@ -1,7 +1,7 @@
 -- How large a tree may be.
 use Rattle.std.specs.Prelude.{ℕ, ◌≤◌}
 use Rattle.btree_node.specs.Layout.{IsOrder}
-use Rattle.btree_insert.specs.declared.trees.Tree.{Tree}
+use Rattle.btree_insert.specs.declared.tree.Tree.{Tree}
 
 -- the most levels of a tree
 abbrev pub greatest_height : ℕ

@@ -14,7 +14,7 @@ pub struct Bounds {
     pub high: Option<Key>,
 }
 
-fn is_over(low: &Option<Key>, key: &Key) -> bool
+pub(crate) fn is_over(low: &Option<Key>, key: &Key) -> bool
     ensures { IsTrue result ↔ Over low.now key.now }
 {
     match low {
@@ -23,7 +23,7 @@ fn is_over(low: &Option<Key>, key: &Key) -> bool
     }
 }
 
-fn is_under(high: &Option<Key>, key: &Key) -> bool
+pub(crate) fn is_under(high: &Option<Key>, key: &Key) -> bool
     ensures { IsTrue result ↔ Under high.now key.now }
 {
     match high {

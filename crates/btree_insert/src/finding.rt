@@ -7,13 +7,14 @@ ghost use Rattle.btree_insert.specs.Contents.{lookup_in};
 ghost use Rattle.btree_insert.specs.Faults.{is_device};
 ghost use Rattle.btree_insert.specs.PageTrees.{Spells, TreeAt, Holds};
 ghost use Rattle.btree_insert.specs.Reached.{Leads, LeadsFrom};
+ghost use Rattle.btree_insert.specs.Spelt.{AreSpeltIn};
 ghost use Rattle.btree_node.specs.Layout.{IsOrder, greatest_order};
 ghost use Rattle.btree_insert.specs.Sizes.{greatest_height};
 
-use crate::bounds::{Bounds, bounds_of_son};
-use crate::reading::{kind_of_level, read_into};
-use crate::trees::{Tree, TreeFault};
-use btree_node::{Node, place_of};
+use crate::bounds::Bounds;
+use crate::step::{Spot, Step, take_step};
+use crate::tree::{Tree, TreeFault};
+use btree_node::Node;
 use page_store::{Pages, Store};
 use rec_types::{Key, Record};
 
@@ -40,59 +41,107 @@ pub fn find<S: Store>(
         ≡ record pages.old { reads = pages.new.reads; failures = pages.new.failures } }
     ensures reads { pages.new.reads ≤ pages.old.reads + tree.now.height }
 {
-    if tree.height == 0 {
-        return Ok(None);
-    }
-    let bounds = Bounds {
-        low: None,
-        high: None,
-    };
-    let mut node = Node::blank();
-    find_below(
-        pages,
-        tree.order,
-        tree.height,
-        tree.root,
-        &bounds,
-        key,
-        &mut node,
-    )
+    find_from_root(pages, tree, key, false)
 }
 
-/// The record at the key in the tree of a height below page n. Each page on the way is read into the
-/// one node.
-fn find_below<S: Store>(
+/// The same as `find`, where each page in memory is known to spell a node of the order: it is searched
+/// where it lies, and no node is made of it.
+pub fn look_up<S: Store>(
     pages: &mut Pages<S>,
-    order: u16,
-    height: u32,
-    n: u32,
-    bounds: &Bounds,
+    tree: &Tree,
     key: &Key,
-    node: &mut Node,
 ) -> Result<Option<Record>, TreeFault>
-    requires order { order ≤ greatest_order }
-    requires height { 0 < height }
-    ensures found { IsTrue pages.old.steady → (least : ℕ) (es : List Element) (us : List ℕ)
-        → TreeAt order (at pages.old.pages) least height n es us → Between bounds.now es
+    requires order { IsOrder tree.now.order }
+    requires height { tree.now.height ≤ greatest_height }
+    requires spelt { AreSpeltIn tree.now.order pages.old }
+    ensures found { IsTrue pages.old.steady → (es : List Element) (us : List ℕ)
+        → Holds (at pages.old.pages) tree.now es us
         → MatchResult result (λ found. found ≡ lookup_in key.now es)
         (λ fault. fault ≡ TreeFault.Device) }
-    ensures led { IsTrue pages.old.steady
-        → IfOk result (Leads (Spells order (at pages.old.pages)) key.now height n bounds.now) }
+    ensures led { IsTrue pages.old.steady → IfOk result (LeadsFrom
+        (Spells tree.now.order (at pages.old.pages)) key.now tree.now.height tree.now.root) }
     ensures no_memory { IfErr result (λ fault. fault ≢ TreeFault.Memory) }
     ensures device { pages.new.failures ≡ counted pages.old.failures (is_device result) }
     ensures unchanged { pages.new
         ≡ record pages.old { reads = pages.new.reads; failures = pages.new.failures } }
-    ensures reads { pages.new.reads ≤ pages.old.reads + height }
+    ensures reads { pages.new.reads ≤ pages.old.reads + tree.now.height }
 {
-    read_into(pages, order, kind_of_level(height), n, bounds, node)?;
-    match place_of(node, key) {
-        Ok(i) => Ok(Some(node.elements[i].1)),
-        Err(i) => {
-            if height == 1 {
-                return Ok(None);
-            }
-            let below = bounds_of_son(bounds, node.elements.as_slice(), i);
-            find_below(pages, order, height - 1, node.sons[i], &below, key, node)
+    find_from_root(pages, tree, key, true)
+}
+
+/// The record at the key. Where `in_place`, a page in memory is searched where it lies.
+fn find_from_root<S: Store>(
+    pages: &mut Pages<S>,
+    tree: &Tree,
+    key: &Key,
+    in_place: bool,
+) -> Result<Option<Record>, TreeFault>
+    requires order { IsOrder tree.now.order }
+    requires height { tree.now.height ≤ greatest_height }
+    requires spelt { IsTrue in_place → AreSpeltIn tree.now.order pages.old }
+    ensures found { IsTrue pages.old.steady → (es : List Element) (us : List ℕ)
+        → Holds (at pages.old.pages) tree.now es us
+        → MatchResult result (λ found. found ≡ lookup_in key.now es)
+        (λ fault. fault ≡ TreeFault.Device) }
+    ensures led { IsTrue pages.old.steady → IfOk result (LeadsFrom
+        (Spells tree.now.order (at pages.old.pages)) key.now tree.now.height tree.now.root) }
+    ensures no_memory { IfErr result (λ fault. fault ≢ TreeFault.Memory) }
+    ensures device { pages.new.failures ≡ counted pages.old.failures (is_device result) }
+    ensures unchanged { pages.new
+        ≡ record pages.old { reads = pages.new.reads; failures = pages.new.failures } }
+    ensures reads { pages.new.reads ≤ pages.old.reads + tree.now.height }
+{
+    if tree.height == 0 {
+        return Ok(None);
+    }
+    let root = Spot {
+        page: tree.root,
+        level: tree.height,
+        bounds: Bounds {
+            low: None,
+            high: None,
+        },
+    };
+    let mut node = Node::blank();
+    find_below(pages, tree.order, &root, key, in_place, &mut node)
+}
+
+/// The record at the key in the tree below the page at a spot. Each page on the way that is not searched
+/// where it lies is read into the one node.
+fn find_below<S: Store>(
+    pages: &mut Pages<S>,
+    order: u16,
+    spot: &Spot,
+    key: &Key,
+    in_place: bool,
+    node: &mut Node,
+) -> Result<Option<Record>, TreeFault>
+    requires order { order ≤ greatest_order }
+    requires level { 0 < spot.now.level }
+    requires spelt { IsTrue in_place → AreSpeltIn order pages.old }
+    ensures found { IsTrue pages.old.steady → (least : ℕ) (es : List Element) (us : List ℕ)
+        → TreeAt order (at pages.old.pages) least spot.now.level spot.now.page es us
+        → Between spot.now.bounds es
+        → MatchResult result (λ found. found ≡ lookup_in key.now es)
+        (λ fault. fault ≡ TreeFault.Device) }
+    ensures led { IsTrue pages.old.steady → IfOk result (Leads
+        (Spells order (at pages.old.pages)) key.now spot.now.level spot.now.page spot.now.bounds) }
+    ensures no_memory { IfErr result (λ fault. fault ≢ TreeFault.Memory) }
+    ensures device { pages.new.failures ≡ counted pages.old.failures (is_device result) }
+    ensures unchanged { pages.new
+        ≡ record pages.old { reads = pages.new.reads; failures = pages.new.failures } }
+    ensures reads { pages.new.reads ≤ pages.old.reads + spot.now.level }
+{
+    match take_step(pages, order, spot, key, in_place, node)? {
+        Step::Found(_, value) => Ok(Some(value)),
+        Step::Ends(_) => Ok(None),
+        Step::Goes(_, page, bounds) => {
+            let below = Spot {
+                page,
+                level: spot.level - 1,
+                bounds,
+            };
+            find_below(pages, order, &below, key, in_place, node)
         }
     }
 }

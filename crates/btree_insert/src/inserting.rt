@@ -3,17 +3,18 @@ ghost use Rattle.rec_types.specs.Table.{counted};
 ghost use Rattle.page_store.specs.FreeNumbers.{candidate, count_after};
 ghost use Rattle.page_store.specs.PageMap.{at, overlay};
 ghost use Rattle.btree_node.specs.Lists.{Element};
-ghost use Rattle.btree_node.specs.Spelling.{spelling, CanStand, IsElement};
+ghost use Rattle.btree_node.specs.Spelling.{spelling, CanStand, IsElement, AreSpelt};
 ghost use Rattle.btree_insert.specs.Faults.{is_device};
-ghost use Rattle.btree_insert.specs.Growth.{IsOutside, WritesFit, Takes, GoesUp, Grew};
+ghost use Rattle.btree_insert.specs.Growth.{IsOutside, WritesFit, TakesNumbers, SplitGoesUp, Grew};
 ghost use Rattle.btree_insert.specs.Inserted.{leaf_of, root_of, Inserted, IsSmall, IsRefused};
 ghost use Rattle.btree_insert.specs.PageTrees.{Holds};
+ghost use Rattle.btree_insert.specs.Spelt.{AreSpeltIn};
 ghost use Rattle.btree_node.specs.Layout.{greatest_order};
 ghost use Rattle.btree_insert.specs.Sizes.{IsTree, greatest_count};
 
 use crate::bounds::Bounds;
-use crate::growing::{Grown, grow_below, write_node};
-use crate::trees::{GREATEST_COUNT, GREATEST_HEIGHT, GREATEST_PAGE_COUNT, Tree, TreeFault};
+use crate::insert_below::{Grown, insert_below, write_node};
+use crate::tree::{GREATEST_COUNT, GREATEST_HEIGHT, GREATEST_PAGE_COUNT, Tree, TreeFault};
 use arrayvec::ArrayVec;
 use btree_node::{KEY_WIDTH, Node, NodeKind, RECORD_WIDTH};
 use page_store::{PageEdit, Pages, Store};
@@ -46,6 +47,8 @@ fn add_node<S: Store>(
         ≡ edit.old.writes.items ++ (n, spelling node.now order) ∷ []) }
     ensures taken { OnOk result (edit.new.taken ≡ edit.old.taken + 1) }
     ensures fits { OnOk result (WritesFit pages.now.pages edit.new.writes.items edit.new.taken) }
+    ensures spelt { AreSpelt order edit.old.writes.items
+        → OnOk result (AreSpelt order edit.new.writes.items) }
     ensures freed { edit.new.freed ≡ edit.old.freed }
 {
     let number = pages.candidate(edit.taken);
@@ -115,6 +118,8 @@ fn grow_tree<S: Store>(
     ensures few { OnOk result (edit.new.taken ≤ 20) }
     ensures order { IfOk result (λ changed. changed.tree.order ≡ tree.now.order) }
     ensures used { IfOk result (λ changed. changed.tree.used ≡ tree.now.used + edit.new.taken) }
+    ensures spelt { AreSpelt tree.now.order edit.old.writes.items
+        → OnOk result (AreSpelt tree.now.order edit.new.writes.items) }
     ensures freed { edit.new.freed ≡ edit.old.freed }
     ensures device { pages.new.failures ≡ counted pages.old.failures (is_device result) }
     ensures unchanged { pages.new
@@ -128,18 +133,18 @@ fn grow_tree<S: Store>(
         low: None,
         high: None,
     };
-    let mut met = ArrayVec::new();
-    let grown = grow_below(
+    let mut visited = ArrayVec::new();
+    let grown = insert_below(
         pages,
         edit,
-        &mut met,
+        &mut visited,
         tree.order,
         tree.height,
         tree.root,
         &bounds,
         element,
     )?;
-    let leaf = met[met.len() - 1];
+    let leaf = visited[visited.len() - 1];
     Ok(changed_tree(pages, edit, tree, grown, leaf)?)
 }
 
@@ -157,8 +162,8 @@ fn changed_tree<S: Store>(
     requires in_use { IsSome (at pages.now.pages tree.now.root) }
     requires some_root { 0 < tree.now.root }
     requires fits { WritesFit pages.now.pages edit.old.writes.items edit.old.taken }
-    requires takes { Takes tree.now.height 0 edit.old.taken grown }
-    requires goes_up { GoesUp (record { low = None; high = None }) grown }
+    requires takes { TakesNumbers tree.now.height 0 edit.old.taken grown }
+    requires goes_up { SplitGoesUp (record { low = None; high = None }) grown }
     ensures grew { (es : List Element) (us key value : List ℕ)
         → Holds (at pages.now.pages) tree.now es us
         → Grew tree.now.order (at pages.now.pages)
@@ -173,6 +178,8 @@ fn changed_tree<S: Store>(
     ensures few { OnOk result (edit.new.taken ≤ 20) }
     ensures order { IfOk result (λ changed. changed.tree.order ≡ tree.now.order) }
     ensures used { IfOk result (λ changed. changed.tree.used ≡ tree.now.used + edit.new.taken) }
+    ensures spelt { AreSpelt tree.now.order edit.old.writes.items
+        → OnOk result (AreSpelt tree.now.order edit.new.writes.items) }
     ensures freed { edit.new.freed ≡ edit.old.freed }
 {
     match grown {
@@ -224,6 +231,8 @@ fn plant<S: Store>(
     ensures few { OnOk result (edit.new.taken ≤ 20) }
     ensures order { IfOk result (λ changed. changed.tree.order ≡ tree.now.order) }
     ensures used { IfOk result (λ changed. changed.tree.used ≡ tree.now.used + edit.new.taken) }
+    ensures spelt { AreSpelt tree.now.order edit.old.writes.items
+        → OnOk result (AreSpelt tree.now.order edit.new.writes.items) }
     ensures freed { edit.new.freed ≡ edit.old.freed }
 {
     let root = add_node(pages, edit, tree.order, &leaf_node(element))?;
@@ -269,7 +278,7 @@ fn element_of(key: Key, value: Record) -> (Key, Record)
 /// conditions are an order from 1 to 16, a height of at most 19, and a `count` and a `used` of at most
 /// 1,000,000. It reads each page of the path to the key once. Faults: Device; Damaged with the page
 /// that is not in use, spells no node of the order, is of a kind that does not fit its level, has a key
-/// that is not strictly between the bounds from all levels above, or is met twice; Damaged with the
+/// that is not strictly between the bounds from all levels above, or is visited twice; Damaged with the
 /// leaf where the tree would pass 1,000,000 records, 1,000,001 pages or 19 levels; Memory. After a
 /// fault no page has changed.
 pub fn insert<S: Store>(
@@ -291,6 +300,7 @@ pub fn insert<S: Store>(
         × (length pages.new.pages ≡ count_after pages.old.pages (r.0.used - tree.now.used))) }
     ensures changed { OnOk result (pages.new.changed ≡ true) }
     ensures order { IfOk result (λ r. r.0.order ≡ tree.now.order) }
+    ensures spelt { AreSpeltIn tree.now.order pages.old → AreSpeltIn tree.now.order pages.new }
     ensures device { pages.new.failures ≡ counted pages.old.failures (is_device result) }
     ensures err { OnErr result (pages.new
         ≡ record pages.old { reads = pages.new.reads; failures = pages.new.failures }) }

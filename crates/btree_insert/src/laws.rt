@@ -11,7 +11,7 @@ ghost use Rattle.btree_insert.specs.Elements.{elements_of, contents_at};
 ghost use Rattle.btree_insert.specs.Examples.{ax, by, cz, tree_of, three_pages, uneven_pages, shared_pages, equal_pages};
 ghost use Rattle.btree_insert.specs.Inserted.{Inserted};
 ghost use Rattle.btree_insert.specs.PageTrees.{Holds};
-ghost use Rattle.btree_insert.specs.declared.trees.Tree.{Tree};
+ghost use Rattle.btree_insert.specs.declared.tree.Tree.{Tree};
 
 /// How many keys a tree has at least and at most, by its height, and how many pages at most, by its keys.
 pub fn size_bounds()

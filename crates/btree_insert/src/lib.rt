@@ -3,17 +3,18 @@
 
 mod bounds;
 mod finding;
-mod growing;
+mod insert_below;
 mod inserting;
 pub mod laws;
 mod reading;
-mod trees;
+mod step;
+mod tree;
 mod walking;
 
 pub use bounds::{Bounds, are_within, bounds_of_son};
-pub use finding::find;
-pub use growing::{was_met, write_node};
+pub use finding::{find, look_up};
+pub use insert_below::{was_visited, write_node};
 pub use inserting::insert;
 pub use reading::{kind_of_level, read_into, read_node};
-pub use trees::{Tree, TreeFault};
+pub use tree::{Tree, TreeFault};
 pub use walking::walk;

@@ -2,14 +2,14 @@ ghost use Rattle.std.specs.Prelude.{◌≡◌, ◌+◌, ◌<◌, ◌≤◌, ◌�
 ghost use Rattle.rec_types.specs.Table.{counted};
 ghost use Rattle.page_store.specs.PageMap.{at};
 ghost use Rattle.btree_node.specs.Spelling.{spelling, CanStand};
-ghost use Rattle.btree_node.specs.declared.nodes.Node.{Node};
+ghost use Rattle.btree_node.specs.declared.node.Node.{Node};
 ghost use Rattle.btree_insert.specs.Bounds.{AreWithin};
 ghost use Rattle.btree_insert.specs.Faults.{is_device};
 ghost use Rattle.btree_insert.specs.PageTrees.{Spells, kind_of_level};
 ghost use Rattle.btree_node.specs.Layout.{greatest_order};
 
 use crate::bounds::{Bounds, are_within};
-use crate::trees::TreeFault;
+use crate::tree::TreeFault;
 use btree_node::{Node, NodeKind, decode_into};
 use page_store::{FetchFault, Pages, Store};
 

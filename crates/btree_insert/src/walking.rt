@@ -12,7 +12,7 @@ ghost use Rattle.btree_insert.specs.Sizes.{IsTree};
 
 use crate::bounds::Bounds;
 use crate::reading::{kind_of_level, read_into};
-use crate::trees::{Tree, TreeFault};
+use crate::tree::{Tree, TreeFault};
 use btree_node::Node;
 use page_store::{Pages, Store};
 use rec_types::{Key, Memory, Record};

@@ -1,8 +1,8 @@
 -- A node cut in two around one of its elements.
 use Rattle.std.specs.Prelude.{◌≡◌, ℕ, suc, ◌+◌, List, [], length, take, drop}
-use Rattle.btree_node.specs.declared.nodes.Node.{Node}
-use Rattle.btree_node.specs.declared.nodes.NodeKind.{NodeKind}
-use Rattle.btree_node.specs.declared.nodes.NodeKind.TheVariants.{Leaf, Inner}
+use Rattle.btree_node.specs.declared.node.Node.{Node}
+use Rattle.btree_node.specs.declared.node.NodeKind.{NodeKind}
+use Rattle.btree_node.specs.declared.node.NodeKind.TheVariants.{Leaf, Inner}
 
 -- a leaf has no sons, an inner node one more than keys
 abbrev pub SonsCount : NodeKind → ℕ → List ℕ → Type 0

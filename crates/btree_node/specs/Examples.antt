@@ -1,7 +1,7 @@
 -- Nodes by example: keys of one letter, each with the record v.
 use Rattle.std.specs.Prelude.{ℕ, List, [], ◌∷◌, map}
-use Rattle.btree_node.specs.declared.nodes.Node.{Node}
-use Rattle.btree_node.specs.declared.nodes.NodeKind.TheVariants.{Leaf, Inner}
+use Rattle.btree_node.specs.declared.node.Node.{Node}
+use Rattle.btree_node.specs.declared.node.NodeKind.TheVariants.{Leaf, Inner}
 use Rattle.btree_node.specs.Joined.{joined}
 use Rattle.btree_node.specs.Lists.{Element}
 

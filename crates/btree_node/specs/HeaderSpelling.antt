@@ -2,9 +2,9 @@
 use Rattle.std.specs.Prelude.{◌≡◌, ℕ, ◌^◌, ◌<◌, ◌≤◌, List, [], ◌∷◌, ◌++◌, drop, slice_index, ◌⊎◌}
 use Rattle.byteorder.specs.Endian.{big_bytes}
 use Rattle.rec_types.specs.Padded.{padded}
-use Rattle.btree_node.specs.declared.headers.Header.{Header}
-use Rattle.btree_node.specs.declared.headers.HeaderFault.{HeaderFault}
-use Rattle.btree_node.specs.declared.headers.HeaderFault.TheVariants.{BadMagic, BadVersion, BadOrder, NotClean, BadHeader}
+use Rattle.btree_node.specs.declared.header.Header.{Header}
+use Rattle.btree_node.specs.declared.header.HeaderFault.{HeaderFault}
+use Rattle.btree_node.specs.declared.header.HeaderFault.TheVariants.{BadMagic, BadVersion, BadOrder, NotClean, BadHeader}
 use Rattle.btree_node.specs.Layout.{page_width, first_version, greatest_order}
 use Rattle.btree_node.specs.Reading.{part, number_at, IsZero}
 

@@ -1,6 +1,6 @@
 -- Two nodes and the element between them, as one node of any length.
 use Rattle.std.specs.Prelude.{◌≡◌, ℕ, ◌+◌, ◌/◌, ◌∷◌, ◌++◌, length}
-use Rattle.btree_node.specs.declared.nodes.Node.{Node}
+use Rattle.btree_node.specs.declared.node.Node.{Node}
 use Rattle.btree_node.specs.Lists.{Element, Ascends}
 use Rattle.btree_node.specs.Spelling.{SonsFit}
 
@@ -16,7 +16,7 @@ joined left middle right = record {
 abbrev pub keys_of_both : Node → Node → ℕ
 keys_of_both left right = length left.elements.items + length right.elements.items
 
--- how many keys the left of two levelled nodes has
+-- how many keys the left of two distributed nodes has
 abbrev pub half_of_both : Node → Node → ℕ
 half_of_both left right = keys_of_both left right / 2
 

@@ -1,6 +1,6 @@
 -- Where the parts of a node page stand.
 use Rattle.std.specs.Prelude.{ℕ, ◌+◌, ◌*◌, ◌≤◌}
-use Rattle.btree_node.specs.declared.layouts.Layout.{Layout}
+use Rattle.btree_node.specs.declared.layout.Layout.{Layout}
 
 -- the layout of the first file version: records of up to 32 bytes
 abbrev pub first_layout : Layout

@@ -3,10 +3,10 @@ use Rattle.std.specs.Prelude.{◌≡◌, ℕ, ◌+◌, ◌*◌, ◌^◌, ◌<◌
 use Rattle.std.specs.List.{flat_map}
 use Rattle.byteorder.specs.Endian.{big_bytes}
 use Rattle.rec_types.specs.Padded.{padded}
-use Rattle.btree_node.specs.declared.layouts.Layout.{Layout}
-use Rattle.btree_node.specs.declared.nodes.Node.{Node}
-use Rattle.btree_node.specs.declared.nodes.NodeKind.{NodeKind}
-use Rattle.btree_node.specs.declared.nodes.NodeKind.TheVariants.{Leaf, Inner}
+use Rattle.btree_node.specs.declared.layout.Layout.{Layout}
+use Rattle.btree_node.specs.declared.node.Node.{Node}
+use Rattle.btree_node.specs.declared.node.NodeKind.{NodeKind}
+use Rattle.btree_node.specs.declared.node.NodeKind.TheVariants.{Leaf, Inner}
 use Rattle.btree_node.specs.Layout.{first_layout, page_width, key_width, sons_start}
 use Rattle.btree_node.specs.Lists.{Element, Each, Ascends}
 
@@ -70,3 +70,11 @@ pub record CanStandIn (layout : Layout) (n : Node) (k : ℕ) : Type 0 where
 -- a node that a page of order k can hold: 1 to 2k ascending keys, with sons if it is an inner one
 abbrev pub CanStand : Node → ℕ → Type 0
 CanStand n k = CanStandIn first_layout n k
+
+-- the page spells some node of the order
+abbrev pub IsSpelt : ℕ → List ℕ → Type 0
+IsSpelt k page = (node : Node) × CanStand node k × (page ≡ spelling node k)
+
+-- each page that is written spells a node of the order
+abbrev pub AreSpelt : ℕ → List (ℕ × List ℕ) → Type 0
+AreSpelt k writes = Each (λ w. IsSpelt k w.1) writes

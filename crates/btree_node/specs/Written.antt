@@ -1,7 +1,7 @@
 -- How the bytes written so far lie in a page.
 use Rattle.std.specs.Prelude.{◌≡◌, ℕ, ◌≤◌, List, length, take}
 use Rattle.rec_types.specs.Padded.{padded}
-use Rattle.btree_node.specs.declared.writing.PageWriter.TheInside.{Inside}
+use Rattle.btree_node.specs.declared.page_writer.PageWriter.TheInside.{Inside}
 
 abbrev pub written : Inside → List ℕ
 written w = take w.at w.page

@@ -3,14 +3,14 @@ ghost use Rattle.btree_node.specs.Layout.{key_width, record_at, place_width, son
 ghost use Rattle.btree_node.specs.Lists.{Below, Ascends};
 ghost use Rattle.btree_node.specs.Spelling.{spelling, spelling_in, CanStand, CanStandIn};
 ghost use Rattle.btree_node.specs.Reading.{kind_at, count_at, place_at, element_in, elements_at, son_at, sons_at, sons_of_kind, kind_read, node_at, key_length, record_length, KeyLengths, RecordLengths, PassesBefore, FirstFault, FirstFaultIn};
-ghost use Rattle.btree_node.specs.declared.nodes.Node.{Node};
-ghost use Rattle.btree_node.specs.declared.nodes.NodeFault.TheVariants.{NotZero};
+ghost use Rattle.btree_node.specs.declared.node.Node.{Node};
+ghost use Rattle.btree_node.specs.declared.node.NodeFault.TheVariants.{NotZero};
 
-use crate::accepting::read_first;
 use crate::encoding::spell;
-use crate::layouts::{FIRST_LAYOUT, KEY_WIDTH, Layout, RECORD_AT, SON_WIDTH};
-use crate::nodes::{Node, NodeFault, NodeKind};
-use crate::parts::{part_of, u16_of, u32_of};
+use crate::layout::{FIRST_LAYOUT, KEY_WIDTH, Layout, RECORD_AT, SON_WIDTH};
+use crate::node::{Node, NodeFault, NodeKind};
+use crate::part::{part_of, u16_of, u32_of};
+use crate::read_first::read_first;
 use arrayvec::ArrayVec;
 use rec_types::{Key, Record};
 
@@ -124,6 +124,7 @@ fn node_of(layout: Layout, page: &[u8; 4096], k: u16) -> Result<Node, NodeFault>
     })
 }
 
+/// The kind of page that its first byte names.
 #[tactic(auto, unfolding(crate::specs::Reading::kind_at))]
 pub(crate) fn kind_of(page: &[u8; 4096]) -> Option<NodeKind>
     ensures { result ≡ kind_at page.now }
@@ -135,12 +136,14 @@ pub(crate) fn kind_of(page: &[u8; 4096]) -> Option<NodeKind>
     }
 }
 
+/// The number of keys that its head names.
 pub(crate) fn count_of(page: &[u8; 4096]) -> usize
     ensures { result ≡ count_at page.now }
 {
     u16_of(page, 2) as usize
 }
 
+/// Whether a page of the order may have so many keys.
 pub(crate) fn count_fits(count: usize, k: u16) -> bool
     requires { k ≤ 16 }
     ensures { IsTrue result ↔ ((0 < count) × (count ≤ 2 * k)) }
@@ -148,6 +151,7 @@ pub(crate) fn count_fits(count: usize, k: u16) -> bool
     0 < count && count <= 2 * k as usize
 }
 
+/// The bytes of place i.
 pub(crate) fn place_of_page(layout: Layout, page: &[u8; 4096], i: usize) -> &[u8]
     requires width { layout.record_width ≤ widest_record }
     requires index { i < 32 }
@@ -227,6 +231,7 @@ pub(crate) fn ascends(elements: &[(Key, Record)]) -> bool
     true
 }
 
+/// Whether a key is below another.
 #[tactic(auto, unfolding(crate::specs::Lists::Below))]
 pub(crate) fn is_below(low: &Key, high: &Key) -> bool
     ensures { IsTrue result ↔ Below low.now high.now }

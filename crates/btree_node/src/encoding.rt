@@ -5,9 +5,9 @@ ghost use Rattle.btree_node.specs.Layout.{place_width, widest_record};
 ghost use Rattle.btree_node.specs.Lists.{Each};
 ghost use Rattle.btree_node.specs.Spelling.{head, place, sons_bytes, spelling, spelling_in, ElementFits, CanStand, CanStandIn};
 
-use crate::layouts::{FIRST_LAYOUT, KEY_WIDTH, Layout};
-use crate::nodes::{Node, NodeKind};
-use crate::writing::PageWriter;
+use crate::layout::{FIRST_LAYOUT, KEY_WIDTH, Layout};
+use crate::node::{Node, NodeKind};
+use crate::page_writer::PageWriter;
 use rec_types::{Key, Record};
 
 /// The one page that spells the node, for a tree of order `k`.
@@ -20,7 +20,7 @@ pub fn encode(node: &Node, k: u16) -> [u8; 4096]
 }
 
 /// Writes the page that spells the node in a layout.
-#[tactic(auto, using(crate::proofs::OrderFacts::sons_most), unfolding(crate::specs::Spelling::spelling_in))]
+#[tactic(auto, using(crate::proofs::ElementOrderLemmas::sons_most), unfolding(crate::specs::Spelling::spelling_in))]
 pub fn spell(layout: Layout, node: &Node, k: u16) -> PageWriter
     requires width { layout.record_width ≤ widest_record }
     requires order { k ≤ 16 }

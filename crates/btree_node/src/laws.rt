@@ -7,8 +7,8 @@ ghost use Rattle.btree_node.specs.Joined.{joined, half_of_both};
 ghost use Rattle.btree_node.specs.Lists.{Element};
 ghost use Rattle.btree_node.specs.Spelling.{spelling, CanStand};
 ghost use Rattle.btree_node.specs.HeaderSpelling.{header_spelling, HeaderFits};
-ghost use Rattle.btree_node.specs.declared.headers.Header.{Header};
-ghost use Rattle.btree_node.specs.declared.nodes.Node.{Node};
+ghost use Rattle.btree_node.specs.declared.header.Header.{Header};
+ghost use Rattle.btree_node.specs.declared.node.Node.{Node};
 
 /// A page spells at most one node of an order: nodes that can stand in a page and have one spelling are
 /// equal.

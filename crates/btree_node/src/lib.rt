@@ -1,28 +1,30 @@
 //! The pages of a record file: node pages, and the header page.
 #![tactic(auto)]
 
-mod accepting;
+mod brothers;
 mod decoding;
 mod encoding;
-mod header_pages;
-mod headers;
+mod header;
+mod header_page;
 pub mod laws;
-mod layouts;
-mod mending;
-mod nodes;
-mod parts;
+mod layout;
+mod node;
+mod page_writer;
+mod part;
+mod read_first;
 mod searching;
+mod spelt;
 mod splitting;
 #[cfg(test)]
 mod tests;
-mod writing;
 
+pub use brothers::{catenate, distribute};
 pub use decoding::{decode, decode_into};
 pub use encoding::encode;
-pub use header_pages::{read_header, write_header};
-pub use headers::{Header, HeaderFault};
-pub use layouts::{KEY_WIDTH, RECORD_WIDTH};
-pub use mending::{catenate, distribute};
-pub use nodes::{Node, NodeFault, NodeKind};
+pub use header::{Header, HeaderFault};
+pub use header_page::{read_header, write_header};
+pub use layout::{KEY_WIDTH, RECORD_WIDTH};
+pub use node::{Node, NodeFault, NodeKind};
 pub use searching::place_of;
+pub use spelt::{count_in, key_in, kind_in, place_in, record_in, son_in};
 pub use splitting::split;

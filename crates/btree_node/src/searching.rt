@@ -1,7 +1,7 @@
 ghost use Rattle.std.specs.Prelude.{◌<◌, ◌≤◌, length, MatchResult};
 ghost use Rattle.btree_node.specs.Lists.{Ascends, IsAt, IsPlace};
 
-use crate::nodes::Node;
+use crate::node::Node;
 use rec_types::{Key, Record};
 use std::cmp::Ordering;
 

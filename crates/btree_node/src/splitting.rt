@@ -2,7 +2,7 @@ ghost use Rattle.std.specs.Prelude.{◌≡◌, ◌+◌, ◌*◌, ◌≤◌, leng
 ghost use Rattle.btree_node.specs.Cut.{SonsCount, left_of, right_of};
 ghost use Rattle.btree_node.specs.Lists.{Element};
 
-use crate::nodes::Node;
+use crate::node::Node;
 use arrayvec::ArrayVec;
 use rec_types::{Key, Record};
 

@@ -3,7 +3,7 @@ ghost use Rattle.btree_node.specs.Joined.{AreBrothers};
 ghost use Rattle.btree_node.specs.Spelling.{SonsFit, CanStand};
 
 use crate::decoding::{ascends, sons_stand};
-use crate::layouts::{KEY_WIDTH, RECORD_WIDTH};
+use crate::layout::{KEY_WIDTH, RECORD_WIDTH};
 use crate::{
     Header, HeaderFault, Node, NodeFault, NodeKind, catenate, decode, decode_into, distribute,
     encode, place_of, read_header, split, write_header,
@@ -327,7 +327,7 @@ fn catenated(rt: &impl Abort, left: Node, middle: u8, right: Node, k: u16) -> Re
     Ok(catenate(left, middle, right, k))
 }
 
-/// Two brothers of order `k`, levelled.
+/// Two brothers of order `k`, distributed.
 fn distributed(
     rt: &impl Abort,
     left: Node,
@@ -363,7 +363,7 @@ fn inner_nodes_are_catenated(rt: HostRuntime) -> Result<(), Fail> {
 }
 
 #[test]
-fn leaves_are_levelled(rt: HostRuntime) -> Result<(), Fail> {
+fn leaves_are_distributed(rt: HostRuntime) -> Result<(), Fail> {
     let (left, up, right) = distributed(&rt, leaf_of(&rt, b"b")?, b'c', leaf_of(&rt, b"defg")?, 2)?;
     assert_eq!(rt; left, leaf_of(&rt, b"bc")?);
     assert_eq!(rt; up, element(b"d", b"v")?);
@@ -380,7 +380,7 @@ fn leaves_are_levelled(rt: HostRuntime) -> Result<(), Fail> {
 }
 
 #[test]
-fn inner_nodes_are_levelled(rt: HostRuntime) -> Result<(), Fail> {
+fn inner_nodes_are_distributed(rt: HostRuntime) -> Result<(), Fail> {
     let short = inner_of(&rt, b"", &[1])?;
     let full = inner_of(&rt, b"cd", &[2, 3, 4])?;
     let (left, up, right) = distributed(&rt, short, b'b', full, 1)?;

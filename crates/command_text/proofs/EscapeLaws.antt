@@ -10,11 +10,11 @@ use Rattle.percent_encoding.specs.declared.ascii_set.AsciiSet.{AsciiSet}
 use Rattle.percent_encoding.specs.AsciiSet.{should_percent_encode}
 use Rattle.percent_encoding.specs.Percent.{is_escape, percent_decode, percent_encode_byte}
 use Rattle.percent_encoding.proofs.PercentLemmas.{round_trip}
-use Rattle.rec_types.specs.declared.keys.KeyFault.TheVariants.{Empty, TooLong}
-use Rattle.command_text.specs.declared.commands.LineFault.TheVariants.{KeyTooLong}
+use Rattle.rec_types.specs.declared.key.KeyFault.TheVariants.{Empty, TooLong}
+use Rattle.command_text.specs.declared.command.LineFault.TheVariants.{KeyTooLong}
 use Rattle.command_text.specs.Grammar.{is_word, or_fault, key_at}
 use Rattle.command_text.specs.Texts.{is_plain, escaped_byte, escaped}
-use Rattle.command_text.proofs.EscapeFacts.{percent_encode-escaped, both}
+use Rattle.command_text.proofs.EscapeLemmas.{percent_encode-escaped, both}
 
 -- the bytes 0 to 32, 37 and 127
 abbrev escapes_set : AsciiSet
@@ -25,6 +25,7 @@ small_at [] small i = omega arith
 small_at (b ∷ bs) small zero = All-head (λ x. x < 256) b bs small
 small_at (b ∷ bs) small (suc i) = small_at bs (All-tail (λ x. x < 256) b bs small) i
 
+-- what is written of bytes is read again as the same bytes
 pub read_back : (bytes : List ℕ) → All (λ b. b < 256) bytes → percent_decode (escaped bytes) ≡ bytes
 unfolding should_percent_encode
 read_back bytes small = subst (λ (text : List ℕ). percent_decode text ≡ bytes) (percent_encode-escaped escapes_set refl bytes (small_at bytes small)) (round_trip escapes_set bytes refl small)
@@ -49,6 +50,7 @@ plain_byte (suc n) all b lt =
           subst (λ (x : ℕ). list_all is_plain (escaped_byte x) ≡ true) here parts.0
     ]
 
+-- what is written of bytes is plain text
 pub plain : (bytes : List ℕ) → All (λ b. b < 256) bytes → list_all is_plain (escaped bytes) ≡ true
 unfolding escaped
 plain [] small = refl
@@ -68,6 +70,7 @@ some_byte b (high ∷ low ∷ rest) = at (is_escape b high low)
     at true = not_zero (length (percent_decode rest))
     at false = not_zero (length (percent_decode (high ∷ low ∷ rest)))
 
+-- a word is a key but where it stands for more than 16 bytes
 pub key_of_word : (word : List ℕ) → is_word word ≡ true → key_at word ≡ cond (nat_lt 16 (length (percent_decode word))) (Err KeyTooLong) (Ok (percent_decode word))
 key_of_word [] is = absurd (cc)
 key_of_word (b ∷ bs) is = at (length (percent_decode (b ∷ bs)) == 0) (nat_lt 16 (length (percent_decode (b ∷ bs)))) (some_byte b bs)

@@ -1,6 +1,6 @@
-pub mod CutFacts
-pub mod WordFacts
-pub mod NumberFacts
-pub mod EscapeFacts
+pub mod TextCutLemmas
+pub mod WordLemmas
+pub mod NumberLemmas
+pub mod EscapeLemmas
 pub mod EscapeLaws
-pub mod PlainFacts
+pub mod PlainLemmas

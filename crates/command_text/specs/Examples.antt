@@ -1,7 +1,7 @@
 -- Values by example.
 use Rattle.std.specs.Prelude.{ℕ, [], ◌∷◌, Some, None, codes}
-use Rattle.rec_types.specs.declared.transactions.TxId.{TxId}
-use Rattle.rec_types.specs.declared.transactions.Entry.{Entry}
+use Rattle.rec_types.specs.declared.transaction.TxId.{TxId}
+use Rattle.rec_types.specs.declared.transaction.Entry.{Entry}
 
 abbrev pub tx : ℕ → TxId
 tx n = record { 0 = n }

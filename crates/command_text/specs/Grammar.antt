@@ -6,11 +6,11 @@ use Rattle.std.specs.Io.BufRead.{strip_last}
 use Rattle.percent_encoding.specs.Percent.{percent_decode}
 use Rattle.rec_types.specs.Key.{key_of}
 use Rattle.rec_types.specs.Record.{record_of}
-use Rattle.rec_types.specs.declared.transactions.TxId.{TxId}
-use Rattle.command_text.specs.declared.commands.Command.{Command}
-use Rattle.command_text.specs.declared.commands.Command.TheVariants as command
-use Rattle.command_text.specs.declared.commands.LineFault.{LineFault}
-use Rattle.command_text.specs.declared.commands.LineFault.TheVariants.{UnknownCommand, WordCount, BadNumber, KeyTooLong, NoRecordMark, RecordTooLong}
+use Rattle.rec_types.specs.declared.transaction.TxId.{TxId}
+use Rattle.command_text.specs.declared.command.Command.{Command}
+use Rattle.command_text.specs.declared.command.Command.TheVariants as command
+use Rattle.command_text.specs.declared.command.LineFault.{LineFault}
+use Rattle.command_text.specs.declared.command.LineFault.TheVariants.{UnknownCommand, WordCount, BadNumber, KeyTooLong, NoRecordMark, RecordTooLong}
 
 abbrev pub is_space : ℕ → Bool
 is_space b = b == 32
@@ -93,8 +93,8 @@ abbrev pub alone : List (List ℕ) → Command → Read Command
 alone [] c = Ok c
 alone (word ∷ words) c = Err WordCount
 
-abbrev pub tx_of : List (List ℕ) → Read TxId
-tx_of words = one_of words >>= tx_at
+abbrev pub tx_of_word : List (List ℕ) → Read TxId
+tx_of_word words = one_of words >>= tx_at
 
 abbrev pub tx_number_of : List (List ℕ) → Read (TxId × ℕ)
 tx_number_of words = two_of words >>= λ w. tx_at w.0 >>= λ t. number_at w.1 >>= λ n. Ok (t, n)
@@ -115,19 +115,19 @@ is_text a b = pointwise ◌==◌ a b
 unfoldable pub file_command_of : List ℕ → List (List ℕ) → Read Command
 file_command_of name words =
     if is_text name (codes "list") then alone words command.List
-    else (if is_text name (codes "keys") then read_as command.Keys (tx_of words)
+    else (if is_text name (codes "keys") then read_as command.Keys (tx_of_word words)
     else (if is_text name (codes "log") then alone words command.Log
     else Err UnknownCommand))
 
 unfoldable pub tx_command_of : List ℕ → List (List ℕ) → Read Command
 tx_command_of name words =
     if is_text name (codes "begin") then alone words command.Begin
-    else (if is_text name (codes "save") then read_as command.Save (tx_of words)
+    else (if is_text name (codes "save") then read_as command.Save (tx_of_word words)
     else (if is_text name (codes "release") then read_as (λ a. command.Release a.0 a.1) (tx_number_of words)
     else (if is_text name (codes "back") then read_as (λ a. command.Back a.0 a.1) (tx_number_of words)
-    else (if is_text name (codes "resume") then read_as command.Resume (tx_of words)
-    else (if is_text name (codes "abort") then read_as command.Abort (tx_of words)
-    else (if is_text name (codes "commit") then read_as command.Commit (tx_of words)
+    else (if is_text name (codes "resume") then read_as command.Resume (tx_of_word words)
+    else (if is_text name (codes "abort") then read_as command.Abort (tx_of_word words)
+    else (if is_text name (codes "commit") then read_as command.Commit (tx_of_word words)
     else file_command_of name words))))))
 
 unfoldable pub command_of : List ℕ → List (List ℕ) → Read Command

@@ -1,31 +1,31 @@
 -- Which refusal, or which stop, each fault of a call is.
-use Rattle.tx_log.specs.declared.phases.BeginFault.{BeginFault}
-use Rattle.tx_log.specs.declared.phases.BeginFault.TheVariants as begin_faults
-use Rattle.record_file.specs.declared.faults.Cause.TheVariants as causes
-use Rattle.record_file.specs.declared.faults.PutFault.{PutFault}
-use Rattle.record_file.specs.declared.faults.PutFault.TheVariants as put_faults
-use Rattle.record_file.specs.declared.faults.RemoveFault.{RemoveFault}
-use Rattle.record_file.specs.declared.faults.RemoveFault.TheVariants as remove_faults
-use Rattle.record_file.specs.declared.faults.GetFault.{GetFault}
-use Rattle.record_file.specs.declared.faults.GetFault.TheVariants as get_faults
-use Rattle.record_file.specs.declared.faults.SavepointFault.{SavepointFault}
-use Rattle.record_file.specs.declared.faults.SavepointFault.TheVariants as savepoint_faults
-use Rattle.record_file.specs.declared.faults.ReleaseFault.{ReleaseFault}
-use Rattle.record_file.specs.declared.faults.ReleaseFault.TheVariants as release_faults
-use Rattle.record_file.specs.declared.faults.RollbackToFault.{RollbackToFault}
-use Rattle.record_file.specs.declared.faults.RollbackToFault.TheVariants as rollback_faults
-use Rattle.record_file.specs.declared.faults.AbortFault.{AbortFault}
-use Rattle.record_file.specs.declared.faults.AbortFault.TheVariants as abort_faults
-use Rattle.record_file.specs.declared.faults.ResumeFault.{ResumeFault}
-use Rattle.record_file.specs.declared.faults.ResumeFault.TheVariants as resume_faults
-use Rattle.record_file.specs.declared.faults.CommitFault.{CommitFault}
-use Rattle.record_file.specs.declared.faults.CommitFault.TheVariants as commit_faults
-use Rattle.record_file.specs.declared.faults.EntriesFault.{EntriesFault}
-use Rattle.record_file.specs.declared.faults.EntriesFault.TheVariants as entries_faults
-use Rattle.record_file.specs.declared.faults.KeysOfFault.{KeysOfFault}
-use Rattle.record_file.specs.declared.faults.KeysOfFault.TheVariants as keys_faults
-use Rattle.command_text.specs.declared.refusals.Refusal.{Refusal}
-use Rattle.command_text.specs.declared.refusals.Refusal.TheVariants as refusals
+use Rattle.tx_log.specs.declared.phase.BeginFault.{BeginFault}
+use Rattle.tx_log.specs.declared.phase.BeginFault.TheVariants as begin_faults
+use Rattle.record_file.specs.declared.fault.Cause.TheVariants as causes
+use Rattle.record_file.specs.declared.fault.PutFault.{PutFault}
+use Rattle.record_file.specs.declared.fault.PutFault.TheVariants as put_faults
+use Rattle.record_file.specs.declared.fault.RemoveFault.{RemoveFault}
+use Rattle.record_file.specs.declared.fault.RemoveFault.TheVariants as remove_faults
+use Rattle.record_file.specs.declared.fault.GetFault.{GetFault}
+use Rattle.record_file.specs.declared.fault.GetFault.TheVariants as get_faults
+use Rattle.record_file.specs.declared.fault.SavepointFault.{SavepointFault}
+use Rattle.record_file.specs.declared.fault.SavepointFault.TheVariants as savepoint_faults
+use Rattle.record_file.specs.declared.fault.ReleaseFault.{ReleaseFault}
+use Rattle.record_file.specs.declared.fault.ReleaseFault.TheVariants as release_faults
+use Rattle.record_file.specs.declared.fault.RollbackToFault.{RollbackToFault}
+use Rattle.record_file.specs.declared.fault.RollbackToFault.TheVariants as rollback_faults
+use Rattle.record_file.specs.declared.fault.AbortFault.{AbortFault}
+use Rattle.record_file.specs.declared.fault.AbortFault.TheVariants as abort_faults
+use Rattle.record_file.specs.declared.fault.ResumeFault.{ResumeFault}
+use Rattle.record_file.specs.declared.fault.ResumeFault.TheVariants as resume_faults
+use Rattle.record_file.specs.declared.fault.CommitFault.{CommitFault}
+use Rattle.record_file.specs.declared.fault.CommitFault.TheVariants as commit_faults
+use Rattle.record_file.specs.declared.fault.EntriesFault.{EntriesFault}
+use Rattle.record_file.specs.declared.fault.EntriesFault.TheVariants as entries_faults
+use Rattle.record_file.specs.declared.fault.KeysOfFault.{KeysOfFault}
+use Rattle.record_file.specs.declared.fault.KeysOfFault.TheVariants as keys_faults
+use Rattle.command_text.specs.declared.refusal.Refusal.{Refusal}
+use Rattle.command_text.specs.declared.refusal.Refusal.TheVariants as refusals
 
 abbrev pub begin_refusal : BeginFault → Refusal
 begin_refusal begin_faults.BeginsSpent = refusals.BeginsSpent

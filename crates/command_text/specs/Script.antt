@@ -1,7 +1,7 @@
 -- The lines of a script, and what they say.
 use Rattle.std.specs.Prelude.{ℕ, Bool, ◌==◌, if◌then◌else◌, List, [], ◌∷◌, Option, Some, None, Ok, Err}
 use Rattle.std.specs.List.{slice_split}
-use Rattle.command_text.specs.declared.commands.Command.{Command}
+use Rattle.command_text.specs.declared.command.Command.{Command}
 use Rattle.command_text.specs.Grammar.{Read, is_word, line_of}
 
 abbrev pub is_lf : ℕ → Bool

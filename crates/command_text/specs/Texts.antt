@@ -3,16 +3,16 @@ use Rattle.std.specs.Prelude.{ℕ, Bool, ◌&&◌, ◌||◌, ◌==◌, nat_le, i
 use Rattle.std.specs.List.{flat_map}
 use Rattle.std.specs.Fmt.{decimal}
 use Rattle.percent_encoding.specs.Percent.{percent_encode_byte}
-use Rattle.rec_types.specs.declared.transactions.TxId.{TxId}
-use Rattle.rec_types.specs.declared.transactions.Entry.{Entry}
-use Rattle.record_file.specs.declared.faults.Cause.{Cause}
-use Rattle.record_file.specs.declared.faults.Cause.TheVariants as causes
-use Rattle.command_text.specs.declared.commands.LineFault.{LineFault}
-use Rattle.command_text.specs.declared.commands.LineFault.TheVariants as line_faults
-use Rattle.command_text.specs.declared.refusals.Refusal.{Refusal}
-use Rattle.command_text.specs.declared.refusals.Refusal.TheVariants as refusals
-use Rattle.command_text.specs.declared.replies.Reply.{Reply}
-use Rattle.command_text.specs.declared.replies.Reply.TheVariants as reply
+use Rattle.rec_types.specs.declared.transaction.TxId.{TxId}
+use Rattle.rec_types.specs.declared.transaction.Entry.{Entry}
+use Rattle.record_file.specs.declared.fault.Cause.{Cause}
+use Rattle.record_file.specs.declared.fault.Cause.TheVariants as causes
+use Rattle.command_text.specs.declared.command.LineFault.{LineFault}
+use Rattle.command_text.specs.declared.command.LineFault.TheVariants as line_faults
+use Rattle.command_text.specs.declared.refusal.Refusal.{Refusal}
+use Rattle.command_text.specs.declared.refusal.Refusal.TheVariants as refusals
+use Rattle.command_text.specs.declared.reply.Reply.{Reply}
+use Rattle.command_text.specs.declared.reply.Reply.TheVariants as reply
 use Rattle.command_text.specs.Refusals.{begin_refusal, put_refusal, remove_refusal, get_refusal, savepoint_refusal, release_refusal, rollback_refusal, abort_refusal, resume_refusal, commit_refusal, entries_refusal, keys_refusal}
 
 -- the bytes 0 to 32, `%`, and those from 127 on are written as `%` and two upper case hexadecimal digits

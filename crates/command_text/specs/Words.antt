@@ -2,7 +2,7 @@
 use Rattle.std.specs.Prelude.{◌≡◌, ℕ, Bool, false, ◌==◌, List, [], ◌∷◌}
 use Rattle.rec_types.specs.Key.{key_of}
 use Rattle.rec_types.specs.Record.{record_of}
-use Rattle.command_text.specs.declared.commands.LineFault.TheVariants.{KeyTooLong, RecordTooLong}
+use Rattle.command_text.specs.declared.command.LineFault.TheVariants.{KeyTooLong, RecordTooLong}
 use Rattle.command_text.specs.Grammar.{Read, or_fault, is_space}
 
 -- nothing, or a byte first that is no space

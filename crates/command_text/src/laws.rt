@@ -2,16 +2,16 @@
 ghost use Rattle.std.specs.Prelude.{◌≡◌, ◌≢◌, ℕ, ◌<◌, true, List, [], ◌∷◌, ◌++◌, length, nat_lt, if◌then◌else◌, Some, None, Ok, Err, codes};
 ghost use Rattle.std.specs.List.{All, list_all};
 ghost use Rattle.percent_encoding.specs.Percent.{percent_decode};
-ghost use Rattle.record_file.specs.declared.faults.Cause.TheVariants as causes;
-ghost use Rattle.record_file.specs.declared.faults.PutFault.TheVariants as put_faults;
-ghost use Rattle.record_file.specs.declared.faults.RollbackToFault.TheVariants as rollback_faults;
+ghost use Rattle.record_file.specs.declared.fault.Cause.TheVariants as causes;
+ghost use Rattle.record_file.specs.declared.fault.PutFault.TheVariants as put_faults;
+ghost use Rattle.record_file.specs.declared.fault.RollbackToFault.TheVariants as rollback_faults;
 ghost use Rattle.command_text.specs.Examples.{tx, owned, free};
 ghost use Rattle.command_text.specs.Grammar.{is_word, words_of, key_at, line_of};
 ghost use Rattle.command_text.specs.Script.{lines_of, entries_of};
 ghost use Rattle.command_text.specs.Texts.{escaped, is_plain, text_of, texts_of};
-ghost use Rattle.command_text.specs.declared.commands.Command.TheVariants as command;
-ghost use Rattle.command_text.specs.declared.commands.LineFault.TheVariants as faults;
-ghost use Rattle.command_text.specs.declared.replies.Reply.TheVariants as reply;
+ghost use Rattle.command_text.specs.declared.command.Command.TheVariants as command;
+ghost use Rattle.command_text.specs.declared.command.LineFault.TheVariants as faults;
+ghost use Rattle.command_text.specs.declared.reply.Reply.TheVariants as reply;
 
 /// The lines of a script by example: cut at each LF, and nothing after the last one is no line.
 pub fn lines_by_example()

@@ -1,16 +1,16 @@
 //! The command language: what a script line says, and how replies are written.
 #![tactic(auto)]
 
-mod arguments;
-mod commands;
+mod argument;
+mod command;
 pub mod laws;
-mod lists;
+mod list;
 mod reading;
-mod refusals;
-mod replies;
-mod words;
+mod refusal;
+mod reply;
+mod word;
 
-pub use commands::{Command, LineFault};
-pub use lists::{EntryList, KeyList};
+pub use command::{Command, LineFault};
+pub use list::{EntryList, KeyList};
 pub use reading::read_line;
-pub use replies::{Reply, write_reply};
+pub use reply::{Reply, write_reply};

@@ -1,9 +1,9 @@
 ghost use Rattle.std.specs.Prelude.{◌≡◌, Some};
-ghost use Rattle.command_text.specs.Grammar.{words_of, tx_of, tx_number_of, tx_key_of, tx_key_record_of, file_command_of, tx_command_of, command_of, line_of, read_as};
-ghost use Rattle.command_text.specs.declared.commands.Command.TheVariants as commands;
+ghost use Rattle.command_text.specs.Grammar.{words_of, tx_of_word, tx_number_of, tx_key_of, tx_key_record_of, file_command_of, tx_command_of, command_of, line_of, read_as};
+ghost use Rattle.command_text.specs.declared.command.Command.TheVariants as commands;
 
-use crate::arguments::{key_at, number_at, record_at, tx_at};
-use crate::words::{alone, next_word, one_word, three_words, two_words};
+use crate::argument::{key_at, number_at, record_at, tx_at};
+use crate::word::{alone, next_word, one_word, three_words, two_words};
 use crate::{Command, LineFault};
 use rec_types::{Key, TxId};
 
@@ -11,7 +11,7 @@ use rec_types::{Key, TxId};
 // and then those of the arguments from left to right.
 #[inline(never)]
 fn tx(text: &[u8]) -> Result<TxId, LineFault>
-    ensures { result ≡ tx_of (words_of text.now) }
+    ensures { result ≡ tx_of_word (words_of text.now) }
 {
     tx_at(one_word(text)?)
 }
@@ -36,7 +36,7 @@ fn tx_key(text: &[u8]) -> Result<(TxId, Key), LineFault>
 #[inline(never)]
 fn save(rest: &[u8]) -> Result<Option<Command>, LineFault>
     ensures { result
-        ≡ read_as Some (read_as commands.Save (tx_of (words_of rest.now))) }
+        ≡ read_as Some (read_as commands.Save (tx_of_word (words_of rest.now))) }
 {
     Ok(Some(Command::Save(tx(rest)?)))
 }
@@ -44,7 +44,7 @@ fn save(rest: &[u8]) -> Result<Option<Command>, LineFault>
 #[inline(never)]
 fn resume(rest: &[u8]) -> Result<Option<Command>, LineFault>
     ensures { result
-        ≡ read_as Some (read_as commands.Resume (tx_of (words_of rest.now))) }
+        ≡ read_as Some (read_as commands.Resume (tx_of_word (words_of rest.now))) }
 {
     Ok(Some(Command::Resume(tx(rest)?)))
 }
@@ -52,7 +52,7 @@ fn resume(rest: &[u8]) -> Result<Option<Command>, LineFault>
 #[inline(never)]
 fn abort(rest: &[u8]) -> Result<Option<Command>, LineFault>
     ensures { result
-        ≡ read_as Some (read_as commands.Abort (tx_of (words_of rest.now))) }
+        ≡ read_as Some (read_as commands.Abort (tx_of_word (words_of rest.now))) }
 {
     Ok(Some(Command::Abort(tx(rest)?)))
 }
@@ -60,7 +60,7 @@ fn abort(rest: &[u8]) -> Result<Option<Command>, LineFault>
 #[inline(never)]
 fn commit(rest: &[u8]) -> Result<Option<Command>, LineFault>
     ensures { result
-        ≡ read_as Some (read_as commands.Commit (tx_of (words_of rest.now))) }
+        ≡ read_as Some (read_as commands.Commit (tx_of_word (words_of rest.now))) }
 {
     Ok(Some(Command::Commit(tx(rest)?)))
 }
@@ -68,7 +68,7 @@ fn commit(rest: &[u8]) -> Result<Option<Command>, LineFault>
 #[inline(never)]
 fn keys(rest: &[u8]) -> Result<Option<Command>, LineFault>
     ensures { result
-        ≡ read_as Some (read_as commands.Keys (tx_of (words_of rest.now))) }
+        ≡ read_as Some (read_as commands.Keys (tx_of_word (words_of rest.now))) }
 {
     Ok(Some(Command::Keys(tx(rest)?)))
 }

@@ -37,9 +37,11 @@ free_number (page ∷ pages) i below =
     let here : IsFreeNumber (page ∷ pages) (suc found.0) = record { some = omega arith; below = omega (arith, found.1); free = found.3 } in
     subst (IsFreeNumber (page ∷ pages)) is here
 
+-- the first candidates are the free numbers
 pub candidate_low : (pages : List (Option (List ℕ))) (i : ℕ) → i < length (free_numbers pages) → candidate pages i ≡ get_or (free_numbers pages) i 0
 candidate_low pages i below = grind (arith, nat_tests)
 
+-- the others count on from the page count
 pub candidate_high : (pages : List (Option (List ℕ))) (i : ℕ) → length (free_numbers pages) ≤ i → candidate pages i ≡ length pages + (i - length (free_numbers pages))
 candidate_high pages i past = grind (arith, nat_tests)
 
@@ -50,6 +52,7 @@ candidate_is_free pages i =
     (λ (high : length (free_numbers pages) ≤ i). ap (at pages) (candidate_high pages i high) ∙ get_or_past pages _ None (omega arith))
     (cases_lt i (length (free_numbers pages)))
 
+-- no candidate is 0
 pub candidate_is_some : (pages : List (Option (List ℕ))) (i : ℕ) → 1 ≤ length pages → 1 ≤ candidate pages i
 candidate_is_some pages i some =
     ⊎_elim (λ (low : i < length (free_numbers pages)). let is = candidate_low pages i low in let fits = (free_number pages i low).some in omega arith)
@@ -63,6 +66,7 @@ candidate_fits pages i taken before =
     (λ (high : length (free_numbers pages) ≤ i). let is = candidate_high pages i high in omega arith)
     (cases_lt i (length (free_numbers pages)))
 
+-- candidates ascend
 pub candidate_ascends : (pages : List (Option (List ℕ))) (i j : ℕ) → i < j → candidate pages i < candidate pages j
 candidate_ascends pages i j before =
     ⊎_elim (λ (low : j < length (free_numbers pages)).

@@ -1,13 +1,15 @@
-pub mod BlankFacts
-pub mod CallFacts
+pub mod BlankLemmas
+pub mod CallCountLemmas
 pub mod Candidates
-pub mod FreeFacts
-pub mod MemoryFacts
+pub mod FreeNumberLemmas
+pub mod FrontLemmas
+pub mod JournalLemmas
+pub mod InMemoryLemmas
 pub mod Overlays
-pub mod PageFacts
+pub mod NewestPageLemmas
 mod RealFiles
-pub mod SetFacts
-pub mod SlotFacts
+pub mod NumberSetLemmas
+pub mod SlotLemmas
 pub mod Staging
 pub mod Totals
-pub mod WriteFacts
+pub mod WriteBackLemmas

@@ -15,6 +15,7 @@ at_written R (w ∷ writes) n all here =
     at_written R writes n all.1 (sym (ap (λ b. b || is_written writes n) e) ∙ here))
     (cases_eq n w.0)
 
+-- what holds of each freed number holds of one
 pub at_freed : (R : ℕ → Type 0) (freed : List ℕ) (n : ℕ) → AllByRecursion R freed → is_freed freed n ≡ true → R n
 at_freed R [] n all here = absurd (false≢true here)
 at_freed R (f ∷ freed) n all here =
@@ -23,6 +24,7 @@ at_freed R (f ∷ freed) n all here =
     at_freed R freed n all.1 (sym (ap (λ b. b || is_freed freed n) e) ∙ here))
     (cases_eq n f)
 
+-- a freed page isn't there
 pub freed_is_none : (pages : PageMap) (freed : List ℕ) (n : ℕ) → is_freed freed n ≡ true → free_all pages freed n ≡ None
 freed_is_none pages [] n here = absurd (false≢true here)
 freed_is_none pages (f ∷ freed) n here =
@@ -35,16 +37,19 @@ not_first : (a b : Bool) → (a || b) ≡ false → (a ≡ false) × (b ≡ fals
 not_first true b e = absurd (false≢true (sym e))
 not_first false b e = (refl, e)
 
+-- a page that isn't freed is as it was
 pub not_freed : (pages : PageMap) (freed : List ℕ) (n : ℕ) → is_freed freed n ≡ false → free_all pages freed n ≡ pages n
 not_freed pages [] n gone = refl
 not_freed pages (f ∷ freed) n gone = let parts = not_first (eqb n f) (is_freed freed n) gone in rw parts.0 (not_freed pages freed n parts.1)
 
+-- a page that isn't written is as it was
 pub not_written : (pages : PageMap) (writes : List (ℕ × List ℕ)) (n : ℕ) → is_written writes n ≡ false → overlay pages writes n ≡ pages n
 not_written pages [] n gone = refl
 not_written pages (w ∷ writes) n gone =
     let parts = not_first (eqb n w.0) (is_written writes n) gone in
     not_written (write_page pages w.0 w.1) writes n parts.1 ∙ rw parts.0 refl
 
+-- so is its slot
 pub slot_not_written : (slots : List (Option (List ℕ))) (writes : List (ℕ × List ℕ)) (n : ℕ) → is_written writes n ≡ false → at (put_slots slots writes) n ≡ at slots n
 slot_not_written slots [] n gone = refl
 slot_not_written slots (w ∷ writes) n gone =

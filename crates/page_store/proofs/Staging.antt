@@ -8,10 +8,10 @@ use Rattle.page_store.specs.FreeNumbers.{count_after}
 use Rattle.page_store.specs.CanStage.{CanStage, IsTaken}
 use Rattle.page_store.specs.Overlaid.{is_among, or_else, page_at, pages_of, ArePages}
 use Rattle.page_store.specs.Slots.{put_slots}
-use Rattle.page_store.proofs.PageFacts.{length-pages_of, at_below, at_past, inside, outside}
+use Rattle.page_store.proofs.NewestPageLemmas.{length-pages_of, at_below, at_past, inside, outside}
 use Rattle.page_store.proofs.Candidates.{candidate_is_some, candidate_fits, taken_above}
 use Rattle.page_store.specs.WritingBack.{to_write}
-use Rattle.page_store.proofs.MemoryFacts.{InUse, use_of, used_written, unused_written}
+use Rattle.page_store.proofs.InMemoryLemmas.{InUse, use_of, used_written, unused_written}
 use Rattle.page_store.proofs.Overlays.{at_written, at_freed, freed_is_none, not_freed, not_written, slot_not_written, written_is_some, slot_written, some_written}
 
 none_not_some : {P : Type 0} (o : Option (List ℕ)) → o ≡ None → IsSome o → P

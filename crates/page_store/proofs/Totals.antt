@@ -63,6 +63,7 @@ used_here [] n first = refl
 used_here (page ∷ pages) zero first = below_first 1 0 pages (omega arith) ∙ sym (ap is_some first)
 used_here (page ∷ pages) (suc n) first = let e : suc n ≡ 1 + n = omega arith in ap (is_one (used_from 1 pages)) e ∙ used_at 1 n pages
 
+-- as many pages as page 0, those in use and the free ones together
 pub page_total : (pages : List (Option (List ℕ))) (used : List ℕ) → 1 ≤ length pages → at pages 0 ≡ None → AreDistinct used → ((n : ℕ) → is_some (at pages n) ≡ list_any (λ u. eqb n u) used) → length pages ≡ 1 + length used + length (free_numbers pages)
 page_total [] used some first are exact = absurd (omega arith)
 page_total (page ∷ pages) used some first are exact =
@@ -71,6 +72,7 @@ page_total (page ∷ pages) used some first are exact =
     let all = both 1 pages in
     omega arith
 
+-- two pages in use, by example
 pub example_used : (n : ℕ) → is_some (at pages_1_and_3 n) ≡ list_any (λ u. eqb n u) (3 ∷ 1 ∷ [])
 example_used n = sym (used_here pages_1_and_3 n refl) ∙ turned (eqb n 1) (eqb n 3)
   where

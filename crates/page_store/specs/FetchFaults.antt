@@ -1,7 +1,7 @@
 -- Which fault of a fetch an answer is.
 use Rattle.std.specs.Prelude.{Bool, true, false, Result, Ok, Err}
-use Rattle.page_store.specs.declared.edits.FetchFault.{FetchFault}
-use Rattle.page_store.specs.declared.edits.FetchFault.TheVariants.{Device, OutOfRange}
+use Rattle.page_store.specs.declared.page_edit.FetchFault.{FetchFault}
+use Rattle.page_store.specs.declared.page_edit.FetchFault.TheVariants.{Device, OutOfRange}
 
 -- whether a read of the store failed
 abbrev pub is_device : {X : Type 0} → Result X FetchFault → Bool

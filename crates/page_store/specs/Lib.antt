@@ -5,7 +5,9 @@ pub mod FetchFaults
 pub mod FileValues
 pub mod FlakyStored
 pub mod FreeNumbers
+pub mod Fronts
 pub mod Growth
+pub mod Journal
 pub mod OpenedFile
 pub mod Overlaid
 pub mod PageMap

@@ -1,6 +1,7 @@
 -- What contracts see of a store with changed pages in memory.
-use Rattle.std.specs.Prelude.{ℕ, Bool, false, not, ◌&&◌, List, Option, is_some, slice_index_or}
-use Rattle.page_store.specs.PageMap.{at}
+use Rattle.std.specs.Prelude.{ℕ, Bool, false, not, ◌&&◌, List, Option, None, is_some, if◌then◌else◌, slice_index_or}
+use Rattle.page_store.specs.PageMap.{PageMap, at}
+use Rattle.page_store.specs.Journal.{Journal}
 
 -- pages: each page's newest bytes, None for page 0 and for free numbers; changed: whether an edit was staged since the beginning or the last writing back; in_memory: of each page whether it is in use and its newest bytes are in memory; the rest is the store's
 pub record PagesView : Type 0 where
@@ -13,6 +14,7 @@ pub record PagesView : Type 0 where
   pub reads : ℕ
   pub writes : ℕ
   pub failures : ℕ
+  pub journal : Option Journal
 
 -- whether page n is in use and its newest bytes are in memory
 abbrev pub is_in_memory : PagesView → ℕ → Bool
@@ -21,3 +23,7 @@ is_in_memory v n = slice_index_or v.in_memory n false
 -- whether page n is in use and its newest bytes are in the store
 abbrev pub is_read : PagesView → ℕ → Bool
 is_read v n = is_some (at v.pages n) && not (is_in_memory v n)
+
+-- the pages in use whose newest bytes are in memory
+abbrev pub memory_pages : PagesView → PageMap
+memory_pages v n = if is_in_memory v n then at v.pages n else None

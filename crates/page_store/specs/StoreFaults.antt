@@ -1,7 +1,7 @@
 -- Which fault of a store an answer is.
 use Rattle.std.specs.Prelude.{Bool, true, false, Result, Ok, Err}
-use Rattle.page_store.specs.declared.answers.StoreFault.{StoreFault}
-use Rattle.page_store.specs.declared.answers.StoreFault.TheVariants.{Failed, Memory}
+use Rattle.page_store.specs.declared.store_fault.StoreFault.{StoreFault}
+use Rattle.page_store.specs.declared.store_fault.StoreFault.TheVariants.{Failed, Memory}
 
 -- whether the call failed
 abbrev pub is_failed : {X : Type 0} → Result X StoreFault → Bool

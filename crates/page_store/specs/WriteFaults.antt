@@ -1,9 +1,9 @@
 -- Which fault of a writing back an answer is.
 use Rattle.std.specs.Prelude.{Bool, true, false, Result, Ok, Err}
-use Rattle.page_store.specs.declared.answers.StoreFault.{StoreFault}
-use Rattle.page_store.specs.declared.answers.StoreFault.TheVariants.{Failed, Memory as NoMemory}
-use Rattle.page_store.specs.declared.edits.WriteFault.{WriteFault}
-use Rattle.page_store.specs.declared.edits.WriteFault.TheVariants.{Device, Memory}
+use Rattle.page_store.specs.declared.store_fault.StoreFault.{StoreFault}
+use Rattle.page_store.specs.declared.store_fault.StoreFault.TheVariants.{Failed, Memory as NoMemory}
+use Rattle.page_store.specs.declared.page_edit.WriteFault.{WriteFault}
+use Rattle.page_store.specs.declared.page_edit.WriteFault.TheVariants.{Device, Memory}
 
 -- whether a call of the store failed
 abbrev pub by_device : {X : Type 0} → Result X WriteFault → Bool

@@ -22,7 +22,7 @@ pub record SameBut (may : ℕ → Bool) (old new : List (List ℕ)) : Type 0 whe
   pub same : (n : ℕ) → may n ≡ false → slice_get new n ≡ slice_get old n
 
 -- no fewer pages and at most the count, and of the old ones only page 0 and those to write have changed
-pub record Leaves (pages : PageMap) (count : ℕ) (old new : List (List ℕ)) : Type 0 where
+pub record KeepsOthers (pages : PageMap) (count : ℕ) (old new : List (List ℕ)) : Type 0 where
   pub longer : length old ≤ length new
   pub fits : length new ≤ count
   pub others : (n : ℕ) → n ≢ 0 → n < length old → pages n ≡ None → slice_get new n ≡ slice_get old n

@@ -1,8 +1,10 @@
 //! Facts of the definitions that contracts of this crate cite.
-ghost use Rattle.std.specs.Prelude.{◌≡◌, ◌≢◌, ℕ, ◌+◌, ◌<◌, ◌≤◌, ◌==◌, List, [], ◌∷◌, length, Option, None, is_some};
+ghost use Rattle.std.specs.Prelude.{◌≡◌, ◌≢◌, ℕ, ◌+◌, ◌<◌, ◌≤◌, ◌==◌, List, [], ◌∷◌, length, take, Option, None, is_some};
 ghost use Rattle.std.specs.List.{list_any};
-ghost use Rattle.page_store.specs.PageMap.{at};
+ghost use Rattle.page_store.specs.PageMap.{PageMap, at};
 ghost use Rattle.page_store.specs.FreeNumbers.{free_numbers, candidate, count_after, AreDistinct, pages_1_and_3};
+ghost use Rattle.page_store.specs.Journal.{carried, writing_back};
+ghost use Rattle.page_store.specs.Fronts.{IsPartWay, two_pages, new_page_1, page_1_written, closed_first, marked_late};
 
 /// The numbers that an edit takes: no page of such a number is in use, they ascend, they aren't 0,
 /// and they are below the page count that the edit leaves.
@@ -31,4 +33,20 @@ pub fn page_total()
         ≢ 1 + length {A = ℕ} (3 ∷ 1 ∷ 3 ∷ []) + length (free_numbers pages_1_and_3) }
     ensures missing { length pages_1_and_3
         ≢ 1 + length {A = ℕ} (3 ∷ []) + length (free_numbers pages_1_and_3) }
+{}
+
+/// Where a writing back stops after any number of its calls, there are the old pages, perhaps with
+/// pages of zeros behind them, or page 0 is the mark, or there is all that it was to write. In the
+/// example page 1 of two is written. It fails where page 0 is closed before page 1 is written, and
+/// where page 1 is written before page 0 is marked.
+pub fn fronts_of_a_writing_back()
+    ensures fronts { (old : List (List ℕ)) (pages : PageMap) (count : ℕ) (writing clean : List ℕ)
+        → (k : ℕ) → 1 ≤ count → pages 0 ≡ None
+        → IsPartWay old count writing (carried old (writing_back pages count writing clean))
+        (carried old (take k (writing_back pages count writing clean))) }
+    ensures example { writing_back new_page_1 2 (4 ∷ []) (5 ∷ []) ≡ page_1_written }
+    ensures closed_first { IsPartWay two_pages 2 (4 ∷ []) (carried two_pages page_1_written)
+        (carried two_pages (take 2 closed_first)) → ⊥ }
+    ensures marked_late { IsPartWay two_pages 2 (4 ∷ []) (carried two_pages page_1_written)
+        (carried two_pages (take 2 marked_late)) → ⊥ }
 {}

@@ -1,24 +1,26 @@
 //! Files of pages, and changed pages in memory.
 #![tactic(auto)]
 
-mod answers;
 mod blank;
-mod counts;
-mod edits;
-mod files;
-mod flaky;
-mod free;
+mod count;
+mod file_store;
+mod flaky_store;
+mod free_numbers;
 pub mod laws;
-mod mem;
-mod paging;
-mod slots;
-mod stores;
-mod writing;
+mod mem_store;
+mod page_edit;
+mod pages;
+mod slot;
+mod step;
+mod store;
+mod store_fault;
+mod write_back;
 
-pub use answers::{Shape, StoreFault};
-pub use edits::{FetchFault, PageEdit, WriteFault};
-pub use files::FileStore;
-pub use flaky::FlakyStore;
-pub use mem::MemStore;
-pub use paging::Pages;
-pub use stores::Store;
+pub use file_store::FileStore;
+pub use flaky_store::FlakyStore;
+pub use mem_store::MemStore;
+pub use page_edit::{FetchFault, PageEdit, WriteFault};
+pub use pages::Pages;
+pub use step::Step;
+pub use store::Store;
+pub use store_fault::{Shape, StoreFault};

@@ -4,11 +4,13 @@ use Rattle.rec_types.specs.KeyBytes.{IsKey}
 use Rattle.rec_types.specs.RecordBytes.{IsRecord}
 use Rattle.rec_types.proofs.Padding.{length-padded, padded-front, written}
 
+-- bytes copied to the front of sixteen zeros are a key's fields
 pub key_written : (bytes front : List ℕ) → front ≡ bytes → 0 < length bytes → length bytes ≤ 16 → IsKey record { bytes = front ++ drop (length bytes) (replicate 16 0); len = length bytes }
 key_written bytes front is some most =
     let cells = written 16 bytes front is most in
     record { some = some; most = most; whole = ap length cells ∙ length-padded 16 bytes most; zeros = padded-front 16 bytes _ cells }
 
+-- bytes copied to the front of thirty-two zeros are a record's fields
 pub record_written : (bytes front : List ℕ) → front ≡ bytes → length bytes ≤ 32 → IsRecord record { bytes = front ++ drop (length bytes) (replicate 32 0); len = length bytes }
 record_written bytes front is most =
     let cells = written 32 bytes front is most in

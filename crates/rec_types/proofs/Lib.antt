@@ -1,10 +1,10 @@
-pub mod ContentsFacts
+pub mod ContentsLemmas
 pub mod Fields
-pub mod HistoryFacts
-pub mod KeptFacts
-pub mod MapFacts
+pub mod HistoryLemmas
+pub mod TakeBackLemmas
+pub mod MapLemmas
 pub mod NumberOrder
 pub mod Padding
 pub mod Sizes
-pub mod UseFacts
-pub mod ZeroFacts
+pub mod LogUseLemmas
+pub mod ZeroLemmas

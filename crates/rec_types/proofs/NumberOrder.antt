@@ -11,7 +11,7 @@ use Rattle.byteorder.specs.Numbers.{big_from-cons, big_from-lt}
 use Rattle.rec_types.specs.KeyBytes.{bytes_of, IsKey}
 use Rattle.rec_types.specs.Padded.{padded}
 use Rattle.rec_types.specs.Taken.{length_taken}
-use Rattle.rec_types.specs.declared.keys.Key.TheInside.{Inside}
+use Rattle.rec_types.specs.declared.key.Key.TheInside.{Inside}
 
 -- each byte is one
 abbrev pub AreBytes : List ℕ → Type 0
@@ -33,10 +33,12 @@ same_number i zero xs ys same = refl
 same_number i (suc n) xs ys same =
     ap (λ (b : ℕ). b * 256 ^ n + big_from (suc i) n xs) (same i) ∙ ap (λ (r : ℕ). slice_index ys i * 256 ^ n + r) (same_number (suc i) n xs ys same)
 
+-- zeros behind bytes don't change their number
 pub number-padded : (width : ℕ) (xs : List ℕ) → big_number width (padded width xs) ≡ big_number width xs
 unfolding padded
 number-padded width xs = same_number 0 width _ xs (index-padded xs _)
 
+-- where padded bytes are bytes, the bytes are
 pub bytes-padded : (width : ℕ) (xs : List ℕ) → AreBytes (padded width xs) → AreBytes xs
 unfolding padded
 bytes-padded width xs bytes i = omega (arith, bytes i, index-padded xs (width - length xs) i)

@@ -4,8 +4,9 @@ use Rattle.std.specs.FinMap.{get, len, entries, insert, from_entries, get-entrie
 use Rattle.std.specs.Ordering.{nat_cmp}
 use Rattle.std.specs.Cmp.Lexicographic.{slice_cmp, nat_list_cmp_total}
 use Rattle.rec_types.specs.Contents.{Contents, set_to, same_key, has}
-use Rattle.rec_types.proofs.ContentsFacts.{get-set_to, same_contents, same_key-is, same_key-refl, set_to-twice, set_to-same}
+use Rattle.rec_types.proofs.ContentsLemmas.{get-set_to, same_contents, same_key-is, same_key-refl, set_to-twice, set_to-same}
 
+-- which keys are there after one is set
 pub has-set_to : (m : Contents) (k : List ℕ) (w : Option (List ℕ)) (q : List ℕ) → has (set_to m k w) q ≡ cond (same_key q k) (is_some w) (has m q)
 has-set_to m k w q = ap is_some (get-set_to m k w q) ∙ at (same_key q k)
   where
@@ -17,9 +18,11 @@ has-set_to m k w q = ap is_some (get-set_to m k w q) ∙ at (same_key q k)
 made_of : (m : Contents) → from_entries (entries m) ≡ m
 made_of m = same_contents _ _ (λ q. get-from_entries nat_list_cmp_total (entries m) q ∙ sym (get-entries m q))
 
+-- a record at a key that is there adds none
 pub len_known : (m : Contents) (k v : List ℕ) → has m k ≡ true → len (insert m k v) ≡ len m
 len_known m k v known = len-insert nat_list_cmp_total m k v ∙ ap (λ b. cond b (len m) (len m + 1)) known
 
+-- a record at a new key adds one
 pub len_new : (m : Contents) (k v : List ℕ) → has m k ≡ false → len (insert m k v) ≡ len m + 1
 len_new m k v new = len-insert nat_list_cmp_total m k v ∙ ap (λ b. cond b (len m) (len m + 1)) new
 
@@ -133,6 +136,7 @@ parts_entries (e ∷ es) a c parts = at (has (from_entries es) e.0) refl (parts_
     at true known whole less = omega (arith, len_known rest e.0 e.1 known, whole (known_parts known))
     at false new whole less = omega (arith, len_new rest e.0 e.1 new, less (new_parts new), len_less c e.0 in_c)
 
+-- contents in two parts have as many keys as the parts together
 pub len-parts : (a b c : Contents) → AreParts a b c → len c ≡ len a + len b
 len-parts a b c parts = subst (λ (x : Contents). len c ≡ len a + len x) (made_of b) (parts_entries (entries b) a c (subst (λ (x : Contents). AreParts a x c) (sym (made_of b)) parts))
 

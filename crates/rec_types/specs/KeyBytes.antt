@@ -2,7 +2,7 @@
 use Rattle.std.specs.Prelude.{◌≡◌, ℕ, ◌<◌, ◌≤◌, List, length, take}
 use Rattle.rec_types.specs.Padded.{padded}
 use Rattle.rec_types.specs.Taken.{length_taken}
-use Rattle.rec_types.specs.declared.keys.Key.TheInside.{Inside}
+use Rattle.rec_types.specs.declared.key.Key.TheInside.{Inside}
 
 abbrev pub bytes_of : Inside → List ℕ
 bytes_of k = take k.len k.bytes

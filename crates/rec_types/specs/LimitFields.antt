@@ -1,7 +1,7 @@
 -- How limits lie in their fields.
 use Rattle.std.specs.Prelude.{◌≤◌}
 use Rattle.rec_types.specs.LimitBounds.{Bounds, most_records, most_log_records, most_begins}
-use Rattle.rec_types.specs.declared.limiting.Limits.TheInside.{Inside}
+use Rattle.rec_types.specs.declared.limits.Limits.TheInside.{Inside}
 
 abbrev pub bounds_of : Inside → Bounds
 bounds_of l = record { records = l.records; log_records = l.log_records; begins = l.begins }

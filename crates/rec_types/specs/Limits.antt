@@ -1,8 +1,8 @@
 -- Which numbers are limits.
 use Rattle.std.specs.Prelude.{ℕ, Result, Ok, Err, nat_lt, ◌||◌, if◌then◌else◌}
 use Rattle.rec_types.specs.LimitBounds.{Bounds, most_records, most_log_records, most_begins}
-use Rattle.rec_types.specs.declared.limiting.LimitFault.{LimitFault}
-use Rattle.rec_types.specs.declared.limiting.LimitFault.TheVariants.{Records, Log, Begins}
+use Rattle.rec_types.specs.declared.limits.LimitFault.{LimitFault}
+use Rattle.rec_types.specs.declared.limits.LimitFault.TheVariants.{Records, Log, Begins}
 
 -- the limits of these numbers, and else the first fault
 abbrev pub limits_of : ℕ → ℕ → ℕ → Result Bounds LimitFault

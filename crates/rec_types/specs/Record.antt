@@ -1,7 +1,7 @@
 -- Records as the list of their bytes.
 use Rattle.std.specs.Prelude.{ℕ, List, length, Result, Ok, Err, nat_lt, if◌then◌else◌}
-use Rattle.rec_types.specs.declared.records.RecordFault.{RecordFault}
-use Rattle.rec_types.specs.declared.records.RecordFault.TheVariants.{TooLong}
+use Rattle.rec_types.specs.declared.record.RecordFault.{RecordFault}
+use Rattle.rec_types.specs.declared.record.RecordFault.TheVariants.{TooLong}
 
 -- the record of these bytes: at most 32 of them
 abbrev pub record_of : List ℕ → Result (List ℕ) RecordFault

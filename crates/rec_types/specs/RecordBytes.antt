@@ -2,7 +2,7 @@
 use Rattle.std.specs.Prelude.{◌≡◌, ℕ, ◌≤◌, List, length, take}
 use Rattle.rec_types.specs.Padded.{padded}
 use Rattle.rec_types.specs.Taken.{length_taken}
-use Rattle.rec_types.specs.declared.records.Record.TheInside.{Inside}
+use Rattle.rec_types.specs.declared.record.Record.TheInside.{Inside}
 
 abbrev pub bytes_of : Inside → List ℕ
 bytes_of r = take r.len r.bytes

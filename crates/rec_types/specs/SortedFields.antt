@@ -2,7 +2,7 @@
 use Rattle.std.specs.Prelude.{◌≤◌, length}
 use Rattle.std.specs.FinMap as maps
 use Rattle.rec_types.specs.Sorted.{SortedState, is_sorted}
-use Rattle.rec_types.specs.declared.sorting.SortedTable.TheInside.{Inside}
+use Rattle.rec_types.specs.declared.sorted_table.SortedTable.TheInside.{Inside}
 
 abbrev pub state_of : Inside → SortedState
 state_of t = record { contents = maps.from_sorted t.records.entries; limit = t.limit; refusals = t.refusals }

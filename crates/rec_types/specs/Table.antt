@@ -1,7 +1,7 @@
 -- What a table's answers say.
 use Rattle.std.specs.Prelude.{ℕ, ◌+◌, Bool, true, false, ◌&&◌, nat_lt, if◌then◌else◌, Result, Ok, Err}
-use Rattle.rec_types.specs.declared.tables.TableFault.{TableFault}
-use Rattle.rec_types.specs.declared.tables.TableFault.TheVariants.{Device, Damaged, NoRoom, Memory}
+use Rattle.rec_types.specs.declared.table.TableFault.{TableFault}
+use Rattle.rec_types.specs.declared.table.TableFault.TheVariants.{Device, Damaged, NoRoom, Memory}
 
 abbrev pub is_device : {A : Type 0} → Result A TableFault → Bool
 is_device (Ok x) = false

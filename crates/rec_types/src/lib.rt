@@ -1,21 +1,21 @@
 //! Keys, records, limits and the tables that hold records.
 #![tactic(auto)]
 
-mod flaky;
-mod keys;
-mod limiting;
+mod flaky_table;
+mod key;
+mod limits;
 mod memory;
-mod numbers;
-mod records;
-mod sorting;
-mod tables;
-mod transactions;
+mod number;
+mod record;
+mod sorted_table;
+mod table;
+mod transaction;
 
-pub use flaky::FlakyTable;
-pub use keys::{Key, KeyFault};
-pub use limiting::{LimitFault, Limits, MOST_BEGINS, MOST_LOG_RECORDS, MOST_RECORDS};
+pub use flaky_table::FlakyTable;
+pub use key::{Key, KeyFault};
+pub use limits::{LimitFault, Limits, MOST_BEGINS, MOST_LOG_RECORDS, MOST_RECORDS};
 pub use memory::Memory;
-pub use records::{Record, RecordFault};
-pub use sorting::SortedTable;
-pub use tables::{Table, TableFault};
-pub use transactions::{Entry, TxId};
+pub use record::{Record, RecordFault};
+pub use sorted_table::SortedTable;
+pub use table::{Table, TableFault};
+pub use transaction::{Entry, TxId};

@@ -1,7 +1,7 @@
-pub mod AskFacts
-pub mod CutFacts
-pub mod EndFacts
-pub mod OneFacts
-pub mod RunFacts
-pub mod StepFacts
-pub mod WholeFacts
+pub mod AskingLemmas
+pub mod ScriptCutLemmas
+pub mod EndingLemmas
+pub mod OneEndingLemmas
+pub mod ScriptRunLemmas
+pub mod CallRunLemmas
+pub mod WholeAbortLemmas

@@ -3,19 +3,19 @@ use Rattle.std.specs.Prelude.{◌≡◌, ◌≢◌, ◌⊎◌, ℕ, zero, ◌<�
 use Rattle.std.specs.FinMap as maps
 use Rattle.rec_types.specs.History.{Change, is_pending, taken_back, take_back}
 use Rattle.rec_types.specs.Table.{counted, greatest_count}
-use Rattle.rec_types.specs.declared.transactions.TxId.{TxId}
+use Rattle.rec_types.specs.declared.transaction.TxId.{TxId}
 use Rattle.tx_log.specs.Transactions.{Transactions, Tx, is_open}
-use Rattle.tx_log.specs.declared.phases.Rollback.{Rollback}
+use Rattle.tx_log.specs.declared.phase.Rollback.{Rollback}
 use Rattle.tx_log.specs.LogState.{IsRolling}
 use Rattle.record_file.specs.Abstract.{File, Tells, open_of, tx_of, phase_at}
 use Rattle.record_file.specs.Outside.{by_device, by_memory, TellsDamage}
 use Rattle.record_file.specs.Runs.{Seen}
 use Rattle.record_file.specs.Steps.{rose, EndsBy, Becomes, Aborts, Resumes}
-use Rattle.record_file.specs.declared.faults.Cause.{Cause}
-use Rattle.record_file.specs.declared.faults.AbortFault.{AbortFault}
-use Rattle.record_file.specs.declared.faults.AbortFault.TheVariants as abort_faults
-use Rattle.record_file.specs.declared.faults.ResumeFault.{ResumeFault}
-use Rattle.record_file.specs.declared.faults.ResumeFault.TheVariants as resume_faults
+use Rattle.record_file.specs.declared.fault.Cause.{Cause}
+use Rattle.record_file.specs.declared.fault.AbortFault.{AbortFault}
+use Rattle.record_file.specs.declared.fault.AbortFault.TheVariants as abort_faults
+use Rattle.record_file.specs.declared.fault.ResumeFault.{ResumeFault}
+use Rattle.record_file.specs.declared.fault.ResumeFault.TheVariants as resume_faults
 use Rattle.recfile.specs.declared.endings.EndFault.{EndFault}
 use Rattle.recfile.specs.declared.endings.EndFault.TheVariants.{Stopped}
 

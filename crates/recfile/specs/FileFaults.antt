@@ -1,14 +1,14 @@
 -- The names of what goes wrong with a page file.
 use Rattle.std.specs.Prelude.{ℕ, List}
-use Rattle.page_store.specs.declared.edits.WriteFault.{WriteFault}
-use Rattle.page_store.specs.declared.edits.WriteFault.TheVariants as closing
+use Rattle.page_store.specs.declared.page_edit.WriteFault.{WriteFault}
+use Rattle.page_store.specs.declared.page_edit.WriteFault.TheVariants as closing
 use Rattle.btree_delete.specs.Created.{IsEmpty, IsOrder}
-use Rattle.btree_delete.specs.declared.opening.OpenFault.{OpenFault}
-use Rattle.btree_delete.specs.declared.opening.OpenFault.TheVariants as opening
-use Rattle.btree_delete.specs.declared.tables.CreateFault.{CreateFault}
-use Rattle.btree_delete.specs.declared.tables.CreateFault.TheVariants as making
-use Rattle.recfile.specs.declared.file_faults.FileFault.{FileFault}
-use Rattle.recfile.specs.declared.file_faults.FileFault.TheVariants.{Device, NotEmpty, BadLength, BadMagic, BadVersion, BadOrder, NotClean, BadHeader, Damaged, WrongCount, TooManyRecords, Memory}
+use Rattle.btree_delete.specs.declared.open_fault.OpenFault.{OpenFault}
+use Rattle.btree_delete.specs.declared.open_fault.OpenFault.TheVariants as opening
+use Rattle.btree_delete.specs.declared.tree_table.CreateFault.{CreateFault}
+use Rattle.btree_delete.specs.declared.tree_table.CreateFault.TheVariants as making
+use Rattle.recfile.specs.declared.file_fault.FileFault.{FileFault}
+use Rattle.recfile.specs.declared.file_fault.FileFault.TheVariants.{Device, NotEmpty, BadLength, BadMagic, BadVersion, BadOrder, NotClean, BadHeader, Damaged, WrongCount, TooManyRecords, Memory}
 
 abbrev pub fault_of_making : CreateFault → FileFault
 fault_of_making making.BadOrder = BadOrder

@@ -3,39 +3,39 @@ use Rattle.std.specs.Prelude.{◌≡◌, ℕ, ◌<◌, Bool, true, false, List, 
 use Rattle.std.specs.List.{flat_map}
 use Rattle.std.specs.Io.KnownBytes.{Appends}
 use Rattle.record_file.specs.Runs.{Called, Event, Seen, Run, Begin, Put, Remove, Get, Savepoint, Release, RollbackTo, Abort, Resume, Commit, Entries, KeysOf, LogLen, LogUse}
-use Rattle.command_text.specs.declared.commands.Command.{Command}
-use Rattle.command_text.specs.declared.commands.Command.TheVariants as command
-use Rattle.command_text.specs.declared.replies.Reply.{Reply}
-use Rattle.command_text.specs.declared.replies.Reply.TheVariants as reply
+use Rattle.command_text.specs.declared.command.Command.{Command}
+use Rattle.command_text.specs.declared.command.Command.TheVariants as command
+use Rattle.command_text.specs.declared.reply.Reply.{Reply}
+use Rattle.command_text.specs.declared.reply.Reply.TheVariants as reply
 use Rattle.command_text.specs.Grammar.{Read}
 use Rattle.command_text.specs.Script.{entries_of}
 use Rattle.command_text.specs.Texts.{text_of}
-use Rattle.recfile.specs.declared.scripts.ScriptFault.{ScriptFault}
-use Rattle.recfile.specs.declared.scripts.ScriptFault.TheVariants as faults
+use Rattle.recfile.specs.declared.script.ScriptFault.{ScriptFault}
+use Rattle.recfile.specs.declared.script.ScriptFault.TheVariants as faults
 use Rattle.recfile.specs.Whole.{IsWhole, IsTooLong, TakesAtMost}
 
 -- The calls that the reply to a command tells of. A line that can't be read makes no call, and no other reply is given.
-abbrev pub TellsOf : Read Command → Reply → List Called → Type 0
-TellsOf (Err fault) (reply.Bad told) calls = (told ≡ fault) × (calls ≡ [])
-TellsOf (Ok command.Begin) (reply.Begin answer) calls = calls ≡ Begin answer ∷ []
-TellsOf (Ok (command.Put t x r)) (reply.Put answer) calls = calls ≡ Put t x r answer ∷ []
-TellsOf (Ok (command.Del t x)) (reply.Del answer) calls = calls ≡ Remove t x answer ∷ []
-TellsOf (Ok (command.Get t x)) (reply.Get answer) calls = calls ≡ Get t x answer ∷ []
-TellsOf (Ok (command.Save t)) (reply.Save answer) calls = calls ≡ Savepoint t answer ∷ []
-TellsOf (Ok (command.Release t n)) (reply.Release answer) calls = calls ≡ Release t n answer ∷ []
-TellsOf (Ok (command.Back t n)) (reply.Back answer) calls = calls ≡ RollbackTo t n answer ∷ []
-TellsOf (Ok (command.Resume t)) (reply.Resume answer) calls = calls ≡ Resume t answer ∷ []
-TellsOf (Ok (command.Abort t)) (reply.Abort answer) calls = calls ≡ Abort t answer ∷ []
-TellsOf (Ok (command.Commit t)) (reply.Commit answer) calls = calls ≡ Commit t answer ∷ []
-TellsOf (Ok command.List) (reply.List answer) calls = calls ≡ Entries answer ∷ []
-TellsOf (Ok (command.Keys t)) (reply.Keys answer) calls = calls ≡ KeysOf t answer ∷ []
-TellsOf (Ok command.Log) (reply.Log len used) calls = calls ≡ LogLen len ∷ LogUse used ∷ []
-TellsOf entry answer calls = ⊥
+abbrev pub ScriptTellsOf : Read Command → Reply → List Called → Type 0
+ScriptTellsOf (Err fault) (reply.Bad told) calls = (told ≡ fault) × (calls ≡ [])
+ScriptTellsOf (Ok command.Begin) (reply.Begin answer) calls = calls ≡ Begin answer ∷ []
+ScriptTellsOf (Ok (command.Put t x r)) (reply.Put answer) calls = calls ≡ Put t x r answer ∷ []
+ScriptTellsOf (Ok (command.Del t x)) (reply.Del answer) calls = calls ≡ Remove t x answer ∷ []
+ScriptTellsOf (Ok (command.Get t x)) (reply.Get answer) calls = calls ≡ Get t x answer ∷ []
+ScriptTellsOf (Ok (command.Save t)) (reply.Save answer) calls = calls ≡ Savepoint t answer ∷ []
+ScriptTellsOf (Ok (command.Release t n)) (reply.Release answer) calls = calls ≡ Release t n answer ∷ []
+ScriptTellsOf (Ok (command.Back t n)) (reply.Back answer) calls = calls ≡ RollbackTo t n answer ∷ []
+ScriptTellsOf (Ok (command.Resume t)) (reply.Resume answer) calls = calls ≡ Resume t answer ∷ []
+ScriptTellsOf (Ok (command.Abort t)) (reply.Abort answer) calls = calls ≡ Abort t answer ∷ []
+ScriptTellsOf (Ok (command.Commit t)) (reply.Commit answer) calls = calls ≡ Commit t answer ∷ []
+ScriptTellsOf (Ok command.List) (reply.List answer) calls = calls ≡ Entries answer ∷ []
+ScriptTellsOf (Ok (command.Keys t)) (reply.Keys answer) calls = calls ≡ KeysOf t answer ∷ []
+ScriptTellsOf (Ok command.Log) (reply.Log len used) calls = calls ≡ LogLen len ∷ LogUse used ∷ []
+ScriptTellsOf entry answer calls = ⊥
 
 -- From old, the command, or the line that can't be read, has this reply by a run of these calls, which leads to new.
 pub record HasReply (old : Seen) (entry : Read Command) (answer : Reply) (new : Seen) : Type 0 where
   pub events : List Event
-  pub told : TellsOf entry answer (map (λ e. e.called) events)
+  pub told : ScriptTellsOf entry answer (map (λ e. e.called) events)
   pub ran : Run old events new
 
 -- the same of what a line says; one that says nothing has no reply
@@ -99,7 +99,7 @@ pub record IsUnsent (held holds : Option (List ℕ)) (done : ℕ) (text : List �
   pub count : done_of fault ≡ done
 
 -- A run that stopped at a reply: the replies before it are written, and a front of it.
-pub record StopsAt (held holds : Option (List ℕ)) (old new : Seen) (script : List ℕ) (fault : ScriptFault) : Type 0 where
+pub record ScriptStopsAt (held holds : Option (List ℕ)) (old new : Seen) (script : List ℕ) (fault : ScriptFault) : Type 0 where
   pub replies : List Reply
   pub last : Reply
   pub rest : List ℕ
@@ -118,4 +118,4 @@ ReadStops left leaves (faults.Memory done) = done ≡ 0
 -- Either the script wasn't read, and nothing was run, or it was, and exactly the first `done` commands were run.
 abbrev pub Faulted : Option (List ℕ) → Option (List ℕ) → Option (List ℕ) → Option (List ℕ) → Seen → Seen → ScriptFault → Type 0
 Faulted left leaves held holds old new fault =
-    (ReadStops left leaves fault × (new ≡ old) × (holds ≡ held)) ⊎ ((script : List ℕ) × IsWhole left leaves script × StopsAt held holds old new script fault)
+    (ReadStops left leaves fault × (new ≡ old) × (holds ≡ held)) ⊎ ((script : List ℕ) × IsWhole left leaves script × ScriptStopsAt held holds old new script fault)

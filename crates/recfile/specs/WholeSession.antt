@@ -10,7 +10,7 @@ use Rattle.record_file.specs.Runs.{Seen}
 use Rattle.recfile.specs.Ending.{AbortsWhole, Asks, EndsAll, StopsEnding, end_cause, rest_of}
 use Rattle.recfile.specs.Run.{Finished, Faulted}
 use Rattle.recfile.specs.declared.endings.EndFault.{EndFault}
-use Rattle.recfile.specs.declared.scripts.ScriptFault.{ScriptFault}
+use Rattle.recfile.specs.declared.script.ScriptFault.{ScriptFault}
 
 -- The script leads from a file to mid, with its answer; then every open transaction is ended, or one
 -- was stopped. Where all are, the records are what the changes of the others leave.

@@ -3,9 +3,9 @@ ghost use Rattle.rec_types.specs.History.{replay};
 ghost use Rattle.record_file.specs.Abstract.{open_of};
 ghost use Rattle.record_file.specs.Runs.{seen};
 ghost use Rattle.record_file.specs.Steps.{Aborts, Resumes, abort_refusal};
-ghost use Rattle.record_file.specs.declared.faults.AbortFault.{AbortFault};
-ghost use Rattle.record_file.specs.declared.faults.AbortFault.TheVariants as abort_faults;
-ghost use Rattle.record_file.specs.declared.faults.ResumeFault.{ResumeFault};
+ghost use Rattle.record_file.specs.declared.fault.AbortFault.{AbortFault};
+ghost use Rattle.record_file.specs.declared.fault.AbortFault.TheVariants as abort_faults;
+ghost use Rattle.record_file.specs.declared.fault.ResumeFault.{ResumeFault};
 ghost use Rattle.recfile.specs.Ending.{AbortsWhole, Asks, EndsAll, EndsOpen, StopsEnding, StopsOne, aborted, end_cause, rest_of, resumed, stopped_tx};
 
 use rec_types::{Table, TxId};

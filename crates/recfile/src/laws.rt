@@ -9,7 +9,7 @@ ghost use Rattle.recfile.specs.Ending.{AbortsWhole, EndsAll, without};
 ghost use Rattle.recfile.specs.Examples.{four_changes, two_taken_back};
 ghost use Rattle.recfile.specs.WholeSession.{EndsFile, IsSession};
 ghost use Rattle.recfile.specs.declared.endings.EndFault.{EndFault};
-ghost use Rattle.recfile.specs.declared.scripts.ScriptFault.{ScriptFault};
+ghost use Rattle.recfile.specs.declared.script.ScriptFault.{ScriptFault};
 
 /// Ending takes back the live changes of open transactions and no others; it is no commit.
 pub fn endings_by_example()

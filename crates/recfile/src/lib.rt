@@ -1,26 +1,26 @@
 //! Scripts over a record file, and the program.
 #![tactic(auto)]
 
-mod calls;
-mod cutting;
+mod call;
 mod endings;
-mod file_faults;
+mod file_fault;
 pub mod laws;
 mod limits;
-mod page_files;
+mod next_line;
+mod page_file;
 mod program;
-mod reading;
-mod scripts;
-mod sessions;
+mod reads;
+mod script;
+mod session;
 mod statuses;
-mod telling;
+mod tell;
 mod words;
 
 pub use endings::{EndFault, end_all};
-pub use file_faults::FileFault;
-pub use page_files::{FileEnd, check_in, create_in, run_in};
+pub use file_fault::FileFault;
+pub use page_file::{FileEnd, check_in, create_in, run_in};
 pub use program::run_words;
-pub use reading::Reads;
-pub use scripts::{ScriptFault, run_script, run_script_counted};
-pub use sessions::{SessionEnd, run_memory, run_session};
+pub use reads::Reads;
+pub use script::{ScriptFault, run_script, run_script_counted};
+pub use session::{SessionEnd, run_memory, run_session};
 pub use statuses::exit_status;

@@ -1,9 +1,9 @@
-use crate::file_faults::FileFault;
+use crate::file_fault::FileFault;
 use crate::limits::greatest_limits;
-use crate::page_files::{check_in, create_in, run_in};
-use crate::sessions::run_memory;
+use crate::page_file::{check_in, create_in, run_in};
+use crate::session::run_memory;
 use crate::statuses::exit_status;
-use crate::telling::tell;
+use crate::tell::tell;
 use crate::words::{Task, UsageFault, read_words};
 use page_store::{FileStore, StoreFault};
 use std::alloc::Global;
@@ -18,7 +18,7 @@ const USAGE: u8 = 2;
 // A file that the system doesn't open or make.
 impl From<StoreFault> for FileFault {
     ghost use Rattle.std.specs.Prelude.{◌≡◌};
-    ghost use Rattle.recfile.specs.declared.file_faults.FileFault.TheVariants.{Device};
+    ghost use Rattle.recfile.specs.declared.file_fault.FileFault.TheVariants.{Device};
 
     ghost from_gives = { λ _ named. named ≡ Device };
 

@@ -2,14 +2,15 @@
 use Rattle.std.proofs.Common.{◌≡◌, ℕ, ◌+◌, ◌<◌, List, [], ◌∷◌, ◌++◌, length, take, slice_index_or, slice_set, Result, Ok, Err, OnOk, OnErr, refl, ap, sym, ◌∙◌}
 use Rattle.std.proofs.lemmas.List.{set-get_or}
 use Rattle.std.proofs.lemmas.Grind.{take_at_read}
-use Rattle.recfile_c.specs.declared.steps.Step.{Step}
-use Rattle.recfile_c.specs.Steps.{carry, carried}
+use Rattle.page_store.specs.declared.step.Step.{Step}
+use Rattle.page_store.specs.Journal.{carry, carried}
 
 -- one more step at the end
 pub carried-snoc : (pages : List (List ℕ)) (steps : List Step) (s : Step) → carried pages (steps ++ s ∷ []) ≡ carry (carried pages steps) s
 carried-snoc pages [] s = refl
 carried-snoc pages (t ∷ steps) s = carried-snoc (carry pages t) steps s
 
+-- one more step carried out
 pub carried-more : (pages : List (List ℕ)) (steps : List Step) (i : ℕ) (d : Step) → i < length steps → carried pages (take (i + 1) steps) ≡ carry (carried pages (take i steps)) (slice_index_or steps i d)
 carried-more pages steps i d below = ap (carried pages) (take_at_read steps i d below).1 ∙ carried-snoc pages (take i steps) (slice_index_or steps i d)
 

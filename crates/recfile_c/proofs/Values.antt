@@ -35,9 +35,11 @@ use Rattle.recfile_c.specs.Roots.{root_owns}
 use Rattle.recfile_c.specs.contracts.handle.RecFile as handle
 use Rattle.recfile_c.specs.contracts.root.Root as root
 
+-- both of two machine values hold
 abbrev pub both : Val → Val → Val
 both v w = vstruct (vcons v (vcons w vnil))
 
+-- where two tests hold, they hold together
 pub both_tt : (x y : Bool) → T x → T y → T (x && (y && true))
 both_tt true true s t = tt
 both_tt true false s t = absurd t
@@ -96,6 +98,7 @@ pub file_of : (x : Option HeldFile) → IsSome x → HeldFile
 file_of (Some file) some = file
 file_of None some = absurd (cc)
 
+-- what lies behind a handle that has something is that
 pub file_is : (x : Option HeldFile) (some : IsSome x) → x ≡ Some (file_of x some)
 unfolding file_of
 file_is (Some file) some = refl

@@ -1,8 +1,8 @@
 -- What an answer has, and else nothing.
 use Rattle.std.specs.Prelude.{◌≡◌, ℕ, List, Option, Some, None, Result, Ok, Err}
-use Rattle.rec_types.specs.declared.transactions.TxId.{TxId}
-use Rattle.record_file.specs.declared.faults.StatusFault.{StatusFault}
-use Rattle.record_file.specs.declared.faults.Status.{Status}
+use Rattle.rec_types.specs.declared.transaction.TxId.{TxId}
+use Rattle.record_file.specs.declared.fault.StatusFault.{StatusFault}
+use Rattle.record_file.specs.declared.fault.Status.{Status}
 use Rattle.recfile_c.specs.declared.shown.TxStatus.{TxStatus}
 use Rattle.recfile_c.specs.Shown.{status_shown}
 

@@ -3,29 +3,29 @@ use Rattle.std.specs.Prelude.{◌≡◌, ℕ, ℤ, pos, ◌<◌, Bool, List, Opt
 use Rattle.std.specs.FinMap as maps
 use Rattle.rec_types.specs.Table.{greatest_count}
 use Rattle.rec_types.specs.History.{log_len}
-use Rattle.rec_types.specs.declared.keys.KeyFault.{KeyFault}
-use Rattle.rec_types.specs.declared.keys.KeyFault.TheVariants.{Empty, TooLong}
-use Rattle.rec_types.specs.declared.records.RecordFault.{RecordFault}
-use Rattle.rec_types.specs.declared.transactions.TxId.{TxId}
+use Rattle.rec_types.specs.declared.key.KeyFault.{KeyFault}
+use Rattle.rec_types.specs.declared.key.KeyFault.TheVariants.{Empty, TooLong}
+use Rattle.rec_types.specs.declared.record.RecordFault.{RecordFault}
+use Rattle.rec_types.specs.declared.transaction.TxId.{TxId}
 use Rattle.tx_log.specs.Log.{record_at}
-use Rattle.tx_log.specs.declared.phases.BeginFault.{BeginFault}
-use Rattle.tx_log.specs.declared.log_records.LogRecord.{LogRecord}
+use Rattle.tx_log.specs.declared.phase.BeginFault.{BeginFault}
+use Rattle.tx_log.specs.declared.log_record.LogRecord.{LogRecord}
 use Rattle.record_file.specs.Abstract.{OpenFile, Tells, charged_of, use_of}
 use Rattle.record_file.specs.Steps.{rose, BeginStep, PutStep, RemoveStep, GetStep, SavepointStep, ReleaseStep, CommitStep, RollbackToStep, AbortStep, ResumeStep, status_of}
-use Rattle.record_file.specs.declared.faults.PutFault.{PutFault}
-use Rattle.record_file.specs.declared.faults.RemoveFault.{RemoveFault}
-use Rattle.record_file.specs.declared.faults.GetFault.{GetFault}
-use Rattle.record_file.specs.declared.faults.SavepointFault.{SavepointFault}
-use Rattle.record_file.specs.declared.faults.ReleaseFault.{ReleaseFault}
-use Rattle.record_file.specs.declared.faults.RollbackToFault.{RollbackToFault}
-use Rattle.record_file.specs.declared.faults.AbortFault.{AbortFault}
-use Rattle.record_file.specs.declared.faults.ResumeFault.{ResumeFault}
-use Rattle.record_file.specs.declared.faults.CommitFault.{CommitFault}
-use Rattle.recfile_c.specs.declared.tables.FileTable.{FileTable}
+use Rattle.record_file.specs.declared.fault.PutFault.{PutFault}
+use Rattle.record_file.specs.declared.fault.RemoveFault.{RemoveFault}
+use Rattle.record_file.specs.declared.fault.GetFault.{GetFault}
+use Rattle.record_file.specs.declared.fault.SavepointFault.{SavepointFault}
+use Rattle.record_file.specs.declared.fault.ReleaseFault.{ReleaseFault}
+use Rattle.record_file.specs.declared.fault.RollbackToFault.{RollbackToFault}
+use Rattle.record_file.specs.declared.fault.AbortFault.{AbortFault}
+use Rattle.record_file.specs.declared.fault.ResumeFault.{ResumeFault}
+use Rattle.record_file.specs.declared.fault.CommitFault.{CommitFault}
+use Rattle.recfile_c.specs.declared.file_table.FileTable.{FileTable}
 use Rattle.recfile_c.specs.declared.held.Held.{Held}
 use Rattle.recfile_c.specs.declared.held.Held.TheVariants.{Open}
 use Rattle.recfile_c.specs.declared.held.Session.{Session}
-use Rattle.recfile_c.specs.declared.outcomes.Outcome.{Outcome}
+use Rattle.recfile_c.specs.declared.outcome.Outcome.{Outcome}
 use Rattle.recfile_c.specs.declared.shown.TxStatus.{TxStatus}
 use Rattle.recfile_c.specs.FileTables.{contents_of, is_sound, failures_of, refusals_of}
 use Rattle.recfile_c.specs.Answers.{found_in, taken_in, number_in, tx_in, TellsStatus}

@@ -3,8 +3,8 @@ use Rattle.std.specs.Prelude.{ℕ, Bool, true}
 use Rattle.rec_types.specs.Contents.{Contents}
 use Rattle.rec_types.specs.Table.{Damages, no_damage}
 use Rattle.btree_delete.specs.TableView.{table_contents}
-use Rattle.recfile_c.specs.declared.tables.FileTable.{FileTable}
-use Rattle.recfile_c.specs.declared.tables.FileTable.TheVariants.{Memory, Paged}
+use Rattle.recfile_c.specs.declared.file_table.FileTable.{FileTable}
+use Rattle.recfile_c.specs.declared.file_table.FileTable.TheVariants.{Memory, Paged}
 
 abbrev pub contents_of : FileTable → Contents
 contents_of (Memory table) = table.contents

@@ -1,12 +1,12 @@
 -- Lists that are made once, and read entry by entry.
 use Rattle.std.specs.Prelude.{◌≡◌, ℕ, ℤ, pos, List, [], length, Option, Some, None, Result, Ok, Err, slice_get}
-use Rattle.rec_types.specs.declared.transactions.Entry.{Entry}
-use Rattle.rec_types.specs.declared.transactions.TxId.{TxId}
+use Rattle.rec_types.specs.declared.transaction.Entry.{Entry}
+use Rattle.rec_types.specs.declared.transaction.TxId.{TxId}
 use Rattle.record_file.specs.Steps.{EntriesStep, KeysOfStep}
-use Rattle.record_file.specs.declared.faults.EntriesFault.{EntriesFault}
-use Rattle.record_file.specs.declared.faults.KeysOfFault.{KeysOfFault}
+use Rattle.record_file.specs.declared.fault.EntriesFault.{EntriesFault}
+use Rattle.record_file.specs.declared.fault.KeysOfFault.{KeysOfFault}
 use Rattle.recfile_c.specs.declared.held.Session.{Session}
-use Rattle.recfile_c.specs.declared.outcomes.Outcome.{Outcome}
+use Rattle.recfile_c.specs.declared.outcome.Outcome.{Outcome}
 use Rattle.recfile_c.specs.declared.shown.ListedEntry.{ListedEntry}
 use Rattle.recfile_c.specs.FileTables.{contents_of, is_sound}
 use Rattle.recfile_c.specs.Shown.{Shows}

@@ -3,9 +3,9 @@ use Rattle.std.specs.Prelude.{◌≡◌, ℤ, pos, [], Option, Some, None, Resul
 use Rattle.std.specs.FinMap as maps
 use Rattle.std.specs.declared.boxed.Box.{Box}
 use Rattle.rec_types.specs.LimitBounds.{Bounds}
-use Rattle.rec_types.specs.declared.limiting.LimitFault.{LimitFault}
+use Rattle.rec_types.specs.declared.limits.LimitFault.{LimitFault}
 use Rattle.record_file.specs.Abstract.{new_file}
-use Rattle.recfile_c.specs.declared.tables.FileTable.TheVariants.{Memory}
+use Rattle.recfile_c.specs.declared.file_table.FileTable.TheVariants.{Memory}
 use Rattle.recfile_c.specs.declared.held.Held.{Held}
 use Rattle.recfile_c.specs.declared.held.Held.TheVariants.{Open}
 use Rattle.recfile_c.specs.Outcomes.{ok, memory, not_closed, limits_outcome}
@@ -37,7 +37,7 @@ MakesBox held (Ok b) = b.value ≡ held
 MakesBox held (Err status) = status ≡ pos memory
 
 -- A handle that is closed is opened, or stays closed; any other stays as it was.
-abbrev pub Opens : (Result Held ℤ → Type 0) → ℤ → Option Held → Option Held → Type 0
-Opens makes status (Some old) new = (status ≡ pos not_closed) × (new ≡ Some old)
-Opens makes status None (Some new) = (status ≡ pos ok) × makes (Ok new)
-Opens makes status None None = makes (Err status)
+abbrev pub OpensHandle : (Result Held ℤ → Type 0) → ℤ → Option Held → Option Held → Type 0
+OpensHandle makes status (Some old) new = (status ≡ pos not_closed) × (new ≡ Some old)
+OpensHandle makes status None (Some new) = (status ≡ pos ok) × makes (Ok new)
+OpensHandle makes status None None = makes (Err status)

@@ -1,43 +1,43 @@
 -- What a call answers to C: its status, and what the status carries.
 use Rattle.std.specs.Prelude.{ℕ, pos, Result, Ok, Err}
-use Rattle.btree_delete.specs.declared.opening.OpenFault.{OpenFault}
-use Rattle.btree_delete.specs.declared.opening.OpenFault.TheVariants as open_faults
-use Rattle.btree_delete.specs.declared.tables.CreateFault.{CreateFault}
-use Rattle.btree_delete.specs.declared.tables.CreateFault.TheVariants as create_faults
-use Rattle.rec_types.specs.declared.keys.KeyFault.{KeyFault}
-use Rattle.rec_types.specs.declared.keys.KeyFault.TheVariants.{Empty, TooLong}
-use Rattle.rec_types.specs.declared.limiting.LimitFault.{LimitFault}
-use Rattle.rec_types.specs.declared.limiting.LimitFault.TheVariants.{Records, Log, Begins}
-use Rattle.rec_types.specs.declared.transactions.TxId.{TxId}
-use Rattle.tx_log.specs.declared.phases.BeginFault.{BeginFault}
-use Rattle.tx_log.specs.declared.phases.BeginFault.TheVariants as begin_faults
-use Rattle.record_file.specs.declared.faults.Cause.{Cause}
-use Rattle.record_file.specs.declared.faults.Cause.TheVariants as causes
-use Rattle.record_file.specs.declared.faults.PutFault.{PutFault}
-use Rattle.record_file.specs.declared.faults.PutFault.TheVariants as put_faults
-use Rattle.record_file.specs.declared.faults.RemoveFault.{RemoveFault}
-use Rattle.record_file.specs.declared.faults.RemoveFault.TheVariants as remove_faults
-use Rattle.record_file.specs.declared.faults.GetFault.{GetFault}
-use Rattle.record_file.specs.declared.faults.GetFault.TheVariants as get_faults
-use Rattle.record_file.specs.declared.faults.SavepointFault.{SavepointFault}
-use Rattle.record_file.specs.declared.faults.SavepointFault.TheVariants as savepoint_faults
-use Rattle.record_file.specs.declared.faults.ReleaseFault.{ReleaseFault}
-use Rattle.record_file.specs.declared.faults.ReleaseFault.TheVariants as release_faults
-use Rattle.record_file.specs.declared.faults.RollbackToFault.{RollbackToFault}
-use Rattle.record_file.specs.declared.faults.RollbackToFault.TheVariants as rollback_to_faults
-use Rattle.record_file.specs.declared.faults.AbortFault.{AbortFault}
-use Rattle.record_file.specs.declared.faults.AbortFault.TheVariants as abort_faults
-use Rattle.record_file.specs.declared.faults.ResumeFault.{ResumeFault}
-use Rattle.record_file.specs.declared.faults.ResumeFault.TheVariants as resume_faults
-use Rattle.record_file.specs.declared.faults.CommitFault.{CommitFault}
-use Rattle.record_file.specs.declared.faults.CommitFault.TheVariants as commit_faults
-use Rattle.record_file.specs.declared.faults.EntriesFault.{EntriesFault}
-use Rattle.record_file.specs.declared.faults.EntriesFault.TheVariants as entries_faults
-use Rattle.record_file.specs.declared.faults.KeysOfFault.{KeysOfFault}
-use Rattle.record_file.specs.declared.faults.KeysOfFault.TheVariants as keys_of_faults
-use Rattle.record_file.specs.declared.faults.StatusFault.{StatusFault}
-use Rattle.record_file.specs.declared.faults.StatusFault.TheVariants as status_faults
-use Rattle.recfile_c.specs.declared.outcomes.Outcome.{Outcome}
+use Rattle.btree_delete.specs.declared.open_fault.OpenFault.{OpenFault}
+use Rattle.btree_delete.specs.declared.open_fault.OpenFault.TheVariants as open_faults
+use Rattle.btree_delete.specs.declared.tree_table.CreateFault.{CreateFault}
+use Rattle.btree_delete.specs.declared.tree_table.CreateFault.TheVariants as create_faults
+use Rattle.rec_types.specs.declared.key.KeyFault.{KeyFault}
+use Rattle.rec_types.specs.declared.key.KeyFault.TheVariants.{Empty, TooLong}
+use Rattle.rec_types.specs.declared.limits.LimitFault.{LimitFault}
+use Rattle.rec_types.specs.declared.limits.LimitFault.TheVariants.{Records, Log, Begins}
+use Rattle.rec_types.specs.declared.transaction.TxId.{TxId}
+use Rattle.tx_log.specs.declared.phase.BeginFault.{BeginFault}
+use Rattle.tx_log.specs.declared.phase.BeginFault.TheVariants as begin_faults
+use Rattle.record_file.specs.declared.fault.Cause.{Cause}
+use Rattle.record_file.specs.declared.fault.Cause.TheVariants as causes
+use Rattle.record_file.specs.declared.fault.PutFault.{PutFault}
+use Rattle.record_file.specs.declared.fault.PutFault.TheVariants as put_faults
+use Rattle.record_file.specs.declared.fault.RemoveFault.{RemoveFault}
+use Rattle.record_file.specs.declared.fault.RemoveFault.TheVariants as remove_faults
+use Rattle.record_file.specs.declared.fault.GetFault.{GetFault}
+use Rattle.record_file.specs.declared.fault.GetFault.TheVariants as get_faults
+use Rattle.record_file.specs.declared.fault.SavepointFault.{SavepointFault}
+use Rattle.record_file.specs.declared.fault.SavepointFault.TheVariants as savepoint_faults
+use Rattle.record_file.specs.declared.fault.ReleaseFault.{ReleaseFault}
+use Rattle.record_file.specs.declared.fault.ReleaseFault.TheVariants as release_faults
+use Rattle.record_file.specs.declared.fault.RollbackToFault.{RollbackToFault}
+use Rattle.record_file.specs.declared.fault.RollbackToFault.TheVariants as rollback_to_faults
+use Rattle.record_file.specs.declared.fault.AbortFault.{AbortFault}
+use Rattle.record_file.specs.declared.fault.AbortFault.TheVariants as abort_faults
+use Rattle.record_file.specs.declared.fault.ResumeFault.{ResumeFault}
+use Rattle.record_file.specs.declared.fault.ResumeFault.TheVariants as resume_faults
+use Rattle.record_file.specs.declared.fault.CommitFault.{CommitFault}
+use Rattle.record_file.specs.declared.fault.CommitFault.TheVariants as commit_faults
+use Rattle.record_file.specs.declared.fault.EntriesFault.{EntriesFault}
+use Rattle.record_file.specs.declared.fault.EntriesFault.TheVariants as entries_faults
+use Rattle.record_file.specs.declared.fault.KeysOfFault.{KeysOfFault}
+use Rattle.record_file.specs.declared.fault.KeysOfFault.TheVariants as keys_of_faults
+use Rattle.record_file.specs.declared.fault.StatusFault.{StatusFault}
+use Rattle.record_file.specs.declared.fault.StatusFault.TheVariants as status_faults
+use Rattle.recfile_c.specs.declared.outcome.Outcome.{Outcome}
 
 -- the statuses
 

@@ -1,24 +1,26 @@
 -- Opening and closing a page file, of which the pages are handed in and the steps handed out.
-use Rattle.std.specs.Prelude.{◌≡◌, ◌≢◌, ◌⊎◌, ℕ, ℤ, pos, true, false, List, [], ◌∷◌, ◌++◌, Option, Some, None, Result, Ok, Err, IsTrue, length, slice_get}
+use Rattle.std.specs.Prelude.{◌≡◌, ◌≢◌, ◌⊎◌, ℕ, ℤ, pos, true, false, List, [], ◌∷◌, ◌++◌, Option, Some, None, Result, Ok, Err, IsTrue, length, take, slice_get}
 use Rattle.std.specs.FinMap as maps
 use Rattle.std.specs.declared.boxed.Box.{Box}
 use Rattle.rec_types.specs.LimitBounds.{Bounds}
-use Rattle.rec_types.specs.declared.limiting.LimitFault.{LimitFault}
-use Rattle.btree_delete.specs.declared.opening.OpenFault.{OpenFault}
-use Rattle.btree_delete.specs.declared.tables.CreateFault.{CreateFault}
+use Rattle.page_store.specs.Journal.{carried, noted, NotesFront}
+use Rattle.rec_types.specs.declared.limits.LimitFault.{LimitFault}
+use Rattle.btree_delete.specs.declared.open_fault.OpenFault.{OpenFault}
+use Rattle.btree_delete.specs.declared.tree_table.CreateFault.{CreateFault}
 use Rattle.btree_delete.specs.CleanFile.{IsFirst, Opens}
+use Rattle.btree_delete.specs.Closing.{closing, IsNewOrFile, IsEither}
 use Rattle.btree_delete.specs.Created.{IsCreated, IsCreateFault}
 use Rattle.btree_delete.specs.TableView.{TableView, IsClosed, table_contents}
 use Rattle.record_file.specs.Abstract.{new_file}
-use Rattle.recfile_c.specs.declared.tables.FileTable.{FileTable}
-use Rattle.recfile_c.specs.declared.tables.FileTable.TheVariants.{Memory, Paged}
+use Rattle.recfile_c.specs.declared.file_table.FileTable.{FileTable}
+use Rattle.recfile_c.specs.declared.file_table.FileTable.TheVariants.{Memory, Paged}
 use Rattle.recfile_c.specs.declared.held.Held.{Held}
 use Rattle.recfile_c.specs.declared.held.Held.TheVariants.{Image, Open, Unclosed, Closed}
-use Rattle.recfile_c.specs.declared.outcomes.Outcome.{Outcome}
-use Rattle.recfile_c.specs.declared.steps.Step.{Step}
+use Rattle.recfile_c.specs.declared.outcome.Outcome.{Outcome}
+use Rattle.page_store.specs.declared.step.Step.{Step}
 use Rattle.recfile_c.specs.declared.shown.StepShown.{StepShown}
 use Rattle.recfile_c.specs.Shown.{step_shown}
-use Rattle.recfile_c.specs.Steps.{Journal, pages_of}
+use Rattle.recfile_c.specs.Steps.{JournalView, pages_of, journal_of}
 use Rattle.recfile_c.specs.Outcomes.{just, ok, closed, memory, not_closed, no_such_entry, bad_length, limits_outcome, open_outcome, create_outcome, still_open_by}
 use Rattle.recfile_c.specs.Calls.{FileState}
 use Rattle.recfile_c.specs.Opening.{IsOpened}
@@ -26,6 +28,10 @@ use Rattle.recfile_c.specs.Opening.{IsOpened}
 -- a file over a table, in which nothing was begun
 abbrev pub paged_file : TableView → Bounds → FileState
 paged_file t limits = record { table = Paged t; file = new_file (table_contents t) limits; log = [] }
+
+-- the table's store was made of these pages and has kept no step so far
+abbrev pub HasNoStep : TableView → List (List ℕ) → Type 0
+HasNoStep t opened = t.pages.journal ≡ Some (record { opened = opened; steps = [] })
 
 -- The pages are a closed file, whose tree and records the table has; its store is steady, and has these pages.
 pub record OpensPages (pages : List (List ℕ)) (limits : Bounds) (t : TableView) : Type 0 where
@@ -36,6 +42,7 @@ pub record OpensPages (pages : List (List ℕ)) (limits : Bounds) (t : TableView
   pub failures : t.pages.failures ≡ 0
   pub refusals : t.refusals ≡ 0
   pub limit : t.limit ≡ limits.records
+  pub steps : HasNoStep t pages
 
 -- an empty table of that order over no pages
 pub record MakesPages (k : ℕ) (limits : Bounds) (t : TableView) : Type 0 where
@@ -45,6 +52,7 @@ pub record MakesPages (k : ℕ) (limits : Bounds) (t : TableView) : Type 0 where
   pub failures : t.pages.failures ≡ 0
   pub refusals : t.refusals ≡ 0
   pub limit : t.limit ≡ limits.records
+  pub steps : HasNoStep t []
 
 -- A file is opened from these pages, or the first check that fails is named.
 abbrev pub OpensFrom : List (List ℕ) → Result Bounds LimitFault → Result Held Outcome → Type 0
@@ -110,16 +118,20 @@ TakesImage None None = Unit {0}
 -- closing
 
 -- The steps lead from the old pages to a closed file with the table's tree and records; where nothing was changed they lead to
--- the pages that the table had been opened with.
-pub record Settles (t : TableView) (j : Journal) : Type 0 where
+-- the pages that the table had been opened with. They are those of a close, after the ones that were there. Where there were
+-- none, over a new file or a closed one, each front of them leads to the old file, or to one that opening refuses, or to the new one.
+pub record Settles (t : TableView) (j : JournalView) : Type 0 where
   pub closed : IsTrue t.pages.steady → IsClosed (pages_of j) 0 t.tree (table_contents t)
   pub idle : t.pages.changed ≡ false → pages_of j ≡ t.pages.stored
+  pub steps : journal_of j ≡ noted t.pages.journal (closing t)
+  pub fronts : HasNoStep t j.opened → IsNewOrFile j.opened → (k : ℕ) → IsEither j.opened (pages_of j) (carried j.opened (take k j.steps))
 
--- a table whose closing found no memory has its tree and its records
+-- a table whose closing found no memory has its tree and its records, and the first of its steps were kept
 pub record KeepsTable (old new : TableView) : Type 0 where
   pub tree : new.tree ≡ old.tree
   pub contents : table_contents new ≡ table_contents old
   pub steady : new.pages.steady ≡ old.pages.steady
+  pub steps : NotesFront (closing old) old.pages.journal new.pages.journal
 
 abbrev pub ClosesTable : Outcome → TableView → Held → Type 0
 ClosesTable told t (Closed j) = (told ≡ just ok) × Settles t j

@@ -1,19 +1,19 @@
 -- What the structs that a caller reads stand for.
 use Rattle.std.specs.Prelude.{◌≡◌, ℕ, ◌==◌, not, List, take, Option, Some, None, if◌then◌else◌}
-use Rattle.rec_types.specs.declared.transactions.TxId.{TxId}
-use Rattle.rec_types.specs.declared.transactions.Entry.{Entry}
-use Rattle.tx_log.specs.declared.log_records.LogRecord.{LogRecord}
-use Rattle.tx_log.specs.declared.log_records.LogRecord.TheVariants.{Update, Compensation}
+use Rattle.rec_types.specs.declared.transaction.TxId.{TxId}
+use Rattle.rec_types.specs.declared.transaction.Entry.{Entry}
+use Rattle.tx_log.specs.declared.log_record.LogRecord.{LogRecord}
+use Rattle.tx_log.specs.declared.log_record.LogRecord.TheVariants.{Update, Compensation}
 use Rattle.recfile_c.specs.declared.shown.KeyBytes.{KeyBytes}
 use Rattle.recfile_c.specs.declared.shown.Found.{Found}
 use Rattle.recfile_c.specs.declared.shown.LogEntry.{LogEntry}
 use Rattle.recfile_c.specs.declared.shown.ListedEntry.{ListedEntry}
 use Rattle.recfile_c.specs.declared.shown.TxStatus.{TxStatus}
 use Rattle.recfile_c.specs.declared.shown.StepShown.{StepShown}
-use Rattle.recfile_c.specs.declared.steps.Step.{Step}
-use Rattle.recfile_c.specs.declared.steps.Step.TheVariants.{SetPages, Write, Sync}
-use Rattle.record_file.specs.declared.faults.Status.{Status}
-use Rattle.record_file.specs.declared.faults.Status.TheVariants.{Active, Rolling}
+use Rattle.page_store.specs.declared.step.Step.{Step}
+use Rattle.page_store.specs.declared.step.Step.TheVariants.{SetPages, Write, Sync}
+use Rattle.record_file.specs.declared.fault.Status.{Status}
+use Rattle.record_file.specs.declared.fault.Status.TheVariants.{Active, Rolling}
 
 abbrev pub key_shown : KeyBytes → List ℕ
 key_shown k = take k.len k.bytes

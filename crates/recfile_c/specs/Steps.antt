@@ -1,22 +1,11 @@
 -- Steps that carry a file's changes out on its pages.
-use Rattle.std.specs.Prelude.{ℕ, ◌-◌, List, [], ◌∷◌, ◌++◌, length, slice_set}
-use Rattle.page_store.specs.Blank.{blanks}
-use Rattle.recfile_c.specs.declared.steps.Step.{Step}
-use Rattle.recfile_c.specs.declared.steps.Step.TheVariants.{SetPages, Write, Sync}
+use Rattle.std.specs.Prelude.{ℕ, List, [], ◌∷◌, Option, Some}
+use Rattle.page_store.specs.Journal.{Journal, carried}
+use Rattle.page_store.specs.declared.step.Step.{Step}
+use Rattle.page_store.specs.declared.step.Step.TheVariants.{SetPages, Write, Sync}
 
--- the pages after one step: made longer by pages of zeros, one written, or as they were
-abbrev pub carry : List (List ℕ) → Step → List (List ℕ)
-carry pages (SetPages n) = pages ++ blanks (n - length pages)
-carry pages (Write n page) = slice_set pages n page
-carry pages Sync = pages
-
--- the pages after all steps
-abbrev pub carried : List (List ℕ) → List Step → List (List ℕ)
-carried pages [] = pages
-carried pages (s ∷ steps) = carried (carry pages s) steps
-
--- what contracts see of a journal: the pages of the file that was opened, the steps since then, and the counts of a store
-pub record Journal : Type 0 where
+-- what contracts see of a store that keeps steps: the pages of the file that was opened, the steps since then, and the counts of a store
+pub record JournalView : Type 0 where
   pub opened : List (List ℕ)
   pub steps : List Step
   pub reads : ℕ
@@ -24,5 +13,19 @@ pub record Journal : Type 0 where
   pub failures : ℕ
 
 -- the pages that the steps leave
-abbrev pub pages_of : Journal → List (List ℕ)
+abbrev pub pages_of : JournalView → List (List ℕ)
 pages_of j = carried j.opened j.steps
+
+-- its journal as a store
+abbrev pub journal_of : JournalView → Option Journal
+journal_of j = Some (record { opened = j.opened; steps = j.steps })
+
+-- steps by example: the steps that write page 1 of two without its write, and a third page written before and after it is there
+abbrev pub page_1_left_out : List Step
+page_1_left_out = SetPages 2 ∷ Write 0 (4 ∷ []) ∷ Sync ∷ Sync ∷ Write 0 (5 ∷ []) ∷ Sync ∷ []
+
+abbrev pub written_before_longer : List Step
+written_before_longer = Write 2 (3 ∷ []) ∷ SetPages 3 ∷ []
+
+abbrev pub longer_before_written : List Step
+longer_before_written = SetPages 3 ∷ Write 2 (3 ∷ []) ∷ []

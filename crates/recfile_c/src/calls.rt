@@ -8,7 +8,7 @@ ghost use Rattle.recfile_c.specs.Outcomes.{just, closed};
 ghost use Rattle.recfile_c.specs.Calls.{OnSession, InFile, Begin, PutBytes, RemoveBytes, GetBytes, Savepoint, Release, RollbackTo, Abort, Resume, Commit, StatusOf, Charged, Begun, LogLen, LogUse, RecordAt};
 
 use crate::held::Held;
-use crate::outcomes::{CLOSED, LONG_RECORD, OK, Outcome};
+use crate::outcome::{CLOSED, LONG_RECORD, OK, Outcome};
 use crate::shown::{Found, LogEntry, TxStatus};
 use rec_types::{Key, Record, TxId};
 use record_file::BeginFault;

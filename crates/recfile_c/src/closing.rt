@@ -5,11 +5,11 @@ ghost use Rattle.std.specs.FinMap as maps;
 ghost use Rattle.recfile_c.specs.Outcomes.{still_open_by};
 ghost use Rattle.recfile_c.specs.declared.held.Held.TheVariants.{Open};
 
+use crate::file_table::FileTable;
 use crate::held::{Held, Session};
 use crate::journal::JournalStore;
-use crate::outcomes::{CLOSED, MEMORY, NO_SUCH_ENTRY, NOT_CLOSED, OK, Outcome};
+use crate::outcome::{CLOSED, MEMORY, NO_SUCH_ENTRY, NOT_CLOSED, OK, Outcome};
 use crate::shown::StepShown;
-use crate::tables::FileTable;
 use btree_delete::TreeTable;
 use record_file::StillOpen;
 use std::alloc::Global;

@@ -7,11 +7,11 @@ ghost use Rattle.recfile_c.specs.Shown.{key_shown, shown, log_shown, tx_shown};
 ghost use Rattle.recfile_c.specs.Outcomes.{just, ok, closed, memory};
 ghost use Rattle.recfile_c.specs.Calls.{OnHandle, InFile, Begin, PutBytes, RemoveBytes, GetBytes, Savepoint, Release, RollbackTo, Abort, Resume, Commit, StatusOf, Charged, Begun, LogLen, LogUse, RecordAt};
 ghost use Rattle.recfile_c.specs.Lists.{ListsEntries, ListsKeys, EntryAt, KeyAt};
-ghost use Rattle.recfile_c.specs.Opening.{Opens, MakesMemory};
+ghost use Rattle.recfile_c.specs.Opening.{OpensHandle, MakesMemory};
 ghost use Rattle.recfile_c.specs.Paged.{OnImage, OnHeld, AddsPage, OpensImage, CreatesImage, Closes, CountsSteps, StepAt, Discards};
 
 use crate::handle::RecFile;
-use crate::outcomes::{CLOSED, MEMORY, NOT_CLOSED, OK, Outcome};
+use crate::outcome::{CLOSED, MEMORY, NOT_CLOSED, OK, Outcome};
 use crate::root::Root;
 use crate::shown::{Found, KeyBytes, ListedEntry, LogEntry, StepShown, TxStatus};
 use crate::{calls, closing, lists, opening, paged};
@@ -39,7 +39,7 @@ pub extern "C" fn recfile_free(alloc: Global, file: Root) {
     let _held = handle.take(alloc);
 }
 
-/// Opens a closed handle on an empty file in memory. Statuses: OK, NOT_CLOSED, BAD_RECORDS, BAD_LOG, BAD_BEGINS,
+/// OpensHandle a closed handle on an empty file in memory. Statuses: OK, NOT_CLOSED, BAD_RECORDS, BAD_LOG, BAD_BEGINS,
 /// MEMORY.
 #[unsafe(no_mangle)]
 pub extern "C" fn recfile_memory(
@@ -49,7 +49,7 @@ pub extern "C" fn recfile_memory(
     log_records: u32,
     begins: u32,
 ) -> i32
-    ensures { Opens (MakesMemory (limits_of records log_records begins)) result
+    ensures { OpensHandle (MakesMemory (limits_of records log_records begins)) result
         file.old.slot.value file.new.slot.value }
 {
     if let Some(held) = file.take(alloc) {
@@ -457,7 +457,7 @@ pub extern "C" fn recfile_page(alloc: Global, file: &mut RecFile, page: &[u8; 40
     status
 }
 
-/// Opens the file whose pages were handed in, every page in order; where it is not opened, the handle has none left.
+/// OpensHandle the file whose pages were handed in, every page in order; where it is not opened, the handle has none left.
 /// Statuses: OK, NOT_CLOSED, BAD_RECORDS, BAD_LOG, BAD_BEGINS, then the first check that fails: BAD_LENGTH, BAD_MAGIC,
 /// BAD_VERSION, BAD_ORDER, NOT_CLEAN, BAD_HEADER, DAMAGED, WRONG_COUNT, TOO_MANY_RECORDS; and DEVICE and MEMORY where they
 /// are met.

@@ -1,6 +1,6 @@
 // What lies behind a handle that isn't closed.
+use crate::file_table::FileTable;
 use crate::journal::JournalStore;
-use crate::tables::FileTable;
 use btree_delete::TreeTable;
 use rec_types::{Entry, Key};
 use record_file::RecordFile;

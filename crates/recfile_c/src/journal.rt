@@ -2,10 +2,10 @@
 ghost use Rattle.std.specs.Prelude.{◌≡◌, ◌≢◌, ℕ, ◌<◌, List, [], ◌∷◌, ◌++◌, length, true, Some, Err, OnOk, OnErr, slice_get, slice_index_or};
 ghost use Rattle.rec_types.specs.Table.{counted};
 ghost use Rattle.page_store.specs.Blank.{blank};
-ghost use Rattle.recfile_c.specs.Steps.{carry, carried, pages_of};
+ghost use Rattle.page_store.specs.Journal.{carry, carried};
+ghost use Rattle.recfile_c.specs.Steps.{pages_of};
 
-use crate::steps::Step;
-use page_store::{Shape, Store, StoreFault};
+use page_store::{Shape, Step, Store, StoreFault};
 use std::alloc::Global;
 use std::marker::Model;
 
@@ -24,9 +24,10 @@ pub struct JournalStore {
 
 impl Model for JournalStore {
     ghost use Rattle.std.specs.Prelude.{◌≡◌, length};
-    ghost use Rattle.recfile_c.specs.Steps.{Journal, carried};
+    ghost use Rattle.page_store.specs.Journal.{carried};
+    ghost use Rattle.recfile_c.specs.Steps.{JournalView};
 
-    ghost Value = { Journal };
+    ghost Value = { JournalView };
 
     ghost view = { λ s. record {
       opened = s.opened.items;
@@ -138,7 +139,7 @@ impl JournalStore {
 
 impl Store for JournalStore {
     ghost use Rattle.std.specs.Prelude.{true};
-    ghost use Rattle.recfile_c.specs.Steps.{pages_of};
+    ghost use Rattle.recfile_c.specs.Steps.{pages_of, journal_of};
 
     ghost pages = { pages_of };
 
@@ -151,6 +152,8 @@ impl Store for JournalStore {
     ghost writes = { λ s. s.writes };
 
     ghost failures = { λ s. s.failures };
+
+    ghost journal = { journal_of };
 
     fn shape(&mut self) -> Result<Shape, StoreFault> {
         Ok(Shape {

@@ -4,18 +4,18 @@
 mod calls;
 mod closing;
 mod exports;
+mod file_table;
 mod handle;
 mod held;
 mod journal;
+pub mod laws;
 mod lists;
 mod loose;
 mod opening;
-mod outcomes;
+mod outcome;
 mod paged;
 mod root;
 mod shown;
 mod slot;
-mod steps;
-mod tables;
 #[cfg(test)]
 mod tests;

@@ -7,7 +7,7 @@ ghost use Rattle.recfile_c.specs.Lists.{ListsEntries, ListsKeys, EntryAt, KeyAt,
 ghost use Rattle.record_file.specs.Steps.{listed};
 
 use crate::held::Held;
-use crate::outcomes::{CLOSED, NO_SUCH_ENTRY, OK, Outcome};
+use crate::outcome::{CLOSED, NO_SUCH_ENTRY, OK, Outcome};
 use crate::shown::{KeyBytes, ListedEntry};
 use rec_types::{Entry, Key, TxId};
 use std::alloc::Global;

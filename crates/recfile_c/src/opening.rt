@@ -2,9 +2,9 @@
 ghost use Rattle.rec_types.specs.Limits.{limits_of};
 ghost use Rattle.recfile_c.specs.Opening.{IsOpened, MakesBox, MakesMemory, memory_file, unboxed};
 
+use crate::file_table::FileTable;
 use crate::held::{Held, Session};
-use crate::outcomes::{MEMORY, Outcome};
-use crate::tables::FileTable;
+use crate::outcome::{MEMORY, Outcome};
 use rec_types::{Limits, SortedTable};
 use record_file::RecordFile;
 use std::alloc::Global;

@@ -4,11 +4,11 @@ ghost use Rattle.rec_types.specs.Limits.{limits_of};
 ghost use Rattle.recfile_c.specs.Opening.{IsOpened};
 ghost use Rattle.recfile_c.specs.Paged.{paged_file, OpensFrom, CreatesOf, OpensImage, CreatesImage, TakesImage};
 
+use crate::file_table::FileTable;
 use crate::handle::RecFile;
 use crate::held::{Held, Session};
 use crate::journal::JournalStore;
-use crate::outcomes::{BAD_LENGTH, NOT_CLOSED, OK, Outcome};
-use crate::tables::FileTable;
+use crate::outcome::{BAD_LENGTH, NOT_CLOSED, OK, Outcome};
 use btree_delete::TreeTable;
 use rec_types::Limits;
 use record_file::RecordFile;

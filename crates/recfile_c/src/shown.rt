@@ -3,7 +3,7 @@ ghost use Rattle.std.specs.Prelude.{◌≡◌, [], if◌then◌else◌, None, So
 ghost use Rattle.recfile_c.specs.Shown.{key_shown, shown, log_shown, status_shown, step_shown, Shows};
 ghost use Rattle.recfile_c.specs.Answers.{found_in, taken_in, TellsStatus};
 
-use crate::steps::Step;
+use page_store::Step;
 use rec_types::{Entry, Key, Record};
 use record_file::{Status, StatusFault};
 use tx_log::LogRecord;

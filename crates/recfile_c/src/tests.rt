@@ -3,7 +3,7 @@
 use crate::exports::*;
 use crate::handle::RecFile;
 use crate::journal::blank_page;
-use crate::outcomes::{
+use crate::outcome::{
     ABSENT, BAD_ORDER, CLOSED, EMPTY_KEY, HELD, LONG_RECORD, NO_SUCH_ENTRY, NO_SUCH_SAVE,
     NO_SUCH_TX, NOT_CLOSED, NOT_ROLLING, OK, Outcome, STILL_OPEN,
 };

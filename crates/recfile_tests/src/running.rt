@@ -19,6 +19,7 @@ pub struct Row<'a> {
     pub commands: u32,
 }
 
+/// The greatest limits.
 pub fn greatest() -> Result<Limits, LimitFault> {
     Limits::new(1_000_000, 4_000_000, 1_000_000)
 }

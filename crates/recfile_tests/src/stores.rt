@@ -51,7 +51,7 @@ struct ScarceStore {
 }
 
 impl Store for ScarceStore {
-    ghost use Rattle.std.specs.Prelude.{true};
+    ghost use Rattle.std.specs.Prelude.{None, true};
 
     ghost pages = { λ s. s.inner.pages };
 
@@ -64,6 +64,8 @@ impl Store for ScarceStore {
     ghost writes = { λ s. s.writes };
 
     ghost failures = { λ _. 0 };
+
+    ghost journal = { λ _. None };
 
     fn shape(&mut self) -> Result<Shape, StoreFault> {
         self.inner.shape()

@@ -11,9 +11,9 @@ use Rattle.tx_log.specs.Owners.{owner_of, holder_of, claims, charged}
 use Rattle.tx_log.specs.LogLaws.{IsChained}
 use Rattle.std.specs.List.{list_any}
 use Rattle.tx_log.specs.LogState.{LogState, phase_of, open_in, history_in, places_of}
-use Rattle.tx_log.specs.declared.phases.Phase.{Phase}
-use Rattle.tx_log.specs.declared.log_records.LogRecord.{LogRecord}
-use Rattle.tx_log.specs.declared.log_records.LogRecord.TheVariants.{Update, Compensation}
+use Rattle.tx_log.specs.declared.phase.Phase.{Phase}
+use Rattle.tx_log.specs.declared.log_record.LogRecord.{LogRecord}
+use Rattle.tx_log.specs.declared.log_record.LogRecord.TheVariants.{Update, Compensation}
 use Rattle.tx_log.specs.Log.{key_of}
 use Rattle.tx_log.specs.LogCode.{coded_log_record}
 

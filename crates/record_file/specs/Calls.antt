@@ -1,9 +1,9 @@
 -- What calls on a file answer, one after another.
 use Rattle.std.specs.Prelude.{◌≡◌, List, [], ◌∷◌}
-use Rattle.record_file.specs.declared.calls.Call.{Call}
-use Rattle.record_file.specs.declared.calls.Call.TheVariants as call
-use Rattle.record_file.specs.declared.calls.Answer.{Answer}
-use Rattle.record_file.specs.declared.calls.Answer.TheVariants as answer
+use Rattle.record_file.specs.declared.call.Call.{Call}
+use Rattle.record_file.specs.declared.call.Call.TheVariants as call
+use Rattle.record_file.specs.declared.call.Answer.{Answer}
+use Rattle.record_file.specs.declared.call.Answer.TheVariants as answer
 use Rattle.record_file.specs.Steps.{listed}
 use Rattle.record_file.specs.Runs.{Called, Event, Seen, Step, Run, Begin, Put, Remove, Get, Savepoint, Release, RollbackTo, Abort, Resume, Commit, Entries, KeysOf, StatusOf, Charged, Begun, LogLen, LogUse, RecordAt}
 

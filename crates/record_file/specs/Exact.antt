@@ -3,11 +3,11 @@ use Rattle.std.specs.Prelude.{◌≡◌, ◌↔◌, ℕ, Bool, not, ◌&&◌, if
 use Rattle.rec_types.specs.Contents.{Contents}
 use Rattle.rec_types.specs.History.{Change}
 use Rattle.rec_types.specs.Kept.{change_of}
-use Rattle.rec_types.specs.declared.transactions.TxId.{TxId}
+use Rattle.rec_types.specs.declared.transaction.TxId.{TxId}
 use Rattle.tx_log.specs.Log.{is_update}
 use Rattle.tx_log.specs.LogLaws.{undoes, change_told}
 use Rattle.tx_log.specs.Owners.{owner_of}
-use Rattle.tx_log.specs.declared.log_records.LogRecord.{LogRecord}
+use Rattle.tx_log.specs.declared.log_record.LogRecord.{LogRecord}
 use Rattle.record_file.specs.Abstract.{File, open_of, records_of, owns}
 use Rattle.record_file.specs.Runs.{Seen}
 

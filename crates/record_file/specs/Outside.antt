@@ -2,23 +2,23 @@
 -- counts tell of them, has then counted.
 use Rattle.std.specs.Prelude.{◌≡◌, ◌⊎◌, ℕ, Bool, true, false, Option, Some, None, Result, Ok, Err, IsTrue}
 use Rattle.rec_types.specs.Table.{counted, Damages, damaged_at}
-use Rattle.record_file.specs.declared.faults.Cause.{Cause}
-use Rattle.record_file.specs.declared.faults.Cause.TheVariants.{Device, Damaged, Memory}
-use Rattle.record_file.specs.declared.faults.Stop.{Stop}
-use Rattle.record_file.specs.declared.faults.PutFault.{PutFault}
-use Rattle.record_file.specs.declared.faults.PutFault.TheVariants as put_faults
-use Rattle.record_file.specs.declared.faults.RemoveFault.{RemoveFault}
-use Rattle.record_file.specs.declared.faults.RemoveFault.TheVariants as remove_faults
-use Rattle.record_file.specs.declared.faults.GetFault.{GetFault}
-use Rattle.record_file.specs.declared.faults.GetFault.TheVariants as get_faults
-use Rattle.record_file.specs.declared.faults.RollbackToFault.{RollbackToFault}
-use Rattle.record_file.specs.declared.faults.RollbackToFault.TheVariants as rollback_faults
-use Rattle.record_file.specs.declared.faults.AbortFault.{AbortFault}
-use Rattle.record_file.specs.declared.faults.AbortFault.TheVariants as abort_faults
-use Rattle.record_file.specs.declared.faults.ResumeFault.{ResumeFault}
-use Rattle.record_file.specs.declared.faults.ResumeFault.TheVariants as resume_faults
-use Rattle.record_file.specs.declared.faults.EntriesFault.{EntriesFault}
-use Rattle.record_file.specs.declared.faults.EntriesFault.TheVariants as entries_faults
+use Rattle.record_file.specs.declared.fault.Cause.{Cause}
+use Rattle.record_file.specs.declared.fault.Cause.TheVariants.{Device, Damaged, Memory}
+use Rattle.record_file.specs.declared.fault.Stop.{Stop}
+use Rattle.record_file.specs.declared.fault.PutFault.{PutFault}
+use Rattle.record_file.specs.declared.fault.PutFault.TheVariants as put_faults
+use Rattle.record_file.specs.declared.fault.RemoveFault.{RemoveFault}
+use Rattle.record_file.specs.declared.fault.RemoveFault.TheVariants as remove_faults
+use Rattle.record_file.specs.declared.fault.GetFault.{GetFault}
+use Rattle.record_file.specs.declared.fault.GetFault.TheVariants as get_faults
+use Rattle.record_file.specs.declared.fault.RollbackToFault.{RollbackToFault}
+use Rattle.record_file.specs.declared.fault.RollbackToFault.TheVariants as rollback_faults
+use Rattle.record_file.specs.declared.fault.AbortFault.{AbortFault}
+use Rattle.record_file.specs.declared.fault.AbortFault.TheVariants as abort_faults
+use Rattle.record_file.specs.declared.fault.ResumeFault.{ResumeFault}
+use Rattle.record_file.specs.declared.fault.ResumeFault.TheVariants as resume_faults
+use Rattle.record_file.specs.declared.fault.EntriesFault.{EntriesFault}
+use Rattle.record_file.specs.declared.fault.EntriesFault.TheVariants as entries_faults
 
 -- what came from outside and ended a call, where something did
 

@@ -4,28 +4,28 @@ use Rattle.std.specs.FinMap as maps
 use Rattle.rec_types.specs.Contents.{Contents}
 use Rattle.rec_types.specs.History.{log_len}
 use Rattle.rec_types.specs.Table.{counted, greatest_count, Damages}
-use Rattle.rec_types.specs.declared.tables.Table.{Ghosts}
-use Rattle.rec_types.specs.declared.transactions.TxId.{TxId}
-use Rattle.rec_types.specs.declared.transactions.Entry.{Entry}
+use Rattle.rec_types.specs.declared.table.Table.{Ghosts}
+use Rattle.rec_types.specs.declared.transaction.TxId.{TxId}
+use Rattle.rec_types.specs.declared.transaction.Entry.{Entry}
 use Rattle.tx_log.specs.Log.{record_at}
-use Rattle.tx_log.specs.declared.log_records.LogRecord.{LogRecord}
-use Rattle.tx_log.specs.declared.phases.BeginFault.{BeginFault}
-use Rattle.record_file.specs.declared.faults.PutFault.{PutFault}
-use Rattle.record_file.specs.declared.faults.RemoveFault.{RemoveFault}
-use Rattle.record_file.specs.declared.faults.GetFault.{GetFault}
-use Rattle.record_file.specs.declared.faults.SavepointFault.{SavepointFault}
-use Rattle.record_file.specs.declared.faults.ReleaseFault.{ReleaseFault}
-use Rattle.record_file.specs.declared.faults.RollbackToFault.{RollbackToFault}
-use Rattle.record_file.specs.declared.faults.AbortFault.{AbortFault}
-use Rattle.record_file.specs.declared.faults.ResumeFault.{ResumeFault}
-use Rattle.record_file.specs.declared.faults.CommitFault.{CommitFault}
-use Rattle.record_file.specs.declared.faults.EntriesFault.{EntriesFault}
-use Rattle.record_file.specs.declared.faults.KeysOfFault.{KeysOfFault}
-use Rattle.record_file.specs.declared.faults.StatusFault.{StatusFault}
-use Rattle.record_file.specs.declared.faults.Status.{Status}
+use Rattle.tx_log.specs.declared.log_record.LogRecord.{LogRecord}
+use Rattle.tx_log.specs.declared.phase.BeginFault.{BeginFault}
+use Rattle.record_file.specs.declared.fault.PutFault.{PutFault}
+use Rattle.record_file.specs.declared.fault.RemoveFault.{RemoveFault}
+use Rattle.record_file.specs.declared.fault.GetFault.{GetFault}
+use Rattle.record_file.specs.declared.fault.SavepointFault.{SavepointFault}
+use Rattle.record_file.specs.declared.fault.ReleaseFault.{ReleaseFault}
+use Rattle.record_file.specs.declared.fault.RollbackToFault.{RollbackToFault}
+use Rattle.record_file.specs.declared.fault.AbortFault.{AbortFault}
+use Rattle.record_file.specs.declared.fault.ResumeFault.{ResumeFault}
+use Rattle.record_file.specs.declared.fault.CommitFault.{CommitFault}
+use Rattle.record_file.specs.declared.fault.EntriesFault.{EntriesFault}
+use Rattle.record_file.specs.declared.fault.KeysOfFault.{KeysOfFault}
+use Rattle.record_file.specs.declared.fault.StatusFault.{StatusFault}
+use Rattle.record_file.specs.declared.fault.Status.{Status}
 use Rattle.record_file.specs.Abstract.{File, OpenFile, Tells, charged_of, use_of}
 use Rattle.record_file.specs.Outside.{put_cause, remove_cause, get_cause, entries_cause, rollback_cause, abort_cause, resume_cause, put_by_file, remove_by_file, get_by_file, by_device, by_memory, named_by, TellsDamage}
-use Rattle.record_file.specs.declared.faults.Cause.{Cause}
+use Rattle.record_file.specs.declared.fault.Cause.{Cause}
 use Rattle.record_file.specs.Steps.{rose, put_refusal, remove_refusal, get_refusal, rollback_refusal, abort_refusal, resume_refusal, Accepts, BeginStep, PutStep, RemoveStep, GetStep, SavepointStep, ReleaseStep, CommitStep, RollsBackTo, RollbackToStep, Aborts, AbortStep, Resumes, ResumeStep, EntriesStep, KeysOfStep, status_of}
 
 -- a call with its arguments, and what it answered

@@ -4,47 +4,47 @@ use Rattle.std.specs.Prelude.{◌≡◌, ℕ, ◌+◌, ◌-◌, ◌<◌, ◌≤�
 use Rattle.std.specs.Global.{Vec}
 use Rattle.std.specs.FinMap as maps
 use Rattle.rec_types.specs.History.{Change, live_from, take_back, take_newest, own_count}
-use Rattle.rec_types.specs.declared.transactions.TxId.{TxId}
-use Rattle.rec_types.specs.declared.transactions.Entry.{Entry}
+use Rattle.rec_types.specs.declared.transaction.TxId.{TxId}
+use Rattle.rec_types.specs.declared.transaction.Entry.{Entry}
 use Rattle.tx_log.specs.Transactions.{Transactions, Tx, fresh, place_in, depth_of, most_savepoints}
-use Rattle.tx_log.specs.declared.phases.Rollback.{Rollback}
+use Rattle.tx_log.specs.declared.phase.Rollback.{Rollback}
 use Rattle.tx_log.specs.Owners.{owner_of, keys_owned}
 use Rattle.tx_log.specs.LogState.{active_with, rolling_to, places_of, finished}
-use Rattle.tx_log.specs.declared.phases.Phase.{Phase}
-use Rattle.tx_log.specs.declared.phases.Phase.TheVariants as phases
-use Rattle.tx_log.specs.declared.phases.BeginFault.{BeginFault}
-use Rattle.tx_log.specs.declared.phases.BeginFault.TheVariants as begin_faults
-use Rattle.record_file.specs.declared.faults.Cause.{Cause}
-use Rattle.record_file.specs.declared.faults.Cause.TheVariants as causes
-use Rattle.record_file.specs.declared.faults.Stop.{Stop}
-use Rattle.record_file.specs.declared.faults.PutFault.{PutFault}
-use Rattle.record_file.specs.declared.faults.PutFault.TheVariants as put_faults
-use Rattle.record_file.specs.declared.faults.RemoveFault.{RemoveFault}
-use Rattle.record_file.specs.declared.faults.RemoveFault.TheVariants as remove_faults
-use Rattle.record_file.specs.declared.faults.GetFault.{GetFault}
-use Rattle.record_file.specs.declared.faults.GetFault.TheVariants as get_faults
-use Rattle.record_file.specs.declared.faults.SavepointFault.{SavepointFault}
-use Rattle.record_file.specs.declared.faults.SavepointFault.TheVariants as savepoint_faults
-use Rattle.record_file.specs.declared.faults.ReleaseFault.{ReleaseFault}
-use Rattle.record_file.specs.declared.faults.ReleaseFault.TheVariants as release_faults
-use Rattle.record_file.specs.declared.faults.RollbackToFault.{RollbackToFault}
-use Rattle.record_file.specs.declared.faults.RollbackToFault.TheVariants as rollback_faults
-use Rattle.record_file.specs.declared.faults.AbortFault.{AbortFault}
-use Rattle.record_file.specs.declared.faults.AbortFault.TheVariants as abort_faults
-use Rattle.record_file.specs.declared.faults.ResumeFault.{ResumeFault}
-use Rattle.record_file.specs.declared.faults.ResumeFault.TheVariants as resume_faults
-use Rattle.record_file.specs.declared.faults.CommitFault.{CommitFault}
-use Rattle.record_file.specs.declared.faults.CommitFault.TheVariants as commit_faults
-use Rattle.record_file.specs.declared.faults.EntriesFault.{EntriesFault}
-use Rattle.record_file.specs.declared.faults.EntriesFault.TheVariants as entries_faults
-use Rattle.record_file.specs.declared.faults.KeysOfFault.{KeysOfFault}
-use Rattle.record_file.specs.declared.faults.KeysOfFault.TheVariants as keys_faults
-use Rattle.record_file.specs.declared.faults.StatusFault.{StatusFault}
-use Rattle.record_file.specs.declared.faults.StatusFault.TheVariants as status_faults
-use Rattle.record_file.specs.declared.faults.Status.{Status}
-use Rattle.record_file.specs.declared.faults.Status.TheVariants as statuses
-use Rattle.tx_log.specs.declared.log_records.LogRecord.{LogRecord}
-use Rattle.tx_log.specs.declared.log_records.LogRecord.TheVariants.{Update}
+use Rattle.tx_log.specs.declared.phase.Phase.{Phase}
+use Rattle.tx_log.specs.declared.phase.Phase.TheVariants as phases
+use Rattle.tx_log.specs.declared.phase.BeginFault.{BeginFault}
+use Rattle.tx_log.specs.declared.phase.BeginFault.TheVariants as begin_faults
+use Rattle.record_file.specs.declared.fault.Cause.{Cause}
+use Rattle.record_file.specs.declared.fault.Cause.TheVariants as causes
+use Rattle.record_file.specs.declared.fault.Stop.{Stop}
+use Rattle.record_file.specs.declared.fault.PutFault.{PutFault}
+use Rattle.record_file.specs.declared.fault.PutFault.TheVariants as put_faults
+use Rattle.record_file.specs.declared.fault.RemoveFault.{RemoveFault}
+use Rattle.record_file.specs.declared.fault.RemoveFault.TheVariants as remove_faults
+use Rattle.record_file.specs.declared.fault.GetFault.{GetFault}
+use Rattle.record_file.specs.declared.fault.GetFault.TheVariants as get_faults
+use Rattle.record_file.specs.declared.fault.SavepointFault.{SavepointFault}
+use Rattle.record_file.specs.declared.fault.SavepointFault.TheVariants as savepoint_faults
+use Rattle.record_file.specs.declared.fault.ReleaseFault.{ReleaseFault}
+use Rattle.record_file.specs.declared.fault.ReleaseFault.TheVariants as release_faults
+use Rattle.record_file.specs.declared.fault.RollbackToFault.{RollbackToFault}
+use Rattle.record_file.specs.declared.fault.RollbackToFault.TheVariants as rollback_faults
+use Rattle.record_file.specs.declared.fault.AbortFault.{AbortFault}
+use Rattle.record_file.specs.declared.fault.AbortFault.TheVariants as abort_faults
+use Rattle.record_file.specs.declared.fault.ResumeFault.{ResumeFault}
+use Rattle.record_file.specs.declared.fault.ResumeFault.TheVariants as resume_faults
+use Rattle.record_file.specs.declared.fault.CommitFault.{CommitFault}
+use Rattle.record_file.specs.declared.fault.CommitFault.TheVariants as commit_faults
+use Rattle.record_file.specs.declared.fault.EntriesFault.{EntriesFault}
+use Rattle.record_file.specs.declared.fault.EntriesFault.TheVariants as entries_faults
+use Rattle.record_file.specs.declared.fault.KeysOfFault.{KeysOfFault}
+use Rattle.record_file.specs.declared.fault.KeysOfFault.TheVariants as keys_faults
+use Rattle.record_file.specs.declared.fault.StatusFault.{StatusFault}
+use Rattle.record_file.specs.declared.fault.StatusFault.TheVariants as status_faults
+use Rattle.record_file.specs.declared.fault.Status.{Status}
+use Rattle.record_file.specs.declared.fault.Status.TheVariants as statuses
+use Rattle.tx_log.specs.declared.log_record.LogRecord.{LogRecord}
+use Rattle.tx_log.specs.declared.log_record.LogRecord.TheVariants.{Update}
 use Rattle.record_file.specs.Outside.{rollback_cause, abort_cause, resume_cause}
 use Rattle.record_file.specs.Abstract.{File, records_of, open_of, tx_of, phase_at, use_of, held_by, is_full, with_change}
 

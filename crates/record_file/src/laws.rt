@@ -5,7 +5,7 @@ ghost use Rattle.rec_types.specs.Contents.{Contents, set_to};
 ghost use Rattle.rec_types.specs.History.{Change, replay, live_of, live_from, take_back, taken_back};
 ghost use Rattle.rec_types.specs.LimitBounds.{Bounds};
 ghost use Rattle.rec_types.specs.Table.{greatest_count};
-ghost use Rattle.rec_types.specs.declared.transactions.TxId.{TxId};
+ghost use Rattle.rec_types.specs.declared.transaction.TxId.{TxId};
 ghost use Rattle.tx_log.specs.Owners.{keys_owned};
 ghost use Rattle.tx_log.specs.Transactions.{fresh, place_in};
 ghost use Rattle.record_file.specs.Abstract.{File, new_file, open_of, records_of, tx_of};
@@ -13,10 +13,10 @@ ghost use Rattle.record_file.specs.Exact.{IsExact, IsExactSeen, CompensatesOnce,
 ghost use Rattle.record_file.specs.Remaining.{NothingFails, remaining};
 ghost use Rattle.record_file.specs.Undo.{Starts, old_records, quiet, wrote};
 ghost use Rattle.record_file.specs.Runs.{Seen, Event, Step, Run, Begin, Put, Remove, Savepoint, RollbackTo, Abort, Resume, Commit, Entries};
-ghost use Rattle.tx_log.specs.declared.log_records.LogRecord.TheVariants.{Update, Compensation};
+ghost use Rattle.tx_log.specs.declared.log_record.LogRecord.TheVariants.{Update, Compensation};
 ghost use Rattle.record_file.specs.Steps.{rose, places_at, rolling_place};
-ghost use Rattle.record_file.specs.declared.faults.PutFault.TheVariants as put_faults;
-ghost use Rattle.record_file.specs.declared.faults.EntriesFault.TheVariants as entries_faults;
+ghost use Rattle.record_file.specs.declared.fault.PutFault.TheVariants as put_faults;
+ghost use Rattle.record_file.specs.declared.fault.EntriesFault.TheVariants as entries_faults;
 
 /// There are runs, and a run can't be forged: a transaction may be begun on a new file; a put isn't
 /// refused as Full on an empty one, whatever else comes to the table; and a listing that a device ended

@@ -1,13 +1,13 @@
 //! Transactions over any table.
 #![tactic(auto)]
 
-mod calls;
-mod faults;
+mod call;
+mod fault;
 mod file;
 pub mod laws;
 
-pub use calls::{Answer, Call, make_call, run_calls};
-pub use faults::{
+pub use call::{Answer, Call, make_call, run_calls};
+pub use fault::{
     AbortFault, Cause, CommitFault, EntriesFault, GetFault, KeysOfFault, PutFault, ReleaseFault,
     RemoveFault, ResumeFault, RollbackToFault, SavepointFault, Status, StatusFault,
 };

@@ -1,16 +1,19 @@
 -- The chain of a transaction passes exactly its updates that aren't taken back.
 use Rattle.std.proofs.Common.{◌≡◌, ℕ, ◌+◌, ◌<◌, ◌≤◌, Bool, true, false, cond, eqb, List, [], ◌∷◌, ◌++◌, length, drop, Option, refl, sym, ap, subst, ◌∙◌, arith, eq-eqb}
 use Rattle.std.proofs.lemmas.Bool.Decides.{nat_tests}
-use Rattle.tx_log.specs.Log.{lsn_of, tx_of, leads_to, is_update, last_of, stepped, stack, led, chain, IsNumbered, Undoes, IsWritten, AllWritten}
-use Rattle.tx_log.specs.declared.log_records.LogRecord.{LogRecord}
-use Rattle.tx_log.specs.declared.log_records.LogRecord.TheVariants.{Update, Compensation}
+use Rattle.tx_log.specs.Log.{lsn_of, tx_of_record, leads_to, is_update, last_of, stepped, stack, led, chain, IsNumbered, Undoes, IsWritten, AllWritten}
+use Rattle.tx_log.specs.declared.log_record.LogRecord.{LogRecord}
+use Rattle.tx_log.specs.declared.log_record.LogRecord.TheVariants.{Update, Compensation}
 
+-- a greater number differs from a smaller one
 pub differs : (m n : ℕ) → n < m → eqb m n ≡ false
 differs m n h = grind (arith, nat_tests)
 
+-- a smaller number differs from a greater one
 pub unequal : (m n : ℕ) → m < n → eqb m n ≡ false
 unequal m n h = grind (arith, nat_tests)
 
+-- numbers that are told to be equal are
 pub same_number : (m n : ℕ) → eqb m n ≡ true → m ≡ n
 same_number m n h = grind (arith, nat_tests)
 
@@ -18,14 +21,17 @@ same_number m n h = grind (arith, nat_tests)
 pub chain-skip : (r : LogRecord) (rs : List LogRecord) (n : ℕ) → lsn_of r ≡ length rs + 1 → n ≤ length rs → chain (r ∷ rs) n ≡ chain rs n
 chain-skip r rs n is low = ap (λ (b : Bool). cond b (led r (chain rs (leads_to r))) (chain rs n)) (differs (lsn_of r) n (omega arith))
 
+-- the older records of a numbered log are numbered
 pub numbered-part : (newer : List LogRecord) (r : LogRecord) (older : List LogRecord) → IsNumbered (newer ++ r ∷ older) → IsNumbered (r ∷ older)
 numbered-part [] r older is = is
 numbered-part (x ∷ newer) r older is = numbered-part newer r older is.3
 
+-- the records below one are fewer than all
 pub length-part : (newer : List LogRecord) (r : LogRecord) (older : List LogRecord) → length older < length (newer ++ r ∷ older)
 length-part [] r older = omega arith
 length-part (x ∷ newer) r older = omega (arith, length-part newer r older)
 
+-- the chain from a record's number begins with that record
 pub chain-found : (newer : List LogRecord) (r : LogRecord) (older : List LogRecord) (n : ℕ) → IsNumbered (newer ++ r ∷ older) → lsn_of r ≡ n → chain (newer ++ r ∷ older) n ≡ led r (chain (newer ++ r ∷ older) (leads_to r))
 chain-found [] r older n is at =
     ap (λ (b : Bool). cond b (led r (chain older (leads_to r))) (chain older n)) (eq-eqb (lsn_of r) n at)
@@ -41,10 +47,12 @@ last_case : (r : LogRecord) (rs : List LogRecord) (t : ℕ) → lsn_of r ≡ len
 last_case r rs t is low true = omega arith
 last_case r rs t is low false = omega arith
 
+-- a transaction's last record is one of the log's
 pub last_of-le : (rs : List LogRecord) (t : ℕ) → IsNumbered rs → last_of t rs ≤ length rs
 last_of-le [] t is = omega arith
-last_of-le (r ∷ rs) t is = omega (arith, last_case r rs t is.0 (last_of-le rs t is.3) (eqb (tx_of r) t))
+last_of-le (r ∷ rs) t is = omega (arith, last_case r rs t is.0 (last_of-le rs t is.3) (eqb (tx_of_record r) t))
 
+-- the chain from a number begins with an update and goes on with some others
 pub record IsHead (rs : List LogRecord) (n : ℕ) (u : LogRecord) (us : List LogRecord) : Type 0 where
   pub falls : leads_to u < lsn_of u
   pub within : lsn_of u ≤ length rs
@@ -82,18 +90,19 @@ undone_rest rs undo_next key restored n ((Update lsn prev tx k before after) ∷
 undone_rest rs undo_next key restored n ((Compensation lsn prev tx k was next) ∷ us) is e u =
     let is_one : false ≡ true = (chain-head rs n _ us is e).update in absurd (cc)
 
-own_step : (t : ℕ) (r : LogRecord) (rs : List LogRecord) → IsNumbered (r ∷ rs) → IsWritten r rs → chain rs (last_of t rs) ≡ stack t rs → tx_of r ≡ t → led r (chain rs (leads_to r)) ≡ stepped r (stack t rs)
+own_step : (t : ℕ) (r : LogRecord) (rs : List LogRecord) → IsNumbered (r ∷ rs) → IsWritten r rs → chain rs (last_of t rs) ≡ stack t rs → tx_of_record r ≡ t → led r (chain rs (leads_to r)) ≡ stepped r (stack t rs)
 own_step t (Update lsn prev tx key before after) rs is w step own =
     ap (λ us. Update lsn prev tx key before after ∷ us) (ap (chain rs) (w ∙ ap (λ x. last_of x rs) own) ∙ step)
 own_step t (Compensation lsn prev tx key restored undo_next) rs is w step own =
     undone_rest rs undo_next key restored (last_of t rs) (stack t rs) is.3 step (subst (λ x. Undoes key restored undo_next (stack x rs)) own w.1)
 
-stack_case : (t : ℕ) (r : LogRecord) (rs : List LogRecord) → IsNumbered (r ∷ rs) → IsWritten r rs → chain rs (last_of t rs) ≡ stack t rs → (b : Bool) → eqb (tx_of r) t ≡ b → chain (r ∷ rs) (cond b (lsn_of r) (last_of t rs)) ≡ cond b (stepped r (stack t rs)) (stack t rs)
+stack_case : (t : ℕ) (r : LogRecord) (rs : List LogRecord) → IsNumbered (r ∷ rs) → IsWritten r rs → chain rs (last_of t rs) ≡ stack t rs → (b : Bool) → eqb (tx_of_record r) t ≡ b → chain (r ∷ rs) (cond b (lsn_of r) (last_of t rs)) ≡ cond b (stepped r (stack t rs)) (stack t rs)
 stack_case t r rs is w step true own =
     ap (λ (b : Bool). cond b (led r (chain rs (leads_to r))) (chain rs (lsn_of r))) (eq-eqb (lsn_of r) (lsn_of r) refl)
     ∙ own_step t r rs is w step (same_number _ _ own)
 stack_case t r rs is w step false own = chain-skip r rs (last_of t rs) is.0 (last_of-le rs t is.3) ∙ step
 
+-- the chain from a transaction's last record is the stack of its live updates
 pub chain_is_stack : (t : ℕ) (rs : List LogRecord) → IsNumbered rs → AllWritten rs → chain rs (last_of t rs) ≡ stack t rs
 chain_is_stack t [] is w = refl
-chain_is_stack t (r ∷ rs) is w = stack_case t r rs is w.0 (chain_is_stack t rs is.3 w.1) (eqb (tx_of r) t) refl
+chain_is_stack t (r ∷ rs) is w = stack_case t r rs is w.0 (chain_is_stack t rs is.3 w.1) (eqb (tx_of_record r) t) refl

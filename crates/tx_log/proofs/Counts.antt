@@ -7,9 +7,10 @@ use Rattle.rec_types.specs.Kept.{Kept, change_of, history_of, is_own, newest_or,
 use Rattle.tx_log.proofs.Chains.{same_number}
 use Rattle.tx_log.proofs.Lives.{first, newest_is, stack_is_lives, dead}
 use Rattle.tx_log.specs.Log.{noted, kept_by, kept_of, stack, Undoes, IsWritten, AllWritten}
-use Rattle.tx_log.specs.declared.log_records.LogRecord.{LogRecord}
-use Rattle.tx_log.specs.declared.log_records.LogRecord.TheVariants.{Update, Compensation}
+use Rattle.tx_log.specs.declared.log_record.LogRecord.{LogRecord}
+use Rattle.tx_log.specs.declared.log_record.LogRecord.TheVariants.{Update, Compensation}
 
+-- the history of one more change
 pub history-push : (cs : List Kept) (d : Kept) → history_of (cs ++ d ∷ []) ≡ history_of cs ++ change_of d ∷ []
 history-push cs d = map-append change_of cs (d ∷ [])
 
@@ -18,13 +19,16 @@ length_case (Some d) b c cs done e = ap suc e
 length_case None true c cs done e = refl
 length_case None false c cs done e = refl
 
+-- taking a change back leaves as many changes
 pub length-undone : (t : ℕ) (cs : List Kept) → length (undone t cs) ≡ length cs
 length-undone t [] = refl
 length-undone t (c ∷ cs) = length_case (newest_live t cs) (is_own t c) c cs (undone t cs) (length-undone t cs)
 
+-- how many changes of a history pass a test
 abbrev pub count : (Change → Bool) → List Kept → ℕ
 count p cs = length (filter p (history_of cs))
 
+-- the same, with one more change
 pub count-push : (p : Change → Bool) (cs : List Kept) (d : Kept) → count p (cs ++ d ∷ []) ≡ count p cs + cond (p (change_of d)) 1 0
 count-push p [] d = count_single (p (change_of d))
   where
@@ -61,6 +65,7 @@ count_case p t a b at c cs done step None e true f u g = changed_front (p (chang
     changed_front false false false false h k = refl
 count_case p t a b at c cs done step None e false f u g = absurd (cc)
 
+-- the same, where a change is taken back that passed before as it should, and passes now as it should
 pub count-undone : (p : Change → Bool) (t : ℕ) (a b : Bool) → ((c : Kept) → is_own t c ≡ true → (p (change_of c) ≡ a) × (p (change_of (dead c)) ≡ b)) → (cs : List Kept) (u : Kept) → newest_live t cs ≡ Some u → count p (undone t cs) + cond a 1 0 ≡ count p cs + cond b 1 0
 count-undone p t a b at [] u e = absurd (cc)
 count-undone p t a b at (c ∷ cs) u e = count_case p t a b at c cs (undone t cs) (λ d f. count-undone p t a b at cs d f) (newest_live t cs) refl (is_own t c) refl u e
@@ -69,9 +74,11 @@ and_both : (a b : Bool) → (a && b) ≡ true → (a ≡ true) × (b ≡ true)
 and_both true b e = (refl, e)
 and_both false b e = absurd (cc)
 
+-- one more change is taken back
 pub taken-undone : (t : ℕ) (cs : List Kept) (u : Kept) → newest_live t cs ≡ Some u → count is_taken (undone t cs) ≡ count is_taken cs + 1
 taken-undone t cs u e = omega (arith, count-undone is_taken t false true (λ c own. (ap not (and_both (eqb c.tx t) c.live own).1, refl)) cs u e)
 
+-- one live change of the open transactions fewer
 pub pending-undone : (is_open : ℕ → Bool) (t : ℕ) (cs : List Kept) (u : Kept) → is_open t ≡ true → newest_live t cs ≡ Some u → count (is_pending is_open) (undone t cs) + 1 ≡ count (is_pending is_open) cs
 pending-undone is_open t cs u opened e =
     omega (arith, count-undone (is_pending is_open) t true false (λ c own. (ap (λ b. b && is_open c.tx) (and_both (eqb c.tx t) c.live own).1 ∙ ap is_open (same_number c.tx t (and_both (eqb c.tx t) c.live own).0) ∙ opened, refl)) cs u e)
@@ -79,17 +86,20 @@ pending-undone is_open t cs u opened e =
 length-history : (cs : List Kept) → length (history_of cs) ≡ length cs
 length-history cs = length-map cs change_of
 
+-- a live change makes the log one record longer
 pub log_len-push : (cs : List Kept) (d : Kept) → d.live ≡ true → log_len (history_of (cs ++ d ∷ [])) ≡ log_len (history_of cs) + 1
 log_len-push cs d is =
     let taken : count is_taken (cs ++ d ∷ []) ≡ count is_taken cs + cond (not d.live) 1 0 = count-push is_taken cs d in
     let none : ◌≡◌ {A = ℕ} (cond (not d.live) 1 0) 0 = ap (λ (b : Bool). cond (not b) 1 0) is in
     omega (arith, taken, none, length-history (cs ++ d ∷ []), length-history cs, length-append cs (d ∷ []))
 
+-- so does taking one back
 pub log_len-undone : (t : ℕ) (cs : List Kept) (u : Kept) → newest_live t cs ≡ Some u → log_len (history_of (undone t cs)) ≡ log_len (history_of cs) + 1
 log_len-undone t cs u e = omega (arith, taken-undone t cs u e, length-history (undone t cs), length-history cs, length-undone t cs)
 
 -- ---- the whole log
 
+-- the head of a transaction's stack is its newest live change
 pub newest_of_stack : (t : ℕ) (rs us : List LogRecord) (u : LogRecord) → stack t rs ≡ u ∷ us → newest_live t (kept_of rs) ≡ Some (noted u)
 newest_of_stack t rs us u e = newest_is t (kept_of rs) ∙ ap first (sym (stack_is_lives t rs) ∙ ap (map noted) e)
 
@@ -101,6 +111,7 @@ len_step : (r : LogRecord) (rs : List LogRecord) → IsWritten r rs → log_len 
 len_step (Update lsn prev tx key before after) rs w = log_len-push (kept_of rs) (noted (Update lsn prev tx key before after)) refl
 len_step (Compensation lsn prev tx key restored undo_next) rs w = undoes_some tx.0 rs key restored undo_next (stack tx.0 rs) refl w.1
 
+-- the log is as long as its history says
 pub log_len_is : (rs : List LogRecord) → AllWritten rs → log_len (history_of (kept_of rs)) ≡ length rs
 log_len_is [] w = refl
 log_len_is (r ∷ rs) w = omega (arith, len_step r rs w.0, log_len_is rs w.1)

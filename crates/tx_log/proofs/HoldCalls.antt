@@ -3,27 +3,27 @@ use Rattle.std.proofs.Common.{◌≡◌, ℕ, ◌+◌, ◌<◌, ◌≤◌, Bool,
 use Rattle.std.specs.List.{filter, find}
 use Rattle.std.proofs.lemmas.List.{length-reverse}
 use Rattle.rec_types.specs.Kept.{history_of}
-use Rattle.rec_types.specs.declared.transactions.TxId.{TxId}
-use Rattle.tx_log.proofs.HoldFacts.{held_grown, accepted_hold, compensated_hold, IsHoldStep, IsHolding, holding_of, mine_alone, own_absent, own_or_none}
+use Rattle.rec_types.specs.declared.transaction.TxId.{TxId}
+use Rattle.tx_log.proofs.HoldingLemmas.{held_grown, accepted_hold, compensated_hold, IsHoldStep, IsHolding, holding_of, mine_alone, own_absent, own_or_none}
 use Rattle.tx_log.proofs.HoldSteps.{held_put, busy_placed, lowered_busy}
-use Rattle.tx_log.proofs.KeptFacts.{stack-le}
-use Rattle.tx_log.proofs.OpenFacts.{opens_is}
-use Rattle.tx_log.proofs.ReadFacts.{entry_chain}
+use Rattle.tx_log.proofs.KeptLogLemmas.{stack-le}
+use Rattle.tx_log.proofs.OpenTxLemmas.{opens_is}
+use Rattle.tx_log.proofs.OpenTxReadLemmas.{entry_chain}
 use Rattle.tx_log.proofs.WalkSteps.{IsStep}
-use Rattle.tx_log.specs.Finds.{Txs, finding, Puts}
-use Rattle.tx_log.specs.Holdings.{Holds, held, Places, lowered, live_of, live_at, absent_at, IsHeld, AllBusy}
+use Rattle.tx_log.specs.Finds.{Txs, finding, PutsAt}
+use Rattle.tx_log.specs.Holdings.{HoldsKey, held, Places, lowered, live_of, live_at, absent_at, IsHeld, AllBusy}
 use Rattle.tx_log.specs.Log.{key_of, kept_of, stack, chain}
 use Rattle.tx_log.specs.LogFields.{state_of, IsTxLog}
 use Rattle.tx_log.specs.LogState.{LogState, open_in, history_in}
 use Rattle.tx_log.specs.OpenTxs.{opens}
 use Rattle.tx_log.specs.Owners.{holder_of}
 use Rattle.tx_log.specs.Walks.{change_in, is_at, takes_out}
-use Rattle.tx_log.specs.declared.holdings.Holding.{Holding}
-use Rattle.tx_log.specs.declared.log_records.LogRecord.{LogRecord}
-use Rattle.tx_log.specs.declared.log_records.LogRecord.TheVariants.{Update, Compensation}
-use Rattle.tx_log.specs.declared.logs.TxLog.TheInside.{Inside}
-use Rattle.tx_log.specs.declared.opened.OpenTx.{OpenTx}
-use Rattle.tx_log.specs.declared.walks.LiveChange.{LiveChange}
+use Rattle.tx_log.specs.declared.holding.Holding.{Holding}
+use Rattle.tx_log.specs.declared.log_record.LogRecord.{LogRecord}
+use Rattle.tx_log.specs.declared.log_record.LogRecord.TheVariants.{Update, Compensation}
+use Rattle.tx_log.specs.declared.log.TxLog.TheInside.{Inside}
+use Rattle.tx_log.specs.declared.open_tx.OpenTx.{OpenTx}
+use Rattle.tx_log.specs.declared.undo_chain.LiveChange.{LiveChange}
 
 live_le : (k : List ℕ) (us : List LogRecord) → live_at k us ≤ length us
 live_le k [] = omega arith
@@ -45,6 +45,7 @@ pub record IsFree (l : Inside) (t : ℕ) (key : List ℕ) (e : OpenTx) : Type 0 
   pub lacks : hold.absent ≡ takes_out (option_map change_in (find (is_at key) (chain (reverse l.records.items) e.last)))
   pub few : hold.live ≤ length l.records.items
 
+-- a key that nobody else holds, with room in the map
 pub free_key : (l : Inside) → IsTxLog l → (s : LogState) → state_of l ≡ s → (t : ℕ) (key : List ℕ) (e : OpenTx) → s.room ≡ Some key → holder_of (open_in s) (history_in s) t key ≡ None → finding l.txs.entries t ≡ Some e → IsFree l t key e
 free_key l is s view t key e room free found =
     let rs = reverse l.records.items in
@@ -66,11 +67,12 @@ free_key l is s view t key e room free found =
     }
 
 -- the holdings after an update
-pub record AreHeld (rs : List LogRecord) (txs : Txs) (holds : Holds) (over : Option (List ℕ)) : Type 0 where
+pub record AreHeld (rs : List LogRecord) (txs : Txs) (holds : HoldsKey) (over : Option (List ℕ)) : Type 0 where
   pub holding : IsHeld rs (opens txs) holds
   pub busy_keys : AllBusy holds over
 
-pub accepted_keys : (l : Inside) → IsTxLog l → (tx : TxId) (key : List ℕ) (e new : OpenTx) (free : IsFree l tx.0 key e) (txs_new : Txs) (holds_new : Holds) (lsn prev : ℕ) (before after : Option (List ℕ)) (absent : Bool) → finding l.txs.entries tx.0 ≡ Some e → Puts (finding l.txs.entries) txs_new tx.0 (Some new) → absent ≡ not (is_some after) → Places (held l.holdings) holds_new key (Some (record { owner = tx; live = free.hold.live + 1; absent = absent })) → AreHeld (Update lsn prev tx key before after ∷ reverse l.records.items) txs_new holds_new l.over
+-- what is kept of keys after a change
+pub accepted_keys : (l : Inside) → IsTxLog l → (tx : TxId) (key : List ℕ) (e new : OpenTx) (free : IsFree l tx.0 key e) (txs_new : Txs) (holds_new : HoldsKey) (lsn prev : ℕ) (before after : Option (List ℕ)) (absent : Bool) → finding l.txs.entries tx.0 ≡ Some e → PutsAt (finding l.txs.entries) txs_new tx.0 (Some new) → absent ≡ not (is_some after) → Places (held l.holdings) holds_new key (Some (record { owner = tx; live = free.hold.live + 1; absent = absent })) → AreHeld (Update lsn prev tx key before after ∷ reverse l.records.items) txs_new holds_new l.over
 accepted_keys l is tx key e new free txs_new holds_new lsn prev before after absent found puts absent_is places =
     let rs = reverse l.records.items in
     let r : LogRecord = Update lsn prev tx key before after in
@@ -90,6 +92,7 @@ pub record IsKeyOf (l : Inside) (t : ℕ) (change : LiveChange) (u : LogRecord) 
   pub hold : IsHolding (reverse l.records.items) (held l.holdings) t u us
   pub there : held l.holdings change.key ≡ Some hold.hold
 
+-- the key of the change that is taken back next
 pub key_of_change : (l : Inside) → IsTxLog l → (t : ℕ) (e : OpenTx) (change : LiveChange) → finding l.txs.entries t ≡ Some e → (step : IsStep (reverse l.records.items) e.last change) → IsKeyOf l t change step.update step.rest
 key_of_change l is t e change found step =
     let rs = reverse l.records.items in
@@ -98,7 +101,8 @@ key_of_change l is t e change found step =
     let hold = holding_of rs (opens (finding l.txs.entries)) (held l.holdings) t step.update step.rest is.holding (ap is_some found) whole in
     record { whole = whole; key = key; hold = hold; there = ap (held l.holdings) (sym key) ∙ hold.there }
 
-pub compensated_keys : (l : Inside) → IsTxLog l → (tx : TxId) (e new : OpenTx) (change : LiveChange) (u : LogRecord) (us : List LogRecord) (at : IsKeyOf l tx.0 change u us) (txs_new : Txs) (holds_new : Holds) (lsn prev : ℕ) (absent : Bool) → finding l.txs.entries tx.0 ≡ Some e → Puts (finding l.txs.entries) txs_new tx.0 (Some new) → absent ≡ absent_at change.key us → Places (held l.holdings) holds_new change.key (lowered at.hold.hold absent) → AreHeld (Compensation lsn prev tx change.key change.before change.prev ∷ reverse l.records.items) txs_new holds_new l.over
+-- what is kept of keys after a change is taken back
+pub compensated_keys : (l : Inside) → IsTxLog l → (tx : TxId) (e new : OpenTx) (change : LiveChange) (u : LogRecord) (us : List LogRecord) (at : IsKeyOf l tx.0 change u us) (txs_new : Txs) (holds_new : HoldsKey) (lsn prev : ℕ) (absent : Bool) → finding l.txs.entries tx.0 ≡ Some e → PutsAt (finding l.txs.entries) txs_new tx.0 (Some new) → absent ≡ absent_at change.key us → Places (held l.holdings) holds_new change.key (lowered at.hold.hold absent) → AreHeld (Compensation lsn prev tx change.key change.before change.prev ∷ reverse l.records.items) txs_new holds_new l.over
 compensated_keys l is tx e new change u us at txs_new holds_new lsn prev absent found puts absent_is places =
     let rs = reverse l.records.items in
     let r : LogRecord = Compensation lsn prev tx change.key change.before change.prev in

@@ -2,28 +2,28 @@
 use Rattle.std.proofs.Common.{◌≡◌, ℕ, ◌+◌, ◌-◌, ◌<◌, Bool, true, false, cond, eqb, List, [], Option, Some, None, IfSome, is_some, refl, sym, ap, subst, ◌∙◌, arith, eq-eqb}
 use Rattle.std.specs.List.{list_any}
 use Rattle.std.proofs.lemmas.Bool.Decides.{nat_tests}
-use Rattle.tx_log.proofs.HoldFacts.{held_begun, held_ended, Freed}
-use Rattle.tx_log.proofs.OpenFacts.{opens-put, opens-remove, begun_of}
-use Rattle.tx_log.specs.Finds.{Txs, Puts}
+use Rattle.tx_log.proofs.HoldingLemmas.{held_begun, held_ended, Freed}
+use Rattle.tx_log.proofs.OpenTxLemmas.{opens-put, opens-remove, begun_of}
+use Rattle.tx_log.specs.Finds.{Txs, PutsAt}
 use Rattle.tx_log.specs.Fits.{AllFit}
-use Rattle.tx_log.specs.Holdings.{Holds, same_bytes, Places, lowered, IsHeld, AllBusy}
+use Rattle.tx_log.specs.Holdings.{HoldsKey, same_bytes, Places, lowered, IsHeld, AllBusy}
 use Rattle.tx_log.specs.Log.{stack}
 use Rattle.tx_log.specs.OpenTxs.{opens}
 use Rattle.tx_log.specs.Walks.{is_at}
-use Rattle.tx_log.specs.declared.holdings.Holding.{Holding}
-use Rattle.tx_log.specs.declared.log_records.LogRecord.{LogRecord}
-use Rattle.tx_log.specs.declared.opened.OpenTx.{OpenTx}
+use Rattle.tx_log.specs.declared.holding.Holding.{Holding}
+use Rattle.tx_log.specs.declared.log_record.LogRecord.{LogRecord}
+use Rattle.tx_log.specs.declared.open_tx.OpenTx.{OpenTx}
 
 -- a transaction whose numbers change stays open
-pub held_put : (rs : List LogRecord) (old new : Txs) (holds : Holds) (t : ℕ) (e d : OpenTx) → Puts old new t (Some d) → old t ≡ Some e → IsHeld rs (opens old) holds → IsHeld rs (opens new) holds
+pub held_put : (rs : List LogRecord) (old new : Txs) (holds : HoldsKey) (t : ℕ) (e d : OpenTx) → PutsAt old new t (Some d) → old t ≡ Some e → IsHeld rs (opens old) holds → IsHeld rs (opens new) holds
 held_put rs old new holds t e d puts there is = subst (λ (o : ℕ → Bool). IsHeld rs o holds) (sym (opens-put t old new d e puts there)) is
 
 -- it ends, and its keys are freed
-pub held_closed : (rs : List LogRecord) (old new : Txs) (holds holds_new : Holds) (t : ℕ) (e : OpenTx) → Puts old new t None → old t ≡ Some e → Freed holds holds_new (stack t rs) → IsHeld rs (opens old) holds → IsHeld rs (opens new) holds_new
+pub held_closed : (rs : List LogRecord) (old new : Txs) (holds holds_new : HoldsKey) (t : ℕ) (e : OpenTx) → PutsAt old new t None → old t ≡ Some e → Freed holds holds_new (stack t rs) → IsHeld rs (opens old) holds → IsHeld rs (opens new) holds_new
 held_closed rs old new holds holds_new t e puts there freed is = subst (λ (o : ℕ → Bool). IsHeld rs o holds_new) (sym (opens-remove t old new puts)) (held_ended rs (opens old) holds holds_new t is (ap is_some there) freed)
 
 -- a new one has no key
-pub held_more : (rs : List LogRecord) (old new : Txs) (holds : Holds) (n : ℕ) (e : OpenTx) → AllFit rs n old → Puts old new (n + 1) (Some e) → stack (n + 1) rs ≡ [] → IsHeld rs (opens old) holds → IsHeld rs (opens new) holds
+pub held_more : (rs : List LogRecord) (old new : Txs) (holds : HoldsKey) (n : ℕ) (e : OpenTx) → AllFit rs n old → PutsAt old new (n + 1) (Some e) → stack (n + 1) rs ≡ [] → IsHeld rs (opens old) holds → IsHeld rs (opens new) holds
 held_more rs old new holds n e fit puts none is = held_begun rs (opens old) (opens new) holds n is (λ t h. (begun_of rs n t old fit h).1) (λ t apart. ap is_some (puts t) ∙ ap (λ (b : Bool). is_some (cond b (Some e) (old t))) apart) (ap is_some (puts (n + 1)) ∙ ap (λ (b : Bool). is_some (cond b (Some e) (old (n + 1)))) (eq-eqb (n + 1) (n + 1) refl)) none
 
 -- ---- keys at which no change is live
@@ -32,16 +32,19 @@ busy_case : (b : Bool) (w o : Option Holding) (P : Holding → Type 0) → IfSom
 busy_case true w o P this other = this
 busy_case false w o P this other = other
 
-pub busy_placed : (old new : Holds) (k : List ℕ) (w : Option Holding) (over : Option (List ℕ)) → Places old new k w → IfSome w (λ h. 0 < h.live) → AllBusy old over → AllBusy new over
+-- a key with a live change is put in: still only the key left over has none
+pub busy_placed : (old new : HoldsKey) (k : List ℕ) (w : Option Holding) (over : Option (List ℕ)) → Places old new k w → IfSome w (λ h. 0 < h.live) → AllBusy old over → AllBusy new over
 busy_placed old new k w over places some is = λ q. subst (λ (o : Option Holding). IfSome o (λ h. h.live ≡ 0 → over ≡ Some q)) (sym (places q)) (busy_case (same_bytes k q) w (old q) (λ h. h.live ≡ 0 → over ≡ Some q) (never w some q) (is q))
   where
     never : (o : Option Holding) → IfSome o (λ h. 0 < h.live) → (q : List ℕ) → IfSome o (λ h. h.live ≡ 0 → over ≡ Some q)
     never None h q = tt
     never (Some x) h q = λ none. absurd (omega (arith, h, none))
 
-pub busy_freed : (old new : Holds) (us : List LogRecord) (over : Option (List ℕ)) → Freed old new us → AllBusy old over → AllBusy new over
+-- keys are taken out: still only the key left over has no live change
+pub busy_freed : (old new : HoldsKey) (us : List LogRecord) (over : Option (List ℕ)) → Freed old new us → AllBusy old over → AllBusy new over
 busy_freed old new us over freed is = λ q. subst (λ (o : Option Holding). IfSome o (λ h. h.live ≡ 0 → over ≡ Some q)) (sym (freed q)) (busy_case (list_any (is_at q) us) None (old q) (λ h. h.live ≡ 0 → over ≡ Some q) tt (is q))
 
+-- a key that keeps a live change stays
 pub lowered_busy : (h : Holding) (n : ℕ) (absent : Bool) → h.live ≡ n + 1 → IfSome (lowered h absent) (λ x. 0 < x.live)
 lowered_busy h n absent live = lowered_case (eqb h.live 1) refl
   where

@@ -5,14 +5,16 @@ use Rattle.std.proofs.lemmas.Cmp.{nat_eq_equiv, lists_equiv}
 use Rattle.std.specs.Map.{lookup_key, values_of}
 use Rattle.indexmap.specs.IndexMap.{IndexMap, with_value_at, IsUnique, Updates}
 use Rattle.indexmap.proofs.CallerLemmas.{updates-with_value_at}
-use Rattle.tx_log.proofs.HoldFacts.{same_bytes-key}
-use Rattle.tx_log.proofs.KeyFacts.{same_key-is}
+use Rattle.tx_log.proofs.HoldingLemmas.{same_bytes-key}
+use Rattle.tx_log.proofs.KeyLemmas.{same_key-is}
 use Rattle.tx_log.specs.Holdings.{held, same_bytes, Places, HeldAt, busy}
-use Rattle.tx_log.specs.declared.holdings.Holding.{Holding}
+use Rattle.tx_log.specs.declared.holding.Holding.{Holding}
 
+-- the test of keys is an equivalence
 pub same_bytes-equiv : IsEquivalence same_bytes
 same_bytes-equiv = lists_equiv nat_eq_equiv
 
+-- keys that it tells to be the same are equal
 pub same_bytes-is : (a b : List ℕ) → same_bytes a b ≡ true → a ≡ b
 same_bytes-is a b e = same_key-is a b (sym (same_bytes-key a b) ∙ e)
 
@@ -20,10 +22,12 @@ key_case : (k x y : List ℕ) (o : Option (List ℕ)) → (o ≡ Some y → y �
 key_case k x y o step true f h = let same : x ≡ y = cc in sym same ∙ sym (same_bytes-is k x f)
 key_case k x y o step false f h = step h
 
+-- the key that is found is the one looked for
 pub found_key : (k : List ℕ) (es : List (List ℕ × Holding)) (y : List ℕ) → lookup_key (same_bytes k) es ≡ Some y → y ≡ k
 found_key k [] y h = absurd (cc)
 found_key k (e ∷ es) y h = key_case k e.0 y (lookup_key (same_bytes k) es) (found_key k es y) (same_bytes k e.0) refl h
 
+-- where a key stands in the map
 pub held_at : {S : Type 0} (m : IndexMap (List ℕ) Holding S) (k : List ℕ) (i : ℕ) (y : List ℕ) (h : Holding) → IsUnique same_bytes m → slice_get m.entries i ≡ Some (y, h) → lookup_key (same_bytes k) m.entries ≡ Some y → Some h ≡ held m k → HeldAt m k i
 held_at m k i y h unique at key value = record {
   hold = h;
@@ -64,5 +68,6 @@ idle_taken m n k y i j h r at places key value none taken updates =
     ∙ ap (λ (x : List ℕ). cond (same_bytes x q) None (held m q)) (found_key k m.entries y (sym key))
     ∙ ap (λ (o : Option Holding). cond (same_bytes k q) o (held m q)) (sym gone)
 
+-- a key is taken out of the map by its place
 pub taken_there : {S : Type 0} (m n : IndexMap (List ℕ) Holding S) (k : List ℕ) (i : ℕ) (r : Option (List ℕ × Holding)) → (s : HeldAt m k i) → r ≡ slice_get m.entries i → IfSome r (λ p. Updates same_bytes m n p.0 None) → Places (held m) (held n) k None
 taken_there m n k i r s taken updates = (subst (λ (o : Option (List ℕ × Holding)). IfSome o (λ p. Updates same_bytes m n p.0 None)) (taken ∙ s.entry) updates).0

@@ -3,14 +3,16 @@ use Rattle.std.proofs.Common.{◌≡◌, ℕ, Bool, true, false, cond, eqb, ◌&
 use Rattle.std.proofs.lemmas.List.{append-nil}
 use Rattle.rec_types.specs.Kept.{Kept, is_own, newest_or, newest_live, undone_or, undone}
 use Rattle.tx_log.proofs.Chains.{same_number}
-use Rattle.tx_log.specs.Log.{tx_of, noted, kept_by, kept_of, stepped, stack}
-use Rattle.tx_log.specs.declared.log_records.LogRecord.{LogRecord}
-use Rattle.tx_log.specs.declared.log_records.LogRecord.TheVariants.{Update, Compensation}
+use Rattle.tx_log.specs.Log.{tx_of_record, noted, kept_by, kept_of, stepped, stack}
+use Rattle.tx_log.specs.declared.log_record.LogRecord.{LogRecord}
+use Rattle.tx_log.specs.declared.log_record.LogRecord.TheVariants.{Update, Compensation}
 
+-- the first of a list, where there is one
 abbrev pub first : {A : Type 0} → List A → Option A
 first [] = None
 first (x ∷ xs) = Some x
 
+-- a list of one, or none
 abbrev pub single : {A : Type 0} → Bool → A → List A
 single true x = x ∷ []
 single false x = []
@@ -25,10 +27,12 @@ newest_case true c [] = refl
 newest_case false c [] = refl
 newest_case b c (u ∷ us) = refl
 
+-- the newest live change of a transaction is the first of its live changes
 pub newest_is : (t : ℕ) (cs : List Kept) → newest_live t cs ≡ first (lives t cs)
 newest_is t [] = refl
 newest_is t (c ∷ cs) = ap (λ o. newest_or o (is_own t c) c) (newest_is t cs) ∙ newest_case (is_own t c) c (lives t cs)
 
+-- the live changes after one more change
 pub lives-push : (t : ℕ) (cs : List Kept) (d : Kept) → lives t (cs ++ d ∷ []) ≡ single (is_own t d) d ++ lives t cs
 lives-push t [] d = sym (append-nil (single (is_own t d) d))
 lives-push t (c ∷ cs) d = ap (λ us. us ++ single (is_own t c) c) (lives-push t cs d) ∙ push_assoc (is_own t d) d (lives t cs) (single (is_own t c) c)
@@ -41,6 +45,7 @@ and_false : (b : Bool) → (b && false) ≡ false
 and_false true = refl
 and_false false = refl
 
+-- a change that is taken back
 abbrev pub dead : Kept → Kept
 dead c = record c { live = false }
 
@@ -62,6 +67,7 @@ undone_case t c cs done step None e true own =
 undone_case t c cs done step None e false own =
     ap (λ b. lives t cs ++ single b c) own ∙ append-nil (lives t cs) ∙ first_none (lives t cs) e ∙ sym (ap (λ us. drop 1 (us ++ [])) (first_none (lives t cs) e))
 
+-- taking the newest one back leaves the others
 pub lives-undone : (t : ℕ) (cs : List Kept) → lives t (undone t cs) ≡ drop 1 (lives t cs)
 lives-undone t [] = refl
 lives-undone t (c ∷ cs) =
@@ -83,12 +89,14 @@ other_case t u c cs done apart step None true own =
     ap (λ b. lives u cs ++ single b (dead c)) (is_own-dead u c) ∙ ap (λ b. lives u cs ++ single b c) (sym (other_own t u c apart own))
 other_case t u c cs done apart step None false own = refl
 
+-- and those of any other transaction
 pub lives-other : (t u : ℕ) (cs : List Kept) → eqb u t ≡ false → lives u (undone t cs) ≡ lives u cs
 lives-other t u [] apart = refl
 lives-other t u (c ∷ cs) apart = other_case t u c cs (undone t cs) apart (lives-other t u cs apart) (newest_live t cs) (is_own t c) refl
 
 -- ---- the stack of updates
 
+-- the test of numbers doesn't hang on which comes first
 pub eqb_sym : (m n : ℕ) → eqb m n ≡ eqb n m
 eqb_sym m n = eqb_sym_case m n (eqb m n) refl (eqb n m) refl
   where
@@ -102,7 +110,7 @@ drop_noted : (us : List LogRecord) → drop 1 (map noted us) ≡ map noted (drop
 drop_noted [] = refl
 drop_noted (u ∷ us) = refl
 
-stack_case : (t : ℕ) (r : LogRecord) (rs : List LogRecord) → map noted (stack t rs) ≡ lives t (kept_of rs) → (b : Bool) → eqb (tx_of r) t ≡ b → map noted (cond b (stepped r (stack t rs)) (stack t rs)) ≡ lives t (kept_by r (kept_of rs))
+stack_case : (t : ℕ) (r : LogRecord) (rs : List LogRecord) → map noted (stack t rs) ≡ lives t (kept_of rs) → (b : Bool) → eqb (tx_of_record r) t ≡ b → map noted (cond b (stepped r (stack t rs)) (stack t rs)) ≡ lives t (kept_by r (kept_of rs))
 stack_case t (Update lsn prev tx key before after) rs step true own =
     ap (λ us. noted (Update lsn prev tx key before after) ∷ us) step
     ∙ ap (λ (b : Bool). single (b && true) (noted (Update lsn prev tx key before after)) ++ lives t (kept_of rs)) (sym own)
@@ -116,6 +124,7 @@ stack_case t (Compensation lsn prev tx key restored undo_next) rs step true own 
 stack_case t (Compensation lsn prev tx key restored undo_next) rs step false own =
     step ∙ sym (lives-other tx.0 t (kept_of rs) (eqb_sym t tx.0 ∙ own))
 
+-- a transaction's stack, noted as changes, is its live changes
 pub stack_is_lives : (t : ℕ) (rs : List LogRecord) → map noted (stack t rs) ≡ lives t (kept_of rs)
 stack_is_lives t [] = refl
-stack_is_lives t (r ∷ rs) = stack_case t r rs (stack_is_lives t rs) (eqb (tx_of r) t) refl
+stack_is_lives t (r ∷ rs) = stack_case t r rs (stack_is_lives t rs) (eqb (tx_of_record r) t) refl

@@ -6,12 +6,14 @@ use Rattle.tx_log.proofs.Chains.{chain-skip, chain-found, numbered-part}
 use Rattle.std.specs.List.{slice_get}
 use Rattle.tx_log.specs.Log.{lsn_of, prev_of, leads_to, led, chain, record_at, IsNumbered}
 use Rattle.tx_log.specs.Transactions.{place_in}
-use Rattle.tx_log.specs.declared.log_records.LogRecord.{LogRecord}
-use Rattle.tx_log.specs.declared.log_records.LogRecord.TheVariants.{Update, Compensation}
+use Rattle.tx_log.specs.declared.log_record.LogRecord.{LogRecord}
+use Rattle.tx_log.specs.declared.log_record.LogRecord.TheVariants.{Update, Compensation}
 
+-- a list with one more behind, turned
 pub reverse-push : {A : Type 0} (xs : List A) (x : A) → reverse (xs ++ x ∷ []) ≡ x ∷ reverse xs
 reverse-push xs x = reverse-append xs (x ∷ [])
 
+-- a list with one more in front, turned
 pub reverse_cons : {A : Type 0} (x : A) (xs : List A) → reverse (x ∷ xs) ≡ reverse xs ++ x ∷ []
 reverse_cons x xs = reverse-append (x ∷ []) xs
 
@@ -24,12 +26,14 @@ cut_at log n d r within read =
     ∙ ap (λ xs. xs ++ reverse (take n log)) (reverse_cons r (drop (n + 1) log))
     ∙ append_assoc (reverse (drop (n + 1) log)) (r ∷ []) (reverse (take n log))
 
+-- a record stands at its number
 pub record IsRecordAt (log : List LogRecord) (at : ℕ) (r : LogRecord) : Type 0 where
   pub lsn : lsn_of r ≡ at
   pub prev : prev_of r < at
   pub leads : leads_to r < at
   pub chain_is : chain (reverse log) at ≡ led r (chain (reverse log) (leads_to r))
 
+-- what is read at a place of a numbered log is the record of that number
 pub record_is_at : (log : List LogRecord) (at : ℕ) (d r : LogRecord) → IsNumbered (reverse log) → 0 < at → at ≤ length log → get_or log (at - 1) d ≡ r → IsRecordAt log at r
 record_is_at log at d r is some within read =
     let n = at - 1 in
@@ -58,6 +62,7 @@ place_in-read [] n d h = absurd (omega arith)
 place_in-read (x ∷ xs) zero d h = refl
 place_in-read (x ∷ xs) (suc n) d h = place_in-read xs n d (omega arith)
 
+-- the number of a savepoint, read at its place
 pub place_in-at : (xs : List ℕ) (n d : ℕ) → 0 < n → n ≤ length xs → place_in xs n ≡ get_or xs (n - 1) d
 place_in-at xs zero d some h = absurd (omega arith)
 place_in-at xs (suc n) d some h =
@@ -66,6 +71,7 @@ place_in-at xs (suc n) d some h =
 
 -- ---- an update that a chain meets stands in the log at its number
 
+-- an update stands somewhere in a log
 pub record Stands (rs : List LogRecord) (u : LogRecord) : Type 0 where
   pub newer : List LogRecord
   pub older : List LogRecord
@@ -82,6 +88,7 @@ stands_case : (r : LogRecord) (rs : List LogRecord) (n : ℕ) (u : LogRecord) (u
 stands_case r rs n u us step true e = found_stands r rs u us step e
 stands_case r rs n u us step false e = further r rs u (step n e)
 
+-- the head of a chain does
 pub chain_stands : (rs : List LogRecord) (n : ℕ) (u : LogRecord) (us : List LogRecord) → chain rs n ≡ u ∷ us → Stands rs u
 chain_stands [] n u us e = absurd (cc)
 chain_stands (r ∷ rs) n u us e = stands_case r rs n u us (λ m. chain_stands rs m u us) (eqb (lsn_of r) n) e
@@ -90,6 +97,7 @@ get_seam : {A : Type 0} (xs : List A) (u : A) (zs : List A) → slice_get (xs ++
 get_seam [] u zs = refl
 get_seam (x ∷ xs) u zs = get_seam xs u zs
 
+-- so it is the record of its number
 pub record_of_chain : (records : List LogRecord) (n : ℕ) (u : LogRecord) (us : List LogRecord) → IsNumbered (reverse records) → chain (reverse records) n ≡ u ∷ us → record_at records (lsn_of u) ≡ Some u
 record_of_chain records n u us is e =
     let s = chain_stands (reverse records) n u us e in

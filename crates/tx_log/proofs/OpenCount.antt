@@ -7,13 +7,13 @@ use Rattle.std.specs.Cmp.{nat_cmp_total, eq_by_cmp_equiv}
 use Rattle.std.specs.List.{AllByRecursion, IsDistinct}
 use Rattle.std.specs.Map.{keys_of}
 use Rattle.rec_types.specs.Kept.{Kept}
-use Rattle.rec_types.specs.declared.transactions.TxId.{TxId}
+use Rattle.rec_types.specs.declared.transaction.TxId.{TxId}
 use Rattle.tx_log.specs.Finds.{finding, same_tx}
 use Rattle.tx_log.specs.OpenTxs.{txs_of, tx_at}
 use Rattle.tx_log.specs.Transactions.{Transactions, Tx, is_open}
 use Rattle.tx_log.specs.LogState.{LogState, IsLog}
-use Rattle.tx_log.specs.declared.opened.OpenTx.{OpenTx}
-use Rattle.tx_log.proofs.OpenFacts.{get-txs_of}
+use Rattle.tx_log.specs.declared.open_tx.OpenTx.{OpenTx}
+use Rattle.tx_log.proofs.OpenTxLemmas.{get-txs_of}
 
 abbrev same_no : ℕ → ℕ → Bool
 same_no a b = eq_by_cmp nat_cmp a b
@@ -121,6 +121,7 @@ absent_key : (x : TxId) (es : List (TxId × OpenTx)) → AllByRecursion (λ (y :
 absent_key x [] h = refl
 absent_key x (e ∷ es) h = ap (λ (b : Bool). cond b (Some e.1) (finding es x.0)) h.0 ∙ absent_key x es h.1
 
+-- as many transactions are open as the map has
 pub len-txs_of : (cs : List Kept) (es : List (TxId × OpenTx)) → IsDistinct same_tx (keys_of es) → len (txs_of cs es) ≡ length es
 unfolding IsDistinct
 len-txs_of cs [] h = len-empty nat_cmp Tx

@@ -16,27 +16,29 @@ use Rattle.std.proofs.lemmas.List.Sorted.{Contains-permutation, IsPermutation-sy
 use Rattle.std.proofs.lemmas.Map.Views.{Contains-from_any, list_any-from_Contains}
 use Rattle.rec_types.specs.Contents.{Contents, set_to, same_key}
 use Rattle.rec_types.specs.History.{is_pending}
-use Rattle.rec_types.specs.declared.transactions.TxId.{TxId}
+use Rattle.rec_types.specs.declared.transaction.TxId.{TxId}
 use Rattle.rec_types.specs.Kept.{Kept, change_of, history_of, is_own}
 use Rattle.tx_log.proofs.Chains.{same_number}
-use Rattle.tx_log.proofs.KeyFacts.{same_key-is, get-set_to}
+use Rattle.tx_log.proofs.KeyLemmas.{same_key-is, get-set_to}
 use Rattle.tx_log.proofs.Lives.{single, lives, stack_is_lives}
-use Rattle.tx_log.proofs.OpenFacts.{opens_is, found_fits}
-use Rattle.tx_log.proofs.StepFacts.{chain_of}
+use Rattle.tx_log.proofs.OpenTxLemmas.{opens_is, found_fits}
+use Rattle.tx_log.proofs.LogStepLemmas.{chain_of}
 use Rattle.tx_log.specs.Finds.{finding}
 use Rattle.tx_log.specs.Log.{key_of, kept_of, stack, chain, noted}
 use Rattle.tx_log.specs.LogFields.{IsKept}
 use Rattle.tx_log.specs.Owners.{charged, keys_owned}
 use Rattle.tx_log.specs.OpenTxs.{txs_of, opens}
 use Rattle.tx_log.specs.Transactions.{is_open}
-use Rattle.tx_log.specs.declared.log_records.LogRecord.{LogRecord}
-use Rattle.tx_log.specs.declared.opened.OpenTx.{OpenTx}
+use Rattle.tx_log.specs.declared.log_record.LogRecord.{LogRecord}
+use Rattle.tx_log.specs.declared.open_tx.OpenTx.{OpenTx}
 
 -- ---- what a map of owned keys has
 
+-- whether a key is one of some
 abbrev pub among : List ℕ → List (List ℕ) → Bool
 among q ks = list_any (same_key q) ks
 
+-- the keys of some changes
 abbrev pub keys_in : List Kept → List (List ℕ)
 keys_in us = map (λ (c : Kept). c.key) us
 
@@ -148,6 +150,7 @@ keys_noted : (us : List LogRecord) → keys_in (map noted us) ≡ map key_of us
 keys_noted [] = refl
 keys_noted (u ∷ us) = ap (λ ks. key_of u ∷ ks) (keys_noted us)
 
+-- the sorted keys of a transaction's chain, each once, are those that it owns
 pub owned_keys : (rs : List LogRecord) (es : List (TxId × OpenTx)) (begun pending gone t : ℕ) (e : OpenTx) (ks ps out : List (List ℕ)) → IsKept rs (finding es) begun pending gone → finding es t ≡ Some e → ks ≡ map key_of (chain rs e.last) → IsPermutation ks ps → IsSorted (slice_cmp nat_cmp) ps → out ≡ dedup (pointwise eqb) ps → out ≡ keys_owned (is_open (txs_of (kept_of rs) es)) (history_of (kept_of rs)) t
 owned_keys rs es begun pending gone t e ks ps out kept found are moved up out_is =
     let cs = kept_of rs in
@@ -180,6 +183,7 @@ no_keys is_open t (c ∷ cs) shut =
     ap (λ (b : Bool). cond b (set_to (charged (owns t is_open) (history_of cs) maps.empty) c.key (Some [])) (charged (owns t is_open) (history_of cs) maps.empty)) (shut_pending is_open t c shut)
     ∙ no_keys is_open t cs shut
 
+-- a transaction that isn't open owns none
 pub unowned_keys : (cs : List Kept) (es : List (TxId × OpenTx)) (t : ℕ) → finding es t ≡ None → [] ≡ keys_owned (is_open (txs_of cs es)) (history_of cs) t
 unowned_keys cs es t none =
     let nothing : (q : List ℕ) → maps.get {X = List ℕ} {R = slice_cmp nat_cmp} maps.empty q ≡ told (among q []) = λ q. maps.get-empty (slice_cmp nat_cmp) q in

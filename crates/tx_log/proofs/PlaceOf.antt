@@ -5,11 +5,12 @@ use Rattle.std.proofs.lemmas.Cmp.{nat_eq_equiv}
 use Rattle.std.specs.Map.{lookup_key, values_of}
 use Rattle.indexmap.specs.IndexMap.{IndexMap, with_value_at, IsUnique, Updates}
 use Rattle.indexmap.proofs.CallerLemmas.{updates-with_value_at}
-use Rattle.rec_types.specs.declared.transactions.TxId.{TxId}
+use Rattle.rec_types.specs.declared.transaction.TxId.{TxId}
 use Rattle.tx_log.proofs.Chains.{same_number}
-use Rattle.tx_log.specs.Finds.{found, same_tx, Puts, StandsAt}
-use Rattle.tx_log.specs.declared.opened.OpenTx.{OpenTx}
+use Rattle.tx_log.specs.Finds.{found, same_tx, PutsAt, StandsAt}
+use Rattle.tx_log.specs.declared.open_tx.OpenTx.{OpenTx}
 
+-- the test of transactions is an equivalence
 pub same_tx-equiv : IsEquivalence same_tx
 same_tx-equiv = record { refl = λ x. nat_eq_equiv.refl x.0; symm = λ x y. nat_eq_equiv.symm x.0 y.0; congr = λ x y z. nat_eq_equiv.congr x.0 y.0 z.0 }
 
@@ -21,6 +22,7 @@ found_key : (t : ℕ) (es : List (TxId × OpenTx)) (k : TxId) → lookup_key (λ
 found_key t [] k h = absurd (cc)
 found_key t (e ∷ es) k h = key_case t e.0 k (lookup_key (λ (y : TxId). eqb t y.0) es) (found_key t es k) (eqb t e.0.0) refl h
 
+-- where a transaction stands in the map
 pub stands_at : {S : Type 0} (m : IndexMap TxId OpenTx S) (t i : ℕ) (k : TxId) (e : OpenTx) → IsUnique same_tx m → slice_get m.entries i ≡ Some (k, e) → lookup_key (λ (y : TxId). eqb t y.0) m.entries ≡ Some k → Some e ≡ found m t → StandsAt m t i
 stands_at m t i k e unique at key value = record {
   tx = e;
@@ -29,9 +31,11 @@ stands_at m t i k e unique at key value = record {
   unique = unique;
 }
 
+-- what holds of an option's value
 pub at_some : {A : Type 0} (P : A → Type 0) (o : Option A) (x : A) → o ≡ Some x → IfSome o P → P x
 at_some P o x e h = subst (λ (u : Option _). IfSome u P) e h
 
+-- an option's value, mapped
 pub mapped_some : {A B : Type 0} (f : A → B) (o : Option A) (x : A) (k : Option B) → o ≡ Some x → option_map f o ≡ k → Some (f x) ≡ k
 mapped_some f o x k e h = ap (option_map f) (sym e) ∙ h
 
@@ -45,11 +49,11 @@ pub read_at : {S : Type 0} (m : IndexMap TxId OpenTx S) (t i : ℕ) (d : OpenTx)
 read_at m t i d s value = s.there ∙ ap Some (sym (value_there m.entries i (record { 0 = t }) s.tx d s.entry value))
 
 -- what is written there is the transaction's
-pub write_at : {S : Type 0} (m : IndexMap TxId OpenTx S) (t i : ℕ) (w : OpenTx) → StandsAt m t i → Puts (found m) (found (with_value_at m i w)) t (Some w)
+pub write_at : {S : Type 0} (m : IndexMap TxId OpenTx S) (t i : ℕ) (w : OpenTx) → StandsAt m t i → PutsAt (found m) (found (with_value_at m i w)) t (Some w)
 write_at m t i w s = λ q. (updates-with_value_at m i w same_tx-equiv s.unique (record { 0 = t }) s.tx s.entry).0 (record { 0 = q })
 
 -- what is taken out there is the transaction
-pub taken_at : {S : Type 0} (m n : IndexMap TxId OpenTx S) (t i : ℕ) (p : TxId × OpenTx) → StandsAt m t i → slice_get m.entries i ≡ Some p → Updates same_tx m n p.0 None → (found m t ≡ Some p.1) × Puts (found m) (found n) t None
+pub taken_at : {S : Type 0} (m n : IndexMap TxId OpenTx S) (t i : ℕ) (p : TxId × OpenTx) → StandsAt m t i → slice_get m.entries i ≡ Some p → Updates same_tx m n p.0 None → (found m t ≡ Some p.1) × PutsAt (found m) (found n) t None
 taken_at m n t i p s at updates =
     let same : (record { 0 = t }, s.tx) ≡ p = some_is (sym s.entry ∙ at) in
     (s.there ∙ ap (λ (x : TxId × OpenTx). Some x.1) same, λ q. updates.0 (record { 0 = q }) ∙ ap (λ (x : TxId × OpenTx). cond (eqb x.0.0 q) None (found m q)) (sym same))

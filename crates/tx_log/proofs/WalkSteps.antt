@@ -5,10 +5,11 @@ use Rattle.std.specs.List.{filter}
 use Rattle.tx_log.proofs.Chains.{chain-head, same_number}
 use Rattle.tx_log.specs.Log.{lsn_of, prev_of, key_of, leads_to, led, is_update, chain, IsNumbered}
 use Rattle.tx_log.specs.Walks.{change_in, newest_in, is_after}
-use Rattle.tx_log.specs.declared.log_records.LogRecord.{LogRecord}
-use Rattle.tx_log.specs.declared.log_records.LogRecord.TheVariants.{Update, Compensation}
-use Rattle.tx_log.specs.declared.walks.LiveChange.{LiveChange}
+use Rattle.tx_log.specs.declared.log_record.LogRecord.{LogRecord}
+use Rattle.tx_log.specs.declared.log_record.LogRecord.TheVariants.{Update, Compensation}
+use Rattle.tx_log.specs.declared.undo_chain.LiveChange.{LiveChange}
 
+-- a step of the walk down a chain: the update there, and what is below
 pub record IsStep (rs : List LogRecord) (at : ℕ) (change : LiveChange) : Type 0 where
   pub update : LogRecord
   pub rest : List LogRecord
@@ -44,6 +45,7 @@ step_from rs (u ∷ us) at change is e some =
       kind = head.update;
     }
 
+-- where a newest live change is read, the walk makes that step
 pub walk_step : (rs : List LogRecord) (at : ℕ) (change : LiveChange) → IsNumbered rs → newest_in (chain rs at) ≡ Some change → IsStep rs at change
 walk_step rs at change is some = step_from rs (chain rs at) at change is refl some
 
@@ -51,6 +53,7 @@ none_left : (us : List LogRecord) → newest_in us ≡ None → us ≡ []
 none_left [] e = refl
 none_left (u ∷ us) e = absurd (cc)
 
+-- where none is read, the chain has ended
 pub walk_end : (rs : List LogRecord) (at : ℕ) → newest_in (chain rs at) ≡ None → chain rs at ≡ []
 walk_end rs at e = none_left (chain rs at) e
 
@@ -69,6 +72,7 @@ low_case : (r : LogRecord) (rs : List LogRecord) (n s : ℕ) → IsNumbered (r �
 low_case r rs n s is step h true e = low_led r rs n s is step (same_number _ _ e) h
 low_case r rs n s is step h false e = step n h
 
+-- below a savepoint's number the chain has nothing to take back
 pub chain-low : (rs : List LogRecord) (n s : ℕ) → IsNumbered rs → n ≤ s → filter (is_after s) (chain rs n) ≡ []
 chain-low [] n s is h = refl
 chain-low (r ∷ rs) n s is h = low_case r rs n s is (λ m. chain-low rs m s is.3) h (eqb (lsn_of r) n) refl
@@ -85,9 +89,11 @@ stops_at rs at change s is step h =
     ∙ ap (filter (is_after s)) (sym step.tail)
     ∙ chain-low rs change.prev s is under
 
+-- a greater number is above
 pub is_above : (m n : ℕ) → m < n → ltb m n ≡ true
 is_above m n h = grind (arith, nat_tests)
 
+-- a step above a savepoint's number is one more to take back
 pub goes_on : (rs : List LogRecord) (at : ℕ) (change : LiveChange) (s : ℕ) → IsStep rs at change → s < change.lsn → length (filter (is_after s) (chain rs at)) ≡ 1 + length (filter (is_after s) (chain rs change.prev))
 goes_on rs at change s step h =
     let us = filter (is_after s) step.rest in
@@ -97,6 +103,7 @@ goes_on rs at change s step h =
     let rest : length (filter (is_after s) (chain rs change.prev)) ≡ length us = ap (λ xs. length (filter (is_after s) xs)) step.tail in
     omega arith
 
+-- the key of a step is the first of the chain's
 pub keys_on : (rs : List LogRecord) (at : ℕ) (change : LiveChange) → IsStep rs at change → map key_of (chain rs at) ≡ change.key ∷ map key_of (chain rs change.prev)
 keys_on rs at change step =
     ap (map key_of) step.is

@@ -1,9 +1,9 @@
 -- A log by example. One transaction writes a, sets a savepoint, writes a and b, goes back to the savepoint, writes c, and
 -- goes back to its beginning.
 use Rattle.std.specs.Prelude.{ℕ, List, [], ◌∷◌, Some, None}
-use Rattle.rec_types.specs.declared.transactions.TxId.{TxId}
-use Rattle.tx_log.specs.declared.log_records.LogRecord.{LogRecord}
-use Rattle.tx_log.specs.declared.log_records.LogRecord.TheVariants.{Update, Compensation}
+use Rattle.rec_types.specs.declared.transaction.TxId.{TxId}
+use Rattle.tx_log.specs.declared.log_record.LogRecord.{LogRecord}
+use Rattle.tx_log.specs.declared.log_record.LogRecord.TheVariants.{Update, Compensation}
 
 abbrev pub one : TxId
 one = record { 0 = 1 }

@@ -2,8 +2,8 @@
 use Rattle.std.specs.Prelude.{◌≡◌, ℕ, Bool, ◌==◌, List, Option, Some, slice_get, if◌then◌else◌}
 use Rattle.std.specs.Map.{lookup}
 use Rattle.indexmap.specs.IndexMap.{IndexMap, IsUnique}
-use Rattle.rec_types.specs.declared.transactions.TxId.{TxId}
-use Rattle.tx_log.specs.declared.opened.OpenTx.{OpenTx}
+use Rattle.rec_types.specs.declared.transaction.TxId.{TxId}
+use Rattle.tx_log.specs.declared.open_tx.OpenTx.{OpenTx}
 
 -- what is kept of each open transaction
 abbrev pub Txs : Type 0
@@ -16,8 +16,8 @@ abbrev pub found : {S : Type 0} → IndexMap TxId OpenTx S → Txs
 found m = finding m.entries
 
 -- the same transactions, but at the number t
-abbrev pub Puts : Txs → Txs → ℕ → Option OpenTx → Type 0
-Puts old new t e = (q : ℕ) → new q ≡ (if t == q then e else old q)
+abbrev pub PutsAt : Txs → Txs → ℕ → Option OpenTx → Type 0
+PutsAt old new t e = (q : ℕ) → new q ≡ (if t == q then e else old q)
 
 abbrev pub same_tx : TxId → TxId → Bool
 same_tx a b = a.0 == b.0

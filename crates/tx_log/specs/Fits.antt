@@ -3,14 +3,14 @@ use Rattle.std.specs.Prelude.{◌≡◌, ℕ, ◌<◌, ◌≤◌, ◌==◌, List
 use Rattle.std.specs.FinMap as maps
 use Rattle.std.specs.List.{filter}
 use Rattle.rec_types.specs.Kept.{history_of}
-use Rattle.tx_log.specs.Log.{tx_of, last_of, stack, kept_of}
+use Rattle.tx_log.specs.Log.{tx_of_record, last_of, stack, kept_of}
 use Rattle.tx_log.specs.Owners.{absent}
 use Rattle.tx_log.specs.Finds.{Txs}
 use Rattle.tx_log.specs.Transactions.{most_savepoints}
 use Rattle.tx_log.specs.Walks.{is_after}
-use Rattle.tx_log.specs.declared.log_records.LogRecord.{LogRecord}
-use Rattle.tx_log.specs.declared.opened.OpenTx.{OpenTx}
-use Rattle.tx_log.specs.declared.phases.Rollback.{Rollback}
+use Rattle.tx_log.specs.declared.log_record.LogRecord.{LogRecord}
+use Rattle.tx_log.specs.declared.open_tx.OpenTx.{OpenTx}
+use Rattle.tx_log.specs.declared.phase.Rollback.{Rollback}
 
 abbrev pub AllUpTo : ℕ → List ℕ → Type 0
 AllUpTo n [] = Unit {0}
@@ -23,7 +23,7 @@ RollbackUpTo n (Some r) = r.to ≤ n
 -- each record is of one of the first n transactions
 abbrev pub AllKnown : ℕ → List LogRecord → Type 0
 AllKnown n [] = Unit {0}
-AllKnown n (r ∷ rs) = (tx_of r ≤ n) × AllKnown n rs
+AllKnown n (r ∷ rs) = (tx_of_record r ≤ n) × AllKnown n rs
 
 -- how many of the live changes the rollback under way is still to take back
 abbrev pub left_above : List LogRecord → Option Rollback → ℕ

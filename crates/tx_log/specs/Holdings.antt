@@ -4,24 +4,24 @@ use Rattle.std.specs.List.{filter, find}
 use Rattle.std.specs.Option.{option_map}
 use Rattle.std.specs.Cmp.Lexicographic.{pointwise}
 use Rattle.indexmap.specs.IndexMap.{IndexMap, get, IsUnique}
-use Rattle.rec_types.specs.declared.transactions.TxId.{TxId}
+use Rattle.rec_types.specs.declared.transaction.TxId.{TxId}
 use Rattle.tx_log.specs.Log.{stack}
 use Rattle.tx_log.specs.Walks.{change_in, is_at, takes_out}
-use Rattle.tx_log.specs.declared.holdings.Holding.{Holding}
-use Rattle.tx_log.specs.declared.log_records.LogRecord.{LogRecord}
+use Rattle.tx_log.specs.declared.holding.Holding.{Holding}
+use Rattle.tx_log.specs.declared.log_record.LogRecord.{LogRecord}
 
 -- what is kept of each key
-abbrev pub Holds : Type 0
-Holds = List ℕ → Option Holding
+abbrev pub HoldsKey : Type 0
+HoldsKey = List ℕ → Option Holding
 
 abbrev pub same_bytes : List ℕ → List ℕ → Bool
 same_bytes a b = pointwise ◌==◌ a b
 
-abbrev pub held : {S : Type 0} → IndexMap (List ℕ) Holding S → Holds
+abbrev pub held : {S : Type 0} → IndexMap (List ℕ) Holding S → HoldsKey
 held m k = get same_bytes m k
 
 -- the same keys, but for one
-abbrev pub Places : Holds → Holds → List ℕ → Option Holding → Type 0
+abbrev pub Places : HoldsKey → HoldsKey → List ℕ → Option Holding → Type 0
 Places old new k h = (q : List ℕ) → new q ≡ (if same_bytes k q then h else old q)
 
 -- the owner: no one where no change is live
@@ -54,7 +54,7 @@ abbrev pub idle : Holding
 idle = record { owner = record { 0 = 0 }; live = 0; absent = false }
 
 -- at most one key has no live change
-abbrev pub AllBusy : Holds → Option (List ℕ) → Type 0
+abbrev pub AllBusy : HoldsKey → Option (List ℕ) → Type 0
 AllBusy holds over = (k : List ℕ) → IfSome (holds k) (λ h. h.live ≡ 0 → over ≡ Some k)
 
 -- without a key that has no live change
@@ -74,7 +74,7 @@ pub record HeldAt {S : Type 0} (m : IndexMap (List ℕ) Holding S) (k : List ℕ
   pub unique : IsUnique same_bytes m
 
 -- what is kept is what the log says of the live changes of open transactions
-pub record IsHeld (rs : List LogRecord) (is_open : ℕ → Bool) (holds : Holds) : Type 0 where
+pub record IsHeld (rs : List LogRecord) (is_open : ℕ → Bool) (holds : HoldsKey) : Type 0 where
   pub counted : (t : ℕ) (k : List ℕ) → is_open t ≡ true → live_at k (stack t rs) ≡ live_of t (holds k)
   pub marked : (t : ℕ) (k : List ℕ) → is_open t ≡ true → absent_at k (stack t rs) ≡ absent_of t (holds k)
   pub owned : (k : List ℕ) → IfSome (holds k) (λ h. 0 < h.live → is_open h.owner.0 ≡ true)

@@ -2,8 +2,8 @@
 use Rattle.std.specs.Prelude.{◌≡◌, ℕ, ◌+◌, ◌≤◌, zero, suc, Bool, true, false, ◌==◌, if◌then◌else◌, List, [], ◌∷◌, ◌++◌, length, drop, Option, None}
 use Rattle.std.specs.List.{slice_get}
 use Rattle.rec_types.specs.Kept.{Kept, undone}
-use Rattle.tx_log.specs.declared.log_records.LogRecord.{LogRecord}
-use Rattle.tx_log.specs.declared.log_records.LogRecord.TheVariants.{Update, Compensation}
+use Rattle.tx_log.specs.declared.log_record.LogRecord.{LogRecord}
+use Rattle.tx_log.specs.declared.log_record.LogRecord.TheVariants.{Update, Compensation}
 
 abbrev pub lsn_of : LogRecord → ℕ
 lsn_of (Update lsn prev tx key before after) = lsn
@@ -13,9 +13,9 @@ abbrev pub prev_of : LogRecord → ℕ
 prev_of (Update lsn prev tx key before after) = prev
 prev_of (Compensation lsn prev tx key restored undo_next) = prev
 
-abbrev pub tx_of : LogRecord → ℕ
-tx_of (Update lsn prev tx key before after) = tx.0
-tx_of (Compensation lsn prev tx key restored undo_next) = tx.0
+abbrev pub tx_of_record : LogRecord → ℕ
+tx_of_record (Update lsn prev tx key before after) = tx.0
+tx_of_record (Compensation lsn prev tx key restored undo_next) = tx.0
 
 abbrev pub key_of : LogRecord → List ℕ
 key_of (Update lsn prev tx key before after) = key
@@ -48,11 +48,11 @@ record_at records (suc n) = slice_get records n
 -- the number of the newest record of the transaction, and 0 where there is none
 abbrev pub last_of : ℕ → List LogRecord → ℕ
 last_of t [] = 0
-last_of t (r ∷ rs) = if tx_of r == t then lsn_of r else last_of t rs
+last_of t (r ∷ rs) = if tx_of_record r == t then lsn_of r else last_of t rs
 
 -- the change that an update tells of
 abbrev pub noted : LogRecord → Kept
-noted r = record { lsn = lsn_of r; tx = tx_of r; key = key_of r; before = old_of r; after = new_of r; live = true }
+noted r = record { lsn = lsn_of r; tx = tx_of_record r; key = key_of r; before = old_of r; after = new_of r; live = true }
 
 abbrev pub kept_by : LogRecord → List Kept → List Kept
 kept_by (Update lsn prev tx key before after) cs = cs ++ noted (Update lsn prev tx key before after) ∷ []
@@ -70,7 +70,7 @@ stepped (Compensation lsn prev tx key restored undo_next) us = drop 1 us
 -- the updates of the transaction that aren't taken back, newest first
 abbrev pub stack : ℕ → List LogRecord → List LogRecord
 stack t [] = []
-stack t (r ∷ rs) = if tx_of r == t then stepped r (stack t rs) else stack t rs
+stack t (r ∷ rs) = if tx_of_record r == t then stepped r (stack t rs) else stack t rs
 
 abbrev pub led : LogRecord → List LogRecord → List LogRecord
 led (Update lsn prev tx key before after) us = Update lsn prev tx key before after ∷ us

@@ -13,8 +13,8 @@ use Rattle.tx_log.specs.LogState.{LogState}
 use Rattle.tx_log.specs.Marks.{AreMarked}
 use Rattle.tx_log.specs.Owners.{absent}
 use Rattle.tx_log.specs.OpenTxs.{txs_of, opens}
-use Rattle.tx_log.specs.declared.log_records.LogRecord.{LogRecord}
-use Rattle.tx_log.specs.declared.logs.TxLog.TheInside.{Inside}
+use Rattle.tx_log.specs.declared.log_record.LogRecord.{LogRecord}
+use Rattle.tx_log.specs.declared.log.TxLog.TheInside.{Inside}
 
 abbrev pub state_of : Inside → LogState
 state_of l = record {

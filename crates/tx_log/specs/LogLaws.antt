@@ -3,16 +3,16 @@ use Rattle.std.specs.Prelude.{◌≡◌, ℕ, ◌+◌, ◌≤◌, Bool, true, fa
 use Rattle.std.specs.List.{list_any}
 use Rattle.rec_types.specs.History.{log_len}
 use Rattle.rec_types.specs.Kept.{Kept, history_of}
-use Rattle.tx_log.specs.Log.{lsn_of, prev_of, tx_of, key_of, old_of, leads_to, is_update, last_of, noted}
-use Rattle.tx_log.specs.declared.log_records.LogRecord.{LogRecord}
+use Rattle.tx_log.specs.Log.{lsn_of, prev_of, tx_of_record, key_of, old_of, leads_to, is_update, last_of, noted}
+use Rattle.tx_log.specs.declared.log_record.LogRecord.{LogRecord}
 
 -- an update of the transaction after the record n of that transaction
 abbrev pub follows : ℕ → ℕ → LogRecord → Bool
-follows t n u = is_update u && ((tx_of u == t) && (prev_of u == n))
+follows t n u = is_update u && ((tx_of_record u == t) && (prev_of u == n))
 
 -- a compensation that names the update
 abbrev pub undoes : LogRecord → LogRecord → Bool
-undoes u c = not (is_update c) && ((tx_of u == tx_of c) && (prev_of u == leads_to c))
+undoes u c = not (is_update c) && ((tx_of_record u == tx_of_record c) && (prev_of u == leads_to c))
 
 -- the change of an update, live where no compensation names it
 abbrev pub change_told : List LogRecord → LogRecord → Kept
@@ -22,9 +22,9 @@ pub record IsChained (records : List LogRecord) (changes : List Kept) : Type 0 w
   -- a record's number is its place
   pub numbers : (older newer : List LogRecord) (r : LogRecord) → records ≡ older ++ r ∷ newer → lsn_of r ≡ length older + 1
   -- each record leads to the newest one before it of its transaction
-  pub prevs : (older newer : List LogRecord) (r : LogRecord) → records ≡ older ++ r ∷ newer → prev_of r ≡ last_of (tx_of r) (reverse older)
+  pub prevs : (older newer : List LogRecord) (r : LogRecord) → records ≡ older ++ r ∷ newer → prev_of r ≡ last_of (tx_of_record r) (reverse older)
   -- a compensation names exactly one update, and puts back what stood at its key before it
-  pub named : (older newer : List LogRecord) (c : LogRecord) → records ≡ older ++ c ∷ newer → is_update c ≡ false → (u : LogRecord) × (filter (follows (tx_of c) (leads_to c)) records ≡ u ∷ []) × (key_of c ≡ key_of u) × (old_of c ≡ old_of u)
+  pub named : (older newer : List LogRecord) (c : LogRecord) → records ≡ older ++ c ∷ newer → is_update c ≡ false → (u : LogRecord) × (filter (follows (tx_of_record c) (leads_to c)) records ≡ u ∷ []) × (key_of c ≡ key_of u) × (old_of c ≡ old_of u)
   -- no update is compensated twice
   pub once : (older newer : List LogRecord) (u : LogRecord) → records ≡ older ++ u ∷ newer → is_update u ≡ true → length (filter (undoes u) records) ≤ 1
   -- the updates are the changes, and the compensated ones are those taken back

@@ -5,16 +5,16 @@ use Rattle.std.specs.FinMap as maps
 use Rattle.rec_types.specs.LimitBounds.{Bounds, coded_bounds}
 use Rattle.rec_types.specs.History.{Change, log_len, log_use}
 use Rattle.rec_types.specs.Kept.{Kept, history_of, newest_from, undone, IsOwned, AllBegun}
-use Rattle.rec_types.specs.declared.transactions.TxId.{TxId}
+use Rattle.rec_types.specs.declared.transaction.TxId.{TxId}
 use Rattle.tx_log.specs.Log.{prev_of, record_at, last_of}
 use Rattle.tx_log.specs.LogCode.{coded_log_record}
-use Rattle.tx_log.specs.declared.log_records.LogRecord.{LogRecord}
-use Rattle.tx_log.specs.declared.log_records.LogRecord.TheVariants.{Update, Compensation}
+use Rattle.tx_log.specs.declared.log_record.LogRecord.{LogRecord}
+use Rattle.tx_log.specs.declared.log_record.LogRecord.TheVariants.{Update, Compensation}
 use Rattle.tx_log.specs.Transactions.{Transactions, Tx, coded_transactions, is_open, place_in, most_savepoints}
-use Rattle.tx_log.specs.declared.phases.Rollback.{Rollback}
-use Rattle.tx_log.specs.declared.phases.Phase.{Phase}
-use Rattle.tx_log.specs.declared.phases.Phase.TheVariants.{Active, Rolling}
-use Rattle.tx_log.specs.declared.phases.UndoStep.{UndoStep}
+use Rattle.tx_log.specs.declared.phase.Rollback.{Rollback}
+use Rattle.tx_log.specs.declared.phase.Phase.{Phase}
+use Rattle.tx_log.specs.declared.phase.Phase.TheVariants.{Active, Rolling}
+use Rattle.tx_log.specs.declared.phase.UndoStep.{UndoStep}
 
 -- the log and its changes, both oldest first; the open transactions; how many were begun; the limits; the key with room for a change
 pub record LogState : Type 0 where

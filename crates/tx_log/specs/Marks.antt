@@ -2,8 +2,8 @@
 use Rattle.std.specs.Prelude.{◌≡◌, ℕ, List, [], ◌∷◌}
 use Rattle.tx_log.specs.Holdings.{absent_at}
 use Rattle.tx_log.specs.Log.{lsn_of, key_of, leads_to, led, chain}
-use Rattle.tx_log.specs.declared.log_records.LogRecord.{LogRecord}
-use Rattle.tx_log.specs.declared.marks.Mark.{Mark}
+use Rattle.tx_log.specs.declared.log_record.LogRecord.{LogRecord}
+use Rattle.tx_log.specs.declared.mark.Mark.{Mark}
 
 -- the number of the first, and 0 where there is none
 abbrev pub first_lsn : List LogRecord → ℕ

@@ -2,12 +2,12 @@
 use Rattle.std.specs.Prelude.{ℕ, Bool, false, List, [], ◌∷◌, map, Option, Some, None, is_some}
 use Rattle.std.specs.FinMap as maps
 use Rattle.rec_types.specs.Kept.{Kept}
-use Rattle.rec_types.specs.declared.transactions.TxId.{TxId}
+use Rattle.rec_types.specs.declared.transaction.TxId.{TxId}
 use Rattle.tx_log.specs.Finds.{Txs}
 use Rattle.tx_log.specs.Places.{place_at}
 use Rattle.tx_log.specs.Transactions.{Transactions, Tx}
-use Rattle.tx_log.specs.declared.opened.OpenTx.{OpenTx}
-use Rattle.tx_log.specs.declared.phases.Rollback.{Rollback}
+use Rattle.tx_log.specs.declared.open_tx.OpenTx.{OpenTx}
+use Rattle.tx_log.specs.declared.phase.Rollback.{Rollback}
 
 abbrev pub ends_at : Option Rollback → Bool
 ends_at None = false

@@ -3,11 +3,11 @@ use Rattle.std.specs.Prelude.{◌≡◌, ◌⊎◌, ℕ, true, false, List, [], 
 use Rattle.rec_types.specs.History.{Change}
 
 -- the same changes, of which none is live that was taken back
-abbrev pub Leaves : List Change → List Change → Type 0
-Leaves [] [] = Unit {0}
-Leaves [] (d ∷ g) = ⊥
-Leaves (c ∷ h) [] = ⊥
-Leaves (c ∷ h) (d ∷ g) = (d ≡ record c { live = d.live }) × (IsTrue d.live → IsTrue c.live) × Leaves h g
+abbrev pub LosesLives : List Change → List Change → Type 0
+LosesLives [] [] = Unit {0}
+LosesLives [] (d ∷ g) = ⊥
+LosesLives (c ∷ h) [] = ⊥
+LosesLives (c ∷ h) (d ∷ g) = (d ≡ record c { live = d.live }) × (IsTrue d.live → IsTrue c.live) × LosesLives h g
 
 -- some of the live changes of a history, in its order
 abbrev pub IsPart : List Change → List Change → Type 0

@@ -4,7 +4,7 @@ use Rattle.std.specs.Coded.{Coded, code_by, coded×, coded_ℕ, coded_bool, code
 use Rattle.std.specs.FinMap as maps
 use Rattle.std.specs.Ordering.{nat_cmp}
 use Rattle.rec_types.specs.History.{Change, live_from}
-use Rattle.tx_log.specs.declared.phases.Rollback.{Rollback}
+use Rattle.tx_log.specs.declared.phase.Rollback.{Rollback}
 
 -- A transaction is active where no rollback is under way; one goes back to a place. Each savepoint keeps a place: how
 -- many changes the transaction had made when it was set.

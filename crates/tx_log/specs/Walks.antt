@@ -2,8 +2,8 @@
 use Rattle.std.specs.Prelude.{ℕ, Bool, false, not, nat_lt, List, [], ◌∷◌, Option, Some, None, is_some}
 use Rattle.rec_types.specs.Contents.{same_key}
 use Rattle.tx_log.specs.Log.{lsn_of, prev_of, key_of, old_of, new_of}
-use Rattle.tx_log.specs.declared.log_records.LogRecord.{LogRecord}
-use Rattle.tx_log.specs.declared.walks.LiveChange.{LiveChange}
+use Rattle.tx_log.specs.declared.log_record.LogRecord.{LogRecord}
+use Rattle.tx_log.specs.declared.undo_chain.LiveChange.{LiveChange}
 
 abbrev pub change_in : LogRecord → LiveChange
 change_in u = record { lsn = lsn_of u; prev = prev_of u; key = key_of u; before = old_of u; after = new_of u }

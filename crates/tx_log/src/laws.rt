@@ -2,7 +2,7 @@ ghost use Rattle.std.specs.Prelude.{◌≡◌, ℕ, ◌≤◌, Bool, true, false
 ghost use Rattle.rec_types.specs.History.{Change, undo_last, take_back, take_newest, log_use};
 ghost use Rattle.tx_log.specs.Examples.{eight};
 ghost use Rattle.tx_log.specs.Log.{chain, lsn_of, kept_of, IsNumbered, AllWritten};
-ghost use Rattle.tx_log.specs.Remaining.{Leaves, IsPart, out_of, back_of};
+ghost use Rattle.tx_log.specs.Remaining.{LosesLives, IsPart, out_of, back_of};
 
 /// A log of eight records, of a transaction that went back twice: its records are numbered, and lead to those before
 /// them. On the way down the updates that were taken back are passed over.
@@ -19,11 +19,11 @@ pub fn two_partial_rollbacks()
 /// Taking back makes no change live again, be it the newest change of a transaction, all from a place on, or the
 /// newest of those. A history in which a change that was taken back is live is left by none of them.
 pub fn nothing_lives_again()
-    ensures newest { (t : ℕ) → (h : List Change) → Leaves h (undo_last t h) }
-    ensures from { (h : List Change) → (t p : ℕ) → Leaves h (take_back h t p) }
-    ensures newest_from { (h : List Change) → (t p n : ℕ) → Leaves h (take_newest h t p n) }
-    ensures example { Leaves (out_of 1 97 ∷ out_of 2 98 ∷ []) (back_of 1 97 ∷ out_of 2 98 ∷ []) }
-    ensures again { Leaves (back_of 1 97 ∷ []) (out_of 1 97 ∷ []) → ⊥ }
+    ensures newest { (t : ℕ) → (h : List Change) → LosesLives h (undo_last t h) }
+    ensures from { (h : List Change) → (t p : ℕ) → LosesLives h (take_back h t p) }
+    ensures newest_from { (h : List Change) → (t p n : ℕ) → LosesLives h (take_newest h t p n) }
+    ensures example { LosesLives (out_of 1 97 ∷ out_of 2 98 ∷ []) (back_of 1 97 ∷ out_of 2 98 ∷ []) }
+    ensures again { LosesLives (back_of 1 97 ∷ []) (out_of 1 97 ∷ []) → ⊥ }
 {}
 
 /// Any part of a history's live changes uses no more of the log than the history, with the same transactions open. A

@@ -1,16 +1,16 @@
 //! Transactions, owners of keys and savepoints.
 #![tactic(auto)]
 
-mod holdings;
+mod holding;
 pub mod laws;
-mod log_records;
-mod logs;
-mod marks;
-mod opened;
-mod phases;
-mod walks;
+mod log;
+mod log_record;
+mod mark;
+mod open_tx;
+mod phase;
+mod undo_chain;
 
-pub use log_records::LogRecord;
-pub use logs::TxLog;
-pub use opened::MOST_SAVEPOINTS;
-pub use phases::{BeginFault, Phase, UndoStep};
+pub use log::TxLog;
+pub use log_record::LogRecord;
+pub use open_tx::MOST_SAVEPOINTS;
+pub use phase::{BeginFault, Phase, UndoStep};

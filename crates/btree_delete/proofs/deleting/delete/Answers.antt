@@ -1,23 +1,27 @@
-use Rattle.std.proofs.Common.{◌-◌, ℕ, List, Option, length, ap, sym, subst, arith, None}
+use Rattle.std.proofs.Common.{◌-◌, ℕ, List, Option, Some, length, refl, ap, sym, subst, arith, None}
 use Rattle.std.proofs.lemmas.Result.{err_from_is_err_and}
 use Rattle.page_store.specs.CanStage.{CanStage}
 use Rattle.page_store.specs.PageMap.{at, after}
 use Rattle.page_store.specs.PagesView.{PagesView}
 use Rattle.btree_insert.specs.PageTrees.{Holds}
-use Rattle.btree_insert.proofs.BoundFacts.{Between-all}
-use Rattle.btree_insert.proofs.MetFacts.{unmet_none}
-use Rattle.btree_insert.proofs.TreeFacts.{root_tree}
-use Rattle.btree_delete.specs.declared.shrinking.Shrunk.{Shrunk}
+use Rattle.btree_insert.proofs.BoundLemmas.{Between-all}
+use Rattle.btree_insert.proofs.VisitedLemmas.{unvisited_none}
+use Rattle.btree_insert.proofs.SpeltLemmas.{spelt_staged, spelt_unchanged}
+use Rattle.btree_insert.proofs.HeadNodeLemmas.{root_tree}
+use Rattle.btree_delete.specs.declared.delete_below.Shrunk.{Shrunk}
+use Rattle.btree_delete.specs.declared.subtree.Subtree.{Subtree}
+use Rattle.btree_insert.specs.Bounds.{unbounded}
 use Rattle.btree_insert.specs.Contents.{set_in}
-use Rattle.btree_delete.specs.Shrinking.{Leaves, Removes}
-use Rattle.btree_delete.proofs.RootFacts.{deleted_at, deleted_none}
+use Rattle.btree_delete.specs.Shrinking.{LeavesTree, RemovesBelow}
+use Rattle.btree_delete.proofs.RootLemmas.{deleted_at, deleted_none}
+use Rattle.btree_delete.proofs.FirstElementLemmas.{went_up}
 use Rattle.btree_delete.proofs.deleting.delete.Goals as goal
 
 pub returns-in_err-shrunk-clause-deleted : goal.returns-in_err-shrunk-clause-deleted
 returns-in_err-shrunk-clause-deleted g c = λ steady es us holds.
     let p = err_from_is_err_and c.from_residual.result c.from_residual.ensures.1 in
     let T = c.args.tree.now in
-    rw (p.1, p.2) (c.in_err-shrunk.ensures.removes steady 1 es us c.requires.tree.order.0 (root_tree T.order (at c.args.pages.now.pages) T.height T.root es us (omega arith) holds.tree) (Between-all es holds.ascends) holds.apart (unmet_none c.new-met.result.items us c.new-met.ensures))
+    rw (p.1, p.2) (c.in_err-shrunk.ensures.removes steady 1 es us c.requires.tree.order.0 (root_tree T.order (at c.args.pages.now.pages) T.height T.root es us (omega arith) holds.tree) (Between-all es holds.ascends) holds.apart (unvisited_none c.new-visited.result.items us c.new-visited.ensures))
 
 pub returns-in_default-clause-deleted : goal.returns-in_default-clause-deleted
 returns-in_default-clause-deleted g c = λ steady es us holds.
@@ -25,14 +29,20 @@ returns-in_default-clause-deleted g c = λ steady es us holds.
     let P = at c.args.pages.now.pages in
     let ws = c.delete_below.new.edit.writes.items in
     let fs = c.delete_below.new.edit.freed.items in
-    let call = c.in_ok-shrunk.ensures.removes steady 1 es us c.requires.tree.order.0 (root_tree T.order P T.height T.root es us (omega arith) holds.tree) (Between-all es holds.ascends) holds.apart (unmet_none c.new-met.result.items us c.new-met.ensures) in
-    let none = subst (λ (s : Option Shrunk). Removes T.order P (after P ws fs) 0 (length fs) 1 (T.height - 1) T.root es us c.new-met.result.items c.delete_below.new.met.items c.args.key.now s) c.in_default.is call in
+    let call = c.in_ok-shrunk.ensures.removes steady 1 es us c.requires.tree.order.0 (root_tree T.order P T.height T.root es us (omega arith) holds.tree) (Between-all es holds.ascends) holds.apart (unvisited_none c.new-visited.result.items us c.new-visited.ensures) in
+    let none = subst (λ (s : Option Shrunk). RemovesBelow T.order P (after P ws fs) 0 (length fs) 1 (T.height - 1) T.root es us c.new-visited.result.items c.delete_below.new.visited.items c.args.key.now s) c.in_default.is call in
     deleted_none P (at c.delete_below.new.pages.pages) T es us c.args.key.now (ap (λ (v : PagesView). at v.pages) c.delete_below.ensures.unchanged) holds none.drops
+
+pub shrink_tree-requires-clause-up : goal.shrink_tree-requires-clause-up
+shrink_tree-requires-clause-up g c =
+    let T = c.args.tree.now in
+    let whole : Subtree = record { order = T.order; height = T.height; page = T.root; bounds = unbounded } in
+    (went_up whole whole (Some c.args.key.now) c.delete_below.new.edit.writes.items c.delete_below.new.edit.freed.items c.in_ok-shrunk.shrunk c.in-Some.shrunk refl c.in-Some.is c.in_ok-shrunk.ensures.up).goes
 
 pub stage-requires : goal.stage-requires
 stage-requires g c =
     let pages_is = ap (λ (v : PagesView). v.pages) c.delete_below.ensures.unchanged in
-    let can = c.in_ok-shrunk-2.ensures.fits c.args.pages.now.pages c.delete_below.new.met.items c.in_ok-shrunk.ensures.in_use c.in_ok-shrunk.ensures.visit.here c.in_ok-shrunk.ensures.tidy in
+    let can = c.in_ok-shrunk-2.ensures.fits c.args.pages.now.pages c.delete_below.new.visited.items c.in_ok-shrunk.ensures.in_use c.in_ok-shrunk.ensures.visit.here c.in_ok-shrunk.ensures.tidy in
     subst (λ (ps : List (Option (List ℕ))). CanStage ps c.shrink_tree.new.edit.writes.items c.shrink_tree.new.edit.taken c.shrink_tree.new.edit.freed.items) (sym pages_is) can
 
 pub returns-in_err-shrunk-2-clause-deleted : goal.returns-in_err-shrunk-2-clause-deleted
@@ -43,9 +53,9 @@ returns-in_err-shrunk-2-clause-deleted g c = λ steady es us holds.
     let ws = c.delete_below.new.edit.writes.items in
     let fs = c.delete_below.new.edit.freed.items in
     let pages_is = ap (λ (v : PagesView). v.pages) c.delete_below.ensures.unchanged in
-    let call = c.in_ok-shrunk.ensures.removes steady 1 es us c.requires.tree.order.0 (root_tree T.order P T.height T.root es us (omega arith) holds.tree) (Between-all es holds.ascends) holds.apart (unmet_none c.new-met.result.items us c.new-met.ensures) in
-    let some = subst (λ (s : Option Shrunk). Removes T.order P (after P ws fs) 0 (length fs) 1 (T.height - 1) T.root es us c.new-met.result.items c.delete_below.new.met.items c.args.key.now s) c.in-Some.is call in
-    rw (p.1, p.2) (c.in_err-shrunk-2.ensures.deleted P es us c.args.key.now holds some.drops.0 some.drops.1)
+    let call = c.in_ok-shrunk.ensures.removes steady 1 es us c.requires.tree.order.0 (root_tree T.order P T.height T.root es us (omega arith) holds.tree) (Between-all es holds.ascends) holds.apart (unvisited_none c.new-visited.result.items us c.new-visited.ensures) in
+    let some = subst (λ (s : Option Shrunk). RemovesBelow T.order P (after P ws fs) 0 (length fs) 1 (T.height - 1) T.root es us c.new-visited.result.items c.delete_below.new.visited.items c.args.key.now s) c.in-Some.is call in
+    rw (p.1, p.2) (c.in_err-shrunk-2.ensures.deleted P es us c.args.key.now holds some.drops.1 some.drops.2)
 
 pub returns-clause-deleted : goal.returns-clause-deleted
 returns-clause-deleted g c = λ steady es us holds.
@@ -54,9 +64,16 @@ returns-clause-deleted g c = λ steady es us holds.
     let ws = c.delete_below.new.edit.writes.items in
     let fs = c.delete_below.new.edit.freed.items in
     let pages_is = ap (λ (v : PagesView). v.pages) c.delete_below.ensures.unchanged in
-    let call = c.in_ok-shrunk.ensures.removes steady 1 es us c.requires.tree.order.0 (root_tree T.order P T.height T.root es us (omega arith) holds.tree) (Between-all es holds.ascends) holds.apart (unmet_none c.new-met.result.items us c.new-met.ensures) in
-    let some = subst (λ (s : Option Shrunk). Removes T.order P (after P ws fs) 0 (length fs) 1 (T.height - 1) T.root es us c.new-met.result.items c.delete_below.new.met.items c.args.key.now s) c.in-Some.is call in
+    let call = c.in_ok-shrunk.ensures.removes steady 1 es us c.requires.tree.order.0 (root_tree T.order P T.height T.root es us (omega arith) holds.tree) (Between-all es holds.ascends) holds.apart (unvisited_none c.new-visited.result.items us c.new-visited.ensures) in
+    let some = subst (λ (s : Option Shrunk). RemovesBelow T.order P (after P ws fs) 0 (length fs) 1 (T.height - 1) T.root es us c.new-visited.result.items c.delete_below.new.visited.items c.args.key.now s) c.in-Some.is call in
     let there = subst (λ (ps : List (Option (List ℕ))). Holds (at ps) T es us) (sym pages_is) holds in
-    let leaves = subst (λ (ps : List (Option (List ℕ))). Leaves T.order (at ps) (after (at ps) ws fs) 0 (length fs) 1 (T.height - 1) T.root us (set_in c.args.key.now None es) c.in-Some.shrunk) (sym pages_is) some.drops.1 in
-    let done = c.in_ok-shrunk-2.ensures.deleted (at c.delete_below.new.pages.pages) es us c.args.key.now there some.drops.0 leaves in
+    let leaves = subst (λ (ps : List (Option (List ℕ))). LeavesTree T.order (at ps) (after (at ps) ws fs) 0 (length fs) 1 (T.height - 1) T.root us (set_in c.args.key.now None es) c.in-Some.shrunk) (sym pages_is) some.drops.2 in
+    let done = c.in_ok-shrunk-2.ensures.deleted (at c.delete_below.new.pages.pages) es us c.args.key.now there some.drops.1 leaves in
     deleted_at P (at c.delete_below.new.pages.pages) (after (at c.delete_below.new.pages.pages) c.shrink_tree.new.edit.writes.items c.shrink_tree.new.edit.freed.items) (at c.stage.new.self.pages) T c.in_ok-shrunk-2.shrunk.0 es us c.args.key.now c.in_ok-shrunk-2.shrunk.1 (ap (λ (v : PagesView). at v.pages) c.delete_below.ensures.unchanged) c.in_ok-stage.ensures.pages done
+
+pub returns-clause-spelt : goal.returns-clause-spelt
+returns-clause-spelt g c = λ spelt.
+    let k = c.args.tree.now.order in
+    let edit = c.shrink_tree.new.edit in
+    let before = spelt_unchanged k c.args.pages.now c.delete_below.new.pages c.delete_below.ensures.unchanged spelt in
+    spelt_staged k c.delete_below.new.pages c.stage.new.self edit.writes.items edit.freed.items c.in_ok-stage.ensures.pages c.in_ok-stage.ensures.in_memory (c.in_ok-shrunk-2.ensures.spelt c.in_ok-shrunk.ensures.spelt) before

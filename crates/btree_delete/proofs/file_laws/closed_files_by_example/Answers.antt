@@ -1,4 +1,4 @@
-use Rattle.btree_delete.proofs.FileExampleFacts.{three_closed, unclean_open, short_open, tail_open}
+use Rattle.btree_delete.proofs.FileExampleLemmas.{three_closed, unclean_open, underfull_open, tail_open}
 use Rattle.btree_delete.proofs.file_laws.closed_files_by_example.Goals as goal
 
 pub returns-clause-closed : goal.returns-clause-closed
@@ -7,8 +7,8 @@ returns-clause-closed c = three_closed
 pub returns-clause-unclean : goal.returns-clause-unclean
 returns-clause-unclean c = unclean_open
 
-pub returns-clause-short : goal.returns-clause-short
-returns-clause-short c = short_open
+pub returns-clause-underfull : goal.returns-clause-underfull
+returns-clause-underfull c = underfull_open
 
 pub returns-clause-tail : goal.returns-clause-tail
 returns-clause-tail c = tail_open

@@ -1,5 +1,5 @@
 use Rattle.std.proofs.Common.{refl}
-use Rattle.btree_insert.proofs.BoundFacts.{both_within}
+use Rattle.btree_insert.proofs.BoundLemmas.{both_within}
 use Rattle.btree_insert.proofs.bounds.are_within.Goals as goal
 
 pub returns-then-is_over : goal.returns-then-is_over

@@ -1,5 +1,5 @@
 use Rattle.std.proofs.Common.{sym, arith}
-use Rattle.btree_insert.proofs.BoundFacts.{high_last, high_next}
+use Rattle.btree_insert.proofs.BoundLemmas.{high_last, high_next}
 use Rattle.btree_insert.proofs.bounds.high_of_son.Goals as goal
 
 pub returns-then-i-elements : goal.returns-then-i-elements

@@ -1,6 +1,6 @@
 use Rattle.std.proofs.Common.{◌≡◌, ◌-◌, suc, ap, sym, ◌∙◌, arith}
 use Rattle.btree_insert.specs.Bounds.{low_at}
-use Rattle.btree_insert.proofs.BoundFacts.{low_first, low_next}
+use Rattle.btree_insert.proofs.BoundLemmas.{low_first, low_next}
 use Rattle.btree_insert.proofs.bounds.low_of_son.Goals as goal
 
 pub returns-then-i-eq0 : goal.returns-then-i-eq0

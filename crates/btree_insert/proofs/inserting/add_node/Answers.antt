@@ -1,6 +1,6 @@
 use Rattle.std.proofs.Common.{◌+◌, arith}
 use Rattle.btree_node.specs.Spelling.{spelling}
-use Rattle.btree_insert.proofs.FitFacts.{took_fits}
+use Rattle.btree_insert.proofs.EditFitLemmas.{took_fits}
 use Rattle.btree_insert.proofs.inserting.add_node.Goals as goal
 
 pub returns-clause-fits : goal.returns-clause-fits

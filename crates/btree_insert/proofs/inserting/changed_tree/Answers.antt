@@ -1,22 +1,22 @@
 use Rattle.std.proofs.Common.{◌≡◌, ℕ, suc, ◌+◌, Some, None, [], ◌∷◌, ◌++◌, refl, ap, ◌∙◌, subst, arith}
 use Rattle.page_store.specs.FreeNumbers.{candidate}
 use Rattle.page_store.specs.PageMap.{at, overlay}
-use Rattle.btree_node.specs.declared.nodes.Node.{Node}
+use Rattle.btree_node.specs.declared.node.Node.{Node}
 use Rattle.btree_node.specs.Spelling.{spelling, IsSon}
-use Rattle.btree_insert.specs.declared.growing.Grown.{Grown}
-use Rattle.btree_insert.specs.declared.trees.Tree.{Tree}
+use Rattle.btree_insert.specs.declared.insert_below.Grown.{Grown}
+use Rattle.btree_insert.specs.declared.tree.Tree.{Tree}
 use Rattle.btree_insert.specs.Contents.{set_in}
-use Rattle.btree_insert.specs.Growth.{Grew, GoesUp, Takes, Whole}
-use Rattle.btree_insert.proofs.GrowFacts.{in_use}
-use Rattle.btree_insert.proofs.InsertFacts.{next_inserted, root_up, root_stands}
-use Rattle.btree_insert.proofs.MetFacts.{candidates_free}
-use Rattle.btree_insert.proofs.TreeFacts.{root_tree}
+use Rattle.btree_insert.specs.Growth.{Grew, SplitGoesUp, TakesNumbers, Whole}
+use Rattle.btree_insert.proofs.ChangedTreeLemmas.{in_use}
+use Rattle.btree_insert.proofs.InsertionLemmas.{next_inserted, root_up, root_stands}
+use Rattle.btree_insert.proofs.VisitedLemmas.{candidates_free}
+use Rattle.btree_insert.proofs.HeadNodeLemmas.{root_tree}
 use Rattle.btree_insert.proofs.inserting.changed_tree.Goals as goal
 
 pub returns-in-Replaced-clause-grew : goal.returns-in-Replaced-clause-grew
 returns-in-Replaced-clause-grew g c = λ es us key value holds below.
     let grew = subst (λ (r : Grown). Grew c.args.tree.now.order (at c.args.pages.now.pages) (overlay (at c.args.pages.now.pages) c.args.edit.now.writes.items) (candidate c.args.pages.now.pages) 0 c.args.edit.now.taken 1 c.args.tree.now.height c.args.tree.now.root es us key value r) c.in-Replaced.is below in
-    let takes = subst (Takes c.args.tree.now.height 0 c.args.edit.now.taken) c.in-Replaced.is c.requires.takes in
+    let takes = subst (TakesNumbers c.args.tree.now.height 0 c.args.edit.now.taken) c.in-Replaced.is c.requires.takes in
     next_inserted (at c.args.pages.now.pages) (overlay (at c.args.pages.now.pages) c.args.edit.now.writes.items) (candidate c.args.pages.now.pages) 0 c.args.edit.now.taken c.args.tree.now.height c.args.tree.now.root c.args.tree.now c.args.tree.now es us key value (Some c.in-Replaced.old)
     refl c.requires.height holds grew.grows grew.told refl refl refl (omega arith) (omega (arith, takes))
 
@@ -31,7 +31,7 @@ pub returns-in_ok-root-in-Split-clause-grew : goal.returns-in_ok-root-in-Split-c
 returns-in_ok-root-in-Split-clause-grew g c = λ es us key value holds below.
     let used = in_use c.args.tree.now.order (at c.args.pages.now.pages) 1 c.args.tree.now.height c.args.tree.now.root es us (root_tree c.args.tree.now.order (at c.args.pages.now.pages) c.args.tree.now.height c.args.tree.now.root es us c.requires.height holds.tree) in
     let grew = subst (λ (r : Grown). Grew c.args.tree.now.order (at c.args.pages.now.pages) (overlay (at c.args.pages.now.pages) c.args.edit.now.writes.items) (candidate c.args.pages.now.pages) 0 c.args.edit.now.taken 1 c.args.tree.now.height c.args.tree.now.root es us key value r) c.in-Split.is below in
-    let up = subst (GoesUp (record { low = None; high = None })) c.in-Split.is c.requires.goes_up in
+    let up = subst (SplitGoesUp (record { low = None; high = None })) c.in-Split.is c.requires.goes_up in
     let next_is = c.grown_tree-in-Split.ensures in
     let left : IsSon c.args.tree.now.root = record { some = c.requires.some_root; most = c.fits-tree.1.0.1 } in
     let stands = root_stands c.args.tree.now.order c.args.tree.now.root c.in-Split.right c.in-Split.middle c.requires.tree.order.0 up.0 left up.2 in

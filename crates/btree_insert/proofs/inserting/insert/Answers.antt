@@ -5,7 +5,9 @@ use Rattle.page_store.specs.PageMap.{at, overlay}
 use Rattle.btree_node.specs.Lists.{Element}
 use Rattle.btree_insert.specs.Growth.{WritesFit}
 use Rattle.btree_insert.specs.Inserted.{Inserted}
-use Rattle.btree_insert.proofs.InsertFacts.{inserted_at, can_stage, after_writes}
+use Rattle.btree_insert.proofs.InsertionLemmas.{inserted_at, can_stage, after_writes}
+use Rattle.btree_insert.proofs.SpeltLemmas.{spelt_staged, spelt_unchanged}
+use Rattle.btree_node.specs.Spelling.{AreSpelt}
 use Rattle.btree_insert.proofs.inserting.insert.Goals as goal
 
 pub stage-requires : goal.stage-requires
@@ -24,3 +26,10 @@ returns-clause-inserted g c = λ steady es us holds.
     let same : (q : ℕ) → overlay (at c.args.pages.now.pages) c.grow_tree.new.edit.writes.items q ≡ at c.stage.new.self.pages q =
     λ q. sym (c.in_ok-stage.ensures.pages q ∙ after_writes (at c.grow_tree.new.pages.pages) c.grow_tree.new.edit.writes.items c.grow_tree.new.edit.freed.items q none ∙ ap (λ (ps : List (Option (List ℕ))). overlay (at ps) c.grow_tree.new.edit.writes.items q) pages_is) in
     (c.grow_tree.new.edit.taken, inserted_at (at c.args.pages.now.pages) (overlay (at c.args.pages.now.pages) c.grow_tree.new.edit.writes.items) (at c.stage.new.self.pages) (candidate c.args.pages.now.pages) c.grow_tree.new.edit.taken c.args.tree.now c.in_ok-changed.changed.tree es us c.args.key c.args.value c.in_ok-changed.changed.old same done)
+
+pub returns-clause-spelt : goal.returns-clause-spelt
+returns-clause-spelt g c = λ spelt.
+    let order = c.args.tree.now.order in
+    let none_yet = subst (AreSpelt order) (sym c.new.ensures.items) tt in
+    spelt_staged order c.grow_tree.new.pages c.stage.new.self c.grow_tree.new.edit.writes.items c.grow_tree.new.edit.freed.items c.in_ok-stage.ensures.pages c.in_ok-stage.ensures.in_memory
+    (c.in_ok-changed.ensures.spelt none_yet) (spelt_unchanged order c.args.pages.now c.grow_tree.new.pages c.in_ok-changed.ensures.unchanged spelt)

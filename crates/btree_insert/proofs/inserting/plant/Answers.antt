@@ -1,11 +1,11 @@
 use Rattle.std.proofs.Common.{◌≡◌, [], ◌∷◌, ◌++◌, ap, ◌∙◌, subst, arith}
 use Rattle.page_store.specs.FreeNumbers.{candidate}
 use Rattle.page_store.specs.PageMap.{at}
-use Rattle.btree_node.specs.declared.nodes.Node.{Node}
+use Rattle.btree_node.specs.declared.node.Node.{Node}
 use Rattle.btree_node.specs.Spelling.{spelling}
-use Rattle.btree_insert.specs.declared.trees.Tree.{Tree}
-use Rattle.btree_insert.proofs.InsertFacts.{plant_inserted, leaf_stands}
-use Rattle.btree_insert.proofs.MetFacts.{candidates_free}
+use Rattle.btree_insert.specs.declared.tree.Tree.{Tree}
+use Rattle.btree_insert.proofs.InsertionLemmas.{plant_inserted, leaf_stands}
+use Rattle.btree_insert.proofs.VisitedLemmas.{candidates_free}
 use Rattle.btree_insert.proofs.inserting.plant.Goals as goal
 
 pub returns-clause-grew : goal.returns-clause-grew

@@ -1,5 +1,5 @@
 use Rattle.std.proofs.Common.{Some, ◌∙◌}
-use Rattle.btree_insert.proofs.ElementsFacts.{contents_set, contents_get}
+use Rattle.btree_insert.proofs.TreeElementLemmas.{contents_set, contents_get}
 use Rattle.btree_insert.proofs.laws.contents_after_insertion.Goals as goal
 
 pub returns-clause-contents : goal.returns-clause-contents

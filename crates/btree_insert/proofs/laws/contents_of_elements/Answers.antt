@@ -1,4 +1,4 @@
-use Rattle.btree_insert.proofs.ContentsFacts.{get-contents_of, entries-contents_of, len-contents_of, set-ascends, contents_of-set}
+use Rattle.btree_insert.proofs.ContentsLemmas.{get-contents_of, entries-contents_of, len-contents_of, set-ascends, contents_of-set}
 use Rattle.btree_insert.proofs.laws.contents_of_elements.Goals as goal
 
 pub returns-clause-get : goal.returns-clause-get

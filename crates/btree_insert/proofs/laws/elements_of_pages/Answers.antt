@@ -1,4 +1,4 @@
-use Rattle.btree_insert.proofs.ElementsFacts.{held_elements}
+use Rattle.btree_insert.proofs.TreeElementLemmas.{held_elements}
 use Rattle.btree_insert.proofs.laws.elements_of_pages.Goals as goal
 
 pub returns : goal.returns

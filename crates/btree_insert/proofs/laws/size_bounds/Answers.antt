@@ -1,4 +1,4 @@
-use Rattle.btree_insert.proofs.SizeFacts.{keys_bound, most_keys_bound, pages_bound}
+use Rattle.btree_insert.proofs.SizeLemmas.{keys_bound, most_keys_bound, pages_bound}
 use Rattle.btree_insert.proofs.laws.size_bounds.Goals as goal
 
 pub returns-clause-keys : goal.returns-clause-keys

@@ -1,8 +1,8 @@
 use Rattle.std.proofs.Common.{◌∷◌, [], arith}
 use Rattle.page_store.specs.PageMap.{at}
 use Rattle.btree_insert.specs.Examples.{ax, by, cz, tree_of, three_pages}
-use Rattle.btree_insert.proofs.ElementsFacts.{held_elements}
-use Rattle.btree_insert.proofs.ExampleFacts.{three_hold, uneven_hold, shared_hold, equal_hold}
+use Rattle.btree_insert.proofs.TreeElementLemmas.{held_elements}
+use Rattle.btree_insert.proofs.TreeExampleLemmas.{three_hold, uneven_hold, shared_hold, equal_hold}
 use Rattle.btree_insert.proofs.laws.trees_by_example.Goals as goal
 
 pub returns-clause-three : goal.returns-clause-three

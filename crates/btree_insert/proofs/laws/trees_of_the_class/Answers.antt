@@ -1,4 +1,4 @@
-use Rattle.btree_insert.proofs.ClassFacts.{to_lists, to_class}
+use Rattle.btree_insert.proofs.TreeClassLemmas.{to_lists, to_class}
 use Rattle.btree_insert.proofs.laws.trees_of_the_class.Goals as goal
 
 pub returns-clause-lists : goal.returns-clause-lists

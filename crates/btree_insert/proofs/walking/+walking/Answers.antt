@@ -9,10 +9,10 @@ use Rattle.btree_insert.specs.Bounds.{Between}
 use Rattle.btree_insert.specs.Growth.{IsOutside}
 use Rattle.btree_insert.specs.PageTrees.{Spells, Fan, TreeOf, TreeAt}
 use Rattle.btree_insert.specs.Reached.{Adds}
-use Rattle.btree_insert.proofs.ReachFacts.{on_ok, adds_leaf, adds_inner, adds_more, adds_below, rest_within}
-use Rattle.btree_insert.proofs.BoundFacts.{Between-left, Between-right}
-use Rattle.btree_insert.proofs.TreeFacts.{top, read_top}
-use Rattle.btree_insert.proofs.WalkFacts.{fan_first, added, one_page, pages_of_both, weaken, take_one, body_fan, nonempty}
+use Rattle.btree_insert.proofs.ReachLemmas.{on_ok, adds_leaf, adds_inner, adds_more, adds_below, rest_within}
+use Rattle.btree_insert.proofs.BoundLemmas.{Between-left, Between-right}
+use Rattle.btree_insert.proofs.HeadNodeLemmas.{top, read_top}
+use Rattle.btree_insert.proofs.SonsLemmas.{fan_first, added, one_page, pages_of_both, weaken, take_one, body_fan, nonempty}
 use Rattle.btree_insert.proofs.walking.+walking.Goals as goal
 
 pub walk_below-returns-in_err-read_into-clause-walked : goal.walk_below-returns-in_err-read_into-clause-walked

@@ -1,9 +1,9 @@
 use Rattle.std.proofs.Common.{◌++◌, ap, ◌∙◌, arith}
 use Rattle.std.proofs.lemmas.Result.{err_from_is_err_and}
 use Rattle.page_store.specs.PageMap.{at}
-use Rattle.btree_insert.proofs.BoundFacts.{Between-all}
-use Rattle.btree_insert.proofs.ApartFacts.{walked_there}
-use Rattle.btree_insert.proofs.TreeFacts.{root_tree}
+use Rattle.btree_insert.proofs.BoundLemmas.{Between-all}
+use Rattle.btree_insert.proofs.DistinctPageLemmas.{walked_there}
+use Rattle.btree_insert.proofs.HeadNodeLemmas.{root_tree}
 use Rattle.btree_insert.proofs.walking.walk.Goals as goal
 
 pub returns-in_err-walk_below-clause-walked : goal.returns-in_err-walk_below-clause-walked

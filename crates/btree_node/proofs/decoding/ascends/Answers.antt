@@ -1,6 +1,6 @@
 use Rattle.std.proofs.Common.{arith, sym, ◌∙◌}
 use Rattle.std.proofs.lemmas.Bool.{false≢true}
-use Rattle.btree_node.proofs.OrderFacts.{Ascends-more, Ascends-neighbours}
+use Rattle.btree_node.proofs.ElementOrderLemmas.{Ascends-more, Ascends-neighbours}
 use Rattle.btree_node.proofs.decoding.ascends.Goals as goal
 
 pub returns-then-not-is_below : goal.returns-then-not-is_below

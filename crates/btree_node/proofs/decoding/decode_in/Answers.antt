@@ -1,8 +1,8 @@
 use Rattle.std.proofs.Common.{Ok, ap, arith, sym, ◌∙◌}
 use Rattle.std.proofs.lemmas.Bool.{false≢true}
-use Rattle.btree_node.proofs.SpelledFacts.{spelled}
+use Rattle.btree_node.proofs.SpellingLemmas.{spelled}
 use Rattle.btree_node.specs.Spelling.{spelling_in}
-use Rattle.btree_node.proofs.NodeFacts.{read_stands, no_fault, same_node}
+use Rattle.btree_node.proofs.DecodeLemmas.{read_stands, no_fault, same_node}
 use Rattle.btree_node.proofs.decoding.decode_in.Goals as goal
 
 pub returns-in_err-node-clause-only : goal.returns-in_err-node-clause-only

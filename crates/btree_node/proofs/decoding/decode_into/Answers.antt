@@ -1,8 +1,8 @@
 use Rattle.std.proofs.Common.{refl, ap, sym, ◌∙◌, arith}
 use Rattle.btree_node.specs.Layout.{first_layout}
 use Rattle.btree_node.specs.Spelling.{spelling}
-use Rattle.btree_node.proofs.NodeFacts.{read_stands, same_node}
-use Rattle.btree_node.proofs.SpelledFacts.{spelled}
+use Rattle.btree_node.proofs.DecodeLemmas.{read_stands, same_node}
+use Rattle.btree_node.proofs.SpellingLemmas.{spelled}
 use Rattle.btree_node.proofs.decoding.decode_into.Goals as goal
 
 pub returns-then-read_first-clause-found : goal.returns-then-read_first-clause-found

@@ -1,6 +1,6 @@
 use Rattle.std.proofs.Common.{arith, ap, ◌∙◌}
 use Rattle.btree_node.specs.Reading.{element_in, elements_at, place_at}
-use Rattle.btree_node.proofs.BlockFacts.{read_more}
+use Rattle.btree_node.proofs.PagePartLemmas.{read_more}
 use Rattle.btree_node.proofs.decoding.elements_of.Goals as goal
 
 pub loop-i-preserved : goal.loop-i-preserved

@@ -1,6 +1,6 @@
 use Rattle.std.proofs.Common.{arith, ap, ◌∙◌, ◌+◌, ◌*◌}
 use Rattle.btree_node.specs.Reading.{number_at, son_at, sons_at}
-use Rattle.btree_node.proofs.BlockFacts.{read_more}
+use Rattle.btree_node.proofs.PagePartLemmas.{read_more}
 use Rattle.btree_node.proofs.decoding.push_sons.Goals as goal
 
 pub loop-j-preserved : goal.loop-j-preserved

@@ -1,5 +1,5 @@
 use Rattle.std.proofs.Common.{sym, ◌∙◌}
-use Rattle.btree_node.proofs.HeaderFacts.{header_reads, fields_same}
+use Rattle.btree_node.proofs.HeaderLemmas.{header_reads, fields_same}
 use Rattle.btree_node.proofs.laws.one_header_spelling.Goals as goal
 
 -- both are the header that stands at the fixed places of the page

@@ -1,7 +1,7 @@
 use Rattle.std.proofs.Common.{refl, sym, ◌∙◌}
 use Rattle.btree_node.specs.Layout.{first_layout}
 use Rattle.btree_node.specs.Spelling.{spelling}
-use Rattle.btree_node.proofs.NodeFacts.{reads, node_reads}
+use Rattle.btree_node.proofs.DecodeLemmas.{reads, node_reads}
 use Rattle.btree_node.proofs.laws.one_spelling.Goals as goal
 
 -- both are the node that stands at the fixed places of the page

@@ -1,8 +1,8 @@
 use Rattle.std.proofs.Common.{◌≡◌, ◌+◌, ◌-◌, ◌/◌, suc, take, sym, ◌∙◌, subst, arith}
 use Rattle.std.proofs.lemmas.Map.Lookups.{exact_bytes}
 use Rattle.btree_node.specs.Lists.{Each, Below}
-use Rattle.btree_node.proofs.OrderFacts.{Below-flip}
-use Rattle.btree_node.proofs.SearchFacts.{below_to, above_from, found_at}
+use Rattle.btree_node.proofs.ElementOrderLemmas.{Below-flip}
+use Rattle.btree_node.proofs.SearchLemmas.{below_to, above_from, found_at}
 use Rattle.btree_node.proofs.searching.place_among.Goals as goal
 
 pub loop-low-preserved-in-Less : goal.loop-low-preserved-in-Less

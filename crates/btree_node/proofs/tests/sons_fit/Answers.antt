@@ -1,7 +1,7 @@
 use Rattle.std.proofs.Common.{arith, sym, subst}
 use Rattle.std.proofs.lemmas.List.{get_or_default}
 use Rattle.btree_node.specs.Spelling.{SonsFit, IsSon}
-use Rattle.btree_node.proofs.OrderFacts.{Each_from}
+use Rattle.btree_node.proofs.ElementOrderLemmas.{Each_from}
 use Rattle.btree_node.proofs.tests.sons_fit.Goals as goal
 
 pub returns-then-sons-count : goal.returns-then-sons-count

@@ -3,9 +3,9 @@ use Rattle.rec_types.specs.History.{replay}
 use Rattle.record_file.specs.Abstract.{open_of}
 use Rattle.record_file.specs.Runs.{seen}
 use Rattle.recfile.specs.Ending.{EndsBelow, stop_of}
-use Rattle.recfile.proofs.AskFacts.{asks_nothing, asks_on}
-use Rattle.recfile.proofs.EndFacts.{below_first, below_next, count_next, few_next, all_ended, replay_without}
-use Rattle.recfile.proofs.OneFacts.{stops_ending}
+use Rattle.recfile.proofs.AskingLemmas.{asks_nothing, asks_on}
+use Rattle.recfile.proofs.EndingLemmas.{below_first, below_next, count_next, few_next, all_ended, replay_without}
+use Rattle.recfile.proofs.OneEndingLemmas.{stops_ending}
 use Rattle.recfile.proofs.endings.end_all.Goals as goal
 
 pub loop-number-init : goal.loop-number-init

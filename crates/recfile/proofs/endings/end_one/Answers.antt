@@ -1,8 +1,8 @@
 use Rattle.std.proofs.Common.{Some, None, Ok, sym, ap, ◌∙◌}
 use Rattle.record_file.specs.Runs.{seen}
 use Rattle.recfile.specs.Ending.{stop_of}
-use Rattle.recfile.proofs.AskFacts.{asks_on}
-use Rattle.recfile.proofs.OneFacts.{ended_open, stopped_abort}
+use Rattle.recfile.proofs.AskingLemmas.{asks_on}
+use Rattle.recfile.proofs.OneEndingLemmas.{ended_open, stopped_abort}
 use Rattle.recfile.proofs.endings.end_one.Goals as goal
 
 pub returns-in-Ok-clause-ended : goal.returns-in-Ok-clause-ended

@@ -1,4 +1,4 @@
-use Rattle.recfile.proofs.WholeFacts.{whole_empty, whole_run}
+use Rattle.recfile.proofs.WholeAbortLemmas.{whole_empty, whole_run}
 use Rattle.recfile.proofs.laws.aborts_are_whole.Goals as goal
 
 pub returns-clause-begins : goal.returns-clause-begins

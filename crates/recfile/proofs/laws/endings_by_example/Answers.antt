@@ -3,7 +3,7 @@ use Rattle.rec_types.specs.History.{Change}
 use Rattle.record_file.specs.Abstract.{open_of}
 use Rattle.recfile.specs.Ending.{without}
 use Rattle.recfile.specs.Examples.{change, four_changes}
-use Rattle.recfile.proofs.EndFacts.{ended_changes}
+use Rattle.recfile.proofs.EndingLemmas.{ended_changes}
 use Rattle.recfile.proofs.laws.endings_by_example.Goals as goal
 
 pub returns-clause-taken : goal.returns-clause-taken

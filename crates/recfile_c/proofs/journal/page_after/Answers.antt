@@ -2,7 +2,7 @@ use Rattle.std.proofs.Common.{◌≡◌, ℕ, List, length, slice_index_or, take
 use Rattle.std.proofs.lemmas.List.{take_all}
 use Rattle.std.proofs.lemmas.Option.{slice_get-get_or}
 use Rattle.page_store.specs.Blank.{blank}
-use Rattle.recfile_c.specs.Steps.{carried}
+use Rattle.page_store.specs.Journal.{carried}
 use Rattle.recfile_c.proofs.Journals.{carried-more}
 use Rattle.recfile_c.proofs.journal.page_after.Goals as goal
 

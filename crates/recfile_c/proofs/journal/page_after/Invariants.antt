@@ -1,6 +1,6 @@
 use Rattle.std.proofs.Common.{◌≡◌, length, slice_index_or, take}
 use Rattle.page_store.specs.Blank.{blank}
-use Rattle.recfile_c.specs.Steps.{carried}
+use Rattle.page_store.specs.Journal.{carried}
 use Rattle.recfile_c.proofs.journal.page_after.Given as goal
 
 abbrev pub invariant-loop-step : goal.invariant-loop-step

@@ -1,6 +1,6 @@
 use Rattle.std.proofs.Common.{[], refl, ap, arith}
 use Rattle.record_file.specs.Abstract.{File}
-use Rattle.record_file.proofs.OnceFacts.{compensates_once}
+use Rattle.record_file.proofs.CompensatedOnceLemmas.{compensates_once}
 use Rattle.record_file.proofs.laws.compensated_once.Goals as goal
 
 pub returns-clause-step : goal.returns-clause-step

@@ -5,7 +5,7 @@ use Rattle.std.specs.Ordering.{nat_cmp}
 use Rattle.rec_types.specs.Contents.{Contents}
 use Rattle.record_file.specs.Abstract.{records_of}
 use Rattle.record_file.specs.Runs.{Seen}
-use Rattle.record_file.proofs.AloneFacts.{alone_of_run}
+use Rattle.record_file.proofs.RemainingRunLemmas.{alone_of_run}
 use Rattle.record_file.proofs.laws.remaining_alone.Goals as goal
 
 pub returns-clause-alone : goal.returns-clause-alone

@@ -8,7 +8,7 @@ use Rattle.rec_types.specs.LimitBounds.{Bounds}
 use Rattle.tx_log.specs.Transactions.{Transactions, fresh}
 use Rattle.record_file.specs.Abstract.{File, new_file, is_full, charged_of}
 use Rattle.record_file.specs.Runs.{Seen}
-use Rattle.record_file.proofs.GrowFacts.{tells_none}
+use Rattle.record_file.proofs.LogGrowthLemmas.{tells_none}
 use Rattle.record_file.proofs.laws.runs.Goals as goal
 
 pub returns-clause-begins : goal.returns-clause-begins

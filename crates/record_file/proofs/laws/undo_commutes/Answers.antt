@@ -2,10 +2,10 @@ use Rattle.std.proofs.Common.{arith, Some, None, refl, sym, ap, ◌∙◌, [], �
 use Rattle.std.specs.FinMap.{get}
 use Rattle.rec_types.specs.Contents.{Contents, set_to}
 use Rattle.rec_types.specs.History.{replay}
-use Rattle.rec_types.proofs.ContentsFacts.{get-set_to-here, set_to-twice}
-use Rattle.record_file.proofs.RunFacts.{kept_of_run, run_failures, run_sound}
-use Rattle.record_file.proofs.LeadFacts.{run_leads, ended_stays}
-use Rattle.record_file.proofs.UndoFacts.{kept_answered, kept_put_back}
+use Rattle.rec_types.proofs.ContentsLemmas.{get-set_to-here, set_to-twice}
+use Rattle.record_file.proofs.RunLemmas.{kept_of_run, run_failures, run_sound}
+use Rattle.record_file.proofs.HistoryLeadLemmas.{run_leads, ended_stays}
+use Rattle.record_file.proofs.UndoLemmas.{kept_answered, kept_put_back}
 use Rattle.record_file.specs.Abstract.{open_of}
 use Rattle.record_file.specs.Undo.{old_records, wrote}
 use Rattle.record_file.proofs.laws.undo_commutes.Goals as goal

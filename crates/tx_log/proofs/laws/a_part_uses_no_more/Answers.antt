@@ -1,5 +1,5 @@
 use Rattle.std.proofs.Common.{refl, inl, inr}
-use Rattle.tx_log.proofs.RemainingFacts.{part_use, none_taken}
+use Rattle.tx_log.proofs.RemainingLemmas.{part_use, none_taken}
 use Rattle.tx_log.proofs.laws.a_part_uses_no_more.Goals as goal
 
 pub returns-clause-uses : goal.returns-clause-uses

@@ -1,5 +1,5 @@
 use Rattle.std.proofs.Common.{refl}
-use Rattle.tx_log.proofs.RemainingFacts.{leaves-undo_last, leaves-take_back, leaves-take_newest}
+use Rattle.tx_log.proofs.RemainingLemmas.{leaves-undo_last, leaves-take_back, leaves-take_newest}
 use Rattle.tx_log.proofs.laws.nothing_lives_again.Goals as goal
 
 pub returns-clause-newest : goal.returns-clause-newest

@@ -1,6 +1,6 @@
 use Rattle.std.proofs.Common.{subst}
 use Rattle.record_file.specs.Abstract.{OpenFile, IsKeptFile}
-use Rattle.record_file.proofs.OwnerFacts.{kept_file}
+use Rattle.record_file.proofs.OwnerLemmas.{kept_file}
 use Rattle.record_file.proofs.file.RecordFile.begun.Goals as goal
 
 pub returns-clause-kept : goal.returns-clause-kept

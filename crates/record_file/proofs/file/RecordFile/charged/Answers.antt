@@ -1,5 +1,5 @@
 use Rattle.std.proofs.Common.{◌∙◌}
-use Rattle.record_file.proofs.FileFacts.{charged_count}
+use Rattle.record_file.proofs.FileLemmas.{charged_count}
 use Rattle.record_file.proofs.file.RecordFile.charged.Goals as goal
 
 pub returns : goal.returns

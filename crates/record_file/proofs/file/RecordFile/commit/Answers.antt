@@ -1,4 +1,4 @@
-use Rattle.record_file.proofs.StateFacts.{file_ended}
+use Rattle.record_file.proofs.InvariantLemmas.{file_ended}
 use Rattle.record_file.proofs.file.RecordFile.commit.Goals as goal
 
 pub invariant_of-self : goal.invariant_of-self

@@ -1,4 +1,4 @@
-use Rattle.record_file.proofs.StateFacts.{file_finished}
+use Rattle.record_file.proofs.InvariantLemmas.{file_finished}
 use Rattle.record_file.proofs.file.RecordFile.finish.Goals as goal
 
 pub invariant_of-self : goal.invariant_of-self

@@ -2,7 +2,7 @@ use Rattle.std.proofs.Common.{ap, sym, ◌∙◌, arith}
 use Rattle.std.specs.FinMap as maps
 use Rattle.tx_log.specs.Owners.{owner_of}
 use Rattle.record_file.specs.Abstract.{OpenFile, file_of, open_of, records_of}
-use Rattle.record_file.proofs.RoomFacts.{owned_not_full, unowned_full}
+use Rattle.record_file.proofs.FullnessLemmas.{owned_not_full, unowned_full}
 use Rattle.record_file.proofs.file.RecordFile.is_full.Goals as goal
 
 -- the owner of the key has a live change there

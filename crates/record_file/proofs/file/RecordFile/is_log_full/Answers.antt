@@ -1,4 +1,4 @@
-use Rattle.record_file.proofs.FileFacts.{full_is}
+use Rattle.record_file.proofs.FileLemmas.{full_is}
 use Rattle.record_file.proofs.file.RecordFile.is_log_full.Goals as goal
 
 pub returns : goal.returns

@@ -4,13 +4,13 @@ use Rattle.tx_log.specs.LogState.{LogState, use_in}
 use Rattle.record_file.specs.Abstract.{File, OpenFile, file_of, is_full, records_of, with_change}
 use Rattle.std.proofs.lemmas.Result.{err_from_is_err_and}
 use Rattle.rec_types.specs.Table.{is_device, counted}
-use Rattle.rec_types.specs.declared.tables.TableFault.TheVariants as table_faults
-use Rattle.record_file.specs.declared.faults.PutFault.{PutFault}
+use Rattle.rec_types.specs.declared.table.TableFault.TheVariants as table_faults
+use Rattle.record_file.specs.declared.fault.PutFault.{PutFault}
 use Rattle.record_file.specs.Steps.{rose, put_refusal, PutStep}
-use Rattle.record_file.proofs.FaultFacts.{none_by, rose_same, put_err}
-use Rattle.record_file.proofs.FileFacts.{put_has_room}
-use Rattle.record_file.proofs.RoomFacts.{put_accepts, room_now}
-use Rattle.record_file.proofs.StateFacts.{change_kept, change_file}
+use Rattle.record_file.proofs.FaultLemmas.{none_by, rose_same, put_err}
+use Rattle.record_file.proofs.FileLemmas.{put_has_room}
+use Rattle.record_file.proofs.FullnessLemmas.{put_accepts, room_now}
+use Rattle.record_file.proofs.InvariantLemmas.{change_kept, change_file}
 use Rattle.record_file.proofs.file.RecordFile.put.Goals as goal
 
 pub accept-lsn-requires-clause-fits : goal.accept-lsn-requires-clause-fits

@@ -4,10 +4,10 @@ use Rattle.rec_types.specs.Contents.{set_to}
 use Rattle.tx_log.specs.LogState.{LogState, use_in, open_in, history_in}
 use Rattle.record_file.specs.Abstract.{File, OpenFile, file_of, records_of, with_change}
 use Rattle.record_file.specs.Steps.{remove_refusal, Accepts}
-use Rattle.record_file.proofs.FaultFacts.{none_by, rose_same}
-use Rattle.record_file.proofs.RoomFacts.{remove_accepts, present_charged}
-use Rattle.record_file.proofs.StateFacts.{change_kept, change_file, change_accepted}
-use Rattle.record_file.proofs.GrowFacts.{tells_one}
+use Rattle.record_file.proofs.FaultLemmas.{none_by, rose_same}
+use Rattle.record_file.proofs.FullnessLemmas.{remove_accepts, present_charged}
+use Rattle.record_file.proofs.InvariantLemmas.{change_kept, change_file, change_accepted}
+use Rattle.record_file.proofs.LogGrowthLemmas.{tells_one}
 use Rattle.record_file.proofs.file.RecordFile.remove.Goals as goal
 
 pub accept-lsn-requires-clause-fits : goal.accept-lsn-requires-clause-fits

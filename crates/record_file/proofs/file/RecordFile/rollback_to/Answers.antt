@@ -1,10 +1,10 @@
 use Rattle.std.proofs.Common.{◌≤◌, Some, None, false, sym, ap, subst, ◌∙◌}
 use Rattle.tx_log.specs.Transactions.{depth_of}
-use Rattle.tx_log.specs.declared.phases.Phase.{Phase}
+use Rattle.tx_log.specs.declared.phase.Phase.{Phase}
 use Rattle.record_file.specs.Abstract.{OpenFile, Tells, phase_at, tx_of}
 use Rattle.record_file.specs.Outside.{by_device, by_memory}
 use Rattle.rec_types.specs.Table.{counted}
-use Rattle.record_file.proofs.RollbackFacts.{is_rolling, rollback_starts, started_back, started_stop, started_opening, ends_by}
+use Rattle.record_file.proofs.RollbackLemmas.{is_rolling, rollback_starts, started_back, started_stop, started_opening, ends_by}
 use Rattle.record_file.proofs.file.RecordFile.rollback_to.Goals as goal
 
 pub take_back-requires : goal.take_back-requires

@@ -1,7 +1,7 @@
 use Rattle.std.proofs.Common.{refl, ap, ◌∙◌}
 use Rattle.tx_log.specs.LogState.{phase_in}
 use Rattle.record_file.specs.Abstract.{OpenFile, phase_at}
-use Rattle.record_file.proofs.StateFacts.{file_known}
+use Rattle.record_file.proofs.InvariantLemmas.{file_known}
 use Rattle.record_file.proofs.file.RecordFile.start_rollback.Goals as goal
 
 pub invariant_of-self : goal.invariant_of-self

@@ -1,7 +1,7 @@
 use Rattle.std.proofs.Common.{refl, ap, ◌∙◌}
-use Rattle.record_file.proofs.RollbackFacts.{rolled_none, rolled_some, rolled_more, rolled_out, rolled_all}
-use Rattle.record_file.proofs.FaultFacts.{tells_no_damage}
-use Rattle.record_file.proofs.GrowFacts.{tells_none, tells_on}
+use Rattle.record_file.proofs.RollbackLemmas.{rolled_none, rolled_some, rolled_more, rolled_out, rolled_all}
+use Rattle.record_file.proofs.FaultLemmas.{tells_no_damage}
+use Rattle.record_file.proofs.LogGrowthLemmas.{tells_none, tells_on}
 use Rattle.record_file.proofs.file.RecordFile.take_back.Goals as goal
 
 pub loop-undone-init : goal.loop-undone-init

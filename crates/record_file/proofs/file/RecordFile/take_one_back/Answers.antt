@@ -1,15 +1,15 @@
 use Rattle.std.proofs.Common.{◌<◌, Err, ap, is_some, sym, subst, ◌∙◌, option_map, arith}
 use Rattle.rec_types.specs.History.{undo_last}
 use Rattle.tx_log.specs.Transactions.{left_in}
-use Rattle.tx_log.specs.declared.phases.UndoStep.{UndoStep}
+use Rattle.tx_log.specs.declared.phase.UndoStep.{UndoStep}
 use Rattle.std.specs.FinMap as maps
 use Rattle.tx_log.specs.LogState.{undo_step, tx_in, open_in}
 use Rattle.rec_types.specs.Contents.{set_to}
 use Rattle.record_file.specs.Abstract.{File, OpenFile, file_of, tx_of}
-use Rattle.record_file.proofs.FaultFacts.{step_is}
-use Rattle.record_file.proofs.FileFacts.{undo_has_room}
-use Rattle.record_file.proofs.StateFacts.{undo_there, undo_kept, undo_file_is, undo_becomes, undo_record}
-use Rattle.record_file.proofs.GrowFacts.{tells_one}
+use Rattle.record_file.proofs.FaultLemmas.{step_is}
+use Rattle.record_file.proofs.FileLemmas.{undo_has_room}
+use Rattle.record_file.proofs.InvariantLemmas.{undo_there, undo_kept, undo_file_is, undo_becomes, undo_record}
+use Rattle.record_file.proofs.LogGrowthLemmas.{tells_one}
 use Rattle.record_file.proofs.file.RecordFile.take_one_back.Goals as goal
 
 pub unwrap-step-requires : goal.unwrap-step-requires

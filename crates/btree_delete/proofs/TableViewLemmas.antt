@@ -1,0 +1,194 @@
+-- What contracts see of a table in a tree.
+use Rattle.std.proofs.Common.{◌≡◌, ℕ, ◌≤◌, true, false, Option, Some, None, IsSome, IsTrue, Result, Ok, Err, IsOk, IfOk, MatchResult, List, [], length, refl, ap, sym, ◌∙◌, subst, arith}
+use Rattle.std.specs.FinMap as maps
+use Rattle.std.specs.FinMap.{empty_of_len}
+use Rattle.rec_types.specs.Contents.{Contents, set_to}
+use Rattle.rec_types.specs.Table.{Damages, is_device}
+use Rattle.rec_types.specs.declared.table.TableFault.{TableFault}
+use Rattle.rec_types.specs.declared.table.TableFault.TheVariants.{Device, Damaged, NoRoom, Memory}
+use Rattle.page_store.specs.PageMap.{at}
+use Rattle.page_store.specs.PagesView.{PagesView}
+use Rattle.btree_node.specs.Lists.{Element, Ascends}
+use Rattle.btree_insert.specs.declared.tree.Tree.{Tree}
+use Rattle.btree_insert.specs.declared.tree.TreeFault.{TreeFault}
+use Rattle.btree_insert.specs.declared.tree.TreeFault.TheVariants.{Device as ReadFailed}
+use Rattle.btree_insert.specs.Growth.{IsOutside}
+use Rattle.btree_insert.specs.PageTrees.{Holds}
+use Rattle.btree_insert.specs.Contents.{lookup_in, set_in, contents_of}
+use Rattle.btree_insert.specs.Elements.{contents_at}
+use Rattle.btree_insert.proofs.ContentsLemmas.{entries-contents_of, len-contents_of}
+use Rattle.btree_insert.proofs.TreeElementLemmas.{contents_set, contents_get}
+use Rattle.btree_insert.proofs.ElementMapLemmas.{one_if_none, put-length}
+use Rattle.btree_delete.specs.TableAnswers.{table_answer, IsSet, IsFull, MayRefuse}
+use Rattle.btree_insert.specs.Spelt.{AreSpeltIn}
+use Rattle.btree_delete.specs.TableView.{TableView, Fills, IsClosed, IsTable, table_contents}
+use Rattle.btree_delete.proofs.ClosedFileLemmas.{held_contents}
+
+-- no elements are no contents
+pub no_contents : contents_of [] ≡ maps.empty
+no_contents = empty_of_len (contents_of []) (len-contents_of [] tt)
+
+-- the records of a table are as many as its tree says
+pub count_is : (t : TableView) → IsTable t → IsTrue t.pages.steady → t.tree.count ≡ maps.len (table_contents t)
+count_is t is steady =
+    let held = is.holds steady in
+    let holds = held.fills.holds in
+    holds.count ∙ sym (len-contents_of held.es holds.ascends) ∙ ap maps.len (sym (held_contents (at t.pages.pages) t.tree held.es held.us is.most_order holds))
+
+-- the count is that of the contents
+pub count_seen : (here now : TableView) → here ≡ now → IsTable here → IsTrue now.pages.steady → here.tree.count ≡ maps.len (table_contents now)
+count_seen here now same is steady = count_is here is (ap (λ (t : TableView). t.pages.steady) same ∙ steady) ∙ ap (λ (t : TableView). maps.len (table_contents t)) same
+
+-- what a change answers over the pages of a table
+abbrev pub Changes : TableView → List (Option (List ℕ)) → List ℕ → Option (List ℕ) → Result (Tree × Option (List ℕ)) TableFault → Type 0
+Changes t new key to r =
+    IsTrue t.pages.steady → (es : List Element) → (us : List ℕ) → Fills t.pages.pages t.tree es us → t.tree.count ≤ t.limit → MatchResult r (λ x. IsSet new x.0 t.limit es key to x.1) (MayRefuse t.limit t.tree.count es key to)
+
+-- a set that is answered
+pub ok_set : (t : TableView) (new : List (Option (List ℕ))) (key : List ℕ) (to : Option (List ℕ)) (r : Result (Tree × Option (List ℕ)) TableFault) (next : Tree) (before : Option (List ℕ)) (is : IsTable t) (steady : IsTrue t.pages.steady) → Changes t new key to r → r ≡ Ok (next, before)
+    → IsSet new next t.limit (is.holds steady).es key to before
+ok_set t new key to r next before is steady call r_is =
+    let held = is.holds steady in
+    subst (λ (r : Result (Tree × Option (List ℕ)) TableFault). MatchResult r (λ x. IsSet new x.0 t.limit held.es key to x.1) (MayRefuse t.limit t.tree.count held.es key to)) r_is (call steady held.es held.us held.fills (is.count steady))
+
+-- a set that is refused
+pub err_set : (t : TableView) (new : List (Option (List ℕ))) (key : List ℕ) (to : Option (List ℕ)) (r : Result (Tree × Option (List ℕ)) TableFault) (fault : TableFault) (is : IsTable t) (steady : IsTrue t.pages.steady) → Changes t new key to r → r ≡ Err fault
+    → MayRefuse t.limit t.tree.count (is.holds steady).es key to fault
+err_set t new key to r fault is steady call r_is =
+    let held = is.holds steady in
+    subst (λ (r : Result (Tree × Option (List ℕ)) TableFault). MatchResult r (λ x. IsSet new x.0 t.limit held.es key to x.1) (MayRefuse t.limit t.tree.count held.es key to)) r_is (call steady held.es held.us held.fills (is.count steady))
+
+-- a look-up in the tree is one in the contents
+pub looked_up : (t : TableView) (key : List ℕ) (is : IsTable t) (steady : IsTrue t.pages.steady) → lookup_in key (is.holds steady).es ≡ maps.get (table_contents t) key
+looked_up t key is steady = let held = is.holds steady in contents_get (at t.pages.pages) t.tree held.es held.us key is.most_order held.fills.holds
+
+-- what stood at the key
+pub set_value : (here now : TableView) (new : List (Option (List ℕ))) (key : List ℕ) (to : Option (List ℕ)) (r : Result (Tree × Option (List ℕ)) TableFault) (next : Tree) (before : Option (List ℕ)) → here ≡ now → IsTable here → Changes here new key to r → r ≡ Ok (next, before)
+    → IsTrue now.pages.steady → before ≡ maps.get (table_contents now) key
+set_value here now new key to r next before same is call r_is steady =
+    let steady2 = ap (λ (t : TableView). t.pages.steady) same ∙ steady in
+    (ok_set here new key to r next before is steady2 call r_is).answer ∙ looked_up here key is steady2 ∙ ap (λ (t : TableView). maps.get (table_contents t) key) same
+
+-- the records after it
+pub set_contents : (here now : TableView) (new : List (Option (List ℕ))) (key : List ℕ) (to : Option (List ℕ)) (r : Result (Tree × Option (List ℕ)) TableFault) (next : Tree) (before : Option (List ℕ)) → here ≡ now → IsTable here → Changes here new key to r → r ≡ Ok (next, before)
+    → IfOk r (λ x. x.0.order ≡ here.tree.order) → IsTrue now.pages.steady → contents_at next.order (at new) next.height next.root ≡ set_to (table_contents now) key to
+set_contents here now new key to r next before same is call r_is order steady =
+    let steady2 = ap (λ (t : TableView). t.pages.steady) same ∙ steady in
+    let held = is.holds steady2 in
+    let done = ok_set here new key to r next before is steady2 call r_is in
+    let order2 = subst (λ (r : Result (Tree × Option (List ℕ)) TableFault). IfOk r (λ x. x.0.order ≡ here.tree.order)) r_is order in
+    contents_set (at here.pages.pages) (at new) here.tree next held.es held.us done.vs key to is.most_order order2 held.fills.holds done.fills.holds
+    ∙ ap (λ (t : TableView). set_to (table_contents t) key to) same
+
+full_of : (here now : TableView) (key : List ℕ) (to : Option (List ℕ)) (is : IsTable here) (same : here ≡ now) (steady : IsTrue here.pages.steady) → IsSome to → maps.get (table_contents now) key ≡ None → now.limit ≤ maps.len (table_contents now) → IsFull here.limit here.tree.count (is.holds steady).es key to
+full_of here now key to is same steady puts absent full = record {
+  puts = puts;
+  absent = looked_up here key is steady ∙ ap (λ (t : TableView). maps.get (table_contents t) key) same ∙ absent;
+  full = omega (arith, ap (λ (t : TableView). t.limit) same, full, count_seen here now same is (sym (ap (λ (t : TableView). t.pages.steady) same) ∙ steady));
+}
+
+too_many : (limit count next : ℕ) (es : List Element) (key : List ℕ) (to : Option (List ℕ)) → Ascends es → count ≡ length es → next ≡ length (set_in key to es) → next ≤ limit → IsFull limit count es key to → ⊥
+too_many limit count next es key None up count_is next_is few full = absurd (let never = full.puts in cc)
+too_many limit count next es key (Some value) up count_is next_is few full =
+    let one = put-length key value es up in
+    let added = ap one_if_none full.absent in
+    let high = full.full in
+    absurd (omega (arith, one, added, high, few, count_is, next_is))
+
+-- a new key is not put where there are as many records as there may be
+pub set_full : (here now : TableView) (new : List (Option (List ℕ))) (key : List ℕ) (to : Option (List ℕ)) (r : Result (Tree × Option (List ℕ)) TableFault) (next : Tree) (before : Option (List ℕ)) → here ≡ now → IsTable here → Changes here new key to r → r ≡ Ok (next, before)
+    → IsTrue now.pages.steady → IsSome to → maps.get (table_contents now) key ≡ None → now.limit ≤ maps.len (table_contents now) → ⊥
+set_full here now new key to r next before same is call r_is steady puts absent full =
+    let steady2 = ap (λ (t : TableView). t.pages.steady) same ∙ steady in
+    let held = is.holds steady2 in
+    let done = ok_set here new key to r next before is steady2 call r_is in
+    too_many here.limit here.tree.count next.count held.es key to held.fills.holds.ascends held.fills.holds.count done.fills.holds.count done.few (full_of here now key to is same steady2 puts absent full)
+
+-- equal answers have equal faults
+pub same_fault : {X : Type 0} (a b : TableFault) → ◌≡◌ {A = Result X TableFault} (Err a) (Err b) → a ≡ b
+same_fault a b same = cc
+
+-- NoRoom comes of a new key at the limit
+pub refused_room : (here now : TableView) (new : List (Option (List ℕ))) (key : List ℕ) (to : Option (List ℕ)) (r : Result (Tree × Option (List ℕ)) TableFault) (fault : TableFault) → here ≡ now → IsTable here → Changes here new key to r → r ≡ Err fault
+    → IsTrue now.pages.steady → fault ≡ NoRoom → IsSome to × (maps.get (table_contents now) key ≡ None) × (now.limit ≤ maps.len (table_contents now))
+refused_room here now new key to r fault same is call r_is steady fault_is =
+    let steady2 = ap (λ (t : TableView). t.pages.steady) same ∙ steady in
+    let refused = err_set here new key to r fault is steady2 call r_is in
+    let full = subst (MayRefuse here.limit here.tree.count (is.holds steady2).es key to) fault_is refused in (
+      full.puts,
+      sym (looked_up here key is steady2 ∙ ap (λ (t : TableView). maps.get (table_contents t) key) same) ∙ full.absent,
+      (let high = full.full in omega (arith, high, ap (λ (t : TableView). t.limit) same, count_seen here now same is steady)),
+    )
+
+only_room : (X : Type 0) (limit count : ℕ) (es : List Element) (key : List ℕ) (to : Option (List ℕ)) (fault : TableFault) → MayRefuse limit count es key to fault → IsFull limit count es key to → is_device {A = X} (Err fault) ≡ false → fault ≡ NoRoom
+only_room X limit count es key to Device refused full device = absurd (cc)
+only_room X limit count es key to (Damaged page) refused full device = absurd refused
+only_room X limit count es key to NoRoom refused full device = refl
+only_room X limit count es key to Memory refused full device = absurd (refused full)
+
+-- and always comes of it
+pub full_refused : (X : Type 0) (here now : TableView) (new : List (Option (List ℕ))) (key : List ℕ) (to : Option (List ℕ)) (r : Result (Tree × Option (List ℕ)) TableFault) (fault : TableFault) → here ≡ now → IsTable here → Changes here new key to r → r ≡ Err fault
+    → IsTrue now.pages.steady → IsSome to → maps.get (table_contents now) key ≡ None → now.limit ≤ maps.len (table_contents now) → is_device {A = X} (Err fault) ≡ false → fault ≡ NoRoom
+full_refused X here now new key to r fault same is call r_is steady puts absent full device =
+    let steady2 = ap (λ (t : TableView). t.pages.steady) same ∙ steady in
+    only_room X here.limit here.tree.count (is.holds steady2).es key to fault (err_set here new key to r fault is steady2 call r_is) (full_of here now key to is same steady2 puts absent full) device
+
+-- where no edit was staged, the tree and the pages are as they were
+abbrev pub IsIdle : TableView → PagesView → Tree → Type 0
+IsIdle t pages next = (next ≡ t.tree) × (pages.pages ≡ t.pages.pages) × (pages.changed ≡ t.pages.changed)
+
+idle_of : (t : TableView) (pages : PagesView) (next : Tree) (to before : Option (List ℕ)) → (to ≡ None → before ≡ None → IsIdle t pages next) → (to ≡ None → IsSome before → pages.changed ≡ true) → (IsSome to → pages.changed ≡ true) → pages.changed ≡ false → IsIdle t pages next
+idle_of t pages next (Some value) before out_none out put idle = absurd (let never = sym (put refl) ∙ idle in cc)
+idle_of t pages next None (Some value) out_none out put idle = absurd (let never = sym (out refl refl) ∙ idle in cc)
+idle_of t pages next None None out_none out put idle = out_none refl refl
+
+-- the table after it
+pub set_table : (t : TableView) (pages : PagesView) (key : List ℕ) (to : Option (List ℕ)) (r : Result (Tree × Option (List ℕ)) TableFault) (next : Tree) (before : Option (List ℕ)) (refusals : ℕ) (damages : Damages) → IsTable t → Changes t pages.pages key to r → r ≡ Ok (next, before)
+    → IfOk r (λ x. (x.0.height ≤ 19) × (x.0.count ≤ 1000000) × (x.0.used ≤ 1000000)) → IfOk r (λ x. x.0.order ≡ t.tree.order) → (to ≡ None → IfOk r (λ x. x.1 ≡ None → IsIdle t pages x.0)) → (to ≡ None → IfOk r (λ x. IsSome x.1 → pages.changed ≡ true)) → (IsSome to → IsOk r → pages.changed ≡ true)
+    → pages.stored ≡ t.pages.stored → pages.tail ≡ t.pages.tail → pages.steady ≡ t.pages.steady → AreSpeltIn t.tree.order pages → IsTable (record { pages = pages; tree = next; limit = t.limit; refusals = refusals; damages = damages })
+set_table t pages key to r next before refusals damages is call r_is small order out_none out put stored tail steady_is spelt =
+    let small2 = subst (λ (r : Result (Tree × Option (List ℕ)) TableFault). IfOk r (λ x. (x.0.height ≤ 19) × (x.0.count ≤ 1000000) × (x.0.used ≤ 1000000))) r_is small in
+    let order2 = subst (λ (r : Result (Tree × Option (List ℕ)) TableFault). IfOk r (λ x. x.0.order ≡ t.tree.order)) r_is order in
+    let ok = subst (λ (r : Result (Tree × Option (List ℕ)) TableFault). IsOk r) (sym r_is) refl in
+    let done : (steady : IsTrue pages.steady) → IsSet pages.pages next t.limit (is.holds (sym steady_is ∙ steady)).es key to before = λ steady. ok_set t pages.pages key to r next before is (sym steady_is ∙ steady) call r_is in
+    record {
+      some_order = omega (arith, is.some_order, order2);
+      most_order = omega (arith, is.most_order, order2);
+      low = small2.0;
+      used = small2.2;
+      small = small2.1;
+      count = λ steady. (done steady).few;
+      limit = is.limit;
+      spelt = subst (λ (k : ℕ). AreSpeltIn k pages) (sym order2) spelt;
+      holds = λ steady. record { es = set_in key to (is.holds (sym steady_is ∙ steady)).es; us = (done steady).vs; fills = (done steady).fills };
+      closed = λ steady idle.
+          let none = subst (λ (r : Result (Tree × Option (List ℕ)) TableFault). to ≡ None → IfOk r (λ x. x.1 ≡ None → IsIdle t pages x.0)) r_is out_none in
+          let some = subst (λ (r : Result (Tree × Option (List ℕ)) TableFault). to ≡ None → IfOk r (λ x. IsSome x.1 → pages.changed ≡ true)) r_is out in
+          let as_was = idle_of t pages next to before none some (λ puts. put puts ok) idle in
+          let closed = is.closed (sym steady_is ∙ steady) (sym as_was.2 ∙ idle) in
+          let same : table_contents t ≡ contents_at next.order (at pages.pages) next.height next.root = λ i. contents_at (sym as_was.0 i).order (at (sym as_was.1 i)) (sym as_was.0 i).height (sym as_was.0 i).root in
+          subst (λ (ps : List (List ℕ)). IsClosed ps pages.tail next (contents_at next.order (at pages.pages) next.height next.root)) (sym stored)
+          (subst (λ (n : ℕ). IsClosed t.pages.stored n next (contents_at next.order (at pages.pages) next.height next.root)) (sym tail)
+          (subst (λ (x : Tree). IsClosed t.pages.stored t.pages.tail x (contents_at next.order (at pages.pages) next.height next.root)) (sym as_was.0)
+          (subst (λ (m : Contents). IsClosed t.pages.stored t.pages.tail t.tree m) same closed)));
+    }
+
+-- what a look-up answers
+pub got : (here now : TableView) (key : List ℕ) (r : Result (Option (List ℕ)) TreeFault) → here ≡ now → IsTable here
+    → (IsTrue here.pages.steady → (es : List Element) → (us : List ℕ) → Holds (at here.pages.pages) here.tree es us → MatchResult r (λ found. found ≡ lookup_in key es) (λ fault. fault ≡ ReadFailed))
+    → IsTrue now.pages.steady → IfOk (table_answer r) (λ found. found ≡ maps.get (table_contents now) key)
+got here now key (Ok found) same is call steady =
+    let steady2 = ap (λ (t : TableView). t.pages.steady) same ∙ steady in
+    let held = is.holds steady2 in
+    call steady2 held.es held.us held.fills.holds ∙ looked_up here key is steady2 ∙ ap (λ (t : TableView). maps.get (table_contents t) key) same
+got here now key (Err fault) same is call steady = tt
+
+-- and a walk
+pub listed : (X : Type 0) (items : X → List Element) (here now : TableView) (r : Result X TreeFault) → here ≡ now → IsTable here → (IsTrue here.pages.steady → (es : List Element) → (us : List ℕ) → Holds (at here.pages.pages) here.tree es us → MatchResult r (λ list. items list ≡ es) IsOutside)
+    → IsTrue now.pages.steady → IfOk (table_answer r) (λ list. items list ≡ maps.entries (table_contents now))
+listed X items here now (Ok list) same is call steady =
+    let steady2 = ap (λ (t : TableView). t.pages.steady) same ∙ steady in
+    let held = is.holds steady2 in
+    call steady2 held.es held.us held.fills.holds ∙ sym (entries-contents_of held.es held.fills.holds.ascends) ∙ ap maps.entries (sym (held_contents (at here.pages.pages) here.tree held.es held.us is.most_order held.fills.holds))
+    ∙ ap (λ (t : TableView). maps.entries (table_contents t)) same
+listed X items here now (Err fault) same is call steady = tt

@@ -1,0 +1,877 @@
+use Rattle.std.proofs.Common.{◌≡◌, ◌+◌, ◌-◌, ℕ, suc, List, Option, Some, None, [], ◌∷◌, ◌++◌, true, false, length, get_or, refl, ap, sym, ◌∙◌, subst, arith, inr}
+use Rattle.std.specs.List.{remove}
+use Rattle.std.proofs.lemmas.List.{get_or_default, length-set}
+use Rattle.std.proofs.lemmas.Result.{err_from_is_err_and}
+use Rattle.page_store.specs.PageMap.{at, after}
+use Rattle.page_store.specs.PagesView.{PagesView}
+use Rattle.btree_node.specs.declared.node.Node.{Node}
+use Rattle.btree_node.specs.Lists.{Element, Each}
+use Rattle.btree_node.specs.Spelling.{IsElement}
+use Rattle.btree_node.proofs.ElementOrderLemmas.{Each_at}
+use Rattle.btree_insert.specs.declared.bounds.Bounds.{Bounds}
+use Rattle.btree_insert.specs.Bounds.{AreWithin, Over, Under, son_bounds}
+use Rattle.btree_insert.specs.Contents.{lookup_in, set_in}
+use Rattle.btree_insert.specs.Growth.{IsOutside, IsWithin}
+use Rattle.btree_insert.specs.PageTrees.{Apart, TreeAt, Body, Spells, kind_of_level}
+use Rattle.btree_insert.proofs.SonsAroundLemmas.{focus}
+use Rattle.btree_insert.proofs.ChangedTreeLemmas.{tree_move}
+use Rattle.btree_insert.proofs.ElementMapLemmas.{lookup-here}
+use Rattle.btree_insert.proofs.VisitedLemmas.{unvisited_below, apart_below}
+use Rattle.btree_insert.proofs.PlaceLemmas.{son_within}
+use Rattle.btree_insert.proofs.HeadNodeLemmas.{Top, top, read_top, head_each}
+use Rattle.btree_delete.specs.declared.delete_below.Shrunk.TheVariants.{Whole, Underfull}
+use Rattle.btree_delete.specs.declared.subtree.Subtree.{Subtree}
+use Rattle.btree_delete.specs.Treatment.{element_at, son_at}
+use Rattle.btree_delete.specs.Shrinking.{MayBeUnderfull, StaysUnvisited, UnderfullGoesUp, TreatsAndSettles, RemovesBelow, sought}
+use Rattle.btree_delete.specs.Subtrees.{son_tree, behind, left_bounds}
+use Rattle.btree_delete.specs.Tidy.{is_visited, Untouched, IsTidy, IsVisit}
+use Rattle.btree_delete.proofs.SonCallLemmas.{known_there, removed_here}
+use Rattle.btree_delete.proofs.DeletionLemmas.{is_at, drop_leaf, drop_whole, drop_none, drop_broken, drop_treated, next_whole, next_broken, removed_top, none_here, on_unvisited, each_mid}
+use Rattle.btree_delete.proofs.SonsLemmas.{IsBeside, Kin, kin_move}
+use Rattle.btree_delete.proofs.BrotherPairLemmas.{next}
+use Rattle.btree_delete.proofs.ElementRemovalLemmas.{remove-between_bounds}
+use Rattle.btree_delete.proofs.SettledPageLemmas.{settled_up, settled_tidy, settled_others, treated_visit, whole_visit, page_visited}
+use Rattle.btree_delete.proofs.DeletionStepLemmas.{ask, treat_son, still_unvisited, page_unvisited, below_in, page_in}
+use Rattle.btree_delete.proofs.FirstElementLemmas.{more_visited, took_of, tree_some, some_around, sought_place, sought_below, sought_here, sought_none, left_between, left_may_be_underfull, left_son, goes_left, went_up}
+use Rattle.btree_delete.proofs.UnderfullNodeLemmas.{right_stands_at, set_may_be_underfull, set_son_bounds, leaf_without, leaf_behind}
+use Rattle.btree_delete.proofs.EditLemmas.{untouched_empty, visited_differs}
+use Rattle.btree_delete.proofs.delete_below.+shrinking.Goals as goal
+
+pub delete_below-returns-in_err-visit-clause-removes : goal.delete_below-returns-in_err-visit-clause-removes
+delete_below-returns-in_err-visit-clause-removes g t c = λ steady least es us low tree between apart unvisited.
+    let T = c.args.tree.now in
+    let P = at c.args.pages.now.pages in
+    let M = c.args.visited.now.items in
+    let level = T.height - 1 in
+    let p = err_from_is_err_and c.from_residual.result c.from_residual.ensures.1 in
+    let new = head_each (λ u. is_visited M u ≡ false) T.order P least T.height T.page es us tree unvisited in
+    let head = top T.order P least T.height level T.page es us T.bounds (omega arith) tree between in
+    rw (p.1, p.2) (subst IsOutside (sym (c.in_err-visit.ensures.exact steady head.0 head.1.spells head.1.kind head.1.within new)) tt)
+
+pub delete_below-returns-in_err-shrunk-in-Ok-clause-removes : goal.delete_below-returns-in_err-shrunk-in-Ok-clause-removes
+delete_below-returns-in_err-shrunk-in-Ok-clause-removes g t c = λ steady least es us low tree between apart unvisited.
+    let T = c.args.tree.now in
+    let P = at c.args.pages.now.pages in
+    let M = c.args.visited.now.items in
+    let level = T.height - 1 in
+    let n = c.visit.new.node in
+    let p = err_from_is_err_and c.from_residual-in_err-shrunk-in-Ok.result c.from_residual-in_err-shrunk-in-Ok.ensures.1 in
+    let new = head_each (λ u. is_visited M u ≡ false) T.order P least T.height T.page es us tree unvisited in
+    let first = read_top T.order P least T.height T.page es us T.bounds (kind_of_level T.height) n c.requires.height refl (λ m spells kind within. c.in_ok-visit.ensures.exact steady m spells kind within new) tree between in
+    let pages_is = ap (λ (v : PagesView). v.pages) c.visit.ensures.unchanged in
+    let steady1 = ap (λ (v : PagesView). v.steady) c.visit.ensures.unchanged ∙ steady in
+    let spells1 = subst (λ (x : List (Option (List ℕ))). Spells T.order (at x) T.page n) (sym pages_is) first.spells in
+    let body1 = subst (λ (x : List (Option (List ℕ))). Body (TreeAt T.order (at x) T.order level) level n es first.below) (sym pages_is) first.body in
+    let apart1 = subst Apart first.us_is apart in
+    let unvisited1 = subst (Each (λ u. is_visited M u ≡ false)) first.us_is unvisited in
+    let later = subst (λ (ms : List ℕ). Each (λ u. is_visited ms u ≡ false) first.below) (sym c.in_ok-visit.ensures.visited) (more_visited M T.page first.below apart1.0 unvisited1.1) in
+    rw (p.1, p.2) (c.in_err-shrunk-in-Ok.ensures.removes steady1 least es us first.below low spells1 first.least_is body1 first.us_is between apart later)
+
+pub delete_below-returns-in_ok-shrunk-in-Ok-clause-removes : goal.delete_below-returns-in_ok-shrunk-in-Ok-clause-removes
+delete_below-returns-in_ok-shrunk-in-Ok-clause-removes g t c = λ steady least es us low tree between apart unvisited.
+    let T = c.args.tree.now in
+    let P = at c.args.pages.now.pages in
+    let M = c.args.visited.now.items in
+    let level = T.height - 1 in
+    let n = c.visit.new.node in
+    let M1 = c.visit.new.visited.items in
+    let new = head_each (λ u. is_visited M u ≡ false) T.order P least T.height T.page es us tree unvisited in
+    let first = read_top T.order P least T.height T.page es us T.bounds (kind_of_level T.height) n c.requires.height refl (λ m spells kind within. c.in_ok-visit.ensures.exact steady m spells kind within new) tree between in
+    let pages_is = ap (λ (v : PagesView). v.pages) c.visit.ensures.unchanged in
+    let steady1 = ap (λ (v : PagesView). v.steady) c.visit.ensures.unchanged ∙ steady in
+    let spells1 = subst (λ (x : List (Option (List ℕ))). Spells T.order (at x) T.page n) (sym pages_is) first.spells in
+    let body1 = subst (λ (x : List (Option (List ℕ))). Body (TreeAt T.order (at x) T.order level) level n es first.below) (sym pages_is) first.body in
+    let apart1 = subst Apart first.us_is apart in
+    let unvisited1 = subst (Each (λ u. is_visited M u ≡ false)) first.us_is unvisited in
+    let later = subst (λ (ms : List ℕ). Each (λ u. is_visited ms u ≡ false) first.below) (sym c.in_ok-visit.ensures.visited) (more_visited M T.page first.below apart1.0 unvisited1.1) in
+    let i = c.in-Ok.i in
+    let key_is = sought_here T.order P level n es first.below c.args.key.now i first.body (λ given is. (c.in-Ok.ensures.found given is c.in_ok-visit.ensures.stands.ascends).here ([], [])) (λ none. (c.in-Ok.ensures.first none).0) (λ none. omega (arith, (c.in-Ok.ensures.first none).1)) in
+    removed_top T.order c.args.pages.now.pages c.visit.new.pages.pages c.delete_here.new.edit.writes.items c.delete_here.new.edit.freed.items least level T.page es us M M1 c.delete_here.new.visited.items (sought c.args.key.now es) (element_at n i).0 (Some c.in_ok-shrunk-in-Ok.shrunk)
+    pages_is c.in_ok-visit.ensures.visited key_is (page_in T.page us first.below first.us_is)
+    (c.in_ok-shrunk-in-Ok.ensures.removes steady1 least es us first.below low spells1 first.least_is body1 first.us_is between apart later)
+
+pub delete_below-returns-in_ok-shrunk-in-Ok-clause-up : goal.delete_below-returns-in_ok-shrunk-in-Ok-clause-up
+delete_below-returns-in_ok-shrunk-in-Ok-clause-up g t c =
+    let T = c.args.tree.now in
+    let n = c.visit.new.node in
+    let i = c.in-Ok.i in
+    let may_be_underfull = c.in_ok-visit.ensures.stands in
+    let x = element_at n i in
+    let here = get_or_default n.elements.items i ([], []) x c.in-Ok.ensures.within in
+    let gone_is = sym c.in_ok-shrunk-in-Ok.ensures.gone in
+    let ws = c.delete_here.new.edit.writes.items in
+    let fs = c.delete_here.new.edit.freed.items in
+    let s = c.in_ok-shrunk-in-Ok.shrunk in (
+      subst (λ (e : Element). IsElement e) gone_is (Each_at IsElement n.elements.items i x may_be_underfull.fit c.in-Ok.ensures.within here),
+      subst (λ (e : Element). IsWithin T.bounds e.0) gone_is (Each_at (λ (e : Element). Over T.bounds.low e.0) n.elements.items i x may_be_underfull.within.over c.in-Ok.ensures.within here, Each_at (λ (e : Element). Under T.bounds.high e.0) n.elements.items i x may_be_underfull.within.under c.in-Ok.ensures.within here),
+      subst (λ (e : Element). UnderfullGoesUp T.order T.height (left_bounds c.args.key.now e T.bounds) T.page ws fs s) gone_is
+          (goes_left c.args.key.now T.order T.height T.page T.bounds x ws fs s c.in_ok-shrunk-in-Ok.ensures.up (λ none. c.in_ok-shrunk-in-Ok.ensures.first (c.in-Ok.ensures.first none).1 (c.in-Ok.ensures.first none).0)),
+    )
+
+pub delete_below-returns-then-tree-eq1-clause-removes : goal.delete_below-returns-then-tree-eq1-clause-removes
+delete_below-returns-then-tree-eq1-clause-removes g t c = λ steady least es us low tree between apart unvisited.
+    let T = c.args.tree.now in
+    let P = at c.args.pages.now.pages in
+    let M = c.args.visited.now.items in
+    let level = T.height - 1 in
+    let n = c.visit.new.node in
+    let new = head_each (λ u. is_visited M u ≡ false) T.order P least T.height T.page es us tree unvisited in
+    let first = read_top T.order P least T.height T.page es us T.bounds (kind_of_level T.height) n c.requires.height refl (λ m spells kind within. c.in_ok-visit.ensures.exact steady m spells kind within new) tree between in
+    let ups = c.in_ok-visit.ensures.stands.ascends in
+    record {
+      drops = sought_none c.args.key.now es (λ none. (c.in-Err.ensures.first none).1 c.if-tree-eq1.true)
+          (λ given is. none_here T.order P least T.height level T.page es us T.bounds n given c.in-Err.i (omega (arith, c.if-tree-eq1.true)) first (c.in-Err.ensures.found given is ups));
+      unvisited = subst (λ (ms : List ℕ). StaysUnvisited M ms us) (sym c.in_ok-visit.ensures.visited) (page_unvisited M T.page us (page_in T.page us first.below first.us_is));
+    }
+
+pub delete_below-returns-in_err-removed-in-Err-clause-removes : goal.delete_below-returns-in_err-removed-in-Err-clause-removes
+delete_below-returns-in_err-removed-in-Err-clause-removes g t c = λ steady least es us low tree between apart unvisited.
+    let T = c.args.tree.now in
+    let P = at c.args.pages.now.pages in
+    let M = c.args.visited.now.items in
+    let level = T.height - 1 in
+    let n = c.visit.new.node in
+    let M1 = c.visit.new.visited.items in
+    let p = err_from_is_err_and c.from_residual-in_err-removed-in-Err.result c.from_residual-in_err-removed-in-Err.ensures.1 in
+    let new = head_each (λ u. is_visited M u ≡ false) T.order P least T.height T.page es us tree unvisited in
+    let first = read_top T.order P least T.height T.page es us T.bounds (kind_of_level T.height) n c.requires.height refl (λ m spells kind within. c.in_ok-visit.ensures.exact steady m spells kind within new) tree between in
+    let pages_is = ap (λ (v : PagesView). v.pages) c.visit.ensures.unchanged in
+    let steady1 = ap (λ (v : PagesView). v.steady) c.visit.ensures.unchanged ∙ steady in
+    let i = c.in-Err.i in
+    let key = c.args.key.now in
+    let ups = c.in_ok-visit.ensures.stands.ascends in
+    let is_first : key ≡ None → i ≡ 0 = λ none. (c.in-Err.ensures.first none).0 in
+    let t_is = c.tree_of_son-below.ensures in
+    let S = son_tree T n i in
+    let t2 = c.tree_of_son-below.result in
+    let K = sought key es in
+    let up : level ≡ suc (level - 1) = omega (arith, c.requires.height, c.if-tree-eq1.false) in
+    let head = subst (λ (x : ℕ). Top T.order P least T.height x T.page es us T.bounds n) up first in
+    let place = sought_place T.order P (level - 1) n es head.below key i c.requires.order.0 head.body ups between.ascends (λ given is. c.in-Err.ensures.found given is ups) is_first in
+    let son = focus (TreeAt T.order P T.order (suc (level - 1))) (TreeAt T.order P T.order (suc (level - 1))) (λ (q : ℕ). Unit {0}) (λ s xs vs is _. is) n.sons.items n.elements.items es head.below K i T.bounds head.body.1 between place in
+    let us_is = head.us_is ∙ ap (λ vs. T.page ∷ vs) son.us_is in
+    let there = known_there c.args.pages.now.pages c.visit.new.pages.pages S t2 (level - 1) son.xs son.mine (M ++ T.page ∷ []) M1 pages_is t_is c.in_ok-visit.ensures.visited up
+    (record { tree = son.here; between = son.between; apart = apart_below T.page us son.upre son.mine son.upost us_is apart; unvisited = unvisited_below M T.page us son.upre son.mine son.upost us_is apart unvisited }) in
+    rw (p.1, p.2) (c.in_err-removed-in-Err.ensures.removes steady1 t2.order son.xs son.mine (omega arith) there.tree there.between there.apart there.unvisited)
+
+pub delete_below-treat_and_settle-requires-clause-father : goal.delete_below-treat_and_settle-requires-clause-father
+delete_below-treat_and_settle-requires-clause-father g t c =
+    let T = c.args.tree.now in
+    let n = c.visit.new.node in
+    let i = c.in-Err.i in
+    let key = c.args.key.now in
+    let is_first : key ≡ None → i ≡ 0 = λ none. (c.in-Err.ensures.first none).0 in
+    let t_is = c.tree_of_son-below.ensures in
+    let S = son_tree T n i in
+    let t2 = c.tree_of_son-below.result in
+    let ws = c.delete_below.new.edit.writes.items in
+    let fs = c.delete_below.new.edit.freed.items in
+    let e = c.in-Some-Underfull.removed in
+    let underfull = c.in-Some-Underfull.son in
+    let l_is = c.tree_left-left.ensures in
+    let went = went_up S t2 key ws fs c.in_ok-removed-in-Err.field-0 (Underfull e underfull) t_is (c.in-Some-Underfull.is ∙ ap Some c.in-Some-Underfull.field-0-is) c.in_ok-removed-in-Err.ensures.up in
+    subst (λ (x : Subtree). MayBeUnderfull x.order x.height x.bounds n) (sym l_is) (left_may_be_underfull key T.order T.height i T.bounds n e is_first c.in_ok-visit.ensures.stands went.within)
+
+pub delete_below-treat_and_settle-requires-clause-son : goal.delete_below-treat_and_settle-requires-clause-son
+delete_below-treat_and_settle-requires-clause-son g t c =
+    let T = c.args.tree.now in
+    let level = T.height - 1 in
+    let n = c.visit.new.node in
+    let i = c.in-Err.i in
+    let key = c.args.key.now in
+    let is_first : key ≡ None → i ≡ 0 = λ none. (c.in-Err.ensures.first none).0 in
+    let t_is = c.tree_of_son-below.ensures in
+    let S = son_tree T n i in
+    let t2 = c.tree_of_son-below.result in
+    let ws = c.delete_below.new.edit.writes.items in
+    let fs = c.delete_below.new.edit.freed.items in
+    let e = c.in-Some-Underfull.removed in
+    let underfull = c.in-Some-Underfull.son in
+    let l_is = c.tree_left-left.ensures in
+    let went = went_up S t2 key ws fs c.in_ok-removed-in-Err.field-0 (Underfull e underfull) t_is (c.in-Some-Underfull.is ∙ ap Some c.in-Some-Underfull.field-0-is) c.in_ok-removed-in-Err.ensures.up in
+    subst (λ (x : Subtree). MayBeUnderfull x.order (x.height - 1) (son_bounds n.elements.items i x.bounds) underfull) (sym l_is)
+    (subst (λ (b : Bounds). MayBeUnderfull T.order level b underfull) (left_son key n.elements.items i T.bounds e is_first) went.goes.0)
+
+pub delete_below-treat_and_settle-requires-clause-other : goal.delete_below-treat_and_settle-requires-clause-other
+delete_below-treat_and_settle-requires-clause-other g t c =
+    let T = c.args.tree.now in
+    let M = c.args.visited.now.items in
+    let n = c.visit.new.node in
+    let M1 = c.visit.new.visited.items in
+    let i = c.in-Err.i in
+    let t_is = c.tree_of_son-below.ensures in
+    let ws = c.delete_below.new.edit.writes.items in
+    let fs = c.delete_below.new.edit.freed.items in
+    let visited2 = c.delete_below.new.visited.items in
+    let l_is = c.tree_left-left.ensures in
+    let visit_made = subst (λ (x : Subtree). IsVisit M1 visited2 ws fs x.height x.page) t_is c.in_ok-removed-in-Err.ensures.visit in
+    let in_now = page_visited M M1 T.page c.in_ok-visit.ensures.visited in
+    λ is. visited_differs M1 T.page (son_at n i) in_now visit_made.fresh (sym (ap (λ (x : Subtree). x.page) l_is) ∙ is)
+
+pub delete_below-treat_and_settle-requires-clause-page_visited : goal.delete_below-treat_and_settle-requires-clause-page_visited
+delete_below-treat_and_settle-requires-clause-page_visited g t c =
+    let T = c.args.tree.now in
+    let M = c.args.visited.now.items in
+    let M1 = c.visit.new.visited.items in
+    let t_is = c.tree_of_son-below.ensures in
+    let ws = c.delete_below.new.edit.writes.items in
+    let fs = c.delete_below.new.edit.freed.items in
+    let visited2 = c.delete_below.new.visited.items in
+    let l_is = c.tree_left-left.ensures in
+    let visit_made = subst (λ (x : Subtree). IsVisit M1 visited2 ws fs x.height x.page) t_is c.in_ok-removed-in-Err.ensures.visit in
+    let in_now = page_visited M M1 T.page c.in_ok-visit.ensures.visited in
+    subst (λ (x : Subtree). is_visited visited2 x.page ≡ true) (sym l_is) (visit_made.stays T.page in_now)
+
+pub delete_below-treat_and_settle-requires-clause-page_kept : goal.delete_below-treat_and_settle-requires-clause-page_kept
+delete_below-treat_and_settle-requires-clause-page_kept g t c =
+    let T = c.args.tree.now in
+    let M = c.args.visited.now.items in
+    let M1 = c.visit.new.visited.items in
+    let t_is = c.tree_of_son-below.ensures in
+    let ws = c.delete_below.new.edit.writes.items in
+    let fs = c.delete_below.new.edit.freed.items in
+    let visited2 = c.delete_below.new.visited.items in
+    let l_is = c.tree_left-left.ensures in
+    let visit_made = subst (λ (x : Subtree). IsVisit M1 visited2 ws fs x.height x.page) t_is c.in_ok-removed-in-Err.ensures.visit in
+    let in_now = page_visited M M1 T.page c.in_ok-visit.ensures.visited in
+    subst (λ (x : Subtree). Untouched ws fs x.page) (sym l_is) (visit_made.older T.page in_now)
+
+pub delete_below-returns-in_err-shrunk-in-Some-Underfull-clause-removes : goal.delete_below-returns-in_err-shrunk-in-Some-Underfull-clause-removes
+delete_below-returns-in_err-shrunk-in-Some-Underfull-clause-removes g t c = λ steady least es us low tree between apart unvisited.
+    let T = c.args.tree.now in
+    let P = at c.args.pages.now.pages in
+    let M = c.args.visited.now.items in
+    let level = T.height - 1 in
+    let n = c.visit.new.node in
+    let M1 = c.visit.new.visited.items in
+    let p = err_from_is_err_and c.from_residual-in_err-shrunk-in-Some-Underfull.result c.from_residual-in_err-shrunk-in-Some-Underfull.ensures.1 in
+    let new = head_each (λ u. is_visited M u ≡ false) T.order P least T.height T.page es us tree unvisited in
+    let first = read_top T.order P least T.height T.page es us T.bounds (kind_of_level T.height) n c.requires.height refl (λ m spells kind within. c.in_ok-visit.ensures.exact steady m spells kind within new) tree between in
+    let pages_is = ap (λ (v : PagesView). v.pages) c.visit.ensures.unchanged in
+    let steady1 = ap (λ (v : PagesView). v.steady) c.visit.ensures.unchanged ∙ steady in
+    let i = c.in-Err.i in
+    let key = c.args.key.now in
+    let ups = c.in_ok-visit.ensures.stands.ascends in
+    let is_first : key ≡ None → i ≡ 0 = λ none. (c.in-Err.ensures.first none).0 in
+    let t_is = c.tree_of_son-below.ensures in
+    let S = son_tree T n i in
+    let t2 = c.tree_of_son-below.result in
+    let ws = c.delete_below.new.edit.writes.items in
+    let fs = c.delete_below.new.edit.freed.items in
+    let visited2 = c.delete_below.new.visited.items in
+    let K = sought key es in
+    let up : level ≡ suc (level - 1) = omega (arith, c.requires.height, c.if-tree-eq1.false) in
+    let head = subst (λ (x : ℕ). Top T.order P least T.height x T.page es us T.bounds n) up first in
+    let place = sought_place T.order P (level - 1) n es head.below key i c.requires.order.0 head.body ups between.ascends (λ given is. c.in-Err.ensures.found given is ups) is_first in
+    let son = focus (TreeAt T.order P T.order (suc (level - 1))) (Kin T.order P (after P ws fs) visited2 (level - 1) (son_at n i) c.in-Some-Underfull.son) (IsBeside P (after P ws fs) visited2 (son_at n i)) (λ s xs vs is beside. kin_move T.order P (after P ws fs) visited2 (level - 1) (son_at n i) c.in-Some-Underfull.son s xs vs is beside) n.sons.items n.elements.items es head.below K i T.bounds head.body.1 between place in
+    let us_is = head.us_is ∙ ap (λ vs. T.page ∷ vs) son.us_is in
+    let some = tree_some T.order P T.order (suc (level - 1)) (son_at n i) son.xs son.mine c.requires.order.0 c.requires.order.0 son.here in
+    let key_is = sought_below key es son.pre son.xs son.post son.es_is some son.below in
+    let there = known_there c.args.pages.now.pages c.visit.new.pages.pages S t2 (level - 1) son.xs son.mine (M ++ T.page ∷ []) M1 pages_is t_is c.in_ok-visit.ensures.visited up
+    (record { tree = son.here; between = son.between; apart = apart_below T.page us son.upre son.mine son.upost us_is apart; unvisited = unvisited_below M T.page us son.upre son.mine son.upost us_is apart unvisited }) in
+    let e = c.in-Some-Underfull.removed in
+    let underfull = c.in-Some-Underfull.son in
+    let l_is = c.tree_left-left.ensures in
+    let found = removed_here c.args.pages.now.pages c.visit.new.pages.pages ws fs S t2 (level - 1) son.xs son.mine (M ++ T.page ∷ []) M1 visited2 K (sought key son.xs) c.in_ok-removed-in-Err.field-0 (Some (Underfull e underfull)) pages_is t_is c.in_ok-visit.ensures.visited up key_is (c.in-Some-Underfull.is ∙ ap Some c.in-Some-Underfull.field-0-is)
+    (c.in_ok-removed-in-Err.ensures.removes steady1 t2.order son.xs son.mine (omega arith) there.tree there.between there.apart there.unvisited) in
+    let broken = drop_broken T.order P ws fs least T.height (level - 1) T.page es us T.bounds n i e underfull M visited2 K apart head son unvisited found in
+    let LB = left_bounds key e T.bounds in
+    let fair = left_between key e T.bounds es (some_around es son.pre son.xs son.post son.es_is some) broken.2 between in
+    let later_is = ap (λ (v : PagesView). v.pages) c.delete_below.ensures.unchanged ∙ pages_is in
+    let later_steady = ap (λ (v : PagesView). v.steady) c.delete_below.ensures.unchanged ∙ steady1 in
+    rw (p.1, p.2) (ask (IsOutside c.in_err-shrunk-in-Some-Underfull.field-0.0) T.order P (after P ws fs) visited2 0 (length fs) (level - 1) level T.page (son_at n i) underfull n (set_in K None es) us LB i (sym up) c.in_ok-visit.ensures.some c.in-Err.ensures.within refl fair broken.0
+    (λ less o spells kind within free. c.in_err-shrunk-in-Some-Underfull.ensures.right later_steady less o (subst (λ (x : Subtree). Spells x.order (at c.delete_below.new.pages.pages) (son_at n (suc (i))) o) (sym l_is) (subst (λ (z : List (Option (List ℕ))). Spells T.order (at z) (son_at n (suc (i))) o) (sym later_is) spells)) (subst (λ (x : Subtree). o.kind ≡ kind_of_level (x.height - 1)) (sym l_is) kind) (subst (λ (x : Subtree). AreWithin (son_bounds n.elements.items (suc (i)) x.bounds) o.elements.items) (sym l_is) within) free)
+    (λ j is last o spells kind within free. c.in_err-shrunk-in-Some-Underfull.ensures.left later_steady j is last o (subst (λ (x : Subtree). Spells x.order (at c.delete_below.new.pages.pages) (son_at n j) o) (sym l_is) (subst (λ (z : List (Option (List ℕ))). Spells T.order (at z) (son_at n j) o) (sym later_is) spells)) (subst (λ (x : Subtree). o.kind ≡ kind_of_level (x.height - 1)) (sym l_is) kind) (subst (λ (x : Subtree). AreWithin (son_bounds n.elements.items j x.bounds) o.elements.items) (sym l_is) within) free))
+
+pub delete_below-returns-in_ok-shrunk-in-Some-Underfull-clause-removes : goal.delete_below-returns-in_ok-shrunk-in-Some-Underfull-clause-removes
+delete_below-returns-in_ok-shrunk-in-Some-Underfull-clause-removes g t c = λ steady least es us low tree between apart unvisited.
+    let T = c.args.tree.now in
+    let P = at c.args.pages.now.pages in
+    let M = c.args.visited.now.items in
+    let level = T.height - 1 in
+    let n = c.visit.new.node in
+    let M1 = c.visit.new.visited.items in
+    let new = head_each (λ u. is_visited M u ≡ false) T.order P least T.height T.page es us tree unvisited in
+    let first = read_top T.order P least T.height T.page es us T.bounds (kind_of_level T.height) n c.requires.height refl (λ m spells kind within. c.in_ok-visit.ensures.exact steady m spells kind within new) tree between in
+    let pages_is = ap (λ (v : PagesView). v.pages) c.visit.ensures.unchanged in
+    let steady1 = ap (λ (v : PagesView). v.steady) c.visit.ensures.unchanged ∙ steady in
+    let i = c.in-Err.i in
+    let key = c.args.key.now in
+    let ups = c.in_ok-visit.ensures.stands.ascends in
+    let is_first : key ≡ None → i ≡ 0 = λ none. (c.in-Err.ensures.first none).0 in
+    let t_is = c.tree_of_son-below.ensures in
+    let S = son_tree T n i in
+    let t2 = c.tree_of_son-below.result in
+    let ws = c.delete_below.new.edit.writes.items in
+    let fs = c.delete_below.new.edit.freed.items in
+    let visited2 = c.delete_below.new.visited.items in
+    let K = sought key es in
+    let up : level ≡ suc (level - 1) = omega (arith, c.requires.height, c.if-tree-eq1.false) in
+    let head = subst (λ (x : ℕ). Top T.order P least T.height x T.page es us T.bounds n) up first in
+    let place = sought_place T.order P (level - 1) n es head.below key i c.requires.order.0 head.body ups between.ascends (λ given is. c.in-Err.ensures.found given is ups) is_first in
+    let son = focus (TreeAt T.order P T.order (suc (level - 1))) (Kin T.order P (after P ws fs) visited2 (level - 1) (son_at n i) c.in-Some-Underfull.son) (IsBeside P (after P ws fs) visited2 (son_at n i)) (λ s xs vs is beside. kin_move T.order P (after P ws fs) visited2 (level - 1) (son_at n i) c.in-Some-Underfull.son s xs vs is beside) n.sons.items n.elements.items es head.below K i T.bounds head.body.1 between place in
+    let us_is = head.us_is ∙ ap (λ vs. T.page ∷ vs) son.us_is in
+    let some = tree_some T.order P T.order (suc (level - 1)) (son_at n i) son.xs son.mine c.requires.order.0 c.requires.order.0 son.here in
+    let key_is = sought_below key es son.pre son.xs son.post son.es_is some son.below in
+    let there = known_there c.args.pages.now.pages c.visit.new.pages.pages S t2 (level - 1) son.xs son.mine (M ++ T.page ∷ []) M1 pages_is t_is c.in_ok-visit.ensures.visited up
+    (record { tree = son.here; between = son.between; apart = apart_below T.page us son.upre son.mine son.upost us_is apart; unvisited = unvisited_below M T.page us son.upre son.mine son.upost us_is apart unvisited }) in
+    let e = c.in-Some-Underfull.removed in
+    let underfull = c.in-Some-Underfull.son in
+    let l_is = c.tree_left-left.ensures in
+    let found = removed_here c.args.pages.now.pages c.visit.new.pages.pages ws fs S t2 (level - 1) son.xs son.mine (M ++ T.page ∷ []) M1 visited2 K (sought key son.xs) c.in_ok-removed-in-Err.field-0 (Some (Underfull e underfull)) pages_is t_is c.in_ok-visit.ensures.visited up key_is (c.in-Some-Underfull.is ∙ ap Some c.in-Some-Underfull.field-0-is)
+    (c.in_ok-removed-in-Err.ensures.removes steady1 t2.order son.xs son.mine (omega arith) there.tree there.between there.apart there.unvisited) in
+    let broken = drop_broken T.order P ws fs least T.height (level - 1) T.page es us T.bounds n i e underfull M visited2 K apart head son unvisited found in
+    let LB = left_bounds key e T.bounds in
+    let fair = left_between key e T.bounds es (some_around es son.pre son.xs son.post son.es_is some) broken.2 between in
+    let later_is = ap (λ (v : PagesView). v.pages) c.delete_below.ensures.unchanged ∙ pages_is in
+    let later_steady = ap (λ (v : PagesView). v.steady) c.delete_below.ensures.unchanged ∙ steady1 in
+    let went = went_up S t2 key ws fs c.in_ok-removed-in-Err.field-0 (Underfull e underfull) t_is (c.in-Some-Underfull.is ∙ ap Some c.in-Some-Underfull.field-0-is) c.in_ok-removed-in-Err.ensures.up in
+    let ws3 = c.treat_and_settle.new.edit.writes.items in
+    let fs3 = c.treat_and_settle.new.edit.freed.items in
+    let visited3 = c.treat_and_settle.new.visited.items in
+    let r = c.in_ok-shrunk-in-Some-Underfull.shrunk in
+    let treated = treat_son T.order T.height P visited2 visited3 0 (level - 1) level T.page (son_at n i) underfull n e r ws ws3 fs fs3 (set_in K None es) us LB i c.requires.order.0 (sym up) c.in_ok-visit.ensures.some c.in-Err.ensures.within refl fair went.goes.2 c.in_ok-removed-in-Err.ensures.tidy.unvisited broken.0
+    (λ less o spells kind within free. let done = c.in_ok-shrunk-in-Some-Underfull.ensures.right later_steady less o (subst (λ (x : Subtree). Spells x.order (at c.delete_below.new.pages.pages) (son_at n (suc (i))) o) (sym l_is) (subst (λ (z : List (Option (List ℕ))). Spells T.order (at z) (son_at n (suc (i))) o) (sym later_is) spells)) (subst (λ (x : Subtree). o.kind ≡ kind_of_level (x.height - 1)) (sym l_is) kind) (subst (λ (x : Subtree). AreWithin (son_bounds n.elements.items (suc (i)) x.bounds) o.elements.items) (sym l_is) within) free in (done.0, subst (λ (x : Subtree). TreatsAndSettles x.order x.height x.bounds x.page n i underfull o e ws ws3 fs fs3 r) l_is done.1))
+    (λ j is last o spells kind within free. let done = c.in_ok-shrunk-in-Some-Underfull.ensures.left later_steady j is last o (subst (λ (x : Subtree). Spells x.order (at c.delete_below.new.pages.pages) (son_at n j) o) (sym l_is) (subst (λ (z : List (Option (List ℕ))). Spells T.order (at z) (son_at n j) o) (sym later_is) spells)) (subst (λ (x : Subtree). o.kind ≡ kind_of_level (x.height - 1)) (sym l_is) kind) (subst (λ (x : Subtree). AreWithin (son_bounds n.elements.items j x.bounds) o.elements.items) (sym l_is) within) free in (done.0, subst (λ (x : Subtree). TreatsAndSettles x.order x.height x.bounds x.page n j o underfull e ws ws3 fs fs3 r) l_is done.1)) in
+    let drops = drop_treated T.order P ws ws3 fs fs3 least T.height (level - 1) T.page (son_at n i) es us LB n underfull e e r visited2 visited3 K c.requires.order.0 low broken.0 treated (sym c.in_ok-visit.ensures.stands.kind ∙ head.body.0) refl broken.2 broken.1 in
+    let unvisited3 = still_unvisited M visited2 visited3 T.page treated.son.t us son.mine (page_in T.page us (son.upre ++ (son.mine ++ son.upost)) us_is) (below_in T.page us son.upre son.mine son.upost us_is) (broken.0.loses.left.within treated.son.t (inr treated.son.t_in)) found.unvisited treated.son.visited_is in
+    let all : RemovesBelow T.order P (after P ws3 fs3) 0 (length fs3) least (suc (level - 1)) T.page es us M visited3 K (Some r) = record { drops = drops; unvisited = unvisited3 } in
+    subst (λ (h : ℕ). RemovesBelow T.order P (after P ws3 fs3) 0 (length fs3) least h T.page es us M visited3 K (Some r)) (sym up) all
+
+pub delete_below-returns-in_ok-shrunk-in-Some-Underfull-clause-up : goal.delete_below-returns-in_ok-shrunk-in-Some-Underfull-clause-up
+delete_below-returns-in_ok-shrunk-in-Some-Underfull-clause-up g t c =
+    let T = c.args.tree.now in
+    let n = c.visit.new.node in
+    let i = c.in-Err.i in
+    let key = c.args.key.now in
+    let ups = c.in_ok-visit.ensures.stands.ascends in
+    let t_is = c.tree_of_son-below.ensures in
+    let S = son_tree T n i in
+    let t2 = c.tree_of_son-below.result in
+    let ws = c.delete_below.new.edit.writes.items in
+    let fs = c.delete_below.new.edit.freed.items in
+    let e = c.in-Some-Underfull.removed in
+    let underfull = c.in-Some-Underfull.son in
+    let l_is = c.tree_left-left.ensures in
+    let went = went_up S t2 key ws fs c.in_ok-removed-in-Err.field-0 (Underfull e underfull) t_is (c.in-Some-Underfull.is ∙ ap Some c.in-Some-Underfull.field-0-is) c.in_ok-removed-in-Err.ensures.up in
+    let ws3 = c.treat_and_settle.new.edit.writes.items in
+    let fs3 = c.treat_and_settle.new.edit.freed.items in
+    let r = c.in_ok-shrunk-in-Some-Underfull.shrunk in
+    let gone_is = sym c.in_ok-shrunk-in-Some-Underfull.ensures.gone in
+    let within = son_within n.elements.items i T.bounds e.0 ups c.in_ok-visit.ensures.stands.within went.within in (
+      subst (λ (x : Element). IsElement x) gone_is went.fits,
+      subst (λ (x : Element). IsWithin T.bounds x.0) gone_is within,
+      subst (λ (x : Element). UnderfullGoesUp T.order T.height (left_bounds key x T.bounds) T.page ws3 fs3 r) gone_is
+          (subst (λ (x : Subtree). UnderfullGoesUp x.order x.height x.bounds x.page ws3 fs3 r) l_is c.in_ok-shrunk-in-Some-Underfull.ensures.up),
+    )
+
+pub delete_below-returns-in_ok-shrunk-in-Some-Underfull-clause-visit : goal.delete_below-returns-in_ok-shrunk-in-Some-Underfull-clause-visit
+delete_below-returns-in_ok-shrunk-in-Some-Underfull-clause-visit g t c =
+    let T = c.args.tree.now in
+    let M = c.args.visited.now.items in
+    let n = c.visit.new.node in
+    let M1 = c.visit.new.visited.items in
+    let i = c.in-Err.i in
+    let t_is = c.tree_of_son-below.ensures in
+    let ws = c.delete_below.new.edit.writes.items in
+    let fs = c.delete_below.new.edit.freed.items in
+    let visited2 = c.delete_below.new.visited.items in
+    let l_is = c.tree_left-left.ensures in
+    let visit_made = subst (λ (x : Subtree). IsVisit M1 visited2 ws fs x.height x.page) t_is c.in_ok-removed-in-Err.ensures.visit in
+    let ws3 = c.treat_and_settle.new.edit.writes.items in
+    let fs3 = c.treat_and_settle.new.edit.freed.items in
+    let visited3 = c.treat_and_settle.new.visited.items in
+    treated_visit M M1 visited2 visited3 T.height T.page (son_at n i) ws ws3 fs fs3 c.in_ok-visit.ensures.visited c.in_ok-visit.ensures.unvisited (omega (arith, c.requires.height, c.if-tree-eq1.false)) visit_made
+    (λ q is other page. c.in_ok-shrunk-in-Some-Underfull.ensures.others q is other (λ same. page (same ∙ ap (λ (x : Subtree). x.page) l_is))) c.in_ok-shrunk-in-Some-Underfull.ensures.stays c.in_ok-shrunk-in-Some-Underfull.ensures.one_more
+
+pub delete_below-returns-in-None-clause-removes : goal.delete_below-returns-in-None-clause-removes
+delete_below-returns-in-None-clause-removes g t c = λ steady least es us low tree between apart unvisited.
+    let T = c.args.tree.now in
+    let P = at c.args.pages.now.pages in
+    let M = c.args.visited.now.items in
+    let level = T.height - 1 in
+    let n = c.visit.new.node in
+    let M1 = c.visit.new.visited.items in
+    let new = head_each (λ u. is_visited M u ≡ false) T.order P least T.height T.page es us tree unvisited in
+    let first = read_top T.order P least T.height T.page es us T.bounds (kind_of_level T.height) n c.requires.height refl (λ m spells kind within. c.in_ok-visit.ensures.exact steady m spells kind within new) tree between in
+    let pages_is = ap (λ (v : PagesView). v.pages) c.visit.ensures.unchanged in
+    let steady1 = ap (λ (v : PagesView). v.steady) c.visit.ensures.unchanged ∙ steady in
+    let i = c.in-Err.i in
+    let key = c.args.key.now in
+    let ups = c.in_ok-visit.ensures.stands.ascends in
+    let is_first : key ≡ None → i ≡ 0 = λ none. (c.in-Err.ensures.first none).0 in
+    let t_is = c.tree_of_son-below.ensures in
+    let S = son_tree T n i in
+    let t2 = c.tree_of_son-below.result in
+    let ws = c.delete_below.new.edit.writes.items in
+    let fs = c.delete_below.new.edit.freed.items in
+    let visited2 = c.delete_below.new.visited.items in
+    let K = sought key es in
+    let up : level ≡ suc (level - 1) = omega (arith, c.requires.height, c.if-tree-eq1.false) in
+    let head = subst (λ (x : ℕ). Top T.order P least T.height x T.page es us T.bounds n) up first in
+    let place = sought_place T.order P (level - 1) n es head.below key i c.requires.order.0 head.body ups between.ascends (λ given is. c.in-Err.ensures.found given is ups) is_first in
+    let son = focus (TreeAt T.order P T.order (suc (level - 1))) (TreeAt T.order P T.order (suc (level - 1))) (λ (q : ℕ). Unit {0}) (λ s xs vs is _. is) n.sons.items n.elements.items es head.below K i T.bounds head.body.1 between place in
+    let us_is = head.us_is ∙ ap (λ vs. T.page ∷ vs) son.us_is in
+    let some = tree_some T.order P T.order (suc (level - 1)) (son_at n i) son.xs son.mine c.requires.order.0 c.requires.order.0 son.here in
+    let key_is = sought_below key es son.pre son.xs son.post son.es_is some son.below in
+    let there = known_there c.args.pages.now.pages c.visit.new.pages.pages S t2 (level - 1) son.xs son.mine (M ++ T.page ∷ []) M1 pages_is t_is c.in_ok-visit.ensures.visited up
+    (record { tree = son.here; between = son.between; apart = apart_below T.page us son.upre son.mine son.upost us_is apart; unvisited = unvisited_below M T.page us son.upre son.mine son.upost us_is apart unvisited }) in
+    let found = removed_here c.args.pages.now.pages c.visit.new.pages.pages ws fs S t2 (level - 1) son.xs son.mine (M ++ T.page ∷ []) M1 visited2 K (sought key son.xs) c.in_ok-removed-in-Err.field-0 (None) pages_is t_is c.in_ok-visit.ensures.visited up key_is (c.in-None.is)
+    (c.in_ok-removed-in-Err.ensures.removes steady1 t2.order son.xs son.mine (omega arith) there.tree there.between there.apart there.unvisited) in
+    subst (λ (h : ℕ). RemovesBelow T.order P (after P ws fs) 0 (length fs) least h T.page es us M visited2 K None) (sym up)
+    (drop_none T.order P (after P ws fs) 0 (length fs) least T.height (level - 1) T.page es us T.bounds n i M visited2 K head son found)
+
+pub delete_below-returns-in-None-clause-visit : goal.delete_below-returns-in-None-clause-visit
+delete_below-returns-in-None-clause-visit g t c =
+    let T = c.args.tree.now in
+    let M = c.args.visited.now.items in
+    let n = c.visit.new.node in
+    let M1 = c.visit.new.visited.items in
+    let i = c.in-Err.i in
+    let t_is = c.tree_of_son-below.ensures in
+    let ws = c.delete_below.new.edit.writes.items in
+    let fs = c.delete_below.new.edit.freed.items in
+    let visited2 = c.delete_below.new.visited.items in
+    let visit_made = subst (λ (x : Subtree). IsVisit M1 visited2 ws fs x.height x.page) t_is c.in_ok-removed-in-Err.ensures.visit in
+    whole_visit M M1 visited2 T.height T.page (son_at n i) ws fs c.in_ok-visit.ensures.visited c.in_ok-visit.ensures.unvisited (omega (arith, c.requires.height, c.if-tree-eq1.false)) visit_made
+
+pub delete_below-returns-in-Some-Whole-clause-removes : goal.delete_below-returns-in-Some-Whole-clause-removes
+delete_below-returns-in-Some-Whole-clause-removes g t c = λ steady least es us low tree between apart unvisited.
+    let T = c.args.tree.now in
+    let P = at c.args.pages.now.pages in
+    let M = c.args.visited.now.items in
+    let level = T.height - 1 in
+    let n = c.visit.new.node in
+    let M1 = c.visit.new.visited.items in
+    let new = head_each (λ u. is_visited M u ≡ false) T.order P least T.height T.page es us tree unvisited in
+    let first = read_top T.order P least T.height T.page es us T.bounds (kind_of_level T.height) n c.requires.height refl (λ m spells kind within. c.in_ok-visit.ensures.exact steady m spells kind within new) tree between in
+    let pages_is = ap (λ (v : PagesView). v.pages) c.visit.ensures.unchanged in
+    let steady1 = ap (λ (v : PagesView). v.steady) c.visit.ensures.unchanged ∙ steady in
+    let i = c.in-Err.i in
+    let key = c.args.key.now in
+    let ups = c.in_ok-visit.ensures.stands.ascends in
+    let is_first : key ≡ None → i ≡ 0 = λ none. (c.in-Err.ensures.first none).0 in
+    let t_is = c.tree_of_son-below.ensures in
+    let S = son_tree T n i in
+    let t2 = c.tree_of_son-below.result in
+    let ws = c.delete_below.new.edit.writes.items in
+    let fs = c.delete_below.new.edit.freed.items in
+    let visited2 = c.delete_below.new.visited.items in
+    let K = sought key es in
+    let up : level ≡ suc (level - 1) = omega (arith, c.requires.height, c.if-tree-eq1.false) in
+    let head = subst (λ (x : ℕ). Top T.order P least T.height x T.page es us T.bounds n) up first in
+    let place = sought_place T.order P (level - 1) n es head.below key i c.requires.order.0 head.body ups between.ascends (λ given is. c.in-Err.ensures.found given is ups) is_first in
+    let son = focus (TreeAt T.order P T.order (suc (level - 1))) (TreeAt T.order (after P ws fs) T.order (suc (level - 1))) (λ q. after P ws fs q ≡ P q) (λ s xs vs is same. tree_move T.order P (after P ws fs) T.order (suc (level - 1)) s xs vs is same) n.sons.items n.elements.items es head.below K i T.bounds head.body.1 between place in
+    let us_is = head.us_is ∙ ap (λ vs. T.page ∷ vs) son.us_is in
+    let some = tree_some T.order P T.order (suc (level - 1)) (son_at n i) son.xs son.mine c.requires.order.0 c.requires.order.0 son.here in
+    let key_is = sought_below key es son.pre son.xs son.post son.es_is some son.below in
+    let there = known_there c.args.pages.now.pages c.visit.new.pages.pages S t2 (level - 1) son.xs son.mine (M ++ T.page ∷ []) M1 pages_is t_is c.in_ok-visit.ensures.visited up
+    (record { tree = son.here; between = son.between; apart = apart_below T.page us son.upre son.mine son.upost us_is apart; unvisited = unvisited_below M T.page us son.upre son.mine son.upost us_is apart unvisited }) in
+    let found = removed_here c.args.pages.now.pages c.visit.new.pages.pages ws fs S t2 (level - 1) son.xs son.mine (M ++ T.page ∷ []) M1 visited2 K (sought key son.xs) c.in_ok-removed-in-Err.field-0 (Some (Whole c.in-Some-Whole.removed)) pages_is t_is c.in_ok-visit.ensures.visited up key_is (c.in-Some-Whole.is ∙ ap Some c.in-Some-Whole.field-0-is)
+    (c.in_ok-removed-in-Err.ensures.removes steady1 t2.order son.xs son.mine (omega arith) there.tree there.between there.apart there.unvisited) in
+    subst (λ (h : ℕ). RemovesBelow T.order P (after P ws fs) 0 (length fs) least h T.page es us M visited2 K (Some (Whole c.in-Some-Whole.removed))) (sym up)
+    (drop_whole T.order P ws fs least T.height (level - 1) T.page es us T.bounds n i c.in-Some-Whole.removed M visited2 K apart head son found)
+
+pub delete_below-returns-in-Some-Whole-clause-up : goal.delete_below-returns-in-Some-Whole-clause-up
+delete_below-returns-in-Some-Whole-clause-up g t c =
+    let T = c.args.tree.now in
+    let n = c.visit.new.node in
+    let i = c.in-Err.i in
+    let key = c.args.key.now in
+    let ups = c.in_ok-visit.ensures.stands.ascends in
+    let t_is = c.tree_of_son-below.ensures in
+    let S = son_tree T n i in
+    let t2 = c.tree_of_son-below.result in
+    let ws = c.delete_below.new.edit.writes.items in
+    let fs = c.delete_below.new.edit.freed.items in
+    let went = went_up S t2 key ws fs c.in_ok-removed-in-Err.field-0 (Whole c.in-Some-Whole.removed) t_is (c.in-Some-Whole.is ∙ ap Some c.in-Some-Whole.field-0-is) c.in_ok-removed-in-Err.ensures.up in (
+      went.fits,
+      son_within n.elements.items i T.bounds c.in-Some-Whole.removed.0 ups c.in_ok-visit.ensures.stands.within went.within,
+      tt,
+    )
+
+pub delete_below-returns-in-Some-Whole-clause-visit : goal.delete_below-returns-in-Some-Whole-clause-visit
+delete_below-returns-in-Some-Whole-clause-visit g t c =
+    let T = c.args.tree.now in
+    let M = c.args.visited.now.items in
+    let n = c.visit.new.node in
+    let M1 = c.visit.new.visited.items in
+    let i = c.in-Err.i in
+    let t_is = c.tree_of_son-below.ensures in
+    let ws = c.delete_below.new.edit.writes.items in
+    let fs = c.delete_below.new.edit.freed.items in
+    let visited2 = c.delete_below.new.visited.items in
+    let visit_made = subst (λ (x : Subtree). IsVisit M1 visited2 ws fs x.height x.page) t_is c.in_ok-removed-in-Err.ensures.visit in
+    whole_visit M M1 visited2 T.height T.page (son_at n i) ws fs c.in_ok-visit.ensures.visited c.in_ok-visit.ensures.unvisited (omega (arith, c.requires.height, c.if-tree-eq1.false)) visit_made
+
+pub delete_here-settle-requires-clause-may_be_underfull : goal.delete_here-settle-requires-clause-may_be_underfull
+delete_here-settle-requires-clause-may_be_underfull g t c =
+    let T = c.args.tree.now in
+    let n = c.args.node in
+    let i = c.args.i in
+    let may_be_underfull1 = subst (λ (h : ℕ). MayBeUnderfull T.order h T.bounds n) c.if-tree-eq1.true c.requires.node in
+    let m : Node = record { kind = n.kind; elements = c.remove.new.self; sons = n.sons } in
+    let without = leaf_without T.order T.bounds n m i may_be_underfull1.kind c.requires.place may_be_underfull1 refl c.remove.ensures.items refl in
+    (1, T.bounds, without)
+
+pub delete_here-returns-then-tree-eq1-clause-removes : goal.delete_here-returns-then-tree-eq1-clause-removes
+delete_here-returns-then-tree-eq1-clause-removes g t c = λ steady least es us below low spells least_is body us_is between apart unvisited.
+    let T = c.args.tree.now in
+    let P = at c.args.pages.now.pages in
+    let M = c.args.visited.now.items in
+    let level = T.height - 1 in
+    let n = c.args.node in
+    let i = c.args.i in
+    let may_be_underfull1 = subst (λ (h : ℕ). MayBeUnderfull T.order h T.bounds n) c.if-tree-eq1.true c.requires.node in
+    let m : Node = record { kind = n.kind; elements = c.remove.new.self; sons = n.sons } in
+    let without = leaf_without T.order T.bounds n m i may_be_underfull1.kind c.requires.place may_be_underfull1 refl c.remove.ensures.items refl in
+    let x = c.index-deref-i.result in
+    let e_is : x ≡ element_at n i = c.index-deref-i.is ∙ ap (λ (xs : List Element). get_or xs i x) c.deref.ensures.0 ∙ get_or_default n.elements.items i x ([], []) c.requires.place in
+    let head : Top T.order P least T.height level T.page es us T.bounds n = record { below = below; spells = spells; least_is = least_is; kind = c.requires.node.kind; within = c.requires.node.within; body = body; us_is = us_is } in
+    let ws2 = c.settle.new.edit.writes.items in
+    let done = drop_leaf T.order P c.args.edit.now.writes.items ws2 c.args.edit.now.freed.items least T.height level T.page es us T.bounds T.bounds n m i x c.in_ok-settle.field-0 M (omega (arith, c.if-tree-eq1.true)) c.requires.order.0 low c.requires.unwritten c.requires.unfreed apart between head
+    (subst (λ (h : ℕ). MayBeUnderfull T.order h T.bounds m) (sym c.if-tree-eq1.true) without) c.requires.node.ascends c.requires.place e_is refl c.remove.ensures.items c.in_ok-settle.ensures.settles in
+    subst (λ (fs : List ℕ). RemovesBelow T.order P (after P ws2 fs) 0 (length fs) least level T.page es us M M (element_at n i).0 (Some c.in_ok-settle.field-0)) (sym (ap (λ v. v.items) c.in_ok-settle.ensures.freed)) done
+
+pub delete_here-returns-then-tree-eq1-clause-up : goal.delete_here-returns-then-tree-eq1-clause-up
+delete_here-returns-then-tree-eq1-clause-up g t c =
+    let T = c.args.tree.now in
+    let n = c.args.node in
+    let i = c.args.i in
+    let may_be_underfull1 = subst (λ (h : ℕ). MayBeUnderfull T.order h T.bounds n) c.if-tree-eq1.true c.requires.node in
+    let m : Node = record { kind = n.kind; elements = c.remove.new.self; sons = n.sons } in
+    let without = leaf_without T.order T.bounds n m i may_be_underfull1.kind c.requires.place may_be_underfull1 refl c.remove.ensures.items refl in
+    subst (λ (fs : List ℕ). UnderfullGoesUp T.order T.height T.bounds T.page c.settle.new.edit.writes.items fs c.in_ok-settle.field-0) (sym (ap (λ v. v.items) c.in_ok-settle.ensures.freed))
+    (settled_up T.order T.height T.page T.bounds c.args.edit.now.writes.items c.settle.new.edit.writes.items c.args.edit.now.freed.items c.index-deref-i.result m c.in_ok-settle.field-0 (subst (λ (h : ℕ). MayBeUnderfull T.order h T.bounds m) (sym c.if-tree-eq1.true) without)
+    (untouched_empty c.args.edit.now.writes.items c.args.edit.now.freed.items T.page c.requires.unwritten c.requires.unfreed) c.in_ok-settle.ensures.settles)
+
+pub delete_here-returns-then-tree-eq1-clause-first : goal.delete_here-returns-then-tree-eq1-clause-first
+delete_here-returns-then-tree-eq1-clause-first g t c = λ low is.
+    let T = c.args.tree.now in
+    let n = c.args.node in
+    let i = c.args.i in
+    let may_be_underfull1 = subst (λ (h : ℕ). MayBeUnderfull T.order h T.bounds n) c.if-tree-eq1.true c.requires.node in
+    let m : Node = record { kind = n.kind; elements = c.remove.new.self; sons = n.sons } in
+    let e = element_at n i in
+    let here : e ≡ get_or n.elements.items 0 e = get_or_default n.elements.items i ([], []) e c.requires.place ∙ ap (λ (j : ℕ). get_or n.elements.items j e) is in
+    let left = leaf_behind T.order T.bounds n m e may_be_underfull1.kind (omega (arith, c.requires.place)) may_be_underfull1 here refl (c.remove.ensures.items ∙ ap (remove n.elements.items) is) refl in
+    let b = behind e T.bounds in
+    subst (λ (fs : List ℕ). UnderfullGoesUp T.order T.height b T.page c.settle.new.edit.writes.items fs c.in_ok-settle.field-0) (sym (ap (λ v. v.items) c.in_ok-settle.ensures.freed))
+    (settled_up T.order T.height T.page b c.args.edit.now.writes.items c.settle.new.edit.writes.items c.args.edit.now.freed.items c.index-deref-i.result m c.in_ok-settle.field-0 (subst (λ (h : ℕ). MayBeUnderfull T.order h b m) (sym c.if-tree-eq1.true) left.2)
+    (untouched_empty c.args.edit.now.writes.items c.args.edit.now.freed.items T.page c.requires.unwritten c.requires.unfreed) c.in_ok-settle.ensures.settles)
+
+pub delete_here-returns-in_err-next-clause-removes : goal.delete_here-returns-in_err-next-clause-removes
+delete_here-returns-in_err-next-clause-removes g t c = λ steady least es us below low spells least_is body us_is between apart unvisited.
+    let T = c.args.tree.now in
+    let P = at c.args.pages.now.pages in
+    let M = c.args.visited.now.items in
+    let level = T.height - 1 in
+    let n = c.args.node in
+    let i = c.args.i in
+    let p = err_from_is_err_and c.from_residual-in_err-next.result c.from_residual-in_err-next.ensures.1 in
+    let next_i : i + 1 ≡ suc i = omega arith in
+    let t2 = c.tree_of_son-behind.result in
+    let t_is = c.tree_of_son-behind.ensures ∙ ap (son_tree T n) next_i in
+    let S = son_tree T n (suc i) in
+    let up : level ≡ suc (level - 1) = omega (arith, c.requires.height, c.if-tree-eq1.false) in
+    let inner = subst (λ (h : ℕ). Body (TreeAt T.order P T.order h) h n es below) up body in
+    let head : Top T.order P least T.height (suc (level - 1)) T.page es us T.bounds n = record { below = below; spells = spells; least_is = least_is; kind = c.requires.node.kind; within = c.requires.node.within; body = inner; us_is = us_is } in
+    let key = (element_at n i).0 in
+    let here = get_or_default n.elements.items i ([], []) (element_at n i) c.requires.place in
+    let son = next (TreeAt T.order P T.order (suc (level - 1))) (TreeAt T.order P T.order (suc (level - 1))) (λ (q : ℕ). Unit {0}) (λ s xs vs is _. is) n.sons.items n.elements.items es head.below key i T.bounds (element_at n i) head.body.1 between (is_at n.elements.items i c.requires.node.ascends c.requires.place) here in
+    let all_is = head.us_is ∙ ap (λ vs. T.page ∷ vs) son.us_is in
+    let there = known_there c.args.pages.now.pages c.args.pages.now.pages S t2 (level - 1) son.xs son.mine M M refl t_is refl up (record { tree = son.here; between = son.between; apart = apart_below T.page us son.upre son.mine son.upost all_is apart; unvisited = each_mid (λ u. is_visited M u ≡ false) head.below son.upre son.mine son.upost son.us_is unvisited }) in
+    rw (p.1, p.2) (c.in_err-next.ensures.removes steady t2.order son.xs son.mine (omega arith) there.tree there.between there.apart there.unvisited)
+
+pub delete_here-settle-requires-in-Some-Whole-clause-may_be_underfull : goal.delete_here-settle-requires-in-Some-Whole-clause-may_be_underfull
+delete_here-settle-requires-in-Some-Whole-clause-may_be_underfull g t c =
+    let T = c.args.tree.now in
+    let n = c.args.node in
+    let i = c.args.i in
+    let next_i : i + 1 ≡ suc i = omega arith in
+    let t2 = c.tree_of_son-behind.result in
+    let t_is = c.tree_of_son-behind.ensures ∙ ap (son_tree T n) next_i in
+    let S = son_tree T n (suc i) in
+    let ws = c.delete_below.new.edit.writes.items in
+    let fs = c.delete_below.new.edit.freed.items in
+    let e = c.in-Some-Whole.next in
+    let m = c.set_element.new.node in
+    let went = went_up S t2 None ws fs c.in_ok-next.field-0 (Whole e) t_is (c.in-Some-Whole.is ∙ ap Some c.in-Some-Whole.field-0-is) c.in_ok-next.ensures.up in
+    let stands = right_stands_at i n.elements.items T.bounds e c.requires.place c.requires.node.ascends c.requires.node.within went.fits went.within in
+    let sons_is = ap (λ s. s.items) c.set_element.ensures.sons in
+    let may_be_underfull = set_may_be_underfull T.order T.height i T.bounds n m e c.requires.place c.requires.node stands c.set_element.ensures.kind c.set_element.ensures.elements sons_is in
+    (T.height, T.bounds, may_be_underfull)
+
+pub delete_here-returns-in_ok-settle-in-Some-Whole-clause-removes : goal.delete_here-returns-in_ok-settle-in-Some-Whole-clause-removes
+delete_here-returns-in_ok-settle-in-Some-Whole-clause-removes g t c = λ steady least es us below low spells least_is body us_is between apart unvisited.
+    let T = c.args.tree.now in
+    let P = at c.args.pages.now.pages in
+    let M = c.args.visited.now.items in
+    let level = T.height - 1 in
+    let n = c.args.node in
+    let i = c.args.i in
+    let next_i : i + 1 ≡ suc i = omega arith in
+    let t2 = c.tree_of_son-behind.result in
+    let t_is = c.tree_of_son-behind.ensures ∙ ap (son_tree T n) next_i in
+    let S = son_tree T n (suc i) in
+    let ws = c.delete_below.new.edit.writes.items in
+    let fs = c.delete_below.new.edit.freed.items in
+    let visited2 = c.delete_below.new.visited.items in
+    let up : level ≡ suc (level - 1) = omega (arith, c.requires.height, c.if-tree-eq1.false) in
+    let inner = subst (λ (h : ℕ). Body (TreeAt T.order P T.order h) h n es below) up body in
+    let head : Top T.order P least T.height (suc (level - 1)) T.page es us T.bounds n = record { below = below; spells = spells; least_is = least_is; kind = c.requires.node.kind; within = c.requires.node.within; body = inner; us_is = us_is } in
+    let key = (element_at n i).0 in
+    let here = get_or_default n.elements.items i ([], []) (element_at n i) c.requires.place in
+    let son = next (TreeAt T.order P T.order (suc (level - 1))) (TreeAt T.order (after P ws fs) T.order (suc (level - 1))) (λ q. after P ws fs q ≡ P q) (λ s xs vs is same. tree_move T.order P (after P ws fs) T.order (suc (level - 1)) s xs vs is same) n.sons.items n.elements.items es head.below key i T.bounds (element_at n i) head.body.1 between (is_at n.elements.items i c.requires.node.ascends c.requires.place) here in
+    let all_is = head.us_is ∙ ap (λ vs. T.page ∷ vs) son.us_is in
+    let there = known_there c.args.pages.now.pages c.args.pages.now.pages S t2 (level - 1) son.xs son.mine M M refl t_is refl up (record { tree = son.here; between = son.between; apart = apart_below T.page us son.upre son.mine son.upost all_is apart; unvisited = each_mid (λ u. is_visited M u ≡ false) head.below son.upre son.mine son.upost son.us_is unvisited }) in
+    let e = c.in-Some-Whole.next in
+    let m = c.set_element.new.node in
+    let went = went_up S t2 None ws fs c.in_ok-next.field-0 (Whole e) t_is (c.in-Some-Whole.is ∙ ap Some c.in-Some-Whole.field-0-is) c.in_ok-next.ensures.up in
+    let stands = right_stands_at i n.elements.items T.bounds e c.requires.place c.requires.node.ascends c.requires.node.within went.fits went.within in
+    let sons_is = ap (λ s. s.items) c.set_element.ensures.sons in
+    let may_be_underfull = set_may_be_underfull T.order T.height i T.bounds n m e c.requires.place c.requires.node stands c.set_element.ensures.kind c.set_element.ensures.elements sons_is in
+    let visit_made = subst (λ (x : Subtree). IsVisit M visited2 ws fs x.height x.page) t_is c.in_ok-next.ensures.visit in
+    let ws2 = c.settle-in-Some-Whole.new.edit.writes.items in
+    let r = c.in_ok-settle-in-Some-Whole.field-0 in
+    let freed = sym (ap (λ v. v.items) c.in_ok-settle-in-Some-Whole.ensures.freed) in
+    let x = c.index-deref-i.result in
+    let e_is : x ≡ element_at n i = c.index-deref-i.is ∙ ap (λ (xs : List Element). get_or xs i x) c.deref.ensures.0 ∙ get_or_default n.elements.items i x ([], []) c.requires.place in
+    let some = tree_some T.order P T.order (suc (level - 1)) (son_at n (suc i)) son.xs son.mine c.requires.order.0 c.requires.order.0 son.here in
+    let took = took_of T.order P (after P ws fs) 0 (length fs) T.order (level - 1) (son_at n (suc i)) son.xs son.mine M visited2 (Whole e) some
+    (removed_here c.args.pages.now.pages c.args.pages.now.pages ws fs S t2 (level - 1) son.xs son.mine M M visited2 (sought None son.xs) (sought None son.xs) c.in_ok-next.field-0 (Some (Whole e)) refl t_is refl up refl (c.in-Some-Whole.is ∙ ap Some c.in-Some-Whole.field-0-is)
+    (c.in_ok-next.ensures.removes steady t2.order son.xs son.mine (omega arith) there.tree there.between there.apart there.unvisited)) in
+    let done = next_whole T.order P ws ws2 fs least T.height (level - 1) T.page es us T.bounds T.bounds n m i x e r M visited2 c.requires.order.0 low apart between head son took may_be_underfull e_is c.set_element.ensures.kind c.set_element.ensures.elements sons_is (visit_made.older T.page c.requires.visited) c.in_ok-settle-in-Some-Whole.ensures.settles in
+    subst (λ (z : List ℕ). RemovesBelow T.order P (after P ws2 z) 0 (length z) least level T.page es us M visited2 key (Some r)) freed
+    (subst (λ (h : ℕ). RemovesBelow T.order P (after P ws2 fs) 0 (length fs) least h T.page es us M visited2 key (Some r)) (sym up) done)
+
+pub delete_here-returns-in_ok-settle-in-Some-Whole-clause-up : goal.delete_here-returns-in_ok-settle-in-Some-Whole-clause-up
+delete_here-returns-in_ok-settle-in-Some-Whole-clause-up g t c =
+    let T = c.args.tree.now in
+    let M = c.args.visited.now.items in
+    let n = c.args.node in
+    let i = c.args.i in
+    let next_i : i + 1 ≡ suc i = omega arith in
+    let t2 = c.tree_of_son-behind.result in
+    let t_is = c.tree_of_son-behind.ensures ∙ ap (son_tree T n) next_i in
+    let S = son_tree T n (suc i) in
+    let ws = c.delete_below.new.edit.writes.items in
+    let fs = c.delete_below.new.edit.freed.items in
+    let visited2 = c.delete_below.new.visited.items in
+    let e = c.in-Some-Whole.next in
+    let m = c.set_element.new.node in
+    let went = went_up S t2 None ws fs c.in_ok-next.field-0 (Whole e) t_is (c.in-Some-Whole.is ∙ ap Some c.in-Some-Whole.field-0-is) c.in_ok-next.ensures.up in
+    let stands = right_stands_at i n.elements.items T.bounds e c.requires.place c.requires.node.ascends c.requires.node.within went.fits went.within in
+    let sons_is = ap (λ s. s.items) c.set_element.ensures.sons in
+    let may_be_underfull = set_may_be_underfull T.order T.height i T.bounds n m e c.requires.place c.requires.node stands c.set_element.ensures.kind c.set_element.ensures.elements sons_is in
+    let visit_made = subst (λ (x : Subtree). IsVisit M visited2 ws fs x.height x.page) t_is c.in_ok-next.ensures.visit in
+    let ws2 = c.settle-in-Some-Whole.new.edit.writes.items in
+    let r = c.in_ok-settle-in-Some-Whole.field-0 in
+    let freed = sym (ap (λ v. v.items) c.in_ok-settle-in-Some-Whole.ensures.freed) in
+    subst (λ (z : List ℕ). UnderfullGoesUp T.order T.height T.bounds T.page ws2 z r) freed
+    (settled_up T.order T.height T.page T.bounds ws ws2 fs c.index-deref-i.result m r may_be_underfull (visit_made.older T.page c.requires.visited) c.in_ok-settle-in-Some-Whole.ensures.settles)
+
+pub delete_here-returns-in_ok-settle-in-Some-Whole-clause-tidy : goal.delete_here-returns-in_ok-settle-in-Some-Whole-clause-tidy
+delete_here-returns-in_ok-settle-in-Some-Whole-clause-tidy g t c = λ used.
+    let T = c.args.tree.now in
+    let M = c.args.visited.now.items in
+    let n = c.args.node in
+    let i = c.args.i in
+    let next_i : i + 1 ≡ suc i = omega arith in
+    let t_is = c.tree_of_son-behind.ensures ∙ ap (son_tree T n) next_i in
+    let ws = c.delete_below.new.edit.writes.items in
+    let fs = c.delete_below.new.edit.freed.items in
+    let visited2 = c.delete_below.new.visited.items in
+    let visit_made = subst (λ (x : Subtree). IsVisit M visited2 ws fs x.height x.page) t_is c.in_ok-next.ensures.visit in
+    let ws2 = c.settle-in-Some-Whole.new.edit.writes.items in
+    let r = c.in_ok-settle-in-Some-Whole.field-0 in
+    let freed = sym (ap (λ v. v.items) c.in_ok-settle-in-Some-Whole.ensures.freed) in
+    subst (λ (z : List ℕ). IsTidy c.args.pages.now.pages visited2 ws2 z) freed
+    (settled_tidy c.args.pages.now.pages visited2 T.order T.page ws ws2 fs c.index-deref-i.result c.set_element.new.node r used (visit_made.stays T.page c.requires.visited) (visit_made.older T.page c.requires.visited) c.in_ok-settle-in-Some-Whole.ensures.settles c.in_ok-next.ensures.tidy)
+
+pub delete_here-returns-in_ok-settle-in-Some-Whole-clause-older : goal.delete_here-returns-in_ok-settle-in-Some-Whole-clause-older
+delete_here-returns-in_ok-settle-in-Some-Whole-clause-older g t c = λ q is other.
+    let T = c.args.tree.now in
+    let M = c.args.visited.now.items in
+    let n = c.args.node in
+    let i = c.args.i in
+    let next_i : i + 1 ≡ suc i = omega arith in
+    let t_is = c.tree_of_son-behind.ensures ∙ ap (son_tree T n) next_i in
+    let ws = c.delete_below.new.edit.writes.items in
+    let fs = c.delete_below.new.edit.freed.items in
+    let visited2 = c.delete_below.new.visited.items in
+    let visit_made = subst (λ (x : Subtree). IsVisit M visited2 ws fs x.height x.page) t_is c.in_ok-next.ensures.visit in
+    let ws2 = c.settle-in-Some-Whole.new.edit.writes.items in
+    let r = c.in_ok-settle-in-Some-Whole.field-0 in
+    let freed = sym (ap (λ v. v.items) c.in_ok-settle-in-Some-Whole.ensures.freed) in
+    subst (λ (z : List ℕ). Untouched ws2 z q) freed
+    (settled_others q T.order T.page ws ws2 fs c.index-deref-i.result c.set_element.new.node r other c.in_ok-settle-in-Some-Whole.ensures.settles (visit_made.older q is))
+
+pub delete_here-treat_and_settle-requires-clause-father : goal.delete_here-treat_and_settle-requires-clause-father
+delete_here-treat_and_settle-requires-clause-father g t c =
+    let T = c.args.tree.now in
+    let n = c.args.node in
+    let i = c.args.i in
+    let next_i : i + 1 ≡ suc i = omega arith in
+    let t2 = c.tree_of_son-behind.result in
+    let t_is = c.tree_of_son-behind.ensures ∙ ap (son_tree T n) next_i in
+    let S = son_tree T n (suc i) in
+    let ws = c.delete_below.new.edit.writes.items in
+    let fs = c.delete_below.new.edit.freed.items in
+    let e = c.in-Some-Underfull.next in
+    let underfull = c.in-Some-Underfull.son in
+    let m = c.set_element-in-Some-Underfull.new.node in
+    let sons_is = ap (λ s. s.items) c.set_element-in-Some-Underfull.ensures.sons in
+    let went = went_up S t2 None ws fs c.in_ok-next.field-0 (Underfull e underfull) t_is (c.in-Some-Underfull.is ∙ ap Some c.in-Some-Underfull.field-0-is) c.in_ok-next.ensures.up in
+    let stands = right_stands_at i n.elements.items T.bounds e c.requires.place c.requires.node.ascends c.requires.node.within went.fits went.within in
+    set_may_be_underfull T.order T.height i T.bounds n m e c.requires.place c.requires.node stands c.set_element-in-Some-Underfull.ensures.kind c.set_element-in-Some-Underfull.ensures.elements sons_is
+
+pub delete_here-treat_and_settle-requires-clause-son : goal.delete_here-treat_and_settle-requires-clause-son
+delete_here-treat_and_settle-requires-clause-son g t c =
+    let T = c.args.tree.now in
+    let level = T.height - 1 in
+    let n = c.args.node in
+    let i = c.args.i in
+    let next_i : i + 1 ≡ suc i = omega arith in
+    let t2 = c.tree_of_son-behind.result in
+    let t_is = c.tree_of_son-behind.ensures ∙ ap (son_tree T n) next_i in
+    let S = son_tree T n (suc i) in
+    let ws = c.delete_below.new.edit.writes.items in
+    let fs = c.delete_below.new.edit.freed.items in
+    let e = c.in-Some-Underfull.next in
+    let underfull = c.in-Some-Underfull.son in
+    let m = c.set_element-in-Some-Underfull.new.node in
+    let went = went_up S t2 None ws fs c.in_ok-next.field-0 (Underfull e underfull) t_is (c.in-Some-Underfull.is ∙ ap Some c.in-Some-Underfull.field-0-is) c.in_ok-next.ensures.up in
+    let bounds_is : behind e S.bounds ≡ son_bounds m.elements.items (i + 1) T.bounds =
+    sym (set_son_bounds n.elements.items i T.bounds e c.requires.place) ∙ ap (λ (xs : List Element). son_bounds xs (suc i) T.bounds) (sym c.set_element-in-Some-Underfull.ensures.elements) ∙ ap (λ (j : ℕ). son_bounds m.elements.items j T.bounds) (sym next_i) in
+    subst (λ (b : Bounds). MayBeUnderfull T.order level b underfull) bounds_is went.goes.0
+
+pub delete_here-treat_and_settle-requires-clause-other : goal.delete_here-treat_and_settle-requires-clause-other
+delete_here-treat_and_settle-requires-clause-other g t c =
+    let T = c.args.tree.now in
+    let M = c.args.visited.now.items in
+    let n = c.args.node in
+    let i = c.args.i in
+    let next_i : i + 1 ≡ suc i = omega arith in
+    let t_is = c.tree_of_son-behind.ensures ∙ ap (son_tree T n) next_i in
+    let ws = c.delete_below.new.edit.writes.items in
+    let fs = c.delete_below.new.edit.freed.items in
+    let visited2 = c.delete_below.new.visited.items in
+    let m = c.set_element-in-Some-Underfull.new.node in
+    let sons_is = ap (λ s. s.items) c.set_element-in-Some-Underfull.ensures.sons in
+    let s_is : son_at n (suc i) ≡ son_at m (i + 1) = ap (λ (xs : List ℕ). get_or xs (suc i) 0) (sym sons_is) ∙ ap (son_at m) (sym next_i) in
+    let visit_made = subst (λ (x : Subtree). IsVisit M visited2 ws fs x.height x.page) t_is c.in_ok-next.ensures.visit in
+    λ is. visited_differs M T.page (son_at n (suc i)) c.requires.visited visit_made.fresh (is ∙ sym s_is)
+
+pub delete_here-returns-in_err-shrunk-in-Some-Underfull-clause-removes : goal.delete_here-returns-in_err-shrunk-in-Some-Underfull-clause-removes
+delete_here-returns-in_err-shrunk-in-Some-Underfull-clause-removes g t c = λ steady least es us below low spells least_is body us_is between apart unvisited.
+    let T = c.args.tree.now in
+    let P = at c.args.pages.now.pages in
+    let M = c.args.visited.now.items in
+    let level = T.height - 1 in
+    let n = c.args.node in
+    let i = c.args.i in
+    let p = err_from_is_err_and c.from_residual-in_err-shrunk-in-Some-Underfull.result c.from_residual-in_err-shrunk-in-Some-Underfull.ensures.1 in
+    let next_i : i + 1 ≡ suc i = omega arith in
+    let t2 = c.tree_of_son-behind.result in
+    let t_is = c.tree_of_son-behind.ensures ∙ ap (son_tree T n) next_i in
+    let S = son_tree T n (suc i) in
+    let ws = c.delete_below.new.edit.writes.items in
+    let fs = c.delete_below.new.edit.freed.items in
+    let visited2 = c.delete_below.new.visited.items in
+    let up : level ≡ suc (level - 1) = omega (arith, c.requires.height, c.if-tree-eq1.false) in
+    let inner = subst (λ (h : ℕ). Body (TreeAt T.order P T.order h) h n es below) up body in
+    let head : Top T.order P least T.height (suc (level - 1)) T.page es us T.bounds n = record { below = below; spells = spells; least_is = least_is; kind = c.requires.node.kind; within = c.requires.node.within; body = inner; us_is = us_is } in
+    let key = (element_at n i).0 in
+    let here = get_or_default n.elements.items i ([], []) (element_at n i) c.requires.place in
+    let son = next (TreeAt T.order P T.order (suc (level - 1))) (Kin T.order P (after P ws fs) visited2 (level - 1) (son_at n (suc i)) c.in-Some-Underfull.son) (IsBeside P (after P ws fs) visited2 (son_at n (suc i))) (λ s xs vs is beside. kin_move T.order P (after P ws fs) visited2 (level - 1) (son_at n (suc i)) c.in-Some-Underfull.son s xs vs is beside) n.sons.items n.elements.items es head.below key i T.bounds (element_at n i) head.body.1 between (is_at n.elements.items i c.requires.node.ascends c.requires.place) here in
+    let all_is = head.us_is ∙ ap (λ vs. T.page ∷ vs) son.us_is in
+    let there = known_there c.args.pages.now.pages c.args.pages.now.pages S t2 (level - 1) son.xs son.mine M M refl t_is refl up (record { tree = son.here; between = son.between; apart = apart_below T.page us son.upre son.mine son.upost all_is apart; unvisited = each_mid (λ u. is_visited M u ≡ false) head.below son.upre son.mine son.upost son.us_is unvisited }) in
+    let e = c.in-Some-Underfull.next in
+    let underfull = c.in-Some-Underfull.son in
+    let m = c.set_element-in-Some-Underfull.new.node in
+    let sons_is = ap (λ s. s.items) c.set_element-in-Some-Underfull.ensures.sons in
+    let s_is : son_at n (suc i) ≡ son_at m (i + 1) = ap (λ (xs : List ℕ). get_or xs (suc i) 0) (sym sons_is) ∙ ap (son_at m) (sym next_i) in
+    let some = tree_some T.order P T.order (suc (level - 1)) (son_at n (suc i)) son.xs son.mine c.requires.order.0 c.requires.order.0 son.here in
+    let took = took_of T.order P (after P ws fs) 0 (length fs) T.order (level - 1) (son_at n (suc i)) son.xs son.mine M visited2 (Underfull e underfull) some
+    (removed_here c.args.pages.now.pages c.args.pages.now.pages ws fs S t2 (level - 1) son.xs son.mine M M visited2 (sought None son.xs) (sought None son.xs) c.in_ok-next.field-0 (Some (Underfull e underfull)) refl t_is refl up refl (c.in-Some-Underfull.is ∙ ap Some c.in-Some-Underfull.field-0-is)
+    (c.in_ok-next.ensures.removes steady t2.order son.xs son.mine (omega arith) there.tree there.between there.apart there.unvisited)) in
+    let broken = next_broken T.order P ws fs least T.height (level - 1) T.page es us T.bounds n m i e underfull M visited2 apart head son unvisited took c.set_element-in-Some-Underfull.ensures.elements sons_is in
+    let size = ap length c.set_element-in-Some-Underfull.ensures.elements ∙ length-set n.elements.items i e in
+    let fair = remove-between_bounds T.bounds key es between in
+    let later_is = ap (λ (v : PagesView). v.pages) c.delete_below.ensures.unchanged in
+    let later_steady = ap (λ (v : PagesView). v.steady) c.delete_below.ensures.unchanged ∙ steady in
+    rw (p.1, p.2) (ask (IsOutside c.in_err-shrunk-in-Some-Underfull.field-0.0) T.order P (after P ws fs) visited2 0 (length fs) (level - 1) level T.page (son_at n (suc i)) underfull m (set_in key None es) us T.bounds (i + 1) (sym up) (omega (arith, size, c.requires.place)) (omega (arith, size, c.requires.place)) s_is fair broken
+    (λ less o asked kind within free. c.in_err-shrunk-in-Some-Underfull.ensures.right later_steady less o (subst (λ (z : List (Option (List ℕ))). Spells T.order (at z) (son_at m (suc (i + 1))) o) (sym later_is) asked) kind within free)
+    (λ j is last o asked kind within free. c.in_err-shrunk-in-Some-Underfull.ensures.left later_steady j is last o (subst (λ (z : List (Option (List ℕ))). Spells T.order (at z) (son_at m j) o) (sym later_is) asked) kind within free))
+
+pub delete_here-returns-in_ok-shrunk-in-Some-Underfull-clause-removes : goal.delete_here-returns-in_ok-shrunk-in-Some-Underfull-clause-removes
+delete_here-returns-in_ok-shrunk-in-Some-Underfull-clause-removes g t c = λ steady least es us below low spells least_is body us_is between apart unvisited.
+    let T = c.args.tree.now in
+    let P = at c.args.pages.now.pages in
+    let M = c.args.visited.now.items in
+    let level = T.height - 1 in
+    let n = c.args.node in
+    let i = c.args.i in
+    let next_i : i + 1 ≡ suc i = omega arith in
+    let t2 = c.tree_of_son-behind.result in
+    let t_is = c.tree_of_son-behind.ensures ∙ ap (son_tree T n) next_i in
+    let S = son_tree T n (suc i) in
+    let ws = c.delete_below.new.edit.writes.items in
+    let fs = c.delete_below.new.edit.freed.items in
+    let visited2 = c.delete_below.new.visited.items in
+    let up : level ≡ suc (level - 1) = omega (arith, c.requires.height, c.if-tree-eq1.false) in
+    let inner = subst (λ (h : ℕ). Body (TreeAt T.order P T.order h) h n es below) up body in
+    let head : Top T.order P least T.height (suc (level - 1)) T.page es us T.bounds n = record { below = below; spells = spells; least_is = least_is; kind = c.requires.node.kind; within = c.requires.node.within; body = inner; us_is = us_is } in
+    let key = (element_at n i).0 in
+    let here = get_or_default n.elements.items i ([], []) (element_at n i) c.requires.place in
+    let son = next (TreeAt T.order P T.order (suc (level - 1))) (Kin T.order P (after P ws fs) visited2 (level - 1) (son_at n (suc i)) c.in-Some-Underfull.son) (IsBeside P (after P ws fs) visited2 (son_at n (suc i))) (λ s xs vs is beside. kin_move T.order P (after P ws fs) visited2 (level - 1) (son_at n (suc i)) c.in-Some-Underfull.son s xs vs is beside) n.sons.items n.elements.items es head.below key i T.bounds (element_at n i) head.body.1 between (is_at n.elements.items i c.requires.node.ascends c.requires.place) here in
+    let all_is = head.us_is ∙ ap (λ vs. T.page ∷ vs) son.us_is in
+    let there = known_there c.args.pages.now.pages c.args.pages.now.pages S t2 (level - 1) son.xs son.mine M M refl t_is refl up (record { tree = son.here; between = son.between; apart = apart_below T.page us son.upre son.mine son.upost all_is apart; unvisited = each_mid (λ u. is_visited M u ≡ false) head.below son.upre son.mine son.upost son.us_is unvisited }) in
+    let e = c.in-Some-Underfull.next in
+    let underfull = c.in-Some-Underfull.son in
+    let m = c.set_element-in-Some-Underfull.new.node in
+    let sons_is = ap (λ s. s.items) c.set_element-in-Some-Underfull.ensures.sons in
+    let s_is : son_at n (suc i) ≡ son_at m (i + 1) = ap (λ (xs : List ℕ). get_or xs (suc i) 0) (sym sons_is) ∙ ap (son_at m) (sym next_i) in
+    let went = went_up S t2 None ws fs c.in_ok-next.field-0 (Underfull e underfull) t_is (c.in-Some-Underfull.is ∙ ap Some c.in-Some-Underfull.field-0-is) c.in_ok-next.ensures.up in
+    let some = tree_some T.order P T.order (suc (level - 1)) (son_at n (suc i)) son.xs son.mine c.requires.order.0 c.requires.order.0 son.here in
+    let took = took_of T.order P (after P ws fs) 0 (length fs) T.order (level - 1) (son_at n (suc i)) son.xs son.mine M visited2 (Underfull e underfull) some
+    (removed_here c.args.pages.now.pages c.args.pages.now.pages ws fs S t2 (level - 1) son.xs son.mine M M visited2 (sought None son.xs) (sought None son.xs) c.in_ok-next.field-0 (Some (Underfull e underfull)) refl t_is refl up refl (c.in-Some-Underfull.is ∙ ap Some c.in-Some-Underfull.field-0-is)
+    (c.in_ok-next.ensures.removes steady t2.order son.xs son.mine (omega arith) there.tree there.between there.apart there.unvisited)) in
+    let broken = next_broken T.order P ws fs least T.height (level - 1) T.page es us T.bounds n m i e underfull M visited2 apart head son unvisited took c.set_element-in-Some-Underfull.ensures.elements sons_is in
+    let size = ap length c.set_element-in-Some-Underfull.ensures.elements ∙ length-set n.elements.items i e in
+    let fair = remove-between_bounds T.bounds key es between in
+    let later_is = ap (λ (v : PagesView). v.pages) c.delete_below.ensures.unchanged in
+    let later_steady = ap (λ (v : PagesView). v.steady) c.delete_below.ensures.unchanged ∙ steady in
+    let ws3 = c.treat_and_settle.new.edit.writes.items in
+    let fs3 = c.treat_and_settle.new.edit.freed.items in
+    let visited3 = c.treat_and_settle.new.visited.items in
+    let r = c.in_ok-shrunk-in-Some-Underfull.shrunk in
+    let x = c.index-deref-i.result in
+    let e_is : x ≡ element_at n i = c.index-deref-i.is ∙ ap (λ (xs : List Element). get_or xs i x) c.deref.ensures.0 ∙ get_or_default n.elements.items i x ([], []) c.requires.place in
+    let treated = treat_son T.order T.height P visited2 visited3 0 (level - 1) level T.page (son_at n (suc i)) underfull m x r ws ws3 fs fs3 (set_in key None es) us T.bounds (i + 1) c.requires.order.0 (sym up) (omega (arith, size, c.requires.place)) (omega (arith, size, c.requires.place)) s_is fair
+    (subst (λ (z : ℕ). Untouched ws fs z) s_is went.goes.2) c.in_ok-next.ensures.tidy.unvisited broken
+    (λ less o asked kind within free. c.in_ok-shrunk-in-Some-Underfull.ensures.right later_steady less o (subst (λ (z : List (Option (List ℕ))). Spells T.order (at z) (son_at m (suc (i + 1))) o) (sym later_is) asked) kind within free)
+    (λ j is last o asked kind within free. c.in_ok-shrunk-in-Some-Underfull.ensures.left later_steady j is last o (subst (λ (z : List (Option (List ℕ))). Spells T.order (at z) (son_at m j) o) (sym later_is) asked) kind within free) in
+    let found = ap (lookup_in key) son.es_is ∙ lookup-here key son.pre (element_at n i) (son.xs ++ son.post) son.below refl in
+    let drops = drop_treated T.order P ws ws3 fs fs3 least T.height (level - 1) T.page (son_at n (suc i)) es us T.bounds m underfull x (element_at n i) r visited2 visited3 key c.requires.order.0 low broken treated (sym c.requires.node.kind ∙ head.body.0) e_is refl found in
+    let unvisited3 = on_unvisited M visited2 visited3 treated.son.t us son.mine (below_in T.page us son.upre son.mine son.upost all_is) (broken.loses.left.within treated.son.t (inr treated.son.t_in)) took.unvisited treated.son.visited_is in
+    let done : RemovesBelow T.order P (after P ws3 fs3) 0 (length fs3) least (suc (level - 1)) T.page es us M visited3 key (Some r) = record { drops = drops; unvisited = unvisited3 } in
+    subst (λ (h : ℕ). RemovesBelow T.order P (after P ws3 fs3) 0 (length fs3) least h T.page es us M visited3 key (Some r)) (sym up) done
+
+pub delete_here-returns-in_ok-shrunk-in-Some-Underfull-clause-older : goal.delete_here-returns-in_ok-shrunk-in-Some-Underfull-clause-older
+delete_here-returns-in_ok-shrunk-in-Some-Underfull-clause-older g t c = λ q is other.
+    let T = c.args.tree.now in
+    let M = c.args.visited.now.items in
+    let n = c.args.node in
+    let i = c.args.i in
+    let next_i : i + 1 ≡ suc i = omega arith in
+    let t_is = c.tree_of_son-behind.ensures ∙ ap (son_tree T n) next_i in
+    let ws = c.delete_below.new.edit.writes.items in
+    let fs = c.delete_below.new.edit.freed.items in
+    let visited2 = c.delete_below.new.visited.items in
+    let m = c.set_element-in-Some-Underfull.new.node in
+    let sons_is = ap (λ s. s.items) c.set_element-in-Some-Underfull.ensures.sons in
+    let s_is : son_at n (suc i) ≡ son_at m (i + 1) = ap (λ (xs : List ℕ). get_or xs (suc i) 0) (sym sons_is) ∙ ap (son_at m) (sym next_i) in
+    let visit_made = subst (λ (x : Subtree). IsVisit M visited2 ws fs x.height x.page) t_is c.in_ok-next.ensures.visit in
+    c.in_ok-shrunk-in-Some-Underfull.ensures.others q (visit_made.stays q is) (λ same. visited_differs M q (son_at n (suc i)) is visit_made.fresh (same ∙ sym s_is)) other (visit_made.older q is)

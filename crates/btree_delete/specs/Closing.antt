@@ -1,0 +1,39 @@
+-- The steps of a close, and what is there when it stops part-way.
+use Rattle.std.specs.Prelude.{◌≡◌, ℕ, ◌⊎◌, List, [], length, if◌then◌else◌}
+use Rattle.page_store.specs.PagesView.{memory_pages}
+use Rattle.page_store.specs.Journal.{writing_back}
+use Rattle.page_store.specs.declared.step.Step.{Step}
+use Rattle.btree_node.specs.declared.header.Header.{Header}
+use Rattle.btree_node.specs.HeaderSpelling.{header_spelling, clean_state, writing_state}
+use Rattle.btree_node.specs.Lists.{Element}
+use Rattle.btree_insert.specs.declared.tree.Tree.{Tree}
+use Rattle.btree_delete.specs.CleanFile.{IsCleanFile}
+use Rattle.btree_delete.specs.TableView.{TableView}
+
+-- the header of a table's file
+abbrev pub header_of : TableView → Header
+header_of t = record { order = t.tree.order; pages = length t.pages.pages; root = t.tree.root; count = t.tree.count }
+
+-- the calls by which a table is closed: none where nothing was changed
+abbrev pub closing : TableView → List Step
+closing t = if t.pages.changed then writing_back (memory_pages t.pages) (length t.pages.pages) (header_spelling (header_of t) writing_state) (header_spelling (header_of t) clean_state) else []
+
+-- no closed file, so that opening refuses it
+abbrev pub IsRefused : List (List ℕ) → Type 0
+IsRefused pages = (h : Header) → (tree : Tree) → (es : List Element) → (us : List ℕ) → IsCleanFile pages 0 h tree es us → ⊥
+
+-- a closed file
+pub record IsFile (pages : List (List ℕ)) : Type 0 where
+  pub h : Header
+  pub tree : Tree
+  pub es : List Element
+  pub us : List ℕ
+  pub clean : IsCleanFile pages 0 h tree es us
+
+-- no page yet, or a closed file
+abbrev pub IsNewOrFile : List (List ℕ) → Type 0
+IsNewOrFile pages = (pages ≡ []) ⊎ IsFile pages
+
+-- the old file, or one that opening refuses, or the new one
+abbrev pub IsEither : List (List ℕ) → List (List ℕ) → List (List ℕ) → Type 0
+IsEither old new pages = (pages ≡ old) ⊎ (IsRefused pages ⊎ (pages ≡ new))

@@ -1,0 +1,147 @@
+ghost use Rattle.std.specs.Prelude.{◌≡◌, ◌≢◌, ◌+◌, ◌-◌, ◌*◌, ◌<◌, ◌≤◌, ◌↔◌, ℕ, List, Option, Some, None, true, false, IsTrue, IsSome, IsOk, IfOk, IfErr, OnErr, Ok, Err, MatchResult, length};
+ghost use Rattle.rec_types.specs.Table.{counted, is_device};
+ghost use Rattle.page_store.specs.PageMap.{at};
+ghost use Rattle.btree_node.specs.Lists.{Element};
+ghost use Rattle.btree_insert.specs.Contents.{lookup_in};
+ghost use Rattle.btree_insert.specs.PageTrees.{Holds};
+ghost use Rattle.btree_insert.specs.Spelt.{AreSpeltIn};
+ghost use Rattle.btree_delete.specs.TableView.{Fills};
+ghost use Rattle.btree_delete.specs.TableAnswers.{IsSet, MayRefuse};
+
+use crate::deleting::delete;
+use crate::fault_counts::told;
+use btree_insert::{Tree, insert, look_up};
+use page_store::{Pages, Store};
+use rec_types::{Key, Record, TableFault};
+use std::alloc::Global;
+
+/// Whether the tree has as many records as there may be, and none at the key. The key is looked up
+/// only where there are so many. Faults: Device, Damaged.
+fn is_full_for<S: Store>(
+    pages: &mut Pages<S>,
+    tree: &Tree,
+    limit: u32,
+    key: &Key,
+) -> Result<bool, TableFault>
+    requires some_order { 1 ≤ tree.now.order }
+    requires most_order { tree.now.order ≤ 16 }
+    requires height { tree.now.height ≤ 19 }
+    requires spelt { AreSpeltIn tree.now.order pages.old }
+    ensures full { IsTrue pages.old.steady → (es : List Element) (us : List ℕ)
+        → Holds (at pages.old.pages) tree.now es us
+        → MatchResult result
+        (λ full. IsTrue full ↔ ((lookup_in key.now es ≡ None) × (limit ≤ tree.now.count)))
+        (λ fault. fault ≡ TableFault.Device) }
+    ensures no_memory { result ≢ Err TableFault.Memory }
+    ensures no_room { result ≢ Err TableFault.NoRoom }
+    ensures device { pages.new.failures ≡ counted pages.old.failures (is_device result) }
+    ensures unchanged { pages.new
+        ≡ record pages.old { reads = pages.new.reads; failures = pages.new.failures } }
+    ensures no_read { tree.now.count < limit → (result ≡ Ok false) × (pages.new ≡ pages.old) }
+    ensures reads { pages.new.reads ≤ pages.old.reads + tree.now.height }
+{
+    if tree.count < limit {
+        return Ok(false);
+    }
+    match told(look_up(pages, tree, key)) {
+        Ok(found) => Ok(found.is_none()),
+        Err(fault) => Err(fault),
+    }
+}
+
+/// Puts the record at the key, and answers the new tree and what stood there. Faults: Device, Damaged,
+/// NoRoom, Memory. After a fault no page has changed.
+fn put<S: Store>(
+    alloc: Global,
+    pages: &mut Pages<S>,
+    tree: &Tree,
+    limit: u32,
+    key: Key,
+    value: Record,
+) -> Result<(Tree, Option<Record>), TableFault>
+    requires some_order { 1 ≤ tree.now.order }
+    requires most_order { tree.now.order ≤ 16 }
+    requires height { tree.now.height ≤ 19 }
+    requires count { tree.now.count ≤ 1000000 }
+    requires used { tree.now.used ≤ 1000000 }
+    requires limit { limit ≤ 1000000 }
+    requires spelt { AreSpeltIn tree.now.order pages.old }
+    ensures set { IsTrue pages.old.steady → (es : List Element) (us : List ℕ)
+        → Fills pages.old.pages tree.now es us → tree.now.count ≤ limit
+        → MatchResult result (λ r. IsSet pages.new.pages r.0 limit es key (Some value) r.1)
+        (MayRefuse limit tree.now.count es key (Some value)) }
+    ensures small { IfOk result (λ r. (r.0.height ≤ 19) × (r.0.count ≤ 1000000)
+        × (r.0.used ≤ 1000000)) }
+    ensures spelt { AreSpeltIn tree.now.order pages.new }
+    ensures order { IfOk result (λ r. r.0.order ≡ tree.now.order) }
+    ensures changed { IsOk result → pages.new.changed ≡ true }
+    ensures device { pages.new.failures ≡ counted pages.old.failures (is_device result) }
+    ensures err { OnErr result (pages.new
+        ≡ record pages.old { reads = pages.new.reads; failures = pages.new.failures }) }
+    ensures store { pages.new ≡ record pages.old {
+      pages = pages.new.pages;
+      changed = pages.new.changed;
+      in_memory = pages.new.in_memory;
+      reads = pages.new.reads;
+      failures = pages.new.failures;
+    } }
+    ensures one_descent { tree.now.count < limit
+        → pages.new.reads ≤ pages.old.reads + tree.now.height }
+    ensures reads { pages.new.reads ≤ pages.old.reads + 2 * tree.now.height }
+{
+    let _count = pages.page_count();
+    match is_full_for(pages, tree, limit, &key) {
+        Ok(false) => told(insert(alloc, pages, tree, key, value)),
+        Ok(true) => Err(TableFault::NoRoom),
+        Err(fault) => Err(fault),
+    }
+}
+
+/// Puts a record at the key, or takes the key out, and answers the new tree and what stood there.
+/// Faults: Device, Damaged, NoRoom, Memory. After a fault no page has changed.
+pub(crate) fn change<S: Store>(
+    alloc: Global,
+    pages: &mut Pages<S>,
+    tree: &Tree,
+    limit: u32,
+    key: Key,
+    to: Option<Record>,
+) -> Result<(Tree, Option<Record>), TableFault>
+    requires some_order { 1 ≤ tree.now.order }
+    requires most_order { tree.now.order ≤ 16 }
+    requires height { tree.now.height ≤ 19 }
+    requires count { tree.now.count ≤ 1000000 }
+    requires used { tree.now.used ≤ 1000000 }
+    requires limit { limit ≤ 1000000 }
+    requires spelt { AreSpeltIn tree.now.order pages.old }
+    ensures set { IsTrue pages.old.steady → (es : List Element) (us : List ℕ)
+        → Fills pages.old.pages tree.now es us → tree.now.count ≤ limit
+        → MatchResult result (λ r. IsSet pages.new.pages r.0 limit es key to r.1)
+        (MayRefuse limit tree.now.count es key to) }
+    ensures small { IfOk result (λ r. (r.0.height ≤ 19) × (r.0.count ≤ 1000000)
+        × (r.0.used ≤ 1000000)) }
+    ensures spelt { AreSpeltIn tree.now.order pages.new }
+    ensures order { IfOk result (λ r. r.0.order ≡ tree.now.order) }
+    ensures taken_out_none { to ≡ None → IfOk result (λ r. r.1 ≡ None → (r.0 ≡ tree.now)
+        × (pages.new.pages ≡ pages.old.pages) × (pages.new.changed ≡ pages.old.changed)) }
+    ensures taken_out { to ≡ None → IfOk result (λ r. IsSome r.1 → pages.new.changed ≡ true) }
+    ensures put { IsSome to → IsOk result → pages.new.changed ≡ true }
+    ensures device { pages.new.failures ≡ counted pages.old.failures (is_device result) }
+    ensures err { OnErr result (pages.new
+        ≡ record pages.old { reads = pages.new.reads; failures = pages.new.failures }) }
+    ensures store { pages.new ≡ record pages.old {
+      pages = pages.new.pages;
+      changed = pages.new.changed;
+      in_memory = pages.new.in_memory;
+      reads = pages.new.reads;
+      failures = pages.new.failures;
+    } }
+    ensures one_descent { IsSome to → tree.now.count < limit
+        → pages.new.reads ≤ pages.old.reads + tree.now.height }
+    ensures reads { pages.new.reads ≤ pages.old.reads + 2 * tree.now.height }
+{
+    match to {
+        Some(value) => put(alloc, pages, tree, limit, key, value),
+        None => told(delete(alloc, pages, tree, &key)),
+    }
+}

@@ -1,0 +1,123 @@
+ghost use Rattle.std.specs.Prelude.{◌≡◌, ◌-◌, ◌<◌, ◌≤◌, ℕ, false, None, List, length, IsTrue, IfOk, MatchResult};
+ghost use Rattle.std.specs.BTreeSet.{contains};
+ghost use Rattle.std.specs.Ordering.{nat_cmp};
+ghost use Rattle.rec_types.specs.Table.{counted};
+ghost use Rattle.page_store.specs.PageMap.{at};
+ghost use Rattle.btree_node.specs.Lists.{Element};
+ghost use Rattle.btree_insert.specs.Faults.{is_device};
+ghost use Rattle.btree_insert.specs.Growth.{IsOutside};
+ghost use Rattle.btree_insert.specs.PageTrees.{Holds};
+ghost use Rattle.btree_insert.specs.declared.tree.Tree.{Tree as TreeOf};
+ghost use Rattle.btree_delete.specs.Survey.{height_of, seen_of, IsRooted, WentThrough, Measured};
+
+use crate::free_numbers::free_numbers;
+use crate::survey::{Survey, survey_page};
+use btree_insert::{Bounds, Tree, TreeFault};
+use page_store::{Pages, Store};
+use std::alloc::Global;
+use std::collections::BTreeSet;
+
+/// A tree has at most so many levels.
+const MOST_LEVELS: u32 = 19;
+
+/// The tree of a root as the pages hold it, and the numbers that none of its pages has. It reads each
+/// page of the tree once, and takes memory before the first read and after the last. Faults: Device;
+/// Memory; Damaged where the root has no tree of the class.
+pub(crate) fn measure_tree<S: Store>(
+    alloc: Global,
+    pages: &mut Pages<S>,
+    order: u16,
+    root: u32,
+) -> Result<(Tree, BTreeSet<u32>), TreeFault>
+    requires some_order { 1 ≤ order }
+    requires most_order { order ≤ 16 }
+    requires idle { pages.old.changed ≡ false }
+    ensures found { IsTrue pages.old.steady → IfOk result
+        (λ r. Measured order pages.old.pages root r.0
+        (contains nat_cmp r.1) pages.old.reads pages.new.reads) }
+    ensures exact { IsTrue pages.old.steady → (tree : TreeOf) (es : List Element) (us : List ℕ)
+        → tree.order ≡ order → tree.root ≡ root → Holds (at pages.old.pages) tree es us
+        → MatchResult result (λ r. r.0 ≡ tree) IsOutside }
+    ensures free_fits { IfOk result (λ r. (n : ℕ) → IsTrue (contains nat_cmp r.1 n)
+        → (1 ≤ n) × (n < length pages.old.pages)) }
+    ensures small { IfOk result (λ r. (r.0.order ≡ order) × (r.0.height ≤ 19)
+        × (r.0.used ≤ 1000000)) }
+    ensures device { pages.new.failures ≡ counted pages.old.failures (is_device result) }
+    ensures unchanged { pages.new
+        ≡ record pages.old { reads = pages.new.reads; failures = pages.new.failures } }
+{
+    let survey = survey_root(alloc, pages, order, root)?;
+    let height = height_of(survey.leaf());
+    let count = survey.keys();
+    let reached = survey.into_reached();
+    let free = free_numbers(alloc, reached.as_slice())?;
+    let used = (reached.len() - 1 - free.len()) as u32;
+    let tree = Tree {
+        order,
+        root,
+        height,
+        count,
+        used,
+    };
+    Ok((tree, free))
+}
+
+/// How many levels there are where the first leaf stands so far below the most.
+fn height_of(leaf: Option<u32>) -> u32
+    ensures value { result ≡ height_of leaf }
+    ensures most { result ≤ 19 }
+{
+    match leaf {
+        Some(level) => MOST_LEVELS.saturating_sub(level),
+        None => 0,
+    }
+}
+
+/// What a walk sees of the whole tree of a root.
+fn survey_root<S: Store>(
+    alloc: Global,
+    pages: &mut Pages<S>,
+    order: u16,
+    root: u32,
+) -> Result<Survey, TreeFault>
+    requires some_order { 1 ≤ order }
+    requires most_order { order ≤ 16 }
+    requires idle { pages.old.changed ≡ false }
+    ensures found { IsTrue pages.old.steady → IfOk result (λ new. WentThrough order
+        (at pages.old.pages) (length pages.old.pages) root new pages.old.reads pages.new.reads) }
+    ensures exact { IsTrue pages.old.steady → (height : ℕ) (es : List Element) (us : List ℕ)
+        → IsRooted order (at pages.old.pages) root height es us
+        → MatchResult result (λ new. new ≡ seen_of (length pages.old.pages) height es us)
+        IsOutside }
+    ensures long { IfOk result (λ new. length new.reached ≡ length pages.old.pages) }
+    ensures some { 1 ≤ length pages.old.pages }
+    ensures most { length pages.old.pages ≤ 1000001 }
+    ensures header { at pages.old.pages 0 ≡ None }
+    ensures device { pages.new.failures ≡ counted pages.old.failures (is_device result) }
+    ensures unchanged { pages.new
+        ≡ record pages.old { reads = pages.new.reads; failures = pages.new.failures } }
+{
+    let count = pages.page_count() as usize;
+    let Ok(reached) = vec![in alloc; false; count] else {
+        return Err(TreeFault::Memory);
+    };
+    let mut survey = Survey::new(reached);
+    if root == 0 {
+        return Ok(survey);
+    }
+    let bounds = Bounds {
+        low: None,
+        high: None,
+    };
+    survey_page(
+        pages,
+        &mut survey,
+        order,
+        1,
+        MOST_LEVELS - 1,
+        root,
+        root,
+        &bounds,
+    )?;
+    Ok(survey)
+}

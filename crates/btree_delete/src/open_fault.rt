@@ -1,0 +1,115 @@
+ghost use Rattle.std.specs.Prelude.{◌≡◌, ◌≢◌, ◌⊎◌, ℕ, ◌<◌, ◌≤◌, length, true, IsTrue, Ok, Err, IfOk, IfErr};
+ghost use Rattle.rec_types.specs.Table.{counted};
+ghost use Rattle.btree_node.specs.declared.header.Header.{Header as HeaderValue};
+ghost use Rattle.btree_delete.specs.CleanFile.{HasLength, HasHeader, Agrees, Begins, IsFirst, header_fault, is_device};
+
+use btree_node::{Header, HeaderFault, read_header};
+use page_store::Store;
+use thiserror::Error;
+
+/// Why a file was not opened. Device and Memory are answered where they are met, the others in this
+/// order.
+#[derive(Clone, Copy, Debug, PartialEq, Eq, Error)]
+pub enum OpenFault {
+    #[error("a read of the file failed")]
+    Device,
+    #[error("the file has a length that no record file has")]
+    BadLength,
+    #[error("the file is no record file")]
+    BadMagic,
+    #[error("the file has version {0}")]
+    BadVersion(u16),
+    #[error("the order of the tree is not from 1 to 16")]
+    BadOrder,
+    #[error("the file was not closed cleanly")]
+    NotClean,
+    #[error("the header is not that of this file")]
+    BadHeader,
+    #[error("page {0} is damaged")]
+    Damaged(u32),
+    #[error("the header tells another number of records")]
+    WrongCount,
+    #[error("the file has more records than the limit")]
+    TooManyRecords,
+    #[error("out of memory")]
+    Memory,
+}
+
+/// The most pages of a file, page 0 included.
+const MOST_PAGES: u64 = 1_000_001;
+
+/// How many pages the file has: 1 to 1,000,001, with no bytes after them. Faults: Device, BadLength.
+pub(crate) fn check_length<S: Store>(store: &mut S) -> Result<u32, OpenFault>
+    ensures ok { IfOk result (λ pages. HasLength (S.pages store.old) (S.tail store.old)
+        × (pages ≡ length (S.pages store.old))) }
+    ensures fault { IfErr result (λ fault. (fault ≡ OpenFault.Device)
+        ⊎ ((fault ≡ OpenFault.BadLength)
+        × (HasLength (S.pages store.old) (S.tail store.old) → ⊥))) }
+    ensures pages { S.pages store.new ≡ S.pages store.old }
+    ensures tail { S.tail store.new ≡ S.tail store.old }
+    ensures steady { S.steady store.new ≡ S.steady store.old }
+    ensures reads { S.reads store.new ≡ S.reads store.old }
+    ensures writes { S.writes store.new ≡ S.writes store.old }
+    ensures failures { S.failures store.new ≡ counted (S.failures store.old) (is_device result) }
+    ensures journal { S.journal store.new ≡ S.journal store.old }
+{
+    let Ok(shape) = store.shape() else {
+        return Err(OpenFault::Device);
+    };
+    if shape.tail != 0 || shape.pages == 0 || shape.pages > MOST_PAGES {
+        return Err(OpenFault::BadLength);
+    }
+    Ok(shape.pages as u32)
+}
+
+/// The fault of a file whose header has a fault.
+fn header_fault(fault: HeaderFault) -> OpenFault
+    ensures { result ≡ header_fault fault }
+{
+    match fault {
+        HeaderFault::BadMagic => OpenFault::BadMagic,
+        HeaderFault::BadVersion(version) => OpenFault::BadVersion(version),
+        HeaderFault::BadOrder => OpenFault::BadOrder,
+        HeaderFault::NotClean => OpenFault::NotClean,
+        HeaderFault::BadHeader => OpenFault::BadHeader,
+    }
+}
+
+/// The header of the file, of which there are so many pages. Faults: Device, those of a header in their
+/// order, and BadHeader where it tells another number of pages or a root that is none of them.
+pub(crate) fn check_header<S: Store>(store: &mut S, pages: u32) -> Result<Header, OpenFault>
+    requires long { HasLength (S.pages store.old) (S.tail store.old) }
+    requires count { pages ≡ length (S.pages store.old) }
+    ensures found { IsTrue (S.steady store.old)
+        → IfOk result (λ h. HasHeader (S.pages store.old) h) }
+    ensures agrees { IfOk result (λ h. Agrees (S.pages store.old) h) }
+    ensures order { IfOk result (λ h. (1 ≤ h.order) × (h.order ≤ 16)) }
+    ensures only { IsTrue (S.steady store.old) → (h : HeaderValue)
+        → Begins (S.pages store.old) (S.tail store.old) h
+        → (result ≡ Ok h) ⊎ (result ≡ Err OpenFault.Device) }
+    ensures fault { IsTrue (S.steady store.old) → (limit : ℕ) → IfErr result
+        (IsFirst (S.pages store.old) (S.tail store.old) limit) }
+    ensures no_memory { IfErr result (λ fault. fault ≢ OpenFault.Memory) }
+    ensures pages { S.pages store.new ≡ S.pages store.old }
+    ensures tail { S.tail store.new ≡ S.tail store.old }
+    ensures steady { S.steady store.new ≡ S.steady store.old }
+    ensures reads { S.reads store.new ≡ counted (S.reads store.old) true }
+    ensures writes { S.writes store.new ≡ S.writes store.old }
+    ensures failures { S.failures store.new ≡ counted (S.failures store.old) (is_device result) }
+    ensures journal { S.journal store.new ≡ S.journal store.old }
+{
+    let mut page = [0; 4096];
+    if store.read(0, &mut page).is_err() {
+        return Err(OpenFault::Device);
+    }
+    match read_header(&page) {
+        Err(fault) => Err(header_fault(fault)),
+        Ok(header) => {
+            if header.pages == pages && header.root < pages {
+                Ok(header)
+            } else {
+                Err(OpenFault::BadHeader)
+            }
+        }
+    }
+}

@@ -1,0 +1,286 @@
+ghost use Rattle.std.specs.Prelude.{◌≡◌, ◌≢◌, ◌+◌, ◌*◌, ◌^◌, ◌<◌, ◌≤◌, ◌⊎◌, ℕ, true, false, List, Some, None, length, IsTrue, IfOk, IfErr, OnOk, MatchResult, slice_index_or, slice_set};
+ghost use Rattle.rec_types.specs.Table.{counted};
+ghost use Rattle.page_store.specs.PageMap.{at};
+ghost use Rattle.btree_node.specs.Lists.{Element};
+ghost use Rattle.btree_node.specs.Spelling.{CanStand};
+ghost use Rattle.btree_node.specs.declared.node.Node.{Node};
+ghost use Rattle.btree_insert.specs.Bounds.{AreWithin, Between};
+ghost use Rattle.btree_insert.specs.Faults.{is_device};
+ghost use Rattle.btree_insert.specs.PageTrees.{Spells};
+ghost use Rattle.btree_delete.specs.Survey.{SeenSoFar, unreached, after, below_page, below_sons, Sound, Surveyed};
+
+use btree_insert::{Bounds, TreeFault, are_within};
+use btree_node::{Node, NodeKind, decode_into};
+use page_store::{FetchFault, Pages, Store};
+use rec_types::{Key, Record};
+use std::marker::Model;
+
+/// What a walk has seen: which pages it reached, where the first leaf stood, how many keys there are.
+#[derive(Drop)]
+pub(crate) struct Survey {
+    reached: Vec<bool>,
+    leaf: Option<u32>,
+    keys: u32,
+}
+
+impl Model for Survey {
+    ghost use Rattle.btree_delete.specs.Survey.{SeenSoFar};
+
+    ghost Value = { SeenSoFar };
+
+    ghost view = { λ s. record { reached = s.reached.items; leaf = s.leaf; keys = s.keys } };
+}
+
+impl Survey {
+    /// Nothing was met yet but the pages that are marked.
+    pub(crate) fn new(reached: Vec<bool>) -> Survey
+        ensures { result ≡ record { reached = reached.items; leaf = None; keys = 0 } }
+    {
+        Survey {
+            reached,
+            leaf: None,
+            keys: 0,
+        }
+    }
+
+    /// Whether page n is there and was not reached before. It is reached then.
+    fn reach(&mut self, n: u32) -> bool
+        ensures visited { result ≡ false → slice_index_or self.old.reached n true ≡ true }
+        ensures unvisited { result ≡ true → slice_index_or self.old.reached n true ≡ false }
+        ensures fewer { result ≡ true
+            → unreached self.new.reached + 1 ≡ unreached self.old.reached }
+        ensures reached { result ≡ true
+            → self.new ≡ record self.old { reached = slice_set self.old.reached n true } }
+        ensures long { length self.new.reached ≡ length self.old.reached }
+    {
+        let at = n as usize;
+        if at >= self.reached.len() || self.reached[at] {
+            return false;
+        }
+        self.reached[at] = true;
+        true
+    }
+
+    /// Whether a leaf may stand at that level: the first one may, and the others stand where it does.
+    /// Its keys are counted then.
+    fn add_leaf(&mut self, level: u32, keys: u32) -> bool
+        requires room { self.old.keys + keys < 2 ^ 32 }
+        ensures fits { result ≡ true
+            → (self.old.leaf ≡ None) ⊎ (self.old.leaf ≡ Some level) }
+        ensures uneven { result ≡ false
+            → ((self.old.leaf ≡ None) ⊎ (self.old.leaf ≡ Some level)) → ⊥ }
+        ensures long { length self.new.reached ≡ length self.old.reached }
+        ensures added { result ≡ true → self.new
+            ≡ record {
+              reached = self.old.reached;
+              leaf = Some level;
+              keys = self.old.keys + keys;
+            } }
+    {
+        if let Some(first) = self.leaf
+            && first != level
+        {
+            return false;
+        }
+        self.leaf = Some(level);
+        self.keys += keys;
+        true
+    }
+
+    /// Counts a key between two sons.
+    fn add_key(&mut self)
+        requires room { self.old.keys + 1 < 2 ^ 32 }
+        ensures { self.new ≡ record self.old { keys = self.old.keys + 1 } }
+    {
+        self.keys += 1;
+    }
+
+    /// How many keys were met.
+    pub(crate) fn keys(&self) -> u32
+        ensures { result ≡ self.now.keys }
+    {
+        self.keys
+    }
+
+    /// How many levels more than those above the leaves a tree may have.
+    pub(crate) fn leaf(&self) -> Option<u32>
+        ensures { result ≡ self.now.leaf }
+    {
+        self.leaf
+    }
+
+    /// Of each page whether it was reached.
+    pub(crate) fn into_reached(self) -> Vec<bool>
+        ensures { result.items ≡ self.reached }
+    {
+        let Survey { reached, .. } = self;
+        reached
+    }
+}
+
+/// Fills the node with that of page n, which has at least so many keys, all within the bounds. Faults:
+/// Device, and Damaged(n) where the page is not in use or spells no such node; the node may then be any.
+/// No page changes.
+fn read_page<S: Store>(
+    pages: &mut Pages<S>,
+    order: u16,
+    least: u16,
+    n: u32,
+    bounds: &Bounds,
+    node: &mut Node,
+) -> Result<(), TreeFault>
+    requires order { order ≤ 16 }
+    requires idle { pages.old.changed ≡ false }
+    ensures exact { IsTrue pages.old.steady → (m : Node)
+        → Spells order (at pages.old.pages) n m → least ≤ length m.elements.items
+        → AreWithin bounds.now m.elements.items
+        → MatchResult result (λ _. node.new ≡ m) (λ fault. fault ≡ TreeFault.Device) }
+    ensures stands { OnOk result (CanStand node.new order) }
+    ensures spells { IsTrue pages.old.steady
+        → OnOk result (Spells order (at pages.old.pages) n node.new) }
+    ensures least { OnOk result (least ≤ length node.new.elements.items) }
+    ensures within { OnOk result (AreWithin bounds.now node.new.elements.items) }
+    ensures no_memory { IfErr result (λ fault. fault ≢ TreeFault.Memory) }
+    ensures device { pages.new.failures ≡ counted pages.old.failures (is_device result) }
+    ensures unchanged { pages.new
+        ≡ record pages.old { reads = pages.new.reads; failures = pages.new.failures } }
+    ensures one_read { OnOk result (pages.new.reads ≡ counted pages.old.reads true) }
+{
+    let mut page = [0; 4096];
+    match pages.fetch(n, &mut page) {
+        Ok(()) => {}
+        Err(FetchFault::Device) => return Err(TreeFault::Device),
+        Err(FetchFault::OutOfRange) => return Err(TreeFault::Damaged(n)),
+    }
+    if decode_into(&page, order, node).is_err() {
+        return Err(TreeFault::Damaged(n));
+    }
+    let elements = node.elements.as_slice();
+    if elements.len() < least as usize || !are_within(bounds, elements) {
+        return Err(TreeFault::Damaged(n));
+    }
+    Ok(())
+}
+
+/// Goes through the tree below page n, whose number stands in page `from`. So many more levels are
+/// allowed below page n.
+#[cycle(surveying)]
+pub(crate) fn survey_page<S: Store>(
+    pages: &mut Pages<S>,
+    survey: &mut Survey,
+    order: u16,
+    least: u16,
+    left: u32,
+    from: u32,
+    n: u32,
+    bounds: &Bounds,
+) -> Result<(), TreeFault>
+    requires order { order ≤ 16 }
+    requires idle { pages.old.changed ≡ false }
+    requires room { survey.old.keys + 32 * unreached survey.old.reached < 2 ^ 32 }
+    ensures found { IsTrue pages.old.steady → OnOk result
+        (Surveyed (below_page order (at pages.old.pages) least n) left bounds.now
+        survey.old survey.new pages.old.reads pages.new.reads) }
+    ensures exact { IsTrue pages.old.steady → (h level : ℕ) (es : List Element) (us : List ℕ)
+        → Sound (below_page order (at pages.old.pages) least n)
+        left bounds.now survey.old h level es us
+        → MatchResult result (λ _. survey.new ≡ after level es us survey.old)
+        (λ fault. fault ≡ TreeFault.Device) }
+    ensures no_memory { IfErr result (λ fault. fault ≢ TreeFault.Memory) }
+    ensures room { OnOk result (survey.new.keys + 32 * unreached survey.new.reached
+        ≤ survey.old.keys + 32 * unreached survey.old.reached) }
+    ensures long { length survey.new.reached ≡ length survey.old.reached }
+    ensures device { pages.new.failures ≡ counted pages.old.failures (is_device result) }
+    ensures unchanged { pages.new
+        ≡ record pages.old { reads = pages.new.reads; failures = pages.new.failures } }
+{
+    if !survey.reach(n) {
+        return Err(TreeFault::Damaged(from));
+    }
+    let mut node = Node::blank();
+    read_page(pages, order, least, n, bounds, &mut node)?;
+    let elements = node.elements.as_slice();
+    match node.kind {
+        NodeKind::Leaf => {
+            if survey.add_leaf(left, elements.len() as u32) {
+                Ok(())
+            } else {
+                Err(TreeFault::Damaged(n))
+            }
+        }
+        NodeKind::Inner => {
+            if left == 0 {
+                return Err(TreeFault::Damaged(n));
+            }
+            survey_sons(
+                pages,
+                survey,
+                order,
+                left - 1,
+                n,
+                node.sons.as_slice(),
+                elements,
+                bounds,
+            )
+        }
+    }
+}
+
+/// Goes through the trees below the sons, with the keys between them.
+#[cycle(surveying)]
+fn survey_sons<S: Store>(
+    pages: &mut Pages<S>,
+    survey: &mut Survey,
+    order: u16,
+    left: u32,
+    from: u32,
+    sons: &[u32],
+    elements: &[(Key, Record)],
+    bounds: &Bounds,
+) -> Result<(), TreeFault>
+    requires order { order ≤ 16 }
+    requires idle { pages.old.changed ≡ false }
+    requires sons { length sons.now ≡ length elements.now + 1 }
+    requires room { survey.old.keys + length elements.now + 32 * unreached survey.old.reached
+        < 2 ^ 32 }
+    ensures found { IsTrue pages.old.steady → Between bounds.now elements.now → OnOk result
+        (Surveyed (below_sons order (at pages.old.pages) sons.now elements.now) left bounds.now
+        survey.old survey.new pages.old.reads pages.new.reads) }
+    ensures exact { IsTrue pages.old.steady → (h level : ℕ) (es : List Element) (us : List ℕ)
+        → Sound (below_sons order (at pages.old.pages) sons.now elements.now)
+        left bounds.now survey.old h level es us
+        → MatchResult result (λ _. survey.new ≡ after level es us survey.old)
+        (λ fault. fault ≡ TreeFault.Device) }
+    ensures no_memory { IfErr result (λ fault. fault ≢ TreeFault.Memory) }
+    ensures room { OnOk result (survey.new.keys + 32 * unreached survey.new.reached
+        ≤ survey.old.keys + length elements.now + 32 * unreached survey.old.reached) }
+    ensures long { length survey.new.reached ≡ length survey.old.reached }
+    ensures device { pages.new.failures ≡ counted pages.old.failures (is_device result) }
+    ensures unchanged { pages.new
+        ≡ record pages.old { reads = pages.new.reads; failures = pages.new.failures } }
+{
+    if elements.is_empty() {
+        return survey_page(pages, survey, order, order, left, from, sons[0], bounds);
+    }
+    let middle = elements[0];
+    let before = Bounds {
+        low: bounds.low,
+        high: Some(middle.0),
+    };
+    survey_page(pages, survey, order, order, left, from, sons[0], &before)?;
+    survey.add_key();
+    let behind = Bounds {
+        low: Some(middle.0),
+        high: bounds.high,
+    };
+    survey_sons(
+        pages,
+        survey,
+        order,
+        left,
+        from,
+        &sons[1..],
+        &elements[1..],
+        &behind,
+    )
+}

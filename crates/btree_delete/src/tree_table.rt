@@ -1,0 +1,467 @@
+ghost use Rattle.std.specs.Prelude.{◌≡◌, ◌≢◌, ◌⊎◌, ℕ, ◌<◌, ◌≤◌, List, length, take, true, false, IsTrue, Ok, Err, IsOk, ◌+◌, ◌-◌, ◌*◌, Some, None, IsSome, OnErr, IfOk, IfErr, OnOk, MatchResult};
+ghost use Rattle.std.specs.FinMap as maps;
+ghost use Rattle.rec_types.specs.Contents.{Contents, set_to};
+ghost use Rattle.rec_types.specs.Table.{no_damage, counted, is_device as is_device_answer, is_memory, damaged_by};
+ghost use Rattle.page_store.specs.PageMap.{at};
+ghost use Rattle.page_store.specs.FreeNumbers.{free_numbers};
+ghost use Rattle.btree_node.specs.Lists.{Element};
+ghost use Rattle.btree_node.specs.declared.header.Header.{Header as HeaderValue};
+ghost use Rattle.btree_insert.specs.declared.tree.Tree.{Tree as TreeValue};
+ghost use Rattle.btree_delete.specs.CleanFile.{IsCleanFile, IsFirst, Opens, IsOutside, is_device_fault, is_close_device_fault};
+ghost use Rattle.page_store.specs.Journal.{noted, NotesFront, carried};
+ghost use Rattle.btree_delete.specs.Closing.{closing, IsNewOrFile, IsEither};
+ghost use Rattle.btree_delete.specs.TableView.{TableView, HoldsTree, IsClosed, table_contents};
+ghost use Rattle.btree_delete.specs.Created.{IsEmpty, IsCreated, IsCreateFault, is_create_device, is_create_device_fault};
+
+use crate::change::change;
+use crate::fault_counts::{FaultCounts, NO_FAULTS, told};
+use crate::open_file::{OpenStop, open_file};
+use btree_insert::{Tree, look_up, walk};
+use btree_node::{Header, write_header};
+use page_store::{PageEdit, Pages, Store, WriteFault};
+use rec_types::{Key, Limits, Record, Table, TableFault};
+use std::alloc::Global;
+use std::collections::BTreeSet;
+use std::marker::Model;
+use thiserror::Error;
+
+/// A finite map from keys to records, in the pages of a store. Contracts see its pages, its tree, its
+/// limit, and how many of its answers were refused growths and damaged pages. It is sound where its
+/// store is steady.
+#[derive(Drop)]
+pub struct TreeTable<S: Store> {
+    pages: Pages<S>,
+    tree: Tree,
+    limit: u32,
+    faults: FaultCounts,
+    alloc: Global,
+}
+
+impl<S: Store> Model for TreeTable<S> {
+    ghost use Rattle.btree_delete.specs.TableView.{TableView, IsTable};
+
+    ghost Value = { TableView };
+
+    ghost view = { λ t. record {
+      pages = t.pages;
+      tree = t.tree;
+      limit = t.limit;
+      refusals = t.faults.refusals;
+      damages = record { count = t.faults.damaged; page = t.faults.page };
+    } };
+
+    ghost invariant = { λ t. IsTable (record {
+      pages = t.pages;
+      tree = t.tree;
+      limit = t.limit;
+      refusals = t.faults.refusals;
+      damages = record { count = t.faults.damaged; page = t.faults.page };
+    }) };
+}
+
+/// Why no table was made.
+#[derive(Clone, Copy, Debug, PartialEq, Eq, Error)]
+pub enum CreateFault {
+    #[error("the order of the tree is not from 1 to 16")]
+    BadOrder,
+    #[error("the store failed")]
+    Device,
+    #[error("the store is not empty")]
+    NotEmpty,
+}
+
+/// A table that was not made: the store as it was, and why.
+#[derive(Drop)]
+pub struct CreateStop<S: Store> {
+    /// The store.
+    pub store: S,
+    /// Why no table was made.
+    pub fault: CreateFault,
+}
+
+/// A table that was not closed: the table with its records as they were, and why.
+#[derive(Drop)]
+pub struct CloseStop<S: Store> {
+    /// The table, which can be closed again.
+    pub table: TreeTable<S>,
+    /// Why it was not closed: Device where the store failed, Memory where it was not made longer.
+    pub fault: WriteFault,
+}
+
+/// Whether a store has no page and no bytes after the last. Fault: Device.
+fn check_empty<S: Store>(store: &mut S) -> Result<(), CreateFault>
+    ensures ok { OnOk result (IsEmpty (S.pages store.old) (S.tail store.old)) }
+    ensures fault { IfErr result (λ fault. (fault ≡ CreateFault.Device)
+        ⊎ ((fault ≡ CreateFault.NotEmpty) × (IsEmpty (S.pages store.old) (S.tail store.old) → ⊥))) }
+    ensures pages { S.pages store.new ≡ S.pages store.old }
+    ensures tail { S.tail store.new ≡ S.tail store.old }
+    ensures steady { S.steady store.new ≡ S.steady store.old }
+    ensures reads { S.reads store.new ≡ S.reads store.old }
+    ensures writes { S.writes store.new ≡ S.writes store.old }
+    ensures failures { S.failures store.new
+        ≡ counted (S.failures store.old) (is_create_device result) }
+    ensures journal { S.journal store.new ≡ S.journal store.old }
+{
+    let Ok(shape) = store.shape() else {
+        return Err(CreateFault::Device);
+    };
+    if shape.pages != 0 || shape.tail != 0 {
+        return Err(CreateFault::NotEmpty);
+    }
+    Ok(())
+}
+
+impl<S: Store> TreeTable<S> {
+    /// An empty table of an order from 1 to 16 in a store that is empty. It takes no memory, and
+    /// nothing is written before `close`. The store comes back with a fault, as it was. Faults in this
+    /// order: BadOrder; Device; NotEmpty where the store has a page or a byte.
+    pub fn create(
+        alloc: Global,
+        store: S,
+        k: u16,
+        limits: Limits,
+    ) -> Result<TreeTable<S>, CreateStop<S>>
+        ensures made { IfOk result (λ t. IsCreated (S.pages store) (S.tail store) k t) }
+        ensures store { IfOk result (λ t. (t.pages.steady ≡ S.steady store)
+            × (t.pages.reads ≡ S.reads store) × (t.pages.writes ≡ S.writes store)
+            × (t.pages.failures ≡ S.failures store)) }
+        ensures journal { MatchResult result (λ t. t.pages.journal ≡ S.journal store)
+            (λ stop. S.journal stop.store ≡ S.journal store) }
+        ensures limit { IfOk result (λ t. t.limit ≡ limits.records) }
+        ensures empty { IfOk result (λ t. table_contents t ≡ maps.empty) }
+        ensures no_faults { IfOk result (λ t. (t.refusals ≡ 0) × (t.damages ≡ no_damage)) }
+        ensures fault { IfErr result
+            (λ stop. IsCreateFault (S.pages store) (S.tail store) k stop.fault) }
+        ensures pages { IfErr result (λ stop. S.pages stop.store ≡ S.pages store) }
+        ensures tail { IfErr result (λ stop. S.tail stop.store ≡ S.tail store) }
+        ensures steady { IfErr result (λ stop. S.steady stop.store ≡ S.steady store) }
+        ensures reads { IfErr result (λ stop. S.reads stop.store ≡ S.reads store) }
+        ensures writes { IfErr result (λ stop. S.writes stop.store ≡ S.writes store) }
+        ensures failures { IfErr result (λ stop. S.failures stop.store
+            ≡ counted (S.failures store) (is_create_device_fault stop.fault)) }
+    {
+        let mut store = store;
+        if !(1..=16).contains(&k) {
+            let fault = CreateFault::BadOrder;
+            return Err(CreateStop { store, fault });
+        }
+        if let Err(fault) = check_empty(&mut store) {
+            return Err(CreateStop { store, fault });
+        }
+        let mut pages = Pages::new(alloc, store, 1, BTreeSet::new(alloc));
+        let nothing = PageEdit {
+            writes: Vec::new(alloc),
+            taken: 0,
+            freed: Vec::new(alloc),
+        };
+        let Ok(()) = pages.stage(nothing) else {
+            unreachable!();
+        };
+        let tree = Tree {
+            order: k,
+            root: 0,
+            height: 0,
+            count: 0,
+            used: 0,
+        };
+        Ok(TreeTable {
+            pages,
+            tree,
+            limit: limits.records(),
+            faults: NO_FAULTS,
+            alloc,
+        })
+    }
+
+    /// Opens a file that was closed, of at most as many records as the limits say. It reads page 0 and
+    /// each page of the tree once. The store comes back with a fault, its pages as they were: Device and
+    /// Memory where they are met, and else the first check that fails, in the order of the faults.
+    pub fn open_from(alloc: Global, store: S, limits: Limits) -> Result<TreeTable<S>, OpenStop<S>>
+        ensures found { IsTrue (S.steady store) → IfOk result (λ t. Opens (S.pages store)
+            (S.tail store) limits.records (S.reads store) t.pages t.tree) }
+        ensures exact { IsTrue (S.steady store) → (h : HeaderValue) (tree : TreeValue)
+            → (es : List Element) (us : List ℕ)
+            → IsCleanFile (S.pages store) (S.tail store) h tree es us → h.count ≤ limits.records
+            → MatchResult result (λ t. t.tree ≡ tree) (λ stop. IsOutside stop.fault) }
+        ensures reopened { IsTrue (S.steady store) → (tree : TreeValue) (contents : Contents)
+            → IsClosed (S.pages store) (S.tail store) tree contents
+            → tree.count ≤ limits.records → MatchResult result
+            (λ t. (t.tree ≡ tree) × (table_contents t ≡ contents)) (λ stop. IsOutside stop.fault) }
+        ensures fault { IsTrue (S.steady store) → IfErr result
+            (λ stop. IsFirst (S.pages store) (S.tail store) limits.records stop.fault) }
+        ensures limit { IfOk result (λ t. t.limit ≡ limits.records) }
+        ensures no_faults { IfOk result (λ t. (t.refusals ≡ 0) × (t.damages ≡ no_damage)) }
+        ensures idle { IfOk result (λ t. t.pages.changed ≡ false) }
+        ensures stored { IfOk result (λ t. (t.pages.stored ≡ S.pages store)
+            × (t.pages.tail ≡ S.tail store) × (t.pages.steady ≡ S.steady store)
+            × (t.pages.writes ≡ S.writes store) × (t.pages.failures ≡ S.failures store)) }
+        ensures journal { MatchResult result (λ t. t.pages.journal ≡ S.journal store)
+            (λ stop. S.journal stop.store ≡ S.journal store) }
+        ensures pages { IfErr result (λ stop. S.pages stop.store ≡ S.pages store) }
+        ensures tail { IfErr result (λ stop. S.tail stop.store ≡ S.tail store) }
+        ensures steady { IfErr result (λ stop. S.steady stop.store ≡ S.steady store) }
+        ensures writes { IfErr result (λ stop. S.writes stop.store ≡ S.writes store) }
+        ensures failures { IfErr result (λ stop. S.failures stop.store
+            ≡ counted (S.failures store) (is_device_fault stop.fault)) }
+    {
+        let limit = limits.records();
+        let (pages, tree) = open_file(alloc, store, limits)?;
+        Ok(TreeTable {
+            pages,
+            tree,
+            limit,
+            faults: NO_FAULTS,
+            alloc,
+        })
+    }
+
+    /// Writes the changed pages back and hands the store over, which is then a closed file with the
+    /// table's records. Where nothing was changed, the store isn't called. It takes no memory of its
+    /// own. Faults: Device, Memory.
+    pub fn close(self) -> Result<S, CloseStop<S>>
+        ensures closed { IsTrue self.pages.steady
+            → IfOk result (λ store. IsClosed (S.pages store) (S.tail store) self.tree
+            (table_contents self)) }
+        ensures steady { IfOk result (λ store. S.steady store ≡ self.pages.steady) }
+        ensures idle { self.pages.changed ≡ false → IfOk result
+            (λ store. (S.pages store ≡ self.pages.stored) × (S.tail store ≡ self.pages.tail)
+            × (S.reads store ≡ self.pages.reads) × (S.writes store ≡ self.pages.writes)
+            × (S.failures store ≡ self.pages.failures)) }
+        ensures idle_ok { self.pages.changed ≡ false → IsOk result }
+        ensures reads { IfOk result (λ store. S.reads store ≡ self.pages.reads) }
+        ensures failures { IfOk result (λ store. S.failures store ≡ self.pages.failures) }
+        ensures journal { MatchResult result
+            (λ store. S.journal store ≡ noted self.pages.journal (closing self))
+            (λ stop. NotesFront (closing self) self.pages.journal stop.table.pages.journal) }
+        ensures fronts { (old : List (List ℕ)) (k : ℕ) → IsNewOrFile old
+            → IsEither old (carried old (closing self)) (carried old (take k (closing self))) }
+        ensures device { IfErr result (λ stop. stop.table.pages.failures
+            ≡ counted self.pages.failures (is_close_device_fault stop.fault)) }
+        ensures table { IfErr result (λ stop. stop.table ≡ record self {
+          pages = record self.pages {
+            stored = stop.table.pages.stored;
+            tail = stop.table.pages.tail;
+            writes = stop.table.pages.writes;
+            failures = stop.table.pages.failures;
+            journal = stop.table.pages.journal;
+          };
+        }) }
+    {
+        let TreeTable {
+            mut pages,
+            tree,
+            limit,
+            faults,
+            alloc,
+        } = self;
+        if !pages.changed() {
+            return Ok(pages.into_store());
+        }
+        let header = Header {
+            order: tree.order,
+            pages: pages.page_count(),
+            root: tree.root,
+            count: tree.count,
+        };
+        match pages.write_back(&write_header(&header, false), &write_header(&header, true)) {
+            Ok(()) => Ok(pages.into_store()),
+            Err(fault) => {
+                let table = TreeTable {
+                    pages,
+                    tree,
+                    limit,
+                    faults,
+                    alloc,
+                };
+                Err(CloseStop { table, fault })
+            }
+        }
+    }
+
+    /// The order of the tree, 1 to 16.
+    pub fn order(&self) -> u16
+        ensures value { result ≡ self.now.tree.order }
+        ensures some { 1 ≤ result }
+        ensures most { result ≤ 16 }
+    {
+        self.tree.order
+    }
+
+    /// How many levels the tree has, at most 19.
+    pub fn height(&self) -> u32
+        ensures value { result ≡ self.now.tree.height }
+        ensures most { result ≤ 19 }
+    {
+        self.tree.height
+    }
+
+    /// How many pages the tree has.
+    pub fn pages_used(&self) -> u32
+        ensures { result ≡ self.now.tree.used }
+    {
+        self.tree.used
+    }
+
+    /// How many pages there are, page 0 included.
+    pub fn page_count(&self) -> u32
+        ensures { result ≡ length self.now.pages.pages }
+    {
+        self.pages.page_count()
+    }
+
+    /// How many page numbers are free.
+    pub fn free_count(&self) -> u32
+        ensures { result ≡ length (free_numbers self.now.pages.pages) }
+    {
+        self.pages.free_count()
+    }
+}
+
+// A method's clauses stand in place of its trait's, so these are written again before those that tell
+// of the tree, its pages and its store.
+impl<S: Store> Table for TreeTable<S> {
+    ghost contents = { table_contents };
+
+    ghost record_limit = { λ t. t.limit };
+
+    ghost sound = { λ t. t.pages.steady };
+
+    ghost device_failures = { λ t. t.pages.failures };
+
+    ghost memory_refusals = { λ t. t.refusals };
+
+    ghost damages = { λ t. t.damages };
+
+    /// The record at the key. It makes at most as many reads of the store as the tree has levels.
+    /// Faults: Device, Damaged. It takes no memory, and no page changes.
+    fn get(&mut self, key: &Key) -> Result<Option<Record>, TableFault>
+        ensures value { IsTrue self.old.pages.steady
+            → IfOk result (λ found. found ≡ maps.get (table_contents self.old) key.now) }
+        ensures same { table_contents self.new ≡ table_contents self.old }
+        ensures no_memory { result ≢ Err TableFault.Memory }
+        ensures no_room { result ≢ Err TableFault.NoRoom }
+        ensures damaged { IsTrue self.old.pages.steady
+            → (page : ℕ) → result ≢ Err (TableFault.Damaged page) }
+        ensures limit { self.new.limit ≡ self.old.limit }
+        ensures soundness { self.new.pages.steady ≡ self.old.pages.steady }
+        ensures device { self.new.pages.failures
+            ≡ counted self.old.pages.failures (is_device_answer result) }
+        ensures memory { self.new.refusals ≡ self.old.refusals }
+        ensures damages { self.new.damages ≡ damaged_by self.old.damages result }
+        ensures rest { self.new ≡ record self.old {
+          pages = record self.old.pages {
+            reads = self.new.pages.reads;
+            failures = self.new.pages.failures;
+          };
+          damages = self.new.damages;
+        } }
+        ensures reads { self.new.pages.reads ≤ self.old.pages.reads + self.old.tree.height }
+    {
+        let found = told(look_up(&mut self.pages, &self.tree, key));
+        self.faults.note(&found);
+        found
+    }
+
+    /// Puts a record at the key, or takes the key out, and answers what stood there before. Faults:
+    /// Device, Damaged, NoRoom, Memory. NoRoom comes exactly where all reads succeeded, a record is
+    /// put at an absent key and the table has as many records as it may; the key is looked up for that
+    /// alone, before memory is asked for. Where the table has fewer records, a put makes one descent.
+    /// The store isn't written. After a fault no page and no record has changed.
+    fn set(&mut self, key: Key, to: Option<Record>) -> Result<Option<Record>, TableFault>
+        ensures value { IsTrue self.old.pages.steady
+            → IfOk result (λ before. before ≡ maps.get (table_contents self.old) key) }
+        ensures ok { IsTrue self.old.pages.steady → OnOk result
+            (table_contents self.new ≡ set_to (table_contents self.old) key to) }
+        ensures err { OnErr result (table_contents self.new ≡ table_contents self.old) }
+        ensures no_room { IsTrue self.old.pages.steady → result ≡ Err TableFault.NoRoom
+            → IsSome to × (maps.get (table_contents self.old) key ≡ None)
+            × (self.old.limit ≤ maps.len (table_contents self.old)) }
+        ensures full { IsTrue self.old.pages.steady → IsSome to
+            → maps.get (table_contents self.old) key ≡ None
+            → self.old.limit ≤ maps.len (table_contents self.old)
+            → is_device_answer result ≡ false → result ≡ Err TableFault.NoRoom }
+        ensures taken_out_none { to ≡ None → result ≡ Ok None
+            → table_contents self.new ≡ table_contents self.old }
+        ensures damaged { IsTrue self.old.pages.steady
+            → (page : ℕ) → result ≢ Err (TableFault.Damaged page) }
+        ensures limit { self.new.limit ≡ self.old.limit }
+        ensures soundness { self.new.pages.steady ≡ self.old.pages.steady }
+        ensures device { self.new.pages.failures
+            ≡ counted self.old.pages.failures (is_device_answer result) }
+        ensures memory { self.new.refusals
+            ≡ counted self.old.refusals (is_memory result) }
+        ensures damages { self.new.damages ≡ damaged_by self.old.damages result }
+        ensures in_class { IsTrue self.old.pages.steady → HoldsTree self.new.pages self.new.tree }
+        ensures order { self.new.tree.order ≡ self.old.tree.order }
+        ensures staged { IsOk result → (IsSome to ⊎ (result ≢ Ok None))
+            → self.new.pages.changed ≡ true }
+        ensures nothing_staged { to ≡ None → result ≡ Ok None
+            → (self.new.tree ≡ self.old.tree)
+            × (self.new.pages.pages ≡ self.old.pages.pages)
+            × (self.new.pages.changed ≡ self.old.pages.changed) }
+        ensures refused { OnErr result ((self.new.tree ≡ self.old.tree) × (self.new.pages
+            ≡ record self.old.pages {
+              reads = self.new.pages.reads;
+              failures = self.new.pages.failures;
+            })) }
+        ensures store { self.new.pages ≡ record self.old.pages {
+          pages = self.new.pages.pages;
+          changed = self.new.pages.changed;
+          in_memory = self.new.pages.in_memory;
+          reads = self.new.pages.reads;
+          failures = self.new.pages.failures;
+        } }
+        ensures one_descent { IsSome to → self.old.tree.count < self.old.limit
+            → self.new.pages.reads ≤ self.old.pages.reads + self.old.tree.height }
+        ensures reads { self.new.pages.reads ≤ self.old.pages.reads + 2 * self.old.tree.height }
+    {
+        let changed = change(self.alloc, &mut self.pages, &self.tree, self.limit, key, to);
+        self.faults.note(&changed);
+        match changed {
+            Ok((tree, before)) => {
+                self.tree = tree;
+                Ok(before)
+            }
+            Err(fault) => Err(fault),
+        }
+    }
+
+    /// The records in key order. It makes at most as many reads of the store as the tree has pages.
+    /// Faults: Device, Damaged, Memory. No page changes.
+    fn entries(&mut self) -> Result<Vec<(Key, Record)>, TableFault>
+        ensures value { IsTrue self.old.pages.steady → IfOk result
+            (λ records. records.items ≡ maps.entries (table_contents self.old)) }
+        ensures same { table_contents self.new ≡ table_contents self.old }
+        ensures no_room { result ≢ Err TableFault.NoRoom }
+        ensures damaged { IsTrue self.old.pages.steady
+            → (page : ℕ) → result ≢ Err (TableFault.Damaged page) }
+        ensures limit { self.new.limit ≡ self.old.limit }
+        ensures soundness { self.new.pages.steady ≡ self.old.pages.steady }
+        ensures device { self.new.pages.failures
+            ≡ counted self.old.pages.failures (is_device_answer result) }
+        ensures memory { self.new.refusals
+            ≡ counted self.old.refusals (is_memory result) }
+        ensures damages { self.new.damages ≡ damaged_by self.old.damages result }
+        ensures rest { self.new ≡ record self.old {
+          pages = record self.old.pages {
+            reads = self.new.pages.reads;
+            failures = self.new.pages.failures;
+          };
+          refusals = self.new.refusals;
+          damages = self.new.damages;
+        } }
+        ensures reads { self.new.pages.reads ≤ self.old.pages.reads + self.old.tree.used }
+    {
+        let records = told(walk(self.alloc, &mut self.pages, &self.tree));
+        self.faults.note(&records);
+        records
+    }
+
+    fn count(&self) -> u32 {
+        self.tree.count
+    }
+
+    fn limit(&self) -> u32 {
+        self.limit
+    }
+}

@@ -1,0 +1,162 @@
+ghost use Rattle.std.specs.Prelude.{◌≡◌, ◌+◌, ◌-◌, ◌*◌, ◌<◌, ◌≤◌, ◌∷◌, ◌++◌, [], suc, ℕ, true, false, length, IsTrue, IsSome, IfOk, OnOk, MatchResult, slice_set};
+ghost use Rattle.rec_types.specs.Table.{counted};
+ghost use Rattle.page_store.specs.PageMap.{at};
+ghost use Rattle.btree_node.specs.declared.node.Node.{Node};
+ghost use Rattle.btree_node.specs.Joined.{AreBrothers};
+ghost use Rattle.btree_node.specs.Lists.{Each};
+ghost use Rattle.btree_node.specs.Spelling.{IsElement, AreSpelt};
+ghost use Rattle.btree_insert.specs.Bounds.{AreWithin, son_bounds};
+ghost use Rattle.btree_insert.specs.Faults.{is_device};
+ghost use Rattle.btree_insert.specs.Growth.{IsOutside};
+ghost use Rattle.btree_insert.specs.PageTrees.{Spells, kind_of_level};
+ghost use Rattle.btree_delete.specs.Treatment.{element_at, son_at, both, Treats};
+ghost use Rattle.btree_delete.specs.Shrinking.{MayBeUnderfull};
+ghost use Rattle.btree_delete.specs.Tidy.{is_visited, Untouched, IsTidy};
+ghost use Rattle.btree_node.specs.Layout.{IsOrder};
+
+use crate::subtree::{Subtree, tree_of_son};
+use crate::visit::visit;
+use arrayvec::ArrayVec;
+use btree_insert::{TreeFault, write_node};
+use btree_node::{Node, catenate, distribute};
+use page_store::{PageEdit, Pages, Store};
+use rec_types::{Key, Memory, Record};
+
+/// Adds a page to those that the edit frees. Fault: Memory.
+pub(crate) fn free_page(edit: &mut PageEdit, n: u32) -> Result<(), Memory>
+    ensures freed { OnOk result (edit.new.freed.items ≡ edit.old.freed.items ++ n ∷ []) }
+    ensures writes { edit.new.writes ≡ edit.old.writes }
+    ensures taken { edit.new.taken ≡ edit.old.taken }
+{
+    edit.freed.push(n).map_err(|_| Memory)
+}
+
+/// Puts an element in the place of element i.
+pub(crate) fn set_element(node: &mut Node, i: usize, element: (Key, Record))
+    requires { i < length node.old.elements.items }
+    ensures kind { node.new.kind ≡ node.old.kind }
+    ensures elements { node.new.elements.items ≡ slice_set node.old.elements.items i element }
+    ensures sons { node.new.sons ≡ node.old.sons }
+{
+    node.elements.as_mut_slice()[i] = element;
+}
+
+/// treats sons i and i + 1 of a father, of which one is underfull: with fewer than `2k` keys they become
+/// one page, else their keys are distributed. Fault: Memory.
+fn treat_pair(
+    edit: &mut PageEdit,
+    order: u16,
+    father: &mut Node,
+    i: usize,
+    left: Node,
+    right: Node,
+) -> Result<(), Memory>
+    requires order { IsOrder order }
+    requires place { i < length father.old.elements.items }
+    requires sons { length father.old.sons.items ≡ length father.old.elements.items + 1 }
+    requires brothers { AreBrothers left (element_at father.old i) right }
+    requires fit { Each (IsElement) (both father.old i left right).elements.items }
+    requires left_most { length left.elements.items ≤ 2 * order }
+    requires right_most { length right.elements.items ≤ 2 * order }
+    ensures treats { OnOk result (Treats order father.old father.new i left right
+        edit.old.writes.items edit.new.writes.items edit.old.freed.items edit.new.freed.items) }
+    ensures spelt { AreSpelt order edit.old.writes.items
+        → OnOk result (AreSpelt order edit.new.writes.items) }
+    ensures taken { edit.new.taken ≡ edit.old.taken }
+{
+    let middle = father.elements[i];
+    let number = father.sons[i];
+    let next = father.sons[i + 1];
+    if left.elements.len() + right.elements.len() < 2 * order as usize {
+        let node = catenate(left, middle, right, order);
+        father.elements.remove(i);
+        father.sons.remove(i + 1);
+        write_node(edit, order, number, &node)?;
+        return free_page(edit, next);
+    }
+    let (left, up, right) = distribute(left, middle, right, order);
+    set_element(father, i, up);
+    write_node(edit, order, number, &left)?;
+    write_node(edit, order, next, &right)?;
+    Ok(())
+}
+
+/// treats son i of a father at the head of a tree, which is underfull, with an adjacent brother: the right
+/// one where there is one, else the left one. Faults: Device, Damaged with the brother as `visit`
+/// answers it, Memory.
+pub(crate) fn treat_underflow<S: Store>(
+    pages: &mut Pages<S>,
+    edit: &mut PageEdit,
+    visited: &mut ArrayVec<u32, 37>,
+    tree: &Subtree,
+    father: &mut Node,
+    i: usize,
+    son: Node,
+) -> Result<(), TreeFault>
+    requires order { IsOrder tree.now.order }
+    requires height { 2 ≤ tree.now.height }
+    requires room { length visited.old.items < 37 }
+    requires father { MayBeUnderfull tree.now.order tree.now.height tree.now.bounds father.old }
+    requires some { 0 < length father.old.elements.items }
+    requires place { i ≤ length father.old.elements.items }
+    requires son { MayBeUnderfull tree.now.order (tree.now.height - 1)
+        (son_bounds father.old.elements.items i tree.now.bounds) son }
+    requires in_use { IsSome (at pages.old.pages (son_at father.old i)) }
+    requires tidy { IsTidy pages.old.pages visited.old.items
+        edit.old.writes.items edit.old.freed.items }
+    requires untouched { Untouched edit.old.writes.items edit.old.freed.items
+        (son_at father.old i) }
+    requires visited { is_visited visited.old.items (son_at father.old i) ≡ true }
+    ensures right { IsTrue pages.old.steady → i < length father.old.elements.items
+        → (brother : Node)
+        → Spells tree.now.order (at pages.old.pages) (son_at father.old (suc i)) brother
+        → brother.kind ≡ kind_of_level (tree.now.height - 1)
+        → AreWithin (son_bounds father.old.elements.items (suc i) tree.now.bounds)
+        brother.elements.items
+        → is_visited visited.old.items (son_at father.old (suc i)) ≡ false
+        → MatchResult result
+        (λ _. (visited.new.items ≡ visited.old.items ++ son_at father.old (suc i) ∷ [])
+        × Treats tree.now.order father.old father.new i son brother
+        edit.old.writes.items edit.new.writes.items edit.old.freed.items edit.new.freed.items)
+        IsOutside }
+    ensures left { IsTrue pages.old.steady → (j : ℕ) → i ≡ suc j
+        → i ≡ length father.old.elements.items → (brother : Node)
+        → Spells tree.now.order (at pages.old.pages) (son_at father.old j) brother
+        → brother.kind ≡ kind_of_level (tree.now.height - 1)
+        → AreWithin (son_bounds father.old.elements.items j tree.now.bounds) brother.elements.items
+        → is_visited visited.old.items (son_at father.old j) ≡ false
+        → MatchResult result
+        (λ _. (visited.new.items ≡ visited.old.items ++ son_at father.old j ∷ [])
+        × Treats tree.now.order father.old father.new j brother son
+        edit.old.writes.items edit.new.writes.items edit.old.freed.items edit.new.freed.items)
+        IsOutside }
+    ensures father { OnOk result
+        (MayBeUnderfull tree.now.order tree.now.height tree.now.bounds father.new) }
+    ensures tidy { OnOk result
+        (IsTidy pages.old.pages visited.new.items edit.new.writes.items edit.new.freed.items) }
+    ensures others { OnOk result ((q : ℕ) → is_visited visited.old.items q ≡ true
+        → (q ≡ son_at father.old i → ⊥)
+        → Untouched edit.old.writes.items edit.old.freed.items q
+        → Untouched edit.new.writes.items edit.new.freed.items q) }
+    ensures stays { OnOk result ((q : ℕ) → is_visited visited.old.items q ≡ true
+        → is_visited visited.new.items q ≡ true) }
+    ensures one_more { OnOk result (length visited.new.items ≡ length visited.old.items + 1) }
+    ensures spelt { AreSpelt tree.now.order edit.old.writes.items
+        → OnOk result (AreSpelt tree.now.order edit.new.writes.items) }
+    ensures taken { edit.new.taken ≡ edit.old.taken }
+    ensures device { pages.new.failures ≡ counted pages.old.failures (is_device result) }
+    ensures unchanged { pages.new
+        ≡ record pages.old { reads = pages.new.reads; failures = pages.new.failures } }
+    ensures one_read { pages.new.reads ≤ pages.old.reads + 1 }
+{
+    let mut brother = Node::blank();
+    if i < father.elements.len() {
+        let next = tree_of_son(tree, father, i + 1);
+        visit(pages, visited, &next, &mut brother)?;
+        return Ok(treat_pair(edit, tree.order, father, i, son, brother)?);
+    }
+    let before = i - 1;
+    let previous = tree_of_son(tree, father, before);
+    visit(pages, visited, &previous, &mut brother)?;
+    Ok(treat_pair(edit, tree.order, father, before, brother, son)?)
+}

@@ -1,0 +1,54 @@
+ghost use Rattle.std.specs.Prelude.{◌≡◌, ◌+◌, ◌<◌, ◌≤◌, ◌⊎◌, ◌∷◌, ◌++◌, [], ℕ, false, length, IsTrue, IsSome, IfOk, IfErr, OnOk, MatchResult};
+ghost use Rattle.rec_types.specs.Table.{counted};
+ghost use Rattle.page_store.specs.PageMap.{at};
+ghost use Rattle.btree_node.specs.declared.node.Node.{Node};
+ghost use Rattle.btree_insert.specs.Bounds.{AreWithin};
+ghost use Rattle.btree_insert.specs.Faults.{is_device};
+ghost use Rattle.btree_insert.specs.PageTrees.{Spells, kind_of_level};
+ghost use Rattle.btree_delete.specs.Shrinking.{MayBeUnderfull};
+ghost use Rattle.btree_delete.specs.Tidy.{is_visited};
+ghost use Rattle.btree_node.specs.Layout.{greatest_order};
+
+use crate::subtree::Subtree;
+use arrayvec::ArrayVec;
+use btree_insert::{TreeFault, kind_of_level, read_into, was_visited};
+use btree_node::Node;
+use page_store::{Pages, Store};
+
+/// Fills the node with that at the head of a tree, with its keys within the bounds. `visited` gains the
+/// page. Faults: Device, and Damaged with the page where it was visited before, is not in use or spells no
+/// such node; the node may then be any.
+pub(crate) fn visit<S: Store>(
+    pages: &mut Pages<S>,
+    visited: &mut ArrayVec<u32, 37>,
+    tree: &Subtree,
+    node: &mut Node,
+) -> Result<(), TreeFault>
+    requires order { tree.now.order ≤ greatest_order }
+    requires room { length visited.old.items < 37 }
+    ensures exact { IsTrue pages.old.steady → (m : Node)
+        → Spells tree.now.order (at pages.old.pages) tree.now.page m
+        → m.kind ≡ kind_of_level tree.now.height
+        → AreWithin tree.now.bounds m.elements.items
+        → is_visited visited.old.items tree.now.page ≡ false
+        → MatchResult result (λ _. node.new ≡ m) (λ fault. fault ≡ TreeFault.Device) }
+    ensures fault { IfErr result
+        (λ fault. (fault ≡ TreeFault.Device) ⊎ (fault ≡ TreeFault.Damaged tree.now.page)) }
+    ensures some { OnOk result (0 < length node.new.elements.items) }
+    ensures stands { OnOk result
+        (MayBeUnderfull tree.now.order tree.now.height tree.now.bounds node.new) }
+    ensures visited { OnOk result (visited.new.items ≡ visited.old.items ++ tree.now.page ∷ []) }
+    ensures unvisited { OnOk result (is_visited visited.old.items tree.now.page ≡ false) }
+    ensures in_use { OnOk result (IsSome (at pages.old.pages tree.now.page)) }
+    ensures device { pages.new.failures ≡ counted pages.old.failures (is_device result) }
+    ensures unchanged { pages.new
+        ≡ record pages.old { reads = pages.new.reads; failures = pages.new.failures } }
+    ensures one_read { pages.new.reads ≤ pages.old.reads + 1 }
+{
+    if was_visited(visited.as_slice(), tree.page) {
+        return Err(TreeFault::Damaged(tree.page));
+    }
+    visited.push(tree.page);
+    let kind = kind_of_level(tree.height);
+    read_into(pages, tree.order, kind, tree.page, &tree.bounds, node)
+}

@@ -1,0 +1,32 @@
+-- Where the search for a key goes from a page.
+use Rattle.std.specs.Prelude.{◌≡◌, ℕ, ◌<◌, List, IsTrue, slice_index_or}
+use Rattle.page_store.specs.PageMap.{at}
+use Rattle.page_store.specs.PagesView.{PagesView}
+use Rattle.btree_node.specs.declared.node.Node.{Node}
+use Rattle.btree_node.specs.Lists.{Element, IsAt, IsPlace}
+use Rattle.btree_node.specs.Spelling.{CanStand}
+use Rattle.btree_insert.specs.declared.bounds.Bounds.{Bounds}
+use Rattle.btree_insert.specs.declared.step.Spot.{Spot}
+use Rattle.btree_insert.specs.declared.step.Step.{Step}
+use Rattle.btree_insert.specs.declared.step.Step.TheVariants.{Found, Ends, Goes}
+use Rattle.btree_insert.specs.Bounds.{AreWithin, son_bounds}
+use Rattle.btree_insert.specs.PageTrees.{Spells, kind_of_level}
+
+-- where the search goes from a node at a level: to the record of the key, no further, or to the son between whose neighbours the key lies
+abbrev pub Steps : ℕ → Node → Bounds → List ℕ → Step → Type 0
+Steps level n bounds key (Found i value) = IsAt n.elements.items key i × ((d : Element) → value ≡ (slice_index_or n.elements.items i d).1)
+Steps level n bounds key (Ends i) = (level ≡ 1) × IsPlace n.elements.items key i
+Steps level n bounds key (Goes i son between) = (1 < level) × IsPlace n.elements.items key i × (son ≡ slice_index_or n.sons.items i 0) × (between ≡ son_bounds n.elements.items i bounds)
+
+-- a node that belongs at a spot: of the kind of its level, its keys within the bounds
+pub record Belongs (spot : Spot) (n : Node) : Type 0 where
+  pub kind : n.kind ≡ kind_of_level spot.level
+  pub within : AreWithin spot.bounds n.elements.items
+
+-- a node at a spot from which the search took a step, which over a steady store its page spells
+pub record Stepped (k : ℕ) (pages : PagesView) (spot : Spot) (key : List ℕ) (step : Step) : Type 0 where
+  pub node : Node
+  pub stands : CanStand node k
+  pub belongs : Belongs spot node
+  pub spells : IsTrue pages.steady → Spells k (at pages.pages) spot.page node
+  pub steps : Steps spot.level node spot.bounds key step

@@ -1,0 +1,188 @@
+ghost use Rattle.std.specs.Prelude.{◌≡◌, ◌+◌, ◌*◌, ◌<◌, ◌≤◌, ◌∷◌, ◌++◌, [], ℕ, List, ◌==◌, true, false, length, IsTrue, IsSome, IfOk, OnOk, MatchResult, slice_index_or, slice_set};
+ghost use Rattle.std.specs.List.{list_any};
+ghost use Rattle.rec_types.specs.Table.{counted};
+ghost use Rattle.page_store.specs.FreeNumbers.{candidate};
+ghost use Rattle.page_store.specs.PageMap.{at, overlay};
+ghost use Rattle.btree_node.specs.Lists.{Element, Each};
+ghost use Rattle.btree_node.specs.Spelling.{spelling, CanStand, IsElement, AreSpelt};
+ghost use Rattle.btree_insert.specs.Bounds.{AreWithin, Between};
+ghost use Rattle.btree_insert.specs.declared.bounds.Bounds.{Bounds};
+ghost use Rattle.btree_insert.specs.Faults.{is_device};
+ghost use Rattle.btree_insert.specs.Growth.{IsOutside, IsWithin, MayBeOverfull, WritesFit, TakesNumbers, SplitGoesUp, WritesOrSplits, Grew};
+ghost use Rattle.btree_insert.specs.PageTrees.{TreeAt, Apart};
+ghost use Rattle.btree_node.specs.Layout.{IsOrder, greatest_order};
+ghost use Rattle.btree_insert.specs.Sizes.{greatest_height};
+
+use crate::bounds::{Bounds, bounds_of_son};
+use crate::reading::{kind_of_level, read_into};
+use crate::tree::TreeFault;
+use arrayvec::ArrayVec;
+use btree_node::{Node, encode, place_of, split};
+use page_store::{PageEdit, Pages, Store};
+use rec_types::{Key, Memory, Record};
+
+/// What an insertion below a page came to.
+#[derive(Drop)]
+pub(crate) enum Grown {
+    /// The key was there, with this record.
+    Replaced(Record),
+    /// The key is new, and the page had room for what came up.
+    Fits,
+    /// The page was split: this element goes to the father, with the number of the right page.
+    Split((Key, Record), u32),
+}
+
+/// Adds a node to the edit as page n. The conditions are an order of at most 16 and a node that fits a
+/// page. Fault: Memory.
+pub fn write_node(edit: &mut PageEdit, order: u16, n: u32, node: &Node) -> Result<(), Memory>
+    requires order { order ≤ greatest_order }
+    requires stands { CanStand node.now order }
+    ensures writes { OnOk result (edit.new.writes.items
+        ≡ edit.old.writes.items ++ (n, spelling node.now order) ∷ []) }
+    ensures spelt { AreSpelt order edit.old.writes.items
+        → OnOk result (AreSpelt order edit.new.writes.items) }
+    ensures taken { edit.new.taken ≡ edit.old.taken }
+    ensures freed { edit.new.freed ≡ edit.old.freed }
+{
+    edit.writes
+        .push((n, encode(node, order)))
+        .map_err(|_| Memory)
+}
+
+/// Writes a node that may have one key too many, as page n, or as page n and a new page.
+fn settle<S: Store>(
+    pages: &Pages<S>,
+    edit: &mut PageEdit,
+    order: u16,
+    n: u32,
+    node: Node,
+) -> Result<Grown, Memory>
+    requires order { IsOrder order }
+    requires may_be_overfull { MayBeOverfull order node }
+    requires taken { edit.old.taken ≤ 100 }
+    requires in_use { IsSome (at pages.now.pages n) }
+    requires fits { WritesFit pages.now.pages edit.old.writes.items edit.old.taken }
+    ensures settles { IfOk result (WritesOrSplits order (candidate pages.now.pages edit.old.taken)
+        edit.old.writes.items edit.new.writes.items edit.old.taken edit.new.taken n node) }
+    ensures fits { OnOk result (WritesFit pages.now.pages edit.new.writes.items edit.new.taken) }
+    ensures takes { IfOk result (TakesNumbers 1 edit.old.taken edit.new.taken) }
+    ensures goes_up { (bounds : Bounds) → AreWithin bounds node.elements.items
+        → IfOk result (SplitGoesUp bounds) }
+    ensures spelt { AreSpelt order edit.old.writes.items
+        → OnOk result (AreSpelt order edit.new.writes.items) }
+    ensures freed { edit.new.freed ≡ edit.old.freed }
+{
+    if node.elements.len() <= 2 * order as usize {
+        write_node(edit, order, n, &node)?;
+        return Ok(Grown::Fits);
+    }
+    let (left, middle, right) = split(node, order);
+    let number = pages.candidate(edit.taken);
+    write_node(edit, order, n, &left)?;
+    write_node(edit, order, number, &right)?;
+    edit.taken += 1;
+    Ok(Grown::Split(middle, number))
+}
+
+/// Whether page n was visited before.
+pub fn was_visited(visited: &[u32], n: u32) -> bool
+    ensures { result ≡ list_any (λ m. m == n) visited.now }
+{
+    visited.contains(&n)
+}
+
+/// Puts the record at the key in the tree of a height below page n, and collects the pages to write.
+/// `visited` gains the pages that were read. Faults: Device, Memory, and Damaged as in `read_node` and
+/// where a page is visited twice.
+pub(crate) fn insert_below<S: Store>(
+    pages: &mut Pages<S>,
+    edit: &mut PageEdit,
+    visited: &mut ArrayVec<u32, 19>,
+    order: u16,
+    height: u32,
+    n: u32,
+    bounds: &Bounds,
+    element: (Key, Record),
+) -> Result<Grown, TreeFault>
+    requires order { IsOrder order }
+    requires height { 0 < height }
+    requires levels { length visited.old.items + height ≤ greatest_height }
+    requires element { IsElement element }
+    requires within { IsWithin bounds.now element.0 }
+    requires taken { edit.old.taken ≤ 50 }
+    requires fits { WritesFit pages.old.pages edit.old.writes.items edit.old.taken }
+    ensures grew { IsTrue pages.old.steady → edit.old.writes.items ≡ []
+        → (least : ℕ) (es : List Element) (us : List ℕ)
+        → TreeAt order (at pages.old.pages) least height n es us → Between bounds.now es → Apart us
+        → Each (λ u. list_any (λ m. m == u) visited.old.items ≡ false) us
+        → MatchResult result
+        (Grew order (at pages.old.pages) (overlay (at pages.old.pages) edit.new.writes.items)
+        (candidate pages.old.pages)
+        edit.old.taken edit.new.taken least height n es us element.0 element.1)
+        IsOutside }
+    ensures fits { OnOk result (WritesFit pages.old.pages edit.new.writes.items edit.new.taken) }
+    ensures takes { IfOk result (TakesNumbers height edit.old.taken edit.new.taken) }
+    ensures goes_up { IfOk result (SplitGoesUp bounds.now) }
+    ensures spelt { AreSpelt order edit.old.writes.items
+        → OnOk result (AreSpelt order edit.new.writes.items) }
+    ensures freed { edit.new.freed ≡ edit.old.freed }
+    ensures visited { OnOk result (0 < length visited.new.items) }
+    ensures in_use { OnOk result (IsSome (at pages.old.pages n)) }
+    ensures some_page { OnOk result (0 < n) }
+    ensures device { pages.new.failures ≡ counted pages.old.failures (is_device result) }
+    ensures unchanged { pages.new
+        ≡ record pages.old { reads = pages.new.reads; failures = pages.new.failures } }
+    ensures reads { pages.new.reads ≤ pages.old.reads + height }
+{
+    if was_visited(visited.as_slice(), n) {
+        return Err(TreeFault::Damaged(n));
+    }
+    visited.push(n);
+    let mut node = Node::blank();
+    read_into(pages, order, kind_of_level(height), n, bounds, &mut node)?;
+    match place_of(&node, &element.0) {
+        Ok(i) => {
+            let old = replace(&mut node, i, element);
+            write_node(edit, order, n, &node)?;
+            Ok(Grown::Replaced(old))
+        }
+        Err(i) => {
+            if height == 1 {
+                node.elements.insert(i, element);
+                return Ok(settle(pages, edit, order, n, node)?);
+            }
+            let below = bounds_of_son(bounds, node.elements.as_slice(), i);
+            let son = node.sons[i];
+            match insert_below(
+                pages,
+                edit,
+                visited,
+                order,
+                height - 1,
+                son,
+                &below,
+                element,
+            )? {
+                Grown::Split(middle, right) => {
+                    node.elements.insert(i, middle);
+                    node.sons.insert(i + 1, right);
+                    Ok(settle(pages, edit, order, n, node)?)
+                }
+                done => Ok(done),
+            }
+        }
+    }
+}
+
+/// Puts an element in the place of another, and answers that one's record.
+fn replace(node: &mut Node, i: usize, element: (Key, Record)) -> Record
+    requires { i < length node.old.elements.items }
+    ensures old { (d : Element) → result ≡ (slice_index_or node.old.elements.items i d).1 }
+    ensures kind { node.new.kind ≡ node.old.kind }
+    ensures elements { node.new.elements.items ≡ slice_set node.old.elements.items i element }
+    ensures sons { node.new.sons ≡ node.old.sons }
+{
+    let old = node.elements[i].1;
+    node.elements.as_mut_slice()[i] = element;
+    old
+}

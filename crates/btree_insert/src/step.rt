@@ -1,0 +1,180 @@
+ghost use Rattle.std.specs.Prelude.{◌≡◌, ◌+◌, ◌<◌, ◌≤◌, ◌⊎◌, ◌↔◌, ℕ, length, IsTrue, IsOk, IfOk, IfErr, MatchResult};
+ghost use Rattle.rec_types.specs.Table.{counted};
+ghost use Rattle.page_store.specs.PageMap.{at};
+ghost use Rattle.btree_node.specs.Layout.{greatest_order};
+ghost use Rattle.btree_node.specs.Lists.{Ascends};
+ghost use Rattle.btree_node.specs.Reading.{count_at};
+ghost use Rattle.btree_node.specs.Spelling.{spelling, CanStand, SonsFit, IsSpelt};
+ghost use Rattle.btree_node.specs.declared.node.Node.{Node};
+ghost use Rattle.btree_insert.specs.Bounds.{AreWithin, low_at, high_at, son_bounds};
+ghost use Rattle.btree_insert.specs.Faults.{is_device};
+ghost use Rattle.btree_insert.specs.PageTrees.{Spells, kind_of_level};
+ghost use Rattle.btree_insert.specs.Spelt.{AreSpeltIn};
+ghost use Rattle.btree_insert.specs.Steps.{Steps, Belongs, Stepped};
+
+use crate::bounds::{Bounds, bounds_of_son, is_over, is_under};
+use crate::reading::{kind_of_level, read_into};
+use crate::tree::TreeFault;
+use btree_node::{Node, count_in, key_in, kind_in, place_in, place_of, record_in, son_in};
+use page_store::{Pages, Store};
+use rec_types::{Key, Record};
+
+/// A page on the way down from a root.
+#[derive(Clone, Copy)]
+pub(crate) struct Spot {
+    /// Its number.
+    pub page: u32,
+    /// Its level, where level 1 is the lowest.
+    pub level: u32,
+    /// What all levels above say of its keys.
+    pub bounds: Bounds,
+}
+
+/// Where the search for a key goes from a page.
+#[derive(Clone, Copy)]
+pub(crate) enum Step {
+    /// The key stands at this place of the page, with this record.
+    Found(usize, Record),
+    /// The page is a leaf, and the key would stand at this place.
+    Ends(usize),
+    /// The key is below the son at this place, which has this number and these bounds.
+    Goes(usize, u32, Bounds),
+}
+
+/// Takes the step of the search for a key from the page at a spot. Where `in_place`, a page in memory is
+/// searched where it lies; any other is read into the node. Faults: Device, and Damaged with the page
+/// where it is not in use or no node that belongs at the spot. No page changes.
+pub(crate) fn take_step<S: Store>(
+    pages: &mut Pages<S>,
+    order: u16,
+    spot: &Spot,
+    key: &Key,
+    in_place: bool,
+    node: &mut Node,
+) -> Result<Step, TreeFault>
+    requires order { order ≤ greatest_order }
+    requires level { 0 < spot.now.level }
+    requires spelt { IsTrue in_place → AreSpeltIn order pages.old }
+    ensures exact { IsTrue pages.old.steady → (m : Node)
+        → Spells order (at pages.old.pages) spot.now.page m → Belongs spot.now m
+        → MatchResult result (Steps spot.now.level m spot.now.bounds key.now)
+        (λ fault. fault ≡ TreeFault.Device) }
+    ensures stepped { IfOk result (Stepped order pages.old spot.now key.now) }
+    ensures fault { IfErr result
+        (λ fault. (fault ≡ TreeFault.Device) ⊎ (fault ≡ TreeFault.Damaged spot.now.page)) }
+    ensures device { pages.new.failures ≡ counted pages.old.failures (is_device result) }
+    ensures unchanged { pages.new
+        ≡ record pages.old { reads = pages.new.reads; failures = pages.new.failures } }
+    ensures one_read { pages.new.reads ≤ pages.old.reads + 1 }
+{
+    if in_place {
+        if let Some(page) = pages.in_memory(spot.page) {
+            return step_in_page(page, order, spot, key);
+        }
+    }
+    let kind = kind_of_level(spot.level);
+    read_into(pages, order, kind, spot.page, &spot.bounds, node)?;
+    Ok(step_in_node(node, spot, key))
+}
+
+/// The step from a node.
+fn step_in_node(node: &Node, spot: &Spot, key: &Key) -> Step
+    requires level { 0 < spot.now.level }
+    requires ascends { Ascends node.now.elements.items }
+    requires sons { SonsFit (kind_of_level spot.now.level) (length node.now.elements.items)
+        node.now.sons.items }
+    ensures { Steps spot.now.level node.now spot.now.bounds key.now result }
+{
+    match place_of(node, key) {
+        Ok(i) => Step::Found(i, node.elements[i].1),
+        Err(i) => {
+            if spot.level == 1 {
+                return Step::Ends(i);
+            }
+            let below = bounds_of_son(&spot.bounds, node.elements.as_slice(), i);
+            Step::Goes(i, node.sons[i], below)
+        }
+    }
+}
+
+/// The step from a page that spells a node. Fault: Damaged with the page where the node does not belong at
+/// the spot.
+fn step_in_page(page: &[u8; 4096], order: u16, spot: &Spot, key: &Key) -> Result<Step, TreeFault>
+    requires order { order ≤ greatest_order }
+    requires level { 0 < spot.now.level }
+    requires spelt { IsSpelt order page.now }
+    ensures steps { (m : Node) → CanStand m order → page.now ≡ spelling m order
+        → IfOk result (λ step. Belongs spot.now m
+        × Steps spot.now.level m spot.now.bounds key.now step) }
+    ensures exact { (m : Node) → CanStand m order → page.now ≡ spelling m order
+        → Belongs spot.now m → IsOk result }
+    ensures fault { IfErr result (λ fault. fault ≡ TreeFault.Damaged spot.now.page) }
+{
+    if kind_in(page) != kind_of_level(spot.level) || !is_within(page, order, &spot.bounds) {
+        return Err(TreeFault::Damaged(spot.page));
+    }
+    match place_in(page, order, key) {
+        Ok(i) => Ok(Step::Found(i, record_in(page, order, i))),
+        Err(i) => {
+            if spot.level == 1 {
+                return Ok(Step::Ends(i));
+            }
+            let below = bounds_in(page, order, &spot.bounds, i);
+            Ok(Step::Goes(i, son_in(page, order, i), below))
+        }
+    }
+}
+
+/// Whether the keys of the node that the page spells are within the bounds.
+fn is_within(page: &[u8; 4096], order: u16, bounds: &Bounds) -> bool
+    requires order { order ≤ greatest_order }
+    requires spelt { IsSpelt order page.now }
+    ensures { (m : Node) → CanStand m order → page.now ≡ spelling m order
+        → IsTrue result ↔ AreWithin bounds.now m.elements.items }
+{
+    let first = key_in(page, order, 0);
+    let last = key_in(page, order, count_in(page) - 1);
+    is_over(&bounds.low, &first) && is_under(&bounds.high, &last)
+}
+
+/// The bounds of son i of the node that the page spells: the same as `bounds_of_son` of its elements.
+fn bounds_in(page: &[u8; 4096], order: u16, bounds: &Bounds, i: usize) -> Bounds
+    requires order { order ≤ greatest_order }
+    requires spelt { IsSpelt order page.now }
+    requires index { i ≤ count_at page.now }
+    ensures { (m : Node) → CanStand m order → page.now ≡ spelling m order
+        → result ≡ son_bounds m.elements.items i bounds.now }
+{
+    Bounds {
+        low: low_in(page, order, &bounds.low, i),
+        high: high_in(page, order, &bounds.high, i),
+    }
+}
+
+fn low_in(page: &[u8; 4096], order: u16, low: &Option<Key>, i: usize) -> Option<Key>
+    requires order { order ≤ greatest_order }
+    requires spelt { IsSpelt order page.now }
+    requires index { i ≤ count_at page.now }
+    ensures { (m : Node) → CanStand m order → page.now ≡ spelling m order
+        → result ≡ low_at m.elements.items i low.now }
+{
+    if i == 0 {
+        *low
+    } else {
+        Some(key_in(page, order, i - 1))
+    }
+}
+
+fn high_in(page: &[u8; 4096], order: u16, high: &Option<Key>, i: usize) -> Option<Key>
+    requires order { order ≤ greatest_order }
+    requires spelt { IsSpelt order page.now }
+    requires index { i ≤ count_at page.now }
+    ensures { (m : Node) → CanStand m order → page.now ≡ spelling m order
+        → result ≡ high_at m.elements.items i high.now }
+{
+    if i == count_in(page) {
+        *high
+    } else {
+        Some(key_in(page, order, i))
+    }
+}

@@ -1,6 +1,0 @@
-use Rattle.std.proofs.Common.{◌≡◌, take}
-use Rattle.btree_node.specs.Reading.{IsZero}
-use Rattle.btree_node.proofs.accepting.is_zero.Given as goal
-
-abbrev pub invariant-loop-byte : goal.invariant-loop-byte
-invariant-loop-byte l = l.any ≡ 0 → IsZero (take l.byte-index l.bytes)

@@ -1,0 +1,134 @@
+ghost use Rattle.std.specs.Prelude.{◌≡◌, ◌+◌, ◌≤◌, ◌↔◌, Ok, IfOk, IfErr, IsTrue, if◌then◌else◌, length};
+ghost use Rattle.btree_node.specs.Reading.{part};
+ghost use Rattle.btree_node.specs.HeaderSpelling.{magic, header_spelling, HeaderFits, header_at, state_at, HeaderPassesBefore, FirstHeaderFault, clean_state, writing_state};
+ghost use Rattle.btree_node.specs.declared.header.Header.{Header};
+ghost use Rattle.btree_node.specs.declared.header.HeaderFault.TheVariants.{BadHeader};
+
+use crate::header::{Header, HeaderFault};
+use crate::page_writer::PageWriter;
+use crate::part::{part_of, u16_of, u32_of};
+
+/// The text that a record file begins with.
+const MAGIC: [u8; 8] = *b"BMKRFILE";
+
+/// The file version.
+const VERSION: u16 = 1;
+
+/// The state of a file that was closed.
+const CLEAN: u8 = 1;
+
+/// The state of a file that is being written.
+const WRITING: u8 = 2;
+
+/// Where the fields stand behind the magic.
+const VERSION_AT: usize = 8;
+
+const ORDER_AT: usize = 10;
+
+const PAGES_AT: usize = 12;
+
+const ROOT_AT: usize = 16;
+
+const COUNT_AT: usize = 20;
+
+const STATE_AT: usize = 24;
+
+/// The header that the page spells, of a file that was closed. The faults in their order: BadMagic,
+/// BadVersion with the version of the page, BadOrder, NotClean, BadHeader.
+pub fn read_header(page: &[u8; 4096]) -> Result<Header, HeaderFault>
+    // What is read is spelled so.
+    ensures found { IfOk result (λ h. HeaderFits h × (page.now ≡ header_spelling h clean_state)) }
+
+    // What is spelled so is read.
+    ensures only { (h : Header) → HeaderFits h → page.now ≡ header_spelling h clean_state
+        → result ≡ Ok h }
+
+    // Which fault it is.
+    ensures fault { IfErr result (λ e. FirstHeaderFault page.now e) }
+{
+    let header = header_of(page)?;
+    if write_header(&header, true) == *page {
+        Ok(header)
+    } else {
+        Err(HeaderFault::BadHeader)
+    }
+}
+
+/// The one page that spells the header, of a file that is closed or being written.
+#[tactic(auto, unfolding(crate::specs::HeaderSpelling::header_spelling, crate::specs::HeaderSpelling::header_bytes, crate::specs::HeaderSpelling::magic))]
+pub fn write_header(header: &Header, clean: bool) -> [u8; 4096]
+    requires least { 1 ≤ header.now.order }
+    requires most { header.now.order ≤ 16 }
+    ensures { result ≡ header_spelling header.now (if clean then clean_state else writing_state) }
+{
+    let mut page = PageWriter::new();
+    page.put(&MAGIC);
+    page.put_u16(VERSION);
+    page.put_u16(header.order);
+    page.put_u32(header.pages);
+    page.put_u32(header.root);
+    page.put_u32(header.count);
+    page.put(&[state_byte(clean)]);
+    page.finish()
+}
+
+#[tactic(auto, unfolding(crate::specs::HeaderSpelling::magic))]
+fn has_magic(page: &[u8; 4096]) -> bool
+    ensures { IsTrue result ↔ (part 0 8 page.now ≡ magic) }
+{
+    part_of(page, 0, MAGIC.len()) == MAGIC.as_slice()
+}
+
+#[tactic(auto, unfolding(crate::specs::HeaderSpelling::state_at))]
+fn state_of(page: &[u8; 4096]) -> u8
+    ensures { result ≡ state_at page.now }
+{
+    page[STATE_AT]
+}
+
+fn state_byte(clean: bool) -> u8
+    ensures { result ≡ (if clean then clean_state else writing_state) }
+{
+    if clean { CLEAN } else { WRITING }
+}
+
+/// The header that stands at the fixed places of the page.
+#[tactic(auto, unfolding(crate::specs::HeaderSpelling::HeaderPasses))]
+fn header_of(page: &[u8; 4096]) -> Result<Header, HeaderFault>
+    ensures value { IfOk result (λ h. h ≡ header_at page.now) }
+    ensures passes { IfOk result (λ _. HeaderPassesBefore page.now BadHeader) }
+    ensures fault { IfErr result (λ e. FirstHeaderFault page.now e) }
+{
+    if !has_magic(page) {
+        return Err(HeaderFault::BadMagic);
+    }
+    let version = u16_of(page, VERSION_AT);
+    if version != VERSION {
+        return Err(HeaderFault::BadVersion(version));
+    }
+    if !is_order(u16_of(page, ORDER_AT)) {
+        return Err(HeaderFault::BadOrder);
+    }
+    if state_of(page) == WRITING {
+        return Err(HeaderFault::NotClean);
+    }
+    Ok(fields_of(page))
+}
+
+fn is_order(k: u16) -> bool
+    ensures { IsTrue result ↔ ((1 ≤ k) × (k ≤ 16)) }
+{
+    (1..=16).contains(&k)
+}
+
+#[tactic(auto, unfolding(crate::specs::HeaderSpelling::header_at))]
+fn fields_of(page: &[u8; 4096]) -> Header
+    ensures { result ≡ header_at page.now }
+{
+    Header {
+        order: u16_of(page, ORDER_AT),
+        pages: u32_of(page, PAGES_AT),
+        root: u32_of(page, ROOT_AT),
+        count: u32_of(page, COUNT_AT),
+    }
+}

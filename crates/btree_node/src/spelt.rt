@@ -1,0 +1,94 @@
+ghost use Rattle.std.specs.Prelude.{◌≡◌, ◌+◌, ◌-◌, ◌*◌, ◌<◌, ◌≤◌, ℕ, length, MatchResult, slice_index_or};
+ghost use Rattle.btree_node.specs.Lists.{Element, IsAt, IsPlace};
+ghost use Rattle.btree_node.specs.Reading.{count_at};
+ghost use Rattle.btree_node.specs.Spelling.{spelling, CanStand, IsSpelt};
+ghost use Rattle.btree_node.specs.declared.node.Node.{Node};
+
+use crate::decoding::{count_of, kind_of, place_of_page};
+use crate::layout::{FIRST_LAYOUT, RECORD_AT, SON_WIDTH};
+use crate::node::NodeKind;
+use crate::part::u32_of;
+use crate::read_first::{sixteen, thirty_two};
+use rec_types::{Key, Record};
+use std::cmp::Ordering;
+
+/// The kind of the node that the page spells.
+pub fn kind_in(page: &[u8; 4096]) -> NodeKind
+    ensures { (k : ℕ) (node : Node) → k ≤ 16 → CanStand node k → page.now ≡ spelling node k
+        → result ≡ node.kind }
+{
+    kind_of(page).unwrap_or(NodeKind::Leaf)
+}
+
+/// How many keys the node has that the page spells.
+pub fn count_in(page: &[u8; 4096]) -> usize
+    ensures value { result ≡ count_at page.now }
+    ensures node { (k : ℕ) (node : Node) → k ≤ 16 → CanStand node k → page.now ≡ spelling node k
+        → result ≡ length node.elements.items }
+{
+    count_of(page)
+}
+
+/// Key i of the node that the page spells, in a tree of order `k`.
+pub fn key_in(page: &[u8; 4096], k: u16, i: usize) -> Key
+    requires order { k ≤ 16 }
+    requires spelt { IsSpelt k page.now }
+    requires index { i < count_at page.now }
+    ensures { (node : Node) (other : Element) → CanStand node k → page.now ≡ spelling node k
+        → result ≡ (slice_index_or node.elements.items i other).0 }
+{
+    let place = place_of_page(FIRST_LAYOUT, page, i);
+    let Some(key) = Key::in_field(&sixteen(place, 1), place[0]) else {
+        unreachable!();
+    };
+    key
+}
+
+/// Record i of the node that the page spells, in a tree of order `k`.
+pub fn record_in(page: &[u8; 4096], k: u16, i: usize) -> Record
+    requires order { k ≤ 16 }
+    requires spelt { IsSpelt k page.now }
+    requires index { i < count_at page.now }
+    ensures { (node : Node) (other : Element) → CanStand node k → page.now ≡ spelling node k
+        → result ≡ (slice_index_or node.elements.items i other).1 }
+{
+    let place = place_of_page(FIRST_LAYOUT, page, i);
+    let Some(value) = Record::in_field(&thirty_two(place, RECORD_AT + 1), place[RECORD_AT]) else {
+        unreachable!();
+    };
+    value
+}
+
+/// Son j of the node that the page spells, in a tree of order `k`, where j is at most its number of
+/// keys. The node is no leaf.
+pub fn son_in(page: &[u8; 4096], k: u16, j: usize) -> u32
+    requires order { k ≤ 16 }
+    requires index { j ≤ 32 }
+    ensures { (node : Node) (other : ℕ) → CanStand node k → page.now ≡ spelling node k
+        → j < length node.sons.items → result ≡ slice_index_or node.sons.items j other }
+{
+    u32_of(page, FIRST_LAYOUT.sons_start(k) + SON_WIDTH * j)
+}
+
+/// The place of the key among the keys of the node that the page spells, in a tree of order `k`, and
+/// else the number of smaller keys there: the same as `place_of` of the node.
+pub fn place_in(page: &[u8; 4096], k: u16, key: &Key) -> Result<usize, usize>
+    requires order { k ≤ 16 }
+    requires spelt { IsSpelt k page.now }
+    ensures within { MatchResult result (λ i. i < count_at page.now) (λ i. i ≤ count_at page.now) }
+    ensures found { (node : Node) → CanStand node k → page.now ≡ spelling node k
+        → MatchResult result (IsAt node.elements.items key.now)
+        (IsPlace node.elements.items key.now) }
+{
+    let mut low = 0;
+    let mut high = count_in(page);
+    while low < high {
+        let middle = low + (high - low) / 2;
+        match key_in(page, k, middle).cmp(key) {
+            Ordering::Less => low = middle + 1,
+            Ordering::Equal => return Ok(middle),
+            Ordering::Greater => high = middle,
+        }
+    }
+    Err(low)
+}

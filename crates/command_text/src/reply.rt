@@ -1,0 +1,242 @@
+ghost use Rattle.std.specs.Prelude.{◌≡◌, ◌++◌, IfOk, OnOk};
+ghost use Rattle.std.specs.List.{flat_map};
+ghost use Rattle.std.specs.String.{string_bytes};
+ghost use Rattle.command_text.specs.Texts.{escaped, cause_text, refusal_text, fault_text, number_text, record_text, old_text, owner_text, entry_line, key_line, entries_text, keys_text, reply_text, text_of};
+
+use crate::refusal::{
+    Refusal, abort_refusal, begin_refusal, commit_refusal, entries_refusal, get_refusal,
+    keys_refusal, put_refusal, release_refusal, remove_refusal, resume_refusal, rollback_refusal,
+    savepoint_refusal,
+};
+use crate::{EntryList, KeyList, LineFault};
+use percent_encoding::{AsciiSet, CONTROLS, ascii_set, percent_encode};
+use rec_types::{Entry, Key, Memory, Record, TxId};
+use record_file::{
+    AbortFault, BeginFault, Cause, CommitFault, EntriesFault, GetFault, KeysOfFault, PutFault,
+    ReleaseFault, RemoveFault, ResumeFault, RollbackToFault, SavepointFault,
+};
+use std::alloc::{AllocError, Global};
+
+/// What a command's call answered, or why a line says no command. `Log` has the length of the log and its use.
+#[derive(Debug, Drop)]
+pub enum Reply {
+    Begin(Result<TxId, BeginFault>),
+    Put(Result<Option<Record>, PutFault>),
+    Del(Result<Record, RemoveFault>),
+    Get(Result<Option<Record>, GetFault>),
+    Save(Result<u32, SavepointFault>),
+    Release(Result<(), ReleaseFault>),
+    Back(Result<u32, RollbackToFault>),
+    Resume(Result<u32, ResumeFault>),
+    Abort(Result<u32, AbortFault>),
+    Commit(Result<(), CommitFault>),
+    List(Result<EntryList, EntriesFault>),
+    Keys(Result<KeyList, KeysOfFault>),
+    Log(u32, u32),
+    Bad(LineFault),
+}
+
+const ESCAPED: AsciiSet = ascii_set!(CONTROLS.add(b' ').add(b'%'));
+
+// A reply of one line has at most 101 bytes: `ok =`, 32 bytes in escapes, and the end.
+const LINE_ROOM: usize = 101;
+
+// Appends bytes, escaped.
+fn push_escaped(text: &mut String, bytes: &[u8]) -> Result<(), AllocError>
+    ensures { OnOk result (string_bytes text.new ≡ string_bytes text.old ++ escaped bytes.now) }
+{
+    percent_encode(bytes, ESCAPED).append_to(text)
+}
+
+// Appends why a device or memory failed.
+fn push_cause(text: &mut String, cause: Cause) -> Result<(), AllocError>
+    ensures { OnOk result (string_bytes text.new ≡ string_bytes text.old ++ cause_text cause) }
+{
+    match cause {
+        Cause::Device => text.push_str("Device"),
+        Cause::Damaged(page) => write!(text, "Damaged {page}"),
+        Cause::Memory => text.push_str("Memory"),
+    }
+}
+
+// Appends a refusal, or how far a stopped rollback came.
+fn push_refusal(text: &mut String, refusal: Refusal) -> Result<(), AllocError>
+    ensures { OnOk result (string_bytes text.new ≡ string_bytes text.old ++ refusal_text refusal) }
+{
+    match refusal {
+        Refusal::BeginsSpent => text.push_str("no BeginsSpent"),
+        Refusal::NoSuchTx => text.push_str("no NoSuchTx"),
+        Refusal::Rolling => text.push_str("no Rolling"),
+        Refusal::NotRolling => text.push_str("no NotRolling"),
+        Refusal::Held(TxId(owner)) => write!(text, "no Held {owner}"),
+        Refusal::LogFull => text.push_str("no LogFull"),
+        Refusal::Full => text.push_str("no Full"),
+        Refusal::Absent => text.push_str("no Absent"),
+        Refusal::TooDeep => text.push_str("no TooDeep"),
+        Refusal::NoSuchSave => text.push_str("no NoSuchSave"),
+        Refusal::Failed(cause) => {
+            text.push_str("no ")?;
+            push_cause(text, cause)
+        }
+        Refusal::Stopped {
+            undone,
+            left,
+            cause,
+        } => {
+            write!(text, "stopped {undone} {left} ")?;
+            push_cause(text, cause)
+        }
+    }
+}
+
+// Appends why a line says no command.
+fn push_fault(text: &mut String, fault: LineFault) -> Result<(), AllocError>
+    ensures { OnOk result (string_bytes text.new ≡ string_bytes text.old ++ fault_text fault) }
+{
+    match fault {
+        LineFault::UnknownCommand => text.push_str("bad UnknownCommand"),
+        LineFault::WordCount => text.push_str("bad WordCount"),
+        LineFault::BadNumber => text.push_str("bad BadNumber"),
+        LineFault::KeyTooLong => text.push_str("bad KeyTooLong"),
+        LineFault::NoRecordMark => text.push_str("bad NoRecordMark"),
+        LineFault::RecordTooLong => text.push_str("bad RecordTooLong"),
+    }
+}
+
+fn push_number(text: &mut String, number: u32) -> Result<(), AllocError>
+    ensures { OnOk result (string_bytes text.new ≡ string_bytes text.old ++ number_text number) }
+{
+    write!(text, "ok {number}")
+}
+
+fn push_record(text: &mut String, value: &Record) -> Result<(), AllocError>
+    ensures { OnOk result (string_bytes text.new ≡ string_bytes text.old ++ record_text value.now) }
+{
+    text.push_str("ok =")?;
+    push_escaped(text, value.bytes())
+}
+
+// Appends the record that was there, or that there was none.
+fn push_old(text: &mut String, old: &Option<Record>) -> Result<(), AllocError>
+    ensures { OnOk result (string_bytes text.new ≡ string_bytes text.old ++ old_text old.now) }
+{
+    match old {
+        None => text.push_str("ok none"),
+        Some(record) => push_record(text, record),
+    }
+}
+
+fn push_owner(text: &mut String, owner: Option<TxId>) -> Result<(), AllocError>
+    ensures { OnOk result (string_bytes text.new ≡ string_bytes text.old ++ owner_text owner) }
+{
+    match owner {
+        None => Ok(()),
+        Some(TxId(number)) => write!(text, " @{number}"),
+    }
+}
+
+fn push_entry(text: &mut String, entry: &Entry) -> Result<(), AllocError>
+    ensures { OnOk result (string_bytes text.new ≡ string_bytes text.old ++ entry_line entry.now) }
+{
+    text.push_str("- ")?;
+    push_escaped(text, entry.key.bytes())?;
+    text.push_str(" =")?;
+    push_escaped(text, entry.value.bytes())?;
+    push_owner(text, entry.owner)?;
+    text.push_str("\n")
+}
+
+fn push_lines_of_entries(text: &mut String, entries: &[Entry]) -> Result<(), AllocError>
+    ensures { OnOk result
+        (string_bytes text.new ≡ string_bytes text.old ++ flat_map entry_line entries.now) }
+{
+    for entry in entries {
+        push_entry(text, entry)?;
+    }
+    Ok(())
+}
+
+fn push_entries(text: &mut String, entries: &EntryList) -> Result<(), AllocError>
+    ensures { OnOk result
+        (string_bytes text.new ≡ string_bytes text.old ++ entries_text entries.now) }
+{
+    let entries = entries.as_slice();
+    push_lines_of_entries(text, entries)?;
+    let count = entries.len();
+    write!(text, "ok {count}")
+}
+
+fn push_lines_of_keys(text: &mut String, keys: &[Key]) -> Result<(), AllocError>
+    ensures { OnOk result
+        (string_bytes text.new ≡ string_bytes text.old ++ flat_map key_line keys.now) }
+{
+    for key in keys {
+        text.push_str("- ")?;
+        push_escaped(text, key.bytes())?;
+        text.push_str("\n")?;
+    }
+    Ok(())
+}
+
+fn push_keys(text: &mut String, keys: &KeyList) -> Result<(), AllocError>
+    ensures { OnOk result (string_bytes text.new ≡ string_bytes text.old ++ keys_text keys.now) }
+{
+    let keys = keys.as_slice();
+    push_lines_of_keys(text, keys)?;
+    let count = keys.len();
+    write!(text, "ok {count}")
+}
+
+// Appends a reply, without the end of its last line.
+fn push_reply(text: &mut String, reply: &Reply) -> Result<(), AllocError>
+    ensures { OnOk result (string_bytes text.new ≡ string_bytes text.old ++ reply_text reply.now) }
+{
+    match reply {
+        Reply::Begin(Ok(TxId(number))) => push_number(text, *number),
+        Reply::Begin(Err(fault)) => push_refusal(text, begin_refusal(*fault)),
+        Reply::Put(Ok(old)) => push_old(text, old),
+        Reply::Put(Err(fault)) => push_refusal(text, put_refusal(*fault)),
+        Reply::Del(Ok(record)) => push_record(text, record),
+        Reply::Del(Err(fault)) => push_refusal(text, remove_refusal(*fault)),
+        Reply::Get(Ok(value)) => push_old(text, value),
+        Reply::Get(Err(fault)) => push_refusal(text, get_refusal(*fault)),
+        Reply::Save(Ok(number)) => push_number(text, *number),
+        Reply::Save(Err(fault)) => push_refusal(text, savepoint_refusal(*fault)),
+        Reply::Release(Ok(())) => text.push_str("ok"),
+        Reply::Release(Err(fault)) => push_refusal(text, release_refusal(*fault)),
+        Reply::Back(Ok(undone)) => push_number(text, *undone),
+        Reply::Back(Err(fault)) => push_refusal(text, rollback_refusal(*fault)),
+        Reply::Resume(Ok(undone)) => push_number(text, *undone),
+        Reply::Resume(Err(fault)) => push_refusal(text, resume_refusal(*fault)),
+        Reply::Abort(Ok(undone)) => push_number(text, *undone),
+        Reply::Abort(Err(fault)) => push_refusal(text, abort_refusal(*fault)),
+        Reply::Commit(Ok(())) => text.push_str("ok"),
+        Reply::Commit(Err(fault)) => push_refusal(text, commit_refusal(*fault)),
+        Reply::List(Ok(entries)) => push_entries(text, entries),
+        Reply::List(Err(fault)) => push_refusal(text, entries_refusal(*fault)),
+        Reply::Keys(Ok(keys)) => push_keys(text, keys),
+        Reply::Keys(Err(fault)) => push_refusal(text, keys_refusal(*fault)),
+        Reply::Log(len, used) => write!(text, "ok {len} {used}"),
+        Reply::Bad(fault) => push_fault(text, *fault),
+    }
+}
+
+// The text of a reply.
+fn reply_text(alloc: Global, reply: &Reply) -> Result<String, AllocError>
+    ensures { IfOk result (λ text. string_bytes text ≡ text_of reply.now) }
+{
+    let mut text = String::with_capacity(alloc, LINE_ROOM)?;
+    push_reply(&mut text, reply)?;
+    text.push('\n')?;
+    Ok(text)
+}
+
+/// The text of a reply, each of its lines with its end. A reply of one line takes one allocation. Fault: Memory.
+pub fn write_reply(alloc: Global, reply: &Reply) -> Result<Vec<u8>, Memory>
+    ensures { IfOk result (λ text. text.items ≡ text_of reply.now) }
+{
+    match reply_text(alloc, reply) {
+        Ok(text) => Ok(text.into_bytes()),
+        Err(_) => Err(Memory),
+    }
+}

@@ -1,0 +1,116 @@
+use Rattle.std.proofs.Common.{◌≡◌, ℕ, ◌+◌, ◌-◌, ◌<◌, Bool, false, not, ◌&&◌, ◌||◌, eqb, if◌then◌else◌, List, Option, Result, Ok, Err, OnErr, All, is_some, get_or, length, refl, sym, ap, subst, ◌∙◌, arith}
+use Rattle.std.proofs.lemmas.Bool.Decides.{nat_tests}
+use Rattle.page_store.specs.PagesView.{PagesView, is_in_memory}
+use Rattle.page_store.specs.PageMap.{at, after, is_written, is_freed}
+use Rattle.page_store.specs.FreeNumbers.{free_numbers, count_after}
+use Rattle.page_store.specs.CanStage.{CanStage}
+use Rattle.page_store.specs.Journal.{Journal}
+use Rattle.page_store.specs.Overlaid.{slots_of, is_among}
+use Rattle.page_store.specs.Slots.{put_slots}
+use Rattle.page_store.proofs.NewestPageLemmas.{length-pages_of}
+use Rattle.page_store.proofs.SlotLemmas.{length-slots_of}
+use Rattle.page_store.specs.WritingBack.{to_write, in_memory_of}
+use Rattle.page_store.proofs.InMemoryLemmas.{memory_at, memory_stays}
+use Rattle.page_store.proofs.Staging.{pages_stay, are_stay, freed_not_free, written_fit, staged, memory_after, are_after}
+use Rattle.page_store.proofs.pages.Pages.stage.Goals as goal
+
+unchanged_on_err : {A E : Type 0} (r : Result A E) (v : PagesView) (new old : List (Option (List ℕ))) (new_in old_in : List Bool) (changed : Bool) (stored : List (List ℕ)) (tail : ℕ) (steady : Bool) (reads writes failures : ℕ) (journal : Option Journal) → new ≡ old → new_in ≡ old_in → ◌≡◌ {A = PagesView} (record { pages = old; changed = changed; in_memory = old_in; stored = stored; tail = tail; steady = steady; reads = reads; writes = writes; failures = failures; journal = journal }) v → OnErr r (◌≡◌ {A = PagesView} (record { pages = new; changed = changed; in_memory = new_in; stored = stored; tail = tail; steady = steady; reads = reads; writes = writes; failures = failures; journal = journal }) v)
+unchanged_on_err (Ok x) v new old new_in old_in changed stored tail steady reads writes failures journal same same_in is = tt
+unchanged_on_err (Err e) v new old new_in old_in changed stored tail steady reads writes failures journal same same_in is =
+    let still : ◌≡◌ {A = PagesView} (record { pages = new; changed = changed; in_memory = new_in; stored = stored; tail = tail; steady = steady; reads = reads; writes = writes; failures = failures; journal = journal }) (record { pages = old; changed = changed; in_memory = old_in; stored = stored; tail = tail; steady = steady; reads = reads; writes = writes; failures = failures; journal = journal }) =
+    λ i. record { pages = same i; changed = changed; in_memory = same_in i; stored = stored; tail = tail; steady = steady; reads = reads; writes = writes; failures = failures; journal = journal } in
+    still ∙ is
+
+needed_all : (seen writes : List (ℕ × List ℕ)) (needed count : ℕ) → needed ≡ (if eqb (length seen) 0 then 0 else count) → seen ≡ writes → 0 < length writes → needed ≡ count
+needed_all seen writes needed count is same some = let long = ap (λ (ws : List (ℕ × List ℕ)). length ws) same in grind (arith, nat_tests)
+
+can_in : (v : PagesView) (pages : List (Option (List ℕ))) (writes : List (ℕ × List ℕ)) (taken : ℕ) (freed : List ℕ) → pages ≡ v.pages → CanStage v.pages writes taken freed → CanStage pages writes taken freed
+can_in v pages writes taken freed same can = subst (λ (ps : List (Option (List ℕ))). CanStage ps writes taken freed) (sym same) can
+
+grown_in : (v : PagesView) (pages : List (Option (List ℕ))) (count numbers more taken : ℕ) → pages ≡ v.pages → length pages ≡ count → numbers ≡ length (free_numbers v.pages) → more ≡ taken - numbers → count + more ≡ count_after pages taken
+grown_in v pages count numbers more taken same size free is =
+    let long = ap (λ (ps : List (Option (List ℕ))). length (free_numbers ps)) same in omega arith
+
+after_in : (v : PagesView) (pages : List (Option (List ℕ))) (new : List (Option (List ℕ))) (writes : List (ℕ × List ℕ)) (freed : List ℕ) (n : ℕ) → pages ≡ v.pages → at new n ≡ after (at pages) writes freed n → at new n ≡ after (at v.pages) writes freed n
+after_in v pages new writes freed n same is = is ∙ ap (λ (ps : List (Option (List ℕ))). after (at ps) writes freed n) same
+
+memory_in : (v : PagesView) (slots slots' : List (Option (List ℕ))) (free free' : List ℕ) (count count' n : ℕ) (here gone : Bool) → in_memory_of slots free count ≡ v.in_memory → is_some (to_write slots' free' count' n) ≡ ((here || is_some (to_write slots free count n)) && not gone) → get_or (in_memory_of slots' free' count') n false ≡ ((here || is_in_memory v n) && not gone)
+memory_in v slots slots' free free' count count' n here gone same is =
+    memory_at slots' free' count' n ∙ is
+    ∙ ap (λ b. (here || b) && not gone) (sym (memory_at slots free count n) ∙ ap (λ (bs : List Bool). get_or bs n false) same)
+
+pub invariant_of-self : goal.invariant_of-self
+invariant_of-self g c =
+    are_stay _ _ _ _ _ c.self.invariant (slots_of c.make_slots.new.changed.items) c.self.inside.free.keys c.make_slots.ensures.same (λ _. refl)
+
+pub returns-in_err-make_slots-clause-err : goal.returns-in_err-make_slots-clause-err
+returns-in_err-make_slots-clause-err g c =
+    unchanged_on_err _ c.args.self.now _ _ _ _ _ _ _ _ _ _ _ _
+    (pages_stay _ _ _ _ _ c.self.invariant (slots_of c.make_slots.new.changed.items) c.self.inside.free.keys c.make_slots.ensures.same (λ _. refl))
+    (memory_stays (slots_of c.self.inside.changed.items) (slots_of c.make_slots.new.changed.items) c.self.inside.free.keys c.self.inside.free.keys c.self.inside.count c.make_slots.ensures.same (λ _. refl)) c.self.view_is
+
+pub add_all-requires : goal.add_all-requires
+add_all-requires g c = λ q here.
+    freed_not_free _ _ _ _ _ c.self.invariant c.args.edit.writes.items c.args.edit.taken c.args.edit.freed.items
+    (can_in c.args.self.now _ _ _ _ (ap (λ (v : PagesView). v.pages) c.self.view_is) c.requires)
+    q (ap (λ (freed : List ℕ). is_freed freed q) (sym c.deref-3.ensures.value) ∙ here)
+
+pub invariant_of-self-in_err-add_all : goal.invariant_of-self-in_err-add_all
+invariant_of-self-in_err-add_all g c =
+    are_stay _ _ _ _ _ c.self.invariant (slots_of c.make_slots.new.changed.items) c.add_all.new.free.keys c.make_slots.ensures.same c.in_err-add_all.ensures.err
+
+pub put_pages-requires : goal.put_pages-requires
+put_pages-requires g c =
+    let grown = grown_in c.args.self.now _ c.self.inside.count c.free_count.result c.saturating_sub.result c.args.edit.taken (ap (λ (v : PagesView). v.pages) c.self.view_is) (length-pages_of _ _ _ _) c.free_count.ensures c.saturating_sub.ensures in
+    subst (λ (writes : List (ℕ × List ℕ)). All (λ (w : ℕ × List ℕ). w.0 < length c.make_slots.new.changed.items) writes)
+    (sym (c.in_ok-pages.ensures.pages ∙ c.deref.ensures.value))
+    (written_fit _ _ _ _ _ c.self.invariant c.args.edit.writes.items c.args.edit.taken c.args.edit.freed.items
+    (can_in c.args.self.now _ _ _ _ (ap (λ (v : PagesView). v.pages) c.self.view_is) c.requires)
+    (length c.make_slots.new.changed.items) (λ some. let needed = needed_all _ _ _ _ c.slots_needed.ensures c.deref-2.ensures.value some in omega (arith, grown, c.in_ok-make_slots.ensures.long)))
+
+pub returns-in_err-add_all-clause-err : goal.returns-in_err-add_all-clause-err
+returns-in_err-add_all-clause-err g c =
+    unchanged_on_err _ c.args.self.now _ _ _ _ _ _ _ _ _ _ _ _
+    (pages_stay _ _ _ _ _ c.self.invariant (slots_of c.make_slots.new.changed.items) c.add_all.new.free.keys c.make_slots.ensures.same c.in_err-add_all.ensures.err)
+    (memory_stays (slots_of c.self.inside.changed.items) (slots_of c.make_slots.new.changed.items) c.self.inside.free.keys c.add_all.new.free.keys c.self.inside.count c.make_slots.ensures.same c.in_err-add_all.ensures.err) c.self.view_is
+
+pub invariant_of-self-2 : goal.invariant_of-self-2
+invariant_of-self-2 g c =
+    let grown = grown_in c.args.self.now _ c.self.inside.count c.free_count.result c.saturating_sub.result c.args.edit.taken (ap (λ (v : PagesView). v.pages) c.self.view_is) (length-pages_of _ _ _ _) c.free_count.ensures c.saturating_sub.ensures in
+    are_after _ _ _ _ _ c.self.invariant c.args.edit.writes.items c.args.edit.taken c.args.edit.freed.items
+    (can_in c.args.self.now _ _ _ _ (ap (λ (v : PagesView). v.pages) c.self.view_is) c.requires)
+    (slots_of c.make_slots.new.changed.items) (slots_of c.drop_pages.new.changed.items) c.add_all.new.free.keys _ _ grown
+    c.make_slots.ensures.same (λ some. let needed = needed_all _ _ _ _ c.slots_needed.ensures c.deref-2.ensures.value some in omega (arith, c.in_ok-make_slots.ensures.long, length-slots_of c.make_slots.new.changed.items))
+    (λ q kept. c.drop_pages.ensures q (ap (λ (freed : List ℕ). is_freed freed q) c.deref-4.ensures.value ∙ kept) ∙ ap (λ (slots : List (Option (List ℕ))). at slots q) (c.put_pages.ensures.slots ∙ ap (put_slots (slots_of c.make_slots.new.changed.items)) (c.in_ok-pages.ensures.pages ∙ c.deref.ensures.value)))
+    (λ q. c.in_ok-add_all.ensures.ok q ∙ ap (λ (freed : List ℕ). is_among c.self.inside.free.keys q || is_freed freed q) c.deref-3.ensures.value)
+    (λ q. c.put_pages.ensures.free q ∙ ap (λ (writes : List (ℕ × List ℕ)). is_among c.add_all.new.free.keys q && not (is_written writes q)) (c.in_ok-pages.ensures.pages ∙ c.deref.ensures.value))
+
+pub returns-clause-pages : goal.returns-clause-pages
+returns-clause-pages g c = λ n.
+    let grown = grown_in c.args.self.now _ c.self.inside.count c.free_count.result c.saturating_sub.result c.args.edit.taken (ap (λ (v : PagesView). v.pages) c.self.view_is) (length-pages_of _ _ _ _) c.free_count.ensures c.saturating_sub.ensures in
+    after_in c.args.self.now _ _ c.args.edit.writes.items c.args.edit.freed.items n (ap (λ (v : PagesView). v.pages) c.self.view_is)
+    (staged _ _ _ _ _ c.self.invariant c.args.edit.writes.items c.args.edit.taken c.args.edit.freed.items
+    (can_in c.args.self.now _ _ _ _ (ap (λ (v : PagesView). v.pages) c.self.view_is) c.requires)
+    (slots_of c.make_slots.new.changed.items) (slots_of c.drop_pages.new.changed.items) c.add_all.new.free.keys _ _ grown
+    c.make_slots.ensures.same (λ some. let needed = needed_all _ _ _ _ c.slots_needed.ensures c.deref-2.ensures.value some in omega (arith, c.in_ok-make_slots.ensures.long, length-slots_of c.make_slots.new.changed.items))
+    (λ q kept. c.drop_pages.ensures q (ap (λ (freed : List ℕ). is_freed freed q) c.deref-4.ensures.value ∙ kept) ∙ ap (λ (slots : List (Option (List ℕ))). at slots q) (c.put_pages.ensures.slots ∙ ap (put_slots (slots_of c.make_slots.new.changed.items)) (c.in_ok-pages.ensures.pages ∙ c.deref.ensures.value)))
+    (λ q. c.in_ok-add_all.ensures.ok q ∙ ap (λ (freed : List ℕ). is_among c.self.inside.free.keys q || is_freed freed q) c.deref-3.ensures.value)
+    (λ q. c.put_pages.ensures.free q ∙ ap (λ (writes : List (ℕ × List ℕ)). is_among c.add_all.new.free.keys q && not (is_written writes q)) (c.in_ok-pages.ensures.pages ∙ c.deref.ensures.value)) n)
+
+pub returns-clause-count : goal.returns-clause-count
+returns-clause-count g c =
+    length-pages_of _ _ _ _
+    ∙ grown_in c.args.self.now _ c.self.inside.count c.free_count.result c.saturating_sub.result c.args.edit.taken (ap (λ (v : PagesView). v.pages) c.self.view_is) (length-pages_of _ _ _ _) c.free_count.ensures c.saturating_sub.ensures
+    ∙ ap (λ (v : PagesView). count_after v.pages c.args.edit.taken) c.self.view_is
+
+pub returns-clause-in_memory : goal.returns-clause-in_memory
+returns-clause-in_memory g c = λ n.
+    let grown = grown_in c.args.self.now _ c.self.inside.count c.free_count.result c.saturating_sub.result c.args.edit.taken (ap (λ (v : PagesView). v.pages) c.self.view_is) (length-pages_of _ _ _ _) c.free_count.ensures c.saturating_sub.ensures in
+    memory_in c.args.self.now (slots_of c.self.inside.changed.items) (slots_of c.drop_pages.new.changed.items) c.self.inside.free.keys c.put_pages.new.free.keys c.self.inside.count _ n (is_written c.args.edit.writes.items n) (is_freed c.args.edit.freed.items n) (ap (λ (v : PagesView). v.in_memory) c.self.view_is)
+    (memory_after _ _ _ _ _ c.self.invariant c.args.edit.writes.items c.args.edit.taken c.args.edit.freed.items
+    (can_in c.args.self.now _ _ _ _ (ap (λ (v : PagesView). v.pages) c.self.view_is) c.requires)
+    (slots_of c.make_slots.new.changed.items) (slots_of c.drop_pages.new.changed.items) c.add_all.new.free.keys _ _ grown
+    c.make_slots.ensures.same (λ some. let needed = needed_all _ _ _ _ c.slots_needed.ensures c.deref-2.ensures.value some in omega (arith, c.in_ok-make_slots.ensures.long, length-slots_of c.make_slots.new.changed.items))
+    (λ q kept. c.drop_pages.ensures q (ap (λ (freed : List ℕ). is_freed freed q) c.deref-4.ensures.value ∙ kept) ∙ ap (λ (slots : List (Option (List ℕ))). at slots q) (c.put_pages.ensures.slots ∙ ap (put_slots (slots_of c.make_slots.new.changed.items)) (c.in_ok-pages.ensures.pages ∙ c.deref.ensures.value)))
+    (λ q. c.in_ok-add_all.ensures.ok q ∙ ap (λ (freed : List ℕ). is_among c.self.inside.free.keys q || is_freed freed q) c.deref-3.ensures.value)
+    (λ q. c.put_pages.ensures.free q ∙ ap (λ (writes : List (ℕ × List ℕ)). is_among c.add_all.new.free.keys q && not (is_written writes q)) (c.in_ok-pages.ensures.pages ∙ c.deref.ensures.value)) n)

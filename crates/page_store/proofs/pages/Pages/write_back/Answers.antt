@@ -1,0 +1,180 @@
+use Rattle.std.proofs.Common.{◌≡◌, ◌≢◌, ℕ, ◌+◌, ◌-◌, ◌++◌, Bool, false, if◌then◌else◌, get_or, [], List, Option, None, Result, Err, Box, Global, is_some, length, slice_get, sym, ap, ◌∙◌, refl, subst}
+use Rattle.std.proofs.lemmas.Bool.{false≢true}
+use Rattle.page_store.specs.declared.store_fault.StoreFault.{StoreFault}
+use Rattle.page_store.specs.declared.store_fault.StoreFault.TheVariants.{Failed, Memory as NoMemory}
+use Rattle.page_store.specs.declared.page_edit.WriteFault.{WriteFault}
+use Rattle.page_store.specs.declared.page_edit.WriteFault.TheVariants.{Memory}
+use Rattle.page_store.specs.PagesView.{PagesView, is_in_memory, memory_pages}
+use Rattle.page_store.specs.PageMap.{at}
+use Rattle.page_store.specs.FreeNumbers.{free_numbers}
+use Rattle.page_store.specs.Blank.{blanks}
+use Rattle.page_store.specs.Calls.{counted_times, CountedUpTo, how_many}
+use Rattle.page_store.specs.Growth.{GrowsTo}
+use Rattle.page_store.specs.Overlaid.{slots_of, pages_of}
+use Rattle.page_store.specs.WriteFaults.{by_device, told}
+use Rattle.page_store.specs.WritingBack.{to_write, in_memory_of, AreStored, KeepsOthers, Stopped}
+use Rattle.page_store.specs.Journal.{noted, NotesFront, writing_back}
+use Rattle.page_store.proofs.JournalLemmas.{writing_alike}
+use Rattle.page_store.proofs.InMemoryLemmas.{none_in_memory, many_in_memory, written_in_memory}
+use Rattle.page_store.proofs.NewestPageLemmas.{length-pages_of}
+use Rattle.page_store.proofs.WriteBackLemmas.{pages_kept, leaves_pages, unwritten_pages, all_stored, stopped_pages, same_use, same_free, pages_dropped}
+use Rattle.page_store.proofs.pages.Pages.write_back.Goals as goal
+
+memory_back : (fault : StoreFault) (answer : WriteFault) → answer ≡ told fault → ◌≡◌ {A = Result (Unit {0}) WriteFault} (Err answer) (Err Memory) → ◌≡◌ {A = Result (Unit {0}) StoreFault} (Err fault) (Err NoMemory)
+memory_back Failed answer is same =
+    absurd (false≢true (sym (ap (λ (r : Result (Unit {0}) WriteFault). by_device r) same) ∙ ap (λ (fault : WriteFault). by_device {X = Unit {0}} (Err fault)) is))
+memory_back NoMemory answer is same = refl
+
+calls_in : (v : PagesView) (stored : List (List ℕ)) (seen items : List (Option (Box (List ℕ) Global))) (free : List ℕ) (count : ℕ) → seen ≡ items → pages_of stored (slots_of items) free count ≡ v.pages → in_memory_of (slots_of items) free count ≡ v.in_memory → how_many (λ n. is_some (to_write (slots_of seen) free count n)) count ≡ how_many (is_in_memory v) (length v.pages)
+calls_in v stored seen items free count same pages memory =
+    ap (λ (xs : List (Option (Box (List ℕ) Global))). how_many (λ n. is_some (to_write (slots_of xs) free count n)) count) same
+    ∙ sym (many_in_memory stored (slots_of items) free count)
+    ∙ ap (λ (ps : List (Option (List ℕ))). how_many (λ n. get_or (in_memory_of (slots_of items) free count) n false) (length ps)) pages
+    ∙ ap (λ (bs : List Bool). how_many (λ n. get_or bs n false) (length v.pages)) memory
+
+-- what is said of the slots that were passed holds of the changed pages
+leaves_in : (seen items : List (Option (Box (List ℕ) Global))) (free : List ℕ) (count : ℕ) (old new : List (List ℕ)) → seen ≡ items → KeepsOthers (to_write (slots_of seen) free count) count old new → KeepsOthers (to_write (slots_of items) free count) count old new
+leaves_in seen items free count old new same leaves =
+    subst (λ (xs : List (Option (Box (List ℕ) Global))). KeepsOthers (to_write (slots_of xs) free count) count old new) same leaves
+
+stored_in : (seen items : List (Option (Box (List ℕ) Global))) (free : List ℕ) (count : ℕ) (new : List (List ℕ)) → seen ≡ items → AreStored (to_write (slots_of seen) free count) new → AreStored (to_write (slots_of items) free count) new
+stored_in seen items free count new same put =
+    subst (λ (xs : List (Option (Box (List ℕ) Global))). AreStored (to_write (slots_of xs) free count) new) same put
+
+pub returns-in-Err-clause-pages : goal.returns-in-Err-clause-pages
+returns-in-Err-clause-pages g c = λ _.
+    let leaves = leaves_in _ _ c.self.inside.free.keys _ _ _ c.deref.ensures.value c.write_out-written.ensures.others in
+    pages_kept _ _ _ _ _ c.self.invariant _ leaves ∙ ap (λ (v : PagesView). v.pages) c.self.view_is
+
+pub returns-in-Err-clause-same_count : goal.returns-in-Err-clause-same_count
+returns-in-Err-clause-same_count g c =
+    length-pages_of _ _ _ _ ∙ sym (length-pages_of (g.S.Store.pages c.self.inside.store) (slots_of c.self.inside.changed.items) c.self.inside.free.keys c.self.inside.count) ∙ ap (λ (v : PagesView). length v.pages) c.self.view_is
+
+pub returns-in-Err-clause-same_free : goal.returns-in-Err-clause-same_free
+returns-in-Err-clause-same_free g c =
+    let leaves = leaves_in _ _ c.self.inside.free.keys _ _ _ c.deref.ensures.value c.write_out-written.ensures.others in
+    ap free_numbers (pages_kept _ _ _ _ _ c.self.invariant _ leaves) ∙ ap (λ (v : PagesView). free_numbers v.pages) c.self.view_is
+
+pub returns-in-Err-clause-same_use : goal.returns-in-Err-clause-same_use
+returns-in-Err-clause-same_use g c = λ n.
+    let leaves = leaves_in _ _ c.self.inside.free.keys _ _ _ c.deref.ensures.value c.write_out-written.ensures.others in
+    ap (λ (ps : List (Option (List ℕ))). is_some (at ps n)) (pages_kept _ _ _ _ _ c.self.invariant _ leaves) ∙ ap (λ (v : PagesView). is_some (at v.pages n)) c.self.view_is
+
+pub returns-in-Err-clause-err : goal.returns-in-Err-clause-err
+returns-in-Err-clause-err g c =
+    let leaves = leaves_in _ _ c.self.inside.free.keys _ _ _ c.deref.ensures.value c.write_out-written.ensures.others in
+    λ i. record {
+      pages = (pages_kept _ _ _ _ _ c.self.invariant _ leaves ∙ ap (λ (v : PagesView). v.pages) c.self.view_is) i;
+      changed = ap (λ (v : PagesView). v.changed) c.self.view_is i;
+      in_memory = ap (λ (v : PagesView). v.in_memory) c.self.view_is i;
+      stored = g.S.Store.pages c.write_out-written.new.store;
+      tail = g.S.Store.tail c.write_out-written.new.store;
+      steady = (c.write_out-written.ensures.steady ∙ ap (λ (v : PagesView). v.steady) c.self.view_is) i;
+      reads = (c.write_out-written.ensures.reads ∙ ap (λ (v : PagesView). v.reads) c.self.view_is) i;
+      writes = g.S.Store.writes c.write_out-written.new.store;
+      failures = g.S.Store.failures c.write_out-written.new.store;
+      journal = g.S.Store.journal c.write_out-written.new.store;
+    }
+
+pub returns-in-Err-clause-others : goal.returns-in-Err-clause-others
+returns-in-Err-clause-others g c =
+    let leaves = leaves_in _ _ c.self.inside.free.keys _ _ _ c.deref.ensures.value c.write_out-written.ensures.others in
+    subst (λ (v : PagesView). KeepsOthers (at v.pages) (length v.pages) v.stored (g.S.Store.pages c.write_out-written.new.store)) c.self.view_is (leaves_pages _ _ _ _ _ c.self.invariant _ leaves)
+
+pub returns-in-Err-clause-stopped : goal.returns-in-Err-clause-stopped
+returns-in-Err-clause-stopped g c = λ steady.
+    let leaves = leaves_in _ _ c.self.inside.free.keys _ _ _ c.deref.ensures.value c.write_out-written.ensures.others in
+    let stopped = subst (λ (xs : List (Option (Box (List ℕ) Global))). Stopped (to_write (slots_of xs) c.self.inside.free.keys c.self.inside.count) c.args.writing.now (g.S.Store.pages c.self.inside.store) (g.S.Store.pages c.write_out-written.new.store)) c.deref.ensures.value (c.in-Err.ensures.stopped (ap (λ (v : PagesView). v.steady) c.self.view_is ∙ steady)) in
+    subst (λ (v : PagesView). Stopped (at v.pages) c.args.writing.now v.stored (g.S.Store.pages c.write_out-written.new.store)) c.self.view_is (stopped_pages _ _ _ _ _ c.self.invariant _ leaves c.args.writing.now stopped)
+
+pub returns-in-Err-clause-memory : goal.returns-in-Err-clause-memory
+returns-in-Err-clause-memory g c = λ same.
+    let grows = c.in-Err.ensures.memory (memory_back c.in-Err.fault c.told.result c.told.ensures same) in
+    let long = length-pages_of (g.S.Store.pages c.self.inside.store) (slots_of c.self.inside.changed.items) c.self.inside.free.keys c.self.inside.count in
+    subst (λ (v : PagesView). GrowsTo (length v.pages) v.stored (g.S.Store.pages c.write_out-written.new.store)) c.self.view_is
+    (subst (λ (k : ℕ). GrowsTo k (g.S.Store.pages c.self.inside.store) (g.S.Store.pages c.write_out-written.new.store)) (sym long) grows)
+
+pub returns-clause-count : goal.returns-clause-count
+returns-clause-count g c =
+    c.in_default.ensures.count ∙ sym (length-pages_of (g.S.Store.pages c.self.inside.store) (slots_of c.self.inside.changed.items) c.self.inside.free.keys c.self.inside.count) ∙ ap (λ (v : PagesView). length v.pages) c.self.view_is
+
+pub returns-clause-stored : goal.returns-clause-stored
+returns-clause-stored g c = λ steady.
+    let leaves = leaves_in _ _ c.self.inside.free.keys _ _ _ c.deref.ensures.value c.write_out-written.ensures.others in
+    let put = stored_in _ _ c.self.inside.free.keys c.self.inside.count _ c.deref.ensures.value (c.in_default.ensures.pages (ap (λ (v : PagesView). v.steady) c.self.view_is ∙ steady)) in
+    subst (λ (v : PagesView). AreStored (at v.pages) (g.S.Store.pages c.write_out-written.new.store)) c.self.view_is (all_stored _ _ _ _ _ c.self.invariant _ leaves put)
+
+pub returns-clause-unwritten : goal.returns-clause-unwritten
+returns-clause-unwritten g c =
+    let leaves = leaves_in _ _ c.self.inside.free.keys _ _ _ c.deref.ensures.value c.write_out-written.ensures.others in
+    let same = subst (λ (xs : List (Option (Box (List ℕ) Global))). (n : ℕ) → n ≢ 0 → to_write (slots_of xs) c.self.inside.free.keys c.self.inside.count n ≡ None → slice_get (g.S.Store.pages c.write_out-written.new.store) n ≡ slice_get (g.S.Store.pages c.self.inside.store ++ blanks (c.self.inside.count - length (g.S.Store.pages c.self.inside.store))) n) c.deref.ensures.value c.in_default.ensures.unwritten in
+    subst (λ (v : PagesView). (n : ℕ) → n ≢ 0 → at v.pages n ≡ None → slice_get (g.S.Store.pages c.write_out-written.new.store) n ≡ slice_get (v.stored ++ blanks (length v.pages - length v.stored)) n) c.self.view_is (unwritten_pages _ _ _ _ _ c.self.invariant _ leaves same)
+
+pub returns-clause-pages : goal.returns-clause-pages
+returns-clause-pages g c = λ steady.
+    let leaves = leaves_in _ _ c.self.inside.free.keys _ _ _ c.deref.ensures.value c.write_out-written.ensures.others in
+    let put = stored_in _ _ c.self.inside.free.keys c.self.inside.count _ c.deref.ensures.value (c.in_default.ensures.pages (ap (λ (v : PagesView). v.steady) c.self.view_is ∙ steady)) in
+    ap (λ (xs : List (Option (Box (List ℕ) Global))). pages_of (g.S.Store.pages c.write_out-written.new.store) (slots_of xs) c.self.inside.free.keys c.self.inside.count) c.clear.ensures.items
+    ∙ pages_dropped _ _ _ _ _ c.self.invariant _ leaves c.in_default.ensures.count put
+    ∙ ap (λ (v : PagesView). v.pages) c.self.view_is
+
+pub returns-clause-same_count : goal.returns-clause-same_count
+returns-clause-same_count g c =
+    length-pages_of _ _ _ _ ∙ sym (length-pages_of (g.S.Store.pages c.self.inside.store) (slots_of c.self.inside.changed.items) c.self.inside.free.keys c.self.inside.count) ∙ ap (λ (v : PagesView). length v.pages) c.self.view_is
+
+pub returns-clause-same_free : goal.returns-clause-same_free
+returns-clause-same_free g c =
+    let leaves = leaves_in _ _ c.self.inside.free.keys _ _ _ c.deref.ensures.value c.write_out-written.ensures.others in
+    ap (λ (xs : List (Option (Box (List ℕ) Global))). free_numbers (pages_of (g.S.Store.pages c.write_out-written.new.store) (slots_of xs) c.self.inside.free.keys c.self.inside.count)) c.clear.ensures.items
+    ∙ same_free _ _ _ _ _ c.self.invariant _ leaves c.in_default.ensures.count
+    ∙ ap (λ (v : PagesView). free_numbers v.pages) c.self.view_is
+
+pub returns-clause-same_use : goal.returns-clause-same_use
+returns-clause-same_use g c = λ n.
+    let leaves = leaves_in _ _ c.self.inside.free.keys _ _ _ c.deref.ensures.value c.write_out-written.ensures.others in
+    ap (λ (xs : List (Option (Box (List ℕ) Global))). is_some (at (pages_of (g.S.Store.pages c.write_out-written.new.store) (slots_of xs) c.self.inside.free.keys c.self.inside.count) n)) c.clear.ensures.items
+    ∙ same_use _ _ _ _ _ c.self.invariant _ leaves c.in_default.ensures.count n
+    ∙ ap (λ (v : PagesView). is_some (at v.pages n)) c.self.view_is
+
+pub returns-clause-others : goal.returns-clause-others
+returns-clause-others g c =
+    let leaves = leaves_in _ _ c.self.inside.free.keys _ _ _ c.deref.ensures.value c.write_out-written.ensures.others in
+    subst (λ (v : PagesView). KeepsOthers (at v.pages) (length v.pages) v.stored (g.S.Store.pages c.write_out-written.new.store)) c.self.view_is (leaves_pages _ _ _ _ _ c.self.invariant _ leaves)
+
+pub returns-in-Err-clause-writes_err : goal.returns-in-Err-clause-writes_err
+returns-in-Err-clause-writes_err g c =
+    let many = calls_in c.args.self.now (g.S.Store.pages c.self.inside.store) _ c.self.inside.changed.items c.self.inside.free.keys c.self.inside.count c.deref.ensures.value (ap (λ (v : PagesView). v.pages) c.self.view_is) (ap (λ (v : PagesView). v.in_memory) c.self.view_is) in
+    let before = ap (λ (v : PagesView). v.writes) c.self.view_is in
+    subst (λ k. CountedUpTo (6 + k) c.args.self.now.writes (g.S.Store.writes c.write_out-written.new.store)) many
+    (subst (λ old. CountedUpTo (6 + how_many (λ n. is_some (to_write (slots_of c.deref.result.now) c.self.inside.free.keys c.self.inside.count n)) c.self.inside.count) old (g.S.Store.writes c.write_out-written.new.store)) before c.in-Err.ensures.writes_err)
+
+pub returns-clause-in_memory : goal.returns-clause-in_memory
+returns-clause-in_memory g c = λ n.
+    ap (λ (xs : List (Option (Box (List ℕ) Global))). get_or (in_memory_of (slots_of xs) c.self.inside.free.keys c.self.inside.count) n false) c.clear.ensures.items
+    ∙ none_in_memory [] c.self.inside.free.keys c.self.inside.count n refl
+
+pub returns-clause-writes : goal.returns-clause-writes
+returns-clause-writes g c =
+    let many = calls_in c.args.self.now (g.S.Store.pages c.self.inside.store) _ c.self.inside.changed.items c.self.inside.free.keys c.self.inside.count c.deref.ensures.value (ap (λ (v : PagesView). v.pages) c.self.view_is) (ap (λ (v : PagesView). v.in_memory) c.self.view_is) in
+    let before = ap (λ (v : PagesView). v.writes) c.self.view_is in
+    c.in_default.ensures.writes ∙ ap (λ old. counted_times old (6 + how_many (λ n. is_some (to_write (slots_of c.deref.result.now) c.self.inside.free.keys c.self.inside.count n)) c.self.inside.count)) before ∙ ap (λ k. counted_times c.args.self.now.writes (6 + k)) many
+
+-- the calls that write the slots that were passed are those that write the pages in memory
+steps_in : (v : PagesView) (stored : List (List ℕ)) (seen items : List (Option (Box (List ℕ) Global))) (free : List ℕ) (count : ℕ) (writing clean : List ℕ) → seen ≡ items → pages_of stored (slots_of items) free count ≡ v.pages → in_memory_of (slots_of items) free count ≡ v.in_memory
+    → writing_back (to_write (slots_of seen) free count) count writing clean ≡ writing_back (memory_pages v) (length v.pages) writing clean
+steps_in v stored seen items free count writing clean same pages memory =
+    ap (λ (xs : List (Option (Box (List ℕ) Global))). writing_back (to_write (slots_of xs) free count) count writing clean) same
+    ∙ writing_alike (to_write (slots_of items) free count) (memory_pages v) count (length v.pages) writing clean (sym (length-pages_of stored (slots_of items) free count) ∙ ap (λ (ps : List (Option (List ℕ))). length ps) pages)
+    (λ n. written_in_memory stored (slots_of items) free count n ∙ ap (λ (bs : List Bool). if get_or bs n false then at (pages_of stored (slots_of items) free count) n else None) memory ∙ ap (λ (ps : List (Option (List ℕ))). if get_or v.in_memory n false then at ps n else None) pages)
+
+pub returns-in-Err-clause-journal_err : goal.returns-in-Err-clause-journal_err
+returns-in-Err-clause-journal_err g c =
+    let all = steps_in c.args.self.now (g.S.Store.pages c.self.inside.store) _ c.self.inside.changed.items c.self.inside.free.keys c.self.inside.count c.args.writing.now c.args.clean.now c.deref.ensures.value (ap (λ (v : PagesView). v.pages) c.self.view_is) (ap (λ (v : PagesView). v.in_memory) c.self.view_is) in
+    subst (λ steps. NotesFront steps c.args.self.now.journal (g.S.Store.journal c.write_out-written.new.store)) all
+    (subst (λ old. NotesFront (writing_back (to_write (slots_of c.deref.result.now) c.self.inside.free.keys c.self.inside.count) c.self.inside.count c.args.writing.now c.args.clean.now) old (g.S.Store.journal c.write_out-written.new.store)) (ap (λ (v : PagesView). v.journal) c.self.view_is) c.in-Err.ensures.journal_err)
+
+pub returns-clause-journal : goal.returns-clause-journal
+returns-clause-journal g c =
+    let all = steps_in c.args.self.now (g.S.Store.pages c.self.inside.store) _ c.self.inside.changed.items c.self.inside.free.keys c.self.inside.count c.args.writing.now c.args.clean.now c.deref.ensures.value (ap (λ (v : PagesView). v.pages) c.self.view_is) (ap (λ (v : PagesView). v.in_memory) c.self.view_is) in
+    c.in_default.ensures.journal ∙ ap (λ old. noted old (writing_back (to_write (slots_of c.deref.result.now) c.self.inside.free.keys c.self.inside.count) c.self.inside.count c.args.writing.now c.args.clean.now)) (ap (λ (v : PagesView). v.journal) c.self.view_is)
+    ∙ ap (noted c.args.self.now.journal) all

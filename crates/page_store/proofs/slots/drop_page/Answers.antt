@@ -1,5 +1,0 @@
-use Rattle.page_store.proofs.SlotFacts.{slots_dropped}
-use Rattle.page_store.proofs.slots.drop_page.Goals as goal
-
-pub returns : goal.returns
-returns c = λ q other. slots_dropped c.args.changed.now.items c.args.n q other

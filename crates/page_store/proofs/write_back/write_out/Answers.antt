@@ -1,0 +1,101 @@
+use Rattle.std.proofs.Common.{◌≡◌, ℕ, ◌+◌, List, length, is_some, slice_get, ap, ◌∙◌, arith}
+use Rattle.std.proofs.lemmas.Bool.Decides.{nat_tests}
+use Rattle.page_store.specs.Overlaid.{slots_of}
+use Rattle.page_store.specs.Calls.{counted_times, how_many}
+use Rattle.page_store.specs.PageMap.{PageMap}
+use Rattle.page_store.specs.WritingBack.{to_write}
+use Rattle.page_store.proofs.CallCountLemmas.{then_calls, after_calls, no_more, all_calls, on_err, last_calls, last_up_to}
+use Rattle.page_store.proofs.WriteBackLemmas.{leaves_by, same_two}
+use Rattle.page_store.proofs.JournalLemmas.{no_header, no_writes, no_sync, all_noted, no_close}
+use Rattle.page_store.proofs.write_back.write_out.Goals as goal
+
+pub returns-in_err-put_header-clause-writes_err : goal.returns-in_err-put_header-clause-writes_err
+returns-in_err-put_header-clause-writes_err g c =
+    let W = g.S.Store.writes in
+    let k = how_many (λ n. is_some (to_write (slots_of c.args.changed.now) c.args.free.now.keys c.args.count n)) c.args.count in
+    on_err _ (no_more (W c.args.store.now) _ (1 + 2) (6 + k) (omega arith) (after_calls (W c.args.store.now) (W c.set_pages.new.self) _ 1 2 c.set_pages.ensures.writes c.in_err-put_header.ensures.writes_err))
+
+pub returns-in_err-put_changed-clause-others : goal.returns-in_err-put_changed-clause-others
+returns-in_err-put_changed-clause-others g c =
+    let pages : PageMap = to_write (slots_of c.args.changed.now) c.args.free.now.keys c.args.count in
+    leaves_by pages _ _ _ _ c.requires.fits c.in_ok-set_pages.ensures.pages (c.put_changed.ensures.others.long ∙ c.put_header.ensures.others.long)
+    (same_two pages _ _ _ c.put_header.ensures.others c.put_changed.ensures.others)
+
+pub returns-in_err-put_changed-clause-writes_err :
+    goal.returns-in_err-put_changed-clause-writes_err
+returns-in_err-put_changed-clause-writes_err g c =
+    let W = g.S.Store.writes in
+    let k = how_many (λ n. is_some (to_write (slots_of c.args.changed.now) c.args.free.now.keys c.args.count n)) c.args.count in
+    let header : W c.put_header.new.store ≡ counted_times (W c.args.store.now) 3 = then_calls (W c.args.store.now) (W c.set_pages.new.self) _ 1 2 c.set_pages.ensures.writes c.in_ok-put_header.ensures.writes in
+    on_err _ (no_more (W c.args.store.now) _ (3 + k) (6 + k) (omega arith) (after_calls (W c.args.store.now) (W c.put_header.new.store) _ 3 k header c.in_err-put_changed.ensures.writes_err))
+
+pub returns-in_err-sync-clause-others : goal.returns-in_err-sync-clause-others
+returns-in_err-sync-clause-others g c =
+    let pages : PageMap = to_write (slots_of c.args.changed.now) c.args.free.now.keys c.args.count in
+    leaves_by pages _ _ _ _ c.requires.fits c.in_ok-set_pages.ensures.pages
+    (ap (λ (ps : List (List ℕ)). length ps) c.sync.ensures.same_pages ∙ c.put_changed.ensures.others.long ∙ c.put_header.ensures.others.long)
+    (λ n some none. ap (λ (ps : List (List ℕ)). slice_get ps n) c.sync.ensures.same_pages ∙ same_two pages _ _ _ c.put_header.ensures.others c.put_changed.ensures.others n some none)
+
+pub returns-in_err-sync-clause-writes_err : goal.returns-in_err-sync-clause-writes_err
+returns-in_err-sync-clause-writes_err g c =
+    let W = g.S.Store.writes in
+    let k = how_many (λ n. is_some (to_write (slots_of c.args.changed.now) c.args.free.now.keys c.args.count n)) c.args.count in
+    let header : W c.put_header.new.store ≡ counted_times (W c.args.store.now) 3 = then_calls (W c.args.store.now) (W c.set_pages.new.self) _ 1 2 c.set_pages.ensures.writes c.in_ok-put_header.ensures.writes in
+    let put : W c.put_changed.new.store ≡ counted_times (W c.args.store.now) (3 + k) = then_calls (W c.args.store.now) (W c.put_header.new.store) _ 3 k header c.in_ok-put_changed.ensures.writes in
+    let kept : W c.sync.new.self ≡ counted_times (W c.args.store.now) (3 + k + 1) = then_calls (W c.args.store.now) (W c.put_changed.new.store) _ (3 + k) 1 put c.sync.ensures.writes in
+    on_err _ (all_calls (W c.args.store.now) _ (3 + k + 1) (6 + k) (omega arith) (omega arith) kept)
+
+pub returns-clause-others : goal.returns-clause-others
+returns-clause-others g c =
+    let pages : PageMap = to_write (slots_of c.args.changed.now) c.args.free.now.keys c.args.count in
+    leaves_by pages _ _ _ _ c.requires.fits c.in_ok-set_pages.ensures.pages
+    (c.put_header-2.ensures.others.long ∙ ap (λ (ps : List (List ℕ)). length ps) c.sync.ensures.same_pages ∙ c.put_changed.ensures.others.long ∙ c.put_header.ensures.others.long)
+    (λ n some none. c.put_header-2.ensures.others.same n (grind (arith, nat_tests)) ∙ ap (λ (ps : List (List ℕ)). slice_get ps n) c.sync.ensures.same_pages ∙ same_two pages _ _ _ c.put_header.ensures.others c.put_changed.ensures.others n some none)
+
+pub returns-clause-writes : goal.returns-clause-writes
+returns-clause-writes g c =
+    let W = g.S.Store.writes in
+    let k = how_many (λ n. is_some (to_write (slots_of c.args.changed.now) c.args.free.now.keys c.args.count n)) c.args.count in
+    let header : W c.put_header.new.store ≡ counted_times (W c.args.store.now) 3 = then_calls (W c.args.store.now) (W c.set_pages.new.self) _ 1 2 c.set_pages.ensures.writes c.in_ok-put_header.ensures.writes in
+    let put : W c.put_changed.new.store ≡ counted_times (W c.args.store.now) (3 + k) = then_calls (W c.args.store.now) (W c.put_header.new.store) _ 3 k header c.in_ok-put_changed.ensures.writes in
+    let kept : W c.sync.new.self ≡ counted_times (W c.args.store.now) (3 + k + 1) = then_calls (W c.args.store.now) (W c.put_changed.new.store) _ (3 + k) 1 put c.sync.ensures.writes in
+    last_calls c.put_header-2.result (W c.args.store.now) (W c.sync.new.self) (W c.put_header-2.new.store) (3 + k + 1) 2 (6 + k) kept (omega arith) c.put_header-2.ensures.writes
+
+pub returns-clause-writes_err : goal.returns-clause-writes_err
+returns-clause-writes_err g c =
+    let W = g.S.Store.writes in
+    let k = how_many (λ n. is_some (to_write (slots_of c.args.changed.now) c.args.free.now.keys c.args.count n)) c.args.count in
+    let header : W c.put_header.new.store ≡ counted_times (W c.args.store.now) 3 = then_calls (W c.args.store.now) (W c.set_pages.new.self) _ 1 2 c.set_pages.ensures.writes c.in_ok-put_header.ensures.writes in
+    let put : W c.put_changed.new.store ≡ counted_times (W c.args.store.now) (3 + k) = then_calls (W c.args.store.now) (W c.put_header.new.store) _ 3 k header c.in_ok-put_changed.ensures.writes in
+    let kept : W c.sync.new.self ≡ counted_times (W c.args.store.now) (3 + k + 1) = then_calls (W c.args.store.now) (W c.put_changed.new.store) _ (3 + k) 1 put c.sync.ensures.writes in
+    last_up_to c.put_header-2.result (W c.args.store.now) (W c.sync.new.self) (W c.put_header-2.new.store) (3 + k + 1) 2 (6 + k) kept (omega arith) c.put_header-2.ensures.writes_err
+
+pub returns-in_err-put_header-clause-journal_err : goal.returns-in_err-put_header-clause-journal_err
+returns-in_err-put_header-clause-journal_err g c =
+    let pages : PageMap = to_write (slots_of c.args.changed.now) c.args.free.now.keys c.args.count in
+    let J = g.S.Store.journal in
+    on_err _ (no_header pages c.args.count c.args.writing.now c.args.clean.now (J c.args.store.now) (J c.set_pages.new.self) (J c.set_pages.new.self) (J c.set_pages.new.self) (J c.set_pages.new.self) (J c.put_header.new.store) c.in_ok-set_pages.ensures.journal c.in_err-put_header.ensures.journal_err)
+
+pub returns-in_err-put_changed-clause-journal_err : goal.returns-in_err-put_changed-clause-journal_err
+returns-in_err-put_changed-clause-journal_err g c =
+    let pages : PageMap = to_write (slots_of c.args.changed.now) c.args.free.now.keys c.args.count in
+    let J = g.S.Store.journal in
+    on_err _ (no_writes pages c.args.count c.args.writing.now c.args.clean.now (J c.args.store.now) (J c.set_pages.new.self) (J c.put_header.new.store) (J c.put_header.new.store) (J c.put_header.new.store) (J c.put_changed.new.store) c.in_ok-set_pages.ensures.journal c.in_ok-put_header.ensures.journal c.in_err-put_changed.ensures.journal_err)
+
+pub returns-in_err-sync-clause-journal_err : goal.returns-in_err-sync-clause-journal_err
+returns-in_err-sync-clause-journal_err g c =
+    let pages : PageMap = to_write (slots_of c.args.changed.now) c.args.free.now.keys c.args.count in
+    let J = g.S.Store.journal in
+    on_err _ (no_sync pages c.args.count c.args.writing.now c.args.clean.now (J c.args.store.now) (J c.set_pages.new.self) (J c.put_header.new.store) (J c.put_changed.new.store) (J c.put_changed.new.store) (J c.sync.new.self) c.in_ok-set_pages.ensures.journal c.in_ok-put_header.ensures.journal c.in_ok-put_changed.ensures.journal c.in_err-sync.ensures.same_journal)
+
+pub returns-clause-journal : goal.returns-clause-journal
+returns-clause-journal g c =
+    let pages : PageMap = to_write (slots_of c.args.changed.now) c.args.free.now.keys c.args.count in
+    let J = g.S.Store.journal in
+    all_noted pages c.args.count c.args.writing.now c.args.clean.now (J c.args.store.now) (J c.set_pages.new.self) (J c.put_header.new.store) (J c.put_changed.new.store) (J c.sync.new.self) (J c.put_header-2.new.store) c.in_ok-set_pages.ensures.journal c.in_ok-put_header.ensures.journal c.in_ok-put_changed.ensures.journal c.in_ok-sync.ensures.journal c.put_header-2.result c.put_header-2.ensures.journal
+
+pub returns-clause-journal_err : goal.returns-clause-journal_err
+returns-clause-journal_err g c =
+    let pages : PageMap = to_write (slots_of c.args.changed.now) c.args.free.now.keys c.args.count in
+    let J = g.S.Store.journal in
+    no_close pages c.args.count c.args.writing.now c.args.clean.now (J c.args.store.now) (J c.set_pages.new.self) (J c.put_header.new.store) (J c.put_changed.new.store) (J c.sync.new.self) (J c.put_header-2.new.store) c.in_ok-set_pages.ensures.journal c.in_ok-put_header.ensures.journal c.in_ok-put_changed.ensures.journal c.in_ok-sync.ensures.journal c.put_header-2.result c.put_header-2.ensures.journal_err

@@ -1,0 +1,178 @@
+ghost use Rattle.std.specs.Prelude.{◌≡◌, ◌*◌, ◌≤◌, [], IfOk, IfErr};
+ghost use Rattle.rec_types.specs.Table.{counted};
+ghost use Rattle.page_store.specs.StoreFaults.{is_failed};
+
+use crate::count::count_up;
+use crate::store::Store;
+use crate::store_fault::{Shape, StoreFault};
+use std::fs::{OpenFile, OpenOptions};
+use std::io;
+use std::marker::Model;
+use std::os::unix::fs::FileExt;
+use std::rt::Files;
+
+/// A store in a file. The file's length is taken once, at opening, and kept; only `set_pages` changes
+/// it. Contracts see pages and whether the store is steady, of which they tell no more than `Store`
+/// does: no clause says that a file gives back what it took, and none that it doesn't.
+#[derive(Drop)]
+pub struct FileStore<F> {
+    file: F,
+    pages: u64,
+    tail: u16,
+    reads: u64,
+    writes: u64,
+    failures: u64,
+}
+
+impl<F> Model for FileStore<F> {
+    ghost use Rattle.std.specs.Prelude.{◌≤◌};
+    ghost use Rattle.page_store.specs.OpenedFile.{OpenedFile};
+    ghost use Rattle.page_store.specs.FileValues.{gives_back, pages_in_file};
+
+    ghost Value = { OpenedFile };
+
+    // The pages and `steady` are values that meet the clauses over any file: no clause tells which.
+    ghost view = { λ s. record {
+      pages = pages_in_file s.pages;
+      tail = s.tail;
+      steady = gives_back;
+      reads = s.reads;
+      writes = s.writes;
+      failures = s.failures;
+    } };
+
+    ghost invariant = { λ s. s.tail ≤ 4095 };
+}
+
+impl<F: OpenFile + FileExt + Drop> FileStore<F> {
+    /// Opens the file of that path to read and write it. Fault: Failed, as where there is no file.
+    pub fn open_path<R: Files<File = F>>(rt: &R, path: &str) -> Result<FileStore<F>, StoreFault>
+        ensures counts { IfOk result
+            (λ store. (store.reads ≡ 0) × (store.writes ≡ 0) × (store.failures ≡ 0)) }
+        ensures tail { IfOk result (λ store. store.tail ≤ 4095) }
+        ensures fault { IfErr result (λ fault. fault ≡ StoreFault.Failed) }
+    {
+        let opened = OpenOptions::new().read(true).write(true).open(rt, path);
+        let Ok(file) = opened else {
+            return Err(StoreFault::Failed);
+        };
+        let Ok(metadata) = file.metadata() else {
+            return Err(StoreFault::Failed);
+        };
+        let len = metadata.len();
+        Ok(FileStore {
+            file,
+            pages: len / 4096,
+            tail: (len % 4096) as u16,
+            reads: 0,
+            writes: 0,
+            failures: 0,
+        })
+    }
+
+    /// Makes a new file at that path, of no pages. Fault: Failed, as where there is a file.
+    pub fn create_new<R: Files<File = F>>(rt: &R, path: &str) -> Result<FileStore<F>, StoreFault>
+        ensures created { IfOk result (λ store. store ≡ record {
+          pages = [];
+          tail = 0;
+          steady = store.steady;
+          reads = 0;
+          writes = 0;
+          failures = 0;
+        }) }
+        ensures fault { IfErr result (λ fault. fault ≡ StoreFault.Failed) }
+    {
+        let created = OpenOptions::new()
+            .read(true)
+            .write(true)
+            .create_new(true)
+            .open(rt, path);
+        let Ok(file) = created else {
+            return Err(StoreFault::Failed);
+        };
+        Ok(FileStore {
+            file,
+            pages: 0,
+            tail: 0,
+            reads: 0,
+            writes: 0,
+            failures: 0,
+        })
+    }
+}
+
+/// Where page n begins in the file.
+fn page_start(n: u32) -> u64
+    ensures { result ≡ n * 4096 }
+{
+    u64::from(n) * 4096
+}
+
+/// The answer for the caller, with a failure counted.
+fn noted(failures: &mut u64, answer: io::Result<()>) -> Result<(), StoreFault>
+    ensures failures { failures.new ≡ counted failures.old (is_failed result) }
+    ensures fault { IfErr result (λ fault. fault ≡ StoreFault.Failed) }
+{
+    if answer.is_err() {
+        count_up(failures);
+        return Err(StoreFault::Failed);
+    }
+    Ok(())
+}
+
+impl<F: OpenFile + FileExt + Drop> Store for FileStore<F> {
+    ghost use Rattle.std.specs.Prelude.{None};
+
+    ghost pages = { λ s. s.pages };
+
+    ghost tail = { λ s. s.tail };
+
+    ghost steady = { λ s. s.steady };
+
+    ghost reads = { λ s. s.reads };
+
+    ghost writes = { λ s. s.writes };
+
+    ghost failures = { λ s. s.failures };
+
+    ghost journal = { λ _. None };
+
+    fn shape(&mut self) -> Result<Shape, StoreFault> {
+        Ok(Shape {
+            pages: self.pages,
+            tail: self.tail,
+        })
+    }
+
+    fn read(&mut self, n: u32, to: &mut [u8; 4096]) -> Result<(), StoreFault> {
+        count_up(&mut self.reads);
+        let answer = self.file.read_exact_at(to, page_start(n));
+        noted(&mut self.failures, answer)
+    }
+
+    fn write(&mut self, n: u32, from: &[u8; 4096]) -> Result<(), StoreFault> {
+        count_up(&mut self.writes);
+        let answer = self.file.write_all_at(from, page_start(n));
+        noted(&mut self.failures, answer)
+    }
+
+    /// Cuts the tail off first, so that the pages added are zero.
+    fn set_pages(&mut self, n: u32) -> Result<(), StoreFault> {
+        count_up(&mut self.writes);
+        if self.tail > 0 {
+            let answer = self.file.set_len(self.pages * 4096);
+            noted(&mut self.failures, answer)?;
+            self.tail = 0;
+        }
+        let answer = self.file.set_len(page_start(n));
+        noted(&mut self.failures, answer)?;
+        self.pages = u64::from(n);
+        Ok(())
+    }
+
+    fn sync(&mut self) -> Result<(), StoreFault> {
+        count_up(&mut self.writes);
+        let answer = self.file.sync_all();
+        noted(&mut self.failures, answer)
+    }
+}

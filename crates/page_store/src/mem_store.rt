@@ -1,0 +1,106 @@
+ghost use Rattle.std.specs.Prelude.{◌≡◌, ◌≤◌};
+
+use crate::blank::add_blank_pages;
+use crate::count::count_up;
+use crate::store::Store;
+use crate::store_fault::{Shape, StoreFault};
+use std::marker::Model;
+
+/// A store in memory, which is always steady and never fails. Contracts see its pages, the length of
+/// its tail and the numbers of its reads and of its changing calls.
+#[derive(Drop)]
+pub struct MemStore {
+    pages: Vec<[u8; 4096]>,
+    tail: u16,
+    reads: u64,
+    writes: u64,
+}
+
+impl Model for MemStore {
+    ghost use Rattle.std.specs.Prelude.{◌≤◌};
+    ghost use Rattle.page_store.specs.StoredPages.{StoredPages};
+
+    ghost Value = { StoredPages };
+
+    ghost view = { λ s. record {
+      pages = s.pages.items;
+      tail = s.tail;
+      reads = s.reads;
+      writes = s.writes;
+    } };
+
+    ghost invariant = { λ s. s.tail ≤ 4095 };
+}
+
+impl MemStore {
+    /// A store of these pages, with a tail of that many bytes, at most 4,095.
+    pub fn new(pages: Vec<[u8; 4096]>, tail: u16) -> MemStore
+        requires { tail ≤ 4095 }
+        ensures { result ≡ record { pages = pages.items; tail = tail; reads = 0; writes = 0 } }
+    {
+        MemStore {
+            pages,
+            tail,
+            reads: 0,
+            writes: 0,
+        }
+    }
+
+    /// The pages.
+    pub fn pages(&self) -> &[[u8; 4096]]
+        ensures { result.now ≡ self.now.pages }
+    {
+        self.pages.as_slice()
+    }
+}
+
+impl Store for MemStore {
+    ghost use Rattle.std.specs.Prelude.{true, None};
+
+    ghost pages = { λ s. s.pages };
+
+    ghost tail = { λ s. s.tail };
+
+    ghost steady = { λ _. true };
+
+    ghost reads = { λ s. s.reads };
+
+    ghost writes = { λ s. s.writes };
+
+    ghost failures = { λ _. 0 };
+
+    ghost journal = { λ _. None };
+
+    fn shape(&mut self) -> Result<Shape, StoreFault> {
+        Ok(Shape {
+            pages: self.pages.len() as u64,
+            tail: self.tail,
+        })
+    }
+
+    fn read(&mut self, n: u32, to: &mut [u8; 4096]) -> Result<(), StoreFault> {
+        count_up(&mut self.reads);
+        *to = self.pages[n as usize];
+        Ok(())
+    }
+
+    fn write(&mut self, n: u32, from: &[u8; 4096]) -> Result<(), StoreFault> {
+        count_up(&mut self.writes);
+        self.pages[n as usize] = *from;
+        Ok(())
+    }
+
+    fn set_pages(&mut self, n: u32) -> Result<(), StoreFault> {
+        count_up(&mut self.writes);
+        if add_blank_pages(&mut self.pages, n).is_err() {
+            return Err(StoreFault::Memory);
+        }
+        self.tail = 0;
+        Ok(())
+    }
+
+    fn sync(&mut self) -> Result<(), StoreFault> {
+        count_up(&mut self.writes);
+        Ok(())
+    }
+}

@@ -1,0 +1,309 @@
+ghost use Rattle.std.specs.Prelude.{◌≡◌, ℕ, ◌≢◌, ◌+◌, ◌-◌, ◌<◌, ◌≤◌, ◌++◌, ◌↔◌, ◌==◌, ◌||◌, ◌&&◌, if◌then◌else◌, [], false, true, not, length, Some, None, Err, is_some, IsTrue, IsSome, IfSome, OnSome, IsOk, OnOk, OnErr, slice_get};
+ghost use Rattle.std.specs.Ordering.{nat_cmp};
+ghost use Rattle.std.specs.BTreeSet.{contains};
+ghost use Rattle.rec_types.specs.Table.{counted};
+ghost use Rattle.page_store.specs.PageMap.{at, after, is_written, is_freed};
+ghost use Rattle.page_store.specs.Journal.{noted, NotesFront, writing_back};
+ghost use Rattle.page_store.specs.PagesView.{is_in_memory, is_read, memory_pages};
+ghost use Rattle.page_store.specs.Calls.{counted_times, CountedUpTo, how_many};
+ghost use Rattle.page_store.specs.FreeNumbers.{free_numbers, candidate, count_after, greatest_page_count};
+ghost use Rattle.page_store.specs.CanStage.{CanStage};
+ghost use Rattle.page_store.specs.FetchFaults.{is_device};
+ghost use Rattle.page_store.specs.Blank.{blanks};
+ghost use Rattle.page_store.specs.Growth.{GrowsTo};
+ghost use Rattle.page_store.specs.WriteFaults.{by_device};
+ghost use Rattle.page_store.specs.WritingBack.{AreStored, KeepsOthers, Stopped};
+
+use crate::free_numbers::{add_all, nth_number};
+use crate::page_edit::{FetchFault, PageEdit, WriteFault};
+use crate::slot::{
+    Slot, boxed, changed_page, drop_pages, is_in_use, make_slots, put_pages, slots_needed,
+};
+use crate::store::Store;
+use crate::write_back::{told, write_out};
+use rec_types::Memory;
+use std::alloc::Global;
+use std::collections::BTreeSet;
+use std::marker::Model;
+
+/// A store with changed pages in memory, a page count and the free page numbers. Contracts see each
+/// page's newest bytes, None for page 0 and for free numbers, whether an edit was staged, which pages
+/// in use are in memory, and what the store is.
+#[derive(Drop)]
+pub struct Pages<S: Store> {
+    store: S,
+    changed: Vec<Slot>,
+    free: BTreeSet<u32>,
+    count: u32,
+    edited: bool,
+    alloc: Global,
+}
+
+impl<S: Store> Model for Pages<S> {
+    ghost use Rattle.page_store.specs.PagesView.{PagesView};
+
+    ghost Value = { PagesView };
+
+    ghost use Rattle.page_store.specs.Overlaid.{pages_of, slots_of, ArePages};
+    ghost use Rattle.page_store.specs.WritingBack.{in_memory_of};
+
+    ghost view = { λ p. record {
+      pages = pages_of (S.pages p.store) (slots_of p.changed.items) p.free.keys p.count;
+      changed = p.edited;
+      in_memory = in_memory_of (slots_of p.changed.items) p.free.keys p.count;
+      stored = S.pages p.store;
+      tail = S.tail p.store;
+      steady = S.steady p.store;
+      reads = S.reads p.store;
+      writes = S.writes p.store;
+      failures = S.failures p.store;
+      journal = S.journal p.store;
+    } };
+
+    ghost invariant = { λ p.
+        ArePages (S.pages p.store) (slots_of p.changed.items) p.free.keys p.count p.edited };
+}
+
+impl<S: Store> Pages<S> {
+    /// The pages of a store, of which there are `count`. The condition is that `count` is 1 to
+    /// 1,000,001, the store has at most so many pages, each free number is from 1 to `count - 1`, and
+    /// each page from 1 on that the store lacks is free.
+    pub fn new(alloc: Global, store: S, count: u32, free: BTreeSet<u32>) -> Pages<S>
+        requires some { 1 ≤ count }
+        requires most { count ≤ greatest_page_count }
+        requires store_fits { length (S.pages store) ≤ count }
+        requires free_fits { (n : ℕ) → IsTrue (contains nat_cmp free n) → (1 ≤ n) × (n < count) }
+        requires lacking_free { (n : ℕ) → length (S.pages store) ≤ n → 1 ≤ n → n < count
+            → IsTrue (contains nat_cmp free n) }
+        ensures count { length result.pages ≡ count }
+        ensures pages { (n : ℕ) → n < count → at result.pages n
+            ≡ (if n == 0 || contains nat_cmp free n then None else slice_get (S.pages store) n) }
+        ensures in_memory { (n : ℕ) → is_in_memory result n ≡ false }
+        ensures store { result ≡ record {
+          pages = result.pages;
+          changed = false;
+          in_memory = result.in_memory;
+          stored = S.pages store;
+          tail = S.tail store;
+          steady = S.steady store;
+          reads = S.reads store;
+          writes = S.writes store;
+          failures = S.failures store;
+          journal = S.journal store;
+        } }
+    {
+        Pages {
+            store,
+            changed: Vec::new(alloc),
+            free,
+            count,
+            edited: false,
+            alloc,
+        }
+    }
+
+    /// Reads page n's newest bytes: a changed page from memory, where the store isn't called, any other
+    /// by one read of the store, each time. Faults: Device where the store failed, OutOfRange where page
+    /// n is not in use; `to` is as it was then. No page changes.
+    pub fn fetch(&mut self, n: u32, to: &mut [u8; 4096]) -> Result<(), FetchFault>
+        ensures page { IsTrue self.old.steady → OnOk result (at self.old.pages n ≡ Some to.new) }
+        ensures out_of_range { (result ≡ Err FetchFault.OutOfRange) ↔ (at self.old.pages n ≡ None) }
+        ensures device { self.new.failures ≡ counted self.old.failures (is_device result) }
+        ensures unchanged { self.new
+            ≡ record self.old { reads = self.new.reads; failures = self.new.failures } }
+        ensures nothing_there { at self.old.pages n ≡ None → self.new ≡ self.old }
+        ensures nothing_read { at self.old.pages n ≡ None → to.new ≡ to.old }
+        ensures from_memory { is_in_memory self.old n ≡ true
+            → (self.new ≡ self.old) × IsOk result × (at self.old.pages n ≡ Some to.new) }
+        ensures some { OnOk result (0 < n) }
+        ensures reads { self.new.reads ≡ counted self.old.reads (is_read self.old n) }
+        ensures from_store { self.old.changed ≡ false → IsSome (at self.old.pages n)
+            → self.new.reads ≡ counted self.old.reads true }
+    {
+        if !is_in_use(self.count, &self.free, n) {
+            return Err(FetchFault::OutOfRange);
+        }
+        if let Some(page) = changed_page(&self.changed, n) {
+            *to = *page;
+            return Ok(());
+        }
+        match self.store.read(n, to) {
+            Ok(()) => Ok(()),
+            Err(_) => Err(FetchFault::Device),
+        }
+    }
+
+    /// Page n's newest bytes where they lie in memory, without a copy. None where the page isn't in use
+    /// or has to be read from the store.
+    pub fn in_memory(&self, n: u32) -> Option<&[u8; 4096]>
+        ensures page { IfSome result (λ page. at self.now.pages n ≡ Some page.now) }
+        ensures number { OnSome result (0 < n) }
+        ensures some { is_some result ≡ is_in_memory self.now n }
+    {
+        if !is_in_use(self.count, &self.free, n) {
+            return None;
+        }
+        changed_page(&self.changed, n)
+    }
+
+    /// Puts all of an edit in place, in memory: takes the first candidates, writes the pages and frees
+    /// the numbers. The condition is that what is written is in use or taken, each taken number is
+    /// written, what is freed is in use and not written, and a page count that grows is at most 1,000,001.
+    /// Fault: Memory; nothing has changed then. An edit that writes and frees nothing takes none.
+    pub fn stage(&mut self, edit: PageEdit) -> Result<(), Memory>
+        requires { CanStage self.old.pages edit.writes.items edit.taken edit.freed.items }
+        ensures pages { OnOk result ((n : ℕ) → at self.new.pages n
+            ≡ after (at self.old.pages) edit.writes.items edit.freed.items n) }
+        ensures count { OnOk result
+            (length self.new.pages ≡ count_after self.old.pages edit.taken) }
+        ensures changed { OnOk result (self.new.changed ≡ true) }
+        ensures in_memory { OnOk result ((n : ℕ) → is_in_memory self.new n
+            ≡ ((is_written edit.writes.items n || is_in_memory self.old n)
+            && not (is_freed edit.freed.items n))) }
+        ensures store { self.new ≡ record self.old {
+          pages = self.new.pages;
+          changed = self.new.changed;
+          in_memory = self.new.in_memory;
+        } }
+        ensures err { OnErr result (self.new ≡ self.old) }
+        ensures empty { edit.writes.items ≡ [] → edit.freed.items ≡ [] → IsOk result }
+    {
+        let count = self.count + edit.taken.saturating_sub(self.free_count());
+        let pages = boxed(self.alloc, &edit.writes)?;
+        make_slots(&mut self.changed, slots_needed(&edit.writes, count))?;
+        add_all(&mut self.free, &edit.freed)?;
+        put_pages(&mut self.changed, &mut self.free, pages);
+        drop_pages(&mut self.changed, &edit.freed);
+        self.count = count;
+        self.edited = true;
+        Ok(())
+    }
+
+    /// The number of pages, page 0 included.
+    pub fn page_count(&self) -> u32
+        ensures value { result ≡ length self.now.pages }
+        ensures some { 1 ≤ result }
+        ensures most { result ≤ greatest_page_count }
+        ensures header { at self.now.pages 0 ≡ None }
+    {
+        self.count
+    }
+
+    /// How many page numbers are free.
+    pub fn free_count(&self) -> u32
+        ensures { result ≡ length (free_numbers self.now.pages) }
+    {
+        self.free.len() as u32
+    }
+
+    /// The page number that an edit takes as its i-th, from 0, with i at most 1,000: the free numbers
+    /// in ascending order, and then the page count and the numbers above it.
+    pub fn candidate(&self, i: u32) -> u32
+        requires { i ≤ 1000 }
+        ensures value { result ≡ candidate self.now.pages i }
+        ensures some { 0 < result }
+    {
+        nth_number(&self.free, self.count, i)
+    }
+
+    /// Whether an edit was staged since `new` or the last writing back. Where none was, no page is in
+    /// memory, and each page in use that is not in memory is the store's.
+    pub fn changed(&self) -> bool
+        ensures value { result ≡ self.now.changed }
+        ensures idle { self.now.changed ≡ false → (n : ℕ) → is_in_memory self.now n ≡ false }
+        ensures in_use { (n : ℕ) → is_in_memory self.now n ≡ true → IsSome (at self.now.pages n) }
+        ensures stored { (n : ℕ) → IsSome (at self.now.pages n) → is_in_memory self.now n ≡ false
+            → slice_get self.now.stored n ≡ at self.now.pages n }
+        ensures fits { length self.now.stored ≤ length self.now.pages }
+    {
+        self.edited
+    }
+
+    /// Writes the changed pages back, so that the store has each page in use: makes the store as long
+    /// as the page count, writes `writing` as page 0, then each changed page in use in ascending
+    /// order, then `clean` as page 0, and has the device keep it after each of the three: six calls and
+    /// one for each changed page. It stops at the first call that fails, and takes no memory of its own. Faults: Device where the store
+    /// failed, Memory where it was not made longer. No page here, number or answer of `changed` is
+    /// different then, so that the call can be made again; in a steady store no page but page 0 has
+    /// changed, or page 0 is `writing`, or each page in use is there.
+    pub fn write_back(&mut self, writing: &[u8; 4096], clean: &[u8; 4096]) -> Result<(), WriteFault>
+        ensures count { OnOk result (length self.new.stored ≡ length self.old.pages) }
+        ensures tail { OnOk result (self.new.tail ≡ 0) }
+        ensures header { IsTrue self.old.steady
+            → OnOk result (slice_get self.new.stored 0 ≡ Some clean.now) }
+        ensures stored { IsTrue self.old.steady
+            → OnOk result (AreStored (at self.old.pages) self.new.stored) }
+        ensures unwritten { OnOk result ((n : ℕ) → n ≢ 0 → at self.old.pages n ≡ None
+            → slice_get self.new.stored n ≡ slice_get
+            (self.old.stored ++ blanks (length self.old.pages - length self.old.stored)) n) }
+        ensures idle { OnOk result (self.new.changed ≡ false) }
+        ensures in_memory { OnOk result ((n : ℕ) → is_in_memory self.new n ≡ false) }
+        ensures writes { OnOk result (self.new.writes ≡ counted_times self.old.writes
+            (6 + how_many (is_in_memory self.old) (length self.old.pages))) }
+        ensures writes_err { OnErr result (CountedUpTo
+            (6 + how_many (is_in_memory self.old) (length self.old.pages))
+            self.old.writes self.new.writes) }
+        ensures pages { IsTrue self.old.steady → self.new.pages ≡ self.old.pages }
+        ensures same_count { length self.new.pages ≡ length self.old.pages }
+        ensures same_free { free_numbers self.new.pages ≡ free_numbers self.old.pages }
+        ensures same_use { (n : ℕ) → is_some (at self.new.pages n) ≡ is_some (at self.old.pages n) }
+        ensures rest { self.new ≡ record self.old {
+          pages = self.new.pages;
+          changed = self.new.changed;
+          in_memory = self.new.in_memory;
+          stored = self.new.stored;
+          tail = self.new.tail;
+          writes = self.new.writes;
+          failures = self.new.failures;
+          journal = self.new.journal;
+        } }
+        ensures err { OnErr result (self.new ≡ record self.old {
+          stored = self.new.stored;
+          tail = self.new.tail;
+          writes = self.new.writes;
+          failures = self.new.failures;
+          journal = self.new.journal;
+        }) }
+        ensures others { KeepsOthers (at self.old.pages) (length self.old.pages)
+            self.old.stored self.new.stored }
+        ensures stopped { IsTrue self.old.steady → OnErr result
+            (Stopped (at self.old.pages) writing.now self.old.stored self.new.stored) }
+        ensures memory { result ≡ Err WriteFault.Memory
+            → GrowsTo (length self.old.pages) self.old.stored self.new.stored }
+        ensures device { self.new.failures ≡ counted self.old.failures (by_device result) }
+        ensures journal { OnOk result (self.new.journal ≡ noted self.old.journal (writing_back
+            (memory_pages self.old) (length self.old.pages) writing.now clean.now)) }
+        ensures journal_err { OnErr result (NotesFront (writing_back (memory_pages self.old)
+            (length self.old.pages) writing.now clean.now) self.old.journal self.new.journal) }
+    {
+        let written = write_out(
+            &mut self.store,
+            &self.changed,
+            &self.free,
+            self.count,
+            writing,
+            clean,
+        );
+        if let Err(fault) = written {
+            return Err(told(fault));
+        }
+        self.changed.clear();
+        self.edited = false;
+        Ok(())
+    }
+
+    /// The store, with its pages as they are: what was staged since the last writing back is not in
+    /// it.
+    pub fn into_store(self) -> S
+        ensures pages { S.pages result ≡ self.stored }
+        ensures tail { S.tail result ≡ self.tail }
+        ensures steady { S.steady result ≡ self.steady }
+        ensures reads { S.reads result ≡ self.reads }
+        ensures writes { S.writes result ≡ self.writes }
+        ensures failures { S.failures result ≡ self.failures }
+        ensures journal { S.journal result ≡ self.journal }
+    {
+        let Pages { store, .. } = self;
+        store
+    }
+}

@@ -1,0 +1,156 @@
+ghost use Rattle.std.specs.Prelude.{◌≡◌, ◌≢◌, ℕ, ◌-◌, ◌<◌, ◌≤◌, ◌+◌, ◌==◌, [], ◌∷◌, ◌++◌, length, None, Err, is_some, IsTrue, OnOk, OnErr, slice_get};
+ghost use Rattle.std.specs.Option.{option_copied};
+ghost use Rattle.rec_types.specs.Table.{counted};
+ghost use Rattle.page_store.specs.Blank.{blanks};
+ghost use Rattle.page_store.specs.Calls.{counted_times, CountedUpTo, how_many};
+ghost use Rattle.page_store.specs.Growth.{GrowsTo};
+ghost use Rattle.page_store.specs.Journal.{noted, NotesFront, writes_below, writing_back};
+ghost use Rattle.page_store.specs.declared.step.Step.{Step};
+ghost use Rattle.page_store.specs.StoreFaults.{is_failed};
+ghost use Rattle.page_store.specs.Overlaid.{slots_of};
+ghost use Rattle.page_store.specs.WriteFaults.{told};
+ghost use Rattle.page_store.specs.WritingBack.{to_write, AreStored, SameBut, KeepsOthers, Stopped};
+
+use crate::page_edit::WriteFault;
+use crate::slot::{Slot, changed_page, is_in_use};
+use crate::store::Store;
+use crate::store_fault::StoreFault;
+use std::collections::BTreeSet;
+
+/// The fault of a writing back that a fault of the store ends.
+pub(crate) fn told(fault: StoreFault) -> WriteFault
+    ensures { result ≡ told fault }
+{
+    match fault {
+        StoreFault::Failed => WriteFault::Device,
+        StoreFault::Memory => WriteFault::Memory,
+    }
+}
+
+/// The changed page of that number, where the page is in use.
+fn page_to_write<'a>(
+    changed: &'a [Slot],
+    free: &BTreeSet<u32>,
+    count: u32,
+    n: u32,
+) -> Option<&'a [u8; 4096]>
+    ensures { option_copied result ≡ to_write (slots_of changed.now) free.now.keys count n }
+{
+    match changed_page(changed, n) {
+        Some(page) if is_in_use(count, free, n) => Some(page),
+        _ => None,
+    }
+}
+
+/// Writes page 0, which is there, and has the device keep it. Fault: Failed; page 0 then has any bytes.
+fn put_header<S: Store>(store: &mut S, page: &[u8; 4096]) -> Result<(), StoreFault>
+    requires { 0 < length (S.pages store.old) }
+    ensures page { IsTrue (S.steady store.old)
+        → OnOk result (slice_get (S.pages store.new) 0 ≡ Some page.now) }
+    ensures others { SameBut (λ n. n == 0) (S.pages store.old) (S.pages store.new) }
+    ensures no_memory { result ≢ Err StoreFault.Memory }
+    ensures tail { S.tail store.new ≡ S.tail store.old }
+    ensures steady { S.steady store.new ≡ S.steady store.old }
+    ensures reads { S.reads store.new ≡ S.reads store.old }
+    ensures writes { OnOk result (S.writes store.new ≡ counted_times (S.writes store.old) 2) }
+    ensures writes_err { OnErr result (CountedUpTo 2 (S.writes store.old) (S.writes store.new)) }
+    ensures failures { S.failures store.new ≡ counted (S.failures store.old) (is_failed result) }
+    ensures journal { OnOk result (S.journal store.new
+        ≡ noted (S.journal store.old) (Step.Write 0 page.now ∷ Step.Sync ∷ [])) }
+    ensures journal_err { OnErr result (NotesFront (Step.Write 0 page.now ∷ Step.Sync ∷ [])
+        (S.journal store.old) (S.journal store.new)) }
+{
+    store.write(0, page)?;
+    store.sync()
+}
+
+/// Writes each changed page in use, in ascending order. Fault: Failed; some of them are written then,
+/// and one of them has any bytes.
+fn put_changed<S: Store>(
+    store: &mut S,
+    changed: &[Slot],
+    free: &BTreeSet<u32>,
+    count: u32,
+) -> Result<(), StoreFault>
+    requires some { 1 ≤ count }
+    requires long { length (S.pages store.old) ≡ count }
+    ensures pages { IsTrue (S.steady store.old) → OnOk result
+        (AreStored (to_write (slots_of changed.now) free.now.keys count) (S.pages store.new)) }
+    ensures others { SameBut
+        (λ n. is_some (to_write (slots_of changed.now) free.now.keys count n))
+        (S.pages store.old) (S.pages store.new) }
+    ensures no_memory { result ≢ Err StoreFault.Memory }
+    ensures tail { S.tail store.new ≡ S.tail store.old }
+    ensures steady { S.steady store.new ≡ S.steady store.old }
+    ensures reads { S.reads store.new ≡ S.reads store.old }
+    ensures writes { OnOk result (S.writes store.new ≡ counted_times (S.writes store.old) (how_many
+        (λ n. is_some (to_write (slots_of changed.now) free.now.keys count n)) count)) }
+    ensures writes_err { OnErr result (CountedUpTo (how_many
+        (λ n. is_some (to_write (slots_of changed.now) free.now.keys count n)) count)
+        (S.writes store.old) (S.writes store.new)) }
+    ensures failures { S.failures store.new ≡ counted (S.failures store.old) (is_failed result) }
+    ensures journal { OnOk result (S.journal store.new ≡ noted (S.journal store.old)
+        (writes_below (to_write (slots_of changed.now) free.now.keys count) count)) }
+    ensures journal_err { OnErr result (NotesFront
+        (writes_below (to_write (slots_of changed.now) free.now.keys count) count)
+        (S.journal store.old) (S.journal store.new)) }
+{
+    for n in 1..count {
+        if let Some(page) = page_to_write(changed, free, count, n) {
+            store.write(n, page)?;
+        }
+    }
+    Ok(())
+}
+
+/// Writes the changed pages in use between two writes of page 0, and stops at the first call that
+/// fails. Faults: Failed, and Memory where the store was not made longer.
+pub(crate) fn write_out<S: Store>(
+    store: &mut S,
+    changed: &[Slot],
+    free: &BTreeSet<u32>,
+    count: u32,
+    writing: &[u8; 4096],
+    clean: &[u8; 4096],
+) -> Result<(), StoreFault>
+    requires some { 1 ≤ count }
+    requires fits { length (S.pages store.old) ≤ count }
+    ensures count { OnOk result (length (S.pages store.new) ≡ count) }
+    ensures tail { OnOk result (S.tail store.new ≡ 0) }
+    ensures header { IsTrue (S.steady store.old)
+        → OnOk result (slice_get (S.pages store.new) 0 ≡ Some clean.now) }
+    ensures pages { IsTrue (S.steady store.old) → OnOk result
+        (AreStored (to_write (slots_of changed.now) free.now.keys count) (S.pages store.new)) }
+    ensures unwritten { OnOk result ((n : ℕ) → n ≢ 0
+        → to_write (slots_of changed.now) free.now.keys count n ≡ None
+        → slice_get (S.pages store.new) n
+        ≡ slice_get (S.pages store.old ++ blanks (count - length (S.pages store.old))) n) }
+    ensures others { KeepsOthers (to_write (slots_of changed.now) free.now.keys count) count
+        (S.pages store.old) (S.pages store.new) }
+    ensures stopped { IsTrue (S.steady store.old) → OnErr result
+        (Stopped (to_write (slots_of changed.now) free.now.keys count) writing.now
+        (S.pages store.old) (S.pages store.new)) }
+    ensures memory { result ≡ Err StoreFault.Memory
+        → GrowsTo count (S.pages store.old) (S.pages store.new) }
+    ensures steady { S.steady store.new ≡ S.steady store.old }
+    ensures reads { S.reads store.new ≡ S.reads store.old }
+    ensures writes { OnOk result (S.writes store.new ≡ counted_times (S.writes store.old)
+        (6 + how_many
+        (λ n. is_some (to_write (slots_of changed.now) free.now.keys count n)) count)) }
+    ensures writes_err { OnErr result (CountedUpTo (6 + how_many
+        (λ n. is_some (to_write (slots_of changed.now) free.now.keys count n)) count)
+        (S.writes store.old) (S.writes store.new)) }
+    ensures failures { S.failures store.new ≡ counted (S.failures store.old) (is_failed result) }
+    ensures journal { OnOk result (S.journal store.new ≡ noted (S.journal store.old)
+        (writing_back (to_write (slots_of changed.now) free.now.keys count) count
+        writing.now clean.now)) }
+    ensures journal_err { OnErr result (NotesFront
+        (writing_back (to_write (slots_of changed.now) free.now.keys count) count
+        writing.now clean.now) (S.journal store.old) (S.journal store.new)) }
+{
+    store.set_pages(count)?;
+    put_header(store, writing)?;
+    put_changed(store, changed, free, count)?;
+    store.sync()?;
+    put_header(store, clean)
+}

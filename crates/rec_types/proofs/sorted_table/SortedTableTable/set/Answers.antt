@@ -1,0 +1,68 @@
+use Rattle.std.proofs.Common.{ℕ, length, List, Option, Some, None, is_some, is_none, nat_le, ◌&&◌, sym, ap, ◌∙◌}
+use Rattle.std.specs.FinMap as maps
+use Rattle.rec_types.specs.Contents.{set_to}
+use Rattle.rec_types.specs.Sorted.{SortedState}
+use Rattle.rec_types.proofs.MapLemmas.{got, sorted_of, contents_updated, len-map, fewer, fits, not_full, is_full, none_not_some}
+use Rattle.rec_types.proofs.sorted_table.SortedTableTable.set.Goals as goal
+
+-- the key is taken out
+pub invariant_of-self : goal.invariant_of-self
+invariant_of-self c = record {
+  sorted = sorted_of c.remove.new.self.entries c.remove.ensures.ordered;
+  within = fewer (is_some c.remove.result) _ _ _ c.remove.ensures.len c.self.invariant.within;
+  limited = c.self.invariant.limited;
+}
+
+pub returns-in_default-clause-value : goal.returns-in_default-clause-value
+returns-in_default-clause-value c = c.remove.ensures.value ∙ sym (got c.self.inside.records c.args.key c.self.invariant.sorted) ∙ ap (λ (s : SortedState). maps.get s.contents c.args.key) c.self.view_is
+
+pub returns-in_default-clause-ok : goal.returns-in_default-clause-ok
+returns-in_default-clause-ok c =
+    contents_updated c.self.inside.records c.remove.new.self c.args.key None c.self.invariant.sorted (sorted_of c.remove.new.self.entries c.remove.ensures.ordered) c.remove.ensures.updates
+    ∙ ap (λ (s : SortedState). set_to s.contents c.args.key None) c.self.view_is
+    ∙ ap (λ (w : Option (List ℕ)). set_to c.args.self.now.contents c.args.key w) (sym c.in_default.is)
+
+-- the table is full, and the key isn't there
+pub returns-then-is_full_for-clause-no_room : goal.returns-then-is_full_for-clause-no_room
+returns-then-is_full_for-clause-no_room c = λ _.
+    let full = is_full c.args.self.now.limit (maps.len c.args.self.now.contents) (maps.get c.args.self.now.contents c.args.key) (sym c.if-is_full_for.ensures) in
+    (ap (λ (o : Option (List ℕ)). is_some o) c.in-Some.is, full.0, full.1)
+
+pub returns-then-is_full_for-clause-present : goal.returns-then-is_full_for-clause-present
+returns-then-is_full_for-clause-present c = λ some.
+    none_not_some (maps.get c.args.self.now.contents c.args.key) (is_full c.args.self.now.limit (maps.len c.args.self.now.contents) (maps.get c.args.self.now.contents c.args.key) (sym c.if-is_full_for.ensures)).0 some
+
+-- a record is put
+pub invariant_of-self-in-Ok : goal.invariant_of-self-in-Ok
+invariant_of-self-in-Ok c = record {
+  sorted = sorted_of c.insert.new.self.entries c.in-Ok.ensures.ordered;
+  within =
+      let sorted = c.self.invariant.sorted in
+      let limits = ap (λ (s : SortedState). s.limit) c.self.view_is in
+      let counts = sym (len-map c.self.inside.records.entries sorted) ∙ ap (λ (s : SortedState). maps.len s.contents) c.self.view_is in
+      let stood = c.in-Ok.ensures.old ∙ sym (got c.self.inside.records c.args.key sorted) ∙ ap (λ (s : SortedState). maps.get s.contents c.args.key) c.self.view_is in
+      fits c.self.inside.limit (length c.self.inside.records.entries) (length c.insert.new.self.entries) c.in-Ok.before c.in-Ok.ensures.len
+      ((λ i. nat_le (limits i) (counts i) && is_none (stood i)) ∙ sym c.if-is_full_for.ensures)
+      c.self.invariant.within;
+  limited = c.self.invariant.limited;
+}
+
+pub returns-in-Ok-clause-value : goal.returns-in-Ok-clause-value
+returns-in-Ok-clause-value c = c.in-Ok.ensures.old ∙ sym (got c.self.inside.records c.args.key c.self.invariant.sorted) ∙ ap (λ (s : SortedState). maps.get s.contents c.args.key) c.self.view_is
+
+pub returns-in-Ok-clause-ok : goal.returns-in-Ok-clause-ok
+returns-in-Ok-clause-ok c =
+    contents_updated c.self.inside.records c.insert.new.self c.args.key (Some c.in-Some.«record») c.self.invariant.sorted (sorted_of c.insert.new.self.entries c.in-Ok.ensures.ordered) c.in-Ok.ensures.updates
+    ∙ ap (λ (s : SortedState). set_to s.contents c.args.key (Some c.in-Some.«record»)) c.self.view_is
+    ∙ ap (λ (w : Option (List ℕ)). set_to c.args.self.now.contents c.args.key w) (sym c.in-Some.is)
+
+pub returns-in-Ok-clause-full : goal.returns-in-Ok-clause-full
+returns-in-Ok-clause-full c = λ _ absent reached _. absurd (cc (not_full c.args.self.now.limit (maps.len c.args.self.now.contents) (maps.get c.args.self.now.contents c.args.key) (sym c.if-is_full_for.ensures) absent reached))
+
+-- no memory for a new key
+pub returns-in-Err-clause-full : goal.returns-in-Err-clause-full
+returns-in-Err-clause-full c = λ _ absent reached _. absurd (cc (not_full c.args.self.now.limit (maps.len c.args.self.now.contents) (maps.get c.args.self.now.contents c.args.key) (sym c.if-is_full_for.ensures) absent reached))
+
+pub returns-in-Err-clause-present : goal.returns-in-Err-clause-present
+returns-in-Err-clause-present c = λ some.
+    none_not_some (maps.get c.args.self.now.contents c.args.key) (sym (ap (λ (s : SortedState). maps.get s.contents c.args.key) c.self.view_is) ∙ got c.self.inside.records c.args.key c.self.invariant.sorted ∙ c.in-Err.ensures.absent) some

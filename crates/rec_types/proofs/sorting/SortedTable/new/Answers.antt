@@ -1,6 +1,0 @@
-use Rattle.rec_types.proofs.MapFacts.{new_state}
-use Rattle.rec_types.proofs.sorting.SortedTable.new.Goals as goal
-
--- a map without entries makes empty contents
-pub returns : goal.returns
-returns c = new_state _ _ _ c.new.ensures.empty c.records.ensures.value

@@ -1,0 +1,113 @@
+ghost use Rattle.std.specs.Prelude.{◌≡◌, ◌≤◌, ◌↔◌, length, take, IfSome, IsSome};
+ghost use Rattle.rec_types.specs.Padded.{IsZeroFrom};
+ghost use Rattle.rec_types.specs.Record.{record_of};
+
+use crate::number::is_zero_behind;
+use std::marker::Model;
+use thiserror::Error;
+
+/// Why bytes are no record.
+#[derive(Clone, Copy, Debug, PartialEq, Eq, Error)]
+pub enum RecordFault {
+    #[error("a record has at most 32 bytes")]
+    TooLong,
+}
+
+/// A record of 0 to 32 bytes. Contracts see its bytes.
+#[derive(Clone, Copy, Debug)]
+pub struct Record {
+    bytes: [u8; 32],
+    len: u8,
+}
+
+impl Model for Record {
+    ghost use Rattle.std.specs.Prelude.{List, ℕ};
+    ghost use Rattle.std.specs.Coded.{coded_list, coded_ℕ};
+
+    ghost Value = { List ℕ };
+
+    ghost coded = { coded_list coded_ℕ };
+
+    ghost use Rattle.rec_types.specs.RecordBytes.{bytes_of, IsRecord, fields_of, fields_of_bytes};
+
+    ghost view = { bytes_of };
+
+    ghost invariant = { IsRecord };
+
+    ghost inverse = { fields_of };
+
+    ghost inverse_ok = { fields_of_bytes };
+}
+
+impl Record {
+    /// The record of these bytes. Fault: TooLong.
+    pub fn new(bytes: &[u8]) -> Result<Record, RecordFault>
+        ensures { result ≡ record_of bytes.now }
+    {
+        if bytes.len() > 32 {
+            return Err(RecordFault::TooLong);
+        }
+        let mut padded = [0; 32];
+        padded[..bytes.len()].copy_from_slice(bytes);
+        Ok(Record {
+            bytes: padded,
+            len: bytes.len() as u8,
+        })
+    }
+
+    /// The record in the first `len` bytes of a field of the greatest length. None where no record has
+    /// that length, or a byte behind it isn't zero.
+    pub fn in_field(field: &[u8; 32], len: u8) -> Option<Record>
+        ensures value { IfSome result (λ bytes. bytes ≡ take len field.now) }
+        ensures some { IsSome result ↔ ((len ≤ 32) × IsZeroFrom len field.now) }
+    {
+        if len > 32 || !is_zero_behind(field, len) {
+            return None;
+        }
+        Some(Record { bytes: *field, len })
+    }
+
+    /// The bytes of the record.
+    pub fn bytes(&self) -> &[u8]
+        ensures value { result.now ≡ self.now }
+        ensures most { length self.now ≤ 32 }
+    {
+        &self.bytes[..self.len as usize]
+    }
+}
+
+impl Default for Record {
+    ghost use Rattle.std.specs.Prelude.{◌≡◌, []};
+
+    ghost is_default = { λ bytes. bytes ≡ [] };
+
+    /// The empty record.
+    fn default() -> Record {
+        Record {
+            bytes: [0; 32],
+            len: 0,
+        }
+    }
+}
+
+impl PartialEq for Record {
+    ghost use Rattle.std.specs.Prelude.{◌==◌};
+    ghost use Rattle.std.specs.Cmp.Lexicographic.{pointwise};
+    ghost use Rattle.std.specs.Cmp.Rules.{comparing};
+    ghost use Rattle.std.proofs.Common.{rules};
+
+    ghost eq = { pointwise ◌==◌ };
+
+    ghost laws = { Prim.search (comparing, rules) };
+
+    fn eq(&self, other: &Record) -> bool {
+        self.bytes() == other.bytes()
+    }
+}
+
+impl Eq for Record {
+    ghost use Rattle.std.specs.Cmp.Rules.{comparing};
+    ghost use Rattle.std.proofs.Common.{rules};
+
+    ghost laws = { Prim.search (comparing, rules) };
+}

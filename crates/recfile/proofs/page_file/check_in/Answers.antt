@@ -1,0 +1,12 @@
+use Rattle.std.proofs.Common.{◌≡◌, ◌≤◌, ℕ, refl, sym, subst}
+use Rattle.btree_insert.specs.Contents.{contents_of}
+use Rattle.recfile.proofs.page_file.check_in.Goals as goal
+
+pub returns-clause-closed : goal.returns-clause-closed
+returns-clause-closed g c steady =
+    let opened = c.in-Ok.ensures.found steady in (
+      c.in-Ok.table.tree,
+      contents_of opened.es,
+      record { h = opened.h; es = opened.es; us = opened.us; clean = opened.clean; records = refl },
+      subst (λ (n : ℕ). n ≤ c.args.limits.records) (sym opened.clean.count) opened.few,
+    )

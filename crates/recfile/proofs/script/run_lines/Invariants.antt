@@ -1,0 +1,19 @@
+use Rattle.std.proofs.Common.{◌+◌, ◌≤◌, List, length}
+use Rattle.std.specs.List.{flat_map}
+use Rattle.std.specs.Io.KnownBytes.{Appends}
+use Rattle.command_text.specs.declared.reply.Reply.{Reply}
+use Rattle.command_text.specs.Texts.{text_of}
+use Rattle.record_file.specs.Runs.{seen}
+use Rattle.recfile.specs.Run.{Served}
+use Rattle.recfile.proofs.script.run_lines.Given as goal
+
+abbrev pub decreases-loop-rest : goal.decreases-loop-rest
+decreases-loop-rest g l = length l.rest
+
+-- the front of the script was run, and the replies so far are written
+abbrev pub invariant-loop-rest : goal.invariant-loop-rest
+invariant-loop-rest g l =
+    (replies : List Reply)
+    × Served l.fn.script l.rest (seen g.T.Table l.fn.file) replies (seen g.T.Table l.file) l.done
+    × Appends (g.W.Write.contents l.fn.writer) (g.W.Write.contents l.writer) (flat_map text_of replies)
+    × (l.done + length l.rest ≤ 1048576)

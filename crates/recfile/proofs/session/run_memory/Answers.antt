@@ -1,0 +1,44 @@
+use Rattle.std.proofs.Common.{◌≡◌, true, [], if◌then◌else◌, refl, sym, ap, subst, ◌∙◌}
+use Rattle.std.specs.FinMap as maps
+use Rattle.rec_types.specs.LimitBounds.{Bounds}
+use Rattle.rec_types.specs.Sorted.{SortedState}
+use Rattle.rec_types.specs.Table.{no_damage}
+use Rattle.rec_types.specs.declared.table.Table.{Ghosts}
+use Rattle.record_file.specs.Abstract.{OpenFile, new_file}
+use Rattle.record_file.specs.Runs.{Seen, seen}
+use Rattle.recfile.specs.WholeSession.{IsSession}
+use Rattle.recfile.specs.Whole.{empty_file}
+use Rattle.recfile.proofs.WholeAbortLemmas.{whole_empty, whole_script}
+use Rattle.recfile.proofs.session.run_memory.Goals as goal
+
+-- what a sorted table shows
+abbrev sorted : Ghosts SortedState
+sorted = record { contents = λ t. t.contents; record_limit = λ t. t.limit; sound = λ _. true; device_failures = λ _. 0; memory_refusals = λ t. t.refusals; damages = λ _. no_damage }
+
+-- what a run sees of a new file over an empty table
+fresh : {T : Type 0} (t : Ghosts T) (f : OpenFile T) (table : T) (limits : Bounds) → f ≡ record { table = table; file = new_file (t.contents table) limits; log = [] }
+    → t.contents table ≡ maps.empty → t.sound table ≡ true → t.device_failures table ≡ 0 → t.memory_refusals table ≡ 0 → t.damages table ≡ no_damage → seen t f ≡ empty_file limits
+fresh t f table limits is contents sound failures refusals damages =
+    ap (seen t) is
+    ∙ (λ i. record {
+      file = new_file (contents i) limits;
+      log = [];
+      records = contents i;
+      sound = sound i;
+      failures = failures i;
+      refusals = refusals i;
+      damages = damages i;
+    })
+
+pub returns : goal.returns
+returns g c =
+    let start : seen sorted c.new-file.result ≡ empty_file c.args.limits = fresh sorted c.new-file.result c.new.result c.args.limits c.new-file.ensures (ap (λ (s : SortedState). s.contents) c.new.ensures) refl refl (ap (λ (s : SortedState). s.refusals) c.new.ensures) refl in
+    let known = subst (λ (s : Seen). IsSession (g.R.Read.remaining c.args.reader.now) (g.R.Read.remaining c.run_session-end.new.reader) (g.W.Write.contents c.args.out.now) (g.W.Write.contents c.run_session-end.new.out) s c.run_session-end.ensures.0 c.run_session-end.result.script c.run_session-end.result.ended (seen sorted c.run_session-end.new.file)) start c.run_session-end.ensures.1 in (
+      c.run_session-end.result.script,
+      c.run_session-end.result.ended,
+      c.run_session-end.ensures.0,
+      seen sorted c.run_session-end.new.file,
+      known,
+      whole_script c.run_session-end.result.script _ _ _ _ (empty_file c.args.limits) c.run_session-end.ensures.0 known.script whole_empty,
+      c.exit_status.ensures ∙ (λ i. if c.is_err.ensures.value i then 4 else (if c.is_err-2.ensures.value i then 3 else 0)),
+    )

@@ -1,0 +1,18 @@
+use Rattle.std.proofs.Common.{Result, Ok, Err, IfOk, IfErr, MatchResult}
+use Rattle.record_file.specs.Runs.{seen}
+use Rattle.recfile.proofs.session.run_session.Goals as goal
+
+matched : {A F : Type 0} (answer : Result A F) (P : A → Type 0) (Q : F → Type 0) → IfOk answer P → IfErr answer Q → MatchResult answer P Q
+matched (Ok x) P Q ok err = ok
+matched (Err x) P Q ok err = err
+
+pub returns : goal.returns
+returns g c = (
+  seen g.T.Table c.run_script-script.new.file,
+  record {
+    script = matched c.run_script-script.result _ _ c.run_script-script.ensures.finished c.run_script-script.ensures.faulted;
+    ending = matched c.end_all-ended.result _ _ c.end_all-ended.ensures.ended c.end_all-ended.ensures.stopped;
+    asks = c.end_all-ended.ensures.asks;
+    records = c.end_all-ended.ensures.records;
+  },
+)

@@ -1,0 +1,76 @@
+ghost use Rattle.std.specs.Prelude.{◌≡◌, MatchOption, Ok, None, if◌then◌else◌};
+ghost use Rattle.command_text.specs.declared.command.Command.TheVariants as commands;
+ghost use Rattle.recfile.specs.Run.{HasReply, LineHasReply, says_command};
+ghost use Rattle.record_file.specs.Runs.{seen};
+
+use command_text::{Command, EntryList, KeyList, LineFault, Reply};
+use rec_types::{Table, TxId};
+use record_file::RecordFile;
+
+// The records of the file, or why there is no list of them.
+fn list<T: Table>(file: &mut RecordFile<T>) -> Reply
+    ensures { HasReply (seen T.Table file.old) (Ok commands.List) result (seen T.Table file.new) }
+{
+    match file.entries() {
+        Ok(entries) => Reply::List(Ok(EntryList::new(entries))),
+        Err(fault) => Reply::List(Err(fault)),
+    }
+}
+
+// The keys that a transaction owns.
+fn keys<T: Table>(file: &mut RecordFile<T>, tx: TxId) -> Reply
+    ensures { HasReply (seen T.Table file.old) (Ok (commands.Keys tx)) result
+        (seen T.Table file.new) }
+{
+    match file.keys_of(tx) {
+        Ok(keys) => Reply::Keys(Ok(KeyList::new(keys))),
+        Err(fault) => Reply::Keys(Err(fault)),
+    }
+}
+
+/// Makes the call that a command asks for.
+pub fn call<T: Table>(file: &mut RecordFile<T>, command: Command) -> Reply
+    ensures { HasReply (seen T.Table file.old) (Ok command) result (seen T.Table file.new) }
+{
+    match command {
+        Command::Begin => Reply::Begin(file.begin()),
+        Command::Put(tx, key, value) => Reply::Put(file.put(tx, key, value)),
+        Command::Del(tx, key) => Reply::Del(file.remove(tx, key)),
+        Command::Get(tx, key) => Reply::Get(file.get(tx, &key)),
+        Command::Save(tx) => Reply::Save(file.savepoint(tx)),
+        Command::Release(tx, n) => Reply::Release(file.release(tx, n)),
+        Command::Back(tx, n) => Reply::Back(file.rollback_to(tx, n)),
+        Command::Resume(tx) => Reply::Resume(file.resume(tx)),
+        Command::Abort(tx) => Reply::Abort(file.abort(tx)),
+        Command::Commit(tx) => Reply::Commit(file.commit(tx)),
+        Command::List => list(file),
+        Command::Keys(tx) => keys(file, tx),
+        Command::Log => Reply::Log(file.log_len(), file.log_use()),
+    }
+}
+
+/// How many commands a line says: one, or none.
+pub fn command_count(said: &Result<Option<Command>, LineFault>) -> u32
+    ensures { result ≡ (if says_command said.now then 1 else 0) }
+{
+    match said {
+        Ok(Some(_)) => 1,
+        Ok(None) | Err(_) => 0,
+    }
+}
+
+/// The reply to a line; one that says nothing has none.
+pub fn reply_to<T: Table>(
+    file: &mut RecordFile<T>,
+    said: Result<Option<Command>, LineFault>,
+) -> Option<Reply>
+    ensures { MatchOption result
+        ((said ≡ Ok None) × (seen T.Table file.new ≡ seen T.Table file.old))
+        (λ reply. LineHasReply (seen T.Table file.old) said reply (seen T.Table file.new)) }
+{
+    match said {
+        Ok(None) => None,
+        Ok(Some(command)) => Some(call(file, command)),
+        Err(fault) => Some(Reply::Bad(fault)),
+    }
+}

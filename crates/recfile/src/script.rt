@@ -1,0 +1,196 @@
+ghost use Rattle.std.specs.Prelude.{◌≡◌, ◌+◌, ◌<◌, ◌≤◌, List, length, take, IfOk, IfErr, OnOk};
+ghost use Rattle.std.specs.List.{flat_map};
+ghost use Rattle.std.specs.Io.KnownBytes.{Appends};
+ghost use Rattle.recfile.specs.Whole.{IsWhole};
+ghost use Rattle.command_text.specs.Script.{entries_of};
+ghost use Rattle.command_text.specs.Texts.{text_of};
+ghost use Rattle.recfile.specs.Run.{Session, Finished, Faulted, ReadStops, ScriptStopsAt, IsUnsent, commands};
+ghost use Rattle.record_file.specs.Runs.{seen};
+ghost use Rattle.command_text.specs.declared.reply.Reply.{Reply};
+
+use crate::call::{command_count, reply_to};
+use crate::next_line::next_line;
+use crate::reads::Reads;
+use command_text::{Reply, read_line, write_reply};
+use rec_types::Table;
+use record_file::RecordFile;
+use std::alloc::Global;
+use std::io::{Read, Write};
+use std::marker::Brand;
+use std::sync::ledger::{Blank, Ledger};
+use thiserror::Error;
+
+/// Why a script wasn't run to its end. `done` commands were run, the last one included whose reply could not
+/// be made or written.
+#[derive(Clone, Copy, Debug, PartialEq, Eq, Error)]
+pub enum ScriptFault {
+    #[error("ScriptTooLong")]
+    ScriptTooLong,
+    #[error("ReadFault")]
+    ReadFault,
+    #[error("WriteFault {done}")]
+    WriteFault { done: u32 },
+    #[error("Memory {done}")]
+    Memory { done: u32 },
+}
+
+// The greatest length of a script.
+const SCRIPT_LIMIT: usize = 1_048_576;
+
+// All that the reader has, in at most 1,048,578 reads. Faults: ScriptTooLong, ReadFault, Memory { done: 0 },
+// each where it is met.
+fn read_script<L: Ledger, R: Read>(
+    alloc: Global,
+    reader: &mut R,
+    reads: &mut Reads<L>,
+) -> Result<Vec<u8>, ScriptFault>
+    ensures whole { IfOk result (λ script. IsWhole (R.remaining reader.old)
+        (R.remaining reader.new) script.items) }
+    ensures stops { IfErr result (ReadStops (R.remaining reader.old) (R.remaining reader.new)) }
+    ensures reads { reads.new ≤ reads.old + 1048578 }
+{
+    let mut script = Vec::new(alloc);
+    let mut chunk = [0; 4096];
+    for turn in 0..SCRIPT_LIMIT + 2 {
+        let room = (SCRIPT_LIMIT + 1 - script.len()).min(4096);
+        if room == 0 {
+            return Err(ScriptFault::ScriptTooLong);
+        }
+        match reads.read(reader, &mut chunk[..room]) {
+            Err(_) => return Err(ScriptFault::ReadFault),
+            Ok(0) => return Ok(script),
+            Ok(n) => {
+                if script.extend_from_slice(&chunk[..n]).is_err() {
+                    return Err(ScriptFault::Memory { done: 0 });
+                }
+            }
+        }
+    }
+    Err(ScriptFault::ScriptTooLong)
+}
+
+/// Runs the whole script that a reader has, and answers how many commands it had. Each reply is written
+/// before the next command is run. It makes at most 1,048,578 reads. Faults: ScriptTooLong, where no command is run;
+/// ReadFault, WriteFault and Memory where they are met.
+pub fn run_script<T: Table, R: Read, W: Write>(
+    alloc: Global,
+    reader: &mut R,
+    writer: &mut W,
+    file: &mut RecordFile<T>,
+) -> Result<u32, ScriptFault>
+    ensures finished { IfOk result (Finished (R.remaining reader.old) (R.remaining reader.new)
+        (W.contents writer.old) (W.contents writer.new)
+        (seen T.Table file.old) (seen T.Table file.new)) }
+    ensures faulted { IfErr result (Faulted (R.remaining reader.old) (R.remaining reader.new)
+        (W.contents writer.old) (W.contents writer.new)
+        (seen T.Table file.old) (seen T.Table file.new)) }
+{
+    run_from::<Brand, T, R, W>(alloc, reader, writer, file, Blank::new(1))
+}
+
+// The same, with a count of its own.
+fn run_from<L: Ledger, T: Table, R: Read, W: Write>(
+    alloc: Global,
+    reader: &mut R,
+    writer: &mut W,
+    file: &mut RecordFile<T>,
+    blank: Blank,
+) -> Result<u32, ScriptFault>
+    requires name { blank.name ≡ L.name }
+    requires parts { blank.parts ≡ L.parts }
+    requires some { 0 < L.parts }
+    ensures finished { IfOk result (Finished (R.remaining reader.old) (R.remaining reader.new)
+        (W.contents writer.old) (W.contents writer.new)
+        (seen T.Table file.old) (seen T.Table file.new)) }
+    ensures faulted { IfErr result (Faulted (R.remaining reader.old) (R.remaining reader.new)
+        (W.contents writer.old) (W.contents writer.new)
+        (seen T.Table file.old) (seen T.Table file.new)) }
+{
+    let mut reads = Reads::<L>::new(blank);
+    run_script_counted(alloc, reader, writer, file, &mut reads)
+}
+
+/// Runs the whole script that a reader has, and counts its reads; the rest is as `run_script` says.
+pub fn run_script_counted<L: Ledger, T: Table, R: Read, W: Write>(
+    alloc: Global,
+    reader: &mut R,
+    writer: &mut W,
+    file: &mut RecordFile<T>,
+    reads: &mut Reads<L>,
+) -> Result<u32, ScriptFault>
+    ensures finished { IfOk result (Finished (R.remaining reader.old) (R.remaining reader.new)
+        (W.contents writer.old) (W.contents writer.new)
+        (seen T.Table file.old) (seen T.Table file.new)) }
+    ensures faulted { IfErr result (Faulted (R.remaining reader.old) (R.remaining reader.new)
+        (W.contents writer.old) (W.contents writer.new)
+        (seen T.Table file.old) (seen T.Table file.new)) }
+    ensures reads { reads.new ≤ reads.old + 1048578 }
+{
+    match read_script(alloc, reader, reads) {
+        Ok(script) => run_lines(alloc, &script, writer, file),
+        Err(fault) => Err(fault),
+    }
+}
+
+// Runs the lines of a script, one after another.
+fn run_lines<T: Table, W: Write>(
+    alloc: Global,
+    script: &[u8],
+    writer: &mut W,
+    file: &mut RecordFile<T>,
+) -> Result<u32, ScriptFault>
+    requires { length script.now ≤ 1048576 }
+    ensures finished { IfOk result (λ done. (replies : List Reply)
+        × Session (seen T.Table file.old) (entries_of script.now) replies (seen T.Table file.new)
+        × Appends (W.contents writer.old) (W.contents writer.new) (flat_map text_of replies)
+        × (done ≡ commands (entries_of script.now))) }
+    ensures stops { IfErr result (ScriptStopsAt (W.contents writer.old) (W.contents writer.new)
+        (seen T.Table file.old) (seen T.Table file.new) script.now) }
+{
+    let mut rest = script;
+    let mut done = 0;
+    while !rest.is_empty() {
+        let (line, after) = next_line(rest);
+        rest = after;
+        let said = read_line(line);
+        let count = command_count(&said);
+        let Some(reply) = reply_to(file, said) else {
+            continue;
+        };
+        done += count;
+        send(alloc, writer, reply, done)?;
+    }
+    Ok(done)
+}
+
+// Writes a reply, after `done` commands. Faults: Memory, WriteFault.
+fn send<W: Write>(alloc: Global, writer: &mut W, reply: Reply, done: u32) -> Result<(), ScriptFault>
+    ensures ok { OnOk result
+        (Appends (W.contents writer.old) (W.contents writer.new) (text_of reply)) }
+    ensures err { IfErr result
+        (IsUnsent (W.contents writer.old) (W.contents writer.new) done (text_of reply)) }
+{
+    let Ok(text) = write_reply(alloc, &reply) else {
+        return Err(ScriptFault::Memory { done });
+    };
+    match write_text(writer, &text) {
+        Ok(()) => Ok(()),
+        Err(_) => Err(ScriptFault::WriteFault { done }),
+    }
+}
+
+// Writes a text whole. At a write that fails, or takes nothing, it answers how many bytes are written.
+fn write_text<W: Write>(writer: &mut W, text: &[u8]) -> Result<(), usize>
+    ensures ok { OnOk result (Appends (W.contents writer.old) (W.contents writer.new) text.now) }
+    ensures err { IfErr result (λ sent. (sent < length text.now)
+        × Appends (W.contents writer.old) (W.contents writer.new) (take sent text.now)) }
+{
+    let mut sent = 0;
+    while sent < text.len() {
+        match writer.write(&text[sent..]) {
+            Ok(0) | Err(_) => return Err(sent),
+            Ok(n) => sent += n,
+        }
+    }
+    Ok(())
+}

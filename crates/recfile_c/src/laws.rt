@@ -1,0 +1,24 @@
+//! Facts of the definitions that contracts of this crate cite. The functions do nothing: their contracts
+//! are the laws.
+ghost use Rattle.std.specs.Prelude.{◌≡◌, ◌≢◌, ℕ, List, [], ◌∷◌};
+ghost use Rattle.btree_delete.specs.TableView.{TableView};
+ghost use Rattle.page_store.specs.Fronts.{two_pages, page_1_written};
+ghost use Rattle.page_store.specs.Journal.{carried};
+ghost use Rattle.recfile_c.specs.Paged.{Settles};
+ghost use Rattle.recfile_c.specs.Steps.{JournalView, page_1_left_out, written_before_longer, longer_before_written};
+
+/// A close may leave one list of steps over one list of pages: with another order of the steps, or with
+/// one left out, it doesn't settle the table.
+pub fn one_list_of_steps()
+    ensures { (t : TableView) (one two : JournalView)
+        → Settles t one → Settles t two → (one.opened ≡ two.opened) × (one.steps ≡ two.steps) }
+{}
+
+/// Steps are carried out in their order. Of two pages page 0 and page 1 are written. It fails where the
+/// step that writes page 1 is left out, and where a page is written before the file is long enough.
+pub fn steps_by_example()
+    ensures in_order { carried two_pages page_1_written ≡ ((5 ∷ []) ∷ (3 ∷ []) ∷ []) }
+    ensures left_out { carried two_pages page_1_left_out ≢ carried two_pages page_1_written }
+    ensures another_order { carried two_pages written_before_longer
+        ≢ carried two_pages longer_before_written }
+{}

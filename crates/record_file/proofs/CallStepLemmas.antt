@@ -1,0 +1,61 @@
+-- The step of one call, from what its contract says.
+use Rattle.std.proofs.Common.{◌≡◌, Bool, false, Option, Some, None, Result, Ok, Err, refl, ap, IfSome}
+use Rattle.rec_types.specs.Table.{counted}
+use Rattle.rec_types.specs.declared.table.Table.{Ghosts}
+use Rattle.record_file.specs.declared.fault.GetFault.{GetFault}
+use Rattle.record_file.specs.declared.fault.GetFault.TheVariants as get_faults
+use Rattle.record_file.specs.Abstract.{OpenFile, Tells}
+use Rattle.record_file.specs.Outside.{get_cause, by_memory}
+use Rattle.record_file.specs.Runs.{Called, Seen, Answers, seen}
+use Rattle.record_file.specs.declared.call.Call.{Call}
+use Rattle.record_file.specs.declared.call.Answer.{Answer}
+use Rattle.record_file.specs.Calls.{TellsOf, Makes}
+use Rattle.record_file.proofs.LogGrowthLemmas.{tells_none}
+
+-- what a run sees where the table and the log stay
+pub same_but_file : {T : Type 0} (t : Ghosts T) (old new : OpenFile T) → new.table ≡ old.table → new.log ≡ old.log → seen t new ≡ record (seen t old) { file = new.file }
+same_but_file t old new table log i = record {
+  file = new.file;
+  log = log i;
+  records = t.contents (table i);
+  sound = t.sound (table i);
+  failures = t.device_failures (table i);
+  refusals = t.memory_refusals (table i);
+  damages = t.damages (table i);
+}
+
+-- a call that asks the table nothing
+pub quiet_makes : (old new : Seen) (asked : Call) (told : Answer) (called : Called) → TellsOf asked told called → new ≡ record old { file = new.file } → Answers old called false false new → Makes old asked told new
+quiet_makes old new asked told called tells same answer = record {
+  event = record { called = called; failed = false; refused = false };
+  tells = tells;
+  step = record {
+    failures = ap (λ (s : Seen). s.failures) same;
+    refusals = ap (λ (s : Seen). s.refusals) same;
+    sound = ap (λ (s : Seen). s.sound) same;
+    told = tells_none old.sound old.records new.records old.log new.log (ap (λ (s : Seen). s.records) same) (ap (λ (s : Seen). s.log) same);
+    answer = answer;
+  };
+}
+
+-- a call that asks the table
+pub asks_makes : (old new : Seen) (asked : Call) (told : Answer) (called : Called) (failed refused : Bool) → TellsOf asked told called → new.failures ≡ counted old.failures failed → new.refusals ≡ counted old.refusals refused → new.sound ≡ old.sound → Tells old.sound old.records old.log new.records new.log → Answers old called failed refused new → Makes old asked told new
+asks_makes old new asked told called failed refused tells failures refusals sound log answer = record {
+  event = record { called = called; failed = failed; refused = refused };
+  tells = tells;
+  step = record { failures = failures; refusals = refusals; sound = sound; told = log; answer = answer };
+}
+
+-- a refusal leaves all that a run sees
+pub refused_seen : {T A F : Type 0} (t : Ghosts T) (old new : OpenFile T) (refusal : Option F) (answer : Result A F) → IfSome refusal (λ fault. (answer ≡ Err fault) × (new ≡ old)) → IfSome refusal (λ fault. (answer ≡ Err fault) × (seen t new ≡ seen t old))
+refused_seen t old new None answer is = is
+refused_seen t old new (Some fault) answer is = (is.0, ap (seen t) is.1)
+
+-- a look never wants memory
+pub get_wants_none : {A : Type 0} (answer : Result A GetFault) → false ≡ by_memory (get_cause answer)
+get_wants_none (Ok found) = refl
+get_wants_none (Err get_faults.NoSuchTx) = refl
+get_wants_none (Err get_faults.Rolling) = refl
+get_wants_none (Err (get_faults.Held owner)) = refl
+get_wants_none (Err get_faults.Device) = refl
+get_wants_none (Err (get_faults.Damaged page)) = refl

@@ -1,0 +1,8 @@
+use Rattle.std.proofs.Common.{take}
+use Rattle.record_file.specs.Runs.{seen}
+use Rattle.record_file.specs.Calls.{MakesAll}
+use Rattle.record_file.proofs.call.run_calls.Given as goal
+
+-- the calls up to here are made
+abbrev pub invariant-loop-call : goal.invariant-loop-call
+invariant-loop-call g l = MakesAll (seen g.T.Table l.fn.file) (take l.call-index l.fn.calls) l.answers.items (seen g.T.Table l.file)

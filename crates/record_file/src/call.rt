@@ -1,0 +1,144 @@
+ghost use Rattle.std.specs.Prelude.{◌≡◌, ◌++◌, ◌∷◌, [], ℕ, List, take, IfOk, IfErr, OnOk};
+ghost use Rattle.record_file.specs.Runs.{seen};
+ghost use Rattle.record_file.specs.Calls.{Makes, MakesAll};
+ghost use Rattle.record_file.specs.Exact.{IsExact};
+ghost use Rattle.record_file.specs.declared.call.Answer.{Answer};
+ghost use Rattle.record_file.specs.declared.call.Call.TheVariants as calls;
+
+use crate::RecordFile;
+use crate::fault::{
+    AbortFault, CommitFault, EntriesFault, GetFault, KeysOfFault, PutFault, ReleaseFault,
+    RemoveFault, ResumeFault, RollbackToFault, SavepointFault, Status, StatusFault,
+};
+use rec_types::{Entry, Key, Memory, Record, Table, TxId};
+use std::alloc::Global;
+use tx_log::{BeginFault, LogRecord};
+
+/// A call that a file can be lent for, with its arguments.
+#[derive(Clone, Copy)]
+pub enum Call {
+    Begin,
+    Put(TxId, Key, Record),
+    Remove(TxId, Key),
+    Get(TxId, Key),
+    Savepoint(TxId),
+    Release(TxId, u32),
+    RollbackTo(TxId, u32),
+    Abort(TxId),
+    Resume(TxId),
+    Commit(TxId),
+    Entries,
+    KeysOf(TxId),
+    Status(TxId),
+    Charged,
+    Begun,
+    LogLen,
+    LogUse,
+    LogRecord(u32),
+}
+
+/// What a call answered.
+#[derive(Drop)]
+pub enum Answer {
+    Begin(Result<TxId, BeginFault>),
+    Put(Result<Option<Record>, PutFault>),
+    Remove(Result<Record, RemoveFault>),
+    Get(Result<Option<Record>, GetFault>),
+    Savepoint(Result<u32, SavepointFault>),
+    Release(Result<(), ReleaseFault>),
+    RollbackTo(Result<u32, RollbackToFault>),
+    Abort(Result<u32, AbortFault>),
+    Resume(Result<u32, ResumeFault>),
+    Commit(Result<(), CommitFault>),
+    Entries(Result<Vec<Entry>, EntriesFault>),
+    KeysOf(Result<Vec<Key>, KeysOfFault>),
+    Status(Result<Status, StatusFault>),
+    Charged(u64),
+    Begun(u32),
+    LogLen(u32),
+    LogUse(u32),
+    LogRecord(Option<LogRecord>),
+}
+
+// The records of the file.
+fn entries<T: Table>(file: &mut RecordFile<T>) -> Answer
+    ensures { Makes (seen T.Table file.old) calls.Entries result (seen T.Table file.new) }
+{
+    match file.entries() {
+        Ok(entries) => Answer::Entries(Ok(entries)),
+        Err(fault) => Answer::Entries(Err(fault)),
+    }
+}
+
+/// Makes a call.
+pub fn make_call<T: Table>(file: &mut RecordFile<T>, call: Call) -> Answer
+    ensures { Makes (seen T.Table file.old) call result (seen T.Table file.new) }
+{
+    match call {
+        Call::Begin => Answer::Begin(file.begin()),
+        Call::Put(tx, key, value) => Answer::Put(file.put(tx, key, value)),
+        Call::Remove(tx, key) => Answer::Remove(file.remove(tx, key)),
+        Call::Get(tx, key) => Answer::Get(file.get(tx, &key)),
+        Call::Savepoint(tx) => Answer::Savepoint(file.savepoint(tx)),
+        Call::Release(tx, n) => Answer::Release(file.release(tx, n)),
+        Call::RollbackTo(tx, n) => Answer::RollbackTo(file.rollback_to(tx, n)),
+        Call::Abort(tx) => Answer::Abort(file.abort(tx)),
+        Call::Resume(tx) => Answer::Resume(file.resume(tx)),
+        Call::Commit(tx) => Answer::Commit(file.commit(tx)),
+        Call::Entries => entries(file),
+        Call::KeysOf(tx) => Answer::KeysOf(file.keys_of(tx)),
+        Call::Status(tx) => Answer::Status(file.status(tx)),
+        Call::Charged => Answer::Charged(file.charged()),
+        Call::Begun => Answer::Begun(file.begun()),
+        Call::LogLen => Answer::LogLen(file.log_len()),
+        Call::LogUse => Answer::LogUse(file.log_use()),
+        Call::LogRecord(lsn) => Answer::LogRecord(file.log_record(lsn)),
+    }
+}
+
+// What stays true of a file.
+fn exact<T: Table>(file: &RecordFile<T>)
+    ensures { IsExact (T.sound file.now.table) (T.contents file.now.table)
+        file.now.file file.now.log }
+{
+    let _begun = file.begun();
+}
+
+// One more answer at the end. Fault: Memory.
+fn keep(answers: &mut Vec<Answer>, answer: Answer) -> Result<(), Memory>
+    ensures { OnOk result (answers.new.items ≡ answers.old.items ++ answer ∷ []) }
+{
+    match answers.push(answer) {
+        Ok(()) => Ok(()),
+        Err(_) => Err(Memory),
+    }
+}
+
+/// Makes any calls one after another, and answers what each answered. They are a run, and the file is
+/// then exact: over a sound table its records are the replay of the live changes; an open transaction
+/// owns a key exactly where one of its live changes is; and exactly the changes that were taken back
+/// are compensated, each once. Fault: Memory, where an answer can't be kept; the calls up to that one
+/// are made.
+pub fn run_calls<T: Table>(
+    alloc: Global,
+    file: &mut RecordFile<T>,
+    calls: &[Call],
+) -> Result<Vec<Answer>, Memory>
+    ensures ran { IfOk result (λ answers.
+        MakesAll (seen T.Table file.old) calls.now answers.items (seen T.Table file.new)) }
+    ensures stopped { IfErr result (λ _. (n : ℕ) × (answers : List Answer)
+        × MakesAll (seen T.Table file.old) (take n calls.now) answers (seen T.Table file.new)) }
+    ensures exact { IsExact (T.sound file.new.table) (T.contents file.new.table)
+        file.new.file file.new.log }
+{
+    let mut answers = Vec::new(alloc);
+    for &call in calls {
+        let answer = make_call(file, call);
+        if keep(&mut answers, answer).is_err() {
+            exact(file);
+            return Err(Memory);
+        }
+    }
+    exact(file);
+    Ok(answers)
+}

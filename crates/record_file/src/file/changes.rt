@@ -1,0 +1,119 @@
+ghost use Rattle.std.specs.Prelude.{◌≡◌, ◌≢◌, ℕ, ◌<◌, false, Option, Some, None, Ok, Err, IsTrue, IfOk, IfErr, OnErr, IfSome};
+ghost use Rattle.rec_types.specs.Table.{is_device, counted, greatest_count, damaged_by};
+ghost use Rattle.record_file.specs.Abstract.{is_full, Tells};
+ghost use Rattle.record_file.specs.Outside.{put_cause, remove_cause, put_by_file, remove_by_file, by_device, AsksMemory, TellsDamage};
+ghost use Rattle.record_file.specs.Steps.{rose, put_refusal, remove_refusal, Accepts, PutStep, RemoveStep};
+
+use super::RecordFile;
+use crate::fault::{PutFault, RemoveFault};
+use rec_types::{Key, Record, Table, TableFault, TxId};
+
+impl<T: Table> RecordFile<T> {
+    /// Puts a record at the key, and answers the one that stood there. Faults: NoSuchTx, Rolling, Held,
+    /// LogFull, Device or Damaged, Full, Memory. A fault leaves everything unchanged.
+    pub fn put(&mut self, tx: TxId, key: Key, value: Record) -> Result<Option<Record>, PutFault>
+        ensures step { IsTrue (T.sound self.old.table)
+            → T.device_failures self.old.table < greatest_count
+            → PutStep self.old.file tx.0 key value
+            (rose (T.device_failures self.old.table) (T.device_failures self.new.table))
+            result self.new.file }
+        ensures refused { IfSome (put_refusal self.old.file tx.0 key)
+            (λ fault. (result ≡ Err fault) × (self.new ≡ self.old)) }
+        ensures refused_only { IfErr result (λ fault.
+            IsTrue (put_by_file fault) → put_refusal self.old.file tx.0 key ≡ Some fault) }
+        ensures accepted { IfOk result (λ before. Accepts self.old.file self.old.log tx key
+            before (Some value) self.new.file self.new.log) }
+        ensures err { OnErr result ((T.contents self.new.table ≡ T.contents self.old.table)
+            × (self.new.file ≡ self.old.file) × (self.new.log ≡ self.old.log)) }
+        ensures told { Tells (T.sound self.old.table) (T.contents self.old.table) self.old.log
+            (T.contents self.new.table) self.new.log }
+        ensures soundness { T.sound self.new.table ≡ T.sound self.old.table }
+        ensures device { T.device_failures self.new.table
+            ≡ counted (T.device_failures self.old.table) (by_device (put_cause result)) }
+        ensures memory { AsksMemory (T.memory_refusals self.old.table) (put_cause result)
+            (T.memory_refusals self.new.table) }
+        ensures damages { TellsDamage (T.damages self.old.table) (put_cause result)
+            (T.damages self.new.table) }
+    {
+        if let Some(fault) = self.put_refusal(tx, &key) {
+            return Err(fault);
+        }
+        if self.is_full(&key)? {
+            return Err(PutFault::Full);
+        }
+        self.log.reserve(&key)?; // Nothing is put that the log has no room for.
+        let before = self.table.set(key, Some(value))?;
+        let told = before.as_ref().copied();
+        let _lsn = self.log.accept(tx, key, told, Some(value));
+        Ok(before)
+    }
+
+    /// Takes the record at the key out, and answers it. Faults: NoSuchTx, Rolling, Held, LogFull, Device or
+    /// Damaged, Absent, Memory. A fault leaves everything unchanged.
+    pub fn remove(&mut self, tx: TxId, key: Key) -> Result<Record, RemoveFault>
+        ensures step { IsTrue (T.sound self.old.table)
+            → T.device_failures self.old.table < greatest_count
+            → RemoveStep self.old.file tx.0 key
+            (rose (T.device_failures self.old.table) (T.device_failures self.new.table))
+            result self.new.file }
+        ensures refused { IfSome (remove_refusal self.old.file tx.0 key)
+            (λ fault. (result ≡ Err fault) × (self.new ≡ self.old)) }
+        ensures refused_only { IfErr result (λ fault.
+            IsTrue (remove_by_file fault) → remove_refusal self.old.file tx.0 key ≡ Some fault) }
+        ensures accepted { IfOk result (λ before. Accepts self.old.file self.old.log tx key
+            (Some before) None self.new.file self.new.log) }
+        ensures err { OnErr result ((T.contents self.new.table ≡ T.contents self.old.table)
+            × (self.new.file ≡ self.old.file) × (self.new.log ≡ self.old.log)) }
+        ensures told { Tells (T.sound self.old.table) (T.contents self.old.table) self.old.log
+            (T.contents self.new.table) self.new.log }
+        ensures soundness { T.sound self.new.table ≡ T.sound self.old.table }
+        ensures device { T.device_failures self.new.table
+            ≡ counted (T.device_failures self.old.table) (by_device (remove_cause result)) }
+        ensures memory { AsksMemory (T.memory_refusals self.old.table) (remove_cause result)
+            (T.memory_refusals self.new.table) }
+        ensures damages { TellsDamage (T.damages self.old.table) (remove_cause result)
+            (T.damages self.new.table) }
+    {
+        if let Some(fault) = self.remove_refusal(tx, &key) {
+            return Err(fault);
+        }
+        if self.table.get(&key)?.is_none() {
+            return Err(RemoveFault::Absent);
+        }
+        self.log.reserve(&key)?;
+        match self.table.set(key, None)? {
+            Some(taken) => {
+                let _lsn = self.log.accept(tx, key, Some(taken), None);
+                Ok(taken)
+            }
+            None => Err(RemoveFault::Damaged(0)),
+        }
+    }
+
+    // Whether the key isn't charged and the charged keys have reached the limit. The table is asked only
+    // where they may have.
+    fn is_full(&mut self, key: &Key) -> Result<bool, TableFault>
+        ensures value { IsTrue (T.sound self.old.table)
+            → IfOk result (λ full. full ≡ is_full self.old.file key.now) }
+        ensures same { (T.contents self.new.table ≡ T.contents self.old.table)
+            × (self.new.file ≡ self.old.file) × (self.new.log ≡ self.old.log) }
+        ensures no_memory { result ≢ Err TableFault.Memory }
+        ensures no_room { result ≢ Err TableFault.NoRoom }
+        ensures damaged { IsTrue (T.sound self.old.table)
+            → (page : ℕ) → result ≢ Err (TableFault.Damaged page) }
+        ensures soundness { T.sound self.new.table ≡ T.sound self.old.table }
+        ensures device { T.device_failures self.new.table
+            ≡ counted (T.device_failures self.old.table) (is_device result) }
+        ensures memory { T.memory_refusals self.new.table ≡ T.memory_refusals self.old.table }
+        ensures damages { T.damages self.new.table
+            ≡ damaged_by (T.damages self.old.table) result }
+    {
+        if self.charged() < u64::from(self.table.limit()) {
+            return Ok(false);
+        }
+        if self.log.owner(key).is_some() {
+            return Ok(false);
+        }
+        Ok(self.table.get(key)?.is_none())
+    }
+}

@@ -1,0 +1,263 @@
+ghost use Rattle.std.specs.Prelude.{◌≡◌, ◌≢◌, ℕ, ◌<◌, ◌≤◌, true, false, Some, None, Ok, Err, IsTrue, OnOk, OnErr, IfSome};
+ghost use Rattle.std.specs.FinMap as maps;
+ghost use Rattle.rec_types.specs.History.{undo_last};
+ghost use Rattle.rec_types.specs.Table.{counted, greatest_count};
+ghost use Rattle.record_file.specs.Abstract.{tx_of, phase_at, Tells};
+ghost use Rattle.tx_log.specs.Transactions.{depth_of, left_in};
+ghost use Rattle.tx_log.specs.LogState.{rolling_to, finished, IsRolling};
+ghost use Rattle.record_file.specs.Outside.{stop_cause, rollback_cause, abort_cause, resume_cause, step_cause, by_device, by_memory, TellsDamage};
+ghost use Rattle.record_file.specs.Steps.{rose, RollsBackTo, RollbackToStep, Aborts, AbortStep, Resumes, ResumeStep, rollback_refusal, abort_refusal, resume_refusal, RollsBack, places_at};
+
+use super::RecordFile;
+use crate::fault::{AbortFault, Cause, ResumeFault, RollbackToFault, Stop};
+use rec_types::{Memory, Table, TableFault, TxId};
+use tx_log::Phase;
+
+impl<T: Table> RecordFile<T> {
+    /// Takes back the changes made since savepoint n, newest first, and answers how many; 0 is the
+    /// beginning. Savepoint n stays, and those above it are dropped at once. Faults: NoSuchTx, Rolling,
+    /// NoSuchSave, Stopped. A stop leaves the transaction rolling.
+    pub fn rollback_to(&mut self, tx: TxId, n: u32) -> Result<u32, RollbackToFault>
+        ensures step { IsTrue (T.sound self.old.table)
+            → T.device_failures self.old.table < greatest_count
+            → T.memory_refusals self.old.table < greatest_count
+            → RollbackToStep self.old.file tx.0 n
+            (rose (T.device_failures self.old.table) (T.device_failures self.new.table))
+            (rose (T.memory_refusals self.old.table) (T.memory_refusals self.new.table))
+            result self.new.file }
+        ensures rolled { RollsBackTo self.old.file tx.0 n result self.new.file }
+        ensures opening { IsTrue (T.sound self.old.table)
+            → self.new.file.opening ≡ self.old.file.opening }
+        ensures refused { IfSome (rollback_refusal self.old.file tx.0 n)
+            (λ fault. (result ≡ Err fault) × (self.new ≡ self.old)) }
+        ensures told { Tells (T.sound self.old.table) (T.contents self.old.table) self.old.log
+            (T.contents self.new.table) self.new.log }
+        ensures soundness { T.sound self.new.table ≡ T.sound self.old.table }
+        ensures device { T.device_failures self.new.table
+            ≡ counted (T.device_failures self.old.table) (by_device (rollback_cause result)) }
+        ensures memory { T.memory_refusals self.new.table
+            ≡ counted (T.memory_refusals self.old.table) (by_memory (rollback_cause result)) }
+        ensures damages { TellsDamage (T.damages self.old.table) (rollback_cause result)
+            (T.damages self.new.table) }
+    {
+        match self.log.phase(tx) {
+            None => Err(RollbackToFault::NoSuchTx),
+            Some(Phase::Rolling { .. }) => Err(RollbackToFault::Rolling),
+            Some(Phase::Active) => {
+                if n > self.log.depth(tx) {
+                    return Err(RollbackToFault::NoSuchSave);
+                }
+                self.start_rollback(tx, n, false);
+                match self.take_back(tx) {
+                    Ok(undone) => Ok(undone),
+                    Err(
+                        Stop {
+                            undone,
+                            left,
+                            cause,
+                        },
+                    ) => Err(RollbackToFault::Stopped {
+                        undone,
+                        left,
+                        cause,
+                    }),
+                }
+            }
+        }
+    }
+
+    /// Takes back every change of the transaction, newest first, and ends it. Faults: NoSuchTx, Rolling,
+    /// Stopped. A stop leaves the transaction rolling; it ends once its rollback is finished.
+    pub fn abort(&mut self, tx: TxId) -> Result<u32, AbortFault>
+        ensures step { IsTrue (T.sound self.old.table)
+            → T.device_failures self.old.table < greatest_count
+            → T.memory_refusals self.old.table < greatest_count
+            → AbortStep self.old.file tx.0
+            (rose (T.device_failures self.old.table) (T.device_failures self.new.table))
+            (rose (T.memory_refusals self.old.table) (T.memory_refusals self.new.table))
+            result self.new.file }
+        ensures rolled { Aborts self.old.file tx.0 result self.new.file }
+        ensures opening { IsTrue (T.sound self.old.table)
+            → self.new.file.opening ≡ self.old.file.opening }
+        ensures refused { IfSome (abort_refusal self.old.file tx.0)
+            (λ fault. (result ≡ Err fault) × (self.new ≡ self.old)) }
+        ensures told { Tells (T.sound self.old.table) (T.contents self.old.table) self.old.log
+            (T.contents self.new.table) self.new.log }
+        ensures soundness { T.sound self.new.table ≡ T.sound self.old.table }
+        ensures device { T.device_failures self.new.table
+            ≡ counted (T.device_failures self.old.table) (by_device (abort_cause result)) }
+        ensures memory { T.memory_refusals self.new.table
+            ≡ counted (T.memory_refusals self.old.table) (by_memory (abort_cause result)) }
+        ensures damages { TellsDamage (T.damages self.old.table) (abort_cause result)
+            (T.damages self.new.table) }
+    {
+        match self.log.phase(tx) {
+            None => Err(AbortFault::NoSuchTx),
+            Some(Phase::Rolling { .. }) => Err(AbortFault::Rolling),
+            Some(Phase::Active) => {
+                self.start_rollback(tx, 0, true);
+                match self.take_back(tx) {
+                    Ok(undone) => Ok(undone),
+                    Err(
+                        Stop {
+                            undone,
+                            left,
+                            cause,
+                        },
+                    ) => Err(AbortFault::Stopped {
+                        undone,
+                        left,
+                        cause,
+                    }),
+                }
+            }
+        }
+    }
+
+    /// Goes on with a rollback that was stopped, and answers how many changes this call took back. Faults:
+    /// NoSuchTx, NotRolling, Stopped.
+    pub fn resume(&mut self, tx: TxId) -> Result<u32, ResumeFault>
+        ensures step { IsTrue (T.sound self.old.table)
+            → T.device_failures self.old.table < greatest_count
+            → T.memory_refusals self.old.table < greatest_count
+            → ResumeStep self.old.file tx.0
+            (rose (T.device_failures self.old.table) (T.device_failures self.new.table))
+            (rose (T.memory_refusals self.old.table) (T.memory_refusals self.new.table))
+            result self.new.file }
+        ensures rolled { Resumes self.old.file tx.0 result self.new.file }
+        ensures opening { IsTrue (T.sound self.old.table)
+            → self.new.file.opening ≡ self.old.file.opening }
+        ensures refused { IfSome (resume_refusal self.old.file tx.0)
+            (λ fault. (result ≡ Err fault) × (self.new ≡ self.old)) }
+        ensures told { Tells (T.sound self.old.table) (T.contents self.old.table) self.old.log
+            (T.contents self.new.table) self.new.log }
+        ensures soundness { T.sound self.new.table ≡ T.sound self.old.table }
+        ensures device { T.device_failures self.new.table
+            ≡ counted (T.device_failures self.old.table) (by_device (resume_cause result)) }
+        ensures memory { T.memory_refusals self.new.table
+            ≡ counted (T.memory_refusals self.old.table) (by_memory (resume_cause result)) }
+        ensures damages { TellsDamage (T.damages self.old.table) (resume_cause result)
+            (T.damages self.new.table) }
+    {
+        match self.log.phase(tx) {
+            None => Err(ResumeFault::NoSuchTx),
+            Some(Phase::Active) => Err(ResumeFault::NotRolling),
+            Some(Phase::Rolling { .. }) => match self.take_back(tx) {
+                Ok(undone) => Ok(undone),
+                Err(
+                    Stop {
+                        undone,
+                        left,
+                        cause,
+                    },
+                ) => Err(ResumeFault::Stopped {
+                    undone,
+                    left,
+                    cause,
+                }),
+            },
+        }
+    }
+
+    // Starts a rollback of an active transaction.
+    fn start_rollback(&mut self, tx: TxId, n: u32, ends: bool)
+        requires active { phase_at self.old.file tx.0 ≡ Some Phase.Active }
+        requires within { n ≤ depth_of (tx_of self.old.file tx.0) }
+        requires whole { IsTrue ends → n ≡ 0 }
+        ensures file { self.new.file ≡ record self.old.file {
+          txs = maps.insert self.old.file.txs tx.0
+              (rolling_to (places_at self.old.file tx.0) n ends);
+        } }
+        ensures table { self.new.table ≡ self.old.table }
+        ensures log { self.new.log ≡ self.old.log }
+    {
+        self.log.start_rollback(tx, n, ends);
+    }
+
+    // Takes back what a rollback under way has left, newest first, and finishes it.
+    fn take_back(&mut self, tx: TxId) -> Result<u32, Stop>
+        requires { IsRolling (phase_at self.old.file tx.0) }
+        ensures rolled { RollsBack self.old.file tx.0 result self.new.file }
+        ensures opening { IsTrue (T.sound self.old.table)
+            → self.new.file.opening ≡ self.old.file.opening }
+        ensures damaged { IsTrue (T.sound self.old.table)
+            → (page : ℕ) → stop_cause result ≢ Some (Cause.Damaged page) }
+        ensures told { Tells (T.sound self.old.table) (T.contents self.old.table) self.old.log
+            (T.contents self.new.table) self.new.log }
+        ensures soundness { T.sound self.new.table ≡ T.sound self.old.table }
+        ensures device { T.device_failures self.new.table
+            ≡ counted (T.device_failures self.old.table) (by_device (stop_cause result)) }
+        ensures memory { T.memory_refusals self.new.table
+            ≡ counted (T.memory_refusals self.old.table) (by_memory (stop_cause result)) }
+        ensures damages { TellsDamage (T.damages self.old.table) (stop_cause result)
+            (T.damages self.new.table) }
+    {
+        let total = self.left(tx);
+        for undone in 0..total {
+            if let Err(cause) = self.take_one_back(tx) {
+                return Err(Stop {
+                    undone,
+                    left: total - undone,
+                    cause,
+                });
+            }
+        }
+        self.finish(tx);
+        Ok(total)
+    }
+
+    // Takes back the newest change that a rollback under way has left: one `set`, and one compensation.
+    fn take_one_back(&mut self, tx: TxId) -> Result<(), Cause>
+        requires { 0 < left_in self.old.file.history tx.0 (tx_of self.old.file tx.0) }
+        ensures ok { OnOk result (self.new.file ≡ record self.old.file {
+          opening = self.new.file.opening;
+          history = undo_last tx.0 self.old.file.history;
+        }) }
+        ensures opening { IsTrue (T.sound self.old.table)
+            → self.new.file.opening ≡ self.old.file.opening }
+        ensures err { OnErr result (self.new.file ≡ self.old.file) }
+        ensures damaged { IsTrue (T.sound self.old.table)
+            → (page : ℕ) → step_cause result ≢ Some (Cause.Damaged page) }
+        ensures told { Tells (T.sound self.old.table) (T.contents self.old.table) self.old.log
+            (T.contents self.new.table) self.new.log }
+        ensures soundness { T.sound self.new.table ≡ T.sound self.old.table }
+        ensures device { T.device_failures self.new.table
+            ≡ counted (T.device_failures self.old.table) (by_device (step_cause result)) }
+        ensures memory { T.memory_refusals self.new.table
+            ≡ counted (T.memory_refusals self.old.table) (by_memory (step_cause result)) }
+        ensures damages { TellsDamage (T.damages self.old.table) (step_cause result)
+            (T.damages self.new.table) }
+    {
+        let step = self.log.next_undo(tx).unwrap();
+        match self.table.set(step.key, step.before) {
+            Ok(_) => {
+                let _lsn = self.log.compensate(tx);
+                Ok(())
+            }
+            Err(TableFault::Device) => Err(Cause::Device),
+            Err(TableFault::Damaged(page)) => Err(Cause::Damaged(page)),
+            Err(TableFault::NoRoom) => Err(Cause::Damaged(0)),
+            Err(TableFault::Memory) => Err(Cause::Memory),
+        }
+    }
+
+    // How many changes a rollback under way is still to take back.
+    fn left(&self, tx: TxId) -> u32
+        ensures { result ≡ left_in self.now.file.history tx.0 (tx_of self.now.file tx.0) }
+    {
+        self.log.left(tx)
+    }
+
+    // Ends a rollback that has nothing left.
+    fn finish(&mut self, tx: TxId)
+        requires rolling { IsRolling (phase_at self.old.file tx.0) }
+        requires done { left_in self.old.file.history tx.0 (tx_of self.old.file tx.0) ≡ 0 }
+        ensures file { self.new.file ≡ record self.old.file {
+          txs = finished self.old.file.txs tx.0 (tx_of self.old.file tx.0);
+        } }
+        ensures table { self.new.table ≡ self.old.table }
+        ensures log { self.new.log ≡ self.old.log }
+    {
+        self.log.finish(tx);
+    }
+}

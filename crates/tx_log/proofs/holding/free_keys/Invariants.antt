@@ -1,0 +1,12 @@
+use Rattle.std.proofs.Common.{◌≡◌, ℕ, ◌≤◌, List, None, cond, length, reverse}
+use Rattle.std.specs.List.{list_any}
+use Rattle.tx_log.specs.Holdings.{held}
+use Rattle.tx_log.specs.Log.{chain}
+use Rattle.tx_log.specs.Walks.{is_at}
+use Rattle.tx_log.proofs.holding.free_keys.Given as goal
+
+abbrev pub invariant-loop-change : goal.invariant-loop-change
+invariant-loop-change l = (l.at ≤ length l.log) × ((q : List ℕ) → cond (list_any (is_at q) (chain (reverse l.log) l.at)) None (held l.holdings q) ≡ cond (list_any (is_at q) (chain (reverse l.log) l.fn.from)) None (held l.fn.holdings q))
+
+abbrev pub decreases-loop-change : goal.decreases-loop-change
+decreases-loop-change l = l.at

@@ -1,0 +1,58 @@
+use Rattle.std.proofs.Common.{ℕ, ◌≤◌, List, length, map, reverse, option_map, sym, ap, subst, ◌∙◌}
+use Rattle.std.specs.List.{filter}
+use Rattle.std.proofs.lemmas.List.{length-reverse}
+use Rattle.tx_log.proofs.KeptLogLemmas.{sized}
+use Rattle.tx_log.proofs.OpenTxReadLemmas.{entry_chain, undo_is, undo_none, undo_case, no_undo_case, tx_none}
+use Rattle.tx_log.proofs.Lives.{first}
+use Rattle.tx_log.specs.Log.{kept_of, chain, noted}
+use Rattle.tx_log.specs.LogState.{LogState, undo_in, undo_of, undo_step}
+use Rattle.tx_log.specs.Walks.{newest_in, is_after}
+use Rattle.tx_log.specs.declared.log_record.LogRecord.{LogRecord}
+use Rattle.tx_log.proofs.log.TxLog.next_undo.Goals as goal
+
+pub returns-in_default : goal.returns-in_default
+returns-in_default c =
+    let l = c.self.inside in
+    let t = c.args.tx.0 in
+    let cs = kept_of (reverse l.records.items) in
+    let none = sym c.in_default.ensures in
+    sym (ap (λ o. option_map undo_step (undo_of cs t o)) (tx_none cs l.txs.entries t none)) ∙ ap (λ (s : LogState). option_map undo_step (undo_in s t)) c.self.view_is
+
+pub newest_above-requires-clause-within : goal.newest_above-requires-clause-within
+newest_above-requires-clause-within c =
+    let l = c.self.inside in
+    let t = c.args.tx.0 in
+    let found = sym c.in-Some.ensures in
+    let size = sized (reverse l.records.items) l.txs.entries l.begun l.pending l.gone t c.in-Some.open_tx.now c.self.invariant.log_kept found in
+    subst (λ (n : ℕ). c.in-Some.open_tx.now.last ≤ n) (length-reverse l.records.items ∙ ap length (sym c.deref.ensures.value)) size.last
+
+pub returns-in_default-rollback : goal.returns-in_default-rollback
+returns-in_default-rollback c =
+    let l = c.self.inside in
+    let t = c.args.tx.0 in
+    let found = sym c.in-Some.ensures in
+    sym (ap (option_map undo_step) (undo_none (kept_of (reverse l.records.items)) l.txs.entries t c.in-Some.open_tx.now found c.in_default-rollback.is)) ∙ ap (λ (s : LogState). option_map undo_step (undo_in s t)) c.self.view_is
+
+pub returns-in-Some-newest_above : goal.returns-in-Some-newest_above
+returns-in-Some-newest_above c =
+    let l = c.self.inside in
+    let t = c.args.tx.0 in
+    let e = c.in-Some.open_tx.now in
+    let found = sym c.in-Some.ensures in
+    undo_case (filter (is_after c.in-Some-rollback.rollback.to) (chain (reverse l.records.items) e.last)) c.in-Some-newest_above.change
+    (c.in-Some-newest_above.ensures ∙ ap (λ (log : List LogRecord). newest_in (filter (is_after c.in-Some-rollback.rollback.to) (chain (reverse log) e.last))) c.deref.ensures.value)
+    ∙ ap (λ us. option_map undo_step (first (map noted (filter (is_after c.in-Some-rollback.rollback.to) us)))) (entry_chain (reverse l.records.items) l.txs.entries l.begun l.pending l.gone t e c.self.invariant.log_kept found)
+    ∙ ap (option_map undo_step) (sym (undo_is (reverse l.records.items) l.txs.entries l.begun l.pending l.gone t c.in-Some-rollback.rollback e c.self.invariant.log_kept found c.in-Some-rollback.is))
+    ∙ ap (λ (s : LogState). option_map undo_step (undo_in s t)) c.self.view_is
+
+pub returns-in-None : goal.returns-in-None
+returns-in-None c =
+    let l = c.self.inside in
+    let t = c.args.tx.0 in
+    let e = c.in-Some.open_tx.now in
+    let found = sym c.in-Some.ensures in
+    no_undo_case (filter (is_after c.in-Some-rollback.rollback.to) (chain (reverse l.records.items) e.last))
+    (c.in-None.ensures ∙ ap (λ (log : List LogRecord). newest_in (filter (is_after c.in-Some-rollback.rollback.to) (chain (reverse log) e.last))) c.deref.ensures.value)
+    ∙ ap (λ us. option_map undo_step (first (map noted (filter (is_after c.in-Some-rollback.rollback.to) us)))) (entry_chain (reverse l.records.items) l.txs.entries l.begun l.pending l.gone t e c.self.invariant.log_kept found)
+    ∙ ap (option_map undo_step) (sym (undo_is (reverse l.records.items) l.txs.entries l.begun l.pending l.gone t c.in-Some-rollback.rollback e c.self.invariant.log_kept found c.in-Some-rollback.is))
+    ∙ ap (λ (s : LogState). option_map undo_step (undo_in s t)) c.self.view_is

@@ -1,0 +1,24 @@
+use Rattle.std.proofs.Common.{ℕ, Bool, ◌∷◌, [], ◌++◌, List, map, cond, not, reverse, sym, ap, ◌∙◌, arith, append_assoc}
+use Rattle.tx_log.specs.Log.{chain, key_of}
+use Rattle.tx_log.proofs.WalkSteps.{walk_step, keys_on}
+use Rattle.tx_log.proofs.undo_chain.changed_keys.Goals as goal
+
+pub loop-change-smaller : goal.loop-change-smaller
+loop-change-smaller c =
+    let rs = reverse c.args.log.now in
+    let step = walk_step rs c.loop-change.at c.in-Some.change c.requires.numbered (sym c.in-Some.ensures) in
+    omega (arith, step.falls, step.low)
+
+pub loop-change-preserved : goal.loop-change-preserved
+loop-change-preserved c =
+    let rs = reverse c.args.log.now in
+    let step = walk_step rs c.loop-change.at c.in-Some.change c.requires.numbered (sym c.in-Some.ensures) in
+    let rest = map key_of (chain rs c.in-Some.change.prev) in
+    let keys = keys_on rs c.loop-change.at c.in-Some.change step in (
+      omega (arith, step.falls, step.low, c.loop-change.invariant.0),
+      ap (λ (items : List (List ℕ)). items ++ rest) c.push.ensures.items
+          ∙ ap (λ (b : Bool). cond b (c.loop-change.keys.items ++ c.in-Some.change.key ∷ []) c.loop-change.keys.items ++ rest) (c.is_err.ensures.negation ∙ ap not c.if-is_err.false)
+          ∙ append_assoc c.loop-change.keys.items (c.in-Some.change.key ∷ []) rest
+          ∙ ap (λ ks. c.loop-change.keys.items ++ ks) (sym keys)
+          ∙ c.loop-change.invariant.1,
+    )

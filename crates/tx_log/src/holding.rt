@@ -1,0 +1,168 @@
+ghost use Rattle.std.specs.Prelude.{◌≡◌, ℕ, ◌+◌, ◌<◌, ◌≤◌, Bool, List, IsSome, None, Some, length, reverse, OnOk, OnErr, if◌then◌else◌};
+ghost use Rattle.std.specs.List.{list_any};
+ghost use Rattle.indexmap.specs.IndexMap.{index_map_len};
+ghost use Rattle.tx_log.specs.Log.{chain, IsNumbered};
+ghost use Rattle.tx_log.specs.Walks.{is_at};
+ghost use Rattle.tx_log.specs.Marks.{AreMarked};
+ghost use Rattle.tx_log.specs.Holdings.{held, Places, HeldAt, holder, lowered, busy, or_idle, idle, IsHeld, AllBusy};
+ghost use Rattle.tx_log.specs.declared.holding.Holding.{Holding};
+ghost use Rattle.tx_log.specs.declared.log_record.LogRecord.{LogRecord};
+
+use crate::LogRecord;
+use crate::mark::Mark;
+use crate::undo_chain::newest_change;
+use indexmap::IndexMap;
+use rec_types::{Key, Memory, TxId};
+
+/// What is kept of a key at which changes of an open transaction are live.
+#[derive(Clone, Copy, Debug)]
+pub struct Holding {
+    /// The transaction of the changes.
+    pub owner: TxId,
+    /// How many there are.
+    pub live: u32,
+    /// Whether the newest of them takes the key out.
+    pub absent: bool,
+}
+
+/// The holdings by their keys.
+pub type Holdings = IndexMap<Key, Holding>;
+
+impl Holding {
+    /// No change is live.
+    pub fn idle() -> Holding
+        ensures { result ≡ idle }
+    {
+        Holding {
+            owner: TxId(0),
+            live: 0,
+            absent: false,
+        }
+    }
+}
+
+/// The open transaction that owns the key.
+pub fn find_holder(holdings: &Holdings, key: &Key) -> Option<TxId>
+    ensures { result ≡ holder (held holdings.now key.now) }
+{
+    match holdings.get(key) {
+        Some(holding) => {
+            if holding.live > 0 {
+                Some(holding.owner)
+            } else {
+                None
+            }
+        }
+        None => None,
+    }
+}
+
+/// Where the key stands.
+fn place_of_key(holdings: &Holdings, key: &Key) -> usize
+    requires { IsSome (held holdings.now key.now) }
+    ensures within { result < index_map_len holdings.now }
+    ensures stands { HeldAt holdings.now key.now result }
+{
+    // What this says is that no key stands twice.
+    let _count = holdings.len();
+    let (at, _, _) = holdings.get_full(key).unwrap();
+    at
+}
+
+/// Counts one more live change at a key that is there, and answers whether the key was absent.
+pub fn raise(holdings: &mut Holdings, key: &Key, tx: TxId, absent: bool) -> bool
+    requires there { IsSome (held holdings.old key.now) }
+    requires most { (h : Holding) → held holdings.old key.now ≡ Some h → h.live < 4294967295 }
+    ensures { (h : Holding) → held holdings.old key.now ≡ Some h → (result ≡ h.absent)
+        × Places (held holdings.old) (held holdings.new) key.now
+        (Some (record { owner = tx; live = h.live + 1; absent = absent })) }
+{
+    let at = place_of_key(holdings, key);
+    let holding = &mut holdings[at];
+    let was = holding.absent;
+    holding.owner = tx;
+    holding.live += 1;
+    holding.absent = absent;
+    was
+}
+
+/// Counts one live change less at a key, and forgets the key with its last one. `absent` is whether the changes that
+/// are left take the key out.
+pub fn lower(holdings: &mut Holdings, key: &Key, absent: bool)
+    requires there { IsSome (held holdings.old key.now) }
+    requires some { (h : Holding) → held holdings.old key.now ≡ Some h → 0 < h.live }
+    ensures { (h : Holding) → held holdings.old key.now ≡ Some h
+        → Places (held holdings.old) (held holdings.new) key.now (lowered h absent) }
+{
+    let at = place_of_key(holdings, key);
+    let last = holdings[at].live == 1;
+    if last {
+        let _ = holdings.swap_remove_index(at);
+    } else {
+        let holding = &mut holdings[at];
+        holding.live -= 1;
+        holding.absent = absent;
+    }
+}
+
+/// Forgets the keys of the changes that aren't taken back, on the way down from the record with the number `from`.
+pub fn free_keys(holdings: &mut Holdings, log: &[LogRecord], marks: &[Mark], from: u32)
+    requires numbered { IsNumbered (reverse log.now) }
+    requires marked { AreMarked (reverse log.now) (reverse marks.now) }
+    requires within { from ≤ length log.now }
+    ensures { (q : List ℕ) → held holdings.new q
+        ≡ (if list_any (is_at q) (chain (reverse log.now) from) then None
+        else held holdings.old q) }
+{
+    let mut at = from;
+    while let Some(change) = newest_change(log, marks, at) {
+        let _ = holdings.swap_remove(&change.key);
+        at = change.prev;
+    }
+}
+
+/// Forgets the key where no change is live there.
+fn drop_idle(holdings: &mut Holdings, key: &Key)
+    ensures { Places (held holdings.old) (held holdings.new) key.now
+        (busy (held holdings.old key.now)) }
+{
+    let idle = match holdings.get_full(key) {
+        Some((at, _, holding)) => { if holding.live == 0 { Some(at) } else { None } }
+        None => None,
+    };
+    if let Some(at) = idle {
+        let _ = holdings.swap_remove_index(at);
+    }
+}
+
+/// Puts the key in where it isn't there. Fault: Memory, which changes nothing.
+fn add_idle(holdings: &mut Holdings, key: &Key) -> Result<(), Memory>
+    ensures ok { OnOk result (Places (held holdings.old) (held holdings.new) key.now
+        (Some (or_idle (held holdings.old key.now)))) }
+    ensures err { OnErr result ((q : List ℕ) → held holdings.new q ≡ held holdings.old q) }
+{
+    match holdings.entry(*key) {
+        Ok(entry) => {
+            entry.or_insert(Holding::idle());
+            Ok(())
+        }
+        Err(_) => Err(Memory),
+    }
+}
+
+/// Puts the key in where it isn't there, and takes out the one that was left over. Fault: Memory.
+pub fn make_room(holdings: &mut Holdings, over: Option<Key>, key: &Key) -> Result<(), Memory>
+    requires { AllBusy (held holdings.old) over }
+    ensures kept { (rs : List LogRecord) (is_open : ℕ → Bool)
+        → IsHeld rs is_open (held holdings.old) → IsHeld rs is_open (held holdings.new) }
+    ensures there { OnOk result (IsSome (held holdings.new key.now)) }
+    ensures one { OnOk result (AllBusy (held holdings.new) (Some key.now)) }
+    ensures still { OnErr result (AllBusy (held holdings.new) over) }
+{
+    if let Some(other) = over {
+        if other != *key {
+            drop_idle(holdings, &other);
+        }
+    }
+    add_idle(holdings, key)
+}

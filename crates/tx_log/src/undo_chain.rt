@@ -1,0 +1,118 @@
+ghost use Rattle.std.specs.Prelude.{◌≡◌, ℕ, ◌+◌, ◌<◌, ◌≤◌, length, reverse, map, cond, IfOk};
+ghost use Rattle.std.specs.List.{filter};
+ghost use Rattle.tx_log.specs.Log.{chain, key_of, IsNumbered};
+ghost use Rattle.tx_log.specs.Marks.{AreMarked};
+ghost use Rattle.tx_log.specs.Walks.{newest_in, is_after};
+
+use crate::LogRecord;
+use crate::mark::{Mark, newest_number};
+use rec_types::{Key, Memory, Record};
+use std::alloc::Global;
+
+/// A change that isn't taken back, as its log record tells of it.
+#[derive(Clone, Copy, Debug)]
+pub struct LiveChange {
+    pub lsn: u32,
+    pub prev: u32,
+    pub key: Key,
+    pub before: Option<Record>,
+    pub after: Option<Record>,
+}
+
+/// The newest change that isn't taken back, on the way down from the record with the number `from`.
+pub fn newest_change(log: &[LogRecord], marks: &[Mark], from: u32) -> Option<LiveChange>
+    requires numbered { IsNumbered (reverse log.now) }
+    requires marked { AreMarked (reverse log.now) (reverse marks.now) }
+    requires within { from ≤ length log.now }
+    ensures { result ≡ newest_in (chain (reverse log.now) from) }
+{
+    let at = newest_number(marks, from);
+    if at == 0 {
+        return None;
+    }
+    let record = log[(at - 1) as usize];
+    match record {
+        LogRecord::Update {
+            lsn,
+            prev,
+            key,
+            before,
+            after,
+            ..
+        } => Some(LiveChange {
+            lsn,
+            prev,
+            key,
+            before,
+            after,
+        }),
+        // No mark leads here.
+        LogRecord::Compensation { .. } => None,
+    }
+}
+
+/// The newest change that isn't taken back, on the way down from the record with the number `from`, if its own number
+/// is above `to`.
+pub fn newest_above(log: &[LogRecord], marks: &[Mark], from: u32, to: u32) -> Option<LiveChange>
+    requires numbered { IsNumbered (reverse log.now) }
+    requires marked { AreMarked (reverse log.now) (reverse marks.now) }
+    requires within { from ≤ length log.now }
+    ensures { result ≡ newest_in (filter (is_after to) (chain (reverse log.now) from)) }
+{
+    match newest_change(log, marks, from) {
+        Some(change) => { if change.lsn > to { Some(change) } else { None } }
+        None => None,
+    }
+}
+
+/// How many changes with numbers above `to` aren't taken back, on the way down from the record with the number
+/// `from`.
+pub fn count_changes(log: &[LogRecord], marks: &[Mark], from: u32, to: u32) -> u32
+    requires numbered { IsNumbered (reverse log.now) }
+    requires marked { AreMarked (reverse log.now) (reverse marks.now) }
+    requires within { from ≤ length log.now }
+    ensures { result ≡ length (filter (is_after to) (chain (reverse log.now) from)) }
+{
+    let mut count = 0;
+    let mut at = from;
+    while at > to {
+        match newest_change(log, marks, at) {
+            Some(change) => {
+                if change.lsn <= to {
+                    return count;
+                }
+                count += 1;
+                at = change.prev;
+            }
+            None => return count,
+        }
+    }
+    count
+}
+
+/// The keys of the changes that aren't taken back, newest first, on the way down from the record with the number
+/// `from`. `count` is how many are expected. Fault: Memory.
+pub fn changed_keys(
+    alloc: Global,
+    log: &[LogRecord],
+    marks: &[Mark],
+    from: u32,
+    count: u32,
+) -> Result<Vec<Key>, Memory>
+    requires numbered { IsNumbered (reverse log.now) }
+    requires marked { AreMarked (reverse log.now) (reverse marks.now) }
+    requires within { from ≤ length log.now }
+    ensures { IfOk result (λ keys. keys.items ≡ map key_of (chain (reverse log.now) from)) }
+{
+    let Ok(mut keys) = Vec::with_capacity(alloc, count as usize) else {
+        return Err(Memory);
+    };
+    let mut at = from;
+    while let Some(change) = newest_change(log, marks, at) {
+        if keys.push(change.key).is_err() {
+            return Err(Memory);
+        }
+        at = change.prev;
+    }
+    Ok(keys)
+}
