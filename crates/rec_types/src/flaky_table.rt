@@ -2,9 +2,10 @@ ghost use Rattle.std.specs.Prelude.{◌≡◌, ◌≢◌, ℕ, ◌≤◌, IsTrue
 ghost use Rattle.std.specs.FinMap as maps;
 ghost use Rattle.rec_types.specs.Contents.{set_to};
 ghost use Rattle.rec_types.specs.Flaky.{fails_next, with_set, failures_of};
-ghost use Rattle.rec_types.specs.Table.{is_device, is_memory, counted, damaged_by};
+ghost use Rattle.rec_types.specs.Answered.{Answered};
+ghost use Rattle.rec_types.specs.Table.{is_device, counted};
 
-use crate::{Key, Record, Table, TableFault};
+use crate::{Key, Record, Table, TableFault, TableState};
 use std::marker::Model;
 
 /// A table whose device fails at chosen calls of `set`. Everything else it hands on to the table below it. The
@@ -60,9 +61,7 @@ impl<T: Table> FlakyTable<T> {
     }
 }
 
-// A method's clauses stand in place of its trait's, so these are written again before those that tell
-// of the calls that fail.
-impl<T: Table> Table for FlakyTable<T> {
+impl<T: Table> TableState for FlakyTable<T> {
     ghost contents = { λ t. T.contents t.inner };
 
     ghost record_limit = { λ t. T.record_limit t.inner };
@@ -74,7 +73,11 @@ impl<T: Table> Table for FlakyTable<T> {
     ghost memory_refusals = { λ t. T.memory_refusals t.inner };
 
     ghost damages = { λ t. T.damages t.inner };
+}
 
+// A method's clauses stand in place of its trait's, so these are written again before those that tell
+// of the calls that fail.
+impl<T: Table> Table for FlakyTable<T> {
     /// The record at the key. Faults: those of the table below. It takes no memory.
     fn get(&mut self, key: &Key) -> Result<Option<Record>, TableFault>
         ensures value { IsTrue (T.sound self.old.inner)
@@ -82,15 +85,7 @@ impl<T: Table> Table for FlakyTable<T> {
         ensures same { T.contents self.new.inner ≡ T.contents self.old.inner }
         ensures no_memory { result ≢ Err TableFault.Memory }
         ensures no_room { result ≢ Err TableFault.NoRoom }
-        ensures damaged { IsTrue (T.sound self.old.inner)
-            → (page : ℕ) → result ≢ Err (TableFault.Damaged page) }
-        ensures limit { T.record_limit self.new.inner ≡ T.record_limit self.old.inner }
-        ensures soundness { T.sound self.new.inner ≡ T.sound self.old.inner }
-        ensures device { failures_of T.device_failures self.new
-            ≡ counted (failures_of T.device_failures self.old) (is_device result) }
-        ensures memory { T.memory_refusals self.new.inner ≡ T.memory_refusals self.old.inner }
-        ensures damages { T.damages self.new.inner
-            ≡ damaged_by (T.damages self.old.inner) result }
+        ensures answered { Answered ⟦<FlakyTable<T> as TableState>⟧ self.old result self.new }
         ensures inner { T.device_failures self.new.inner
             ≡ counted (T.device_failures self.old.inner) (is_device result) }
         ensures rest { self.new ≡ record self.old { inner = self.new.inner } }
@@ -116,16 +111,7 @@ impl<T: Table> Table for FlakyTable<T> {
             → is_device result ≡ false → result ≡ Err TableFault.NoRoom }
         ensures taken_out_none { to ≡ None → result ≡ Ok None
             → T.contents self.new.inner ≡ T.contents self.old.inner }
-        ensures damaged { IsTrue (T.sound self.old.inner)
-            → (page : ℕ) → result ≢ Err (TableFault.Damaged page) }
-        ensures limit { T.record_limit self.new.inner ≡ T.record_limit self.old.inner }
-        ensures soundness { T.sound self.new.inner ≡ T.sound self.old.inner }
-        ensures device { failures_of T.device_failures self.new
-            ≡ counted (failures_of T.device_failures self.old) (is_device result) }
-        ensures memory { T.memory_refusals self.new.inner
-            ≡ counted (T.memory_refusals self.old.inner) (is_memory result) }
-        ensures damages { T.damages self.new.inner
-            ≡ damaged_by (T.damages self.old.inner) result }
+        ensures answered { Answered ⟦<FlakyTable<T> as TableState>⟧ self.old result self.new }
         ensures fails { IsTrue (fails_next self.old)
             → (result ≡ Err TableFault.Device) × (self.new.inner ≡ self.old.inner) }
         ensures passes { fails_next self.old ≡ false → T.device_failures self.new.inner
@@ -145,16 +131,7 @@ impl<T: Table> Table for FlakyTable<T> {
             → IfOk result (λ records. records.items ≡ maps.entries (T.contents self.old.inner)) }
         ensures same { T.contents self.new.inner ≡ T.contents self.old.inner }
         ensures no_room { result ≢ Err TableFault.NoRoom }
-        ensures damaged { IsTrue (T.sound self.old.inner)
-            → (page : ℕ) → result ≢ Err (TableFault.Damaged page) }
-        ensures limit { T.record_limit self.new.inner ≡ T.record_limit self.old.inner }
-        ensures soundness { T.sound self.new.inner ≡ T.sound self.old.inner }
-        ensures device { failures_of T.device_failures self.new
-            ≡ counted (failures_of T.device_failures self.old) (is_device result) }
-        ensures memory { T.memory_refusals self.new.inner
-            ≡ counted (T.memory_refusals self.old.inner) (is_memory result) }
-        ensures damages { T.damages self.new.inner
-            ≡ damaged_by (T.damages self.old.inner) result }
+        ensures answered { Answered ⟦<FlakyTable<T> as TableState>⟧ self.old result self.new }
         ensures inner { T.device_failures self.new.inner
             ≡ counted (T.device_failures self.old.inner) (is_device result) }
         ensures rest { self.new ≡ record self.old { inner = self.new.inner } }

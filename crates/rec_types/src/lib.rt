@@ -9,6 +9,7 @@ mod number;
 mod record;
 mod sorted_table;
 mod table;
+mod table_state;
 mod transaction;
 
 pub use flaky_table::FlakyTable;
@@ -18,4 +19,5 @@ pub use memory::Memory;
 pub use record::{Record, RecordFault};
 pub use sorted_table::SortedTable;
 pub use table::{Table, TableFault};
+pub use table_state::TableState;
 pub use transaction::{Entry, TxId};

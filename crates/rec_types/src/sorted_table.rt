@@ -1,9 +1,10 @@
 ghost use Rattle.std.specs.Prelude.{◌≡◌, ◌≢◌, ℕ, ◌≤◌, None, Ok, Err, false, IsOk, IsSome, IfOk, OnOk, OnErr, nat_le, ◌&&◌, is_none};
 ghost use Rattle.std.specs.FinMap as maps;
 ghost use Rattle.rec_types.specs.Contents.{set_to};
-ghost use Rattle.rec_types.specs.Table.{is_device, is_memory, counted};
+ghost use Rattle.rec_types.specs.Answered.{Answered};
+ghost use Rattle.rec_types.specs.Table.{is_device};
 
-use crate::{Key, Limits, Record, Table, TableFault};
+use crate::{Key, Limits, Record, Table, TableFault, TableState};
 use std::alloc::{AllocError, Global};
 use std::collections::BTreeMap;
 use std::marker::Model;
@@ -54,7 +55,7 @@ impl SortedTable {
     }
 }
 
-impl Table for SortedTable {
+impl TableState for SortedTable {
     ghost use Rattle.std.specs.Prelude.{true};
     ghost use Rattle.rec_types.specs.Table.{no_damage};
 
@@ -69,7 +70,9 @@ impl Table for SortedTable {
     ghost memory_refusals = { λ t. t.refusals };
 
     ghost damages = { λ _. no_damage };
+}
 
+impl Table for SortedTable {
     fn get(&mut self, key: &Key) -> Result<Option<Record>, TableFault> {
         Ok(self.records.get(key).copied())
     }
@@ -88,10 +91,8 @@ impl Table for SortedTable {
             → is_device result ≡ false → result ≡ Err TableFault.NoRoom }
         ensures taken_out_none { to ≡ None → result ≡ Ok None
             → self.new.contents ≡ self.old.contents }
-        ensures damaged { (page : ℕ) → result ≢ Err (TableFault.Damaged page) }
+        ensures answered { Answered ⟦<SortedTable as TableState>⟧ self.old result self.new }
         ensures device { is_device result ≡ false }
-        ensures limit { self.new.limit ≡ self.old.limit }
-        ensures memory { self.new.refusals ≡ counted self.old.refusals (is_memory result) }
         ensures present { IsSome (maps.get self.old.contents key) → IsOk result }
         ensures taken { to ≡ None → IsOk result }
     {

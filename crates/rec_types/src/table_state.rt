@@ -1,0 +1,24 @@
+ghost use Rattle.std.specs.Prelude.{ℕ, Bool};
+ghost use Rattle.rec_types.specs.Contents.{Contents};
+ghost use Rattle.rec_types.specs.Table.{Damages};
+
+/// What contracts know of a table. It has no code.
+pub trait TableState {
+    /// The records.
+    ghost contents: { Self → Contents };
+
+    /// How many records there are at most, where the table is sound.
+    ghost record_limit: { Self → ℕ };
+
+    /// Whether what the table reads is what it wrote. No call changes it.
+    ghost sound: { Self → Bool };
+
+    /// How many calls a failed device read ended.
+    ghost device_failures: { Self → ℕ };
+
+    /// How many calls a refused growth ended.
+    ghost memory_refusals: { Self → ℕ };
+
+    /// How many calls a damaged page ended, and the last such page.
+    ghost damages: { Self → Damages };
+}
