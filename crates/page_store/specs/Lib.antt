@@ -13,6 +13,7 @@ pub mod Overlaid
 pub mod PageMap
 pub mod PagesView
 pub mod Slots
+pub mod StoreCalls
 pub mod StoreFaults
 pub mod StoredPages
 pub mod WriteFaults

@@ -5,6 +5,7 @@ ghost use Rattle.page_store.specs.StoreFaults.{is_failed};
 use crate::count::count_up;
 use crate::store::Store;
 use crate::store_fault::{Shape, StoreFault};
+use crate::store_state::StoreState;
 use std::fs::{OpenFile, OpenOptions};
 use std::io;
 use std::marker::Model;
@@ -120,7 +121,7 @@ fn noted(failures: &mut u64, answer: io::Result<()>) -> Result<(), StoreFault>
     Ok(())
 }
 
-impl<F: OpenFile + FileExt + Drop> Store for FileStore<F> {
+impl<F: OpenFile + FileExt + Drop> StoreState for FileStore<F> {
     ghost use Rattle.std.specs.Prelude.{None};
 
     ghost pages = { λ s. s.pages };
@@ -136,7 +137,9 @@ impl<F: OpenFile + FileExt + Drop> Store for FileStore<F> {
     ghost failures = { λ s. s.failures };
 
     ghost journal = { λ _. None };
+}
 
+impl<F: OpenFile + FileExt + Drop> Store for FileStore<F> {
     fn shape(&mut self) -> Result<Shape, StoreFault> {
         Ok(Shape {
             pages: self.pages,

@@ -1,14 +1,15 @@
-ghost use Rattle.std.specs.Prelude.{◌≡◌, ◌≢◌, ℕ, ◌-◌, ◌<◌, ◌≤◌, ◌++◌, List, [], ◌∷◌, length, IsTrue, true, false, Some, Err, IfOk, OnOk, OnErr, slice_get, slice_set};
+ghost use Rattle.std.specs.Prelude.{◌≡◌, ◌≢◌, ℕ, ◌-◌, ◌<◌, ◌≤◌, ◌++◌, List, length, IsTrue, true, false, Some, Err, IfOk, OnOk, OnErr, slice_get, slice_set};
 ghost use Rattle.rec_types.specs.Table.{counted};
 ghost use Rattle.page_store.specs.Blank.{blanks};
 ghost use Rattle.page_store.specs.Growth.{GrowsTo};
-ghost use Rattle.page_store.specs.Journal.{noted};
+ghost use Rattle.page_store.specs.StoreCalls.{Looks, Changes};
 ghost use Rattle.page_store.specs.declared.step.Step.{Step};
 ghost use Rattle.page_store.specs.StoreFaults.{is_failed};
 ghost use Rattle.page_store.specs.FlakyStored.{read_fails, write_fails, with_read, with_write, reads_of, writes_of, failures_of};
 
 use crate::store::Store;
 use crate::store_fault::{Shape, StoreFault};
+use crate::store_state::StoreState;
 use std::marker::Model;
 
 /// A store that fails at chosen calls. Everything else it hands on to the store below it. The reads are
@@ -95,9 +96,7 @@ impl<S: Store> FlakyStore<S> {
     }
 }
 
-// A method's clauses stand in place of its trait's, so these are written again before those that tell
-// of the calls that fail.
-impl<S: Store> Store for FlakyStore<S> {
+impl<S: Store> StoreState for FlakyStore<S> {
     ghost pages = { λ s. S.pages s.inner };
 
     ghost tail = { λ s. S.tail s.inner };
@@ -111,21 +110,18 @@ impl<S: Store> Store for FlakyStore<S> {
     ghost failures = { λ s. failures_of S.failures s };
 
     ghost journal = { λ s. S.journal s.inner };
+}
 
+// A method's clauses stand in place of its trait's, so these are written again before those that tell
+// of the calls that fail.
+impl<S: Store> Store for FlakyStore<S> {
     /// The length, which the store below answers. Fault: Failed, where it fails.
     fn shape(&mut self) -> Result<Shape, StoreFault>
         ensures pages { IfOk result (λ shape. shape.pages ≡ length (S.pages self.old.inner)) }
         ensures tail { IfOk result (λ shape. shape.tail ≡ S.tail self.old.inner) }
         ensures short_tail { OnOk result (S.tail self.old.inner ≤ 4095) }
         ensures no_memory { result ≢ Err StoreFault.Memory }
-        ensures same_pages { S.pages self.new.inner ≡ S.pages self.old.inner }
-        ensures same_tail { S.tail self.new.inner ≡ S.tail self.old.inner }
-        ensures same_steady { S.steady self.new.inner ≡ S.steady self.old.inner }
-        ensures reads { reads_of S.reads self.new ≡ reads_of S.reads self.old }
-        ensures writes { writes_of S.writes self.new ≡ writes_of S.writes self.old }
-        ensures failures { failures_of S.failures self.new
-            ≡ counted (failures_of S.failures self.old) (is_failed result) }
-        ensures same_journal { S.journal self.new.inner ≡ S.journal self.old.inner }
+        ensures looks { Looks ⟦<FlakyStore<S> as StoreState>⟧ false self.old result self.new }
         ensures passes { S.failures self.new.inner
             ≡ counted (S.failures self.old.inner) (is_failed result) }
         ensures reads_below { S.reads self.new.inner ≡ S.reads self.old.inner }
@@ -142,14 +138,7 @@ impl<S: Store> Store for FlakyStore<S> {
         ensures page { IsTrue (S.steady self.old.inner)
             → OnOk result (slice_get (S.pages self.old.inner) n ≡ Some to.new) }
         ensures no_memory { result ≢ Err StoreFault.Memory }
-        ensures same_pages { S.pages self.new.inner ≡ S.pages self.old.inner }
-        ensures same_tail { S.tail self.new.inner ≡ S.tail self.old.inner }
-        ensures same_steady { S.steady self.new.inner ≡ S.steady self.old.inner }
-        ensures reads { reads_of S.reads self.new ≡ counted (reads_of S.reads self.old) true }
-        ensures writes { writes_of S.writes self.new ≡ writes_of S.writes self.old }
-        ensures failures { failures_of S.failures self.new
-            ≡ counted (failures_of S.failures self.old) (is_failed result) }
-        ensures same_journal { S.journal self.new.inner ≡ S.journal self.old.inner }
+        ensures looks { Looks ⟦<FlakyStore<S> as StoreState>⟧ true self.old result self.new }
         ensures fails { IsTrue (read_fails self.old) → (result ≡ Err StoreFault.Failed)
             × (self.new.inner ≡ self.old.inner) × (to.new ≡ to.old) }
         ensures passes { read_fails self.old ≡ false → S.failures self.new.inner
@@ -176,15 +165,7 @@ impl<S: Store> Store for FlakyStore<S> {
             × (S.pages self.new.inner ≡ slice_set (S.pages self.old.inner) n page) }
         ensures no_memory { result ≢ Err StoreFault.Memory }
         ensures same_tail { S.tail self.new.inner ≡ S.tail self.old.inner }
-        ensures same_steady { S.steady self.new.inner ≡ S.steady self.old.inner }
-        ensures reads { reads_of S.reads self.new ≡ reads_of S.reads self.old }
-        ensures writes { writes_of S.writes self.new ≡ counted (writes_of S.writes self.old) true }
-        ensures failures { failures_of S.failures self.new
-            ≡ counted (failures_of S.failures self.old) (is_failed result) }
-        ensures journal { OnOk result (S.journal self.new.inner
-            ≡ noted (S.journal self.old.inner) (Step.Write n from.now ∷ [])) }
-        ensures same_journal { OnErr result
-            (S.journal self.new.inner ≡ S.journal self.old.inner) }
+        ensures changes { Changes ⟦<FlakyStore<S> as StoreState>⟧ (Step.Write n from.now) self.old result self.new }
         ensures fails { IsTrue (write_fails self.old)
             → (result ≡ Err StoreFault.Failed) × (self.new.inner ≡ self.old.inner) }
         ensures passes { write_fails self.old ≡ false → S.failures self.new.inner
@@ -211,15 +192,7 @@ impl<S: Store> Store for FlakyStore<S> {
         ensures tail { OnOk result (S.tail self.new.inner ≡ 0) }
         ensures old_pages { OnErr result
             (GrowsTo n (S.pages self.old.inner) (S.pages self.new.inner)) }
-        ensures same_steady { S.steady self.new.inner ≡ S.steady self.old.inner }
-        ensures reads { reads_of S.reads self.new ≡ reads_of S.reads self.old }
-        ensures writes { writes_of S.writes self.new ≡ counted (writes_of S.writes self.old) true }
-        ensures failures { failures_of S.failures self.new
-            ≡ counted (failures_of S.failures self.old) (is_failed result) }
-        ensures journal { OnOk result (S.journal self.new.inner
-            ≡ noted (S.journal self.old.inner) (Step.SetPages n ∷ [])) }
-        ensures same_journal { OnErr result
-            (S.journal self.new.inner ≡ S.journal self.old.inner) }
+        ensures changes { Changes ⟦<FlakyStore<S> as StoreState>⟧ (Step.SetPages n) self.old result self.new }
         ensures fails { IsTrue (write_fails self.old)
             → (result ≡ Err StoreFault.Failed) × (self.new.inner ≡ self.old.inner) }
         ensures passes { write_fails self.old ≡ false → S.failures self.new.inner
@@ -242,15 +215,7 @@ impl<S: Store> Store for FlakyStore<S> {
         ensures no_memory { result ≢ Err StoreFault.Memory }
         ensures same_pages { S.pages self.new.inner ≡ S.pages self.old.inner }
         ensures same_tail { S.tail self.new.inner ≡ S.tail self.old.inner }
-        ensures same_steady { S.steady self.new.inner ≡ S.steady self.old.inner }
-        ensures reads { reads_of S.reads self.new ≡ reads_of S.reads self.old }
-        ensures writes { writes_of S.writes self.new ≡ counted (writes_of S.writes self.old) true }
-        ensures failures { failures_of S.failures self.new
-            ≡ counted (failures_of S.failures self.old) (is_failed result) }
-        ensures journal { OnOk result (S.journal self.new.inner
-            ≡ noted (S.journal self.old.inner) (Step.Sync ∷ [])) }
-        ensures same_journal { OnErr result
-            (S.journal self.new.inner ≡ S.journal self.old.inner) }
+        ensures changes { Changes ⟦<FlakyStore<S> as StoreState>⟧ Step.Sync self.old result self.new }
         ensures fails { IsTrue (write_fails self.old)
             → (result ≡ Err StoreFault.Failed) × (self.new.inner ≡ self.old.inner) }
         ensures passes { write_fails self.old ≡ false → S.failures self.new.inner

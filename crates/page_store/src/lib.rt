@@ -14,6 +14,7 @@ mod slot;
 mod step;
 mod store;
 mod store_fault;
+mod store_state;
 mod write_back;
 
 pub use file_store::FileStore;
@@ -24,3 +25,4 @@ pub use pages::Pages;
 pub use step::Step;
 pub use store::Store;
 pub use store_fault::{Shape, StoreFault};
+pub use store_state::StoreState;

@@ -4,6 +4,7 @@ use crate::blank::add_blank_pages;
 use crate::count::count_up;
 use crate::store::Store;
 use crate::store_fault::{Shape, StoreFault};
+use crate::store_state::StoreState;
 use std::marker::Model;
 
 /// A store in memory, which is always steady and never fails. Contracts see its pages, the length of
@@ -54,7 +55,7 @@ impl MemStore {
     }
 }
 
-impl Store for MemStore {
+impl StoreState for MemStore {
     ghost use Rattle.std.specs.Prelude.{true, None};
 
     ghost pages = { λ s. s.pages };
@@ -70,7 +71,9 @@ impl Store for MemStore {
     ghost failures = { λ _. 0 };
 
     ghost journal = { λ _. None };
+}
 
+impl Store for MemStore {
     fn shape(&mut self) -> Result<Shape, StoreFault> {
         Ok(Shape {
             pages: self.pages.len() as u64,

@@ -20,56 +20,56 @@ pub returns-in_err-write-clause-writes_err : goal.returns-in_err-write-clause-wr
 returns-in_err-write-clause-writes_err g c =
     let pages : PageMap = to_write (slots_of c.args.changed.now) c.args.free.now.keys c.args.count in
     let many : ℕ → ℕ = how_many (λ n. is_some (pages n)) in
-    let old = g.S.Store.writes c.args.store.now in
-    let made : g.S.Store.writes c.write.new.self ≡ counted_times old (many c.loop-n.n + 1) = c.write.ensures.writes ∙ ap (λ k. counted k true) c.loop-n.invariant.writes ∙ counted_once old (many c.loop-n.n) in
+    let old = g.S.StoreState.writes c.args.store.now in
+    let made : g.S.StoreState.writes c.write.new.self ≡ counted_times old (many c.loop-n.n + 1) = c.write.ensures.changes.writes ∙ ap (λ k. counted k true) c.loop-n.invariant.writes ∙ counted_once old (many c.loop-n.n) in
     on_err _ (all_calls old _ (many c.loop-n.n + 1) (many c.args.count) (omega arith) (how_many_below (λ n. is_some (pages n)) c.loop-n.n c.args.count c.loop-n-test.true (ap is_some (sym c.in-Some.ensures))) made)
 
 pub returns-in_err-write-clause-journal_err : goal.returns-in_err-write-clause-journal_err
 returns-in_err-write-clause-journal_err g c =
     let pages : PageMap = to_write (slots_of c.args.changed.now) c.args.free.now.keys c.args.count in
-    on_err _ (failed_writes pages c.loop-n.n c.args.count (g.S.Store.journal c.args.store.now) (g.S.Store.journal c.loop-n.store) (g.S.Store.journal c.write.new.self) (let below = c.loop-n-test.true in omega arith) c.loop-n.invariant.journal c.in_err-write.ensures.same_journal)
+    on_err _ (failed_writes pages c.loop-n.n c.args.count (g.S.StoreState.journal c.args.store.now) (g.S.StoreState.journal c.loop-n.store) (g.S.StoreState.journal c.write.new.self) (let below = c.loop-n-test.true in omega arith) c.loop-n.invariant.journal c.in_err-write.ensures.changes.same_journal)
 
 pub loop-n-init : goal.loop-n-init
 loop-n-init g c = record {
   others = record { long = refl; same = λ n out. refl };
-  pages = λ steady. page_0_left (slots_of c.args.changed.now) c.args.free.now.keys c.args.count (g.S.Store.pages c.args.store.now);
+  pages = λ steady. page_0_left (slots_of c.args.changed.now) c.args.free.now.keys c.args.count (g.S.StoreState.pages c.args.store.now);
   tail = refl;
   steady = refl;
   reads = refl;
   writes = refl;
   failures = refl;
-  journal = noted_none (g.S.Store.journal c.args.store.now);
+  journal = noted_none (g.S.StoreState.journal c.args.store.now);
 }
 
 pub loop-n-preserved : goal.loop-n-preserved
 loop-n-preserved g c =
     let pages : PageMap = to_write (slots_of c.args.changed.now) c.args.free.now.keys c.args.count in
     let test : ℕ → Bool = λ n. is_some (pages n) in
-    let old = g.S.Store.writes c.args.store.now in
+    let old = g.S.StoreState.writes c.args.store.now in
     record {
       others = elim c.match-page_to_write.branch [
-        | in-Some+in_ok-write w ↦ others_put pages _ _ _ c.loop-n.n c.loop-n.invariant.others (ap is_some (sym w.in-Some.ensures)) (w.write.ensures.other_pages.0, ap g.S.Store.pages w.store-is ∙ w.write.ensures.other_pages.1)
-        | in_default w ↦ subst (SameBut test (g.S.Store.pages c.args.store.now)) (ap g.S.Store.pages (sym w.store-is)) c.loop-n.invariant.others
+        | in-Some+in_ok-write w ↦ others_put pages _ _ _ c.loop-n.n c.loop-n.invariant.others (ap is_some (sym w.in-Some.ensures)) (w.write.ensures.other_pages.0, ap g.S.StoreState.pages w.store-is ∙ w.write.ensures.other_pages.1)
+        | in_default w ↦ subst (SameBut test (g.S.StoreState.pages c.args.store.now)) (ap g.S.StoreState.pages (sym w.store-is)) c.loop-n.invariant.others
       ];
       pages = elim c.match-page_to_write.branch [
         | in-Some+in_ok-write w ↦ λ steady. pages_put pages _ _ c.loop-n.n w.in-Some.page.now
             (let long = c.loop-n.invariant.others.long in let all = c.requires.long in let below = c.loop-n-test.true in omega arith)
             (c.loop-n.invariant.pages steady) (sym w.in-Some.ensures)
-            (ap g.S.Store.pages w.store-is ∙ w.in_ok-write.ensures.page (c.loop-n.invariant.steady ∙ steady))
-        | in_default w ↦ λ steady k below some. ap (λ s. slice_get (g.S.Store.pages s) k) w.store-is ∙ pages_skipped pages _ c.loop-n.n (c.loop-n.invariant.pages steady) (sym w.in_default.ensures) k below some
+            (ap g.S.StoreState.pages w.store-is ∙ w.in_ok-write.ensures.page (c.loop-n.invariant.steady ∙ steady))
+        | in_default w ↦ λ steady k below some. ap (λ s. slice_get (g.S.StoreState.pages s) k) w.store-is ∙ pages_skipped pages _ c.loop-n.n (c.loop-n.invariant.pages steady) (sym w.in_default.ensures) k below some
       ];
-      tail = elim c.match-page_to_write.branch [ in-Some+in_ok-write w ↦ ap g.S.Store.tail w.store-is ∙ w.write.ensures.same_tail ∙ c.loop-n.invariant.tail | in_default w ↦ ap g.S.Store.tail w.store-is ∙ c.loop-n.invariant.tail ];
-      steady = elim c.match-page_to_write.branch [ in-Some+in_ok-write w ↦ ap g.S.Store.steady w.store-is ∙ w.write.ensures.same_steady ∙ c.loop-n.invariant.steady | in_default w ↦ ap g.S.Store.steady w.store-is ∙ c.loop-n.invariant.steady ];
-      reads = elim c.match-page_to_write.branch [ in-Some+in_ok-write w ↦ ap g.S.Store.reads w.store-is ∙ w.write.ensures.reads ∙ c.loop-n.invariant.reads | in_default w ↦ ap g.S.Store.reads w.store-is ∙ c.loop-n.invariant.reads ];
+      tail = elim c.match-page_to_write.branch [ in-Some+in_ok-write w ↦ ap g.S.StoreState.tail w.store-is ∙ w.write.ensures.same_tail ∙ c.loop-n.invariant.tail | in_default w ↦ ap g.S.StoreState.tail w.store-is ∙ c.loop-n.invariant.tail ];
+      steady = elim c.match-page_to_write.branch [ in-Some+in_ok-write w ↦ ap g.S.StoreState.steady w.store-is ∙ w.write.ensures.changes.steady ∙ c.loop-n.invariant.steady | in_default w ↦ ap g.S.StoreState.steady w.store-is ∙ c.loop-n.invariant.steady ];
+      reads = elim c.match-page_to_write.branch [ in-Some+in_ok-write w ↦ ap g.S.StoreState.reads w.store-is ∙ w.write.ensures.changes.reads ∙ c.loop-n.invariant.reads | in_default w ↦ ap g.S.StoreState.reads w.store-is ∙ c.loop-n.invariant.reads ];
       writes = elim c.match-page_to_write.branch [
-        | in-Some+in_ok-write w ↦ ap g.S.Store.writes w.store-is ∙ w.write.ensures.writes ∙ ap (λ k. counted k true) c.loop-n.invariant.writes
+        | in-Some+in_ok-write w ↦ ap g.S.StoreState.writes w.store-is ∙ w.write.ensures.changes.writes ∙ ap (λ k. counted k true) c.loop-n.invariant.writes
             ∙ counted_once old (how_many test c.loop-n.n) ∙ ap (counted_times old) (sym (one_more_yes test c.loop-n.n (ap is_some (sym w.in-Some.ensures))))
-        | in_default w ↦ ap g.S.Store.writes w.store-is ∙ c.loop-n.invariant.writes ∙ ap (counted_times old) (sym (one_more_no test c.loop-n.n (ap is_some (sym w.in_default.ensures))))
+        | in_default w ↦ ap g.S.StoreState.writes w.store-is ∙ c.loop-n.invariant.writes ∙ ap (counted_times old) (sym (one_more_no test c.loop-n.n (ap is_some (sym w.in_default.ensures))))
       ];
-      failures = elim c.match-page_to_write.branch [ in-Some+in_ok-write w ↦ ap g.S.Store.failures w.store-is ∙ w.in_ok-write.ensures.failures ∙ c.loop-n.invariant.failures | in_default w ↦ ap g.S.Store.failures w.store-is ∙ c.loop-n.invariant.failures ];
+      failures = elim c.match-page_to_write.branch [ in-Some+in_ok-write w ↦ ap g.S.StoreState.failures w.store-is ∙ w.in_ok-write.ensures.changes.failures ∙ c.loop-n.invariant.failures | in_default w ↦ ap g.S.StoreState.failures w.store-is ∙ c.loop-n.invariant.failures ];
       journal = elim c.match-page_to_write.branch [
-        | in-Some+in_ok-write w ↦ write_noted pages c.loop-n.n w.in-Some.page.now (g.S.Store.journal c.args.store.now) (g.S.Store.journal c.loop-n.store) _ w.in-Some.ensures c.loop-n.invariant.journal (ap g.S.Store.journal w.store-is ∙ w.in_ok-write.ensures.journal)
-        | in_default w ↦ skip_noted pages c.loop-n.n (g.S.Store.journal c.args.store.now) _ w.in_default.ensures (ap g.S.Store.journal w.store-is ∙ c.loop-n.invariant.journal)
+        | in-Some+in_ok-write w ↦ write_noted pages c.loop-n.n w.in-Some.page.now (g.S.StoreState.journal c.args.store.now) (g.S.StoreState.journal c.loop-n.store) _ w.in-Some.ensures c.loop-n.invariant.journal (ap g.S.StoreState.journal w.store-is ∙ w.in_ok-write.ensures.changes.journal)
+        | in_default w ↦ skip_noted pages c.loop-n.n (g.S.StoreState.journal c.args.store.now) _ w.in_default.ensures (ap g.S.StoreState.journal w.store-is ∙ c.loop-n.invariant.journal)
       ];
     }
 
@@ -79,7 +79,7 @@ returns-clause-writes g c =
     let low = c.loop-n.auto.n-end c.requires.some in
     let high = c.loop-n-test.false in
     let done : c.loop-n.n ≡ c.args.count = omega arith in
-    c.loop-n.invariant.writes ∙ ap (λ n. counted_times (g.S.Store.writes c.args.store.now) (how_many (λ k. is_some (pages k)) n)) done
+    c.loop-n.invariant.writes ∙ ap (λ n. counted_times (g.S.StoreState.writes c.args.store.now) (how_many (λ k. is_some (pages k)) n)) done
 
 pub returns-clause-journal : goal.returns-clause-journal
 returns-clause-journal g c =
@@ -87,4 +87,4 @@ returns-clause-journal g c =
     let low = c.loop-n.auto.n-end c.requires.some in
     let high = c.loop-n-test.false in
     let done : c.loop-n.n ≡ c.args.count = omega arith in
-    c.loop-n.invariant.journal ∙ ap (λ n. noted (g.S.Store.journal c.args.store.now) (writes_below pages n)) done
+    c.loop-n.invariant.journal ∙ ap (λ n. noted (g.S.StoreState.journal c.args.store.now) (writes_below pages n)) done

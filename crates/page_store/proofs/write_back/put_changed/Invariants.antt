@@ -7,12 +7,12 @@ use Rattle.page_store.proofs.write_back.put_changed.Given as goal
 
 abbrev pub invariant-loop-n : goal.invariant-loop-n
 invariant-loop-n g l = record {
-  others : SameBut (λ n. is_some (to_write (slots_of l.changed) l.free.keys l.count n)) (g.S.Store.pages l.fn.store) (g.S.Store.pages l.store);
-  pages : IsTrue (g.S.Store.steady l.fn.store) → (n : ℕ) → n < l.n → IsSome (to_write (slots_of l.changed) l.free.keys l.count n) → slice_get (g.S.Store.pages l.store) n ≡ to_write (slots_of l.changed) l.free.keys l.count n;
-  tail : g.S.Store.tail l.store ≡ g.S.Store.tail l.fn.store;
-  steady : g.S.Store.steady l.store ≡ g.S.Store.steady l.fn.store;
-  reads : g.S.Store.reads l.store ≡ g.S.Store.reads l.fn.store;
-  writes : g.S.Store.writes l.store ≡ counted_times (g.S.Store.writes l.fn.store) (how_many (λ n. is_some (to_write (slots_of l.changed) l.free.keys l.count n)) l.n);
-  failures : g.S.Store.failures l.store ≡ g.S.Store.failures l.fn.store;
-  journal : g.S.Store.journal l.store ≡ noted (g.S.Store.journal l.fn.store) (writes_below (to_write (slots_of l.changed) l.free.keys l.count) l.n);
+  others : SameBut (λ n. is_some (to_write (slots_of l.changed) l.free.keys l.count n)) (g.S.StoreState.pages l.fn.store) (g.S.StoreState.pages l.store);
+  pages : IsTrue (g.S.StoreState.steady l.fn.store) → (n : ℕ) → n < l.n → IsSome (to_write (slots_of l.changed) l.free.keys l.count n) → slice_get (g.S.StoreState.pages l.store) n ≡ to_write (slots_of l.changed) l.free.keys l.count n;
+  tail : g.S.StoreState.tail l.store ≡ g.S.StoreState.tail l.fn.store;
+  steady : g.S.StoreState.steady l.store ≡ g.S.StoreState.steady l.fn.store;
+  reads : g.S.StoreState.reads l.store ≡ g.S.StoreState.reads l.fn.store;
+  writes : g.S.StoreState.writes l.store ≡ counted_times (g.S.StoreState.writes l.fn.store) (how_many (λ n. is_some (to_write (slots_of l.changed) l.free.keys l.count n)) l.n);
+  failures : g.S.StoreState.failures l.store ≡ g.S.StoreState.failures l.fn.store;
+  journal : g.S.StoreState.journal l.store ≡ noted (g.S.StoreState.journal l.fn.store) (writes_below (to_write (slots_of l.changed) l.free.keys l.count) l.n);
 }

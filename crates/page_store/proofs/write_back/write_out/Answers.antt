@@ -11,9 +11,9 @@ use Rattle.page_store.proofs.write_back.write_out.Goals as goal
 
 pub returns-in_err-put_header-clause-writes_err : goal.returns-in_err-put_header-clause-writes_err
 returns-in_err-put_header-clause-writes_err g c =
-    let W = g.S.Store.writes in
+    let W = g.S.StoreState.writes in
     let k = how_many (λ n. is_some (to_write (slots_of c.args.changed.now) c.args.free.now.keys c.args.count n)) c.args.count in
-    on_err _ (no_more (W c.args.store.now) _ (1 + 2) (6 + k) (omega arith) (after_calls (W c.args.store.now) (W c.set_pages.new.self) _ 1 2 c.set_pages.ensures.writes c.in_err-put_header.ensures.writes_err))
+    on_err _ (no_more (W c.args.store.now) _ (1 + 2) (6 + k) (omega arith) (after_calls (W c.args.store.now) (W c.set_pages.new.self) _ 1 2 c.set_pages.ensures.changes.writes c.in_err-put_header.ensures.writes_err))
 
 pub returns-in_err-put_changed-clause-others : goal.returns-in_err-put_changed-clause-others
 returns-in_err-put_changed-clause-others g c =
@@ -24,9 +24,9 @@ returns-in_err-put_changed-clause-others g c =
 pub returns-in_err-put_changed-clause-writes_err :
     goal.returns-in_err-put_changed-clause-writes_err
 returns-in_err-put_changed-clause-writes_err g c =
-    let W = g.S.Store.writes in
+    let W = g.S.StoreState.writes in
     let k = how_many (λ n. is_some (to_write (slots_of c.args.changed.now) c.args.free.now.keys c.args.count n)) c.args.count in
-    let header : W c.put_header.new.store ≡ counted_times (W c.args.store.now) 3 = then_calls (W c.args.store.now) (W c.set_pages.new.self) _ 1 2 c.set_pages.ensures.writes c.in_ok-put_header.ensures.writes in
+    let header : W c.put_header.new.store ≡ counted_times (W c.args.store.now) 3 = then_calls (W c.args.store.now) (W c.set_pages.new.self) _ 1 2 c.set_pages.ensures.changes.writes c.in_ok-put_header.ensures.writes in
     on_err _ (no_more (W c.args.store.now) _ (3 + k) (6 + k) (omega arith) (after_calls (W c.args.store.now) (W c.put_header.new.store) _ 3 k header c.in_err-put_changed.ensures.writes_err))
 
 pub returns-in_err-sync-clause-others : goal.returns-in_err-sync-clause-others
@@ -38,11 +38,11 @@ returns-in_err-sync-clause-others g c =
 
 pub returns-in_err-sync-clause-writes_err : goal.returns-in_err-sync-clause-writes_err
 returns-in_err-sync-clause-writes_err g c =
-    let W = g.S.Store.writes in
+    let W = g.S.StoreState.writes in
     let k = how_many (λ n. is_some (to_write (slots_of c.args.changed.now) c.args.free.now.keys c.args.count n)) c.args.count in
-    let header : W c.put_header.new.store ≡ counted_times (W c.args.store.now) 3 = then_calls (W c.args.store.now) (W c.set_pages.new.self) _ 1 2 c.set_pages.ensures.writes c.in_ok-put_header.ensures.writes in
+    let header : W c.put_header.new.store ≡ counted_times (W c.args.store.now) 3 = then_calls (W c.args.store.now) (W c.set_pages.new.self) _ 1 2 c.set_pages.ensures.changes.writes c.in_ok-put_header.ensures.writes in
     let put : W c.put_changed.new.store ≡ counted_times (W c.args.store.now) (3 + k) = then_calls (W c.args.store.now) (W c.put_header.new.store) _ 3 k header c.in_ok-put_changed.ensures.writes in
-    let kept : W c.sync.new.self ≡ counted_times (W c.args.store.now) (3 + k + 1) = then_calls (W c.args.store.now) (W c.put_changed.new.store) _ (3 + k) 1 put c.sync.ensures.writes in
+    let kept : W c.sync.new.self ≡ counted_times (W c.args.store.now) (3 + k + 1) = then_calls (W c.args.store.now) (W c.put_changed.new.store) _ (3 + k) 1 put c.sync.ensures.changes.writes in
     on_err _ (all_calls (W c.args.store.now) _ (3 + k + 1) (6 + k) (omega arith) (omega arith) kept)
 
 pub returns-clause-others : goal.returns-clause-others
@@ -54,48 +54,48 @@ returns-clause-others g c =
 
 pub returns-clause-writes : goal.returns-clause-writes
 returns-clause-writes g c =
-    let W = g.S.Store.writes in
+    let W = g.S.StoreState.writes in
     let k = how_many (λ n. is_some (to_write (slots_of c.args.changed.now) c.args.free.now.keys c.args.count n)) c.args.count in
-    let header : W c.put_header.new.store ≡ counted_times (W c.args.store.now) 3 = then_calls (W c.args.store.now) (W c.set_pages.new.self) _ 1 2 c.set_pages.ensures.writes c.in_ok-put_header.ensures.writes in
+    let header : W c.put_header.new.store ≡ counted_times (W c.args.store.now) 3 = then_calls (W c.args.store.now) (W c.set_pages.new.self) _ 1 2 c.set_pages.ensures.changes.writes c.in_ok-put_header.ensures.writes in
     let put : W c.put_changed.new.store ≡ counted_times (W c.args.store.now) (3 + k) = then_calls (W c.args.store.now) (W c.put_header.new.store) _ 3 k header c.in_ok-put_changed.ensures.writes in
-    let kept : W c.sync.new.self ≡ counted_times (W c.args.store.now) (3 + k + 1) = then_calls (W c.args.store.now) (W c.put_changed.new.store) _ (3 + k) 1 put c.sync.ensures.writes in
+    let kept : W c.sync.new.self ≡ counted_times (W c.args.store.now) (3 + k + 1) = then_calls (W c.args.store.now) (W c.put_changed.new.store) _ (3 + k) 1 put c.sync.ensures.changes.writes in
     last_calls c.put_header-2.result (W c.args.store.now) (W c.sync.new.self) (W c.put_header-2.new.store) (3 + k + 1) 2 (6 + k) kept (omega arith) c.put_header-2.ensures.writes
 
 pub returns-clause-writes_err : goal.returns-clause-writes_err
 returns-clause-writes_err g c =
-    let W = g.S.Store.writes in
+    let W = g.S.StoreState.writes in
     let k = how_many (λ n. is_some (to_write (slots_of c.args.changed.now) c.args.free.now.keys c.args.count n)) c.args.count in
-    let header : W c.put_header.new.store ≡ counted_times (W c.args.store.now) 3 = then_calls (W c.args.store.now) (W c.set_pages.new.self) _ 1 2 c.set_pages.ensures.writes c.in_ok-put_header.ensures.writes in
+    let header : W c.put_header.new.store ≡ counted_times (W c.args.store.now) 3 = then_calls (W c.args.store.now) (W c.set_pages.new.self) _ 1 2 c.set_pages.ensures.changes.writes c.in_ok-put_header.ensures.writes in
     let put : W c.put_changed.new.store ≡ counted_times (W c.args.store.now) (3 + k) = then_calls (W c.args.store.now) (W c.put_header.new.store) _ 3 k header c.in_ok-put_changed.ensures.writes in
-    let kept : W c.sync.new.self ≡ counted_times (W c.args.store.now) (3 + k + 1) = then_calls (W c.args.store.now) (W c.put_changed.new.store) _ (3 + k) 1 put c.sync.ensures.writes in
+    let kept : W c.sync.new.self ≡ counted_times (W c.args.store.now) (3 + k + 1) = then_calls (W c.args.store.now) (W c.put_changed.new.store) _ (3 + k) 1 put c.sync.ensures.changes.writes in
     last_up_to c.put_header-2.result (W c.args.store.now) (W c.sync.new.self) (W c.put_header-2.new.store) (3 + k + 1) 2 (6 + k) kept (omega arith) c.put_header-2.ensures.writes_err
 
 pub returns-in_err-put_header-clause-journal_err : goal.returns-in_err-put_header-clause-journal_err
 returns-in_err-put_header-clause-journal_err g c =
     let pages : PageMap = to_write (slots_of c.args.changed.now) c.args.free.now.keys c.args.count in
-    let J = g.S.Store.journal in
-    on_err _ (no_header pages c.args.count c.args.writing.now c.args.clean.now (J c.args.store.now) (J c.set_pages.new.self) (J c.set_pages.new.self) (J c.set_pages.new.self) (J c.set_pages.new.self) (J c.put_header.new.store) c.in_ok-set_pages.ensures.journal c.in_err-put_header.ensures.journal_err)
+    let J = g.S.StoreState.journal in
+    on_err _ (no_header pages c.args.count c.args.writing.now c.args.clean.now (J c.args.store.now) (J c.set_pages.new.self) (J c.set_pages.new.self) (J c.set_pages.new.self) (J c.set_pages.new.self) (J c.put_header.new.store) c.in_ok-set_pages.ensures.changes.journal c.in_err-put_header.ensures.journal_err)
 
 pub returns-in_err-put_changed-clause-journal_err : goal.returns-in_err-put_changed-clause-journal_err
 returns-in_err-put_changed-clause-journal_err g c =
     let pages : PageMap = to_write (slots_of c.args.changed.now) c.args.free.now.keys c.args.count in
-    let J = g.S.Store.journal in
-    on_err _ (no_writes pages c.args.count c.args.writing.now c.args.clean.now (J c.args.store.now) (J c.set_pages.new.self) (J c.put_header.new.store) (J c.put_header.new.store) (J c.put_header.new.store) (J c.put_changed.new.store) c.in_ok-set_pages.ensures.journal c.in_ok-put_header.ensures.journal c.in_err-put_changed.ensures.journal_err)
+    let J = g.S.StoreState.journal in
+    on_err _ (no_writes pages c.args.count c.args.writing.now c.args.clean.now (J c.args.store.now) (J c.set_pages.new.self) (J c.put_header.new.store) (J c.put_header.new.store) (J c.put_header.new.store) (J c.put_changed.new.store) c.in_ok-set_pages.ensures.changes.journal c.in_ok-put_header.ensures.journal c.in_err-put_changed.ensures.journal_err)
 
 pub returns-in_err-sync-clause-journal_err : goal.returns-in_err-sync-clause-journal_err
 returns-in_err-sync-clause-journal_err g c =
     let pages : PageMap = to_write (slots_of c.args.changed.now) c.args.free.now.keys c.args.count in
-    let J = g.S.Store.journal in
-    on_err _ (no_sync pages c.args.count c.args.writing.now c.args.clean.now (J c.args.store.now) (J c.set_pages.new.self) (J c.put_header.new.store) (J c.put_changed.new.store) (J c.put_changed.new.store) (J c.sync.new.self) c.in_ok-set_pages.ensures.journal c.in_ok-put_header.ensures.journal c.in_ok-put_changed.ensures.journal c.in_err-sync.ensures.same_journal)
+    let J = g.S.StoreState.journal in
+    on_err _ (no_sync pages c.args.count c.args.writing.now c.args.clean.now (J c.args.store.now) (J c.set_pages.new.self) (J c.put_header.new.store) (J c.put_changed.new.store) (J c.put_changed.new.store) (J c.sync.new.self) c.in_ok-set_pages.ensures.changes.journal c.in_ok-put_header.ensures.journal c.in_ok-put_changed.ensures.journal c.in_err-sync.ensures.changes.same_journal)
 
 pub returns-clause-journal : goal.returns-clause-journal
 returns-clause-journal g c =
     let pages : PageMap = to_write (slots_of c.args.changed.now) c.args.free.now.keys c.args.count in
-    let J = g.S.Store.journal in
-    all_noted pages c.args.count c.args.writing.now c.args.clean.now (J c.args.store.now) (J c.set_pages.new.self) (J c.put_header.new.store) (J c.put_changed.new.store) (J c.sync.new.self) (J c.put_header-2.new.store) c.in_ok-set_pages.ensures.journal c.in_ok-put_header.ensures.journal c.in_ok-put_changed.ensures.journal c.in_ok-sync.ensures.journal c.put_header-2.result c.put_header-2.ensures.journal
+    let J = g.S.StoreState.journal in
+    all_noted pages c.args.count c.args.writing.now c.args.clean.now (J c.args.store.now) (J c.set_pages.new.self) (J c.put_header.new.store) (J c.put_changed.new.store) (J c.sync.new.self) (J c.put_header-2.new.store) c.in_ok-set_pages.ensures.changes.journal c.in_ok-put_header.ensures.journal c.in_ok-put_changed.ensures.journal c.in_ok-sync.ensures.changes.journal c.put_header-2.result c.put_header-2.ensures.journal
 
 pub returns-clause-journal_err : goal.returns-clause-journal_err
 returns-clause-journal_err g c =
     let pages : PageMap = to_write (slots_of c.args.changed.now) c.args.free.now.keys c.args.count in
-    let J = g.S.Store.journal in
-    no_close pages c.args.count c.args.writing.now c.args.clean.now (J c.args.store.now) (J c.set_pages.new.self) (J c.put_header.new.store) (J c.put_changed.new.store) (J c.sync.new.self) (J c.put_header-2.new.store) c.in_ok-set_pages.ensures.journal c.in_ok-put_header.ensures.journal c.in_ok-put_changed.ensures.journal c.in_ok-sync.ensures.journal c.put_header-2.result c.put_header-2.ensures.journal_err
+    let J = g.S.StoreState.journal in
+    no_close pages c.args.count c.args.writing.now c.args.clean.now (J c.args.store.now) (J c.set_pages.new.self) (J c.put_header.new.store) (J c.put_changed.new.store) (J c.sync.new.self) (J c.put_header-2.new.store) c.in_ok-set_pages.ensures.changes.journal c.in_ok-put_header.ensures.journal c.in_ok-put_changed.ensures.journal c.in_ok-sync.ensures.changes.journal c.put_header-2.result c.put_header-2.ensures.journal_err

@@ -6,5 +6,5 @@ use Rattle.page_store.proofs.flaky_store.FlakyStoreStore.write.Goals as goal
 pub returns-then-write_fails_now-clause-other_pages :
     goal.returns-then-write_fails_now-clause-other_pages
 returns-then-write_fails_now-clause-other_pages g c =
-    let pages = g.S.Store.pages c.args.self.now.inner in
-    (get_or pages c.args.n [], ap (λ (s : FlakyStored _). g.S.Store.pages s.inner) c.write_fails_now.ensures.after ∙ sym (set-get_or pages c.args.n []))
+    let pages = g.S.StoreState.pages c.args.self.now.inner in
+    (get_or pages c.args.n [], ap (λ (s : FlakyStored _). g.S.StoreState.pages s.inner) c.write_fails_now.ensures.after ∙ sym (set-get_or pages c.args.n []))

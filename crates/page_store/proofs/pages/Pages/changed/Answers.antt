@@ -14,15 +14,15 @@ returns-clause-idle g c = λ idle n.
 pub returns-clause-in_use : goal.returns-clause-in_use
 returns-clause-in_use g c = λ n.
     subst (λ (v : PagesView). is_in_memory v n ≡ true → IsSome (at v.pages n)) c.self.view_is
-    (memory_used (g.S.Store.pages c.self.inside.store) (slots_of c.self.inside.changed.items) c.self.inside.free.keys c.self.inside.count n)
+    (memory_used (g.S.StoreState.pages c.self.inside.store) (slots_of c.self.inside.changed.items) c.self.inside.free.keys c.self.inside.count n)
 
 pub returns-clause-stored : goal.returns-clause-stored
 returns-clause-stored g c = λ n.
     subst (λ (v : PagesView). IsSome (at v.pages n) → is_in_memory v n ≡ false → slice_get v.stored n ≡ at v.pages n) c.self.view_is
-    (stored_elsewhere (g.S.Store.pages c.self.inside.store) (slots_of c.self.inside.changed.items) c.self.inside.free.keys c.self.inside.count n)
+    (stored_elsewhere (g.S.StoreState.pages c.self.inside.store) (slots_of c.self.inside.changed.items) c.self.inside.free.keys c.self.inside.count n)
 
 pub returns-clause-fits : goal.returns-clause-fits
 returns-clause-fits g c =
-    let long = length-pages_of (g.S.Store.pages c.self.inside.store) (slots_of c.self.inside.changed.items) c.self.inside.free.keys c.self.inside.count in
+    let long = length-pages_of (g.S.StoreState.pages c.self.inside.store) (slots_of c.self.inside.changed.items) c.self.inside.free.keys c.self.inside.count in
     let few = c.self.invariant.store_fits in
     subst (λ (v : PagesView). length v.stored ≤ length v.pages) c.self.view_is (omega arith)

@@ -31,7 +31,7 @@ returns-then-not-is_in_use-clause-from_store g c = λ _ some.
 pub returns-then-not-is_in_use-clause-from_memory : goal.returns-then-not-is_in_use-clause-from_memory
 returns-then-not-is_in_use-clause-from_memory g c = λ here.
     let gone : at c.args.self.now.pages c.args.n ≡ None = in_view c.args.self.now _ c.args.n None (ap (λ (v : PagesView). v.pages) c.self.view_is) (outside _ _ _ _ c.args.n (λ h. let t = c.is_in_use.ensures.1 h in cc)) in
-    let used = memory_used (g.S.Store.pages c.self.inside.store) (slots_of c.self.inside.changed.items) c.self.inside.free.keys c.self.inside.count c.args.n (ap (λ (v : PagesView). is_in_memory v c.args.n) c.self.view_is ∙ here) in
+    let used = memory_used (g.S.StoreState.pages c.self.inside.store) (slots_of c.self.inside.changed.items) c.self.inside.free.keys c.self.inside.count c.args.n (ap (λ (v : PagesView). is_in_memory v c.args.n) c.self.view_is ∙ here) in
     none_not_some _ gone (subst (λ (v : PagesView). IsSome (at v.pages c.args.n)) c.self.view_is used)
 
 pub returns-then-not-is_in_use-clause-reads : goal.returns-then-not-is_in_use-clause-reads
@@ -71,29 +71,29 @@ returns-in-Some-clause-reads g c =
 pub returns-clause-page : goal.returns-clause-page
 returns-clause-page g c = λ steady.
     let slot : None ≡ at (slots_of c.self.inside.changed.items) c.args.n = c.in_default.ensures ∙ ap (λ (xs : List (Option (Box (List ℕ) Global))). at (slots_of xs) c.args.n) c.deref.ensures.value in
-    let there : at c.args.self.now.pages c.args.n ≡ slice_get (g.S.Store.pages c.self.inside.store) c.args.n = in_view c.args.self.now _ c.args.n _ (ap (λ (v : PagesView). v.pages) c.self.view_is) (from_store _ _ _ _ c.args.n (c.is_in_use.ensures.0 (cc)) slot) in
+    let there : at c.args.self.now.pages c.args.n ≡ slice_get (g.S.StoreState.pages c.self.inside.store) c.args.n = in_view c.args.self.now _ c.args.n _ (ap (λ (v : PagesView). v.pages) c.self.view_is) (from_store _ _ _ _ c.args.n (c.is_in_use.ensures.0 (cc)) slot) in
     let read = c.read.ensures.page (ap (λ (v : PagesView). v.steady) c.self.view_is ∙ steady) in
     elim c.match-read.branch [ in-Ok w ↦ rw w.result-is (there ∙ (rw w.in-Ok.is at read)) | in-Err w ↦ rw w.result-is tt ]
 
 pub returns-clause-out_of_range : goal.returns-clause-out_of_range
 returns-clause-out_of_range g c =
     let slot : None ≡ at (slots_of c.self.inside.changed.items) c.args.n = c.in_default.ensures ∙ ap (λ (xs : List (Option (Box (List ℕ) Global))). at (slots_of xs) c.args.n) c.deref.ensures.value in
-    let there : at c.args.self.now.pages c.args.n ≡ slice_get (g.S.Store.pages c.self.inside.store) c.args.n = in_view c.args.self.now _ c.args.n _ (ap (λ (v : PagesView). v.pages) c.self.view_is) (from_store _ _ _ _ c.args.n (c.is_in_use.ensures.0 (cc)) slot) in
-    let some = stored_in_use (g.S.Store.pages c.self.inside.store) _ _ _ c.args.n _ c.self.invariant (c.is_in_use.ensures.0 (cc)) slot in
+    let there : at c.args.self.now.pages c.args.n ≡ slice_get (g.S.StoreState.pages c.self.inside.store) c.args.n = in_view c.args.self.now _ c.args.n _ (ap (λ (v : PagesView). v.pages) c.self.view_is) (from_store _ _ _ _ c.args.n (c.is_in_use.ensures.0 (cc)) slot) in
+    let some = stored_in_use (g.S.StoreState.pages c.self.inside.store) _ _ _ c.args.n _ c.self.invariant (c.is_in_use.ensures.0 (cc)) slot in
     elim c.match-read.branch [ in-Ok w ↦ rw w.result-is (λ other. absurd (cc), λ gone. absurd (some (sym there ∙ gone))) | in-Err w ↦ rw w.result-is (λ other. absurd (cc), λ gone. absurd (some (sym there ∙ gone))) ]
 
 pub returns-clause-nothing_there : goal.returns-clause-nothing_there
 returns-clause-nothing_there g c = λ gone.
     let slot : None ≡ at (slots_of c.self.inside.changed.items) c.args.n = c.in_default.ensures ∙ ap (λ (xs : List (Option (Box (List ℕ) Global))). at (slots_of xs) c.args.n) c.deref.ensures.value in
-    let there : at c.args.self.now.pages c.args.n ≡ slice_get (g.S.Store.pages c.self.inside.store) c.args.n = in_view c.args.self.now _ c.args.n _ (ap (λ (v : PagesView). v.pages) c.self.view_is) (from_store _ _ _ _ c.args.n (c.is_in_use.ensures.0 (cc)) slot) in
-    let some = stored_in_use (g.S.Store.pages c.self.inside.store) _ _ _ c.args.n _ c.self.invariant (c.is_in_use.ensures.0 (cc)) slot in
+    let there : at c.args.self.now.pages c.args.n ≡ slice_get (g.S.StoreState.pages c.self.inside.store) c.args.n = in_view c.args.self.now _ c.args.n _ (ap (λ (v : PagesView). v.pages) c.self.view_is) (from_store _ _ _ _ c.args.n (c.is_in_use.ensures.0 (cc)) slot) in
+    let some = stored_in_use (g.S.StoreState.pages c.self.inside.store) _ _ _ c.args.n _ c.self.invariant (c.is_in_use.ensures.0 (cc)) slot in
     absurd (some (sym there ∙ gone))
 
 pub returns-clause-nothing_read : goal.returns-clause-nothing_read
 returns-clause-nothing_read g c = λ gone.
     let slot : None ≡ at (slots_of c.self.inside.changed.items) c.args.n = c.in_default.ensures ∙ ap (λ (xs : List (Option (Box (List ℕ) Global))). at (slots_of xs) c.args.n) c.deref.ensures.value in
-    let there : at c.args.self.now.pages c.args.n ≡ slice_get (g.S.Store.pages c.self.inside.store) c.args.n = in_view c.args.self.now _ c.args.n _ (ap (λ (v : PagesView). v.pages) c.self.view_is) (from_store _ _ _ _ c.args.n (c.is_in_use.ensures.0 (cc)) slot) in
-    let some = stored_in_use (g.S.Store.pages c.self.inside.store) _ _ _ c.args.n _ c.self.invariant (c.is_in_use.ensures.0 (cc)) slot in
+    let there : at c.args.self.now.pages c.args.n ≡ slice_get (g.S.StoreState.pages c.self.inside.store) c.args.n = in_view c.args.self.now _ c.args.n _ (ap (λ (v : PagesView). v.pages) c.self.view_is) (from_store _ _ _ _ c.args.n (c.is_in_use.ensures.0 (cc)) slot) in
+    let some = stored_in_use (g.S.StoreState.pages c.self.inside.store) _ _ _ c.args.n _ c.self.invariant (c.is_in_use.ensures.0 (cc)) slot in
     absurd (some (sym there ∙ gone))
 
 pub returns-clause-from_memory : goal.returns-clause-from_memory
@@ -106,7 +106,7 @@ pub returns-clause-reads : goal.returns-clause-reads
 returns-clause-reads g c =
     let slot : None ≡ at (slots_of c.self.inside.changed.items) c.args.n = c.in_default.ensures ∙ ap (λ (xs : List (Option (Box (List ℕ) Global))). at (slots_of xs) c.args.n) c.deref.ensures.value in
     let out : is_in_memory c.args.self.now c.args.n ≡ false = ap (λ (v : PagesView). is_in_memory v c.args.n) (sym c.self.view_is) ∙ slot_in_memory (slots_of c.self.inside.changed.items) c.self.inside.free.keys c.self.inside.count c.args.n (c.is_in_use.ensures.0 (cc)) ∙ ap is_some (sym slot) in
-    let there : at c.args.self.now.pages c.args.n ≡ slice_get (g.S.Store.pages c.self.inside.store) c.args.n = in_view c.args.self.now _ c.args.n _ (ap (λ (v : PagesView). v.pages) c.self.view_is) (from_store _ _ _ _ c.args.n (c.is_in_use.ensures.0 (cc)) slot) in
-    let some = stored_in_use (g.S.Store.pages c.self.inside.store) _ _ _ c.args.n _ c.self.invariant (c.is_in_use.ensures.0 (cc)) slot in
+    let there : at c.args.self.now.pages c.args.n ≡ slice_get (g.S.StoreState.pages c.self.inside.store) c.args.n = in_view c.args.self.now _ c.args.n _ (ap (λ (v : PagesView). v.pages) c.self.view_is) (from_store _ _ _ _ c.args.n (c.is_in_use.ensures.0 (cc)) slot) in
+    let some = stored_in_use (g.S.StoreState.pages c.self.inside.store) _ _ _ c.args.n _ c.self.invariant (c.is_in_use.ensures.0 (cc)) slot in
     let used : IsSome (at c.args.self.now.pages c.args.n) = some_or_none (at c.args.self.now.pages c.args.n) (λ gone. some (sym there ∙ gone)) in
-    c.read.ensures.reads ∙ ap (λ (v : PagesView). counted v.reads true) c.self.view_is ∙ ap (counted c.args.self.now.reads) (sym (others_read c.args.self.now c.args.n used out))
+    c.read.ensures.looks.reads ∙ ap (λ (v : PagesView). counted v.reads true) c.self.view_is ∙ ap (counted c.args.self.now.reads) (sym (others_read c.args.self.now c.args.n used out))

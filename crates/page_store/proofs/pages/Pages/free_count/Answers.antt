@@ -8,7 +8,7 @@ use Rattle.page_store.proofs.pages.Pages.free_count.Goals as goal
 
 pub overflow_cast-result : goal.overflow_cast-result
 overflow_cast-result g c =
-    let stored = g.S.Store.pages c.self.inside.store in
+    let stored = g.S.StoreState.pages c.self.inside.store in
     let slots = slots_of c.self.inside.changed.items in
     let free = c.self.inside.free.keys in
     let same = free_numbers_of stored slots free c.self.inside.count _ c.self.invariant c.len.ensures.ordered in

@@ -26,7 +26,7 @@ copied_some (Some page) = refl
 
 pub returns-clause-page : goal.returns-clause-page
 returns-clause-page g c =
-    shown (g.S.Store.pages c.self.inside.store) (slots_of c.self.inside.changed.items) c.self.inside.free.keys c.self.inside.count c.args.n c.args.self.now c.changed_page.result
+    shown (g.S.StoreState.pages c.self.inside.store) (slots_of c.self.inside.changed.items) c.self.inside.free.keys c.self.inside.count c.args.n c.args.self.now c.changed_page.result
     (ap (λ (v : PagesView). v.pages) c.self.view_is) (c.is_in_use.ensures.0 c.if-not-is_in_use.false)
     (c.changed_page.ensures ∙ ap (λ (xs : List (Option (Box (List ℕ) Global))). at (slots_of xs) c.args.n) c.deref.ensures.value)
 

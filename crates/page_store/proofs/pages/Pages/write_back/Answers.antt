@@ -48,7 +48,7 @@ returns-in-Err-clause-pages g c = λ _.
 
 pub returns-in-Err-clause-same_count : goal.returns-in-Err-clause-same_count
 returns-in-Err-clause-same_count g c =
-    length-pages_of _ _ _ _ ∙ sym (length-pages_of (g.S.Store.pages c.self.inside.store) (slots_of c.self.inside.changed.items) c.self.inside.free.keys c.self.inside.count) ∙ ap (λ (v : PagesView). length v.pages) c.self.view_is
+    length-pages_of _ _ _ _ ∙ sym (length-pages_of (g.S.StoreState.pages c.self.inside.store) (slots_of c.self.inside.changed.items) c.self.inside.free.keys c.self.inside.count) ∙ ap (λ (v : PagesView). length v.pages) c.self.view_is
 
 pub returns-in-Err-clause-same_free : goal.returns-in-Err-clause-same_free
 returns-in-Err-clause-same_free g c =
@@ -67,86 +67,86 @@ returns-in-Err-clause-err g c =
       pages = (pages_kept _ _ _ _ _ c.self.invariant _ leaves ∙ ap (λ (v : PagesView). v.pages) c.self.view_is) i;
       changed = ap (λ (v : PagesView). v.changed) c.self.view_is i;
       in_memory = ap (λ (v : PagesView). v.in_memory) c.self.view_is i;
-      stored = g.S.Store.pages c.write_out-written.new.store;
-      tail = g.S.Store.tail c.write_out-written.new.store;
+      stored = g.S.StoreState.pages c.write_out-written.new.store;
+      tail = g.S.StoreState.tail c.write_out-written.new.store;
       steady = (c.write_out-written.ensures.steady ∙ ap (λ (v : PagesView). v.steady) c.self.view_is) i;
       reads = (c.write_out-written.ensures.reads ∙ ap (λ (v : PagesView). v.reads) c.self.view_is) i;
-      writes = g.S.Store.writes c.write_out-written.new.store;
-      failures = g.S.Store.failures c.write_out-written.new.store;
-      journal = g.S.Store.journal c.write_out-written.new.store;
+      writes = g.S.StoreState.writes c.write_out-written.new.store;
+      failures = g.S.StoreState.failures c.write_out-written.new.store;
+      journal = g.S.StoreState.journal c.write_out-written.new.store;
     }
 
 pub returns-in-Err-clause-others : goal.returns-in-Err-clause-others
 returns-in-Err-clause-others g c =
     let leaves = leaves_in _ _ c.self.inside.free.keys _ _ _ c.deref.ensures.value c.write_out-written.ensures.others in
-    subst (λ (v : PagesView). KeepsOthers (at v.pages) (length v.pages) v.stored (g.S.Store.pages c.write_out-written.new.store)) c.self.view_is (leaves_pages _ _ _ _ _ c.self.invariant _ leaves)
+    subst (λ (v : PagesView). KeepsOthers (at v.pages) (length v.pages) v.stored (g.S.StoreState.pages c.write_out-written.new.store)) c.self.view_is (leaves_pages _ _ _ _ _ c.self.invariant _ leaves)
 
 pub returns-in-Err-clause-stopped : goal.returns-in-Err-clause-stopped
 returns-in-Err-clause-stopped g c = λ steady.
     let leaves = leaves_in _ _ c.self.inside.free.keys _ _ _ c.deref.ensures.value c.write_out-written.ensures.others in
-    let stopped = subst (λ (xs : List (Option (Box (List ℕ) Global))). Stopped (to_write (slots_of xs) c.self.inside.free.keys c.self.inside.count) c.args.writing.now (g.S.Store.pages c.self.inside.store) (g.S.Store.pages c.write_out-written.new.store)) c.deref.ensures.value (c.in-Err.ensures.stopped (ap (λ (v : PagesView). v.steady) c.self.view_is ∙ steady)) in
-    subst (λ (v : PagesView). Stopped (at v.pages) c.args.writing.now v.stored (g.S.Store.pages c.write_out-written.new.store)) c.self.view_is (stopped_pages _ _ _ _ _ c.self.invariant _ leaves c.args.writing.now stopped)
+    let stopped = subst (λ (xs : List (Option (Box (List ℕ) Global))). Stopped (to_write (slots_of xs) c.self.inside.free.keys c.self.inside.count) c.args.writing.now (g.S.StoreState.pages c.self.inside.store) (g.S.StoreState.pages c.write_out-written.new.store)) c.deref.ensures.value (c.in-Err.ensures.stopped (ap (λ (v : PagesView). v.steady) c.self.view_is ∙ steady)) in
+    subst (λ (v : PagesView). Stopped (at v.pages) c.args.writing.now v.stored (g.S.StoreState.pages c.write_out-written.new.store)) c.self.view_is (stopped_pages _ _ _ _ _ c.self.invariant _ leaves c.args.writing.now stopped)
 
 pub returns-in-Err-clause-memory : goal.returns-in-Err-clause-memory
 returns-in-Err-clause-memory g c = λ same.
     let grows = c.in-Err.ensures.memory (memory_back c.in-Err.fault c.told.result c.told.ensures same) in
-    let long = length-pages_of (g.S.Store.pages c.self.inside.store) (slots_of c.self.inside.changed.items) c.self.inside.free.keys c.self.inside.count in
-    subst (λ (v : PagesView). GrowsTo (length v.pages) v.stored (g.S.Store.pages c.write_out-written.new.store)) c.self.view_is
-    (subst (λ (k : ℕ). GrowsTo k (g.S.Store.pages c.self.inside.store) (g.S.Store.pages c.write_out-written.new.store)) (sym long) grows)
+    let long = length-pages_of (g.S.StoreState.pages c.self.inside.store) (slots_of c.self.inside.changed.items) c.self.inside.free.keys c.self.inside.count in
+    subst (λ (v : PagesView). GrowsTo (length v.pages) v.stored (g.S.StoreState.pages c.write_out-written.new.store)) c.self.view_is
+    (subst (λ (k : ℕ). GrowsTo k (g.S.StoreState.pages c.self.inside.store) (g.S.StoreState.pages c.write_out-written.new.store)) (sym long) grows)
 
 pub returns-clause-count : goal.returns-clause-count
 returns-clause-count g c =
-    c.in_default.ensures.count ∙ sym (length-pages_of (g.S.Store.pages c.self.inside.store) (slots_of c.self.inside.changed.items) c.self.inside.free.keys c.self.inside.count) ∙ ap (λ (v : PagesView). length v.pages) c.self.view_is
+    c.in_default.ensures.count ∙ sym (length-pages_of (g.S.StoreState.pages c.self.inside.store) (slots_of c.self.inside.changed.items) c.self.inside.free.keys c.self.inside.count) ∙ ap (λ (v : PagesView). length v.pages) c.self.view_is
 
 pub returns-clause-stored : goal.returns-clause-stored
 returns-clause-stored g c = λ steady.
     let leaves = leaves_in _ _ c.self.inside.free.keys _ _ _ c.deref.ensures.value c.write_out-written.ensures.others in
     let put = stored_in _ _ c.self.inside.free.keys c.self.inside.count _ c.deref.ensures.value (c.in_default.ensures.pages (ap (λ (v : PagesView). v.steady) c.self.view_is ∙ steady)) in
-    subst (λ (v : PagesView). AreStored (at v.pages) (g.S.Store.pages c.write_out-written.new.store)) c.self.view_is (all_stored _ _ _ _ _ c.self.invariant _ leaves put)
+    subst (λ (v : PagesView). AreStored (at v.pages) (g.S.StoreState.pages c.write_out-written.new.store)) c.self.view_is (all_stored _ _ _ _ _ c.self.invariant _ leaves put)
 
 pub returns-clause-unwritten : goal.returns-clause-unwritten
 returns-clause-unwritten g c =
     let leaves = leaves_in _ _ c.self.inside.free.keys _ _ _ c.deref.ensures.value c.write_out-written.ensures.others in
-    let same = subst (λ (xs : List (Option (Box (List ℕ) Global))). (n : ℕ) → n ≢ 0 → to_write (slots_of xs) c.self.inside.free.keys c.self.inside.count n ≡ None → slice_get (g.S.Store.pages c.write_out-written.new.store) n ≡ slice_get (g.S.Store.pages c.self.inside.store ++ blanks (c.self.inside.count - length (g.S.Store.pages c.self.inside.store))) n) c.deref.ensures.value c.in_default.ensures.unwritten in
-    subst (λ (v : PagesView). (n : ℕ) → n ≢ 0 → at v.pages n ≡ None → slice_get (g.S.Store.pages c.write_out-written.new.store) n ≡ slice_get (v.stored ++ blanks (length v.pages - length v.stored)) n) c.self.view_is (unwritten_pages _ _ _ _ _ c.self.invariant _ leaves same)
+    let same = subst (λ (xs : List (Option (Box (List ℕ) Global))). (n : ℕ) → n ≢ 0 → to_write (slots_of xs) c.self.inside.free.keys c.self.inside.count n ≡ None → slice_get (g.S.StoreState.pages c.write_out-written.new.store) n ≡ slice_get (g.S.StoreState.pages c.self.inside.store ++ blanks (c.self.inside.count - length (g.S.StoreState.pages c.self.inside.store))) n) c.deref.ensures.value c.in_default.ensures.unwritten in
+    subst (λ (v : PagesView). (n : ℕ) → n ≢ 0 → at v.pages n ≡ None → slice_get (g.S.StoreState.pages c.write_out-written.new.store) n ≡ slice_get (v.stored ++ blanks (length v.pages - length v.stored)) n) c.self.view_is (unwritten_pages _ _ _ _ _ c.self.invariant _ leaves same)
 
 pub returns-clause-pages : goal.returns-clause-pages
 returns-clause-pages g c = λ steady.
     let leaves = leaves_in _ _ c.self.inside.free.keys _ _ _ c.deref.ensures.value c.write_out-written.ensures.others in
     let put = stored_in _ _ c.self.inside.free.keys c.self.inside.count _ c.deref.ensures.value (c.in_default.ensures.pages (ap (λ (v : PagesView). v.steady) c.self.view_is ∙ steady)) in
-    ap (λ (xs : List (Option (Box (List ℕ) Global))). pages_of (g.S.Store.pages c.write_out-written.new.store) (slots_of xs) c.self.inside.free.keys c.self.inside.count) c.clear.ensures.items
+    ap (λ (xs : List (Option (Box (List ℕ) Global))). pages_of (g.S.StoreState.pages c.write_out-written.new.store) (slots_of xs) c.self.inside.free.keys c.self.inside.count) c.clear.ensures.items
     ∙ pages_dropped _ _ _ _ _ c.self.invariant _ leaves c.in_default.ensures.count put
     ∙ ap (λ (v : PagesView). v.pages) c.self.view_is
 
 pub returns-clause-same_count : goal.returns-clause-same_count
 returns-clause-same_count g c =
-    length-pages_of _ _ _ _ ∙ sym (length-pages_of (g.S.Store.pages c.self.inside.store) (slots_of c.self.inside.changed.items) c.self.inside.free.keys c.self.inside.count) ∙ ap (λ (v : PagesView). length v.pages) c.self.view_is
+    length-pages_of _ _ _ _ ∙ sym (length-pages_of (g.S.StoreState.pages c.self.inside.store) (slots_of c.self.inside.changed.items) c.self.inside.free.keys c.self.inside.count) ∙ ap (λ (v : PagesView). length v.pages) c.self.view_is
 
 pub returns-clause-same_free : goal.returns-clause-same_free
 returns-clause-same_free g c =
     let leaves = leaves_in _ _ c.self.inside.free.keys _ _ _ c.deref.ensures.value c.write_out-written.ensures.others in
-    ap (λ (xs : List (Option (Box (List ℕ) Global))). free_numbers (pages_of (g.S.Store.pages c.write_out-written.new.store) (slots_of xs) c.self.inside.free.keys c.self.inside.count)) c.clear.ensures.items
+    ap (λ (xs : List (Option (Box (List ℕ) Global))). free_numbers (pages_of (g.S.StoreState.pages c.write_out-written.new.store) (slots_of xs) c.self.inside.free.keys c.self.inside.count)) c.clear.ensures.items
     ∙ same_free _ _ _ _ _ c.self.invariant _ leaves c.in_default.ensures.count
     ∙ ap (λ (v : PagesView). free_numbers v.pages) c.self.view_is
 
 pub returns-clause-same_use : goal.returns-clause-same_use
 returns-clause-same_use g c = λ n.
     let leaves = leaves_in _ _ c.self.inside.free.keys _ _ _ c.deref.ensures.value c.write_out-written.ensures.others in
-    ap (λ (xs : List (Option (Box (List ℕ) Global))). is_some (at (pages_of (g.S.Store.pages c.write_out-written.new.store) (slots_of xs) c.self.inside.free.keys c.self.inside.count) n)) c.clear.ensures.items
+    ap (λ (xs : List (Option (Box (List ℕ) Global))). is_some (at (pages_of (g.S.StoreState.pages c.write_out-written.new.store) (slots_of xs) c.self.inside.free.keys c.self.inside.count) n)) c.clear.ensures.items
     ∙ same_use _ _ _ _ _ c.self.invariant _ leaves c.in_default.ensures.count n
     ∙ ap (λ (v : PagesView). is_some (at v.pages n)) c.self.view_is
 
 pub returns-clause-others : goal.returns-clause-others
 returns-clause-others g c =
     let leaves = leaves_in _ _ c.self.inside.free.keys _ _ _ c.deref.ensures.value c.write_out-written.ensures.others in
-    subst (λ (v : PagesView). KeepsOthers (at v.pages) (length v.pages) v.stored (g.S.Store.pages c.write_out-written.new.store)) c.self.view_is (leaves_pages _ _ _ _ _ c.self.invariant _ leaves)
+    subst (λ (v : PagesView). KeepsOthers (at v.pages) (length v.pages) v.stored (g.S.StoreState.pages c.write_out-written.new.store)) c.self.view_is (leaves_pages _ _ _ _ _ c.self.invariant _ leaves)
 
 pub returns-in-Err-clause-writes_err : goal.returns-in-Err-clause-writes_err
 returns-in-Err-clause-writes_err g c =
-    let many = calls_in c.args.self.now (g.S.Store.pages c.self.inside.store) _ c.self.inside.changed.items c.self.inside.free.keys c.self.inside.count c.deref.ensures.value (ap (λ (v : PagesView). v.pages) c.self.view_is) (ap (λ (v : PagesView). v.in_memory) c.self.view_is) in
+    let many = calls_in c.args.self.now (g.S.StoreState.pages c.self.inside.store) _ c.self.inside.changed.items c.self.inside.free.keys c.self.inside.count c.deref.ensures.value (ap (λ (v : PagesView). v.pages) c.self.view_is) (ap (λ (v : PagesView). v.in_memory) c.self.view_is) in
     let before = ap (λ (v : PagesView). v.writes) c.self.view_is in
-    subst (λ k. CountedUpTo (6 + k) c.args.self.now.writes (g.S.Store.writes c.write_out-written.new.store)) many
-    (subst (λ old. CountedUpTo (6 + how_many (λ n. is_some (to_write (slots_of c.deref.result.now) c.self.inside.free.keys c.self.inside.count n)) c.self.inside.count) old (g.S.Store.writes c.write_out-written.new.store)) before c.in-Err.ensures.writes_err)
+    subst (λ k. CountedUpTo (6 + k) c.args.self.now.writes (g.S.StoreState.writes c.write_out-written.new.store)) many
+    (subst (λ old. CountedUpTo (6 + how_many (λ n. is_some (to_write (slots_of c.deref.result.now) c.self.inside.free.keys c.self.inside.count n)) c.self.inside.count) old (g.S.StoreState.writes c.write_out-written.new.store)) before c.in-Err.ensures.writes_err)
 
 pub returns-clause-in_memory : goal.returns-clause-in_memory
 returns-clause-in_memory g c = λ n.
@@ -155,7 +155,7 @@ returns-clause-in_memory g c = λ n.
 
 pub returns-clause-writes : goal.returns-clause-writes
 returns-clause-writes g c =
-    let many = calls_in c.args.self.now (g.S.Store.pages c.self.inside.store) _ c.self.inside.changed.items c.self.inside.free.keys c.self.inside.count c.deref.ensures.value (ap (λ (v : PagesView). v.pages) c.self.view_is) (ap (λ (v : PagesView). v.in_memory) c.self.view_is) in
+    let many = calls_in c.args.self.now (g.S.StoreState.pages c.self.inside.store) _ c.self.inside.changed.items c.self.inside.free.keys c.self.inside.count c.deref.ensures.value (ap (λ (v : PagesView). v.pages) c.self.view_is) (ap (λ (v : PagesView). v.in_memory) c.self.view_is) in
     let before = ap (λ (v : PagesView). v.writes) c.self.view_is in
     c.in_default.ensures.writes ∙ ap (λ old. counted_times old (6 + how_many (λ n. is_some (to_write (slots_of c.deref.result.now) c.self.inside.free.keys c.self.inside.count n)) c.self.inside.count)) before ∙ ap (λ k. counted_times c.args.self.now.writes (6 + k)) many
 
@@ -169,12 +169,12 @@ steps_in v stored seen items free count writing clean same pages memory =
 
 pub returns-in-Err-clause-journal_err : goal.returns-in-Err-clause-journal_err
 returns-in-Err-clause-journal_err g c =
-    let all = steps_in c.args.self.now (g.S.Store.pages c.self.inside.store) _ c.self.inside.changed.items c.self.inside.free.keys c.self.inside.count c.args.writing.now c.args.clean.now c.deref.ensures.value (ap (λ (v : PagesView). v.pages) c.self.view_is) (ap (λ (v : PagesView). v.in_memory) c.self.view_is) in
-    subst (λ steps. NotesFront steps c.args.self.now.journal (g.S.Store.journal c.write_out-written.new.store)) all
-    (subst (λ old. NotesFront (writing_back (to_write (slots_of c.deref.result.now) c.self.inside.free.keys c.self.inside.count) c.self.inside.count c.args.writing.now c.args.clean.now) old (g.S.Store.journal c.write_out-written.new.store)) (ap (λ (v : PagesView). v.journal) c.self.view_is) c.in-Err.ensures.journal_err)
+    let all = steps_in c.args.self.now (g.S.StoreState.pages c.self.inside.store) _ c.self.inside.changed.items c.self.inside.free.keys c.self.inside.count c.args.writing.now c.args.clean.now c.deref.ensures.value (ap (λ (v : PagesView). v.pages) c.self.view_is) (ap (λ (v : PagesView). v.in_memory) c.self.view_is) in
+    subst (λ steps. NotesFront steps c.args.self.now.journal (g.S.StoreState.journal c.write_out-written.new.store)) all
+    (subst (λ old. NotesFront (writing_back (to_write (slots_of c.deref.result.now) c.self.inside.free.keys c.self.inside.count) c.self.inside.count c.args.writing.now c.args.clean.now) old (g.S.StoreState.journal c.write_out-written.new.store)) (ap (λ (v : PagesView). v.journal) c.self.view_is) c.in-Err.ensures.journal_err)
 
 pub returns-clause-journal : goal.returns-clause-journal
 returns-clause-journal g c =
-    let all = steps_in c.args.self.now (g.S.Store.pages c.self.inside.store) _ c.self.inside.changed.items c.self.inside.free.keys c.self.inside.count c.args.writing.now c.args.clean.now c.deref.ensures.value (ap (λ (v : PagesView). v.pages) c.self.view_is) (ap (λ (v : PagesView). v.in_memory) c.self.view_is) in
+    let all = steps_in c.args.self.now (g.S.StoreState.pages c.self.inside.store) _ c.self.inside.changed.items c.self.inside.free.keys c.self.inside.count c.args.writing.now c.args.clean.now c.deref.ensures.value (ap (λ (v : PagesView). v.pages) c.self.view_is) (ap (λ (v : PagesView). v.in_memory) c.self.view_is) in
     c.in_default.ensures.journal ∙ ap (λ old. noted old (writing_back (to_write (slots_of c.deref.result.now) c.self.inside.free.keys c.self.inside.count) c.self.inside.count c.args.writing.now c.args.clean.now)) (ap (λ (v : PagesView). v.journal) c.self.view_is)
     ∙ ap (noted c.args.self.now.journal) all

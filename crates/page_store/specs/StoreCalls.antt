@@ -1,0 +1,27 @@
+-- What each call of a store leaves as it was, and what it counts.
+use Rattle.std.specs.Prelude.{◌≡◌, Bool, true, [], ◌∷◌, Result, OnOk, OnErr}
+use Rattle.rec_types.specs.Table.{counted}
+use Rattle.page_store.specs.Journal.{noted}
+use Rattle.page_store.specs.StoreFaults.{is_failed}
+use Rattle.page_store.specs.declared.step.Step.{Step}
+use Rattle.page_store.specs.declared.store_fault.StoreFault.{StoreFault}
+use Rattle.page_store.specs.declared.store_state.StoreState.{Ghosts}
+
+-- a call that changes no page, and is a read or none
+pub record Looks {S A : Type 0} (s : Ghosts S) (read : Bool) (old : S) (answer : Result A StoreFault) (new : S) : Type 0 where
+  pub pages : s.pages new ≡ s.pages old
+  pub tail : s.tail new ≡ s.tail old
+  pub steady : s.steady new ≡ s.steady old
+  pub reads : s.reads new ≡ counted (s.reads old) read
+  pub writes : s.writes new ≡ s.writes old
+  pub failures : s.failures new ≡ counted (s.failures old) (is_failed answer)
+  pub journal : s.journal new ≡ s.journal old
+
+-- a changing call, and the step that it is
+pub record Changes {S A : Type 0} (s : Ghosts S) (step : Step) (old : S) (answer : Result A StoreFault) (new : S) : Type 0 where
+  pub steady : s.steady new ≡ s.steady old
+  pub reads : s.reads new ≡ s.reads old
+  pub writes : s.writes new ≡ counted (s.writes old) true
+  pub failures : s.failures new ≡ counted (s.failures old) (is_failed answer)
+  pub journal : OnOk answer (s.journal new ≡ noted (s.journal old) (step ∷ []))
+  pub same_journal : OnErr answer (s.journal new ≡ s.journal old)

@@ -1,0 +1,27 @@
+ghost use Rattle.std.specs.Prelude.{ℕ, Bool, List, Option};
+ghost use Rattle.page_store.specs.Journal.{Journal};
+
+/// What contracts know of a store. It has no code.
+pub trait StoreState {
+    /// The pages.
+    ghost pages: { Self → List (List ℕ) };
+
+    /// How many bytes there are after the last page.
+    ghost tail: { Self → ℕ };
+
+    /// Whether what the store reads is what it wrote. No call changes it.
+    ghost steady: { Self → Bool };
+
+    /// How many reads there were.
+    ghost reads: { Self → ℕ };
+
+    /// How many changing calls there were.
+    ghost writes: { Self → ℕ };
+
+    /// How many calls failed.
+    ghost failures: { Self → ℕ };
+
+    /// The pages that the store was made of and the changing calls since then that succeeded, where it
+    /// keeps them.
+    ghost journal: { Self → Option Journal };
+}
