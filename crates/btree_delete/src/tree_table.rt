@@ -1,7 +1,8 @@
 ghost use Rattle.std.specs.Prelude.{◌≡◌, ◌≢◌, ◌⊎◌, ℕ, ◌<◌, ◌≤◌, List, length, take, true, false, IsTrue, Ok, Err, IsOk, ◌+◌, ◌-◌, ◌*◌, Some, None, IsSome, OnErr, IfOk, IfErr, OnOk, MatchResult};
 ghost use Rattle.std.specs.FinMap as maps;
 ghost use Rattle.rec_types.specs.Contents.{Contents, set_to};
-ghost use Rattle.rec_types.specs.Table.{no_damage, counted, is_device as is_device_answer, is_memory, damaged_by};
+ghost use Rattle.rec_types.specs.Answered.{Answered};
+ghost use Rattle.rec_types.specs.Table.{no_damage, counted, is_device as is_device_answer};
 ghost use Rattle.page_store.specs.PageMap.{at};
 ghost use Rattle.page_store.specs.FreeNumbers.{free_numbers};
 ghost use Rattle.btree_node.specs.Lists.{Element};
@@ -19,7 +20,7 @@ use crate::open_file::{OpenStop, open_file};
 use btree_insert::{Tree, look_up, walk};
 use btree_node::{Header, write_header};
 use page_store::{PageEdit, Pages, Store, WriteFault};
-use rec_types::{Key, Limits, Record, Table, TableFault};
+use rec_types::{Key, Limits, Record, Table, TableFault, TableState};
 use std::alloc::Global;
 use std::collections::BTreeSet;
 use std::marker::Model;
@@ -317,9 +318,7 @@ impl<S: Store> TreeTable<S> {
     }
 }
 
-// A method's clauses stand in place of its trait's, so these are written again before those that tell
-// of the tree, its pages and its store.
-impl<S: Store> Table for TreeTable<S> {
+impl<S: Store> TableState for TreeTable<S> {
     ghost contents = { table_contents };
 
     ghost record_limit = { λ t. t.limit };
@@ -331,7 +330,11 @@ impl<S: Store> Table for TreeTable<S> {
     ghost memory_refusals = { λ t. t.refusals };
 
     ghost damages = { λ t. t.damages };
+}
 
+// A method's clauses stand in place of its trait's, so these are written again before those that tell
+// of the tree, its pages and its store.
+impl<S: Store> Table for TreeTable<S> {
     /// The record at the key. It makes at most as many reads of the store as the tree has levels.
     /// Faults: Device, Damaged. It takes no memory, and no page changes.
     fn get(&mut self, key: &Key) -> Result<Option<Record>, TableFault>
@@ -340,14 +343,7 @@ impl<S: Store> Table for TreeTable<S> {
         ensures same { table_contents self.new ≡ table_contents self.old }
         ensures no_memory { result ≢ Err TableFault.Memory }
         ensures no_room { result ≢ Err TableFault.NoRoom }
-        ensures damaged { IsTrue self.old.pages.steady
-            → (page : ℕ) → result ≢ Err (TableFault.Damaged page) }
-        ensures limit { self.new.limit ≡ self.old.limit }
-        ensures soundness { self.new.pages.steady ≡ self.old.pages.steady }
-        ensures device { self.new.pages.failures
-            ≡ counted self.old.pages.failures (is_device_answer result) }
-        ensures memory { self.new.refusals ≡ self.old.refusals }
-        ensures damages { self.new.damages ≡ damaged_by self.old.damages result }
+        ensures answered { Answered ⟦<TreeTable<S> as TableState>⟧ self.old result self.new }
         ensures rest { self.new ≡ record self.old {
           pages = record self.old.pages {
             reads = self.new.pages.reads;
@@ -382,15 +378,7 @@ impl<S: Store> Table for TreeTable<S> {
             → is_device_answer result ≡ false → result ≡ Err TableFault.NoRoom }
         ensures taken_out_none { to ≡ None → result ≡ Ok None
             → table_contents self.new ≡ table_contents self.old }
-        ensures damaged { IsTrue self.old.pages.steady
-            → (page : ℕ) → result ≢ Err (TableFault.Damaged page) }
-        ensures limit { self.new.limit ≡ self.old.limit }
-        ensures soundness { self.new.pages.steady ≡ self.old.pages.steady }
-        ensures device { self.new.pages.failures
-            ≡ counted self.old.pages.failures (is_device_answer result) }
-        ensures memory { self.new.refusals
-            ≡ counted self.old.refusals (is_memory result) }
-        ensures damages { self.new.damages ≡ damaged_by self.old.damages result }
+        ensures answered { Answered ⟦<TreeTable<S> as TableState>⟧ self.old result self.new }
         ensures in_class { IsTrue self.old.pages.steady → HoldsTree self.new.pages self.new.tree }
         ensures order { self.new.tree.order ≡ self.old.tree.order }
         ensures staged { IsOk result → (IsSome to ⊎ (result ≢ Ok None))
@@ -433,15 +421,7 @@ impl<S: Store> Table for TreeTable<S> {
             (λ records. records.items ≡ maps.entries (table_contents self.old)) }
         ensures same { table_contents self.new ≡ table_contents self.old }
         ensures no_room { result ≢ Err TableFault.NoRoom }
-        ensures damaged { IsTrue self.old.pages.steady
-            → (page : ℕ) → result ≢ Err (TableFault.Damaged page) }
-        ensures limit { self.new.limit ≡ self.old.limit }
-        ensures soundness { self.new.pages.steady ≡ self.old.pages.steady }
-        ensures device { self.new.pages.failures
-            ≡ counted self.old.pages.failures (is_device_answer result) }
-        ensures memory { self.new.refusals
-            ≡ counted self.old.refusals (is_memory result) }
-        ensures damages { self.new.damages ≡ damaged_by self.old.damages result }
+        ensures answered { Answered ⟦<TreeTable<S> as TableState>⟧ self.old result self.new }
         ensures rest { self.new ≡ record self.old {
           pages = record self.old.pages {
             reads = self.new.pages.reads;

@@ -8,7 +8,7 @@ use Rattle.page_store.specs.declared.store_fault.StoreFault.{StoreFault}
 use Rattle.page_store.specs.declared.store_state.StoreState.{Ghosts}
 
 -- a call that changes no page, and is a read or none
-pub record Looks {S A : Type 0} (s : Ghosts S) (read : Bool) (old : S) (answer : Result A StoreFault) (new : S) : Type 0 where
+pub record LeavesStore {S A : Type 0} (s : Ghosts S) (read : Bool) (old : S) (answer : Result A StoreFault) (new : S) : Type 0 where
   pub pages : s.pages new ≡ s.pages old
   pub tail : s.tail new ≡ s.tail old
   pub steady : s.steady new ≡ s.steady old
@@ -18,7 +18,7 @@ pub record Looks {S A : Type 0} (s : Ghosts S) (read : Bool) (old : S) (answer :
   pub journal : s.journal new ≡ s.journal old
 
 -- a changing call, and the step that it is
-pub record Changes {S A : Type 0} (s : Ghosts S) (step : Step) (old : S) (answer : Result A StoreFault) (new : S) : Type 0 where
+pub record ChangesStore {S A : Type 0} (s : Ghosts S) (step : Step) (old : S) (answer : Result A StoreFault) (new : S) : Type 0 where
   pub steady : s.steady new ≡ s.steady old
   pub reads : s.reads new ≡ s.reads old
   pub writes : s.writes new ≡ counted (s.writes old) true

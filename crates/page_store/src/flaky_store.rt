@@ -2,7 +2,7 @@ ghost use Rattle.std.specs.Prelude.{◌≡◌, ◌≢◌, ℕ, ◌-◌, ◌<◌,
 ghost use Rattle.rec_types.specs.Table.{counted};
 ghost use Rattle.page_store.specs.Blank.{blanks};
 ghost use Rattle.page_store.specs.Growth.{GrowsTo};
-ghost use Rattle.page_store.specs.StoreCalls.{Looks, Changes};
+ghost use Rattle.page_store.specs.StoreCalls.{LeavesStore, ChangesStore};
 ghost use Rattle.page_store.specs.declared.step.Step.{Step};
 ghost use Rattle.page_store.specs.StoreFaults.{is_failed};
 ghost use Rattle.page_store.specs.FlakyStored.{read_fails, write_fails, with_read, with_write, reads_of, writes_of, failures_of};
@@ -121,7 +121,7 @@ impl<S: Store> Store for FlakyStore<S> {
         ensures tail { IfOk result (λ shape. shape.tail ≡ S.tail self.old.inner) }
         ensures short_tail { OnOk result (S.tail self.old.inner ≤ 4095) }
         ensures no_memory { result ≢ Err StoreFault.Memory }
-        ensures looks { Looks ⟦<FlakyStore<S> as StoreState>⟧ false self.old result self.new }
+        ensures leaves { LeavesStore ⟦<FlakyStore<S> as StoreState>⟧ false self.old result self.new }
         ensures passes { S.failures self.new.inner
             ≡ counted (S.failures self.old.inner) (is_failed result) }
         ensures reads_below { S.reads self.new.inner ≡ S.reads self.old.inner }
@@ -138,7 +138,7 @@ impl<S: Store> Store for FlakyStore<S> {
         ensures page { IsTrue (S.steady self.old.inner)
             → OnOk result (slice_get (S.pages self.old.inner) n ≡ Some to.new) }
         ensures no_memory { result ≢ Err StoreFault.Memory }
-        ensures looks { Looks ⟦<FlakyStore<S> as StoreState>⟧ true self.old result self.new }
+        ensures leaves { LeavesStore ⟦<FlakyStore<S> as StoreState>⟧ true self.old result self.new }
         ensures fails { IsTrue (read_fails self.old) → (result ≡ Err StoreFault.Failed)
             × (self.new.inner ≡ self.old.inner) × (to.new ≡ to.old) }
         ensures passes { read_fails self.old ≡ false → S.failures self.new.inner
@@ -165,7 +165,7 @@ impl<S: Store> Store for FlakyStore<S> {
             × (S.pages self.new.inner ≡ slice_set (S.pages self.old.inner) n page) }
         ensures no_memory { result ≢ Err StoreFault.Memory }
         ensures same_tail { S.tail self.new.inner ≡ S.tail self.old.inner }
-        ensures changes { Changes ⟦<FlakyStore<S> as StoreState>⟧ (Step.Write n from.now) self.old result self.new }
+        ensures changes { ChangesStore ⟦<FlakyStore<S> as StoreState>⟧ (Step.Write n from.now) self.old result self.new }
         ensures fails { IsTrue (write_fails self.old)
             → (result ≡ Err StoreFault.Failed) × (self.new.inner ≡ self.old.inner) }
         ensures passes { write_fails self.old ≡ false → S.failures self.new.inner
@@ -192,7 +192,7 @@ impl<S: Store> Store for FlakyStore<S> {
         ensures tail { OnOk result (S.tail self.new.inner ≡ 0) }
         ensures old_pages { OnErr result
             (GrowsTo n (S.pages self.old.inner) (S.pages self.new.inner)) }
-        ensures changes { Changes ⟦<FlakyStore<S> as StoreState>⟧ (Step.SetPages n) self.old result self.new }
+        ensures changes { ChangesStore ⟦<FlakyStore<S> as StoreState>⟧ (Step.SetPages n) self.old result self.new }
         ensures fails { IsTrue (write_fails self.old)
             → (result ≡ Err StoreFault.Failed) × (self.new.inner ≡ self.old.inner) }
         ensures passes { write_fails self.old ≡ false → S.failures self.new.inner
@@ -215,7 +215,7 @@ impl<S: Store> Store for FlakyStore<S> {
         ensures no_memory { result ≢ Err StoreFault.Memory }
         ensures same_pages { S.pages self.new.inner ≡ S.pages self.old.inner }
         ensures same_tail { S.tail self.new.inner ≡ S.tail self.old.inner }
-        ensures changes { Changes ⟦<FlakyStore<S> as StoreState>⟧ Step.Sync self.old result self.new }
+        ensures changes { ChangesStore ⟦<FlakyStore<S> as StoreState>⟧ Step.Sync self.old result self.new }
         ensures fails { IsTrue (write_fails self.old)
             → (result ≡ Err StoreFault.Failed) × (self.new.inner ≡ self.old.inner) }
         ensures passes { write_fails self.old ≡ false → S.failures self.new.inner

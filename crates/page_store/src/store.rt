@@ -1,7 +1,7 @@
 ghost use Rattle.std.specs.Prelude.{◌≡◌, ◌≢◌, ℕ, ◌-◌, ◌<◌, ◌≤◌, List, true, false, ◌++◌, length, IsTrue, IfOk, OnOk, OnErr, slice_get, slice_set};
 ghost use Rattle.page_store.specs.Blank.{blanks};
 ghost use Rattle.page_store.specs.Growth.{GrowsTo};
-ghost use Rattle.page_store.specs.StoreCalls.{Looks, Changes};
+ghost use Rattle.page_store.specs.StoreCalls.{LeavesStore, ChangesStore};
 ghost use Rattle.page_store.specs.declared.step.Step.{Step};
 
 use crate::store_fault::{Shape, StoreFault};
@@ -22,7 +22,7 @@ pub trait Store: StoreState + Drop {
         ensures tail { IfOk result (λ shape. shape.tail ≡ Self.tail self.old) }
         ensures short_tail { OnOk result (Self.tail self.old ≤ 4095) }
         ensures no_memory { result ≢ Err StoreFault.Memory }
-        ensures looks { Looks Self.StoreState false self.old result self.new };
+        ensures leaves { LeavesStore Self.StoreState false self.old result self.new };
 
     /// Reads page n, which is there. Fault: Failed; no page has changed then.
     fn read(&mut self, n: u32, to: &mut [u8; 4096]) -> Result<(), StoreFault>
@@ -30,7 +30,7 @@ pub trait Store: StoreState + Drop {
         ensures page { IsTrue (Self.steady self.old)
             → OnOk result (slice_get (Self.pages self.old) n ≡ Some to.new) }
         ensures no_memory { result ≢ Err StoreFault.Memory }
-        ensures looks { Looks Self.StoreState true self.old result self.new };
+        ensures leaves { LeavesStore Self.StoreState true self.old result self.new };
 
     /// Writes page n, which is there. Fault: Failed; the page then has any bytes, and the other pages
     /// are unchanged.
@@ -42,7 +42,7 @@ pub trait Store: StoreState + Drop {
             × (Self.pages self.new ≡ slice_set (Self.pages self.old) n page) }
         ensures no_memory { result ≢ Err StoreFault.Memory }
         ensures same_tail { Self.tail self.new ≡ Self.tail self.old }
-        ensures changes { Changes Self.StoreState (Step.Write n from.now) self.old result self.new };
+        ensures changes { ChangesStore Self.StoreState (Step.Write n from.now) self.old result self.new };
 
     /// Makes the store n pages long, which is no fewer than it has. New pages are zero, and the tail
     /// is gone. Faults: Failed, Memory; the old pages are then unchanged, and there are at most n.
@@ -52,12 +52,12 @@ pub trait Store: StoreState + Drop {
             (Self.pages self.new ≡ Self.pages self.old ++ blanks (n - length (Self.pages self.old))) }
         ensures tail { OnOk result (Self.tail self.new ≡ 0) }
         ensures old_pages { OnErr result (GrowsTo n (Self.pages self.old) (Self.pages self.new)) }
-        ensures changes { Changes Self.StoreState (Step.SetPages n) self.old result self.new };
+        ensures changes { ChangesStore Self.StoreState (Step.SetPages n) self.old result self.new };
 
     /// Has the device keep what was written. Fault: Failed; no page has changed then.
     fn sync(&mut self) -> Result<(), StoreFault>
         ensures no_memory { result ≢ Err StoreFault.Memory }
         ensures same_pages { Self.pages self.new ≡ Self.pages self.old }
         ensures same_tail { Self.tail self.new ≡ Self.tail self.old }
-        ensures changes { Changes Self.StoreState Step.Sync self.old result self.new };
+        ensures changes { ChangesStore Self.StoreState Step.Sync self.old result self.new };
 }

@@ -3,7 +3,7 @@ use Rattle.std.proofs.Common.{◌≡◌, Bool, false, List, [], ◌∷◌, Optio
 use Rattle.std.proofs.lemmas.List.{append-nil}
 use Rattle.rec_types.specs.Contents.{Contents}
 use Rattle.rec_types.specs.Table.{counted}
-use Rattle.rec_types.specs.declared.table.Table.{Ghosts}
+use Rattle.rec_types.specs.declared.table_state.TableState.{Ghosts}
 use Rattle.tx_log.specs.declared.log_record.LogRecord.{LogRecord}
 use Rattle.record_file.specs.declared.fault.GetFault.{GetFault}
 use Rattle.record_file.specs.declared.fault.GetFault.TheVariants as get_faults

@@ -9,7 +9,7 @@ use record_file::RecordFile;
 
 // The records of the file, or why there is no list of them.
 fn list<T: Table>(file: &mut RecordFile<T>) -> Reply
-    ensures { HasReply (seen T.Table file.old) (Ok commands.List) result (seen T.Table file.new) }
+    ensures { HasReply (seen T.TableState file.old) (Ok commands.List) result (seen T.TableState file.new) }
 {
     match file.entries() {
         Ok(entries) => Reply::List(Ok(EntryList::new(entries))),
@@ -19,8 +19,8 @@ fn list<T: Table>(file: &mut RecordFile<T>) -> Reply
 
 // The keys that a transaction owns.
 fn keys<T: Table>(file: &mut RecordFile<T>, tx: TxId) -> Reply
-    ensures { HasReply (seen T.Table file.old) (Ok (commands.Keys tx)) result
-        (seen T.Table file.new) }
+    ensures { HasReply (seen T.TableState file.old) (Ok (commands.Keys tx)) result
+        (seen T.TableState file.new) }
 {
     match file.keys_of(tx) {
         Ok(keys) => Reply::Keys(Ok(KeyList::new(keys))),
@@ -30,7 +30,7 @@ fn keys<T: Table>(file: &mut RecordFile<T>, tx: TxId) -> Reply
 
 /// Makes the call that a command asks for.
 pub fn call<T: Table>(file: &mut RecordFile<T>, command: Command) -> Reply
-    ensures { HasReply (seen T.Table file.old) (Ok command) result (seen T.Table file.new) }
+    ensures { HasReply (seen T.TableState file.old) (Ok command) result (seen T.TableState file.new) }
 {
     match command {
         Command::Begin => Reply::Begin(file.begin()),
@@ -65,8 +65,8 @@ pub fn reply_to<T: Table>(
     said: Result<Option<Command>, LineFault>,
 ) -> Option<Reply>
     ensures { MatchOption result
-        ((said ≡ Ok None) × (seen T.Table file.new ≡ seen T.Table file.old))
-        (λ reply. LineHasReply (seen T.Table file.old) said reply (seen T.Table file.new)) }
+        ((said ≡ Ok None) × (seen T.TableState file.new ≡ seen T.TableState file.old))
+        (λ reply. LineHasReply (seen T.TableState file.old) said reply (seen T.TableState file.new)) }
 {
     match said {
         Ok(None) => None,

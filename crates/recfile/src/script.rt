@@ -80,10 +80,10 @@ pub fn run_script<T: Table, R: Read, W: Write>(
 ) -> Result<u32, ScriptFault>
     ensures finished { IfOk result (Finished (R.remaining reader.old) (R.remaining reader.new)
         (W.contents writer.old) (W.contents writer.new)
-        (seen T.Table file.old) (seen T.Table file.new)) }
+        (seen T.TableState file.old) (seen T.TableState file.new)) }
     ensures faulted { IfErr result (Faulted (R.remaining reader.old) (R.remaining reader.new)
         (W.contents writer.old) (W.contents writer.new)
-        (seen T.Table file.old) (seen T.Table file.new)) }
+        (seen T.TableState file.old) (seen T.TableState file.new)) }
 {
     run_from::<Brand, T, R, W>(alloc, reader, writer, file, Blank::new(1))
 }
@@ -101,10 +101,10 @@ fn run_from<L: Ledger, T: Table, R: Read, W: Write>(
     requires some { 0 < L.parts }
     ensures finished { IfOk result (Finished (R.remaining reader.old) (R.remaining reader.new)
         (W.contents writer.old) (W.contents writer.new)
-        (seen T.Table file.old) (seen T.Table file.new)) }
+        (seen T.TableState file.old) (seen T.TableState file.new)) }
     ensures faulted { IfErr result (Faulted (R.remaining reader.old) (R.remaining reader.new)
         (W.contents writer.old) (W.contents writer.new)
-        (seen T.Table file.old) (seen T.Table file.new)) }
+        (seen T.TableState file.old) (seen T.TableState file.new)) }
 {
     let mut reads = Reads::<L>::new(blank);
     run_script_counted(alloc, reader, writer, file, &mut reads)
@@ -120,10 +120,10 @@ pub fn run_script_counted<L: Ledger, T: Table, R: Read, W: Write>(
 ) -> Result<u32, ScriptFault>
     ensures finished { IfOk result (Finished (R.remaining reader.old) (R.remaining reader.new)
         (W.contents writer.old) (W.contents writer.new)
-        (seen T.Table file.old) (seen T.Table file.new)) }
+        (seen T.TableState file.old) (seen T.TableState file.new)) }
     ensures faulted { IfErr result (Faulted (R.remaining reader.old) (R.remaining reader.new)
         (W.contents writer.old) (W.contents writer.new)
-        (seen T.Table file.old) (seen T.Table file.new)) }
+        (seen T.TableState file.old) (seen T.TableState file.new)) }
     ensures reads { reads.new ≤ reads.old + 1048578 }
 {
     match read_script(alloc, reader, reads) {
@@ -141,11 +141,11 @@ fn run_lines<T: Table, W: Write>(
 ) -> Result<u32, ScriptFault>
     requires { length script.now ≤ 1048576 }
     ensures finished { IfOk result (λ done. (replies : List Reply)
-        × Session (seen T.Table file.old) (entries_of script.now) replies (seen T.Table file.new)
+        × Session (seen T.TableState file.old) (entries_of script.now) replies (seen T.TableState file.new)
         × Appends (W.contents writer.old) (W.contents writer.new) (flat_map text_of replies)
         × (done ≡ commands (entries_of script.now))) }
     ensures stops { IfErr result (ScriptStopsAt (W.contents writer.old) (W.contents writer.new)
-        (seen T.Table file.old) (seen T.Table file.new) script.now) }
+        (seen T.TableState file.old) (seen T.TableState file.new) script.now) }
 {
     let mut rest = script;
     let mut done = 0;

@@ -35,8 +35,8 @@ pub fn run_session<T: Table, R: Read, W: Write, E: Write>(
     err: &mut E,
 ) -> SessionEnd
     ensures { (mid : Seen) × IsSession (R.remaining reader.old) (R.remaining reader.new)
-        (W.contents out.old) (W.contents out.new) (seen T.Table file.old) mid
-        result.script result.ended (seen T.Table file.new) }
+        (W.contents out.old) (W.contents out.new) (seen T.TableState file.old) mid
+        result.script result.ended (seen T.TableState file.new) }
 {
     let script = run_script(alloc, reader, out, file);
     tell_fault_of(err, &script);

@@ -1,6 +1,6 @@
 use crate::journal::JournalStore;
 use btree_delete::TreeTable;
-use rec_types::{Key, Record, SortedTable, Table, TableFault};
+use rec_types::{Key, Record, SortedTable, Table, TableFault, TableState};
 
 /// A table in memory, or in the pages of a file.
 #[derive(Drop)]
@@ -9,7 +9,7 @@ pub enum FileTable {
     Paged(TreeTable<JournalStore>),
 }
 
-impl Table for FileTable {
+impl TableState for FileTable {
     ghost use Rattle.recfile_c.specs.FileTables.{contents_of, limit_of, is_sound, failures_of, refusals_of, damages_of};
 
     ghost contents = { contents_of };
@@ -23,7 +23,9 @@ impl Table for FileTable {
     ghost memory_refusals = { refusals_of };
 
     ghost damages = { damages_of };
+}
 
+impl Table for FileTable {
     fn get(&mut self, key: &Key) -> Result<Option<Record>, TableFault> {
         match self {
             FileTable::Memory(table) => table.get(key),

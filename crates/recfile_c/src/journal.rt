@@ -5,7 +5,7 @@ ghost use Rattle.page_store.specs.Blank.{blank};
 ghost use Rattle.page_store.specs.Journal.{carry, carried};
 ghost use Rattle.recfile_c.specs.Steps.{pages_of};
 
-use page_store::{Shape, Step, Store, StoreFault};
+use page_store::{Shape, Step, Store, StoreFault, StoreState};
 use std::alloc::Global;
 use std::marker::Model;
 
@@ -137,7 +137,7 @@ impl JournalStore {
     }
 }
 
-impl Store for JournalStore {
+impl StoreState for JournalStore {
     ghost use Rattle.std.specs.Prelude.{true};
     ghost use Rattle.recfile_c.specs.Steps.{pages_of, journal_of};
 
@@ -154,7 +154,9 @@ impl Store for JournalStore {
     ghost failures = { λ s. s.failures };
 
     ghost journal = { journal_of };
+}
 
+impl Store for JournalStore {
     fn shape(&mut self) -> Result<Shape, StoreFault> {
         Ok(Shape {
             pages: self.count,

@@ -1,7 +1,7 @@
 ghost use Rattle.std.specs.Prelude.{◌≡◌, false};
 ghost use Rattle.rec_types.specs.Table.{Damages, damaged_by};
 
-use rec_types::{Key, Record, Table, TableFault};
+use rec_types::{Key, Record, Table, TableFault, TableState};
 
 /// What a table that isn't sound says in place of what it should do.
 #[derive(Clone, Copy, Debug)]
@@ -73,7 +73,7 @@ impl<T: Table> LyingTable<T> {
     }
 }
 
-impl<T: Table> Table for LyingTable<T> {
+impl<T: Table> TableState for LyingTable<T> {
     ghost use Rattle.std.specs.Prelude.{false};
 
     ghost contents = { λ t. T.contents t.inner };
@@ -87,7 +87,9 @@ impl<T: Table> Table for LyingTable<T> {
     ghost memory_refusals = { λ t. T.memory_refusals t.inner };
 
     ghost damages = { λ t. record { count = t.named.count; page = t.named.page } };
+}
 
+impl<T: Table> Table for LyingTable<T> {
     fn get(&mut self, key: &Key) -> Result<Option<Record>, TableFault> {
         let answer = match self.lies.next() {
             None | Some(Lie::NoRoom) => self.inner.get(key),

@@ -4,7 +4,7 @@ ghost use Rattle.rec_types.specs.Table.{counted};
 
 use page_store::{
     FetchFault, FileStore, FlakyStore, MemStore, PageEdit, Pages, Shape, Store, StoreFault,
-    WriteFault,
+    StoreState, WriteFault,
 };
 use rec_types::Memory;
 use std::alloc::{AllocError, Global};
@@ -50,7 +50,7 @@ struct ScarceStore {
     writes: u64,
 }
 
-impl Store for ScarceStore {
+impl StoreState for ScarceStore {
     ghost use Rattle.std.specs.Prelude.{None, true};
 
     ghost pages = { λ s. s.inner.pages };
@@ -66,7 +66,9 @@ impl Store for ScarceStore {
     ghost failures = { λ _. 0 };
 
     ghost journal = { λ _. None };
+}
 
+impl Store for ScarceStore {
     fn shape(&mut self) -> Result<Shape, StoreFault> {
         self.inner.shape()
     }

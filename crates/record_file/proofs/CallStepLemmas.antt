@@ -1,7 +1,7 @@
 -- The step of one call, from what its contract says.
 use Rattle.std.proofs.Common.{◌≡◌, Bool, false, Option, Some, None, Result, Ok, Err, refl, ap, IfSome}
 use Rattle.rec_types.specs.Table.{counted}
-use Rattle.rec_types.specs.declared.table.Table.{Ghosts}
+use Rattle.rec_types.specs.declared.table_state.TableState.{Ghosts}
 use Rattle.record_file.specs.declared.fault.GetFault.{GetFault}
 use Rattle.record_file.specs.declared.fault.GetFault.TheVariants as get_faults
 use Rattle.record_file.specs.Abstract.{OpenFile, Tells}

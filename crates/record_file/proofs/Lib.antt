@@ -6,6 +6,7 @@ pub mod InvariantLemmas
 pub mod FullnessLemmas
 pub mod FaultLemmas
 pub mod RollbackLemmas
+pub mod TableCallLemmas
 pub mod LogGrowthLemmas
 pub mod OwnerLemmas
 pub mod CallKindLemmas

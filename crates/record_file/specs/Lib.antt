@@ -1,6 +1,7 @@
 pub mod Abstract
 pub mod Outside
 pub mod Steps
+pub mod TableCalls
 pub mod Faults
 pub mod Runs
 pub mod Undo

@@ -4,7 +4,7 @@ use Rattle.std.specs.FinMap as maps
 use Rattle.rec_types.specs.Contents.{Contents}
 use Rattle.rec_types.specs.History.{log_len}
 use Rattle.rec_types.specs.Table.{counted, greatest_count, Damages}
-use Rattle.rec_types.specs.declared.table.Table.{Ghosts}
+use Rattle.rec_types.specs.declared.table_state.TableState.{Ghosts}
 use Rattle.rec_types.specs.declared.transaction.TxId.{TxId}
 use Rattle.rec_types.specs.declared.transaction.Entry.{Entry}
 use Rattle.tx_log.specs.Log.{record_at}

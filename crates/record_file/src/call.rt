@@ -62,7 +62,7 @@ pub enum Answer {
 
 // The records of the file.
 fn entries<T: Table>(file: &mut RecordFile<T>) -> Answer
-    ensures { Makes (seen T.Table file.old) calls.Entries result (seen T.Table file.new) }
+    ensures { Makes (seen T.TableState file.old) calls.Entries result (seen T.TableState file.new) }
 {
     match file.entries() {
         Ok(entries) => Answer::Entries(Ok(entries)),
@@ -72,7 +72,7 @@ fn entries<T: Table>(file: &mut RecordFile<T>) -> Answer
 
 /// Makes a call.
 pub fn make_call<T: Table>(file: &mut RecordFile<T>, call: Call) -> Answer
-    ensures { Makes (seen T.Table file.old) call result (seen T.Table file.new) }
+    ensures { Makes (seen T.TableState file.old) call result (seen T.TableState file.new) }
 {
     match call {
         Call::Begin => Answer::Begin(file.begin()),
@@ -125,9 +125,9 @@ pub fn run_calls<T: Table>(
     calls: &[Call],
 ) -> Result<Vec<Answer>, Memory>
     ensures ran { IfOk result (λ answers.
-        MakesAll (seen T.Table file.old) calls.now answers.items (seen T.Table file.new)) }
+        MakesAll (seen T.TableState file.old) calls.now answers.items (seen T.TableState file.new)) }
     ensures stopped { IfErr result (λ _. (n : ℕ) × (answers : List Answer)
-        × MakesAll (seen T.Table file.old) (take n calls.now) answers (seen T.Table file.new)) }
+        × MakesAll (seen T.TableState file.old) (take n calls.now) answers (seen T.TableState file.new)) }
     ensures exact { IsExact (T.sound file.new.table) (T.contents file.new.table)
         file.new.file file.new.log }
 {

@@ -1,7 +1,9 @@
 ghost use Rattle.std.specs.Prelude.{◌≡◌, ◌≢◌, ℕ, ◌<◌, false, Option, Some, None, Ok, Err, IsTrue, IfOk, IfErr, OnErr, IfSome};
-ghost use Rattle.rec_types.specs.Table.{is_device, counted, greatest_count, damaged_by};
-ghost use Rattle.record_file.specs.Abstract.{is_full, Tells};
-ghost use Rattle.record_file.specs.Outside.{put_cause, remove_cause, put_by_file, remove_by_file, by_device, AsksMemory, TellsDamage};
+ghost use Rattle.rec_types.specs.Answered.{Answered};
+ghost use Rattle.rec_types.specs.Table.{greatest_count};
+ghost use Rattle.record_file.specs.Abstract.{is_full};
+ghost use Rattle.record_file.specs.Outside.{put_cause, remove_cause, put_by_file, remove_by_file, AsksMemory};
+ghost use Rattle.record_file.specs.TableCalls.{ChangesTable};
 ghost use Rattle.record_file.specs.Steps.{rose, put_refusal, remove_refusal, Accepts, PutStep, RemoveStep};
 
 use super::RecordFile;
@@ -25,15 +27,9 @@ impl<T: Table> RecordFile<T> {
             before (Some value) self.new.file self.new.log) }
         ensures err { OnErr result ((T.contents self.new.table ≡ T.contents self.old.table)
             × (self.new.file ≡ self.old.file) × (self.new.log ≡ self.old.log)) }
-        ensures told { Tells (T.sound self.old.table) (T.contents self.old.table) self.old.log
-            (T.contents self.new.table) self.new.log }
-        ensures soundness { T.sound self.new.table ≡ T.sound self.old.table }
-        ensures device { T.device_failures self.new.table
-            ≡ counted (T.device_failures self.old.table) (by_device (put_cause result)) }
+        ensures table { ChangesTable T.TableState self.old (put_cause result) self.new }
         ensures memory { AsksMemory (T.memory_refusals self.old.table) (put_cause result)
             (T.memory_refusals self.new.table) }
-        ensures damages { TellsDamage (T.damages self.old.table) (put_cause result)
-            (T.damages self.new.table) }
     {
         if let Some(fault) = self.put_refusal(tx, &key) {
             return Err(fault);
@@ -64,15 +60,9 @@ impl<T: Table> RecordFile<T> {
             (Some before) None self.new.file self.new.log) }
         ensures err { OnErr result ((T.contents self.new.table ≡ T.contents self.old.table)
             × (self.new.file ≡ self.old.file) × (self.new.log ≡ self.old.log)) }
-        ensures told { Tells (T.sound self.old.table) (T.contents self.old.table) self.old.log
-            (T.contents self.new.table) self.new.log }
-        ensures soundness { T.sound self.new.table ≡ T.sound self.old.table }
-        ensures device { T.device_failures self.new.table
-            ≡ counted (T.device_failures self.old.table) (by_device (remove_cause result)) }
+        ensures table { ChangesTable T.TableState self.old (remove_cause result) self.new }
         ensures memory { AsksMemory (T.memory_refusals self.old.table) (remove_cause result)
             (T.memory_refusals self.new.table) }
-        ensures damages { TellsDamage (T.damages self.old.table) (remove_cause result)
-            (T.damages self.new.table) }
     {
         if let Some(fault) = self.remove_refusal(tx, &key) {
             return Err(fault);
@@ -99,14 +89,7 @@ impl<T: Table> RecordFile<T> {
             × (self.new.file ≡ self.old.file) × (self.new.log ≡ self.old.log) }
         ensures no_memory { result ≢ Err TableFault.Memory }
         ensures no_room { result ≢ Err TableFault.NoRoom }
-        ensures damaged { IsTrue (T.sound self.old.table)
-            → (page : ℕ) → result ≢ Err (TableFault.Damaged page) }
-        ensures soundness { T.sound self.new.table ≡ T.sound self.old.table }
-        ensures device { T.device_failures self.new.table
-            ≡ counted (T.device_failures self.old.table) (is_device result) }
-        ensures memory { T.memory_refusals self.new.table ≡ T.memory_refusals self.old.table }
-        ensures damages { T.damages self.new.table
-            ≡ damaged_by (T.damages self.old.table) result }
+        ensures answered { Answered T.TableState self.old.table result self.new.table }
     {
         if self.charged() < u64::from(self.table.limit()) {
             return Ok(false);

@@ -2,10 +2,11 @@ ghost use Rattle.std.specs.Prelude.{◌≡◌, ◌+◌, ◌<◌, true, Option, S
 ghost use Rattle.std.specs.FinMap as maps;
 ghost use Rattle.rec_types.specs.History.{log_len};
 ghost use Rattle.tx_log.specs.Log.{record_at};
-ghost use Rattle.rec_types.specs.Table.{counted, greatest_count};
+ghost use Rattle.rec_types.specs.Table.{greatest_count};
 ghost use Rattle.record_file.specs.Abstract.{charged_of, use_of, IsKeptFile};
 ghost use Rattle.tx_log.specs.LogState.{open_in, history_in};
-ghost use Rattle.record_file.specs.Outside.{get_cause, entries_cause, get_by_file, by_device, AsksMemory, named_by};
+ghost use Rattle.record_file.specs.Outside.{get_cause, entries_cause, get_by_file, AsksMemory};
+ghost use Rattle.record_file.specs.TableCalls.{LeavesTable};
 ghost use Rattle.record_file.specs.Steps.{rose, get_refusal, GetStep, EntriesStep, KeysOfStep, entry_with, listed, status_of};
 
 use super::RecordFile;
@@ -26,14 +27,8 @@ impl<T: Table> RecordFile<T> {
             (λ fault. (result ≡ Err fault) × (self.new ≡ self.old)) }
         ensures refused_only { IfErr result (λ fault.
             IsTrue (get_by_file fault) → get_refusal self.old.file tx.0 key.now ≡ Some fault) }
-        ensures same { (T.contents self.new.table ≡ T.contents self.old.table)
-            × (self.new.file ≡ self.old.file) × (self.new.log ≡ self.old.log) }
-        ensures soundness { T.sound self.new.table ≡ T.sound self.old.table }
-        ensures device { T.device_failures self.new.table
-            ≡ counted (T.device_failures self.old.table) (by_device (get_cause result)) }
+        ensures table { LeavesTable T.TableState self.old (get_cause result) self.new }
         ensures memory { T.memory_refusals self.new.table ≡ T.memory_refusals self.old.table }
-        ensures damages { T.damages self.new.table
-            ≡ named_by (T.damages self.old.table) (get_cause result) }
     {
         if let Some(fault) = self.get_refusal(tx, key) {
             return Err(fault);
@@ -53,15 +48,9 @@ impl<T: Table> RecordFile<T> {
             → EntriesStep self.old.file
             (rose (T.device_failures self.old.table) (T.device_failures self.new.table))
             (listed result) self.new.file }
-        ensures same { (T.contents self.new.table ≡ T.contents self.old.table)
-            × (self.new.file ≡ self.old.file) × (self.new.log ≡ self.old.log) }
-        ensures soundness { T.sound self.new.table ≡ T.sound self.old.table }
-        ensures device { T.device_failures self.new.table
-            ≡ counted (T.device_failures self.old.table) (by_device (entries_cause result)) }
+        ensures table { LeavesTable T.TableState self.old (entries_cause result) self.new }
         ensures memory { AsksMemory (T.memory_refusals self.old.table) (entries_cause result)
             (T.memory_refusals self.new.table) }
-        ensures damages { T.damages self.new.table
-            ≡ named_by (T.damages self.old.table) (entries_cause result) }
     {
         let records = self.table.entries()?;
         let entries = with_owners(*records.allocator(), &self.log, &records)?;

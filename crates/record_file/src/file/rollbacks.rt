@@ -2,10 +2,11 @@ ghost use Rattle.std.specs.Prelude.{◌≡◌, ◌≢◌, ℕ, ◌<◌, ◌≤�
 ghost use Rattle.std.specs.FinMap as maps;
 ghost use Rattle.rec_types.specs.History.{undo_last};
 ghost use Rattle.rec_types.specs.Table.{counted, greatest_count};
-ghost use Rattle.record_file.specs.Abstract.{tx_of, phase_at, Tells};
+ghost use Rattle.record_file.specs.Abstract.{tx_of, phase_at};
 ghost use Rattle.tx_log.specs.Transactions.{depth_of, left_in};
 ghost use Rattle.tx_log.specs.LogState.{rolling_to, finished, IsRolling};
-ghost use Rattle.record_file.specs.Outside.{stop_cause, rollback_cause, abort_cause, resume_cause, step_cause, by_device, by_memory, TellsDamage};
+ghost use Rattle.record_file.specs.Outside.{stop_cause, rollback_cause, abort_cause, resume_cause, step_cause, by_memory};
+ghost use Rattle.record_file.specs.TableCalls.{ChangesTable};
 ghost use Rattle.record_file.specs.Steps.{rose, RollsBackTo, RollbackToStep, Aborts, AbortStep, Resumes, ResumeStep, rollback_refusal, abort_refusal, resume_refusal, RollsBack, places_at};
 
 use super::RecordFile;
@@ -30,15 +31,9 @@ impl<T: Table> RecordFile<T> {
             → self.new.file.opening ≡ self.old.file.opening }
         ensures refused { IfSome (rollback_refusal self.old.file tx.0 n)
             (λ fault. (result ≡ Err fault) × (self.new ≡ self.old)) }
-        ensures told { Tells (T.sound self.old.table) (T.contents self.old.table) self.old.log
-            (T.contents self.new.table) self.new.log }
-        ensures soundness { T.sound self.new.table ≡ T.sound self.old.table }
-        ensures device { T.device_failures self.new.table
-            ≡ counted (T.device_failures self.old.table) (by_device (rollback_cause result)) }
+        ensures table { ChangesTable T.TableState self.old (rollback_cause result) self.new }
         ensures memory { T.memory_refusals self.new.table
             ≡ counted (T.memory_refusals self.old.table) (by_memory (rollback_cause result)) }
-        ensures damages { TellsDamage (T.damages self.old.table) (rollback_cause result)
-            (T.damages self.new.table) }
     {
         match self.log.phase(tx) {
             None => Err(RollbackToFault::NoSuchTx),
@@ -81,15 +76,9 @@ impl<T: Table> RecordFile<T> {
             → self.new.file.opening ≡ self.old.file.opening }
         ensures refused { IfSome (abort_refusal self.old.file tx.0)
             (λ fault. (result ≡ Err fault) × (self.new ≡ self.old)) }
-        ensures told { Tells (T.sound self.old.table) (T.contents self.old.table) self.old.log
-            (T.contents self.new.table) self.new.log }
-        ensures soundness { T.sound self.new.table ≡ T.sound self.old.table }
-        ensures device { T.device_failures self.new.table
-            ≡ counted (T.device_failures self.old.table) (by_device (abort_cause result)) }
+        ensures table { ChangesTable T.TableState self.old (abort_cause result) self.new }
         ensures memory { T.memory_refusals self.new.table
             ≡ counted (T.memory_refusals self.old.table) (by_memory (abort_cause result)) }
-        ensures damages { TellsDamage (T.damages self.old.table) (abort_cause result)
-            (T.damages self.new.table) }
     {
         match self.log.phase(tx) {
             None => Err(AbortFault::NoSuchTx),
@@ -129,15 +118,9 @@ impl<T: Table> RecordFile<T> {
             → self.new.file.opening ≡ self.old.file.opening }
         ensures refused { IfSome (resume_refusal self.old.file tx.0)
             (λ fault. (result ≡ Err fault) × (self.new ≡ self.old)) }
-        ensures told { Tells (T.sound self.old.table) (T.contents self.old.table) self.old.log
-            (T.contents self.new.table) self.new.log }
-        ensures soundness { T.sound self.new.table ≡ T.sound self.old.table }
-        ensures device { T.device_failures self.new.table
-            ≡ counted (T.device_failures self.old.table) (by_device (resume_cause result)) }
+        ensures table { ChangesTable T.TableState self.old (resume_cause result) self.new }
         ensures memory { T.memory_refusals self.new.table
             ≡ counted (T.memory_refusals self.old.table) (by_memory (resume_cause result)) }
-        ensures damages { TellsDamage (T.damages self.old.table) (resume_cause result)
-            (T.damages self.new.table) }
     {
         match self.log.phase(tx) {
             None => Err(ResumeFault::NoSuchTx),
@@ -182,15 +165,9 @@ impl<T: Table> RecordFile<T> {
             → self.new.file.opening ≡ self.old.file.opening }
         ensures damaged { IsTrue (T.sound self.old.table)
             → (page : ℕ) → stop_cause result ≢ Some (Cause.Damaged page) }
-        ensures told { Tells (T.sound self.old.table) (T.contents self.old.table) self.old.log
-            (T.contents self.new.table) self.new.log }
-        ensures soundness { T.sound self.new.table ≡ T.sound self.old.table }
-        ensures device { T.device_failures self.new.table
-            ≡ counted (T.device_failures self.old.table) (by_device (stop_cause result)) }
+        ensures table { ChangesTable T.TableState self.old (stop_cause result) self.new }
         ensures memory { T.memory_refusals self.new.table
             ≡ counted (T.memory_refusals self.old.table) (by_memory (stop_cause result)) }
-        ensures damages { TellsDamage (T.damages self.old.table) (stop_cause result)
-            (T.damages self.new.table) }
     {
         let total = self.left(tx);
         for undone in 0..total {
@@ -218,15 +195,9 @@ impl<T: Table> RecordFile<T> {
         ensures err { OnErr result (self.new.file ≡ self.old.file) }
         ensures damaged { IsTrue (T.sound self.old.table)
             → (page : ℕ) → step_cause result ≢ Some (Cause.Damaged page) }
-        ensures told { Tells (T.sound self.old.table) (T.contents self.old.table) self.old.log
-            (T.contents self.new.table) self.new.log }
-        ensures soundness { T.sound self.new.table ≡ T.sound self.old.table }
-        ensures device { T.device_failures self.new.table
-            ≡ counted (T.device_failures self.old.table) (by_device (step_cause result)) }
+        ensures table { ChangesTable T.TableState self.old (step_cause result) self.new }
         ensures memory { T.memory_refusals self.new.table
             ≡ counted (T.memory_refusals self.old.table) (by_memory (step_cause result)) }
-        ensures damages { TellsDamage (T.damages self.old.table) (step_cause result)
-            (T.damages self.new.table) }
     {
         let step = self.log.next_undo(tx).unwrap();
         match self.table.set(step.key, step.before) {

@@ -10,117 +10,117 @@ use Rattle.recfile.proofs.call.call.Goals as goal
 
 pub returns-in-Begin : goal.returns-in-Begin
 returns-in-Begin g c =
-    let old = seen g.T.Table c.args.file.now in
-    let new = seen g.T.Table c.begin.new.self in
+    let old = seen g.T.TableState c.args.file.now in
+    let new = seen g.T.TableState c.begin.new.self in
     subst (λ (k : Command). HasReply old (Ok k) (replies.Begin c.begin.result) new) (sym c.in-Begin.is)
     (record {
       events = record { called = Begin c.begin.result; failed = false; refused = false } ∷ [];
       told = refl;
-      ran = let same = same_but_file g.T.Table c.args.file.now c.begin.new.self c.begin.ensures.table c.begin.ensures.log in quiet old new (Begin c.begin.result) same ((refl, refl, same), c.begin.ensures.step);
+      ran = let same = same_but_file g.T.TableState c.args.file.now c.begin.new.self c.begin.ensures.table c.begin.ensures.log in quiet old new (Begin c.begin.result) same ((refl, refl, same), c.begin.ensures.step);
     })
 
 pub returns-in-Save : goal.returns-in-Save
 returns-in-Save g c =
-    let old = seen g.T.Table c.args.file.now in
-    let new = seen g.T.Table c.savepoint.new.self in
+    let old = seen g.T.TableState c.args.file.now in
+    let new = seen g.T.TableState c.savepoint.new.self in
     subst (λ (k : Command). HasReply old (Ok k) (replies.Save c.savepoint.result) new) (sym c.in-Save.is)
     (record {
       events = record { called = Savepoint c.in-Save.tx c.savepoint.result; failed = false; refused = false } ∷ [];
       told = refl;
-      ran = let same = same_but_file g.T.Table c.args.file.now c.savepoint.new.self c.savepoint.ensures.table c.savepoint.ensures.log in quiet old new (Savepoint c.in-Save.tx c.savepoint.result) same ((refl, refl, same), c.savepoint.ensures.step);
+      ran = let same = same_but_file g.T.TableState c.args.file.now c.savepoint.new.self c.savepoint.ensures.table c.savepoint.ensures.log in quiet old new (Savepoint c.in-Save.tx c.savepoint.result) same ((refl, refl, same), c.savepoint.ensures.step);
     })
 
 pub returns-in-Release : goal.returns-in-Release
 returns-in-Release g c =
-    let old = seen g.T.Table c.args.file.now in
-    let new = seen g.T.Table c.release.new.self in
+    let old = seen g.T.TableState c.args.file.now in
+    let new = seen g.T.TableState c.release.new.self in
     subst (λ (k : Command). HasReply old (Ok k) (replies.Release c.release.result) new) (sym c.in-Release.is)
     (record {
       events = record { called = Release c.in-Release.tx c.in-Release.n c.release.result; failed = false; refused = false } ∷ [];
       told = refl;
-      ran = let same = same_but_file g.T.Table c.args.file.now c.release.new.self c.release.ensures.table c.release.ensures.log in quiet old new (Release c.in-Release.tx c.in-Release.n c.release.result) same ((refl, refl, same), c.release.ensures.step);
+      ran = let same = same_but_file g.T.TableState c.args.file.now c.release.new.self c.release.ensures.table c.release.ensures.log in quiet old new (Release c.in-Release.tx c.in-Release.n c.release.result) same ((refl, refl, same), c.release.ensures.step);
     })
 
 pub returns-in-Commit : goal.returns-in-Commit
 returns-in-Commit g c =
-    let old = seen g.T.Table c.args.file.now in
-    let new = seen g.T.Table c.commit.new.self in
+    let old = seen g.T.TableState c.args.file.now in
+    let new = seen g.T.TableState c.commit.new.self in
     subst (λ (k : Command). HasReply old (Ok k) (replies.Commit c.commit.result) new) (sym c.in-Commit.is)
     (record {
       events = record { called = Commit c.in-Commit.tx c.commit.result; failed = false; refused = false } ∷ [];
       told = refl;
-      ran = let same = same_but_file g.T.Table c.args.file.now c.commit.new.self c.commit.ensures.table c.commit.ensures.log in quiet old new (Commit c.in-Commit.tx c.commit.result) same ((refl, refl, same), c.commit.ensures.step);
+      ran = let same = same_but_file g.T.TableState c.args.file.now c.commit.new.self c.commit.ensures.table c.commit.ensures.log in quiet old new (Commit c.in-Commit.tx c.commit.result) same ((refl, refl, same), c.commit.ensures.step);
     })
 
 pub returns-in-Put : goal.returns-in-Put
 returns-in-Put g c =
-    let old = seen g.T.Table c.args.file.now in
-    let new = seen g.T.Table c.put.new.self in
+    let old = seen g.T.TableState c.args.file.now in
+    let new = seen g.T.TableState c.put.new.self in
     subst (λ (k : Command). HasReply old (Ok k) (replies.Put c.put.result) new) (sym c.in-Put.is)
     (record {
       events = record { called = Put c.in-Put.tx c.in-Put.key c.in-Put.value c.put.result; failed = by_device (put_cause c.put.result); refused = c.put.ensures.memory.0 } ∷ [];
       told = refl;
-      ran = asks old new (Put c.in-Put.tx c.in-Put.key c.in-Put.value c.put.result) (by_device (put_cause c.put.result)) c.put.ensures.memory.0 c.put.ensures.device c.put.ensures.memory.1 c.put.ensures.soundness (c.put.ensures.told) ((refl, c.put.ensures.memory.2), record { step = c.put.ensures.step; refused = refused_seen g.T.Table c.args.file.now c.put.new.self (put_refusal c.args.file.now.file c.in-Put.tx.0 c.in-Put.key) c.put.result c.put.ensures.refused; refused_only = c.put.ensures.refused_only; accepted = c.put.ensures.accepted; err = c.put.ensures.err; damages = c.put.ensures.damages });
+      ran = asks old new (Put c.in-Put.tx c.in-Put.key c.in-Put.value c.put.result) (by_device (put_cause c.put.result)) c.put.ensures.memory.0 c.put.ensures.table.device c.put.ensures.memory.1 c.put.ensures.table.soundness (c.put.ensures.table.told) ((refl, c.put.ensures.memory.2), record { step = c.put.ensures.step; refused = refused_seen g.T.TableState c.args.file.now c.put.new.self (put_refusal c.args.file.now.file c.in-Put.tx.0 c.in-Put.key) c.put.result c.put.ensures.refused; refused_only = c.put.ensures.refused_only; accepted = c.put.ensures.accepted; err = c.put.ensures.err; damages = c.put.ensures.table.damages });
     })
 
 pub returns-in-Del : goal.returns-in-Del
 returns-in-Del g c =
-    let old = seen g.T.Table c.args.file.now in
-    let new = seen g.T.Table c.remove.new.self in
+    let old = seen g.T.TableState c.args.file.now in
+    let new = seen g.T.TableState c.remove.new.self in
     subst (λ (k : Command). HasReply old (Ok k) (replies.Del c.remove.result) new) (sym c.in-Del.is)
     (record {
       events = record { called = Remove c.in-Del.tx c.in-Del.key c.remove.result; failed = by_device (remove_cause c.remove.result); refused = c.remove.ensures.memory.0 } ∷ [];
       told = refl;
-      ran = asks old new (Remove c.in-Del.tx c.in-Del.key c.remove.result) (by_device (remove_cause c.remove.result)) c.remove.ensures.memory.0 c.remove.ensures.device c.remove.ensures.memory.1 c.remove.ensures.soundness (c.remove.ensures.told) ((refl, c.remove.ensures.memory.2), record { step = c.remove.ensures.step; refused = refused_seen g.T.Table c.args.file.now c.remove.new.self (remove_refusal c.args.file.now.file c.in-Del.tx.0 c.in-Del.key) c.remove.result c.remove.ensures.refused; refused_only = c.remove.ensures.refused_only; accepted = c.remove.ensures.accepted; err = c.remove.ensures.err; damages = c.remove.ensures.damages });
+      ran = asks old new (Remove c.in-Del.tx c.in-Del.key c.remove.result) (by_device (remove_cause c.remove.result)) c.remove.ensures.memory.0 c.remove.ensures.table.device c.remove.ensures.memory.1 c.remove.ensures.table.soundness (c.remove.ensures.table.told) ((refl, c.remove.ensures.memory.2), record { step = c.remove.ensures.step; refused = refused_seen g.T.TableState c.args.file.now c.remove.new.self (remove_refusal c.args.file.now.file c.in-Del.tx.0 c.in-Del.key) c.remove.result c.remove.ensures.refused; refused_only = c.remove.ensures.refused_only; accepted = c.remove.ensures.accepted; err = c.remove.ensures.err; damages = c.remove.ensures.table.damages });
     })
 
 pub returns-in-Get : goal.returns-in-Get
 returns-in-Get g c =
-    let old = seen g.T.Table c.args.file.now in
-    let new = seen g.T.Table c.get.new.self in
+    let old = seen g.T.TableState c.args.file.now in
+    let new = seen g.T.TableState c.get.new.self in
     subst (λ (k : Command). HasReply old (Ok k) (replies.Get c.get.result) new) (sym c.in-Get.is)
     (record {
       events = record { called = Get c.in-Get.tx c.in-Get.key c.get.result; failed = by_device (get_cause c.get.result); refused = false } ∷ [];
       told = refl;
-      ran = asks old new (Get c.in-Get.tx c.in-Get.key c.get.result) (by_device (get_cause c.get.result)) false c.get.ensures.device c.get.ensures.memory c.get.ensures.soundness (tells_nothing old.sound old.records new.records old.log new.log c.get.ensures.same.0 c.get.ensures.same.2) ((refl, get_wants_none c.get.result), record { step = c.get.ensures.step; refused = refused_seen g.T.Table c.args.file.now c.get.new.self (get_refusal c.args.file.now.file c.in-Get.tx.0 c.in-Get.key) c.get.result c.get.ensures.refused; refused_only = c.get.ensures.refused_only; same = c.get.ensures.same; damages = c.get.ensures.damages });
+      ran = asks old new (Get c.in-Get.tx c.in-Get.key c.get.result) (by_device (get_cause c.get.result)) false c.get.ensures.table.device c.get.ensures.memory c.get.ensures.table.soundness (tells_nothing old.sound old.records new.records old.log new.log c.get.ensures.table.same.0 c.get.ensures.table.same.2) ((refl, get_wants_none c.get.result), record { step = c.get.ensures.step; refused = refused_seen g.T.TableState c.args.file.now c.get.new.self (get_refusal c.args.file.now.file c.in-Get.tx.0 c.in-Get.key) c.get.result c.get.ensures.refused; refused_only = c.get.ensures.refused_only; same = c.get.ensures.table.same; damages = c.get.ensures.table.damages });
     })
 
 pub returns-in-Back : goal.returns-in-Back
 returns-in-Back g c =
-    let old = seen g.T.Table c.args.file.now in
-    let new = seen g.T.Table c.rollback_to.new.self in
+    let old = seen g.T.TableState c.args.file.now in
+    let new = seen g.T.TableState c.rollback_to.new.self in
     subst (λ (k : Command). HasReply old (Ok k) (replies.Back c.rollback_to.result) new) (sym c.in-Back.is)
     (record {
       events = record { called = RollbackTo c.in-Back.tx c.in-Back.n c.rollback_to.result; failed = by_device (rollback_cause c.rollback_to.result); refused = (by_memory (rollback_cause c.rollback_to.result)) } ∷ [];
       told = refl;
-      ran = asks old new (RollbackTo c.in-Back.tx c.in-Back.n c.rollback_to.result) (by_device (rollback_cause c.rollback_to.result)) (by_memory (rollback_cause c.rollback_to.result)) c.rollback_to.ensures.device c.rollback_to.ensures.memory c.rollback_to.ensures.soundness (c.rollback_to.ensures.told) ((refl, refl), record { step = c.rollback_to.ensures.step; rolled = c.rollback_to.ensures.rolled; opening = c.rollback_to.ensures.opening; refused = refused_seen g.T.Table c.args.file.now c.rollback_to.new.self (rollback_refusal c.args.file.now.file c.in-Back.tx.0 c.in-Back.n) c.rollback_to.result c.rollback_to.ensures.refused; damages = c.rollback_to.ensures.damages });
+      ran = asks old new (RollbackTo c.in-Back.tx c.in-Back.n c.rollback_to.result) (by_device (rollback_cause c.rollback_to.result)) (by_memory (rollback_cause c.rollback_to.result)) c.rollback_to.ensures.table.device c.rollback_to.ensures.memory c.rollback_to.ensures.table.soundness (c.rollback_to.ensures.table.told) ((refl, refl), record { step = c.rollback_to.ensures.step; rolled = c.rollback_to.ensures.rolled; opening = c.rollback_to.ensures.opening; refused = refused_seen g.T.TableState c.args.file.now c.rollback_to.new.self (rollback_refusal c.args.file.now.file c.in-Back.tx.0 c.in-Back.n) c.rollback_to.result c.rollback_to.ensures.refused; damages = c.rollback_to.ensures.table.damages });
     })
 
 pub returns-in-Abort : goal.returns-in-Abort
 returns-in-Abort g c =
-    let old = seen g.T.Table c.args.file.now in
-    let new = seen g.T.Table c.abort.new.self in
+    let old = seen g.T.TableState c.args.file.now in
+    let new = seen g.T.TableState c.abort.new.self in
     subst (λ (k : Command). HasReply old (Ok k) (replies.Abort c.abort.result) new) (sym c.in-Abort.is)
     (record {
       events = record { called = Abort c.in-Abort.tx c.abort.result; failed = by_device (abort_cause c.abort.result); refused = (by_memory (abort_cause c.abort.result)) } ∷ [];
       told = refl;
-      ran = asks old new (Abort c.in-Abort.tx c.abort.result) (by_device (abort_cause c.abort.result)) (by_memory (abort_cause c.abort.result)) c.abort.ensures.device c.abort.ensures.memory c.abort.ensures.soundness (c.abort.ensures.told) ((refl, refl), record { step = c.abort.ensures.step; rolled = c.abort.ensures.rolled; opening = c.abort.ensures.opening; refused = refused_seen g.T.Table c.args.file.now c.abort.new.self (abort_refusal c.args.file.now.file c.in-Abort.tx.0) c.abort.result c.abort.ensures.refused; damages = c.abort.ensures.damages });
+      ran = asks old new (Abort c.in-Abort.tx c.abort.result) (by_device (abort_cause c.abort.result)) (by_memory (abort_cause c.abort.result)) c.abort.ensures.table.device c.abort.ensures.memory c.abort.ensures.table.soundness (c.abort.ensures.table.told) ((refl, refl), record { step = c.abort.ensures.step; rolled = c.abort.ensures.rolled; opening = c.abort.ensures.opening; refused = refused_seen g.T.TableState c.args.file.now c.abort.new.self (abort_refusal c.args.file.now.file c.in-Abort.tx.0) c.abort.result c.abort.ensures.refused; damages = c.abort.ensures.table.damages });
     })
 
 pub returns-in-Resume : goal.returns-in-Resume
 returns-in-Resume g c =
-    let old = seen g.T.Table c.args.file.now in
-    let new = seen g.T.Table c.resume.new.self in
+    let old = seen g.T.TableState c.args.file.now in
+    let new = seen g.T.TableState c.resume.new.self in
     subst (λ (k : Command). HasReply old (Ok k) (replies.Resume c.resume.result) new) (sym c.in-Resume.is)
     (record {
       events = record { called = Resume c.in-Resume.tx c.resume.result; failed = by_device (resume_cause c.resume.result); refused = (by_memory (resume_cause c.resume.result)) } ∷ [];
       told = refl;
-      ran = asks old new (Resume c.in-Resume.tx c.resume.result) (by_device (resume_cause c.resume.result)) (by_memory (resume_cause c.resume.result)) c.resume.ensures.device c.resume.ensures.memory c.resume.ensures.soundness (c.resume.ensures.told) ((refl, refl), record { step = c.resume.ensures.step; rolled = c.resume.ensures.rolled; opening = c.resume.ensures.opening; refused = refused_seen g.T.Table c.args.file.now c.resume.new.self (resume_refusal c.args.file.now.file c.in-Resume.tx.0) c.resume.result c.resume.ensures.refused; damages = c.resume.ensures.damages });
+      ran = asks old new (Resume c.in-Resume.tx c.resume.result) (by_device (resume_cause c.resume.result)) (by_memory (resume_cause c.resume.result)) c.resume.ensures.table.device c.resume.ensures.memory c.resume.ensures.table.soundness (c.resume.ensures.table.told) ((refl, refl), record { step = c.resume.ensures.step; rolled = c.resume.ensures.rolled; opening = c.resume.ensures.opening; refused = refused_seen g.T.TableState c.args.file.now c.resume.new.self (resume_refusal c.args.file.now.file c.in-Resume.tx.0) c.resume.result c.resume.ensures.refused; damages = c.resume.ensures.table.damages });
     })
 
 pub returns-in-Log : goal.returns-in-Log
 returns-in-Log g c =
-    let old = seen g.T.Table c.args.file.now in
+    let old = seen g.T.TableState c.args.file.now in
     subst (λ (k : Command). HasReply old (Ok k) (replies.Log c.log_len.result c.log_use.result) old) (sym c.in-Log.is)
     (record {
       events = record { called = LogLen c.log_len.result; failed = false; refused = false } ∷ record { called = LogUse c.log_use.result; failed = false; refused = false } ∷ [];

@@ -6,7 +6,7 @@ use Rattle.recfile.proofs.call.keys.Goals as goal
 
 pub returns-in-Ok : goal.returns-in-Ok
 returns-in-Ok g c =
-    let old = seen g.T.Table c.args.file.now in
+    let old = seen g.T.TableState c.args.file.now in
     let step = subst (λ (keys : List (List ℕ)). KeysOfStep c.args.file.now.file c.args.tx.0 (Ok keys)) (sym c.new.ensures) c.in-Ok.ensures in
     record {
       events = record { called = KeysOf c.args.tx (Ok c.new.result); failed = false; refused = false } ∷ [];
@@ -16,7 +16,7 @@ returns-in-Ok g c =
 
 pub returns-in-Err : goal.returns-in-Err
 returns-in-Err g c =
-    let old = seen g.T.Table c.args.file.now in
+    let old = seen g.T.TableState c.args.file.now in
     record {
       events = record { called = KeysOf c.args.tx (Err c.in-Err.fault); failed = false; refused = false } ∷ [];
       told = refl;

@@ -10,28 +10,28 @@ use Rattle.recfile.proofs.call.list.Goals as goal
 
 pub returns-in-Ok : goal.returns-in-Ok
 returns-in-Ok g c =
-    let old = seen g.T.Table c.args.file.now in
-    let new = seen g.T.Table c.entries.new.self in
+    let old = seen g.T.TableState c.args.file.now in
+    let new = seen g.T.TableState c.entries.new.self in
     let told = c.in-Ok.ensures in
     subst (λ (entries : List Entry). HasReply old (Ok commands.List) (replies.List (Ok entries)) new) (sym c.new.ensures)
     (record {
       events = record { called = Entries (Ok c.in-Ok.entries.items); failed = false; refused = told.memory.0 } ∷ [];
       told = refl;
-      ran = asks old new (Entries (Ok c.in-Ok.entries.items)) false told.memory.0 told.device told.memory.1 told.soundness
-          (tells_nothing old.sound old.records new.records old.log new.log told.same.0 told.same.2)
-          ((refl, told.memory.2), record { step = told.step; same = told.same; damages = told.damages });
+      ran = asks old new (Entries (Ok c.in-Ok.entries.items)) false told.memory.0 told.table.device told.memory.1 told.table.soundness
+          (tells_nothing old.sound old.records new.records old.log new.log told.table.same.0 told.table.same.2)
+          ((refl, told.memory.2), record { step = told.step; same = told.table.same; damages = told.table.damages });
     })
 
 pub returns-in-Err : goal.returns-in-Err
 returns-in-Err g c =
-    let old = seen g.T.Table c.args.file.now in
-    let new = seen g.T.Table c.entries.new.self in
+    let old = seen g.T.TableState c.args.file.now in
+    let new = seen g.T.TableState c.entries.new.self in
     let told = c.in-Err.ensures in
     let failed = by_device (entries_cause {A = List Entry} (Err c.in-Err.fault)) in
     record {
       events = record { called = Entries (Err c.in-Err.fault); failed = failed; refused = told.memory.0 } ∷ [];
       told = refl;
-      ran = asks old new (Entries (Err c.in-Err.fault)) failed told.memory.0 told.device told.memory.1 told.soundness
-          (tells_nothing old.sound old.records new.records old.log new.log told.same.0 told.same.2)
-          ((refl, told.memory.2), record { step = told.step; same = told.same; damages = told.damages });
+      ran = asks old new (Entries (Err c.in-Err.fault)) failed told.memory.0 told.table.device told.memory.1 told.table.soundness
+          (tells_nothing old.sound old.records new.records old.log new.log told.table.same.0 told.table.same.2)
+          ((refl, told.memory.2), record { step = told.step; same = told.table.same; damages = told.table.damages });
     }

@@ -11,7 +11,7 @@ use Rattle.recfile.proofs.endings.end_all.Goals as goal
 pub loop-number-init : goal.loop-number-init
 loop-number-init g c = record {
   ended = below_first c.args.file.now.file c.begun-number-end.ensures.kept.opens;
-  asks = asks_nothing (seen g.T.Table c.args.file.now);
+  asks = asks_nothing (seen g.T.TableState c.args.file.now);
   count = omega arith;
   few = omega arith;
 }
@@ -20,14 +20,14 @@ pub returns-in-Err-clause-stopped : goal.returns-in-Err-clause-stopped
 returns-in-Err-clause-stopped g c = stops_ending c.args.file.now.file c.loop-number.file.file c.end_one.new.file.file (c.loop-number.number + 1) c.in-Err.fault c.loop-number.invariant.ended c.in-Err.ensures.stopped c.in-Err.ensures.number
 
 pub returns-in-Err-clause-asks : goal.returns-in-Err-clause-asks
-returns-in-Err-clause-asks g c = asks_on (seen g.T.Table c.args.file.now) (seen g.T.Table c.loop-number.file) (seen g.T.Table c.end_one.new.file) (Some (stop_of c.in-Err.fault)) c.loop-number.invariant.asks c.in-Err.ensures.asks
+returns-in-Err-clause-asks g c = asks_on (seen g.T.TableState c.args.file.now) (seen g.T.TableState c.loop-number.file) (seen g.T.TableState c.end_one.new.file) (Some (stop_of c.in-Err.fault)) c.loop-number.invariant.asks c.in-Err.ensures.asks
 
 pub loop-number-preserved : goal.loop-number-preserved
 loop-number-preserved g c =
     let known = c.loop-number.invariant in
     record {
       ended = below_next c.args.file.now.file c.loop-number.file.file c.end_one.new.file.file (c.loop-number.number + 1) c.in-Ok.was_open known.ended c.in-Ok.ensures.ended;
-      asks = asks_on (seen g.T.Table c.args.file.now) (seen g.T.Table c.loop-number.file) (seen g.T.Table c.end_one.new.file) None known.asks c.in-Ok.ensures.asks;
+      asks = asks_on (seen g.T.TableState c.args.file.now) (seen g.T.TableState c.loop-number.file) (seen g.T.TableState c.end_one.new.file) None known.asks c.in-Ok.ensures.asks;
       count = count_next c.loop-number.file.file c.end_one.new.file.file (c.loop-number.number + 1) c.loop-number.ended c.one_if-ended.result _ c.in-Ok.was_open known.count c.in-Ok.ensures.ended c.one_if-ended.ensures;
       few = few_next c.loop-number.number c.loop-number.ended c.one_if-ended.result c.in-Ok.was_open known.few c.one_if-ended.ensures;
     }

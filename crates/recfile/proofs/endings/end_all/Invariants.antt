@@ -8,7 +8,7 @@ use Rattle.recfile.proofs.endings.end_all.Given as goal
 abbrev pub invariant-loop-number : goal.invariant-loop-number
 invariant-loop-number g l = record {
   ended : EndsBelow l.fn.file.file (l.number + 1) l.file.file;
-  asks : Asks (seen g.T.Table l.fn.file) None (seen g.T.Table l.file);
+  asks : Asks (seen g.T.TableState l.fn.file) None (seen g.T.TableState l.file);
   count : l.ended + maps.len l.file.file.txs ≡ maps.len l.fn.file.file.txs;
   few : l.ended ≤ l.number;
 }

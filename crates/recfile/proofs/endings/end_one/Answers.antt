@@ -12,7 +12,7 @@ returns-in-Ok-clause-ended g c =
     ended_open c.args.file.now.file c.go_on.new.file.file c.give_up.new.file.file c.args.tx going.0 giving.0 (sym going.1 ∙ ap Ok c.in-Ok-true.field-0-test) going.2 (sym giving.1) giving.2
 
 pub returns-in-Ok-clause-asks : goal.returns-in-Ok-clause-asks
-returns-in-Ok-clause-asks g c = asks_on (seen g.T.Table c.args.file.now) (seen g.T.Table c.go_on.new.file) (seen g.T.Table c.give_up.new.file) None c.in-Ok-true.ensures.asks c.in-Ok.ensures.asks
+returns-in-Ok-clause-asks g c = asks_on (seen g.T.TableState c.args.file.now) (seen g.T.TableState c.go_on.new.file) (seen g.T.TableState c.give_up.new.file) None c.in-Ok-true.ensures.asks c.in-Ok.ensures.asks
 
 pub returns-in-Err-give_up-clause-stopped : goal.returns-in-Err-give_up-clause-stopped
 returns-in-Err-give_up-clause-stopped g c =
@@ -21,4 +21,4 @@ returns-in-Err-give_up-clause-stopped g c =
     (stopped_abort c.args.file.now.file c.go_on.new.file.file c.give_up.new.file.file c.args.tx going.0 giving.0 c.in-Err-give_up.fault (sym going.1 ∙ ap Ok c.in-Ok-true.field-0-test) going.2 (sym giving.1) giving.2).0
 
 pub returns-in-Err-give_up-clause-asks : goal.returns-in-Err-give_up-clause-asks
-returns-in-Err-give_up-clause-asks g c = asks_on (seen g.T.Table c.args.file.now) (seen g.T.Table c.go_on.new.file) (seen g.T.Table c.give_up.new.file) (Some (stop_of c.in-Err-give_up.fault)) c.in-Ok-true.ensures.asks c.in-Err-give_up.ensures.asks
+returns-in-Err-give_up-clause-asks g c = asks_on (seen g.T.TableState c.args.file.now) (seen g.T.TableState c.go_on.new.file) (seen g.T.TableState c.give_up.new.file) (Some (stop_of c.in-Err-give_up.fault)) c.in-Ok-true.ensures.asks c.in-Err-give_up.ensures.asks

@@ -23,7 +23,7 @@ pub returns-in_err-send-clause-stops : goal.returns-in_err-send-clause-stops
 returns-in_err-send-clause-stops g c =
     let known = c.loop-rest.invariant in
     let told = err_from_is_err_and c.from_residual.result c.from_residual.ensures.1 in
-    subst (λ (r : Result ℕ ScriptFault). IfErr r (ScriptStopsAt (g.W.Write.contents c.args.writer.now) (g.W.Write.contents c.send.new.writer) (seen g.T.Table c.args.file.now) (seen g.T.Table c.reply_to.new.file) c.args.script.now)) (sym (told.1 ∙ ap Err told.2))
+    subst (λ (r : Result ℕ ScriptFault). IfErr r (ScriptStopsAt (g.W.Write.contents c.args.writer.now) (g.W.Write.contents c.send.new.writer) (seen g.T.TableState c.args.file.now) (seen g.T.TableState c.reply_to.new.file) c.args.script.now)) (sym (told.1 ∙ ap Err told.2))
     (stops_at (g.W.Write.contents c.args.writer.now) (g.W.Write.contents c.loop-rest.writer) (g.W.Write.contents c.send.new.writer) _ _ c.args.script.now c.next_line.result.1.now known.0 c.in-Some.reply (c.loop-rest.done + c.command_count-count.result) c.in_err-send.field-0.0
     (served-more c.args.script.now c.loop-rest.rest.now c.next_line.result.1.now _ _ _ known.0 c.loop-rest.done (c.loop-rest.done + c.command_count-count.result) c.read_line-said.result c.in-Some.reply known.1
     (c.next_line.ensures.cut ∙ ap (λ (l : Read (Option Command)). keep l (entries_of c.next_line.result.1.now)) (sym c.read_line-said.ensures)) c.in-Some.ensures (ap (λ n. c.loop-rest.done + n) c.command_count-count.ensures))

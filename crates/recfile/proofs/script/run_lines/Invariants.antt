@@ -14,6 +14,6 @@ decreases-loop-rest g l = length l.rest
 abbrev pub invariant-loop-rest : goal.invariant-loop-rest
 invariant-loop-rest g l =
     (replies : List Reply)
-    × Served l.fn.script l.rest (seen g.T.Table l.fn.file) replies (seen g.T.Table l.file) l.done
+    × Served l.fn.script l.rest (seen g.T.TableState l.fn.file) replies (seen g.T.TableState l.file) l.done
     × Appends (g.W.Write.contents l.fn.writer) (g.W.Write.contents l.writer) (flat_map text_of replies)
     × (l.done + length l.rest ≤ 1048576)

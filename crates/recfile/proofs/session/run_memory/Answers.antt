@@ -3,7 +3,7 @@ use Rattle.std.specs.FinMap as maps
 use Rattle.rec_types.specs.LimitBounds.{Bounds}
 use Rattle.rec_types.specs.Sorted.{SortedState}
 use Rattle.rec_types.specs.Table.{no_damage}
-use Rattle.rec_types.specs.declared.table.Table.{Ghosts}
+use Rattle.rec_types.specs.declared.table_state.TableState.{Ghosts}
 use Rattle.record_file.specs.Abstract.{OpenFile, new_file}
 use Rattle.record_file.specs.Runs.{Seen, seen}
 use Rattle.recfile.specs.WholeSession.{IsSession}

@@ -8,7 +8,7 @@ matched (Err x) P Q ok err = err
 
 pub returns : goal.returns
 returns g c = (
-  seen g.T.Table c.run_script-script.new.file,
+  seen g.T.TableState c.run_script-script.new.file,
   record {
     script = matched c.run_script-script.result _ _ c.run_script-script.ensures.finished c.run_script-script.ensures.faulted;
     ending = matched c.end_all-ended.result _ _ c.end_all-ended.ensures.ended c.end_all-ended.ensures.stopped;

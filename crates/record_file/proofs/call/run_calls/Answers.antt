@@ -18,17 +18,17 @@ ok_of (Ok done) P is ok = ok
 ok_of (Err fault) P is ok = absurd (cc)
 
 pub loop-call-init : goal.loop-call-init
-loop-call-init g c = subst (λ (answers : List Answer). MakesAll (seen g.T.Table c.args.file.now) [] answers (seen g.T.Table c.args.file.now)) (sym c.new-answers.ensures.items) (makes_none _)
+loop-call-init g c = subst (λ (answers : List Answer). MakesAll (seen g.T.TableState c.args.file.now) [] answers (seen g.T.TableState c.args.file.now)) (sym c.new-answers.ensures.items) (makes_none _)
 
 pub loop-call-preserved : goal.loop-call-preserved
 loop-call-preserved g c =
-    let more = one_more (seen g.T.Table c.args.file.now) (seen g.T.Table c.loop-call.file) (seen g.T.Table c.make_call-answer.new.file) c.args.calls.now c.loop-call.call-index c.call-item.result c.make_call-answer.result c.loop-call.answers.items (grind (arith, common_steps, c.loop-call-test.true)) c.call-item.is c.loop-call.invariant c.make_call-answer.ensures in
-    subst (λ (answers : List Answer). MakesAll (seen g.T.Table c.args.file.now) (take (c.loop-call.call-index + 1) c.args.calls.now) answers (seen g.T.Table c.make_call-answer.new.file))
+    let more = one_more (seen g.T.TableState c.args.file.now) (seen g.T.TableState c.loop-call.file) (seen g.T.TableState c.make_call-answer.new.file) c.args.calls.now c.loop-call.call-index c.call-item.result c.make_call-answer.result c.loop-call.answers.items (grind (arith, common_steps, c.loop-call-test.true)) c.call-item.is c.loop-call.invariant c.make_call-answer.ensures in
+    subst (λ (answers : List Answer). MakesAll (seen g.T.TableState c.args.file.now) (take (c.loop-call.call-index + 1) c.args.calls.now) answers (seen g.T.TableState c.make_call-answer.new.file))
     (sym (ok_of c.keep.result _ (sym c.is_err.ensures.value ∙ c.if-is_err.false) c.keep.ensures)) more
 
 pub returns-then-is_err-clause-stopped : goal.returns-then-is_err-clause-stopped
 returns-then-is_err-clause-stopped g c = (
   c.loop-call.call-index + 1,
   c.loop-call.answers.items ++ c.make_call-answer.result ∷ [],
-  one_more (seen g.T.Table c.args.file.now) (seen g.T.Table c.loop-call.file) (seen g.T.Table c.make_call-answer.new.file) c.args.calls.now c.loop-call.call-index c.call-item.result c.make_call-answer.result c.loop-call.answers.items (grind (arith, common_steps, c.loop-call-test.true)) c.call-item.is c.loop-call.invariant c.make_call-answer.ensures,
+  one_more (seen g.T.TableState c.args.file.now) (seen g.T.TableState c.loop-call.file) (seen g.T.TableState c.make_call-answer.new.file) c.args.calls.now c.loop-call.call-index c.call-item.result c.make_call-answer.result c.loop-call.answers.items (grind (arith, common_steps, c.loop-call-test.true)) c.call-item.is c.loop-call.invariant c.make_call-answer.ensures,
 )

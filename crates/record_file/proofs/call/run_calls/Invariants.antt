@@ -5,4 +5,4 @@ use Rattle.record_file.proofs.call.run_calls.Given as goal
 
 -- the calls up to here are made
 abbrev pub invariant-loop-call : goal.invariant-loop-call
-invariant-loop-call g l = MakesAll (seen g.T.Table l.fn.file) (take l.call-index l.fn.calls) l.answers.items (seen g.T.Table l.file)
+invariant-loop-call g l = MakesAll (seen g.T.TableState l.fn.file) (take l.call-index l.fn.calls) l.answers.items (seen g.T.TableState l.file)

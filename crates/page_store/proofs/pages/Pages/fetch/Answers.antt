@@ -109,4 +109,4 @@ returns-clause-reads g c =
     let there : at c.args.self.now.pages c.args.n ≡ slice_get (g.S.StoreState.pages c.self.inside.store) c.args.n = in_view c.args.self.now _ c.args.n _ (ap (λ (v : PagesView). v.pages) c.self.view_is) (from_store _ _ _ _ c.args.n (c.is_in_use.ensures.0 (cc)) slot) in
     let some = stored_in_use (g.S.StoreState.pages c.self.inside.store) _ _ _ c.args.n _ c.self.invariant (c.is_in_use.ensures.0 (cc)) slot in
     let used : IsSome (at c.args.self.now.pages c.args.n) = some_or_none (at c.args.self.now.pages c.args.n) (λ gone. some (sym there ∙ gone)) in
-    c.read.ensures.looks.reads ∙ ap (λ (v : PagesView). counted v.reads true) c.self.view_is ∙ ap (counted c.args.self.now.reads) (sym (others_read c.args.self.now c.args.n used out))
+    c.read.ensures.leaves.reads ∙ ap (λ (v : PagesView). counted v.reads true) c.self.view_is ∙ ap (counted c.args.self.now.reads) (sym (others_read c.args.self.now c.args.n used out))

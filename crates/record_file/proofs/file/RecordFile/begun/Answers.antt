@@ -5,5 +5,5 @@ use Rattle.record_file.proofs.file.RecordFile.begun.Goals as goal
 
 pub returns-clause-kept : goal.returns-clause-kept
 returns-clause-kept g c =
-    subst (λ (s : OpenFile _). IsKeptFile (g.T.Table.sound s.table) (g.T.Table.contents s.table) (g.T.Table.record_limit s.table) s.file s.log) c.self.view_is
+    subst (λ (s : OpenFile _). IsKeptFile (g.T.TableState.sound s.table) (g.T.TableState.contents s.table) (g.T.TableState.record_limit s.table) s.file s.log) c.self.view_is
     (kept_file _ _ _ c.self.inside.log c.self.invariant c.begun.ensures.kept c.begun.ensures.chained)

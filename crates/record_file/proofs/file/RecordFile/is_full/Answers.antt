@@ -7,13 +7,13 @@ use Rattle.record_file.proofs.file.RecordFile.is_full.Goals as goal
 
 -- the owner of the key has a live change there
 pub returns-then-is_some-clause-value : goal.returns-then-is_some-clause-value
-returns-then-is_some-clause-value g c = rw (← c.self.view_is) (λ sound. owned_not_full (file_of c.self.inside.log (g.T.Table.contents c.self.inside.table)) c.args.key.now c.owner.result c.owner.ensures (sym c.if-is_some.ensures))
+returns-then-is_some-clause-value g c = rw (← c.self.view_is) (λ sound. owned_not_full (file_of c.self.inside.log (g.T.TableState.contents c.self.inside.table)) c.args.key.now c.owner.result c.owner.ensures (sym c.if-is_some.ensures))
 
 -- a key that nobody owns is charged where it has a record
 pub returns-clause-value : goal.returns-clause-value
 returns-clause-value g c = λ sound.
     let key = c.args.key.now in
-    let here = ap (λ (s : OpenFile _). g.T.Table.sound s.table) c.self.view_is ∙ sound in
+    let here = ap (λ (s : OpenFile _). g.T.TableState.sound s.table) c.self.view_is ∙ sound in
     let owner = c.owner.ensures ∙ ap (λ (s : OpenFile _). owner_of (open_of s.file) s.file.history key) c.self.view_is in
     let stood = c.in_ok-get.ensures.value here ∙ ap (λ m. maps.get m key) (c.self.invariant.fits here).replayed ∙ ap (λ (s : OpenFile _). maps.get (records_of s.file) key) c.self.view_is in
     let limits = ap (λ (s : OpenFile _). s.file.limits.records) c.self.view_is in

@@ -17,32 +17,32 @@ pub accept-lsn-requires-clause-fits : goal.accept-lsn-requires-clause-fits
 accept-lsn-requires-clause-fits g c =
     let link = ap (λ (s : OpenFile _). s.file) c.self.view_is ∙ c.is_full.ensures.same.1 in
     let none = ap (λ (f : File). put_refusal f c.args.tx.0 c.args.key) link ∙ sym c.put_refusal.ensures ∙ none_by c.put_refusal.result c.in_default.not-Some in
-    subst (λ (s : LogState). use_in s + 2 ≤ s.limits.log_records) (sym c.in_ok-reserve.ensures.ok) (put_accepts (file_of c.self.inside.log (g.T.Table.contents c.self.inside.table)) c.args.tx.0 c.args.key none)
+    subst (λ (s : LogState). use_in s + 2 ≤ s.limits.log_records) (sym c.in_ok-reserve.ensures.ok) (put_accepts (file_of c.self.inside.log (g.T.TableState.contents c.self.inside.table)) c.args.tx.0 c.args.key none)
 
 pub invariant_of-self-2 : goal.invariant_of-self-2
 invariant_of-self-2 g c =
     let link = ap (λ (s : OpenFile _). s.file) c.self.view_is ∙ c.is_full.ensures.same.1 in
-    let sound_is = ap (λ (s : OpenFile _). g.T.Table.sound s.table) c.self.view_is ∙ c.is_full.ensures.soundness in
+    let sound_is = ap (λ (s : OpenFile _). g.T.TableState.sound s.table) c.self.view_is ∙ c.is_full.ensures.answered.soundness in
     change_kept _ _ _ c.self.inside.log c.self.invariant c.in_ok-reserve.ensures.kept
     _ _ _ c.reserve.new.self c.accept-lsn.new.self c.args.tx c.args.key c.in_ok-before.before c.copied-told.result _
-    c.in_ok-before.ensures.soundness c.in_ok-before.ensures.limit c.in_ok-reserve.ensures.ok c.in_ok-before.ensures.ok c.in_ok-before.ensures.value
+    c.in_ok-before.ensures.answered.soundness c.in_ok-before.ensures.answered.limit c.in_ok-reserve.ensures.ok c.in_ok-before.ensures.ok c.in_ok-before.ensures.value
     (c.copied-told.ensures ∙ c.as_ref.ensures.value) c.accept-lsn.ensures.after
-    (λ sound. room_now c.self.inside.log (g.T.Table.contents c.self.inside.table) c.args.key (c.self.invariant.fits sound)
+    (λ sound. room_now c.self.inside.log (g.T.TableState.contents c.self.inside.table) c.args.key (c.self.invariant.fits sound)
     (sym c.if-branch.false ∙ c.in_ok-is_full.ensures.value (sym sound_is ∙ sound) ∙ ap (λ (f : File). is_full f c.args.key) (sym link)))
 
 pub returns-clause-step : goal.returns-clause-step
 returns-clause-step g c = λ sound lt.
     let link = ap (λ (s : OpenFile _). s.file) c.self.view_is ∙ c.is_full.ensures.same.1 in
-    let sound_is = ap (λ (s : OpenFile _). g.T.Table.sound s.table) c.self.view_is ∙ c.is_full.ensures.soundness in
+    let sound_is = ap (λ (s : OpenFile _). g.T.TableState.sound s.table) c.self.view_is ∙ c.is_full.ensures.answered.soundness in
     let here = sound_is ∙ sound in
     let none = sym c.put_refusal.ensures ∙ none_by c.put_refusal.result c.in_default.not-Some in
-    let counts = c.in_ok-before.ensures.device ∙ ap (λ (s : OpenFile _). g.T.Table.device_failures s.table) c.self.view_is ∙ c.in_ok-is_full.ensures.device in
+    let counts = c.in_ok-before.ensures.answered.device ∙ ap (λ (s : OpenFile _). g.T.TableState.device_failures s.table) c.self.view_is ∙ c.in_ok-is_full.ensures.answered.device in
     let stood = c.in_ok-before.ensures.value here in (
       none,
-      rose_same (g.T.Table.device_failures c.args.self.now.table) (g.T.Table.device_failures c.set.new.self) counts,
+      rose_same (g.T.TableState.device_failures c.args.self.now.table) (g.T.TableState.device_failures c.set.new.self) counts,
       sym (c.in_ok-is_full.ensures.value sound) ∙ c.if-branch.false,
       stood ∙ ap (λ m. maps.get m c.args.key) (c.self.invariant.fits here).replayed ∙ ap (λ (f : File). maps.get (records_of f) c.args.key) link,
-      change_file _ _ _ c.self.inside.log c.self.invariant c.in_ok-reserve.ensures.kept (g.T.Table.contents c.set.new.self) c.reserve.new.self c.accept-lsn.new.self c.args.tx c.args.key c.in_ok-before.before c.copied-told.result _ c.in_ok-reserve.ensures.ok (c.in_ok-before.ensures.ok here) stood (c.copied-told.ensures ∙ c.as_ref.ensures.value) c.accept-lsn.ensures.after
+      change_file _ _ _ c.self.inside.log c.self.invariant c.in_ok-reserve.ensures.kept (g.T.TableState.contents c.set.new.self) c.reserve.new.self c.accept-lsn.new.self c.args.tx c.args.key c.in_ok-before.before c.copied-told.result _ c.in_ok-reserve.ensures.ok (c.in_ok-before.ensures.ok here) stood (c.copied-told.ensures ∙ c.as_ref.ensures.value) c.accept-lsn.ensures.after
           ∙ ap (λ (f : File). with_change f c.args.tx.0 c.args.key (Some c.args.value)) link,
     )
 
@@ -50,17 +50,17 @@ returns-clause-step g c = λ sound lt.
 pub returns-in_err-before-clause-step : goal.returns-in_err-before-clause-step
 returns-in_err-before-clause-step g c = λ sound lt.
     let link = ap (λ (s : OpenFile _). s.file) c.self.view_is ∙ c.is_full.ensures.same.1 in
-    let sound_is = ap (λ (s : OpenFile _). g.T.Table.sound s.table) c.self.view_is ∙ c.is_full.ensures.soundness in
+    let sound_is = ap (λ (s : OpenFile _). g.T.TableState.sound s.table) c.self.view_is ∙ c.is_full.ensures.answered.soundness in
     let here = sound_is ∙ sound in
     let none = sym c.put_refusal.ensures ∙ none_by c.put_refusal.result c.in_default.not-Some in
     let not_full = sym (c.in_ok-is_full.ensures.value sound) ∙ c.if-branch.false in
-    let counts = c.in_err-before.ensures.device ∙ ap (λ n. counted n (is_device {A = Option (List ℕ)} (Err c.in_err-before.field-0.0))) (ap (λ (s : OpenFile _). g.T.Table.device_failures s.table) c.self.view_is ∙ c.in_ok-is_full.ensures.device) in
+    let counts = c.in_err-before.ensures.answered.device ∙ ap (λ n. counted n (is_device {A = Option (List ℕ)} (Err c.in_err-before.field-0.0))) (ap (λ (s : OpenFile _). g.T.TableState.device_failures s.table) c.self.view_is ∙ c.in_ok-is_full.ensures.answered.device) in
     let told = err_from_is_err_and c.from_residual-in_err-before.result c.from_residual-in_err-before.ensures.1 in
     let same = (λ i. file_of (c.in_ok-reserve.ensures.ok i) (c.in_err-before.ensures.err i)) ∙ link in
-    let room = room_now c.self.inside.log (g.T.Table.contents c.self.inside.table) c.args.key (c.self.invariant.fits here) (sym not_full ∙ ap (λ (f : File). is_full f c.args.key) (sym link)) in
-    subst (λ (r : Result (Option (List ℕ)) PutFault). PutStep c.args.self.now.file c.args.tx.0 c.args.key c.args.value (rose (g.T.Table.device_failures c.args.self.now.table) (g.T.Table.device_failures c.set.new.self)) r (file_of c.reserve.new.self (g.T.Table.contents c.set.new.self))) (sym (told.1 ∙ ap Err told.2))
+    let room = room_now c.self.inside.log (g.T.TableState.contents c.self.inside.table) c.args.key (c.self.invariant.fits here) (sym not_full ∙ ap (λ (f : File). is_full f c.args.key) (sym link)) in
+    subst (λ (r : Result (Option (List ℕ)) PutFault). PutStep c.args.self.now.file c.args.tx.0 c.args.key c.args.value (rose (g.T.TableState.device_failures c.args.self.now.table) (g.T.TableState.device_failures c.set.new.self)) r (file_of c.reserve.new.self (g.T.TableState.contents c.set.new.self))) (sym (told.1 ∙ ap Err told.2))
     (put_err c.args.self.now.file _ c.args.tx.0 c.args.key c.args.value _ _ c.in_err-before.field-0.0 none not_full same lt counts
     (λ (is : c.in_err-before.field-0.0 ≡ table_faults.NoRoom).
     let full = c.in_err-before.ensures.no_room here (ap Err is) in
-    absurd (put_has_room _ c.self.inside.log.changes (g.T.Table.contents c.self.inside.table) c.self.inside.log.limits.records c.args.key (c.self.invariant.within here) room full.1 (omega (arith, full.2, c.self.invariant.limited))))
-    (λ (page : ℕ) (is : c.in_err-before.field-0.0 ≡ table_faults.Damaged page). c.in_err-before.ensures.damaged here page (ap Err is)))
+    absurd (put_has_room _ c.self.inside.log.changes (g.T.TableState.contents c.self.inside.table) c.self.inside.log.limits.records c.args.key (c.self.invariant.within here) room full.1 (omega (arith, full.2, c.self.invariant.limited))))
+    (λ (page : ℕ) (is : c.in_err-before.field-0.0 ≡ table_faults.Damaged page). c.in_err-before.ensures.answered.whole here page (ap Err is)))

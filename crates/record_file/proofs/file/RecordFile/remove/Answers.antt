@@ -1,4 +1,4 @@
-use Rattle.std.proofs.Common.{Some, None, ◌≤◌, ◌+◌, ap, sym, subst, ◌∙◌}
+use Rattle.std.proofs.Common.{Some, None, ◌≤◌, ◌+◌, ap, sym, subst, inl, ◌∙◌}
 use Rattle.std.specs.FinMap as maps
 use Rattle.rec_types.specs.Contents.{set_to}
 use Rattle.tx_log.specs.LogState.{LogState, use_in, open_in, history_in}
@@ -14,41 +14,45 @@ pub accept-lsn-requires-clause-fits : goal.accept-lsn-requires-clause-fits
 accept-lsn-requires-clause-fits g c =
     let link = ap (λ (s : OpenFile _). s.file) c.self.view_is in
     let none = ap (λ (f : File). remove_refusal f c.args.tx.0 c.args.key) link ∙ sym c.remove_refusal.ensures ∙ none_by c.remove_refusal.result c.in_default.not-Some in
-    subst (λ (s : LogState). use_in s + 2 ≤ s.limits.log_records) (sym c.in_ok-reserve.ensures.ok) (remove_accepts (file_of c.self.inside.log (g.T.Table.contents c.self.inside.table)) c.args.tx.0 c.args.key none)
+    subst (λ (s : LogState). use_in s + 2 ≤ s.limits.log_records) (sym c.in_ok-reserve.ensures.ok) (remove_accepts (file_of c.self.inside.log (g.T.TableState.contents c.self.inside.table)) c.args.tx.0 c.args.key none)
 
 pub invariant_of-self-in-Some-2 : goal.invariant_of-self-in-Some-2
 invariant_of-self-in-Some-2 g c =
     let key = c.args.key in
     change_kept _ _ _ c.self.inside.log c.self.invariant c.in_ok-reserve.ensures.kept
     _ _ _ c.reserve.new.self c.accept-lsn.new.self c.args.tx key c.in_ok-taken.field-0 (Some c.in-Some-2.taken) None
-    (c.in_ok-taken.ensures.soundness ∙ c.in_ok-get.ensures.soundness) (c.in_ok-taken.ensures.limit ∙ c.in_ok-get.ensures.limit) c.in_ok-reserve.ensures.ok (λ sound. c.in_ok-taken.ensures.ok (c.in_ok-get.ensures.soundness ∙ sound) ∙ ap (λ m. set_to m key None) c.in_ok-get.ensures.same)
-    (λ sound. c.in_ok-taken.ensures.value (c.in_ok-get.ensures.soundness ∙ sound) ∙ ap (λ m. maps.get m key) c.in_ok-get.ensures.same)
+    (c.in_ok-taken.ensures.answered.soundness ∙ c.in_ok-get.ensures.answered.soundness) (c.in_ok-taken.ensures.answered.limit ∙ c.in_ok-get.ensures.answered.limit) c.in_ok-reserve.ensures.ok (λ sound. c.in_ok-taken.ensures.ok (c.in_ok-get.ensures.answered.soundness ∙ sound) ∙ ap (λ m. set_to m key None) c.in_ok-get.ensures.same)
+    (λ sound. c.in_ok-taken.ensures.value (c.in_ok-get.ensures.answered.soundness ∙ sound) ∙ ap (λ m. maps.get m key) c.in_ok-get.ensures.same)
     (sym c.in-Some-2.is) c.accept-lsn.ensures.after
-    (λ sound absent. absurd (present_charged (open_in c.self.inside.log) (history_in c.self.inside.log) (g.T.Table.contents c.self.inside.table) key c.in_ok-get.field-0 (c.in_ok-get.ensures.value sound) c.if-is_none.ensures absent))
+    (λ sound absent. absurd (present_charged (open_in c.self.inside.log) (history_in c.self.inside.log) (g.T.TableState.contents c.self.inside.table) key c.in_ok-get.field-0 (c.in_ok-get.ensures.value sound) c.if-is_none.ensures absent))
 
 pub returns-in-Some-2-clause-step : goal.returns-in-Some-2-clause-step
 returns-in-Some-2-clause-step g c = λ sound lt.
     let key = c.args.key in
     let link = ap (λ (s : OpenFile _). s.file) c.self.view_is in
-    let here = ap (λ (s : OpenFile _). g.T.Table.sound s.table) c.self.view_is ∙ sound in
+    let here = ap (λ (s : OpenFile _). g.T.TableState.sound s.table) c.self.view_is ∙ sound in
     let none = sym c.remove_refusal.ensures ∙ none_by c.remove_refusal.result c.in_default.not-Some in
-    let counts = c.in_ok-taken.ensures.device ∙ c.in_ok-get.ensures.device ∙ ap (λ (s : OpenFile _). g.T.Table.device_failures s.table) c.self.view_is in
-    let stood = c.in_ok-taken.ensures.value (c.in_ok-get.ensures.soundness ∙ here) ∙ ap (λ m. maps.get m key) c.in_ok-get.ensures.same in (
+    let counts = c.in_ok-taken.ensures.answered.device ∙ c.in_ok-get.ensures.answered.device ∙ ap (λ (s : OpenFile _). g.T.TableState.device_failures s.table) c.self.view_is in
+    let stood = c.in_ok-taken.ensures.value (c.in_ok-get.ensures.answered.soundness ∙ here) ∙ ap (λ m. maps.get m key) c.in_ok-get.ensures.same in (
       none,
-      rose_same (g.T.Table.device_failures c.args.self.now.table) (g.T.Table.device_failures c.set.new.self) counts,
+      rose_same (g.T.TableState.device_failures c.args.self.now.table) (g.T.TableState.device_failures c.set.new.self) counts,
       sym (sym c.in-Some-2.is ∙ stood ∙ ap (λ m. maps.get m key) (c.self.invariant.fits here).replayed ∙ ap (λ (f : File). maps.get (records_of f) key) link),
-      change_file _ _ _ c.self.inside.log c.self.invariant c.in_ok-reserve.ensures.kept (g.T.Table.contents c.set.new.self) c.reserve.new.self c.accept-lsn.new.self c.args.tx key c.in_ok-taken.field-0 (Some c.in-Some-2.taken) None c.in_ok-reserve.ensures.ok (c.in_ok-taken.ensures.ok (c.in_ok-get.ensures.soundness ∙ here) ∙ ap (λ m. set_to m key None) c.in_ok-get.ensures.same) stood (sym c.in-Some-2.is) c.accept-lsn.ensures.after
+      change_file _ _ _ c.self.inside.log c.self.invariant c.in_ok-reserve.ensures.kept (g.T.TableState.contents c.set.new.self) c.reserve.new.self c.accept-lsn.new.self c.args.tx key c.in_ok-taken.field-0 (Some c.in-Some-2.taken) None c.in_ok-reserve.ensures.ok (c.in_ok-taken.ensures.ok (c.in_ok-get.ensures.answered.soundness ∙ here) ∙ ap (λ m. set_to m key None) c.in_ok-get.ensures.same) stood (sym c.in-Some-2.is) c.accept-lsn.ensures.after
           ∙ ap (λ (f : File). with_change f c.args.tx.0 key None) link,
     )
 
 pub returns-in-Some-2-clause-accepted : goal.returns-in-Some-2-clause-accepted
 returns-in-Some-2-clause-accepted g c =
-    subst (λ (s : OpenFile _). Accepts s.file s.log c.args.tx c.args.key (Some c.in-Some-2.taken) None (file_of c.accept-lsn.new.self (g.T.Table.contents c.set.new.self)) c.accept-lsn.new.self.records) c.self.view_is
-    (change_accepted _ _ _ c.self.inside.log c.self.invariant c.in_ok-reserve.ensures.kept (g.T.Table.contents c.set.new.self) c.reserve.new.self c.accept-lsn.new.self c.args.tx c.args.key (Some c.in-Some-2.taken) None c.in_ok-reserve.ensures.ok c.accept-lsn.ensures.after)
+    subst (λ (s : OpenFile _). Accepts s.file s.log c.args.tx c.args.key (Some c.in-Some-2.taken) None (file_of c.accept-lsn.new.self (g.T.TableState.contents c.set.new.self)) c.accept-lsn.new.self.records) c.self.view_is
+    (change_accepted _ _ _ c.self.inside.log c.self.invariant c.in_ok-reserve.ensures.kept (g.T.TableState.contents c.set.new.self) c.reserve.new.self c.accept-lsn.new.self c.args.tx c.args.key (Some c.in-Some-2.taken) None c.in_ok-reserve.ensures.ok c.accept-lsn.ensures.after)
 
-pub returns-in-Some-2-clause-told : goal.returns-in-Some-2-clause-told
-returns-in-Some-2-clause-told g c =
-    tells_one _ _ _ _ c.reserve.new.self.records c.accept-lsn.new.self.records _
-    (ap (λ (s : LogState). s.records) c.in_ok-reserve.ensures.ok ∙ ap (λ (s : OpenFile _). s.log) c.self.view_is)
-    (ap (λ (s : LogState). s.records) c.accept-lsn.ensures.after)
-    (λ sound. c.in_ok-taken.ensures.ok (c.in_ok-get.ensures.soundness ∙ ap (λ (s : OpenFile _). g.T.Table.sound s.table) c.self.view_is ∙ sound) ∙ ap (λ m. set_to m c.args.key None) c.in_ok-get.ensures.same ∙ ap (λ (s : OpenFile _). set_to (g.T.Table.contents s.table) c.args.key None) c.self.view_is)
+pub returns-in-Some-2-clause-table : goal.returns-in-Some-2-clause-table
+returns-in-Some-2-clause-table g c = record {
+  told = tells_one _ _ _ _ c.reserve.new.self.records c.accept-lsn.new.self.records _
+      (ap (λ (s : LogState). s.records) c.in_ok-reserve.ensures.ok ∙ ap (λ (s : OpenFile _). s.log) c.self.view_is)
+      (ap (λ (s : LogState). s.records) c.accept-lsn.ensures.after)
+      (λ sound. c.in_ok-taken.ensures.ok (c.in_ok-get.ensures.answered.soundness ∙ ap (λ (s : OpenFile _). g.T.TableState.sound s.table) c.self.view_is ∙ sound) ∙ ap (λ m. set_to m c.args.key None) c.in_ok-get.ensures.same ∙ ap (λ (s : OpenFile _). set_to (g.T.TableState.contents s.table) c.args.key None) c.self.view_is);
+  soundness = c.in_ok-taken.ensures.answered.soundness ∙ c.in_ok-get.ensures.answered.soundness ∙ ap (λ (s : OpenFile _). g.T.TableState.sound s.table) c.self.view_is;
+  device = c.in_ok-taken.ensures.answered.device ∙ c.in_ok-get.ensures.answered.device ∙ ap (λ (s : OpenFile _). g.T.TableState.device_failures s.table) c.self.view_is;
+  damages = inl (c.in_ok-taken.ensures.answered.damages ∙ c.in_ok-get.ensures.answered.damages ∙ ap (λ (s : OpenFile _). g.T.TableState.damages s.table) c.self.view_is);
+}

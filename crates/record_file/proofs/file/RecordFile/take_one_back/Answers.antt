@@ -1,4 +1,4 @@
-use Rattle.std.proofs.Common.{◌<◌, Err, ap, is_some, sym, subst, ◌∙◌, option_map, arith}
+use Rattle.std.proofs.Common.{inl, ◌<◌, Err, ap, is_some, sym, subst, ◌∙◌, option_map, arith}
 use Rattle.rec_types.specs.History.{undo_last}
 use Rattle.tx_log.specs.Transactions.{left_in}
 use Rattle.tx_log.specs.declared.phase.UndoStep.{UndoStep}
@@ -22,20 +22,20 @@ pub invariant_of-self : goal.invariant_of-self
 invariant_of-self g c =
     let some = subst (λ (s : OpenFile _). 0 < left_in s.file.history c.args.tx.0 (tx_of s.file c.args.tx.0)) (sym c.self.view_is) c.requires in
     let u = undo_there c.self.inside.log.changes c.args.tx.0 (tx_in c.self.inside.log c.args.tx.0) some in
-    undo_kept _ _ _ c.self.inside.log c.self.invariant c.compensate-lsn.ensures.kept _ _ _ c.compensate-lsn.new.self c.args.tx u.0 c.unwrap-step.result c.in-Ok.ensures.soundness c.in-Ok.ensures.limit u.1 u.2 u.3
+    undo_kept _ _ _ c.self.inside.log c.self.invariant c.compensate-lsn.ensures.kept _ _ _ c.compensate-lsn.new.self c.args.tx u.0 c.unwrap-step.result c.in-Ok.ensures.answered.soundness c.in-Ok.ensures.answered.limit u.1 u.2 u.3
     (step_is c.unwrap-step.result (undo_step u.0) (sym c.unwrap-step.ensures ∙ c.next_undo.ensures ∙ ap (option_map undo_step) u.1)) c.in-Ok.ensures.ok c.compensate-lsn.ensures.after
 
 pub returns-in-Ok-clause-ok : goal.returns-in-Ok-clause-ok
 returns-in-Ok-clause-ok g c =
-    undo_becomes _ _ _ c.self.inside.log c.self.invariant c.compensate-lsn.ensures.kept (g.T.Table.contents c.set.new.self) c.compensate-lsn.new.self c.args.tx c.compensate-lsn.ensures.after
-    ∙ ap (λ (s : OpenFile _). let f : File = record s.file { opening = (file_of c.compensate-lsn.new.self (g.T.Table.contents c.set.new.self)).opening; history = undo_last c.args.tx.0 s.file.history } in f) c.self.view_is
+    undo_becomes _ _ _ c.self.inside.log c.self.invariant c.compensate-lsn.ensures.kept (g.T.TableState.contents c.set.new.self) c.compensate-lsn.new.self c.args.tx c.compensate-lsn.ensures.after
+    ∙ ap (λ (s : OpenFile _). let f : File = record s.file { opening = (file_of c.compensate-lsn.new.self (g.T.TableState.contents c.set.new.self)).opening; history = undo_last c.args.tx.0 s.file.history } in f) c.self.view_is
 
 pub returns-in-Ok-clause-opening : goal.returns-in-Ok-clause-opening
 returns-in-Ok-clause-opening g c = λ sound.
     let some = subst (λ (s : OpenFile _). 0 < left_in s.file.history c.args.tx.0 (tx_of s.file c.args.tx.0)) (sym c.self.view_is) c.requires in
     let u = undo_there c.self.inside.log.changes c.args.tx.0 (tx_in c.self.inside.log c.args.tx.0) some in
-    let here = ap (λ (s : OpenFile _). g.T.Table.sound s.table) c.self.view_is ∙ sound in
-    ap (λ (f : File). f.opening) (undo_file_is _ _ _ c.self.inside.log c.self.invariant c.compensate-lsn.ensures.kept (g.T.Table.contents c.set.new.self) c.compensate-lsn.new.self c.args.tx u.0 c.unwrap-step.result u.2
+    let here = ap (λ (s : OpenFile _). g.T.TableState.sound s.table) c.self.view_is ∙ sound in
+    ap (λ (f : File). f.opening) (undo_file_is _ _ _ c.self.inside.log c.self.invariant c.compensate-lsn.ensures.kept (g.T.TableState.contents c.set.new.self) c.compensate-lsn.new.self c.args.tx u.0 c.unwrap-step.result u.2
     (step_is c.unwrap-step.result (undo_step u.0) (sym c.unwrap-step.ensures ∙ c.next_undo.ensures ∙ ap (option_map undo_step) u.1)) (c.in-Ok.ensures.ok here) c.compensate-lsn.ensures.after)
     ∙ ap (λ (s : OpenFile _). s.file.opening) c.self.view_is
 
@@ -45,17 +45,22 @@ returns-in-Err-NoRoom-clause-damaged g c = λ sound page is.
     let some = subst (λ (s : OpenFile _). 0 < left_in s.file.history c.args.tx.0 (tx_of s.file c.args.tx.0)) (sym c.self.view_is) c.requires in
     let u = undo_there c.self.inside.log.changes c.args.tx.0 (tx_in c.self.inside.log c.args.tx.0) some in
     let step = step_is c.unwrap-step.result (undo_step u.0) (sym c.unwrap-step.ensures ∙ c.next_undo.ensures ∙ ap (option_map undo_step) u.1) in
-    let here = ap (λ (s : OpenFile _). g.T.Table.sound s.table) c.self.view_is ∙ sound in
+    let here = ap (λ (s : OpenFile _). g.T.TableState.sound s.table) c.self.view_is ∙ sound in
     let full = c.in-Err-NoRoom.ensures.no_room here (ap Err c.in-Err-NoRoom.field-0-is) in
-    undo_has_room (open_in c.self.inside.log) c.self.inside.log.changes (g.T.Table.contents c.self.inside.table) c.self.inside.log.limits.records c.args.tx.0 u.0 u.3 u.2 (c.self.invariant.within here)
-    (sym (ap (λ (s : UndoStep). maps.get (g.T.Table.contents c.self.inside.table) s.key) step) ∙ full.1) (omega (arith, full.2, c.self.invariant.limited))
+    undo_has_room (open_in c.self.inside.log) c.self.inside.log.changes (g.T.TableState.contents c.self.inside.table) c.self.inside.log.limits.records c.args.tx.0 u.0 u.3 u.2 (c.self.invariant.within here)
+    (sym (ap (λ (s : UndoStep). maps.get (g.T.TableState.contents c.self.inside.table) s.key) step) ∙ full.1) (omega (arith, full.2, c.self.invariant.limited))
 
 -- a stop changes nothing, and a step is told by its compensation
-pub returns-in-Ok-clause-told : goal.returns-in-Ok-clause-told
-returns-in-Ok-clause-told g c =
+pub returns-in-Ok-clause-table : goal.returns-in-Ok-clause-table
+returns-in-Ok-clause-table g c =
     let some = subst (λ (s : OpenFile _). 0 < left_in s.file.history c.args.tx.0 (tx_of s.file c.args.tx.0)) (sym c.self.view_is) c.requires in
     let u = undo_there c.self.inside.log.changes c.args.tx.0 (tx_in c.self.inside.log c.args.tx.0) some in
     let step = step_is c.unwrap-step.result (undo_step u.0) (sym c.unwrap-step.ensures ∙ c.next_undo.ensures ∙ ap (option_map undo_step) u.1) in
-    tells_one _ _ _ _ c.self.inside.log.records c.compensate-lsn.new.self.records _ (ap (λ (s : OpenFile _). s.log) c.self.view_is)
-    (undo_record _ _ _ c.self.inside.log c.self.invariant c.compensate-lsn.ensures.kept c.compensate-lsn.new.self c.args.tx u.0 u.1 c.compensate-lsn.ensures.after)
-    (λ sound. c.in-Ok.ensures.ok (ap (λ (s : OpenFile _). g.T.Table.sound s.table) c.self.view_is ∙ sound) ∙ ap (λ (s : UndoStep). set_to (g.T.Table.contents c.self.inside.table) s.key s.before) step ∙ ap (λ (s : OpenFile _). set_to (g.T.Table.contents s.table) u.0.key u.0.before) c.self.view_is)
+    record {
+      told = tells_one _ _ _ _ c.self.inside.log.records c.compensate-lsn.new.self.records _ (ap (λ (s : OpenFile _). s.log) c.self.view_is)
+          (undo_record _ _ _ c.self.inside.log c.self.invariant c.compensate-lsn.ensures.kept c.compensate-lsn.new.self c.args.tx u.0 u.1 c.compensate-lsn.ensures.after)
+          (λ sound. c.in-Ok.ensures.ok (ap (λ (s : OpenFile _). g.T.TableState.sound s.table) c.self.view_is ∙ sound) ∙ ap (λ (s : UndoStep). set_to (g.T.TableState.contents c.self.inside.table) s.key s.before) step ∙ ap (λ (s : OpenFile _). set_to (g.T.TableState.contents s.table) u.0.key u.0.before) c.self.view_is);
+      soundness = c.in-Ok.ensures.answered.soundness ∙ ap (λ (s : OpenFile _). g.T.TableState.sound s.table) c.self.view_is;
+      device = c.in-Ok.ensures.answered.device ∙ ap (λ (s : OpenFile _). g.T.TableState.device_failures s.table) c.self.view_is;
+      damages = inl (c.in-Ok.ensures.answered.damages ∙ ap (λ (s : OpenFile _). g.T.TableState.damages s.table) c.self.view_is);
+    }
