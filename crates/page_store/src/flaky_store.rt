@@ -121,7 +121,8 @@ impl<S: Store> Store for FlakyStore<S> {
         ensures tail { IfOk result (λ shape. shape.tail ≡ S.tail self.old.inner) }
         ensures short_tail { OnOk result (S.tail self.old.inner ≤ 4095) }
         ensures no_memory { result ≢ Err StoreFault.Memory }
-        ensures leaves { LeavesStore ⟦<FlakyStore<S> as StoreState>⟧ false self.old result self.new }
+        ensures leaves { LeavesStore ⟦<FlakyStore<S> as StoreState>⟧ false
+            self.old result self.new }
         ensures passes { S.failures self.new.inner
             ≡ counted (S.failures self.old.inner) (is_failed result) }
         ensures reads_below { S.reads self.new.inner ≡ S.reads self.old.inner }
@@ -138,7 +139,8 @@ impl<S: Store> Store for FlakyStore<S> {
         ensures page { IsTrue (S.steady self.old.inner)
             → OnOk result (slice_get (S.pages self.old.inner) n ≡ Some to.new) }
         ensures no_memory { result ≢ Err StoreFault.Memory }
-        ensures leaves { LeavesStore ⟦<FlakyStore<S> as StoreState>⟧ true self.old result self.new }
+        ensures leaves { LeavesStore ⟦<FlakyStore<S> as StoreState>⟧ true
+            self.old result self.new }
         ensures fails { IsTrue (read_fails self.old) → (result ≡ Err StoreFault.Failed)
             × (self.new.inner ≡ self.old.inner) × (to.new ≡ to.old) }
         ensures passes { read_fails self.old ≡ false → S.failures self.new.inner
@@ -165,7 +167,8 @@ impl<S: Store> Store for FlakyStore<S> {
             × (S.pages self.new.inner ≡ slice_set (S.pages self.old.inner) n page) }
         ensures no_memory { result ≢ Err StoreFault.Memory }
         ensures same_tail { S.tail self.new.inner ≡ S.tail self.old.inner }
-        ensures changes { ChangesStore ⟦<FlakyStore<S> as StoreState>⟧ (Step.Write n from.now) self.old result self.new }
+        ensures changes { ChangesStore ⟦<FlakyStore<S> as StoreState>⟧ (Step.Write n from.now)
+            self.old result self.new }
         ensures fails { IsTrue (write_fails self.old)
             → (result ≡ Err StoreFault.Failed) × (self.new.inner ≡ self.old.inner) }
         ensures passes { write_fails self.old ≡ false → S.failures self.new.inner
@@ -192,7 +195,8 @@ impl<S: Store> Store for FlakyStore<S> {
         ensures tail { OnOk result (S.tail self.new.inner ≡ 0) }
         ensures old_pages { OnErr result
             (GrowsTo n (S.pages self.old.inner) (S.pages self.new.inner)) }
-        ensures changes { ChangesStore ⟦<FlakyStore<S> as StoreState>⟧ (Step.SetPages n) self.old result self.new }
+        ensures changes { ChangesStore ⟦<FlakyStore<S> as StoreState>⟧ (Step.SetPages n)
+            self.old result self.new }
         ensures fails { IsTrue (write_fails self.old)
             → (result ≡ Err StoreFault.Failed) × (self.new.inner ≡ self.old.inner) }
         ensures passes { write_fails self.old ≡ false → S.failures self.new.inner
@@ -215,7 +219,8 @@ impl<S: Store> Store for FlakyStore<S> {
         ensures no_memory { result ≢ Err StoreFault.Memory }
         ensures same_pages { S.pages self.new.inner ≡ S.pages self.old.inner }
         ensures same_tail { S.tail self.new.inner ≡ S.tail self.old.inner }
-        ensures changes { ChangesStore ⟦<FlakyStore<S> as StoreState>⟧ Step.Sync self.old result self.new }
+        ensures changes { ChangesStore ⟦<FlakyStore<S> as StoreState>⟧ Step.Sync
+            self.old result self.new }
         ensures fails { IsTrue (write_fails self.old)
             → (result ≡ Err StoreFault.Failed) × (self.new.inner ≡ self.old.inner) }
         ensures passes { write_fails self.old ≡ false → S.failures self.new.inner

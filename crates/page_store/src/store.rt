@@ -42,14 +42,16 @@ pub trait Store: StoreState + Drop {
             × (Self.pages self.new ≡ slice_set (Self.pages self.old) n page) }
         ensures no_memory { result ≢ Err StoreFault.Memory }
         ensures same_tail { Self.tail self.new ≡ Self.tail self.old }
-        ensures changes { ChangesStore Self.StoreState (Step.Write n from.now) self.old result self.new };
+        ensures changes { ChangesStore Self.StoreState (Step.Write n from.now)
+            self.old result self.new };
 
     /// Makes the store n pages long, which is no fewer than it has. New pages are zero, and the tail
     /// is gone. Faults: Failed, Memory; the old pages are then unchanged, and there are at most n.
     fn set_pages(&mut self, n: u32) -> Result<(), StoreFault>
         requires { length (Self.pages self.old) ≤ n }
         ensures pages { OnOk result
-            (Self.pages self.new ≡ Self.pages self.old ++ blanks (n - length (Self.pages self.old))) }
+            (Self.pages self.new ≡ Self.pages self.old
+            ++ blanks (n - length (Self.pages self.old))) }
         ensures tail { OnOk result (Self.tail self.new ≡ 0) }
         ensures old_pages { OnErr result (GrowsTo n (Self.pages self.old) (Self.pages self.new)) }
         ensures changes { ChangesStore Self.StoreState (Step.SetPages n) self.old result self.new };

@@ -9,7 +9,8 @@ use record_file::RecordFile;
 
 // The records of the file, or why there is no list of them.
 fn list<T: Table>(file: &mut RecordFile<T>) -> Reply
-    ensures { HasReply (seen T.TableState file.old) (Ok commands.List) result (seen T.TableState file.new) }
+    ensures { HasReply (seen T.TableState file.old) (Ok commands.List) result
+        (seen T.TableState file.new) }
 {
     match file.entries() {
         Ok(entries) => Reply::List(Ok(EntryList::new(entries))),
@@ -30,7 +31,8 @@ fn keys<T: Table>(file: &mut RecordFile<T>, tx: TxId) -> Reply
 
 /// Makes the call that a command asks for.
 pub fn call<T: Table>(file: &mut RecordFile<T>, command: Command) -> Reply
-    ensures { HasReply (seen T.TableState file.old) (Ok command) result (seen T.TableState file.new) }
+    ensures { HasReply (seen T.TableState file.old) (Ok command) result
+        (seen T.TableState file.new) }
 {
     match command {
         Command::Begin => Reply::Begin(file.begin()),
@@ -66,7 +68,8 @@ pub fn reply_to<T: Table>(
 ) -> Option<Reply>
     ensures { MatchOption result
         ((said ≡ Ok None) × (seen T.TableState file.new ≡ seen T.TableState file.old))
-        (λ reply. LineHasReply (seen T.TableState file.old) said reply (seen T.TableState file.new)) }
+        (λ reply. LineHasReply (seen T.TableState file.old) said reply
+        (seen T.TableState file.new)) }
 {
     match said {
         Ok(None) => None,

@@ -91,7 +91,8 @@ fn aborted(tx: TxId, answer: Result<u32, AbortFault>) -> Result<(), EndFault>
 fn go_on<T: Table>(file: &mut RecordFile<T>, tx: TxId) -> Result<bool, EndFault>
     ensures step { (answer : Result ℕ ResumeFault) × (result ≡ resumed tx answer)
         × Resumes file.old.file tx.0 answer file.new.file }
-    ensures asks { Asks (seen T.TableState file.old) (end_cause result) (seen T.TableState file.new) }
+    ensures asks { Asks (seen T.TableState file.old) (end_cause result)
+        (seen T.TableState file.new) }
 {
     resumed(tx, file.resume(tx))
 }
@@ -100,7 +101,8 @@ fn go_on<T: Table>(file: &mut RecordFile<T>, tx: TxId) -> Result<bool, EndFault>
 fn give_up<T: Table>(file: &mut RecordFile<T>, tx: TxId) -> Result<(), EndFault>
     ensures step { (answer : Result ℕ AbortFault) × (result ≡ aborted tx answer)
         × Aborts file.old.file tx.0 answer file.new.file }
-    ensures asks { Asks (seen T.TableState file.old) (end_cause result) (seen T.TableState file.new) }
+    ensures asks { Asks (seen T.TableState file.old) (end_cause result)
+        (seen T.TableState file.new) }
 {
     aborted(tx, file.abort(tx))
 }
@@ -110,7 +112,8 @@ fn end_one<T: Table>(file: &mut RecordFile<T>, tx: TxId) -> Result<bool, EndFaul
     ensures ended { IfOk result (λ was. EndsOpen file.old.file tx.0 was file.new.file) }
     ensures stopped { IfErr result (λ fault. StopsOne file.old.file fault file.new.file) }
     ensures number { IfErr result (λ fault. stopped_tx fault ≡ tx.0) }
-    ensures asks { Asks (seen T.TableState file.old) (end_cause result) (seen T.TableState file.new) }
+    ensures asks { Asks (seen T.TableState file.old) (end_cause result)
+        (seen T.TableState file.new) }
 {
     match go_on(file, tx) {
         Ok(false) => Ok(false),
@@ -135,7 +138,8 @@ fn one_if(test: bool) -> u32
 pub fn end_all<T: Table>(file: &mut RecordFile<T>) -> Result<u32, EndFault>
     ensures ended { IfOk result (λ count. EndsAll file.old.file count file.new.file) }
     ensures stopped { IfErr result (λ fault. StopsEnding file.old.file fault file.new.file) }
-    ensures asks { Asks (seen T.TableState file.old) (end_cause result) (seen T.TableState file.new) }
+    ensures asks { Asks (seen T.TableState file.old) (end_cause result)
+        (seen T.TableState file.new) }
     ensures records { IsTrue (T.sound file.old.table) → AbortsWhole file.old.file.txs
         → OnOk result (T.contents file.new.table ≡ replay file.old.file.opening
         (rest_of (open_of file.old.file) file.old.file.history)) }

@@ -141,7 +141,8 @@ fn run_lines<T: Table, W: Write>(
 ) -> Result<u32, ScriptFault>
     requires { length script.now ≤ 1048576 }
     ensures finished { IfOk result (λ done. (replies : List Reply)
-        × Session (seen T.TableState file.old) (entries_of script.now) replies (seen T.TableState file.new)
+        × Session (seen T.TableState file.old) (entries_of script.now) replies
+        (seen T.TableState file.new)
         × Appends (W.contents writer.old) (W.contents writer.new) (flat_map text_of replies)
         × (done ≡ commands (entries_of script.now))) }
     ensures stops { IfErr result (ScriptStopsAt (W.contents writer.old) (W.contents writer.new)

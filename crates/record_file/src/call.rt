@@ -125,9 +125,11 @@ pub fn run_calls<T: Table>(
     calls: &[Call],
 ) -> Result<Vec<Answer>, Memory>
     ensures ran { IfOk result (λ answers.
-        MakesAll (seen T.TableState file.old) calls.now answers.items (seen T.TableState file.new)) }
+        MakesAll (seen T.TableState file.old) calls.now answers.items
+        (seen T.TableState file.new)) }
     ensures stopped { IfErr result (λ _. (n : ℕ) × (answers : List Answer)
-        × MakesAll (seen T.TableState file.old) (take n calls.now) answers (seen T.TableState file.new)) }
+        × MakesAll (seen T.TableState file.old) (take n calls.now) answers
+        (seen T.TableState file.new)) }
     ensures exact { IsExact (T.sound file.new.table) (T.contents file.new.table)
         file.new.file file.new.log }
 {

@@ -22,7 +22,8 @@ pub fn nothing_lives_again()
     ensures newest { (t : ℕ) → (h : List Change) → LosesLives h (undo_last t h) }
     ensures from { (h : List Change) → (t p : ℕ) → LosesLives h (take_back h t p) }
     ensures newest_from { (h : List Change) → (t p n : ℕ) → LosesLives h (take_newest h t p n) }
-    ensures example { LosesLives (out_of 1 97 ∷ out_of 2 98 ∷ []) (back_of 1 97 ∷ out_of 2 98 ∷ []) }
+    ensures example { LosesLives (out_of 1 97 ∷ out_of 2 98 ∷ [])
+        (back_of 1 97 ∷ out_of 2 98 ∷ []) }
     ensures again { LosesLives (back_of 1 97 ∷ []) (out_of 1 97 ∷ []) → ⊥ }
 {}
 
