@@ -13,6 +13,7 @@ pub mod InsertionLemmas
 pub mod SonsLemmas
 pub mod SizeLemmas
 pub mod SearchStepLemmas
+pub mod StepNodeLemmas
 pub mod TreeClassLemmas
 pub mod ReachLemmas
 pub mod DistinctPageLemmas

@@ -13,7 +13,7 @@ spelt_more k n ws ws2 node stands is spelt =
     subst (AreSpelt k) (sym is) (Each-append (λ w. IsSpelt k w.1) ws ((n, spelling node k) ∷ []) spelt ((node, stands, refl), tt))
 
 -- the bytes of a page
-abbrev bytes_of : Option (List ℕ) → List ℕ
+abbrev pub bytes_of : Option (List ℕ) → List ℕ
 bytes_of None = []
 bytes_of (Some page) = page
 

@@ -1,10 +1,10 @@
 -- Where the search for a key goes from a page.
-use Rattle.std.specs.Prelude.{◌≡◌, ℕ, ◌<◌, List, IsTrue, slice_index_or}
+use Rattle.std.specs.Prelude.{◌≡◌, ℕ, ◌<◌, Bool, true, false, ◌&&◌, List, Some, IsTrue, slice_index_or}
 use Rattle.page_store.specs.PageMap.{at}
-use Rattle.page_store.specs.PagesView.{PagesView}
+use Rattle.page_store.specs.PagesView.{PagesView, is_in_memory}
 use Rattle.btree_node.specs.declared.node.Node.{Node}
 use Rattle.btree_node.specs.Lists.{Element, IsAt, IsPlace}
-use Rattle.btree_node.specs.Spelling.{CanStand}
+use Rattle.btree_node.specs.Spelling.{spelling, CanStand}
 use Rattle.btree_insert.specs.declared.bounds.Bounds.{Bounds}
 use Rattle.btree_insert.specs.declared.step.Spot.{Spot}
 use Rattle.btree_insert.specs.declared.step.Step.{Step}
@@ -23,10 +23,16 @@ pub record Belongs (spot : Spot) (n : Node) : Type 0 where
   pub kind : n.kind ≡ kind_of_level spot.level
   pub within : AreWithin spot.bounds n.elements.items
 
+-- the node of page p, which can stand: where the page was searched in memory, its bytes there spell the node; any other page was read into «read»
+pub record IsKnown (k : ℕ) (pages : PagesView) (p : ℕ) (in_place : Bool) (read n : Node) : Type 0 where
+  pub stands : CanStand n k
+  pub lies : in_place ≡ true → is_in_memory pages p ≡ true → at pages.pages p ≡ Some (spelling n k)
+  pub was_read : (in_place && is_in_memory pages p) ≡ false → read ≡ n
+
 -- a node at a spot from which the search took a step, which over a steady store its page spells
-pub record Stepped (k : ℕ) (pages : PagesView) (spot : Spot) (key : List ℕ) (step : Step) : Type 0 where
+pub record Stepped (k : ℕ) (pages : PagesView) (spot : Spot) (key : List ℕ) (in_place : Bool) (read : Node) (step : Step) : Type 0 where
   pub node : Node
-  pub stands : CanStand node k
+  pub known : IsKnown k pages spot.page in_place read node
   pub belongs : Belongs spot node
   pub spells : IsTrue pages.steady → Spells k (at pages.pages) spot.page node
   pub steps : Steps spot.level node spot.bounds key step

@@ -12,12 +12,13 @@ ghost use Rattle.btree_insert.specs.Growth.{IsOutside, IsWithin, MayBeOverfull, 
 ghost use Rattle.btree_insert.specs.PageTrees.{TreeAt, Apart};
 ghost use Rattle.btree_node.specs.Layout.{IsOrder, greatest_order};
 ghost use Rattle.btree_insert.specs.Sizes.{greatest_height};
+ghost use Rattle.btree_insert.specs.Spelt.{AreSpeltIn};
+ghost use Rattle.btree_insert.specs.Steps.{IsKnown};
 
-use crate::bounds::{Bounds, bounds_of_son};
-use crate::reading::{kind_of_level, read_into};
+use crate::step::{Spot, Step, take_step};
 use crate::tree::TreeFault;
 use arrayvec::ArrayVec;
-use btree_node::{Node, encode, place_of, split};
+use btree_node::{Node, decode_into, encode, split};
 use page_store::{PageEdit, Pages, Store};
 use rec_types::{Key, Memory, Record};
 
@@ -91,79 +92,91 @@ pub fn was_visited(visited: &[u32], n: u32) -> bool
     visited.contains(&n)
 }
 
-/// Puts the record at the key in the tree of a height below page n, and collects the pages to write.
-/// `visited` gains the pages that were read. Faults: Device, Memory, and Damaged as in `read_node` and
-/// where a page is visited twice.
+/// Fills the node with what page n spells, after a step from there: where the page was searched in
+/// memory it is read now, and any other page is in the node already.
+fn fill_node<S: Store>(pages: &Pages<S>, order: u16, n: u32, in_place: bool, node: &mut Node)
+    requires order { order ≤ greatest_order }
+    ensures known { (m : Node) → IsKnown order pages.now n in_place node.old m → node.new ≡ m }
+{
+    if in_place {
+        if let Some(page) = pages.in_memory(n) {
+            let _ = decode_into(page, order, node);
+        }
+    }
+}
+
+/// Puts the record at the key in the tree below the page at a spot, and collects the pages to write.
+/// `visited` gains the pages that were visited. Where `in_place`, a page in memory is searched where it
+/// lies, and is read into a node only where it changes. Faults: Device, Memory, and Damaged as in
+/// `take_step` and where a page is visited twice.
 pub(crate) fn insert_below<S: Store>(
     pages: &mut Pages<S>,
     edit: &mut PageEdit,
     visited: &mut ArrayVec<u32, 19>,
     order: u16,
-    height: u32,
-    n: u32,
-    bounds: &Bounds,
+    spot: &Spot,
     element: (Key, Record),
+    in_place: bool,
 ) -> Result<Grown, TreeFault>
     requires order { IsOrder order }
-    requires height { 0 < height }
-    requires levels { length visited.old.items + height ≤ greatest_height }
+    requires level { 0 < spot.now.level }
+    requires levels { length visited.old.items + spot.now.level ≤ greatest_height }
     requires element { IsElement element }
-    requires within { IsWithin bounds.now element.0 }
+    requires within { IsWithin spot.now.bounds element.0 }
     requires taken { edit.old.taken ≤ 50 }
     requires fits { WritesFit pages.old.pages edit.old.writes.items edit.old.taken }
+    requires spelt { IsTrue in_place → AreSpeltIn order pages.old }
     ensures grew { IsTrue pages.old.steady → edit.old.writes.items ≡ []
         → (least : ℕ) (es : List Element) (us : List ℕ)
-        → TreeAt order (at pages.old.pages) least height n es us → Between bounds.now es → Apart us
+        → TreeAt order (at pages.old.pages) least spot.now.level spot.now.page es us
+        → Between spot.now.bounds es → Apart us
         → Each (λ u. list_any (λ m. m == u) visited.old.items ≡ false) us
         → MatchResult result
         (Grew order (at pages.old.pages) (overlay (at pages.old.pages) edit.new.writes.items)
-        (candidate pages.old.pages)
-        edit.old.taken edit.new.taken least height n es us element.0 element.1)
+        (candidate pages.old.pages) edit.old.taken edit.new.taken
+        least spot.now.level spot.now.page es us element.0 element.1)
         IsOutside }
     ensures fits { OnOk result (WritesFit pages.old.pages edit.new.writes.items edit.new.taken) }
-    ensures takes { IfOk result (TakesNumbers height edit.old.taken edit.new.taken) }
-    ensures goes_up { IfOk result (SplitGoesUp bounds.now) }
+    ensures takes { IfOk result (TakesNumbers spot.now.level edit.old.taken edit.new.taken) }
+    ensures goes_up { IfOk result (SplitGoesUp spot.now.bounds) }
     ensures spelt { AreSpelt order edit.old.writes.items
         → OnOk result (AreSpelt order edit.new.writes.items) }
     ensures freed { edit.new.freed ≡ edit.old.freed }
     ensures visited { OnOk result (0 < length visited.new.items) }
-    ensures in_use { OnOk result (IsSome (at pages.old.pages n)) }
-    ensures some_page { OnOk result (0 < n) }
+    ensures in_use { OnOk result (IsSome (at pages.old.pages spot.now.page)) }
+    ensures some_page { OnOk result (0 < spot.now.page) }
     ensures device { pages.new.failures ≡ counted pages.old.failures (is_device result) }
     ensures unchanged { pages.new
         ≡ record pages.old { reads = pages.new.reads; failures = pages.new.failures } }
-    ensures reads { pages.new.reads ≤ pages.old.reads + height }
+    ensures reads { pages.new.reads ≤ pages.old.reads + spot.now.level }
 {
+    let n = spot.page;
     if was_visited(visited.as_slice(), n) {
         return Err(TreeFault::Damaged(n));
     }
     visited.push(n);
     let mut node = Node::blank();
-    read_into(pages, order, kind_of_level(height), n, bounds, &mut node)?;
-    match place_of(&node, &element.0) {
-        Ok(i) => {
+    match take_step(pages, order, spot, &element.0, in_place, &mut node)? {
+        Step::Found(i, _) => {
+            fill_node(pages, order, n, in_place, &mut node);
             let old = replace(&mut node, i, element);
             write_node(edit, order, n, &node)?;
             Ok(Grown::Replaced(old))
         }
-        Err(i) => {
-            if height == 1 {
-                node.elements.insert(i, element);
-                return Ok(settle(pages, edit, order, n, node)?);
-            }
-            let below = bounds_of_son(bounds, node.elements.as_slice(), i);
-            let son = node.sons[i];
-            match insert_below(
-                pages,
-                edit,
-                visited,
-                order,
-                height - 1,
-                son,
-                &below,
-                element,
-            )? {
+        Step::Ends(i) => {
+            fill_node(pages, order, n, in_place, &mut node);
+            node.elements.insert(i, element);
+            Ok(settle(pages, edit, order, n, node)?)
+        }
+        Step::Goes(i, page, bounds) => {
+            let below = Spot {
+                page,
+                level: spot.level - 1,
+                bounds,
+            };
+            match insert_below(pages, edit, visited, order, &below, element, in_place)? {
                 Grown::Split(middle, right) => {
+                    fill_node(pages, order, n, in_place, &mut node);
                     node.elements.insert(i, middle);
                     node.sons.insert(i + 1, right);
                     Ok(settle(pages, edit, order, n, node)?)

@@ -14,6 +14,7 @@ ghost use Rattle.btree_insert.specs.Sizes.{IsTree, greatest_count};
 
 use crate::bounds::Bounds;
 use crate::insert_below::{Grown, insert_below, write_node};
+use crate::step::Spot;
 use crate::tree::{GREATEST_COUNT, GREATEST_HEIGHT, GREATEST_PAGE_COUNT, Tree, TreeFault};
 use arrayvec::ArrayVec;
 use btree_node::{KEY_WIDTH, Node, NodeKind, RECORD_WIDTH};
@@ -96,17 +97,20 @@ fn is_small<S: Store>(pages: &Pages<S>, tree: &Tree, taken: u32) -> bool
         && count <= GREATEST_PAGE_COUNT
 }
 
-/// Puts the record at the key of a tree, and collects the pages to write.
+/// Puts the record at the key of a tree, and collects the pages to write. Where `in_place`, a page in
+/// memory is searched where it lies.
 fn grow_tree<S: Store>(
     pages: &mut Pages<S>,
     edit: &mut PageEdit,
     tree: &Tree,
     element: (Key, Record),
+    in_place: bool,
 ) -> Result<Changed, TreeFault>
     requires tree { IsTree tree.now }
     requires element { IsElement element }
     requires empty { edit.old.writes.items ≡ [] }
     requires none_taken { edit.old.taken ≡ 0 }
+    requires spelt { IsTrue in_place → AreSpeltIn tree.now.order pages.old }
     ensures grew { IsTrue pages.old.steady → (es : List Element) (us : List ℕ)
         → Holds (at pages.old.pages) tree.now es us
         → MatchResult result
@@ -129,9 +133,13 @@ fn grow_tree<S: Store>(
     if tree.height == 0 {
         return Ok(plant(pages, edit, tree, element)?);
     }
-    let bounds = Bounds {
-        low: None,
-        high: None,
+    let root = Spot {
+        page: tree.root,
+        level: tree.height,
+        bounds: Bounds {
+            low: None,
+            high: None,
+        },
     };
     let mut visited = ArrayVec::new();
     let grown = insert_below(
@@ -139,10 +147,9 @@ fn grow_tree<S: Store>(
         edit,
         &mut visited,
         tree.order,
-        tree.height,
-        tree.root,
-        &bounds,
+        &root,
         element,
+        in_place,
     )?;
     let leaf = visited[visited.len() - 1];
     Ok(changed_tree(pages, edit, tree, grown, leaf)?)
@@ -313,12 +320,89 @@ pub fn insert<S: Store>(
     } }
     ensures reads { pages.new.reads ≤ pages.old.reads + tree.now.height }
 {
+    insert_from_root(alloc, pages, tree, key, value, false)
+}
+
+/// The same as `insert`, where each page in memory is known to spell a node of the order: it is searched
+/// where it lies, and only the pages that change are read into nodes.
+pub fn insert_in_place<S: Store>(
+    alloc: Global,
+    pages: &mut Pages<S>,
+    tree: &Tree,
+    key: Key,
+    value: Record,
+) -> Result<(Tree, Option<Record>), TreeFault>
+    requires tree { IsTree tree.now }
+    requires spelt { AreSpeltIn tree.now.order pages.old }
+    ensures inserted { IsTrue pages.old.steady → (es : List Element) (us : List ℕ)
+        → Holds (at pages.old.pages) tree.now es us
+        → MatchResult result
+        (λ r. (taken : ℕ) × Inserted (at pages.old.pages) (at pages.new.pages)
+        (candidate pages.old.pages) taken tree.now r.0 es us key value r.1)
+        (IsRefused pages.old.pages tree.now es us key value) }
+    ensures small { IfOk result (λ r. IsSmall r.0 (length pages.new.pages)) }
+    ensures page_count { IfOk result (λ r. (tree.now.used ≤ r.0.used)
+        × (length pages.new.pages ≡ count_after pages.old.pages (r.0.used - tree.now.used))) }
+    ensures changed { OnOk result (pages.new.changed ≡ true) }
+    ensures order { IfOk result (λ r. r.0.order ≡ tree.now.order) }
+    ensures spelt { AreSpeltIn tree.now.order pages.new }
+    ensures device { pages.new.failures ≡ counted pages.old.failures (is_device result) }
+    ensures err { OnErr result (pages.new
+        ≡ record pages.old { reads = pages.new.reads; failures = pages.new.failures }) }
+    ensures store { pages.new ≡ record pages.old {
+      pages = pages.new.pages;
+      changed = pages.new.changed;
+      in_memory = pages.new.in_memory;
+      reads = pages.new.reads;
+      failures = pages.new.failures;
+    } }
+    ensures reads { pages.new.reads ≤ pages.old.reads + tree.now.height }
+{
+    insert_from_root(alloc, pages, tree, key, value, true)
+}
+
+/// Puts the record at the key, and answers the new tree and the record that stood there. Where
+/// `in_place`, a page in memory is searched where it lies.
+fn insert_from_root<S: Store>(
+    alloc: Global,
+    pages: &mut Pages<S>,
+    tree: &Tree,
+    key: Key,
+    value: Record,
+    in_place: bool,
+) -> Result<(Tree, Option<Record>), TreeFault>
+    requires tree { IsTree tree.now }
+    requires spelt { IsTrue in_place → AreSpeltIn tree.now.order pages.old }
+    ensures inserted { IsTrue pages.old.steady → (es : List Element) (us : List ℕ)
+        → Holds (at pages.old.pages) tree.now es us
+        → MatchResult result
+        (λ r. (taken : ℕ) × Inserted (at pages.old.pages) (at pages.new.pages)
+        (candidate pages.old.pages) taken tree.now r.0 es us key value r.1)
+        (IsRefused pages.old.pages tree.now es us key value) }
+    ensures small { IfOk result (λ r. IsSmall r.0 (length pages.new.pages)) }
+    ensures page_count { IfOk result (λ r. (tree.now.used ≤ r.0.used)
+        × (length pages.new.pages ≡ count_after pages.old.pages (r.0.used - tree.now.used))) }
+    ensures changed { OnOk result (pages.new.changed ≡ true) }
+    ensures order { IfOk result (λ r. r.0.order ≡ tree.now.order) }
+    ensures spelt { AreSpeltIn tree.now.order pages.old → AreSpeltIn tree.now.order pages.new }
+    ensures device { pages.new.failures ≡ counted pages.old.failures (is_device result) }
+    ensures err { OnErr result (pages.new
+        ≡ record pages.old { reads = pages.new.reads; failures = pages.new.failures }) }
+    ensures store { pages.new ≡ record pages.old {
+      pages = pages.new.pages;
+      changed = pages.new.changed;
+      in_memory = pages.new.in_memory;
+      reads = pages.new.reads;
+      failures = pages.new.failures;
+    } }
+    ensures reads { pages.new.reads ≤ pages.old.reads + tree.now.height }
+{
     let mut edit = PageEdit {
         writes: Vec::new(alloc),
         taken: 0,
         freed: Vec::new(alloc),
     };
-    let changed = grow_tree(pages, &mut edit, tree, element_of(key, value))?;
+    let changed = grow_tree(pages, &mut edit, tree, element_of(key, value), in_place)?;
     if !is_small(pages, &changed.tree, edit.taken) {
         return Err(TreeFault::Damaged(changed.leaf));
     }

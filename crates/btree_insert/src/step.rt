@@ -1,4 +1,4 @@
-ghost use Rattle.std.specs.Prelude.{◌≡◌, ◌+◌, ◌<◌, ◌≤◌, ◌⊎◌, ◌↔◌, ℕ, length, IsTrue, IsOk, IfOk, IfErr, MatchResult};
+ghost use Rattle.std.specs.Prelude.{◌≡◌, ◌+◌, ◌<◌, ◌≤◌, ◌⊎◌, ◌↔◌, ℕ, length, IsTrue, IsSome, IsOk, IfOk, IfErr, OnOk, MatchResult};
 ghost use Rattle.rec_types.specs.Table.{counted};
 ghost use Rattle.page_store.specs.PageMap.{at};
 ghost use Rattle.btree_node.specs.Layout.{greatest_order};
@@ -59,7 +59,10 @@ pub(crate) fn take_step<S: Store>(
         → Spells order (at pages.old.pages) spot.now.page m → Belongs spot.now m
         → MatchResult result (Steps spot.now.level m spot.now.bounds key.now)
         (λ fault. fault ≡ TreeFault.Device) }
-    ensures stepped { IfOk result (Stepped order pages.old spot.now key.now) }
+    ensures stepped { IfOk result
+        (Stepped order pages.old spot.now key.now in_place node.new) }
+    ensures in_use { OnOk result (IsSome (at pages.old.pages spot.now.page)) }
+    ensures some_page { OnOk result (0 < spot.now.page) }
     ensures fault { IfErr result
         (λ fault. (fault ≡ TreeFault.Device) ⊎ (fault ≡ TreeFault.Damaged spot.now.page)) }
     ensures device { pages.new.failures ≡ counted pages.old.failures (is_device result) }

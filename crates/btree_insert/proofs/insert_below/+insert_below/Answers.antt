@@ -1,4 +1,4 @@
-use Rattle.std.proofs.Common.{◌≡◌, ◌+◌, ◌-◌, ℕ, suc, Option, List, ◌∷◌, true, false, ◌==◌, length, get_or, refl, ap, sym, ◌∙◌, subst, arith, rules}
+use Rattle.std.proofs.Common.{◌≡◌, ◌+◌, ◌-◌, ℕ, suc, Option, List, ◌∷◌, true, false, ◌==◌, length, get_or, set, ap, sym, ◌∙◌, subst, arith, rules}
 use Rattle.std.specs.List.{insert}
 use Rattle.std.proofs.lemmas.Bool.{false≢true}
 use Rattle.std.proofs.lemmas.List.{length-set, get_or_default}
@@ -14,181 +14,248 @@ use Rattle.btree_node.specs.declared.node.Node.{Node}
 use Rattle.btree_node.specs.declared.node.NodeKind.TheVariants.{Leaf, Inner}
 use Rattle.btree_insert.specs.declared.insert_below.Grown.{Grown}
 use Rattle.btree_insert.specs.declared.insert_below.Grown.TheVariants.{Replaced}
-use Rattle.btree_insert.specs.Bounds.{AreWithin, Between, son_bounds}
+use Rattle.btree_insert.specs.Bounds.{AreWithin, Between}
 use Rattle.btree_insert.specs.Growth.{IsOutside, IsWithin, Grew, SplitGoesUp, WritesOrSplits, TakesNumbers, WritesFit}
 use Rattle.btree_insert.specs.PageTrees.{TreeAt, kind_of_level}
+use Rattle.btree_insert.specs.Spelt.{AreSpeltIn}
+use Rattle.btree_insert.specs.Steps.{Steps}
 use Rattle.btree_insert.proofs.EditFitLemmas.{wrote_fits, stays_within, takes_more}
 use Rattle.btree_insert.proofs.ChangedTreeLemmas.{in_use}
 use Rattle.btree_insert.proofs.VisitedLemmas.{Unvisited, unvisited_below, apart_below, candidates_free}
 use Rattle.btree_insert.proofs.PlaceLemmas.{within_place, place_within, son_within, insert_within, leaf_may_be_overfull, inner_may_be_overfull, set_stands}
 use Rattle.btree_insert.proofs.SettledTreeLemmas.{focus_of, grow_stays, grow_split, grow_leaf, grow_replaced}
-use Rattle.btree_insert.proofs.HeadNodeLemmas.{kind_above, head_each, top, read_top}
+use Rattle.btree_insert.proofs.HeadNodeLemmas.{kind_above, head_each, top}
+use Rattle.btree_insert.proofs.StepNodeLemmas.{still_known, taken_top}
 use Rattle.btree_insert.proofs.insert_below.+insert_below.Goals as goal
 
 pub returns-then-was_visited-clause-grew : goal.returns-then-was_visited-clause-grew
 returns-then-was_visited-clause-grew g t c = λ steady none least es us tree between apart unvisited.
-    let gone = head_each (λ u. list_any (λ m. m == u) c.args.visited.now.items ≡ false) c.args.order (at c.args.pages.now.pages) least c.args.height c.args.n es us tree unvisited in
-    let visited : list_any (λ m. m == c.args.n) c.args.visited.now.items ≡ true = ap (λ (xs : List ℕ). list_any (λ m. m == c.args.n) xs) (sym c.as_slice.ensures.value) ∙ sym c.was_visited.ensures ∙ c.if-was_visited.true in
+    let spot = c.args.spot.now in
+    let gone = head_each (λ u. list_any (λ m. m == u) c.args.visited.now.items ≡ false) c.args.order (at c.args.pages.now.pages) least spot.level spot.page es us tree unvisited in
+    let visited : list_any (λ m. m == c.args.spot.now.page) c.args.visited.now.items ≡ true = ap (λ (xs : List ℕ). list_any (λ m. m == c.args.spot.now.page) xs) (sym c.as_slice.ensures.value) ∙ sym c.was_visited.ensures ∙ c.if-was_visited.true in
     absurd (false≢true (sym gone ∙ visited))
 
-pub returns-in_err-read_into-clause-grew : goal.returns-in_err-read_into-clause-grew
-returns-in_err-read_into-clause-grew g t c = λ steady none least es us tree between apart unvisited.
+pub returns-in_err-i-clause-grew : goal.returns-in_err-i-clause-grew
+returns-in_err-i-clause-grew g t c = λ steady none least es us tree between apart unvisited.
+    let spot = c.args.spot.now in
     let p = err_from_is_err_and c.from_residual.result c.from_residual.ensures.1 in
-    let head = top c.args.order (at c.args.pages.now.pages) least c.args.height (c.args.height - 1) c.args.n es us c.args.bounds.now (omega arith) tree between in
-    rw (p.1, p.2) (subst IsOutside (sym (c.in_err-read_into.ensures.exact steady head.0 head.1.spells (head.1.kind ∙ sym c.kind_of_level.ensures) head.1.within)) tt)
+    let head = top c.args.order (at c.args.pages.now.pages) least spot.level (spot.level - 1) spot.page es us spot.bounds (omega (arith, c.requires.level)) tree between in
+    rw (p.1, p.2) (subst IsOutside (sym (c.in_err-i.ensures.exact steady head.0 head.1.spells (record { kind = head.1.kind; within = head.1.within }))) tt)
 
 pub write_node-requires-clause-stands : goal.write_node-requires-clause-stands
 write_node-requires-clause-stands g t c =
-    set_stands c.args.order c.read_into.new.node c.replace-old.new.node c.in-Ok.i c.args.element c.in_ok-read_into.ensures.stands.0 (c.in-Ok.ensures.found c.in_ok-read_into.ensures.stands.0.ascends) c.requires.element
-    c.replace-old.ensures.kind c.replace-old.ensures.elements (ap (λ s. s.items) c.replace-old.ensures.sons)
+    let k = c.args.order in
+    let spot = c.args.spot.now in
+    let s = c.in_ok-i.ensures.stepped in
+    let steps = subst (Steps spot.level s.node spot.bounds c.args.element.0) c.in-Found.is s.steps in
+    let filled = c.fill_node.ensures.known s.node (still_known k c.args.pages.now c.take_step.new.pages spot.page c.args.in_place c.take_step.new.node s.node c.take_step.ensures.unchanged s.known) in
+    let kind_is = c.replace-old.ensures.kind ∙ ap (λ (n : Node). n.kind) filled in
+    let els_is = c.replace-old.ensures.elements ∙ ap (λ (n : Node). set n.elements.items c.in-Found.i c.args.element) filled in
+    let sons_is = ap (λ s. s.items) c.replace-old.ensures.sons ∙ ap (λ (n : Node). n.sons.items) filled in
+    let stands = set_stands k s.node c.replace-old.new.node c.in-Found.i c.args.element s.known.stands steps.0 c.requires.element kind_is els_is sons_is in
+    stands
 
 pub settle-requires-clause-may_be_overfull : goal.settle-requires-clause-may_be_overfull
 settle-requires-clause-may_be_overfull g t c =
-    let leaf : c.read_into.new.node.kind ≡ Leaf = c.in_ok-read_into.ensures.stands.1 ∙ c.kind_of_level.ensures ∙ ap kind_of_level c.if-height-eq1.true in
-    leaf_may_be_overfull c.args.order c.read_into.new.node (record { kind = c.read_into.new.node.kind; elements = c.insert.new.self; sons = c.read_into.new.node.sons }) c.in-Err.i c.args.element c.in_ok-read_into.ensures.stands.0 leaf
-    (c.in-Err.ensures.found c.in_ok-read_into.ensures.stands.0.ascends) c.requires.element refl c.insert.ensures.items refl
-
-pub returns-then-height-eq1-clause-grew : goal.returns-then-height-eq1-clause-grew
-returns-then-height-eq1-clause-grew g t c = λ steady none least es us tree between apart unvisited.
-    let head = read_top c.args.order (at c.args.pages.now.pages) least c.args.height c.args.n es us c.args.bounds.now c.kind_of_level.result c.read_into.new.node c.requires.height c.kind_of_level.ensures (c.in_ok-read_into.ensures.exact steady) tree between in
-    let leaf : c.read_into.new.node.kind ≡ Leaf = c.in_ok-read_into.ensures.stands.1 ∙ c.kind_of_level.ensures ∙ ap kind_of_level c.if-height-eq1.true in
-    let place = c.in-Err.ensures.found c.in_ok-read_into.ensures.stands.0.ascends in
-    let m : Node = record { kind = c.read_into.new.node.kind; elements = c.insert.new.self; sons = c.read_into.new.node.sons } in
-    let may_be_overfull = leaf_may_be_overfull c.args.order c.read_into.new.node m c.in-Err.i c.args.element c.in_ok-read_into.ensures.stands.0 leaf place c.requires.element refl c.insert.ensures.items refl in
-    let size = ap length c.insert.ensures.items ∙ length-insert c.read_into.new.node.elements.items c.in-Err.i c.args.element place.within in
-    grow_leaf c.args.order (at c.args.pages.now.pages) c.args.edit.now.writes.items c.settle.new.edit.writes.items (candidate c.args.pages.now.pages) c.args.edit.now.taken c.settle.new.edit.taken least c.args.height (c.args.height - 1) c.args.n es us c.args.bounds.now
-    c.read_into.new.node m c.args.element.0 c.args.element.1 c.in-Err.i c.in_ok-settle-in-Err.field-0 (omega arith) (omega arith) c.requires.order.0 none (candidates_free c.args.pages.now.pages) (in_use c.args.order (at c.args.pages.now.pages) least c.args.height c.args.n es us tree) apart head place
-    may_be_overfull (omega (arith, size, head.least_is)) refl c.insert.ensures.items
-    (subst (λ (v : PagesView). WritesOrSplits c.args.order (candidate v.pages c.args.edit.now.taken) c.args.edit.now.writes.items c.settle.new.edit.writes.items c.args.edit.now.taken c.settle.new.edit.taken c.args.n m c.in_ok-settle-in-Err.field-0) c.read_into.ensures.unchanged c.in_ok-settle-in-Err.ensures.settles)
-
-pub returns-then-height-eq1-clause-goes_up : goal.returns-then-height-eq1-clause-goes_up
-returns-then-height-eq1-clause-goes_up g t c =
-    c.in_ok-settle-in-Err.ensures.goes_up c.args.bounds.now (subst (AreWithin c.args.bounds.now) (sym c.insert.ensures.items) (insert_within c.args.bounds.now c.read_into.new.node.elements.items c.in-Err.i c.args.element c.in_ok-read_into.ensures.within c.requires.within))
+    let k = c.args.order in
+    let spot = c.args.spot.now in
+    let s = c.in_ok-i.ensures.stepped in
+    let steps = subst (Steps spot.level s.node spot.bounds c.args.element.0) c.in-Ends.is s.steps in
+    let filled = c.fill_node-in-Ends.ensures.known s.node (still_known k c.args.pages.now c.take_step.new.pages spot.page c.args.in_place c.take_step.new.node s.node c.take_step.ensures.unchanged s.known) in
+    let leaf : s.node.kind ≡ Leaf = s.belongs.kind ∙ ap kind_of_level steps.0 in
+    let m : Node = record { kind = c.fill_node-in-Ends.new.node.kind; elements = c.insert.new.self; sons = c.fill_node-in-Ends.new.node.sons } in
+    let kind_is : m.kind ≡ s.node.kind = ap (λ (n : Node). n.kind) filled in
+    let els_is = c.insert.ensures.items ∙ ap (λ (n : Node). insert n.elements.items c.in-Ends.i c.args.element) filled in
+    let may_be_overfull = leaf_may_be_overfull k s.node m c.in-Ends.i c.args.element s.known.stands leaf steps.1 c.requires.element kind_is els_is (ap (λ (n : Node). n.sons.items) filled) in
+    may_be_overfull
 
 pub insert_below-requires : goal.insert_below-requires
 insert_below-requires g t c = λ κs sub.
-    let place = c.in-Err.ensures.found c.in_ok-read_into.ensures.stands.0.ascends in
-    let b_is = c.bounds_of_son-below.ensures ∙ ap (λ (els : List Element). son_bounds els c.in-Err.i c.args.bounds.now) c.as_slice-in-Err.ensures.value in
-    let inside = subst (λ b. IsWithin b c.args.element.0) (sym b_is) (place_within c.read_into.new.node.elements.items c.in-Err.i c.args.bounds.now c.args.element.0 c.requires.within place) in
-    let fits = subst (λ (v : PagesView). WritesFit v.pages c.args.edit.now.writes.items c.args.edit.now.taken) (sym c.read_into.ensures.unchanged) c.requires.fits in
-    (omega (arith, c.decreases), (sub, (c.requires.order, (omega arith, (omega (arith, c.push.ensures.len, c.requires.levels), (c.requires.element, (inside, (c.requires.taken, fits))))))))
+    let k = c.args.order in
+    let spot = c.args.spot.now in
+    let s = c.in_ok-i.ensures.stepped in
+    let steps = subst (Steps spot.level s.node spot.bounds c.args.element.0) c.in-Goes.is s.steps in
+    let inside = subst (λ b. IsWithin b c.args.element.0) (sym steps.3) (place_within s.node.elements.items c.in-Goes.i spot.bounds c.args.element.0 c.requires.within steps.1) in
+    let fits = subst (λ (v : PagesView). WritesFit v.pages c.args.edit.now.writes.items c.args.edit.now.taken) (sym c.take_step.ensures.unchanged) c.requires.fits in
+    (omega (arith, c.decreases, c.requires.level), (sub, (c.requires.order, (omega (arith, steps.0), (omega (arith, c.push.ensures.len, c.requires.levels, steps.0), (c.requires.element, (inside, (c.requires.taken, (fits, λ in_place. subst (AreSpeltIn k) (sym c.take_step.ensures.unchanged) (c.requires.spelt in_place))))))))))
 
-pub returns-in_err-done-in-Err-clause-grew : goal.returns-in_err-done-in-Err-clause-grew
-returns-in_err-done-in-Err-clause-grew g t c = λ steady none least es us tree between apart unvisited.
-    let p = err_from_is_err_and c.from_residual-in_err-done-in-Err.result c.from_residual-in_err-done-in-Err.ensures.1 in
-    let head = read_top c.args.order (at c.args.pages.now.pages) least c.args.height c.args.n es us c.args.bounds.now c.kind_of_level.result c.read_into.new.node c.requires.height c.kind_of_level.ensures (c.in_ok-read_into.ensures.exact steady) tree between in
-    let place = c.in-Err.ensures.found c.in_ok-read_into.ensures.stands.0.ascends in
-    let son = focus_of c.args.order (at c.args.pages.now.pages) (at c.args.pages.now.pages) (c.args.height - 1) c.read_into.new.node es head.below c.args.element.0 c.in-Err.i c.args.bounds.now (omega arith) head.body between place in
-    let us_is = head.us_is ∙ ap (λ vs. c.args.n ∷ vs) son.us_is in
-    let n_is : get_or c.read_into.new.node.sons.items c.in-Err.i 0 ≡ get_or c.deref.result.now c.in-Err.i 0 = ap (λ (xs : List ℕ). get_or xs c.in-Err.i 0) (sym c.deref.ensures.0) in
-    let tree2 = subst (λ (v : PagesView). TreeAt c.args.order (at v.pages) c.args.order (c.args.height - 1) (get_or c.deref.result.now c.in-Err.i 0) son.xs son.mine) (sym c.read_into.ensures.unchanged)
-    (subst (λ q. TreeAt c.args.order (at c.args.pages.now.pages) c.args.order (c.args.height - 1) q son.xs son.mine) n_is son.here) in
-    let b_is = c.bounds_of_son-below.ensures ∙ ap (λ (els : List Element). son_bounds els c.in-Err.i c.args.bounds.now) c.as_slice-in-Err.ensures.value in
-    let unvisited2 = subst (λ (visited : List ℕ). Unvisited visited son.mine) (sym c.push.ensures.items) (unvisited_below c.args.visited.now.items c.args.n us son.upre son.mine son.upost us_is apart unvisited) in
-    let call = c.in_err-done-in-Err.ensures.grew (ap (λ (v : PagesView). v.steady) c.read_into.ensures.unchanged ∙ steady) none c.args.order son.xs son.mine tree2 (subst (λ b. Between b son.xs) (sym b_is) son.between) (apart_below c.args.n us son.upre son.mine son.upost us_is apart) unvisited2 in
+pub returns-in_err-done-in-Goes-clause-grew : goal.returns-in_err-done-in-Goes-clause-grew
+returns-in_err-done-in-Goes-clause-grew g t c = λ steady none least es us tree between apart unvisited.
+    let k = c.args.order in
+    let spot = c.args.spot.now in
+    let s = c.in_ok-i.ensures.stepped in
+    let steps = subst (Steps spot.level s.node spot.bounds c.args.element.0) c.in-Goes.is s.steps in
+    let p = err_from_is_err_and c.from_residual-in_err-done-in-Goes.result c.from_residual-in_err-done-in-Goes.ensures.1 in
+    let head = taken_top k c.args.pages.now least spot es us c.args.element.0 c.args.in_place c.take_step.new.node c.in_ok-i.field-0 c.requires.order.1 c.requires.level steady s tree between in
+    let son = focus_of k (at c.args.pages.now.pages) (at c.args.pages.now.pages) (spot.level - 1) s.node es head.below c.args.element.0 c.in-Goes.i spot.bounds (omega (arith, steps.0)) head.body between steps.1 in
+    let us_is = head.us_is ∙ ap (λ vs. spot.page ∷ vs) son.us_is in
+    let tree2 = subst (λ (v : PagesView). TreeAt k (at v.pages) k (spot.level - 1) c.in-Goes.page son.xs son.mine) (sym c.take_step.ensures.unchanged)
+    (subst (λ q. TreeAt k (at c.args.pages.now.pages) k (spot.level - 1) q son.xs son.mine) (sym steps.2) son.here) in
+    let unvisited2 = subst (λ (visited : List ℕ). Unvisited visited son.mine) (sym c.push.ensures.items) (unvisited_below c.args.visited.now.items spot.page us son.upre son.mine son.upost us_is apart unvisited) in
+    let call = c.in_err-done-in-Goes.ensures.grew (ap (λ (v : PagesView). v.steady) c.take_step.ensures.unchanged ∙ steady) none k son.xs son.mine tree2 (subst (λ b. Between b son.xs) (sym steps.3) son.between) (apart_below spot.page us son.upre son.mine son.upost us_is apart) unvisited2 in
     rw (p.1, p.2) call
 
 pub settle-requires-in-Split-clause-may_be_overfull : goal.settle-requires-in-Split-clause-may_be_overfull
 settle-requires-in-Split-clause-may_be_overfull g t c =
-    let up = subst (SplitGoesUp c.bounds_of_son-below.result) c.in-Split.is c.in_ok-done-in-Err.ensures.goes_up in
-    let b_is = c.bounds_of_son-below.ensures ∙ ap (λ (els : List Element). son_bounds els c.in-Err.i c.args.bounds.now) c.as_slice-in-Err.ensures.value in
-    let inside = subst (λ b. IsWithin b c.in-Split.middle.0) b_is up.1 in
-    let among = within_place c.read_into.new.node.elements.items c.in-Err.i c.args.bounds.now c.in-Split.middle.0 c.in-Err.ensures.within c.in_ok-read_into.ensures.stands.0.ascends inside in
-    let inner : c.read_into.new.node.kind ≡ Inner = c.in_ok-read_into.ensures.stands.1 ∙ c.kind_of_level.ensures ∙ kind_above c.args.height c.if-height-eq1.false in
-    let next_is : c.in-Err.i + 1 ≡ suc c.in-Err.i = omega arith in
-    let m : Node = record { kind = c.read_into.new.node.kind; elements = c.insert-in-Split.new.self; sons = c.insert-in-Split-2.new.self } in
-    let sons_is = c.insert-in-Split-2.ensures.items ∙ ap (λ j. insert c.read_into.new.node.sons.items j c.in-Split.right) next_is in
-    let may_be_overfull = inner_may_be_overfull c.args.order c.read_into.new.node m c.in-Err.i c.in-Split.right c.in-Split.middle c.in_ok-read_into.ensures.stands.0 inner among up.0 up.2 refl c.insert-in-Split.ensures.items sons_is in
+    let k = c.args.order in
+    let spot = c.args.spot.now in
+    let s = c.in_ok-i.ensures.stepped in
+    let steps = subst (Steps spot.level s.node spot.bounds c.args.element.0) c.in-Goes.is s.steps in
+    let known = still_known k c.take_step.new.pages c.insert_below.new.pages spot.page c.args.in_place c.take_step.new.node s.node c.in_ok-done-in-Goes.ensures.unchanged
+    (still_known k c.args.pages.now c.take_step.new.pages spot.page c.args.in_place c.take_step.new.node s.node c.take_step.ensures.unchanged s.known) in
+    let filled = c.fill_node-in-Split.ensures.known s.node known in
+    let up = subst (SplitGoesUp c.in-Goes.bounds) c.in-Split.is c.in_ok-done-in-Goes.ensures.goes_up in
+    let inside = subst (λ b. IsWithin b c.in-Split.middle.0) steps.3 up.1 in
+    let among = within_place s.node.elements.items c.in-Goes.i spot.bounds c.in-Split.middle.0 steps.1.within s.known.stands.ascends inside in
+    let inner : s.node.kind ≡ Inner = s.belongs.kind ∙ kind_above spot.level (λ one. absurd (omega (arith, one, steps.0))) in
+    let next_is : c.in-Goes.i + 1 ≡ suc c.in-Goes.i = omega arith in
+    let m : Node = record { kind = c.fill_node-in-Split.new.node.kind; elements = c.insert-in-Split.new.self; sons = c.insert-in-Split-2.new.self } in
+    let kind_is : m.kind ≡ s.node.kind = ap (λ (n : Node). n.kind) filled in
+    let els_is = c.insert-in-Split.ensures.items ∙ ap (λ (n : Node). insert n.elements.items c.in-Goes.i c.in-Split.middle) filled in
+    let sons_is = c.insert-in-Split-2.ensures.items ∙ ap (λ j. insert c.fill_node-in-Split.new.node.sons.items j c.in-Split.right) next_is ∙ ap (λ (n : Node). insert n.sons.items (suc c.in-Goes.i) c.in-Split.right) filled in
+    let may_be_overfull = inner_may_be_overfull k s.node m c.in-Goes.i c.in-Split.right c.in-Split.middle s.known.stands inner among up.0 up.2 kind_is els_is sons_is in
     may_be_overfull
 
-pub returns-in_ok-write_node-in-Ok-clause-grew : goal.returns-in_ok-write_node-in-Ok-clause-grew
-returns-in_ok-write_node-in-Ok-clause-grew g t c = λ steady none least es us tree between apart unvisited.
-    let head = read_top c.args.order (at c.args.pages.now.pages) least c.args.height c.args.n es us c.args.bounds.now c.kind_of_level.result c.read_into.new.node c.requires.height c.kind_of_level.ensures (c.in_ok-read_into.ensures.exact steady) tree between in
-    let place = c.in-Ok.ensures.found c.in_ok-read_into.ensures.stands.0.ascends in
-    let x : Element = get_or c.read_into.new.node.elements.items c.in-Ok.i c.args.element in
-    let stands = set_stands c.args.order c.read_into.new.node c.replace-old.new.node c.in-Ok.i c.args.element c.in_ok-read_into.ensures.stands.0 place c.requires.element c.replace-old.ensures.kind c.replace-old.ensures.elements (ap (λ s. s.items) c.replace-old.ensures.sons) in
-    let size = ap length c.replace-old.ensures.elements ∙ length-set c.read_into.new.node.elements.items c.in-Ok.i c.args.element in
-    let grew = grow_replaced c.args.order (at c.args.pages.now.pages) c.args.edit.now.writes.items c.write_node.new.edit.writes.items (candidate c.args.pages.now.pages) c.args.edit.now.taken c.write_node.new.edit.taken least c.args.height (c.args.height - 1) c.args.n es us c.args.bounds.now
-    c.read_into.new.node c.replace-old.new.node c.args.element.0 c.args.element.1 c.in-Ok.i x (omega arith) none c.in_ok-write_node-in-Ok.ensures.taken (candidates_free c.args.pages.now.pages) (in_use c.args.order (at c.args.pages.now.pages) least c.args.height c.args.n es us tree) apart head between.ascends place
-    (get_or_default c.read_into.new.node.elements.items c.in-Ok.i c.args.element x place.within) stands (omega (arith, size, head.least_is)) c.replace-old.ensures.kind c.replace-old.ensures.elements (ap (λ s. s.items) c.replace-old.ensures.sons) c.in_ok-write_node-in-Ok.ensures.writes in
-    subst (λ (old : List ℕ). Grew c.args.order (at c.args.pages.now.pages) (overlay (at c.args.pages.now.pages) c.write_node.new.edit.writes.items) (candidate c.args.pages.now.pages) c.args.edit.now.taken c.write_node.new.edit.taken least c.args.height c.args.n es us c.args.element.0 c.args.element.1 (Replaced old)) (sym (c.replace-old.ensures.old c.args.element)) grew
+pub returns-in_ok-write_node-in-Found-clause-grew : goal.returns-in_ok-write_node-in-Found-clause-grew
+returns-in_ok-write_node-in-Found-clause-grew g t c = λ steady none least es us tree between apart unvisited.
+    let k = c.args.order in
+    let spot = c.args.spot.now in
+    let s = c.in_ok-i.ensures.stepped in
+    let steps = subst (Steps spot.level s.node spot.bounds c.args.element.0) c.in-Found.is s.steps in
+    let filled = c.fill_node.ensures.known s.node (still_known k c.args.pages.now c.take_step.new.pages spot.page c.args.in_place c.take_step.new.node s.node c.take_step.ensures.unchanged s.known) in
+    let head = taken_top k c.args.pages.now least spot es us c.args.element.0 c.args.in_place c.take_step.new.node c.in_ok-i.field-0 c.requires.order.1 c.requires.level steady s tree between in
+    let kind_is = c.replace-old.ensures.kind ∙ ap (λ (n : Node). n.kind) filled in
+    let els_is = c.replace-old.ensures.elements ∙ ap (λ (n : Node). set n.elements.items c.in-Found.i c.args.element) filled in
+    let sons_is = ap (λ s. s.items) c.replace-old.ensures.sons ∙ ap (λ (n : Node). n.sons.items) filled in
+    let stands = set_stands k s.node c.replace-old.new.node c.in-Found.i c.args.element s.known.stands steps.0 c.requires.element kind_is els_is sons_is in
+    let x : Element = get_or s.node.elements.items c.in-Found.i c.args.element in
+    let size = ap length els_is ∙ length-set s.node.elements.items c.in-Found.i c.args.element in
+    let grew = grow_replaced k (at c.args.pages.now.pages) c.args.edit.now.writes.items c.write_node.new.edit.writes.items (candidate c.args.pages.now.pages) c.args.edit.now.taken c.write_node.new.edit.taken least spot.level (spot.level - 1) spot.page es us spot.bounds
+    s.node c.replace-old.new.node c.args.element.0 c.args.element.1 c.in-Found.i x (omega (arith, c.requires.level)) none c.in_ok-write_node-in-Found.ensures.taken (candidates_free c.args.pages.now.pages) (in_use k (at c.args.pages.now.pages) least spot.level spot.page es us tree) apart head between.ascends steps.0
+    (get_or_default s.node.elements.items c.in-Found.i c.args.element x steps.0.within) stands (omega (arith, size, head.least_is)) kind_is els_is sons_is c.in_ok-write_node-in-Found.ensures.writes in
+    let old_is = c.replace-old.ensures.old c.args.element ∙ ap (λ (n : Node). (get_or n.elements.items c.in-Found.i c.args.element).1) filled in
+    subst (λ (old : List ℕ). Grew k (at c.args.pages.now.pages) (overlay (at c.args.pages.now.pages) c.write_node.new.edit.writes.items) (candidate c.args.pages.now.pages) c.args.edit.now.taken c.write_node.new.edit.taken least spot.level spot.page es us c.args.element.0 c.args.element.1 (Replaced old)) (sym old_is) grew
 
-pub returns-in_ok-write_node-in-Ok-clause-fits : goal.returns-in_ok-write_node-in-Ok-clause-fits
-returns-in_ok-write_node-in-Ok-clause-fits g t c =
-    wrote_fits c.args.pages.now.pages c.args.edit.now.writes.items c.write_node.new.edit.writes.items c.args.edit.now.taken c.write_node.new.edit.taken c.args.n (spelling c.replace-old.new.node c.args.order)
-    c.in_ok-write_node-in-Ok.ensures.writes c.in_ok-write_node-in-Ok.ensures.taken c.in_ok-read_into.ensures.in_use c.requires.fits
+pub returns-in_ok-write_node-in-Found-clause-fits : goal.returns-in_ok-write_node-in-Found-clause-fits
+returns-in_ok-write_node-in-Found-clause-fits g t c =
+    wrote_fits c.args.pages.now.pages c.args.edit.now.writes.items c.write_node.new.edit.writes.items c.args.edit.now.taken c.write_node.new.edit.taken c.args.spot.now.page (spelling c.replace-old.new.node c.args.order)
+    c.in_ok-write_node-in-Found.ensures.writes c.in_ok-write_node-in-Found.ensures.taken c.in_ok-i.ensures.in_use c.requires.fits
+
+pub returns-in_ok-settle-in-Ends-clause-grew : goal.returns-in_ok-settle-in-Ends-clause-grew
+returns-in_ok-settle-in-Ends-clause-grew g t c = λ steady none least es us tree between apart unvisited.
+    let k = c.args.order in
+    let spot = c.args.spot.now in
+    let s = c.in_ok-i.ensures.stepped in
+    let steps = subst (Steps spot.level s.node spot.bounds c.args.element.0) c.in-Ends.is s.steps in
+    let filled = c.fill_node-in-Ends.ensures.known s.node (still_known k c.args.pages.now c.take_step.new.pages spot.page c.args.in_place c.take_step.new.node s.node c.take_step.ensures.unchanged s.known) in
+    let head = taken_top k c.args.pages.now least spot es us c.args.element.0 c.args.in_place c.take_step.new.node c.in_ok-i.field-0 c.requires.order.1 c.requires.level steady s tree between in
+    let leaf : s.node.kind ≡ Leaf = s.belongs.kind ∙ ap kind_of_level steps.0 in
+    let m : Node = record { kind = c.fill_node-in-Ends.new.node.kind; elements = c.insert.new.self; sons = c.fill_node-in-Ends.new.node.sons } in
+    let kind_is : m.kind ≡ s.node.kind = ap (λ (n : Node). n.kind) filled in
+    let els_is = c.insert.ensures.items ∙ ap (λ (n : Node). insert n.elements.items c.in-Ends.i c.args.element) filled in
+    let may_be_overfull = leaf_may_be_overfull k s.node m c.in-Ends.i c.args.element s.known.stands leaf steps.1 c.requires.element kind_is els_is (ap (λ (n : Node). n.sons.items) filled) in
+    let size = ap length els_is ∙ length-insert s.node.elements.items c.in-Ends.i c.args.element steps.1.within in
+    grow_leaf k (at c.args.pages.now.pages) c.args.edit.now.writes.items c.settle.new.edit.writes.items (candidate c.args.pages.now.pages) c.args.edit.now.taken c.settle.new.edit.taken least spot.level (spot.level - 1) spot.page es us spot.bounds
+    s.node m c.args.element.0 c.args.element.1 c.in-Ends.i c.in_ok-settle-in-Ends.field-0 (omega (arith, c.requires.level)) (omega (arith, steps.0)) c.requires.order.0 none (candidates_free c.args.pages.now.pages) (in_use k (at c.args.pages.now.pages) least spot.level spot.page es us tree) apart head steps.1
+    may_be_overfull (omega (arith, size, head.least_is)) kind_is els_is
+    (subst (λ (v : PagesView). WritesOrSplits k (candidate v.pages c.args.edit.now.taken) c.args.edit.now.writes.items c.settle.new.edit.writes.items c.args.edit.now.taken c.settle.new.edit.taken spot.page m c.in_ok-settle-in-Ends.field-0) c.take_step.ensures.unchanged c.in_ok-settle-in-Ends.ensures.settles)
+
+pub returns-in_ok-settle-in-Ends-clause-goes_up : goal.returns-in_ok-settle-in-Ends-clause-goes_up
+returns-in_ok-settle-in-Ends-clause-goes_up g t c =
+    let k = c.args.order in
+    let spot = c.args.spot.now in
+    let s = c.in_ok-i.ensures.stepped in
+    let steps = subst (Steps spot.level s.node spot.bounds c.args.element.0) c.in-Ends.is s.steps in
+    let filled = c.fill_node-in-Ends.ensures.known s.node (still_known k c.args.pages.now c.take_step.new.pages spot.page c.args.in_place c.take_step.new.node s.node c.take_step.ensures.unchanged s.known) in
+    let els_is = c.insert.ensures.items ∙ ap (λ (n : Node). insert n.elements.items c.in-Ends.i c.args.element) filled in
+    c.in_ok-settle-in-Ends.ensures.goes_up spot.bounds (subst (AreWithin spot.bounds) (sym els_is) (insert_within spot.bounds s.node.elements.items c.in-Ends.i c.args.element s.belongs.within c.requires.within))
 
 pub returns-in_ok-settle-in-Split-clause-grew : goal.returns-in_ok-settle-in-Split-clause-grew
 returns-in_ok-settle-in-Split-clause-grew g t c = λ steady none least es us tree between apart unvisited.
-    let head = read_top c.args.order (at c.args.pages.now.pages) least c.args.height c.args.n es us c.args.bounds.now c.kind_of_level.result c.read_into.new.node c.requires.height c.kind_of_level.ensures (c.in_ok-read_into.ensures.exact steady) tree between in
-    let place = c.in-Err.ensures.found c.in_ok-read_into.ensures.stands.0.ascends in
-    let son = focus_of c.args.order (at c.args.pages.now.pages) (overlay (at c.args.pages.now.pages) c.insert_below.new.edit.writes.items) (c.args.height - 1) c.read_into.new.node es head.below c.args.element.0 c.in-Err.i c.args.bounds.now (omega arith) head.body between place in
-    let us_is = head.us_is ∙ ap (λ vs. c.args.n ∷ vs) son.us_is in
-    let n_is : get_or c.read_into.new.node.sons.items c.in-Err.i 0 ≡ get_or c.deref.result.now c.in-Err.i 0 = ap (λ (xs : List ℕ). get_or xs c.in-Err.i 0) (sym c.deref.ensures.0) in
-    let tree2 = subst (λ (v : PagesView). TreeAt c.args.order (at v.pages) c.args.order (c.args.height - 1) (get_or c.deref.result.now c.in-Err.i 0) son.xs son.mine) (sym c.read_into.ensures.unchanged)
-    (subst (λ q. TreeAt c.args.order (at c.args.pages.now.pages) c.args.order (c.args.height - 1) q son.xs son.mine) n_is son.here) in
-    let b_is = c.bounds_of_son-below.ensures ∙ ap (λ (els : List Element). son_bounds els c.in-Err.i c.args.bounds.now) c.as_slice-in-Err.ensures.value in
-    let unvisited2 = subst (λ (visited : List ℕ). Unvisited visited son.mine) (sym c.push.ensures.items) (unvisited_below c.args.visited.now.items c.args.n us son.upre son.mine son.upost us_is apart unvisited) in
-    let call = c.in_ok-done-in-Err.ensures.grew (ap (λ (v : PagesView). v.steady) c.read_into.ensures.unchanged ∙ steady) none c.args.order son.xs son.mine tree2 (subst (λ b. Between b son.xs) (sym b_is) son.between) (apart_below c.args.n us son.upre son.mine son.upost us_is apart) unvisited2 in
-    let grew = subst (λ q. Grew c.args.order (at c.args.pages.now.pages) (overlay (at c.args.pages.now.pages) c.insert_below.new.edit.writes.items) (candidate c.args.pages.now.pages) c.args.edit.now.taken c.insert_below.new.edit.taken c.args.order (c.args.height - 1) q son.xs son.mine c.args.element.0 c.args.element.1 c.in_ok-done-in-Err.done) (sym n_is)
-    (subst (λ (v : PagesView). Grew c.args.order (at v.pages) (overlay (at v.pages) c.insert_below.new.edit.writes.items) (candidate v.pages) c.args.edit.now.taken c.insert_below.new.edit.taken c.args.order (c.args.height - 1) (get_or c.deref.result.now c.in-Err.i 0) son.xs son.mine c.args.element.0 c.args.element.1 c.in_ok-done-in-Err.done) c.read_into.ensures.unchanged call) in
-    let up = subst (SplitGoesUp c.bounds_of_son-below.result) c.in-Split.is c.in_ok-done-in-Err.ensures.goes_up in
-    let inside = subst (λ b. IsWithin b c.in-Split.middle.0) b_is up.1 in
-    let among = within_place c.read_into.new.node.elements.items c.in-Err.i c.args.bounds.now c.in-Split.middle.0 c.in-Err.ensures.within c.in_ok-read_into.ensures.stands.0.ascends inside in
-    let inner : c.read_into.new.node.kind ≡ Inner = c.in_ok-read_into.ensures.stands.1 ∙ c.kind_of_level.ensures ∙ kind_above c.args.height c.if-height-eq1.false in
-    let next_is : c.in-Err.i + 1 ≡ suc c.in-Err.i = omega arith in
-    let m : Node = record { kind = c.read_into.new.node.kind; elements = c.insert-in-Split.new.self; sons = c.insert-in-Split-2.new.self } in
-    let sons_is = c.insert-in-Split-2.ensures.items ∙ ap (λ j. insert c.read_into.new.node.sons.items j c.in-Split.right) next_is in
-    let may_be_overfull = inner_may_be_overfull c.args.order c.read_into.new.node m c.in-Err.i c.in-Split.right c.in-Split.middle c.in_ok-read_into.ensures.stands.0 inner among up.0 up.2 refl c.insert-in-Split.ensures.items sons_is in
-    let size = ap length c.insert-in-Split.ensures.items ∙ length-insert c.read_into.new.node.elements.items c.in-Err.i c.in-Split.middle among.within in
-    let counted = subst (TakesNumbers (c.args.height - 1) c.args.edit.now.taken c.insert_below.new.edit.taken) c.in-Split.is c.in_ok-done-in-Err.ensures.takes in
-    grow_split c.args.order (at c.args.pages.now.pages) c.insert_below.new.edit.writes.items c.settle-in-Split.new.edit.writes.items (candidate c.args.pages.now.pages) c.args.edit.now.taken c.insert_below.new.edit.taken c.settle-in-Split.new.edit.taken least c.args.height (c.args.height - 1) c.args.n es us c.args.bounds.now
-    c.read_into.new.node m c.args.element.0 c.args.element.1 c.in-Err.i c.in-Split.middle c.in-Split.right c.in_ok-settle-in-Split.field-0 (omega arith) (omega arith) c.requires.order.0 counted.0 (candidates_free c.args.pages.now.pages) (in_use c.args.order (at c.args.pages.now.pages) least c.args.height c.args.n es us tree) apart head son
-    (subst (λ (r : Grown). Grew c.args.order (at c.args.pages.now.pages) (overlay (at c.args.pages.now.pages) c.insert_below.new.edit.writes.items) (candidate c.args.pages.now.pages) c.args.edit.now.taken c.insert_below.new.edit.taken c.args.order (c.args.height - 1) (get_or c.read_into.new.node.sons.items c.in-Err.i 0) son.xs son.mine c.args.element.0 c.args.element.1 r) c.in-Split.is grew)
-    may_be_overfull (omega (arith, size, head.least_is)) refl c.insert-in-Split.ensures.items sons_is
-    (subst (λ (ps : List (Option (List ℕ))). WritesOrSplits c.args.order (candidate ps c.insert_below.new.edit.taken) c.insert_below.new.edit.writes.items c.settle-in-Split.new.edit.writes.items c.insert_below.new.edit.taken c.settle-in-Split.new.edit.taken c.args.n m c.in_ok-settle-in-Split.field-0)
-    (ap (λ (v : PagesView). v.pages) c.in_ok-done-in-Err.ensures.unchanged ∙ ap (λ (v : PagesView). v.pages) c.read_into.ensures.unchanged) c.in_ok-settle-in-Split.ensures.settles)
+    let k = c.args.order in
+    let spot = c.args.spot.now in
+    let s = c.in_ok-i.ensures.stepped in
+    let steps = subst (Steps spot.level s.node spot.bounds c.args.element.0) c.in-Goes.is s.steps in
+    let known = still_known k c.take_step.new.pages c.insert_below.new.pages spot.page c.args.in_place c.take_step.new.node s.node c.in_ok-done-in-Goes.ensures.unchanged
+    (still_known k c.args.pages.now c.take_step.new.pages spot.page c.args.in_place c.take_step.new.node s.node c.take_step.ensures.unchanged s.known) in
+    let filled = c.fill_node-in-Split.ensures.known s.node known in
+    let head = taken_top k c.args.pages.now least spot es us c.args.element.0 c.args.in_place c.take_step.new.node c.in_ok-i.field-0 c.requires.order.1 c.requires.level steady s tree between in
+    let son = focus_of k (at c.args.pages.now.pages) (overlay (at c.args.pages.now.pages) c.insert_below.new.edit.writes.items) (spot.level - 1) s.node es head.below c.args.element.0 c.in-Goes.i spot.bounds (omega (arith, steps.0)) head.body between steps.1 in
+    let us_is = head.us_is ∙ ap (λ vs. spot.page ∷ vs) son.us_is in
+    let tree2 = subst (λ (v : PagesView). TreeAt k (at v.pages) k (spot.level - 1) c.in-Goes.page son.xs son.mine) (sym c.take_step.ensures.unchanged)
+    (subst (λ q. TreeAt k (at c.args.pages.now.pages) k (spot.level - 1) q son.xs son.mine) (sym steps.2) son.here) in
+    let unvisited2 = subst (λ (visited : List ℕ). Unvisited visited son.mine) (sym c.push.ensures.items) (unvisited_below c.args.visited.now.items spot.page us son.upre son.mine son.upost us_is apart unvisited) in
+    let call = c.in_ok-done-in-Goes.ensures.grew (ap (λ (v : PagesView). v.steady) c.take_step.ensures.unchanged ∙ steady) none k son.xs son.mine tree2 (subst (λ b. Between b son.xs) (sym steps.3) son.between) (apart_below spot.page us son.upre son.mine son.upost us_is apart) unvisited2 in
+    let grew = subst (λ q. Grew k (at c.args.pages.now.pages) (overlay (at c.args.pages.now.pages) c.insert_below.new.edit.writes.items) (candidate c.args.pages.now.pages) c.args.edit.now.taken c.insert_below.new.edit.taken k (spot.level - 1) q son.xs son.mine c.args.element.0 c.args.element.1 c.in_ok-done-in-Goes.done) steps.2
+    (subst (λ (v : PagesView). Grew k (at v.pages) (overlay (at v.pages) c.insert_below.new.edit.writes.items) (candidate v.pages) c.args.edit.now.taken c.insert_below.new.edit.taken k (spot.level - 1) c.in-Goes.page son.xs son.mine c.args.element.0 c.args.element.1 c.in_ok-done-in-Goes.done) c.take_step.ensures.unchanged call) in
+    let up = subst (SplitGoesUp c.in-Goes.bounds) c.in-Split.is c.in_ok-done-in-Goes.ensures.goes_up in
+    let inside = subst (λ b. IsWithin b c.in-Split.middle.0) steps.3 up.1 in
+    let among = within_place s.node.elements.items c.in-Goes.i spot.bounds c.in-Split.middle.0 steps.1.within s.known.stands.ascends inside in
+    let inner : s.node.kind ≡ Inner = s.belongs.kind ∙ kind_above spot.level (λ one. absurd (omega (arith, one, steps.0))) in
+    let next_is : c.in-Goes.i + 1 ≡ suc c.in-Goes.i = omega arith in
+    let m : Node = record { kind = c.fill_node-in-Split.new.node.kind; elements = c.insert-in-Split.new.self; sons = c.insert-in-Split-2.new.self } in
+    let kind_is : m.kind ≡ s.node.kind = ap (λ (n : Node). n.kind) filled in
+    let els_is = c.insert-in-Split.ensures.items ∙ ap (λ (n : Node). insert n.elements.items c.in-Goes.i c.in-Split.middle) filled in
+    let sons_is = c.insert-in-Split-2.ensures.items ∙ ap (λ j. insert c.fill_node-in-Split.new.node.sons.items j c.in-Split.right) next_is ∙ ap (λ (n : Node). insert n.sons.items (suc c.in-Goes.i) c.in-Split.right) filled in
+    let may_be_overfull = inner_may_be_overfull k s.node m c.in-Goes.i c.in-Split.right c.in-Split.middle s.known.stands inner among up.0 up.2 kind_is els_is sons_is in
+    let size = ap length els_is ∙ length-insert s.node.elements.items c.in-Goes.i c.in-Split.middle among.within in
+    let counted = subst (TakesNumbers (spot.level - 1) c.args.edit.now.taken c.insert_below.new.edit.taken) c.in-Split.is c.in_ok-done-in-Goes.ensures.takes in
+    grow_split k (at c.args.pages.now.pages) c.insert_below.new.edit.writes.items c.settle-in-Split.new.edit.writes.items (candidate c.args.pages.now.pages) c.args.edit.now.taken c.insert_below.new.edit.taken c.settle-in-Split.new.edit.taken least spot.level (spot.level - 1) spot.page es us spot.bounds
+    s.node m c.args.element.0 c.args.element.1 c.in-Goes.i c.in-Split.middle c.in-Split.right c.in_ok-settle-in-Split.field-0 (omega (arith, c.requires.level)) (omega (arith, steps.0)) c.requires.order.0 counted.0 (candidates_free c.args.pages.now.pages) (in_use k (at c.args.pages.now.pages) least spot.level spot.page es us tree) apart head son
+    (subst (λ (r : Grown). Grew k (at c.args.pages.now.pages) (overlay (at c.args.pages.now.pages) c.insert_below.new.edit.writes.items) (candidate c.args.pages.now.pages) c.args.edit.now.taken c.insert_below.new.edit.taken k (spot.level - 1) (get_or s.node.sons.items c.in-Goes.i 0) son.xs son.mine c.args.element.0 c.args.element.1 r) c.in-Split.is grew)
+    may_be_overfull (omega (arith, size, head.least_is)) kind_is els_is sons_is
+    (subst (λ (ps : List (Option (List ℕ))). WritesOrSplits k (candidate ps c.insert_below.new.edit.taken) c.insert_below.new.edit.writes.items c.settle-in-Split.new.edit.writes.items c.insert_below.new.edit.taken c.settle-in-Split.new.edit.taken spot.page m c.in_ok-settle-in-Split.field-0)
+    (ap (λ (v : PagesView). v.pages) c.in_ok-done-in-Goes.ensures.unchanged ∙ ap (λ (v : PagesView). v.pages) c.take_step.ensures.unchanged) c.in_ok-settle-in-Split.ensures.settles)
 
 pub returns-in_ok-settle-in-Split-clause-goes_up : goal.returns-in_ok-settle-in-Split-clause-goes_up
 returns-in_ok-settle-in-Split-clause-goes_up g t c =
-    let up = subst (SplitGoesUp c.bounds_of_son-below.result) c.in-Split.is c.in_ok-done-in-Err.ensures.goes_up in
-    let b_is = c.bounds_of_son-below.ensures ∙ ap (λ (els : List Element). son_bounds els c.in-Err.i c.args.bounds.now) c.as_slice-in-Err.ensures.value in
-    let inside = subst (λ b. IsWithin b c.in-Split.middle.0) b_is up.1 in
-    let among = within_place c.read_into.new.node.elements.items c.in-Err.i c.args.bounds.now c.in-Split.middle.0 c.in-Err.ensures.within c.in_ok-read_into.ensures.stands.0.ascends inside in
-    let inner : c.read_into.new.node.kind ≡ Inner = c.in_ok-read_into.ensures.stands.1 ∙ c.kind_of_level.ensures ∙ kind_above c.args.height c.if-height-eq1.false in
-    let next_is : c.in-Err.i + 1 ≡ suc c.in-Err.i = omega arith in
-    let m : Node = record { kind = c.read_into.new.node.kind; elements = c.insert-in-Split.new.self; sons = c.insert-in-Split-2.new.self } in
-    let sons_is = c.insert-in-Split-2.ensures.items ∙ ap (λ j. insert c.read_into.new.node.sons.items j c.in-Split.right) next_is in
-    let may_be_overfull = inner_may_be_overfull c.args.order c.read_into.new.node m c.in-Err.i c.in-Split.right c.in-Split.middle c.in_ok-read_into.ensures.stands.0 inner among up.0 up.2 refl c.insert-in-Split.ensures.items sons_is in
-    c.in_ok-settle-in-Split.ensures.goes_up c.args.bounds.now (subst (AreWithin c.args.bounds.now) (sym c.insert-in-Split.ensures.items)
-    (insert_within c.args.bounds.now c.read_into.new.node.elements.items c.in-Err.i c.in-Split.middle c.in_ok-read_into.ensures.within (son_within c.read_into.new.node.elements.items c.in-Err.i c.args.bounds.now c.in-Split.middle.0 c.in_ok-read_into.ensures.stands.0.ascends c.in_ok-read_into.ensures.within inside)))
+    let k = c.args.order in
+    let spot = c.args.spot.now in
+    let s = c.in_ok-i.ensures.stepped in
+    let steps = subst (Steps spot.level s.node spot.bounds c.args.element.0) c.in-Goes.is s.steps in
+    let known = still_known k c.take_step.new.pages c.insert_below.new.pages spot.page c.args.in_place c.take_step.new.node s.node c.in_ok-done-in-Goes.ensures.unchanged
+    (still_known k c.args.pages.now c.take_step.new.pages spot.page c.args.in_place c.take_step.new.node s.node c.take_step.ensures.unchanged s.known) in
+    let filled = c.fill_node-in-Split.ensures.known s.node known in
+    let up = subst (SplitGoesUp c.in-Goes.bounds) c.in-Split.is c.in_ok-done-in-Goes.ensures.goes_up in
+    let inside = subst (λ b. IsWithin b c.in-Split.middle.0) steps.3 up.1 in
+    let among = within_place s.node.elements.items c.in-Goes.i spot.bounds c.in-Split.middle.0 steps.1.within s.known.stands.ascends inside in
+    let inner : s.node.kind ≡ Inner = s.belongs.kind ∙ kind_above spot.level (λ one. absurd (omega (arith, one, steps.0))) in
+    let next_is : c.in-Goes.i + 1 ≡ suc c.in-Goes.i = omega arith in
+    let m : Node = record { kind = c.fill_node-in-Split.new.node.kind; elements = c.insert-in-Split.new.self; sons = c.insert-in-Split-2.new.self } in
+    let kind_is : m.kind ≡ s.node.kind = ap (λ (n : Node). n.kind) filled in
+    let els_is = c.insert-in-Split.ensures.items ∙ ap (λ (n : Node). insert n.elements.items c.in-Goes.i c.in-Split.middle) filled in
+    let sons_is = c.insert-in-Split-2.ensures.items ∙ ap (λ j. insert c.fill_node-in-Split.new.node.sons.items j c.in-Split.right) next_is ∙ ap (λ (n : Node). insert n.sons.items (suc c.in-Goes.i) c.in-Split.right) filled in
+    let may_be_overfull = inner_may_be_overfull k s.node m c.in-Goes.i c.in-Split.right c.in-Split.middle s.known.stands inner among up.0 up.2 kind_is els_is sons_is in
+    c.in_ok-settle-in-Split.ensures.goes_up spot.bounds (subst (AreWithin spot.bounds) (sym els_is)
+    (insert_within spot.bounds s.node.elements.items c.in-Goes.i c.in-Split.middle s.belongs.within (son_within s.node.elements.items c.in-Goes.i spot.bounds c.in-Split.middle.0 s.known.stands.ascends s.belongs.within inside)))
 
 pub returns-in_default : goal.returns-in_default
 returns-in_default g t c = record {
   grew = λ steady none least es us tree between apart unvisited.
-      let head = read_top c.args.order (at c.args.pages.now.pages) least c.args.height c.args.n es us c.args.bounds.now c.kind_of_level.result c.read_into.new.node c.requires.height c.kind_of_level.ensures (c.in_ok-read_into.ensures.exact steady) tree between in
-      let place = c.in-Err.ensures.found c.in_ok-read_into.ensures.stands.0.ascends in
-      let son = focus_of c.args.order (at c.args.pages.now.pages) (overlay (at c.args.pages.now.pages) c.insert_below.new.edit.writes.items) (c.args.height - 1) c.read_into.new.node es head.below c.args.element.0 c.in-Err.i c.args.bounds.now (omega arith) head.body between place in
-      let us_is = head.us_is ∙ ap (λ vs. c.args.n ∷ vs) son.us_is in
-      let n_is : get_or c.read_into.new.node.sons.items c.in-Err.i 0 ≡ get_or c.deref.result.now c.in-Err.i 0 = ap (λ (xs : List ℕ). get_or xs c.in-Err.i 0) (sym c.deref.ensures.0) in
-      let tree2 = subst (λ (v : PagesView). TreeAt c.args.order (at v.pages) c.args.order (c.args.height - 1) (get_or c.deref.result.now c.in-Err.i 0) son.xs son.mine) (sym c.read_into.ensures.unchanged)
-      (subst (λ q. TreeAt c.args.order (at c.args.pages.now.pages) c.args.order (c.args.height - 1) q son.xs son.mine) n_is son.here) in
-      let b_is = c.bounds_of_son-below.ensures ∙ ap (λ (els : List Element). son_bounds els c.in-Err.i c.args.bounds.now) c.as_slice-in-Err.ensures.value in
-      let unvisited2 = subst (λ (visited : List ℕ). Unvisited visited son.mine) (sym c.push.ensures.items) (unvisited_below c.args.visited.now.items c.args.n us son.upre son.mine son.upost us_is apart unvisited) in
-      let call = c.in_ok-done-in-Err.ensures.grew (ap (λ (v : PagesView). v.steady) c.read_into.ensures.unchanged ∙ steady) none c.args.order son.xs son.mine tree2 (subst (λ b. Between b son.xs) (sym b_is) son.between) (apart_below c.args.n us son.upre son.mine son.upost us_is apart) unvisited2 in
-      let grew = subst (λ q. Grew c.args.order (at c.args.pages.now.pages) (overlay (at c.args.pages.now.pages) c.insert_below.new.edit.writes.items) (candidate c.args.pages.now.pages) c.args.edit.now.taken c.insert_below.new.edit.taken c.args.order (c.args.height - 1) q son.xs son.mine c.args.element.0 c.args.element.1 c.in_ok-done-in-Err.done) (sym n_is)
-      (subst (λ (v : PagesView). Grew c.args.order (at v.pages) (overlay (at v.pages) c.insert_below.new.edit.writes.items) (candidate v.pages) c.args.edit.now.taken c.insert_below.new.edit.taken c.args.order (c.args.height - 1) (get_or c.deref.result.now c.in-Err.i 0) son.xs son.mine c.args.element.0 c.args.element.1 c.in_ok-done-in-Err.done) c.read_into.ensures.unchanged call) in
-      grow_stays c.args.order (at c.args.pages.now.pages) (overlay (at c.args.pages.now.pages) c.insert_below.new.edit.writes.items) (candidate c.args.pages.now.pages) c.args.edit.now.taken c.insert_below.new.edit.taken least c.args.height (c.args.height - 1) c.args.n es us c.args.bounds.now c.read_into.new.node c.args.element.0 c.args.element.1 c.in-Err.i c.in_ok-done-in-Err.done
-      (omega arith) (omega arith) (candidates_free c.args.pages.now.pages) (in_use c.args.order (at c.args.pages.now.pages) least c.args.height c.args.n es us tree) apart head son c.in_default.not-Split grew;
-  fits = subst (λ (v : PagesView). WritesFit v.pages c.insert_below.new.edit.writes.items c.insert_below.new.edit.taken) c.read_into.ensures.unchanged c.in_ok-done-in-Err.ensures.fits;
-  takes = subst (λ (h : ℕ). TakesNumbers h c.args.edit.now.taken c.insert_below.new.edit.taken c.in_ok-done-in-Err.done) (omega arith) (takes_more (c.args.height - 1) c.args.edit.now.taken c.insert_below.new.edit.taken c.in_ok-done-in-Err.done c.in_ok-done-in-Err.ensures.takes);
-  goes_up = stays_within c.bounds_of_son-below.result c.args.bounds.now c.in_ok-done-in-Err.done c.in_default.not-Split c.in_ok-done-in-Err.ensures.goes_up;
-  spelt = c.in_ok-done-in-Err.ensures.spelt;
-  freed = c.in_ok-done-in-Err.ensures.freed;
-  visited = c.in_ok-done-in-Err.ensures.visited;
-  in_use = c.in_ok-read_into.ensures.in_use;
-  some_page = c.in_ok-read_into.ensures.some_page;
+      let k = c.args.order in
+      let spot = c.args.spot.now in
+      let s = c.in_ok-i.ensures.stepped in
+      let steps = subst (Steps spot.level s.node spot.bounds c.args.element.0) c.in-Goes.is s.steps in
+      let head = taken_top k c.args.pages.now least spot es us c.args.element.0 c.args.in_place c.take_step.new.node c.in_ok-i.field-0 c.requires.order.1 c.requires.level steady s tree between in
+      let son = focus_of k (at c.args.pages.now.pages) (overlay (at c.args.pages.now.pages) c.insert_below.new.edit.writes.items) (spot.level - 1) s.node es head.below c.args.element.0 c.in-Goes.i spot.bounds (omega (arith, steps.0)) head.body between steps.1 in
+      let us_is = head.us_is ∙ ap (λ vs. spot.page ∷ vs) son.us_is in
+      let tree2 = subst (λ (v : PagesView). TreeAt k (at v.pages) k (spot.level - 1) c.in-Goes.page son.xs son.mine) (sym c.take_step.ensures.unchanged)
+      (subst (λ q. TreeAt k (at c.args.pages.now.pages) k (spot.level - 1) q son.xs son.mine) (sym steps.2) son.here) in
+      let unvisited2 = subst (λ (visited : List ℕ). Unvisited visited son.mine) (sym c.push.ensures.items) (unvisited_below c.args.visited.now.items spot.page us son.upre son.mine son.upost us_is apart unvisited) in
+      let call = c.in_ok-done-in-Goes.ensures.grew (ap (λ (v : PagesView). v.steady) c.take_step.ensures.unchanged ∙ steady) none k son.xs son.mine tree2 (subst (λ b. Between b son.xs) (sym steps.3) son.between) (apart_below spot.page us son.upre son.mine son.upost us_is apart) unvisited2 in
+      let grew = subst (λ q. Grew k (at c.args.pages.now.pages) (overlay (at c.args.pages.now.pages) c.insert_below.new.edit.writes.items) (candidate c.args.pages.now.pages) c.args.edit.now.taken c.insert_below.new.edit.taken k (spot.level - 1) q son.xs son.mine c.args.element.0 c.args.element.1 c.in_ok-done-in-Goes.done) steps.2
+      (subst (λ (v : PagesView). Grew k (at v.pages) (overlay (at v.pages) c.insert_below.new.edit.writes.items) (candidate v.pages) c.args.edit.now.taken c.insert_below.new.edit.taken k (spot.level - 1) c.in-Goes.page son.xs son.mine c.args.element.0 c.args.element.1 c.in_ok-done-in-Goes.done) c.take_step.ensures.unchanged call) in
+      grow_stays k (at c.args.pages.now.pages) (overlay (at c.args.pages.now.pages) c.insert_below.new.edit.writes.items) (candidate c.args.pages.now.pages) c.args.edit.now.taken c.insert_below.new.edit.taken least spot.level (spot.level - 1) spot.page es us spot.bounds s.node c.args.element.0 c.args.element.1 c.in-Goes.i c.in_ok-done-in-Goes.done
+      (omega (arith, c.requires.level)) (omega (arith, steps.0)) (candidates_free c.args.pages.now.pages) (in_use k (at c.args.pages.now.pages) least spot.level spot.page es us tree) apart head son c.in_default.not-Split grew;
+  fits = subst (λ (v : PagesView). WritesFit v.pages c.insert_below.new.edit.writes.items c.insert_below.new.edit.taken) c.take_step.ensures.unchanged c.in_ok-done-in-Goes.ensures.fits;
+  takes = subst (λ (h : ℕ). TakesNumbers h c.args.edit.now.taken c.insert_below.new.edit.taken c.in_ok-done-in-Goes.done) (omega (arith, c.requires.level)) (takes_more (c.args.spot.now.level - 1) c.args.edit.now.taken c.insert_below.new.edit.taken c.in_ok-done-in-Goes.done c.in_ok-done-in-Goes.ensures.takes);
+  goes_up = stays_within c.in-Goes.bounds c.args.spot.now.bounds c.in_ok-done-in-Goes.done c.in_default.not-Split c.in_ok-done-in-Goes.ensures.goes_up;
+  spelt = c.in_ok-done-in-Goes.ensures.spelt;
+  freed = c.in_ok-done-in-Goes.ensures.freed;
+  visited = c.in_ok-done-in-Goes.ensures.visited;
+  in_use = c.in_ok-i.ensures.in_use;
+  some_page = c.in_ok-i.ensures.some_page;
   device = search rules;
   unchanged = search rules;
-  reads = omega (arith, c.in_ok-done-in-Err.ensures.reads, c.read_into.ensures.one_read);
+  reads = omega (arith, c.in_ok-done-in-Goes.ensures.reads, c.take_step.ensures.one_read, c.requires.level);
 }

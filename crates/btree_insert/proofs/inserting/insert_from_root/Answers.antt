@@ -8,7 +8,7 @@ use Rattle.btree_insert.specs.Inserted.{Inserted}
 use Rattle.btree_insert.proofs.InsertionLemmas.{inserted_at, can_stage, after_writes}
 use Rattle.btree_insert.proofs.SpeltLemmas.{spelt_staged, spelt_unchanged}
 use Rattle.btree_node.specs.Spelling.{AreSpelt}
-use Rattle.btree_insert.proofs.inserting.insert.Goals as goal
+use Rattle.btree_insert.proofs.inserting.insert_from_root.Goals as goal
 
 pub stage-requires : goal.stage-requires
 stage-requires g c =
