@@ -10,7 +10,7 @@ ghost use Rattle.btree_delete.specs.TableAnswers.{IsSet, MayRefuse};
 
 use crate::deleting::delete;
 use crate::fault_counts::told;
-use btree_insert::{Tree, insert, look_up};
+use btree_insert::{Tree, insert_in_place, look_up};
 use page_store::{Pages, Store};
 use rec_types::{Key, Record, TableFault};
 use std::alloc::Global;
@@ -91,7 +91,7 @@ fn put<S: Store>(
 {
     let _count = pages.page_count();
     match is_full_for(pages, tree, limit, &key) {
-        Ok(false) => told(insert(alloc, pages, tree, key, value)),
+        Ok(false) => told(insert_in_place(alloc, pages, tree, key, value)),
         Ok(true) => Err(TableFault::NoRoom),
         Err(fault) => Err(fault),
     }

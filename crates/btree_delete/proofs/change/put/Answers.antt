@@ -13,7 +13,7 @@ pub returns-in-Ok-false-clause-set : goal.returns-in-Ok-false-clause-set
 returns-in-Ok-false-clause-set g c = λ steady es us fills few.
     let T = c.args.tree.now in
     let P = c.is_full_for.new.pages.pages in
-    let Q = c.insert.new.pages.pages in
+    let Q = c.insert_in_place.new.pages.pages in
     let same = c.is_full_for.ensures.unchanged in
     let pages_is = ap (λ (v : PagesView). v.pages) same in
     let long = ap length pages_is in
@@ -24,5 +24,5 @@ returns-in-Ok-false-clause-set g c = λ steady es us fills few.
     omega (arith, low) in
     let count = c.page_count-count.ensures in
     subst (λ (r : Result (Tree × Option (List ℕ)) TableFault). MatchResult r (λ x. IsSet Q x.0 c.args.limit es c.args.key (Some c.args.value) x.1) (MayRefuse c.args.limit T.count es c.args.key (Some c.args.value))) (sym c.told.ensures)
-    (put_answer P Q T es us c.args.key c.args.value c.args.limit c.insert.result c.requires.some_order (omega (arith, long, count.value, count.some)) (omega (arith, long, count.value, count.most)) (ap (λ (ps : List (Option (List ℕ))). at ps 0) pages_is ∙ count.header) c.requires.limit
-    there few room (c.insert.ensures.inserted (ap (λ (v : PagesView). v.steady) same ∙ steady) es us there.holds))
+    (put_answer P Q T es us c.args.key c.args.value c.args.limit c.insert_in_place.result c.requires.some_order (omega (arith, long, count.value, count.some)) (omega (arith, long, count.value, count.most)) (ap (λ (ps : List (Option (List ℕ))). at ps 0) pages_is ∙ count.header) c.requires.limit
+    there few room (c.insert_in_place.ensures.inserted (ap (λ (v : PagesView). v.steady) same ∙ steady) es us there.holds))
