@@ -23,17 +23,17 @@ use Rattle.std.proofs.alloc.Calls.{Al, handle_tells}
 use Rattle.std.proofs.cell.Inside.{Good}
 use Rattle.std.specs.Box.Ownership.{box_owns}
 use Rattle.std.proofs.ResultValues.{and_tt}
-use Rattle.recfile_c.specs.contracts.loose.Loose as loose
+use Rattle.recfile_c.specs.contracts.handle.Loose as loose
 use Rattle.std.specs.Prelude.{Option, Some, None, IsSome}
 use Rattle.std.specs.contracts.alloc.Global as heap
 use Rattle.std.specs.contracts.impls.GlobalAllocator.TheImpl.{ghosts}
 use Rattle.recfile_c.specs.Slots.{slot_owns}
 use Rattle.recfile_c.specs.declared.held.Held.{Held as HeldFile}
 use Rattle.recfile_c.specs.contracts.held.Held as held
-use Rattle.recfile_c.specs.contracts.slot.Slot as slot
+use Rattle.recfile_c.specs.contracts.handle.Slot as slot
 use Rattle.recfile_c.specs.Roots.{root_owns}
 use Rattle.recfile_c.specs.contracts.handle.RecFile as handle
-use Rattle.recfile_c.specs.contracts.root.Root as root
+use Rattle.recfile_c.specs.contracts.handle.root.Root as root
 
 -- both of two machine values hold
 abbrev pub both : Val → Val → Val

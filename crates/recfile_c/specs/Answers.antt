@@ -4,7 +4,7 @@ use Rattle.rec_types.specs.declared.transaction.TxId.{TxId}
 use Rattle.record_file.specs.declared.fault.StatusFault.{StatusFault}
 use Rattle.record_file.specs.declared.fault.Status.{Status}
 use Rattle.recfile_c.specs.declared.shown.TxStatus.{TxStatus}
-use Rattle.recfile_c.specs.Shown.{status_shown}
+use Rattle.recfile_c.specs.Shown.{status_shown, no_status}
 
 abbrev pub found_in : {E : Type 0} → Result (Option (List ℕ)) E → Option (List ℕ)
 found_in (Ok found) = found
@@ -24,4 +24,4 @@ tx_in (Err fault) = 0
 
 abbrev pub TellsStatus : Result Status StatusFault → TxStatus → Type 0
 TellsStatus (Ok status) told = status_shown told ≡ status
-TellsStatus (Err fault) told = Unit {0}
+TellsStatus (Err fault) told = told ≡ no_status

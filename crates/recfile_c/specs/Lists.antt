@@ -9,7 +9,7 @@ use Rattle.recfile_c.specs.declared.held.Session.{Session}
 use Rattle.recfile_c.specs.declared.outcome.Outcome.{Outcome}
 use Rattle.recfile_c.specs.declared.shown.ListedEntry.{ListedEntry}
 use Rattle.recfile_c.specs.FileTables.{contents_of, is_sound}
-use Rattle.recfile_c.specs.Shown.{Shows}
+use Rattle.recfile_c.specs.Shown.{Shows, IsNoEntry}
 use Rattle.recfile_c.specs.Outcomes.{entries_outcome, keys_of_outcome, ok, no_such_entry}
 use Rattle.recfile_c.specs.Calls.{Sure, failed}
 
@@ -36,7 +36,7 @@ ListsKeys t status n old new =
 -- the i-th entry of the list, from 0, where there is one
 abbrev pub ShowsAt : Option Entry → ℤ → ListedEntry → Type 0
 ShowsAt (Some e) status told = (status ≡ pos ok) × Shows told e
-ShowsAt None status told = status ≡ pos no_such_entry
+ShowsAt None status told = (status ≡ pos no_such_entry) × IsNoEntry told
 
 abbrev pub EntryAt : ℕ → ℤ → ListedEntry → Session → Session → Type 0
 EntryAt i status told old new = ShowsAt (slice_get old.entries.items i) status told × (new ≡ old)

@@ -19,7 +19,7 @@ use Rattle.recfile_c.specs.declared.held.Held.TheVariants.{Image, Open, Unclosed
 use Rattle.recfile_c.specs.declared.outcome.Outcome.{Outcome}
 use Rattle.page_store.specs.declared.step.Step.{Step}
 use Rattle.recfile_c.specs.declared.shown.StepShown.{StepShown}
-use Rattle.recfile_c.specs.Shown.{step_shown}
+use Rattle.recfile_c.specs.Shown.{step_shown, page_left, no_step}
 use Rattle.recfile_c.specs.Steps.{JournalView, pages_of, journal_of}
 use Rattle.recfile_c.specs.Outcomes.{just, ok, closed, memory, not_closed, no_such_entry, bad_length, limits_outcome, open_outcome, create_outcome, still_open_by}
 use Rattle.recfile_c.specs.Calls.{FileState}
@@ -166,11 +166,11 @@ abbrev pub CountsSteps : ℤ → ℕ → Held → Held → Type 0
 CountsSteps status n (Closed j) new = (status ≡ pos ok) × (n ≡ length j.steps) × (new ≡ Closed j)
 CountsSteps status n held new = (status ≡ pos not_closed) × (n ≡ 0) × (new ≡ held)
 
-abbrev pub ShowsStep : Option Step → ℤ → StepShown → List ℕ → Type 0
-ShowsStep (Some s) status told page = (status ≡ pos ok) × (step_shown told page ≡ s)
-ShowsStep None status told page = status ≡ pos no_such_entry
+abbrev pub ShowsStep : Option Step → ℤ → StepShown → List ℕ → List ℕ → Type 0
+ShowsStep (Some s) status told before page = (status ≡ pos ok) × (step_shown told page ≡ s) × (page ≡ page_left s before)
+ShowsStep None status told before page = (status ≡ pos no_such_entry) × (told ≡ no_step) × (page ≡ before)
 
--- the i-th step, from 0, where there is one
-abbrev pub StepAt : ℕ → ℤ → StepShown → List ℕ → Held → Held → Type 0
-StepAt i status told page (Closed j) new = ShowsStep (slice_get j.steps i) status told page × (new ≡ Closed j)
-StepAt i status told page held new = (status ≡ pos not_closed) × (new ≡ held)
+-- the i-th step, from 0, and its page where it writes one; else the page stays
+abbrev pub StepAt : ℕ → ℤ → StepShown → List ℕ → List ℕ → Held → Held → Type 0
+StepAt i status told before page (Closed j) new = ShowsStep (slice_get j.steps i) status told before page × (new ≡ Closed j)
+StepAt i status told before page held new = (status ≡ pos not_closed) × (told ≡ no_step) × (page ≡ before) × (new ≡ held)

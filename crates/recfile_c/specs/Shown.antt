@@ -1,5 +1,5 @@
 -- What the structs that a caller reads stand for.
-use Rattle.std.specs.Prelude.{◌≡◌, ℕ, ◌==◌, not, List, take, Option, Some, None, if◌then◌else◌}
+use Rattle.std.specs.Prelude.{◌≡◌, ℕ, ◌==◌, not, List, [], take, Option, Some, None, if◌then◌else◌}
 use Rattle.rec_types.specs.declared.transaction.TxId.{TxId}
 use Rattle.rec_types.specs.declared.transaction.Entry.{Entry}
 use Rattle.tx_log.specs.declared.log_record.LogRecord.{LogRecord}
@@ -36,12 +36,30 @@ log_shown e =
 abbrev pub status_shown : TxStatus → Status
 status_shown s = if s.is_rolling == 0 then Active s.saves s.live else Rolling s.left (not (s.ends == 0))
 
+-- where there is none
+abbrev pub no_status : TxStatus
+no_status = record { is_rolling = 0; ends = 0; saves = 0; live = 0; left = 0 }
+
 -- what is shown is the entry: a record at its key, with the transaction that owns the key where one does
 abbrev pub Shows : ListedEntry → Entry → Type 0
 Shows told e =
     (key_shown told.key ≡ e.key) × (shown told.value ≡ Some e.value)
     × ((if told.is_owned == 0 then None else Some (tx_shown told.owner)) ≡ e.owner)
 
+-- no entry is shown
+abbrev pub IsNoEntry : ListedEntry → Type 0
+IsNoEntry told = (told.owner ≡ 0) × (told.is_owned ≡ 0) × (key_shown told.key ≡ []) × (shown told.value ≡ None)
+
 -- a step, with the page that it writes
 abbrev pub step_shown : StepShown → List ℕ → Step
 step_shown s page = if s.kind == 1 then SetPages s.number else (if s.kind == 2 then Write s.number page else Sync)
+
+-- the page that a step writes, and else the one that was there
+abbrev pub page_left : Step → List ℕ → List ℕ
+page_left (Write n page) before = page
+page_left (SetPages n) before = before
+page_left Sync before = before
+
+-- where there is none
+abbrev pub no_step : StepShown
+no_step = record { kind = 0; number = 0 }

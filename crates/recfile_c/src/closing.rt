@@ -1,11 +1,13 @@
-// Closing a file, and what is then to be done to it.
-ghost use Rattle.recfile_c.specs.Paged.{Closes, ClosesKind, ClosesTable, AddsPage, CountsSteps, StepAt};
-ghost use Rattle.std.specs.Prelude.{◌≡◌, ◌≢◌, ◌⊎◌};
+// Closing a file, and what is then to be done to it, from C.
+ghost use Rattle.std.specs.Prelude.{◌≡◌, ◌≢◌, ◌⊎◌, pos};
 ghost use Rattle.std.specs.FinMap as maps;
-ghost use Rattle.recfile_c.specs.Outcomes.{still_open_by};
+ghost use Rattle.recfile_c.specs.Shown.{no_step};
+ghost use Rattle.recfile_c.specs.Outcomes.{just, closed, still_open_by};
+ghost use Rattle.recfile_c.specs.Paged.{OnHeld, Closes, ClosesKind, ClosesTable, CountsSteps, StepAt};
 ghost use Rattle.recfile_c.specs.declared.held.Held.TheVariants.{Open};
 
 use crate::file_table::FileTable;
+use crate::handle::RecFile;
 use crate::held::{Held, Session};
 use crate::journal::JournalStore;
 use crate::outcome::{CLOSED, MEMORY, NO_SUCH_ENTRY, NOT_CLOSED, OK, Outcome};
@@ -62,8 +64,8 @@ fn close_session(alloc: Global, session: Session) -> (Held, Outcome)
     }
 }
 
-/// Closes what lies behind a handle. Faults: CLOSED, STILL_OPEN, MEMORY.
-pub(crate) fn close(alloc: Global, held: &mut Held) -> Outcome
+// Closes what lies behind a handle. Faults: CLOSED, STILL_OPEN, MEMORY.
+fn close(alloc: Global, held: &mut Held) -> Outcome
     ensures { Closes result held.old held.new }
 {
     let (left, told) = match std::mem::replace(held, Held::Image(Vec::new(alloc))) {
@@ -76,21 +78,25 @@ pub(crate) fn close(alloc: Global, held: &mut Held) -> Outcome
     told
 }
 
-/// Adds a page to those of a file that is to be opened. Faults: NOT_CLOSED, MEMORY.
-pub(crate) fn add_page(held: &mut Held, page: &[u8; 4096]) -> i32
-    ensures { AddsPage page.now result held.old held.new }
+/// Closes a file of which every transaction has ended; the steps are then to be carried out. Statuses: OK, CLOSED,
+/// STILL_OPEN with the number of open transactions in `left`, MEMORY, after which the file can only be closed again.
+#[unsafe(no_mangle)]
+pub extern "C" fn recfile_close(alloc: Global, file: &mut RecFile, detail: &mut Outcome) -> i32
+    ensures step { OnHeld (detail.new ≡ just closed) file.old.slot.value file.new.slot.value
+        (Closes detail.new) }
+    ensures status { result ≡ detail.new.status }
 {
-    match held {
-        Held::Image(pages) => match pages.push(*page) {
-            Ok(()) => OK,
-            Err(_) => MEMORY,
-        },
-        Held::Open(_) | Held::Unclosed(_) | Held::Closed(_) => NOT_CLOSED,
-    }
+    let Some(mut held) = file.take(alloc) else {
+        *detail = Outcome::just(CLOSED);
+        return CLOSED;
+    };
+    *detail = close(alloc, &mut held);
+    file.give(held);
+    detail.status
 }
 
-/// How many steps are to be carried out.
-pub(crate) fn step_count(held: &mut Held, n: &mut u64) -> i32
+// How many steps are to be carried out.
+fn step_count(held: &mut Held, n: &mut u64) -> i32
     ensures { CountsSteps result n.new held.old held.new }
 {
     *n = 0;
@@ -103,11 +109,26 @@ pub(crate) fn step_count(held: &mut Held, n: &mut u64) -> i32
     }
 }
 
-/// A step, and the page that it writes.
-pub(crate) fn step(held: &mut Held, i: u64, told: &mut StepShown, page: &mut [u8; 4096]) -> i32
-    ensures { StepAt i result told.new page.new held.old held.new }
+/// How many steps a closed file leaves to be carried out. Statuses: OK, CLOSED, NOT_CLOSED.
+#[unsafe(no_mangle)]
+pub extern "C" fn recfile_step_count(alloc: Global, file: &mut RecFile, n: &mut u64) -> i32
+    ensures { OnHeld ((result ≡ pos closed) × (n.new ≡ 0)) file.old.slot.value file.new.slot.value
+        (CountsSteps result n.new) }
 {
-    *told = StepShown::none();
+    let Some(mut held) = file.take(alloc) else {
+        *n = 0;
+        return CLOSED;
+    };
+    let status = step_count(&mut held, n);
+    file.give(held);
+    status
+}
+
+// A step, and the page that it writes.
+fn step(held: &mut Held, i: u64, told: &mut StepShown, page: &mut [u8; 4096]) -> i32
+    ensures { StepAt i result told.new page.old page.new held.old held.new }
+{
+    *told = StepShown::default();
     match held {
         Held::Closed(store) => match store.steps().get(i as usize) {
             Some(step) => {
@@ -118,4 +139,26 @@ pub(crate) fn step(held: &mut Held, i: u64, told: &mut StepShown, page: &mut [u8
         },
         Held::Image(_) | Held::Open(_) | Held::Unclosed(_) => NOT_CLOSED,
     }
+}
+
+/// A step, from 0, and the page that it writes. Statuses: OK, CLOSED, NOT_CLOSED, NO_SUCH_ENTRY.
+#[unsafe(no_mangle)]
+pub extern "C" fn recfile_step(
+    alloc: Global,
+    file: &mut RecFile,
+    i: u64,
+    told: &mut StepShown,
+    page: &mut [u8; 4096],
+) -> i32
+    ensures { OnHeld ((result ≡ pos closed) × (told.new ≡ no_step) × (page.new ≡ page.old))
+        file.old.slot.value file.new.slot.value
+        (StepAt i result told.new page.old page.new) }
+{
+    let Some(mut held) = file.take(alloc) else {
+        *told = StepShown::default();
+        return CLOSED;
+    };
+    let status = step(&mut held, i, told, page);
+    file.give(held);
+    status
 }

@@ -40,8 +40,8 @@ impl Model for JournalStore {
     ghost invariant = { λ s. s.count ≡ length (carried s.opened.items s.steps.items) };
 }
 
-/// A page of zeros.
-pub(crate) fn blank_page() -> [u8; 4096]
+// A page of zeros.
+fn blank_page() -> [u8; 4096]
     ensures { result ≡ blank }
 {
     [0; 4096]
@@ -49,7 +49,8 @@ pub(crate) fn blank_page() -> [u8; 4096]
 
 // What a step leaves of page n, and of the number of pages.
 fn follow(step: &Step, n: u32, count: &mut u64, page: &mut [u8; 4096])
-    ensures { (pages : List (List ℕ)) → count.old ≡ length pages → page.old ≡ slice_index_or pages n blank
+    ensures { (pages : List (List ℕ))
+        → count.old ≡ length pages → page.old ≡ slice_index_or pages n blank
         → (count.new ≡ length (carry pages step.now))
         × (page.new ≡ slice_index_or (carry pages step.now) n blank) }
 {

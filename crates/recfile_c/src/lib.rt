@@ -1,21 +1,19 @@
-//! Calls from C.
+//! Calls from C. A call on a closed handle answers CLOSED, and its results are empty.
 #![tactic(auto)]
 
-mod calls;
 mod closing;
-mod exports;
 mod file_table;
 mod handle;
 mod held;
 mod journal;
 pub mod laws;
 mod lists;
-mod loose;
+mod looks;
 mod opening;
 mod outcome;
 mod paged;
-mod root;
+mod records;
 mod shown;
-mod slot;
 #[cfg(test)]
 mod tests;
+mod transactions;

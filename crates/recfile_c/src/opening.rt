@@ -1,10 +1,11 @@
-// What is put behind a handle.
+// A file in memory, from C.
 ghost use Rattle.rec_types.specs.Limits.{limits_of};
-ghost use Rattle.recfile_c.specs.Opening.{IsOpened, MakesBox, MakesMemory, memory_file, unboxed};
+ghost use Rattle.recfile_c.specs.Opening.{IsOpened, MakesBox, MakesMemory, OpensHandle, memory_file, unboxed};
 
 use crate::file_table::FileTable;
+use crate::handle::RecFile;
 use crate::held::{Held, Session};
-use crate::outcome::{MEMORY, Outcome};
+use crate::outcome::{MEMORY, NOT_CLOSED, OK, Outcome};
 use rec_types::{Limits, SortedTable};
 use record_file::RecordFile;
 use std::alloc::Global;
@@ -31,8 +32,8 @@ fn boxed(alloc: Global, held: Held) -> Result<Box<Held, Global>, i32>
     }
 }
 
-/// An empty file in memory. Faults: those of limits in their order, MEMORY.
-pub(crate) fn memory(
+// An empty file in memory. Faults: those of limits in their order, MEMORY.
+fn memory(
     alloc: Global,
     records: u32,
     log_records: u32,
@@ -42,6 +43,32 @@ pub(crate) fn memory(
 {
     match Limits::new(records, log_records, begins) {
         Ok(limits) => boxed(alloc, memory_session(alloc, limits)),
-        Err(fault) => Err(Outcome::of_limits(fault).status),
+        Err(fault) => Err(Outcome::from(fault).status),
+    }
+}
+
+/// Opens a closed handle on an empty file in memory. Statuses: OK, NOT_CLOSED, BAD_RECORDS, BAD_LOG, BAD_BEGINS,
+/// MEMORY.
+#[unsafe(no_mangle)]
+pub extern "C" fn recfile_memory(
+    alloc: Global,
+    file: &mut RecFile,
+    records: u32,
+    log_records: u32,
+    begins: u32,
+) -> i32
+    ensures { OpensHandle (MakesMemory (limits_of records log_records begins)) result
+        file.old.slot.value file.new.slot.value }
+{
+    if let Some(held) = file.take(alloc) {
+        file.give(held);
+        return NOT_CLOSED;
+    }
+    match memory(alloc, records, log_records, begins) {
+        Ok(held) => {
+            file.give(held);
+            OK
+        }
+        Err(status) => status,
     }
 }

@@ -108,60 +108,6 @@ impl Outcome {
         }
     }
 
-    /// Bytes that are no key.
-    pub(crate) fn of_key(fault: KeyFault) -> Outcome
-        ensures { result ≡ outcomes.key_outcome fault }
-    {
-        match fault {
-            KeyFault::Empty => Outcome::just(EMPTY_KEY),
-            KeyFault::TooLong => Outcome::just(LONG_KEY),
-        }
-    }
-
-    /// Numbers that are no limits.
-    pub(crate) fn of_limits(fault: LimitFault) -> Outcome
-        ensures { result ≡ outcomes.limits_outcome fault }
-    {
-        match fault {
-            LimitFault::Records => Outcome::just(BAD_RECORDS),
-            LimitFault::Log => Outcome::just(BAD_LOG),
-            LimitFault::Begins => Outcome::just(BAD_BEGINS),
-        }
-    }
-
-    /// Why a file was not opened.
-    pub(crate) fn of_open(fault: OpenFault) -> Outcome
-        ensures { result ≡ outcomes.open_outcome fault }
-    {
-        match fault {
-            OpenFault::Device => Outcome::just(DEVICE),
-            OpenFault::BadLength => Outcome::just(BAD_LENGTH),
-            OpenFault::BadMagic => Outcome::just(BAD_MAGIC),
-            OpenFault::BadVersion(version) => Outcome {
-                page: u32::from(version),
-                ..Outcome::just(BAD_VERSION)
-            },
-            OpenFault::BadOrder => Outcome::just(BAD_ORDER),
-            OpenFault::NotClean => Outcome::just(NOT_CLEAN),
-            OpenFault::BadHeader => Outcome::just(BAD_HEADER),
-            OpenFault::Damaged(page) => Outcome::at_page(page),
-            OpenFault::WrongCount => Outcome::just(WRONG_COUNT),
-            OpenFault::TooManyRecords => Outcome::just(TOO_MANY_RECORDS),
-            OpenFault::Memory => Outcome::just(MEMORY),
-        }
-    }
-
-    /// Why no file was made.
-    pub(crate) fn of_create(fault: CreateFault) -> Outcome
-        ensures { result ≡ outcomes.create_outcome fault }
-    {
-        match fault {
-            CreateFault::BadOrder => Outcome::just(BAD_ORDER),
-            CreateFault::Device => Outcome::just(DEVICE),
-            CreateFault::NotEmpty => Outcome::just(BAD_LENGTH),
-        }
-    }
-
     /// Transactions that have not ended.
     pub(crate) fn still_open(count: u32) -> Outcome
         ensures { result ≡ outcomes.still_open_by count }
@@ -209,22 +155,106 @@ impl Outcome {
             ..Outcome::just(STOPPED)
         }
     }
+}
+
+impl From<KeyFault> for Outcome {
+    ghost use Rattle.std.specs.Prelude.{◌≡◌};
+    ghost use Rattle.recfile_c.specs.Outcomes.{key_outcome};
+
+    ghost from_gives = { λ fault told. told ≡ key_outcome fault };
+
+    /// Bytes that are no key.
+    fn from(fault: KeyFault) -> Outcome {
+        match fault {
+            KeyFault::Empty => Outcome::just(EMPTY_KEY),
+            KeyFault::TooLong => Outcome::just(LONG_KEY),
+        }
+    }
+}
+
+impl From<LimitFault> for Outcome {
+    ghost use Rattle.std.specs.Prelude.{◌≡◌};
+    ghost use Rattle.recfile_c.specs.Outcomes.{limits_outcome};
+
+    ghost from_gives = { λ fault told. told ≡ limits_outcome fault };
+
+    /// Numbers that are no limits.
+    fn from(fault: LimitFault) -> Outcome {
+        match fault {
+            LimitFault::Records => Outcome::just(BAD_RECORDS),
+            LimitFault::Log => Outcome::just(BAD_LOG),
+            LimitFault::Begins => Outcome::just(BAD_BEGINS),
+        }
+    }
+}
+
+impl From<OpenFault> for Outcome {
+    ghost use Rattle.std.specs.Prelude.{◌≡◌};
+    ghost use Rattle.recfile_c.specs.Outcomes.{open_outcome};
+
+    ghost from_gives = { λ fault told. told ≡ open_outcome fault };
+
+    /// Why a file was not opened.
+    fn from(fault: OpenFault) -> Outcome {
+        match fault {
+            OpenFault::Device => Outcome::just(DEVICE),
+            OpenFault::BadLength => Outcome::just(BAD_LENGTH),
+            OpenFault::BadMagic => Outcome::just(BAD_MAGIC),
+            OpenFault::BadVersion(version) => Outcome {
+                page: u32::from(version),
+                ..Outcome::just(BAD_VERSION)
+            },
+            OpenFault::BadOrder => Outcome::just(BAD_ORDER),
+            OpenFault::NotClean => Outcome::just(NOT_CLEAN),
+            OpenFault::BadHeader => Outcome::just(BAD_HEADER),
+            OpenFault::Damaged(page) => Outcome::at_page(page),
+            OpenFault::WrongCount => Outcome::just(WRONG_COUNT),
+            OpenFault::TooManyRecords => Outcome::just(TOO_MANY_RECORDS),
+            OpenFault::Memory => Outcome::just(MEMORY),
+        }
+    }
+}
+
+impl From<CreateFault> for Outcome {
+    ghost use Rattle.std.specs.Prelude.{◌≡◌};
+    ghost use Rattle.recfile_c.specs.Outcomes.{create_outcome};
+
+    ghost from_gives = { λ fault told. told ≡ create_outcome fault };
+
+    /// Why no file was made.
+    fn from(fault: CreateFault) -> Outcome {
+        match fault {
+            CreateFault::BadOrder => Outcome::just(BAD_ORDER),
+            CreateFault::Device => Outcome::just(DEVICE),
+            CreateFault::NotEmpty => Outcome::just(BAD_LENGTH),
+        }
+    }
+}
+
+impl<A> From<&Result<A, BeginFault>> for Outcome {
+    ghost use Rattle.std.specs.Prelude.{◌≡◌};
+    ghost use Rattle.recfile_c.specs.Outcomes.{begin_outcome};
+
+    ghost from_gives = { λ answer told. told ≡ begin_outcome answer.now };
 
     /// The outcome of `begin`.
-    pub(crate) fn of_begin<A>(answer: &Result<A, BeginFault>) -> Outcome
-        ensures { result ≡ outcomes.begin_outcome answer.now }
-    {
+    fn from(answer: &Result<A, BeginFault>) -> Outcome {
         match answer {
             Ok(_) => Outcome::just(OK),
             Err(BeginFault::BeginsSpent) => Outcome::just(BEGINS_SPENT),
             Err(BeginFault::Memory) => Outcome::just(MEMORY),
         }
     }
+}
+
+impl<A> From<&Result<A, PutFault>> for Outcome {
+    ghost use Rattle.std.specs.Prelude.{◌≡◌};
+    ghost use Rattle.recfile_c.specs.Outcomes.{put_outcome};
+
+    ghost from_gives = { λ answer told. told ≡ put_outcome answer.now };
 
     /// The outcome of `put`.
-    pub(crate) fn of_put<A>(answer: &Result<A, PutFault>) -> Outcome
-        ensures { result ≡ outcomes.put_outcome answer.now }
-    {
+    fn from(answer: &Result<A, PutFault>) -> Outcome {
         match answer {
             Ok(_) => Outcome::just(OK),
             Err(PutFault::NoSuchTx) => Outcome::just(NO_SUCH_TX),
@@ -237,11 +267,16 @@ impl Outcome {
             Err(PutFault::Memory) => Outcome::just(MEMORY),
         }
     }
+}
+
+impl<A> From<&Result<A, RemoveFault>> for Outcome {
+    ghost use Rattle.std.specs.Prelude.{◌≡◌};
+    ghost use Rattle.recfile_c.specs.Outcomes.{remove_outcome};
+
+    ghost from_gives = { λ answer told. told ≡ remove_outcome answer.now };
 
     /// The outcome of `remove`.
-    pub(crate) fn of_remove<A>(answer: &Result<A, RemoveFault>) -> Outcome
-        ensures { result ≡ outcomes.remove_outcome answer.now }
-    {
+    fn from(answer: &Result<A, RemoveFault>) -> Outcome {
         match answer {
             Ok(_) => Outcome::just(OK),
             Err(RemoveFault::NoSuchTx) => Outcome::just(NO_SUCH_TX),
@@ -254,11 +289,16 @@ impl Outcome {
             Err(RemoveFault::Memory) => Outcome::just(MEMORY),
         }
     }
+}
+
+impl<A> From<&Result<A, GetFault>> for Outcome {
+    ghost use Rattle.std.specs.Prelude.{◌≡◌};
+    ghost use Rattle.recfile_c.specs.Outcomes.{get_outcome};
+
+    ghost from_gives = { λ answer told. told ≡ get_outcome answer.now };
 
     /// The outcome of `get`.
-    pub(crate) fn of_get<A>(answer: &Result<A, GetFault>) -> Outcome
-        ensures { result ≡ outcomes.get_outcome answer.now }
-    {
+    fn from(answer: &Result<A, GetFault>) -> Outcome {
         match answer {
             Ok(_) => Outcome::just(OK),
             Err(GetFault::NoSuchTx) => Outcome::just(NO_SUCH_TX),
@@ -268,11 +308,16 @@ impl Outcome {
             Err(GetFault::Damaged(page)) => Outcome::at_page(*page),
         }
     }
+}
+
+impl<A> From<&Result<A, SavepointFault>> for Outcome {
+    ghost use Rattle.std.specs.Prelude.{◌≡◌};
+    ghost use Rattle.recfile_c.specs.Outcomes.{savepoint_outcome};
+
+    ghost from_gives = { λ answer told. told ≡ savepoint_outcome answer.now };
 
     /// The outcome of `savepoint`.
-    pub(crate) fn of_savepoint<A>(answer: &Result<A, SavepointFault>) -> Outcome
-        ensures { result ≡ outcomes.savepoint_outcome answer.now }
-    {
+    fn from(answer: &Result<A, SavepointFault>) -> Outcome {
         match answer {
             Ok(_) => Outcome::just(OK),
             Err(SavepointFault::NoSuchTx) => Outcome::just(NO_SUCH_TX),
@@ -280,11 +325,16 @@ impl Outcome {
             Err(SavepointFault::TooDeep) => Outcome::just(TOO_DEEP),
         }
     }
+}
+
+impl<A> From<&Result<A, ReleaseFault>> for Outcome {
+    ghost use Rattle.std.specs.Prelude.{◌≡◌};
+    ghost use Rattle.recfile_c.specs.Outcomes.{release_outcome};
+
+    ghost from_gives = { λ answer told. told ≡ release_outcome answer.now };
 
     /// The outcome of `release`.
-    pub(crate) fn of_release<A>(answer: &Result<A, ReleaseFault>) -> Outcome
-        ensures { result ≡ outcomes.release_outcome answer.now }
-    {
+    fn from(answer: &Result<A, ReleaseFault>) -> Outcome {
         match answer {
             Ok(_) => Outcome::just(OK),
             Err(ReleaseFault::NoSuchTx) => Outcome::just(NO_SUCH_TX),
@@ -292,11 +342,16 @@ impl Outcome {
             Err(ReleaseFault::NoSuchSave) => Outcome::just(NO_SUCH_SAVE),
         }
     }
+}
+
+impl<A> From<&Result<A, RollbackToFault>> for Outcome {
+    ghost use Rattle.std.specs.Prelude.{◌≡◌};
+    ghost use Rattle.recfile_c.specs.Outcomes.{rollback_to_outcome};
+
+    ghost from_gives = { λ answer told. told ≡ rollback_to_outcome answer.now };
 
     /// The outcome of `rollback_to`.
-    pub(crate) fn of_rollback_to<A>(answer: &Result<A, RollbackToFault>) -> Outcome
-        ensures { result ≡ outcomes.rollback_to_outcome answer.now }
-    {
+    fn from(answer: &Result<A, RollbackToFault>) -> Outcome {
         match answer {
             Ok(_) => Outcome::just(OK),
             Err(RollbackToFault::NoSuchTx) => Outcome::just(NO_SUCH_TX),
@@ -311,11 +366,16 @@ impl Outcome {
             ) => Outcome::stopped_by(*undone, *left, *cause),
         }
     }
+}
+
+impl<A> From<&Result<A, AbortFault>> for Outcome {
+    ghost use Rattle.std.specs.Prelude.{◌≡◌};
+    ghost use Rattle.recfile_c.specs.Outcomes.{abort_outcome};
+
+    ghost from_gives = { λ answer told. told ≡ abort_outcome answer.now };
 
     /// The outcome of `abort`.
-    pub(crate) fn of_abort<A>(answer: &Result<A, AbortFault>) -> Outcome
-        ensures { result ≡ outcomes.abort_outcome answer.now }
-    {
+    fn from(answer: &Result<A, AbortFault>) -> Outcome {
         match answer {
             Ok(_) => Outcome::just(OK),
             Err(AbortFault::NoSuchTx) => Outcome::just(NO_SUCH_TX),
@@ -329,11 +389,16 @@ impl Outcome {
             ) => Outcome::stopped_by(*undone, *left, *cause),
         }
     }
+}
+
+impl<A> From<&Result<A, ResumeFault>> for Outcome {
+    ghost use Rattle.std.specs.Prelude.{◌≡◌};
+    ghost use Rattle.recfile_c.specs.Outcomes.{resume_outcome};
+
+    ghost from_gives = { λ answer told. told ≡ resume_outcome answer.now };
 
     /// The outcome of `resume`.
-    pub(crate) fn of_resume<A>(answer: &Result<A, ResumeFault>) -> Outcome
-        ensures { result ≡ outcomes.resume_outcome answer.now }
-    {
+    fn from(answer: &Result<A, ResumeFault>) -> Outcome {
         match answer {
             Ok(_) => Outcome::just(OK),
             Err(ResumeFault::NoSuchTx) => Outcome::just(NO_SUCH_TX),
@@ -347,22 +412,32 @@ impl Outcome {
             ) => Outcome::stopped_by(*undone, *left, *cause),
         }
     }
+}
+
+impl<A> From<&Result<A, CommitFault>> for Outcome {
+    ghost use Rattle.std.specs.Prelude.{◌≡◌};
+    ghost use Rattle.recfile_c.specs.Outcomes.{commit_outcome};
+
+    ghost from_gives = { λ answer told. told ≡ commit_outcome answer.now };
 
     /// The outcome of `commit`.
-    pub(crate) fn of_commit<A>(answer: &Result<A, CommitFault>) -> Outcome
-        ensures { result ≡ outcomes.commit_outcome answer.now }
-    {
+    fn from(answer: &Result<A, CommitFault>) -> Outcome {
         match answer {
             Ok(_) => Outcome::just(OK),
             Err(CommitFault::NoSuchTx) => Outcome::just(NO_SUCH_TX),
             Err(CommitFault::Rolling) => Outcome::just(ROLLING),
         }
     }
+}
+
+impl<A> From<&Result<A, EntriesFault>> for Outcome {
+    ghost use Rattle.std.specs.Prelude.{◌≡◌};
+    ghost use Rattle.recfile_c.specs.Outcomes.{entries_outcome};
+
+    ghost from_gives = { λ answer told. told ≡ entries_outcome answer.now };
 
     /// The outcome of `entries`.
-    pub(crate) fn of_entries<A>(answer: &Result<A, EntriesFault>) -> Outcome
-        ensures { result ≡ outcomes.entries_outcome answer.now }
-    {
+    fn from(answer: &Result<A, EntriesFault>) -> Outcome {
         match answer {
             Ok(_) => Outcome::just(OK),
             Err(EntriesFault::Device) => Outcome::just(DEVICE),
@@ -370,22 +445,32 @@ impl Outcome {
             Err(EntriesFault::Memory) => Outcome::just(MEMORY),
         }
     }
+}
+
+impl<A> From<&Result<A, KeysOfFault>> for Outcome {
+    ghost use Rattle.std.specs.Prelude.{◌≡◌};
+    ghost use Rattle.recfile_c.specs.Outcomes.{keys_of_outcome};
+
+    ghost from_gives = { λ answer told. told ≡ keys_of_outcome answer.now };
 
     /// The outcome of `keys_of`.
-    pub(crate) fn of_keys_of<A>(answer: &Result<A, KeysOfFault>) -> Outcome
-        ensures { result ≡ outcomes.keys_of_outcome answer.now }
-    {
+    fn from(answer: &Result<A, KeysOfFault>) -> Outcome {
         match answer {
             Ok(_) => Outcome::just(OK),
             Err(KeysOfFault::NoSuchTx) => Outcome::just(NO_SUCH_TX),
             Err(KeysOfFault::Memory) => Outcome::just(MEMORY),
         }
     }
+}
+
+impl<A> From<&Result<A, StatusFault>> for Outcome {
+    ghost use Rattle.std.specs.Prelude.{◌≡◌};
+    ghost use Rattle.recfile_c.specs.Outcomes.{status_outcome};
+
+    ghost from_gives = { λ answer told. told ≡ status_outcome answer.now };
 
     /// The outcome of `status`.
-    pub(crate) fn of_status<A>(answer: &Result<A, StatusFault>) -> Outcome
-        ensures { result ≡ outcomes.status_outcome answer.now }
-    {
+    fn from(answer: &Result<A, StatusFault>) -> Outcome {
         match answer {
             Ok(_) => Outcome::just(OK),
             Err(StatusFault::NoSuchTx) => Outcome::just(NO_SUCH_TX),

@@ -1,7 +1,6 @@
 // What a caller reads. No field has a value that C may not leave in memory.
-ghost use Rattle.std.specs.Prelude.{◌≡◌, [], if◌then◌else◌, None, Some, ◌≤◌, length, take};
-ghost use Rattle.recfile_c.specs.Shown.{key_shown, shown, log_shown, status_shown, step_shown, Shows};
-ghost use Rattle.recfile_c.specs.Answers.{found_in, taken_in, TellsStatus};
+ghost use Rattle.std.specs.Prelude.{◌≡◌, if◌then◌else◌};
+ghost use Rattle.recfile_c.specs.Shown.{step_shown, page_left};
 
 use page_store::Step;
 use rec_types::{Entry, Key, Record};
@@ -71,21 +70,29 @@ pub struct ListedEntry {
     pub value: Found,
 }
 
-impl KeyBytes {
+impl Default for KeyBytes {
+    ghost use Rattle.std.specs.Prelude.{◌≡◌, []};
+    ghost use Rattle.recfile_c.specs.Shown.{key_shown};
+
+    ghost is_default = { λ key. key_shown key ≡ [] };
+
     /// No key.
-    pub(crate) fn none() -> KeyBytes
-        ensures { key_shown result ≡ [] }
-    {
+    fn default() -> KeyBytes {
         KeyBytes {
             bytes: [0; 16],
             len: 0,
         }
     }
+}
+
+impl From<&Key> for KeyBytes {
+    ghost use Rattle.std.specs.Prelude.{◌≡◌};
+    ghost use Rattle.recfile_c.specs.Shown.{key_shown};
+
+    ghost from_gives = { λ key told. key_shown told ≡ key.now };
 
     /// The bytes of a key.
-    pub(crate) fn of(key: &Key) -> KeyBytes
-        ensures { key_shown result ≡ key.now }
-    {
+    fn from(key: &Key) -> KeyBytes {
         let from = key.bytes();
         let mut bytes = [0; 16];
         bytes[..from.len()].copy_from_slice(from);
@@ -96,23 +103,31 @@ impl KeyBytes {
     }
 }
 
-impl Found {
+impl Default for Found {
+    ghost use Rattle.std.specs.Prelude.{◌≡◌, None};
+    ghost use Rattle.recfile_c.specs.Shown.{shown};
+
+    ghost is_default = { λ found. shown found ≡ None };
+
     /// No record.
-    pub(crate) fn none() -> Found
-        ensures { shown result ≡ None }
-    {
+    fn default() -> Found {
         Found {
             bytes: [0; 32],
             len: 0,
             is_there: 0,
         }
     }
+}
+
+impl From<&Record> for Found {
+    ghost use Rattle.std.specs.Prelude.{◌≡◌, Some};
+    ghost use Rattle.recfile_c.specs.Shown.{shown};
+
+    ghost from_gives = { λ value told. shown told ≡ Some value.now };
 
     /// A record.
-    pub(crate) fn some(taken: &Record) -> Found
-        ensures { shown result ≡ Some taken.now }
-    {
-        let from = taken.bytes();
+    fn from(value: &Record) -> Found {
+        let from = value.bytes();
         let mut bytes = [0; 32];
         bytes[..from.len()].copy_from_slice(from);
         Found {
@@ -121,99 +136,134 @@ impl Found {
             is_there: 1,
         }
     }
+}
+
+impl From<&Option<Record>> for Found {
+    ghost use Rattle.std.specs.Prelude.{◌≡◌};
+    ghost use Rattle.recfile_c.specs.Shown.{shown};
+
+    ghost from_gives = { λ found told. shown told ≡ found.now };
 
     /// A record, where there is one.
-    pub(crate) fn of(from: &Option<Record>) -> Found
-        ensures { shown result ≡ from.now }
-    {
-        match from {
-            Some(from) => Found::some(from),
-            None => Found::none(),
-        }
-    }
-
-    /// The record that an answer found.
-    pub(crate) fn in_answer<E>(answer: &Result<Option<Record>, E>) -> Found
-        ensures { shown result ≡ found_in answer.now }
-    {
-        match answer {
-            Ok(found) => Found::of(found),
-            Err(_) => Found::none(),
-        }
-    }
-
-    /// The record that an answer took out.
-    pub(crate) fn taken<E>(answer: &Result<Record, E>) -> Found
-        ensures { shown result ≡ taken_in answer.now }
-    {
-        match answer {
-            Ok(taken) => Found::some(taken),
-            Err(_) => Found::none(),
+    fn from(found: &Option<Record>) -> Found {
+        match found {
+            Some(value) => Found::from(value),
+            None => Found::default(),
         }
     }
 }
 
-impl LogEntry {
+impl<E> From<&Result<Option<Record>, E>> for Found {
+    ghost use Rattle.std.specs.Prelude.{◌≡◌};
+    ghost use Rattle.recfile_c.specs.Shown.{shown};
+    ghost use Rattle.recfile_c.specs.Answers.{found_in};
+
+    ghost from_gives = { λ answer told. shown told ≡ found_in answer.now };
+
+    /// The record that an answer found.
+    fn from(answer: &Result<Option<Record>, E>) -> Found {
+        match answer {
+            Ok(found) => Found::from(found),
+            Err(_) => Found::default(),
+        }
+    }
+}
+
+impl<E> From<&Result<Record, E>> for Found {
+    ghost use Rattle.std.specs.Prelude.{◌≡◌};
+    ghost use Rattle.recfile_c.specs.Shown.{shown};
+    ghost use Rattle.recfile_c.specs.Answers.{taken_in};
+
+    ghost from_gives = { λ answer told. shown told ≡ taken_in answer.now };
+
+    /// The record that an answer took out.
+    fn from(answer: &Result<Record, E>) -> Found {
+        match answer {
+            Ok(taken) => Found::from(taken),
+            Err(_) => Found::default(),
+        }
+    }
+}
+
+impl Default for LogEntry {
+    ghost use Rattle.std.specs.Prelude.{◌≡◌, None};
+    ghost use Rattle.recfile_c.specs.Shown.{log_shown};
+
+    ghost is_default = { λ entry. log_shown entry ≡ None };
+
     /// No record of the log.
-    pub(crate) fn none() -> LogEntry
-        ensures { log_shown result ≡ None }
-    {
+    fn default() -> LogEntry {
         LogEntry {
             kind: 0,
             lsn: 0,
             prev: 0,
             tx: 0,
             undo_next: 0,
-            key: KeyBytes::none(),
-            before: Found::none(),
-            after: Found::none(),
+            key: KeyBytes::default(),
+            before: Found::default(),
+            after: Found::default(),
         }
     }
+}
 
-    /// A record of the log, where there is one.
-    pub(crate) fn of(from: &Option<LogRecord>) -> LogEntry
-        ensures { log_shown result ≡ from.now }
-    {
-        match from {
-            None => LogEntry::none(),
-            Some(
-                LogRecord::Update {
-                    lsn,
-                    prev,
-                    tx,
-                    key,
-                    before,
-                    after,
-                },
-            ) => LogEntry {
+impl From<&LogRecord> for LogEntry {
+    ghost use Rattle.std.specs.Prelude.{◌≡◌, Some};
+    ghost use Rattle.recfile_c.specs.Shown.{log_shown};
+
+    ghost from_gives = { λ logged told. log_shown told ≡ Some logged.now };
+
+    /// A record of the log.
+    fn from(logged: &LogRecord) -> LogEntry {
+        match logged {
+            LogRecord::Update {
+                lsn,
+                prev,
+                tx,
+                key,
+                before,
+                after,
+            } => LogEntry {
                 kind: 1,
                 lsn: *lsn,
                 prev: *prev,
                 tx: tx.0,
                 undo_next: 0,
-                key: KeyBytes::of(key),
-                before: Found::of(before),
-                after: Found::of(after),
+                key: KeyBytes::from(key),
+                before: Found::from(before),
+                after: Found::from(after),
             },
-            Some(
-                LogRecord::Compensation {
-                    lsn,
-                    prev,
-                    tx,
-                    key,
-                    restored,
-                    undo_next,
-                },
-            ) => LogEntry {
+            LogRecord::Compensation {
+                lsn,
+                prev,
+                tx,
+                key,
+                restored,
+                undo_next,
+            } => LogEntry {
                 kind: 2,
                 lsn: *lsn,
                 prev: *prev,
                 tx: tx.0,
                 undo_next: *undo_next,
-                key: KeyBytes::of(key),
-                before: Found::none(),
-                after: Found::of(restored),
+                key: KeyBytes::from(key),
+                before: Found::default(),
+                after: Found::from(restored),
             },
+        }
+    }
+}
+
+impl From<&Option<LogRecord>> for LogEntry {
+    ghost use Rattle.std.specs.Prelude.{◌≡◌};
+    ghost use Rattle.recfile_c.specs.Shown.{log_shown};
+
+    ghost from_gives = { λ found told. log_shown told ≡ found.now };
+
+    /// A record of the log, where there is one.
+    fn from(found: &Option<LogRecord>) -> LogEntry {
+        match found {
+            Some(logged) => LogEntry::from(logged),
+            None => LogEntry::default(),
         }
     }
 }
@@ -225,9 +275,14 @@ fn byte_of(test: bool) -> u8
     if test { 1 } else { 0 }
 }
 
-impl TxStatus {
+impl Default for TxStatus {
+    ghost use Rattle.std.specs.Prelude.{◌≡◌};
+    ghost use Rattle.recfile_c.specs.Shown.{no_status};
+
+    ghost is_default = { λ told. told ≡ no_status };
+
     /// What no transaction is doing.
-    pub(crate) fn none() -> TxStatus {
+    fn default() -> TxStatus {
         TxStatus {
             is_rolling: 0,
             ends: 0,
@@ -236,11 +291,16 @@ impl TxStatus {
             left: 0,
         }
     }
+}
 
-    // What a transaction is doing.
-    fn some(status: Status) -> TxStatus
-        ensures { status_shown result ≡ status }
-    {
+impl From<Status> for TxStatus {
+    ghost use Rattle.std.specs.Prelude.{◌≡◌};
+    ghost use Rattle.recfile_c.specs.Shown.{status_shown};
+
+    ghost from_gives = { λ status told. status_shown told ≡ status };
+
+    /// What a transaction is doing.
+    fn from(status: Status) -> TxStatus {
         match status {
             Status::Active { saves, live } => TxStatus {
                 is_rolling: 0,
@@ -258,33 +318,45 @@ impl TxStatus {
             },
         }
     }
+}
+
+impl From<&Result<Status, StatusFault>> for TxStatus {
+    ghost use Rattle.recfile_c.specs.Answers.{TellsStatus};
+
+    ghost from_gives = { λ answer told. TellsStatus answer.now told };
 
     /// What an answer says of a transaction.
-    pub(crate) fn in_answer(answer: &Result<Status, StatusFault>) -> TxStatus
-        ensures { TellsStatus answer.now result }
-    {
+    fn from(answer: &Result<Status, StatusFault>) -> TxStatus {
         match answer {
-            Ok(status) => TxStatus::some(*status),
-            Err(_) => TxStatus::none(),
+            Ok(status) => TxStatus::from(*status),
+            Err(_) => TxStatus::default(),
         }
     }
 }
 
-impl ListedEntry {
+impl Default for ListedEntry {
+    ghost use Rattle.recfile_c.specs.Shown.{IsNoEntry};
+
+    ghost is_default = { λ told. IsNoEntry told };
+
     /// No entry.
-    pub(crate) fn none() -> ListedEntry {
+    fn default() -> ListedEntry {
         ListedEntry {
             owner: 0,
             is_owned: 0,
-            key: KeyBytes::none(),
-            value: Found::none(),
+            key: KeyBytes::default(),
+            value: Found::default(),
         }
     }
+}
+
+impl From<&Entry> for ListedEntry {
+    ghost use Rattle.recfile_c.specs.Shown.{Shows};
+
+    ghost from_gives = { λ entry told. Shows told entry.now };
 
     /// An entry.
-    pub(crate) fn of(entry: &Entry) -> ListedEntry
-        ensures { Shows result entry.now }
-    {
+    fn from(entry: &Entry) -> ListedEntry {
         let (owner, is_owned) = match entry.owner {
             Some(owner) => (owner.0, 1),
             None => (0, 0),
@@ -292,21 +364,29 @@ impl ListedEntry {
         ListedEntry {
             owner,
             is_owned,
-            key: KeyBytes::of(&entry.key),
-            value: Found::some(&entry.value),
+            key: KeyBytes::from(&entry.key),
+            value: Found::from(&entry.value),
         }
     }
 }
 
-impl StepShown {
+impl Default for StepShown {
+    ghost use Rattle.std.specs.Prelude.{◌≡◌};
+    ghost use Rattle.recfile_c.specs.Shown.{no_step};
+
+    ghost is_default = { λ told. told ≡ no_step };
+
     /// No step.
-    pub(crate) fn none() -> StepShown {
+    fn default() -> StepShown {
         StepShown { kind: 0, number: 0 }
     }
+}
 
+impl StepShown {
     /// A step, and the page that it writes.
     pub(crate) fn of(step: &Step, page: &mut [u8; 4096]) -> StepShown
-        ensures { step_shown result page.new ≡ step.now }
+        ensures told { step_shown result page.new ≡ step.now }
+        ensures page { page.new ≡ page_left step.now page.old }
     {
         match step {
             Step::SetPages(number) => StepShown {

@@ -1,13 +1,19 @@
 // A session by the calls that C makes: two transactions, a partial rollback, a key that is held; the file is closed,
 // its steps are carried out, and it is opened again.
-use crate::exports::*;
-use crate::handle::RecFile;
-use crate::journal::blank_page;
+use crate::closing::*;
+use crate::handle::root::*;
+use crate::handle::*;
+use crate::lists::*;
+use crate::looks::*;
+use crate::opening::*;
 use crate::outcome::{
     ABSENT, BAD_ORDER, CLOSED, EMPTY_KEY, HELD, LONG_RECORD, NO_SUCH_ENTRY, NO_SUCH_SAVE,
     NO_SUCH_TX, NOT_CLOSED, NOT_ROLLING, OK, Outcome, STILL_OPEN,
 };
+use crate::paged::*;
+use crate::records::*;
 use crate::shown::{Found, KeyBytes, ListedEntry, LogEntry, StepShown, TxStatus};
+use crate::transactions::*;
 use std::alloc::{AllocError, Global};
 
 /// A call. Keys and records are of one byte; that of `PutLong` is no record.
@@ -53,6 +59,10 @@ fn byte_of(found: &Found) -> u64 {
     }
 }
 
+fn blank_page() -> [u8; 4096] {
+    [0; 4096]
+}
+
 fn no_detail() -> Outcome {
     Outcome::just(OK)
 }
@@ -76,7 +86,7 @@ fn begin(alloc: Global, file: &mut RecFile) -> (i32, u64) {
 }
 
 fn put(alloc: Global, file: &mut RecFile, tx: u32, key: &[u8], value: &[u8]) -> (i32, u64) {
-    let mut before = Found::none();
+    let mut before = Found::default();
     let mut detail = no_detail();
     let status = recfile_put(alloc, file, tx, key, value, &mut before, &mut detail);
     if status == HELD {
@@ -86,14 +96,14 @@ fn put(alloc: Global, file: &mut RecFile, tx: u32, key: &[u8], value: &[u8]) -> 
 }
 
 fn get(alloc: Global, file: &mut RecFile, tx: u32, key: &[u8]) -> (i32, u64) {
-    let mut found = Found::none();
+    let mut found = Found::default();
     let mut detail = no_detail();
     let status = recfile_get(alloc, file, tx, key, &mut found, &mut detail);
     (status, byte_of(&found))
 }
 
 fn remove(alloc: Global, file: &mut RecFile, tx: u32, key: &[u8]) -> (i32, u64) {
-    let mut taken = Found::none();
+    let mut taken = Found::default();
     let mut detail = no_detail();
     let status = recfile_remove(alloc, file, tx, key, &mut taken, &mut detail);
     (status, byte_of(&taken))
@@ -127,7 +137,7 @@ fn resume(alloc: Global, file: &mut RecFile, tx: u32) -> (i32, u64) {
 }
 
 fn status(alloc: Global, file: &mut RecFile, tx: u32) -> (i32, u64) {
-    let mut told = TxStatus::none();
+    let mut told = TxStatus::default();
     let status = recfile_status(alloc, file, tx, &mut told);
     (status, u64::from(told.live))
 }
@@ -157,7 +167,7 @@ fn log_use(alloc: Global, file: &mut RecFile) -> (i32, u64) {
 }
 
 fn log_record(alloc: Global, file: &mut RecFile, lsn: u32) -> (i32, u64) {
-    let mut entry = LogEntry::none();
+    let mut entry = LogEntry::default();
     let status = recfile_log_record(alloc, file, lsn, &mut entry);
     (status, u64::from(entry.kind))
 }
@@ -170,7 +180,7 @@ fn entries(alloc: Global, file: &mut RecFile) -> (i32, u64) {
 }
 
 fn entry(alloc: Global, file: &mut RecFile, i: u64) -> (i32, u64) {
-    let mut told = ListedEntry::none();
+    let mut told = ListedEntry::default();
     let status = recfile_entry(alloc, file, i, &mut told);
     (status, byte_of(&told.value))
 }
@@ -182,7 +192,7 @@ fn keys_of(alloc: Global, file: &mut RecFile, tx: u32) -> (i32, u64) {
 }
 
 fn key(alloc: Global, file: &mut RecFile, i: u64) -> (i32, u64) {
-    let mut told = KeyBytes::none();
+    let mut told = KeyBytes::default();
     let status = recfile_key(alloc, file, i, &mut told);
     (status, u64::from(told.len))
 }
@@ -254,7 +264,7 @@ fn carried_out(alloc: Global, file: &mut RecFile) -> Result<Vec<[u8; 4096]>, All
     let mut pages = Vec::new(alloc);
     let (_status, count) = step_count(alloc, file);
     for i in 0..count {
-        let mut step = StepShown::none();
+        let mut step = StepShown::default();
         let mut page = blank_page();
         let _status = recfile_step(alloc, file, i, &mut step, &mut page);
         carry_out(&mut pages, step, page)?;
@@ -337,7 +347,7 @@ fn session(alloc: Global, file: &mut RecFile) -> bool {
 #[test]
 fn a_session_over_a_file_in_memory(rt: HostRuntime) {
     let alloc = rt.alloc();
-    let mut file = RecFile::closed();
+    let mut file = RecFile::default();
     assert_eq!(rt; make(alloc, &mut file, Call::Begin), (CLOSED, 0));
     assert_eq!(rt; make(alloc, &mut file, Call::Memory), (OK, 0));
     assert!(rt; session(alloc, &mut file));
@@ -363,7 +373,7 @@ fn reopened(alloc: Global, file: &mut RecFile) -> Result<bool, AllocError> {
 #[test]
 fn a_page_file_is_opened_again(rt: HostRuntime) -> Result<(), AllocError> {
     let alloc = rt.alloc();
-    let mut file = RecFile::closed();
+    let mut file = RecFile::default();
     assert!(rt; reopened(alloc, &mut file)?);
     let answered = answers_are(
         alloc,

@@ -28,12 +28,12 @@ use Rattle.std.specs.contracts.alloc.Global as heap
 use Rattle.std.specs.contracts.impls.GlobalAllocator.TheImpl.{ghosts}
 use Rattle.std.proofs.alloc.Global.TheLaws as heap_laws
 use Rattle.recfile_c.specs.contracts.held.Held as held
-use Rattle.recfile_c.specs.contracts.slot.Slot as slot
+use Rattle.recfile_c.specs.contracts.handle.Slot as slot
 use Rattle.recfile_c.proofs.Values.{both, alone, HeldLoose, loose_good, loose_out, slot_in}
-use Rattle.recfile_c.specs.contracts.slot.Slot.seal as F
-use Rattle.recfile_c.specs.contracts.slot.Slot.seal.Key.{name as #self}
-use Rattle.recfile_c.proofs.slot.Slot.seal.Statement as stated
-use Rattle.recfile_c.proofs.slot.Slot.seal.Code as code
+use Rattle.recfile_c.specs.contracts.handle.Slot.seal as F
+use Rattle.recfile_c.specs.contracts.handle.Slot.seal.Key.{name as #self}
+use Rattle.recfile_c.proofs.handle.Slot.seal.Statement as stated
+use Rattle.recfile_c.proofs.handle.Slot.seal.Code as code
 
 abbrev stayed : Stays (F.ended).signature.params (F.ended).kept
 stayed = (stay_dropped (plain (λ _. HeldLoose)) yes, tt)

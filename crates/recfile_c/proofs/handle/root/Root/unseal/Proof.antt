@@ -31,12 +31,12 @@ use Rattle.std.proofs.alloc.Global.TheLaws as heap_laws
 use Rattle.std.proofs.alloc.Calls.{handle_tells}
 use Rattle.recfile_c.specs.Roots.{root_owns}
 use Rattle.recfile_c.specs.contracts.handle.RecFile as handle
-use Rattle.recfile_c.specs.contracts.root.Root as root
+use Rattle.recfile_c.specs.contracts.handle.root.Root as root
 use Rattle.recfile_c.proofs.Values.{both, alone, HandleLoose, loose_good, loose_in, root_out, al}
-use Rattle.recfile_c.specs.contracts.root.Root.unseal as F
-use Rattle.recfile_c.specs.contracts.root.Root.unseal.Key.{name as #self}
-use Rattle.recfile_c.proofs.root.Root.unseal.Statement as stated
-use Rattle.recfile_c.proofs.root.Root.unseal.Code as code
+use Rattle.recfile_c.specs.contracts.handle.root.Root.unseal as F
+use Rattle.recfile_c.specs.contracts.handle.root.Root.unseal.Key.{name as #self}
+use Rattle.recfile_c.proofs.handle.root.Root.unseal.Statement as stated
+use Rattle.recfile_c.proofs.handle.root.Root.unseal.Code as code
 
 abbrev stayed : Stays (F.ended).signature.params (F.ended).kept
 stayed = (stay_dropped (plain (λ _. root.the_row)) yes, (stay_dropped (plain (λ _. heap.the_row)) yes, tt))

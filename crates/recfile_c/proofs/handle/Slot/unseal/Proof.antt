@@ -33,12 +33,12 @@ use Rattle.std.proofs.alloc.Calls.{handle_tells}
 use Rattle.recfile_c.specs.Slots.{slot_owns}
 use Rattle.recfile_c.specs.declared.held.Held.{Held as HeldFile}
 use Rattle.recfile_c.specs.contracts.held.Held as held
-use Rattle.recfile_c.specs.contracts.slot.Slot as slot
+use Rattle.recfile_c.specs.contracts.handle.Slot as slot
 use Rattle.recfile_c.proofs.Values.{both, alone, HeldLoose, loose_good, loose_in, slot_out, al, file_of, file_is}
-use Rattle.recfile_c.specs.contracts.slot.Slot.unseal as F
-use Rattle.recfile_c.specs.contracts.slot.Slot.unseal.Key.{name as #self}
-use Rattle.recfile_c.proofs.slot.Slot.unseal.Statement as stated
-use Rattle.recfile_c.proofs.slot.Slot.unseal.Code as code
+use Rattle.recfile_c.specs.contracts.handle.Slot.unseal as F
+use Rattle.recfile_c.specs.contracts.handle.Slot.unseal.Key.{name as #self}
+use Rattle.recfile_c.proofs.handle.Slot.unseal.Statement as stated
+use Rattle.recfile_c.proofs.handle.Slot.unseal.Code as code
 
 abbrev stayed : Stays (F.ended).signature.params (F.ended).kept
 stayed = (stay_dropped (plain (λ _. slot.the_row)) yes, (stay_dropped (plain (λ _. heap.the_row)) yes, tt))

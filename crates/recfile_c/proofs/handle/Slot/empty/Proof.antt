@@ -23,12 +23,12 @@ use denote.Triple.Spec.{triple_of}
 use denote.Triple.Table.{entered}
 use denote.Triple.Walked.{says, Stays, walk_of, ends_at, walk_Meets}
 use Rattle.std.specs.Prelude.{None}
-use Rattle.recfile_c.specs.contracts.slot.Slot as slot
+use Rattle.recfile_c.specs.contracts.handle.Slot as slot
 use Rattle.recfile_c.proofs.Values.{alone, slot_in}
-use Rattle.recfile_c.specs.contracts.slot.Slot.empty as F
-use Rattle.recfile_c.specs.contracts.slot.Slot.empty.Key.{name as #self}
-use Rattle.recfile_c.proofs.slot.Slot.empty.Statement as stated
-use Rattle.recfile_c.proofs.slot.Slot.empty.Code as code
+use Rattle.recfile_c.specs.contracts.handle.Slot.empty as F
+use Rattle.recfile_c.specs.contracts.handle.Slot.empty.Key.{name as #self}
+use Rattle.recfile_c.proofs.handle.Slot.empty.Statement as stated
+use Rattle.recfile_c.proofs.handle.Slot.empty.Code as code
 
 abbrev stayed : Stays (F.ended).signature.params (F.ended).kept
 stayed = tt
