@@ -1,7 +1,6 @@
 // A session by the calls that C makes: two transactions, a partial rollback, a key that is held; the file is closed,
 // its steps are carried out, and it is opened again.
 use crate::closing::*;
-use crate::handle::root::*;
 use crate::handle::*;
 use crate::lists::*;
 use crate::looks::*;
