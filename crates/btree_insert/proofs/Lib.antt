@@ -14,6 +14,7 @@ pub mod SonsLemmas
 pub mod SizeLemmas
 pub mod SearchStepLemmas
 pub mod StepNodeLemmas
+pub mod OnePageLemmas
 pub mod TreeClassLemmas
 pub mod ReachLemmas
 pub mod DistinctPageLemmas

@@ -28,9 +28,15 @@ spells_one k pages p n m small here there =
     let same : page ≡ spelling m k = ap bytes_of (sym here.page ∙ there.page) in
     sym (same_node first_layout k page n (node_at first_layout k page) small here.stands refl refl) ∙ same_node first_layout k page m (node_at first_layout k page) small there.stands same refl
 
+-- a node that the page spells is the head of the tree
+pub spelt_top : (k : ℕ) (pages : PageMap) (least : ℕ) (spot : Spot) (es : List Element) (us : List ℕ) (n : Node) → k ≤ 16 → 0 < spot.level → Spells k pages spot.page n → TreeAt k pages least spot.level spot.page es us → Between spot.bounds es
+    → Top k pages least spot.level (spot.level - 1) spot.page es us spot.bounds n
+spelt_top k pages least spot es us n small some spells tree between =
+    let head = top k pages least spot.level (spot.level - 1) spot.page es us spot.bounds (omega (arith, some)) tree between in
+    subst (Top k pages least spot.level (spot.level - 1) spot.page es us spot.bounds) (spells_one k pages spot.page head.0 n small head.1.spells spells) head.1
+
 -- the node of the step is the head of the tree
 pub taken_top : (k : ℕ) (pages : PagesView) (least : ℕ) (spot : Spot) (es : List Element) (us : List ℕ) (key : List ℕ) (in_place : Bool) (read : Node) (step : Step) → k ≤ 16 → 0 < spot.level → IsTrue pages.steady
     → (s : Stepped k pages spot key in_place read step) → TreeAt k (at pages.pages) least spot.level spot.page es us → Between spot.bounds es → Top k (at pages.pages) least spot.level (spot.level - 1) spot.page es us spot.bounds s.node
 taken_top k pages least spot es us key in_place read step small some steady s tree between =
-    let head = top k (at pages.pages) least spot.level (spot.level - 1) spot.page es us spot.bounds (omega (arith, some)) tree between in
-    subst (Top k (at pages.pages) least spot.level (spot.level - 1) spot.page es us spot.bounds) (spells_one k (at pages.pages) spot.page head.0 s.node small head.1.spells (s.spells steady)) head.1
+    spelt_top k (at pages.pages) least spot es us s.node small some (s.spells steady) tree between

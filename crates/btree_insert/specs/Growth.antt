@@ -7,7 +7,7 @@ use Rattle.page_store.specs.CanStage.{IsTaken}
 use Rattle.btree_node.specs.declared.node.Node.{Node}
 use Rattle.btree_node.specs.Cut.{left_of, right_of}
 use Rattle.btree_node.specs.Lists.{Element, Each, Ascends}
-use Rattle.btree_node.specs.Spelling.{spelling, IsElement, IsSon, SonsFit}
+use Rattle.btree_node.specs.Spelling.{spelling, CanStand, IsElement, IsSon, SonsFit}
 use Rattle.btree_insert.specs.declared.bounds.Bounds.{Bounds}
 use Rattle.btree_insert.specs.declared.insert_below.Grown.{Grown}
 use Rattle.btree_insert.specs.declared.insert_below.Grown.TheVariants.{Replaced, Fits, Split}
@@ -61,6 +61,20 @@ WritesOrSplits k fresh writes writes' taken taken' n node Fits =
 WritesOrSplits k fresh writes writes' taken taken' n node (Split middle right) =
     (length node.elements.items ≡ 2 * k + 1) × ((d : Element) → middle ≡ slice_index_or node.elements.items k d) × (right ≡ fresh)
     × (writes' ≡ (writes ++ (n, spelling (left_of k node) k) ∷ []) ++ (fresh, spelling (right_of k node) k) ∷ []) × (taken' ≡ taken + 1)
+
+-- what an insertion that changed one page came to, by what stood at the key
+abbrev pub in_one : Option (List ℕ) → Grown
+in_one (Some value) = Replaced value
+in_one None = Fits
+
+-- page n is written as a node of the kind and with the sons of m, and with these elements
+pub record WritesAs (k n : ℕ) (m : Node) (els : List Element) (writes writes' : List (ℕ × List ℕ)) : Type 0 where
+  pub node : Node
+  pub stands : CanStand node k
+  pub kind : node.kind ≡ m.kind
+  pub elements : node.elements.items ≡ els
+  pub sons : node.sons.items ≡ m.sons.items
+  pub written : writes' ≡ writes ++ (n, spelling node k) ∷ []
 
 -- the tree below page p now has the elements es
 pub record Whole (k : ℕ) (old new : PageMap) (fresh : ℕ → ℕ) (lo hi least h p : ℕ) (us : List ℕ) (es : List Element) : Type 0 where

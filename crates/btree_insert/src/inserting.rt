@@ -1,11 +1,11 @@
-ghost use Rattle.std.specs.Prelude.{◌≡◌, ◌+◌, ◌-◌, ◌<◌, ◌≤◌, ◌↔◌, ◌∷◌, ◌++◌, [], ℕ, List, None, true, IsTrue, IsSome, IfOk, OnOk, OnErr, MatchResult, length};
+ghost use Rattle.std.specs.Prelude.{◌≡◌, ◌+◌, ◌-◌, ◌<◌, ◌≤◌, ◌↔◌, ◌∷◌, ◌++◌, [], ℕ, List, None, true, IsTrue, IsSome, Ok, IfOk, IfSome, OnOk, OnErr, MatchResult, length};
 ghost use Rattle.rec_types.specs.Table.{counted};
 ghost use Rattle.page_store.specs.FreeNumbers.{candidate, count_after};
 ghost use Rattle.page_store.specs.PageMap.{at, overlay};
 ghost use Rattle.btree_node.specs.Lists.{Element};
 ghost use Rattle.btree_node.specs.Spelling.{spelling, CanStand, IsElement, AreSpelt};
 ghost use Rattle.btree_insert.specs.Faults.{is_device};
-ghost use Rattle.btree_insert.specs.Growth.{IsOutside, WritesFit, TakesNumbers, SplitGoesUp, Grew};
+ghost use Rattle.btree_insert.specs.Growth.{IsOutside, WritesFit, TakesNumbers, SplitGoesUp, Grew, in_one};
 ghost use Rattle.btree_insert.specs.Inserted.{leaf_of, root_of, Inserted, IsSmall, IsRefused};
 ghost use Rattle.btree_insert.specs.PageTrees.{Holds};
 ghost use Rattle.btree_insert.specs.Spelt.{AreSpeltIn};
@@ -14,6 +14,7 @@ ghost use Rattle.btree_insert.specs.Sizes.{IsTree, greatest_count};
 
 use crate::bounds::Bounds;
 use crate::insert_below::{Grown, insert_below, write_node};
+use crate::insert_in_one::insert_in_one;
 use crate::step::Spot;
 use crate::tree::{GREATEST_COUNT, GREATEST_HEIGHT, GREATEST_PAGE_COUNT, Tree, TreeFault};
 use arrayvec::ArrayVec;
@@ -98,7 +99,7 @@ fn is_small<S: Store>(pages: &Pages<S>, tree: &Tree, taken: u32) -> bool
 }
 
 /// Puts the record at the key of a tree, and collects the pages to write. Where `in_place`, a page in
-/// memory is searched where it lies.
+/// memory is searched where it lies, and where one page changes alone no other becomes a node.
 fn grow_tree<S: Store>(
     pages: &mut Pages<S>,
     edit: &mut PageEdit,
@@ -133,6 +134,49 @@ fn grow_tree<S: Store>(
     if tree.height == 0 {
         return Ok(plant(pages, edit, tree, element)?);
     }
+    if !in_place {
+        return grow_below(pages, edit, tree, element, false);
+    }
+    match grow_in_one(pages, edit, tree, element) {
+        Ok(Some(changed)) => Ok(changed),
+        Ok(None) => grow_below(pages, edit, tree, element, true),
+        Err(_) => Err(TreeFault::Memory),
+    }
+}
+
+/// Puts the record at the key of a tree that has a root, level by level.
+fn grow_below<S: Store>(
+    pages: &mut Pages<S>,
+    edit: &mut PageEdit,
+    tree: &Tree,
+    element: (Key, Record),
+    in_place: bool,
+) -> Result<Changed, TreeFault>
+    requires tree { IsTree tree.now }
+    requires height { 0 < tree.now.height }
+    requires element { IsElement element }
+    requires empty { edit.old.writes.items ≡ [] }
+    requires none_taken { edit.old.taken ≡ 0 }
+    requires spelt { IsTrue in_place → AreSpeltIn tree.now.order pages.old }
+    ensures grew { IsTrue pages.old.steady → (es : List Element) (us : List ℕ)
+        → Holds (at pages.old.pages) tree.now es us
+        → MatchResult result
+        (λ changed. Inserted (at pages.old.pages)
+        (overlay (at pages.old.pages) edit.new.writes.items) (candidate pages.old.pages)
+        edit.new.taken tree.now changed.tree es us element.0 element.1 changed.old)
+        IsOutside }
+    ensures fits { OnOk result (WritesFit pages.old.pages edit.new.writes.items edit.new.taken) }
+    ensures few { OnOk result (edit.new.taken ≤ 20) }
+    ensures order { IfOk result (λ changed. changed.tree.order ≡ tree.now.order) }
+    ensures used { IfOk result (λ changed. changed.tree.used ≡ tree.now.used + edit.new.taken) }
+    ensures spelt { AreSpelt tree.now.order edit.old.writes.items
+        → OnOk result (AreSpelt tree.now.order edit.new.writes.items) }
+    ensures freed { edit.new.freed ≡ edit.old.freed }
+    ensures device { pages.new.failures ≡ counted pages.old.failures (is_device result) }
+    ensures unchanged { pages.new
+        ≡ record pages.old { reads = pages.new.reads; failures = pages.new.failures } }
+    ensures reads { pages.new.reads ≤ pages.old.reads + tree.now.height }
+{
     let root = Spot {
         page: tree.root,
         level: tree.height,
@@ -153,6 +197,60 @@ fn grow_tree<S: Store>(
     )?;
     let leaf = visited[visited.len() - 1];
     Ok(changed_tree(pages, edit, tree, grown, leaf)?)
+}
+
+/// Puts the record at the key of a tree that has a root, where that changes one page alone and all pages
+/// on the way are in memory. None where it is not so: the edit is as it was then.
+fn grow_in_one<S: Store>(
+    pages: &Pages<S>,
+    edit: &mut PageEdit,
+    tree: &Tree,
+    element: (Key, Record),
+) -> Result<Option<Changed>, Memory>
+    requires tree { IsTree tree.now }
+    requires height { 0 < tree.now.height }
+    requires element { IsElement element }
+    requires empty { edit.old.writes.items ≡ [] }
+    requires none_taken { edit.old.taken ≡ 0 }
+    requires spelt { AreSpeltIn tree.now.order pages.now }
+    ensures grew { (es : List Element) (us : List ℕ) → Holds (at pages.now.pages) tree.now es us
+        → IfOk result (λ r. IfSome r (λ changed. Inserted (at pages.now.pages)
+        (overlay (at pages.now.pages) edit.new.writes.items) (candidate pages.now.pages)
+        edit.new.taken tree.now changed.tree es us element.0 element.1 changed.old)) }
+    ensures none { result ≡ Ok None → edit.new ≡ edit.old }
+    ensures fits { OnOk result (WritesFit pages.now.pages edit.new.writes.items edit.new.taken) }
+    ensures few { OnOk result (edit.new.taken ≤ 20) }
+    ensures order { IfOk result (λ r. IfSome r (λ changed.
+        changed.tree.order ≡ tree.now.order)) }
+    ensures used { IfOk result (λ r. IfSome r (λ changed.
+        changed.tree.used ≡ tree.now.used + edit.new.taken)) }
+    ensures spelt { AreSpelt tree.now.order edit.old.writes.items
+        → OnOk result (AreSpelt tree.now.order edit.new.writes.items) }
+    ensures freed { edit.new.freed ≡ edit.old.freed }
+{
+    let root = Spot {
+        page: tree.root,
+        level: tree.height,
+        bounds: Bounds {
+            low: None,
+            high: None,
+        },
+    };
+    let Some(placed) = insert_in_one(pages, edit, tree.order, &root, element)? else {
+        return Ok(None);
+    };
+    let changed = changed_tree(pages, edit, tree, grown_in_one(placed.old), placed.page)?;
+    Ok(Some(changed))
+}
+
+/// What an insertion that changed one page came to.
+fn grown_in_one(old: Option<Record>) -> Grown
+    ensures { result ≡ in_one old }
+{
+    match old {
+        Some(old) => Grown::Replaced(old),
+        None => Grown::Fits,
+    }
 }
 
 /// The tree after an insertion below its root. Where the root was split, a new root stands above its

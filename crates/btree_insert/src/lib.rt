@@ -4,6 +4,7 @@
 mod bounds;
 mod finding;
 mod insert_below;
+mod insert_in_one;
 mod inserting;
 pub mod laws;
 mod reading;

@@ -102,7 +102,12 @@ fn step_in_node(node: &Node, spot: &Spot, key: &Key) -> Step
 
 /// The step from a page that spells a node. Fault: Damaged with the page where the node does not belong at
 /// the spot.
-fn step_in_page(page: &[u8; 4096], order: u16, spot: &Spot, key: &Key) -> Result<Step, TreeFault>
+pub(crate) fn step_in_page(
+    page: &[u8; 4096],
+    order: u16,
+    spot: &Spot,
+    key: &Key,
+) -> Result<Step, TreeFault>
     requires order { order ≤ greatest_order }
     requires level { 0 < spot.now.level }
     requires spelt { IsSpelt order page.now }

@@ -9,11 +9,11 @@ use Rattle.btree_insert.specs.PageTrees.{Holds}
 use Rattle.btree_insert.proofs.BoundLemmas.{Between-all}
 use Rattle.btree_insert.proofs.VisitedLemmas.{unvisited_none}
 use Rattle.btree_insert.proofs.HeadNodeLemmas.{root_tree}
-use Rattle.btree_insert.proofs.inserting.grow_tree.Goals as goal
+use Rattle.btree_insert.proofs.inserting.grow_below.Goals as goal
 
 pub returns-in_err-grown-clause-grew : goal.returns-in_err-grown-clause-grew
 returns-in_err-grown-clause-grew g c = λ steady es us holds.
-    let p = err_from_is_err_and c.from_residual-in_err-grown.result c.from_residual-in_err-grown.ensures.1 in
+    let p = err_from_is_err_and c.from_residual.result c.from_residual.ensures.1 in
     let call = c.in_err-grown.ensures.grew steady c.requires.empty 1 es us (root_tree c.args.tree.now.order (at c.args.pages.now.pages) c.args.tree.now.height c.args.tree.now.root es us (omega arith) holds.tree) (Between-all es holds.ascends) holds.apart (unvisited_none c.new-visited.result.items us c.new-visited.ensures) in
     rw (p.1, p.2) call
 

@@ -1,0 +1,35 @@
+-- An insertion that changes one page.
+use Rattle.std.proofs.Common.{◌≡◌, ℕ, ◌*◌, ◌<◌, List, Option, Some, None, IfSome, length, ap, ◌∙◌, arith}
+use Rattle.std.specs.List.{insert}
+use Rattle.std.proofs.lemmas.List.Edits.{length-insert}
+use Rattle.btree_node.specs.declared.node.Node.{Node}
+use Rattle.btree_node.specs.declared.node.NodeKind.TheVariants.{Leaf}
+use Rattle.btree_node.specs.Layout.{first_layout}
+use Rattle.btree_node.specs.Lists.{Element, IsPlace}
+use Rattle.btree_node.specs.Spelling.{ElementFits, CanStand}
+use Rattle.btree_insert.specs.declared.insert_below.Grown.TheVariants.{Split}
+use Rattle.btree_insert.specs.Growth.{in_one}
+use Rattle.btree_insert.proofs.PlaceLemmas.{leaf_may_be_overfull}
+
+-- what follows from a value
+pub if_some : {X : Type 0} (o : Option X) (P Q : X → Type 0) → ((x : X) → P x → Q x) → IfSome o P → IfSome o Q
+if_some (Some x) P Q follows is = follows x is
+if_some None P Q follows is = tt
+
+-- no page is split
+pub never_split : (old : Option (List ℕ)) (m : Element) (r : ℕ) → in_one old ≡ Split m r → ⊥
+never_split (Some value) m r is = absurd (cc)
+never_split None m r is = absurd (cc)
+
+-- a leaf with room for one more element
+pub leaf_stands : (k : ℕ) (n m : Node) (i : ℕ) (e : Element) → CanStand n k → n.kind ≡ Leaf → IsPlace n.elements.items e.0 i → length n.elements.items < 2 * k → ElementFits first_layout e → m.kind ≡ n.kind → m.elements.items ≡ insert n.elements.items i e → m.sons.items ≡ n.sons.items → CanStand m k
+leaf_stands k n m i e stands leaf place room fits kind_is els_is sons_is =
+    let over = leaf_may_be_overfull k n m i e stands leaf place fits kind_is els_is sons_is in
+    let size = ap length els_is ∙ length-insert n.elements.items i e place.within in
+    record {
+      some = over.some;
+      most = omega (arith, size, room);
+      fit = over.fit;
+      ascends = over.ascends;
+      sons = over.sons;
+    }

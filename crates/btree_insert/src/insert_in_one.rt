@@ -1,0 +1,162 @@
+ghost use Rattle.std.specs.Prelude.{◌≡◌, ◌*◌, ◌<◌, ◌≤◌, ◌∷◌, ◌++◌, [], ℕ, List, Some, None, Ok, length, IsSome, IfOk, IfSome, OnOk, slice_set};
+ghost use Rattle.std.specs.List.{insert};
+ghost use Rattle.page_store.specs.FreeNumbers.{candidate};
+ghost use Rattle.page_store.specs.PageMap.{at, overlay};
+ghost use Rattle.btree_node.specs.Layout.{IsOrder, greatest_order};
+ghost use Rattle.btree_node.specs.Lists.{Element, IsAt, IsPlace};
+ghost use Rattle.btree_node.specs.Spelling.{spelling, CanStand, IsElement, IsSpelt, AreSpelt};
+ghost use Rattle.btree_node.specs.declared.node.Node.{Node};
+ghost use Rattle.btree_node.specs.declared.node.NodeKind.TheVariants.{Leaf};
+ghost use Rattle.btree_insert.specs.Bounds.{Between};
+ghost use Rattle.btree_insert.specs.Growth.{IsWithin, WritesFit, TakesNumbers, Grew, WritesAs, in_one};
+ghost use Rattle.btree_insert.specs.PageTrees.{TreeAt, Apart};
+ghost use Rattle.btree_insert.specs.Spelt.{AreSpeltIn};
+
+use crate::insert_below::write_node;
+use crate::step::{Spot, Step, step_in_page};
+use btree_node::{Node, count_in, decode_into};
+use page_store::{PageEdit, Pages, Store};
+use rec_types::{Key, Memory, Record};
+
+/// The one page that an insertion changed.
+#[derive(Clone, Copy)]
+pub(crate) struct Placed {
+    /// Its number.
+    pub page: u32,
+    /// What stood at the key.
+    pub old: Option<Record>,
+}
+
+/// Puts the record at the key in the tree below the page at a spot where that changes one page alone and
+/// all pages on the way are in memory, and answers that page with what stood at the key. None where it
+/// is not so, or a page does not belong on the way: the edit is as it was then. Fault: Memory.
+pub(crate) fn insert_in_one<S: Store>(
+    pages: &Pages<S>,
+    edit: &mut PageEdit,
+    order: u16,
+    spot: &Spot,
+    element: (Key, Record),
+) -> Result<Option<Placed>, Memory>
+    requires order { IsOrder order }
+    requires level { 0 < spot.now.level }
+    requires element { IsElement element }
+    requires within { IsWithin spot.now.bounds element.0 }
+    requires fits { WritesFit pages.now.pages edit.old.writes.items edit.old.taken }
+    requires spelt { AreSpeltIn order pages.now }
+    ensures grew { edit.old.writes.items ≡ []
+        → (least : ℕ) (es : List Element) (us : List ℕ)
+        → TreeAt order (at pages.now.pages) least spot.now.level spot.now.page es us
+        → Between spot.now.bounds es → Apart us
+        → IfOk result (λ r. IfSome r (λ placed.
+        Grew order (at pages.now.pages) (overlay (at pages.now.pages) edit.new.writes.items)
+        (candidate pages.now.pages) edit.old.taken edit.new.taken
+        least spot.now.level spot.now.page es us element.0 element.1 (in_one placed.old))) }
+    ensures none { result ≡ Ok None → edit.new ≡ edit.old }
+    ensures fits { OnOk result (WritesFit pages.now.pages edit.new.writes.items edit.new.taken) }
+    ensures takes { IfOk result (λ r. IfSome r (λ placed.
+        TakesNumbers spot.now.level edit.old.taken edit.new.taken (in_one placed.old))) }
+    ensures spelt { AreSpelt order edit.old.writes.items
+        → OnOk result (AreSpelt order edit.new.writes.items) }
+    ensures freed { edit.new.freed ≡ edit.old.freed }
+    ensures in_use { IfOk result (λ r. IsSome r → IsSome (at pages.now.pages spot.now.page)) }
+    ensures some_page { IfOk result (λ r. IsSome r → 0 < spot.now.page) }
+{
+    let n = spot.page;
+    let Some(page) = pages.in_memory(n) else {
+        return Ok(None);
+    };
+    let Ok(step) = step_in_page(page, order, spot, &element.0) else {
+        return Ok(None);
+    };
+    match step {
+        Step::Found(i, old) => {
+            write_replaced(edit, order, n, page, i, element)?;
+            Ok(Some(Placed {
+                page: n,
+                old: Some(old),
+            }))
+        }
+        Step::Ends(i) => {
+            if count_in(page) >= 2 * order as usize {
+                return Ok(None);
+            }
+            write_inserted(edit, order, n, page, i, element)?;
+            Ok(Some(Placed { page: n, old: None }))
+        }
+        Step::Goes(_, son, bounds) => {
+            let below = Spot {
+                page: son,
+                level: spot.level - 1,
+                bounds,
+            };
+            insert_in_one(pages, edit, order, &below, element)
+        }
+    }
+}
+
+/// Writes page n with the element in the place of the one that has its key.
+fn write_replaced(
+    edit: &mut PageEdit,
+    order: u16,
+    n: u32,
+    page: &[u8; 4096],
+    i: usize,
+    element: (Key, Record),
+) -> Result<(), Memory>
+    requires order { order ≤ greatest_order }
+    requires element { IsElement element }
+    requires spelt { IsSpelt order page.now }
+    requires found { (m : Node) → CanStand m order → page.now ≡ spelling m order
+        → IsAt m.elements.items element.0 i }
+    ensures writes { (m : Node) → CanStand m order → page.now ≡ spelling m order
+        → OnOk result (WritesAs order n m (slice_set m.elements.items i element)
+        edit.old.writes.items edit.new.writes.items) }
+    ensures spelt { AreSpelt order edit.old.writes.items
+        → OnOk result (AreSpelt order edit.new.writes.items) }
+    ensures taken { edit.new.taken ≡ edit.old.taken }
+    ensures freed { edit.new.freed ≡ edit.old.freed }
+{
+    let mut node = Node::blank();
+    let _ = decode_into(page, order, &mut node);
+    set_element(&mut node, i, element);
+    write_node(edit, order, n, &node)
+}
+
+/// Puts an element in the place of another.
+fn set_element(node: &mut Node, i: usize, element: (Key, Record))
+    requires { i < length node.old.elements.items }
+    ensures kind { node.new.kind ≡ node.old.kind }
+    ensures elements { node.new.elements.items ≡ slice_set node.old.elements.items i element }
+    ensures sons { node.new.sons ≡ node.old.sons }
+{
+    node.elements.as_mut_slice()[i] = element;
+}
+
+/// Writes page n, a leaf that has room, with the element at its place.
+fn write_inserted(
+    edit: &mut PageEdit,
+    order: u16,
+    n: u32,
+    page: &[u8; 4096],
+    i: usize,
+    element: (Key, Record),
+) -> Result<(), Memory>
+    requires order { order ≤ greatest_order }
+    requires element { IsElement element }
+    requires spelt { IsSpelt order page.now }
+    requires leaf { (m : Node) → CanStand m order → page.now ≡ spelling m order
+        → (m.kind ≡ Leaf) × IsPlace m.elements.items element.0 i
+        × (length m.elements.items < 2 * order) }
+    ensures writes { (m : Node) → CanStand m order → page.now ≡ spelling m order
+        → OnOk result (WritesAs order n m (insert m.elements.items i element)
+        edit.old.writes.items edit.new.writes.items) }
+    ensures spelt { AreSpelt order edit.old.writes.items
+        → OnOk result (AreSpelt order edit.new.writes.items) }
+    ensures taken { edit.new.taken ≡ edit.old.taken }
+    ensures freed { edit.new.freed ≡ edit.old.freed }
+{
+    let mut node = Node::blank();
+    let _ = decode_into(page, order, &mut node);
+    node.elements.insert(i, element);
+    write_node(edit, order, n, &node)
+}
