@@ -11,7 +11,7 @@ ghost use Rattle.btree_insert.specs.declared.tree.Tree.{Tree as TreeOf};
 ghost use Rattle.btree_delete.specs.Survey.{height_of, seen_of, IsRooted, WentThrough, Measured};
 
 use crate::free_numbers::free_numbers;
-use crate::survey::{Survey, survey_page};
+use crate::survey::{Above, Survey, survey_page};
 use btree_insert::{Bounds, Tree, TreeFault};
 use page_store::{Pages, Store};
 use std::alloc::Global;
@@ -105,19 +105,14 @@ fn survey_root<S: Store>(
     if root == 0 {
         return Ok(survey);
     }
-    let bounds = Bounds {
-        low: None,
-        high: None,
+    let above = Above {
+        from: root,
+        left: MOST_LEVELS - 1,
+        bounds: Bounds {
+            low: None,
+            high: None,
+        },
     };
-    survey_page(
-        pages,
-        &mut survey,
-        order,
-        1,
-        MOST_LEVELS - 1,
-        root,
-        root,
-        &bounds,
-    )?;
+    survey_page(pages, &mut survey, order, 1, root, &above)?;
     Ok(survey)
 }

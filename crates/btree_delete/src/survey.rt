@@ -118,6 +118,17 @@ impl Survey {
     }
 }
 
+/// What the levels above say of a page and of those below it.
+#[derive(Clone, Copy)]
+pub(crate) struct Above {
+    /// The page in which its number stands.
+    pub from: u32,
+    /// How many levels there may be below it.
+    pub left: u32,
+    /// The bounds of its keys.
+    pub bounds: Bounds,
+}
+
 /// Fills the node with that of page n, which has at least so many keys, all within the bounds. Faults:
 /// Device, and Damaged(n) where the page is not in use or spells no such node; the node may then be any.
 /// No page changes.
@@ -162,28 +173,27 @@ fn read_page<S: Store>(
     Ok(())
 }
 
-/// Goes through the tree below page n, whose number stands in page `from`. So many more levels are
-/// allowed below page n.
+/// Goes through the tree below page n, a page of at least so many keys. Faults: Device, and Damaged with
+/// the first page that is not as it should be, or with the page above where page n was reached before or
+/// isn't there.
 #[cycle(surveying)]
 pub(crate) fn survey_page<S: Store>(
     pages: &mut Pages<S>,
     survey: &mut Survey,
     order: u16,
     least: u16,
-    left: u32,
-    from: u32,
     n: u32,
-    bounds: &Bounds,
+    above: &Above,
 ) -> Result<(), TreeFault>
     requires order { order ≤ 16 }
     requires idle { pages.old.changed ≡ false }
     requires room { survey.old.keys + 32 * unreached survey.old.reached < 2 ^ 32 }
     ensures found { IsTrue pages.old.steady → OnOk result
-        (Surveyed (below_page order (at pages.old.pages) least n) left bounds.now
+        (Surveyed (below_page order (at pages.old.pages) least n) above.now.left above.now.bounds
         survey.old survey.new pages.old.reads pages.new.reads) }
     ensures exact { IsTrue pages.old.steady → (h level : ℕ) (es : List Element) (us : List ℕ)
         → Sound (below_page order (at pages.old.pages) least n)
-        left bounds.now survey.old h level es us
+        above.now.left above.now.bounds survey.old h level es us
         → MatchResult result (λ _. survey.new ≡ after level es us survey.old)
         (λ fault. fault ≡ TreeFault.Device) }
     ensures no_memory { IfErr result (λ fault. fault ≢ TreeFault.Memory) }
@@ -195,60 +205,55 @@ pub(crate) fn survey_page<S: Store>(
         ≡ record pages.old { reads = pages.new.reads; failures = pages.new.failures } }
 {
     if !survey.reach(n) {
-        return Err(TreeFault::Damaged(from));
+        return Err(TreeFault::Damaged(above.from));
     }
     let mut node = Node::blank();
-    read_page(pages, order, least, n, bounds, &mut node)?;
+    read_page(pages, order, least, n, &above.bounds, &mut node)?;
     let elements = node.elements.as_slice();
     match node.kind {
         NodeKind::Leaf => {
-            if survey.add_leaf(left, elements.len() as u32) {
+            if survey.add_leaf(above.left, elements.len() as u32) {
                 Ok(())
             } else {
                 Err(TreeFault::Damaged(n))
             }
         }
         NodeKind::Inner => {
-            if left == 0 {
+            if above.left == 0 {
                 return Err(TreeFault::Damaged(n));
             }
-            survey_sons(
-                pages,
-                survey,
-                order,
-                left - 1,
-                n,
-                node.sons.as_slice(),
-                elements,
-                bounds,
-            )
+            let below = Above {
+                from: n,
+                left: above.left - 1,
+                bounds: above.bounds,
+            };
+            survey_sons(pages, survey, order, node.sons.as_slice(), elements, &below)
         }
     }
 }
 
-/// Goes through the trees below the sons, with the keys between them.
+/// Goes through the trees below the sons of a page, with the keys between them. Faults: as in
+/// `survey_page`.
 #[cycle(surveying)]
 fn survey_sons<S: Store>(
     pages: &mut Pages<S>,
     survey: &mut Survey,
     order: u16,
-    left: u32,
-    from: u32,
     sons: &[u32],
     elements: &[(Key, Record)],
-    bounds: &Bounds,
+    above: &Above,
 ) -> Result<(), TreeFault>
     requires order { order ≤ 16 }
     requires idle { pages.old.changed ≡ false }
     requires sons { length sons.now ≡ length elements.now + 1 }
     requires room { survey.old.keys + length elements.now + 32 * unreached survey.old.reached
         < 2 ^ 32 }
-    ensures found { IsTrue pages.old.steady → Between bounds.now elements.now → OnOk result
-        (Surveyed (below_sons order (at pages.old.pages) sons.now elements.now) left bounds.now
+    ensures found { IsTrue pages.old.steady → Between above.now.bounds elements.now → OnOk result
+        (Surveyed (below_sons order (at pages.old.pages) sons.now elements.now) above.now.left above.now.bounds
         survey.old survey.new pages.old.reads pages.new.reads) }
     ensures exact { IsTrue pages.old.steady → (h level : ℕ) (es : List Element) (us : List ℕ)
         → Sound (below_sons order (at pages.old.pages) sons.now elements.now)
-        left bounds.now survey.old h level es us
+        above.now.left above.now.bounds survey.old h level es us
         → MatchResult result (λ _. survey.new ≡ after level es us survey.old)
         (λ fault. fault ≡ TreeFault.Device) }
     ensures no_memory { IfErr result (λ fault. fault ≢ TreeFault.Memory) }
@@ -260,27 +265,26 @@ fn survey_sons<S: Store>(
         ≡ record pages.old { reads = pages.new.reads; failures = pages.new.failures } }
 {
     if elements.is_empty() {
-        return survey_page(pages, survey, order, order, left, from, sons[0], bounds);
+        return survey_page(pages, survey, order, order, sons[0], above);
     }
     let middle = elements[0];
-    let before = Bounds {
-        low: bounds.low,
-        high: Some(middle.0),
+    let before = Above {
+        from: above.from,
+        left: above.left,
+        bounds: Bounds {
+            low: above.bounds.low,
+            high: Some(middle.0),
+        },
     };
-    survey_page(pages, survey, order, order, left, from, sons[0], &before)?;
+    survey_page(pages, survey, order, order, sons[0], &before)?;
     survey.add_key();
-    let behind = Bounds {
-        low: Some(middle.0),
-        high: bounds.high,
+    let behind = Above {
+        from: above.from,
+        left: above.left,
+        bounds: Bounds {
+            low: Some(middle.0),
+            high: above.bounds.high,
+        },
     };
-    survey_sons(
-        pages,
-        survey,
-        order,
-        left,
-        from,
-        &sons[1..],
-        &elements[1..],
-        &behind,
-    )
+    survey_sons(pages, survey, order, &sons[1..], &elements[1..], &behind)
 }
