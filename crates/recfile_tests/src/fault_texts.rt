@@ -14,401 +14,406 @@ use std::fmt::Display;
 use std::process::Abort;
 use std::test::Fail;
 
-/// Expects the fault to be shown by this text.
-fn expect_text<E: Display>(
+/// Expects each fault to be shown by the text beside it.
+fn expect_texts<E: Display>(
     rt: &impl Abort,
     alloc: Global,
-    fault: &E,
-    text: &str,
+    rows: &[(E, &str)],
 ) -> Result<(), Fail> {
-    let shown = format!(in alloc; "{fault}")?;
-    assert_eq!(rt; shown.as_str(), text);
+    for row in rows {
+        let shown = format!(in alloc; "{}", row.0)?;
+        assert_eq!(rt; shown.as_str(), row.1);
+    }
     Ok(())
 }
+
+const KEY_FAULTS: [(KeyFault, &str); 2] = [
+    (KeyFault::Empty, "a key has at least one byte"),
+    (KeyFault::TooLong, "a key has at most 16 bytes"),
+];
+
+const LIMIT_FAULTS: [(LimitFault, &str); 3] = [
+    (LimitFault::Records, "the records limit is 1 to 1000000"),
+    (LimitFault::Log, "the log limit is 2 to 4000000"),
+    (LimitFault::Begins, "the begins limit is 1 to 1000000"),
+];
+
+const RECORD_FAULTS: [(RecordFault, &str); 1] = [(
+    RecordFault::TooLong,
+    "a record has at most 32 bytes",
+)];
 
 #[test]
 fn texts_of_key_fault_and_others(rt: HostRuntime) -> Result<(), Fail> {
     let alloc = rt.alloc();
-    for (fault, text) in [
-        (KeyFault::Empty, "a key has at least one byte"),
-        (KeyFault::TooLong, "a key has at most 16 bytes"),
-    ] {
-        expect_text(&rt, alloc, &fault, text)?;
-    }
-    for (fault, text) in [
-        (LimitFault::Records, "the records limit is 1 to 1000000"),
-        (LimitFault::Log, "the log limit is 2 to 4000000"),
-        (LimitFault::Begins, "the begins limit is 1 to 1000000"),
-    ] {
-        expect_text(&rt, alloc, &fault, text)?;
-    }
-    for (fault, text) in [(RecordFault::TooLong, "a record has at most 32 bytes")] {
-        expect_text(&rt, alloc, &fault, text)?;
-    }
-    Ok(())
+    expect_texts(&rt, alloc, &KEY_FAULTS)?;
+    expect_texts(&rt, alloc, &LIMIT_FAULTS)?;
+    expect_texts(&rt, alloc, &RECORD_FAULTS)
 }
+
+const TABLE_FAULTS: [(TableFault, &str); 4] = [
+    (TableFault::Device, "the device failed"),
+    (TableFault::Damaged(7), "page 7 is damaged"),
+    (
+        TableFault::NoRoom,
+        "the table has as many records as it may",
+    ),
+    (TableFault::Memory, "out of memory"),
+];
 
 #[test]
 fn texts_of_table_faults(rt: HostRuntime) -> Result<(), Fail> {
-    let alloc = rt.alloc();
-    for (fault, text) in [
-        (TableFault::Device, "the device failed"),
-        (TableFault::Damaged(7), "page 7 is damaged"),
-        (
-            TableFault::NoRoom,
-            "the table has as many records as it may",
-        ),
-        (TableFault::Memory, "out of memory"),
-    ] {
-        expect_text(&rt, alloc, &fault, text)?;
-    }
-    Ok(())
+    expect_texts(&rt, rt.alloc(), &TABLE_FAULTS)
 }
+
+const BEGIN_FAULTS: [(BeginFault, &str); 2] = [
+    (
+        BeginFault::BeginsSpent,
+        "the session has begun as many transactions as it may",
+    ),
+    (BeginFault::Memory, "out of memory"),
+];
 
 #[test]
 fn texts_of_begin_faults(rt: HostRuntime) -> Result<(), Fail> {
-    let alloc = rt.alloc();
-    for (fault, text) in [
-        (
-            BeginFault::BeginsSpent,
-            "the session has begun as many transactions as it may",
-        ),
-        (BeginFault::Memory, "out of memory"),
-    ] {
-        expect_text(&rt, alloc, &fault, text)?;
-    }
-    Ok(())
+    expect_texts(&rt, rt.alloc(), &BEGIN_FAULTS)
 }
+
+const PUT_FAULTS: [(PutFault, &str); 8] = [
+    (PutFault::NoSuchTx, "no such open transaction"),
+    (PutFault::Rolling, "the transaction is being rolled back"),
+    (
+        PutFault::Held(TxId(7)),
+        "the key is held by another transaction",
+    ),
+    (PutFault::LogFull, "the log is full"),
+    (PutFault::Device, "the device failed"),
+    (PutFault::Damaged(7), "page 7 is damaged"),
+    (PutFault::Full, "the file has as many records as it may"),
+    (PutFault::Memory, "out of memory"),
+];
+
+const REMOVE_FAULTS: [(RemoveFault, &str); 8] = [
+    (RemoveFault::NoSuchTx, "no such open transaction"),
+    (RemoveFault::Rolling, "the transaction is being rolled back"),
+    (
+        RemoveFault::Held(TxId(7)),
+        "the key is held by another transaction",
+    ),
+    (RemoveFault::LogFull, "the log is full"),
+    (RemoveFault::Device, "the device failed"),
+    (RemoveFault::Damaged(7), "page 7 is damaged"),
+    (RemoveFault::Absent, "the key has no record"),
+    (RemoveFault::Memory, "out of memory"),
+];
+
+const GET_FAULTS: [(GetFault, &str); 5] = [
+    (GetFault::NoSuchTx, "no such open transaction"),
+    (GetFault::Rolling, "the transaction is being rolled back"),
+    (
+        GetFault::Held(TxId(7)),
+        "the key is held by another transaction",
+    ),
+    (GetFault::Device, "the device failed"),
+    (GetFault::Damaged(7), "page 7 is damaged"),
+];
 
 #[test]
 fn texts_of_put_fault_and_others(rt: HostRuntime) -> Result<(), Fail> {
     let alloc = rt.alloc();
-    for (fault, text) in [
-        (PutFault::NoSuchTx, "no such open transaction"),
-        (PutFault::Rolling, "the transaction is being rolled back"),
-        (
-            PutFault::Held(TxId(7)),
-            "the key is held by another transaction",
-        ),
-        (PutFault::LogFull, "the log is full"),
-        (PutFault::Device, "the device failed"),
-        (PutFault::Damaged(7), "page 7 is damaged"),
-        (PutFault::Full, "the file has as many records as it may"),
-        (PutFault::Memory, "out of memory"),
-    ] {
-        expect_text(&rt, alloc, &fault, text)?;
-    }
-    for (fault, text) in [
-        (RemoveFault::NoSuchTx, "no such open transaction"),
-        (RemoveFault::Rolling, "the transaction is being rolled back"),
-        (
-            RemoveFault::Held(TxId(7)),
-            "the key is held by another transaction",
-        ),
-        (RemoveFault::LogFull, "the log is full"),
-        (RemoveFault::Device, "the device failed"),
-        (RemoveFault::Damaged(7), "page 7 is damaged"),
-        (RemoveFault::Absent, "the key has no record"),
-        (RemoveFault::Memory, "out of memory"),
-    ] {
-        expect_text(&rt, alloc, &fault, text)?;
-    }
-    for (fault, text) in [
-        (GetFault::NoSuchTx, "no such open transaction"),
-        (GetFault::Rolling, "the transaction is being rolled back"),
-        (
-            GetFault::Held(TxId(7)),
-            "the key is held by another transaction",
-        ),
-        (GetFault::Device, "the device failed"),
-        (GetFault::Damaged(7), "page 7 is damaged"),
-    ] {
-        expect_text(&rt, alloc, &fault, text)?;
-    }
-    Ok(())
+    expect_texts(&rt, alloc, &PUT_FAULTS)?;
+    expect_texts(&rt, alloc, &REMOVE_FAULTS)?;
+    expect_texts(&rt, alloc, &GET_FAULTS)
 }
+
+const SAVEPOINT_FAULTS: [(SavepointFault, &str); 3] = [
+    (SavepointFault::NoSuchTx, "no such open transaction"),
+    (
+        SavepointFault::Rolling,
+        "the transaction is being rolled back",
+    ),
+    (SavepointFault::TooDeep, "the transaction has 32 savepoints"),
+];
+
+const RELEASE_FAULTS: [(ReleaseFault, &str); 3] = [
+    (ReleaseFault::NoSuchTx, "no such open transaction"),
+    (
+        ReleaseFault::Rolling,
+        "the transaction is being rolled back",
+    ),
+    (ReleaseFault::NoSuchSave, "no such savepoint"),
+];
+
+const ROLLBACK_TO_FAULTS: [(RollbackToFault, &str); 4] = [
+    (RollbackToFault::NoSuchTx, "no such open transaction"),
+    (
+        RollbackToFault::Rolling,
+        "the transaction is being rolled back",
+    ),
+    (RollbackToFault::NoSuchSave, "no such savepoint"),
+    (
+        RollbackToFault::Stopped {
+            undone: 1,
+            left: 2,
+            cause: Cause::Device,
+        },
+        "stopped after 1 changes, 2 are left",
+    ),
+];
 
 #[test]
 fn texts_of_savepoint_fault_and_others(rt: HostRuntime) -> Result<(), Fail> {
     let alloc = rt.alloc();
-    for (fault, text) in [
-        (SavepointFault::NoSuchTx, "no such open transaction"),
-        (
-            SavepointFault::Rolling,
-            "the transaction is being rolled back",
-        ),
-        (SavepointFault::TooDeep, "the transaction has 32 savepoints"),
-    ] {
-        expect_text(&rt, alloc, &fault, text)?;
-    }
-    for (fault, text) in [
-        (ReleaseFault::NoSuchTx, "no such open transaction"),
-        (
-            ReleaseFault::Rolling,
-            "the transaction is being rolled back",
-        ),
-        (ReleaseFault::NoSuchSave, "no such savepoint"),
-    ] {
-        expect_text(&rt, alloc, &fault, text)?;
-    }
-    for (fault, text) in [
-        (RollbackToFault::NoSuchTx, "no such open transaction"),
-        (
-            RollbackToFault::Rolling,
-            "the transaction is being rolled back",
-        ),
-        (RollbackToFault::NoSuchSave, "no such savepoint"),
-        (
-            RollbackToFault::Stopped {
-                undone: 1,
-                left: 2,
-                cause: Cause::Device,
-            },
-            "stopped after 1 changes, 2 are left",
-        ),
-    ] {
-        expect_text(&rt, alloc, &fault, text)?;
-    }
-    Ok(())
+    expect_texts(&rt, alloc, &SAVEPOINT_FAULTS)?;
+    expect_texts(&rt, alloc, &RELEASE_FAULTS)?;
+    expect_texts(&rt, alloc, &ROLLBACK_TO_FAULTS)
 }
+
+const ABORT_FAULTS: [(AbortFault, &str); 3] = [
+    (AbortFault::NoSuchTx, "no such open transaction"),
+    (AbortFault::Rolling, "the transaction is being rolled back"),
+    (
+        AbortFault::Stopped {
+            undone: 1,
+            left: 2,
+            cause: Cause::Device,
+        },
+        "stopped after 1 changes, 2 are left",
+    ),
+];
+
+const RESUME_FAULTS: [(ResumeFault, &str); 3] = [
+    (ResumeFault::NoSuchTx, "no such open transaction"),
+    (
+        ResumeFault::NotRolling,
+        "the transaction isn't being rolled back",
+    ),
+    (
+        ResumeFault::Stopped {
+            undone: 1,
+            left: 2,
+            cause: Cause::Device,
+        },
+        "stopped after 1 changes, 2 are left",
+    ),
+];
+
+const COMMIT_FAULTS: [(CommitFault, &str); 2] = [
+    (CommitFault::NoSuchTx, "no such open transaction"),
+    (CommitFault::Rolling, "the transaction is being rolled back"),
+];
 
 #[test]
 fn texts_of_abort_fault_and_others(rt: HostRuntime) -> Result<(), Fail> {
     let alloc = rt.alloc();
-    for (fault, text) in [
-        (AbortFault::NoSuchTx, "no such open transaction"),
-        (AbortFault::Rolling, "the transaction is being rolled back"),
-        (
-            AbortFault::Stopped {
-                undone: 1,
-                left: 2,
-                cause: Cause::Device,
-            },
-            "stopped after 1 changes, 2 are left",
-        ),
-    ] {
-        expect_text(&rt, alloc, &fault, text)?;
-    }
-    for (fault, text) in [
-        (ResumeFault::NoSuchTx, "no such open transaction"),
-        (
-            ResumeFault::NotRolling,
-            "the transaction isn't being rolled back",
-        ),
-        (
-            ResumeFault::Stopped {
-                undone: 1,
-                left: 2,
-                cause: Cause::Device,
-            },
-            "stopped after 1 changes, 2 are left",
-        ),
-    ] {
-        expect_text(&rt, alloc, &fault, text)?;
-    }
-    for (fault, text) in [
-        (CommitFault::NoSuchTx, "no such open transaction"),
-        (CommitFault::Rolling, "the transaction is being rolled back"),
-    ] {
-        expect_text(&rt, alloc, &fault, text)?;
-    }
-    Ok(())
+    expect_texts(&rt, alloc, &ABORT_FAULTS)?;
+    expect_texts(&rt, alloc, &RESUME_FAULTS)?;
+    expect_texts(&rt, alloc, &COMMIT_FAULTS)
 }
+
+const ENTRIES_FAULTS: [(EntriesFault, &str); 3] = [
+    (EntriesFault::Device, "the device failed"),
+    (EntriesFault::Damaged(7), "page 7 is damaged"),
+    (EntriesFault::Memory, "out of memory"),
+];
+
+const KEYS_OF_FAULTS: [(KeysOfFault, &str); 2] = [
+    (KeysOfFault::NoSuchTx, "no such open transaction"),
+    (KeysOfFault::Memory, "out of memory"),
+];
+
+const STATUS_FAULTS: [(StatusFault, &str); 1] = [(
+    StatusFault::NoSuchTx,
+    "no such open transaction",
+)];
 
 #[test]
 fn texts_of_entries_fault_and_others(rt: HostRuntime) -> Result<(), Fail> {
     let alloc = rt.alloc();
-    for (fault, text) in [
-        (EntriesFault::Device, "the device failed"),
-        (EntriesFault::Damaged(7), "page 7 is damaged"),
-        (EntriesFault::Memory, "out of memory"),
-    ] {
-        expect_text(&rt, alloc, &fault, text)?;
-    }
-    for (fault, text) in [
-        (KeysOfFault::NoSuchTx, "no such open transaction"),
-        (KeysOfFault::Memory, "out of memory"),
-    ] {
-        expect_text(&rt, alloc, &fault, text)?;
-    }
-    for (fault, text) in [(StatusFault::NoSuchTx, "no such open transaction")] {
-        expect_text(&rt, alloc, &fault, text)?;
-    }
-    Ok(())
+    expect_texts(&rt, alloc, &ENTRIES_FAULTS)?;
+    expect_texts(&rt, alloc, &KEYS_OF_FAULTS)?;
+    expect_texts(&rt, alloc, &STATUS_FAULTS)
 }
+
+const LINE_FAULTS: [(LineFault, &str); 6] = [
+    (LineFault::UnknownCommand, "UnknownCommand"),
+    (LineFault::WordCount, "WordCount"),
+    (LineFault::BadNumber, "BadNumber"),
+    (LineFault::KeyTooLong, "KeyTooLong"),
+    (LineFault::NoRecordMark, "NoRecordMark"),
+    (LineFault::RecordTooLong, "RecordTooLong"),
+];
 
 #[test]
 fn texts_of_line_faults(rt: HostRuntime) -> Result<(), Fail> {
-    let alloc = rt.alloc();
-    for (fault, text) in [
-        (LineFault::UnknownCommand, "UnknownCommand"),
-        (LineFault::WordCount, "WordCount"),
-        (LineFault::BadNumber, "BadNumber"),
-        (LineFault::KeyTooLong, "KeyTooLong"),
-        (LineFault::NoRecordMark, "NoRecordMark"),
-        (LineFault::RecordTooLong, "RecordTooLong"),
-    ] {
-        expect_text(&rt, alloc, &fault, text)?;
-    }
-    Ok(())
+    expect_texts(&rt, rt.alloc(), &LINE_FAULTS)
 }
+
+const SCRIPT_FAULTS: [(ScriptFault, &str); 4] = [
+    (ScriptFault::ScriptTooLong, "ScriptTooLong"),
+    (ScriptFault::ReadFault, "ReadFault"),
+    (ScriptFault::WriteFault { done: 1 }, "WriteFault 1"),
+    (ScriptFault::Memory { done: 1 }, "Memory 1"),
+];
 
 #[test]
 fn texts_of_script_faults(rt: HostRuntime) -> Result<(), Fail> {
-    let alloc = rt.alloc();
-    for (fault, text) in [
-        (ScriptFault::ScriptTooLong, "ScriptTooLong"),
-        (ScriptFault::ReadFault, "ReadFault"),
-        (ScriptFault::WriteFault { done: 1 }, "WriteFault 1"),
-        (ScriptFault::Memory { done: 1 }, "Memory 1"),
-    ] {
-        expect_text(&rt, alloc, &fault, text)?;
-    }
-    Ok(())
+    expect_texts(&rt, rt.alloc(), &SCRIPT_FAULTS)
 }
 
-#[test]
-fn texts_of_end_faults(rt: HostRuntime) -> Result<(), Fail> {
-    let alloc = rt.alloc();
-    for (cause, text) in [
-        (Cause::Device, "Stopped 7 1 2 Device"),
-        (Cause::Damaged(9), "Stopped 7 1 2 Damaged 9"),
-        (Cause::Memory, "Stopped 7 1 2 Memory"),
-    ] {
-        let fault = EndFault::Stopped {
+const END_FAULTS: [(EndFault, &str); 3] = [
+    (
+        EndFault::Stopped {
             tx: TxId(7),
             undone: 1,
             left: 2,
-            cause,
-        };
-        expect_text(&rt, alloc, &fault, text)?;
-    }
-    Ok(())
+            cause: Cause::Device,
+        },
+        "Stopped 7 1 2 Device",
+    ),
+    (
+        EndFault::Stopped {
+            tx: TxId(7),
+            undone: 1,
+            left: 2,
+            cause: Cause::Damaged(9),
+        },
+        "Stopped 7 1 2 Damaged 9",
+    ),
+    (
+        EndFault::Stopped {
+            tx: TxId(7),
+            undone: 1,
+            left: 2,
+            cause: Cause::Memory,
+        },
+        "Stopped 7 1 2 Memory",
+    ),
+];
+
+#[test]
+fn texts_of_end_faults(rt: HostRuntime) -> Result<(), Fail> {
+    expect_texts(&rt, rt.alloc(), &END_FAULTS)
 }
+
+const STORE_FAULTS: [(StoreFault, &str); 2] = [
+    (StoreFault::Failed, "the store failed"),
+    (StoreFault::Memory, "out of memory"),
+];
+
+const FETCH_FAULTS: [(FetchFault, &str); 2] = [
+    (FetchFault::Device, "a read of the store failed"),
+    (FetchFault::OutOfRange, "the page is not in use"),
+];
+
+const WRITE_FAULTS: [(WriteFault, &str); 2] = [
+    (WriteFault::Device, "a write to the store failed"),
+    (WriteFault::Memory, "out of memory"),
+];
 
 #[test]
 fn texts_of_store_fault_and_others(rt: HostRuntime) -> Result<(), Fail> {
     let alloc = rt.alloc();
-    for (fault, text) in [
-        (StoreFault::Failed, "the store failed"),
-        (StoreFault::Memory, "out of memory"),
-    ] {
-        expect_text(&rt, alloc, &fault, text)?;
-    }
-    for (fault, text) in [
-        (FetchFault::Device, "a read of the store failed"),
-        (FetchFault::OutOfRange, "the page is not in use"),
-    ] {
-        expect_text(&rt, alloc, &fault, text)?;
-    }
-    for (fault, text) in [
-        (WriteFault::Device, "a write to the store failed"),
-        (WriteFault::Memory, "out of memory"),
-    ] {
-        expect_text(&rt, alloc, &fault, text)?;
-    }
-    Ok(())
+    expect_texts(&rt, alloc, &STORE_FAULTS)?;
+    expect_texts(&rt, alloc, &FETCH_FAULTS)?;
+    expect_texts(&rt, alloc, &WRITE_FAULTS)
 }
+
+const HEADER_FAULTS: [(HeaderFault, &str); 5] = [
+    (HeaderFault::BadMagic, "the file is no record file"),
+    (HeaderFault::BadVersion(7), "the file has version 7"),
+    (
+        HeaderFault::BadOrder,
+        "the order of the tree is not from 1 to 16",
+    ),
+    (HeaderFault::NotClean, "the file was not closed cleanly"),
+    (
+        HeaderFault::BadHeader,
+        "the state is unknown, or a byte behind it is not zero",
+    ),
+];
+
+const NODE_FAULTS: [(NodeFault, &str); 7] = [
+    (
+        NodeFault::Kind,
+        "the page is neither a leaf nor an inner page",
+    ),
+    (
+        NodeFault::Count,
+        "the number of keys does not fit the order",
+    ),
+    (NodeFault::KeyLength, "a key has a length that no key has"),
+    (
+        NodeFault::RecordLength,
+        "a record has a length that no record has",
+    ),
+    (NodeFault::Order, "the keys do not ascend"),
+    (NodeFault::Son, "a son is no page number"),
+    (
+        NodeFault::NotZero,
+        "a byte that belongs to no field is not zero",
+    ),
+];
 
 #[test]
 fn texts_of_header_fault_and_others(rt: HostRuntime) -> Result<(), Fail> {
     let alloc = rt.alloc();
-    for (fault, text) in [
-        (HeaderFault::BadMagic, "the file is no record file"),
-        (HeaderFault::BadVersion(7), "the file has version 7"),
-        (
-            HeaderFault::BadOrder,
-            "the order of the tree is not from 1 to 16",
-        ),
-        (HeaderFault::NotClean, "the file was not closed cleanly"),
-        (
-            HeaderFault::BadHeader,
-            "the state is unknown, or a byte behind it is not zero",
-        ),
-    ] {
-        expect_text(&rt, alloc, &fault, text)?;
-    }
-    for (fault, text) in [
-        (
-            NodeFault::Kind,
-            "the page is neither a leaf nor an inner page",
-        ),
-        (
-            NodeFault::Count,
-            "the number of keys does not fit the order",
-        ),
-        (NodeFault::KeyLength, "a key has a length that no key has"),
-        (
-            NodeFault::RecordLength,
-            "a record has a length that no record has",
-        ),
-        (NodeFault::Order, "the keys do not ascend"),
-        (NodeFault::Son, "a son is no page number"),
-        (
-            NodeFault::NotZero,
-            "a byte that belongs to no field is not zero",
-        ),
-    ] {
-        expect_text(&rt, alloc, &fault, text)?;
-    }
-    Ok(())
+    expect_texts(&rt, alloc, &HEADER_FAULTS)?;
+    expect_texts(&rt, alloc, &NODE_FAULTS)
 }
+
+const TREE_FAULTS: [(TreeFault, &str); 3] = [
+    (TreeFault::Device, "a read of the store failed"),
+    (
+        TreeFault::Damaged(7),
+        "page 7 is no page of a tree at its place",
+    ),
+    (TreeFault::Memory, "no memory"),
+];
 
 #[test]
 fn texts_of_tree_faults(rt: HostRuntime) -> Result<(), Fail> {
-    let alloc = rt.alloc();
-    for (fault, text) in [
-        (TreeFault::Device, "a read of the store failed"),
-        (
-            TreeFault::Damaged(7),
-            "page 7 is no page of a tree at its place",
-        ),
-        (TreeFault::Memory, "no memory"),
-    ] {
-        expect_text(&rt, alloc, &fault, text)?;
-    }
-    Ok(())
+    expect_texts(&rt, rt.alloc(), &TREE_FAULTS)
 }
+
+const OPEN_FAULTS: [(OpenFault, &str); 11] = [
+    (OpenFault::Device, "a read of the file failed"),
+    (
+        OpenFault::BadLength,
+        "the file has a length that no record file has",
+    ),
+    (OpenFault::BadMagic, "the file is no record file"),
+    (OpenFault::BadVersion(7), "the file has version 7"),
+    (
+        OpenFault::BadOrder,
+        "the order of the tree is not from 1 to 16",
+    ),
+    (OpenFault::NotClean, "the file was not closed cleanly"),
+    (OpenFault::BadHeader, "the header is not that of this file"),
+    (OpenFault::Damaged(7), "page 7 is damaged"),
+    (
+        OpenFault::WrongCount,
+        "the header tells another number of records",
+    ),
+    (
+        OpenFault::TooManyRecords,
+        "the file has more records than the limit",
+    ),
+    (OpenFault::Memory, "out of memory"),
+];
+
+const CREATE_FAULTS: [(CreateFault, &str); 3] = [
+    (
+        CreateFault::BadOrder,
+        "the order of the tree is not from 1 to 16",
+    ),
+    (CreateFault::Device, "the store failed"),
+    (CreateFault::NotEmpty, "the store is not empty"),
+];
 
 #[test]
 fn texts_of_files_and_tables(rt: HostRuntime) -> Result<(), Fail> {
     let alloc = rt.alloc();
-    for (fault, text) in [
-        (OpenFault::Device, "a read of the file failed"),
-        (
-            OpenFault::BadLength,
-            "the file has a length that no record file has",
-        ),
-        (OpenFault::BadMagic, "the file is no record file"),
-        (OpenFault::BadVersion(7), "the file has version 7"),
-        (
-            OpenFault::BadOrder,
-            "the order of the tree is not from 1 to 16",
-        ),
-        (OpenFault::NotClean, "the file was not closed cleanly"),
-        (OpenFault::BadHeader, "the header is not that of this file"),
-        (OpenFault::Damaged(7), "page 7 is damaged"),
-        (
-            OpenFault::WrongCount,
-            "the header tells another number of records",
-        ),
-        (
-            OpenFault::TooManyRecords,
-            "the file has more records than the limit",
-        ),
-        (OpenFault::Memory, "out of memory"),
-    ] {
-        expect_text(&rt, alloc, &fault, text)?;
-    }
-    for (fault, text) in [
-        (
-            CreateFault::BadOrder,
-            "the order of the tree is not from 1 to 16",
-        ),
-        (CreateFault::Device, "the store failed"),
-        (CreateFault::NotEmpty, "the store is not empty"),
-    ] {
-        expect_text(&rt, alloc, &fault, text)?;
-    }
-    Ok(())
+    expect_texts(&rt, alloc, &OPEN_FAULTS)?;
+    expect_texts(&rt, alloc, &CREATE_FAULTS)
 }
