@@ -209,30 +209,39 @@ fn store_text(alloc: Global, stored: Stored, calls: &[Call]) -> Result<String, S
     Ok(text)
 }
 
+/// Calls of a store, and their answers.
+#[derive(Clone, Copy)]
+struct StoreRow {
+    stored: Stored<'static>,
+    calls: &'static [Call],
+    wanted: &'static str,
+}
+
 /// Whether the calls give this text, at the second time where memory was refused at the first.
-fn expect_store(rt: &impl Abort, alloc: Global, stored: Stored, calls: &[Call], wanted: &str) {
-    let first = store_text(alloc, stored, calls);
-    if matches!(&first, Ok(text) if text.as_str() == wanted) {
+fn expect_store(rt: &impl Abort, alloc: Global, row: &StoreRow) {
+    let first = store_text(alloc, row.stored, row.calls);
+    if matches!(&first, Ok(text) if text.as_str() == row.wanted) {
         return;
     }
-    let again = store_text(alloc, stored, calls);
+    let again = store_text(alloc, row.stored, row.calls);
     assert!(rt;
-        matches!(&again, Ok(text) if text.as_str() == wanted),
-        "{wanted}"
+        matches!(&again, Ok(text) if text.as_str() == row.wanted),
+        "{}",
+        row.wanted
     );
 }
 
-#[test]
-fn calls_of_stores(rt: HostRuntime) {
-    let pages = [1, 2];
-    let plain = Stored {
-        pages: &pages,
-        tail: 17,
-        failing_reads: &[],
-        failing_writes: &[],
-        refused: 0,
-    };
-    let calls = [
+const TWO_PAGES: Stored<'static> = Stored {
+    pages: &[1, 2],
+    tail: 17,
+    failing_reads: &[],
+    failing_writes: &[],
+    refused: 0,
+};
+
+const GOOD_CALLS: StoreRow = StoreRow {
+    stored: TWO_PAGES,
+    calls: &[
         Call::Shape,
         Call::Read(1),
         Call::Read(2),
@@ -246,19 +255,16 @@ fn calls_of_stores(rt: HostRuntime) {
         Call::Read(1),
         Call::Read(2),
         Call::Read(3),
-    ];
-    expect_store(
-        &rt,
-        rt.alloc(),
-        plain,
-        &calls,
-        " 2+17 2 none ok 4+0 0 ok ok ok 5 2 0 7",
-    );
-    let reads = Stored {
+    ],
+    wanted: " 2+17 2 none ok 4+0 0 ok ok ok 5 2 0 7",
+};
+
+const FAILING_READS: StoreRow = StoreRow {
+    stored: Stored {
         failing_reads: &[3, 1],
-        ..plain
-    };
-    let calls = [
+        ..TWO_PAGES
+    },
+    calls: &[
         Call::Write(0, 6),
         Call::Sync,
         Call::Read(0),
@@ -266,19 +272,16 @@ fn calls_of_stores(rt: HostRuntime) {
         Call::Read(0),
         Call::Shape,
         Call::Read(0),
-    ];
-    expect_store(
-        &rt,
-        rt.alloc(),
-        reads,
-        &calls,
-        " ok ok failed 2 failed 2+17 6",
-    );
-    let writes = Stored {
+    ],
+    wanted: " ok ok failed 2 failed 2+17 6",
+};
+
+const FAILING_WRITES: StoreRow = StoreRow {
+    stored: Stored {
         failing_writes: &[1, 4, 6],
-        ..plain
-    };
-    let calls = [
+        ..TWO_PAGES
+    },
+    calls: &[
         Call::SetPages(3),
         Call::Shape,
         Call::SetPages(3),
@@ -290,26 +293,30 @@ fn calls_of_stores(rt: HostRuntime) {
         Call::Write(1, 8),
         Call::Read(1),
         Call::Shape,
-    ];
-    expect_store(
-        &rt,
-        rt.alloc(),
-        writes,
-        &calls,
-        " failed 2+17 ok ok failed 5 ok failed ok 8 3+0",
-    );
-    let scarce = Stored {
+    ],
+    wanted: " failed 2+17 ok ok failed 5 ok failed ok 8 3+0",
+};
+
+const REFUSED_MEMORY: StoreRow = StoreRow {
+    stored: Stored {
         refused: 1,
-        ..plain
-    };
-    let calls = [
+        ..TWO_PAGES
+    },
+    calls: &[
         Call::SetPages(3),
         Call::Shape,
         Call::Read(1),
         Call::SetPages(3),
         Call::Shape,
-    ];
-    expect_store(&rt, rt.alloc(), scarce, &calls, " memory 2+17 2 ok 3+0");
+    ],
+    wanted: " memory 2+17 2 ok 3+0",
+};
+
+#[test]
+fn calls_of_stores(rt: HostRuntime) {
+    for row in [GOOD_CALLS, FAILING_READS, FAILING_WRITES, REFUSED_MEMORY] {
+        expect_store(&rt, rt.alloc(), &row);
+    }
 }
 
 /// A call of `Pages`, with the page and the byte that fills it.
@@ -476,65 +483,62 @@ fn pages_of<S: Store>(
     Ok(Pages::new(alloc, store, len, free))
 }
 
-/// The answers of these steps, and what the store has in the end.
-fn pages_text(
-    rt: &impl Abort,
-    alloc: Global,
-    stored: Stored,
+/// Steps over a store, with all its pages in use or one more that is free; their answers, and what the store has in
+/// the end.
+#[derive(Clone, Copy)]
+struct PagesRow<'a> {
+    stored: Stored<'a>,
     last_free: bool,
-    steps: &[Step],
-) -> Result<String, Stop> {
+    steps: &'a [Step],
+    wanted: &'a str,
+}
+
+fn pages_text(rt: &impl Abort, alloc: Global, row: &PagesRow<'_>) -> Result<String, Stop> {
     let mut text = String::new(alloc);
-    let mut pages = pages_of(rt, alloc, opened(alloc, stored)?, last_free)?;
-    for step in steps {
+    let mut pages = pages_of(rt, alloc, opened(alloc, row.stored)?, row.last_free)?;
+    for step in row.steps {
         push_step(rt, alloc, &mut pages, *step, &mut text)?;
     }
     text.push_str(";")?;
     let mut store = pages.into_store();
-    let calls = [
-        Call::Shape,
-        Call::Read(0),
-        Call::Read(1),
-        Call::Read(2),
-        Call::Read(3),
-    ];
-    call_store(&mut store, &calls, &mut text)?;
+    call_store(&mut store, &FOUR_PAGES, &mut text)?;
     Ok(text)
 }
 
+const FOUR_PAGES: [Call; 5] = [
+    Call::Shape,
+    Call::Read(0),
+    Call::Read(1),
+    Call::Read(2),
+    Call::Read(3),
+];
+
 /// Whether the steps give this text, at the second time where memory was refused at the first.
-fn expect_pages(
-    rt: &impl Abort,
-    alloc: Global,
-    stored: Stored,
-    last_free: bool,
-    steps: &[Step],
-    wanted: &str,
-) {
-    let first = pages_text(rt, alloc, stored, last_free, steps);
-    if matches!(&first, Ok(text) if text.as_str() == wanted) {
+fn expect_pages(rt: &impl Abort, alloc: Global, row: &PagesRow<'_>) {
+    let first = pages_text(rt, alloc, row);
+    if matches!(&first, Ok(text) if text.as_str() == row.wanted) {
         return;
     }
-    let again = pages_text(rt, alloc, stored, last_free, steps);
+    let again = pages_text(rt, alloc, row);
     assert!(rt;
-        matches!(&again, Ok(text) if text.as_str() == wanted),
-        "{wanted}"
+        matches!(&again, Ok(text) if text.as_str() == row.wanted),
+        "{}",
+        row.wanted
     );
 }
 
-fn one_page() -> Stored<'static> {
-    Stored {
-        pages: &[9],
-        tail: 3,
-        failing_reads: &[],
-        failing_writes: &[],
-        refused: 0,
-    }
-}
+const ONE_PAGE: Stored<'static> = Stored {
+    pages: &[9],
+    tail: 3,
+    failing_reads: &[],
+    failing_writes: &[],
+    refused: 0,
+};
 
-#[test]
-fn pages_are_taken_and_freed(rt: HostRuntime) {
-    let steps = [
+const TAKEN_AND_FREED: PagesRow<'static> = PagesRow {
+    stored: ONE_PAGE,
+    last_free: false,
+    steps: &[
         Step::Counts,
         Step::Add(5),
         Step::Counts,
@@ -544,34 +548,32 @@ fn pages_are_taken_and_freed(rt: HostRuntime) {
         Step::Free(1),
         Step::Counts,
         Step::Get(1),
-    ];
-    expect_pages(
-        &rt,
-        rt.alloc(),
-        one_page(),
-        false,
-        &steps,
-        " 1-0:1,2:false 2-0:2,3:true 5 out out 2-1:1,2:true out; 1+3 9 none none none",
-    );
-    let steps = [Step::Nothing, Step::Counts];
-    expect_pages(
-        &rt,
-        rt.alloc(),
-        one_page(),
-        false,
-        &steps,
-        " 1-0:1,2:true; 1+3 9 none none none",
-    );
-}
+    ],
+    wanted: " 1-0:1,2:false 2-0:2,3:true 5 out out 2-1:1,2:true out; 1+3 9 none none none",
+};
+
+const NOTHING_STAGED: PagesRow<'static> = PagesRow {
+    stored: ONE_PAGE,
+    last_free: false,
+    steps: &[Step::Nothing, Step::Counts],
+    wanted: " 1-0:1,2:true; 1+3 9 none none none",
+};
 
 #[test]
-fn staged_pages_stand_over_stored_ones(rt: HostRuntime) {
-    let two = Stored {
+fn pages_are_taken_and_freed(rt: HostRuntime) {
+    for row in [TAKEN_AND_FREED, NOTHING_STAGED] {
+        expect_pages(&rt, rt.alloc(), &row);
+    }
+}
+
+const STAGED_OVER_STORED: PagesRow<'static> = PagesRow {
+    stored: Stored {
         pages: &[1, 2],
         failing_reads: &[3],
-        ..one_page()
-    };
-    let steps = [
+        ..ONE_PAGE
+    },
+    last_free: true,
+    steps: &[
         Step::Get(1),
         Step::Get(2),
         Step::Get(1),
@@ -584,20 +586,19 @@ fn staged_pages_stand_over_stored_ones(rt: HostRuntime) {
         Step::Get(2),
         Step::Get(3),
         Step::Counts,
-    ];
-    expect_pages(
-        &rt,
-        rt.alloc(),
-        two,
-        true,
-        &steps,
-        " 2 out 2 device 2 6 7 8 4-0:4,5:true; 2+3 1 2 none none",
-    );
-}
+    ],
+    wanted: " 2 out 2 device 2 6 7 8 4-0:4,5:true; 2+3 1 2 none none",
+};
 
 #[test]
-fn changed_pages_are_written_back(rt: HostRuntime) {
-    let steps = [
+fn staged_pages_stand_over_stored_ones(rt: HostRuntime) {
+    expect_pages(&rt, rt.alloc(), &STAGED_OVER_STORED);
+}
+
+const WRITTEN_TWICE: PagesRow<'static> = PagesRow {
+    stored: ONE_PAGE,
+    last_free: false,
+    steps: &[
         Step::Add(5),
         Step::Add(6),
         Step::Add(7),
@@ -608,62 +609,81 @@ fn changed_pages_are_written_back(rt: HostRuntime) {
         Step::Get(1),
         Step::WriteBack(101, 201),
         Step::Get(3),
-    ];
-    expect_pages(
-        &rt,
-        rt.alloc(),
-        one_page(),
-        false,
-        &steps,
-        " written 4-1:2,4:false 5 written 8; 4+0 201 5 0 8",
-    );
-    let scarce = Stored {
+    ],
+    wanted: " written 4-1:2,4:false 5 written 8; 4+0 201 5 0 8",
+};
+
+const WRITTEN_ONCE_MORE: PagesRow<'static> = PagesRow {
+    stored: Stored {
         refused: 1,
-        ..one_page()
-    };
-    let steps = [
+        ..ONE_PAGE
+    },
+    last_free: false,
+    steps: &[
         Step::Add(5),
         Step::WriteBack(100, 200),
         Step::Counts,
         Step::Get(1),
         Step::WriteBack(101, 201),
         Step::Counts,
-    ];
-    expect_pages(
-        &rt,
-        rt.alloc(),
-        scarce,
-        false,
-        &steps,
-        " memory 2-0:2,3:true 5 written 2-0:2,3:false; 2+0 201 5 none none",
-    );
+    ],
+    wanted: " memory 2-0:2,3:true 5 written 2-0:2,3:false; 2+0 201 5 none none",
+};
+
+#[test]
+fn changed_pages_are_written_back(rt: HostRuntime) {
+    for row in [WRITTEN_TWICE, WRITTEN_ONCE_MORE] {
+        expect_pages(&rt, rt.alloc(), &row);
+    }
+}
+
+const WRITES_ONCE: [Step; 5] = [
+    Step::Add(5),
+    Step::Add(6),
+    Step::Add(7),
+    Step::Free(2),
+    Step::WriteBack(100, 200),
+];
+
+const WRITES_TWICE: [Step; 14] = [
+    Step::Add(5),
+    Step::Add(6),
+    Step::Add(7),
+    Step::Free(2),
+    Step::WriteBack(100, 200),
+    Step::Counts,
+    Step::Get(1),
+    Step::Get(2),
+    Step::Get(3),
+    Step::WriteBack(101, 201),
+    Step::Counts,
+    Step::Get(1),
+    Step::Get(2),
+    Step::Get(3),
+];
+
+/// Expects the text of these steps over one page, where the changing call of this number fails.
+fn expect_failing<'a>(
+    rt: &impl Abort,
+    alloc: Global,
+    failing: u64,
+    steps: &'a [Step],
+    wanted: &'a str,
+) {
+    let row = PagesRow {
+        stored: Stored {
+            failing_writes: &[failing],
+            ..ONE_PAGE
+        },
+        last_free: false,
+        steps,
+        wanted,
+    };
+    expect_pages(rt, alloc, &row);
 }
 
 #[test]
 fn a_writing_back_stops_where_a_call_fails(rt: HostRuntime) {
-    let once = [
-        Step::Add(5),
-        Step::Add(6),
-        Step::Add(7),
-        Step::Free(2),
-        Step::WriteBack(100, 200),
-    ];
-    let twice = [
-        Step::Add(5),
-        Step::Add(6),
-        Step::Add(7),
-        Step::Free(2),
-        Step::WriteBack(100, 200),
-        Step::Counts,
-        Step::Get(1),
-        Step::Get(2),
-        Step::Get(3),
-        Step::WriteBack(101, 201),
-        Step::Counts,
-        Step::Get(1),
-        Step::Get(2),
-        Step::Get(3),
-    ];
     for (failing, wanted) in [
         (1, " device; 1+3 9 none none none"),
         (2, " device; 4+0 9 0 0 0"),
@@ -675,27 +695,11 @@ fn a_writing_back_stops_where_a_call_fails(rt: HostRuntime) {
         (8, " device; 4+0 200 5 0 7"),
         (9, " written; 4+0 200 5 0 7"),
     ] {
-        let failing = [failing];
-        let stored = Stored {
-            failing_writes: &failing,
-            ..one_page()
-        };
-        expect_pages(&rt, rt.alloc(), stored, false, &once, wanted);
+        expect_failing(&rt, rt.alloc(), failing, &WRITES_ONCE, wanted);
     }
+    let wanted = " device 4-1:2,4:true 5 out 7 written 4-1:2,4:false 5 out 7; 4+0 201 5 0 7";
     for failing in 1..9 {
-        let failing = [failing];
-        let stored = Stored {
-            failing_writes: &failing,
-            ..one_page()
-        };
-        expect_pages(
-            &rt,
-            rt.alloc(),
-            stored,
-            false,
-            &twice,
-            " device 4-1:2,4:true 5 out 7 written 4-1:2,4:false 5 out 7; 4+0 201 5 0 7",
-        );
+        expect_failing(&rt, rt.alloc(), failing, &WRITES_TWICE, wanted);
     }
 }
 
