@@ -2,6 +2,7 @@ use rec_types::{
     FlakyTable, Key, KeyFault, LimitFault, Limits, Record, RecordFault, SortedTable, Table,
     TableFault,
 };
+use std::alloc::Global;
 use std::test::Fail;
 
 fn greatest() -> Result<Limits, LimitFault> {
@@ -78,55 +79,131 @@ fn entries(table: &mut impl Table) -> Result<Vec<(Key, Record)>, TableFault> {
     }
 }
 
+/// A call of a table, whose keys and records are of one byte; no record takes one out.
+#[derive(Clone, Copy)]
+enum Call {
+    Set(u8, Option<u8>),
+    Get(u8),
+    Entries,
+    Counts,
+}
+
+fn record_of(byte: Option<u8>) -> Result<Option<Record>, Fail> {
+    match byte {
+        Some(byte) => Ok(Some(Record::new(&[byte])?)),
+        None => Ok(None),
+    }
+}
+
+fn push_bytes(text: &mut String, bytes: &[u8]) -> Result<(), Fail> {
+    for byte in bytes {
+        text.push(char::from(*byte))?;
+    }
+    Ok(())
+}
+
+/// Appends a record, that there is none, or why there is no answer.
+fn push_answer(text: &mut String, answer: Result<Option<Record>, TableFault>) -> Result<(), Fail> {
+    match answer {
+        Ok(Some(record)) => push_bytes(text, record.bytes()),
+        Ok(None) => Ok(text.push_str("none")?),
+        Err(fault) => Ok(write!(text, "{fault:?}")?),
+    }
+}
+
+/// Appends each key with its record.
+fn push_entries(text: &mut String, entries: &[(Key, Record)]) -> Result<(), Fail> {
+    for (key, record) in entries {
+        push_bytes(text, key.bytes())?;
+        text.push('=')?;
+        push_bytes(text, record.bytes())?;
+        text.push(';')?;
+    }
+    Ok(())
+}
+
+/// Makes a call, and appends its answer; `Counts` tells the number of records and the limit.
+fn push_call(text: &mut String, table: &mut impl Table, call: Call) -> Result<(), Fail> {
+    match call {
+        Call::Set(key, to) => push_answer(text, set(table, Key::new(&[key])?, record_of(to)?)),
+        Call::Get(key) => push_answer(text, table.get(&Key::new(&[key])?)),
+        Call::Entries => push_entries(text, &entries(table)?),
+        Call::Counts => Ok(write!(text, "{} of {}", table.count(), table.limit())?),
+    }
+}
+
+/// What the calls answer, each behind a space.
+fn answers(alloc: Global, table: &mut impl Table, calls: &[Call]) -> Result<String, Fail> {
+    let mut text = String::new(alloc);
+    for call in calls {
+        text.push(' ')?;
+        push_call(&mut text, table, *call)?;
+    }
+    Ok(text)
+}
+
+const SORTED_CALLS: [Call; 10] = [
+    Call::Set(b'b', Some(b'x')),
+    Call::Set(b'a', Some(b'y')),
+    Call::Set(b'b', Some(b'y')),
+    Call::Set(b'c', Some(b'x')),
+    Call::Set(b'c', None),
+    Call::Get(b'b'),
+    Call::Get(b'c'),
+    Call::Entries,
+    Call::Set(b'a', None),
+    Call::Counts,
+];
+
 #[test]
 fn a_sorted_table_keeps_key_order(rt: HostRuntime) -> Result<(), Fail> {
     let mut table = SortedTable::new(rt.alloc(), Limits::new(2, 2, 1)?);
-    let (a, b, c) = (Key::new(b"a")?, Key::new(b"b")?, Key::new(b"c")?);
-    let (x, y) = (Record::new(b"x")?, Record::new(b"y")?);
-    assert_eq!(rt; set(&mut table, b, Some(x))?, None);
-    assert_eq!(rt; set(&mut table, a, Some(y))?, None);
-    assert_eq!(rt; set(&mut table, b, Some(y))?, Some(x));
-    match set(&mut table, c, Some(x)) {
-        Ok(_) => assert!(rt; false),
-        Err(fault) => assert_eq!(rt; fault, TableFault::NoRoom),
-    }
-    assert_eq!(rt; set(&mut table, c, None)?, None);
-    assert_eq!(rt; table.get(&b)?, Some(y));
-    assert_eq!(rt; table.get(&c)?, None);
-    let records = entries(&mut table)?;
-    assert_eq!(rt; records.len(), 2);
-    assert!(rt; records[0] == (a, y) && records[1] == (b, y));
-    assert_eq!(rt; set(&mut table, a, None)?, Some(y));
-    assert_eq!(rt; table.count(), 1);
-    assert_eq!(rt; table.limit(), 2);
+    let text = answers(rt.alloc(), &mut table, &SORTED_CALLS)?;
+    assert_eq!(rt;
+        text.as_str(),
+        " none none x NoRoom none y none a=y;b=y; y 1 of 2"
+    );
     Ok(())
+}
+
+const FLAKY_CALLS: [Call; 9] = [
+    Call::Set(b'a', None),
+    Call::Set(b'a', Some(b'y')),
+    Call::Get(b'a'),
+    Call::Set(b'a', Some(b'y')),
+    Call::Set(b'b', None),
+    Call::Set(b'b', Some(b'y')),
+    Call::Entries,
+    Call::Set(b'b', None),
+    Call::Counts,
+];
+
+/// A table with x at the keys a and b, and room for seven more.
+fn two_records(alloc: Global) -> Result<SortedTable, Fail> {
+    let mut table = SortedTable::new(alloc, Limits::new(9, 2, 1)?);
+    for key in b"ab" {
+        set(&mut table, Key::new(&[*key])?, record_of(Some(b'x'))?)?;
+    }
+    Ok(table)
+}
+
+fn flaky(alloc: Global) -> Result<FlakyTable<SortedTable>, Fail> {
+    let numbers = [2, 4, 5];
+    let failing = match Vec::from_slice(alloc, &numbers) {
+        Ok(failing) => failing,
+        Err(_) => Vec::from_slice(alloc, &numbers)?,
+    };
+    Ok(FlakyTable::new(two_records(alloc)?, failing))
 }
 
 // A refused growth would use a number up, so the table below has its memory before.
 #[test]
 fn a_flaky_table_fails_at_its_numbers(rt: HostRuntime) -> Result<(), Fail> {
-    let (a, b) = (Key::new(b"a")?, Key::new(b"b")?);
-    let (x, y) = (Record::new(b"x")?, Record::new(b"y")?);
-    let mut sorted = SortedTable::new(rt.alloc(), Limits::new(9, 2, 1)?);
-    for key in [a, b] {
-        assert_eq!(rt; set(&mut sorted, key, Some(x)), Ok(None));
-    }
-    let numbers = [2, 4, 5];
-    let failing = Vec::from_slice(rt.alloc(), &numbers).or_else(|_| Vec::from_slice(
-        rt.alloc(),
-        &numbers,
-    ))?;
-    let mut table = FlakyTable::new(sorted, failing);
-    assert_eq!(rt; table.set(a, None), Ok(Some(x)));
-    assert_eq!(rt; table.set(a, Some(y)), Err(TableFault::Device));
-    assert_eq!(rt; table.get(&a), Ok(None));
-    assert_eq!(rt; table.set(a, Some(y)), Ok(None));
-    assert_eq!(rt; table.set(b, None), Err(TableFault::Device));
-    assert_eq!(rt; table.set(b, Some(y)), Err(TableFault::Device));
-    let records = entries(&mut table)?;
-    assert_eq!(rt; records.len(), 2);
-    assert!(rt; records[0] == (a, y) && records[1] == (b, x));
-    assert_eq!(rt; table.set(b, None), Ok(Some(x)));
-    assert_eq!(rt; (table.count(), table.limit()), (1, 9));
+    let mut table = flaky(rt.alloc())?;
+    let text = answers(rt.alloc(), &mut table, &FLAKY_CALLS)?;
+    assert_eq!(rt;
+        text.as_str(),
+        " x Device none none Device Device a=y;b=x; x 1 of 9"
+    );
     Ok(())
 }
