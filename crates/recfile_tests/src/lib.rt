@@ -6,13 +6,9 @@ mod answers;
 #[cfg(test)]
 mod commands;
 #[cfg(test)]
-mod deletions;
-#[cfg(test)]
 mod engine;
 #[cfg(test)]
 mod fault_texts;
-#[cfg(test)]
-mod insertions;
 #[cfg(test)]
 mod large_scripts;
 #[cfg(test)]
@@ -39,6 +35,8 @@ mod stores;
 mod table_files;
 #[cfg(test)]
 mod tables;
+#[cfg(test)]
+mod trees;
 #[cfg(test)]
 mod turns;
 #[cfg(test)]

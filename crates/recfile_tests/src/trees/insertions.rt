@@ -1,8 +1,9 @@
 ghost use Rattle.std.specs.Prelude.{◌≡◌, ◌<◌, ◌≤◌, IfOk, length};
 ghost use Rattle.btree_node.specs.Spelling.{CanStand};
 
+use super::{empty, insert_again, new_pages, put, tree_text, walk_again};
 use arrayvec::ArrayVec;
-use btree_insert::{Tree, TreeFault, find, insert, walk};
+use btree_insert::{Tree, TreeFault, find};
 use btree_node::{KEY_WIDTH, Node, NodeKind, RECORD_WIDTH, decode, encode};
 use page_store::{MemStore, PageEdit, Pages, Store};
 use rec_types::{Key, Memory, Record};
@@ -11,177 +12,78 @@ use std::collections::BTreeSet;
 use std::process::Abort;
 use std::test::Fail;
 
-fn empty(order: u16) -> Tree {
-    Tree {
-        order,
-        root: 0,
-        height: 0,
-        count: 0,
-        used: 0,
-    }
-}
-
-/// A store of one page, with nothing in it.
-fn new_pages(alloc: Global) -> Result<Pages<MemStore>, Fail> {
-    let mut pages = Vec::new(alloc);
-    if pages.push([0; 4096]).is_err() {
-        pages.push([0; 4096])?;
-    }
-    Ok(Pages::new(alloc, MemStore::new(pages, 0), 1, BTreeSet::new(alloc)))
-}
-
-/// Inserts, once more where memory was refused; then nothing has changed at the key.
-fn insert_again<S: Store>(
+/// Puts these records at these keys.
+fn put_all<S: Store>(
     rt: &impl Abort,
     alloc: Global,
-    pages: &mut Pages<S>,
-    tree: &Tree,
-    key: Key,
-    value: Record,
-) -> Result<(Tree, Option<Record>), TreeFault> {
-    assert!(rt; 1 <= tree.order && tree.order <= 16 && tree.height <= 19);
-    assert!(rt; tree.count <= 1_000_000 && tree.used <= 1_000_000);
-    let before = find(pages, tree, &key);
-    match insert(alloc, pages, tree, key, value) {
-        Err(TreeFault::Memory) => {
-            assert!(rt; find(pages, tree, &key) == before);
-            insert(alloc, pages, tree, key, value)
-        }
-        answer => answer,
-    }
-}
-
-/// All elements, asked for once more where memory was refused.
-fn walk_again<S: Store>(
-    rt: &impl Abort,
-    alloc: Global,
-    pages: &mut Pages<S>,
-    tree: &Tree,
-) -> Result<Vec<(Key, Record)>, TreeFault> {
-    assert!(rt; 1 <= tree.order && tree.order <= 16 && tree.height <= 19);
-    assert!(rt; tree.count <= 1_000_000 && tree.used <= 1_000_000);
-    match walk(alloc, pages, tree) {
-        Err(TreeFault::Memory) => walk(alloc, pages, tree),
-        answer => answer,
-    }
-}
-
-/// Puts a record at a key. The answer is what a look-up found before.
-fn put<S: Store>(
-    rt: &impl Abort,
-    alloc: Global,
-    pages: &mut Pages<S>,
-    tree: &Tree,
-    key: &[u8],
-    value: &[u8],
-) -> Result<(Tree, Option<Record>), Fail> {
-    let key = Key::new(key)?;
-    let value = Record::new(value)?;
-    assert!(rt; 1 <= tree.order && tree.order <= 16 && tree.height <= 19);
-    let before = find(pages, tree, &key)?;
-    let (grown, old) = insert_again(rt, alloc, pages, tree, key, value)?;
-    assert!(rt; old == before);
-    Ok((grown, old))
-}
-
-/// Looks at a page: its kind, its keys and their records, each of one letter, and its sons.
-fn check_page<S: Store>(
-    rt: &impl Abort,
     pages: &mut Pages<S>,
     order: u16,
-    n: u32,
-    kind: NodeKind,
-    keys: &[u8],
-    values: &[u8],
-    sons: &[u32],
-) -> Result<(), Fail> {
-    assert!(rt; order <= 16);
-    let mut page = [0; 4096];
-    pages.fetch(n, &mut page)?;
-    let node = decode(&page, order)?;
-    assert_eq!(rt; node.kind, kind);
-    assert_eq!(rt; node.elements.len(), keys.len());
-    for ((element, key), value) in node.elements.as_slice().iter().zip(keys).zip(values) {
-        assert!(rt; *element == (Key::new(&[*key])?, Record::new(&[*value])?));
+    records: &[(u8, u8)],
+) -> Result<Tree, Fail> {
+    let mut tree = empty(order);
+    for (key, value) in records {
+        let (grown, old) = put(rt, alloc, pages, &tree, &[*key], &[*value])?;
+        assert!(rt; old.is_none());
+        tree = grown;
     }
-    assert_eq!(rt; node.sons.as_slice(), sons);
+    Ok(tree)
+}
+
+/// Expects the tree of an order that has the letters as keys, each as its own record.
+fn expect_letters(
+    rt: &impl Abort,
+    alloc: Global,
+    order: u16,
+    letters: &[u8],
+    wanted: &str,
+) -> Result<(), Fail> {
+    let mut records = Vec::new(alloc);
+    for letter in letters {
+        records.push((*letter, *letter))?;
+    }
+    let mut pages = new_pages(alloc)?;
+    let tree = put_all(rt, alloc, &mut pages, order, &records)?;
+    assert_eq!(rt; tree_text(rt, alloc, &mut pages, &tree)?.as_str(), wanted);
     Ok(())
 }
 
 #[test]
 fn three_keys_of_order_one(rt: HostRuntime) -> Result<(), Fail> {
-    let mut pages = new_pages(rt.alloc())?;
-    let mut tree = empty(1);
-    for (key, value) in [(b"a", b"x"), (b"b", b"y"), (b"c", b"z")] {
-        let (grown, old) = put(&rt, rt.alloc(), &mut pages, &tree, key, value)?;
-        assert!(rt; old.is_none());
-        tree = grown;
-    }
+    let alloc = rt.alloc();
+    let mut pages = new_pages(alloc)?;
+    let records = [(b'a', b'x'), (b'b', b'y'), (b'c', b'z')];
+    let tree = put_all(&rt, alloc, &mut pages, 1, &records)?;
+    let text = tree_text(&rt, alloc, &mut pages, &tree)?;
     assert_eq!(rt;
-        (tree.root, tree.height, tree.count, tree.used),
-        (3, 2, 3, 3)
+        text.as_str(),
+        "3 2 3 3 of 4; leaf a=x; leaf c=z; inner b=y 1 2"
     );
-    assert_eq!(rt; pages.page_count(), 4);
-    check_page(&rt, &mut pages, 1, 3, NodeKind::Inner, b"b", b"y", &[1, 2])?;
-    check_page(&rt, &mut pages, 1, 1, NodeKind::Leaf, b"a", b"x", &[])?;
-    check_page(&rt, &mut pages, 1, 2, NodeKind::Leaf, b"c", b"z", &[])?;
-    let (same, old) = put(&rt, rt.alloc(), &mut pages, &tree, b"b", b"new")?;
+    let (same, old) = put(&rt, alloc, &mut pages, &tree, b"b", b"new")?;
     assert_eq!(rt; same, tree);
     assert!(rt; old == Some(Record::new(b"y")?));
     Ok(())
 }
 
 #[test]
-fn eight_keys_of_order_two(rt: HostRuntime) -> Result<(), Fail> {
-    let mut pages = new_pages(rt.alloc())?;
-    let mut tree = empty(2);
-    for key in b"abcdefg" {
-        tree = put(&rt, rt.alloc(), &mut pages, &tree, &[*key], &[*key])?.0;
-    }
-    assert_eq!(rt;
-        (tree.root, tree.height, tree.count, tree.used),
-        (3, 2, 7, 3)
-    );
-    check_page(&rt, &mut pages, 2, 3, NodeKind::Inner, b"c", b"c", &[1, 2])?;
-    check_page(&rt, &mut pages, 2, 1, NodeKind::Leaf, b"ab", b"ab", &[])?;
-    check_page(&rt, &mut pages, 2, 2, NodeKind::Leaf, b"defg", b"defg", &[])?;
-    tree = put(&rt, rt.alloc(), &mut pages, &tree, b"h", b"h")?.0;
-    assert_eq!(rt;
-        (tree.root, tree.height, tree.count, tree.used),
-        (3, 2, 8, 4)
-    );
-    check_page(
-        &rt,
-        &mut pages,
-        2,
-        3,
-        NodeKind::Inner,
-        b"cf",
-        b"cf",
-        &[1, 2, 4],
-    )?;
-    check_page(&rt, &mut pages, 2, 1, NodeKind::Leaf, b"ab", b"ab", &[])?;
-    check_page(&rt, &mut pages, 2, 2, NodeKind::Leaf, b"de", b"de", &[])?;
-    check_page(&rt, &mut pages, 2, 4, NodeKind::Leaf, b"gh", b"gh", &[])?;
-    Ok(())
-}
-
-#[test]
-fn seven_keys_of_order_one(rt: HostRuntime) -> Result<(), Fail> {
-    let mut pages = new_pages(rt.alloc())?;
-    let mut tree = empty(1);
-    for key in b"abcdefg" {
-        tree = put(&rt, rt.alloc(), &mut pages, &tree, &[*key], &[*key])?.0;
-    }
-    assert_eq!(rt;
-        (tree.root, tree.height, tree.count, tree.used),
-        (7, 3, 7, 7)
-    );
-    for (n, key, sons) in [(7, b"d", [3, 6]), (3, b"b", [1, 2]), (6, b"f", [4, 5])] {
-        check_page(&rt, &mut pages, 1, n, NodeKind::Inner, key, key, &sons)?;
-    }
-    for (n, key) in [(1, b"a"), (2, b"c"), (4, b"e"), (5, b"g")] {
-        check_page(&rt, &mut pages, 1, n, NodeKind::Leaf, key, key, &[])?;
+fn seven_and_eight_keys(rt: HostRuntime) -> Result<(), Fail> {
+    for (order, letters, wanted) in [
+        (
+            2,
+            b"abcdefg".as_slice(),
+            "3 2 7 3 of 4; leaf a=a b=b; leaf d=d e=e f=f g=g; inner c=c 1 2",
+        ),
+        (
+            2,
+            b"abcdefgh".as_slice(),
+            "3 2 8 4 of 5; leaf a=a b=b; leaf d=d e=e; inner c=c f=f 1 2 4; leaf g=g h=h",
+        ),
+        (
+            1,
+            b"abcdefg".as_slice(),
+            "7 3 7 7 of 8; leaf a=a; leaf c=c; inner b=b 1 2; leaf e=e; leaf g=g; inner f=f 4 5; inner d=d 3 6",
+        ),
+    ] {
+        expect_letters(&rt, rt.alloc(), order, letters, wanted)?;
     }
     Ok(())
 }
@@ -275,32 +177,45 @@ fn three_keys(rt: &impl Abort, alloc: Global, pages: &mut Pages<MemStore>) -> Re
     Ok(tree)
 }
 
+/// What a look-up and a walk answer.
+fn looks<S: Store>(
+    rt: &impl Abort,
+    alloc: Global,
+    pages: &mut Pages<S>,
+    tree: &Tree,
+    key: u8,
+) -> Result<(Option<TreeFault>, Option<TreeFault>), Fail> {
+    assert!(rt; 1 <= tree.order && tree.order <= 16 && tree.height <= 19);
+    let found = find(pages, tree, &Key::new(&[key])?);
+    let walked = walk_again(rt, alloc, pages, tree);
+    Ok((found.err(), walked.err()))
+}
+
 #[test]
 fn pages_that_are_no_tree(rt: HostRuntime) -> Result<(), Fail> {
     let mut pages = new_pages(rt.alloc())?;
     let tree = three_keys(&rt, rt.alloc(), &mut pages)?;
-    assert!(rt; tree.order == 1);
-    let key = Key::new(b"a")?;
-    let lower = Tree {
-        root: 1,
-        height: 2,
-        ..tree
-    };
-    assert!(rt; find(&mut pages, &lower, &key) == Err(TreeFault::Damaged(1)));
-    let absent = Tree {
-        root: 9,
-        height: 1,
-        ..tree
-    };
-    assert!(rt; find(&mut pages, &absent, &key) == Err(TreeFault::Damaged(9)));
+    for (root, height, used, fault) in [
+        (1, 2, 3, TreeFault::Damaged(1)),
+        (9, 1, 3, TreeFault::Damaged(9)),
+    ] {
+        let other = Tree {
+            root,
+            height,
+            used,
+            ..tree
+        };
+        let (found, _) = looks(&rt, rt.alloc(), &mut pages, &other, b'a')?;
+        assert_eq!(rt; found, Some(fault));
+    }
     let narrow = Tree {
         height: 2,
         used: 2,
         count: 3,
         ..tree
     };
-    let answer = walk_again(&rt, rt.alloc(), &mut pages, &narrow);
-    assert!(rt; answer.err() == Some(TreeFault::Damaged(2)));
+    let (_, walked) = looks(&rt, rt.alloc(), &mut pages, &narrow, b'a')?;
+    assert_eq!(rt; walked, Some(TreeFault::Damaged(2)));
     Ok(())
 }
 
@@ -441,17 +356,46 @@ fn check_found<S: Store>(
     Ok(())
 }
 
+/// A node of order 1 with one key, which is its record too: a leaf, or an inner node with its sons.
+#[derive(Clone, Copy)]
+enum Spelt {
+    Leaf(u8),
+    Inner(u8, u32, u32),
+}
+
+/// Stages these nodes as the next pages.
+fn add_pages<S: Store>(
+    rt: &impl Abort,
+    alloc: Global,
+    pages: &mut Pages<S>,
+    nodes: &[Spelt],
+) -> Result<(), Fail> {
+    for node in nodes {
+        match *node {
+            Spelt::Leaf(key) => add_page(rt, alloc, pages, &leaf(key)?)?,
+            Spelt::Inner(key, left, right) => {
+                assert!(rt; 0 < left && 0 < right);
+                add_page(rt, alloc, pages, &inner(key, left, right)?)?;
+            }
+        }
+    }
+    Ok(())
+}
+
 /// Seven pages with one key each: the leaves 1 and 2 below page 3, the leaves 4 and 5 below page 6,
 /// and 3 and 6 below page 7.
 fn seven_pages(rt: &impl Abort, alloc: Global, keys: &[u8; 7]) -> Result<Pages<MemStore>, Fail> {
     let mut pages = new_pages(alloc)?;
-    add_page(rt, alloc, &mut pages, &leaf(keys[0])?)?;
-    add_page(rt, alloc, &mut pages, &leaf(keys[1])?)?;
-    add_page(rt, alloc, &mut pages, &inner(keys[2], 1, 2)?)?;
-    add_page(rt, alloc, &mut pages, &leaf(keys[3])?)?;
-    add_page(rt, alloc, &mut pages, &leaf(keys[4])?)?;
-    add_page(rt, alloc, &mut pages, &inner(keys[5], 4, 5)?)?;
-    add_page(rt, alloc, &mut pages, &inner(keys[6], 3, 6)?)?;
+    let nodes = [
+        Spelt::Leaf(keys[0]),
+        Spelt::Leaf(keys[1]),
+        Spelt::Inner(keys[2], 1, 2),
+        Spelt::Leaf(keys[3]),
+        Spelt::Leaf(keys[4]),
+        Spelt::Inner(keys[5], 4, 5),
+        Spelt::Inner(keys[6], 3, 6),
+    ];
+    add_pages(rt, alloc, &mut pages, &nodes)?;
     Ok(pages)
 }
 
@@ -483,19 +427,33 @@ fn keys_outside_the_bounds_of_a_level(rt: HostRuntime) -> Result<(), Fail> {
     Ok(())
 }
 
+/// Looks at the damaged pages of trees, each with its root and its height, a key to look for, and the page.
+fn check_all_damaged<S: Store>(
+    rt: &impl Abort,
+    alloc: Global,
+    pages: &mut Pages<S>,
+    rows: &[(u32, u32, u8, u32)],
+) -> Result<(), Fail> {
+    for (root, height, key, n) in rows {
+        check_damaged(rt, alloc, pages, &tree_at(*root, *height), *key, *n)?;
+    }
+    Ok(())
+}
+
 #[test]
 fn a_page_that_is_met_twice(rt: HostRuntime) -> Result<(), Fail> {
     let mut pages = new_pages(rt.alloc())?;
-    add_page(&rt, rt.alloc(), &mut pages, &leaf(b'a')?)?;
-    add_page(&rt, rt.alloc(), &mut pages, &inner(b'm', 2, 1)?)?;
-    add_page(&rt, rt.alloc(), &mut pages, &inner(b'm', 1, 1)?)?;
-    add_page(&rt, rt.alloc(), &mut pages, &inner(b'm', 5, 1)?)?;
-    add_page(&rt, rt.alloc(), &mut pages, &inner(b'd', 4, 4)?)?;
-    check_damaged(&rt, rt.alloc(), &mut pages, &tree_at(2, 3), b'c', 2)?;
-    check_damaged(&rt, rt.alloc(), &mut pages, &tree_at(3, 2), b'z', 1)?;
-    check_found(&rt, &mut pages, &tree_at(3, 2), b'a')?;
-    check_damaged(&rt, rt.alloc(), &mut pages, &tree_at(4, 4), b'e', 4)?;
-    Ok(())
+    let nodes = [
+        Spelt::Leaf(b'a'),
+        Spelt::Inner(b'm', 2, 1),
+        Spelt::Inner(b'm', 1, 1),
+        Spelt::Inner(b'm', 5, 1),
+        Spelt::Inner(b'd', 4, 4),
+    ];
+    add_pages(&rt, rt.alloc(), &mut pages, &nodes)?;
+    let rows = [(2, 3, b'c', 2), (3, 2, b'z', 1), (4, 4, b'e', 4)];
+    check_all_damaged(&rt, rt.alloc(), &mut pages, &rows)?;
+    check_found(&rt, &mut pages, &tree_at(3, 2), b'a')
 }
 
 /// Two pages with nothing in them, both in use.
@@ -513,25 +471,29 @@ fn blank_pages(alloc: Global) -> Result<Pages<MemStore>, Fail> {
 #[test]
 fn a_page_that_spells_no_node(rt: HostRuntime) -> Result<(), Fail> {
     let mut pages = blank_pages(rt.alloc())?;
-    check_damaged(&rt, rt.alloc(), &mut pages, &tree_at(1, 1), b'a', 1)?;
-    check_damaged(&rt, rt.alloc(), &mut pages, &tree_at(1, 2), b'a', 1)?;
-    check_damaged(&rt, rt.alloc(), &mut pages, &tree_at(2, 1), b'a', 2)?;
-    add_page(&rt, rt.alloc(), &mut pages, &inner(b'm', 1, 9)?)?;
-    check_damaged(&rt, rt.alloc(), &mut pages, &tree_at(2, 2), b'a', 1)
+    let rows = [(1, 1, b'a', 1), (1, 2, b'a', 1), (2, 1, b'a', 2)];
+    check_all_damaged(&rt, rt.alloc(), &mut pages, &rows)?;
+    add_pages(&rt, rt.alloc(), &mut pages, &[Spelt::Inner(b'm', 1, 9)])?;
+    check_all_damaged(&rt, rt.alloc(), &mut pages, &[(2, 2, b'a', 1)])
 }
 
 #[test]
 fn a_page_of_the_wrong_kind(rt: HostRuntime) -> Result<(), Fail> {
     let mut pages = new_pages(rt.alloc())?;
-    add_page(&rt, rt.alloc(), &mut pages, &leaf(b'a')?)?;
-    add_page(&rt, rt.alloc(), &mut pages, &leaf(b'c')?)?;
-    add_page(&rt, rt.alloc(), &mut pages, &inner(b'b', 1, 2)?)?;
-    add_page(&rt, rt.alloc(), &mut pages, &leaf(b'z')?)?;
-    add_page(&rt, rt.alloc(), &mut pages, &inner(b'm', 3, 4)?)?;
-    check_damaged(&rt, rt.alloc(), &mut pages, &tree_at(5, 1), b'm', 5)?;
-    check_damaged(&rt, rt.alloc(), &mut pages, &tree_at(5, 2), b'a', 3)?;
-    check_damaged(&rt, rt.alloc(), &mut pages, &tree_at(4, 2), b'z', 4)?;
-    check_damaged(&rt, rt.alloc(), &mut pages, &tree_at(5, 3), b'x', 4)?;
-    check_found(&rt, &mut pages, &tree_at(5, 3), b'c')?;
-    Ok(())
+    let nodes = [
+        Spelt::Leaf(b'a'),
+        Spelt::Leaf(b'c'),
+        Spelt::Inner(b'b', 1, 2),
+        Spelt::Leaf(b'z'),
+        Spelt::Inner(b'm', 3, 4),
+    ];
+    add_pages(&rt, rt.alloc(), &mut pages, &nodes)?;
+    let rows = [
+        (5, 1, b'm', 5),
+        (5, 2, b'a', 3),
+        (4, 2, b'z', 4),
+        (5, 3, b'x', 4),
+    ];
+    check_all_damaged(&rt, rt.alloc(), &mut pages, &rows)?;
+    check_found(&rt, &mut pages, &tree_at(5, 3), b'c')
 }

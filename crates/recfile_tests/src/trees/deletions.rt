@@ -1,0 +1,377 @@
+use super::{empty, new_pages, put, tree_text, walk_again};
+use btree_delete::delete;
+use btree_insert::{Tree, TreeFault, find};
+use page_store::{MemStore, Pages, Store};
+use rec_types::{Key, Record};
+use std::alloc::Global;
+use std::collections::BTreeSet;
+use std::process::Abort;
+use std::test::Fail;
+
+/// Deletes, once more where memory was refused; then the key still has its record.
+fn delete_again<S: Store>(
+    rt: &impl Abort,
+    alloc: Global,
+    pages: &mut Pages<S>,
+    tree: &Tree,
+    key: &Key,
+) -> Result<(Tree, Option<Record>), TreeFault> {
+    assert!(rt; 1 <= tree.order && tree.order <= 16 && tree.height <= 19);
+    assert!(rt; tree.count <= 1_000_000 && tree.used <= 1_000_000);
+    let before = find(pages, tree, key);
+    match delete(alloc, pages, tree, key) {
+        Err(TreeFault::Memory) => {
+            assert!(rt; find(pages, tree, key) == before);
+            delete(alloc, pages, tree, key)
+        }
+        answer => answer,
+    }
+}
+
+/// Takes a key out, whose record is the key.
+fn take<S: Store>(
+    rt: &impl Abort,
+    alloc: Global,
+    pages: &mut Pages<S>,
+    tree: &Tree,
+    key: &[u8],
+) -> Result<Tree, Fail> {
+    let (next, old) = delete_again(rt, alloc, pages, tree, &Key::new(key)?)?;
+    assert!(rt; old == Some(Record::new(key)?));
+    Ok(next)
+}
+
+/// Puts each small letter as a key and its record, and takes each great letter's small one out.
+fn run<S: Store>(
+    rt: &impl Abort,
+    alloc: Global,
+    pages: &mut Pages<S>,
+    order: u16,
+    steps: &[u8],
+) -> Result<Tree, Fail> {
+    let mut tree = empty(order);
+    for step in steps {
+        let key = [step.to_ascii_lowercase()];
+        tree = if step.is_ascii_uppercase() {
+            take(rt, alloc, pages, &tree, &key)?
+        } else {
+            put(rt, alloc, pages, &tree, &key, &key)?.0
+        };
+    }
+    Ok(tree)
+}
+
+/// Expects the tree of an order after these steps.
+fn expect_tree(
+    rt: &impl Abort,
+    alloc: Global,
+    order: u16,
+    steps: &[u8],
+    wanted: &str,
+) -> Result<(), Fail> {
+    let mut pages = new_pages(alloc)?;
+    let tree = run(rt, alloc, &mut pages, order, steps)?;
+    assert_eq!(rt; tree_text(rt, alloc, &mut pages, &tree)?.as_str(), wanted);
+    Ok(())
+}
+
+#[test]
+fn pages_are_levelled_and_catenated(rt: HostRuntime) -> Result<(), Fail> {
+    for (steps, wanted) in [
+        (
+            b"abcdefgA".as_slice(),
+            "3 2 6 3 of 4; leaf b=b c=c; leaf e=e f=f g=g; inner d=d 1 2",
+        ),
+        (
+            b"abcdefgAC".as_slice(),
+            "3 2 5 3 of 4; leaf b=b d=d; leaf f=f g=g; inner e=e 1 2",
+        ),
+        (
+            b"abcdefgACB".as_slice(),
+            "1 1 4 1 of 4; leaf d=d e=e f=f g=g; free; free",
+        ),
+        (
+            b"abcdefgACBh".as_slice(),
+            "3 2 5 3 of 4; leaf d=d e=e; leaf g=g h=h; inner f=f 1 2",
+        ),
+    ] {
+        expect_tree(&rt, rt.alloc(), 2, steps, wanted)?;
+    }
+    Ok(())
+}
+
+// The leaves a, c and e are the pages 1, 2 and 4 below page 3.
+#[test]
+fn a_short_page_takes_the_brother_on_its_right(rt: HostRuntime) -> Result<(), Fail> {
+    for (steps, wanted) in [
+        (
+            b"abcdeA".as_slice(),
+            "3 2 4 3 of 5; leaf b=b c=c; free; inner d=d 1 4; leaf e=e",
+        ),
+        (
+            b"abcdeC".as_slice(),
+            "3 2 4 3 of 5; leaf a=a; leaf d=d e=e; inner b=b 1 2; free",
+        ),
+        (
+            b"abcdeE".as_slice(),
+            "3 2 4 3 of 5; leaf a=a; leaf c=c d=d; inner b=b 1 2; free",
+        ),
+    ] {
+        expect_tree(&rt, rt.alloc(), 1, steps, wanted)?;
+    }
+    Ok(())
+}
+
+#[test]
+fn the_next_key_stands_for_one_of_the_root(rt: HostRuntime) -> Result<(), Fail> {
+    let wanted = "1 1 4 1 of 4; leaf a=a b=b d=d e=e; free; free";
+    expect_tree(&rt, rt.alloc(), 2, b"abcdeC", wanted)
+}
+
+/// Looks that a deletion of each key finds none, and leaves the tree as it is.
+fn check_absent<S: Store>(
+    rt: &impl Abort,
+    alloc: Global,
+    pages: &mut Pages<S>,
+    tree: &Tree,
+    keys: &[u8],
+) -> Result<(), Fail> {
+    for key in keys {
+        let (same, old) = delete_again(rt, alloc, pages, tree, &Key::new(&[*key])?)?;
+        assert!(rt; old.is_none());
+        assert_eq!(rt; same, *tree);
+    }
+    Ok(())
+}
+
+#[test]
+fn an_absent_key_changes_nothing(rt: HostRuntime) -> Result<(), Fail> {
+    let mut pages = new_pages(rt.alloc())?;
+    let tree = run(&rt, rt.alloc(), &mut pages, 1, b"ace")?;
+    check_absent(&rt, rt.alloc(), &mut pages, &tree, b"bdf")?;
+    check_absent(&rt, rt.alloc(), &mut pages, &empty(1), b"a")
+}
+
+/// Looks that the tree has count keys, which ascend and are their own records, in its pages and no
+/// others.
+fn check_tree<S: Store>(
+    rt: &impl Abort,
+    alloc: Global,
+    pages: &mut Pages<S>,
+    tree: &Tree,
+    count: usize,
+) -> Result<(), Fail> {
+    let elements = walk_again(rt, alloc, pages, tree)?;
+    assert_eq!(rt; (elements.len(), tree.count as usize), (count, count));
+    let keys = elements.as_slice();
+    for i in 1..keys.len() {
+        assert!(rt; keys[i - 1].0 < keys[i].0);
+        assert_eq!(rt; keys[i].1.bytes(), keys[i].0.bytes());
+    }
+    assert_eq!(rt;
+        pages.page_count() - 1,
+        tree.used.saturating_add(pages.free_count())
+    );
+    Ok(())
+}
+
+/// Puts 200 keys into a tree of an order and takes them out again, in an order of their own, and looks
+/// at the tree after every fortieth.
+fn check_order(rt: &impl Abort, alloc: Global, order: u16, step: u16) -> Result<(), Fail> {
+    let mut pages = new_pages(alloc)?;
+    let mut tree = empty(order);
+    for n in 0..200u16 {
+        let key = (n * 7 % 200).to_be_bytes();
+        tree = put(rt, alloc, &mut pages, &tree, &key, &key)?.0;
+    }
+    assert!(rt; step < 200);
+    for n in 0..200u16 {
+        if n % 40 == 0 {
+            check_tree(rt, alloc, &mut pages, &tree, 200 - n as usize)?;
+        }
+        tree = take(
+            rt,
+            alloc,
+            &mut pages,
+            &tree,
+            &(n * step % 200).to_be_bytes(),
+        )?;
+    }
+    assert_eq!(rt; (tree.root, tree.height, tree.used), (0, 0, 0));
+    check_tree(rt, alloc, &mut pages, &tree, 0)
+}
+
+#[test]
+fn all_keys_go_in_ascending_order(rt: HostRuntime) -> Result<(), Fail> {
+    for order in [1, 2, 3, 16] {
+        check_order(&rt, rt.alloc(), order, 1)?;
+    }
+    Ok(())
+}
+
+#[test]
+fn all_keys_go_in_descending_order(rt: HostRuntime) -> Result<(), Fail> {
+    for order in [1, 2, 3, 16] {
+        check_order(&rt, rt.alloc(), order, 199)?;
+    }
+    Ok(())
+}
+
+#[test]
+fn all_keys_go_in_a_shuffled_order(rt: HostRuntime) -> Result<(), Fail> {
+    for order in [1, 2, 3, 16] {
+        check_order(&rt, rt.alloc(), order, 77)?;
+    }
+    Ok(())
+}
+
+/// Looks that a deletion finds this page damaged, and frees none.
+fn check_damaged<S: Store>(
+    rt: &impl Abort,
+    alloc: Global,
+    pages: &mut Pages<S>,
+    tree: &Tree,
+    key: u8,
+    n: u32,
+) -> Result<(), Fail> {
+    let free = pages.free_count();
+    let answer = delete_again(rt, alloc, pages, tree, &Key::new(&[key])?);
+    assert!(rt; answer.err() == Some(TreeFault::Damaged(n)));
+    assert_eq!(rt; pages.free_count(), free);
+    Ok(())
+}
+
+#[test]
+fn pages_that_are_no_tree(rt: HostRuntime) -> Result<(), Fail> {
+    let mut pages = new_pages(rt.alloc())?;
+    let tree = run(&rt, rt.alloc(), &mut pages, 1, b"abc")?;
+    for (root, count, used, n) in [(1, 3, 3, 1), (9, 3, 3, 9), (3, 0, 3, 3), (3, 3, 1, 3)] {
+        let other = Tree {
+            root,
+            count,
+            used,
+            ..tree
+        };
+        check_damaged(&rt, rt.alloc(), &mut pages, &other, b'a', n)?;
+    }
+    Ok(())
+}
+
+/// A page of order 1 with one key, which is its own record, and these sons.
+#[derive(Clone, Copy)]
+struct Page {
+    kind: u8,
+    key: u8,
+    left: u8,
+    right: u8,
+}
+
+fn bytes_of(page: Page) -> [u8; 4096] {
+    let mut bytes = [0; 4096];
+    bytes[0] = page.kind;
+    bytes[3] = 1;
+    bytes[8] = 1;
+    bytes[9] = page.key;
+    bytes[25] = 1;
+    bytes[26] = page.key;
+    bytes[111] = page.left;
+    bytes[115] = page.right;
+    bytes
+}
+
+fn leaf(key: u8) -> Page {
+    Page {
+        kind: 1,
+        key,
+        left: 0,
+        right: 0,
+    }
+}
+
+fn inner(left: u8, right: u8) -> Page {
+    Page {
+        kind: 2,
+        key: b'b',
+        left,
+        right,
+    }
+}
+
+const NO_NODE: Page = Page {
+    kind: 9,
+    key: b'a',
+    left: 0,
+    right: 0,
+};
+
+/// A store of four pages, of which the last three are these.
+fn four_pages(rt: &impl Abort, alloc: Global, three: &[Page; 3]) -> Result<Pages<MemStore>, Fail> {
+    let nothing = Page {
+        kind: 0,
+        key: 0,
+        left: 0,
+        right: 0,
+    };
+    let mut pages = Vec::new(alloc);
+    for page in [nothing, three[0], three[1], three[2]] {
+        if pages.push(bytes_of(page)).is_err() {
+            pages.push(bytes_of(page))?;
+        }
+    }
+    assert!(rt; pages.len() == 4);
+    Ok(Pages::new(alloc, MemStore::new(pages, 0), 4, BTreeSet::new(alloc)))
+}
+
+/// Looks that the deletion of a key finds this page damaged, in a tree of order 1 of three pages.
+fn check_row(
+    rt: &impl Abort,
+    alloc: Global,
+    three: &[Page; 3],
+    root: u32,
+    height: u32,
+    key: u8,
+    n: u32,
+) -> Result<(), Fail> {
+    let mut pages = four_pages(rt, alloc, three)?;
+    let tree = Tree {
+        order: 1,
+        root,
+        height,
+        count: 3,
+        used: 3,
+    };
+    check_damaged(rt, alloc, &mut pages, &tree, key, n)
+}
+
+#[test]
+fn damaged_pages_on_the_path(rt: HostRuntime) -> Result<(), Fail> {
+    let (a, c, root) = (leaf(b'a'), leaf(b'c'), inner(1, 2));
+    for (three, n, height, key, damaged) in [
+        ([NO_NODE, c, root], 3, 2, b'a', 1),
+        ([NO_NODE, c, root], 1, 1, b'a', 1),
+        ([c, c, root], 3, 2, b'a', 1),
+        ([a, a, root], 3, 2, b'c', 2),
+        ([root, c, root], 3, 2, b'a', 1),
+        ([a, c, root], 3, 1, b'a', 3),
+    ] {
+        check_row(&rt, rt.alloc(), &three, n, height, key, damaged)?;
+    }
+    Ok(())
+}
+
+#[test]
+fn damaged_brothers(rt: HostRuntime) -> Result<(), Fail> {
+    let (a, c, root) = (leaf(b'a'), leaf(b'c'), inner(1, 2));
+    for (three, key, damaged) in [
+        ([a, NO_NODE, root], b'a', 2),
+        ([NO_NODE, c, root], b'c', 1),
+        ([a, a, root], b'a', 2),
+        ([c, c, root], b'c', 1),
+        ([a, root, root], b'a', 2),
+        ([a, c, inner(1, 1)], b'a', 1),
+        ([a, c, inner(1, 7)], b'a', 7),
+    ] {
+        check_row(&rt, rt.alloc(), &three, 3, 2, key, damaged)?;
+    }
+    Ok(())
+}
