@@ -1,5 +1,5 @@
 use recfile::run_words;
-use std::alloc::Global;
+use std::alloc::{Alloc, Global};
 use std::fs;
 use std::fs::OpenFile;
 use std::os::unix::fs::FileExt;
@@ -7,15 +7,54 @@ use std::process::Abort;
 use std::rt::Files;
 use std::test::Fail;
 
-/// A call of the program: its words, its script, what it writes to standard output and, where that text is the
-/// program's own, to standard error, and its status.
+/// A call of the program: its words, with a space between them; its script; what it writes to standard output and,
+/// where that text is the program's own, to standard error; and its status.
 #[derive(Clone, Copy)]
 struct Call<'a> {
-    words: &'a [&'a str],
+    words: &'a str,
     script: &'a str,
     out: &'a str,
     err: Option<&'a str>,
     status: u8,
+}
+
+/// A call without faults.
+fn good<'a>(words: &'a str, script: &'a str, out: &'a str) -> Call<'a> {
+    Call {
+        words,
+        script,
+        out,
+        err: Some(""),
+        status: 0,
+    }
+}
+
+/// A call that writes nothing but the name of a fault, and has this status.
+fn bad<'a>(words: &'a str, script: &'a str, err: &'a str, status: u8) -> Call<'a> {
+    Call {
+        words,
+        script,
+        out: "",
+        err: Some(err),
+        status,
+    }
+}
+
+/// Makes the call: its status, and what it wrote to standard output and to standard error.
+fn run<F: OpenFile + FileExt + Drop, H: Files<File = F>>(
+    rt: &H,
+    alloc: Global,
+    words: &str,
+    script: &str,
+) -> Result<(u8, String, String), Fail> {
+    let mut list = Vec::new(alloc);
+    for word in words.split(' ') {
+        list.push(word)?;
+    }
+    let mut reader = script.as_bytes();
+    let (mut out, mut err) = (Vec::new(alloc), Vec::new(alloc));
+    let status = run_words(rt, alloc, &list, &mut reader, &mut out, &mut err);
+    Ok((status, String::from_utf8(out)?, String::from_utf8(err)?))
 }
 
 /// Expects that of the call.
@@ -24,10 +63,7 @@ fn expect_call<F: OpenFile + FileExt + Drop, H: Files<File = F> + Abort>(
     alloc: Global,
     call: &Call<'_>,
 ) -> Result<(), Fail> {
-    let mut reader = call.script.as_bytes();
-    let (mut out, mut err) = (Vec::new(alloc), Vec::new(alloc));
-    let status = run_words(rt, alloc, call.words, &mut reader, &mut out, &mut err);
-    let (out, err) = (String::from_utf8(out)?, String::from_utf8(err)?);
+    let (status, out, err) = run(rt, alloc, call.words, call.script)?;
     assert_eq!(rt; (call.words, status), (call.words, call.status));
     match call.err {
         Some(text) => {
@@ -42,233 +78,201 @@ fn expect_call<F: OpenFile + FileExt + Drop, H: Files<File = F> + Abort>(
     Ok(())
 }
 
-/// A call without faults.
-fn good<'a>(words: &'a [&'a str], script: &'a str, out: &'a str) -> Call<'a> {
-    Call {
-        words,
-        script,
-        out,
-        err: Some(""),
-        status: 0,
+/// Does so for each call.
+fn expect_calls<F: OpenFile + FileExt + Drop, H: Files<File = F> + Abort>(
+    rt: &H,
+    alloc: Global,
+    calls: &[Call<'_>],
+) -> Result<(), Fail> {
+    for call in calls {
+        expect_call(rt, alloc, call)?;
     }
+    Ok(())
 }
 
-/// A call that names a fault and has this status.
-fn bad<'a>(
-    words: &'a [&'a str],
-    script: &'a str,
-    out: &'a str,
-    err: &'a str,
-    status: u8,
-) -> Call<'a> {
-    Call {
-        words,
-        script,
-        out,
-        err: Some(err),
-        status,
-    }
-}
-
-/// A call that gets the text of the words' own fault, or of their help.
-fn usage<'a>(words: &'a [&'a str], status: u8) -> Call<'a> {
-    Call {
-        words,
-        script: "begin\n",
-        out: "",
-        err: None,
-        status,
-    }
-}
+const CHANGES: &str = "begin\nbegin\nbegin\nput 3 m =keep\ncommit 3\nput 1 a =x\nput 2 b =y\n";
 
 // Committed changes are in the file afterwards, and those of open transactions aren't.
-#[test]
-fn two_sessions_over_a_file(rt: HostRuntime) -> Result<(), Fail> {
-    let _ = fs::remove_file(&rt, "two.rec");
-    let change = "begin\nbegin\nbegin\nput 3 m =keep\ncommit 3\nput 1 a =x\nput 2 b =y\n";
-    for call in [
-        good(&["recfile", "create", "--order", "2", "two.rec"], "", ""),
+fn two_sessions() -> [Call<'static>; 7] {
+    [
+        good("recfile create --order 2 two.rec", "", ""),
         good(
-            &["recfile", "check", "two.rec"],
+            "recfile check two.rec",
             "",
             "order 2 height 0 records 0 pages 1 free 0\n",
         ),
         good(
-            &["recfile", "run", "two.rec"],
-            change,
+            "recfile run two.rec",
+            CHANGES,
             "ok 1\nok 2\nok 3\nok none\nok\nok none\nok none\n",
         ),
+        good("recfile run two.rec", "list\n", "- m =keep\nok 1\n"),
         good(
-            &["recfile", "run", "two.rec"],
-            "list\n",
-            "- m =keep\nok 1\n",
-        ),
-        good(
-            &["recfile", "check", "two.rec"],
+            "recfile check two.rec",
             "",
             "order 2 height 1 records 1 pages 2 free 0\n",
         ),
         bad(
-            &["recfile", "create", "--order", "2", "two.rec"],
-            "",
+            "recfile create --order 2 two.rec",
             "",
             "recfile: Device\n",
             1,
         ),
-        good(
-            &["recfile", "run", "two.rec"],
-            "list\n",
-            "- m =keep\nok 1\n",
-        ),
-    ] {
-        expect_call(&rt, rt.alloc(), &call)?;
-    }
+        good("recfile run two.rec", "list\n", "- m =keep\nok 1\n"),
+    ]
+}
+
+#[test]
+fn two_sessions_over_a_file(rt: HostRuntime) -> Result<(), Fail> {
+    let _ = fs::remove_file(&rt, "two.rec");
+    expect_calls(&rt, rt.alloc(), &two_sessions())?;
     fs::remove_file(&rt, "two.rec")?;
     Ok(())
 }
 
+const FRUIT: &str = "begin\nbegin\nput 1 apple =red\nput 2 pear =yellow\ncommit 1\n";
+
 // The session over a page file that the README shows.
-#[test]
-fn fruit_in_a_file(rt: HostRuntime) -> Result<(), Fail> {
-    let alloc = rt.alloc();
-    let _ = fs::remove_file(&rt, "fruit.rec");
-    let change = "begin\nbegin\nput 1 apple =red\nput 2 pear =yellow\ncommit 1\n";
-    let check = ["recfile", "check", "fruit.rec"];
-    for call in [
-        good(&["recfile", "create", "--order", "2", "fruit.rec"], "", ""),
-        good(&check, "", "order 2 height 0 records 0 pages 1 free 0\n"),
+fn fruit_session() -> [Call<'static>; 5] {
+    [
+        good("recfile create --order 2 fruit.rec", "", ""),
         good(
-            &["recfile", "run", "fruit.rec"],
-            change,
+            "recfile check fruit.rec",
+            "",
+            "order 2 height 0 records 0 pages 1 free 0\n",
+        ),
+        good(
+            "recfile run fruit.rec",
+            FRUIT,
             "ok 1\nok 2\nok none\nok none\nok\n",
         ),
+        good("recfile run fruit.rec", "list\n", "- apple =red\nok 1\n"),
         good(
-            &["recfile", "run", "fruit.rec"],
-            "list\n",
-            "- apple =red\nok 1\n",
+            "recfile check fruit.rec",
+            "",
+            "order 2 height 1 records 1 pages 2 free 0\n",
         ),
-        good(&check, "", "order 2 height 1 records 1 pages 2 free 0\n"),
-    ] {
-        expect_call(&rt, alloc, &call)?;
+    ]
+}
+
+/// Writes a file of these bytes with another byte at a place.
+fn write_changed(
+    rt: &impl Files,
+    alloc: Global,
+    path: &str,
+    bytes: &[u8],
+    place: usize,
+    value: u8,
+) -> Result<(), Fail> {
+    let mut changed = Vec::from_slice(alloc, bytes)?;
+    if let Some(byte) = changed.get_mut(place) {
+        *byte = value;
     }
-    let mut bytes = fs::read(&rt, "fruit.rec")?;
-    if let Some(byte) = bytes.get_mut(4096) {
-        *byte = b'X';
-    }
-    fs::write(&rt, "fruit.rec", &bytes)?;
-    expect_call(&rt, alloc, &bad(&check, "", "", "recfile: Damaged 1\n", 1))?;
-    fs::remove_file(&rt, "fruit.rec")?;
+    fs::write(rt, path, &changed)?;
     Ok(())
 }
 
 #[test]
+fn fruit_in_a_file(rt: HostRuntime) -> Result<(), Fail> {
+    let alloc = rt.alloc();
+    let _ = fs::remove_file(&rt, "fruit.rec");
+    expect_calls(&rt, alloc, &fruit_session())?;
+    let bytes = fs::read(&rt, "fruit.rec")?;
+    write_changed(&rt, alloc, "fruit.rec", &bytes, 4096, b'X')?;
+    expect_call(
+        &rt,
+        alloc,
+        &bad("recfile check fruit.rec", "", "recfile: Damaged 1\n", 1),
+    )?;
+    fs::remove_file(&rt, "fruit.rec")?;
+    Ok(())
+}
+
+// The text is the words' own fault, or their help.
+#[test]
 fn words_that_ask_for_nothing(rt: HostRuntime) -> Result<(), Fail> {
-    for call in [
-        usage(&["recfile", "frob"], 2),
-        usage(&["recfile", "create", "no.rec"], 2),
-        usage(&["recfile", "create", "--order", "2"], 2),
-        usage(
-            &[
-                "recfile", "create", "--order", "1", "--order", "2", "no.rec",
-            ],
-            2,
-        ),
-        usage(&["recfile", "run"], 2),
-        usage(&["recfile", "run", "no.rec", "more"], 2),
-        usage(&["recfile", "run", "--order", "2", "no.rec"], 2),
-        usage(&["recfile", "run", "--log", "9", "--log", "9", "no.rec"], 2),
-        usage(&["recfile", "check"], 2),
-        usage(&["recfile", "check", "--records", "1", "no.rec"], 2),
-        usage(&["recfile", "memory", "no.rec"], 2),
-        usage(&["recfile", "--help"], 0),
-        usage(&["recfile", "run", "--help"], 0),
+    for (words, status) in [
+        ("recfile frob", 2),
+        ("recfile create no.rec", 2),
+        ("recfile create --order 2", 2),
+        ("recfile create --order 1 --order 2 no.rec", 2),
+        ("recfile run", 2),
+        ("recfile run no.rec more", 2),
+        ("recfile run --order 2 no.rec", 2),
+        ("recfile run --log 9 --log 9 no.rec", 2),
+        ("recfile check", 2),
+        ("recfile check --records 1 no.rec", 2),
+        ("recfile memory no.rec", 2),
+        ("recfile --help", 0),
+        ("recfile run --help", 0),
     ] {
+        let call = Call {
+            words,
+            script: "begin\n",
+            out: "",
+            err: None,
+            status,
+        };
         expect_call(&rt, rt.alloc(), &call)?;
+    }
+    Ok(())
+}
+
+#[test]
+fn numbers_out_of_their_ranges(rt: HostRuntime) -> Result<(), Fail> {
+    for words in [
+        "recfile memory --records 0",
+        "recfile memory --records 1000001",
+        "recfile memory --log 1",
+        "recfile memory --log 4000001",
+        "recfile memory --begins 0",
+        "recfile memory --begins 1000001",
+        "recfile memory --begins -1",
+        "recfile memory --begins many",
+    ] {
+        let (status, out, _) = run(&rt, rt.alloc(), words, "begin\n")?;
+        assert_eq!(rt; (words, status, out.len()), (words, 2, 0));
     }
     Ok(())
 }
 
 // The ends of each range.
 #[test]
-fn numbers_out_of_their_ranges(rt: HostRuntime) -> Result<(), Fail> {
-    let alloc = rt.alloc();
-    for (option, number) in [
-        ("--records", "0"),
-        ("--records", "1000001"),
-        ("--log", "1"),
-        ("--log", "4000001"),
-        ("--begins", "0"),
-        ("--begins", "1000001"),
-        ("--begins", "-1"),
-        ("--begins", "many"),
-    ] {
-        let words = ["recfile", "memory", option, number];
-        let mut reader = b"begin\n".as_slice();
-        let (mut out, mut err) = (Vec::new(alloc), Vec::new(alloc));
-        let status = run_words(&rt, alloc, &words, &mut reader, &mut out, &mut err);
-        assert_eq!(rt; (option, number, status, out.len()), (option, number, 2, 0));
-    }
+fn numbers_at_the_ends_of_their_ranges(rt: HostRuntime) -> Result<(), Fail> {
     for call in [
         good(
-            &[
-                "recfile",
-                "memory",
-                "--records",
-                "1",
-                "--log",
-                "2",
-                "--begins",
-                "1",
-            ],
+            "recfile memory --records 1 --log 2 --begins 1",
             "begin\nput 1 a =x\nput 1 b =x\nbegin\n",
             "ok 1\nok none\nno LogFull\nno BeginsSpent\n",
         ),
         good(
-            &[
-                "recfile",
-                "memory",
-                "--begins",
-                "1000000",
-                "--log",
-                "4000000",
-                "--records",
-                "1",
-            ],
+            "recfile memory --begins 1000000 --log 4000000 --records 1",
             "begin\nput 1 a =x\nput 1 b =x\n",
             "ok 1\nok none\nno Full\n",
         ),
-        good(&["recfile"], "begin\nlist\n", "ok 1\nok 0\n"),
+        good("recfile", "begin\nlist\n", "ok 1\nok 0\n"),
     ] {
-        expect_call(&rt, alloc, &call)?;
+        expect_call(&rt, rt.alloc(), &call)?;
     }
     Ok(())
 }
 
 #[test]
 fn files_that_are_not_opened(rt: HostRuntime) -> Result<(), Fail> {
-    let alloc = rt.alloc();
     let _ = fs::remove_file(&rt, "none.rec");
     fs::write(&rt, "empty.rec", "")?;
     fs::write(&rt, "short.rec", "BMKRFILE")?;
-    for path in ["none.rec", "."] {
-        for word in ["run", "check"] {
-            let words = ["recfile", word, path];
-            expect_call(
-                &rt,
-                alloc,
-                &bad(&words, "begin\n", "", "recfile: Device\n", 1),
-            )?;
-        }
-    }
-    for path in ["empty.rec", "short.rec"] {
-        for word in ["run", "check"] {
-            let words = ["recfile", word, path];
-            expect_call(
-                &rt,
-                alloc,
-                &bad(&words, "begin\n", "", "recfile: BadLength\n", 1),
-            )?;
-        }
+    for (words, err) in [
+        ("recfile run none.rec", "recfile: Device\n"),
+        ("recfile check none.rec", "recfile: Device\n"),
+        ("recfile run .", "recfile: Device\n"),
+        ("recfile check .", "recfile: Device\n"),
+        ("recfile run empty.rec", "recfile: BadLength\n"),
+        ("recfile check empty.rec", "recfile: BadLength\n"),
+        ("recfile run short.rec", "recfile: BadLength\n"),
+        ("recfile check short.rec", "recfile: BadLength\n"),
+    ] {
+        expect_call(&rt, rt.alloc(), &bad(words, "begin\n", err, 1))?;
     }
     fs::remove_file(&rt, "empty.rec")?;
     fs::remove_file(&rt, "short.rec")?;
@@ -282,58 +286,86 @@ const THREE_REPLIES: &str = "ok 1\nok none\nok none\nok none\nok\n";
 
 const THREE_CHECKED: &str = "order 1 height 2 records 3 pages 4 free 0\n";
 
-// Each change is of one byte of the file, by its place.
+/// Bytes that are put at a place in the file of three records, and the fault that the program names then.
+const DAMAGES: [(usize, u8, &str); 13] = [
+    (0, 0, "recfile: BadMagic\n"),
+    (9, 9, "recfile: BadVersion 9\n"),
+    (11, 0, "recfile: BadOrder\n"),
+    (11, 17, "recfile: BadOrder\n"),
+    (24, 2, "recfile: NotClean\n"),
+    (24, 3, "recfile: BadHeader\n"),
+    (19, 4, "recfile: BadHeader\n"),
+    (23, 4, "recfile: WrongCount\n"),
+    (4105, 100, "recfile: Damaged 1\n"),
+    (4099, 0, "recfile: Damaged 1\n"),
+    (10192, 1, "recfile: Damaged 2\n"),
+    (12403, 3, "recfile: Damaged 3\n"),
+    (12403, 4, "recfile: Damaged 3\n"),
+];
+
+/// Expects that of the call, and that the file at the path has these bytes after it.
+fn expect_kept<F: OpenFile + FileExt + Drop, H: Files<File = F> + Abort + Alloc>(
+    rt: &H,
+    alloc: Global,
+    call: &Call<'_>,
+    path: &str,
+    bytes: &[u8],
+) -> Result<(), Fail> {
+    expect_call(rt, alloc, call)?;
+    assert!(rt; fs::read(rt, path)?.as_slice() == bytes);
+    Ok(())
+}
+
+/// Expects a check and a session to name the fault, and to leave the file as it is.
+fn expect_damaged<F: OpenFile + FileExt + Drop, H: Files<File = F> + Abort + Alloc>(
+    rt: &H,
+    alloc: Global,
+    fault: &str,
+) -> Result<(), Fail> {
+    let bytes = fs::read(rt, "damaged.rec")?;
+    for words in ["recfile check damaged.rec", "recfile run damaged.rec"] {
+        let call = bad(words, "begin\n", fault, 1);
+        expect_kept(rt, alloc, &call, "damaged.rec", &bytes)?;
+    }
+    Ok(())
+}
+
 #[test]
 fn damaged_files_are_named(rt: HostRuntime) -> Result<(), Fail> {
     let alloc = rt.alloc();
     let _ = fs::remove_file(&rt, "three.rec");
-    for call in [
-        good(&["recfile", "create", "--order", "1", "three.rec"], "", ""),
-        good(
-            &["recfile", "run", "three.rec"],
-            THREE_RECORDS,
-            THREE_REPLIES,
-        ),
-        good(&["recfile", "check", "three.rec"], "", THREE_CHECKED),
-    ] {
-        expect_call(&rt, alloc, &call)?;
-    }
+    expect_calls(
+        &rt,
+        alloc,
+        &[
+            good("recfile create --order 1 three.rec", "", ""),
+            good("recfile run three.rec", THREE_RECORDS, THREE_REPLIES),
+            good("recfile check three.rec", "", THREE_CHECKED),
+        ],
+    )?;
     let bytes = fs::read(&rt, "three.rec")?;
-    for (place, value, fault) in [
-        (0, 0, "recfile: BadMagic\n"),
-        (9, 9, "recfile: BadVersion 9\n"),
-        (11, 0, "recfile: BadOrder\n"),
-        (11, 17, "recfile: BadOrder\n"),
-        (24, 2, "recfile: NotClean\n"),
-        (24, 3, "recfile: BadHeader\n"),
-        (19, 4, "recfile: BadHeader\n"),
-        (23, 4, "recfile: WrongCount\n"),
-        (4105, 100, "recfile: Damaged 1\n"),
-        (4099, 0, "recfile: Damaged 1\n"),
-        (10192, 1, "recfile: Damaged 2\n"),
-        (12403, 3, "recfile: Damaged 3\n"),
-        (12403, 4, "recfile: Damaged 3\n"),
-    ] {
-        let mut changed = Vec::from_slice(alloc, &bytes)?;
-        if let Some(byte) = changed.get_mut(place) {
-            *byte = value;
-        }
-        fs::write(&rt, "damaged.rec", &changed)?;
-        for word in ["check", "run"] {
-            let words = ["recfile", word, "damaged.rec"];
-            expect_call(&rt, alloc, &bad(&words, "begin\n", "", fault, 1))?;
-        }
-        assert!(rt; fs::read(&rt, "damaged.rec")? == changed);
+    for (place, value, fault) in DAMAGES {
+        write_changed(&rt, alloc, "damaged.rec", &bytes, place, value)?;
+        expect_damaged(&rt, alloc, fault)?;
     }
-    let words = ["recfile", "run", "--records", "2", "three.rec"];
+    let words = "recfile run --records 2 three.rec";
     expect_call(
         &rt,
         alloc,
-        &bad(&words, "begin\n", "", "recfile: TooManyRecords\n", 1),
+        &bad(words, "begin\n", "recfile: TooManyRecords\n", 1),
     )?;
     fs::remove_file(&rt, "damaged.rec")?;
     fs::remove_file(&rt, "three.rec")?;
     Ok(())
+}
+
+/// A script of more than 1,048,576 bytes.
+fn long_script(alloc: Global, lines: u32) -> Result<String, Fail> {
+    let mut script = String::new(alloc);
+    for _ in 0..lines {
+        script.push_str("begin\n#\n")?;
+    }
+    Ok(script)
 }
 
 // A script that is too long is not run, a session that changes nothing writes nothing, and a new file is not made over
@@ -342,48 +374,35 @@ fn damaged_files_are_named(rt: HostRuntime) -> Result<(), Fail> {
 fn files_that_stay_as_they_are(rt: HostRuntime) -> Result<(), Fail> {
     let alloc = rt.alloc();
     let _ = fs::remove_file(&rt, "stays.rec");
-    for call in [
-        good(&["recfile", "create", "--order", "1", "stays.rec"], "", ""),
-        good(
-            &["recfile", "run", "stays.rec"],
-            THREE_RECORDS,
-            THREE_REPLIES,
-        ),
-        good(&["recfile", "check", "stays.rec"], "", THREE_CHECKED),
-    ] {
-        expect_call(&rt, alloc, &call)?;
-    }
+    expect_calls(
+        &rt,
+        alloc,
+        &[
+            good("recfile create --order 1 stays.rec", "", ""),
+            good("recfile run stays.rec", THREE_RECORDS, THREE_REPLIES),
+            good("recfile check stays.rec", "", THREE_CHECKED),
+        ],
+    )?;
     let bytes = fs::read(&rt, "stays.rec")?;
-    let mut long = String::new(alloc);
-    for _ in 0..131_073 {
-        long.push_str("begin\n#\n")?;
-    }
+    let long = long_script(alloc, 131_073)?;
+    let back = "begin\nput 1 a =w\nback 1 0\nget 1 a\n";
     for call in [
         bad(
-            &["recfile", "run", "stays.rec"],
+            "recfile run stays.rec",
             &long,
-            "",
             "recfile: ScriptTooLong\n",
             3,
         ),
-        good(
-            &["recfile", "run", "stays.rec"],
-            "begin\nput 1 a =w\nback 1 0\nget 1 a\n",
-            "ok 1\nok =x\nok 1\nok =x\n",
-        ),
+        good("recfile run stays.rec", back, "ok 1\nok =x\nok 1\nok =x\n"),
         bad(
-            &["recfile", "create", "--order", "3", "stays.rec"],
-            "",
+            "recfile create --order 3 stays.rec",
             "",
             "recfile: Device\n",
             1,
         ),
-        good(&["recfile", "run", "stays.rec"], "", ""),
+        good("recfile run stays.rec", "", ""),
     ] {
-        expect_call(&rt, alloc, &call)?;
-        if call.script.len() != 37 {
-            assert!(rt; fs::read(&rt, "stays.rec")? == bytes);
-        }
+        expect_kept(&rt, alloc, &call, "stays.rec", &bytes)?;
     }
     fs::remove_file(&rt, "stays.rec")?;
     Ok(())
