@@ -3,11 +3,7 @@ ghost use Rattle.std.specs.List.{flat_map};
 ghost use Rattle.std.specs.String.{string_bytes};
 ghost use Rattle.command_text.specs.Texts.{escaped, cause_text, refusal_text, fault_text, number_text, record_text, old_text, owner_text, entry_line, key_line, entries_text, keys_text, reply_text, text_of};
 
-use crate::refusal::{
-    Refusal, abort_refusal, begin_refusal, commit_refusal, entries_refusal, get_refusal,
-    keys_refusal, put_refusal, release_refusal, remove_refusal, resume_refusal, rollback_refusal,
-    savepoint_refusal,
-};
+use crate::refusal::Refusal;
 use crate::{EntryList, KeyList, LineFault};
 use percent_encoding::{AsciiSet, CONTROLS, ascii_set, percent_encode};
 use rec_types::{Entry, Key, Memory, Record, TxId};
@@ -193,29 +189,29 @@ fn push_reply(text: &mut String, reply: &Reply) -> Result<(), AllocError>
 {
     match reply {
         Reply::Begin(Ok(TxId(number))) => push_number(text, *number),
-        Reply::Begin(Err(fault)) => push_refusal(text, begin_refusal(*fault)),
+        Reply::Begin(Err(fault)) => push_refusal(text, Refusal::from(*fault)),
         Reply::Put(Ok(old)) => push_old(text, old),
-        Reply::Put(Err(fault)) => push_refusal(text, put_refusal(*fault)),
+        Reply::Put(Err(fault)) => push_refusal(text, Refusal::from(*fault)),
         Reply::Del(Ok(record)) => push_record(text, record),
-        Reply::Del(Err(fault)) => push_refusal(text, remove_refusal(*fault)),
+        Reply::Del(Err(fault)) => push_refusal(text, Refusal::from(*fault)),
         Reply::Get(Ok(value)) => push_old(text, value),
-        Reply::Get(Err(fault)) => push_refusal(text, get_refusal(*fault)),
+        Reply::Get(Err(fault)) => push_refusal(text, Refusal::from(*fault)),
         Reply::Save(Ok(number)) => push_number(text, *number),
-        Reply::Save(Err(fault)) => push_refusal(text, savepoint_refusal(*fault)),
+        Reply::Save(Err(fault)) => push_refusal(text, Refusal::from(*fault)),
         Reply::Release(Ok(())) => text.push_str("ok"),
-        Reply::Release(Err(fault)) => push_refusal(text, release_refusal(*fault)),
+        Reply::Release(Err(fault)) => push_refusal(text, Refusal::from(*fault)),
         Reply::Back(Ok(undone)) => push_number(text, *undone),
-        Reply::Back(Err(fault)) => push_refusal(text, rollback_refusal(*fault)),
+        Reply::Back(Err(fault)) => push_refusal(text, Refusal::from(*fault)),
         Reply::Resume(Ok(undone)) => push_number(text, *undone),
-        Reply::Resume(Err(fault)) => push_refusal(text, resume_refusal(*fault)),
+        Reply::Resume(Err(fault)) => push_refusal(text, Refusal::from(*fault)),
         Reply::Abort(Ok(undone)) => push_number(text, *undone),
-        Reply::Abort(Err(fault)) => push_refusal(text, abort_refusal(*fault)),
+        Reply::Abort(Err(fault)) => push_refusal(text, Refusal::from(*fault)),
         Reply::Commit(Ok(())) => text.push_str("ok"),
-        Reply::Commit(Err(fault)) => push_refusal(text, commit_refusal(*fault)),
+        Reply::Commit(Err(fault)) => push_refusal(text, Refusal::from(*fault)),
         Reply::List(Ok(entries)) => push_entries(text, entries),
-        Reply::List(Err(fault)) => push_refusal(text, entries_refusal(*fault)),
+        Reply::List(Err(fault)) => push_refusal(text, Refusal::from(*fault)),
         Reply::Keys(Ok(keys)) => push_keys(text, keys),
-        Reply::Keys(Err(fault)) => push_refusal(text, keys_refusal(*fault)),
+        Reply::Keys(Err(fault)) => push_refusal(text, Refusal::from(*fault)),
         Reply::Log(len, used) => write!(text, "ok {len} {used}"),
         Reply::Bad(fault) => push_fault(text, *fault),
     }
