@@ -47,8 +47,8 @@ survey_page-returns-else-add_leaf-clause-exact g t c = λ steady h level es us s
     let is = leaf_exact c.args.order (at c.args.pages.now.pages) c.args.least c.args.above.now.left c.args.n c.args.above.now.bounds node c.args.survey.now h level es us c.in-Leaf.is sound here in
     absurd (c.if-add_leaf.ensures.uneven refl (subst (λ (s : SeenSoFar). (s.leaf ≡ None) ⊎ (s.leaf ≡ Some c.args.above.now.left)) (sym (c.if-not-reach.ensures.reached refl)) (subst (λ (l : ℕ). (c.args.survey.now.leaf ≡ None) ⊎ (c.args.survey.now.leaf ≡ Some l)) is.0 sound.leaf)))
 
-pub survey_page-returns-else-left-eq0-clause-found : goal.survey_page-returns-else-left-eq0-clause-found
-survey_page-returns-else-left-eq0-clause-found g t c = λ steady.
+pub survey_page-returns-else-above-eq0-clause-found : goal.survey_page-returns-else-above-eq0-clause-found
+survey_page-returns-else-above-eq0-clause-found g t c = λ steady.
     let node = c.read_page.new.node in
     let k = c.args.order in
     let pages = at c.args.pages.now.pages in
@@ -63,8 +63,8 @@ survey_page-returns-else-left-eq0-clause-found g t c = λ steady.
     pages_is c.as_slice.ensures.value c.as_slice-elements.ensures.value sub))
     (c.survey_sons.ensures.found (ap (λ (v : PagesView). v.steady) c.read_page.ensures.unchanged ∙ steady) between)
 
-pub survey_page-returns-else-left-eq0-clause-exact : goal.survey_page-returns-else-left-eq0-clause-exact
-survey_page-returns-else-left-eq0-clause-exact g t c = λ steady h level es us sound.
+pub survey_page-returns-else-above-eq0-clause-exact : goal.survey_page-returns-else-above-eq0-clause-exact
+survey_page-returns-else-above-eq0-clause-exact g t c = λ steady h level es us sound.
     let node = c.read_page.new.node in
     let k = c.args.order in
     let pages = at c.args.pages.now.pages in
