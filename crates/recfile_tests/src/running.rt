@@ -1,5 +1,13 @@
+mod answers;
+mod large_scripts;
+mod long_scripts;
+mod lying;
+mod rows;
+mod sessions;
+mod table_files;
+
 use btree_delete::TreeTable;
-use page_store::MemStore;
+use page_store::{MemStore, Store};
 use rec_types::{FlakyTable, LimitFault, Limits, SortedTable, Table};
 use recfile::{ScriptFault, run_script};
 use record_file::RecordFile;
@@ -10,22 +18,22 @@ use std::test::Fail;
 /// A script over an empty file: the limits of records, log records and transactions, the calls of `set` at which
 /// the device fails, the replies, and how many commands there are.
 #[derive(Clone, Copy)]
-pub struct Row<'a> {
-    pub name: &'a str,
-    pub limits: (u32, u32, u32),
-    pub failing: &'a [u64],
-    pub script: &'a str,
-    pub replies: &'a str,
-    pub commands: u32,
+struct Row<'a> {
+    name: &'a str,
+    limits: (u32, u32, u32),
+    failing: &'a [u64],
+    script: &'a str,
+    replies: &'a str,
+    commands: u32,
 }
 
 /// The greatest limits.
-pub fn greatest() -> Result<Limits, LimitFault> {
+fn greatest() -> Result<Limits, LimitFault> {
     Limits::new(1_000_000, 4_000_000, 1_000_000)
 }
 
 /// An empty table in a tree of this order, over pages in memory.
-pub fn tree(alloc: Global, k: u16, limits: Limits) -> Result<TreeTable<MemStore>, Fail> {
+fn tree(alloc: Global, k: u16, limits: Limits) -> Result<TreeTable<MemStore>, Fail> {
     let store = MemStore::new(Vec::new(alloc), 0);
     match TreeTable::create(alloc, store, k, limits) {
         Ok(table) => Ok(table),
@@ -34,7 +42,7 @@ pub fn tree(alloc: Global, k: u16, limits: Limits) -> Result<TreeTable<MemStore>
 }
 
 /// A file over the table, whose device fails at these calls of `set`.
-pub fn flaky_file<T: Table>(
+fn flaky_file<T: Table>(
     rt: &impl Abort,
     alloc: Global,
     table: T,
@@ -47,7 +55,7 @@ pub fn flaky_file<T: Table>(
 }
 
 /// Runs the script: its replies, and how it ended.
-pub fn run<T: Table>(
+fn run<T: Table>(
     alloc: Global,
     file: &mut RecordFile<T>,
     script: &str,
@@ -75,7 +83,7 @@ fn expect_over<T: Table>(
 }
 
 /// Expects it over a sorted table, and over trees of the orders 1, 2 and 16.
-pub fn expect_row(rt: &impl Abort, alloc: Global, row: &Row<'_>) -> Result<(), Fail> {
+fn expect_row(rt: &impl Abort, alloc: Global, row: &Row<'_>) -> Result<(), Fail> {
     let (records, log_records, begins) = row.limits;
     let limits = Limits::new(records, log_records, begins)?;
     expect_over(rt, alloc, SortedTable::new(alloc, limits), row)?;
@@ -83,4 +91,61 @@ pub fn expect_row(rt: &impl Abort, alloc: Global, row: &Row<'_>) -> Result<(), F
         expect_over(rt, alloc, tree(alloc, k, limits)?, row)?;
     }
     Ok(())
+}
+
+/// A page that begins with these bytes.
+fn page_with(bytes: &[u8; 25]) -> [u8; 4096] {
+    let mut page = [0; 4096];
+    page[..25].copy_from_slice(bytes);
+    page
+}
+
+/// A page of order 1 with one key and its record, and these sons.
+fn page_of(kind: u8, key: u8, record: u8, left: u8, right: u8) -> [u8; 4096] {
+    let mut page = [0; 4096];
+    page[0] = kind;
+    page[3] = 1;
+    page[8] = 1;
+    page[9] = key;
+    page[25] = 1;
+    page[26] = record;
+    page[111] = left;
+    page[115] = right;
+    page
+}
+
+/// The file of order 1 with the records x, y and z at the keys a, b and c.
+fn three_records() -> [[u8; 4096]; 4] {
+    [
+        page_with(b"BMKRFILE\x00\x01\x00\x01\x00\x00\x00\x04\x00\x00\x00\x03\x00\x00\x00\x03\x01"),
+        page_of(1, b'a', b'x', 0, 0),
+        page_of(1, b'c', b'z', 0, 0),
+        page_of(2, b'b', b'y', 1, 2),
+    ]
+}
+
+/// A store with these pages, and a tail.
+fn store_of(
+    rt: &impl Abort,
+    alloc: Global,
+    pages: &[[u8; 4096]],
+    tail: u16,
+) -> Result<MemStore, Fail> {
+    assert!(rt; tail <= 4095);
+    let mut stored = Vec::new(alloc);
+    if stored.reserve(pages.len()).is_err() {
+        stored.reserve(pages.len())?;
+    }
+    for page in pages {
+        stored.push(*page)?;
+    }
+    Ok(MemStore::new(stored, tail))
+}
+
+/// Opens the store's file, of at most nine records.
+fn open<S: Store>(alloc: Global, store: S) -> Result<TreeTable<S>, Fail> {
+    match TreeTable::open_from(alloc, store, Limits::new(9, 2, 1)?) {
+        Ok(table) => Ok(table),
+        Err(stop) => Err(Fail::from(stop.fault)),
+    }
 }

@@ -1,4 +1,4 @@
-use crate::lying::{Lie, LyingTable};
+use super::{Lie, LyingTable};
 use crate::running::{run, tree};
 use rec_types::{Limits, SortedTable, Table};
 use record_file::RecordFile;
@@ -34,11 +34,15 @@ fn expect_over<T: Table>(
 }
 
 /// Expects them over a sorted table, and over a tree of order 1.
+fn expect_row(rt: &impl Abort, alloc: Global, row: &Row<'_>) -> Result<(), Fail> {
+    let limits = Limits::new(row.records, 99, 9)?;
+    expect_over(rt, alloc, SortedTable::new(alloc, limits), limits, row)?;
+    expect_over(rt, alloc, tree(alloc, 1, limits)?, limits, row)
+}
+
 fn expect_rows(rt: &impl Abort, alloc: Global, rows: &[Row<'_>]) -> Result<(), Fail> {
     for row in rows {
-        let limits = Limits::new(row.records, 99, 9)?;
-        expect_over(rt, alloc, SortedTable::new(alloc, limits), limits, row)?;
-        expect_over(rt, alloc, tree(alloc, 1, limits)?, limits, row)?;
+        expect_row(rt, alloc, row)?;
     }
     Ok(())
 }

@@ -1,7 +1,7 @@
-use crate::answers::{answers_to, calls_of, text_of};
-use crate::rows::TWO_ROLLBACKS;
+use super::{answers_to, calls_of, text_of};
 use crate::running::flaky_file;
-use rec_types::{FlakyTable, Key, Limits, Record, SortedTable, Table, TxId};
+use crate::running::rows::TWO_ROLLBACKS;
+use rec_types::{Key, Limits, Record, SortedTable, Table, TxId};
 use record_file::{Call, RecordFile};
 use std::alloc::Global;
 use std::process::Abort;
@@ -9,22 +9,25 @@ use std::test::Fail;
 
 // What the replies of scripts show is tested by scripts. Here are the calls that no script makes.
 
-/// Runs a script over the file, makes these calls, and expects what they answer, a line each.
-fn expect_of<T: Table>(
+/// Runs a script over a new file in the table, whose device fails at these calls of `set`, makes these calls, and
+/// expects what they answer, a line each.
+fn expect_over<T: Table>(
     rt: &impl Abort,
     alloc: Global,
-    file: &mut RecordFile<T>,
+    table: T,
+    failing: &[u64],
     script: &str,
     calls: &[Call],
     wanted: &str,
 ) -> Result<(), Fail> {
-    answers_to(alloc, file, &calls_of(alloc, script)?)?;
-    let text = text_of(alloc, &answers_to(alloc, file, calls)?)?;
+    let mut file = flaky_file(rt, alloc, table, Limits::new(9, 99, 9)?, failing)?;
+    answers_to(alloc, &mut file, &calls_of(alloc, script)?)?;
+    let text = text_of(alloc, &answers_to(alloc, &mut file, calls)?)?;
     assert_eq!(rt; text.as_str(), wanted);
     Ok(())
 }
 
-/// Does so over a new file whose device fails at these calls of `set`.
+/// Does so over a sorted table.
 fn expect(
     rt: &impl Abort,
     alloc: Global,
@@ -33,9 +36,8 @@ fn expect(
     calls: &[Call],
     wanted: &str,
 ) -> Result<(), Fail> {
-    let limits = Limits::new(9, 99, 9)?;
-    let mut file = flaky_file(rt, alloc, SortedTable::new(alloc, limits), limits, failing)?;
-    expect_of(rt, alloc, &mut file, script, calls, wanted)
+    let table = SortedTable::new(alloc, Limits::new(9, 99, 9)?);
+    expect_over(rt, alloc, table, failing, script, calls, wanted)
 }
 
 #[test]
@@ -105,9 +107,9 @@ fn lists_name_the_owners(rt: HostRuntime) -> Result<(), Fail> {
 }
 
 /// Gives the table back, and finds the record of a key in it.
-fn find_behind(
+fn find_behind<T: Table>(
     rt: &impl Abort,
-    file: RecordFile<FlakyTable<SortedTable>>,
+    file: RecordFile<T>,
     key: &Key,
 ) -> Result<Option<Record>, Fail> {
     match file.into_table() {
@@ -116,22 +118,28 @@ fn find_behind(
     }
 }
 
-#[test]
-fn the_table_comes_back_once_all_have_ended(rt: HostRuntime) -> Result<(), Fail> {
-    let limits = Limits::new(9, 99, 9)?;
-    let table = SortedTable::new(rt.alloc(), limits);
-    let mut file = flaky_file(&rt, rt.alloc(), table, limits, &[])?;
-    answers_to(
-        rt.alloc(),
-        &mut file,
-        &calls_of(rt.alloc(), "begin\nput 1 a =x\n")?,
-    )?;
+/// Puts a record into a new file, whose table comes back only once the transaction is committed; the record that the
+/// table has then.
+fn found_after<T: Table>(
+    rt: &impl Abort,
+    alloc: Global,
+    table: T,
+    key: &Key,
+) -> Result<Option<Record>, Fail> {
+    let mut file = flaky_file(rt, alloc, table, Limits::new(9, 99, 9)?, &[])?;
+    answers_to(alloc, &mut file, &calls_of(alloc, "begin\nput 1 a =x\n")?)?;
     let Err(mut still) = file.into_table() else {
         panic!(rt; "a transaction is open");
     };
     assert_eq!(rt; still.count, 1);
-    answers_to(rt.alloc(), &mut still.file, &[Call::Commit(TxId(1))])?;
-    let found = find_behind(&rt, still.file, &Key::new(b"a")?)?;
+    answers_to(alloc, &mut still.file, &[Call::Commit(TxId(1))])?;
+    find_behind(rt, still.file, key)
+}
+
+#[test]
+fn the_table_comes_back_once_all_have_ended(rt: HostRuntime) -> Result<(), Fail> {
+    let table = SortedTable::new(rt.alloc(), Limits::new(9, 99, 9)?);
+    let found = found_after(&rt, rt.alloc(), table, &Key::new(b"a")?)?;
     assert_eq!(rt; found, Some(Record::new(b"x")?));
     Ok(())
 }

@@ -1,58 +1,10 @@
+use super::{open, page_with, store_of, three_records};
 use btree_delete::{CloseStop, CreateFault, OpenFault, TreeTable};
-use page_store::{FlakyStore, MemStore, Store, WriteFault};
+use page_store::{FlakyStore, Store, WriteFault};
 use rec_types::Limits;
 use std::alloc::Global;
 use std::process::Abort;
 use std::test::Fail;
-
-/// A page that begins with these bytes.
-fn page_with(bytes: &[u8; 25]) -> [u8; 4096] {
-    let mut page = [0; 4096];
-    page[..25].copy_from_slice(bytes);
-    page
-}
-
-/// A page of order 1 with one key and its record, and these sons.
-fn page_of(kind: u8, key: u8, record: u8, left: u8, right: u8) -> [u8; 4096] {
-    let mut page = [0; 4096];
-    page[0] = kind;
-    page[3] = 1;
-    page[8] = 1;
-    page[9] = key;
-    page[25] = 1;
-    page[26] = record;
-    page[111] = left;
-    page[115] = right;
-    page
-}
-
-/// The file of order 1 with the records x, y and z at the keys a, b and c.
-pub fn three_records() -> [[u8; 4096]; 4] {
-    [
-        page_with(b"BMKRFILE\x00\x01\x00\x01\x00\x00\x00\x04\x00\x00\x00\x03\x00\x00\x00\x03\x01"),
-        page_of(1, b'a', b'x', 0, 0),
-        page_of(1, b'c', b'z', 0, 0),
-        page_of(2, b'b', b'y', 1, 2),
-    ]
-}
-
-/// A store with these pages, and a tail.
-pub fn store_of(
-    rt: &impl Abort,
-    alloc: Global,
-    pages: &[[u8; 4096]],
-    tail: u16,
-) -> Result<MemStore, Fail> {
-    assert!(rt; tail <= 4095);
-    let mut stored = Vec::new(alloc);
-    if stored.reserve(pages.len()).is_err() {
-        stored.reserve(pages.len())?;
-    }
-    for page in pages {
-        stored.push(*page)?;
-    }
-    Ok(MemStore::new(stored, tail))
-}
 
 /// How the file of three records is changed: how many pages are left of it, with which tail, and which
 /// byte of which page becomes what; and how many records there may be.
@@ -282,14 +234,6 @@ fn a_file_is_cut_to_each_length(rt: HostRuntime) -> Result<(), Fail> {
         check_cuts(&rt, rt.alloc(), pages, 4096)?;
     }
     Ok(())
-}
-
-/// Opens the store's file, of at most nine records.
-pub fn open<S: Store>(alloc: Global, store: S) -> Result<TreeTable<S>, Fail> {
-    match TreeTable::open_from(alloc, store, Limits::new(9, 2, 1)?) {
-        Ok(table) => Ok(table),
-        Err(stop) => Err(Fail::from(stop.fault)),
-    }
 }
 
 /// What a table says of its tree: order, height, pages used, pages, free pages.

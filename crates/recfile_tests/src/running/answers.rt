@@ -1,3 +1,7 @@
+mod engine;
+mod remaining;
+mod turns;
+
 use command_text::{Command, read_line};
 use rec_types::{Entry, Key, Record, Table};
 use record_file::{Answer, Call, RecordFile, Status, run_calls};
@@ -26,7 +30,7 @@ fn call_of(command: Command) -> Call {
 }
 
 /// The calls of a script.
-pub fn calls_of(alloc: Global, script: &str) -> Result<Vec<Call>, Fail> {
+fn calls_of(alloc: Global, script: &str) -> Result<Vec<Call>, Fail> {
     let mut calls = Vec::new(alloc);
     for line in script.as_bytes().split(|b| *b == b'\n') {
         if let Some(command) = read_line(line)? {
@@ -158,7 +162,7 @@ fn push_look(text: &mut String, answer: &Answer) -> Result<(), Fail> {
 }
 
 /// Makes the calls.
-pub fn answers_to<T: Table>(
+fn answers_to<T: Table>(
     alloc: Global,
     file: &mut RecordFile<T>,
     calls: &[Call],
@@ -167,13 +171,13 @@ pub fn answers_to<T: Table>(
 }
 
 /// Appends an answer as a line.
-pub fn push_answer(text: &mut String, answer: &Answer) -> Result<(), Fail> {
+fn push_answer(text: &mut String, answer: &Answer) -> Result<(), Fail> {
     push_change(text, answer)?;
     Ok(text.push_str("\n")?)
 }
 
 /// The answers, a line each.
-pub fn text_of(alloc: Global, answers: &[Answer]) -> Result<String, Fail> {
+fn text_of(alloc: Global, answers: &[Answer]) -> Result<String, Fail> {
     let mut text = String::new(alloc);
     for answer in answers {
         push_answer(&mut text, answer)?;

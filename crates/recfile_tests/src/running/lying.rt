@@ -1,11 +1,13 @@
 ghost use Rattle.std.specs.Prelude.{◌≡◌, false};
 ghost use Rattle.rec_types.specs.Table.{Damages, damaged_by};
 
+mod lies;
+
 use rec_types::{Key, Record, Table, TableFault, TableState};
 
 /// What a table that isn't sound says in place of what it should do.
 #[derive(Clone, Copy, Debug)]
-pub enum Lie {
+enum Lie {
     /// There is no room. A look and a listing never say so, and tell the truth.
     NoRoom,
     /// There is nothing.
@@ -16,12 +18,12 @@ pub enum Lie {
 
 /// The calls at which a table lies, and how many calls there were. They are numbered from 1.
 #[derive(Drop)]
-struct Lies {
+struct Schedule {
     at: Vec<(u32, Lie)>,
     calls: u32,
 }
 
-impl Lies {
+impl Schedule {
     /// What the next call says in place of the truth.
     fn next(&mut self) -> Option<Lie> {
         self.calls = self.calls.saturating_add(1);
@@ -51,25 +53,20 @@ impl Named {
 
 /// A table that isn't sound: at chosen calls it lies and does nothing, any other it hands on to the table below.
 #[derive(Drop)]
-pub struct LyingTable<T: Table> {
+struct LyingTable<T: Table> {
     inner: T,
-    lies: Lies,
+    lies: Schedule,
     named: Named,
 }
 
 impl<T: Table> LyingTable<T> {
     /// This table, which lies at the calls with these numbers.
-    pub fn new(inner: T, at: Vec<(u32, Lie)>) -> LyingTable<T> {
+    fn new(inner: T, at: Vec<(u32, Lie)>) -> LyingTable<T> {
         LyingTable {
             inner,
-            lies: Lies { at, calls: 0 },
+            lies: Schedule { at, calls: 0 },
             named: Named { count: 0, page: 0 },
         }
-    }
-
-    /// How many calls there were.
-    pub fn calls(&self) -> u32 {
-        self.lies.calls
     }
 }
 

@@ -1,5 +1,5 @@
-use crate::running::{flaky_file, greatest, run};
-use rec_types::{Limits, SortedTable, TxId};
+use super::{flaky_file, greatest, run};
+use rec_types::{Limits, SortedTable, Table, TxId};
 use recfile::laws::{aborts_are_whole, endings_by_example};
 use recfile::{EndFault, ScriptFault, end_all, exit_status, run_memory, run_script};
 use record_file::{Cause, RecordFile};
@@ -66,26 +66,41 @@ fn statuses_of_the_program(rt: HostRuntime) {
     }
 }
 
+/// Runs the script over the file: how it ended, and how many transactions are begun.
+fn run_over<T: Table, R: Read, W: Write>(
+    alloc: Global,
+    file: &mut RecordFile<T>,
+    reader: &mut R,
+    writer: &mut W,
+) -> (Result<u32, ScriptFault>, u32) {
+    let end = run_script(alloc, reader, writer, file);
+    (end, file.begun())
+}
+
+/// Expects a reader that fails after so many reads to end the script before its first command, and a writer that
+/// refuses after so many writes to end it behind the command whose reply is refused.
+fn expect_ends<T: Table>(
+    rt: &impl Abort,
+    alloc: Global,
+    file: &mut RecordFile<T>,
+    calls: u32,
+) -> Result<(), Fail> {
+    let mut out = Vec::new(alloc);
+    let read = run_over(alloc, file, &mut Failing { reads: calls }, &mut out);
+    assert_eq!(rt; read, (Err(ScriptFault::ReadFault), 0));
+    assert_eq!(rt; out.len(), 0);
+    let done = calls.saturating_add(1);
+    let mut reader = b"begin\nbegin\nbegin\nbegin\n".as_slice();
+    let written = run_over(alloc, file, &mut reader, &mut Closing { writes: calls });
+    assert_eq!(rt; written, (Err(ScriptFault::WriteFault { done }), done));
+    Ok(())
+}
+
 #[test]
 fn readers_and_writers_fail_at_any_call(rt: HostRuntime) -> Result<(), Fail> {
-    let alloc = rt.alloc();
     for calls in 0..3 {
-        let mut file = empty_file(alloc, greatest()?);
-        let mut out = Vec::new(alloc);
-        let mut reader = Failing { reads: calls };
-        assert_eq!(rt;
-            run_script(alloc, &mut reader, &mut out, &mut file),
-            Err(ScriptFault::ReadFault)
-        );
-        assert_eq!(rt; out.len(), 0);
-        let mut reader = b"begin\nbegin\nbegin\nbegin\n".as_slice();
-        let mut writer = Closing { writes: calls };
-        let done = calls + 1;
-        assert_eq!(rt;
-            run_script(alloc, &mut reader, &mut writer, &mut file),
-            Err(ScriptFault::WriteFault { done })
-        );
-        assert_eq!(rt; file.begun(), done);
+        let mut file = empty_file(rt.alloc(), greatest()?);
+        expect_ends(&rt, rt.alloc(), &mut file, calls)?;
     }
     Ok(())
 }
@@ -99,27 +114,32 @@ fn long_script(alloc: Global, first: &[u8], more: usize) -> Result<Vec<u8>, Fail
     Ok(script)
 }
 
+/// Expects the script of these bytes and so many `#` to end so, with nothing written and nothing begun.
+fn expect_silent<T: Table>(
+    rt: &impl Abort,
+    alloc: Global,
+    file: &mut RecordFile<T>,
+    first: &[u8],
+    more: usize,
+    end: Result<u32, ScriptFault>,
+) -> Result<(), Fail> {
+    let mut out = Vec::new(alloc);
+    let script = long_script(alloc, first, more)?;
+    let ran = run_over(alloc, file, &mut script.as_slice(), &mut out);
+    assert_eq!(rt; (ran, out.len()), ((end, 0), 0));
+    Ok(())
+}
+
 #[test]
 fn scripts_that_are_not_run_to_their_end(rt: HostRuntime) -> Result<(), Fail> {
     let alloc = rt.alloc();
-    let mut out = Vec::new(alloc);
     let mut file = empty_file(alloc, greatest()?);
-    let comment = long_script(alloc, b"#", 1_048_575)?;
-    let mut reader = comment.as_slice();
-    assert_eq!(rt; run_script(alloc, &mut reader, &mut out, &mut file), Ok(0));
-    let longer = long_script(alloc, b"begin\n", 1_048_571)?;
-    let mut reader = longer.as_slice();
-    assert_eq!(rt;
-        run_script(alloc, &mut reader, &mut out, &mut file),
-        Err(ScriptFault::ScriptTooLong)
-    );
-    assert_eq!(rt; (out.len(), file.begun()), (0, 0));
+    expect_silent(&rt, alloc, &mut file, b"#", 1_048_575, Ok(0))?;
+    let fault = Err(ScriptFault::ScriptTooLong);
+    expect_silent(&rt, alloc, &mut file, b"begin\n", 1_048_571, fault)?;
     let mut reader = b"begin\n".as_slice();
-    assert_eq!(rt;
-        run_script(alloc, &mut reader, &mut Closing { writes: 0 }, &mut file),
-        Err(ScriptFault::WriteFault { done: 1 })
-    );
-    assert_eq!(rt; file.begun(), 1);
+    let ran = run_over(alloc, &mut file, &mut reader, &mut Closing { writes: 0 });
+    assert_eq!(rt; ran, (Err(ScriptFault::WriteFault { done: 1 }), 1));
     Ok(())
 }
 
@@ -184,8 +204,21 @@ fn a_session_names_its_fault(rt: HostRuntime) -> Result<(), Fail> {
     )
 }
 
-/// Runs the script over an empty table whose device fails at these calls of `set`, and ends what is open: what that
-/// answered, and the list and the log then.
+/// Runs the script over the file, and ends what is open: what that answered, and the list and the log then.
+fn end_in<T: Table>(
+    rt: &impl Abort,
+    alloc: Global,
+    file: &mut RecordFile<T>,
+    script: &str,
+) -> Result<(Result<u32, EndFault>, String), Fail> {
+    let (_, end) = run(alloc, file, script)?;
+    assert!(rt; end.is_ok());
+    let ended = end_all(file);
+    let (text, _) = run(alloc, file, "list\nlog\n")?;
+    Ok((ended, text))
+}
+
+/// Does so over an empty table whose device fails at these calls of `set`.
 fn end_after(
     rt: &impl Abort,
     alloc: Global,
@@ -195,11 +228,7 @@ fn end_after(
     let limits = greatest()?;
     let table = SortedTable::new(alloc, limits);
     let mut file = flaky_file(rt, alloc, table, limits, numbers)?;
-    let (_, end) = run(alloc, &mut file, script)?;
-    assert!(rt; end.is_ok());
-    let ended = end_all(&mut file);
-    let (text, _) = run(alloc, &mut file, "list\nlog\n")?;
-    Ok((ended, text))
+    end_in(rt, alloc, &mut file, script)
 }
 
 /// Expects so many to be ended, and this list and log then.
@@ -288,6 +317,23 @@ fn ending_stops_at_the_first_stop(rt: HostRuntime) -> Result<(), Fail> {
     expect_stop(&rt, alloc, &[3, 5], back, 1, 0, "- a =1 @1\nok 1\nok 3 4\n")
 }
 
+/// Ends what the script leaves open at the third time, and expects this list and log then.
+fn end_thrice<T: Table>(
+    rt: &impl Abort,
+    alloc: Global,
+    file: &mut RecordFile<T>,
+    script: &str,
+    count: u32,
+    after: &str,
+) -> Result<(), Fail> {
+    let (first, _) = end_in(rt, alloc, file, script)?;
+    let (second, _) = end_in(rt, alloc, file, "")?;
+    let (third, text) = end_in(rt, alloc, file, "")?;
+    assert!(rt; first.is_err() && second.is_err());
+    assert_eq!(rt; (third, text.as_str()), (Ok(count), after));
+    Ok(())
+}
+
 // The transaction that was stopped goes on, and the one above it is aborted.
 #[test]
 fn ending_goes_on_after_a_stop(rt: HostRuntime) -> Result<(), Fail> {
@@ -295,18 +341,8 @@ fn ending_goes_on_after_a_stop(rt: HostRuntime) -> Result<(), Fail> {
     let limits = greatest()?;
     let table = SortedTable::new(alloc, limits);
     let mut file = flaky_file(&rt, alloc, table, limits, &[4, 5])?;
-    let (_, end) = run(
-        alloc,
-        &mut file,
-        "begin\nbegin\nput 1 a =1\nput 1 b =2\nput 2 c =3\n",
-    )?;
-    assert_eq!(rt; end, Ok(5));
-    assert!(rt; end_all(&mut file).is_err());
-    assert!(rt; end_all(&mut file).is_err());
-    assert_eq!(rt; end_all(&mut file), Ok(2));
-    let (text, _) = run(alloc, &mut file, "list\nlog\n")?;
-    assert_eq!(rt; text.as_str(), "ok 0\nok 6 6\n");
-    Ok(())
+    let script = "begin\nbegin\nput 1 a =1\nput 1 b =2\nput 2 c =3\n";
+    end_thrice(&rt, alloc, &mut file, script, 2, "ok 0\nok 6 6\n")
 }
 
 #[test]

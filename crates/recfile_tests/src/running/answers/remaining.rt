@@ -1,5 +1,5 @@
-use crate::answers::{answers_to, calls_of, push_answer, text_of};
-use crate::rows::{CHARGED_KEYS, COMMIT_BESIDE, OWNER_LEFT, STOPPED, TWO_ROLLBACKS};
+use super::{answers_to, calls_of, push_answer, text_of};
+use crate::running::rows::{CHARGED_KEYS, COMMIT_BESIDE, OWNER_LEFT, STOPPED, TWO_ROLLBACKS};
 use crate::running::{Row, flaky_file, tree};
 use rec_types::{Limits, Table, TxId};
 use record_file::{Answer, Call, RecordFile};
@@ -98,6 +98,21 @@ fn expect_alone<T: Table>(
     Ok(())
 }
 
+/// Does so over files in these tables.
+fn expect_over<T: Table>(
+    rt: &impl Abort,
+    alloc: Global,
+    one: T,
+    other: T,
+    limits: Limits,
+    row: &Row<'_>,
+    count: usize,
+) -> Result<(), Fail> {
+    let mut file = flaky_file(rt, alloc, one, limits, row.failing)?;
+    let mut alone = flaky_file(rt, alloc, other, limits, &[])?;
+    expect_alone(rt, alloc, &mut file, &mut alone, row, count)
+}
+
 /// Does so over trees of order 1 with the row's limits.
 fn expect_over_trees(
     rt: &impl Abort,
@@ -107,9 +122,8 @@ fn expect_over_trees(
 ) -> Result<(), Fail> {
     let (records, log_records, begins) = row.limits;
     let limits = Limits::new(records, log_records, begins)?;
-    let mut file = flaky_file(rt, alloc, tree(alloc, 1, limits)?, limits, row.failing)?;
-    let mut alone = flaky_file(rt, alloc, tree(alloc, 1, limits)?, limits, &[])?;
-    expect_alone(rt, alloc, &mut file, &mut alone, row, count)
+    let (one, other) = (tree(alloc, 1, limits)?, tree(alloc, 1, limits)?);
+    expect_over(rt, alloc, one, other, limits, row, count)
 }
 
 #[test]

@@ -1,4 +1,4 @@
-use crate::running::{greatest, run};
+use super::{greatest, run};
 use rec_types::{SortedTable, Table};
 use record_file::RecordFile;
 use std::alloc::Global;

@@ -1,4 +1,4 @@
-use crate::running::{Row, expect_row};
+use super::{Row, expect_row};
 use std::test::Fail;
 
 pub const COMMIT_BESIDE: Row<'static> = Row {

@@ -1,4 +1,4 @@
-use crate::running::{Row, expect_row, greatest, run};
+use super::{Row, expect_row, greatest, run};
 use rec_types::{Key, Record, SortedTable, Table};
 use record_file::RecordFile;
 use std::alloc::Global;

@@ -1,7 +1,6 @@
-use crate::answers::{answers_to, calls_of, push_answer, text_of};
-use crate::rows::{BESIDE_A_ROOT, CHARGED_KEYS, COMMIT_BESIDE, SPLITS, TWO_ROLLBACKS};
-use crate::running::{Row, flaky_file, run, tree};
-use crate::table_files::{open, store_of, three_records};
+use super::{answers_to, calls_of, push_answer, text_of};
+use crate::running::rows::{BESIDE_A_ROOT, CHARGED_KEYS, COMMIT_BESIDE, SPLITS, TWO_ROLLBACKS};
+use crate::running::{Row, flaky_file, open, run, store_of, three_records, tree};
 use btree_delete::{CloseStop, TreeTable};
 use page_store::{FlakyStore, Store, WriteFault};
 use rec_types::{Limits, SortedTable, Table};
@@ -165,8 +164,19 @@ fn each_read_fails_in_turn(rt: HostRuntime) -> Result<(), Fail> {
     Ok(())
 }
 
-/// Makes the row's calls over the table with this `set` failing, where there are so many: the answers are those of a run
-/// in which none fails.
+/// What the calls answer over a file in the table, in which no `set` fails.
+fn answers_over<T: Table>(
+    rt: &impl Abort,
+    alloc: Global,
+    table: T,
+    limits: Limits,
+    calls: &[Call],
+) -> Result<String, Fail> {
+    let mut file = flaky_file(rt, alloc, table, limits, &[])?;
+    text_of(alloc, &answers_to(alloc, &mut file, calls)?)
+}
+
+/// Makes the row's calls over the table with this `set` failing, where there are so many: the answers are these.
 fn fail_set<T: Table>(
     rt: &impl Abort,
     alloc: Global,
@@ -174,17 +184,15 @@ fn fail_set<T: Table>(
     row: &Row<'_>,
     number: u64,
     sets: u64,
+    wanted: &str,
 ) -> Result<(), Fail> {
     let (records, log_records, begins) = row.limits;
     let limits = Limits::new(records, log_records, begins)?;
     let calls = calls_of(alloc, row.script)?;
-    let sorted = SortedTable::new(alloc, limits);
-    let mut calm = flaky_file(rt, alloc, sorted, limits, &[])?;
-    let wanted = text_of(alloc, &answers_to(alloc, &mut calm, &calls)?)?;
     let mut file = flaky_file(rt, alloc, table, limits, &[number])?;
     let mut faults = String::new(alloc);
     let text = persist_all(alloc, &mut file, &calls, &mut faults)?;
-    assert_eq!(rt; (row.name, text.as_str()), (row.name, wanted.as_str()));
+    assert_eq!(rt; (row.name, text.as_str()), (row.name, wanted));
     assert_eq!(rt;
         (row.name, number, faults.is_empty()),
         (row.name, number, number > sets)
@@ -192,28 +200,58 @@ fn fail_set<T: Table>(
     Ok(())
 }
 
-/// Makes the row's calls over a sorted table and over a tree of order 1 with each `set` failing in turn, of which there
-/// are so many, and once with none failing.
-fn fail_each_set(rt: &impl Abort, alloc: Global, row: &Row<'_>, sets: u64) -> Result<(), Fail> {
+/// Does so over a sorted table and over a tree of order 1: the answers are those of a run in which none fails.
+fn fail_set_of_both(
+    rt: &impl Abort,
+    alloc: Global,
+    row: &Row<'_>,
+    number: u64,
+    sets: u64,
+) -> Result<(), Fail> {
     let (records, log_records, begins) = row.limits;
     let limits = Limits::new(records, log_records, begins)?;
+    let calls = calls_of(alloc, row.script)?;
+    let wanted = answers_over(rt, alloc, SortedTable::new(alloc, limits), limits, &calls)?;
+    fail_set(
+        rt,
+        alloc,
+        SortedTable::new(alloc, limits),
+        row,
+        number,
+        sets,
+        &wanted,
+    )?;
+    fail_set(
+        rt,
+        alloc,
+        tree(alloc, 1, limits)?,
+        row,
+        number,
+        sets,
+        &wanted,
+    )
+}
+
+/// Does so with each `set` failing in turn, of which there are so many, and once with none failing.
+fn fail_each_set(rt: &impl Abort, alloc: Global, row: &Row<'_>, sets: u64) -> Result<(), Fail> {
     for failed in 0..=sets {
-        let number = failed.saturating_add(1);
-        let sorted = SortedTable::new(alloc, limits);
-        fail_set(rt, alloc, sorted, row, number, sets)?;
-        fail_set(rt, alloc, tree(alloc, 1, limits)?, row, number, sets)?;
+        fail_set_of_both(rt, alloc, row, failed.saturating_add(1), sets)?;
     }
     Ok(())
 }
 
 #[test]
 fn each_set_fails_in_turn(rt: HostRuntime) -> Result<(), Fail> {
-    let alloc = rt.alloc();
-    fail_each_set(&rt, alloc, &COMMIT_BESIDE, 3)?;
-    fail_each_set(&rt, alloc, &BESIDE_A_ROOT, 4)?;
-    fail_each_set(&rt, alloc, &TWO_ROLLBACKS, 8)?;
-    fail_each_set(&rt, alloc, &CHARGED_KEYS, 4)?;
-    fail_each_set(&rt, alloc, &SPLITS, 20)
+    for (row, sets) in [
+        (COMMIT_BESIDE, 3),
+        (BESIDE_A_ROOT, 4),
+        (TWO_ROLLBACKS, 8),
+        (CHARGED_KEYS, 4),
+        (SPLITS, 20),
+    ] {
+        fail_each_set(&rt, rt.alloc(), &row, sets)?;
+    }
+    Ok(())
 }
 
 /// Expects the table to have x at the key a alone, as a file over it lists it.
@@ -288,8 +326,18 @@ fn each_write_of_a_close_fails_in_turn(rt: HostRuntime) -> Result<(), Fail> {
     Ok(())
 }
 
-/// A session over the file of three records, in a store that fails at these reads and writes: its replies and the line
-/// of its fault, and its status.
+/// A session over the store's file: its replies and the line of its fault, and its status.
+fn session_in<S: Store>(alloc: Global, store: S, script: &str) -> Result<(String, u8), Fail> {
+    let mut reader = script.as_bytes();
+    let (mut out, mut err) = (Vec::new(alloc), Vec::new(alloc));
+    let limits = Limits::new(9, 99, 9)?;
+    let end = run_in(alloc, store, limits, &mut reader, &mut out, &mut err);
+    let mut text = String::from_utf8(out)?;
+    text.push_str(&String::from_utf8(err)?)?;
+    Ok((text, end.status))
+}
+
+/// The same over the file of three records, in a store that fails at these reads and writes.
 fn session(
     rt: &impl Abort,
     alloc: Global,
@@ -300,19 +348,7 @@ fn session(
     let reads = Vec::from_slice(alloc, reads)?;
     let writes = Vec::from_slice(alloc, writes)?;
     let store = FlakyStore::new(store_of(rt, alloc, &three_records(), 0)?, reads, writes);
-    let mut reader = script.as_bytes();
-    let (mut out, mut err) = (Vec::new(alloc), Vec::new(alloc));
-    let end = run_in(
-        alloc,
-        store,
-        Limits::new(9, 99, 9)?,
-        &mut reader,
-        &mut out,
-        &mut err,
-    );
-    let mut text = String::from_utf8(out)?;
-    text.push_str(&String::from_utf8(err)?)?;
-    Ok((text, end.status))
+    session_in(alloc, store, script)
 }
 
 // Reads 1 to 4 are those of opening, 5 to 8 those of the script, and the last two those of ending its transaction.
