@@ -1,5 +1,14 @@
 use super::{Row, expect_row};
+use std::alloc::Global;
+use std::process::Abort;
 use std::test::Fail;
+
+fn expect_rows(rt: &impl Abort, alloc: Global, rows: &[Row<'_>]) -> Result<(), Fail> {
+    for row in rows {
+        expect_row(rt, alloc, row)?;
+    }
+    Ok(())
+}
 
 pub const COMMIT_BESIDE: Row<'static> = Row {
     name: "a rollback leaves what another committed",
@@ -64,188 +73,201 @@ pub const BESIDE_A_ROOT: Row<'static> = Row {
     commands: 7,
 };
 
+const ONE_TRANSACTION: [Row<'static>; 8] = [
+    Row {
+        name: "an empty file",
+        limits: (1_000_000, 4_000_000, 1_000_000),
+        failing: &[],
+        script: "begin\nget 1 a\nlist\ncommit 1\n",
+        replies: "ok 1\nok none\nok 0\nok\n",
+        commands: 4,
+    },
+    Row {
+        name: "a second put answers the first record",
+        limits: (1_000_000, 4_000_000, 1_000_000),
+        failing: &[],
+        script: "begin\nput 1 a =x\nput 1 a =y\nget 1 a\n",
+        replies: "ok 1\nok none\nok =x\nok =y\n",
+        commands: 4,
+    },
+    Row {
+        name: "a rollback takes every change back",
+        limits: (1_000_000, 4_000_000, 1_000_000),
+        failing: &[],
+        script: "begin\nput 1 a =x\nput 1 a =y\nget 1 a\nback 1 0\nget 1 a\nkeys 1\nlog\n",
+        replies: "ok 1\nok none\nok =x\nok =y\nok 2\nok none\nok 0\nok 4 4\n",
+        commands: 8,
+    },
+    Row {
+        name: "a rollback takes every change back, 2",
+        limits: (1_000_000, 4_000_000, 1_000_000),
+        failing: &[],
+        script: "begin\nput 1 a =x\nput 1 b =y\nput 1 a =z\nback 1 1\nback 1 0\nlist\nback 1 0\n",
+        replies: "ok 1\nok none\nok none\nok =x\nno NoSuchSave\nok 3\nok 0\nok 0\n",
+        commands: 8,
+    },
+    TWO_ROLLBACKS,
+    Row {
+        name: "the log keeps room to take back",
+        limits: (1_000_000, 4, 1_000_000),
+        failing: &[],
+        script: "begin\nput 1 a =x\nput 1 b =y\nput 1 c =z\ndel 1 a\nlog\nback 1 0\nlog\nput 1 a =x\ncommit 1\n",
+        replies: "ok 1\nok none\nok none\nno LogFull\nno LogFull\nok 2 4\nok 2\nok 4 4\nno LogFull\nok\n",
+        commands: 10,
+    },
+    SPLITS,
+    Row {
+        name: "keys are listed in their order",
+        limits: (1_000_000, 4_000_000, 1_000_000),
+        failing: &[],
+        script: "begin\nput 1 c =v\nput 1 a =v\nput 1 d =v\nput 1 b =v\ndel 1 a\nkeys 1\nback 1 0\nkeys 1\n",
+        replies: "ok 1\nok none\nok none\nok none\nok none\nok =v\n- a\n- b\n- c\n- d\nok 4\nok 5\nok 0\n",
+        commands: 9,
+    },
+];
+
 #[test]
 fn what_one_transaction_sees(rt: HostRuntime) -> Result<(), Fail> {
-    for row in [
-        Row {
-            name: "an empty file",
-            limits: (1_000_000, 4_000_000, 1_000_000),
-            failing: &[],
-            script: "begin\nget 1 a\nlist\ncommit 1\n",
-            replies: "ok 1\nok none\nok 0\nok\n",
-            commands: 4,
-        },
-        Row {
-            name: "a second put answers the first record",
-            limits: (1_000_000, 4_000_000, 1_000_000),
-            failing: &[],
-            script: "begin\nput 1 a =x\nput 1 a =y\nget 1 a\n",
-            replies: "ok 1\nok none\nok =x\nok =y\n",
-            commands: 4,
-        },
-        Row {
-            name: "a rollback takes every change back",
-            limits: (1_000_000, 4_000_000, 1_000_000),
-            failing: &[],
-            script: "begin\nput 1 a =x\nput 1 a =y\nget 1 a\nback 1 0\nget 1 a\nkeys 1\nlog\n",
-            replies: "ok 1\nok none\nok =x\nok =y\nok 2\nok none\nok 0\nok 4 4\n",
-            commands: 8,
-        },
-        Row {
-            name: "a rollback takes every change back, 2",
-            limits: (1_000_000, 4_000_000, 1_000_000),
-            failing: &[],
-            script: "begin\nput 1 a =x\nput 1 b =y\nput 1 a =z\nback 1 1\nback 1 0\nlist\nback 1 0\n",
-            replies: "ok 1\nok none\nok none\nok =x\nno NoSuchSave\nok 3\nok 0\nok 0\n",
-            commands: 8,
-        },
-        TWO_ROLLBACKS,
-        Row {
-            name: "the log keeps room to take back",
-            limits: (1_000_000, 4, 1_000_000),
-            failing: &[],
-            script: "begin\nput 1 a =x\nput 1 b =y\nput 1 c =z\ndel 1 a\nlog\nback 1 0\nlog\nput 1 a =x\ncommit 1\n",
-            replies: "ok 1\nok none\nok none\nno LogFull\nno LogFull\nok 2 4\nok 2\nok 4 4\nno LogFull\nok\n",
-            commands: 10,
-        },
-        Row {
-            name: "lines that say nothing or cannot be read",
-            limits: (1_000_000, 4_000_000, 1_000_000),
-            failing: &[],
-            script: "\n# note\nfrob\nget 1\nget -1 a\nget 4294967296 a\nput 1 a x\nbegin\n  commit   01",
-            replies: "bad UnknownCommand\nbad WordCount\nbad BadNumber\nbad BadNumber\nbad NoRecordMark\nok 1\nok\n",
-            commands: 2,
-        },
-        Row {
-            name: "lines of every kind",
-            limits: (1_000_000, 4_000_000, 1_000_000),
-            failing: &[],
-            script: "  begin  \r\nsave 1\r\r\n  # note\nsave 1#\n#save 1\n\r\n   \nsave 00000000000000000000000000000000000001\nsave 4294967295\nsave 4294967296\ncommit 1 1\ncommit\nlog",
-            replies: "ok 1\nbad BadNumber\nbad BadNumber\nok 1\nno NoSuchTx\nbad BadNumber\nbad WordCount\nbad WordCount\nok 0 0\n",
-            commands: 4,
-        },
-        Row {
-            name: "keys and records in escapes",
-            limits: (1_000_000, 4_000_000, 1_000_000),
-            failing: &[],
-            script: "begin\nput 1 abcdefghijklmnop =\nput 1 abcdefghijklmnopq =\nput 1 %00 =abcdefghijklmnopqrstuvwxyz012345\nput 1 %00 =abcdefghijklmnopqrstuvwxyz0123456\nput 1 %zz =%c3%A9%\nlist\n",
-            replies: "ok 1\nok none\nbad KeyTooLong\nok none\nbad RecordTooLong\nok none\n- %00 =abcdefghijklmnopqrstuvwxyz012345 @1\n- %25zz =%C3%A9%25 @1\n- abcdefghijklmnop = @1\nok 3\n",
-            commands: 5,
-        },
-        SPLITS,
-        Row {
-            name: "keys are listed in their order",
-            limits: (1_000_000, 4_000_000, 1_000_000),
-            failing: &[],
-            script: "begin\nput 1 c =v\nput 1 a =v\nput 1 d =v\nput 1 b =v\ndel 1 a\nkeys 1\nback 1 0\nkeys 1\n",
-            replies: "ok 1\nok none\nok none\nok none\nok none\nok =v\n- a\n- b\n- c\n- d\nok 4\nok 5\nok 0\n",
-            commands: 9,
-        },
-    ] {
-        expect_row(&rt, rt.alloc(), &row)?;
-    }
-    Ok(())
+    expect_rows(&rt, rt.alloc(), &ONE_TRANSACTION)
 }
+
+const LINES: [Row<'static>; 3] = [
+    Row {
+        name: "lines that say nothing or cannot be read",
+        limits: (1_000_000, 4_000_000, 1_000_000),
+        failing: &[],
+        script: "\n# note\nfrob\nget 1\nget -1 a\nget 4294967296 a\nput 1 a x\nbegin\n  commit   01",
+        replies: "bad UnknownCommand\nbad WordCount\nbad BadNumber\nbad BadNumber\nbad NoRecordMark\nok 1\nok\n",
+        commands: 2,
+    },
+    Row {
+        name: "lines of every kind",
+        limits: (1_000_000, 4_000_000, 1_000_000),
+        failing: &[],
+        script: "  begin  \r\nsave 1\r\r\n  # note\nsave 1#\n#save 1\n\r\n   \nsave 00000000000000000000000000000000000001\nsave 4294967295\nsave 4294967296\ncommit 1 1\ncommit\nlog",
+        replies: "ok 1\nbad BadNumber\nbad BadNumber\nok 1\nno NoSuchTx\nbad BadNumber\nbad WordCount\nbad WordCount\nok 0 0\n",
+        commands: 4,
+    },
+    Row {
+        name: "keys and records in escapes",
+        limits: (1_000_000, 4_000_000, 1_000_000),
+        failing: &[],
+        script: "begin\nput 1 abcdefghijklmnop =\nput 1 abcdefghijklmnopq =\nput 1 %00 =abcdefghijklmnopqrstuvwxyz012345\nput 1 %00 =abcdefghijklmnopqrstuvwxyz0123456\nput 1 %zz =%c3%A9%\nlist\n",
+        replies: "ok 1\nok none\nbad KeyTooLong\nok none\nbad RecordTooLong\nok none\n- %00 =abcdefghijklmnopqrstuvwxyz012345 @1\n- %25zz =%C3%A9%25 @1\n- abcdefghijklmnop = @1\nok 3\n",
+        commands: 5,
+    },
+];
+
+#[test]
+fn how_lines_are_read(rt: HostRuntime) -> Result<(), Fail> {
+    expect_rows(&rt, rt.alloc(), &LINES)
+}
+
+const SEVERAL_TRANSACTIONS: [Row<'static>; 6] = [
+    Row {
+        name: "one transaction may be begun",
+        limits: (1_000_000, 4_000_000, 1),
+        failing: &[],
+        script: "begin\nput 1 a =x\nput 1 a =y\nbegin\nlist\n",
+        replies: "ok 1\nok none\nok =x\nno BeginsSpent\n- a =y @1\nok 1\n",
+        commands: 5,
+    },
+    COMMIT_BESIDE,
+    OWNER_LEFT,
+    Row {
+        name: "a partial rollback frees what no change names, 2",
+        limits: (1_000_000, 4_000_000, 1_000_000),
+        failing: &[],
+        script: "begin\nbegin\nsave 1\nput 1 a =2\nget 2 a\nback 1 1\nput 2 a =9\nget 1 a\n",
+        replies: "ok 1\nok 2\nok 1\nok none\nno Held 1\nok 1\nok none\nno Held 2\n",
+        commands: 8,
+    },
+    CHARGED_KEYS,
+    Row {
+        name: "ended transactions are gone",
+        limits: (1_000_000, 4_000_000, 2),
+        failing: &[],
+        script: "begin\ncommit 1\ncommit 1\nget 1 a\nresume 1\nkeys 1\nput 0 a =x\nbegin\nresume 2\nabort 2\nabort 2\nbegin\n",
+        replies: "ok 1\nok\nno NoSuchTx\nno NoSuchTx\nno NoSuchTx\nno NoSuchTx\nno NoSuchTx\nok 2\nno NotRolling\nok 0\nno NoSuchTx\nno BeginsSpent\n",
+        commands: 12,
+    },
+];
 
 #[test]
 fn what_several_transactions_see(rt: HostRuntime) -> Result<(), Fail> {
-    for row in [
-        Row {
-            name: "one transaction may be begun",
-            limits: (1_000_000, 4_000_000, 1),
-            failing: &[],
-            script: "begin\nput 1 a =x\nput 1 a =y\nbegin\nlist\n",
-            replies: "ok 1\nok none\nok =x\nno BeginsSpent\n- a =y @1\nok 1\n",
-            commands: 5,
-        },
-        COMMIT_BESIDE,
-        Row {
-            name: "an owned key is held",
-            limits: (1_000_000, 4_000_000, 1_000_000),
-            failing: &[],
-            script: "begin\nbegin\nput 1 a =1\nput 2 a =2\nput 2 b =3\nback 1 0\nput 2 a =2\ncommit 2\ndel 1 b\nabort 1\nlist\ncommit 1\n",
-            replies: "ok 1\nok 2\nok none\nno Held 1\nok none\nok 1\nok none\nok\nok =3\nok 1\n- a =2\n- b =3\nok 2\nno NoSuchTx\n",
-            commands: 12,
-        },
-        BESIDE_A_ROOT,
-        OWNER_LEFT,
-        Row {
-            name: "a partial rollback frees what no change names, 2",
-            limits: (1_000_000, 4_000_000, 1_000_000),
-            failing: &[],
-            script: "begin\nbegin\nsave 1\nput 1 a =2\nget 2 a\nback 1 1\nput 2 a =9\nget 1 a\n",
-            replies: "ok 1\nok 2\nok 1\nok none\nno Held 1\nok 1\nok none\nno Held 2\n",
-            commands: 8,
-        },
-        CHARGED_KEYS,
-        Row {
-            name: "ended transactions are gone",
-            limits: (1_000_000, 4_000_000, 2),
-            failing: &[],
-            script: "begin\ncommit 1\ncommit 1\nget 1 a\nresume 1\nkeys 1\nput 0 a =x\nbegin\nresume 2\nabort 2\nabort 2\nbegin\n",
-            replies: "ok 1\nok\nno NoSuchTx\nno NoSuchTx\nno NoSuchTx\nno NoSuchTx\nno NoSuchTx\nok 2\nno NotRolling\nok 0\nno NoSuchTx\nno BeginsSpent\n",
-            commands: 12,
-        },
-        Row {
-            name: "a session with a held key",
-            limits: (1_000_000, 4_000_000, 1_000_000),
-            failing: &[],
-            script: "begin\nbegin\nput 1 apple =red\nsave 1\nput 1 apple =green\nsave 1\nput 1 plum =dark%20blue\nput 2 pear =yellow\nput 1 pear =brown\nput 1 fig brown\nback 1 1\nkeys 1\nlist\nlog\ncommit 1\nabort 2\nlist\n",
-            replies: "ok 1\nok 2\nok none\nok 1\nok =red\nok 2\nok none\nok none\nno Held 2\nbad NoRecordMark\nok 2\n- apple\nok 1\n- apple =red @1\n- pear =yellow @2\nok 2\nok 6 8\nok\nok 1\n- apple =red\nok 1\n",
-            commands: 16,
-        },
-        Row {
-            name: "the first refusal is answered",
-            limits: (1, 2, 3),
-            failing: &[],
-            script: "begin\nbegin\nput 1 a =x\nput 2 a =y\ndel 2 a\nget 2 a\nput 1 b =y\ndel 1 b\nput 3 a =x\ndel 3 a\nget 3 a\nback 3 1\nrelease 3 1\nrelease 1 1\nback 1 1\nkeys 3\nbegin\nbegin\n",
-            replies: "ok 1\nok 2\nok none\nno Held 1\nno Held 1\nno Held 1\nno LogFull\nno LogFull\nno NoSuchTx\nno NoSuchTx\nno NoSuchTx\nno NoSuchTx\nno NoSuchTx\nno NoSuchSave\nno NoSuchSave\nno NoSuchTx\nok 3\nno BeginsSpent\n",
-            commands: 18,
-        },
-        Row {
-            name: "held comes before what the table decides",
-            limits: (1, 2, 2),
-            failing: &[],
-            script: "begin\nbegin\nput 1 a =x\nput 2 a =x\ndel 2 a\nput 2 c =x\ndel 2 c\n",
-            replies: "ok 1\nok 2\nok none\nno Held 1\nno Held 1\nno LogFull\nno LogFull\n",
-            commands: 7,
-        },
-        Row {
-            name: "held comes before what the table decides, 2",
-            limits: (1, 9, 2),
-            failing: &[],
-            script: "begin\nbegin\nput 1 a =x\ndel 1 a\nput 2 a =x\ndel 2 a\nput 2 c =x\ndel 2 c\n",
-            replies: "ok 1\nok 2\nok none\nok =x\nno Held 1\nno Held 1\nno Full\nno Absent\n",
-            commands: 8,
-        },
-    ] {
-        expect_row(&rt, rt.alloc(), &row)?;
-    }
-    Ok(())
+    expect_rows(&rt, rt.alloc(), &SEVERAL_TRANSACTIONS)
 }
+
+const HELD_KEYS: [Row<'static>; 6] = [
+    Row {
+        name: "an owned key is held",
+        limits: (1_000_000, 4_000_000, 1_000_000),
+        failing: &[],
+        script: "begin\nbegin\nput 1 a =1\nput 2 a =2\nput 2 b =3\nback 1 0\nput 2 a =2\ncommit 2\ndel 1 b\nabort 1\nlist\ncommit 1\n",
+        replies: "ok 1\nok 2\nok none\nno Held 1\nok none\nok 1\nok none\nok\nok =3\nok 1\n- a =2\n- b =3\nok 2\nno NoSuchTx\n",
+        commands: 12,
+    },
+    BESIDE_A_ROOT,
+    Row {
+        name: "a session with a held key",
+        limits: (1_000_000, 4_000_000, 1_000_000),
+        failing: &[],
+        script: "begin\nbegin\nput 1 apple =red\nsave 1\nput 1 apple =green\nsave 1\nput 1 plum =dark%20blue\nput 2 pear =yellow\nput 1 pear =brown\nput 1 fig brown\nback 1 1\nkeys 1\nlist\nlog\ncommit 1\nabort 2\nlist\n",
+        replies: "ok 1\nok 2\nok none\nok 1\nok =red\nok 2\nok none\nok none\nno Held 2\nbad NoRecordMark\nok 2\n- apple\nok 1\n- apple =red @1\n- pear =yellow @2\nok 2\nok 6 8\nok\nok 1\n- apple =red\nok 1\n",
+        commands: 16,
+    },
+    Row {
+        name: "the first refusal is answered",
+        limits: (1, 2, 3),
+        failing: &[],
+        script: "begin\nbegin\nput 1 a =x\nput 2 a =y\ndel 2 a\nget 2 a\nput 1 b =y\ndel 1 b\nput 3 a =x\ndel 3 a\nget 3 a\nback 3 1\nrelease 3 1\nrelease 1 1\nback 1 1\nkeys 3\nbegin\nbegin\n",
+        replies: "ok 1\nok 2\nok none\nno Held 1\nno Held 1\nno Held 1\nno LogFull\nno LogFull\nno NoSuchTx\nno NoSuchTx\nno NoSuchTx\nno NoSuchTx\nno NoSuchTx\nno NoSuchSave\nno NoSuchSave\nno NoSuchTx\nok 3\nno BeginsSpent\n",
+        commands: 18,
+    },
+    Row {
+        name: "held comes before what the table decides",
+        limits: (1, 2, 2),
+        failing: &[],
+        script: "begin\nbegin\nput 1 a =x\nput 2 a =x\ndel 2 a\nput 2 c =x\ndel 2 c\n",
+        replies: "ok 1\nok 2\nok none\nno Held 1\nno Held 1\nno LogFull\nno LogFull\n",
+        commands: 7,
+    },
+    Row {
+        name: "held comes before what the table decides, 2",
+        limits: (1, 9, 2),
+        failing: &[],
+        script: "begin\nbegin\nput 1 a =x\ndel 1 a\nput 2 a =x\ndel 2 a\nput 2 c =x\ndel 2 c\n",
+        replies: "ok 1\nok 2\nok none\nok =x\nno Held 1\nno Held 1\nno Full\nno Absent\n",
+        commands: 8,
+    },
+];
+
+#[test]
+fn when_a_key_is_held(rt: HostRuntime) -> Result<(), Fail> {
+    expect_rows(&rt, rt.alloc(), &HELD_KEYS)
+}
+
+const STOPPED_ROLLBACKS: [Row<'static>; 3] = [
+    STOPPED,
+    Row {
+        name: "a stopped rollback goes on, 2",
+        limits: (1_000_000, 4_000_000, 1_000_000),
+        failing: &[1, 3, 4, 5],
+        script: "begin\nput 1 a =x\nput 1 a =x\nback 1 0\nlist\nresume 1\nresume 1\nresume 1\nlist\nlog\n",
+        replies: "ok 1\nno Device\nok none\nstopped 0 1 Device\n- a =x @1\nok 1\nstopped 0 1 Device\nstopped 0 1 Device\nok 1\nok 0\nok 2 2\n",
+        commands: 10,
+    },
+    Row {
+        name: "a stopped rollback goes on, 3",
+        limits: (1_000_000, 4_000_000, 1_000_000),
+        failing: &[2],
+        script: "begin\nput 1 a =x\nabort 1\nget 1 a\nback 1 0\ncommit 1\nabort 1\nresume 1\nresume 1\n",
+        replies: "ok 1\nok none\nstopped 0 1 Device\nno Rolling\nno Rolling\nno Rolling\nno Rolling\nok 1\nno NoSuchTx\n",
+        commands: 9,
+    },
+];
 
 #[test]
 fn rollbacks_that_the_device_stops(rt: HostRuntime) -> Result<(), Fail> {
-    for row in [
-        STOPPED,
-        Row {
-            name: "a stopped rollback goes on, 2",
-            limits: (1_000_000, 4_000_000, 1_000_000),
-            failing: &[1, 3, 4, 5],
-            script: "begin\nput 1 a =x\nput 1 a =x\nback 1 0\nlist\nresume 1\nresume 1\nresume 1\nlist\nlog\n",
-            replies: "ok 1\nno Device\nok none\nstopped 0 1 Device\n- a =x @1\nok 1\nstopped 0 1 Device\nstopped 0 1 Device\nok 1\nok 0\nok 2 2\n",
-            commands: 10,
-        },
-        Row {
-            name: "a stopped rollback goes on, 3",
-            limits: (1_000_000, 4_000_000, 1_000_000),
-            failing: &[2],
-            script: "begin\nput 1 a =x\nabort 1\nget 1 a\nback 1 0\ncommit 1\nabort 1\nresume 1\nresume 1\n",
-            replies: "ok 1\nok none\nstopped 0 1 Device\nno Rolling\nno Rolling\nno Rolling\nno Rolling\nok 1\nno NoSuchTx\n",
-            commands: 9,
-        },
-    ] {
-        expect_row(&rt, rt.alloc(), &row)?;
-    }
-    Ok(())
+    expect_rows(&rt, rt.alloc(), &STOPPED_ROLLBACKS)
 }
