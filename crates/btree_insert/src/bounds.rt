@@ -14,6 +14,7 @@ pub struct Bounds {
     pub high: Option<Key>,
 }
 
+/// Whether the key is above the low bound, where there is one.
 pub(crate) fn is_over(low: &Option<Key>, key: &Key) -> bool
     ensures { IsTrue result ↔ Over low.now key.now }
 {
@@ -23,6 +24,7 @@ pub(crate) fn is_over(low: &Option<Key>, key: &Key) -> bool
     }
 }
 
+/// Whether the key is below the high bound, where there is one.
 pub(crate) fn is_under(high: &Option<Key>, key: &Key) -> bool
     ensures { IsTrue result ↔ Under high.now key.now }
 {

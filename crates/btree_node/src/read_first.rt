@@ -84,6 +84,7 @@ fn may_follow(elements: &[(Key, Record)], key: &Key) -> bool
     len == 0 || is_below(&elements[len - 1].0, key)
 }
 
+/// A copy of the sixteen bytes from a place on.
 pub(crate) fn sixteen(bytes: &[u8], at: usize) -> [u8; 16]
     requires { at + 16 ≤ length bytes.now }
     ensures { result ≡ part at 16 bytes.now }
@@ -93,6 +94,7 @@ pub(crate) fn sixteen(bytes: &[u8], at: usize) -> [u8; 16]
     copy
 }
 
+/// A copy of the thirty-two bytes from a place on.
 pub(crate) fn thirty_two(bytes: &[u8], at: usize) -> [u8; 32]
     requires { at + 32 ≤ length bytes.now }
     ensures { result ≡ part at 32 bytes.now }
