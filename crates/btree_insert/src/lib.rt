@@ -16,6 +16,6 @@ pub use bounds::{Bounds, are_within, bounds_of_son};
 pub use finding::{find, look_up};
 pub use insert_below::{was_visited, write_node};
 pub use inserting::{insert, insert_in_place};
-pub use reading::{kind_of_level, read_into, read_node};
+pub use reading::{kind_of_level, read_into};
 pub use tree::{Tree, TreeFault};
 pub use walking::walk;

@@ -1,4 +1,4 @@
-ghost use Rattle.std.specs.Prelude.{◌≡◌, ◌+◌, ◌<◌, ◌≤◌, ◌⊎◌, ℕ, IsTrue, IsSome, IfOk, IfErr, OnOk, IsOk, MatchResult};
+ghost use Rattle.std.specs.Prelude.{◌≡◌, ◌+◌, ◌<◌, ◌≤◌, ◌⊎◌, IsTrue, IsSome, IfErr, OnOk, IsOk, MatchResult};
 ghost use Rattle.rec_types.specs.Table.{counted};
 ghost use Rattle.page_store.specs.PageMap.{at};
 ghost use Rattle.btree_node.specs.Spelling.{spelling, CanStand};
@@ -13,40 +13,10 @@ use crate::tree::TreeFault;
 use btree_node::{Node, NodeKind, decode_into};
 use page_store::{FetchFault, Pages, Store};
 
-/// The node of page n, which is of a kind and has its keys within the bounds. The condition is an
+/// Fills the node with that of page n, which is of a kind and has its keys within the bounds: nothing as
+/// large as a node is made or moved, and a page in memory is read where it lies. The condition is an
 /// order of at most 16. Faults: Device, and Damaged(n) where the page is not in use or spells no such
-/// node. No page changes.
-pub fn read_node<S: Store>(
-    pages: &mut Pages<S>,
-    order: u16,
-    kind: NodeKind,
-    n: u32,
-    bounds: &Bounds,
-) -> Result<Node, TreeFault>
-    requires { order ≤ greatest_order }
-    ensures exact { IsTrue pages.old.steady → (node : Node)
-        → Spells order (at pages.old.pages) n node → node.kind ≡ kind
-        → AreWithin bounds.now node.elements.items
-        → MatchResult result (λ r. r ≡ node) (λ fault. fault ≡ TreeFault.Device) }
-    ensures stands { IfOk result (λ node. CanStand node order × (node.kind ≡ kind)) }
-    ensures spells { IsTrue pages.old.steady → IfOk result (Spells order (at pages.old.pages) n) }
-    ensures fault { IfErr result
-        (λ fault. (fault ≡ TreeFault.Device) ⊎ (fault ≡ TreeFault.Damaged n)) }
-    ensures in_use { OnOk result (IsSome (at pages.old.pages n)) }
-    ensures some_page { OnOk result (0 < n) }
-    ensures within { IfOk result (λ node. AreWithin bounds.now node.elements.items) }
-    ensures device { pages.new.failures ≡ counted pages.old.failures (is_device result) }
-    ensures unchanged { pages.new
-        ≡ record pages.old { reads = pages.new.reads; failures = pages.new.failures } }
-    ensures one_read { pages.new.reads ≤ pages.old.reads + 1 }
-{
-    let mut node = Node::blank();
-    read_into(pages, order, kind, n, bounds, &mut node)?;
-    Ok(node)
-}
-
-/// The same as `read_node`, into a node that there is: nothing as large as a node is made or moved, and a
-/// page in memory is read where it lies. After a fault the node may be any.
+/// node; the node may then be any. No page changes.
 pub fn read_into<S: Store>(
     pages: &mut Pages<S>,
     order: u16,
