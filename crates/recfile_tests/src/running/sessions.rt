@@ -317,19 +317,21 @@ fn ending_stops_at_the_first_stop(rt: HostRuntime) -> Result<(), Fail> {
     expect_stop(&rt, alloc, &[3, 5], back, 1, 0, "- a =1 @1\nok 1\nok 3 4\n")
 }
 
-/// Ends what the script leaves open at the third time, and expects this list and log then.
+/// Runs the script of so many commands, ends what it leaves open at the third time, and expects this list and log then.
 fn end_thrice<T: Table>(
     rt: &impl Abort,
     alloc: Global,
     file: &mut RecordFile<T>,
     script: &str,
+    commands: u32,
     count: u32,
     after: &str,
 ) -> Result<(), Fail> {
-    let (first, _) = end_in(rt, alloc, file, script)?;
-    let (second, _) = end_in(rt, alloc, file, "")?;
-    let (third, text) = end_in(rt, alloc, file, "")?;
+    let (_, end) = run(alloc, file, script)?;
+    assert_eq!(rt; end, Ok(commands));
+    let (first, second) = (end_all(file), end_all(file));
     assert!(rt; first.is_err() && second.is_err());
+    let (third, text) = end_in(rt, alloc, file, "")?;
     assert_eq!(rt; (third, text.as_str()), (Ok(count), after));
     Ok(())
 }
@@ -342,7 +344,7 @@ fn ending_goes_on_after_a_stop(rt: HostRuntime) -> Result<(), Fail> {
     let table = SortedTable::new(alloc, limits);
     let mut file = flaky_file(&rt, alloc, table, limits, &[4, 5])?;
     let script = "begin\nbegin\nput 1 a =1\nput 1 b =2\nput 2 c =3\n";
-    end_thrice(&rt, alloc, &mut file, script, 2, "ok 0\nok 6 6\n")
+    end_thrice(&rt, alloc, &mut file, script, 5, 2, "ok 0\nok 6 6\n")
 }
 
 #[test]
