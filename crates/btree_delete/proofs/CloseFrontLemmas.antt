@@ -1,14 +1,14 @@
 -- The steps of a close, and what a front of them leaves.
-use Rattle.std.proofs.Common.{◌≡◌, ℕ, ◌-◌, ◌≤◌, ◌++◌, ◌⊎◌, inl, inr, Bool, true, false, List, [], length, take, Option, Some, None, slice_get, zero, suc, refl, sym, ap, ◌∙◌, subst, ⊎_elim, arith, append-nil, length-append, unwrap_or, if◌then◌else◌}
+use Rattle.std.proofs.Common.{◌≡◌, ℕ, ◌-◌, ◌≤◌, ◌++◌, ◌⊎◌, inl, inr, Bool, true, false, List, [], ◌∷◌, length, Option, Some, None, slice_get, zero, suc, refl, sym, ap, ◌∙◌, subst, ⊎_elim, arith, append-nil, length-append, unwrap_or, if◌then◌else◌}
 use Rattle.std.proofs.lemmas.List.{length-replicate}
 use Rattle.rec_types.specs.Padded.{padded}
 use Rattle.page_store.specs.Blank.{blank, blanks}
 use Rattle.page_store.specs.PageMap.{at}
 use Rattle.page_store.specs.PagesView.{memory_pages, is_in_memory}
 use Rattle.page_store.specs.Journal.{carried, writing_back}
-use Rattle.page_store.specs.Fronts.{IsPartWay}
+use Rattle.page_store.specs.Fronts.{IsPartWay, tried}
 use Rattle.page_store.specs.declared.step.Step.{Step}
-use Rattle.page_store.proofs.FrontLemmas.{part_way}
+use Rattle.page_store.proofs.TryLemmas.{tries_part_way, tries_then_all}
 use Rattle.page_store.proofs.WriteBackLemmas.{kept_left}
 use Rattle.btree_node.specs.declared.header.Header.{Header}
 use Rattle.btree_node.specs.HeaderSpelling.{magic, header_bytes, header_spelling, state_at, clean_state, writing_state}
@@ -67,9 +67,10 @@ either_by old new all count h file (inr (inl same)) =
 either_by old new all count h file (inr (inr (inl marked))) = inr (inl (marked_refused new h marked))
 either_by old new all count h file (inr (inr (inr same))) = inr (inr same)
 
-no_steps : (old : List (List ℕ)) (k : ℕ) → carried old (take k []) ≡ old
-no_steps old zero = refl
-no_steps old (suc k) = refl
+no_steps : (ks : List ℕ) → tried ks [] ≡ []
+no_steps [] = refl
+no_steps (zero ∷ ks) = no_steps ks
+no_steps (suc k ∷ ks) = no_steps ks
 
 -- the steps by which a changed table is closed, and one that isn't
 pub closing_changed : (t : TableView) → t.pages.changed ≡ true → closing t ≡ writing_back (memory_pages t.pages) (length t.pages.pages) (header_spelling (header_of t) writing_state) (header_spelling (header_of t) clean_state)
@@ -88,15 +89,24 @@ closing_is t count writing clean changed is writing_is clean_is =
     ∙ ap (λ (n : ℕ). writing_back (memory_pages t.pages) (length t.pages.pages) (header_spelling (record { order = t.tree.order; pages = n; root = t.tree.root; count = t.tree.count }) writing_state) (header_spelling (record { order = t.tree.order; pages = n; root = t.tree.root; count = t.tree.count }) clean_state)) is
     ∙ sym (closing_changed t changed)
 
--- so each front of its calls leaves the old file
-pub either_idle : (t : TableView) (old : List (List ℕ)) (k : ℕ) → t.pages.changed ≡ false → IsEither old (carried old (closing t)) (carried old (take k (closing t)))
-either_idle t old k idle = inl (ap (λ (steps : List Step). carried old (take k steps)) (closing_idle t idle) ∙ no_steps old k)
+-- so its tries leave the old file
+pub either_idle : (t : TableView) (old : List (List ℕ)) (ks : List ℕ) → t.pages.changed ≡ false → IsEither old (carried old (closing t)) (carried old (tried ks (closing t)))
+either_idle t old ks idle = inl (ap (λ (steps : List Step). carried old (tried ks steps)) (closing_idle t idle) ∙ ap (carried old) (no_steps ks))
 
--- where something was changed each front leaves the old file, one that is refused, or the new one
-pub either_changed : (t : TableView) (old : List (List ℕ)) (k : ℕ) → t.pages.changed ≡ true → 1 ≤ length t.pages.pages → at t.pages.pages 0 ≡ None → (old ≡ []) ⊎ IsFile old → IsEither old (carried old (closing t)) (carried old (take k (closing t)))
-either_changed t old k changed some header file =
-    subst (λ (steps : List Step). IsEither old (carried old steps) (carried old (take k steps))) (sym (closing_changed t changed))
-    (either_by old _ _ (length t.pages.pages) (header_of t) file (part_way old (memory_pages t.pages) (length t.pages.pages) (header_spelling (header_of t) writing_state) (header_spelling (header_of t) clean_state) k some (unused_either (is_in_memory t.pages 0) (at t.pages.pages 0) header)))
+pub again_idle : (t : TableView) (old : List (List ℕ)) (ks : List ℕ) → t.pages.changed ≡ false → carried (carried old (tried ks (closing t))) (closing t) ≡ carried old (closing t)
+again_idle t old ks idle =
+    subst (λ (steps : List Step). carried (carried old (tried ks steps)) steps ≡ carried old steps) (sym (closing_idle t idle)) (ap (carried old) (no_steps ks))
+
+pub again_changed : (t : TableView) (old : List (List ℕ)) (ks : List ℕ) → t.pages.changed ≡ true → carried (carried old (tried ks (closing t))) (closing t) ≡ carried old (closing t)
+again_changed t old ks changed =
+    subst (λ (steps : List Step). carried (carried old (tried ks steps)) steps ≡ carried old steps) (sym (closing_changed t changed))
+    (tries_then_all old (memory_pages t.pages) (length t.pages.pages) (header_spelling (header_of t) writing_state) (header_spelling (header_of t) clean_state) ks)
+
+-- where something was changed they leave the old file, one that is refused, or the new one
+pub either_changed : (t : TableView) (old : List (List ℕ)) (ks : List ℕ) → t.pages.changed ≡ true → 1 ≤ length t.pages.pages → at t.pages.pages 0 ≡ None → (old ≡ []) ⊎ IsFile old → IsEither old (carried old (closing t)) (carried old (tried ks (closing t)))
+either_changed t old ks changed some header file =
+    subst (λ (steps : List Step). IsEither old (carried old steps) (carried old (tried ks steps))) (sym (closing_changed t changed))
+    (either_by old _ _ (length t.pages.pages) (header_of t) file (tries_part_way old (memory_pages t.pages) (length t.pages.pages) (header_spelling (header_of t) writing_state) (header_spelling (header_of t) clean_state) ks some (unused_either (is_in_memory t.pages 0) (at t.pages.pages 0) header)))
   where
     unused_either : (b : Bool) (page : Option (List ℕ)) → page ≡ None → (if b then page else None) ≡ None
     unused_either true page none = none

@@ -1,4 +1,4 @@
-ghost use Rattle.std.specs.Prelude.{◌≡◌, ◌≢◌, ◌⊎◌, ℕ, ◌<◌, ◌≤◌, List, length, take, true, false, IsTrue, Ok, Err, IsOk, ◌+◌, ◌-◌, ◌*◌, Some, None, IsSome, OnErr, IfOk, IfErr, OnOk, MatchResult};
+ghost use Rattle.std.specs.Prelude.{◌≡◌, ◌≢◌, ◌⊎◌, ℕ, ◌<◌, ◌≤◌, List, length, true, false, IsTrue, Ok, Err, IsOk, ◌+◌, ◌-◌, ◌*◌, Some, None, IsSome, OnErr, IfOk, IfErr, OnOk, MatchResult};
 ghost use Rattle.std.specs.FinMap as maps;
 ghost use Rattle.rec_types.specs.Contents.{Contents, set_to};
 ghost use Rattle.rec_types.specs.Answered.{Answered};
@@ -9,7 +9,8 @@ ghost use Rattle.btree_node.specs.Lists.{Element};
 ghost use Rattle.btree_node.specs.declared.header.Header.{Header as HeaderValue};
 ghost use Rattle.btree_insert.specs.declared.tree.Tree.{Tree as TreeValue};
 ghost use Rattle.btree_delete.specs.CleanFile.{IsCleanFile, IsFirst, Opens, IsOutside, is_device_fault, is_close_device_fault};
-ghost use Rattle.page_store.specs.Journal.{noted, NotesFront, carried};
+ghost use Rattle.page_store.specs.Fronts.{tried};
+ghost use Rattle.page_store.specs.Journal.{noted, NotesFront, carried, untouched};
 ghost use Rattle.btree_delete.specs.Closing.{closing, IsNewOrFile, IsEither};
 ghost use Rattle.btree_delete.specs.TableView.{TableView, HoldsTree, IsClosed, table_contents};
 ghost use Rattle.btree_delete.specs.Created.{IsEmpty, IsCreated, IsCreateFault, is_create_device, is_create_device_fault};
@@ -234,8 +235,11 @@ impl<S: Store> TreeTable<S> {
         ensures journal { MatchResult result
             (λ store. S.journal store ≡ noted self.pages.journal (closing self))
             (λ stop. NotesFront (closing self) self.pages.journal stop.table.pages.journal) }
-        ensures fronts { (old : List (List ℕ)) (k : ℕ) → IsNewOrFile old
-            → IsEither old (carried old (closing self)) (carried old (take k (closing self))) }
+        ensures fronts { (old : List (List ℕ)) (ks : List ℕ) → IsNewOrFile old
+            → IsEither old (carried old (closing self)) (carried old (tried ks (closing self))) }
+        ensures again { (old : List (List ℕ)) (ks : List ℕ)
+            → carried (carried old (tried ks (closing self))) (closing self)
+            ≡ carried old (closing self) }
         ensures device { IfErr result (λ stop. stop.table.pages.failures
             ≡ counted self.pages.failures (is_close_device_fault stop.fault)) }
         ensures table { IfErr result (λ stop. stop.table ≡ record self {
@@ -330,6 +334,8 @@ impl<S: Store> TableState for TreeTable<S> {
     ghost memory_refusals = { λ t. t.refusals };
 
     ghost damages = { λ t. t.damages };
+
+    ghost origin = { λ t. untouched t.pages.journal };
 }
 
 // A method's clauses stand in place of its trait's, so these are written again before those that tell

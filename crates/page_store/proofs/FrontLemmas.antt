@@ -14,9 +14,9 @@ use Rattle.page_store.proofs.WriteBackLemmas.{put_there, kept_beside}
 abbrev Spares : Step → Type 0
 Spares s = (pages : List (List ℕ)) → slice_get (carry pages s) 0 ≡ slice_get pages 0
 
-all_append : (xs ys : List Step) → AllByRecursion Spares xs → AllByRecursion Spares ys → AllByRecursion Spares (xs ++ ys)
-all_append [] ys one two = two
-all_append (s ∷ xs) ys one two = (one.0, all_append xs ys one.1 two)
+pub all_append : (P : Step → Type 0) (xs ys : List Step) → AllByRecursion P xs → AllByRecursion P ys → AllByRecursion P (xs ++ ys)
+all_append P [] ys one two = two
+all_append P (s ∷ xs) ys one two = (one.0, all_append P xs ys one.1 two)
 
 spared : (n : ℕ) (page : Option (List ℕ)) → (n ≡ 0 → page ≡ None) → AllByRecursion Spares (write_of n page)
 spared n None none = tt
@@ -25,7 +25,7 @@ spared (suc n) (Some page) none = (λ pages. kept_beside pages (suc n) 0 page (�
 
 writes_spare : (pages : PageMap) (n : ℕ) → pages 0 ≡ None → AllByRecursion Spares (writes_below pages n)
 writes_spare pages zero none = tt
-writes_spare pages (suc n) none = all_append (writes_below pages n) (write_of n (pages n)) (writes_spare pages n none) (spared n (pages n) (λ is. ap pages is ∙ none))
+writes_spare pages (suc n) none = all_append Spares (writes_below pages n) (write_of n (pages n)) (writes_spare pages n none) (spared n (pages n) (λ is. ap pages is ∙ none))
 
 -- steps that spare page 0, and then its last write
 front_spares : (middle : List Step) (pages : List (List ℕ)) (mark clean : List ℕ) (k : ℕ) → AllByRecursion Spares middle → slice_get pages 0 ≡ Some mark
@@ -42,18 +42,23 @@ marked_front : (pages : List (List ℕ)) (writes : List Step) (mark clean : List
 marked_front pages writes mark clean k spare marked =
     let same = ap (λ (steps : List Step). Sync ∷ steps) (append_assoc writes (Sync ∷ []) (Write 0 clean ∷ Sync ∷ [])) in
     subst (λ (steps : List Step). (slice_get (carried pages (take k steps)) 0 ≡ Some mark) ⊎ (carried pages (take k steps) ≡ carried pages steps)) same
-    (front_spares (Sync ∷ (writes ++ (Sync ∷ []))) pages mark clean k (λ ps. refl, all_append writes (Sync ∷ []) spare (λ ps. refl, tt)) marked)
+    (front_spares (Sync ∷ (writes ++ (Sync ∷ []))) pages mark clean k (λ ps. refl, all_append Spares writes (Sync ∷ []) spare (λ ps. refl, tt)) marked)
+
+-- once page 0 was marked it stays so until all is done
+pub later_front : (old : List (List ℕ)) (pages : PageMap) (count : ℕ) (writing clean : List ℕ) (k : ℕ) → 1 ≤ count → pages 0 ≡ None
+    → (slice_get (carried old (take (suc (suc k)) (writing_back pages count writing clean))) 0 ≡ Some writing) ⊎ (carried old (take (suc (suc k)) (writing_back pages count writing clean)) ≡ carried old (writing_back pages count writing clean))
+later_front old pages count writing clean k some none =
+    let longer = old ++ blanks (count - length old) in
+    let long = length-append old (blanks (count - length old)) in
+    let more = length-replicate (count - length old) blank in
+    marked_front (slice_set longer 0 writing) (writes_below pages count) writing clean k (writes_spare pages count none) (put_there longer 0 writing (omega arith))
 
 -- any front of a writing back's calls leaves the file part-way as said
 pub part_way : (old : List (List ℕ)) (pages : PageMap) (count : ℕ) (writing clean : List ℕ) (k : ℕ) → 1 ≤ count → pages 0 ≡ None
     → IsPartWay old count writing (carried old (writing_back pages count writing clean)) (carried old (take k (writing_back pages count writing clean)))
 part_way old pages count writing clean zero some none = inl refl
 part_way old pages count writing clean (suc zero) some none = inr (inl refl)
-part_way old pages count writing clean (suc (suc k)) some none =
-    let longer = old ++ blanks (count - length old) in
-    let long = length-append old (blanks (count - length old)) in
-    let more = length-replicate (count - length old) blank in
-    inr (inr (marked_front (slice_set longer 0 writing) (writes_below pages count) writing clean k (writes_spare pages count none) (put_there longer 0 writing (omega arith))))
+part_way old pages count writing clean (suc (suc k)) some none = inr (inr (later_front old pages count writing clean k some none))
 
 -- the examples that fail
 abbrev byte_of : Option (List ℕ) → ℕ

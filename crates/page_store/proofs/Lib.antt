@@ -12,4 +12,5 @@ pub mod NumberSetLemmas
 pub mod SlotLemmas
 pub mod Staging
 pub mod Totals
+pub mod TryLemmas
 pub mod WriteBackLemmas

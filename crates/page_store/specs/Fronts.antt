@@ -1,5 +1,5 @@
 -- What is there when a writing back stops, and an example.
-use Rattle.std.specs.Prelude.{◌≡◌, ℕ, ◌-◌, ◌⊎◌, List, [], ◌∷◌, ◌++◌, Some, None, length, slice_get, ◌==◌, if◌then◌else◌}
+use Rattle.std.specs.Prelude.{◌≡◌, ℕ, ◌-◌, ◌⊎◌, List, [], ◌∷◌, ◌++◌, Some, None, length, take, slice_get, ◌==◌, if◌then◌else◌}
 use Rattle.page_store.specs.Blank.{blanks}
 use Rattle.page_store.specs.PageMap.{PageMap}
 use Rattle.page_store.specs.declared.step.Step.{Step}
@@ -8,6 +8,11 @@ use Rattle.page_store.specs.declared.step.Step.TheVariants.{SetPages, Write, Syn
 -- the old pages, or these and pages of zeros up to the count, or page 0 is the mark, or the pages that all steps leave
 abbrev pub IsPartWay : List (List ℕ) → ℕ → List ℕ → List (List ℕ) → List (List ℕ) → Type 0
 IsPartWay old count mark all new = (new ≡ old) ⊎ ((new ≡ old ++ blanks (count - length old)) ⊎ ((slice_get new 0 ≡ Some mark) ⊎ (new ≡ all)))
+
+-- the steps of tries to carry all of them out, each of which stopped after so many
+abbrev pub tried : List ℕ → List Step → List Step
+tried [] all = []
+tried (k ∷ ks) all = take k all ++ tried ks all
 
 -- two pages, of which page 1 is to be written anew
 abbrev pub two_pages : List (List ℕ)
@@ -26,3 +31,7 @@ closed_first = SetPages 2 ∷ Write 0 (5 ∷ []) ∷ Sync ∷ Write 1 (3 ∷ [])
 -- the same with page 1 written before page 0 says so
 abbrev pub marked_late : List Step
 marked_late = SetPages 2 ∷ Write 1 (3 ∷ []) ∷ Sync ∷ Write 0 (4 ∷ []) ∷ Sync ∷ Write 0 (5 ∷ []) ∷ Sync ∷ []
+
+-- two tries that stopped, after one call and after two
+abbrev pub two_tries : List Step
+two_tries = SetPages 2 ∷ SetPages 2 ∷ Write 0 (4 ∷ []) ∷ []

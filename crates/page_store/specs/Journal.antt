@@ -21,6 +21,15 @@ pub record Journal : Type 0 where
   pub opened : List (List ℕ)
   pub steps : List Step
 
+-- the pages that a store was made of, where its journal has no call
+abbrev pub opened_before : List (List ℕ) → List Step → Option (List (List ℕ))
+opened_before opened [] = Some opened
+opened_before opened (s ∷ steps) = None
+
+abbrev pub untouched : Option Journal → Option (List (List ℕ))
+untouched None = None
+untouched (Some j) = opened_before j.opened j.steps
+
 -- further calls, where the store keeps a journal
 abbrev pub noted : Option Journal → List Step → Option Journal
 noted None more = None

@@ -4,7 +4,7 @@ ghost use Rattle.std.specs.List.{list_any};
 ghost use Rattle.page_store.specs.PageMap.{PageMap, at};
 ghost use Rattle.page_store.specs.FreeNumbers.{free_numbers, candidate, count_after, AreDistinct, pages_1_and_3};
 ghost use Rattle.page_store.specs.Journal.{carried, writing_back};
-ghost use Rattle.page_store.specs.Fronts.{IsPartWay, two_pages, new_page_1, page_1_written, closed_first, marked_late};
+ghost use Rattle.page_store.specs.Fronts.{IsPartWay, tried, two_pages, new_page_1, page_1_written, closed_first, marked_late, two_tries};
 
 /// The numbers that an edit takes: no page of such a number is in use, they ascend, they aren't 0,
 /// and they are below the page count that the edit leaves.
@@ -49,4 +49,18 @@ pub fn fronts_of_a_writing_back()
         (carried two_pages (take 2 closed_first)) → ⊥ }
     ensures marked_late { IsPartWay two_pages 2 (4 ∷ []) (carried two_pages page_1_written)
         (carried two_pages (take 2 marked_late)) → ⊥ }
+{}
+
+/// The same holds where a writing back was tried any number of times before, and stopped: its calls
+/// again lead to what they would have led to at once.
+pub fn tries_of_a_writing_back()
+    ensures fronts { (old : List (List ℕ)) (pages : PageMap) (count : ℕ) (writing clean : List ℕ)
+        → (ks : List ℕ) → 1 ≤ count → pages 0 ≡ None
+        → IsPartWay old count writing (carried old (writing_back pages count writing clean))
+        (carried old (tried ks (writing_back pages count writing clean))) }
+    ensures again { (old : List (List ℕ)) (pages : PageMap) (count : ℕ) (writing clean : List ℕ)
+        → (ks : List ℕ) → carried (carried old (tried ks (writing_back pages count writing clean)))
+        (writing_back pages count writing clean)
+        ≡ carried old (writing_back pages count writing clean) }
+    ensures example { tried (1 ∷ 2 ∷ []) page_1_written ≡ two_tries }
 {}

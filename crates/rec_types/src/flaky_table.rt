@@ -73,6 +73,8 @@ impl<T: Table> TableState for FlakyTable<T> {
     ghost memory_refusals = { λ t. T.memory_refusals t.inner };
 
     ghost damages = { λ t. T.damages t.inner };
+
+    ghost origin = { λ t. T.origin t.inner };
 }
 
 // A method's clauses stand in place of its trait's, so these are written again before those that tell

@@ -56,7 +56,7 @@ impl SortedTable {
 }
 
 impl TableState for SortedTable {
-    ghost use Rattle.std.specs.Prelude.{true};
+    ghost use Rattle.std.specs.Prelude.{true, None};
     ghost use Rattle.rec_types.specs.Table.{no_damage};
 
     ghost contents = { λ t. t.contents };
@@ -70,6 +70,8 @@ impl TableState for SortedTable {
     ghost memory_refusals = { λ t. t.refusals };
 
     ghost damages = { λ _. no_damage };
+
+    ghost origin = { λ _. None };
 }
 
 impl Table for SortedTable {

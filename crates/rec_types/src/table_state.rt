@@ -1,6 +1,6 @@
 ghost use Rattle.std.specs.Prelude.{ℕ, Bool};
 ghost use Rattle.rec_types.specs.Contents.{Contents};
-ghost use Rattle.rec_types.specs.Table.{Damages};
+ghost use Rattle.rec_types.specs.Table.{Damages, Origin};
 
 /// What contracts know of a table. It has no code.
 pub trait TableState {
@@ -21,4 +21,8 @@ pub trait TableState {
 
     /// How many calls a damaged page ended, and the last such page.
     ghost damages: { Self → Damages };
+
+    /// The pages of the file behind the table, where it has one and it is known that nothing was written
+    /// to it since the table was made. No call changes it.
+    ghost origin: { Self → Origin };
 }

@@ -1,5 +1,5 @@
 -- A script over a file, and the end of what it leaves open.
-use Rattle.std.specs.Prelude.{◌≡◌, ℕ, Bool, true, List, [], Option, Result, MatchResult, OnOk, IsTrue, if◌then◌else◌}
+use Rattle.std.specs.Prelude.{◌≡◌, ℕ, true, List, [], Option, Result, MatchResult, OnOk, IsTrue, if◌then◌else◌}
 use Rattle.std.specs.Result.{is_err}
 use Rattle.rec_types.specs.Contents.{Contents}
 use Rattle.rec_types.specs.History.{replay}

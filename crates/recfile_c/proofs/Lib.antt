@@ -1,3 +1,4 @@
 pub mod Journals
 pub mod StepLaws
+pub mod TryLemmas
 pub mod Values

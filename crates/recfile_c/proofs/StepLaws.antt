@@ -8,11 +8,11 @@ use Rattle.btree_delete.specs.TableView.{TableView}
 use Rattle.recfile_c.specs.Paged.{Settles}
 use Rattle.recfile_c.specs.Steps.{JournalView, journal_of, page_1_left_out, written_before_longer, longer_before_written}
 
-abbrev steps_in : Option Journal → List Step
+abbrev pub steps_in : Option Journal → List Step
 steps_in None = []
 steps_in (Some j) = j.steps
 
-abbrev opened_in : Option Journal → List (List ℕ)
+abbrev pub opened_in : Option Journal → List (List ℕ)
 opened_in None = []
 opened_in (Some j) = j.opened
 

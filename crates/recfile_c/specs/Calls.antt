@@ -27,7 +27,7 @@ use Rattle.recfile_c.specs.declared.held.Held.TheVariants.{Open}
 use Rattle.recfile_c.specs.declared.held.Session.{Session}
 use Rattle.recfile_c.specs.declared.outcome.Outcome.{Outcome}
 use Rattle.recfile_c.specs.declared.shown.TxStatus.{TxStatus}
-use Rattle.recfile_c.specs.FileTables.{contents_of, is_sound, failures_of, refusals_of}
+use Rattle.recfile_c.specs.FileTables.{contents_of, is_sound, failures_of, refusals_of, origin_of}
 use Rattle.recfile_c.specs.Answers.{found_in, taken_in, number_in, tx_in, TellsStatus}
 use Rattle.recfile_c.specs.Outcomes.{just, empty_key, long_key, long_record, begin_outcome, put_outcome, remove_outcome, get_outcome, savepoint_outcome, release_outcome, rollback_to_outcome, abort_outcome, resume_outcome, commit_outcome, status_outcome, ok}
 
@@ -62,9 +62,13 @@ failed old new = rose (failures_of old.table) (failures_of new.table)
 abbrev pub refused : FileState → FileState → Bool
 refused old new = rose (refusals_of old.table) (refusals_of new.table)
 
--- the table is as sound as before, and the log tells what became of its records
+-- the table is as sound as before, over the same pages that were handed in
+abbrev pub SameGround : FileState → FileState → Type 0
+SameGround old new = (is_sound new.table ≡ is_sound old.table) × (origin_of new.table ≡ origin_of old.table)
+
+-- the same, and the log tells what became of the table's records
 abbrev pub Keeps : FileState → FileState → Type 0
-Keeps old new = (is_sound new.table ≡ is_sound old.table) × Tells (is_sound old.table) (contents_of old.table) old.log (contents_of new.table) new.log
+Keeps old new = SameGround old new × Tells (is_sound old.table) (contents_of old.table) old.log (contents_of new.table) new.log
 
 -- neither the table nor the log is touched
 abbrev pub Spares : FileState → FileState → Type 0
@@ -103,7 +107,7 @@ abbrev pub Get : TxId → List ℕ → Outcome → Option (List ℕ) → FileSta
 Get t x told found old new =
     (answer : Result (Option (List ℕ)) GetFault) × (told ≡ get_outcome answer) × (found ≡ found_in answer)
     × Sure old (GetStep old.file t.0 x (failed old new) answer new.file)
-    × (is_sound new.table ≡ is_sound old.table) × (contents_of new.table ≡ contents_of old.table) × (new.log ≡ old.log)
+    × SameGround old new × (contents_of new.table ≡ contents_of old.table) × (new.log ≡ old.log)
 
 abbrev pub GetBytes : TxId → Result (List ℕ) KeyFault → Outcome → Option (List ℕ) → FileState → FileState → Type 0
 GetBytes t (Err Empty) told found old new = (told ≡ just empty_key) × (found ≡ None) × (new ≡ old)

@@ -1,7 +1,8 @@
 -- A table of one of two kinds, as one table.
-use Rattle.std.specs.Prelude.{ℕ, Bool, true}
+use Rattle.std.specs.Prelude.{ℕ, Bool, true, None}
 use Rattle.rec_types.specs.Contents.{Contents}
-use Rattle.rec_types.specs.Table.{Damages, no_damage}
+use Rattle.rec_types.specs.Table.{Damages, no_damage, Origin}
+use Rattle.page_store.specs.Journal.{untouched}
 use Rattle.btree_delete.specs.TableView.{table_contents}
 use Rattle.recfile_c.specs.declared.file_table.FileTable.{FileTable}
 use Rattle.recfile_c.specs.declared.file_table.FileTable.TheVariants.{Memory, Paged}
@@ -29,3 +30,8 @@ refusals_of (Paged table) = table.refusals
 abbrev pub damages_of : FileTable → Damages
 damages_of (Memory table) = no_damage
 damages_of (Paged table) = table.damages
+
+-- the pages that were handed in
+abbrev pub origin_of : FileTable → Origin
+origin_of (Memory table) = None
+origin_of (Paged table) = untouched table.pages.journal

@@ -8,10 +8,10 @@ use Rattle.record_file.specs.declared.fault.KeysOfFault.{KeysOfFault}
 use Rattle.recfile_c.specs.declared.held.Session.{Session}
 use Rattle.recfile_c.specs.declared.outcome.Outcome.{Outcome}
 use Rattle.recfile_c.specs.declared.shown.ListedEntry.{ListedEntry}
-use Rattle.recfile_c.specs.FileTables.{contents_of, is_sound}
+use Rattle.recfile_c.specs.FileTables.{contents_of}
 use Rattle.recfile_c.specs.Shown.{Shows, IsNoEntry}
 use Rattle.recfile_c.specs.Outcomes.{entries_outcome, keys_of_outcome, ok, no_such_entry}
-use Rattle.recfile_c.specs.Calls.{Sure, failed}
+use Rattle.recfile_c.specs.Calls.{Sure, SameGround, failed}
 
 -- the list that an answer has, and else none
 abbrev pub list_in : {X E : Type 0} → Result (List X) E → List X
@@ -23,7 +23,7 @@ abbrev pub ListsEntries : Outcome → ℕ → Session → Session → Type 0
 ListsEntries told n old new =
     (answer : Result (List Entry) EntriesFault) × (told ≡ entries_outcome answer) × (n ≡ length (list_in answer))
     × Sure old.file (EntriesStep old.file.file (failed old.file new.file) answer new.file.file)
-    × (is_sound new.file.table ≡ is_sound old.file.table) × (contents_of new.file.table ≡ contents_of old.file.table)
+    × SameGround old.file new.file × (contents_of new.file.table ≡ contents_of old.file.table)
     × (new.file.log ≡ old.file.log) × (new.entries.items ≡ list_in answer) × (new.keys ≡ old.keys)
 
 -- the keys of a transaction are listed, and the list is kept; the records listed last stay

@@ -1,9 +1,10 @@
 -- Opening and closing a page file, of which the pages are handed in and the steps handed out.
-use Rattle.std.specs.Prelude.{◌≡◌, ◌≢◌, ◌⊎◌, ℕ, ℤ, pos, true, false, List, [], ◌∷◌, ◌++◌, Option, Some, None, Result, Ok, Err, IsTrue, length, take, slice_get}
+use Rattle.std.specs.Prelude.{◌≡◌, ◌≢◌, ◌⊎◌, ℕ, zero, suc, ℤ, pos, true, false, List, [], ◌∷◌, ◌++◌, Option, Some, None, Result, Ok, Err, IsTrue, length, take, slice_get}
 use Rattle.std.specs.FinMap as maps
 use Rattle.std.specs.declared.boxed.Box.{Box}
 use Rattle.rec_types.specs.LimitBounds.{Bounds}
-use Rattle.page_store.specs.Journal.{carried, noted, NotesFront}
+use Rattle.page_store.specs.Fronts.{tried}
+use Rattle.page_store.specs.Journal.{carried, noted, untouched, NotesFront}
 use Rattle.rec_types.specs.declared.limits.LimitFault.{LimitFault}
 use Rattle.btree_delete.specs.declared.open_fault.OpenFault.{OpenFault}
 use Rattle.btree_delete.specs.declared.tree_table.CreateFault.{CreateFault}
@@ -31,7 +32,11 @@ paged_file t limits = record { table = Paged t; file = new_file (table_contents 
 
 -- the table's store was made of these pages and has kept no step so far
 abbrev pub HasNoStep : TableView → List (List ℕ) → Type 0
-HasNoStep t opened = t.pages.journal ≡ Some (record { opened = opened; steps = [] })
+HasNoStep t opened = untouched t.pages.journal ≡ Some opened
+
+-- the table's store was made of these pages and keeps the steps of tries to close the table, each of which stopped
+abbrev pub HasTried : TableView → List (List ℕ) → List ℕ → Type 0
+HasTried t opened ks = t.pages.journal ≡ Some (record { opened = opened; steps = tried ks (closing t) })
 
 -- The pages are a closed file, whose tree and records the table has; its store is steady, and has these pages.
 pub record OpensPages (pages : List (List ℕ)) (limits : Bounds) (t : TableView) : Type 0 where
@@ -118,20 +123,28 @@ TakesImage None None = Unit {0}
 -- closing
 
 -- The steps lead from the old pages to a closed file with the table's tree and records; where nothing was changed they lead to
--- the pages that the table had been opened with. They are those of a close, after the ones that were there. Where there were
--- none, over a new file or a closed one, each front of them leads to the old file, or to one that opening refuses, or to the new one.
+-- the pages that the table had been opened with. They are those of a close, after the ones that were there. Where these were
+-- none, or those of tries to close the same table, the steps are to be carried out on the pages that were handed in; and over a
+-- new file or a closed one each front of them leads to the old file, or to one that opening refuses, or to the new one.
 pub record Settles (t : TableView) (j : JournalView) : Type 0 where
   pub closed : IsTrue t.pages.steady → IsClosed (pages_of j) 0 t.tree (table_contents t)
   pub idle : t.pages.changed ≡ false → pages_of j ≡ t.pages.stored
   pub steps : journal_of j ≡ noted t.pages.journal (closing t)
-  pub fronts : HasNoStep t j.opened → IsNewOrFile j.opened → (k : ℕ) → IsEither j.opened (pages_of j) (carried j.opened (take k j.steps))
+  pub opened : (opened : List (List ℕ)) (ks : List ℕ) → HasTried t opened ks → j.opened ≡ opened
+  pub fronts : (ks : List ℕ) → HasTried t j.opened ks → IsNewOrFile j.opened → (k : ℕ) → IsEither j.opened (pages_of j) (carried j.opened (take k j.steps))
 
--- a table whose closing found no memory has its tree and its records, and the first of its steps were kept
+-- a table whose closing found no memory has its tree and its records, and the first of its steps were kept: one more try
 pub record KeepsTable (old new : TableView) : Type 0 where
   pub tree : new.tree ≡ old.tree
   pub contents : table_contents new ≡ table_contents old
   pub steady : new.pages.steady ≡ old.pages.steady
   pub steps : NotesFront (closing old) old.pages.journal new.pages.journal
+  pub tries : (opened : List (List ℕ)) (ks : List ℕ) → HasTried old opened ks → (k : ℕ) × HasTried new opened (ks ++ k ∷ [])
+
+-- so many closes that found no memory
+abbrev pub IsTriedAgain : ℕ → TableView → TableView → Type 0
+IsTriedAgain zero old new = new ≡ old
+IsTriedAgain (suc n) old new = (mid : TableView) × KeepsTable old mid × IsTriedAgain n mid new
 
 abbrev pub ClosesTable : Outcome → TableView → Held → Type 0
 ClosesTable told t (Closed j) = (told ≡ just ok) × Settles t j

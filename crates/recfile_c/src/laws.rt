@@ -1,17 +1,33 @@
 //! Facts of the definitions that contracts of this crate cite. The functions do nothing: their contracts
 //! are the laws.
-ghost use Rattle.std.specs.Prelude.{◌≡◌, ◌≢◌, ℕ, List, [], ◌∷◌};
+ghost use Rattle.std.specs.Prelude.{◌≡◌, ◌≢◌, ℕ, List, [], ◌∷◌, take};
+ghost use Rattle.btree_delete.specs.Closing.{IsEither};
 ghost use Rattle.btree_delete.specs.TableView.{TableView};
 ghost use Rattle.page_store.specs.Fronts.{two_pages, page_1_written};
 ghost use Rattle.page_store.specs.Journal.{carried};
-ghost use Rattle.recfile_c.specs.Paged.{Settles};
-ghost use Rattle.recfile_c.specs.Steps.{JournalView, page_1_left_out, written_before_longer, longer_before_written};
+ghost use Rattle.rec_types.specs.LimitBounds.{Bounds};
+ghost use Rattle.recfile_c.specs.FileTables.{origin_of};
+ghost use Rattle.recfile_c.specs.Paged.{OpensPages, IsTriedAgain, Settles};
+ghost use Rattle.recfile_c.specs.declared.file_table.FileTable.TheVariants.{Paged};
+ghost use Rattle.recfile_c.specs.Steps.{JournalView, pages_of, page_1_left_out, written_before_longer, longer_before_written};
 
 /// A close may leave one list of steps over one list of pages: with another order of the steps, or with
 /// one left out, it doesn't settle the table.
 pub fn one_list_of_steps()
     ensures { (t : TableView) (one two : JournalView)
         → Settles t one → Settles t two → (one.opened ≡ two.opened) × (one.steps ≡ two.steps) }
+{}
+
+/// A file was opened from pages that were handed in, calls were made, each of which keeps the table's
+/// origin, and it was closed, perhaps after closes that found no memory. Then the steps are for these
+/// pages, and each front of them, carried out on them, leaves the old file, or pages that opening
+/// refuses, or the new file.
+pub fn steps_are_for_the_pages_handed_in()
+    ensures { (pages : List (List ℕ)) (limits : Bounds) (made now last : TableView) (n : ℕ)
+        → (j : JournalView) → OpensPages pages limits made
+        → origin_of (Paged now) ≡ origin_of (Paged made) → IsTriedAgain n now last → Settles last j
+        → (j.opened ≡ pages)
+        × ((k : ℕ) → IsEither pages (pages_of j) (carried pages (take k j.steps))) }
 {}
 
 /// Steps are carried out in their order. Of two pages page 0 and page 1 are written. It fails where the

@@ -14,6 +14,7 @@ pub changes_none : {T : Type 0} (t : Ghosts T) (old new : OpenFile T) → new.ta
 changes_none t old new table log = record {
   told = tells_none _ _ _ _ _ (ap (λ x. t.contents x) table) log;
   soundness = ap (λ x. t.sound x) table;
+  origin = ap (λ x. t.origin x) table;
   device = ap (λ x. t.device_failures x) table;
   damages = inl (ap (λ x. t.damages x) table);
 }
@@ -23,6 +24,7 @@ pub changes_then : {T : Type 0} (t : Ghosts T) (old mid new : OpenFile T) (cause
 changes_then t old mid new cause first then = record {
   told = tells_on _ _ _ _ _ _ _ _ first.soundness first.told then.told;
   soundness = then.soundness ∙ first.soundness;
+  origin = then.origin ∙ first.origin;
   device = then.device ∙ ap (λ n. counted n (by_device cause)) first.device;
   damages = subst (λ d. TellsDamage d cause (t.damages new.table)) (tells_no_damage _ _ first.damages) then.damages;
 }

@@ -10,6 +10,7 @@ use Rattle.record_file.specs.declared.fault.Cause.{Cause}
 pub record LeavesTable {T : Type 0} (t : Ghosts T) (old : OpenFile T) (cause : Option Cause) (new : OpenFile T) : Type 0 where
   pub same : (t.contents new.table ≡ t.contents old.table) × (new.file ≡ old.file) × (new.log ≡ old.log)
   pub soundness : t.sound new.table ≡ t.sound old.table
+  pub origin : t.origin new.table ≡ t.origin old.table
   pub device : t.device_failures new.table ≡ counted (t.device_failures old.table) (by_device cause)
   pub damages : t.damages new.table ≡ named_by (t.damages old.table) cause
 
@@ -17,5 +18,6 @@ pub record LeavesTable {T : Type 0} (t : Ghosts T) (old : OpenFile T) (cause : O
 pub record ChangesTable {T : Type 0} (t : Ghosts T) (old : OpenFile T) (cause : Option Cause) (new : OpenFile T) : Type 0 where
   pub told : Tells (t.sound old.table) (t.contents old.table) old.log (t.contents new.table) new.log
   pub soundness : t.sound new.table ≡ t.sound old.table
+  pub origin : t.origin new.table ≡ t.origin old.table
   pub device : t.device_failures new.table ≡ counted (t.device_failures old.table) (by_device cause)
   pub damages : TellsDamage (t.damages old.table) cause (t.damages new.table)

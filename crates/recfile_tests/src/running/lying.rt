@@ -84,6 +84,8 @@ impl<T: Table> TableState for LyingTable<T> {
     ghost memory_refusals = { λ t. T.memory_refusals t.inner };
 
     ghost damages = { λ t. record { count = t.named.count; page = t.named.page } };
+
+    ghost origin = { λ t. T.origin t.inner };
 }
 
 impl<T: Table> Table for LyingTable<T> {

@@ -1,4 +1,4 @@
-use Rattle.std.proofs.Common.{◌≡◌, ◌≤◌, ℕ, refl, sym, subst}
+use Rattle.std.proofs.Common.{◌≤◌, ℕ, refl, sym, subst}
 use Rattle.btree_insert.specs.Contents.{contents_of}
 use Rattle.recfile.proofs.page_file.check_in.Goals as goal
 

@@ -1,10 +1,11 @@
-use Rattle.std.proofs.Common.{◌≡◌, ℕ, Bool, true, List, [], Option, Some, None, Result, Ok, Err, MatchOption, MatchResult, IsTrue, if◌then◌else◌, refl, sym, ap, subst, ◌∙◌}
+use Rattle.std.proofs.Common.{◌≡◌, ℕ, Bool, [], Option, Some, None, Result, Ok, Err, MatchOption, MatchResult, IsTrue, if◌then◌else◌, ap, subst, ◌∙◌}
 use Rattle.std.specs.FinMap as maps
 use Rattle.std.specs.Ordering.{nat_cmp}
 use Rattle.std.specs.Result.{is_err}
 use Rattle.rec_types.specs.LimitBounds.{Bounds}
-use Rattle.rec_types.specs.Table.{Damages, no_damage}
+use Rattle.rec_types.specs.Table.{no_damage}
 use Rattle.rec_types.specs.declared.table_state.TableState.{Ghosts}
+use Rattle.page_store.specs.Journal.{untouched}
 use Rattle.tx_log.specs.Transactions.{Tx}
 use Rattle.btree_insert.specs.declared.tree.Tree.{Tree}
 use Rattle.btree_delete.specs.TableView.{TableView, IsClosed, table_contents}
@@ -16,7 +17,7 @@ use Rattle.recfile.proofs.page_file.run_opened.Goals as goal
 
 -- what a table in a tree shows
 abbrev treed : Ghosts TableView
-treed = record { contents = table_contents; record_limit = λ t. t.limit; sound = λ t. t.pages.steady; device_failures = λ t. t.pages.failures; memory_refusals = λ t. t.refusals; damages = λ t. t.damages }
+treed = record { contents = table_contents; record_limit = λ t. t.limit; sound = λ t. t.pages.steady; device_failures = λ t. t.pages.failures; memory_refusals = λ t. t.refusals; damages = λ t. t.damages; origin = λ t. untouched t.pages.journal }
 
 -- what a run sees of a new file over the table of a page file
 fresh : (f : OpenFile TableView) (table : TableView) (limits : Bounds) → f ≡ record { table = table; file = new_file (table_contents table) limits; log = [] }

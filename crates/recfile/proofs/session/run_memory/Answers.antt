@@ -1,4 +1,4 @@
-use Rattle.std.proofs.Common.{◌≡◌, true, [], if◌then◌else◌, refl, sym, ap, subst, ◌∙◌}
+use Rattle.std.proofs.Common.{◌≡◌, true, [], None, if◌then◌else◌, refl, ap, subst, ◌∙◌}
 use Rattle.std.specs.FinMap as maps
 use Rattle.rec_types.specs.LimitBounds.{Bounds}
 use Rattle.rec_types.specs.Sorted.{SortedState}
@@ -13,7 +13,7 @@ use Rattle.recfile.proofs.session.run_memory.Goals as goal
 
 -- what a sorted table shows
 abbrev sorted : Ghosts SortedState
-sorted = record { contents = λ t. t.contents; record_limit = λ t. t.limit; sound = λ _. true; device_failures = λ _. 0; memory_refusals = λ t. t.refusals; damages = λ _. no_damage }
+sorted = record { contents = λ t. t.contents; record_limit = λ t. t.limit; sound = λ _. true; device_failures = λ _. 0; memory_refusals = λ t. t.refusals; damages = λ _. no_damage; origin = λ _. None }
 
 -- what a run sees of a new file over an empty table
 fresh : {T : Type 0} (t : Ghosts T) (f : OpenFile T) (table : T) (limits : Bounds) → f ≡ record { table = table; file = new_file (t.contents table) limits; log = [] }

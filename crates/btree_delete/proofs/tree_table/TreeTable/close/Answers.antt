@@ -1,10 +1,11 @@
-use Rattle.std.proofs.Common.{◌≡◌, ℕ, List, take, true, Some, ap, sym, ◌∙◌, subst, arith}
+use Rattle.std.proofs.Common.{◌≡◌, ℕ, List, true, false, Some, ap, sym, ◌∙◌, subst, arith}
+use Rattle.page_store.specs.Fronts.{tried}
 use Rattle.page_store.specs.Journal.{noted, NotesFront, carried}
 use Rattle.page_store.specs.declared.step.Step.{Step}
 use Rattle.btree_delete.specs.Closing.{closing, IsEither}
 use Rattle.btree_delete.specs.TableView.{TableView, IsClosed, table_contents}
 use Rattle.btree_delete.proofs.ClosedFileLemmas.{written_back}
-use Rattle.btree_delete.proofs.CloseFrontLemmas.{closing_is, either_changed}
+use Rattle.btree_delete.proofs.CloseFrontLemmas.{closing_is, either_idle, again_idle, either_changed, again_changed}
 use Rattle.btree_delete.proofs.tree_table.TreeTable.close.Goals as goal
 
 pub returns-in-Ok-clause-closed : goal.returns-in-Ok-clause-closed
@@ -34,15 +35,41 @@ returns-in-Err-clause-journal g c =
     (subst (λ (all : List Step). NotesFront all here.pages.journal c.write_back.new.self.journal) steps c.in-Err.ensures.journal_err)
 
 pub returns-in-Ok-clause-fronts : goal.returns-in-Ok-clause-fronts
-returns-in-Ok-clause-fronts g c = λ old k file.
+returns-in-Ok-clause-fronts g c = λ old ks file.
     let here : TableView = record { pages = c.self.inside.pages; tree = c.self.inside.tree; limit = c.self.inside.limit; refusals = c.self.inside.faults.refusals; damages = record { count = c.self.inside.faults.damaged; page = c.self.inside.faults.page } } in
     let changed : here.pages.changed ≡ true = sym c.changed.ensures.value ∙ c.if-not-changed.false in
-    subst (λ (t : TableView). IsEither old (carried old (closing t)) (carried old (take k (closing t)))) c.self.view_is
-    (either_changed here old k changed (omega (arith, c.page_count.ensures.value, c.page_count.ensures.some)) c.page_count.ensures.header file)
+    subst (λ (t : TableView). IsEither old (carried old (closing t)) (carried old (tried ks (closing t)))) c.self.view_is
+    (either_changed here old ks changed (omega (arith, c.page_count.ensures.value, c.page_count.ensures.some)) c.page_count.ensures.header file)
 
 pub returns-in-Err-clause-fronts : goal.returns-in-Err-clause-fronts
-returns-in-Err-clause-fronts g c = λ old k file.
+returns-in-Err-clause-fronts g c = λ old ks file.
     let here : TableView = record { pages = c.self.inside.pages; tree = c.self.inside.tree; limit = c.self.inside.limit; refusals = c.self.inside.faults.refusals; damages = record { count = c.self.inside.faults.damaged; page = c.self.inside.faults.page } } in
     let changed : here.pages.changed ≡ true = sym c.changed.ensures.value ∙ c.if-not-changed.false in
-    subst (λ (t : TableView). IsEither old (carried old (closing t)) (carried old (take k (closing t)))) c.self.view_is
-    (either_changed here old k changed (omega (arith, c.page_count.ensures.value, c.page_count.ensures.some)) c.page_count.ensures.header file)
+    subst (λ (t : TableView). IsEither old (carried old (closing t)) (carried old (tried ks (closing t)))) c.self.view_is
+    (either_changed here old ks changed (omega (arith, c.page_count.ensures.value, c.page_count.ensures.some)) c.page_count.ensures.header file)
+
+pub returns-in-Ok-clause-again : goal.returns-in-Ok-clause-again
+returns-in-Ok-clause-again g c = λ old ks.
+    let here : TableView = record { pages = c.self.inside.pages; tree = c.self.inside.tree; limit = c.self.inside.limit; refusals = c.self.inside.faults.refusals; damages = record { count = c.self.inside.faults.damaged; page = c.self.inside.faults.page } } in
+    let changed : here.pages.changed ≡ true = sym c.changed.ensures.value ∙ c.if-not-changed.false in
+    subst (λ (t : TableView). carried (carried old (tried ks (closing t))) (closing t) ≡ carried old (closing t)) c.self.view_is
+    (again_changed here old ks changed)
+
+pub returns-in-Err-clause-again : goal.returns-in-Err-clause-again
+returns-in-Err-clause-again g c = λ old ks.
+    let here : TableView = record { pages = c.self.inside.pages; tree = c.self.inside.tree; limit = c.self.inside.limit; refusals = c.self.inside.faults.refusals; damages = record { count = c.self.inside.faults.damaged; page = c.self.inside.faults.page } } in
+    let changed : here.pages.changed ≡ true = sym c.changed.ensures.value ∙ c.if-not-changed.false in
+    subst (λ (t : TableView). carried (carried old (tried ks (closing t))) (closing t) ≡ carried old (closing t)) c.self.view_is
+    (again_changed here old ks changed)
+
+pub returns-then-not-changed-clause-fronts : goal.returns-then-not-changed-clause-fronts
+returns-then-not-changed-clause-fronts g c = λ old ks file.
+    let here : TableView = record { pages = c.self.inside.pages; tree = c.self.inside.tree; limit = c.self.inside.limit; refusals = c.self.inside.faults.refusals; damages = record { count = c.self.inside.faults.damaged; page = c.self.inside.faults.page } } in
+    let idle : here.pages.changed ≡ false = sym c.changed.ensures.value ∙ c.if-not-changed.true in
+    subst (λ (t : TableView). IsEither old (carried old (closing t)) (carried old (tried ks (closing t)))) c.self.view_is (either_idle here old ks idle)
+
+pub returns-then-not-changed-clause-again : goal.returns-then-not-changed-clause-again
+returns-then-not-changed-clause-again g c = λ old ks.
+    let here : TableView = record { pages = c.self.inside.pages; tree = c.self.inside.tree; limit = c.self.inside.limit; refusals = c.self.inside.faults.refusals; damages = record { count = c.self.inside.faults.damaged; page = c.self.inside.faults.page } } in
+    let idle : here.pages.changed ≡ false = sym c.changed.ensures.value ∙ c.if-not-changed.true in
+    subst (λ (t : TableView). carried (carried old (tried ks (closing t))) (closing t) ≡ carried old (closing t)) c.self.view_is (again_idle here old ks idle)

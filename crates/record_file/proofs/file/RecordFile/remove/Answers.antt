@@ -53,6 +53,7 @@ returns-in-Some-2-clause-table g c = record {
       (ap (λ (s : LogState). s.records) c.accept-lsn.ensures.after)
       (λ sound. c.in_ok-taken.ensures.ok (c.in_ok-get.ensures.answered.soundness ∙ ap (λ (s : OpenFile _). g.T.TableState.sound s.table) c.self.view_is ∙ sound) ∙ ap (λ m. set_to m c.args.key None) c.in_ok-get.ensures.same ∙ ap (λ (s : OpenFile _). set_to (g.T.TableState.contents s.table) c.args.key None) c.self.view_is);
   soundness = c.in_ok-taken.ensures.answered.soundness ∙ c.in_ok-get.ensures.answered.soundness ∙ ap (λ (s : OpenFile _). g.T.TableState.sound s.table) c.self.view_is;
+  origin = c.in_ok-taken.ensures.answered.origin ∙ c.in_ok-get.ensures.answered.origin ∙ ap (λ (s : OpenFile _). g.T.TableState.origin s.table) c.self.view_is;
   device = c.in_ok-taken.ensures.answered.device ∙ c.in_ok-get.ensures.answered.device ∙ ap (λ (s : OpenFile _). g.T.TableState.device_failures s.table) c.self.view_is;
   damages = inl (c.in_ok-taken.ensures.answered.damages ∙ c.in_ok-get.ensures.answered.damages ∙ ap (λ (s : OpenFile _). g.T.TableState.damages s.table) c.self.view_is);
 }

@@ -61,6 +61,7 @@ returns-in-Ok-clause-table g c =
           (undo_record _ _ _ c.self.inside.log c.self.invariant c.compensate-lsn.ensures.kept c.compensate-lsn.new.self c.args.tx u.0 u.1 c.compensate-lsn.ensures.after)
           (λ sound. c.in-Ok.ensures.ok (ap (λ (s : OpenFile _). g.T.TableState.sound s.table) c.self.view_is ∙ sound) ∙ ap (λ (s : UndoStep). set_to (g.T.TableState.contents c.self.inside.table) s.key s.before) step ∙ ap (λ (s : OpenFile _). set_to (g.T.TableState.contents s.table) u.0.key u.0.before) c.self.view_is);
       soundness = c.in-Ok.ensures.answered.soundness ∙ ap (λ (s : OpenFile _). g.T.TableState.sound s.table) c.self.view_is;
+      origin = c.in-Ok.ensures.answered.origin ∙ ap (λ (s : OpenFile _). g.T.TableState.origin s.table) c.self.view_is;
       device = c.in-Ok.ensures.answered.device ∙ ap (λ (s : OpenFile _). g.T.TableState.device_failures s.table) c.self.view_is;
       damages = inl (c.in-Ok.ensures.answered.damages ∙ ap (λ (s : OpenFile _). g.T.TableState.damages s.table) c.self.view_is);
     }
