@@ -42,44 +42,48 @@ pub fn walk<S: Store>(
     if tree.height == 0 {
         return Ok(out);
     }
-    let bounds = Bounds {
-        low: None,
-        high: None,
+    let above = Above {
+        height: tree.height,
+        bounds: Bounds {
+            low: None,
+            high: None,
+        },
     };
     let mut left = tree.used;
-    walk_below(
-        pages,
-        &mut out,
-        &mut left,
-        tree.order,
-        tree.height,
-        tree.root,
-        &bounds,
-    )?;
+    walk_below(pages, &mut out, &mut left, tree.order, tree.root, &above)?;
     Ok(out)
 }
 
-/// Adds the elements of the tree of a height below page n, which may have `left` pages.
+/// What the levels above say of a tree below them.
+#[derive(Clone, Copy)]
+struct Above {
+    /// Its height.
+    height: u32,
+    /// The bounds of its keys.
+    bounds: Bounds,
+}
+
+/// Adds the elements of the tree below page n, which may have `left` pages.
 #[cycle(walking)]
 fn walk_below<S: Store>(
     pages: &mut Pages<S>,
     out: &mut Vec<(Key, Record)>,
     left: &mut u32,
     order: u16,
-    height: u32,
     n: u32,
-    bounds: &Bounds,
+    above: &Above,
 ) -> Result<(), TreeFault>
     requires order { order ≤ greatest_order }
-    requires height { 0 < height }
+    requires height { 0 < above.now.height }
     ensures walked { IsTrue pages.old.steady → (least : ℕ) (es : List Element) (us : List ℕ)
-        → TreeAt order (at pages.old.pages) least height n es us → Between bounds.now es
+        → TreeAt order (at pages.old.pages) least above.now.height n es us
+        → Between above.now.bounds es
         → length us ≤ left.old
         → MatchResult result
         (λ _. (out.new.items ≡ out.old.items ++ es) × (left.new + length us ≡ left.old)) IsOutside }
     ensures adds { IsTrue pages.old.steady → OnOk result
-        (Adds (TreeOf (Spells order (at pages.old.pages)) 1 1 height n)
-        bounds.now out.old.items out.new.items left.old left.new) }
+        (Adds (TreeOf (Spells order (at pages.old.pages)) 1 1 above.now.height n)
+        above.now.bounds out.old.items out.new.items left.old left.new) }
     ensures spent { left.old ≡ 0 → result ≡ Err (TreeFault.Damaged n) }
     ensures device { pages.new.failures ≡ counted pages.old.failures (is_device result) }
     ensures unchanged { pages.new
@@ -91,20 +95,30 @@ fn walk_below<S: Store>(
     }
     *left -= 1;
     let mut node = Node::blank();
-    read_into(pages, order, kind_of_level(height), n, bounds, &mut node)?;
+    read_into(
+        pages,
+        order,
+        kind_of_level(above.height),
+        n,
+        &above.bounds,
+        &mut node,
+    )?;
     let elements = node.elements.as_slice();
-    if height == 1 {
+    if above.height == 1 {
         return Ok(add_elements(out, elements)?);
     }
+    let below = Above {
+        height: above.height - 1,
+        bounds: above.bounds,
+    };
     walk_sons(
         pages,
         out,
         left,
         order,
-        height - 1,
         node.sons.as_slice(),
         elements,
-        bounds,
+        &below,
     )
 }
 
@@ -115,52 +129,49 @@ fn walk_sons<S: Store>(
     out: &mut Vec<(Key, Record)>,
     left: &mut u32,
     order: u16,
-    height: u32,
     sons: &[u32],
     elements: &[(Key, Record)],
-    bounds: &Bounds,
+    above: &Above,
 ) -> Result<(), TreeFault>
     requires order { order ≤ greatest_order }
-    requires height { 0 < height }
+    requires height { 0 < above.now.height }
     requires sons { length sons.now ≡ length elements.now + 1 }
     ensures walked { IsTrue pages.old.steady → (es : List Element) (us : List ℕ)
-        → Fan (TreeAt order (at pages.old.pages) order height) sons.now elements.now es us
-        → Between bounds.now es
+        → Fan (TreeAt order (at pages.old.pages) order above.now.height) sons.now elements.now es us
+        → Between above.now.bounds es
         → length us ≤ left.old
         → MatchResult result
         (λ _. (out.new.items ≡ out.old.items ++ es) × (left.new + length us ≡ left.old)) IsOutside }
-    ensures adds { IsTrue pages.old.steady → Between bounds.now elements.now → OnOk result
-        (Adds (Fan (TreeOf (Spells order (at pages.old.pages)) 1 1 height) sons.now elements.now)
-        bounds.now out.old.items out.new.items left.old left.new) }
+    ensures adds { IsTrue pages.old.steady → Between above.now.bounds elements.now → OnOk result
+        (Adds (Fan (TreeOf (Spells order (at pages.old.pages)) 1 1 above.now.height)
+        sons.now elements.now)
+        above.now.bounds out.old.items out.new.items left.old left.new) }
     ensures device { pages.new.failures ≡ counted pages.old.failures (is_device result) }
     ensures unchanged { pages.new
         ≡ record pages.old { reads = pages.new.reads; failures = pages.new.failures } }
     ensures reads { pages.new.reads + left.new ≤ pages.old.reads + left.old }
 {
     if elements.is_empty() {
-        return walk_below(pages, out, left, order, height, sons[0], bounds);
+        return walk_below(pages, out, left, order, sons[0], above);
     }
     let middle = elements[0];
-    let before = Bounds {
-        low: bounds.low,
-        high: Some(middle.0),
+    let before = Above {
+        height: above.height,
+        bounds: Bounds {
+            low: above.bounds.low,
+            high: Some(middle.0),
+        },
     };
-    walk_below(pages, out, left, order, height, sons[0], &before)?;
+    walk_below(pages, out, left, order, sons[0], &before)?;
     add_elements(out, &elements[..1])?;
-    let behind = Bounds {
-        low: Some(middle.0),
-        high: bounds.high,
+    let behind = Above {
+        height: above.height,
+        bounds: Bounds {
+            low: Some(middle.0),
+            high: above.bounds.high,
+        },
     };
-    walk_sons(
-        pages,
-        out,
-        left,
-        order,
-        height,
-        &sons[1..],
-        &elements[1..],
-        &behind,
-    )
+    walk_sons(pages, out, left, order, &sons[1..], &elements[1..], &behind)
 }
 
 fn add_elements(out: &mut Vec<(Key, Record)>, elements: &[(Key, Record)]) -> Result<(), Memory>
