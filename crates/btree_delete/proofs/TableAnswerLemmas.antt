@@ -15,6 +15,7 @@ use Rattle.btree_insert.specs.Contents.{by_order, lookup_in, set_in}
 use Rattle.btree_insert.specs.Faults.{is_device as is_read_fault}
 use Rattle.btree_insert.specs.Growth.{IsOutside}
 use Rattle.btree_insert.specs.Inserted.{Inserted, IsRefused}
+use Rattle.btree_insert.specs.PagesGrown.{taking}
 use Rattle.btree_delete.specs.Deleted.{Deleted}
 use Rattle.btree_delete.specs.TableView.{Fills}
 use Rattle.btree_delete.specs.TableAnswers.{table_fault, table_answer, IsSet, MayRefuse}
@@ -28,7 +29,7 @@ same_device (Err (NoTreePage page)) = refl
 same_device (Err NoMemory) = refl
 
 -- the pages after an insertion
-pub put_set : (old new : List (Option (List ℕ))) (taken : ℕ) (tree next : Tree) (es : List Element) (us key value : List ℕ) (before : Option (List ℕ)) (limit : ℕ) → Fills old tree es us → Inserted (at old) (at new) (candidate old) taken tree next es us key value before
+pub put_set : (old new : List (Option (List ℕ))) (taken : ℕ) (tree next : Tree) (es : List Element) (us key value : List ℕ) (before : Option (List ℕ)) (limit : ℕ) → Fills old tree es us → Inserted (taking old (at new) taken) tree es us key value (next, before)
     → tree.count ≤ limit → (lookup_in key es ≡ None → tree.count < limit) → IsSet new next limit es key (Some value) before
 put_set old new taken tree next es us key value before limit fills done few room = record {
   vs = done.vs;
@@ -41,14 +42,14 @@ put_set old new taken tree next es us key value before limit fills done few room
 pub put_refused : (old : List (Option (List ℕ))) (tree : Tree) (es : List Element) (us key value : List ℕ) (limit : ℕ) (fault : TreeFault) → 1 ≤ tree.order → 1 ≤ length old → length old ≤ 1000001 → at old 0 ≡ None → limit ≤ 1000000
     → Fills old tree es us → tree.count ≤ limit → (lookup_in key es ≡ None → tree.count < limit) → IsRefused old tree es us key value fault → MayRefuse limit tree.count es key (Some value) (table_fault fault)
 put_refused old tree es us key value limit ReadFailed order some most header small fills few room refused = tt
-put_refused old tree es us key value limit (NoTreePage page) order some most header small fills few room (new, taken, next, before, done, fails) =
+put_refused old tree es us key value limit (NoTreePage page) order some most header small fills few room (new, taken, (next, before), done, fails) =
     absurd (fails (grown_small old new taken tree next es us key value before limit order some most header fills done (grown_count (at old) new (candidate old) taken tree next es us key value before limit fills.holds done few room) small))
 put_refused old tree es us key value limit NoMemory order some most header small fills few room refused = λ full. let low = room full.absent in let high = full.full in absurd (omega (arith, low, high))
 
 -- the answer to a put where there is room for a new key
 pub put_answer : (old new : List (Option (List ℕ))) (tree : Tree) (es : List Element) (us key value : List ℕ) (limit : ℕ) (r : Result (Tree × Option (List ℕ)) TreeFault) → 1 ≤ tree.order → 1 ≤ length old → length old ≤ 1000001 → at old 0 ≡ None → limit ≤ 1000000
     → Fills old tree es us → tree.count ≤ limit → (lookup_in key es ≡ None → tree.count < limit)
-    → MatchResult r (λ x. (taken : ℕ) × Inserted (at old) (at new) (candidate old) taken tree x.0 es us key value x.1) (IsRefused old tree es us key value)
+    → MatchResult r (λ x. (taken : ℕ) × Inserted (taking old (at new) taken) tree es us key value x) (IsRefused old tree es us key value)
     → MatchResult (table_answer r) (λ x. IsSet new x.0 limit es key (Some value) x.1) (MayRefuse limit tree.count es key (Some value))
 put_answer old new tree es us key value limit (Ok (next, before)) order some most header small fills few room (taken, done) =
     put_set old new taken tree next es us key value before limit fills done few room

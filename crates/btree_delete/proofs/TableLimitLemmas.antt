@@ -4,12 +4,12 @@ use Rattle.std.proofs.Math.Nat.{div-le_self, pow-le-pow_left, pow-le-pow_right}
 use Rattle.std.proofs.lemmas.Bool.Decides.{nat_tests}
 use Rattle.std.proofs.lemmas.List.{length-replicate, get_or-replicate}
 use Rattle.page_store.specs.PageMap.{PageMap, at}
-use Rattle.page_store.specs.FreeNumbers.{free_from, free_numbers, count_after, candidate}
+use Rattle.page_store.specs.FreeNumbers.{free_from, free_numbers, count_after}
 use Rattle.btree_node.specs.Lists.{Element}
 use Rattle.btree_insert.specs.declared.tree.Tree.{Tree}
 use Rattle.btree_insert.specs.Contents.{lookup_in, set_in}
 use Rattle.btree_insert.specs.Inserted.{Inserted, IsSmall}
-use Rattle.btree_insert.specs.PagesGrown.{PagesGrown}
+use Rattle.btree_insert.specs.PagesGrown.{PagesGrown, pages_change, taking}
 use Rattle.btree_insert.specs.PageTrees.{IsIn, RootAt, Holds}
 use Rattle.btree_insert.proofs.ElementMapLemmas.{one_if_none, put-length}
 use Rattle.btree_insert.proofs.SizeLemmas.{keys_bound, pages_bound}
@@ -123,7 +123,7 @@ low_used pages t es us order most holds = at t.height refl
 
 -- what a table's insertion comes to is within the limits of a file
 pub grown_small : (old : List (Option (List ℕ))) (new : PageMap) (taken : ℕ) (tree next : Tree) (es : List Element) (us key value : List ℕ) (before : Option (List ℕ)) (limit : ℕ) → 1 ≤ tree.order → 1 ≤ length old → length old ≤ 1000001 → at old 0 ≡ None
-    → Fills old tree es us → Inserted (at old) new (candidate old) taken tree next es us key value before → next.count ≤ limit → limit ≤ 1000000 → IsSmall next (count_after old taken)
+    → Fills old tree es us → Inserted (taking old new taken) tree es us key value (next, before) → next.count ≤ limit → limit ≤ 1000000 → IsSmall next (count_after old taken)
 grown_small old new taken tree next es us key value before limit order some most header fills done few small =
     let some_order : 1 ≤ next.order = omega (arith, order, done.order) in
     let count : next.count ≤ 1000000 = omega (arith, few, small) in
@@ -137,7 +137,7 @@ grown_small old new taken tree next es us key value before limit order some most
     }
 
 -- how many keys a table has after an insertion
-pub grown_count : (old new : PageMap) (fresh : ℕ → ℕ) (taken : ℕ) (tree next : Tree) (es : List Element) (us key value : List ℕ) (before : Option (List ℕ)) (limit : ℕ) → Holds old tree es us → Inserted old new fresh taken tree next es us key value before
+pub grown_count : (old new : PageMap) (fresh : ℕ → ℕ) (taken : ℕ) (tree next : Tree) (es : List Element) (us key value : List ℕ) (before : Option (List ℕ)) (limit : ℕ) → Holds old tree es us → Inserted (pages_change old new fresh 0 taken) tree es us key value (next, before)
     → tree.count ≤ limit → (lookup_in key es ≡ None → tree.count < limit) → next.count ≤ limit
 grown_count old new fresh taken tree next es us key value before limit holds done few room =
     let size = done.holds.count ∙ put-length key value es holds.ascends in

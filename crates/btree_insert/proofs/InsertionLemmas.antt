@@ -10,8 +10,8 @@ use Rattle.page_store.specs.CanStage.{CanStage}
 use Rattle.page_store.specs.FreeNumbers.{count_after}
 use Rattle.btree_insert.specs.Growth.{Whole, Parts, WritesFit}
 use Rattle.btree_insert.specs.Inserted.{leaf_of, root_of, Inserted}
-use Rattle.btree_insert.specs.PagesGrown.{PagesGrown}
-use Rattle.btree_insert.specs.PageTrees.{IsIn, TreeAt, RootAt, Holds}
+use Rattle.btree_insert.specs.PagesGrown.{PagesGrown, pages_change}
+use Rattle.btree_insert.specs.PageTrees.{IsIn, TreeAt, RootAt, Holds, tree_below}
 use Rattle.btree_insert.proofs.ChangedTreeLemmas.{tree_move}
 use Rattle.btree_insert.proofs.PagesAroundLemmas.{IsFree, InUse, kept_none, kept_more, not_so_far}
 use Rattle.btree_insert.proofs.ElementMapLemmas.{put-ascends, put-length, one_if_none}
@@ -21,7 +21,7 @@ use Rattle.btree_insert.proofs.SettledTreeLemmas.{overlay_push, write_here, writ
 -- the parts that make an insertion
 pub inserted_by : (old new : PageMap) (fresh : ℕ → ℕ) (taken : ℕ) (tree next : Tree) (es : List Element) (us vs : List ℕ) (key value : List ℕ) (before : Option (List ℕ)) → Holds old tree es us
     → RootAt next.order new next.height next.root (set_in key (Some value) es) vs → PagesGrown old new fresh 0 taken us vs → before ≡ lookup_in key es → next.order ≡ tree.order → next.count ≡ tree.count + one_if_none before → next.used ≡ tree.used + taken
-    → Inserted old new fresh taken tree next es us key value before
+    → Inserted (pages_change old new fresh 0 taken) tree es us key value (next, before)
 inserted_by old new fresh taken tree next es us vs key value before holds root kept answer order count used = record {
   vs = vs;
   holds = record {
@@ -59,8 +59,8 @@ plant k old ws ws2 fresh n zero root es us key value is (root_is, es_is, us_is) 
     )
 
 -- a root above two pages
-pub root_up : (k : ℕ) (old : PageMap) (ws ws2 : List (ℕ × List ℕ)) (fresh : ℕ → ℕ) (hi h p n : ℕ) (us : List ℕ) (es : List Element) (middle : Element) (right : ℕ) → 0 < h → IsFree old fresh → InUse old us → Parts k old (overlay old ws) fresh 0 hi h p us es middle right → n ≡ fresh hi
-    → CanStand (root_of p middle right) k → ws2 ≡ ws ++ (n, spelling (root_of p middle right) k) ∷ [] → Whole k old (overlay old ws2) fresh 0 (suc hi) 1 (suc h) n us es
+pub root_up : (k : ℕ) (old : PageMap) (ws ws2 : List (ℕ × List ℕ)) (fresh : ℕ → ℕ) (hi h p n : ℕ) (us : List ℕ) (es : List Element) (middle : Element) (right : ℕ) → 0 < h → IsFree old fresh → InUse old us → Parts (tree_below k 1 h p) (pages_change old (overlay old ws) fresh 0 hi) us es middle right → n ≡ fresh hi
+    → CanStand (root_of p middle right) k → ws2 ≡ ws ++ (n, spelling (root_of p middle right) k) ∷ [] → Whole (tree_below k 1 (suc h) n) (pages_change old (overlay old ws2) fresh 0 (suc hi)) us es
 root_up k old ws ws2 fresh hi zero p n us es middle right some free used parts n_is stands ws_is = absurd (omega arith)
 root_up k old ws ws2 fresh hi (suc h) p n us es middle right some free used parts n_is stands ws_is =
     let mid : PageMap = overlay old ws in
@@ -73,7 +73,7 @@ root_up k old ws ws2 fresh hi (suc h) p n us es middle right some free used part
     let right_tree = tree_move k mid new k (suc h) right parts.ys parts.behind parts.right_tree (each_in (λ q. new q ≡ mid q) parts.behind (λ q is. out q (in_right q parts.before parts.behind is))) in
     let kept : PagesGrown old new fresh 0 (suc hi) us (fresh hi ∷ below) =
     kept_more old mid new fresh 0 hi us [] below free used (omega arith) (λ q _ other. write_other mid n page q (λ e. other (e ∙ n_is))) parts.kept in
-    subst (λ (pages : PageMap). Whole k old pages fresh 0 (suc hi) 1 (suc (suc h)) n us es) (sym new_is) (record {
+    subst (λ (pages : PageMap). Whole (tree_below k 1 (suc (suc h)) n) (pages_change old pages fresh 0 (suc hi)) us es) (sym new_is) (record {
       vs = n ∷ below;
       tree = (
         root_of p middle right,
@@ -103,16 +103,16 @@ son_in_use pages zero header used most = absurd (some_not_none (pages 0) used he
 son_in_use pages (suc p) header used most = record { some = omega arith; most = most }
 
 -- where each page is the same, so is what an insertion came to
-pub inserted_at : (old mid new : PageMap) (fresh : ℕ → ℕ) (taken : ℕ) (tree next : Tree) (es : List Element) (us : List ℕ) (key value : List ℕ) (before : Option (List ℕ)) → ((q : ℕ) → mid q ≡ new q) → Inserted old mid fresh taken tree next es us key value before
-    → Inserted old new fresh taken tree next es us key value before
+pub inserted_at : (old mid new : PageMap) (fresh : ℕ → ℕ) (taken : ℕ) (tree next : Tree) (es : List Element) (us : List ℕ) (key value : List ℕ) (before : Option (List ℕ)) → ((q : ℕ) → mid q ≡ new q) → Inserted (pages_change old mid fresh 0 taken) tree es us key value (next, before)
+    → Inserted (pages_change old new fresh 0 taken) tree es us key value (next, before)
 inserted_at old mid new fresh taken tree next es us key value before same done =
     let all : mid ≡ new = λ i q. same q i in
-    subst (λ (pages : PageMap). Inserted old pages fresh taken tree next es us key value before) all done
+    subst (λ (pages : PageMap). Inserted (pages_change old pages fresh 0 taken) tree es us key value (next, before)) all done
 
 -- the tree after an insertion, from what stands at its root
 pub next_inserted : (old new : PageMap) (fresh : ℕ → ℕ) (lo hi h root : ℕ) (tree next : Tree) (es : List Element) (us : List ℕ) (key value : List ℕ) (before : Option (List ℕ)) → lo ≡ 0 → 0 < h → Holds old tree es us
-    → Whole tree.order old new fresh lo hi 1 h root us (set_in key (Some value) es) → lookup_in key es ≡ before → next.order ≡ tree.order → next.root ≡ root → next.height ≡ h → next.count ≡ tree.count + one_if_none before → next.used ≡ tree.used + hi
-    → Inserted old new fresh hi tree next es us key value before
+    → Whole (tree_below tree.order 1 h root) (pages_change old new fresh lo hi) us (set_in key (Some value) es) → lookup_in key es ≡ before → next.order ≡ tree.order → next.root ≡ root → next.height ≡ h → next.count ≡ tree.count + one_if_none before → next.used ≡ tree.used + hi
+    → Inserted (pages_change old new fresh 0 hi) tree es us key value (next, before)
 next_inserted old new fresh lo hi h root tree next es us key value before lo_is some holds whole answer order_is root_is height_is count_is used_is =
     let es2 = set_in key (Some value) es in
     let at_root = tree_root tree.order new h root es2 whole.vs some whole.tree in
@@ -123,7 +123,7 @@ next_inserted old new fresh lo hi h root tree next es us key value before lo_is 
 -- the first page
 pub plant_inserted : (old : PageMap) (ws ws2 : List (ℕ × List ℕ)) (fresh : ℕ → ℕ) (n taken : ℕ) (tree next : Tree) (es : List Element) (us : List ℕ) (key value : List ℕ) → tree.height ≡ 0 → taken ≡ 1 → Holds old tree es us → ws ≡ [] → n ≡ fresh 0 → IsFree old fresh
     → CanStand (leaf_of (key, value)) tree.order → ws2 ≡ ws ++ (n, spelling (leaf_of (key, value)) tree.order) ∷ [] → next.order ≡ tree.order → next.root ≡ n → next.height ≡ 1 → next.count ≡ tree.count + 1 → next.used ≡ tree.used + taken
-    → Inserted old (overlay old ws2) fresh taken tree next es us key value None
+    → Inserted (pages_change old (overlay old ws2) fresh 0 taken) tree es us key value (next, None)
 plant_inserted old ws ws2 fresh n taken tree next es us key value empty one holds none n_is free stands ws_is order_is root_is height_is count_is used_is =
     let new : PageMap = overlay old ws2 in
     let es2 = set_in key (Some value) es in

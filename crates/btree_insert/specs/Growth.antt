@@ -1,8 +1,9 @@
 -- What an insertion below a page comes to.
 use Rattle.std.specs.Prelude.{◌≡◌, ℕ, ◌+◌, ◌*◌, ◌<◌, ◌≤◌, ◌⊎◌, true, List, [], ◌∷◌, ◌++◌, length, Option, Some, None, IsSome, slice_index_or}
 use Rattle.std.specs.List.{AllByRecursion}
-use Rattle.page_store.specs.PageMap.{PageMap, at, is_written}
+use Rattle.page_store.specs.PageMap.{at, is_written}
 use Rattle.page_store.specs.FreeNumbers.{candidate}
+use Rattle.page_store.specs.declared.page_edit.PageEdit.{PageEdit}
 use Rattle.page_store.specs.CanStage.{IsTaken}
 use Rattle.btree_node.specs.declared.node.Node.{Node}
 use Rattle.btree_node.specs.Cut.{left_of, right_of}
@@ -15,8 +16,8 @@ use Rattle.btree_insert.specs.declared.tree.TreeFault.{TreeFault}
 use Rattle.btree_insert.specs.declared.tree.TreeFault.TheVariants.{Device, Damaged, Memory}
 use Rattle.btree_insert.specs.Bounds.{Over, Under}
 use Rattle.btree_insert.specs.Contents.{lookup_in, set_in}
-use Rattle.btree_insert.specs.PagesGrown.{PagesGrown}
-use Rattle.btree_insert.specs.PageTrees.{TreeAt}
+use Rattle.btree_insert.specs.PagesGrown.{PagesGrown, PagesChange}
+use Rattle.btree_insert.specs.PageTrees.{TreeAt, TreeBelow}
 
 -- the fault is not of the pages
 abbrev pub IsOutside : TreeFault → Type 0
@@ -54,13 +55,13 @@ SplitGoesUp bounds Fits = Unit {0}
 SplitGoesUp bounds (Split middle right) = IsElement middle × IsWithin bounds middle.0 × IsSon right
 
 -- a node written as page n, or cut in two around its middle key, the right half as a new page
-abbrev pub WritesOrSplits : ℕ → ℕ → List (ℕ × List ℕ) → List (ℕ × List ℕ) → ℕ → ℕ → ℕ → Node → Grown → Type 0
-WritesOrSplits k fresh writes writes' taken taken' n node (Replaced value) = ⊥
-WritesOrSplits k fresh writes writes' taken taken' n node Fits =
-    (length node.elements.items ≤ 2 * k) × (writes' ≡ writes ++ (n, spelling node k) ∷ []) × (taken' ≡ taken)
-WritesOrSplits k fresh writes writes' taken taken' n node (Split middle right) =
+abbrev pub WritesOrSplits : ℕ → ℕ → PageEdit → PageEdit → ℕ → Node → Grown → Type 0
+WritesOrSplits k fresh old new n node (Replaced value) = ⊥
+WritesOrSplits k fresh old new n node Fits =
+    (length node.elements.items ≤ 2 * k) × (new.writes.items ≡ old.writes.items ++ (n, spelling node k) ∷ []) × (new.taken ≡ old.taken)
+WritesOrSplits k fresh old new n node (Split middle right) =
     (length node.elements.items ≡ 2 * k + 1) × ((d : Element) → middle ≡ slice_index_or node.elements.items k d) × (right ≡ fresh)
-    × (writes' ≡ (writes ++ (n, spelling (left_of k node) k) ∷ []) ++ (fresh, spelling (right_of k node) k) ∷ []) × (taken' ≡ taken + 1)
+    × (new.writes.items ≡ (old.writes.items ++ (n, spelling (left_of k node) k) ∷ []) ++ (fresh, spelling (right_of k node) k) ∷ []) × (new.taken ≡ old.taken + 1)
 
 -- what an insertion that changed one page came to, by what stood at the key
 abbrev pub in_one : Option (List ℕ) → Grown
@@ -76,28 +77,28 @@ pub record WritesAs (k n : ℕ) (m : Node) (els : List Element) (writes writes' 
   pub sons : node.sons.items ≡ m.sons.items
   pub written : writes' ≡ writes ++ (n, spelling node k) ∷ []
 
--- the tree below page p now has the elements es
-pub record Whole (k : ℕ) (old new : PageMap) (fresh : ℕ → ℕ) (lo hi least h p : ℕ) (us : List ℕ) (es : List Element) : Type 0 where
+-- the tree below the page now has the elements es; before, its pages were us
+pub record Whole (below : TreeBelow) (change : PagesChange) (us : List ℕ) (es : List Element) : Type 0 where
   pub vs : List ℕ
-  pub tree : TreeAt k new least h p es vs
-  pub kept : PagesGrown old new fresh lo hi us vs
+  pub tree : TreeAt below.order change.new below.least below.height below.page es vs
+  pub kept : PagesGrown change.old change.new change.fresh change.lo change.hi us vs
 
--- the trees below page p and a new page, with the key between them, now have the elements es
-pub record Parts (k : ℕ) (old new : PageMap) (fresh : ℕ → ℕ) (lo hi h p : ℕ) (us : List ℕ) (es : List Element) (middle : Element) (right : ℕ) : Type 0 where
+-- the trees below the page and a new page, with the key between them, now have the elements es
+pub record Parts (below : TreeBelow) (change : PagesChange) (us : List ℕ) (es : List Element) (middle : Element) (right : ℕ) : Type 0 where
   pub xs : List Element
   pub ys : List Element
   pub before : List ℕ
   pub behind : List ℕ
-  pub left_tree : TreeAt k new k h p xs before
-  pub right_tree : TreeAt k new k h right ys behind
+  pub left_tree : TreeAt below.order change.new below.order below.height below.page xs before
+  pub right_tree : TreeAt below.order change.new below.order below.height right ys behind
   pub es_is : es ≡ xs ++ middle ∷ ys
-  pub kept : PagesGrown old new fresh lo hi us (before ++ behind)
+  pub kept : PagesGrown change.old change.new change.fresh change.lo change.hi us (before ++ behind)
 
--- the elements es stand below page p, or below it and a new page
-abbrev pub Grows : ℕ → PageMap → PageMap → (ℕ → ℕ) → ℕ → ℕ → ℕ → ℕ → ℕ → List ℕ → List Element → Grown → Type 0
-Grows k old new fresh lo hi least h p us es (Replaced value) = Whole k old new fresh lo hi least h p us es
-Grows k old new fresh lo hi least h p us es Fits = Whole k old new fresh lo hi least h p us es
-Grows k old new fresh lo hi least h p us es (Split middle right) = Parts k old new fresh lo hi h p us es middle right
+-- the elements es stand below the page, or below it and a new page
+abbrev pub Grows : TreeBelow → PagesChange → List ℕ → List Element → Grown → Type 0
+Grows below change us es (Replaced value) = Whole below change us es
+Grows below change us es Fits = Whole below change us es
+Grows below change us es (Split middle right) = Parts below change us es middle right
 
 -- what an insertion says of the record that stood at the key
 abbrev pub TellsOld : List ℕ → List Element → Grown → Type 0
@@ -105,7 +106,7 @@ TellsOld key es (Replaced value) = lookup_in key es ≡ Some value
 TellsOld key es Fits = lookup_in key es ≡ None
 TellsOld key es (Split middle right) = lookup_in key es ≡ None
 
--- the record stands at the key, and everything else is as it was
-pub record Grew (k : ℕ) (old new : PageMap) (fresh : ℕ → ℕ) (lo hi least h p : ℕ) (es : List Element) (us : List ℕ) (key value : List ℕ) (g : Grown) : Type 0 where
+-- the tree below the page had the elements es and the pages us; now the record stands at the key, and everything else is as it was
+pub record Grew (below : TreeBelow) (change : PagesChange) (es : List Element) (us : List ℕ) (key value : List ℕ) (g : Grown) : Type 0 where
   pub told : TellsOld key es g
-  pub grows : Grows k old new fresh lo hi least h p us (set_in key (Some value) es) g
+  pub grows : Grows below change us (set_in key (Some value) es) g

@@ -53,6 +53,16 @@ TreeOf spells fill least zero p es us = ⊥
 TreeOf spells fill least (suc h) p es us =
     (n : Node) × (below : List ℕ) × spells p n × (least ≤ length n.elements.items) × Body (TreeOf spells fill fill h) h n es below × (us ≡ p ∷ below)
 
+-- which tree: its order, how many keys its first page has at least, its height, and that page
+pub record TreeBelow : Type 0 where
+  pub order : ℕ
+  pub least : ℕ
+  pub height : ℕ
+  pub page : ℕ
+
+abbrev pub tree_below : ℕ → ℕ → ℕ → ℕ → TreeBelow
+tree_below order least height page = record { order = order; least = least; height = height; page = page }
+
 -- the tree of a root: none is the empty tree
 abbrev pub RootOf : (ℕ → Node → Type 0) → ℕ → ℕ → ℕ → List Element → List ℕ → Type 0
 RootOf spells fill zero root es us = (root ≡ 0) × (es ≡ []) × (us ≡ [])

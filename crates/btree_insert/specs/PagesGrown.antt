@@ -1,6 +1,8 @@
 -- What an edit leaves of the pages around a tree.
-use Rattle.std.specs.Prelude.{◌≡◌, ℕ, ◌+◌, ◌<◌, ◌≤◌, ◌⊎◌, List, length}
-use Rattle.page_store.specs.PageMap.{PageMap}
+use Rattle.std.specs.Prelude.{◌≡◌, ℕ, ◌+◌, ◌<◌, ◌≤◌, ◌⊎◌, List, length, Option}
+use Rattle.page_store.specs.PageMap.{PageMap, at, overlay}
+use Rattle.page_store.specs.FreeNumbers.{candidate}
+use Rattle.page_store.specs.declared.page_edit.PageEdit.{PageEdit}
 use Rattle.btree_insert.specs.PageTrees.{IsIn, Apart}
 
 -- q is one of the new numbers from place lo on and before place hi
@@ -14,3 +16,22 @@ pub record PagesGrown (old new : PageMap) (fresh : ℕ → ℕ) (lo hi : ℕ) (u
   pub stays : (q : ℕ) → IsIn q us ⊎ IsNew fresh lo hi q → IsIn q vs
   pub apart : Apart vs
   pub count : length vs + lo ≡ length us + hi
+
+-- pages before and after an edit that takes new numbers for pages: before place lo they were taken already, before place hi they are taken now
+pub record PagesChange : Type 0 where
+  pub old : PageMap
+  pub new : PageMap
+  pub fresh : ℕ → ℕ
+  pub lo : ℕ
+  pub hi : ℕ
+
+abbrev pub pages_change : PageMap → PageMap → (ℕ → ℕ) → ℕ → ℕ → PagesChange
+pages_change old new fresh lo hi = record { old = old; new = new; fresh = fresh; lo = lo; hi = hi }
+
+-- a file's pages became others, and so many new numbers were taken
+abbrev pub taking : List (Option (List ℕ)) → PageMap → ℕ → PagesChange
+taking pages new taken = pages_change (at pages) new (candidate pages) 0 taken
+
+-- a file's pages with what an edit writes now, where so many numbers were taken before
+abbrev pub edited : List (Option (List ℕ)) → ℕ → PageEdit → PagesChange
+edited pages taken edit = pages_change (at pages) (overlay (at pages) edit.writes.items) (candidate pages) taken edit.taken

@@ -2,18 +2,19 @@ ghost use Rattle.std.specs.Prelude.{◌≡◌, ◌+◌, ◌*◌, ◌<◌, ◌≤
 ghost use Rattle.std.specs.List.{list_any};
 ghost use Rattle.rec_types.specs.Table.{counted};
 ghost use Rattle.page_store.specs.FreeNumbers.{candidate};
-ghost use Rattle.page_store.specs.PageMap.{at, overlay};
+ghost use Rattle.page_store.specs.PageMap.{at};
 ghost use Rattle.btree_node.specs.Lists.{Element, Each};
 ghost use Rattle.btree_node.specs.Spelling.{spelling, CanStand, IsElement, AreSpelt};
 ghost use Rattle.btree_insert.specs.Bounds.{AreWithin, Between};
 ghost use Rattle.btree_insert.specs.declared.bounds.Bounds.{Bounds};
 ghost use Rattle.btree_insert.specs.Faults.{is_device};
 ghost use Rattle.btree_insert.specs.Growth.{IsOutside, IsWithin, MayBeOverfull, WritesFit, TakesNumbers, SplitGoesUp, WritesOrSplits, Grew};
-ghost use Rattle.btree_insert.specs.PageTrees.{TreeAt, Apart};
+ghost use Rattle.btree_insert.specs.PageTrees.{TreeAt, Apart, tree_below};
 ghost use Rattle.btree_node.specs.Layout.{IsOrder, greatest_order};
 ghost use Rattle.btree_insert.specs.Sizes.{greatest_height};
 ghost use Rattle.btree_insert.specs.Spelt.{AreSpeltIn};
 ghost use Rattle.btree_insert.specs.Steps.{IsKnown};
+ghost use Rattle.btree_insert.specs.PagesGrown.{edited};
 
 use crate::step::{Spot, Step, take_step};
 use crate::tree::TreeFault;
@@ -63,8 +64,8 @@ fn settle<S: Store>(
     requires taken { edit.old.taken ≤ 100 }
     requires in_use { IsSome (at pages.now.pages n) }
     requires fits { WritesFit pages.now.pages edit.old.writes.items edit.old.taken }
-    ensures settles { IfOk result (WritesOrSplits order (candidate pages.now.pages edit.old.taken)
-        edit.old.writes.items edit.new.writes.items edit.old.taken edit.new.taken n node) }
+    ensures settles { IfOk result
+        (WritesOrSplits order (candidate pages.now.pages edit.old.taken) edit.old edit.new n node) }
     ensures fits { OnOk result (WritesFit pages.now.pages edit.new.writes.items edit.new.taken) }
     ensures takes { IfOk result (TakesNumbers 1 edit.old.taken edit.new.taken) }
     ensures goes_up { (bounds : Bounds) → AreWithin bounds node.elements.items
@@ -132,9 +133,8 @@ pub(crate) fn insert_below<S: Store>(
         → Between spot.now.bounds es → Apart us
         → Each (λ u. list_any (λ m. m == u) visited.old.items ≡ false) us
         → MatchResult result
-        (Grew order (at pages.old.pages) (overlay (at pages.old.pages) edit.new.writes.items)
-        (candidate pages.old.pages) edit.old.taken edit.new.taken
-        least spot.now.level spot.now.page es us element.0 element.1)
+        (Grew (tree_below order least spot.now.level spot.now.page)
+        (edited pages.old.pages edit.old.taken edit.new) es us element.0 element.1)
         IsOutside }
     ensures fits { OnOk result (WritesFit pages.old.pages edit.new.writes.items edit.new.taken) }
     ensures takes { IfOk result (TakesNumbers spot.now.level edit.old.taken edit.new.taken) }

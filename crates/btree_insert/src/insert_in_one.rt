@@ -1,7 +1,6 @@
 ghost use Rattle.std.specs.Prelude.{◌≡◌, ◌*◌, ◌<◌, ◌≤◌, ◌∷◌, ◌++◌, [], ℕ, List, Some, None, Ok, length, IsSome, IfOk, IfSome, OnOk, slice_set};
 ghost use Rattle.std.specs.List.{insert};
-ghost use Rattle.page_store.specs.FreeNumbers.{candidate};
-ghost use Rattle.page_store.specs.PageMap.{at, overlay};
+ghost use Rattle.page_store.specs.PageMap.{at};
 ghost use Rattle.btree_node.specs.Layout.{IsOrder, greatest_order};
 ghost use Rattle.btree_node.specs.Lists.{Element, IsAt, IsPlace};
 ghost use Rattle.btree_node.specs.Spelling.{spelling, CanStand, IsElement, IsSpelt, AreSpelt};
@@ -9,8 +8,9 @@ ghost use Rattle.btree_node.specs.declared.node.Node.{Node};
 ghost use Rattle.btree_node.specs.declared.node.NodeKind.TheVariants.{Leaf};
 ghost use Rattle.btree_insert.specs.Bounds.{Between};
 ghost use Rattle.btree_insert.specs.Growth.{IsWithin, WritesFit, TakesNumbers, Grew, WritesAs, in_one};
-ghost use Rattle.btree_insert.specs.PageTrees.{TreeAt, Apart};
+ghost use Rattle.btree_insert.specs.PageTrees.{TreeAt, Apart, tree_below};
 ghost use Rattle.btree_insert.specs.Spelt.{AreSpeltIn};
+ghost use Rattle.btree_insert.specs.PagesGrown.{edited};
 
 use crate::insert_below::write_node;
 use crate::step::{Spot, Step, step_in_page};
@@ -48,9 +48,9 @@ pub(crate) fn insert_in_one<S: Store>(
         → TreeAt order (at pages.now.pages) least spot.now.level spot.now.page es us
         → Between spot.now.bounds es → Apart us
         → IfOk result (λ r. IfSome r (λ placed.
-        Grew order (at pages.now.pages) (overlay (at pages.now.pages) edit.new.writes.items)
-        (candidate pages.now.pages) edit.old.taken edit.new.taken
-        least spot.now.level spot.now.page es us element.0 element.1 (in_one placed.old))) }
+        Grew (tree_below order least spot.now.level spot.now.page)
+        (edited pages.now.pages edit.old.taken edit.new) es us element.0 element.1
+        (in_one placed.old))) }
     ensures none { result ≡ Ok None → edit.new ≡ edit.old }
     ensures fits { OnOk result (WritesFit pages.now.pages edit.new.writes.items edit.new.taken) }
     ensures takes { IfOk result (λ r. IfSome r (λ placed.

@@ -1,16 +1,17 @@
 ghost use Rattle.std.specs.Prelude.{◌≡◌, ◌+◌, ◌-◌, ◌<◌, ◌≤◌, ◌↔◌, ◌∷◌, ◌++◌, [], ℕ, List, None, true, IsTrue, IsSome, Ok, IfOk, IfSome, OnOk, OnErr, MatchResult, length};
 ghost use Rattle.rec_types.specs.Table.{counted};
 ghost use Rattle.page_store.specs.FreeNumbers.{candidate, count_after};
-ghost use Rattle.page_store.specs.PageMap.{at, overlay};
+ghost use Rattle.page_store.specs.PageMap.{at};
 ghost use Rattle.btree_node.specs.Lists.{Element};
 ghost use Rattle.btree_node.specs.Spelling.{spelling, CanStand, IsElement, AreSpelt};
 ghost use Rattle.btree_insert.specs.Faults.{is_device};
 ghost use Rattle.btree_insert.specs.Growth.{IsOutside, WritesFit, TakesNumbers, SplitGoesUp, Grew, in_one};
 ghost use Rattle.btree_insert.specs.Inserted.{leaf_of, root_of, Inserted, IsSmall, IsRefused};
-ghost use Rattle.btree_insert.specs.PageTrees.{Holds};
+ghost use Rattle.btree_insert.specs.PageTrees.{Holds, tree_below};
 ghost use Rattle.btree_insert.specs.Spelt.{AreSpeltIn};
 ghost use Rattle.btree_node.specs.Layout.{greatest_order};
 ghost use Rattle.btree_insert.specs.Sizes.{IsTree, greatest_count};
+ghost use Rattle.btree_insert.specs.PagesGrown.{edited, taking};
 
 use crate::bounds::Bounds;
 use crate::insert_below::{Grown, insert_below, write_node};
@@ -115,9 +116,8 @@ fn grow_tree<S: Store>(
     ensures grew { IsTrue pages.old.steady → (es : List Element) (us : List ℕ)
         → Holds (at pages.old.pages) tree.now es us
         → MatchResult result
-        (λ changed. Inserted (at pages.old.pages)
-        (overlay (at pages.old.pages) edit.new.writes.items) (candidate pages.old.pages)
-        edit.new.taken tree.now changed.tree es us element.0 element.1 changed.old)
+        (λ changed. Inserted (edited pages.old.pages 0 edit.new) tree.now es us
+        element.0 element.1 (changed.tree, changed.old))
         IsOutside }
     ensures fits { OnOk result (WritesFit pages.old.pages edit.new.writes.items edit.new.taken) }
     ensures few { OnOk result (edit.new.taken ≤ 20) }
@@ -161,9 +161,8 @@ fn grow_below<S: Store>(
     ensures grew { IsTrue pages.old.steady → (es : List Element) (us : List ℕ)
         → Holds (at pages.old.pages) tree.now es us
         → MatchResult result
-        (λ changed. Inserted (at pages.old.pages)
-        (overlay (at pages.old.pages) edit.new.writes.items) (candidate pages.old.pages)
-        edit.new.taken tree.now changed.tree es us element.0 element.1 changed.old)
+        (λ changed. Inserted (edited pages.old.pages 0 edit.new) tree.now es us
+        element.0 element.1 (changed.tree, changed.old))
         IsOutside }
     ensures fits { OnOk result (WritesFit pages.old.pages edit.new.writes.items edit.new.taken) }
     ensures few { OnOk result (edit.new.taken ≤ 20) }
@@ -214,9 +213,8 @@ fn grow_in_one<S: Store>(
     requires none_taken { edit.old.taken ≡ 0 }
     requires spelt { AreSpeltIn tree.now.order pages.now }
     ensures grew { (es : List Element) (us : List ℕ) → Holds (at pages.now.pages) tree.now es us
-        → IfOk result (λ r. IfSome r (λ changed. Inserted (at pages.now.pages)
-        (overlay (at pages.now.pages) edit.new.writes.items) (candidate pages.now.pages)
-        edit.new.taken tree.now changed.tree es us element.0 element.1 changed.old)) }
+        → IfOk result (λ r. IfSome r (λ changed. Inserted (edited pages.now.pages 0 edit.new)
+        tree.now es us element.0 element.1 (changed.tree, changed.old))) }
     ensures none { result ≡ Ok None → edit.new ≡ edit.old }
     ensures fits { OnOk result (WritesFit pages.now.pages edit.new.writes.items edit.new.taken) }
     ensures few { OnOk result (edit.new.taken ≤ 20) }
@@ -271,14 +269,11 @@ fn changed_tree<S: Store>(
     requires goes_up { SplitGoesUp (record { low = None; high = None }) grown }
     ensures grew { (es : List Element) (us key value : List ℕ)
         → Holds (at pages.now.pages) tree.now es us
-        → Grew tree.now.order (at pages.now.pages)
-        (overlay (at pages.now.pages) edit.old.writes.items) (candidate pages.now.pages)
-        0 edit.old.taken 1 tree.now.height tree.now.root es us key value grown
+        → Grew (tree_below tree.now.order 1 tree.now.height tree.now.root)
+        (edited pages.now.pages 0 edit.old) es us key value grown
         → IfOk result
-        (λ changed. Inserted (at pages.now.pages)
-        (overlay (at pages.now.pages) edit.new.writes.items)
-        (candidate pages.now.pages) edit.new.taken tree.now changed.tree es us key value
-        changed.old) }
+        (λ changed. Inserted (edited pages.now.pages 0 edit.new) tree.now es us key value
+        (changed.tree, changed.old)) }
     ensures fits { OnOk result (WritesFit pages.now.pages edit.new.writes.items edit.new.taken) }
     ensures few { OnOk result (edit.new.taken ≤ 20) }
     ensures order { IfOk result (λ changed. changed.tree.order ≡ tree.now.order) }
@@ -328,10 +323,8 @@ fn plant<S: Store>(
     requires none_taken { edit.old.taken ≡ 0 }
     ensures grew { (es : List Element) (us : List ℕ) → Holds (at pages.now.pages) tree.now es us
         → IfOk result
-        (λ changed. Inserted (at pages.now.pages)
-        (overlay (at pages.now.pages) edit.new.writes.items)
-        (candidate pages.now.pages) edit.new.taken tree.now changed.tree es us element.0
-        element.1 changed.old) }
+        (λ changed. Inserted (edited pages.now.pages 0 edit.new) tree.now es us
+        element.0 element.1 (changed.tree, changed.old)) }
     ensures fits { OnOk result (WritesFit pages.now.pages edit.new.writes.items edit.new.taken) }
     ensures few { OnOk result (edit.new.taken ≤ 20) }
     ensures order { IfOk result (λ changed. changed.tree.order ≡ tree.now.order) }
@@ -397,8 +390,8 @@ pub fn insert<S: Store>(
     ensures inserted { IsTrue pages.old.steady → (es : List Element) (us : List ℕ)
         → Holds (at pages.old.pages) tree.now es us
         → MatchResult result
-        (λ r. (taken : ℕ) × Inserted (at pages.old.pages) (at pages.new.pages)
-        (candidate pages.old.pages) taken tree.now r.0 es us key value r.1)
+        (λ r. (taken : ℕ) × Inserted (taking pages.old.pages (at pages.new.pages) taken)
+        tree.now es us key value r)
         (IsRefused pages.old.pages tree.now es us key value) }
     ensures small { IfOk result (λ r. IsSmall r.0 (length pages.new.pages)) }
     ensures page_count { IfOk result (λ r. (tree.now.used ≤ r.0.used)
@@ -435,8 +428,8 @@ pub fn insert_in_place<S: Store>(
     ensures inserted { IsTrue pages.old.steady → (es : List Element) (us : List ℕ)
         → Holds (at pages.old.pages) tree.now es us
         → MatchResult result
-        (λ r. (taken : ℕ) × Inserted (at pages.old.pages) (at pages.new.pages)
-        (candidate pages.old.pages) taken tree.now r.0 es us key value r.1)
+        (λ r. (taken : ℕ) × Inserted (taking pages.old.pages (at pages.new.pages) taken)
+        tree.now es us key value r)
         (IsRefused pages.old.pages tree.now es us key value) }
     ensures small { IfOk result (λ r. IsSmall r.0 (length pages.new.pages)) }
     ensures page_count { IfOk result (λ r. (tree.now.used ≤ r.0.used)
@@ -474,8 +467,8 @@ fn insert_from_root<S: Store>(
     ensures inserted { IsTrue pages.old.steady → (es : List Element) (us : List ℕ)
         → Holds (at pages.old.pages) tree.now es us
         → MatchResult result
-        (λ r. (taken : ℕ) × Inserted (at pages.old.pages) (at pages.new.pages)
-        (candidate pages.old.pages) taken tree.now r.0 es us key value r.1)
+        (λ r. (taken : ℕ) × Inserted (taking pages.old.pages (at pages.new.pages) taken)
+        tree.now es us key value r)
         (IsRefused pages.old.pages tree.now es us key value) }
     ensures small { IfOk result (λ r. IsSmall r.0 (length pages.new.pages)) }
     ensures page_count { IfOk result (λ r. (tree.now.used ≤ r.0.used)

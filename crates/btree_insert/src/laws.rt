@@ -12,6 +12,7 @@ ghost use Rattle.btree_insert.specs.Examples.{ax, by, cz, tree_of, three_pages, 
 ghost use Rattle.btree_insert.specs.Inserted.{Inserted};
 ghost use Rattle.btree_insert.specs.PageTrees.{Holds};
 ghost use Rattle.btree_insert.specs.declared.tree.Tree.{Tree};
+ghost use Rattle.btree_insert.specs.PagesGrown.{pages_change};
 
 /// How many keys a tree has at least and at most, by its height, and how many pages at most, by its keys.
 pub fn size_bounds()
@@ -57,12 +58,14 @@ pub fn contents_of_elements()
 pub fn contents_after_insertion()
     ensures contents { (old new : PageMap) (fresh : ℕ → ℕ) (taken : ℕ) (tree next : Tree)
         → (es : List Element) (us key value : List ℕ) (before : Option (List ℕ)) → tree.order ≤ 16
-        → Holds old tree es us → Inserted old new fresh taken tree next es us key value before
+        → Holds old tree es us
+        → Inserted (pages_change old new fresh 0 taken) tree es us key value (next, before)
         → contents_at next.order new next.height next.root
         ≡ set_to (contents_at tree.order old tree.height tree.root) key (Some value) }
     ensures answer { (old new : PageMap) (fresh : ℕ → ℕ) (taken : ℕ) (tree next : Tree)
         → (es : List Element) (us key value : List ℕ) (before : Option (List ℕ)) → tree.order ≤ 16
-        → Holds old tree es us → Inserted old new fresh taken tree next es us key value before
+        → Holds old tree es us
+        → Inserted (pages_change old new fresh 0 taken) tree es us key value (next, before)
         → before ≡ get (contents_at tree.order old tree.height tree.root) key }
 {}
 

@@ -16,9 +16,10 @@ use Rattle.btree_insert.specs.declared.insert_below.Grown.{Grown}
 use Rattle.btree_insert.specs.declared.insert_below.Grown.TheVariants.{Replaced}
 use Rattle.btree_insert.specs.Bounds.{AreWithin, Between}
 use Rattle.btree_insert.specs.Growth.{IsOutside, IsWithin, Grew, SplitGoesUp, WritesOrSplits, TakesNumbers, WritesFit}
-use Rattle.btree_insert.specs.PageTrees.{TreeAt, kind_of_level}
+use Rattle.btree_insert.specs.PageTrees.{TreeAt, kind_of_level, tree_below}
 use Rattle.btree_insert.specs.Spelt.{AreSpeltIn}
 use Rattle.btree_insert.specs.Steps.{Steps}
+use Rattle.btree_insert.specs.PagesGrown.{edited}
 use Rattle.btree_insert.proofs.EditFitLemmas.{wrote_fits, stays_within, takes_more}
 use Rattle.btree_insert.proofs.ChangedTreeLemmas.{in_use}
 use Rattle.btree_insert.proofs.VisitedLemmas.{Unvisited, unvisited_below, apart_below, candidates_free}
@@ -134,7 +135,7 @@ returns-in_ok-write_node-in-Found-clause-grew g t c = λ steady none least es us
     s.node c.replace-old.new.node c.args.element.0 c.args.element.1 c.in-Found.i x (omega (arith, c.requires.level)) none c.in_ok-write_node-in-Found.ensures.taken (candidates_free c.args.pages.now.pages) (in_use k (at c.args.pages.now.pages) least spot.level spot.page es us tree) apart head between.ascends steps.0
     (get_or_default s.node.elements.items c.in-Found.i c.args.element x steps.0.within) stands (omega (arith, size, head.least_is)) kind_is els_is sons_is c.in_ok-write_node-in-Found.ensures.writes in
     let old_is = c.replace-old.ensures.old c.args.element ∙ ap (λ (n : Node). (get_or n.elements.items c.in-Found.i c.args.element).1) filled in
-    subst (λ (old : List ℕ). Grew k (at c.args.pages.now.pages) (overlay (at c.args.pages.now.pages) c.write_node.new.edit.writes.items) (candidate c.args.pages.now.pages) c.args.edit.now.taken c.write_node.new.edit.taken least spot.level spot.page es us c.args.element.0 c.args.element.1 (Replaced old)) (sym old_is) grew
+    subst (λ (old : List ℕ). Grew (tree_below k least spot.level spot.page) (edited c.args.pages.now.pages c.args.edit.now.taken c.write_node.new.edit) es us c.args.element.0 c.args.element.1 (Replaced old)) (sym old_is) grew
 
 pub returns-in_ok-write_node-in-Found-clause-fits : goal.returns-in_ok-write_node-in-Found-clause-fits
 returns-in_ok-write_node-in-Found-clause-fits g t c =
@@ -155,10 +156,10 @@ returns-in_ok-settle-in-Ends-clause-grew g t c = λ steady none least es us tree
     let els_is = c.insert.ensures.items ∙ ap (λ (n : Node). insert n.elements.items c.in-Ends.i c.args.element) filled in
     let may_be_overfull = leaf_may_be_overfull k s.node m c.in-Ends.i c.args.element s.known.stands leaf steps.1 c.requires.element kind_is els_is (ap (λ (n : Node). n.sons.items) filled) in
     let size = ap length els_is ∙ length-insert s.node.elements.items c.in-Ends.i c.args.element steps.1.within in
-    grow_leaf k (at c.args.pages.now.pages) c.args.edit.now.writes.items c.settle.new.edit.writes.items (candidate c.args.pages.now.pages) c.args.edit.now.taken c.settle.new.edit.taken least spot.level (spot.level - 1) spot.page es us spot.bounds
+    grow_leaf k (at c.args.pages.now.pages) c.args.edit.now c.settle.new.edit (candidate c.args.pages.now.pages) least spot.level (spot.level - 1) spot.page es us spot.bounds
     s.node m c.args.element.0 c.args.element.1 c.in-Ends.i c.in_ok-settle-in-Ends.field-0 (omega (arith, c.requires.level)) (omega (arith, steps.0)) c.requires.order.0 none (candidates_free c.args.pages.now.pages) (in_use k (at c.args.pages.now.pages) least spot.level spot.page es us tree) apart head steps.1
     may_be_overfull (omega (arith, size, head.least_is)) kind_is els_is
-    (subst (λ (v : PagesView). WritesOrSplits k (candidate v.pages c.args.edit.now.taken) c.args.edit.now.writes.items c.settle.new.edit.writes.items c.args.edit.now.taken c.settle.new.edit.taken spot.page m c.in_ok-settle-in-Ends.field-0) c.take_step.ensures.unchanged c.in_ok-settle-in-Ends.ensures.settles)
+    (subst (λ (v : PagesView). WritesOrSplits k (candidate v.pages c.args.edit.now.taken) c.args.edit.now c.settle.new.edit spot.page m c.in_ok-settle-in-Ends.field-0) c.take_step.ensures.unchanged c.in_ok-settle-in-Ends.ensures.settles)
 
 pub returns-in_ok-settle-in-Ends-clause-goes_up : goal.returns-in_ok-settle-in-Ends-clause-goes_up
 returns-in_ok-settle-in-Ends-clause-goes_up g t c =
@@ -186,8 +187,8 @@ returns-in_ok-settle-in-Split-clause-grew g t c = λ steady none least es us tre
     (subst (λ q. TreeAt k (at c.args.pages.now.pages) k (spot.level - 1) q son.xs son.mine) (sym steps.2) son.here) in
     let unvisited2 = subst (λ (visited : List ℕ). Unvisited visited son.mine) (sym c.push.ensures.items) (unvisited_below c.args.visited.now.items spot.page us son.upre son.mine son.upost us_is apart unvisited) in
     let call = c.in_ok-done-in-Goes.ensures.grew (ap (λ (v : PagesView). v.steady) c.take_step.ensures.unchanged ∙ steady) none k son.xs son.mine tree2 (subst (λ b. Between b son.xs) (sym steps.3) son.between) (apart_below spot.page us son.upre son.mine son.upost us_is apart) unvisited2 in
-    let grew = subst (λ q. Grew k (at c.args.pages.now.pages) (overlay (at c.args.pages.now.pages) c.insert_below.new.edit.writes.items) (candidate c.args.pages.now.pages) c.args.edit.now.taken c.insert_below.new.edit.taken k (spot.level - 1) q son.xs son.mine c.args.element.0 c.args.element.1 c.in_ok-done-in-Goes.done) steps.2
-    (subst (λ (v : PagesView). Grew k (at v.pages) (overlay (at v.pages) c.insert_below.new.edit.writes.items) (candidate v.pages) c.args.edit.now.taken c.insert_below.new.edit.taken k (spot.level - 1) c.in-Goes.page son.xs son.mine c.args.element.0 c.args.element.1 c.in_ok-done-in-Goes.done) c.take_step.ensures.unchanged call) in
+    let grew = subst (λ q. Grew (tree_below k k (spot.level - 1) q) (edited c.args.pages.now.pages c.args.edit.now.taken c.insert_below.new.edit) son.xs son.mine c.args.element.0 c.args.element.1 c.in_ok-done-in-Goes.done) steps.2
+    (subst (λ (v : PagesView). Grew (tree_below k k (spot.level - 1) c.in-Goes.page) (edited v.pages c.args.edit.now.taken c.insert_below.new.edit) son.xs son.mine c.args.element.0 c.args.element.1 c.in_ok-done-in-Goes.done) c.take_step.ensures.unchanged call) in
     let up = subst (SplitGoesUp c.in-Goes.bounds) c.in-Split.is c.in_ok-done-in-Goes.ensures.goes_up in
     let inside = subst (λ b. IsWithin b c.in-Split.middle.0) steps.3 up.1 in
     let among = within_place s.node.elements.items c.in-Goes.i spot.bounds c.in-Split.middle.0 steps.1.within s.known.stands.ascends inside in
@@ -200,11 +201,11 @@ returns-in_ok-settle-in-Split-clause-grew g t c = λ steady none least es us tre
     let may_be_overfull = inner_may_be_overfull k s.node m c.in-Goes.i c.in-Split.right c.in-Split.middle s.known.stands inner among up.0 up.2 kind_is els_is sons_is in
     let size = ap length els_is ∙ length-insert s.node.elements.items c.in-Goes.i c.in-Split.middle among.within in
     let counted = subst (TakesNumbers (spot.level - 1) c.args.edit.now.taken c.insert_below.new.edit.taken) c.in-Split.is c.in_ok-done-in-Goes.ensures.takes in
-    grow_split k (at c.args.pages.now.pages) c.insert_below.new.edit.writes.items c.settle-in-Split.new.edit.writes.items (candidate c.args.pages.now.pages) c.args.edit.now.taken c.insert_below.new.edit.taken c.settle-in-Split.new.edit.taken least spot.level (spot.level - 1) spot.page es us spot.bounds
+    grow_split k (at c.args.pages.now.pages) c.insert_below.new.edit c.settle-in-Split.new.edit (candidate c.args.pages.now.pages) c.args.edit.now.taken least spot.level (spot.level - 1) spot.page es us spot.bounds
     s.node m c.args.element.0 c.args.element.1 c.in-Goes.i c.in-Split.middle c.in-Split.right c.in_ok-settle-in-Split.field-0 (omega (arith, c.requires.level)) (omega (arith, steps.0)) c.requires.order.0 counted.0 (candidates_free c.args.pages.now.pages) (in_use k (at c.args.pages.now.pages) least spot.level spot.page es us tree) apart head son
-    (subst (λ (r : Grown). Grew k (at c.args.pages.now.pages) (overlay (at c.args.pages.now.pages) c.insert_below.new.edit.writes.items) (candidate c.args.pages.now.pages) c.args.edit.now.taken c.insert_below.new.edit.taken k (spot.level - 1) (get_or s.node.sons.items c.in-Goes.i 0) son.xs son.mine c.args.element.0 c.args.element.1 r) c.in-Split.is grew)
+    (subst (λ (r : Grown). Grew (tree_below k k (spot.level - 1) (get_or s.node.sons.items c.in-Goes.i 0)) (edited c.args.pages.now.pages c.args.edit.now.taken c.insert_below.new.edit) son.xs son.mine c.args.element.0 c.args.element.1 r) c.in-Split.is grew)
     may_be_overfull (omega (arith, size, head.least_is)) kind_is els_is sons_is
-    (subst (λ (ps : List (Option (List ℕ))). WritesOrSplits k (candidate ps c.insert_below.new.edit.taken) c.insert_below.new.edit.writes.items c.settle-in-Split.new.edit.writes.items c.insert_below.new.edit.taken c.settle-in-Split.new.edit.taken spot.page m c.in_ok-settle-in-Split.field-0)
+    (subst (λ (ps : List (Option (List ℕ))). WritesOrSplits k (candidate ps c.insert_below.new.edit.taken) c.insert_below.new.edit c.settle-in-Split.new.edit spot.page m c.in_ok-settle-in-Split.field-0)
     (ap (λ (v : PagesView). v.pages) c.in_ok-done-in-Goes.ensures.unchanged ∙ ap (λ (v : PagesView). v.pages) c.take_step.ensures.unchanged) c.in_ok-settle-in-Split.ensures.settles)
 
 pub returns-in_ok-settle-in-Split-clause-goes_up : goal.returns-in_ok-settle-in-Split-clause-goes_up
@@ -243,8 +244,8 @@ returns-in_default g t c = record {
       (subst (λ q. TreeAt k (at c.args.pages.now.pages) k (spot.level - 1) q son.xs son.mine) (sym steps.2) son.here) in
       let unvisited2 = subst (λ (visited : List ℕ). Unvisited visited son.mine) (sym c.push.ensures.items) (unvisited_below c.args.visited.now.items spot.page us son.upre son.mine son.upost us_is apart unvisited) in
       let call = c.in_ok-done-in-Goes.ensures.grew (ap (λ (v : PagesView). v.steady) c.take_step.ensures.unchanged ∙ steady) none k son.xs son.mine tree2 (subst (λ b. Between b son.xs) (sym steps.3) son.between) (apart_below spot.page us son.upre son.mine son.upost us_is apart) unvisited2 in
-      let grew = subst (λ q. Grew k (at c.args.pages.now.pages) (overlay (at c.args.pages.now.pages) c.insert_below.new.edit.writes.items) (candidate c.args.pages.now.pages) c.args.edit.now.taken c.insert_below.new.edit.taken k (spot.level - 1) q son.xs son.mine c.args.element.0 c.args.element.1 c.in_ok-done-in-Goes.done) steps.2
-      (subst (λ (v : PagesView). Grew k (at v.pages) (overlay (at v.pages) c.insert_below.new.edit.writes.items) (candidate v.pages) c.args.edit.now.taken c.insert_below.new.edit.taken k (spot.level - 1) c.in-Goes.page son.xs son.mine c.args.element.0 c.args.element.1 c.in_ok-done-in-Goes.done) c.take_step.ensures.unchanged call) in
+      let grew = subst (λ q. Grew (tree_below k k (spot.level - 1) q) (edited c.args.pages.now.pages c.args.edit.now.taken c.insert_below.new.edit) son.xs son.mine c.args.element.0 c.args.element.1 c.in_ok-done-in-Goes.done) steps.2
+      (subst (λ (v : PagesView). Grew (tree_below k k (spot.level - 1) c.in-Goes.page) (edited v.pages c.args.edit.now.taken c.insert_below.new.edit) son.xs son.mine c.args.element.0 c.args.element.1 c.in_ok-done-in-Goes.done) c.take_step.ensures.unchanged call) in
       grow_stays k (at c.args.pages.now.pages) (overlay (at c.args.pages.now.pages) c.insert_below.new.edit.writes.items) (candidate c.args.pages.now.pages) c.args.edit.now.taken c.insert_below.new.edit.taken least spot.level (spot.level - 1) spot.page es us spot.bounds s.node c.args.element.0 c.args.element.1 c.in-Goes.i c.in_ok-done-in-Goes.done
       (omega (arith, c.requires.level)) (omega (arith, steps.0)) (candidates_free c.args.pages.now.pages) (in_use k (at c.args.pages.now.pages) least spot.level spot.page es us tree) apart head son c.in_default.not-Split grew;
   fits = subst (λ (v : PagesView). WritesFit v.pages c.insert_below.new.edit.writes.items c.insert_below.new.edit.taken) c.take_step.ensures.unchanged c.in_ok-done-in-Goes.ensures.fits;

@@ -10,8 +10,9 @@ use Rattle.btree_insert.specs.declared.insert_below.Grown.TheVariants.{Replaced,
 use Rattle.btree_insert.specs.declared.insert_in_one.Placed.{Placed}
 use Rattle.btree_insert.specs.Bounds.{Between}
 use Rattle.btree_insert.specs.Growth.{IsWithin, Grew, in_one}
-use Rattle.btree_insert.specs.PageTrees.{Spells, TreeAt, kind_of_level}
+use Rattle.btree_insert.specs.PageTrees.{Spells, TreeAt, kind_of_level, tree_below}
 use Rattle.btree_insert.specs.Steps.{Steps}
+use Rattle.btree_insert.specs.PagesGrown.{edited}
 use Rattle.btree_insert.proofs.EditFitLemmas.{wrote_fits}
 use Rattle.btree_insert.proofs.ChangedTreeLemmas.{in_use}
 use Rattle.btree_insert.proofs.VisitedLemmas.{apart_below, candidates_free}
@@ -49,7 +50,7 @@ returns-in_ok-write_replaced-in-Found-clause-grew g t c = λ none least es us tr
     let grew = grow_replaced k (at c.args.pages.now.pages) c.args.edit.now.writes.items c.write_replaced.new.edit.writes.items (candidate c.args.pages.now.pages) c.args.edit.now.taken c.write_replaced.new.edit.taken least spot.level (spot.level - 1) spot.page es us spot.bounds
     n wrote.node c.args.element.0 c.args.element.1 c.in-Found.i x (omega (arith, c.requires.level)) none c.in_ok-write_replaced-in-Found.ensures.taken (candidates_free c.args.pages.now.pages) (in_use k (at c.args.pages.now.pages) least spot.level spot.page es us tree) apart head between.ascends steps.0
     (get_or_default n.elements.items c.in-Found.i c.args.element x steps.0.within) wrote.stands (omega (arith, size, head.least_is)) wrote.kind wrote.elements wrote.sons wrote.written in
-    subst (λ (old : List ℕ). Grew k (at c.args.pages.now.pages) (overlay (at c.args.pages.now.pages) c.write_replaced.new.edit.writes.items) (candidate c.args.pages.now.pages) c.args.edit.now.taken c.write_replaced.new.edit.taken least spot.level spot.page es us c.args.element.0 c.args.element.1 (Replaced old)) (sym (steps.1 c.args.element)) grew
+    subst (λ (old : List ℕ). Grew (tree_below k least spot.level spot.page) (edited c.args.pages.now.pages c.args.edit.now.taken c.write_replaced.new.edit) es us c.args.element.0 c.args.element.1 (Replaced old)) (sym (steps.1 c.args.element)) grew
 
 pub returns-in_ok-write_replaced-in-Found-clause-fits : goal.returns-in_ok-write_replaced-in-Found-clause-fits
 returns-in_ok-write_replaced-in-Found-clause-fits g t c =
@@ -83,7 +84,7 @@ returns-in_ok-write_inserted-in-Ends-clause-grew g t c = λ none least es us tre
     let leaf : n.kind ≡ Leaf = told.0.kind ∙ ap kind_of_level steps.0 in
     let may_be_overfull = leaf_may_be_overfull k n wrote.node c.in-Ends.i c.args.element spelt.1 leaf steps.1 c.requires.element wrote.kind wrote.elements wrote.sons in
     let size = ap length wrote.elements ∙ length-insert n.elements.items c.in-Ends.i c.args.element steps.1.within in
-    grow_leaf k (at c.args.pages.now.pages) c.args.edit.now.writes.items c.write_inserted.new.edit.writes.items (candidate c.args.pages.now.pages) c.args.edit.now.taken c.write_inserted.new.edit.taken least spot.level (spot.level - 1) spot.page es us spot.bounds
+    grow_leaf k (at c.args.pages.now.pages) c.args.edit.now c.write_inserted.new.edit (candidate c.args.pages.now.pages) least spot.level (spot.level - 1) spot.page es us spot.bounds
     n wrote.node c.args.element.0 c.args.element.1 c.in-Ends.i Fits (omega (arith, c.requires.level)) (omega (arith, steps.0)) c.requires.order.0 none (candidates_free c.args.pages.now.pages) (in_use k (at c.args.pages.now.pages) least spot.level spot.page es us tree) apart head steps.1
     may_be_overfull (omega (arith, size, head.least_is)) wrote.kind wrote.elements (wrote.stands.most, wrote.written, c.in_ok-write_inserted-in-Ends.ensures.taken)
 
@@ -112,10 +113,10 @@ returns-in-Goes-clause-grew g t c = λ none least es us tree between apart.
     let us_is = head.us_is ∙ ap (λ vs. spot.page ∷ vs) son.us_is in
     let here = subst (λ q. TreeAt k (at c.args.pages.now.pages) k (spot.level - 1) q son.xs son.mine) (sym steps.2) son.here in
     let call = c.insert_in_one.ensures.grew none k son.xs son.mine here (subst (λ b. Between b son.xs) (sym steps.3) son.between) (apart_below spot.page us son.upre son.mine son.upost us_is apart) in
-    if_ok c.insert_in_one.result (λ r. IfSome r (λ (placed : Placed). Grew k (at c.args.pages.now.pages) (overlay (at c.args.pages.now.pages) c.insert_in_one.new.edit.writes.items) (candidate c.args.pages.now.pages) c.args.edit.now.taken c.insert_in_one.new.edit.taken k (spot.level - 1) c.in-Goes.son son.xs son.mine c.args.element.0 c.args.element.1 (in_one placed.old)))
-    (λ r. IfSome r (λ (placed : Placed). Grew k (at c.args.pages.now.pages) (overlay (at c.args.pages.now.pages) c.insert_in_one.new.edit.writes.items) (candidate c.args.pages.now.pages) c.args.edit.now.taken c.insert_in_one.new.edit.taken least spot.level spot.page es us c.args.element.0 c.args.element.1 (in_one placed.old)))
-    (λ r. if_some r (λ (placed : Placed). Grew k (at c.args.pages.now.pages) (overlay (at c.args.pages.now.pages) c.insert_in_one.new.edit.writes.items) (candidate c.args.pages.now.pages) c.args.edit.now.taken c.insert_in_one.new.edit.taken k (spot.level - 1) c.in-Goes.son son.xs son.mine c.args.element.0 c.args.element.1 (in_one placed.old))
-    (λ (placed : Placed). Grew k (at c.args.pages.now.pages) (overlay (at c.args.pages.now.pages) c.insert_in_one.new.edit.writes.items) (candidate c.args.pages.now.pages) c.args.edit.now.taken c.insert_in_one.new.edit.taken least spot.level spot.page es us c.args.element.0 c.args.element.1 (in_one placed.old))
+    if_ok c.insert_in_one.result (λ r. IfSome r (λ (placed : Placed). Grew (tree_below k k (spot.level - 1) c.in-Goes.son) (edited c.args.pages.now.pages c.args.edit.now.taken c.insert_in_one.new.edit) son.xs son.mine c.args.element.0 c.args.element.1 (in_one placed.old)))
+    (λ r. IfSome r (λ (placed : Placed). Grew (tree_below k least spot.level spot.page) (edited c.args.pages.now.pages c.args.edit.now.taken c.insert_in_one.new.edit) es us c.args.element.0 c.args.element.1 (in_one placed.old)))
+    (λ r. if_some r (λ (placed : Placed). Grew (tree_below k k (spot.level - 1) c.in-Goes.son) (edited c.args.pages.now.pages c.args.edit.now.taken c.insert_in_one.new.edit) son.xs son.mine c.args.element.0 c.args.element.1 (in_one placed.old))
+    (λ (placed : Placed). Grew (tree_below k least spot.level spot.page) (edited c.args.pages.now.pages c.args.edit.now.taken c.insert_in_one.new.edit) es us c.args.element.0 c.args.element.1 (in_one placed.old))
     (λ placed grew. grow_stays k (at c.args.pages.now.pages) (overlay (at c.args.pages.now.pages) c.insert_in_one.new.edit.writes.items) (candidate c.args.pages.now.pages) c.args.edit.now.taken c.insert_in_one.new.edit.taken least spot.level (spot.level - 1) spot.page es us spot.bounds n c.args.element.0 c.args.element.1 c.in-Goes.field-0 (in_one placed.old)
     (omega (arith, c.requires.level)) (omega (arith, steps.0)) (candidates_free c.args.pages.now.pages) (in_use k (at c.args.pages.now.pages) least spot.level spot.page es us tree) apart head son (never_split placed.old)
-    (subst (λ q. Grew k (at c.args.pages.now.pages) (overlay (at c.args.pages.now.pages) c.insert_in_one.new.edit.writes.items) (candidate c.args.pages.now.pages) c.args.edit.now.taken c.insert_in_one.new.edit.taken k (spot.level - 1) q son.xs son.mine c.args.element.0 c.args.element.1 (in_one placed.old)) steps.2 grew))) call
+    (subst (λ q. Grew (tree_below k k (spot.level - 1) q) (edited c.args.pages.now.pages c.args.edit.now.taken c.insert_in_one.new.edit) son.xs son.mine c.args.element.0 c.args.element.1 (in_one placed.old)) steps.2 grew))) call

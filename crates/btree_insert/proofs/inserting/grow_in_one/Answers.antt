@@ -1,9 +1,10 @@
 use Rattle.std.proofs.Common.{ℕ, Option, IfSome, sym, subst}
-use Rattle.page_store.specs.FreeNumbers.{candidate}
-use Rattle.page_store.specs.PageMap.{at, overlay}
+use Rattle.page_store.specs.PageMap.{at}
 use Rattle.btree_insert.specs.declared.insert_below.Grown.{Grown}
 use Rattle.btree_insert.specs.declared.insert_in_one.Placed.{Placed}
 use Rattle.btree_insert.specs.Growth.{Grew, in_one}
+use Rattle.btree_insert.specs.PageTrees.{tree_below}
+use Rattle.btree_insert.specs.PagesGrown.{edited}
 use Rattle.btree_insert.proofs.BoundLemmas.{Between-all}
 use Rattle.btree_insert.proofs.HeadNodeLemmas.{root_tree}
 use Rattle.btree_insert.proofs.inserting.grow_in_one.Goals as goal
@@ -12,7 +13,7 @@ pub returns-clause-grew : goal.returns-clause-grew
 returns-clause-grew g c = λ es us holds.
     let tree = root_tree c.args.tree.now.order (at c.args.pages.now.pages) c.args.tree.now.height c.args.tree.now.root es us c.requires.height holds.tree in
     let call = c.in_ok-placed.ensures.grew c.requires.empty 1 es us tree (Between-all es holds.ascends) holds.apart in
-    let some = subst (λ (o : Option Placed). IfSome o (λ placed. Grew c.args.tree.now.order (at c.args.pages.now.pages) (overlay (at c.args.pages.now.pages) c.insert_in_one.new.edit.writes.items) (candidate c.args.pages.now.pages) c.args.edit.now.taken c.insert_in_one.new.edit.taken 1 c.args.tree.now.height c.args.tree.now.root es us c.args.element.0 c.args.element.1 (in_one placed.old))) c.in-Some.is call in
-    let grew = subst (λ (r : Grown). Grew c.args.tree.now.order (at c.args.pages.now.pages) (overlay (at c.args.pages.now.pages) c.insert_in_one.new.edit.writes.items) (candidate c.args.pages.now.pages) c.args.edit.now.taken c.insert_in_one.new.edit.taken 1 c.args.tree.now.height c.args.tree.now.root es us c.args.element.0 c.args.element.1 r) (sym c.grown_in_one.ensures) some in
-    let from_none = subst (λ (l : ℕ). Grew c.args.tree.now.order (at c.args.pages.now.pages) (overlay (at c.args.pages.now.pages) c.insert_in_one.new.edit.writes.items) (candidate c.args.pages.now.pages) l c.insert_in_one.new.edit.taken 1 c.args.tree.now.height c.args.tree.now.root es us c.args.element.0 c.args.element.1 c.grown_in_one.result) c.requires.none_taken grew in
+    let some = subst (λ (o : Option Placed). IfSome o (λ placed. Grew (tree_below c.args.tree.now.order 1 c.args.tree.now.height c.args.tree.now.root) (edited c.args.pages.now.pages c.args.edit.now.taken c.insert_in_one.new.edit) es us c.args.element.0 c.args.element.1 (in_one placed.old))) c.in-Some.is call in
+    let grew = subst (λ (r : Grown). Grew (tree_below c.args.tree.now.order 1 c.args.tree.now.height c.args.tree.now.root) (edited c.args.pages.now.pages c.args.edit.now.taken c.insert_in_one.new.edit) es us c.args.element.0 c.args.element.1 r) (sym c.grown_in_one.ensures) some in
+    let from_none = subst (λ (l : ℕ). Grew (tree_below c.args.tree.now.order 1 c.args.tree.now.height c.args.tree.now.root) (edited c.args.pages.now.pages l c.insert_in_one.new.edit) es us c.args.element.0 c.args.element.1 c.grown_in_one.result) c.requires.none_taken grew in
     c.in_ok-changed.ensures.grew es us c.args.element.0 c.args.element.1 holds from_none

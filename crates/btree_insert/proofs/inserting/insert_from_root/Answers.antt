@@ -5,6 +5,7 @@ use Rattle.page_store.specs.PageMap.{at, overlay}
 use Rattle.btree_node.specs.Lists.{Element}
 use Rattle.btree_insert.specs.Growth.{WritesFit}
 use Rattle.btree_insert.specs.Inserted.{Inserted}
+use Rattle.btree_insert.specs.PagesGrown.{edited}
 use Rattle.btree_insert.proofs.InsertionLemmas.{inserted_at, can_stage, after_writes}
 use Rattle.btree_insert.proofs.SpeltLemmas.{spelt_staged, spelt_unchanged}
 use Rattle.btree_node.specs.Spelling.{AreSpelt}
@@ -21,7 +22,7 @@ pub returns-clause-inserted : goal.returns-clause-inserted
 returns-clause-inserted g c = λ steady es us holds.
     let pages_is = ap (λ (v : PagesView). v.pages) c.in_ok-changed.ensures.unchanged in
     let none = ap (λ v. v.items) c.in_ok-changed.ensures.freed ∙ c.new-2.ensures.items in
-    let done = subst (λ (e : Element). Inserted (at c.args.pages.now.pages) (overlay (at c.args.pages.now.pages) c.grow_tree.new.edit.writes.items) (candidate c.args.pages.now.pages) c.grow_tree.new.edit.taken c.args.tree.now c.in_ok-changed.changed.tree es us e.0 e.1 c.in_ok-changed.changed.old)
+    let done = subst (λ (e : Element). Inserted (edited c.args.pages.now.pages 0 c.grow_tree.new.edit) c.args.tree.now es us e.0 e.1 (c.in_ok-changed.changed.tree, c.in_ok-changed.changed.old))
     c.element_of.ensures.value (c.in_ok-changed.ensures.grew steady es us holds) in
     let same : (q : ℕ) → overlay (at c.args.pages.now.pages) c.grow_tree.new.edit.writes.items q ≡ at c.stage.new.self.pages q =
     λ q. sym (c.in_ok-stage.ensures.pages q ∙ after_writes (at c.grow_tree.new.pages.pages) c.grow_tree.new.edit.writes.items c.grow_tree.new.edit.freed.items q none ∙ ap (λ (ps : List (Option (List ℕ))). overlay (at ps) c.grow_tree.new.edit.writes.items q) pages_is) in
