@@ -12,7 +12,8 @@ use Rattle.btree_insert.specs.PageTrees.{IsIn, Apart, Fan, TreeAt, Spells}
 use Rattle.btree_insert.proofs.Membership.{in_left, in_right, Apart-left, Apart-right}
 use Rattle.btree_insert.proofs.SettledTreeLemmas.{write_here, write_other}
 use Rattle.btree_insert.proofs.HeadNodeLemmas.{Top, top}
-use Rattle.btree_delete.specs.Treatment.{element_at, son_at, both, Catenates, Distributes, Treats}
+use Rattle.btree_delete.specs.Treatment.{element_at, son_at, both, Catenates, Distributes, Treats, brothers}
+use Rattle.btree_delete.specs.Tidy.{done_so_far}
 use Rattle.btree_delete.proofs.EditedPagesLemmas.{after_write, after_free, free_here, free_other, free_page}
 use Rattle.btree_delete.proofs.SonsLemmas.{IsBeside, Kin, IsKept, kin_kept, kin_head, kin_is_underfull, kin_is_beside, Part, across}
 use Rattle.btree_delete.proofs.UnderflowLemmas.{Treated, catenated, distributed}
@@ -25,7 +26,7 @@ same_map old new is q = ap (λ (m : PageMap). m q) (sym is)
 treated_few : (k : ℕ) (old : PageMap) (visited : List ℕ) (h s : ℕ) (node : Node) (F G L R : Node) (j : ℕ) (ws ws2 : List (ℕ × List ℕ)) (fs fs2 : List ℕ) (es : List Element) (us : List ℕ) (b : Bounds) → Apart us
     → (at : Pair (Kin k old (after old ws fs) visited h s node) (TreeAt k (after old ws2 fs2) k (suc h)) (IsKept (after old ws fs) (after old ws2 fs2) s) F.sons.items F.elements.items es us j b)
     → Part k (after old ws fs) h (son_at F j) L at.xs at.lefts → Part k (after old ws fs) h (son_at F (suc j)) R at.ys at.rights → IsIn s (at.lefts ++ at.rights) → (son_at F j ≡ son_at F (suc j) → ⊥)
-    → k ≤ keys_of_both L R → is_freed fs (son_at F j) ≡ false → Catenates k F G j L R ws ws2 fs fs2 → Treated k (after old ws fs) (after old ws2 fs2) (length fs) (length fs2) h G es us
+    → k ≤ keys_of_both L R → is_freed fs (son_at F j) ≡ false → Catenates k F G (brothers j L R) (done_so_far ws fs) (done_so_far ws2 fs2) → Treated k (after old ws fs) (after old ws2 fs2) (length fs) (length fs2) h G es us
 treated_few k old visited h s node F G L R j ws ws2 fs fs2 es us b apart at left right s_in other least left_kept done =
     let p = son_at F j in
     let r = son_at F (suc j) in
@@ -43,7 +44,7 @@ treated_few k old visited h s node F G L R j ws ws2 fs fs2 es us b apart at left
 treated_many : (k : ℕ) (old : PageMap) (visited : List ℕ) (h s : ℕ) (node : Node) (F G L R : Node) (j : ℕ) (ws ws2 : List (ℕ × List ℕ)) (fs fs2 : List ℕ) (es : List Element) (us : List ℕ) (b : Bounds) → 1 ≤ k → Apart us
     → (at : Pair (Kin k old (after old ws fs) visited h s node) (TreeAt k (after old ws2 fs2) k (suc h)) (IsKept (after old ws fs) (after old ws2 fs2) s) F.sons.items F.elements.items es us j b)
     → Part k (after old ws fs) h (son_at F j) L at.xs at.lefts → Part k (after old ws fs) h (son_at F (suc j)) R at.ys at.rights → IsIn s (at.lefts ++ at.rights) → (son_at F j ≡ son_at F (suc j) → ⊥)
-    → is_freed fs (son_at F j) ≡ false → is_freed fs (son_at F (suc j)) ≡ false → Distributes k F G j L R ws ws2 fs fs2 → Treated k (after old ws fs) (after old ws2 fs2) (length fs) (length fs2) h G es us
+    → is_freed fs (son_at F j) ≡ false → is_freed fs (son_at F (suc j)) ≡ false → Distributes k F G (brothers j L R) (done_so_far ws fs) (done_so_far ws2 fs2) → Treated k (after old ws fs) (after old ws2 fs2) (length fs) (length fs2) h G es us
 treated_many k old visited h s node F G L R j ws ws2 fs fs2 es us b order apart at left right s_in other left_kept right_kept done =
     let p = son_at F j in
     let r = son_at F (suc j) in
@@ -66,7 +67,7 @@ treated_many k old visited h s node F G L R j ws ws2 fs fs2 es us b order apart 
 treated_by : (k : ℕ) (old : PageMap) (visited : List ℕ) (h s : ℕ) (node : Node) (F G L R : Node) (j : ℕ) (ws ws2 : List (ℕ × List ℕ)) (fs fs2 : List ℕ) (es : List Element) (us : List ℕ) (b : Bounds) → 1 ≤ k → Apart us
     → (at : Pair (Kin k old (after old ws fs) visited h s node) (TreeAt k (after old ws2 fs2) k (suc h)) (IsKept (after old ws fs) (after old ws2 fs2) s) F.sons.items F.elements.items es us j b)
     → Part k (after old ws fs) h (son_at F j) L at.xs at.lefts → Part k (after old ws fs) h (son_at F (suc j)) R at.ys at.rights → IsIn s (at.lefts ++ at.rights) → (son_at F j ≡ son_at F (suc j) → ⊥)
-    → k ≤ keys_of_both L R → is_freed fs (son_at F j) ≡ false → is_freed fs (son_at F (suc j)) ≡ false → Treats k F G j L R ws ws2 fs fs2 → Treated k (after old ws fs) (after old ws2 fs2) (length fs) (length fs2) h G es us
+    → k ≤ keys_of_both L R → is_freed fs (son_at F j) ≡ false → is_freed fs (son_at F (suc j)) ≡ false → Treats k F G (brothers j L R) (done_so_far ws fs) (done_so_far ws2 fs2) → Treated k (after old ws fs) (after old ws2 fs2) (length fs) (length fs2) h G es us
 treated_by k old visited h s node F G L R j ws ws2 fs fs2 es us b order apart at left right s_in other least left_kept right_kept (inl done) =
     treated_few k old visited h s node F G L R j ws ws2 fs fs2 es us b apart at left right s_in other least left_kept done
 treated_by k old visited h s node F G L R j ws ws2 fs fs2 es us b order apart at left right s_in other least left_kept right_kept (inr done) =
@@ -106,7 +107,7 @@ right_brother k old mid new visited h s node F es us b i s_is low apart between 
 
 -- an underflow treated with the brother on the right
 pub treated_right : (k : ℕ) (old : PageMap) (visited : List ℕ) (h s : ℕ) (node F G : Node) (ws ws2 : List (ℕ × List ℕ)) (fs fs2 : List ℕ) (es : List Element) (us : List ℕ) (b : Bounds) (i : ℕ) → 1 ≤ k → s ≡ son_at F i → Apart us
-    → is_freed fs (son_at F i) ≡ false → is_freed fs (son_at F (suc i)) ≡ false → (br : RightBrother k old (after old ws fs) (after old ws2 fs2) visited h s node F es us b i) → Treats k F G i node br.n ws ws2 fs fs2 → Treated k (after old ws fs) (after old ws2 fs2) (length fs) (length fs2) h G es us
+    → is_freed fs (son_at F i) ≡ false → is_freed fs (son_at F (suc i)) ≡ false → (br : RightBrother k old (after old ws fs) (after old ws2 fs2) visited h s node F es us b i) → Treats k F G (brothers i node br.n) (done_so_far ws fs) (done_so_far ws2 fs2) → Treated k (after old ws fs) (after old ws2 fs2) (length fs) (length fs2) h G es us
 treated_right k old visited h s node F G ws ws2 fs fs2 es us b i order s_is apart left_kept right_kept br done =
     let mid = after old ws fs in
     let at = br.at in
@@ -147,7 +148,7 @@ left_brother k old mid new visited h s node F es us b j s_is low apart between f
 
 -- an underflow treated with the brother on the left
 pub treated_left : (k : ℕ) (old : PageMap) (visited : List ℕ) (h s : ℕ) (node F G : Node) (ws ws2 : List (ℕ × List ℕ)) (fs fs2 : List ℕ) (es : List Element) (us : List ℕ) (b : Bounds) (j : ℕ) → 1 ≤ k → s ≡ son_at F (suc j) → Apart us
-    → is_freed fs (son_at F j) ≡ false → is_freed fs (son_at F (suc j)) ≡ false → (br : LeftBrother k old (after old ws fs) (after old ws2 fs2) visited h s node F es us b j) → Treats k F G j br.n node ws ws2 fs fs2 → Treated k (after old ws fs) (after old ws2 fs2) (length fs) (length fs2) h G es us
+    → is_freed fs (son_at F j) ≡ false → is_freed fs (son_at F (suc j)) ≡ false → (br : LeftBrother k old (after old ws fs) (after old ws2 fs2) visited h s node F es us b j) → Treats k F G (brothers j br.n node) (done_so_far ws fs) (done_so_far ws2 fs2) → Treated k (after old ws fs) (after old ws2 fs2) (length fs) (length fs2) h G es us
 treated_left k old visited h s node F G ws ws2 fs fs2 es us b j order s_is apart left_kept right_kept br done =
     let mid = after old ws fs in
     let at = br.at in

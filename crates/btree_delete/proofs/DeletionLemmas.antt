@@ -21,7 +21,9 @@ use Rattle.btree_delete.specs.declared.delete_below.Shrunk.{Shrunk}
 use Rattle.btree_delete.specs.declared.delete_below.Shrunk.TheVariants.{Whole, Underfull}
 use Rattle.btree_delete.specs.Treatment.{element_at, son_at}
 use Rattle.btree_delete.specs.Shrinking.{MayBeUnderfull, WritesOrHandsUp, Loses, gone, StaysUnvisited, Drops, RemovesBelow, unsettled}
-use Rattle.btree_delete.specs.Tidy.{is_visited, Untouched}
+use Rattle.btree_delete.specs.Tidy.{is_visited, Untouched, visits}
+use Rattle.btree_delete.specs.Subtrees.{head_page}
+use Rattle.btree_delete.specs.PagesLeft.{pages_freed}
 use Rattle.btree_delete.proofs.SonsLemmas.{IsBeside, Kin, kin_underfull}
 use Rattle.btree_delete.proofs.PagesLeftLemmas.{loses_around}
 use Rattle.btree_delete.proofs.BrotherPairLemmas.{Next}
@@ -70,7 +72,7 @@ key_gone k p ws ws2 e x m g key done e_is key_is = ap (λ (y : Element). y.0) (s
 -- out of a leaf
 pub drop_leaf : (k : ℕ) (old : PageMap) (ws ws2 : List (ℕ × List ℕ)) (fs : List ℕ) (least height h p : ℕ) (es : List Element) (us : List ℕ) (b c : Bounds) (n m : Node) (i : ℕ) (e : Element) (g : Shrunk) (visited : List ℕ) → h ≡ 0 → 1 ≤ k → least ≤ k → ws ≡ [] → fs ≡ [] → Apart us → Between b es → Top k old least height h p es us b n
     → MayBeUnderfull k height c m → Ascends n.elements.items → i < length n.elements.items → e ≡ element_at n i → m.kind ≡ n.kind → m.elements.items ≡ remove n.elements.items i → WritesOrHandsUp k ws ws2 p e m g
-    → RemovesBelow k old (after old ws2 fs) 0 (length fs) least h p es us visited visited (element_at n i).0 (Some g)
+    → RemovesBelow (head_page k least h p) (pages_freed old (after old ws2 fs) 0 (length fs)) es us (visits visited visited) (element_at n i).0 (Some g)
 drop_leaf k old ws ws2 fs least height (suc h) p es us b c n m i e g visited is order low no_writes none_freed apart between head may_be_underfull up within e_is kind_is els_is done = absurd (omega arith)
 drop_leaf k old ws ws2 fs least height zero p es us b c n m i e g visited is order low no_writes none_freed apart between head may_be_underfull up within e_is kind_is els_is done =
     let key = (element_at n i).0 in
@@ -103,7 +105,7 @@ pub next_whole : (k : ℕ) (old : PageMap) (ws ws2 : List (ℕ × List ℕ)) (fs
     → (at : Next (TreeAt k old k (suc h)) (TreeAt k (after old ws fs) k (suc h)) (λ q. after old ws fs q ≡ old q) n.sons.items n.elements.items es head.below (element_at n i).0 i b (element_at n i))
     → Takes k old (after old ws fs) 0 (length fs) k h (son_at n (suc i)) at.xs at.mine visited visited2 (Whole nx)
     → MayBeUnderfull k height c m → e ≡ element_at n i → m.kind ≡ n.kind → m.elements.items ≡ set n.elements.items i nx → m.sons.items ≡ n.sons.items → Untouched ws fs p → WritesOrHandsUp k ws ws2 p e m g
-    → RemovesBelow k old (after old ws2 fs) 0 (length fs) least (suc h) p es us visited visited2 (element_at n i).0 (Some g)
+    → RemovesBelow (head_page k least (suc h) p) (pages_freed old (after old ws2 fs) 0 (length fs)) es us (visits visited visited2) (element_at n i).0 (Some g)
 next_whole k old ws ws2 fs least height h p es us b c n m i e nx g visited visited2 order low apart between head at took may_be_underfull e_is kind_is els_is sons_is untouched done =
     let mid = after old ws fs in
     let key = (element_at n i).0 in
@@ -152,7 +154,7 @@ next_broken k old ws fs least height h p es us b n m i nx son visited visited2 a
 pub drop_treated : (k : ℕ) (old : PageMap) (ws ws3 : List (ℕ × List ℕ)) (fs fs2 : List ℕ) (least height h p s : ℕ) (es : List Element) (us : List ℕ) (b : Bounds) (F son : Node) (e x : Element) (g : Shrunk) (visited2 visited3 key : List ℕ) → 1 ≤ k → least ≤ k
     → (broken : Broken k old (after old ws fs) visited2 0 (length fs) h p s son F (set_in key None es) us) → (done : SettledSon k height b old (after old ws fs) (length fs) h p (set_in key None es) visited2 visited3 broken.mids e ws3 fs2 g)
     → kind_of_level height ≡ Inner → e ≡ x → x.0 ≡ key → lookup_in key es ≡ Some x.1
-    → Drops k old (after old ws3 fs2) 0 (length fs2) least (suc h) p es us key (Some g)
+    → Drops (head_page k least (suc h) p) (pages_freed old (after old ws3 fs2) 0 (length fs2)) es us key (Some g)
 drop_treated k old ws ws3 fs fs2 least height h p s es us b F son e x g visited2 visited3 key order low broken done inner e_is key_is found =
     let ws2 = unsettled g ws3 in (
       key_gone k p ws2 ws3 e x done.G g key done.settles e_is key_is,
@@ -163,7 +165,7 @@ drop_treated k old ws ws3 fs fs2 least height h p s es us b F son e x g visited2
 -- below a son, which needs no treating
 pub drop_whole : (k : ℕ) (old : PageMap) (ws : List (ℕ × List ℕ)) (fs : List ℕ) (least height h p : ℕ) (es : List Element) (us : List ℕ) (b : Bounds) (n : Node) (i : ℕ) (e : Element) (visited visited2 key : List ℕ) → Apart us → (head : Top k old least height (suc h) p es us b n)
     → (at : Focus (TreeAt k old k (suc h)) (TreeAt k (after old ws fs) k (suc h)) (λ q. after old ws fs q ≡ old q) n.sons.items n.elements.items es head.below key i b)
-    → RemovesBelow k old (after old ws fs) 0 (length fs) k h (son_at n i) at.xs at.mine (visited ++ p ∷ []) visited2 key (Some (Whole e)) → RemovesBelow k old (after old ws fs) 0 (length fs) least (suc h) p es us visited visited2 key (Some (Whole e))
+    → RemovesBelow (head_page k k h (son_at n i)) (pages_freed old (after old ws fs) 0 (length fs)) at.xs at.mine (visits (visited ++ p ∷ []) visited2) key (Some (Whole e)) → RemovesBelow (head_page k least (suc h) p) (pages_freed old (after old ws fs) 0 (length fs)) es us (visits visited visited2) key (Some (Whole e))
 drop_whole k old ws fs least height h p es us b n i e visited visited2 key apart head at removed =
     let mid = after old ws fs in
     let us_is : us ≡ p ∷ (at.upre ++ (at.mine ++ at.upost)) = head.us_is ∙ ap (λ vs. p ∷ vs) at.us_is in
@@ -188,7 +190,7 @@ drop_whole k old ws fs least height h p es us b n i e visited visited2 key apart
 -- not below a son
 pub drop_none : (k : ℕ) (old new : PageMap) (lo hi least height h p : ℕ) (es : List Element) (us : List ℕ) (b : Bounds) (n : Node) (i : ℕ) (visited visited2 key : List ℕ) → (head : Top k old least height (suc h) p es us b n)
     → (at : Focus (TreeAt k old k (suc h)) (TreeAt k old k (suc h)) (λ q. Unit {0}) n.sons.items n.elements.items es head.below key i b)
-    → RemovesBelow k old new lo hi k h (son_at n i) at.xs at.mine (visited ++ p ∷ []) visited2 key None → RemovesBelow k old new lo hi least (suc h) p es us visited visited2 key None
+    → RemovesBelow (head_page k k h (son_at n i)) (pages_freed old new lo hi) at.xs at.mine (visits (visited ++ p ∷ []) visited2) key None → RemovesBelow (head_page k least (suc h) p) (pages_freed old new lo hi) es us (visits visited visited2) key None
 drop_none k old new lo hi least height h p es us b n i visited visited2 key head at removed =
     let us_is : us ≡ p ∷ (at.upre ++ (at.mine ++ at.upost)) = head.us_is ∙ ap (λ vs. p ∷ vs) at.us_is in
     record {
@@ -199,7 +201,7 @@ drop_none k old new lo hi least height h p es us b n i visited visited2 key head
 -- below a son, which is underfull now
 pub drop_broken : (k : ℕ) (old : PageMap) (ws : List (ℕ × List ℕ)) (fs : List ℕ) (least height h p : ℕ) (es : List Element) (us : List ℕ) (b : Bounds) (n : Node) (i : ℕ) (e : Element) (son : Node) (visited visited2 key : List ℕ) → Apart us → (head : Top k old least height (suc h) p es us b n)
     → (at : Focus (TreeAt k old k (suc h)) (Kin k old (after old ws fs) visited2 h (son_at n i) son) (IsBeside old (after old ws fs) visited2 (son_at n i)) n.sons.items n.elements.items es head.below key i b)
-    → Each (λ u. is_visited visited u ≡ false) us → RemovesBelow k old (after old ws fs) 0 (length fs) k h (son_at n i) at.xs at.mine (visited ++ p ∷ []) visited2 key (Some (Underfull e son))
+    → Each (λ u. is_visited visited u ≡ false) us → RemovesBelow (head_page k k h (son_at n i)) (pages_freed old (after old ws fs) 0 (length fs)) at.xs at.mine (visits (visited ++ p ∷ []) visited2) key (Some (Underfull e son))
     → Broken k old (after old ws fs) visited2 0 (length fs) h p (son_at n i) son n (set_in key None es) us × (lookup_in key es ≡ Some e.1) × (e.0 ≡ key)
 drop_broken k old ws fs least height h p es us b n i e son visited visited2 key apart head at unvisited removed =
     let mid = after old ws fs in
@@ -232,11 +234,11 @@ each_mid P us upre mine upost us_is each = each_in P mine (λ q is. in_each P us
 
 -- what was said of the page that was visited just now
 pub removed_top : (k : ℕ) (ps ps2 : List (Option (List ℕ))) (ws : List (ℕ × List ℕ)) (fs : List ℕ) (least h p : ℕ) (es : List Element) (us m m2 visited key key2 : List ℕ) (g : Option Shrunk) → ps2 ≡ ps → m2 ≡ m ++ p ∷ [] → key2 ≡ key → IsIn p us
-    → RemovesBelow k (at ps2) (after (at ps2) ws fs) 0 (length fs) least h p es us m2 visited key2 g → RemovesBelow k (at ps) (after (at ps) ws fs) 0 (length fs) least h p es us m visited key g
+    → RemovesBelow (head_page k least h p) (pages_freed (at ps2) (after (at ps2) ws fs) 0 (length fs)) es us (visits m2 visited) key2 g → RemovesBelow (head_page k least h p) (pages_freed (at ps) (after (at ps) ws fs) 0 (length fs)) es us (visits m visited) key g
 removed_top k ps ps2 ws fs least h p es us m m2 visited key key2 g ps_is m_is key_is p_in removed =
-    let here = subst (λ (x : List (Option (List ℕ))). RemovesBelow k (at x) (after (at x) ws fs) 0 (length fs) least h p es us (m ++ p ∷ []) visited key g) ps_is
-    (subst (λ (x : List ℕ). RemovesBelow k (at ps2) (after (at ps2) ws fs) 0 (length fs) least h p es us x visited key g) m_is
-    (subst (λ (x : List ℕ). RemovesBelow k (at ps2) (after (at ps2) ws fs) 0 (length fs) least h p es us m2 visited x g) key_is removed)) in
+    let here = subst (λ (x : List (Option (List ℕ))). RemovesBelow (head_page k least h p) (pages_freed (at x) (after (at x) ws fs) 0 (length fs)) es us (visits (m ++ p ∷ []) visited) key g) ps_is
+    (subst (λ (x : List ℕ). RemovesBelow (head_page k least h p) (pages_freed (at ps2) (after (at ps2) ws fs) 0 (length fs)) es us (visits x visited) key g) m_is
+    (subst (λ (x : List ℕ). RemovesBelow (head_page k least h p) (pages_freed (at ps2) (after (at ps2) ws fs) 0 (length fs)) es us (visits m2 visited) x g) key_is removed)) in
     record {
       drops = here.drops;
       unvisited = λ q unvisited out. here.unvisited q (unvisited_push m p q unvisited (λ e. out (subst (λ (x : ℕ). IsIn x us) (sym e) p_in))) out;

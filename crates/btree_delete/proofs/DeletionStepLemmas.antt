@@ -9,9 +9,9 @@ use Rattle.btree_insert.specs.Bounds.{AreWithin, Between, son_bounds}
 use Rattle.btree_insert.specs.PageTrees.{IsIn, Fan, Spells, kind_of_level}
 use Rattle.btree_insert.proofs.Membership.{in_left, in_right}
 use Rattle.btree_delete.specs.declared.delete_below.Shrunk.{Shrunk}
-use Rattle.btree_delete.specs.Treatment.{son_at}
+use Rattle.btree_delete.specs.Treatment.{son_at, brothers}
 use Rattle.btree_delete.specs.Shrinking.{MayBeUnderfull, WritesOrHandsUp, Loses, TreatsAndSettles, StaysUnvisited, unsettled}
-use Rattle.btree_delete.specs.Tidy.{is_visited, Untouched}
+use Rattle.btree_delete.specs.Tidy.{is_visited, Untouched, done_so_far}
 use Rattle.btree_delete.proofs.BrotherLemmas.{right_brother, treated_right, left_brother, treated_left}
 use Rattle.btree_delete.proofs.SonsLemmas.{Kin}
 use Rattle.btree_delete.proofs.UnderflowLemmas.{Treated}
@@ -69,7 +69,7 @@ pub record SettledSon (k height : ℕ) (b : Bounds) (old mid : PageMap) (lo h p 
 
 -- what comes of a father whose underfull son was treated
 abbrev pub Answer : ℕ → ℕ → Bounds → ℕ → Node → ℕ → Node → Node → Element → List (ℕ × List ℕ) → List (ℕ × List ℕ) → List ℕ → List ℕ → List ℕ → List ℕ → Shrunk → ℕ → Type 0
-Answer k height b p F i L R e ws ws3 fs fs2 visited visited2 g t = (visited2 ≡ visited ++ t ∷ []) × TreatsAndSettles k height b p F i L R e ws ws3 fs fs2 g
+Answer k height b p F i L R e ws ws3 fs fs2 visited visited2 g t = (visited2 ≡ visited ++ t ∷ []) × TreatsAndSettles (record { order = k; height = height; page = p; bounds = b }) F (brothers i L R) e (done_so_far ws fs) (done_so_far ws3 fs2) g
 
 -- an underfull son treated, and its father settled
 pub treat_son : (k height : ℕ) (old : PageMap) (visited visited2 : List ℕ) (lo h level p s : ℕ) (node F : Node) (e : Element) (g : Shrunk) (ws ws3 : List (ℕ × List ℕ)) (fs fs2 : List ℕ) (es : List Element) (us : List ℕ) (b : Bounds) (i : ℕ) → 1 ≤ k → suc h ≡ level → 0 < length F.elements.items → i ≤ length F.elements.items → s ≡ son_at F i → Between b es

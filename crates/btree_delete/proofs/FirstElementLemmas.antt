@@ -17,8 +17,9 @@ use Rattle.btree_delete.specs.declared.delete_below.Shrunk.{Shrunk}
 use Rattle.btree_delete.specs.declared.subtree.Subtree.{Subtree}
 use Rattle.btree_delete.specs.Treatment.{element_at}
 use Rattle.btree_delete.specs.Shrinking.{MayBeUnderfull, UnderfullGoesUp, MayGoUp, LeavesTree, RemovesBelow, StaysUnvisited, gone, sought}
-use Rattle.btree_delete.specs.Subtrees.{behind, left_bounds}
-use Rattle.btree_delete.specs.Tidy.{is_visited}
+use Rattle.btree_delete.specs.Subtrees.{behind, left_bounds, head_page}
+use Rattle.btree_delete.specs.Tidy.{is_visited, visits, done_so_far}
+use Rattle.btree_delete.specs.PagesLeft.{pages_freed}
 use Rattle.btree_delete.proofs.ElementRemovalLemmas.{remove-here, remove-between_bounds, between_behind}
 use Rattle.btree_delete.proofs.UnderfullNodeLemmas.{behind_may_be_underfull, first_son_bounds}
 use Rattle.btree_delete.proofs.EditLemmas.{unvisited_push}
@@ -32,7 +33,7 @@ more_visited visited p us out unvisited =
 pub record Takes (k : ℕ) (old new : PageMap) (lo hi least h p : ℕ) (es : List Element) (us visited visited2 : List ℕ) (g : Shrunk) : Type 0 where
   pub rest : List Element
   pub first : es ≡ gone g ∷ rest
-  pub leaves : LeavesTree k old new lo hi least h p us rest g
+  pub leaves : LeavesTree (head_page k least h p) (pages_freed old new lo hi) us rest g
   pub unvisited : StaysUnvisited visited visited2 us
 
 -- a record that is there
@@ -41,14 +42,14 @@ record_of None = []
 record_of (Some r) = r
 
 -- where no key was given, the first element went
-pub took_of : (k : ℕ) (old new : PageMap) (lo hi least h p : ℕ) (es : List Element) (us visited visited2 : List ℕ) (g : Shrunk) → 0 < length es → RemovesBelow k old new lo hi least h p es us visited visited2 (sought None es) (Some g) → Takes k old new lo hi least h p es us visited visited2 g
+pub took_of : (k : ℕ) (old new : PageMap) (lo hi least h p : ℕ) (es : List Element) (us visited visited2 : List ℕ) (g : Shrunk) → 0 < length es → RemovesBelow (head_page k least h p) (pages_freed old new lo hi) es us (visits visited visited2) (sought None es) (Some g) → Takes k old new lo hi least h p es us visited visited2 g
 took_of k old new lo hi least h p [] us visited visited2 g some removed = absurd (omega arith)
 took_of k old new lo hi least h p (x ∷ es) us visited visited2 g some removed =
     let value_is : x.1 ≡ (gone g).1 = ap record_of (sym (lookup-here x.0 [] x es tt refl) ∙ removed.drops.1) in
     record {
       rest = es;
       first = λ i. (sym removed.drops.0 i, value_is i) ∷ es;
-      leaves = subst (λ (zs : List Element). LeavesTree k old new lo hi least h p us zs g) (remove-here x.0 [] x es tt refl) removed.drops.2;
+      leaves = subst (λ (zs : List Element). LeavesTree (head_page k least h p) (pages_freed old new lo hi) us zs g) (remove-here x.0 [] x es tt refl) removed.drops.2;
       unvisited = removed.unvisited;
     }
 
@@ -149,7 +150,7 @@ pub record WentUp (k height : ℕ) (b : Bounds) (key : Option (List ℕ)) (n : �
   pub goes : UnderfullGoesUp k height (left_bounds key (gone g) b) n ws fs g
 
 -- what a call on the same tree hands up
-pub went_up : (t t2 : Subtree) (key : Option (List ℕ)) (ws : List (ℕ × List ℕ)) (fs : List ℕ) (r : Option Shrunk) (g : Shrunk) → t2 ≡ t → r ≡ Some g → MayGoUp t2.order t2.height t2.bounds key t2.page ws fs r → WentUp t.order t.height t.bounds key t.page ws fs g
+pub went_up : (t t2 : Subtree) (key : Option (List ℕ)) (ws : List (ℕ × List ℕ)) (fs : List ℕ) (r : Option Shrunk) (g : Shrunk) → t2 ≡ t → r ≡ Some g → MayGoUp t2 key (done_so_far ws fs) r → WentUp t.order t.height t.bounds key t.page ws fs g
 went_up t t2 key ws fs r g t_is r_is up =
-    let (fits, within, goes) = subst (MayGoUp t.order t.height t.bounds key t.page ws fs) r_is (subst (λ (x : Subtree). MayGoUp x.order x.height x.bounds key x.page ws fs r) t_is up) in
+    let (fits, within, goes) = subst (MayGoUp t key (done_so_far ws fs)) r_is (subst (λ (x : Subtree). MayGoUp x key (done_so_far ws fs) r) t_is up) in
     record { fits = fits; within = within; goes = goes }

@@ -19,6 +19,8 @@ use Rattle.btree_delete.specs.declared.delete_below.Shrunk.TheVariants.{Whole, U
 use Rattle.btree_delete.specs.Deleted.{Deleted}
 use Rattle.btree_delete.specs.Shrinking.{MayBeUnderfull, Loses, LeavesTree, ShrinksRoot}
 use Rattle.btree_delete.specs.Tidy.{is_visited, Untouched, IsTidy}
+use Rattle.btree_delete.specs.Subtrees.{head_page}
+use Rattle.btree_delete.specs.PagesLeft.{pages_freed}
 use Rattle.btree_delete.proofs.EditedPagesLemmas.{after_write, after_free, free_page, free_here, free_other}
 use Rattle.btree_delete.proofs.PagesLeftLemmas.{left_write, left_trans, left_drop}
 use Rattle.btree_insert.proofs.ElementMapLemmas.{remove-ascends}
@@ -28,7 +30,7 @@ use Rattle.btree_delete.proofs.EditLemmas.{tidy_write, tidy_free}
 
 -- the parts that make a deletion
 pub deleted_by : (old new : PageMap) (tree next : Tree) (es : List Element) (us vs : List ℕ) (key x : List ℕ) (hi : ℕ) → Holds old tree es us → lookup_in key es ≡ Some x → RootAt next.order new next.height next.root (set_in key None es) vs → Loses old new 0 hi us vs
-    → next.order ≡ tree.order → next.count + 1 ≡ tree.count → next.used + hi ≡ tree.used → Deleted old new tree next es us key (Some x)
+    → next.order ≡ tree.order → next.count + 1 ≡ tree.count → next.used + hi ≡ tree.used → Deleted old new tree es us key (next, Some x)
 deleted_by old new tree next es us vs key x hi holds found root loses order count used = record {
   vs = vs;
   holds = record {
@@ -150,7 +152,7 @@ pub record Shrank (old new : PageMap) (tree next : Tree) (hi : ℕ) (es : List E
 
 -- the tree after an underfull root
 pub shrank_underfull : (old : PageMap) (tree next : Tree) (ws ws2 : List (ℕ × List ℕ)) (fs fs2 us : List ℕ) (es : List Element) (e : Element) (node : Node) (b : Bounds) → 1 ≤ tree.order → 0 < tree.height → MayBeUnderfull tree.order tree.height b node → Untouched ws fs tree.root
-    → LeavesTree tree.order old (after old ws fs) 0 (length fs) 1 (tree.height - 1) tree.root us es (Underfull e node) → ShrinksRoot tree next node ws ws2 fs fs2 → Shrank old (after old ws2 fs2) tree next (length fs2) es us
+    → LeavesTree (head_page tree.order 1 (tree.height - 1) tree.root) (pages_freed old (after old ws fs) 0 (length fs)) us es (Underfull e node) → ShrinksRoot tree next node ws ws2 fs fs2 → Shrank old (after old ws2 fs2) tree next (length fs2) es us
 shrank_underfull old tree next ws ws2 fs fs2 us es e node b order height may_be_underfull untouched (below, body, same, loses) shrinks = at (length node.elements.items) refl
   where
     at : (count : ℕ) → count ≡ length node.elements.items → Shrank old (after old ws2 fs2) tree next (length fs2) es us
@@ -167,7 +169,7 @@ shrank_underfull old tree next ws ws2 fs fs2 us es e node b order height may_be_
         (subst (λ (gs : List ℕ). Shrank old (after old ws2 gs) tree tree (length gs) es us) (sym done.2) (record { left = left; order = refl; count = refl; used = refl }))
 
 -- the tree after a root that was written
-pub shrank_whole : (old : PageMap) (tree : Tree) (ws : List (ℕ × List ℕ)) (fs us : List ℕ) (es : List Element) (e : Element) → 0 < tree.height → LeavesTree tree.order old (after old ws fs) 0 (length fs) 1 (tree.height - 1) tree.root us es (Whole e) → Shrank old (after old ws fs) tree tree (length fs) es us
+pub shrank_whole : (old : PageMap) (tree : Tree) (ws : List (ℕ × List ℕ)) (fs us : List ℕ) (es : List Element) (e : Element) → 0 < tree.height → LeavesTree (head_page tree.order 1 (tree.height - 1) tree.root) (pages_freed old (after old ws fs) 0 (length fs)) us es (Whole e) → Shrank old (after old ws fs) tree tree (length fs) es us
 shrank_whole old tree ws fs us es e height (vs, top, loses) =
     let height_is : suc (tree.height - 1) ≡ tree.height = omega (arith, height) in
     record {
@@ -179,10 +181,10 @@ shrank_whole old tree ws fs us es e height (vs, top, loses) =
 
 -- the tree after a deletion
 pub shrank_deleted : (old new : PageMap) (tree shrunk next : Tree) (es : List Element) (us : List ℕ) (key x : List ℕ) (hi : ℕ) → Holds old tree es us → lookup_in key es ≡ Some x → Shrank old new tree shrunk hi (set_in key None es) us → 1 ≤ shrunk.count → hi ≤ shrunk.used
-    → next ≡ record shrunk { count = shrunk.count - 1; used = shrunk.used - hi } → Deleted old new tree next es us key (Some x)
+    → next ≡ record shrunk { count = shrunk.count - 1; used = shrunk.used - hi } → Deleted old new tree es us key (next, Some x)
 shrank_deleted old new tree shrunk next es us key x hi holds found shrank some few next_is =
     let smaller : Tree = record shrunk { count = shrunk.count - 1; used = shrunk.used - hi } in
-    subst (λ (t : Tree). Deleted old new tree t es us key (Some x)) (sym next_is)
+    subst (λ (t : Tree). Deleted old new tree es us key (t, Some x)) (sym next_is)
     (deleted_by old new tree smaller es us shrank.left.vs key x hi holds found shrank.left.tree shrank.left.loses shrank.order (omega (arith, some, shrank.count)) (omega (arith, few, shrank.used)))
 
 -- which can't fail
@@ -191,9 +193,9 @@ shrank_enough old new tree shrunk es us key x hi holds found shrank fault =
     ⊎_elim (λ (none : shrunk.count ≡ 0). absurd (omega (arith, none, shrank.count, holds.count, remove-length key es x found))) (λ (less : shrunk.used < hi). absurd (omega (arith, less, shrank.used, holds.used, shrank.left.loses.count))) fault
 
 -- nothing was deleted
-pub deleted_none : (old new : PageMap) (tree : Tree) (es : List Element) (us : List ℕ) (key : List ℕ) → new ≡ old → Holds old tree es us → lookup_in key es ≡ None → Deleted old new tree tree es us key None
+pub deleted_none : (old new : PageMap) (tree : Tree) (es : List Element) (us : List ℕ) (key : List ℕ) → new ≡ old → Holds old tree es us → lookup_in key es ≡ None → Deleted old new tree es us key (tree, None)
 deleted_none old new tree es us key same holds none =
-    subst (λ (pages : PageMap). Deleted old pages tree tree es us key None) (sym same) (record {
+    subst (λ (pages : PageMap). Deleted old pages tree es us key (tree, None)) (sym same) (record {
       vs = us;
       holds = subst (λ (xs : List Element). Holds old tree xs us) (sym (remove-absent key es none)) holds;
       answer = sym none;
@@ -202,7 +204,7 @@ deleted_none old new tree es us key same holds none =
     })
 
 -- where each page is the same, so is what a deletion came to
-pub deleted_at : (old old2 mid new : PageMap) (tree next : Tree) (es : List Element) (us : List ℕ) (key : List ℕ) (before : Option (List ℕ)) → old2 ≡ old → ((q : ℕ) → new q ≡ mid q) → Deleted old2 mid tree next es us key before → Deleted old new tree next es us key before
+pub deleted_at : (old old2 mid new : PageMap) (tree next : Tree) (es : List Element) (us : List ℕ) (key : List ℕ) (before : Option (List ℕ)) → old2 ≡ old → ((q : ℕ) → new q ≡ mid q) → Deleted old2 mid tree es us key (next, before) → Deleted old new tree es us key (next, before)
 deleted_at old old2 mid new tree next es us key before old_is same done =
     let all : mid ≡ new = λ i q. sym (same q) i in
-    subst (λ (pages : PageMap). Deleted old pages tree next es us key before) all (subst (λ (pages : PageMap). Deleted pages mid tree next es us key before) old_is done)
+    subst (λ (pages : PageMap). Deleted old pages tree es us key (next, before)) all (subst (λ (pages : PageMap). Deleted pages mid tree es us key (next, before)) old_is done)

@@ -13,9 +13,11 @@ use Rattle.btree_insert.proofs.Membership.{in_left, in_right, Apart-right, Apart
 use Rattle.btree_insert.proofs.SettledTreeLemmas.{write_here, write_other}
 use Rattle.btree_delete.specs.declared.delete_below.Shrunk.{Shrunk}
 use Rattle.btree_delete.specs.declared.delete_below.Shrunk.TheVariants.{Whole, Underfull}
-use Rattle.btree_delete.specs.Treatment.{Treats}
+use Rattle.btree_delete.specs.Treatment.{Treats, brothers}
 use Rattle.btree_delete.specs.Shrinking.{MayBeUnderfull, WritesOrHandsUp, UnderfullGoesUp, Loses, LeavesTree, TreatsAndSettles, gone, StaysUnvisited, unsettled}
-use Rattle.btree_delete.specs.Tidy.{is_visited, Untouched, IsTidy, IsVisit}
+use Rattle.btree_delete.specs.Tidy.{is_visited, Untouched, IsTidy, IsVisit, done_so_far}
+use Rattle.btree_delete.specs.Subtrees.{head_page}
+use Rattle.btree_delete.specs.PagesLeft.{pages_freed}
 use Rattle.btree_delete.proofs.EditedPagesLemmas.{after_write, after_untouched, after_none}
 use Rattle.btree_delete.proofs.SonsLemmas.{IsBeside}
 use Rattle.btree_delete.proofs.PagesLeftLemmas.{left_write, loses_none, loses_around, loses_trans}
@@ -54,7 +56,7 @@ may_be_underfull_stands k height b n may_be_underfull some = record { some = som
 
 -- what is left below a page that was settled
 pub settled_leaves : (k : ℕ) (old : PageMap) (least height h p lo hi : ℕ) (b : Bounds) (ws ws2 : List (ℕ × List ℕ)) (fs us below : List ℕ) (es : List Element) (removed : Element) (node : Node) (g : Shrunk) → 1 ≤ k → least ≤ k → MayBeUnderfull k height b node → Untouched ws fs p
-    → Body (TreeAt k (after old ws fs) k h) h node es below → Loses old (after old ws fs) lo hi us (p ∷ below) → WritesOrHandsUp k ws ws2 p removed node g → LeavesTree k old (after old ws2 fs) lo hi least h p us es g
+    → Body (TreeAt k (after old ws fs) k h) h node es below → Loses old (after old ws fs) lo hi us (p ∷ below) → WritesOrHandsUp k ws ws2 p removed node g → LeavesTree (head_page k least h p) (pages_freed old (after old ws2 fs) lo hi) us es g
 settled_leaves k old least height h p lo hi b ws ws2 fs us below es removed node (Whole e) order low may_be_underfull untouched body loses (e_is, many, ws_is) =
     let mid = after old ws fs in
     let page = spelling node k in
@@ -105,7 +107,7 @@ around_son old mid visited visited2 lo hi p s upre mine upost vs apart unvisited
 -- what is left below a page whose underfull son was treated
 pub treated_leaves : (k : ℕ) (old : PageMap) (least height h p lo : ℕ) (b : Bounds) (ws ws2 ws3 : List (ℕ × List ℕ)) (fs fs2 us mids : List ℕ) (es : List Element) (removed : Element) (G : Node) (g : Shrunk) → 1 ≤ k → least ≤ k → MayBeUnderfull k height b G → G.kind ≡ Inner → Untouched ws2 fs2 p
     → Loses old (after old ws fs) lo (length fs) us (p ∷ mids) → Treated k (after old ws fs) (after old ws2 fs2) (length fs) (length fs2) h G es mids → WritesOrHandsUp k ws2 ws3 p removed G g
-    → LeavesTree k old (after old ws3 fs2) lo (length fs2) least (suc h) p us es g
+    → LeavesTree (head_page k least (suc h) p) (pages_freed old (after old ws3 fs2) lo (length fs2)) us es g
 treated_leaves k old least height h p lo b ws ws2 ws3 fs fs2 us mids es removed G g order low may_be_underfull inner untouched loses treated done =
     let mid = after old ws fs in
     let new = after old ws2 fs2 in
@@ -157,13 +159,13 @@ unsettled_is k n ws ws2 removed node (Whole e) (e_is, many, ws_is) = ap (λ (vs 
 unsettled_is k n ws ws2 removed node (Underfull e underfull) (e_is, few, same, ws_is) = ws_is
 
 -- a father that was treated, and settled then
-pub treated_settled : (k height n i : ℕ) (b : Bounds) (F G L R : Node) (e : Element) (ws ws2 ws3 : List (ℕ × List ℕ)) (fs fs2 fs3 : List ℕ) (g : Shrunk) → MayBeUnderfull k height b G → Untouched ws2 fs2 n → WritesOrHandsUp k ws2 ws3 n e G g → fs3 ≡ fs2 → Treats k F G i L R ws ws2 fs fs2
-    → TreatsAndSettles k height b n F i L R e ws ws3 fs fs3 g
+pub treated_settled : (k height n i : ℕ) (b : Bounds) (F G L R : Node) (e : Element) (ws ws2 ws3 : List (ℕ × List ℕ)) (fs fs2 fs3 : List ℕ) (g : Shrunk) → MayBeUnderfull k height b G → Untouched ws2 fs2 n → WritesOrHandsUp k ws2 ws3 n e G g → fs3 ≡ fs2 → Treats k F G (brothers i L R) (done_so_far ws fs) (done_so_far ws2 fs2)
+    → TreatsAndSettles (record { order = k; height = height; page = n; bounds = b }) F (brothers i L R) e (done_so_far ws fs) (done_so_far ws3 fs3) g
 treated_settled k height n i b F G L R e ws ws2 ws3 fs fs2 fs3 g may_be_underfull kept done freed treats =
     let ws_is : ws2 ≡ unsettled g ws3 = sym (unsettled_is k n ws2 ws3 e G g done) in
     record {
       treated = G;
-      treats = subst (λ (x : List ℕ). Treats k F G i L R ws (unsettled g ws3) fs x) (sym freed) (subst (λ (x : List (ℕ × List ℕ)). Treats k F G i L R ws x fs fs2) ws_is treats);
+      treats = subst (λ (x : List ℕ). Treats k F G (brothers i L R) (done_so_far ws fs) (done_so_far (unsettled g ws3) x)) (sym freed) (subst (λ (x : List (ℕ × List ℕ)). Treats k F G (brothers i L R) (done_so_far ws fs) (done_so_far x fs2)) ws_is treats);
       may_be_underfull = may_be_underfull;
       kept = subst (λ (x : List ℕ). Untouched (unsettled g ws3) x n) (sym freed) (subst (λ (x : List (ℕ × List ℕ)). Untouched x fs2 n) ws_is kept);
       settles = subst (λ (x : List (ℕ × List ℕ)). WritesOrHandsUp k x ws3 n e G g) ws_is done;

@@ -74,7 +74,7 @@ outside_refused limit count es key NoMemory out = λ full. absurd (let never = f
 
 -- the answer to a taking out
 pub take_answer : (old new : List (Option (List ℕ))) (tree : Tree) (es : List Element) (us key : List ℕ) (limit : ℕ) (r : Result (Tree × Option (List ℕ)) TreeFault) → Fills old tree es us → tree.count ≤ limit
-    → MatchResult r (λ x. Deleted (at old) (at new) tree x.0 es us key x.1) IsOutside → MatchResult (table_answer r) (λ x. IsSet new x.0 limit es key None x.1) (MayRefuse limit tree.count es key None)
+    → MatchResult r (λ x. Deleted (at old) (at new) tree es us key x) IsOutside → MatchResult (table_answer r) (λ x. IsSet new x.0 limit es key None x.1) (MayRefuse limit tree.count es key None)
 take_answer old new tree es us key limit (Ok (next, before)) fills few done = record {
   vs = done.vs;
   fills = record { holds = done.holds; alone = left_alone (at old) (at new) us done.vs done.left fills.alone };

@@ -20,9 +20,10 @@ use Rattle.btree_insert.proofs.BoundLemmas.{low_first, low_next, high_next, Asce
 use Rattle.btree_insert.proofs.EditFitLemmas.{Each-set}
 use Rattle.btree_insert.proofs.PlaceLemmas.{within_place, son_within}
 use Rattle.btree_insert.proofs.HeadNodeLemmas.{kind_above}
-use Rattle.btree_delete.specs.Treatment.{element_at, son_at, both, Distributes, Treats}
+use Rattle.btree_delete.specs.Treatment.{element_at, son_at, both, Distributes, Treats, brothers}
 use Rattle.btree_delete.specs.Shrinking.{MayBeUnderfull}
 use Rattle.btree_delete.specs.Subtrees.{behind}
+use Rattle.btree_delete.specs.Tidy.{done_so_far}
 use Rattle.btree_insert.proofs.ReachLemmas.{ascends_join}
 use Rattle.btree_insert.proofs.SettledTreeLemmas.{set_split}
 
@@ -211,7 +212,7 @@ half_low k L R m some many = omega (arith, length-append L.elements.items (m ∷
 
 -- a father whose sons were treated
 pub treated_may_be_underfull : (k level i : ℕ) (b : Bounds) (F G L R : Node) (ws ws2 : List (ℕ × List ℕ)) (fs fs2 : List ℕ) → 1 ≤ k → 1 ≤ level → i < length F.elements.items → MayBeUnderfull k (level + 1) b F → MayBeUnderfull k level (son_bounds F.elements.items i b) L → MayBeUnderfull k level (son_bounds F.elements.items (suc i) b) R
-    → Treats k F G i L R ws ws2 fs fs2 → MayBeUnderfull k (level + 1) b G
+    → Treats k F G (brothers i L R) (done_so_far ws fs) (done_so_far ws2 fs2) → MayBeUnderfull k (level + 1) b G
 treated_may_be_underfull k level i b F G L R ws ws2 fs fs2 order some low father left right (inl done) = without_may_be_underfull k level i b F G some low father done.kind done.elements done.sons
 treated_may_be_underfull k level i b F G L R ws ws2 fs fs2 order some low father left right (inr done) =
     let J = both F i L R in
@@ -281,7 +282,7 @@ leaf_behind k b n m e leaf some may_be_underfull is kind_is els_is sons_is =
 -- what levelling two nodes comes to
 pub distributed : (k i : ℕ) (F G L R : Node) (middle up : Element) (l r : Node) (n t : ℕ) (ws ws2 ws3 : List (ℕ × List ℕ)) (fs fs2 : List ℕ) → middle ≡ element_at F i → 2 * k ≤ keys_of_both L R → G.kind ≡ F.kind → G.elements.items ≡ set F.elements.items i up → G.sons.items ≡ F.sons.items
     → l ≡ left_of (half_of_both L R) (joined L middle R) → up ≡ element_at (joined L middle R) (half_of_both L R) → r ≡ right_of (half_of_both L R) (joined L middle R) → CanStand l k → CanStand r k
-    → n ≡ son_at F i → t ≡ son_at F (suc i) → ws2 ≡ ws ++ (n, spelling l k) ∷ [] → ws3 ≡ ws2 ++ (t, spelling r k) ∷ [] → fs2 ≡ fs → Distributes k F G i L R ws ws3 fs fs2
+    → n ≡ son_at F i → t ≡ son_at F (suc i) → ws2 ≡ ws ++ (n, spelling l k) ∷ [] → ws3 ≡ ws2 ++ (t, spelling r k) ∷ [] → fs2 ≡ fs → Distributes k F G (brothers i L R) (done_so_far ws fs) (done_so_far ws3 fs2)
 distributed k i F G L R middle up l r n t ws ws2 ws3 fs fs2 middle_is many kind_is els_is sons_is l_is up_is r_is l_stands r_stands n_is t_is ws2_is ws3_is fs_is =
     let half = half_of_both L R in
     let left_is : l ≡ left_of half (both F i L R) = l_is ∙ ap (λ (m : Element). left_of half (joined L m R)) middle_is in

@@ -7,10 +7,10 @@ use Rattle.btree_insert.specs.Contents.{lookup_in, set_in}
 use Rattle.btree_insert.specs.PageTrees.{Holds}
 use Rattle.btree_delete.specs.PagesLeft.{PagesLeft}
 
--- the old pages held a tree with the elements es; the new pages hold the next tree, without the key, made of some of the old tree's pages; and what stood at the key
-pub record Deleted (old new : PageMap) (tree next : Tree) (es : List Element) (us : List ℕ) (key : List ℕ) (before : Option (List ℕ)) : Type 0 where
+-- the old pages held a tree with the elements es; the new pages hold the next tree, without the key, made of some of the old tree's pages. Answered are the next tree and what stood at the key.
+pub record Deleted (old new : PageMap) (tree : Tree) (es : List Element) (us : List ℕ) (key : List ℕ) (answered : Tree × Option (List ℕ)) : Type 0 where
   pub vs : List ℕ
-  pub holds : Holds new next (set_in key None es) vs
-  pub answer : before ≡ lookup_in key es
-  pub order : next.order ≡ tree.order
+  pub holds : Holds new answered.0 (set_in key None es) vs
+  pub answer : answered.1 ≡ lookup_in key es
+  pub order : answered.0.order ≡ tree.order
   pub left : PagesLeft old new us vs

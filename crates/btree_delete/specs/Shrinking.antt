@@ -10,12 +10,13 @@ use Rattle.btree_insert.specs.Bounds.{AreWithin}
 use Rattle.btree_insert.specs.Contents.{lookup_in, set_in}
 use Rattle.btree_insert.specs.Growth.{IsWithin}
 use Rattle.btree_insert.specs.PageTrees.{IsIn, Body, TreeAt, kind_of_level}
+use Rattle.btree_delete.specs.declared.subtree.Subtree.{Subtree}
 use Rattle.btree_delete.specs.declared.delete_below.Shrunk.{Shrunk}
 use Rattle.btree_delete.specs.declared.delete_below.Shrunk.TheVariants.{Whole, Underfull}
-use Rattle.btree_delete.specs.PagesLeft.{PagesLeft}
-use Rattle.btree_delete.specs.Treatment.{Treats}
-use Rattle.btree_delete.specs.Subtrees.{left_bounds}
-use Rattle.btree_delete.specs.Tidy.{is_visited, Untouched}
+use Rattle.btree_delete.specs.PagesLeft.{PagesLeft, PagesFreed}
+use Rattle.btree_delete.specs.Treatment.{Brothers, Treats}
+use Rattle.btree_delete.specs.Subtrees.{HeadPage, left_bounds}
+use Rattle.btree_delete.specs.Tidy.{is_visited, Untouched, DoneSoFar, done_so_far, Visits}
 
 -- a node of a level, within bounds, that fits a page but for the least number of keys
 pub record MayBeUnderfull (k height : ℕ) (bounds : Bounds) (n : Node) : Type 0 where
@@ -44,12 +45,13 @@ pub record Loses (old new : PageMap) (lo hi : ℕ) (us vs : List ℕ) : Type 0 w
   pub left : PagesLeft old new us vs
   pub count : length vs + hi ≡ length us + lo
 
--- the elements es are left below page p, or below its underfull node, whose page is as it was
-abbrev pub LeavesTree : ℕ → PageMap → PageMap → ℕ → ℕ → ℕ → ℕ → ℕ → List ℕ → List Element → Shrunk → Type 0
-LeavesTree k old new lo hi least h p us es (Whole e) =
-    (vs : List ℕ) × TreeAt k new least (suc h) p es vs × Loses old new lo hi us vs
-LeavesTree k old new lo hi least h p us es (Underfull e node) =
-    (below : List ℕ) × Body (TreeAt k new k h) h node es below × (new p ≡ old p) × Loses old new lo hi us (p ∷ below)
+-- the elements es are left below the page, or below its underfull node, whose page is as it was; before, the pages were us
+abbrev pub LeavesTree : HeadPage → PagesFreed → List ℕ → List Element → Shrunk → Type 0
+LeavesTree head change us es (Whole e) =
+    (vs : List ℕ) × TreeAt head.order change.new head.least (suc head.levels) head.page es vs × Loses change.old change.new change.lo change.hi us vs
+LeavesTree head change us es (Underfull e node) =
+    (below : List ℕ) × Body (TreeAt head.order change.new head.order head.levels) head.levels node es below
+    × (change.new head.page ≡ change.old head.page) × Loses change.old change.new change.lo change.hi us (head.page ∷ below)
 
 -- the element that went
 abbrev pub gone : Shrunk → Element
@@ -65,35 +67,36 @@ abbrev pub sought : Option (List ℕ) → List Element → List ℕ
 sought None es = (slice_index_or es 0 ([], [])).0
 sought (Some key) es = key
 
--- the key was taken out below page p, or was not there
-abbrev pub Drops : ℕ → PageMap → PageMap → ℕ → ℕ → ℕ → ℕ → ℕ → List Element → List ℕ → List ℕ → Option Shrunk → Type 0
-Drops k old new lo hi least h p es us key None = lookup_in key es ≡ None
-Drops k old new lo hi least h p es us key (Some g) =
-    ((gone g).0 ≡ key) × (lookup_in key es ≡ Some (gone g).1) × LeavesTree k old new lo hi least h p us (set_in key None es) g
+-- of the elements es and the pages us below the page, the key was taken out, or was not there
+abbrev pub Drops : HeadPage → PagesFreed → List Element → List ℕ → List ℕ → Option Shrunk → Type 0
+Drops head change es us key None = lookup_in key es ≡ None
+Drops head change es us key (Some g) =
+    ((gone g).0 ≡ key) × (lookup_in key es ≡ Some (gone g).1) × LeavesTree head change us (set_in key None es) g
 
--- the same, and only pages below page p were visited
-pub record RemovesBelow (k : ℕ) (old new : PageMap) (lo hi least h p : ℕ) (es : List Element) (us visited visited' : List ℕ) (key : List ℕ) (g : Option Shrunk) : Type 0 where
-  pub drops : Drops k old new lo hi least h p es us key g
-  pub unvisited : StaysUnvisited visited visited' us
+-- the same, and only pages below the page were visited
+pub record RemovesBelow (head : HeadPage) (change : PagesFreed) (es : List Element) (us : List ℕ) (visited : Visits) (key : List ℕ) (g : Option Shrunk) : Type 0 where
+  pub drops : Drops head change es us key g
+  pub unvisited : StaysUnvisited visited.before visited.now us
 
 -- what goes up from a deletion: the element that went, and a underfull node of what is left; only a given key may be absent
-abbrev pub MayGoUp : ℕ → ℕ → Bounds → Option (List ℕ) → ℕ → List (ℕ × List ℕ) → List ℕ → Option Shrunk → Type 0
-MayGoUp k height bounds key n writes freed None = IsSome key
-MayGoUp k height bounds key n writes freed (Some g) =
-    IsElement (gone g) × IsWithin bounds (gone g).0 × UnderfullGoesUp k height (left_bounds key (gone g) bounds) n writes freed g
+abbrev pub MayGoUp : Subtree → Option (List ℕ) → DoneSoFar → Option Shrunk → Type 0
+MayGoUp tree key done None = IsSome key
+MayGoUp tree key done (Some g) =
+    IsElement (gone g) × IsWithin tree.bounds (gone g).0
+    × UnderfullGoesUp tree.order tree.height (left_bounds key (gone g) tree.bounds) tree.page done.writes done.freed g
 
 -- what was written before a page was settled
 abbrev pub unsettled : Shrunk → List (ℕ × List ℕ) → List (ℕ × List ℕ)
 unsettled (Whole e) writes = take (length writes - 1) writes
 unsettled (Underfull e node) writes = writes
 
--- a father was treated with a brother of its underfull son, and was written as page n or is underfull
-pub record TreatsAndSettles (k height : ℕ) (bounds : Bounds) (n : ℕ) (father : Node) (i : ℕ) (left right : Node) (removed : Element) (writes writes' : List (ℕ × List ℕ)) (freed freed' : List ℕ) (g : Shrunk) : Type 0 where
+-- a father at the head of a tree was treated with a brother of its underfull son, and was written or is underfull
+pub record TreatsAndSettles (tree : Subtree) (father : Node) (pair : Brothers) (removed : Element) (old new : DoneSoFar) (g : Shrunk) : Type 0 where
   pub treated : Node
-  pub treats : Treats k father treated i left right writes (unsettled g writes') freed freed'
-  pub may_be_underfull : MayBeUnderfull k height bounds treated
-  pub kept : Untouched (unsettled g writes') freed' n
-  pub settles : WritesOrHandsUp k (unsettled g writes') writes' n removed treated g
+  pub treats : Treats tree.order father treated pair old (done_so_far (unsettled g new.writes) new.freed)
+  pub may_be_underfull : MayBeUnderfull tree.order tree.height tree.bounds treated
+  pub kept : Untouched (unsettled g new.writes) new.freed tree.page
+  pub settles : WritesOrHandsUp tree.order (unsettled g new.writes) new.writes tree.page removed treated g
 
 -- the underfull node of a root with a key is written; a root without one is freed, and its first son, if it has one, is the root
 pub record ShrinksRoot (tree next : Tree) (node : Node) (writes writes' : List (ℕ × List ℕ)) (freed freed' : List ℕ) : Type 0 where

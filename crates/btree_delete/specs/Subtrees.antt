@@ -19,3 +19,17 @@ behind e bounds = record { low = Some e.0; high = bounds.high }
 abbrev pub left_bounds : Option (List ℕ) → Element → Bounds → Bounds
 left_bounds None e bounds = behind e bounds
 left_bounds (Some key) e bounds = bounds
+
+-- the page at the head of a tree: the tree's order, how many keys the page has at least, how many levels stand below it, and its number
+pub record HeadPage : Type 0 where
+  pub order : ℕ
+  pub least : ℕ
+  pub levels : ℕ
+  pub page : ℕ
+
+abbrev pub head_page : ℕ → ℕ → ℕ → ℕ → HeadPage
+head_page order least levels page = record { order = order; least = least; levels = levels; page = page }
+
+-- the page at the head of such a tree as a walk goes down
+abbrev pub head_of : Subtree → ℕ → HeadPage
+head_of tree least = head_page tree.order least (tree.height - 1) tree.page

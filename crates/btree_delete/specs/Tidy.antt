@@ -2,6 +2,26 @@
 use Rattle.std.specs.Prelude.{◌≡◌, ℕ, ◌+◌, ◌*◌, ◌≤◌, Bool, true, false, List, length, Option, IsSome, ◌==◌}
 use Rattle.std.specs.List.{AllByRecursion, list_any}
 use Rattle.page_store.specs.PageMap.{at, is_written, is_freed}
+use Rattle.page_store.specs.declared.page_edit.PageEdit.{PageEdit}
+
+-- what was written and what was freed so far
+pub record DoneSoFar : Type 0 where
+  pub writes : List (ℕ × List ℕ)
+  pub freed : List ℕ
+
+abbrev pub done_so_far : List (ℕ × List ℕ) → List ℕ → DoneSoFar
+done_so_far writes freed = record { writes = writes; freed = freed }
+
+abbrev pub so_far : PageEdit → DoneSoFar
+so_far edit = done_so_far edit.writes.items edit.freed.items
+
+-- the pages that were visited before a call, and those that are visited now
+pub record Visits : Type 0 where
+  pub before : List ℕ
+  pub now : List ℕ
+
+abbrev pub visits : List ℕ → List ℕ → Visits
+visits before now = record { before = before; now = now }
 
 -- whether page q was visited
 abbrev pub is_visited : List ℕ → ℕ → Bool

@@ -1,6 +1,6 @@
 ghost use Rattle.std.specs.Prelude.{◌≡◌, ◌+◌, ◌-◌, ◌*◌, ◌<◌, ◌≤◌, ◌∷◌, ◌++◌, ℕ, suc, List, [], Some, None, true, false, length, IsTrue, IsSome, IfOk, OnOk, MatchResult};
 ghost use Rattle.rec_types.specs.Table.{counted};
-ghost use Rattle.page_store.specs.PageMap.{at, after};
+ghost use Rattle.page_store.specs.PageMap.{at};
 ghost use Rattle.btree_node.specs.Lists.{Element, Each, Ascends, IsAt, IsPlace};
 ghost use Rattle.btree_node.specs.Spelling.{AreSpelt};
 ghost use Rattle.btree_insert.specs.Bounds.{AreWithin, Between, son_bounds};
@@ -8,10 +8,11 @@ ghost use Rattle.btree_insert.specs.declared.bounds.Bounds.{Bounds};
 ghost use Rattle.btree_insert.specs.Faults.{is_device};
 ghost use Rattle.btree_insert.specs.Growth.{IsOutside};
 ghost use Rattle.btree_insert.specs.PageTrees.{TreeAt, Apart, Body, Spells, kind_of_level};
-ghost use Rattle.btree_delete.specs.Subtrees.{behind};
+ghost use Rattle.btree_delete.specs.Subtrees.{behind, head_of};
 ghost use Rattle.btree_delete.specs.Shrinking.{MayBeUnderfull, WritesOrHandsUp, UnderfullGoesUp, MayGoUp, TreatsAndSettles, RemovesBelow, gone, sought};
-ghost use Rattle.btree_delete.specs.Tidy.{is_visited, Untouched, IsTidy, IsVisit};
-ghost use Rattle.btree_delete.specs.Treatment.{element_at, son_at};
+ghost use Rattle.btree_delete.specs.Tidy.{is_visited, Untouched, IsTidy, IsVisit, visits, so_far};
+ghost use Rattle.btree_delete.specs.Treatment.{element_at, son_at, brothers};
+ghost use Rattle.btree_delete.specs.PagesLeft.{with_edit};
 ghost use Rattle.btree_node.specs.Layout.{IsOrder};
 
 use crate::subtree::{Subtree, tree_left, tree_of_son};
@@ -92,9 +93,8 @@ fn treat_and_settle<S: Store>(
         → is_visited visited.old.items (son_at father (suc i)) ≡ false
         → MatchResult result
         (λ g. (visited.new.items ≡ visited.old.items ++ son_at father (suc i) ∷ [])
-        × TreatsAndSettles tree.now.order tree.now.height tree.now.bounds tree.now.page father i
-        underfull.1 brother underfull.0 edit.old.writes.items edit.new.writes.items
-        edit.old.freed.items edit.new.freed.items g)
+        × TreatsAndSettles tree.now father (brothers i underfull.1 brother) underfull.0
+        (so_far edit.old) (so_far edit.new) g)
         IsOutside }
     ensures left { IsTrue pages.old.steady → (j : ℕ) → i ≡ suc j
         → i ≡ length father.elements.items → (brother : Node)
@@ -104,9 +104,8 @@ fn treat_and_settle<S: Store>(
         → is_visited visited.old.items (son_at father j) ≡ false
         → MatchResult result
         (λ g. (visited.new.items ≡ visited.old.items ++ son_at father j ∷ [])
-        × TreatsAndSettles tree.now.order tree.now.height tree.now.bounds tree.now.page father j
-        brother underfull.1 underfull.0 edit.old.writes.items edit.new.writes.items
-        edit.old.freed.items edit.new.freed.items g)
+        × TreatsAndSettles tree.now father (brothers j brother underfull.1) underfull.0
+        (so_far edit.old) (so_far edit.new) g)
         IsOutside }
     ensures gone { IfOk result (λ g. gone g ≡ underfull.0) }
     ensures up { IfOk result
@@ -181,10 +180,8 @@ fn delete_here<S: Store>(
         → us ≡ tree.now.page ∷ below → Between tree.now.bounds es → Apart us
         → Each (λ u. is_visited visited.old.items u ≡ false) below
         → MatchResult result
-        (λ g. RemovesBelow tree.now.order (at pages.old.pages)
-        (after (at pages.old.pages) edit.new.writes.items edit.new.freed.items)
-        0 (length edit.new.freed.items) least (tree.now.height - 1) tree.now.page es us
-        visited.old.items visited.new.items (element_at node i).0 (Some g))
+        (λ g. RemovesBelow (head_of tree.now least) (with_edit (at pages.old.pages) edit.new) es us
+        (visits visited.old.items visited.new.items) (element_at node i).0 (Some g))
         IsOutside }
     ensures gone { IfOk result (λ g. gone g ≡ element_at node i) }
     ensures up { IfOk result
@@ -254,14 +251,10 @@ pub(crate) fn delete_below<S: Store>(
         → Between tree.now.bounds es → Apart us
         → Each (λ u. is_visited visited.old.items u ≡ false) us
         → MatchResult result
-        (RemovesBelow tree.now.order (at pages.old.pages)
-        (after (at pages.old.pages) edit.new.writes.items edit.new.freed.items)
-        0 (length edit.new.freed.items) least (tree.now.height - 1) tree.now.page es us
-        visited.old.items visited.new.items (sought key.now es))
+        (RemovesBelow (head_of tree.now least) (with_edit (at pages.old.pages) edit.new) es us
+        (visits visited.old.items visited.new.items) (sought key.now es))
         IsOutside }
-    ensures up { IfOk result
-        (MayGoUp tree.now.order tree.now.height tree.now.bounds key.now tree.now.page
-        edit.new.writes.items edit.new.freed.items) }
+    ensures up { IfOk result (MayGoUp tree.now key.now (so_far edit.new)) }
     ensures tidy { OnOk result
         (IsTidy pages.old.pages visited.new.items edit.new.writes.items edit.new.freed.items) }
     ensures visit { OnOk result

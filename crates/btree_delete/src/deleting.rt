@@ -14,6 +14,8 @@ ghost use Rattle.btree_delete.specs.Treatment.{son_at};
 ghost use Rattle.btree_delete.specs.Shrinking.{MayBeUnderfull, UnderfullGoesUp, LeavesTree, ShrinksRoot, gone};
 ghost use Rattle.btree_insert.specs.declared.bounds.Bounds.{Bounds};
 ghost use Rattle.btree_delete.specs.Tidy.{is_visited, IsTidy};
+ghost use Rattle.btree_delete.specs.Subtrees.{head_page};
+ghost use Rattle.btree_delete.specs.PagesLeft.{with_edit};
 ghost use Rattle.btree_node.specs.Layout.{IsOrder};
 ghost use Rattle.btree_insert.specs.Sizes.{IsTree};
 
@@ -97,12 +99,11 @@ fn shrink_tree(
     requires none_taken { edit.old.taken ≡ 0 }
     ensures deleted { (pages : PageMap) (es : List Element) (us key : List ℕ)
         → Holds pages tree.now es us → lookup_in key es ≡ Some (gone shrunk).1
-        → LeavesTree tree.now.order pages (after pages edit.old.writes.items edit.old.freed.items)
-        0 (length edit.old.freed.items) 1 (tree.now.height - 1) tree.now.root us
-        (set_in key None es) shrunk
+        → LeavesTree (head_page tree.now.order 1 (tree.now.height - 1) tree.now.root)
+        (with_edit pages edit.old) us (set_in key None es) shrunk
         → MatchResult result
         (λ r. Deleted pages (after pages edit.new.writes.items edit.new.freed.items)
-        tree.now r.0 es us key r.1)
+        tree.now es us key r)
         IsOutside }
     ensures fits { (pages : List (Option (List ℕ))) (visited : List ℕ)
         → IsSome (at pages tree.now.root) → is_visited visited tree.now.root ≡ true
@@ -148,7 +149,7 @@ pub fn delete<S: Store>(
     ensures deleted { IsTrue pages.old.steady → (es : List Element) (us : List ℕ)
         → Holds (at pages.old.pages) tree.now es us
         → MatchResult result
-        (λ r. Deleted (at pages.old.pages) (at pages.new.pages) tree.now r.0 es us key.now r.1)
+        (λ r. Deleted (at pages.old.pages) (at pages.new.pages) tree.now es us key.now r)
         IsOutside }
     ensures height { IfOk result (λ r. r.0.height ≤ tree.now.height) }
     ensures count { IfOk result (λ r. r.0.count ≤ tree.now.count) }

@@ -13,11 +13,11 @@ ghost use Rattle.btree_delete.specs.Deleted.{Deleted};
 pub fn contents_after_deletion()
     ensures contents { (old new : PageMap) (tree next : Tree) (es : List Element)
         → (us key : List ℕ) (before : Option (List ℕ)) → tree.order ≤ 16
-        → Holds old tree es us → Deleted old new tree next es us key before
+        → Holds old tree es us → Deleted old new tree es us key (next, before)
         → contents_at next.order new next.height next.root
         ≡ set_to (contents_at tree.order old tree.height tree.root) key None }
     ensures answer { (old new : PageMap) (tree next : Tree) (es : List Element)
         → (us key : List ℕ) (before : Option (List ℕ)) → tree.order ≤ 16
-        → Holds old tree es us → Deleted old new tree next es us key before
+        → Holds old tree es us → Deleted old new tree es us key (next, before)
         → before ≡ get (contents_at tree.order old tree.height tree.root) key }
 {}

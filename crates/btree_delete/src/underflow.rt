@@ -9,9 +9,9 @@ ghost use Rattle.btree_insert.specs.Bounds.{AreWithin, son_bounds};
 ghost use Rattle.btree_insert.specs.Faults.{is_device};
 ghost use Rattle.btree_insert.specs.Growth.{IsOutside};
 ghost use Rattle.btree_insert.specs.PageTrees.{Spells, kind_of_level};
-ghost use Rattle.btree_delete.specs.Treatment.{element_at, son_at, both, Treats};
+ghost use Rattle.btree_delete.specs.Treatment.{element_at, son_at, both, Treats, brothers};
 ghost use Rattle.btree_delete.specs.Shrinking.{MayBeUnderfull};
-ghost use Rattle.btree_delete.specs.Tidy.{is_visited, Untouched, IsTidy};
+ghost use Rattle.btree_delete.specs.Tidy.{is_visited, Untouched, IsTidy, so_far};
 ghost use Rattle.btree_node.specs.Layout.{IsOrder};
 
 use crate::subtree::{Subtree, tree_of_son};
@@ -58,8 +58,8 @@ fn treat_pair(
     requires fit { Each (IsElement) (both father.old i left right).elements.items }
     requires left_most { length left.elements.items ≤ 2 * order }
     requires right_most { length right.elements.items ≤ 2 * order }
-    ensures treats { OnOk result (Treats order father.old father.new i left right
-        edit.old.writes.items edit.new.writes.items edit.old.freed.items edit.new.freed.items) }
+    ensures treats { OnOk result (Treats order father.old father.new (brothers i left right)
+        (so_far edit.old) (so_far edit.new)) }
     ensures spelt { AreSpelt order edit.old.writes.items
         → OnOk result (AreSpelt order edit.new.writes.items) }
     ensures taken { edit.new.taken ≡ edit.old.taken }
@@ -116,8 +116,8 @@ pub(crate) fn treat_underflow<S: Store>(
         → is_visited visited.old.items (son_at father.old (suc i)) ≡ false
         → MatchResult result
         (λ _. (visited.new.items ≡ visited.old.items ++ son_at father.old (suc i) ∷ [])
-        × Treats tree.now.order father.old father.new i son brother
-        edit.old.writes.items edit.new.writes.items edit.old.freed.items edit.new.freed.items)
+        × Treats tree.now.order father.old father.new (brothers i son brother)
+        (so_far edit.old) (so_far edit.new))
         IsOutside }
     ensures left { IsTrue pages.old.steady → (j : ℕ) → i ≡ suc j
         → i ≡ length father.old.elements.items → (brother : Node)
@@ -127,8 +127,8 @@ pub(crate) fn treat_underflow<S: Store>(
         → is_visited visited.old.items (son_at father.old j) ≡ false
         → MatchResult result
         (λ _. (visited.new.items ≡ visited.old.items ++ son_at father.old j ∷ [])
-        × Treats tree.now.order father.old father.new j brother son
-        edit.old.writes.items edit.new.writes.items edit.old.freed.items edit.new.freed.items)
+        × Treats tree.now.order father.old father.new (brothers j brother son)
+        (so_far edit.old) (so_far edit.new))
         IsOutside }
     ensures father { OnOk result
         (MayBeUnderfull tree.now.order tree.now.height tree.now.bounds father.new) }

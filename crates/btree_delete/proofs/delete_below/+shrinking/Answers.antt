@@ -21,10 +21,11 @@ use Rattle.btree_insert.proofs.PlaceLemmas.{son_within}
 use Rattle.btree_insert.proofs.HeadNodeLemmas.{Top, top, read_top, head_each}
 use Rattle.btree_delete.specs.declared.delete_below.Shrunk.TheVariants.{Whole, Underfull}
 use Rattle.btree_delete.specs.declared.subtree.Subtree.{Subtree}
-use Rattle.btree_delete.specs.Treatment.{element_at, son_at}
+use Rattle.btree_delete.specs.Treatment.{element_at, son_at, brothers}
 use Rattle.btree_delete.specs.Shrinking.{MayBeUnderfull, StaysUnvisited, UnderfullGoesUp, TreatsAndSettles, RemovesBelow, sought}
-use Rattle.btree_delete.specs.Subtrees.{son_tree, behind, left_bounds}
-use Rattle.btree_delete.specs.Tidy.{is_visited, Untouched, IsTidy, IsVisit}
+use Rattle.btree_delete.specs.Subtrees.{son_tree, behind, left_bounds, head_page}
+use Rattle.btree_delete.specs.Tidy.{is_visited, Untouched, IsTidy, IsVisit, visits, done_so_far}
+use Rattle.btree_delete.specs.PagesLeft.{pages_freed}
 use Rattle.btree_delete.proofs.SonCallLemmas.{known_there, removed_here}
 use Rattle.btree_delete.proofs.DeletionLemmas.{is_at, drop_leaf, drop_whole, drop_none, drop_broken, drop_treated, next_whole, next_broken, removed_top, none_here, on_unvisited, each_mid}
 use Rattle.btree_delete.proofs.SonsLemmas.{IsBeside, Kin, kin_move}
@@ -331,12 +332,12 @@ delete_below-returns-in_ok-shrunk-in-Some-Underfull-clause-removes g t c = λ st
     let visited3 = c.treat_and_settle.new.visited.items in
     let r = c.in_ok-shrunk-in-Some-Underfull.shrunk in
     let treated = treat_son T.order T.height P visited2 visited3 0 (level - 1) level T.page (son_at n i) underfull n e r ws ws3 fs fs3 (set_in K None es) us LB i c.requires.order.0 (sym up) c.in_ok-visit.ensures.some c.in-Err.ensures.within refl fair went.goes.2 c.in_ok-removed-in-Err.ensures.tidy.unvisited broken.0
-    (λ less o spells kind within free. let done = c.in_ok-shrunk-in-Some-Underfull.ensures.right later_steady less o (subst (λ (x : Subtree). Spells x.order (at c.delete_below.new.pages.pages) (son_at n (suc (i))) o) (sym l_is) (subst (λ (z : List (Option (List ℕ))). Spells T.order (at z) (son_at n (suc (i))) o) (sym later_is) spells)) (subst (λ (x : Subtree). o.kind ≡ kind_of_level (x.height - 1)) (sym l_is) kind) (subst (λ (x : Subtree). AreWithin (son_bounds n.elements.items (suc (i)) x.bounds) o.elements.items) (sym l_is) within) free in (done.0, subst (λ (x : Subtree). TreatsAndSettles x.order x.height x.bounds x.page n i underfull o e ws ws3 fs fs3 r) l_is done.1))
-    (λ j is last o spells kind within free. let done = c.in_ok-shrunk-in-Some-Underfull.ensures.left later_steady j is last o (subst (λ (x : Subtree). Spells x.order (at c.delete_below.new.pages.pages) (son_at n j) o) (sym l_is) (subst (λ (z : List (Option (List ℕ))). Spells T.order (at z) (son_at n j) o) (sym later_is) spells)) (subst (λ (x : Subtree). o.kind ≡ kind_of_level (x.height - 1)) (sym l_is) kind) (subst (λ (x : Subtree). AreWithin (son_bounds n.elements.items j x.bounds) o.elements.items) (sym l_is) within) free in (done.0, subst (λ (x : Subtree). TreatsAndSettles x.order x.height x.bounds x.page n j o underfull e ws ws3 fs fs3 r) l_is done.1)) in
+    (λ less o spells kind within free. let done = c.in_ok-shrunk-in-Some-Underfull.ensures.right later_steady less o (subst (λ (x : Subtree). Spells x.order (at c.delete_below.new.pages.pages) (son_at n (suc (i))) o) (sym l_is) (subst (λ (z : List (Option (List ℕ))). Spells T.order (at z) (son_at n (suc (i))) o) (sym later_is) spells)) (subst (λ (x : Subtree). o.kind ≡ kind_of_level (x.height - 1)) (sym l_is) kind) (subst (λ (x : Subtree). AreWithin (son_bounds n.elements.items (suc (i)) x.bounds) o.elements.items) (sym l_is) within) free in (done.0, subst (λ (x : Subtree). TreatsAndSettles x n (brothers i underfull o) e (done_so_far ws fs) (done_so_far ws3 fs3) r) l_is done.1))
+    (λ j is last o spells kind within free. let done = c.in_ok-shrunk-in-Some-Underfull.ensures.left later_steady j is last o (subst (λ (x : Subtree). Spells x.order (at c.delete_below.new.pages.pages) (son_at n j) o) (sym l_is) (subst (λ (z : List (Option (List ℕ))). Spells T.order (at z) (son_at n j) o) (sym later_is) spells)) (subst (λ (x : Subtree). o.kind ≡ kind_of_level (x.height - 1)) (sym l_is) kind) (subst (λ (x : Subtree). AreWithin (son_bounds n.elements.items j x.bounds) o.elements.items) (sym l_is) within) free in (done.0, subst (λ (x : Subtree). TreatsAndSettles x n (brothers j o underfull) e (done_so_far ws fs) (done_so_far ws3 fs3) r) l_is done.1)) in
     let drops = drop_treated T.order P ws ws3 fs fs3 least T.height (level - 1) T.page (son_at n i) es us LB n underfull e e r visited2 visited3 K c.requires.order.0 low broken.0 treated (sym c.in_ok-visit.ensures.stands.kind ∙ head.body.0) refl broken.2 broken.1 in
     let unvisited3 = still_unvisited M visited2 visited3 T.page treated.son.t us son.mine (page_in T.page us (son.upre ++ (son.mine ++ son.upost)) us_is) (below_in T.page us son.upre son.mine son.upost us_is) (broken.0.loses.left.within treated.son.t (inr treated.son.t_in)) found.unvisited treated.son.visited_is in
-    let all : RemovesBelow T.order P (after P ws3 fs3) 0 (length fs3) least (suc (level - 1)) T.page es us M visited3 K (Some r) = record { drops = drops; unvisited = unvisited3 } in
-    subst (λ (h : ℕ). RemovesBelow T.order P (after P ws3 fs3) 0 (length fs3) least h T.page es us M visited3 K (Some r)) (sym up) all
+    let all : RemovesBelow (head_page T.order least (suc (level - 1)) T.page) (pages_freed P (after P ws3 fs3) 0 (length fs3)) es us (visits M visited3) K (Some r) = record { drops = drops; unvisited = unvisited3 } in
+    subst (λ (h : ℕ). RemovesBelow (head_page T.order least h T.page) (pages_freed P (after P ws3 fs3) 0 (length fs3)) es us (visits M visited3) K (Some r)) (sym up) all
 
 pub delete_below-returns-in_ok-shrunk-in-Some-Underfull-clause-up : goal.delete_below-returns-in_ok-shrunk-in-Some-Underfull-clause-up
 delete_below-returns-in_ok-shrunk-in-Some-Underfull-clause-up g t c =
@@ -418,7 +419,7 @@ delete_below-returns-in-None-clause-removes g t c = λ steady least es us low tr
     (record { tree = son.here; between = son.between; apart = apart_below T.page us son.upre son.mine son.upost us_is apart; unvisited = unvisited_below M T.page us son.upre son.mine son.upost us_is apart unvisited }) in
     let found = removed_here c.args.pages.now.pages c.visit.new.pages.pages ws fs S t2 (level - 1) son.xs son.mine (M ++ T.page ∷ []) M1 visited2 K (sought key son.xs) c.in_ok-removed-in-Err.field-0 (None) pages_is t_is c.in_ok-visit.ensures.visited up key_is (c.in-None.is)
     (c.in_ok-removed-in-Err.ensures.removes steady1 t2.order son.xs son.mine (omega arith) there.tree there.between there.apart there.unvisited) in
-    subst (λ (h : ℕ). RemovesBelow T.order P (after P ws fs) 0 (length fs) least h T.page es us M visited2 K None) (sym up)
+    subst (λ (h : ℕ). RemovesBelow (head_page T.order least h T.page) (pages_freed P (after P ws fs) 0 (length fs)) es us (visits M visited2) K None) (sym up)
     (drop_none T.order P (after P ws fs) 0 (length fs) least T.height (level - 1) T.page es us T.bounds n i M visited2 K head son found)
 
 pub delete_below-returns-in-None-clause-visit : goal.delete_below-returns-in-None-clause-visit
@@ -469,7 +470,7 @@ delete_below-returns-in-Some-Whole-clause-removes g t c = λ steady least es us 
     (record { tree = son.here; between = son.between; apart = apart_below T.page us son.upre son.mine son.upost us_is apart; unvisited = unvisited_below M T.page us son.upre son.mine son.upost us_is apart unvisited }) in
     let found = removed_here c.args.pages.now.pages c.visit.new.pages.pages ws fs S t2 (level - 1) son.xs son.mine (M ++ T.page ∷ []) M1 visited2 K (sought key son.xs) c.in_ok-removed-in-Err.field-0 (Some (Whole c.in-Some-Whole.removed)) pages_is t_is c.in_ok-visit.ensures.visited up key_is (c.in-Some-Whole.is ∙ ap Some c.in-Some-Whole.field-0-is)
     (c.in_ok-removed-in-Err.ensures.removes steady1 t2.order son.xs son.mine (omega arith) there.tree there.between there.apart there.unvisited) in
-    subst (λ (h : ℕ). RemovesBelow T.order P (after P ws fs) 0 (length fs) least h T.page es us M visited2 K (Some (Whole c.in-Some-Whole.removed))) (sym up)
+    subst (λ (h : ℕ). RemovesBelow (head_page T.order least h T.page) (pages_freed P (after P ws fs) 0 (length fs)) es us (visits M visited2) K (Some (Whole c.in-Some-Whole.removed))) (sym up)
     (drop_whole T.order P ws fs least T.height (level - 1) T.page es us T.bounds n i c.in-Some-Whole.removed M visited2 K apart head son found)
 
 pub delete_below-returns-in-Some-Whole-clause-up : goal.delete_below-returns-in-Some-Whole-clause-up
@@ -531,7 +532,7 @@ delete_here-returns-then-tree-eq1-clause-removes g t c = λ steady least es us b
     let ws2 = c.settle.new.edit.writes.items in
     let done = drop_leaf T.order P c.args.edit.now.writes.items ws2 c.args.edit.now.freed.items least T.height level T.page es us T.bounds T.bounds n m i x c.in_ok-settle.field-0 M (omega (arith, c.if-tree-eq1.true)) c.requires.order.0 low c.requires.unwritten c.requires.unfreed apart between head
     (subst (λ (h : ℕ). MayBeUnderfull T.order h T.bounds m) (sym c.if-tree-eq1.true) without) c.requires.node.ascends c.requires.place e_is refl c.remove.ensures.items c.in_ok-settle.ensures.settles in
-    subst (λ (fs : List ℕ). RemovesBelow T.order P (after P ws2 fs) 0 (length fs) least level T.page es us M M (element_at n i).0 (Some c.in_ok-settle.field-0)) (sym (ap (λ v. v.items) c.in_ok-settle.ensures.freed)) done
+    subst (λ (fs : List ℕ). RemovesBelow (head_page T.order least level T.page) (pages_freed P (after P ws2 fs) 0 (length fs)) es us (visits M M) (element_at n i).0 (Some c.in_ok-settle.field-0)) (sym (ap (λ v. v.items) c.in_ok-settle.ensures.freed)) done
 
 pub delete_here-returns-then-tree-eq1-clause-up : goal.delete_here-returns-then-tree-eq1-clause-up
 delete_here-returns-then-tree-eq1-clause-up g t c =
@@ -642,8 +643,8 @@ delete_here-returns-in_ok-settle-in-Some-Whole-clause-removes g t c = λ steady 
     (removed_here c.args.pages.now.pages c.args.pages.now.pages ws fs S t2 (level - 1) son.xs son.mine M M visited2 (sought None son.xs) (sought None son.xs) c.in_ok-next.field-0 (Some (Whole e)) refl t_is refl up refl (c.in-Some-Whole.is ∙ ap Some c.in-Some-Whole.field-0-is)
     (c.in_ok-next.ensures.removes steady t2.order son.xs son.mine (omega arith) there.tree there.between there.apart there.unvisited)) in
     let done = next_whole T.order P ws ws2 fs least T.height (level - 1) T.page es us T.bounds T.bounds n m i x e r M visited2 c.requires.order.0 low apart between head son took may_be_underfull e_is c.set_element.ensures.kind c.set_element.ensures.elements sons_is (visit_made.older T.page c.requires.visited) c.in_ok-settle-in-Some-Whole.ensures.settles in
-    subst (λ (z : List ℕ). RemovesBelow T.order P (after P ws2 z) 0 (length z) least level T.page es us M visited2 key (Some r)) freed
-    (subst (λ (h : ℕ). RemovesBelow T.order P (after P ws2 fs) 0 (length fs) least h T.page es us M visited2 key (Some r)) (sym up) done)
+    subst (λ (z : List ℕ). RemovesBelow (head_page T.order least level T.page) (pages_freed P (after P ws2 z) 0 (length z)) es us (visits M visited2) key (Some r)) freed
+    (subst (λ (h : ℕ). RemovesBelow (head_page T.order least h T.page) (pages_freed P (after P ws2 fs) 0 (length fs)) es us (visits M visited2) key (Some r)) (sym up) done)
 
 pub delete_here-returns-in_ok-settle-in-Some-Whole-clause-up : goal.delete_here-returns-in_ok-settle-in-Some-Whole-clause-up
 delete_here-returns-in_ok-settle-in-Some-Whole-clause-up g t c =
@@ -856,8 +857,8 @@ delete_here-returns-in_ok-shrunk-in-Some-Underfull-clause-removes g t c = λ ste
     let found = ap (lookup_in key) son.es_is ∙ lookup-here key son.pre (element_at n i) (son.xs ++ son.post) son.below refl in
     let drops = drop_treated T.order P ws ws3 fs fs3 least T.height (level - 1) T.page (son_at n (suc i)) es us T.bounds m underfull x (element_at n i) r visited2 visited3 key c.requires.order.0 low broken treated (sym c.requires.node.kind ∙ head.body.0) e_is refl found in
     let unvisited3 = on_unvisited M visited2 visited3 treated.son.t us son.mine (below_in T.page us son.upre son.mine son.upost all_is) (broken.loses.left.within treated.son.t (inr treated.son.t_in)) took.unvisited treated.son.visited_is in
-    let done : RemovesBelow T.order P (after P ws3 fs3) 0 (length fs3) least (suc (level - 1)) T.page es us M visited3 key (Some r) = record { drops = drops; unvisited = unvisited3 } in
-    subst (λ (h : ℕ). RemovesBelow T.order P (after P ws3 fs3) 0 (length fs3) least h T.page es us M visited3 key (Some r)) (sym up) done
+    let done : RemovesBelow (head_page T.order least (suc (level - 1)) T.page) (pages_freed P (after P ws3 fs3) 0 (length fs3)) es us (visits M visited3) key (Some r) = record { drops = drops; unvisited = unvisited3 } in
+    subst (λ (h : ℕ). RemovesBelow (head_page T.order least h T.page) (pages_freed P (after P ws3 fs3) 0 (length fs3)) es us (visits M visited3) key (Some r)) (sym up) done
 
 pub delete_here-returns-in_ok-shrunk-in-Some-Underfull-clause-older : goal.delete_here-returns-in_ok-shrunk-in-Some-Underfull-clause-older
 delete_here-returns-in_ok-shrunk-in-Some-Underfull-clause-older g t c = λ q is other.

@@ -13,6 +13,9 @@ use Rattle.btree_delete.specs.declared.subtree.Subtree.{Subtree}
 use Rattle.btree_insert.specs.Bounds.{unbounded}
 use Rattle.btree_insert.specs.Contents.{set_in}
 use Rattle.btree_delete.specs.Shrinking.{LeavesTree, RemovesBelow}
+use Rattle.btree_delete.specs.Subtrees.{head_page}
+use Rattle.btree_delete.specs.PagesLeft.{pages_freed}
+use Rattle.btree_delete.specs.Tidy.{visits}
 use Rattle.btree_delete.proofs.RootLemmas.{deleted_at, deleted_none}
 use Rattle.btree_delete.proofs.FirstElementLemmas.{went_up}
 use Rattle.btree_delete.proofs.deleting.delete.Goals as goal
@@ -30,7 +33,7 @@ returns-in_default-clause-deleted g c = λ steady es us holds.
     let ws = c.delete_below.new.edit.writes.items in
     let fs = c.delete_below.new.edit.freed.items in
     let call = c.in_ok-shrunk.ensures.removes steady 1 es us c.requires.tree.order.0 (root_tree T.order P T.height T.root es us (omega arith) holds.tree) (Between-all es holds.ascends) holds.apart (unvisited_none c.new-visited.result.items us c.new-visited.ensures) in
-    let none = subst (λ (s : Option Shrunk). RemovesBelow T.order P (after P ws fs) 0 (length fs) 1 (T.height - 1) T.root es us c.new-visited.result.items c.delete_below.new.visited.items c.args.key.now s) c.in_default.is call in
+    let none = subst (λ (s : Option Shrunk). RemovesBelow (head_page T.order 1 (T.height - 1) T.root) (pages_freed P (after P ws fs) 0 (length fs)) es us (visits c.new-visited.result.items c.delete_below.new.visited.items) c.args.key.now s) c.in_default.is call in
     deleted_none P (at c.delete_below.new.pages.pages) T es us c.args.key.now (ap (λ (v : PagesView). at v.pages) c.delete_below.ensures.unchanged) holds none.drops
 
 pub shrink_tree-requires-clause-up : goal.shrink_tree-requires-clause-up
@@ -54,7 +57,7 @@ returns-in_err-shrunk-2-clause-deleted g c = λ steady es us holds.
     let fs = c.delete_below.new.edit.freed.items in
     let pages_is = ap (λ (v : PagesView). v.pages) c.delete_below.ensures.unchanged in
     let call = c.in_ok-shrunk.ensures.removes steady 1 es us c.requires.tree.order.0 (root_tree T.order P T.height T.root es us (omega arith) holds.tree) (Between-all es holds.ascends) holds.apart (unvisited_none c.new-visited.result.items us c.new-visited.ensures) in
-    let some = subst (λ (s : Option Shrunk). RemovesBelow T.order P (after P ws fs) 0 (length fs) 1 (T.height - 1) T.root es us c.new-visited.result.items c.delete_below.new.visited.items c.args.key.now s) c.in-Some.is call in
+    let some = subst (λ (s : Option Shrunk). RemovesBelow (head_page T.order 1 (T.height - 1) T.root) (pages_freed P (after P ws fs) 0 (length fs)) es us (visits c.new-visited.result.items c.delete_below.new.visited.items) c.args.key.now s) c.in-Some.is call in
     rw (p.1, p.2) (c.in_err-shrunk-2.ensures.deleted P es us c.args.key.now holds some.drops.1 some.drops.2)
 
 pub returns-clause-deleted : goal.returns-clause-deleted
@@ -65,9 +68,9 @@ returns-clause-deleted g c = λ steady es us holds.
     let fs = c.delete_below.new.edit.freed.items in
     let pages_is = ap (λ (v : PagesView). v.pages) c.delete_below.ensures.unchanged in
     let call = c.in_ok-shrunk.ensures.removes steady 1 es us c.requires.tree.order.0 (root_tree T.order P T.height T.root es us (omega arith) holds.tree) (Between-all es holds.ascends) holds.apart (unvisited_none c.new-visited.result.items us c.new-visited.ensures) in
-    let some = subst (λ (s : Option Shrunk). RemovesBelow T.order P (after P ws fs) 0 (length fs) 1 (T.height - 1) T.root es us c.new-visited.result.items c.delete_below.new.visited.items c.args.key.now s) c.in-Some.is call in
+    let some = subst (λ (s : Option Shrunk). RemovesBelow (head_page T.order 1 (T.height - 1) T.root) (pages_freed P (after P ws fs) 0 (length fs)) es us (visits c.new-visited.result.items c.delete_below.new.visited.items) c.args.key.now s) c.in-Some.is call in
     let there = subst (λ (ps : List (Option (List ℕ))). Holds (at ps) T es us) (sym pages_is) holds in
-    let leaves = subst (λ (ps : List (Option (List ℕ))). LeavesTree T.order (at ps) (after (at ps) ws fs) 0 (length fs) 1 (T.height - 1) T.root us (set_in c.args.key.now None es) c.in-Some.shrunk) (sym pages_is) some.drops.2 in
+    let leaves = subst (λ (ps : List (Option (List ℕ))). LeavesTree (head_page T.order 1 (T.height - 1) T.root) (pages_freed (at ps) (after (at ps) ws fs) 0 (length fs)) us (set_in c.args.key.now None es) c.in-Some.shrunk) (sym pages_is) some.drops.2 in
     let done = c.in_ok-shrunk-2.ensures.deleted (at c.delete_below.new.pages.pages) es us c.args.key.now there some.drops.1 leaves in
     deleted_at P (at c.delete_below.new.pages.pages) (after (at c.delete_below.new.pages.pages) c.shrink_tree.new.edit.writes.items c.shrink_tree.new.edit.freed.items) (at c.stage.new.self.pages) T c.in_ok-shrunk-2.shrunk.0 es us c.args.key.now c.in_ok-shrunk-2.shrunk.1 (ap (λ (v : PagesView). at v.pages) c.delete_below.ensures.unchanged) c.in_ok-stage.ensures.pages done
 

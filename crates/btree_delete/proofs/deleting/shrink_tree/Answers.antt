@@ -3,6 +3,8 @@ use Rattle.page_store.specs.PageMap.{after}
 use Rattle.btree_delete.specs.declared.delete_below.Shrunk.{Shrunk}
 use Rattle.btree_insert.specs.Contents.{set_in}
 use Rattle.btree_delete.specs.Shrinking.{UnderfullGoesUp, LeavesTree, gone}
+use Rattle.btree_delete.specs.Subtrees.{head_page}
+use Rattle.btree_delete.specs.PagesLeft.{pages_freed}
 use Rattle.btree_delete.proofs.RootLemmas.{shrank_whole, shrank_underfull, shrank_deleted, shrink_tidy, tidy_stages}
 use Rattle.btree_delete.proofs.deleting.shrink_tree.Goals as goal
 
@@ -12,7 +14,7 @@ returns-in_ok-next-in-Whole-clause-deleted c = λ P es us key holds found leaves
     let fs = c.args.edit.now.freed.items in
     let T = c.args.tree.now in
     let found2 = found ∙ ap (λ (s : Shrunk). Some (gone s).1) c.in-Whole.is in
-    let leaves2 = subst (λ (s : Shrunk). LeavesTree T.order P (after P ws fs) 0 (length fs) 1 (T.height - 1) T.root us (set_in key None es) s) c.in-Whole.is leaves in
+    let leaves2 = subst (λ (s : Shrunk). LeavesTree (head_page T.order 1 (T.height - 1) T.root) (pages_freed P (after P ws fs) 0 (length fs)) us (set_in key None es) s) c.in-Whole.is leaves in
     let shrank = shrank_whole P T ws fs us (set_in key None es) c.in-Whole.removed c.requires.height leaves2 in
     let len_is : c.len.result ≡ length fs = c.len.ensures ∙ c.args.edit.now.freed.ok.0 in
     let next_is = c.in_ok-next-in-Whole.ensures.value ∙ ap (λ (n : ℕ). record T { count = T.count - 1; used = T.used - n }) len_is in
@@ -31,7 +33,7 @@ returns-in_ok-next-in-Underfull-clause-deleted c = λ P es us key holds found le
     let T = c.args.tree.now in
     let S = c.in_ok-shrunk-in-Underfull.shrunk in
     let found2 = found ∙ ap (λ (s : Shrunk). Some (gone s).1) c.in-Underfull.is in
-    let leaves2 = subst (λ (s : Shrunk). LeavesTree T.order P (after P ws fs) 0 (length fs) 1 (T.height - 1) T.root us (set_in key None es) s) c.in-Underfull.is leaves in
+    let leaves2 = subst (λ (s : Shrunk). LeavesTree (head_page T.order 1 (T.height - 1) T.root) (pages_freed P (after P ws fs) 0 (length fs)) us (set_in key None es) s) c.in-Underfull.is leaves in
     let up = subst (UnderfullGoesUp T.order T.height (record { low = None; high = None }) T.root ws fs) c.in-Underfull.is c.requires.up in
     let shrank = shrank_underfull P T S ws ws2 fs fs2 us (set_in key None es) c.in-Underfull.removed c.in-Underfull.node (record { low = None; high = None }) c.requires.order.0 c.requires.height up.0 up.2 leaves2 c.in_ok-shrunk-in-Underfull.ensures.shrinks in
     let len_is : c.len-in-Underfull.result ≡ length fs2 = c.len-in-Underfull.ensures ∙ c.shrink_root.new.edit.freed.ok.0 in

@@ -4,10 +4,10 @@ use Rattle.btree_node.specs.declared.node.Node.{Node}
 use Rattle.btree_insert.specs.Bounds.{AreWithin, son_bounds}
 use Rattle.btree_insert.specs.PageTrees.{Spells, kind_of_level}
 use Rattle.btree_delete.specs.declared.subtree.Subtree.{Subtree}
-use Rattle.btree_delete.specs.Treatment.{son_at, Treats}
+use Rattle.btree_delete.specs.Treatment.{son_at, Treats, brothers}
 use Rattle.btree_delete.specs.Shrinking.{MayBeUnderfull}
 use Rattle.btree_delete.specs.Subtrees.{son_tree}
-use Rattle.btree_delete.specs.Tidy.{is_visited, Untouched}
+use Rattle.btree_delete.specs.Tidy.{is_visited, Untouched, so_far}
 use Rattle.btree_delete.proofs.UnderfullNodeLemmas.{are_brothers, both_fit, treated_may_be_underfull}
 use Rattle.btree_delete.proofs.EditLemmas.{visited_differs, treat_tidy_left, treat_tidy_right, treats_others}
 use Rattle.btree_delete.proofs.underflow.treat_underflow.Goals as goal
@@ -46,7 +46,7 @@ returns-then-i-len-clause-right g c = λ steady low node spells kind within unvi
     let new = subst (λ (q : ℕ). is_visited c.args.visited.now.items q ≡ false) (sym page_is) unvisited in
     let same = c.in_ok-visit.ensures.exact steady node asked (subst (λ (x : Subtree). node.kind ≡ kind_of_level x.height) (sym t_is) kind) bounded new in (
       c.in_ok-visit.ensures.visited ∙ ap (λ (q : ℕ). c.args.visited.now.items ++ q ∷ []) page_is,
-      subst (λ (r : Node). Treats T.order F c.treat_pair.new.father c.args.i c.args.son r c.args.edit.now.writes.items c.treat_pair.new.edit.writes.items c.args.edit.now.freed.items c.treat_pair.new.edit.freed.items) same c.in_ok-treat_pair.ensures.treats,
+      subst (λ (r : Node). Treats T.order F c.treat_pair.new.father (brothers c.args.i c.args.son r) (so_far c.args.edit.now) (so_far c.treat_pair.new.edit)) same c.in_ok-treat_pair.ensures.treats,
     )
 
 pub returns-then-i-len-clause-father : goal.returns-then-i-len-clause-father
