@@ -12,7 +12,7 @@ use Rattle.btree_insert.proofs.BoundLemmas.{Between-all}
 use Rattle.btree_insert.proofs.SonsAroundLemmas.{Stands}
 use Rattle.btree_insert.proofs.ChangedTreeLemmas.{in_use}
 use Rattle.btree_insert.proofs.Membership.{in_each}
-use Rattle.btree_delete.specs.Survey.{SeenSoFar, mark, AreUnvisited, unreached, after, below_page, Sound, Surveyed, none_of, leaf_of, height_of, seen_of, IsRooted, WentThrough, Measured}
+use Rattle.btree_delete.specs.Survey.{SeenSoFar, mark, AreUnvisited, unreached, after, below_page, Sound, Surveyed, none_of, leaf_of, height_of, seen_of, IsRooted, WentThrough, Measured, allowed}
 use Rattle.btree_delete.proofs.SurveyLemmas.{unreached_set}
 use Rattle.btree_delete.proofs.FreeNumberLemmas.{within, one_less}
 
@@ -118,7 +118,7 @@ below_count (p ∷ pages) (suc q) used = let rest = below_count pages q used in 
 
 -- a tree of the class fits a walk that has seen nothing
 pub sound_root : (k : ℕ) (pages : List (Option (List ℕ))) (h root : ℕ) (es : List Element) (us : List ℕ) (start : SeenSoFar) → 0 < k → length pages ≤ 1000001 → start ≡ record { reached = none_of (length pages); leaf = None; keys = 0 }
-    → IsRooted k (at pages) root (suc h) es us → (h ≤ 18) × Sound (below_page k (at pages) 1 root) 18 unbounded start h (18 - h) es us
+    → IsRooted k (at pages) root (suc h) es us → (h ≤ 18) × Sound (below_page k (at pages) 1 root) (allowed 18 unbounded) start h (18 - h) es us
 sound_root k pages h root es us start order most start_is rooted =
     let used = in_use k (at pages) 1 (suc h) root es us rooted.tree in
     let low : (q : ℕ) → IsIn q us → get_or (none_of (length pages)) q true ≡ false = λ q is. get_or-replicate (length pages) q false true (below_count pages q (in_each (λ x. at pages x ≡ None → ⊥) us q used is)) in
@@ -149,7 +149,7 @@ seen_after count h es us start start_is = ap (after (18 - h) es us) start_is ∙
 
 -- what was gone through from the root is a tree of the class
 pub rooted_found : (k : ℕ) (pages : List (Option (List ℕ))) (root : ℕ) (start new : SeenSoFar) (reads reads' : ℕ) → start ≡ record { reached = none_of (length pages); leaf = None; keys = 0 }
-    → Surveyed (below_page k (at pages) 1 root) 18 unbounded start new reads reads' → WentThrough k (at pages) (length pages) root new reads reads'
+    → Surveyed (below_page k (at pages) 1 root) (allowed 18 unbounded) start new reads reads' → WentThrough k (at pages) (length pages) root new reads reads'
 rooted_found k pages root start new reads reads' start_is sub =
     let level_is : sub.level ≡ 18 - sub.h = omega (arith, sub.sound.levels) in
     record {
@@ -195,7 +195,7 @@ root_height k pages root (suc h) es us some rooted = omega arith
 
 -- a tree below a root that is a page
 pub rooted_exact : (k : ℕ) (pages : List (Option (List ℕ))) (root height : ℕ) (es : List Element) (us : List ℕ) (start : SeenSoFar) → (root ≡ 0 → ⊥) → 0 < k → length pages ≤ 1000001 → start ≡ begin_with (none_of (length pages))
-    → IsRooted k (at pages) root height es us → (h : ℕ) × Sound (below_page k (at pages) 1 root) 18 unbounded start h (18 - h) es us × (after (18 - h) es us start ≡ seen_of (length pages) height es us)
+    → IsRooted k (at pages) root height es us → (h : ℕ) × Sound (below_page k (at pages) 1 root) (allowed 18 unbounded) start h (18 - h) es us × (after (18 - h) es us start ≡ seen_of (length pages) height es us)
 rooted_exact k pages root zero es us start some order most start_is rooted = absurd (some rooted.tree.0)
 rooted_exact k pages root (suc h) es us start some order most start_is rooted =
     let sound = sound_root k pages h root es us start order most start_is rooted in

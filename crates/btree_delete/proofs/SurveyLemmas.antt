@@ -16,7 +16,7 @@ use Rattle.btree_insert.proofs.SonsAroundLemmas.{Stands}
 use Rattle.btree_insert.proofs.ReachLemmas.{Between-join}
 use Rattle.btree_insert.proofs.HeadNodeLemmas.{body_each}
 use Rattle.btree_insert.proofs.SonsLemmas.{fan_last, fan_first}
-use Rattle.btree_delete.specs.Survey.{SeenSoFar, mark, AreUnvisited, unreached, after, below_page, below_sons, Sound, Surveyed}
+use Rattle.btree_delete.specs.Survey.{SeenSoFar, mark, AreUnvisited, unreached, after, below_page, below_sons, Sound, Surveyed, allowed}
 
 -- one more page was reached
 pub unreached_set : (bits : List Bool) (n : ℕ) → get_or bits n true ≡ false → unreached (set bits n true) + 1 ≡ unreached bits
@@ -90,7 +90,7 @@ with_leaf level keys s = record { reached = s.reached; leaf = Some level; keys =
 pub leaf_found : (k : ℕ) (pages : PageMap) (least left p : ℕ) (b : Bounds) (n : Node) (old reached new : SeenSoFar) (reads reads' : ℕ) → Spells k pages p n → n.kind ≡ Leaf → least ≤ length n.elements.items → AreWithin b n.elements.items
     → get_or old.reached p true ≡ false → reached ≡ record old { reached = set old.reached p true } → (reached.leaf ≡ None) ⊎ (reached.leaf ≡ Some left)
     → new ≡ record { reached = reached.reached; leaf = Some left; keys = reached.keys + length n.elements.items } → reads' ≡ counted reads true
-    → Surveyed (below_page k pages least p) left b old new reads reads'
+    → Surveyed (below_page k pages least p) (allowed left b) old new reads reads'
 leaf_found k pages least left p b n old reached new reads reads' spelled kind some within unvisited reached_is leaf new_is read = record {
   h = 0;
   level = left;
@@ -110,7 +110,7 @@ leaf_found k pages least left p b n old reached new reads reads' spelled kind so
 -- an inner page was gone through
 pub inner_found : (k : ℕ) (pages : PageMap) (least left p : ℕ) (b : Bounds) (n : Node) (old reached new : SeenSoFar) (reads reads1 reads' : ℕ) → Spells k pages p n → n.kind ≡ Inner → least ≤ length n.elements.items → 0 < left
     → get_or old.reached p true ≡ false → reached ≡ record old { reached = set old.reached p true } → reads1 ≡ counted reads true
-    → Surveyed (below_sons k pages n.sons.items n.elements.items) (left - 1) b reached new reads1 reads' → Surveyed (below_page k pages least p) left b old new reads reads'
+    → Surveyed (below_sons k pages n.sons.items n.elements.items) (allowed (left - 1) b) reached new reads1 reads' → Surveyed (below_page k pages least p) (allowed left b) old new reads reads'
 inner_found k pages least left p b n old reached new reads reads1 reads' spelled kind some room unvisited reached_is one sub = record {
   h = suc sub.h;
   level = sub.level;
@@ -139,7 +139,7 @@ pub record Head (k : ℕ) (pages : PageMap) (least left p : ℕ) (b : Bounds) (o
   pub rest : AreUnvisited below (set old.reached p true)
 
 -- the node at the head of a tree that a survey goes through
-pub head : (k : ℕ) (pages : PageMap) (least left p : ℕ) (b : Bounds) (old : SeenSoFar) (h level : ℕ) (es : List Element) (us : List ℕ) → Sound (below_page k pages least p) left b old h level es us
+pub head : (k : ℕ) (pages : PageMap) (least left p : ℕ) (b : Bounds) (old : SeenSoFar) (h level : ℕ) (es : List Element) (us : List ℕ) → Sound (below_page k pages least p) (allowed left b) old h level es us
     → (n : Node) × Head k pages least left p b old h level es us n
 head k pages least left p b old h level es us sound =
     let (n, below, spells, some, body, us_is) = sound.stands in
@@ -161,7 +161,7 @@ head k pages least left p b old h level es us sound =
     )
 
 -- what a leaf comes to
-pub leaf_exact : (k : ℕ) (pages : PageMap) (least left p : ℕ) (b : Bounds) (n : Node) (old : SeenSoFar) (h level : ℕ) (es : List Element) (us : List ℕ) → n.kind ≡ Leaf → Sound (below_page k pages least p) left b old h level es us → Head k pages least left p b old h level es us n
+pub leaf_exact : (k : ℕ) (pages : PageMap) (least left p : ℕ) (b : Bounds) (n : Node) (old : SeenSoFar) (h level : ℕ) (es : List Element) (us : List ℕ) → n.kind ≡ Leaf → Sound (below_page k pages least p) (allowed left b) old h level es us → Head k pages least left p b old h level es us n
     → (level ≡ left) × (es ≡ n.elements.items) × (us ≡ p ∷ [])
 leaf_exact k pages least left p b n old zero level es us kind sound top = (omega (arith, sound.levels), top.body.1, top.us_is ∙ ap (λ vs. p ∷ vs) top.body.2)
 leaf_exact k pages least left p b n old (suc h) level es us kind sound top = absurd (let same = sym kind ∙ top.body.0 in cc)
@@ -178,12 +178,12 @@ pub record Down (k : ℕ) (pages : PageMap) (left p : ℕ) (b : Bounds) (n : Nod
   pub below : List ℕ
   pub h1 : ℕ
   pub some : 0 < left
-  pub sound : Sound (below_sons k pages n.sons.items n.elements.items) (left - 1) b reached h1 level es below
+  pub sound : Sound (below_sons k pages n.sons.items n.elements.items) (allowed (left - 1) b) reached h1 level es below
   pub back : (new : SeenSoFar) → new ≡ after level es below reached → new ≡ after level es us old
 
 -- an inner page whose sons were gone through
 pub inner_exact : (k : ℕ) (pages : PageMap) (least left p : ℕ) (b : Bounds) (n : Node) (old reached : SeenSoFar) (h level : ℕ) (es : List Element) (us : List ℕ) → n.kind ≡ Inner → reached ≡ record old { reached = set old.reached p true }
-    → Sound (below_page k pages least p) left b old h level es us → Head k pages least left p b old h level es us n → Down k pages left p b n old reached h level es us
+    → Sound (below_page k pages least p) (allowed left b) old h level es us → Head k pages least left p b old h level es us n → Down k pages left p b n old reached h level es us
 inner_exact k pages least left p b n old reached zero level es us kind reached_is sound top = absurd (let same = sym kind ∙ top.body.0 in cc)
 inner_exact k pages least left p b n old reached (suc h) level es us kind reached_is sound top = record {
   below = top.below;
@@ -211,7 +211,7 @@ empty els b is none = grind (arith, nat_tests)
 
 -- the last son was gone through
 pub last_found : (k : ℕ) (pages : PageMap) (left : ℕ) (b : Bounds) (sons : List ℕ) (els : List Element) (old new : SeenSoFar) (reads reads' : ℕ) → length els ≡ 0 → length sons ≡ length els + 1
-    → Surveyed (below_page k pages k (get_or sons 0 0)) left b old new reads reads' → Surveyed (below_sons k pages sons els) left b old new reads reads'
+    → Surveyed (below_page k pages k (get_or sons 0 0)) (allowed left b) old new reads reads' → Surveyed (below_sons k pages sons els) (allowed left b) old new reads reads'
 last_found k pages left b sons els old new reads reads' none size sub = record {
   h = sub.h;
   level = sub.level;
@@ -230,7 +230,7 @@ last_found k pages left b sons els old new reads reads' none size sub = record {
 
 -- the last son gone through
 pub last_exact : (k : ℕ) (pages : PageMap) (left : ℕ) (b : Bounds) (sons : List ℕ) (els : List Element) (old : SeenSoFar) (h level : ℕ) (es : List Element) (us : List ℕ) → length els ≡ 0
-    → Sound (below_sons k pages sons els) left b old h level es us → Sound (below_page k pages k (get_or sons 0 0)) left b old h level es us
+    → Sound (below_sons k pages sons els) (allowed left b) old h level es us → Sound (below_page k pages k (get_or sons 0 0)) (allowed left b) old h level es us
 last_exact k pages left b sons els old h level es us none sound = record {
   stands = fan_last (TreeAt k pages k (suc h)) sons els es us none sound.stands;
   levels = sound.levels;
@@ -251,8 +251,8 @@ head_within b (e ∷ els) x some is between = (subst (λ (y : Element). Over b.l
 
 -- the first son, the key behind it and the other sons were gone through
 pub more_found : (k : ℕ) (pages : PageMap) (left : ℕ) (b : Bounds) (sons : List ℕ) (els : List Element) (x : Element) (old first second new : SeenSoFar) (r0 r1 r2 : ℕ) → 0 < length els → length sons ≡ length els + 1 → x ≡ get_or els 0 x → Between b els
-    → Surveyed (below_page k pages k (get_or sons 0 0)) left (record { low = b.low; high = Some x.0 }) old first r0 r1 → second ≡ record first { keys = first.keys + 1 }
-    → Surveyed (below_sons k pages (drop 1 sons) (drop 1 els)) left (record { low = Some x.0; high = b.high }) second new r1 r2 → Surveyed (below_sons k pages sons els) left b old new r0 r2
+    → Surveyed (below_page k pages k (get_or sons 0 0)) (allowed left (record { low = b.low; high = Some x.0 })) old first r0 r1 → second ≡ record first { keys = first.keys + 1 }
+    → Surveyed (below_sons k pages (drop 1 sons) (drop 1 els)) (allowed left (record { low = Some x.0; high = b.high })) second new r1 r2 → Surveyed (below_sons k pages sons els) (allowed left b) old new r0 r2
 more_found k pages left b sons els x old first second new r0 r1 r2 some size x_is between front one back =
     let bounds = head_within b els x some x_is between in
     let leaf_is : second.leaf ≡ Some front.level = ap (λ (s : SeenSoFar). s.leaf) one ∙ ap (λ (s : SeenSoFar). s.leaf) front.is in
@@ -284,14 +284,14 @@ pub record Apiece (k : ℕ) (pages : PageMap) (left : ℕ) (b : Bounds) (sons : 
   pub ys : List Element
   pub here : List ℕ
   pub rest : List ℕ
-  pub first : Sound (below_page k pages k (get_or sons 0 0)) left (record { low = b.low; high = Some x.0 }) old h level xs here
+  pub first : Sound (below_page k pages k (get_or sons 0 0)) (allowed left (record { low = b.low; high = Some x.0 })) old h level xs here
   pub more : (reached second : SeenSoFar) → reached ≡ after level xs here old → second ≡ record reached { keys = reached.keys + 1 }
-      → Sound (below_sons k pages (drop 1 sons) (drop 1 els)) left (record { low = Some x.0; high = b.high }) second h level ys rest
+      → Sound (below_sons k pages (drop 1 sons) (drop 1 els)) (allowed left (record { low = Some x.0; high = b.high })) second h level ys rest
   pub back : (reached second new : SeenSoFar) → reached ≡ after level xs here old → second ≡ record reached { keys = reached.keys + 1 } → new ≡ after level ys rest second → new ≡ after level es us old
 
 -- one more son gone through, and those behind it
 pub more_exact : (k : ℕ) (pages : PageMap) (left : ℕ) (b : Bounds) (sons : List ℕ) (els : List Element) (x : Element) (old : SeenSoFar) (h level : ℕ) (es : List Element) (us : List ℕ) → 0 < length els → x ≡ get_or els 0 x
-    → Sound (below_sons k pages sons els) left b old h level es us → Apiece k pages left b sons els x old h level es us
+    → Sound (below_sons k pages sons els) (allowed left b) old h level es us → Apiece k pages left b sons els x old h level es us
 more_exact k pages left b sons els x old h level es us some x_is sound =
     let one = fan_first (TreeAt k pages k (suc h)) sons els es us some sound.stands in
     let es_is = one.es_is x x_is in
@@ -323,17 +323,17 @@ more_exact k pages left b sons els x old h level es us some x_is sound =
 
 -- what a call says of sons, in the words of the caller
 pub sons_found : (k : ℕ) (pages pages2 : PageMap) (sons sons2 : List ℕ) (els els2 : List Element) (left : ℕ) (b : Bounds) (old new : SeenSoFar) (r r' : ℕ) → pages2 ≡ pages → sons2 ≡ sons → els2 ≡ els
-    → Surveyed (below_sons k pages2 sons2 els2) left b old new r r' → Surveyed (below_sons k pages sons els) left b old new r r'
+    → Surveyed (below_sons k pages2 sons2 els2) (allowed left b) old new r r' → Surveyed (below_sons k pages sons els) (allowed left b) old new r r'
 sons_found k pages pages2 sons sons2 els els2 left b old new r r' pages_is sons_is els_is sub =
-    subst (λ (x : PageMap). Surveyed (below_sons k x sons els) left b old new r r') pages_is
-    (subst (λ (x : List ℕ). Surveyed (below_sons k pages2 x els) left b old new r r') sons_is (subst (λ (x : List Element). Surveyed (below_sons k pages2 sons2 x) left b old new r r') els_is sub))
+    subst (λ (x : PageMap). Surveyed (below_sons k x sons els) (allowed left b) old new r r') pages_is
+    (subst (λ (x : List ℕ). Surveyed (below_sons k pages2 x els) (allowed left b) old new r r') sons_is (subst (λ (x : List Element). Surveyed (below_sons k pages2 sons2 x) (allowed left b) old new r r') els_is sub))
 
 -- sons said another way
 pub sons_sound : (k : ℕ) (pages pages2 : PageMap) (sons sons2 : List ℕ) (els els2 : List Element) (left : ℕ) (b : Bounds) (old : SeenSoFar) (h level : ℕ) (es : List Element) (us : List ℕ) → pages2 ≡ pages → sons2 ≡ sons → els2 ≡ els
-    → Sound (below_sons k pages sons els) left b old h level es us → Sound (below_sons k pages2 sons2 els2) left b old h level es us
+    → Sound (below_sons k pages sons els) (allowed left b) old h level es us → Sound (below_sons k pages2 sons2 els2) (allowed left b) old h level es us
 sons_sound k pages pages2 sons sons2 els els2 left b old h level es us pages_is sons_is els_is sub =
-    subst (λ (x : PageMap). Sound (below_sons k x sons2 els2) left b old h level es us) (sym pages_is)
-    (subst (λ (x : List ℕ). Sound (below_sons k pages x els2) left b old h level es us) (sym sons_is) (subst (λ (x : List Element). Sound (below_sons k pages sons x) left b old h level es us) (sym els_is) sub))
+    subst (λ (x : PageMap). Sound (below_sons k x sons2 els2) (allowed left b) old h level es us) (sym pages_is)
+    (subst (λ (x : List ℕ). Sound (below_sons k pages x els2) (allowed left b) old h level es us) (sym sons_is) (subst (λ (x : List Element). Sound (below_sons k pages sons x) (allowed left b) old h level es us) (sym els_is) sub))
 
 -- what follows from an answer
 pub match_ok : {E : Type 0} (r : Result (Unit {0}) E) (A B : Type 0) (F : E → Type 0) → (A → B) → MatchResult r (λ _. A) F → MatchResult r (λ _. B) F

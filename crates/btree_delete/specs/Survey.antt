@@ -41,21 +41,29 @@ below_page k pages least p h es us = TreeAt k pages least (suc h) p es us
 abbrev pub below_sons : ℕ → PageMap → List ℕ → List Element → ℕ → List Element → List ℕ → Type 0
 below_sons k pages sons els h es us = Fan (TreeAt k pages k (suc h)) sons els es us
 
--- a tree that fits what was seen: its keys are between the bounds, its pages are new, and its leaves stand where the others do. So many levels more are allowed below its root.
-pub record Sound (tree : ℕ → List Element → List ℕ → Type 0) (left : ℕ) (bounds : Bounds) (old : SeenSoFar) (h level : ℕ) (es : List Element) (us : List ℕ) : Type 0 where
+-- what the levels above allow a tree: so many levels more below its root, and keys between these bounds
+pub record Allowed : Type 0 where
+  pub left : ℕ
+  pub bounds : Bounds
+
+abbrev pub allowed : ℕ → Bounds → Allowed
+allowed left bounds = record { left = left; bounds = bounds }
+
+-- a tree that fits what was seen: its keys are between the bounds, its pages are new, and its leaves stand where the others do
+pub record Sound (tree : ℕ → List Element → List ℕ → Type 0) (may : Allowed) (old : SeenSoFar) (h level : ℕ) (es : List Element) (us : List ℕ) : Type 0 where
   pub stands : tree h es us
-  pub levels : left ≡ level + h
-  pub between : Between bounds es
+  pub levels : may.left ≡ level + h
+  pub between : Between may.bounds es
   pub unvisited : AreUnvisited us old.reached
   pub leaf : (old.leaf ≡ None) ⊎ (old.leaf ≡ Some level)
 
 -- such a tree was gone through, with one read a page
-pub record Surveyed (tree : ℕ → List Element → List ℕ → Type 0) (left : ℕ) (bounds : Bounds) (old new : SeenSoFar) (reads reads' : ℕ) : Type 0 where
+pub record Surveyed (tree : ℕ → List Element → List ℕ → Type 0) (may : Allowed) (old new : SeenSoFar) (reads reads' : ℕ) : Type 0 where
   pub h : ℕ
   pub level : ℕ
   pub es : List Element
   pub us : List ℕ
-  pub sound : Sound tree left bounds old h level es us
+  pub sound : Sound tree may old h level es us
   pub is : new ≡ after level es us old
   pub read : reads' ≡ counted_times reads (length us)
 

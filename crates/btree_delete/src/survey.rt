@@ -7,7 +7,7 @@ ghost use Rattle.btree_node.specs.declared.node.Node.{Node};
 ghost use Rattle.btree_insert.specs.Bounds.{AreWithin, Between};
 ghost use Rattle.btree_insert.specs.Faults.{is_device};
 ghost use Rattle.btree_insert.specs.PageTrees.{Spells};
-ghost use Rattle.btree_delete.specs.Survey.{SeenSoFar, unreached, after, below_page, below_sons, Sound, Surveyed};
+ghost use Rattle.btree_delete.specs.Survey.{SeenSoFar, unreached, after, below_page, below_sons, Sound, Surveyed, allowed};
 
 use btree_insert::{Bounds, TreeFault, are_within};
 use btree_node::{Node, NodeKind, decode_into};
@@ -189,11 +189,12 @@ pub(crate) fn survey_page<S: Store>(
     requires idle { pages.old.changed ≡ false }
     requires room { survey.old.keys + 32 * unreached survey.old.reached < 2 ^ 32 }
     ensures found { IsTrue pages.old.steady → OnOk result
-        (Surveyed (below_page order (at pages.old.pages) least n) above.now.left above.now.bounds
-        survey.old survey.new pages.old.reads pages.new.reads) }
+        (Surveyed (below_page order (at pages.old.pages) least n)
+        (allowed above.now.left above.now.bounds) survey.old survey.new
+        pages.old.reads pages.new.reads) }
     ensures exact { IsTrue pages.old.steady → (h level : ℕ) (es : List Element) (us : List ℕ)
         → Sound (below_page order (at pages.old.pages) least n)
-        above.now.left above.now.bounds survey.old h level es us
+        (allowed above.now.left above.now.bounds) survey.old h level es us
         → MatchResult result (λ _. survey.new ≡ after level es us survey.old)
         (λ fault. fault ≡ TreeFault.Device) }
     ensures no_memory { IfErr result (λ fault. fault ≢ TreeFault.Memory) }
@@ -249,11 +250,12 @@ fn survey_sons<S: Store>(
     requires room { survey.old.keys + length elements.now + 32 * unreached survey.old.reached
         < 2 ^ 32 }
     ensures found { IsTrue pages.old.steady → Between above.now.bounds elements.now → OnOk result
-        (Surveyed (below_sons order (at pages.old.pages) sons.now elements.now) above.now.left above.now.bounds
-        survey.old survey.new pages.old.reads pages.new.reads) }
+        (Surveyed (below_sons order (at pages.old.pages) sons.now elements.now)
+        (allowed above.now.left above.now.bounds) survey.old survey.new
+        pages.old.reads pages.new.reads) }
     ensures exact { IsTrue pages.old.steady → (h level : ℕ) (es : List Element) (us : List ℕ)
         → Sound (below_sons order (at pages.old.pages) sons.now elements.now)
-        above.now.left above.now.bounds survey.old h level es us
+        (allowed above.now.left above.now.bounds) survey.old h level es us
         → MatchResult result (λ _. survey.new ≡ after level es us survey.old)
         (λ fault. fault ≡ TreeFault.Device) }
     ensures no_memory { IfErr result (λ fault. fault ≢ TreeFault.Memory) }

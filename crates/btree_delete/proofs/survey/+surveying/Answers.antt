@@ -10,7 +10,7 @@ use Rattle.btree_insert.specs.Bounds.{Between}
 use Rattle.btree_insert.proofs.ReachLemmas.{on_ok, rest_within}
 use Rattle.btree_insert.proofs.SonsLemmas.{nonempty}
 use Rattle.btree_insert.specs.declared.tree.TreeFault.TheVariants.{Device}
-use Rattle.btree_delete.specs.Survey.{SeenSoFar, after, below_page, below_sons, Surveyed}
+use Rattle.btree_delete.specs.Survey.{SeenSoFar, after, below_page, below_sons, Surveyed, allowed}
 use Rattle.btree_delete.proofs.SurveyLemmas.{empty, Head, with_leaf, leaf_found, inner_found, head, leaf_exact, leaf_after, inner_exact, last_found, last_exact, more_found, more_exact, sons_found, sons_sound, match_ok}
 use Rattle.btree_delete.proofs.survey.+surveying.Goals as goal
 
@@ -55,8 +55,8 @@ survey_page-returns-else-above-eq0-clause-found g t c = λ steady.
     let pages2 = at c.read_page.new.pages.pages in
     let pages_is : pages2 ≡ pages = ap (λ (v : PagesView). at v.pages) c.read_page.ensures.unchanged in
     let between : Between c.args.above.now.bounds c.as_slice-elements.result.now = subst (Between c.args.above.now.bounds) (sym c.as_slice-elements.ensures.value) (record { ascends = c.in_ok-read_page.ensures.stands.ascends; within = c.in_ok-read_page.ensures.within }) in
-    on_ok c.survey_sons.result (Surveyed (below_sons k pages2 c.as_slice.result.now c.as_slice-elements.result.now) (c.args.above.now.left - 1) c.args.above.now.bounds c.reach.new.self c.survey_sons.new.survey c.read_page.new.pages.reads c.survey_sons.new.pages.reads)
-    (Surveyed (below_page k pages c.args.least c.args.n) c.args.above.now.left c.args.above.now.bounds c.args.survey.now c.survey_sons.new.survey c.args.pages.now.reads c.survey_sons.new.pages.reads)
+    on_ok c.survey_sons.result (Surveyed (below_sons k pages2 c.as_slice.result.now c.as_slice-elements.result.now) (allowed (c.args.above.now.left - 1) c.args.above.now.bounds) c.reach.new.self c.survey_sons.new.survey c.read_page.new.pages.reads c.survey_sons.new.pages.reads)
+    (Surveyed (below_page k pages c.args.least c.args.n) (allowed c.args.above.now.left c.args.above.now.bounds) c.args.survey.now c.survey_sons.new.survey c.args.pages.now.reads c.survey_sons.new.pages.reads)
     (λ sub. inner_found k pages c.args.least c.args.above.now.left c.args.n c.args.above.now.bounds node c.args.survey.now c.reach.new.self c.survey_sons.new.survey c.args.pages.now.reads c.read_page.new.pages.reads c.survey_sons.new.pages.reads
     (c.in_ok-read_page.ensures.spells steady) c.in-Inner.is c.in_ok-read_page.ensures.least (omega arith) (c.if-not-reach.ensures.unvisited refl) (c.if-not-reach.ensures.reached refl) c.in_ok-read_page.ensures.one_read
     (sons_found k pages pages2 node.sons.items c.as_slice.result.now node.elements.items c.as_slice-elements.result.now (c.args.above.now.left - 1) c.args.above.now.bounds c.reach.new.self c.survey_sons.new.survey c.read_page.new.pages.reads c.survey_sons.new.pages.reads
@@ -84,8 +84,8 @@ survey_sons-returns-then-is_empty-clause-found g t c = λ steady between.
     let k = c.args.order in
     let pages = at c.args.pages.now.pages in
     let none = empty c.args.elements.now c.is_empty.result c.is_empty.ensures c.if-is_empty.true in
-    on_ok c.survey_page.result (Surveyed (below_page k pages k (get_or c.args.sons.now 0 0)) c.args.above.now.left c.args.above.now.bounds c.args.survey.now c.survey_page.new.survey c.args.pages.now.reads c.survey_page.new.pages.reads)
-    (Surveyed (below_sons k pages c.args.sons.now c.args.elements.now) c.args.above.now.left c.args.above.now.bounds c.args.survey.now c.survey_page.new.survey c.args.pages.now.reads c.survey_page.new.pages.reads)
+    on_ok c.survey_page.result (Surveyed (below_page k pages k (get_or c.args.sons.now 0 0)) (allowed c.args.above.now.left c.args.above.now.bounds) c.args.survey.now c.survey_page.new.survey c.args.pages.now.reads c.survey_page.new.pages.reads)
+    (Surveyed (below_sons k pages c.args.sons.now c.args.elements.now) (allowed c.args.above.now.left c.args.above.now.bounds) c.args.survey.now c.survey_page.new.survey c.args.pages.now.reads c.survey_page.new.pages.reads)
     (λ sub. last_found k pages c.args.above.now.left c.args.above.now.bounds c.args.sons.now c.args.elements.now c.args.survey.now c.survey_page.new.survey c.args.pages.now.reads c.survey_page.new.pages.reads none c.requires.sons sub)
     (c.survey_page.ensures.found steady)
 
@@ -114,8 +114,8 @@ survey_sons-returns-clause-found g t c = λ steady between.
     let sons2 = take (length c.args.sons.now - 1) (drop 1 c.args.sons.now) in
     let els2 = take (length c.args.elements.now - 1) (drop 1 c.args.elements.now) in
     let inner = subst (Between behind) (sym (take_rest c.args.elements.now 1)) (rest_within c.args.above.now.bounds c.args.elements.now x some c.index-elements-0.is between) in
-    on_ok c.survey_sons.result (Surveyed (below_sons k pages2 sons2 els2) c.args.above.now.left behind c.add_key.new.self c.survey_sons.new.survey c.survey_page-2.new.pages.reads c.survey_sons.new.pages.reads)
-    (Surveyed (below_sons k pages c.args.sons.now c.args.elements.now) c.args.above.now.left c.args.above.now.bounds c.args.survey.now c.survey_sons.new.survey c.args.pages.now.reads c.survey_sons.new.pages.reads)
+    on_ok c.survey_sons.result (Surveyed (below_sons k pages2 sons2 els2) (allowed c.args.above.now.left behind) c.add_key.new.self c.survey_sons.new.survey c.survey_page-2.new.pages.reads c.survey_sons.new.pages.reads)
+    (Surveyed (below_sons k pages c.args.sons.now c.args.elements.now) (allowed c.args.above.now.left c.args.above.now.bounds) c.args.survey.now c.survey_sons.new.survey c.args.pages.now.reads c.survey_sons.new.pages.reads)
     (λ sub. more_found k pages c.args.above.now.left c.args.above.now.bounds c.args.sons.now c.args.elements.now x c.args.survey.now c.survey_page-2.new.survey c.add_key.new.self c.survey_sons.new.survey c.args.pages.now.reads c.survey_page-2.new.pages.reads c.survey_sons.new.pages.reads
     some c.requires.sons c.index-elements-0.is between (c.in_ok-survey_page.ensures.found steady) c.add_key.ensures
     (sons_found k pages pages2 (drop 1 c.args.sons.now) sons2 (drop 1 c.args.elements.now) els2 c.args.above.now.left behind c.add_key.new.self c.survey_sons.new.survey c.survey_page-2.new.pages.reads c.survey_sons.new.pages.reads
