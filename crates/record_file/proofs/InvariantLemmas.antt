@@ -19,7 +19,7 @@ use Rattle.tx_log.specs.declared.phase.UndoStep.{UndoStep}
 use Rattle.tx_log.specs.declared.log_record.LogRecord.TheVariants.{Compensation}
 use Rattle.tx_log.specs.declared.log_record.LogRecord.{LogRecord}
 use Rattle.record_file.specs.Abstract.{File, Fits, IsRecordFile, written, Told, AllTold, new_in, file_of, with_change}
-use Rattle.record_file.specs.Steps.{Accepts}
+use Rattle.record_file.specs.Steps.{Accepts, key_change}
 use Rattle.record_file.proofs.OpenTxLemmas.{same_tx, same_tx-is, open-insert, open-remove}
 use Rattle.record_file.proofs.FileLemmas.{change, history-push, put_file, undo_file, opening_put, opening_undo, fits_put, fits_undo, charged_put, charged_undo, charged_within}
 
@@ -181,7 +181,7 @@ module _ (sound : Bool) (now : Contents) (limit : ℕ) (log : LogState) (old : I
       (λ i. file_of (after i) (put i)) ∙ put_file log now (log.records ++ update_in log t x told w ∷ []) None (log_len (history_in log) + 1) t.0 x told w (copied ∙ stood)
 
   -- so it is over any table
-  pub change_accepted : (now2 : Contents) (log1 log2 : LogState) (t : TxId) (x : List ℕ) (told w : Option (List ℕ)) → log1 ≡ record log { room = Some x } → log2 ≡ accepted log1 t x told w → Accepts (file_of log now) log.records t x told w (file_of log2 now2) log2.records
+  pub change_accepted : (now2 : Contents) (log1 log2 : LogState) (t : TxId) (x : List ℕ) (told w : Option (List ℕ)) → log1 ≡ record log { room = Some x } → log2 ≡ accepted log1 t x told w → Accepts (file_of log now) log.records (key_change t x told w) (file_of log2 now2) log2.records
   change_accepted now2 log1 log2 t x told w reserved accepts =
       let c = change (log_len (history_in log) + 1) t.0 x told w in
       let after : log2 ≡ accepted (record log { room = Some x }) t x told w = accepts ∙ ap (λ (s : LogState). accepted s t x told w) reserved in

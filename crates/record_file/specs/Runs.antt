@@ -26,7 +26,7 @@ use Rattle.record_file.specs.declared.fault.Status.{Status}
 use Rattle.record_file.specs.Abstract.{File, OpenFile, Tells, charged_of, use_of}
 use Rattle.record_file.specs.Outside.{put_cause, remove_cause, get_cause, entries_cause, rollback_cause, abort_cause, resume_cause, put_by_file, remove_by_file, get_by_file, by_device, by_memory, named_by, TellsDamage}
 use Rattle.record_file.specs.declared.fault.Cause.{Cause}
-use Rattle.record_file.specs.Steps.{rose, put_refusal, remove_refusal, get_refusal, rollback_refusal, abort_refusal, resume_refusal, Accepts, BeginStep, PutStep, RemoveStep, GetStep, SavepointStep, ReleaseStep, CommitStep, RollsBackTo, RollbackToStep, Aborts, AbortStep, Resumes, ResumeStep, EntriesStep, KeysOfStep, status_of}
+use Rattle.record_file.specs.Steps.{rose, put_refusal, remove_refusal, get_refusal, rollback_refusal, abort_refusal, resume_refusal, Accepts, key_change, BeginStep, PutStep, RemoveStep, GetStep, SavepointStep, ReleaseStep, CommitStep, RollsBackTo, RollbackToStep, Aborts, AbortStep, Resumes, ResumeStep, EntriesStep, KeysOfStep, status_of}
 
 -- a call with its arguments, and what it answered
 pub data Called : Type 0 where
@@ -94,7 +94,7 @@ pub record Puts (old : Seen) (t : TxId) (x r : List ℕ) (answer : Result (Optio
   pub step : IsTrue old.sound → old.failures < greatest_count → PutStep old.file t.0 x r (rose old.failures new.failures) answer new.file
   pub refused : IfSome (put_refusal old.file t.0 x) (λ fault. (answer ≡ Err fault) × (new ≡ old))
   pub refused_only : IfErr answer (λ fault. IsTrue (put_by_file fault) → put_refusal old.file t.0 x ≡ Some fault)
-  pub accepted : IfOk answer (λ before. Accepts old.file old.log t x before (Some r) new.file new.log)
+  pub accepted : IfOk answer (λ before. Accepts old.file old.log (key_change t x before (Some r)) new.file new.log)
   pub err : OnErr answer (Leaves old new)
   pub damages : TellsDamage old.damages (put_cause answer) new.damages
 
@@ -102,7 +102,7 @@ pub record Removes (old : Seen) (t : TxId) (x : List ℕ) (answer : Result (List
   pub step : IsTrue old.sound → old.failures < greatest_count → RemoveStep old.file t.0 x (rose old.failures new.failures) answer new.file
   pub refused : IfSome (remove_refusal old.file t.0 x) (λ fault. (answer ≡ Err fault) × (new ≡ old))
   pub refused_only : IfErr answer (λ fault. IsTrue (remove_by_file fault) → remove_refusal old.file t.0 x ≡ Some fault)
-  pub accepted : IfOk answer (λ before. Accepts old.file old.log t x (Some before) None new.file new.log)
+  pub accepted : IfOk answer (λ before. Accepts old.file old.log (key_change t x (Some before) None) new.file new.log)
   pub err : OnErr answer (Leaves old new)
   pub damages : TellsDamage old.damages (remove_cause answer) new.damages
 

@@ -90,10 +90,20 @@ remove_refusal f t x = remove_in f t x (phase_at f t)
 abbrev pub Becomes : File → List Change → Transactions → File → Type 0
 Becomes old history txs new = new ≡ record old { opening = new.opening; history = history; txs = txs }
 
+-- A change at a key: whose it is, the key, what stood there, and what stands there now.
+pub record KeyChange : Type 0 where
+  pub tx : TxId
+  pub key : List ℕ
+  pub before : Option (List ℕ)
+  pub after : Option (List ℕ)
+
+abbrev pub key_change : TxId → List ℕ → Option (List ℕ) → Option (List ℕ) → KeyChange
+key_change tx key before after = record { tx = tx; key = key; before = before; after = after }
+
 -- An accepted change is live at the end of the history, and its record at the end of the log; so it is over any table.
-pub record Accepts (old : File) (log : List LogRecord) (t : TxId) (x : List ℕ) (before after : Option (List ℕ)) (new : File) (grown : List LogRecord) : Type 0 where
-  pub history : Becomes old (old.history ++ record { tx = t.0; key = x; after = after; live = true } ∷ []) old.txs new
-  pub logged : (lsn prev : ℕ) × (grown ≡ log ++ Update lsn prev t x before after ∷ [])
+pub record Accepts (old : File) (log : List LogRecord) (change : KeyChange) (new : File) (grown : List LogRecord) : Type 0 where
+  pub history : Becomes old (old.history ++ record { tx = change.tx.0; key = change.key; after = change.after; live = true } ∷ []) old.txs new
+  pub logged : (lsn prev : ℕ) × (grown ≡ log ++ Update lsn prev change.tx change.key change.before change.after ∷ [])
 
 -- A put answers the record that stood there, and its change is live at the end of the history. The device's
 -- failure comes before a want of room, and that before a want of memory.

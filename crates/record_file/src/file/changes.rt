@@ -4,7 +4,7 @@ ghost use Rattle.rec_types.specs.Table.{greatest_count};
 ghost use Rattle.record_file.specs.Abstract.{is_full};
 ghost use Rattle.record_file.specs.Outside.{put_cause, remove_cause, put_by_file, remove_by_file, AsksMemory};
 ghost use Rattle.record_file.specs.TableCalls.{ChangesTable};
-ghost use Rattle.record_file.specs.Steps.{rose, put_refusal, remove_refusal, Accepts, PutStep, RemoveStep};
+ghost use Rattle.record_file.specs.Steps.{rose, put_refusal, remove_refusal, Accepts, key_change, PutStep, RemoveStep};
 
 use super::RecordFile;
 use crate::fault::{PutFault, RemoveFault};
@@ -23,8 +23,8 @@ impl<T: Table> RecordFile<T> {
             (λ fault. (result ≡ Err fault) × (self.new ≡ self.old)) }
         ensures refused_only { IfErr result (λ fault.
             IsTrue (put_by_file fault) → put_refusal self.old.file tx.0 key ≡ Some fault) }
-        ensures accepted { IfOk result (λ before. Accepts self.old.file self.old.log tx key
-            before (Some value) self.new.file self.new.log) }
+        ensures accepted { IfOk result (λ before. Accepts self.old.file self.old.log
+            (key_change tx key before (Some value)) self.new.file self.new.log) }
         ensures err { OnErr result ((T.contents self.new.table ≡ T.contents self.old.table)
             × (self.new.file ≡ self.old.file) × (self.new.log ≡ self.old.log)) }
         ensures table { ChangesTable T.TableState self.old (put_cause result) self.new }
@@ -56,8 +56,8 @@ impl<T: Table> RecordFile<T> {
             (λ fault. (result ≡ Err fault) × (self.new ≡ self.old)) }
         ensures refused_only { IfErr result (λ fault.
             IsTrue (remove_by_file fault) → remove_refusal self.old.file tx.0 key ≡ Some fault) }
-        ensures accepted { IfOk result (λ before. Accepts self.old.file self.old.log tx key
-            (Some before) None self.new.file self.new.log) }
+        ensures accepted { IfOk result (λ before. Accepts self.old.file self.old.log
+            (key_change tx key (Some before) None) self.new.file self.new.log) }
         ensures err { OnErr result ((T.contents self.new.table ≡ T.contents self.old.table)
             × (self.new.file ≡ self.old.file) × (self.new.log ≡ self.old.log)) }
         ensures table { ChangesTable T.TableState self.old (remove_cause result) self.new }

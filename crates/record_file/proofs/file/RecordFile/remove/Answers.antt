@@ -3,7 +3,7 @@ use Rattle.std.specs.FinMap as maps
 use Rattle.rec_types.specs.Contents.{set_to}
 use Rattle.tx_log.specs.LogState.{LogState, use_in, open_in, history_in}
 use Rattle.record_file.specs.Abstract.{File, OpenFile, file_of, records_of, with_change}
-use Rattle.record_file.specs.Steps.{remove_refusal, Accepts}
+use Rattle.record_file.specs.Steps.{remove_refusal, Accepts, key_change}
 use Rattle.record_file.proofs.FaultLemmas.{none_by, rose_same}
 use Rattle.record_file.proofs.FullnessLemmas.{remove_accepts, present_charged}
 use Rattle.record_file.proofs.InvariantLemmas.{change_kept, change_file, change_accepted}
@@ -43,7 +43,7 @@ returns-in-Some-2-clause-step g c = λ sound lt.
 
 pub returns-in-Some-2-clause-accepted : goal.returns-in-Some-2-clause-accepted
 returns-in-Some-2-clause-accepted g c =
-    subst (λ (s : OpenFile _). Accepts s.file s.log c.args.tx c.args.key (Some c.in-Some-2.taken) None (file_of c.accept-lsn.new.self (g.T.TableState.contents c.set.new.self)) c.accept-lsn.new.self.records) c.self.view_is
+    subst (λ (s : OpenFile _). Accepts s.file s.log (key_change c.args.tx c.args.key (Some c.in-Some-2.taken) None) (file_of c.accept-lsn.new.self (g.T.TableState.contents c.set.new.self)) c.accept-lsn.new.self.records) c.self.view_is
     (change_accepted _ _ _ c.self.inside.log c.self.invariant c.in_ok-reserve.ensures.kept (g.T.TableState.contents c.set.new.self) c.reserve.new.self c.accept-lsn.new.self c.args.tx c.args.key (Some c.in-Some-2.taken) None c.in_ok-reserve.ensures.ok c.accept-lsn.ensures.after)
 
 pub returns-in-Some-2-clause-table : goal.returns-in-Some-2-clause-table
