@@ -12,9 +12,8 @@ ghost use Rattle.btree_insert.specs.PageTrees.{TreeAt, Apart, tree_below};
 ghost use Rattle.btree_insert.specs.Spelt.{AreSpeltIn};
 ghost use Rattle.btree_insert.specs.PagesGrown.{edited};
 
-use crate::insert_below::write_node;
 use crate::step::{Spot, Step, step_in_page};
-use btree_node::{Node, count_in, decode_into};
+use btree_node::{count_in, inserted_in, replaced_in};
 use page_store::{PageEdit, Pages, Store};
 use rec_types::{Key, Memory, Record};
 
@@ -116,20 +115,20 @@ fn write_replaced(
     ensures taken { edit.new.taken ≡ edit.old.taken }
     ensures freed { edit.new.freed ≡ edit.old.freed }
 {
-    let mut node = Node::blank();
-    let _ = decode_into(page, order, &mut node);
-    set_element(&mut node, i, element);
-    write_node(edit, order, n, &node)
+    write_page(edit, order, n, replaced_in(page, order, i, &element))
 }
 
-/// Puts an element in the place of another.
-fn set_element(node: &mut Node, i: usize, element: (Key, Record))
-    requires { i < length node.old.elements.items }
-    ensures kind { node.new.kind ≡ node.old.kind }
-    ensures elements { node.new.elements.items ≡ slice_set node.old.elements.items i element }
-    ensures sons { node.new.sons ≡ node.old.sons }
+/// Adds a page to the edit as page n.
+fn write_page(edit: &mut PageEdit, order: u16, n: u32, page: [u8; 4096]) -> Result<(), Memory>
+    requires { IsSpelt order page }
+    ensures writes { OnOk result
+        (edit.new.writes.items ≡ edit.old.writes.items ++ (n, page) ∷ []) }
+    ensures spelt { AreSpelt order edit.old.writes.items
+        → OnOk result (AreSpelt order edit.new.writes.items) }
+    ensures taken { edit.new.taken ≡ edit.old.taken }
+    ensures freed { edit.new.freed ≡ edit.old.freed }
 {
-    node.elements.as_mut_slice()[i] = element;
+    edit.writes.push((n, page)).map_err(|_| Memory)
 }
 
 /// Writes page n, a leaf that has room, with the element at its place.
@@ -155,8 +154,5 @@ fn write_inserted(
     ensures taken { edit.new.taken ≡ edit.old.taken }
     ensures freed { edit.new.freed ≡ edit.old.freed }
 {
-    let mut node = Node::blank();
-    let _ = decode_into(page, order, &mut node);
-    node.elements.insert(i, element);
-    write_node(edit, order, n, &node)
+    write_page(edit, order, n, inserted_in(page, order, i, &element))
 }

@@ -24,12 +24,12 @@ use Rattle.btree_node.proofs.WriterLemmas.{length-field}
 use Rattle.btree_node.proofs.PaddingLemmas.{all_zero}
 use Rattle.btree_node.proofs.PlaceLemmas.{length-place, key_length-place, record_length-place, element_in-place, places_within, element_in_fits}
 
-length-head : (kind : NodeKind) (count : ℕ) → length (head kind count) ≡ 8
+pub length-head : (kind : NodeKind) (count : ℕ) → length (head kind count) ≡ 8
 unfolding head
 length-head kind count = refl
 
 -- a list of blocks of one width
-length-blocks : {X : Type 0} (f : X → List ℕ) (width : ℕ) (xs : List X) → Each (λ x. length (f x) ≡ width) xs → length (flat_map f xs) ≡ width * length xs
+pub length-blocks : {X : Type 0} (f : X → List ℕ) (width : ℕ) (xs : List X) → Each (λ x. length (f x) ≡ width) xs → length (flat_map f xs) ≡ width * length xs
 length-blocks f width [] each = omega arith
 length-blocks f width (x ∷ xs) each = omega (arith, length-append (f x) (flat_map f xs), each.0, length-blocks f width xs each.1)
 
@@ -56,7 +56,7 @@ record Parts (layout : Layout) (k : ℕ) (page : List ℕ) (n : Node) : Type 0 w
   places_end : length (head n.kind (length n.elements.items) ++ flat_map (place layout) n.elements.items) ≡ place_start layout (length n.elements.items)
   rest_zero : IsZero rest
 
-widths : (layout : Layout) (els : List Element) → Each (ElementFits layout) els → Each (λ e. length (place layout e) ≡ place_width layout) els
+pub widths : (layout : Layout) (els : List Element) → Each (ElementFits layout) els → Each (λ e. length (place layout e) ≡ place_width layout) els
 widths layout els fit = Each-map (ElementFits layout) (λ e. length (place layout e) ≡ place_width layout) els (length-place layout) fit
 
 parts : (layout : Layout) (k : ℕ) (page : List ℕ) (n : Node) → CanStandIn layout n k → page ≡ spelling_in layout n k → Parts layout k page n

@@ -11,3 +11,4 @@ pub mod SpellingLemmas
 pub mod SpeltPageLemmas
 pub mod WriterLemmas
 pub mod PaddingLemmas
+pub mod ChangedPageLemmas

@@ -1,6 +1,8 @@
--- How the bytes written so far lie in a page.
-use Rattle.std.specs.Prelude.{◌≡◌, ℕ, ◌≤◌, List, length, take}
+-- How the bytes written so far lie in a page, and what a page is after some of its bytes are written over.
+use Rattle.std.specs.Prelude.{◌≡◌, ℕ, ◌+◌, ◌≤◌, List, ◌++◌, length, take, drop}
 use Rattle.rec_types.specs.Padded.{padded}
+use Rattle.btree_node.specs.Lists.{Element}
+use Rattle.btree_node.specs.declared.node.Node.{Node}
 use Rattle.btree_node.specs.declared.page_writer.PageWriter.TheInside.{Inside}
 
 abbrev pub written : Inside → List ℕ
@@ -11,3 +13,11 @@ pub record IsWriter (w : Inside) : Type 0 where
   pub within : w.at ≤ 4096
   pub whole : length w.page ≡ 4096
   pub zeros : w.page ≡ padded 4096 (take w.at w.page)
+
+-- the page with bytes written over those from a place on
+unfoldable pub put_at : ℕ → List ℕ → List ℕ → List ℕ
+put_at at bytes page = take at page ++ (bytes ++ drop (at + length bytes) page)
+
+-- the node with other elements
+abbrev pub with_elements : Node → List Element → Node
+with_elements n els = record { kind = n.kind; elements = record { items = els }; sons = n.sons }

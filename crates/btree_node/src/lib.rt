@@ -2,6 +2,7 @@
 #![tactic(auto)]
 
 mod brothers;
+mod changing;
 mod decoding;
 mod encoding;
 mod header;
@@ -19,6 +20,7 @@ mod splitting;
 mod tests;
 
 pub use brothers::{catenate, distribute};
+pub use changing::{inserted_in, replaced_in};
 pub use decoding::{decode, decode_into};
 pub use encoding::encode;
 pub use header::{Header, HeaderFault};

@@ -1,12 +1,12 @@
 ghost use Rattle.std.specs.Prelude.{◌≡◌, ◌+◌, ◌<◌, ◌≤◌, [], IfOk, length, IsTrue};
 ghost use Rattle.btree_node.specs.Joined.{AreBrothers};
-ghost use Rattle.btree_node.specs.Spelling.{SonsFit, CanStand};
+ghost use Rattle.btree_node.specs.Spelling.{SonsFit, CanStand, IsSpelt};
 
 use crate::decoding::{ascends, sons_stand};
 use crate::layout::{KEY_WIDTH, RECORD_WIDTH};
 use crate::{
-    Header, HeaderFault, Node, NodeFault, NodeKind, catenate, decode, decode_into, distribute,
-    encode, place_of, read_header, split, write_header,
+    Header, HeaderFault, Node, NodeFault, NodeKind, catenate, count_in, decode, decode_into,
+    distribute, encode, inserted_in, place_of, read_header, replaced_in, split, write_header,
 };
 use arrayvec::ArrayVec;
 use rec_types::{Key, Record};
@@ -193,6 +193,46 @@ fn a_node_is_read_into_again(rt: HostRuntime) -> Result<(), Fail> {
     assert_eq!(rt; node, inner(element(b"b", b"y")?, 1, 2));
     decode_into(&pages[1], 1, &mut node)?;
     assert_eq!(rt; node, leaf(element(b"a", b"x")?));
+    Ok(())
+}
+
+/// The page with an element put before its element i, or in the place of that.
+fn changed(
+    rt: &impl Abort,
+    page: &[u8; 4096],
+    i: usize,
+    element: (Key, Record),
+    replaces: bool,
+) -> [u8; 4096]
+    requires { IsSpelt 2 page.now }
+{
+    let (key, value) = element;
+    prove!(key.bytes().len() <= KEY_WIDTH && value.bytes().len() <= RECORD_WIDTH);
+    let count = count_in(page);
+    if replaces {
+        assert!(rt; i < count);
+        return replaced_in(page, 2, i, &(key, value));
+    }
+    assert!(rt; i <= count && count < 4);
+    inserted_in(page, 2, i, &(key, value))
+}
+
+#[test]
+fn a_page_is_changed_where_it_lies(rt: HostRuntime) -> Result<(), Fail> {
+    let page = encode(&leaf(element(b"bc", b"a long record")?), 2);
+    for (key, i, replaces, keys) in [
+        (b"bc", 0, true, [b"bc", b"bc"]),
+        (b"ab", 0, false, [b"ab", b"bc"]),
+        (b"cd", 1, false, [b"bc", b"cd"]),
+    ] {
+        let node = decode(&changed(&rt, &page, i, element(key, b"v")?, replaces), 2)?;
+        let elements = node.elements.as_slice();
+        assert_eq!(rt; elements.len(), if replaces { 1 } else { 2 }, "{i}");
+        for (at, element) in elements.iter().enumerate() {
+            assert_eq!(rt; element.0.bytes(), keys[at].as_slice());
+        }
+        assert_eq!(rt; elements[i].1.bytes(), b"v".as_slice());
+    }
     Ok(())
 }
 

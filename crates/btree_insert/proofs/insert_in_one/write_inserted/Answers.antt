@@ -1,31 +1,51 @@
-use Rattle.std.proofs.Common.{◌≡◌, ◌++◌, ◌∷◌, [], ap, ◌∙◌}
+use Rattle.std.proofs.Common.{◌≡◌, ◌++◌, ◌∷◌, [], refl, ap, ◌∙◌, arith}
 use Rattle.std.specs.List.{insert}
 use Rattle.btree_node.specs.declared.node.Node.{Node}
-use Rattle.btree_node.specs.Spelling.{spelling}
+use Rattle.btree_node.specs.Written.{with_elements}
+use Rattle.btree_node.proofs.SpeltPageLemmas.{count_spelt}
 use Rattle.btree_insert.specs.Growth.{WritesAs}
 use Rattle.btree_insert.proofs.ReachLemmas.{on_ok}
 use Rattle.btree_insert.proofs.OnePageLemmas.{leaf_stands}
 use Rattle.btree_insert.proofs.insert_in_one.write_inserted.Goals as goal
 
-pub write_node-requires-clause-stands : goal.write_node-requires-clause-stands
-write_node-requires-clause-stands c =
+pub inserted_in-requires-clause-index : goal.inserted_in-requires-clause-index
+inserted_in-requires-clause-index c =
     let n = c.requires.spelt.0 in
     let can = c.requires.spelt.1 in
     let is = c.requires.spelt.2 in
-    let filled = (c.decode_into.ensures.only n can is).1 in
-    leaf_stands c.args.order n (record { kind = c.decode_into.new.node.kind; elements = c.insert.new.self; sons = c.decode_into.new.node.sons }) c.args.i c.args.element can (c.requires.leaf n can is).0 (c.requires.leaf n can is).1 (c.requires.leaf n can is).2 c.requires.element (ap (λ (m : Node). m.kind) filled) (c.insert.ensures.items ∙ ap (λ (m : Node). insert m.elements.items c.args.i c.args.element) filled) (ap (λ (m : Node). m.sons.items) filled)
+    let place = (c.requires.leaf n can is).1 in
+    omega (arith, count_spelt c.args.order c.args.page.now n c.requires.order can is, place.within)
+
+pub inserted_in-requires-clause-room : goal.inserted_in-requires-clause-room
+inserted_in-requires-clause-room c =
+    let n = c.requires.spelt.0 in
+    let can = c.requires.spelt.1 in
+    let is = c.requires.spelt.2 in
+    let room = (c.requires.leaf n can is).2 in
+    omega (arith, count_spelt c.args.order c.args.page.now n c.requires.order can is, room)
+
+pub write_page-requires : goal.write_page-requires
+write_page-requires c =
+    let n = c.requires.spelt.0 in
+    let can = c.requires.spelt.1 in
+    let is = c.requires.spelt.2 in
+    let leaf = c.requires.leaf n can is in
+    let m = with_elements n (insert n.elements.items c.args.i c.args.element) in
+    (m, leaf_stands c.args.order n m c.args.i c.args.element can leaf.0 leaf.1 leaf.2 c.requires.element refl refl refl, c.inserted_in.ensures n can is)
 
 pub returns-clause-writes : goal.returns-clause-writes
 returns-clause-writes c = λ n can is.
-    let filled = (c.decode_into.ensures.only n can is).1 in
-    let node : Node = record { kind = c.decode_into.new.node.kind; elements = c.insert.new.self; sons = c.decode_into.new.node.sons } in
-    on_ok c.write_node.result (c.write_node.new.edit.writes.items ≡ c.args.edit.now.writes.items ++ (c.args.n, spelling node c.args.order) ∷ []) (WritesAs c.args.order c.args.n n (insert n.elements.items c.args.i c.args.element) c.args.edit.now.writes.items c.write_node.new.edit.writes.items)
+    let leaf = c.requires.leaf n can is in
+    let m : Node = with_elements n (insert n.elements.items c.args.i c.args.element) in
+    let old = c.args.edit.now.writes.items in
+    let new = c.write_page.new.edit.writes.items in
+    on_ok c.write_page.result (new ≡ old ++ (c.args.n, c.inserted_in.result) ∷ []) (WritesAs c.args.order c.args.n n (insert n.elements.items c.args.i c.args.element) old new)
     (λ written. record {
-      node = node;
-      stands = leaf_stands c.args.order n (record { kind = c.decode_into.new.node.kind; elements = c.insert.new.self; sons = c.decode_into.new.node.sons }) c.args.i c.args.element can (c.requires.leaf n can is).0 (c.requires.leaf n can is).1 (c.requires.leaf n can is).2 c.requires.element (ap (λ (m : Node). m.kind) filled) (c.insert.ensures.items ∙ ap (λ (m : Node). insert m.elements.items c.args.i c.args.element) filled) (ap (λ (m : Node). m.sons.items) filled);
-      kind = ap (λ (m : Node). m.kind) filled;
-      elements = c.insert.ensures.items ∙ ap (λ (m : Node). insert m.elements.items c.args.i c.args.element) filled;
-      sons = ap (λ (m : Node). m.sons.items) filled;
-      written = written;
+      node = m;
+      stands = leaf_stands c.args.order n m c.args.i c.args.element can leaf.0 leaf.1 leaf.2 c.requires.element refl refl refl;
+      kind = refl;
+      elements = refl;
+      sons = refl;
+      written = written ∙ ap (λ page. old ++ (c.args.n, page) ∷ []) (c.inserted_in.ensures n can is);
     })
-    c.write_node.ensures.writes
+    c.write_page.ensures.writes

@@ -1,0 +1,16 @@
+use Rattle.std.proofs.Common.{arith, ap, ◌∙◌}
+use Rattle.btree_node.specs.Layout.{first_layout}
+use Rattle.btree_node.specs.Spelling.{place}
+use Rattle.btree_node.specs.Written.{put_at}
+use Rattle.btree_node.proofs.ChangedPageLemmas.{replaced_spelt}
+use Rattle.btree_node.proofs.SpeltPageLemmas.{count_spelt, few_places}
+use Rattle.btree_node.proofs.changing.replaced_in.Goals as goal
+
+pub place_start-requires-clause-index : goal.place_start-requires-clause-index
+place_start-requires-clause-index c = omega (arith, few_places c.args.k c.args.page.now c.requires.order c.requires.spelt, c.requires.index)
+
+pub returns : goal.returns
+returns c = λ n can is.
+    c.put_place.ensures
+    ∙ ap (λ at. put_at at (place first_layout c.args.element.now) c.args.page.now) c.place_start.ensures.value
+    ∙ replaced_spelt c.args.k c.args.i n c.args.element.now c.args.page.now can c.requires.element is (omega (arith, count_spelt c.args.k c.args.page.now n c.requires.order can is, c.requires.index))

@@ -1,0 +1,108 @@
+ghost use Rattle.std.specs.Prelude.{◌≡◌, ◌+◌, ◌*◌, ◌<◌, ◌≤◌, length, replicate, slice_set};
+ghost use Rattle.std.specs.List.{insert};
+ghost use Rattle.btree_node.specs.Layout.{first_layout};
+ghost use Rattle.btree_node.specs.Reading.{count_at};
+ghost use Rattle.btree_node.specs.Spelling.{field, place, spelling, CanStand, IsElement, IsSpelt};
+ghost use Rattle.btree_node.specs.Written.{put_at, with_elements};
+ghost use Rattle.byteorder.specs.Endian.{big_bytes};
+ghost use Rattle.btree_node.specs.declared.node.Node.{Node};
+
+use crate::decoding::count_of;
+use crate::layout::{FIRST_LAYOUT, KEY_WIDTH, RECORD_AT, RECORD_WIDTH};
+use crate::part::part_of;
+use byteorder::{BigEndian, ByteOrder};
+use rec_types::{Key, Record};
+
+/// Where the number of keys stands in a page.
+const COUNT_AT: usize = 2;
+
+/// The page that spells the node of this page, in a tree of order `k`, with another element in the place
+/// of its element i.
+pub fn replaced_in(page: &[u8; 4096], k: u16, i: usize, element: &(Key, Record)) -> [u8; 4096]
+    requires order { k ≤ 16 }
+    requires spelt { IsSpelt k page.now }
+    requires element { IsElement element.now }
+    requires index { i < count_at page.now }
+    ensures { (node : Node) → CanStand node k → page.now ≡ spelling node k
+        → result ≡ spelling (with_elements node (slice_set node.elements.items i element.now)) k }
+{
+    let mut changed = *page;
+    put_place(&mut changed, FIRST_LAYOUT.place_start(i), element);
+    changed
+}
+
+/// The page that spells the node of this page, in a tree of order `k`, with one element more, before its
+/// element i. The page has room for it.
+pub fn inserted_in(page: &[u8; 4096], k: u16, i: usize, element: &(Key, Record)) -> [u8; 4096]
+    requires order { k ≤ 16 }
+    requires spelt { IsSpelt k page.now }
+    requires element { IsElement element.now }
+    requires index { i ≤ count_at page.now }
+    requires room { count_at page.now < 2 * k }
+    ensures { (node : Node) → CanStand node k → page.now ≡ spelling node k
+        → result ≡ spelling (with_elements node (insert node.elements.items i element.now)) k }
+{
+    let count = count_of(page);
+    let start = FIRST_LAYOUT.place_start(i);
+    let end = FIRST_LAYOUT.place_start(count);
+    let mut changed = *page;
+    put_place(&mut changed, start, element);
+    put_bytes(
+        &mut changed,
+        FIRST_LAYOUT.place_start(i + 1),
+        part_of(page, start, end - start),
+    );
+    put_count(&mut changed, count + 1);
+    changed
+}
+
+/// Writes the number of keys.
+fn put_count(page: &mut [u8; 4096], count: usize)
+    requires { count ≤ 65535 }
+    ensures { page.new ≡ put_at 2 (big_bytes 2 count) page.old }
+{
+    let mut bytes = [0; 2];
+    BigEndian::write_u16(&mut bytes, count as u16);
+    put_bytes(page, COUNT_AT, &bytes);
+}
+
+/// Writes a place over the bytes from `at` on.
+#[tactic(auto, unfolding(crate::specs::Spelling::place))]
+fn put_place(page: &mut [u8; 4096], at: usize, element: &(Key, Record))
+    requires element { IsElement element.now }
+    requires room { at + 50 ≤ 4096 }
+    ensures { page.new ≡ put_at at (place first_layout element.now) page.old }
+{
+    put_field(page, at, element.0.bytes(), KEY_WIDTH);
+    put_field(page, at + RECORD_AT, element.1.bytes(), RECORD_WIDTH);
+}
+
+/// Writes a field over the bytes from `at` on: the bytes behind their number, padded to a width below
+/// 256.
+fn put_field(page: &mut [u8; 4096], at: usize, bytes: &[u8], width: usize)
+    requires fits { length bytes.now ≤ width }
+    requires short { width ≤ 255 }
+    requires room { at + (1 + width) ≤ 4096 }
+    ensures { page.new ≡ put_at at (field width bytes.now) page.old }
+{
+    let end = at + 1 + bytes.len();
+    put_bytes(page, at, &[bytes.len() as u8]);
+    put_bytes(page, at + 1, bytes);
+    put_zeros(page, end, width - bytes.len());
+}
+
+/// Writes zeros over the bytes from `at` on.
+fn put_zeros(page: &mut [u8; 4096], at: usize, count: usize)
+    requires { at + count ≤ 4096 }
+    ensures { page.new ≡ put_at at (replicate count 0) page.old }
+{
+    page[at..at + count].fill(0);
+}
+
+/// Writes bytes over those from `at` on.
+fn put_bytes(page: &mut [u8; 4096], at: usize, bytes: &[u8])
+    requires { at + length bytes.now ≤ 4096 }
+    ensures { page.new ≡ put_at at bytes.now page.old }
+{
+    page[at..at + bytes.len()].copy_from_slice(bytes);
+}
