@@ -1,6 +1,7 @@
 -- An insertion that changes one page.
-use Rattle.std.proofs.Common.{◌≡◌, ℕ, ◌*◌, ◌<◌, List, Option, Some, None, IfSome, length, ap, ◌∙◌, arith}
+use Rattle.std.proofs.Common.{◌≡◌, ℕ, ◌*◌, ◌<◌, ◌++◌, ◌∷◌, [], List, Option, Some, None, IfSome, length, get_or, set, ap, sym, ◌∙◌, arith}
 use Rattle.std.specs.List.{insert}
+use Rattle.std.proofs.lemmas.List.{get_or_at, set_at}
 use Rattle.std.proofs.lemmas.List.Edits.{length-insert}
 use Rattle.btree_node.specs.declared.node.Node.{Node}
 use Rattle.btree_node.specs.declared.node.NodeKind.TheVariants.{Leaf}
@@ -33,3 +34,15 @@ leaf_stands k n m i e stands leaf place room fits kind_is els_is sons_is =
       ascends = over.ascends;
       sons = over.sons;
     }
+
+-- the last page of an edit, where it lies
+pub last_write : (ws items : List (ℕ × List ℕ)) (w x : ℕ × List ℕ) (i : ℕ) → items ≡ ws ++ w ∷ [] → i ≡ length ws → x ≡ get_or items i x → x ≡ w
+last_write ws items w x i is at here = here ∙ ap (λ xs. get_or xs i x) is ∙ get_or_at ws w [] x i (sym at)
+
+-- the edit with other bytes in its last page
+pub last_rewritten : (ws items : List (ℕ × List ℕ)) (w x : ℕ × List ℕ) (page page2 : List ℕ) (i : ℕ) → items ≡ ws ++ w ∷ [] → i ≡ length ws → x ≡ w → page ≡ page2 → set items i (x.0, page) ≡ ws ++ (w.0, page2) ∷ []
+last_rewritten ws items w x page page2 i is at here changed =
+    ap (λ xs. set xs i (x.0, page)) is
+    ∙ set_at ws w [] (x.0, page) i (sym at)
+    ∙ ap (λ (n : ℕ). ws ++ (n, page) ∷ []) (ap (λ (v : ℕ × List ℕ). v.0) here)
+    ∙ ap (λ (bytes : List ℕ). ws ++ (w.0, bytes) ∷ []) changed

@@ -13,7 +13,7 @@ ghost use Rattle.btree_insert.specs.Spelt.{AreSpeltIn};
 ghost use Rattle.btree_insert.specs.PagesGrown.{edited};
 
 use crate::step::{Spot, Step, step_in_page};
-use btree_node::{count_in, inserted_in, replaced_in};
+use btree_node::{count_in, insert_in, replace_in};
 use page_store::{PageEdit, Pages, Store};
 use rec_types::{Key, Memory, Record};
 
@@ -115,20 +115,23 @@ fn write_replaced(
     ensures taken { edit.new.taken ≡ edit.old.taken }
     ensures freed { edit.new.freed ≡ edit.old.freed }
 {
-    write_page(edit, order, n, replaced_in(page, order, i, &element))
+    let at = edit.writes.len();
+    write_page(edit, order, n, page)?;
+    replace_in(&mut edit.writes[at].1, order, i, &element);
+    Ok(())
 }
 
 /// Adds a page to the edit as page n.
-fn write_page(edit: &mut PageEdit, order: u16, n: u32, page: [u8; 4096]) -> Result<(), Memory>
-    requires { IsSpelt order page }
+fn write_page(edit: &mut PageEdit, order: u16, n: u32, page: &[u8; 4096]) -> Result<(), Memory>
+    requires { IsSpelt order page.now }
     ensures writes { OnOk result
-        (edit.new.writes.items ≡ edit.old.writes.items ++ (n, page) ∷ []) }
+        (edit.new.writes.items ≡ edit.old.writes.items ++ (n, page.now) ∷ []) }
     ensures spelt { AreSpelt order edit.old.writes.items
         → OnOk result (AreSpelt order edit.new.writes.items) }
     ensures taken { edit.new.taken ≡ edit.old.taken }
     ensures freed { edit.new.freed ≡ edit.old.freed }
 {
-    edit.writes.push((n, page)).map_err(|_| Memory)
+    edit.writes.push((n, *page)).map_err(|_| Memory)
 }
 
 /// Writes page n, a leaf that has room, with the element at its place.
@@ -154,5 +157,8 @@ fn write_inserted(
     ensures taken { edit.new.taken ≡ edit.old.taken }
     ensures freed { edit.new.freed ≡ edit.old.freed }
 {
-    write_page(edit, order, n, inserted_in(page, order, i, &element))
+    let at = edit.writes.len();
+    write_page(edit, order, n, page)?;
+    insert_in(&mut edit.writes[at].1, page, order, i, &element);
+    Ok(())
 }

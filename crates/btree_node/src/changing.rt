@@ -1,6 +1,6 @@
 ghost use Rattle.std.specs.Prelude.{◌≡◌, ◌+◌, ◌*◌, ◌<◌, ◌≤◌, length, replicate, slice_set};
 ghost use Rattle.std.specs.List.{insert};
-ghost use Rattle.btree_node.specs.Layout.{first_layout};
+ghost use Rattle.btree_node.specs.Layout.{first_layout, greatest_order};
 ghost use Rattle.btree_node.specs.Reading.{count_at};
 ghost use Rattle.btree_node.specs.Spelling.{field, place, spelling, CanStand, IsElement, IsSpelt};
 ghost use Rattle.btree_node.specs.Written.{put_at, with_elements};
@@ -16,44 +16,42 @@ use rec_types::{Key, Record};
 /// Where the number of keys stands in a page.
 const COUNT_AT: usize = 2;
 
-/// The page that spells the node of this page, in a tree of order `k`, with another element in the place
-/// of its element i.
-pub fn replaced_in(page: &[u8; 4096], k: u16, i: usize, element: &(Key, Record)) -> [u8; 4096]
-    requires order { k ≤ 16 }
-    requires spelt { IsSpelt k page.now }
+/// Puts another element in the place of element i of the node that the page spells, in a tree of order
+/// `k`.
+pub fn replace_in(page: &mut [u8; 4096], k: u16, i: usize, element: &(Key, Record))
+    requires order { k ≤ greatest_order }
+    requires spelt { IsSpelt k page.old }
     requires element { IsElement element.now }
-    requires index { i < count_at page.now }
-    ensures { (node : Node) → CanStand node k → page.now ≡ spelling node k
-        → result ≡ spelling (with_elements node (slice_set node.elements.items i element.now)) k }
+    requires index { i < count_at page.old }
+    ensures { (node : Node) → CanStand node k → page.old ≡ spelling node k
+        → page.new
+        ≡ spelling (with_elements node (slice_set node.elements.items i element.now)) k }
 {
-    let mut changed = *page;
-    put_place(&mut changed, FIRST_LAYOUT.place_start(i), element);
-    changed
+    put_place(page, FIRST_LAYOUT.place_start(i), element);
 }
 
-/// The page that spells the node of this page, in a tree of order `k`, with one element more, before its
-/// element i. The page has room for it.
-pub fn inserted_in(page: &[u8; 4096], k: u16, i: usize, element: &(Key, Record)) -> [u8; 4096]
-    requires order { k ≤ 16 }
-    requires spelt { IsSpelt k page.now }
+/// Puts an element before element i of the node that the page spells, in a tree of order `k`. The page
+/// has room for it; `was` is a copy of it, to move places from.
+pub fn insert_in(page: &mut [u8; 4096], was: &[u8; 4096], k: u16, i: usize, element: &(Key, Record))
+    requires order { k ≤ greatest_order }
+    requires copy { was.now ≡ page.old }
+    requires spelt { IsSpelt k page.old }
     requires element { IsElement element.now }
-    requires index { i ≤ count_at page.now }
-    requires room { count_at page.now < 2 * k }
-    ensures { (node : Node) → CanStand node k → page.now ≡ spelling node k
-        → result ≡ spelling (with_elements node (insert node.elements.items i element.now)) k }
+    requires index { i ≤ count_at page.old }
+    requires room { count_at page.old < 2 * k }
+    ensures { (node : Node) → CanStand node k → page.old ≡ spelling node k
+        → page.new ≡ spelling (with_elements node (insert node.elements.items i element.now)) k }
 {
     let count = count_of(page);
     let start = FIRST_LAYOUT.place_start(i);
     let end = FIRST_LAYOUT.place_start(count);
-    let mut changed = *page;
-    put_place(&mut changed, start, element);
+    put_place(page, start, element);
     put_bytes(
-        &mut changed,
+        page,
         FIRST_LAYOUT.place_start(i + 1),
-        part_of(page, start, end - start),
+        part_of(was, start, end - start),
     );
-    put_count(&mut changed, count + 1);
-    changed
+    put_count(page, count + 1);
 }
 
 /// Writes the number of keys.

@@ -20,7 +20,7 @@ mod splitting;
 mod tests;
 
 pub use brothers::{catenate, distribute};
-pub use changing::{inserted_in, replaced_in};
+pub use changing::{insert_in, replace_in};
 pub use decoding::{decode, decode_into};
 pub use encoding::encode;
 pub use header::{Header, HeaderFault};

@@ -6,7 +6,7 @@ use crate::decoding::{ascends, sons_stand};
 use crate::layout::{KEY_WIDTH, RECORD_WIDTH};
 use crate::{
     Header, HeaderFault, Node, NodeFault, NodeKind, catenate, count_in, decode, decode_into,
-    distribute, encode, inserted_in, place_of, read_header, replaced_in, split, write_header,
+    distribute, encode, insert_in, place_of, read_header, replace_in, split, write_header,
 };
 use arrayvec::ArrayVec;
 use rec_types::{Key, Record};
@@ -209,12 +209,15 @@ fn changed(
     let (key, value) = element;
     prove!(key.bytes().len() <= KEY_WIDTH && value.bytes().len() <= RECORD_WIDTH);
     let count = count_in(page);
+    let mut changed = *page;
     if replaces {
         assert!(rt; i < count);
-        return replaced_in(page, 2, i, &(key, value));
+        replace_in(&mut changed, 2, i, &(key, value));
+        return changed;
     }
     assert!(rt; i <= count && count < 4);
-    inserted_in(page, 2, i, &(key, value))
+    insert_in(&mut changed, page, 2, i, &(key, value));
+    changed
 }
 
 #[test]

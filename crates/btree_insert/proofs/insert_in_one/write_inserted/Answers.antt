@@ -1,51 +1,65 @@
-use Rattle.std.proofs.Common.{◌≡◌, ◌++◌, ◌∷◌, [], refl, ap, ◌∙◌, arith}
+use Rattle.std.proofs.Common.{ℕ, List, refl, ap, sym, ◌∙◌, arith}
 use Rattle.std.specs.List.{insert}
 use Rattle.btree_node.specs.declared.node.Node.{Node}
+use Rattle.btree_node.specs.Spelling.{spelling}
 use Rattle.btree_node.specs.Written.{with_elements}
 use Rattle.btree_node.proofs.SpeltPageLemmas.{count_spelt}
-use Rattle.btree_insert.specs.Growth.{WritesAs}
-use Rattle.btree_insert.proofs.ReachLemmas.{on_ok}
-use Rattle.btree_insert.proofs.OnePageLemmas.{leaf_stands}
+use Rattle.btree_insert.proofs.OnePageLemmas.{leaf_stands, last_write, last_rewritten}
+use Rattle.btree_insert.proofs.SpeltLemmas.{spelt_more}
 use Rattle.btree_insert.proofs.insert_in_one.write_inserted.Goals as goal
 
-pub inserted_in-requires-clause-index : goal.inserted_in-requires-clause-index
-inserted_in-requires-clause-index c =
+pub insert_in-requires-clause-copy : goal.insert_in-requires-clause-copy
+insert_in-requires-clause-copy c =
+    let ws = c.args.edit.now.writes in
+    let at = c.len-at.ensures ∙ ws.ok.0 in
+    let here = last_write ws.items c.write_page.new.edit.writes.items (c.args.n, c.args.page.now) c.index_mut.result.now c.len-at.result c.in_ok-write_page.ensures.writes at c.index_mut.ensures.value in
+    ap (λ (w : ℕ × List ℕ). w.1) (sym here)
+
+pub insert_in-requires-clause-index : goal.insert_in-requires-clause-index
+insert_in-requires-clause-index c =
     let n = c.requires.spelt.0 in
     let can = c.requires.spelt.1 in
     let is = c.requires.spelt.2 in
+    let ws = c.args.edit.now.writes in
+    let at = c.len-at.ensures ∙ ws.ok.0 in
+    let here = last_write ws.items c.write_page.new.edit.writes.items (c.args.n, c.args.page.now) c.index_mut.result.now c.len-at.result c.in_ok-write_page.ensures.writes at c.index_mut.ensures.value in
+    let bytes = ap (λ (w : ℕ × List ℕ). w.1) here in
     let place = (c.requires.leaf n can is).1 in
-    omega (arith, count_spelt c.args.order c.args.page.now n c.requires.order can is, place.within)
+    omega (arith, count_spelt c.args.order c.index_mut.result.now.1 n c.requires.order can (bytes ∙ is), place.within)
 
-pub inserted_in-requires-clause-room : goal.inserted_in-requires-clause-room
-inserted_in-requires-clause-room c =
+pub insert_in-requires-clause-room : goal.insert_in-requires-clause-room
+insert_in-requires-clause-room c =
     let n = c.requires.spelt.0 in
     let can = c.requires.spelt.1 in
     let is = c.requires.spelt.2 in
+    let ws = c.args.edit.now.writes in
+    let at = c.len-at.ensures ∙ ws.ok.0 in
+    let here = last_write ws.items c.write_page.new.edit.writes.items (c.args.n, c.args.page.now) c.index_mut.result.now c.len-at.result c.in_ok-write_page.ensures.writes at c.index_mut.ensures.value in
+    let bytes = ap (λ (w : ℕ × List ℕ). w.1) here in
     let room = (c.requires.leaf n can is).2 in
-    omega (arith, count_spelt c.args.order c.args.page.now n c.requires.order can is, room)
-
-pub write_page-requires : goal.write_page-requires
-write_page-requires c =
-    let n = c.requires.spelt.0 in
-    let can = c.requires.spelt.1 in
-    let is = c.requires.spelt.2 in
-    let leaf = c.requires.leaf n can is in
-    let m = with_elements n (insert n.elements.items c.args.i c.args.element) in
-    (m, leaf_stands c.args.order n m c.args.i c.args.element can leaf.0 leaf.1 leaf.2 c.requires.element refl refl refl, c.inserted_in.ensures n can is)
+    omega (arith, count_spelt c.args.order c.index_mut.result.now.1 n c.requires.order can (bytes ∙ is), room)
 
 pub returns-clause-writes : goal.returns-clause-writes
 returns-clause-writes c = λ n can is.
     let leaf = c.requires.leaf n can is in
     let m : Node = with_elements n (insert n.elements.items c.args.i c.args.element) in
-    let old = c.args.edit.now.writes.items in
-    let new = c.write_page.new.edit.writes.items in
-    on_ok c.write_page.result (new ≡ old ++ (c.args.n, c.inserted_in.result) ∷ []) (WritesAs c.args.order c.args.n n (insert n.elements.items c.args.i c.args.element) old new)
-    (λ written. record {
+    let ws = c.args.edit.now.writes in
+    let at = c.len-at.ensures ∙ ws.ok.0 in
+    let here = last_write ws.items c.write_page.new.edit.writes.items (c.args.n, c.args.page.now) c.index_mut.result.now c.len-at.result c.in_ok-write_page.ensures.writes at c.index_mut.ensures.value in
+    let bytes = ap (λ (w : ℕ × List ℕ). w.1) here in
+    record {
       node = m;
       stands = leaf_stands c.args.order n m c.args.i c.args.element can leaf.0 leaf.1 leaf.2 c.requires.element refl refl refl;
       kind = refl;
       elements = refl;
       sons = refl;
-      written = written ∙ ap (λ page. old ++ (c.args.n, page) ∷ []) (c.inserted_in.ensures n can is);
-    })
-    c.write_page.ensures.writes
+      written = last_rewritten ws.items c.write_page.new.edit.writes.items (c.args.n, c.args.page.now) c.index_mut.result.now c.insert_in.new.page (spelling m c.args.order) c.len-at.result c.in_ok-write_page.ensures.writes at here (c.insert_in.ensures n can (bytes ∙ is));
+    }
+
+pub returns-clause-spelt : goal.returns-clause-spelt
+returns-clause-spelt c =
+    let n = c.requires.spelt.0 in
+    let can = c.requires.spelt.1 in
+    let is = c.requires.spelt.2 in
+    let changed = returns-clause-writes c n can is in
+    spelt_more c.args.order c.args.n c.args.edit.now.writes.items _ changed.node changed.stands changed.written

@@ -4,7 +4,7 @@ use Rattle.btree_node.specs.Spelling.{place}
 use Rattle.btree_node.specs.Written.{put_at}
 use Rattle.btree_node.proofs.ChangedPageLemmas.{replaced_spelt}
 use Rattle.btree_node.proofs.SpeltPageLemmas.{count_spelt, few_places}
-use Rattle.btree_node.proofs.changing.replaced_in.Goals as goal
+use Rattle.btree_node.proofs.changing.replace_in.Goals as goal
 
 pub place_start-requires-clause-index : goal.place_start-requires-clause-index
 place_start-requires-clause-index c = omega (arith, few_places c.args.k c.args.page.now c.requires.order c.requires.spelt, c.requires.index)
