@@ -1,5 +1,6 @@
 -- What a new table is, and why none was made.
-use Rattle.std.specs.Prelude.{◌≡◌, ℕ, ◌≤◌, Bool, true, false, List, length, Result, Ok, Err}
+use Rattle.std.specs.Prelude.{◌≡◌, ℕ, Bool, true, false, List, length, Result, Ok, Err}
+pub use Rattle.btree_node.specs.Layout.{IsOrder}
 use Rattle.btree_insert.specs.declared.tree.Tree.{Tree}
 use Rattle.btree_delete.specs.declared.tree_table.CreateFault.{CreateFault}
 use Rattle.btree_delete.specs.declared.tree_table.CreateFault.TheVariants.{BadOrder, Device, NotEmpty}
@@ -9,10 +10,6 @@ use Rattle.btree_delete.specs.TableView.{TableView}
 pub record IsEmpty (stored : List (List ℕ)) (tail : ℕ) : Type 0 where
   pub no_page : length stored ≡ 0
   pub no_tail : tail ≡ 0
-
-pub record IsOrder (k : ℕ) : Type 0 where
-  pub some : 1 ≤ k
-  pub most : k ≤ 16
 
 -- the empty tree of an order
 abbrev pub empty_tree : ℕ → Tree

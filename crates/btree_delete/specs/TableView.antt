@@ -11,6 +11,7 @@ use Rattle.btree_insert.specs.Contents.{contents_of}
 use Rattle.btree_insert.specs.Elements.{contents_at}
 use Rattle.rec_types.specs.Contents.{Contents}
 use Rattle.rec_types.specs.Table.{Damages}
+use Rattle.btree_node.specs.Layout.{greatest_order}
 use Rattle.btree_delete.specs.CleanFile.{IsCleanFile}
 
 -- the pages, the tree in them, how many records there may be, how many calls a refused growth ended, and what was told of damaged pages
@@ -47,7 +48,7 @@ pub record IsClosed (stored : List (List ℕ)) (tail : ℕ) (tree : Tree) (conte
 -- sizes within the limits; each page in memory spells a node; over a steady store the pages hold the tree, and where nothing was changed the store has them
 pub record IsTable (t : TableView) : Type 0 where
   pub some_order : 1 ≤ t.tree.order
-  pub most_order : t.tree.order ≤ 16
+  pub most_order : t.tree.order ≤ greatest_order
   pub low : t.tree.height ≤ 19
   pub used : t.tree.used ≤ 1000000
   pub small : t.tree.count ≤ 1000000

@@ -2,6 +2,7 @@ ghost use Rattle.std.specs.Prelude.{◌≡◌, ◌≢◌, ◌+◌, ◌-◌, ◌*
 ghost use Rattle.rec_types.specs.Table.{counted, is_device};
 ghost use Rattle.page_store.specs.PageMap.{at};
 ghost use Rattle.btree_node.specs.Lists.{Element};
+ghost use Rattle.btree_node.specs.Layout.{greatest_order};
 ghost use Rattle.btree_insert.specs.Contents.{lookup_in};
 ghost use Rattle.btree_insert.specs.PageTrees.{Holds};
 ghost use Rattle.btree_insert.specs.Spelt.{AreSpeltIn};
@@ -24,7 +25,7 @@ fn is_full_for<S: Store>(
     key: &Key,
 ) -> Result<bool, TableFault>
     requires some_order { 1 ≤ tree.now.order }
-    requires most_order { tree.now.order ≤ 16 }
+    requires most_order { tree.now.order ≤ greatest_order }
     requires height { tree.now.height ≤ 19 }
     requires spelt { AreSpeltIn tree.now.order pages.old }
     ensures full { IsTrue pages.old.steady → (es : List Element) (us : List ℕ)
@@ -60,7 +61,7 @@ fn put<S: Store>(
     value: Record,
 ) -> Result<(Tree, Option<Record>), TableFault>
     requires some_order { 1 ≤ tree.now.order }
-    requires most_order { tree.now.order ≤ 16 }
+    requires most_order { tree.now.order ≤ greatest_order }
     requires height { tree.now.height ≤ 19 }
     requires count { tree.now.count ≤ 1000000 }
     requires used { tree.now.used ≤ 1000000 }
@@ -108,7 +109,7 @@ pub(crate) fn change<S: Store>(
     to: Option<Record>,
 ) -> Result<(Tree, Option<Record>), TableFault>
     requires some_order { 1 ≤ tree.now.order }
-    requires most_order { tree.now.order ≤ 16 }
+    requires most_order { tree.now.order ≤ greatest_order }
     requires height { tree.now.height ≤ 19 }
     requires count { tree.now.count ≤ 1000000 }
     requires used { tree.now.used ≤ 1000000 }

@@ -4,6 +4,7 @@ ghost use Rattle.std.specs.Ordering.{nat_cmp};
 ghost use Rattle.rec_types.specs.Table.{counted};
 ghost use Rattle.page_store.specs.PageMap.{at};
 ghost use Rattle.btree_node.specs.Lists.{Element};
+ghost use Rattle.btree_node.specs.Layout.{greatest_order};
 ghost use Rattle.btree_insert.specs.Faults.{is_device};
 ghost use Rattle.btree_insert.specs.Growth.{IsOutside};
 ghost use Rattle.btree_insert.specs.PageTrees.{Holds};
@@ -30,7 +31,7 @@ pub(crate) fn measure_tree<S: Store>(
     root: u32,
 ) -> Result<(Tree, BTreeSet<u32>), TreeFault>
     requires some_order { 1 ≤ order }
-    requires most_order { order ≤ 16 }
+    requires most_order { order ≤ greatest_order }
     requires idle { pages.old.changed ≡ false }
     ensures found { IsTrue pages.old.steady → IfOk result
         (λ r. Measured order pages.old.pages root r.0
@@ -81,7 +82,7 @@ fn survey_root<S: Store>(
     root: u32,
 ) -> Result<Survey, TreeFault>
     requires some_order { 1 ≤ order }
-    requires most_order { order ≤ 16 }
+    requires most_order { order ≤ greatest_order }
     requires idle { pages.old.changed ≡ false }
     ensures found { IsTrue pages.old.steady → IfOk result (λ new. WentThrough order
         (at pages.old.pages) (length pages.old.pages) root new pages.old.reads pages.new.reads) }

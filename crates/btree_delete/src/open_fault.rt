@@ -1,6 +1,7 @@
 ghost use Rattle.std.specs.Prelude.{◌≡◌, ◌≢◌, ◌⊎◌, ℕ, ◌<◌, ◌≤◌, length, true, IsTrue, Ok, Err, IfOk, IfErr};
 ghost use Rattle.rec_types.specs.Table.{counted};
 ghost use Rattle.btree_node.specs.declared.header.Header.{Header as HeaderValue};
+ghost use Rattle.btree_node.specs.Layout.{IsOrder};
 ghost use Rattle.btree_delete.specs.CleanFile.{HasLength, HasHeader, Agrees, Begins, IsFirst, header_fault, is_device};
 
 use btree_node::{Header, HeaderFault, read_header};
@@ -83,7 +84,7 @@ pub(crate) fn check_header<S: Store>(store: &mut S, pages: u32) -> Result<Header
     ensures found { IsTrue (S.steady store.old)
         → IfOk result (λ h. HasHeader (S.pages store.old) h) }
     ensures agrees { IfOk result (λ h. Agrees (S.pages store.old) h) }
-    ensures order { IfOk result (λ h. (1 ≤ h.order) × (h.order ≤ 16)) }
+    ensures order { IfOk result (λ h. IsOrder h.order) }
     ensures only { IsTrue (S.steady store.old) → (h : HeaderValue)
         → Begins (S.pages store.old) (S.tail store.old) h
         → (result ≡ Ok h) ⊎ (result ≡ Err OpenFault.Device) }

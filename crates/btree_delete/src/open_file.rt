@@ -6,6 +6,7 @@ ghost use Rattle.page_store.specs.PageMap.{at};
 ghost use Rattle.page_store.specs.PagesView.{is_in_memory};
 ghost use Rattle.btree_node.specs.Lists.{Element};
 ghost use Rattle.btree_node.specs.declared.header.Header.{Header as HeaderValue};
+ghost use Rattle.btree_node.specs.Layout.{IsOrder, greatest_order};
 ghost use Rattle.btree_insert.specs.declared.tree.Tree.{Tree as TreeValue};
 ghost use Rattle.btree_delete.specs.CleanFile.{HasLength, Begins, HasTree, IsCleanFile, IsFirst, FailsTree, Opens, IsOutside, is_device, is_device_fault, tree_fault};
 ghost use Rattle.btree_delete.specs.Survey.{Measured};
@@ -48,7 +49,7 @@ fn measure_file<S: Store>(
     limit: u32,
 ) -> Result<(Tree, BTreeSet<u32>), OpenFault>
     requires some_order { 1 ≤ header.now.order }
-    requires most_order { header.now.order ≤ 16 }
+    requires most_order { header.now.order ≤ greatest_order }
     requires idle { pages.old.changed ≡ false }
     ensures found { IsTrue pages.old.steady → IfOk result
         (λ r. Measured header.now.order pages.old.pages
@@ -87,7 +88,7 @@ fn check_file<S: Store>(store: &mut S) -> Result<Header, OpenFault>
         → IfOk result (λ h. Begins (S.pages store.old) (S.tail store.old) h) }
     ensures long { IfOk result (λ h. (h.pages ≡ length (S.pages store.old))
         × HasLength (S.pages store.old) (S.tail store.old)) }
-    ensures order { IfOk result (λ h. (1 ≤ h.order) × (h.order ≤ 16)) }
+    ensures order { IfOk result (λ h. IsOrder h.order) }
     ensures only { IsTrue (S.steady store.old) → (h : HeaderValue)
         → Begins (S.pages store.old) (S.tail store.old) h
         → (result ≡ Ok h) ⊎ (result ≡ Err OpenFault.Device) }
@@ -124,8 +125,8 @@ pub(crate) fn open_file<S: Store>(
         → MatchResult result (λ r. r.1 ≡ tree) (λ stop. IsOutside stop.fault) }
     ensures fault { IsTrue (S.steady store) → IfErr result
         (λ stop. IsFirst (S.pages store) (S.tail store) limits.records stop.fault) }
-    ensures small { IfOk result (λ r. (1 ≤ r.1.order) × (r.1.order ≤ 16) × (r.1.height ≤ 19)
-        × (r.1.used ≤ 1000000) × (r.1.count ≤ limits.records)) }
+    ensures small { IfOk result (λ r. (1 ≤ r.1.order) × (r.1.order ≤ greatest_order)
+        × (r.1.height ≤ 19) × (r.1.used ≤ 1000000) × (r.1.count ≤ limits.records)) }
     ensures idle { IfOk result (λ r. r.0.changed ≡ false) }
     ensures in_memory { IfOk result (λ r. (n : ℕ) → is_in_memory r.0 n ≡ false) }
     ensures stored { IfOk result (λ r. (r.0.stored ≡ S.pages store) × (r.0.tail ≡ S.tail store)

@@ -4,6 +4,7 @@ ghost use Rattle.page_store.specs.PageMap.{at};
 ghost use Rattle.btree_node.specs.Lists.{Element};
 ghost use Rattle.btree_node.specs.Spelling.{CanStand};
 ghost use Rattle.btree_node.specs.declared.node.Node.{Node};
+ghost use Rattle.btree_node.specs.Layout.{greatest_order};
 ghost use Rattle.btree_insert.specs.Bounds.{AreWithin, Between};
 ghost use Rattle.btree_insert.specs.Faults.{is_device};
 ghost use Rattle.btree_insert.specs.PageTrees.{Spells};
@@ -140,7 +141,7 @@ fn read_page<S: Store>(
     bounds: &Bounds,
     node: &mut Node,
 ) -> Result<(), TreeFault>
-    requires order { order ≤ 16 }
+    requires order { order ≤ greatest_order }
     requires idle { pages.old.changed ≡ false }
     ensures exact { IsTrue pages.old.steady → (m : Node)
         → Spells order (at pages.old.pages) n m → least ≤ length m.elements.items
@@ -185,7 +186,7 @@ pub(crate) fn survey_page<S: Store>(
     n: u32,
     above: &Above,
 ) -> Result<(), TreeFault>
-    requires order { order ≤ 16 }
+    requires order { order ≤ greatest_order }
     requires idle { pages.old.changed ≡ false }
     requires room { survey.old.keys + 32 * unreached survey.old.reached < 2 ^ 32 }
     ensures found { IsTrue pages.old.steady → OnOk result
@@ -244,7 +245,7 @@ fn survey_sons<S: Store>(
     elements: &[(Key, Record)],
     above: &Above,
 ) -> Result<(), TreeFault>
-    requires order { order ≤ 16 }
+    requires order { order ≤ greatest_order }
     requires idle { pages.old.changed ≡ false }
     requires sons { length sons.now ≡ length elements.now + 1 }
     requires room { survey.old.keys + length elements.now + 32 * unreached survey.old.reached

@@ -11,6 +11,7 @@ ghost use Rattle.btree_insert.specs.declared.tree.Tree.{Tree as TreeValue};
 ghost use Rattle.btree_delete.specs.CleanFile.{IsCleanFile, IsFirst, Opens, IsOutside, is_device_fault, is_close_device_fault};
 ghost use Rattle.page_store.specs.Fronts.{tried};
 ghost use Rattle.page_store.specs.Journal.{noted, NotesFront, carried, untouched};
+ghost use Rattle.btree_node.specs.Layout.{greatest_order};
 ghost use Rattle.btree_delete.specs.Closing.{closing, IsNewOrFile, IsEither};
 ghost use Rattle.btree_delete.specs.TableView.{TableView, HoldsTree, IsClosed, table_contents};
 ghost use Rattle.btree_delete.specs.Created.{IsEmpty, IsCreated, IsCreateFault, is_create_device, is_create_device_fault};
@@ -287,7 +288,7 @@ impl<S: Store> TreeTable<S> {
     pub fn order(&self) -> u16
         ensures value { result ≡ self.now.tree.order }
         ensures some { 1 ≤ result }
-        ensures most { result ≤ 16 }
+        ensures most { result ≤ greatest_order }
     {
         self.tree.order
     }

@@ -5,6 +5,7 @@ ghost use Rattle.std.specs.FinMap.{get, entries, len};
 ghost use Rattle.rec_types.specs.Contents.{set_to};
 ghost use Rattle.page_store.specs.PageMap.{PageMap, at};
 ghost use Rattle.btree_node.specs.Lists.{Element, Ascends};
+ghost use Rattle.btree_node.specs.Layout.{greatest_order};
 ghost use Rattle.btree_insert.specs.Classes.{BTree, in_order, StandsFor};
 ghost use Rattle.btree_insert.specs.Contents.{lookup_in, set_in, contents_of};
 ghost use Rattle.btree_insert.specs.Elements.{elements_of, contents_at};
@@ -37,8 +38,9 @@ pub fn trees_of_the_class()
 /// What pages hold, as a function of the pages: where they hold a tree, its elements are those that
 /// `elements_of` reads.
 pub fn elements_of_pages()
-    ensures { (pages : PageMap) (t : Tree) (es : List Element) (us : List ℕ) → t.order ≤ 16
-        → Holds pages t es us → elements_of t.order pages t.height t.root ≡ es }
+    ensures { (pages : PageMap) (t : Tree) (es : List Element) (us : List ℕ)
+        → t.order ≤ greatest_order → Holds pages t es us
+        → elements_of t.order pages t.height t.root ≡ es }
 {}
 
 /// Elements in order as a finite map: what it has at a key, its pairs, and how it is changed at one key.
@@ -57,14 +59,14 @@ pub fn contents_of_elements()
 /// had there.
 pub fn contents_after_insertion()
     ensures contents { (old new : PageMap) (fresh : ℕ → ℕ) (taken : ℕ) (tree next : Tree)
-        → (es : List Element) (us key value : List ℕ) (before : Option (List ℕ)) → tree.order ≤ 16
-        → Holds old tree es us
+        → (es : List Element) (us key value : List ℕ) (before : Option (List ℕ))
+        → tree.order ≤ greatest_order → Holds old tree es us
         → Inserted (pages_change old new fresh 0 taken) tree es us key value (next, before)
         → contents_at next.order new next.height next.root
         ≡ set_to (contents_at tree.order old tree.height tree.root) key (Some value) }
     ensures answer { (old new : PageMap) (fresh : ℕ → ℕ) (taken : ℕ) (tree next : Tree)
-        → (es : List Element) (us key value : List ℕ) (before : Option (List ℕ)) → tree.order ≤ 16
-        → Holds old tree es us
+        → (es : List Element) (us key value : List ℕ) (before : Option (List ℕ))
+        → tree.order ≤ greatest_order → Holds old tree es us
         → Inserted (pages_change old new fresh 0 taken) tree es us key value (next, before)
         → before ≡ get (contents_at tree.order old tree.height tree.root) key }
 {}

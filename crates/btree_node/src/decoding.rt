@@ -1,5 +1,5 @@
 ghost use Rattle.std.specs.Prelude.{◌≡◌, ℕ, ◌+◌, ◌*◌, ◌^◌, ◌<◌, ◌≤◌, ◌↔◌, [], Ok, IfOk, IfErr, OnOk, IsOk, MatchResult, length, All, IsTrue};
-ghost use Rattle.btree_node.specs.Layout.{key_width, record_at, place_width, sons_start, widest_record};
+ghost use Rattle.btree_node.specs.Layout.{key_width, record_at, place_width, sons_start, widest_record, greatest_order};
 ghost use Rattle.btree_node.specs.Lists.{Below, Ascends};
 ghost use Rattle.btree_node.specs.Spelling.{spelling, spelling_in, CanStand, CanStandIn};
 ghost use Rattle.btree_node.specs.Reading.{kind_at, count_at, place_at, element_in, elements_at, son_at, sons_at, sons_of_kind, kind_read, node_at, key_length, record_length, KeyLengths, RecordLengths, PassesBefore, FirstFault, FirstFaultIn};
@@ -17,7 +17,7 @@ use rec_types::{Key, Record};
 /// The node that the page spells, in a tree of order `k`. The faults in their order: Kind, Count,
 /// KeyLength, RecordLength, Order, Son, NotZero.
 pub fn decode(page: &[u8; 4096], k: u16) -> Result<Node, NodeFault>
-    requires { k ≤ 16 }
+    requires { k ≤ greatest_order }
 
     // What is read is spelled so.
     ensures found { IfOk result (λ n. CanStand n k × (page.now ≡ spelling n k)) }
@@ -38,7 +38,7 @@ pub fn decode(page: &[u8; 4096], k: u16) -> Result<Node, NodeFault>
 /// The same as `decode`, into a node that there is: nothing as large as a node is made or moved. After
 /// a fault the node may be any.
 pub fn decode_into(page: &[u8; 4096], k: u16, node: &mut Node) -> Result<(), NodeFault>
-    requires { k ≤ 16 }
+    requires { k ≤ greatest_order }
     ensures found { OnOk result (CanStand node.new k × (page.now ≡ spelling node.new k)) }
     ensures only { (n : Node) → CanStand n k → page.now ≡ spelling n k
         → IsOk result × (node.new ≡ n) }
@@ -55,7 +55,7 @@ pub fn decode_into(page: &[u8; 4096], k: u16, node: &mut Node) -> Result<(), Nod
 #[cold]
 #[inline(never)]
 fn decode_by_tests(page: &[u8; 4096], k: u16, node: &mut Node) -> Result<(), NodeFault>
-    requires { k ≤ 16 }
+    requires { k ≤ greatest_order }
     ensures found { OnOk result (CanStand node.new k × (page.now ≡ spelling node.new k)) }
     ensures only { (n : Node) → CanStand n k → page.now ≡ spelling n k
         → IsOk result × (node.new ≡ n) }
@@ -73,7 +73,7 @@ fn decode_by_tests(page: &[u8; 4096], k: u16, node: &mut Node) -> Result<(), Nod
 /// The node that the page spells in a layout.
 fn decode_in(layout: Layout, page: &[u8; 4096], k: u16) -> Result<Node, NodeFault>
     requires width { layout.record_width ≤ widest_record }
-    requires order { k ≤ 16 }
+    requires order { k ≤ greatest_order }
     ensures found { IfOk result (λ n. CanStandIn layout n k × (page.now ≡ spelling_in layout n k)) }
     ensures only { (n : Node) → CanStandIn layout n k → page.now ≡ spelling_in layout n k
         → result ≡ Ok n }
@@ -91,7 +91,7 @@ fn decode_in(layout: Layout, page: &[u8; 4096], k: u16) -> Result<Node, NodeFaul
 #[tactic(auto, unfolding(crate::specs::Reading::Passes, crate::specs::Reading::node_at))]
 fn node_of(layout: Layout, page: &[u8; 4096], k: u16) -> Result<Node, NodeFault>
     requires width { layout.record_width ≤ widest_record }
-    requires order { k ≤ 16 }
+    requires order { k ≤ greatest_order }
     ensures value { IfOk result (λ n. n ≡ node_at layout k page.now) }
     ensures passes { IfOk result (λ _. PassesBefore layout k page.now NotZero) }
     ensures fault { IfErr result (λ e. FirstFaultIn layout k page.now e) }
@@ -145,7 +145,7 @@ pub(crate) fn count_of(page: &[u8; 4096]) -> usize
 
 /// Whether a page of the order may have so many keys.
 pub(crate) fn count_fits(count: usize, k: u16) -> bool
-    requires { k ≤ 16 }
+    requires { k ≤ greatest_order }
     ensures { IsTrue result ↔ ((0 < count) × (count ≤ 2 * k)) }
 {
     0 < count && count <= 2 * k as usize
@@ -247,7 +247,7 @@ fn sons_of(
     count: usize,
 ) -> ArrayVec<u32, 34>
     requires width { layout.record_width ≤ widest_record }
-    requires order { k ≤ 16 }
+    requires order { k ≤ greatest_order }
     requires count { count ≤ 32 }
     ensures { result.items ≡ sons_of_kind kind layout k page.now count }
 {
@@ -259,7 +259,7 @@ fn sons_of(
 
 fn numbers_of(layout: Layout, page: &[u8; 4096], k: u16, count: usize) -> ArrayVec<u32, 34>
     requires width { layout.record_width ≤ widest_record }
-    requires order { k ≤ 16 }
+    requires order { k ≤ greatest_order }
     requires count { count ≤ 33 }
     ensures { result.items ≡ sons_at layout k page.now count }
 {
@@ -278,7 +278,7 @@ pub(crate) fn push_sons(
     sons: &mut ArrayVec<u32, 34>,
 )
     requires width { layout.record_width ≤ widest_record }
-    requires order { k ≤ 16 }
+    requires order { k ≤ greatest_order }
     requires count { count ≤ 33 }
     requires empty { sons.old.items ≡ [] }
     ensures { sons.new.items ≡ sons_at layout k page.now count }

@@ -1,7 +1,7 @@
 ghost use Rattle.std.specs.Prelude.{◌≡◌, ◌+◌, ◌*◌, ◌≤◌, ◌++◌, length};
 ghost use Rattle.std.specs.List.{flat_map};
 ghost use Rattle.rec_types.specs.Padded.{padded};
-ghost use Rattle.btree_node.specs.Layout.{place_width, widest_record};
+ghost use Rattle.btree_node.specs.Layout.{place_width, widest_record, greatest_order};
 ghost use Rattle.btree_node.specs.Lists.{Each};
 ghost use Rattle.btree_node.specs.Spelling.{head, place, sons_bytes, spelling, spelling_in, ElementFits, CanStand, CanStandIn};
 
@@ -12,7 +12,7 @@ use rec_types::{Key, Record};
 
 /// The one page that spells the node, for a tree of order `k`.
 pub fn encode(node: &Node, k: u16) -> [u8; 4096]
-    requires order { k ≤ 16 }
+    requires order { k ≤ greatest_order }
     requires stands { CanStand node.now k }
     ensures { result ≡ spelling node.now k }
 {
@@ -23,7 +23,7 @@ pub fn encode(node: &Node, k: u16) -> [u8; 4096]
 #[tactic(auto, using(crate::proofs::ElementOrderLemmas::sons_most), unfolding(crate::specs::Spelling::spelling_in))]
 pub fn spell(layout: Layout, node: &Node, k: u16) -> PageWriter
     requires width { layout.record_width ≤ widest_record }
-    requires order { k ≤ 16 }
+    requires order { k ≤ greatest_order }
     requires stands { CanStandIn layout node.now k }
     ensures { padded 4096 result ≡ spelling_in layout node.now k }
 {

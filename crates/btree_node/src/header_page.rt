@@ -3,6 +3,7 @@ ghost use Rattle.btree_node.specs.Reading.{part};
 ghost use Rattle.btree_node.specs.HeaderSpelling.{magic, header_spelling, HeaderFits, header_at, state_at, HeaderPassesBefore, FirstHeaderFault, clean_state, writing_state};
 ghost use Rattle.btree_node.specs.declared.header.Header.{Header};
 ghost use Rattle.btree_node.specs.declared.header.HeaderFault.TheVariants.{BadHeader};
+ghost use Rattle.btree_node.specs.Layout.{IsOrder, greatest_order};
 
 use crate::header::{Header, HeaderFault};
 use crate::page_writer::PageWriter;
@@ -58,7 +59,7 @@ pub fn read_header(page: &[u8; 4096]) -> Result<Header, HeaderFault>
 #[tactic(auto, unfolding(crate::specs::HeaderSpelling::header_spelling, crate::specs::HeaderSpelling::header_bytes, crate::specs::HeaderSpelling::magic))]
 pub fn write_header(header: &Header, clean: bool) -> [u8; 4096]
     requires least { 1 ≤ header.now.order }
-    requires most { header.now.order ≤ 16 }
+    requires most { header.now.order ≤ greatest_order }
     ensures { result ≡ header_spelling header.now (if clean then clean_state else writing_state) }
 {
     let mut page = PageWriter::new();
@@ -116,7 +117,7 @@ fn header_of(page: &[u8; 4096]) -> Result<Header, HeaderFault>
 }
 
 fn is_order(k: u16) -> bool
-    ensures { IsTrue result ↔ ((1 ≤ k) × (k ≤ 16)) }
+    ensures { IsTrue result ↔ IsOrder k }
 {
     (1..=16).contains(&k)
 }

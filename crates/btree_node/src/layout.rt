@@ -1,5 +1,5 @@
 ghost use Rattle.std.specs.Prelude.{◌≡◌, ◌+◌, ◌*◌, ◌≤◌};
-ghost use Rattle.btree_node.specs.Layout.{place_width, place_start, sons_start, widest_record};
+ghost use Rattle.btree_node.specs.Layout.{place_width, place_start, sons_start, widest_record, greatest_order};
 
 /// The bytes of a page.
 pub const PAGE_WIDTH: usize = 4096;
@@ -53,7 +53,7 @@ impl Layout {
     /// Where the sons begin in a page of order `k`: behind its places.
     pub fn sons_start(self, k: u16) -> usize
         requires width { self.record_width ≤ widest_record }
-        requires order { k ≤ 16 }
+        requires order { k ≤ greatest_order }
         ensures value { result ≡ sons_start self k }
         ensures within { result ≤ 3784 }
     {

@@ -1,5 +1,5 @@
 ghost use Rattle.std.specs.Prelude.{◌≡◌, ℕ, ◌+◌, ◌-◌, ◌*◌, ◌<◌, ◌≤◌, List, [], ◌∷◌, ◌++◌, IsTrue, length, drop};
-ghost use Rattle.btree_node.specs.Layout.{first_layout, place_width, place_start, sons_start};
+ghost use Rattle.btree_node.specs.Layout.{first_layout, place_width, place_start, sons_start, greatest_order};
 ghost use Rattle.btree_node.specs.Lists.{Ascends};
 ghost use Rattle.btree_node.specs.Reading.{part, place_at, elements_at, sons_of_kind, node_at, IsZero, IsGoodPlace, Passes, PassesBefore};
 ghost use Rattle.btree_node.specs.declared.node.NodeFault.TheVariants.{NotZero};
@@ -18,7 +18,7 @@ use rec_types::{Key, Record};
 /// Its widths are constants, so that fields are copied by moves.
 #[tactic(auto, unfolding(crate::specs::Reading::node_at))]
 pub(crate) fn read_first(page: &[u8; 4096], k: u16, node: &mut Node) -> bool
-    requires order { k ≤ 16 }
+    requires order { k ≤ greatest_order }
     ensures before { IsTrue result → PassesBefore first_layout k page.now NotZero }
     ensures padding { IsTrue result → Passes first_layout k page.now NotZero }
     ensures value { IsTrue result → node.new ≡ node_at first_layout k page.now }
@@ -105,7 +105,7 @@ pub(crate) fn thirty_two(bytes: &[u8], at: usize) -> [u8; 32]
 }
 
 fn fill_sons(page: &[u8; 4096], k: u16, kind: NodeKind, count: usize, sons: &mut ArrayVec<u32, 34>)
-    requires order { k ≤ 16 }
+    requires order { k ≤ greatest_order }
     requires count { count ≤ 32 }
     ensures { sons.new.items ≡ sons_of_kind kind first_layout k page.now count }
 {
@@ -126,7 +126,7 @@ fn head_is_zero(page: &[u8; 4096]) -> bool
 
 /// Whether the places behind `count` places and the bytes behind `sons` sons are zero.
 fn rest_is_zero(page: &[u8; 4096], k: u16, count: usize, sons: usize) -> bool
-    requires order { k ≤ 16 }
+    requires order { k ≤ greatest_order }
     requires count { count ≤ 2 * k }
     requires sons { sons ≤ 33 }
     ensures places { IsTrue result → IsZero (part (place_start first_layout count)

@@ -3,6 +3,7 @@ ghost use Rattle.btree_node.specs.Lists.{Element, IsAt, IsPlace};
 ghost use Rattle.btree_node.specs.Reading.{count_at};
 ghost use Rattle.btree_node.specs.Spelling.{spelling, CanStand, IsSpelt};
 ghost use Rattle.btree_node.specs.declared.node.Node.{Node};
+ghost use Rattle.btree_node.specs.Layout.{greatest_order};
 
 use crate::decoding::{count_of, kind_of, place_of_page};
 use crate::layout::{FIRST_LAYOUT, RECORD_AT, SON_WIDTH};
@@ -14,8 +15,8 @@ use std::cmp::Ordering;
 
 /// The kind of the node that the page spells.
 pub fn kind_in(page: &[u8; 4096]) -> NodeKind
-    ensures { (k : ℕ) (node : Node) → k ≤ 16 → CanStand node k → page.now ≡ spelling node k
-        → result ≡ node.kind }
+    ensures { (k : ℕ) (node : Node) → k ≤ greatest_order → CanStand node k
+        → page.now ≡ spelling node k → result ≡ node.kind }
 {
     kind_of(page).unwrap_or(NodeKind::Leaf)
 }
@@ -23,15 +24,15 @@ pub fn kind_in(page: &[u8; 4096]) -> NodeKind
 /// How many keys the node has that the page spells.
 pub fn count_in(page: &[u8; 4096]) -> usize
     ensures value { result ≡ count_at page.now }
-    ensures node { (k : ℕ) (node : Node) → k ≤ 16 → CanStand node k → page.now ≡ spelling node k
-        → result ≡ length node.elements.items }
+    ensures node { (k : ℕ) (node : Node) → k ≤ greatest_order → CanStand node k
+        → page.now ≡ spelling node k → result ≡ length node.elements.items }
 {
     count_of(page)
 }
 
 /// Key i of the node that the page spells, in a tree of order `k`.
 pub fn key_in(page: &[u8; 4096], k: u16, i: usize) -> Key
-    requires order { k ≤ 16 }
+    requires order { k ≤ greatest_order }
     requires spelt { IsSpelt k page.now }
     requires index { i < count_at page.now }
     ensures { (node : Node) (other : Element) → CanStand node k → page.now ≡ spelling node k
@@ -46,7 +47,7 @@ pub fn key_in(page: &[u8; 4096], k: u16, i: usize) -> Key
 
 /// Record i of the node that the page spells, in a tree of order `k`.
 pub fn record_in(page: &[u8; 4096], k: u16, i: usize) -> Record
-    requires order { k ≤ 16 }
+    requires order { k ≤ greatest_order }
     requires spelt { IsSpelt k page.now }
     requires index { i < count_at page.now }
     ensures { (node : Node) (other : Element) → CanStand node k → page.now ≡ spelling node k
@@ -62,7 +63,7 @@ pub fn record_in(page: &[u8; 4096], k: u16, i: usize) -> Record
 /// Son j of the node that the page spells, in a tree of order `k`, where j is at most its number of
 /// keys. The node is no leaf.
 pub fn son_in(page: &[u8; 4096], k: u16, j: usize) -> u32
-    requires order { k ≤ 16 }
+    requires order { k ≤ greatest_order }
     requires index { j ≤ 32 }
     ensures { (node : Node) (other : ℕ) → CanStand node k → page.now ≡ spelling node k
         → j < length node.sons.items → result ≡ slice_index_or node.sons.items j other }
@@ -73,7 +74,7 @@ pub fn son_in(page: &[u8; 4096], k: u16, j: usize) -> u32
 /// The place of the key among the keys of the node that the page spells, in a tree of order `k`, and
 /// else the number of smaller keys there: the same as `place_of` of the node.
 pub fn place_in(page: &[u8; 4096], k: u16, key: &Key) -> Result<usize, usize>
-    requires order { k ≤ 16 }
+    requires order { k ≤ greatest_order }
     requires spelt { IsSpelt k page.now }
     ensures within { MatchResult result (λ i. i < count_at page.now) (λ i. i ≤ count_at page.now) }
     ensures found { (node : Node) → CanStand node k → page.now ≡ spelling node k

@@ -1,4 +1,5 @@
 ghost use Rattle.std.specs.Prelude.{◌≤◌};
+ghost use Rattle.btree_node.specs.Layout.{greatest_order};
 
 mod deletions;
 mod insertions;
@@ -95,7 +96,7 @@ fn push_bytes(text: &mut String, bytes: &[u8]) -> Result<(), Fail> {
 
 /// Appends what a page spells: its kind, its keys and their records, and its sons.
 fn push_page(text: &mut String, page: &[u8; 4096], order: u16) -> Result<(), Fail>
-    requires { order ≤ 16 }
+    requires { order ≤ greatest_order }
 {
     let node = decode(page, order)?;
     text.push_str(if node.kind == NodeKind::Leaf {

@@ -1,5 +1,6 @@
 ghost use Rattle.std.specs.Prelude.{◌≡◌, ◌<◌, ◌≤◌, IfOk, length};
 ghost use Rattle.btree_node.specs.Spelling.{CanStand};
+ghost use Rattle.btree_node.specs.Layout.{greatest_order};
 
 use super::{empty, insert_again, new_pages, put, tree_text, walk_again};
 use arrayvec::ArrayVec;
@@ -90,7 +91,7 @@ fn seven_and_eight_keys(rt: HostRuntime) -> Result<(), Fail> {
 
 /// Looks that each page but page 0 is a node of the order.
 fn check_nodes<S: Store>(pages: &mut Pages<S>, order: u16) -> Result<(), Fail>
-    requires { order ≤ 16 }
+    requires { order ≤ greatest_order }
 {
     let mut page = [0; 4096];
     for n in 1..pages.page_count() {
