@@ -1,4 +1,4 @@
-ghost use Rattle.std.specs.Prelude.{◌≡◌, ◌≢◌, ◌+◌, ◌<◌, ◌≤◌, ℕ, List, IsTrue, IfOk, IfErr, MatchResult};
+ghost use Rattle.std.specs.Prelude.{◌≡◌, ◌≢◌, ◌+◌, ◌<◌, ◌≤◌, ℕ, None, List, IsTrue, IfOk, IfErr, MatchResult};
 ghost use Rattle.rec_types.specs.Table.{counted};
 ghost use Rattle.page_store.specs.PageMap.{at};
 ghost use Rattle.btree_node.specs.Lists.{Element};
@@ -12,7 +12,7 @@ ghost use Rattle.btree_node.specs.Layout.{IsOrder, greatest_order};
 ghost use Rattle.btree_insert.specs.Sizes.{greatest_height};
 
 use crate::bounds::Bounds;
-use crate::step::{Spot, Step, take_step};
+use crate::step::{Spot, Step, step_in_memory, take_step};
 use crate::tree::{Tree, TreeFault};
 use btree_node::Node;
 use page_store::{Pages, Store};
@@ -41,7 +41,11 @@ pub fn find<S: Store>(
         ≡ record pages.old { reads = pages.new.reads; failures = pages.new.failures } }
     ensures reads { pages.new.reads ≤ pages.old.reads + tree.now.height }
 {
-    find_from_root(pages, tree, key, false)
+    if tree.height == 0 {
+        return Ok(None);
+    }
+    let mut node = Node::blank();
+    find_below(pages, tree.order, &root_of(tree), key, false, &mut node)
 }
 
 /// The same as `find`, where each page in memory is known to spell a node of the order: it is searched
@@ -66,44 +70,70 @@ pub fn look_up<S: Store>(
         ≡ record pages.old { reads = pages.new.reads; failures = pages.new.failures } }
     ensures reads { pages.new.reads ≤ pages.old.reads + tree.now.height }
 {
-    find_from_root(pages, tree, key, true)
-}
-
-/// The record at the key. Where `in_place`, a page in memory is searched where it lies.
-fn find_from_root<S: Store>(
-    pages: &mut Pages<S>,
-    tree: &Tree,
-    key: &Key,
-    in_place: bool,
-) -> Result<Option<Record>, TreeFault>
-    requires order { IsOrder tree.now.order }
-    requires height { tree.now.height ≤ greatest_height }
-    requires spelt { IsTrue in_place → AreSpeltIn tree.now.order pages.old }
-    ensures found { IsTrue pages.old.steady → (es : List Element) (us : List ℕ)
-        → Holds (at pages.old.pages) tree.now es us
-        → MatchResult result (λ found. found ≡ lookup_in key.now es)
-        (λ fault. fault ≡ TreeFault.Device) }
-    ensures led { IsTrue pages.old.steady → IfOk result (LeadsFrom
-        (Spells tree.now.order (at pages.old.pages)) key.now tree.now.height tree.now.root) }
-    ensures no_memory { IfErr result (λ fault. fault ≢ TreeFault.Memory) }
-    ensures device { pages.new.failures ≡ counted pages.old.failures (is_device result) }
-    ensures unchanged { pages.new
-        ≡ record pages.old { reads = pages.new.reads; failures = pages.new.failures } }
-    ensures reads { pages.new.reads ≤ pages.old.reads + tree.now.height }
-{
     if tree.height == 0 {
         return Ok(None);
     }
-    let root = Spot {
+    look_up_below(pages, tree.order, &root_of(tree), key)
+}
+
+/// The page at the root.
+fn root_of(tree: &Tree) -> Spot
+    ensures { result ≡ record {
+      page = tree.now.root;
+      level = tree.now.height;
+      bounds = record { low = None; high = None };
+    } }
+{
+    Spot {
         page: tree.root,
         level: tree.height,
         bounds: Bounds {
             low: None,
             high: None,
         },
+    }
+}
+
+/// The record at the key in the tree below the page at a spot. Pages in memory are searched where they
+/// lie, down to the first one that isn't there.
+fn look_up_below<S: Store>(
+    pages: &mut Pages<S>,
+    order: u16,
+    spot: &Spot,
+    key: &Key,
+) -> Result<Option<Record>, TreeFault>
+    requires order { order ≤ greatest_order }
+    requires level { 0 < spot.now.level }
+    requires spelt { AreSpeltIn order pages.old }
+    ensures found { IsTrue pages.old.steady → (least : ℕ) (es : List Element) (us : List ℕ)
+        → TreeAt order (at pages.old.pages) least spot.now.level spot.now.page es us
+        → Between spot.now.bounds es
+        → MatchResult result (λ found. found ≡ lookup_in key.now es)
+        (λ fault. fault ≡ TreeFault.Device) }
+    ensures led { IsTrue pages.old.steady → IfOk result (Leads
+        (Spells order (at pages.old.pages)) key.now spot.now.level spot.now.page spot.now.bounds) }
+    ensures no_memory { IfErr result (λ fault. fault ≢ TreeFault.Memory) }
+    ensures device { pages.new.failures ≡ counted pages.old.failures (is_device result) }
+    ensures unchanged { pages.new
+        ≡ record pages.old { reads = pages.new.reads; failures = pages.new.failures } }
+    ensures reads { pages.new.reads ≤ pages.old.reads + spot.now.level }
+{
+    let Some(step) = step_in_memory(pages, order, spot, key)? else {
+        let mut node = Node::blank();
+        return find_below(pages, order, spot, key, true, &mut node);
     };
-    let mut node = Node::blank();
-    find_below(pages, tree.order, &root, key, in_place, &mut node)
+    match step {
+        Step::Found(_, value) => Ok(Some(value)),
+        Step::Ends(_) => Ok(None),
+        Step::Goes(_, page, bounds) => {
+            let below = Spot {
+                page,
+                level: spot.level - 1,
+                bounds,
+            };
+            look_up_below(pages, order, &below, key)
+        }
+    }
 }
 
 /// The record at the key in the tree below the page at a spot. Each page on the way that is not searched

@@ -1,11 +1,11 @@
-ghost use Rattle.std.specs.Prelude.{◌≡◌, ◌+◌, ◌-◌, ◌*◌, ◌<◌, ◌≤◌, ℕ, length, MatchResult, slice_index_or};
-ghost use Rattle.btree_node.specs.Lists.{Element, IsAt, IsPlace};
+ghost use Rattle.std.specs.Prelude.{◌≡◌, ◌+◌, ◌-◌, ◌*◌, ◌<◌, ◌≤◌, ℕ, length, MatchResult, slice_index_or, take};
+ghost use Rattle.btree_node.specs.Lists.{Element, Each, Below, IsAt, IsPlace};
 ghost use Rattle.btree_node.specs.Reading.{count_at};
 ghost use Rattle.btree_node.specs.Spelling.{spelling, CanStand, IsSpelt};
 ghost use Rattle.btree_node.specs.declared.node.Node.{Node};
 ghost use Rattle.btree_node.specs.Layout.{greatest_order};
 
-use crate::decoding::{count_of, kind_of, place_of_page};
+use crate::decoding::{count_of, is_below, kind_of, place_of_page};
 use crate::layout::{FIRST_LAYOUT, RECORD_AT, SON_WIDTH};
 use crate::node::NodeKind;
 use crate::part::u32_of;
@@ -81,15 +81,31 @@ pub fn place_in(page: &[u8; 4096], k: u16, key: &Key) -> Result<usize, usize>
         → MatchResult result (IsAt node.elements.items key.now)
         (IsPlace node.elements.items key.now) }
 {
-    let mut low = 0;
-    let mut high = count_in(page);
-    while low < high {
-        let middle = low + (high - low) / 2;
-        match key_in(page, k, middle).cmp(key) {
-            Ordering::Less => low = middle + 1,
-            Ordering::Equal => return Ok(middle),
-            Ordering::Greater => high = middle,
+    let count = count_in(page);
+    let mut at = fours_below(page, k, key);
+    while at < count {
+        match key_in(page, k, at).cmp(key) {
+            Ordering::Less => at += 1,
+            Ordering::Equal => return Ok(at),
+            Ordering::Greater => return Err(at),
         }
     }
-    Err(low)
+    Err(at)
+}
+
+/// How many keys from the first on, in fours, are smaller. Steps of equal width let the processor read
+/// ahead of what it compares.
+fn fours_below(page: &[u8; 4096], k: u16, key: &Key) -> usize
+    requires order { k ≤ greatest_order }
+    requires spelt { IsSpelt k page.now }
+    ensures within { result ≤ count_at page.now }
+    ensures below { (node : Node) → CanStand node k → page.now ≡ spelling node k
+        → Each (λ e. Below e.0 key.now) (take result node.elements.items) }
+{
+    let count = count_in(page);
+    let mut at = 0;
+    while at + 3 < count && is_below(&key_in(page, k, at + 3), key) {
+        at += 4;
+    }
+    at
 }
