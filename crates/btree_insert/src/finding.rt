@@ -44,8 +44,7 @@ pub fn find<S: Store>(
     if tree.height == 0 {
         return Ok(None);
     }
-    let mut node = Node::blank();
-    find_below(pages, tree.order, &root_of(tree), key, false, &mut node)
+    read_below(pages, tree.order, &root_of(tree), key, false)
 }
 
 /// The same as `find`, where each page in memory is known to spell a node of the order: it is searched
@@ -119,8 +118,7 @@ fn look_up_below<S: Store>(
     ensures reads { pages.new.reads ≤ pages.old.reads + spot.now.level }
 {
     let Some(step) = step_in_memory(pages, order, spot, key)? else {
-        let mut node = Node::blank();
-        return find_below(pages, order, spot, key, true, &mut node);
+        return read_below(pages, order, spot, key, true);
     };
     match step {
         Step::Found(_, value) => Ok(Some(value)),
@@ -134,6 +132,35 @@ fn look_up_below<S: Store>(
             look_up_below(pages, order, &below, key)
         }
     }
+}
+
+/// The record at the key in the tree below the page at a spot, with a node into which pages are read. It
+/// is made here, so that a look-up in memory has no room for it.
+fn read_below<S: Store>(
+    pages: &mut Pages<S>,
+    order: u16,
+    spot: &Spot,
+    key: &Key,
+    in_place: bool,
+) -> Result<Option<Record>, TreeFault>
+    requires order { order ≤ greatest_order }
+    requires level { 0 < spot.now.level }
+    requires spelt { IsTrue in_place → AreSpeltIn order pages.old }
+    ensures found { IsTrue pages.old.steady → (least : ℕ) (es : List Element) (us : List ℕ)
+        → TreeAt order (at pages.old.pages) least spot.now.level spot.now.page es us
+        → Between spot.now.bounds es
+        → MatchResult result (λ found. found ≡ lookup_in key.now es)
+        (λ fault. fault ≡ TreeFault.Device) }
+    ensures led { IsTrue pages.old.steady → IfOk result (Leads
+        (Spells order (at pages.old.pages)) key.now spot.now.level spot.now.page spot.now.bounds) }
+    ensures no_memory { IfErr result (λ fault. fault ≢ TreeFault.Memory) }
+    ensures device { pages.new.failures ≡ counted pages.old.failures (is_device result) }
+    ensures unchanged { pages.new
+        ≡ record pages.old { reads = pages.new.reads; failures = pages.new.failures } }
+    ensures reads { pages.new.reads ≤ pages.old.reads + spot.now.level }
+{
+    let mut node = Node::blank();
+    find_below(pages, order, spot, key, in_place, &mut node)
 }
 
 /// The record at the key in the tree below the page at a spot. Each page on the way that is not searched

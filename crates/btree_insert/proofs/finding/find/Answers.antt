@@ -11,4 +11,4 @@ pub returns-clause-found : goal.returns-clause-found
 returns-clause-found g c = λ steady es us holds.
     let root = subst (λ (spot : Spot). TreeAt c.args.tree.now.order (at c.args.pages.now.pages) 1 spot.level spot.page es us × Between spot.bounds es) (sym c.root_of.ensures)
     (root_tree _ _ c.args.tree.now.height _ es us (omega arith) holds.tree, Between-all es holds.ascends) in
-    c.find_below.ensures.found steady 1 es us root.0 root.1
+    c.read_below.ensures.found steady 1 es us root.0 root.1
