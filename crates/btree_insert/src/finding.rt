@@ -12,7 +12,7 @@ ghost use Rattle.btree_node.specs.Layout.{IsOrder, greatest_order};
 ghost use Rattle.btree_insert.specs.Sizes.{greatest_height};
 
 use crate::bounds::Bounds;
-use crate::step::{Spot, Step, step_in_memory, take_step};
+use crate::step::{Spot, Step, step_in_page, take_step};
 use crate::tree::{Tree, TreeFault};
 use btree_node::Node;
 use page_store::{Pages, Store};
@@ -117,10 +117,10 @@ fn look_up_below<S: Store>(
         ≡ record pages.old { reads = pages.new.reads; failures = pages.new.failures } }
     ensures reads { pages.new.reads ≤ pages.old.reads + spot.now.level }
 {
-    let Some(step) = step_in_memory(pages, order, spot, key)? else {
+    let Some(lies) = pages.in_memory(spot.page) else {
         return read_below(pages, order, spot, key, true);
     };
-    match step {
+    match step_in_page(lies, order, spot, key)? {
         Step::Found(_, value) => Ok(Some(value)),
         Step::Ends(_) => Ok(None),
         Step::Goes(_, page, bounds) => {

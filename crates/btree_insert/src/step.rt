@@ -1,4 +1,4 @@
-ghost use Rattle.std.specs.Prelude.{◌≡◌, ◌+◌, ◌<◌, ◌≤◌, ◌⊎◌, ◌↔◌, ℕ, length, IsTrue, IsSome, IfSome, IsOk, IfOk, IfErr, OnOk, MatchResult};
+ghost use Rattle.std.specs.Prelude.{◌≡◌, ◌+◌, ◌<◌, ◌≤◌, ◌⊎◌, ◌↔◌, ℕ, length, IsTrue, IsSome, IsOk, IfOk, IfErr, OnOk, MatchResult};
 ghost use Rattle.rec_types.specs.Table.{counted};
 ghost use Rattle.page_store.specs.PageMap.{at};
 ghost use Rattle.btree_node.specs.Layout.{greatest_order};
@@ -78,34 +78,6 @@ pub(crate) fn take_step<S: Store>(
     let kind = kind_of_level(spot.level);
     read_into(pages, order, kind, spot.page, &spot.bounds, node)?;
     Ok(step_in_node(node, spot, key))
-}
-
-/// The step from the page at a spot, where it is in memory: it is searched where it lies. Fault: Damaged
-/// with the page where it is no node that belongs at the spot.
-pub(crate) fn step_in_memory<S: Store>(
-    pages: &Pages<S>,
-    order: u16,
-    spot: &Spot,
-    key: &Key,
-) -> Result<Option<Step>, TreeFault>
-    requires order { order ≤ greatest_order }
-    requires level { 0 < spot.now.level }
-    requires spelt { AreSpeltIn order pages.now }
-    ensures exact { IsTrue pages.now.steady → (m : Node)
-        → Spells order (at pages.now.pages) spot.now.page m → Belongs spot.now m
-        → IsOk result }
-    ensures steps { IsTrue pages.now.steady → (m : Node)
-        → Spells order (at pages.now.pages) spot.now.page m → Belongs spot.now m
-        → IfOk result (λ found. IfSome found (Steps spot.now.level m spot.now.bounds key.now)) }
-    ensures stepped { IfOk result (λ found. IfSome found (λ step. (n : Node)
-        × (IsTrue pages.now.steady → Spells order (at pages.now.pages) spot.now.page n)
-        × Belongs spot.now n × Steps spot.now.level n spot.now.bounds key.now step)) }
-    ensures fault { IfErr result (λ fault. fault ≡ TreeFault.Damaged spot.now.page) }
-{
-    match pages.in_memory(spot.page) {
-        Some(page) => Ok(Some(step_in_page(page, order, spot, key)?)),
-        None => Ok(None),
-    }
 }
 
 /// The step from a node.
