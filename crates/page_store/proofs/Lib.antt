@@ -5,6 +5,7 @@ pub mod FreeNumberLemmas
 pub mod FrontLemmas
 pub mod JournalLemmas
 pub mod InMemoryLemmas
+mod InPlaceLemmas
 pub mod Overlays
 pub mod NewestPageLemmas
 mod RealFiles

@@ -22,7 +22,7 @@ pub slots_pushed : {Z : Type 0} (items : List (Option (Box (List ℕ) Z))) (n : 
 slots_pushed {Z} items n =
     ap (λ (slots : List (Option (List ℕ))). at slots n) (map_push (option_map (λ (page : Box (List ℕ) Z). page.value)) items None) ∙ at_push_none (slots_of items) n
 
-put_more : (slots : List (Option (List ℕ))) (writes : List (ℕ × List ℕ)) (w : ℕ × List ℕ) → put_slots slots (writes ++ w ∷ []) ≡ set (put_slots slots writes) w.0 (Some w.1)
+pub put_more : (slots : List (Option (List ℕ))) (writes : List (ℕ × List ℕ)) (w : ℕ × List ℕ) → put_slots slots (writes ++ w ∷ []) ≡ set (put_slots slots writes) w.0 (Some w.1)
 put_more slots [] w = refl
 put_more slots (v ∷ writes) w = put_more (set slots v.0 (Some v.1)) writes w
 

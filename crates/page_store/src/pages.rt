@@ -17,7 +17,7 @@ ghost use Rattle.page_store.specs.WritingBack.{AreStored, KeepsOthers, Stopped};
 use crate::free_numbers::{add_all, nth_number};
 use crate::page_edit::{FetchFault, PageEdit, WriteFault};
 use crate::slot::{
-    Slot, boxed, changed_page, drop_pages, is_in_use, make_slots, put_pages, slots_needed,
+    Slot, boxed, changed_page, drop_pages, is_in_use, make_slots, slots_needed, write_pages,
 };
 use crate::store::Store;
 use crate::write_back::{told, write_out};
@@ -169,10 +169,10 @@ impl<S: Store> Pages<S> {
         ensures empty { edit.writes.items ≡ [] → edit.freed.items ≡ [] → IsOk result }
     {
         let count = self.count + edit.taken.saturating_sub(self.free_count());
-        let pages = boxed(self.alloc, &edit.writes)?;
+        let new = boxed(self.alloc, &self.changed, &edit.writes)?;
         make_slots(&mut self.changed, slots_needed(&edit.writes, count))?;
         add_all(&mut self.free, &edit.freed)?;
-        put_pages(&mut self.changed, &mut self.free, pages);
+        write_pages(&mut self.changed, &mut self.free, new, &edit.writes);
         drop_pages(&mut self.changed, &edit.freed);
         self.count = count;
         self.edited = true;

@@ -1,10 +1,10 @@
-ghost use Rattle.std.specs.Prelude.{◌≡◌, ◌≢◌, ℕ, ◌<◌, ◌≤◌, ◌↔◌, ◌&&◌, ◌==◌, if◌then◌else◌, [], false, not, length, IsTrue, IsOk, IfOk, OnOk, All};
+ghost use Rattle.std.specs.Prelude.{◌≡◌, ◌≢◌, ℕ, ◌<◌, ◌≤◌, ◌↔◌, ◌&&◌, ◌==◌, if◌then◌else◌, [], false, not, length, IsTrue, IsSome, IsOk, IfOk, OnOk, All, Some, slice_set};
 ghost use Rattle.std.specs.Option.{option_copied};
 ghost use Rattle.std.specs.BTreeSet.{contains};
 ghost use Rattle.std.specs.Ordering.{nat_cmp};
 ghost use Rattle.page_store.specs.PageMap.{at, is_freed, is_written};
 ghost use Rattle.page_store.specs.Overlaid.{slots_of};
-ghost use Rattle.page_store.specs.Slots.{bytes_in, put_slots};
+ghost use Rattle.page_store.specs.Slots.{bytes_in, put_slots, AreTheNew};
 
 use rec_types::Memory;
 use std::alloc::Global;
@@ -34,19 +34,21 @@ pub(crate) fn changed_page(changed: &[Slot], n: u32) -> Option<&[u8; 4096]>
     }
 }
 
-/// Each page in memory of its own. Fault: Memory.
+/// Memory of its own for each page to write that isn't in memory. Fault: Memory.
 pub(crate) fn boxed(
     alloc: Global,
+    changed: &[Slot],
     writes: &[(u32, [u8; 4096])],
 ) -> Result<Vec<(u32, Box<[u8; 4096]>)>, Memory>
-    ensures pages { IfOk result (λ pages. bytes_in pages.items ≡ writes.now) }
+    ensures pages { IfOk result
+        (λ pages. AreTheNew (slots_of changed.now) writes.now (bytes_in pages.items)) }
     ensures empty { writes.now ≡ [] → IsOk result }
 {
     let mut pages = Vec::new(alloc);
-    if pages.reserve(writes.len()).is_err() {
-        return Err(Memory);
-    }
     for (n, page) in writes {
+        if changed_page(changed, *n).is_some() {
+            continue;
+        }
         let Ok(page) = Box::new(alloc, *page) else {
             return Err(Memory);
         };
@@ -83,21 +85,59 @@ pub(crate) fn make_slots(changed: &mut Vec<Slot>, count: u32) -> Result<(), Memo
     Ok(())
 }
 
-/// Puts each page into its slot, and takes its number out of the free ones.
-pub(crate) fn put_pages(
+/// Writes each page into its slot, and takes its number out of the free ones. The new pages are those
+/// that had no memory; any other is written over.
+pub(crate) fn write_pages(
     changed: &mut Vec<Slot>,
     free: &mut BTreeSet<u32>,
-    pages: Vec<(u32, Box<[u8; 4096]>)>,
+    new: Vec<(u32, Box<[u8; 4096]>)>,
+    writes: &[(u32, [u8; 4096])],
 )
-    requires { All (λ w. w.0 < length changed.old.items) (bytes_in pages.items) }
-    ensures slots { slots_of changed.new.items
-        ≡ put_slots (slots_of changed.old.items) (bytes_in pages.items) }
+    requires fits { All (λ w. w.0 < length changed.old.items) writes.now }
+    requires new { AreTheNew (slots_of changed.old.items) writes.now (bytes_in new.items) }
+    ensures slots { (n : ℕ) → at (slots_of changed.new.items) n
+        ≡ at (put_slots (slots_of changed.old.items) writes.now) n }
     ensures free { (q : ℕ) → contains nat_cmp free.new q
-        ≡ (contains nat_cmp free.old q && not (is_written (bytes_in pages.items) q)) }
+        ≡ (contains nat_cmp free.old q && not (is_written writes.now q)) }
+{
+    put_pages(changed, new);
+    write_over(changed, free, writes);
+}
+
+/// Puts each page into its slot.
+fn put_pages(changed: &mut Vec<Slot>, pages: Vec<(u32, Box<[u8; 4096]>)>)
+    requires { All (λ w. w.0 < length changed.old.items) (bytes_in pages.items) }
+    ensures { slots_of changed.new.items
+        ≡ put_slots (slots_of changed.old.items) (bytes_in pages.items) }
 {
     for (n, page) in pages {
-        free.remove(&n);
         changed[n as usize] = Some(page);
+    }
+}
+
+/// Writes over the pages, which are in memory, and takes their numbers out of the free ones.
+fn write_over(changed: &mut Vec<Slot>, free: &mut BTreeSet<u32>, writes: &[(u32, [u8; 4096])])
+    requires { All (λ w. IsSome (at (slots_of changed.old.items) w.0)) writes.now }
+    ensures slots { slots_of changed.new.items
+        ≡ put_slots (slots_of changed.old.items) writes.now }
+    ensures free { (q : ℕ) → contains nat_cmp free.new q
+        ≡ (contains nat_cmp free.old q && not (is_written writes.now q)) }
+{
+    for (n, page) in writes {
+        free.remove(n);
+        write_one_over(changed, *n, page);
+    }
+}
+
+/// Writes over the page of that number, which is in memory.
+fn write_one_over(changed: &mut Vec<Slot>, n: u32, page: &[u8; 4096])
+    requires { IsSome (at (slots_of changed.old.items) n) }
+    ensures { slots_of changed.new.items
+        ≡ slice_set (slots_of changed.old.items) n (Some page.now) }
+{
+    match &mut changed[n as usize] {
+        Some(slot) => **slot = *page,
+        None => {}
     }
 }
 

@@ -1,7 +1,7 @@
 use Rattle.std.proofs.Common.{◌∙◌, arith, rules}
 use Rattle.std.proofs.lemmas.Iterator.Consumers.{YieldsList-turn}
 use Rattle.std.proofs.lemmas.Iterator.Adapters.{YieldsList-from_vec}
-use Rattle.page_store.proofs.SlotLemmas.{slots_put, free_put, number_fits}
+use Rattle.page_store.proofs.SlotLemmas.{slots_put, number_fits}
 use Rattle.page_store.proofs.slot.put_pages.Goals as goal
 
 pub index_mut-requires : goal.index_mut-requires
@@ -15,7 +15,6 @@ loop-n-preserved c = record {
   is_finite = search rules;
   len = c.loop-n.invariant.len;
   slots = slots_put _ c.loop-n.changed.items c.loop-n.yielded c.in-Some.n c.in-Some.page c.loop-n.invariant.slots;
-  free = λ q. free_put c.loop-n.yielded c.in-Some.n q c.in-Some.page _ _ _ (c.remove.ensures.updates.0 q) (c.loop-n.invariant.free q);
 }
 
 pub loop-n-preserved-in-Some : goal.loop-n-preserved-in-Some
@@ -24,5 +23,4 @@ loop-n-preserved-in-Some c = record {
   is_finite = search rules;
   len = c.loop-n.invariant.len;
   slots = slots_put _ c.loop-n.changed.items c.loop-n.yielded c.in-Some.n c.in-Some.page c.loop-n.invariant.slots;
-  free = λ q. free_put c.loop-n.yielded c.in-Some.n q c.in-Some.page _ _ _ (c.remove.ensures.updates.0 q) (c.loop-n.invariant.free q);
 }

@@ -1,7 +1,4 @@
-use Rattle.std.proofs.Common.{◌≡◌, ℕ, ◌&&◌, not, vec_len}
-use Rattle.std.specs.BTreeSet.{contains}
-use Rattle.std.specs.Ordering.{nat_cmp}
-use Rattle.page_store.specs.PageMap.{is_written}
+use Rattle.std.proofs.Common.{◌≡◌, vec_len}
 use Rattle.page_store.specs.Overlaid.{slots_of}
 use Rattle.page_store.specs.Slots.{bytes_in, put_slots}
 use Rattle.page_store.proofs.slot.put_pages.Given as goal
@@ -12,5 +9,4 @@ invariant-loop-n l = record {
   is_finite : (goal.iterator-loop-n).is_finite l.n-iterator;
   len : vec_len l.changed ≡ vec_len l.fn.changed;
   slots : slots_of l.changed.items ≡ put_slots (slots_of l.fn.changed.items) (bytes_in l.yielded);
-  free : (q : ℕ) → contains nat_cmp l.free q ≡ (contains nat_cmp l.fn.free q && not (is_written (bytes_in l.yielded) q));
 }

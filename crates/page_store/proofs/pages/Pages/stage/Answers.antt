@@ -53,20 +53,25 @@ pub add_all-requires : goal.add_all-requires
 add_all-requires g c = λ q here.
     freed_not_free _ _ _ _ _ c.self.invariant c.args.edit.writes.items c.args.edit.taken c.args.edit.freed.items
     (can_in c.args.self.now _ _ _ _ (ap (λ (v : PagesView). v.pages) c.self.view_is) c.requires)
-    q (ap (λ (freed : List ℕ). is_freed freed q) (sym c.deref-3.ensures.value) ∙ here)
+    q (ap (λ (freed : List ℕ). is_freed freed q) (sym c.deref-4.ensures.value) ∙ here)
 
 pub invariant_of-self-in_err-add_all : goal.invariant_of-self-in_err-add_all
 invariant_of-self-in_err-add_all g c =
     are_stay _ _ _ _ _ c.self.invariant (slots_of c.make_slots.new.changed.items) c.add_all.new.free.keys c.make_slots.ensures.same c.in_err-add_all.ensures.err
 
-pub put_pages-requires : goal.put_pages-requires
-put_pages-requires g c =
+pub write_pages-requires : goal.write_pages-requires
+write_pages-requires g c =
     let grown = grown_in c.args.self.now _ c.self.inside.count c.free_count.result c.saturating_sub.result c.args.edit.taken (ap (λ (v : PagesView). v.pages) c.self.view_is) (length-pages_of _ _ _ _) c.free_count.ensures c.saturating_sub.ensures in
-    subst (λ (writes : List (ℕ × List ℕ)). All (λ (w : ℕ × List ℕ). w.0 < length c.make_slots.new.changed.items) writes)
-    (sym (c.in_ok-pages.ensures.pages ∙ c.deref.ensures.value))
-    (written_fit _ _ _ _ _ c.self.invariant c.args.edit.writes.items c.args.edit.taken c.args.edit.freed.items
-    (can_in c.args.self.now _ _ _ _ (ap (λ (v : PagesView). v.pages) c.self.view_is) c.requires)
-    (length c.make_slots.new.changed.items) (λ some. let needed = needed_all _ _ _ _ c.slots_needed.ensures c.deref-2.ensures.value some in omega (arith, grown, c.in_ok-make_slots.ensures.long)))
+    record {
+      fits = subst (λ (writes : List (ℕ × List ℕ)). All (λ (w : ℕ × List ℕ). w.0 < length c.make_slots.new.changed.items) writes) (sym c.deref-5.ensures.value)
+          (written_fit _ _ _ _ _ c.self.invariant c.args.edit.writes.items c.args.edit.taken c.args.edit.freed.items
+          (can_in c.args.self.now _ _ _ _ (ap (λ (v : PagesView). v.pages) c.self.view_is) c.requires)
+          (length c.make_slots.new.changed.items) (λ some. let needed = needed_all _ _ _ _ c.slots_needed.ensures c.deref-3.ensures.value some in omega (arith, grown, c.in_ok-make_slots.ensures.long)));
+      new = λ n.
+          c.in_ok-new.ensures.pages n
+          ∙ ap (λ (writes : List (ℕ × List ℕ)). is_written writes n && not (is_some (at (slots_of c.deref.result.now) n))) (c.deref-2.ensures.value ∙ sym c.deref-5.ensures.value)
+          ∙ ap (λ (slot : Option (List ℕ)). is_written c.deref-5.result.now n && not (is_some slot)) (ap (λ items. at (slots_of items) n) c.deref.ensures.value ∙ sym (c.make_slots.ensures.same n));
+    }
 
 pub returns-in_err-add_all-clause-err : goal.returns-in_err-add_all-clause-err
 returns-in_err-add_all-clause-err g c =
@@ -80,10 +85,10 @@ invariant_of-self-2 g c =
     are_after _ _ _ _ _ c.self.invariant c.args.edit.writes.items c.args.edit.taken c.args.edit.freed.items
     (can_in c.args.self.now _ _ _ _ (ap (λ (v : PagesView). v.pages) c.self.view_is) c.requires)
     (slots_of c.make_slots.new.changed.items) (slots_of c.drop_pages.new.changed.items) c.add_all.new.free.keys _ _ grown
-    c.make_slots.ensures.same (λ some. let needed = needed_all _ _ _ _ c.slots_needed.ensures c.deref-2.ensures.value some in omega (arith, c.in_ok-make_slots.ensures.long, length-slots_of c.make_slots.new.changed.items))
-    (λ q kept. c.drop_pages.ensures q (ap (λ (freed : List ℕ). is_freed freed q) c.deref-4.ensures.value ∙ kept) ∙ ap (λ (slots : List (Option (List ℕ))). at slots q) (c.put_pages.ensures.slots ∙ ap (put_slots (slots_of c.make_slots.new.changed.items)) (c.in_ok-pages.ensures.pages ∙ c.deref.ensures.value)))
-    (λ q. c.in_ok-add_all.ensures.ok q ∙ ap (λ (freed : List ℕ). is_among c.self.inside.free.keys q || is_freed freed q) c.deref-3.ensures.value)
-    (λ q. c.put_pages.ensures.free q ∙ ap (λ (writes : List (ℕ × List ℕ)). is_among c.add_all.new.free.keys q && not (is_written writes q)) (c.in_ok-pages.ensures.pages ∙ c.deref.ensures.value))
+    c.make_slots.ensures.same (λ some. let needed = needed_all _ _ _ _ c.slots_needed.ensures c.deref-3.ensures.value some in omega (arith, c.in_ok-make_slots.ensures.long, length-slots_of c.make_slots.new.changed.items))
+    (λ q kept. c.drop_pages.ensures q (ap (λ (freed : List ℕ). is_freed freed q) c.deref-6.ensures.value ∙ kept) ∙ c.write_pages.ensures.slots q ∙ ap (λ (writes : List (ℕ × List ℕ)). at (put_slots (slots_of c.make_slots.new.changed.items) writes) q) c.deref-5.ensures.value)
+    (λ q. c.in_ok-add_all.ensures.ok q ∙ ap (λ (freed : List ℕ). is_among c.self.inside.free.keys q || is_freed freed q) c.deref-4.ensures.value)
+    (λ q. c.write_pages.ensures.free q ∙ ap (λ (writes : List (ℕ × List ℕ)). is_among c.add_all.new.free.keys q && not (is_written writes q)) c.deref-5.ensures.value)
 
 pub returns-clause-pages : goal.returns-clause-pages
 returns-clause-pages g c = λ n.
@@ -92,10 +97,10 @@ returns-clause-pages g c = λ n.
     (staged _ _ _ _ _ c.self.invariant c.args.edit.writes.items c.args.edit.taken c.args.edit.freed.items
     (can_in c.args.self.now _ _ _ _ (ap (λ (v : PagesView). v.pages) c.self.view_is) c.requires)
     (slots_of c.make_slots.new.changed.items) (slots_of c.drop_pages.new.changed.items) c.add_all.new.free.keys _ _ grown
-    c.make_slots.ensures.same (λ some. let needed = needed_all _ _ _ _ c.slots_needed.ensures c.deref-2.ensures.value some in omega (arith, c.in_ok-make_slots.ensures.long, length-slots_of c.make_slots.new.changed.items))
-    (λ q kept. c.drop_pages.ensures q (ap (λ (freed : List ℕ). is_freed freed q) c.deref-4.ensures.value ∙ kept) ∙ ap (λ (slots : List (Option (List ℕ))). at slots q) (c.put_pages.ensures.slots ∙ ap (put_slots (slots_of c.make_slots.new.changed.items)) (c.in_ok-pages.ensures.pages ∙ c.deref.ensures.value)))
-    (λ q. c.in_ok-add_all.ensures.ok q ∙ ap (λ (freed : List ℕ). is_among c.self.inside.free.keys q || is_freed freed q) c.deref-3.ensures.value)
-    (λ q. c.put_pages.ensures.free q ∙ ap (λ (writes : List (ℕ × List ℕ)). is_among c.add_all.new.free.keys q && not (is_written writes q)) (c.in_ok-pages.ensures.pages ∙ c.deref.ensures.value)) n)
+    c.make_slots.ensures.same (λ some. let needed = needed_all _ _ _ _ c.slots_needed.ensures c.deref-3.ensures.value some in omega (arith, c.in_ok-make_slots.ensures.long, length-slots_of c.make_slots.new.changed.items))
+    (λ q kept. c.drop_pages.ensures q (ap (λ (freed : List ℕ). is_freed freed q) c.deref-6.ensures.value ∙ kept) ∙ c.write_pages.ensures.slots q ∙ ap (λ (writes : List (ℕ × List ℕ)). at (put_slots (slots_of c.make_slots.new.changed.items) writes) q) c.deref-5.ensures.value)
+    (λ q. c.in_ok-add_all.ensures.ok q ∙ ap (λ (freed : List ℕ). is_among c.self.inside.free.keys q || is_freed freed q) c.deref-4.ensures.value)
+    (λ q. c.write_pages.ensures.free q ∙ ap (λ (writes : List (ℕ × List ℕ)). is_among c.add_all.new.free.keys q && not (is_written writes q)) c.deref-5.ensures.value) n)
 
 pub returns-clause-count : goal.returns-clause-count
 returns-clause-count g c =
@@ -106,11 +111,11 @@ returns-clause-count g c =
 pub returns-clause-in_memory : goal.returns-clause-in_memory
 returns-clause-in_memory g c = λ n.
     let grown = grown_in c.args.self.now _ c.self.inside.count c.free_count.result c.saturating_sub.result c.args.edit.taken (ap (λ (v : PagesView). v.pages) c.self.view_is) (length-pages_of _ _ _ _) c.free_count.ensures c.saturating_sub.ensures in
-    memory_in c.args.self.now (slots_of c.self.inside.changed.items) (slots_of c.drop_pages.new.changed.items) c.self.inside.free.keys c.put_pages.new.free.keys c.self.inside.count _ n (is_written c.args.edit.writes.items n) (is_freed c.args.edit.freed.items n) (ap (λ (v : PagesView). v.in_memory) c.self.view_is)
+    memory_in c.args.self.now (slots_of c.self.inside.changed.items) (slots_of c.drop_pages.new.changed.items) c.self.inside.free.keys c.write_pages.new.free.keys c.self.inside.count _ n (is_written c.args.edit.writes.items n) (is_freed c.args.edit.freed.items n) (ap (λ (v : PagesView). v.in_memory) c.self.view_is)
     (memory_after _ _ _ _ _ c.self.invariant c.args.edit.writes.items c.args.edit.taken c.args.edit.freed.items
     (can_in c.args.self.now _ _ _ _ (ap (λ (v : PagesView). v.pages) c.self.view_is) c.requires)
     (slots_of c.make_slots.new.changed.items) (slots_of c.drop_pages.new.changed.items) c.add_all.new.free.keys _ _ grown
-    c.make_slots.ensures.same (λ some. let needed = needed_all _ _ _ _ c.slots_needed.ensures c.deref-2.ensures.value some in omega (arith, c.in_ok-make_slots.ensures.long, length-slots_of c.make_slots.new.changed.items))
-    (λ q kept. c.drop_pages.ensures q (ap (λ (freed : List ℕ). is_freed freed q) c.deref-4.ensures.value ∙ kept) ∙ ap (λ (slots : List (Option (List ℕ))). at slots q) (c.put_pages.ensures.slots ∙ ap (put_slots (slots_of c.make_slots.new.changed.items)) (c.in_ok-pages.ensures.pages ∙ c.deref.ensures.value)))
-    (λ q. c.in_ok-add_all.ensures.ok q ∙ ap (λ (freed : List ℕ). is_among c.self.inside.free.keys q || is_freed freed q) c.deref-3.ensures.value)
-    (λ q. c.put_pages.ensures.free q ∙ ap (λ (writes : List (ℕ × List ℕ)). is_among c.add_all.new.free.keys q && not (is_written writes q)) (c.in_ok-pages.ensures.pages ∙ c.deref.ensures.value)) n)
+    c.make_slots.ensures.same (λ some. let needed = needed_all _ _ _ _ c.slots_needed.ensures c.deref-3.ensures.value some in omega (arith, c.in_ok-make_slots.ensures.long, length-slots_of c.make_slots.new.changed.items))
+    (λ q kept. c.drop_pages.ensures q (ap (λ (freed : List ℕ). is_freed freed q) c.deref-6.ensures.value ∙ kept) ∙ c.write_pages.ensures.slots q ∙ ap (λ (writes : List (ℕ × List ℕ)). at (put_slots (slots_of c.make_slots.new.changed.items) writes) q) c.deref-5.ensures.value)
+    (λ q. c.in_ok-add_all.ensures.ok q ∙ ap (λ (freed : List ℕ). is_among c.self.inside.free.keys q || is_freed freed q) c.deref-4.ensures.value)
+    (λ q. c.write_pages.ensures.free q ∙ ap (λ (writes : List (ℕ × List ℕ)). is_among c.add_all.new.free.keys q && not (is_written writes q)) c.deref-5.ensures.value) n)

@@ -1,0 +1,5 @@
+use Rattle.page_store.proofs.InPlaceLemmas.{slots_set}
+use Rattle.page_store.proofs.slot.write_one_over.Goals as goal
+
+pub returns-in-Some : goal.returns-in-Some
+returns-in-Some c = slots_set c.args.changed.now.items c.args.n _
