@@ -160,6 +160,12 @@ ascends_remove [] i up = nil i
 ascends_remove (e ∷ els) zero up = up.1
 ascends_remove (e ∷ els) (suc i) up = (each_remove (λ later. Below e.0 later.0) els i up.0, ascends_remove els i up.1)
 
+-- a node with an element from the son behind in the place of its own
+pub next_may_be_underfull : (k height i : ℕ) (b : Bounds) (F G : Node) (y : Element) → i < length F.elements.items → MayBeUnderfull k height b F → ElementFits first_layout y → IsWithin (son_bounds F.elements.items (suc i) b) y.0
+    → G.kind ≡ F.kind → G.elements.items ≡ set F.elements.items i y → G.sons.items ≡ F.sons.items → MayBeUnderfull k height b G
+next_may_be_underfull k height i b F G y low may_be_underfull fits within kind_is els_is sons_is =
+    set_may_be_underfull k height i b F G y low may_be_underfull (right_stands_at i F.elements.items b y low may_be_underfull.ascends may_be_underfull.within fits within) kind_is els_is sons_is
+
 -- a leaf without one of its elements
 pub leaf_without : (k : ℕ) (b : Bounds) (n m : Node) (i : ℕ) → n.kind ≡ Leaf → i < length n.elements.items → MayBeUnderfull k 1 b n → m.kind ≡ n.kind → m.elements.items ≡ remove n.elements.items i → m.sons.items ≡ n.sons.items → MayBeUnderfull k 1 b m
 leaf_without k b n m i leaf low may_be_underfull kind_is els_is sons_is =

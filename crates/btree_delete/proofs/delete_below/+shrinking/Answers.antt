@@ -33,10 +33,12 @@ use Rattle.btree_delete.proofs.BrotherPairLemmas.{next}
 use Rattle.btree_delete.proofs.ElementRemovalLemmas.{remove-between_bounds}
 use Rattle.btree_delete.proofs.SettledPageLemmas.{settled_up, settled_tidy, settled_others, treated_visit, whole_visit, page_visited}
 use Rattle.btree_delete.proofs.DeletionStepLemmas.{ask, treat_son, still_unvisited, page_unvisited, below_in, page_in}
-use Rattle.btree_delete.proofs.FirstElementLemmas.{more_visited, took_of, tree_some, some_around, sought_place, sought_below, sought_here, sought_none, left_between, left_may_be_underfull, left_son, goes_left, went_up}
-use Rattle.btree_delete.proofs.UnderfullNodeLemmas.{right_stands_at, set_may_be_underfull, set_son_bounds, leaf_without, leaf_behind}
+use Rattle.btree_delete.proofs.FirstElementLemmas.{WentUp, more_visited, took_of, tree_some, some_around, sought_place, sought_below, sought_here, sought_none, left_between, left_may_be_underfull, left_son, goes_left, went_up}
+use Rattle.btree_delete.proofs.UnderfullNodeLemmas.{right_stands_at, next_may_be_underfull, set_may_be_underfull, set_son_bounds, leaf_without, leaf_behind}
 use Rattle.btree_delete.proofs.EditLemmas.{untouched_empty, visited_differs}
+use Rattle.btree_delete.proofs.delete_below.+shrinking.Given as given
 use Rattle.btree_delete.proofs.delete_below.+shrinking.Goals as goal
+use Rattle.btree_delete.proofs.delete_below.+shrinking.Goals.{delete_below-After-delete_below, delete_below-In-Some-Underfull, delete_here-After-remove, delete_here-After-set_element, delete_here-After-set_element-in-Some-Underfull}
 
 pub delete_below-returns-in_err-visit-clause-removes : goal.delete_below-returns-in_err-visit-clause-removes
 delete_below-returns-in_err-visit-clause-removes g t c = λ steady least es us low tree between apart unvisited.
@@ -155,87 +157,50 @@ delete_below-returns-in_err-removed-in-Err-clause-removes g t c = λ steady leas
     (record { tree = son.here; between = son.between; apart = apart_below T.page us son.upre son.mine son.upost us_is apart; unvisited = unvisited_below M T.page us son.upre son.mine son.upost us_is apart unvisited }) in
     rw (p.1, p.2) (c.in_err-removed-in-Err.ensures.removes steady1 t2.order son.xs son.mine (omega arith) there.tree there.between there.apart there.unvisited)
 
+-- what went up from a son that is underfull, and the visit of it
+module _ (g : given.Over) (t : ℕ) (c : delete_below-In-Some-Underfull g t) where
+  went_below : let S = son_tree c.args.tree.now c.visit.new.node c.in-Err.i in WentUp S.order S.height S.bounds c.args.key.now S.page c.delete_below.new.edit.writes.items c.delete_below.new.edit.freed.items (Underfull c.in-Some-Underfull.removed c.in-Some-Underfull.son)
+  went_below =
+      let is = c.in-Some-Underfull.is ∙ ap Some c.in-Some-Underfull.field-0-is in
+      went_up (son_tree c.args.tree.now c.visit.new.node c.in-Err.i) c.tree_of_son-below.result c.args.key.now c.delete_below.new.edit.writes.items c.delete_below.new.edit.freed.items c.in_ok-removed-in-Err.field-0 (Underfull c.in-Some-Underfull.removed c.in-Some-Underfull.son) c.tree_of_son-below.ensures is c.in_ok-removed-in-Err.ensures.up
+
+  son_visited : IsVisit c.visit.new.visited.items c.delete_below.new.visited.items c.delete_below.new.edit.writes.items c.delete_below.new.edit.freed.items (c.args.tree.now.height - 1) (son_at c.visit.new.node c.in-Err.i)
+  son_visited = subst (λ (x : Subtree). IsVisit c.visit.new.visited.items c.delete_below.new.visited.items c.delete_below.new.edit.writes.items c.delete_below.new.edit.freed.items x.height x.page) c.tree_of_son-below.ensures c.in_ok-removed-in-Err.ensures.visit
+
+  head_visited : is_visited c.visit.new.visited.items c.args.tree.now.page ≡ true
+  head_visited = page_visited c.args.visited.now.items c.visit.new.visited.items c.args.tree.now.page c.in_ok-visit.ensures.visited
+
 pub delete_below-treat_and_settle-requires-clause-father : goal.delete_below-treat_and_settle-requires-clause-father
 delete_below-treat_and_settle-requires-clause-father g t c =
     let T = c.args.tree.now in
     let n = c.visit.new.node in
-    let i = c.in-Err.i in
-    let key = c.args.key.now in
-    let is_first : key ≡ None → i ≡ 0 = λ none. (c.in-Err.ensures.first none).0 in
-    let t_is = c.tree_of_son-below.ensures in
-    let S = son_tree T n i in
-    let t2 = c.tree_of_son-below.result in
-    let ws = c.delete_below.new.edit.writes.items in
-    let fs = c.delete_below.new.edit.freed.items in
-    let e = c.in-Some-Underfull.removed in
-    let underfull = c.in-Some-Underfull.son in
-    let l_is = c.tree_left-left.ensures in
-    let went = went_up S t2 key ws fs c.in_ok-removed-in-Err.field-0 (Underfull e underfull) t_is (c.in-Some-Underfull.is ∙ ap Some c.in-Some-Underfull.field-0-is) c.in_ok-removed-in-Err.ensures.up in
-    subst (λ (x : Subtree). MayBeUnderfull x.order x.height x.bounds n) (sym l_is) (left_may_be_underfull key T.order T.height i T.bounds n e is_first c.in_ok-visit.ensures.stands went.within)
+    let went = went_below g t (goal.at.delete_below-treat_and_settle-requires-clause-father g t c).In-Some-Underfull in
+    subst (λ (x : Subtree). MayBeUnderfull x.order x.height x.bounds n) (sym c.tree_left-left.ensures)
+    (left_may_be_underfull c.args.key.now T.order T.height c.in-Err.i T.bounds n c.in-Some-Underfull.removed (λ none. (c.in-Err.ensures.first none).0) c.in_ok-visit.ensures.stands went.within)
 
 pub delete_below-treat_and_settle-requires-clause-son : goal.delete_below-treat_and_settle-requires-clause-son
 delete_below-treat_and_settle-requires-clause-son g t c =
     let T = c.args.tree.now in
-    let level = T.height - 1 in
-    let n = c.visit.new.node in
-    let i = c.in-Err.i in
-    let key = c.args.key.now in
-    let is_first : key ≡ None → i ≡ 0 = λ none. (c.in-Err.ensures.first none).0 in
-    let t_is = c.tree_of_son-below.ensures in
-    let S = son_tree T n i in
-    let t2 = c.tree_of_son-below.result in
-    let ws = c.delete_below.new.edit.writes.items in
-    let fs = c.delete_below.new.edit.freed.items in
-    let e = c.in-Some-Underfull.removed in
-    let underfull = c.in-Some-Underfull.son in
-    let l_is = c.tree_left-left.ensures in
-    let went = went_up S t2 key ws fs c.in_ok-removed-in-Err.field-0 (Underfull e underfull) t_is (c.in-Some-Underfull.is ∙ ap Some c.in-Some-Underfull.field-0-is) c.in_ok-removed-in-Err.ensures.up in
-    subst (λ (x : Subtree). MayBeUnderfull x.order (x.height - 1) (son_bounds n.elements.items i x.bounds) underfull) (sym l_is)
-    (subst (λ (b : Bounds). MayBeUnderfull T.order level b underfull) (left_son key n.elements.items i T.bounds e is_first) went.goes.0)
+    let els = c.visit.new.node.elements.items in
+    let son = c.in-Some-Underfull.son in
+    let went = went_below g t (goal.at.delete_below-treat_and_settle-requires-clause-son g t c).In-Some-Underfull in
+    subst (λ (x : Subtree). MayBeUnderfull x.order (x.height - 1) (son_bounds els c.in-Err.i x.bounds) son) (sym c.tree_left-left.ensures)
+    (subst (λ (b : Bounds). MayBeUnderfull T.order (T.height - 1) b son) (left_son c.args.key.now els c.in-Err.i T.bounds c.in-Some-Underfull.removed (λ none. (c.in-Err.ensures.first none).0)) went.goes.0)
 
 pub delete_below-treat_and_settle-requires-clause-other : goal.delete_below-treat_and_settle-requires-clause-other
 delete_below-treat_and_settle-requires-clause-other g t c =
-    let T = c.args.tree.now in
-    let M = c.args.visited.now.items in
-    let n = c.visit.new.node in
-    let M1 = c.visit.new.visited.items in
-    let i = c.in-Err.i in
-    let t_is = c.tree_of_son-below.ensures in
-    let ws = c.delete_below.new.edit.writes.items in
-    let fs = c.delete_below.new.edit.freed.items in
-    let visited2 = c.delete_below.new.visited.items in
-    let l_is = c.tree_left-left.ensures in
-    let visit_made = subst (λ (x : Subtree). IsVisit M1 visited2 ws fs x.height x.page) t_is c.in_ok-removed-in-Err.ensures.visit in
-    let in_now = page_visited M M1 T.page c.in_ok-visit.ensures.visited in
-    λ is. visited_differs M1 T.page (son_at n i) in_now visit_made.fresh (sym (ap (λ (x : Subtree). x.page) l_is) ∙ is)
+    let p = (goal.at.delete_below-treat_and_settle-requires-clause-other g t c).In-Some-Underfull in
+    λ is. visited_differs c.visit.new.visited.items c.args.tree.now.page (son_at c.visit.new.node c.in-Err.i) (head_visited g t p) (son_visited g t p).fresh (sym (ap (λ (x : Subtree). x.page) c.tree_left-left.ensures) ∙ is)
 
 pub delete_below-treat_and_settle-requires-clause-page_visited : goal.delete_below-treat_and_settle-requires-clause-page_visited
 delete_below-treat_and_settle-requires-clause-page_visited g t c =
-    let T = c.args.tree.now in
-    let M = c.args.visited.now.items in
-    let M1 = c.visit.new.visited.items in
-    let t_is = c.tree_of_son-below.ensures in
-    let ws = c.delete_below.new.edit.writes.items in
-    let fs = c.delete_below.new.edit.freed.items in
-    let visited2 = c.delete_below.new.visited.items in
-    let l_is = c.tree_left-left.ensures in
-    let visit_made = subst (λ (x : Subtree). IsVisit M1 visited2 ws fs x.height x.page) t_is c.in_ok-removed-in-Err.ensures.visit in
-    let in_now = page_visited M M1 T.page c.in_ok-visit.ensures.visited in
-    subst (λ (x : Subtree). is_visited visited2 x.page ≡ true) (sym l_is) (visit_made.stays T.page in_now)
+    let p = (goal.at.delete_below-treat_and_settle-requires-clause-page_visited g t c).In-Some-Underfull in
+    subst (λ (x : Subtree). is_visited c.delete_below.new.visited.items x.page ≡ true) (sym c.tree_left-left.ensures) ((son_visited g t p).stays c.args.tree.now.page (head_visited g t p))
 
 pub delete_below-treat_and_settle-requires-clause-page_kept : goal.delete_below-treat_and_settle-requires-clause-page_kept
 delete_below-treat_and_settle-requires-clause-page_kept g t c =
-    let T = c.args.tree.now in
-    let M = c.args.visited.now.items in
-    let M1 = c.visit.new.visited.items in
-    let t_is = c.tree_of_son-below.ensures in
-    let ws = c.delete_below.new.edit.writes.items in
-    let fs = c.delete_below.new.edit.freed.items in
-    let visited2 = c.delete_below.new.visited.items in
-    let l_is = c.tree_left-left.ensures in
-    let visit_made = subst (λ (x : Subtree). IsVisit M1 visited2 ws fs x.height x.page) t_is c.in_ok-removed-in-Err.ensures.visit in
-    let in_now = page_visited M M1 T.page c.in_ok-visit.ensures.visited in
-    subst (λ (x : Subtree). Untouched ws fs x.page) (sym l_is) (visit_made.older T.page in_now)
+    let p = (goal.at.delete_below-treat_and_settle-requires-clause-page_kept g t c).In-Some-Underfull in
+    subst (λ (x : Subtree). Untouched c.delete_below.new.edit.writes.items c.delete_below.new.edit.freed.items x.page) (sym c.tree_left-left.ensures) ((son_visited g t p).older c.args.tree.now.page (head_visited g t p))
 
 pub delete_below-returns-in_err-shrunk-in-Some-Underfull-clause-removes : goal.delete_below-returns-in_err-shrunk-in-Some-Underfull-clause-removes
 delete_below-returns-in_err-shrunk-in-Some-Underfull-clause-removes g t c = λ steady least es us low tree between apart unvisited.
@@ -342,48 +307,24 @@ delete_below-returns-in_ok-shrunk-in-Some-Underfull-clause-removes g t c = λ st
 pub delete_below-returns-in_ok-shrunk-in-Some-Underfull-clause-up : goal.delete_below-returns-in_ok-shrunk-in-Some-Underfull-clause-up
 delete_below-returns-in_ok-shrunk-in-Some-Underfull-clause-up g t c =
     let T = c.args.tree.now in
-    let n = c.visit.new.node in
-    let i = c.in-Err.i in
-    let key = c.args.key.now in
-    let ups = c.in_ok-visit.ensures.stands.ascends in
-    let t_is = c.tree_of_son-below.ensures in
-    let S = son_tree T n i in
-    let t2 = c.tree_of_son-below.result in
-    let ws = c.delete_below.new.edit.writes.items in
-    let fs = c.delete_below.new.edit.freed.items in
-    let e = c.in-Some-Underfull.removed in
-    let underfull = c.in-Some-Underfull.son in
-    let l_is = c.tree_left-left.ensures in
-    let went = went_up S t2 key ws fs c.in_ok-removed-in-Err.field-0 (Underfull e underfull) t_is (c.in-Some-Underfull.is ∙ ap Some c.in-Some-Underfull.field-0-is) c.in_ok-removed-in-Err.ensures.up in
-    let ws3 = c.treat_and_settle.new.edit.writes.items in
-    let fs3 = c.treat_and_settle.new.edit.freed.items in
+    let stands = c.in_ok-visit.ensures.stands in
+    let went = went_below g t (goal.at.delete_below-returns-in_ok-shrunk-in-Some-Underfull-clause-up g t c).In-Some-Underfull in
     let r = c.in_ok-shrunk-in-Some-Underfull.shrunk in
     let gone_is = sym c.in_ok-shrunk-in-Some-Underfull.ensures.gone in
-    let within = son_within n.elements.items i T.bounds e.0 ups c.in_ok-visit.ensures.stands.within went.within in (
+    let ws3 = c.treat_and_settle.new.edit.writes.items in
+    let fs3 = c.treat_and_settle.new.edit.freed.items in (
       subst (λ (x : Element). IsElement x) gone_is went.fits,
-      subst (λ (x : Element). IsWithin T.bounds x.0) gone_is within,
-      subst (λ (x : Element). UnderfullGoesUp T.order T.height (left_bounds key x T.bounds) T.page ws3 fs3 r) gone_is
-          (subst (λ (x : Subtree). UnderfullGoesUp x.order x.height x.bounds x.page ws3 fs3 r) l_is c.in_ok-shrunk-in-Some-Underfull.ensures.up),
+      subst (λ (x : Element). IsWithin T.bounds x.0) gone_is (son_within c.visit.new.node.elements.items c.in-Err.i T.bounds c.in-Some-Underfull.removed.0 stands.ascends stands.within went.within),
+      subst (λ (x : Element). UnderfullGoesUp T.order T.height (left_bounds c.args.key.now x T.bounds) T.page ws3 fs3 r) gone_is
+          (subst (λ (x : Subtree). UnderfullGoesUp x.order x.height x.bounds x.page ws3 fs3 r) c.tree_left-left.ensures c.in_ok-shrunk-in-Some-Underfull.ensures.up),
     )
 
 pub delete_below-returns-in_ok-shrunk-in-Some-Underfull-clause-visit : goal.delete_below-returns-in_ok-shrunk-in-Some-Underfull-clause-visit
 delete_below-returns-in_ok-shrunk-in-Some-Underfull-clause-visit g t c =
-    let T = c.args.tree.now in
-    let M = c.args.visited.now.items in
-    let n = c.visit.new.node in
-    let M1 = c.visit.new.visited.items in
-    let i = c.in-Err.i in
-    let t_is = c.tree_of_son-below.ensures in
-    let ws = c.delete_below.new.edit.writes.items in
-    let fs = c.delete_below.new.edit.freed.items in
-    let visited2 = c.delete_below.new.visited.items in
-    let l_is = c.tree_left-left.ensures in
-    let visit_made = subst (λ (x : Subtree). IsVisit M1 visited2 ws fs x.height x.page) t_is c.in_ok-removed-in-Err.ensures.visit in
-    let ws3 = c.treat_and_settle.new.edit.writes.items in
-    let fs3 = c.treat_and_settle.new.edit.freed.items in
-    let visited3 = c.treat_and_settle.new.visited.items in
-    treated_visit M M1 visited2 visited3 T.height T.page (son_at n i) ws ws3 fs fs3 c.in_ok-visit.ensures.visited c.in_ok-visit.ensures.unvisited (omega (arith, c.requires.height, c.if-tree-eq1.false)) visit_made
-    (λ q is other page. c.in_ok-shrunk-in-Some-Underfull.ensures.others q is other (λ same. page (same ∙ ap (λ (x : Subtree). x.page) l_is))) c.in_ok-shrunk-in-Some-Underfull.ensures.stays c.in_ok-shrunk-in-Some-Underfull.ensures.one_more
+    let made = son_visited g t (goal.at.delete_below-returns-in_ok-shrunk-in-Some-Underfull-clause-visit g t c).In-Some-Underfull in
+    let done = c.in_ok-shrunk-in-Some-Underfull.ensures in
+    treated_visit c.args.visited.now.items c.visit.new.visited.items c.delete_below.new.visited.items c.treat_and_settle.new.visited.items c.args.tree.now.height c.args.tree.now.page (son_at c.visit.new.node c.in-Err.i) c.delete_below.new.edit.writes.items c.treat_and_settle.new.edit.writes.items c.delete_below.new.edit.freed.items c.treat_and_settle.new.edit.freed.items c.in_ok-visit.ensures.visited c.in_ok-visit.ensures.unvisited (omega (arith, c.requires.height, c.if-tree-eq1.false)) made
+    (λ q is other page. done.others q is other (λ same. page (same ∙ ap (λ (x : Subtree). x.page) c.tree_left-left.ensures))) done.stays done.one_more
 
 pub delete_below-returns-in-None-clause-removes : goal.delete_below-returns-in-None-clause-removes
 delete_below-returns-in-None-clause-removes g t c = λ steady least es us low tree between apart unvisited.
@@ -422,19 +363,17 @@ delete_below-returns-in-None-clause-removes g t c = λ steady least es us low tr
     subst (λ (h : ℕ). RemovesBelow (head_page T.order least h T.page) (pages_freed P (after P ws fs) 0 (length fs)) es us (visits M visited2) K None) (sym up)
     (drop_none T.order P (after P ws fs) 0 (length fs) least T.height (level - 1) T.page es us T.bounds n i M visited2 K head son found)
 
+-- what was visited where the page stays as it is
+module _ (g : given.Over) (t : ℕ) (c : delete_below-After-delete_below g t) where
+  stays_visited : let sub = c.tree_of_son-below.result in IsVisit c.visit.new.visited.items c.delete_below.new.visited.items c.delete_below.new.edit.writes.items c.delete_below.new.edit.freed.items sub.height sub.page
+      → (c.visit.new.visited.items ≡ c.args.visited.now.items ++ c.args.tree.now.page ∷ []) → is_visited c.args.visited.now.items c.args.tree.now.page ≡ false
+      → IsVisit c.args.visited.now.items c.delete_below.new.visited.items c.delete_below.new.edit.writes.items c.delete_below.new.edit.freed.items c.args.tree.now.height c.args.tree.now.page
+  stays_visited made visited unvisited =
+      whole_visit c.args.visited.now.items c.visit.new.visited.items c.delete_below.new.visited.items c.args.tree.now.height c.args.tree.now.page (son_at c.visit.new.node c.in-Err.i) c.delete_below.new.edit.writes.items c.delete_below.new.edit.freed.items visited unvisited (omega (arith, c.requires.height, c.if-tree-eq1.false))
+      (subst (λ (x : Subtree). IsVisit c.visit.new.visited.items c.delete_below.new.visited.items c.delete_below.new.edit.writes.items c.delete_below.new.edit.freed.items x.height x.page) c.tree_of_son-below.ensures made)
+
 pub delete_below-returns-in-None-clause-visit : goal.delete_below-returns-in-None-clause-visit
-delete_below-returns-in-None-clause-visit g t c =
-    let T = c.args.tree.now in
-    let M = c.args.visited.now.items in
-    let n = c.visit.new.node in
-    let M1 = c.visit.new.visited.items in
-    let i = c.in-Err.i in
-    let t_is = c.tree_of_son-below.ensures in
-    let ws = c.delete_below.new.edit.writes.items in
-    let fs = c.delete_below.new.edit.freed.items in
-    let visited2 = c.delete_below.new.visited.items in
-    let visit_made = subst (λ (x : Subtree). IsVisit M1 visited2 ws fs x.height x.page) t_is c.in_ok-removed-in-Err.ensures.visit in
-    whole_visit M M1 visited2 T.height T.page (son_at n i) ws fs c.in_ok-visit.ensures.visited c.in_ok-visit.ensures.unvisited (omega (arith, c.requires.height, c.if-tree-eq1.false)) visit_made
+delete_below-returns-in-None-clause-visit g t c = stays_visited g t (goal.at.delete_below-returns-in-None-clause-visit g t c).After-delete_below c.in_ok-removed-in-Err.ensures.visit c.in_ok-visit.ensures.visited c.in_ok-visit.ensures.unvisited
 
 pub delete_below-returns-in-Some-Whole-clause-removes : goal.delete_below-returns-in-Some-Whole-clause-removes
 delete_below-returns-in-Some-Whole-clause-removes g t c = λ steady least es us low tree between apart unvisited.
@@ -492,28 +431,21 @@ delete_below-returns-in-Some-Whole-clause-up g t c =
     )
 
 pub delete_below-returns-in-Some-Whole-clause-visit : goal.delete_below-returns-in-Some-Whole-clause-visit
-delete_below-returns-in-Some-Whole-clause-visit g t c =
-    let T = c.args.tree.now in
-    let M = c.args.visited.now.items in
-    let n = c.visit.new.node in
-    let M1 = c.visit.new.visited.items in
-    let i = c.in-Err.i in
-    let t_is = c.tree_of_son-below.ensures in
-    let ws = c.delete_below.new.edit.writes.items in
-    let fs = c.delete_below.new.edit.freed.items in
-    let visited2 = c.delete_below.new.visited.items in
-    let visit_made = subst (λ (x : Subtree). IsVisit M1 visited2 ws fs x.height x.page) t_is c.in_ok-removed-in-Err.ensures.visit in
-    whole_visit M M1 visited2 T.height T.page (son_at n i) ws fs c.in_ok-visit.ensures.visited c.in_ok-visit.ensures.unvisited (omega (arith, c.requires.height, c.if-tree-eq1.false)) visit_made
+delete_below-returns-in-Some-Whole-clause-visit g t c = stays_visited g t (goal.at.delete_below-returns-in-Some-Whole-clause-visit g t c).After-delete_below c.in_ok-removed-in-Err.ensures.visit c.in_ok-visit.ensures.visited c.in_ok-visit.ensures.unvisited
+
+-- a leaf without the element
+module _ (g : given.Over) (t : ℕ) (c : delete_here-After-remove g t) where
+  abbrev left_leaf : Node
+  left_leaf = record { kind = c.args.node.kind; elements = c.remove.new.self; sons = c.args.node.sons }
+
+  as_leaf : MayBeUnderfull c.args.tree.now.order 1 c.args.tree.now.bounds c.args.node
+  as_leaf = subst (λ (h : ℕ). MayBeUnderfull c.args.tree.now.order h c.args.tree.now.bounds c.args.node) c.if-tree-eq1.true c.requires.node
+
+  without : MayBeUnderfull c.args.tree.now.order 1 c.args.tree.now.bounds left_leaf
+  without = leaf_without c.args.tree.now.order c.args.tree.now.bounds c.args.node left_leaf c.args.i as_leaf.kind c.requires.place as_leaf refl c.remove.ensures.items refl
 
 pub delete_here-settle-requires-clause-may_be_underfull : goal.delete_here-settle-requires-clause-may_be_underfull
-delete_here-settle-requires-clause-may_be_underfull g t c =
-    let T = c.args.tree.now in
-    let n = c.args.node in
-    let i = c.args.i in
-    let may_be_underfull1 = subst (λ (h : ℕ). MayBeUnderfull T.order h T.bounds n) c.if-tree-eq1.true c.requires.node in
-    let m : Node = record { kind = n.kind; elements = c.remove.new.self; sons = n.sons } in
-    let without = leaf_without T.order T.bounds n m i may_be_underfull1.kind c.requires.place may_be_underfull1 refl c.remove.ensures.items refl in
-    (1, T.bounds, without)
+delete_here-settle-requires-clause-may_be_underfull g t c = (1, c.args.tree.now.bounds, without g t (goal.at.delete_here-settle-requires-clause-may_be_underfull g t c).After-remove)
 
 pub delete_here-returns-then-tree-eq1-clause-removes : goal.delete_here-returns-then-tree-eq1-clause-removes
 delete_here-returns-then-tree-eq1-clause-removes g t c = λ steady least es us below low spells least_is body us_is between apart unvisited.
@@ -537,26 +469,22 @@ delete_here-returns-then-tree-eq1-clause-removes g t c = λ steady least es us b
 pub delete_here-returns-then-tree-eq1-clause-up : goal.delete_here-returns-then-tree-eq1-clause-up
 delete_here-returns-then-tree-eq1-clause-up g t c =
     let T = c.args.tree.now in
-    let n = c.args.node in
-    let i = c.args.i in
-    let may_be_underfull1 = subst (λ (h : ℕ). MayBeUnderfull T.order h T.bounds n) c.if-tree-eq1.true c.requires.node in
-    let m : Node = record { kind = n.kind; elements = c.remove.new.self; sons = n.sons } in
-    let without = leaf_without T.order T.bounds n m i may_be_underfull1.kind c.requires.place may_be_underfull1 refl c.remove.ensures.items refl in
+    let p = (goal.at.delete_here-returns-then-tree-eq1-clause-up g t c).After-remove in
+    let m = left_leaf g t p in
     subst (λ (fs : List ℕ). UnderfullGoesUp T.order T.height T.bounds T.page c.settle.new.edit.writes.items fs c.in_ok-settle.field-0) (sym (ap (λ v. v.items) c.in_ok-settle.ensures.freed))
-    (settled_up T.order T.height T.page T.bounds c.args.edit.now.writes.items c.settle.new.edit.writes.items c.args.edit.now.freed.items c.index-deref-i.result m c.in_ok-settle.field-0 (subst (λ (h : ℕ). MayBeUnderfull T.order h T.bounds m) (sym c.if-tree-eq1.true) without)
+    (settled_up T.order T.height T.page T.bounds c.args.edit.now.writes.items c.settle.new.edit.writes.items c.args.edit.now.freed.items c.index-deref-i.result m c.in_ok-settle.field-0 (subst (λ (h : ℕ). MayBeUnderfull T.order h T.bounds m) (sym c.if-tree-eq1.true) (without g t p))
     (untouched_empty c.args.edit.now.writes.items c.args.edit.now.freed.items T.page c.requires.unwritten c.requires.unfreed) c.in_ok-settle.ensures.settles)
 
 pub delete_here-returns-then-tree-eq1-clause-first : goal.delete_here-returns-then-tree-eq1-clause-first
 delete_here-returns-then-tree-eq1-clause-first g t c = λ low is.
     let T = c.args.tree.now in
-    let n = c.args.node in
-    let i = c.args.i in
-    let may_be_underfull1 = subst (λ (h : ℕ). MayBeUnderfull T.order h T.bounds n) c.if-tree-eq1.true c.requires.node in
-    let m : Node = record { kind = n.kind; elements = c.remove.new.self; sons = n.sons } in
-    let e = element_at n i in
-    let here : e ≡ get_or n.elements.items 0 e = get_or_default n.elements.items i ([], []) e c.requires.place ∙ ap (λ (j : ℕ). get_or n.elements.items j e) is in
-    let left = leaf_behind T.order T.bounds n m e may_be_underfull1.kind (omega (arith, c.requires.place)) may_be_underfull1 here refl (c.remove.ensures.items ∙ ap (remove n.elements.items) is) refl in
+    let p = (goal.at.delete_here-returns-then-tree-eq1-clause-first g t c).After-remove in
+    let m = left_leaf g t p in
+    let els = c.args.node.elements.items in
+    let e = element_at c.args.node c.args.i in
     let b = behind e T.bounds in
+    let here : e ≡ get_or els 0 e = get_or_default els c.args.i ([], []) e c.requires.place ∙ ap (λ (j : ℕ). get_or els j e) is in
+    let left = leaf_behind T.order T.bounds c.args.node m e (as_leaf g t p).kind (omega (arith, c.requires.place)) (as_leaf g t p) here refl (c.remove.ensures.items ∙ ap (remove els) is) refl in
     subst (λ (fs : List ℕ). UnderfullGoesUp T.order T.height b T.page c.settle.new.edit.writes.items fs c.in_ok-settle.field-0) (sym (ap (λ v. v.items) c.in_ok-settle.ensures.freed))
     (settled_up T.order T.height T.page b c.args.edit.now.writes.items c.settle.new.edit.writes.items c.args.edit.now.freed.items c.index-deref-i.result m c.in_ok-settle.field-0 (subst (λ (h : ℕ). MayBeUnderfull T.order h b m) (sym c.if-tree-eq1.true) left.2)
     (untouched_empty c.args.edit.now.writes.items c.args.edit.now.freed.items T.page c.requires.unwritten c.requires.unfreed) c.in_ok-settle.ensures.settles)
@@ -584,24 +512,25 @@ delete_here-returns-in_err-next-clause-removes g t c = λ steady least es us bel
     let there = known_there c.args.pages.now.pages c.args.pages.now.pages S t2 (level - 1) son.xs son.mine M M refl t_is refl up (record { tree = son.here; between = son.between; apart = apart_below T.page us son.upre son.mine son.upost all_is apart; unvisited = each_mid (λ u. is_visited M u ≡ false) head.below son.upre son.mine son.upost son.us_is unvisited }) in
     rw (p.1, p.2) (c.in_err-next.ensures.removes steady t2.order son.xs son.mine (omega arith) there.tree there.between there.apart there.unvisited)
 
+-- the next greater element stands in the node, and its son stayed whole
+module _ (g : given.Over) (t : ℕ) (c : delete_here-After-set_element g t) where
+  abbrev whole_bounds : Bounds
+  whole_bounds = son_bounds c.args.node.elements.items (suc c.args.i) c.args.tree.now.bounds
+
+  whole_is : c.tree_of_son-behind.result ≡ son_tree c.args.tree.now c.args.node (suc c.args.i)
+  whole_is = c.tree_of_son-behind.ensures ∙ ap (son_tree c.args.tree.now c.args.node) (omega arith)
+
+  whole_visited : IsVisit c.args.visited.now.items c.delete_below.new.visited.items c.delete_below.new.edit.writes.items c.delete_below.new.edit.freed.items (c.args.tree.now.height - 1) (son_at c.args.node (suc c.args.i))
+  whole_visited = subst (λ (x : Subtree). IsVisit c.args.visited.now.items c.delete_below.new.visited.items c.delete_below.new.edit.writes.items c.delete_below.new.edit.freed.items x.height x.page) whole_is c.in_ok-next.ensures.visit
+
+  with_next : MayBeUnderfull c.args.tree.now.order c.args.tree.now.height c.args.tree.now.bounds c.set_element.new.node
+  with_next =
+      let T = c.args.tree.now in
+      let went = went_up (son_tree T c.args.node (suc c.args.i)) c.tree_of_son-behind.result None c.delete_below.new.edit.writes.items c.delete_below.new.edit.freed.items c.in_ok-next.field-0 (Whole c.in-Some-Whole.next) whole_is (c.in-Some-Whole.is ∙ ap Some c.in-Some-Whole.field-0-is) c.in_ok-next.ensures.up in
+      next_may_be_underfull T.order T.height c.args.i T.bounds c.args.node c.set_element.new.node c.in-Some-Whole.next c.requires.place c.requires.node went.fits went.within c.set_element.ensures.kind c.set_element.ensures.elements (ap (λ s. s.items) c.set_element.ensures.sons)
+
 pub delete_here-settle-requires-in-Some-Whole-clause-may_be_underfull : goal.delete_here-settle-requires-in-Some-Whole-clause-may_be_underfull
-delete_here-settle-requires-in-Some-Whole-clause-may_be_underfull g t c =
-    let T = c.args.tree.now in
-    let n = c.args.node in
-    let i = c.args.i in
-    let next_i : i + 1 ≡ suc i = omega arith in
-    let t2 = c.tree_of_son-behind.result in
-    let t_is = c.tree_of_son-behind.ensures ∙ ap (son_tree T n) next_i in
-    let S = son_tree T n (suc i) in
-    let ws = c.delete_below.new.edit.writes.items in
-    let fs = c.delete_below.new.edit.freed.items in
-    let e = c.in-Some-Whole.next in
-    let m = c.set_element.new.node in
-    let went = went_up S t2 None ws fs c.in_ok-next.field-0 (Whole e) t_is (c.in-Some-Whole.is ∙ ap Some c.in-Some-Whole.field-0-is) c.in_ok-next.ensures.up in
-    let stands = right_stands_at i n.elements.items T.bounds e c.requires.place c.requires.node.ascends c.requires.node.within went.fits went.within in
-    let sons_is = ap (λ s. s.items) c.set_element.ensures.sons in
-    let may_be_underfull = set_may_be_underfull T.order T.height i T.bounds n m e c.requires.place c.requires.node stands c.set_element.ensures.kind c.set_element.ensures.elements sons_is in
-    (T.height, T.bounds, may_be_underfull)
+delete_here-settle-requires-in-Some-Whole-clause-may_be_underfull g t c = (c.args.tree.now.height, c.args.tree.now.bounds, with_next g t (goal.at.delete_here-settle-requires-in-Some-Whole-clause-may_be_underfull g t c).After-set_element)
 
 pub delete_here-returns-in_ok-settle-in-Some-Whole-clause-removes : goal.delete_here-returns-in_ok-settle-in-Some-Whole-clause-removes
 delete_here-returns-in_ok-settle-in-Some-Whole-clause-removes g t c = λ steady least es us below low spells least_is body us_is between apart unvisited.
@@ -649,120 +578,68 @@ delete_here-returns-in_ok-settle-in-Some-Whole-clause-removes g t c = λ steady 
 pub delete_here-returns-in_ok-settle-in-Some-Whole-clause-up : goal.delete_here-returns-in_ok-settle-in-Some-Whole-clause-up
 delete_here-returns-in_ok-settle-in-Some-Whole-clause-up g t c =
     let T = c.args.tree.now in
-    let M = c.args.visited.now.items in
-    let n = c.args.node in
-    let i = c.args.i in
-    let next_i : i + 1 ≡ suc i = omega arith in
-    let t2 = c.tree_of_son-behind.result in
-    let t_is = c.tree_of_son-behind.ensures ∙ ap (son_tree T n) next_i in
-    let S = son_tree T n (suc i) in
-    let ws = c.delete_below.new.edit.writes.items in
-    let fs = c.delete_below.new.edit.freed.items in
-    let visited2 = c.delete_below.new.visited.items in
-    let e = c.in-Some-Whole.next in
-    let m = c.set_element.new.node in
-    let went = went_up S t2 None ws fs c.in_ok-next.field-0 (Whole e) t_is (c.in-Some-Whole.is ∙ ap Some c.in-Some-Whole.field-0-is) c.in_ok-next.ensures.up in
-    let stands = right_stands_at i n.elements.items T.bounds e c.requires.place c.requires.node.ascends c.requires.node.within went.fits went.within in
-    let sons_is = ap (λ s. s.items) c.set_element.ensures.sons in
-    let may_be_underfull = set_may_be_underfull T.order T.height i T.bounds n m e c.requires.place c.requires.node stands c.set_element.ensures.kind c.set_element.ensures.elements sons_is in
-    let visit_made = subst (λ (x : Subtree). IsVisit M visited2 ws fs x.height x.page) t_is c.in_ok-next.ensures.visit in
+    let p = (goal.at.delete_here-returns-in_ok-settle-in-Some-Whole-clause-up g t c).After-set_element in
+    let settled = c.in_ok-settle-in-Some-Whole in
     let ws2 = c.settle-in-Some-Whole.new.edit.writes.items in
-    let r = c.in_ok-settle-in-Some-Whole.field-0 in
-    let freed = sym (ap (λ v. v.items) c.in_ok-settle-in-Some-Whole.ensures.freed) in
-    subst (λ (z : List ℕ). UnderfullGoesUp T.order T.height T.bounds T.page ws2 z r) freed
-    (settled_up T.order T.height T.page T.bounds ws ws2 fs c.index-deref-i.result m r may_be_underfull (visit_made.older T.page c.requires.visited) c.in_ok-settle-in-Some-Whole.ensures.settles)
+    subst (λ (z : List ℕ). UnderfullGoesUp T.order T.height T.bounds T.page ws2 z settled.field-0) (sym (ap (λ v. v.items) settled.ensures.freed))
+    (settled_up T.order T.height T.page T.bounds c.delete_below.new.edit.writes.items ws2 c.delete_below.new.edit.freed.items c.index-deref-i.result c.set_element.new.node settled.field-0 (with_next g t p) ((whole_visited g t p).older T.page c.requires.visited) settled.ensures.settles)
 
 pub delete_here-returns-in_ok-settle-in-Some-Whole-clause-tidy : goal.delete_here-returns-in_ok-settle-in-Some-Whole-clause-tidy
 delete_here-returns-in_ok-settle-in-Some-Whole-clause-tidy g t c = λ used.
-    let T = c.args.tree.now in
-    let M = c.args.visited.now.items in
-    let n = c.args.node in
-    let i = c.args.i in
-    let next_i : i + 1 ≡ suc i = omega arith in
-    let t_is = c.tree_of_son-behind.ensures ∙ ap (son_tree T n) next_i in
-    let ws = c.delete_below.new.edit.writes.items in
-    let fs = c.delete_below.new.edit.freed.items in
-    let visited2 = c.delete_below.new.visited.items in
-    let visit_made = subst (λ (x : Subtree). IsVisit M visited2 ws fs x.height x.page) t_is c.in_ok-next.ensures.visit in
-    let ws2 = c.settle-in-Some-Whole.new.edit.writes.items in
-    let r = c.in_ok-settle-in-Some-Whole.field-0 in
-    let freed = sym (ap (λ v. v.items) c.in_ok-settle-in-Some-Whole.ensures.freed) in
-    subst (λ (z : List ℕ). IsTidy c.args.pages.now.pages visited2 ws2 z) freed
-    (settled_tidy c.args.pages.now.pages visited2 T.order T.page ws ws2 fs c.index-deref-i.result c.set_element.new.node r used (visit_made.stays T.page c.requires.visited) (visit_made.older T.page c.requires.visited) c.in_ok-settle-in-Some-Whole.ensures.settles c.in_ok-next.ensures.tidy)
+    let p = c.args.tree.now.page in
+    let visit = whole_visited g t (goal.at.delete_here-returns-in_ok-settle-in-Some-Whole-clause-tidy g t c).After-set_element in
+    let settled = c.in_ok-settle-in-Some-Whole in
+    subst (λ (z : List ℕ). IsTidy c.args.pages.now.pages c.delete_below.new.visited.items c.settle-in-Some-Whole.new.edit.writes.items z) (sym (ap (λ v. v.items) settled.ensures.freed))
+    (settled_tidy c.args.pages.now.pages c.delete_below.new.visited.items c.args.tree.now.order p c.delete_below.new.edit.writes.items c.settle-in-Some-Whole.new.edit.writes.items c.delete_below.new.edit.freed.items c.index-deref-i.result c.set_element.new.node settled.field-0 used (visit.stays p c.requires.visited) (visit.older p c.requires.visited) settled.ensures.settles c.in_ok-next.ensures.tidy)
 
 pub delete_here-returns-in_ok-settle-in-Some-Whole-clause-older : goal.delete_here-returns-in_ok-settle-in-Some-Whole-clause-older
 delete_here-returns-in_ok-settle-in-Some-Whole-clause-older g t c = λ q is other.
-    let T = c.args.tree.now in
-    let M = c.args.visited.now.items in
-    let n = c.args.node in
-    let i = c.args.i in
-    let next_i : i + 1 ≡ suc i = omega arith in
-    let t_is = c.tree_of_son-behind.ensures ∙ ap (son_tree T n) next_i in
-    let ws = c.delete_below.new.edit.writes.items in
-    let fs = c.delete_below.new.edit.freed.items in
-    let visited2 = c.delete_below.new.visited.items in
-    let visit_made = subst (λ (x : Subtree). IsVisit M visited2 ws fs x.height x.page) t_is c.in_ok-next.ensures.visit in
-    let ws2 = c.settle-in-Some-Whole.new.edit.writes.items in
-    let r = c.in_ok-settle-in-Some-Whole.field-0 in
-    let freed = sym (ap (λ v. v.items) c.in_ok-settle-in-Some-Whole.ensures.freed) in
-    subst (λ (z : List ℕ). Untouched ws2 z q) freed
-    (settled_others q T.order T.page ws ws2 fs c.index-deref-i.result c.set_element.new.node r other c.in_ok-settle-in-Some-Whole.ensures.settles (visit_made.older q is))
+    let visit = whole_visited g t (goal.at.delete_here-returns-in_ok-settle-in-Some-Whole-clause-older g t c).After-set_element in
+    let settled = c.in_ok-settle-in-Some-Whole in
+    subst (λ (z : List ℕ). Untouched c.settle-in-Some-Whole.new.edit.writes.items z q) (sym (ap (λ v. v.items) settled.ensures.freed))
+    (settled_others q c.args.tree.now.order c.args.tree.now.page c.delete_below.new.edit.writes.items c.settle-in-Some-Whole.new.edit.writes.items c.delete_below.new.edit.freed.items c.index-deref-i.result c.set_element.new.node settled.field-0 other settled.ensures.settles (visit.older q is))
+
+-- the next greater element stands in the node, and its son is underfull
+module _ (g : given.Over) (t : ℕ) (c : delete_here-After-set_element-in-Some-Underfull g t) where
+  short_is : c.tree_of_son-behind.result ≡ son_tree c.args.tree.now c.args.node (suc c.args.i)
+  short_is = c.tree_of_son-behind.ensures ∙ ap (son_tree c.args.tree.now c.args.node) (omega arith)
+
+  short_visited : IsVisit c.args.visited.now.items c.delete_below.new.visited.items c.delete_below.new.edit.writes.items c.delete_below.new.edit.freed.items (c.args.tree.now.height - 1) (son_at c.args.node (suc c.args.i))
+  short_visited = subst (λ (x : Subtree). IsVisit c.args.visited.now.items c.delete_below.new.visited.items c.delete_below.new.edit.writes.items c.delete_below.new.edit.freed.items x.height x.page) short_is c.in_ok-next.ensures.visit
+
+  went_behind : let S = son_tree c.args.tree.now c.args.node (suc c.args.i) in WentUp S.order S.height S.bounds None S.page c.delete_below.new.edit.writes.items c.delete_below.new.edit.freed.items (Underfull c.in-Some-Underfull.next c.in-Some-Underfull.son)
+  went_behind =
+      let is = c.in-Some-Underfull.is ∙ ap Some c.in-Some-Underfull.field-0-is in
+      went_up (son_tree c.args.tree.now c.args.node (suc c.args.i)) c.tree_of_son-behind.result None c.delete_below.new.edit.writes.items c.delete_below.new.edit.freed.items c.in_ok-next.field-0 (Underfull c.in-Some-Underfull.next c.in-Some-Underfull.son) short_is is c.in_ok-next.ensures.up
+
+  short_son : son_at c.args.node (suc c.args.i) ≡ son_at c.set_element-in-Some-Underfull.new.node (c.args.i + 1)
+  short_son =
+      ap (λ (xs : List ℕ). get_or xs (suc c.args.i) 0) (sym (ap (λ s. s.items) c.set_element-in-Some-Underfull.ensures.sons))
+      ∙ ap (son_at c.set_element-in-Some-Underfull.new.node) (omega arith)
 
 pub delete_here-treat_and_settle-requires-clause-father : goal.delete_here-treat_and_settle-requires-clause-father
 delete_here-treat_and_settle-requires-clause-father g t c =
     let T = c.args.tree.now in
-    let n = c.args.node in
-    let i = c.args.i in
-    let next_i : i + 1 ≡ suc i = omega arith in
-    let t2 = c.tree_of_son-behind.result in
-    let t_is = c.tree_of_son-behind.ensures ∙ ap (son_tree T n) next_i in
-    let S = son_tree T n (suc i) in
-    let ws = c.delete_below.new.edit.writes.items in
-    let fs = c.delete_below.new.edit.freed.items in
-    let e = c.in-Some-Underfull.next in
-    let underfull = c.in-Some-Underfull.son in
-    let m = c.set_element-in-Some-Underfull.new.node in
-    let sons_is = ap (λ s. s.items) c.set_element-in-Some-Underfull.ensures.sons in
-    let went = went_up S t2 None ws fs c.in_ok-next.field-0 (Underfull e underfull) t_is (c.in-Some-Underfull.is ∙ ap Some c.in-Some-Underfull.field-0-is) c.in_ok-next.ensures.up in
-    let stands = right_stands_at i n.elements.items T.bounds e c.requires.place c.requires.node.ascends c.requires.node.within went.fits went.within in
-    set_may_be_underfull T.order T.height i T.bounds n m e c.requires.place c.requires.node stands c.set_element-in-Some-Underfull.ensures.kind c.set_element-in-Some-Underfull.ensures.elements sons_is
+    let went = went_behind g t (goal.at.delete_here-treat_and_settle-requires-clause-father g t c).After-set_element-in-Some-Underfull in
+    let put = c.set_element-in-Some-Underfull in
+    next_may_be_underfull T.order T.height c.args.i T.bounds c.args.node put.new.node c.in-Some-Underfull.next c.requires.place c.requires.node went.fits went.within put.ensures.kind put.ensures.elements (ap (λ s. s.items) put.ensures.sons)
 
 pub delete_here-treat_and_settle-requires-clause-son : goal.delete_here-treat_and_settle-requires-clause-son
 delete_here-treat_and_settle-requires-clause-son g t c =
     let T = c.args.tree.now in
-    let level = T.height - 1 in
-    let n = c.args.node in
     let i = c.args.i in
     let next_i : i + 1 ≡ suc i = omega arith in
-    let t2 = c.tree_of_son-behind.result in
-    let t_is = c.tree_of_son-behind.ensures ∙ ap (son_tree T n) next_i in
-    let S = son_tree T n (suc i) in
-    let ws = c.delete_below.new.edit.writes.items in
-    let fs = c.delete_below.new.edit.freed.items in
-    let e = c.in-Some-Underfull.next in
-    let underfull = c.in-Some-Underfull.son in
     let m = c.set_element-in-Some-Underfull.new.node in
-    let went = went_up S t2 None ws fs c.in_ok-next.field-0 (Underfull e underfull) t_is (c.in-Some-Underfull.is ∙ ap Some c.in-Some-Underfull.field-0-is) c.in_ok-next.ensures.up in
-    let bounds_is : behind e S.bounds ≡ son_bounds m.elements.items (i + 1) T.bounds =
-    sym (set_son_bounds n.elements.items i T.bounds e c.requires.place) ∙ ap (λ (xs : List Element). son_bounds xs (suc i) T.bounds) (sym c.set_element-in-Some-Underfull.ensures.elements) ∙ ap (λ (j : ℕ). son_bounds m.elements.items j T.bounds) (sym next_i) in
-    subst (λ (b : Bounds). MayBeUnderfull T.order level b underfull) bounds_is went.goes.0
+    let e = c.in-Some-Underfull.next in
+    let went = went_behind g t (goal.at.delete_here-treat_and_settle-requires-clause-son g t c).After-set_element-in-Some-Underfull in
+    let bounds_is : behind e (son_bounds c.args.node.elements.items (suc i) T.bounds) ≡ son_bounds m.elements.items (i + 1) T.bounds =
+    sym (set_son_bounds c.args.node.elements.items i T.bounds e c.requires.place) ∙ ap (λ (xs : List Element). son_bounds xs (suc i) T.bounds) (sym c.set_element-in-Some-Underfull.ensures.elements) ∙ ap (λ (j : ℕ). son_bounds m.elements.items j T.bounds) (sym next_i) in
+    subst (λ (b : Bounds). MayBeUnderfull T.order (T.height - 1) b c.in-Some-Underfull.son) bounds_is went.goes.0
 
 pub delete_here-treat_and_settle-requires-clause-other : goal.delete_here-treat_and_settle-requires-clause-other
 delete_here-treat_and_settle-requires-clause-other g t c =
-    let T = c.args.tree.now in
-    let M = c.args.visited.now.items in
-    let n = c.args.node in
-    let i = c.args.i in
-    let next_i : i + 1 ≡ suc i = omega arith in
-    let t_is = c.tree_of_son-behind.ensures ∙ ap (son_tree T n) next_i in
-    let ws = c.delete_below.new.edit.writes.items in
-    let fs = c.delete_below.new.edit.freed.items in
-    let visited2 = c.delete_below.new.visited.items in
-    let m = c.set_element-in-Some-Underfull.new.node in
-    let sons_is = ap (λ s. s.items) c.set_element-in-Some-Underfull.ensures.sons in
-    let s_is : son_at n (suc i) ≡ son_at m (i + 1) = ap (λ (xs : List ℕ). get_or xs (suc i) 0) (sym sons_is) ∙ ap (son_at m) (sym next_i) in
-    let visit_made = subst (λ (x : Subtree). IsVisit M visited2 ws fs x.height x.page) t_is c.in_ok-next.ensures.visit in
-    λ is. visited_differs M T.page (son_at n (suc i)) c.requires.visited visit_made.fresh (is ∙ sym s_is)
+    let p = (goal.at.delete_here-treat_and_settle-requires-clause-other g t c).After-set_element-in-Some-Underfull in
+    λ is. visited_differs c.args.visited.now.items c.args.tree.now.page (son_at c.args.node (suc c.args.i)) c.requires.visited (short_visited g t p).fresh (is ∙ sym (short_son g t p))
 
 pub delete_here-returns-in_err-shrunk-in-Some-Underfull-clause-removes : goal.delete_here-returns-in_err-shrunk-in-Some-Underfull-clause-removes
 delete_here-returns-in_err-shrunk-in-Some-Underfull-clause-removes g t c = λ steady least es us below low spells least_is body us_is between apart unvisited.
@@ -862,17 +739,6 @@ delete_here-returns-in_ok-shrunk-in-Some-Underfull-clause-removes g t c = λ ste
 
 pub delete_here-returns-in_ok-shrunk-in-Some-Underfull-clause-older : goal.delete_here-returns-in_ok-shrunk-in-Some-Underfull-clause-older
 delete_here-returns-in_ok-shrunk-in-Some-Underfull-clause-older g t c = λ q is other.
-    let T = c.args.tree.now in
-    let M = c.args.visited.now.items in
-    let n = c.args.node in
-    let i = c.args.i in
-    let next_i : i + 1 ≡ suc i = omega arith in
-    let t_is = c.tree_of_son-behind.ensures ∙ ap (son_tree T n) next_i in
-    let ws = c.delete_below.new.edit.writes.items in
-    let fs = c.delete_below.new.edit.freed.items in
-    let visited2 = c.delete_below.new.visited.items in
-    let m = c.set_element-in-Some-Underfull.new.node in
-    let sons_is = ap (λ s. s.items) c.set_element-in-Some-Underfull.ensures.sons in
-    let s_is : son_at n (suc i) ≡ son_at m (i + 1) = ap (λ (xs : List ℕ). get_or xs (suc i) 0) (sym sons_is) ∙ ap (son_at m) (sym next_i) in
-    let visit_made = subst (λ (x : Subtree). IsVisit M visited2 ws fs x.height x.page) t_is c.in_ok-next.ensures.visit in
-    c.in_ok-shrunk-in-Some-Underfull.ensures.others q (visit_made.stays q is) (λ same. visited_differs M q (son_at n (suc i)) is visit_made.fresh (same ∙ sym s_is)) other (visit_made.older q is)
+    let p = (goal.at.delete_here-returns-in_ok-shrunk-in-Some-Underfull-clause-older g t c).After-set_element-in-Some-Underfull in
+    let visit = short_visited g t p in
+    c.in_ok-shrunk-in-Some-Underfull.ensures.others q (visit.stays q is) (λ same. visited_differs c.args.visited.now.items q (son_at c.args.node (suc c.args.i)) is visit.fresh (same ∙ sym (short_son g t p))) other (visit.older q is)
