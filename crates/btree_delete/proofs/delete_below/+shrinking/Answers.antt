@@ -1,32 +1,33 @@
-use Rattle.std.proofs.Common.{◌≡◌, ◌+◌, ◌-◌, ℕ, suc, List, Option, Some, None, [], ◌∷◌, ◌++◌, true, false, length, get_or, refl, ap, sym, ◌∙◌, subst, arith, inr}
+use Rattle.std.proofs.Common.{◌≡◌, ◌+◌, ◌-◌, ◌≤◌, IsTrue, ℕ, suc, List, Option, Some, None, [], ◌∷◌, ◌++◌, true, false, length, get_or, refl, ap, sym, ◌∙◌, subst, arith, inr}
 use Rattle.std.specs.List.{remove}
 use Rattle.std.proofs.lemmas.List.{get_or_default, length-set}
 use Rattle.std.proofs.lemmas.Result.{err_from_is_err_and}
-use Rattle.page_store.specs.PageMap.{at, after}
+use Rattle.page_store.specs.PageMap.{PageMap, at, after}
 use Rattle.page_store.specs.PagesView.{PagesView}
 use Rattle.btree_node.specs.declared.node.Node.{Node}
-use Rattle.btree_node.specs.Lists.{Element, Each}
+use Rattle.btree_node.specs.Lists.{Element, Each, Ascends}
 use Rattle.btree_node.specs.Spelling.{IsElement}
 use Rattle.btree_node.proofs.ElementOrderLemmas.{Each_at}
 use Rattle.btree_insert.specs.declared.bounds.Bounds.{Bounds}
-use Rattle.btree_insert.specs.Bounds.{AreWithin, Over, Under, son_bounds}
+use Rattle.btree_insert.specs.Bounds.{AreWithin, Between, Over, Under, son_bounds}
 use Rattle.btree_insert.specs.Contents.{lookup_in, set_in}
 use Rattle.btree_insert.specs.Growth.{IsOutside, IsWithin}
 use Rattle.btree_insert.specs.PageTrees.{Apart, TreeAt, Body, Spells, kind_of_level}
-use Rattle.btree_insert.proofs.SonsAroundLemmas.{focus}
+use Rattle.btree_insert.proofs.SonsAroundLemmas.{Stands, focus}
 use Rattle.btree_insert.proofs.ChangedTreeLemmas.{tree_move}
 use Rattle.btree_insert.proofs.ElementMapLemmas.{lookup-here}
 use Rattle.btree_insert.proofs.VisitedLemmas.{unvisited_below, apart_below}
 use Rattle.btree_insert.proofs.PlaceLemmas.{son_within}
 use Rattle.btree_insert.proofs.HeadNodeLemmas.{Top, top, read_top, head_each}
+use Rattle.btree_delete.specs.declared.delete_below.Shrunk.{Shrunk}
 use Rattle.btree_delete.specs.declared.delete_below.Shrunk.TheVariants.{Whole, Underfull}
 use Rattle.btree_delete.specs.declared.subtree.Subtree.{Subtree}
 use Rattle.btree_delete.specs.Treatment.{element_at, son_at, brothers}
 use Rattle.btree_delete.specs.Shrinking.{MayBeUnderfull, StaysUnvisited, UnderfullGoesUp, TreatsAndSettles, RemovesBelow, sought}
-use Rattle.btree_delete.specs.Subtrees.{son_tree, behind, left_bounds, head_page}
+use Rattle.btree_delete.specs.Subtrees.{head_of, son_tree, behind, left_bounds, head_page}
 use Rattle.btree_delete.specs.Tidy.{is_visited, Untouched, IsTidy, IsVisit, visits, done_so_far}
-use Rattle.btree_delete.specs.PagesLeft.{pages_freed}
-use Rattle.btree_delete.proofs.SonCallLemmas.{known_there, removed_here}
+use Rattle.btree_delete.specs.PagesLeft.{pages_freed, with_edit}
+use Rattle.btree_delete.proofs.SonCallLemmas.{BelowShort, Removing, RemovingHere, CalledSon, answered, called_removed, called_son, asked_right, asked_left, known_there, removed_here}
 use Rattle.btree_delete.proofs.DeletionLemmas.{is_at, drop_leaf, drop_whole, drop_none, drop_broken, drop_treated, next_whole, next_broken, removed_top, none_here, on_unvisited, each_mid}
 use Rattle.btree_delete.proofs.SonsLemmas.{IsBeside, Kin, kin_move}
 use Rattle.btree_delete.proofs.BrotherPairLemmas.{next}
@@ -38,7 +39,7 @@ use Rattle.btree_delete.proofs.UnderfullNodeLemmas.{right_stands_at, next_may_be
 use Rattle.btree_delete.proofs.EditLemmas.{untouched_empty, visited_differs}
 use Rattle.btree_delete.proofs.delete_below.+shrinking.Given as given
 use Rattle.btree_delete.proofs.delete_below.+shrinking.Goals as goal
-use Rattle.btree_delete.proofs.delete_below.+shrinking.Goals.{delete_below-After-delete_below, delete_below-In-Some-Underfull, delete_here-After-remove, delete_here-After-set_element, delete_here-After-set_element-in-Some-Underfull}
+use Rattle.btree_delete.proofs.delete_below.+shrinking.Goals.{delete_below-After-place_to_take, delete_below-After-delete_here, delete_below-After-delete_below, delete_below-In-Some-Underfull, delete_here-After-delete_below, delete_here-After-remove, delete_here-After-set_element, delete_here-After-set_element-in-Some-Underfull}
 
 pub delete_below-returns-in_err-visit-clause-removes : goal.delete_below-returns-in_err-visit-clause-removes
 delete_below-returns-in_err-visit-clause-removes g t c = λ steady least es us low tree between apart unvisited.
@@ -51,47 +52,54 @@ delete_below-returns-in_err-visit-clause-removes g t c = λ steady least es us l
     let head = top T.order P least T.height level T.page es us T.bounds (omega arith) tree between in
     rw (p.1, p.2) (subst IsOutside (sym (c.in_err-visit.ensures.exact steady head.0 head.1.spells head.1.kind head.1.within new)) tt)
 
+-- the node that was visited is the one at the head of the tree
+module _ (g : given.Over) (t : ℕ) (c : delete_below-After-place_to_take g t) where
+  first_of : (steady : IsTrue c.args.pages.now.steady) (least : ℕ) (es : List Element) (us : List ℕ) → TreeAt c.args.tree.now.order (at c.args.pages.now.pages) least c.args.tree.now.height c.args.tree.now.page es us → Between c.args.tree.now.bounds es → Each (λ u. is_visited c.args.visited.now.items u ≡ false) us
+      → Top c.args.tree.now.order (at c.args.pages.now.pages) least c.args.tree.now.height (c.args.tree.now.height - 1) c.args.tree.now.page es us c.args.tree.now.bounds c.visit.new.node
+  first_of steady least es us tree between unvisited =
+      let T = c.args.tree.now in
+      let P = at c.args.pages.now.pages in
+      let new = head_each (λ u. is_visited c.args.visited.now.items u ≡ false) T.order P least T.height T.page es us tree unvisited in
+      read_top T.order P least T.height T.page es us T.bounds (kind_of_level T.height) c.visit.new.node c.requires.height refl (λ m spells kind within. c.in_ok-visit.ensures.exact steady m spells kind within new) tree between
+
+-- what taking an element out of the node answers, where the node is the one at the head
+module _ (g : given.Over) (t : ℕ) (c : delete_below-After-delete_here g t) where
+  asked_here : (X : ℕ → List Element → List ℕ → Type 0) (steady : IsTrue c.args.pages.now.steady) (least : ℕ) (es : List Element) (us : List ℕ) → (c.visit.new.visited.items ≡ c.args.visited.now.items ++ c.args.tree.now.page ∷ []) → Top c.args.tree.now.order (at c.args.pages.now.pages) least c.args.tree.now.height (c.args.tree.now.height - 1) c.args.tree.now.page es us c.args.tree.now.bounds c.visit.new.node
+      → least ≤ c.args.tree.now.order → Between c.args.tree.now.bounds es → Apart us → Each (λ u. is_visited c.args.visited.now.items u ≡ false) us → RemovingHere c.args.tree.now c.visit.new.pages c.visit.new.visited.items c.visit.new.node X → X least es us
+  asked_here X steady least es us visited_is first low between apart unvisited removing =
+      let T = c.args.tree.now in
+      let n = c.visit.new.node in
+      let M = c.args.visited.now.items in
+      let pages_is = ap (λ (v : PagesView). v.pages) c.visit.ensures.unchanged in
+      let steady1 = ap (λ (v : PagesView). v.steady) c.visit.ensures.unchanged ∙ steady in
+      let spells1 = subst (λ (x : List (Option (List ℕ))). Spells T.order (at x) T.page n) (sym pages_is) first.spells in
+      let body1 = subst (λ (x : List (Option (List ℕ))). Body (TreeAt T.order (at x) T.order (T.height - 1)) (T.height - 1) n es first.below) (sym pages_is) first.body in
+      let apart1 = subst Apart first.us_is apart in
+      let unvisited1 = subst (Each (λ u. is_visited M u ≡ false)) first.us_is unvisited in
+      let later = subst (λ (ms : List ℕ). Each (λ u. is_visited ms u ≡ false) first.below) (sym visited_is) (more_visited M T.page first.below apart1.0 unvisited1.1) in
+      removing steady1 least es us first.below low spells1 first.least_is body1 first.us_is between apart later
+
 pub delete_below-returns-in_err-shrunk-in-Ok-clause-removes : goal.delete_below-returns-in_err-shrunk-in-Ok-clause-removes
 delete_below-returns-in_err-shrunk-in-Ok-clause-removes g t c = λ steady least es us low tree between apart unvisited.
-    let T = c.args.tree.now in
-    let P = at c.args.pages.now.pages in
-    let M = c.args.visited.now.items in
-    let level = T.height - 1 in
-    let n = c.visit.new.node in
     let p = err_from_is_err_and c.from_residual-in_err-shrunk-in-Ok.result c.from_residual-in_err-shrunk-in-Ok.ensures.1 in
-    let new = head_each (λ u. is_visited M u ≡ false) T.order P least T.height T.page es us tree unvisited in
-    let first = read_top T.order P least T.height T.page es us T.bounds (kind_of_level T.height) n c.requires.height refl (λ m spells kind within. c.in_ok-visit.ensures.exact steady m spells kind within new) tree between in
-    let pages_is = ap (λ (v : PagesView). v.pages) c.visit.ensures.unchanged in
-    let steady1 = ap (λ (v : PagesView). v.steady) c.visit.ensures.unchanged ∙ steady in
-    let spells1 = subst (λ (x : List (Option (List ℕ))). Spells T.order (at x) T.page n) (sym pages_is) first.spells in
-    let body1 = subst (λ (x : List (Option (List ℕ))). Body (TreeAt T.order (at x) T.order level) level n es first.below) (sym pages_is) first.body in
-    let apart1 = subst Apart first.us_is apart in
-    let unvisited1 = subst (Each (λ u. is_visited M u ≡ false)) first.us_is unvisited in
-    let later = subst (λ (ms : List ℕ). Each (λ u. is_visited ms u ≡ false) first.below) (sym c.in_ok-visit.ensures.visited) (more_visited M T.page first.below apart1.0 unvisited1.1) in
-    rw (p.1, p.2) (c.in_err-shrunk-in-Ok.ensures.removes steady1 least es us first.below low spells1 first.least_is body1 first.us_is between apart later)
+    let at_goal = goal.at.delete_below-returns-in_err-shrunk-in-Ok-clause-removes g t c in
+    let first = first_of g t at_goal.After-place_to_take steady least es us tree between unvisited in
+    rw (p.1, p.2) (asked_here g t at_goal.After-delete_here (λ _ _ _. IsOutside c.in_err-shrunk-in-Ok.field-0.0) steady least es us c.in_ok-visit.ensures.visited first low between apart unvisited c.in_err-shrunk-in-Ok.ensures.removes)
 
 pub delete_below-returns-in_ok-shrunk-in-Ok-clause-removes : goal.delete_below-returns-in_ok-shrunk-in-Ok-clause-removes
 delete_below-returns-in_ok-shrunk-in-Ok-clause-removes g t c = λ steady least es us low tree between apart unvisited.
     let T = c.args.tree.now in
-    let P = at c.args.pages.now.pages in
-    let M = c.args.visited.now.items in
-    let level = T.height - 1 in
     let n = c.visit.new.node in
-    let M1 = c.visit.new.visited.items in
-    let new = head_each (λ u. is_visited M u ≡ false) T.order P least T.height T.page es us tree unvisited in
-    let first = read_top T.order P least T.height T.page es us T.bounds (kind_of_level T.height) n c.requires.height refl (λ m spells kind within. c.in_ok-visit.ensures.exact steady m spells kind within new) tree between in
-    let pages_is = ap (λ (v : PagesView). v.pages) c.visit.ensures.unchanged in
-    let steady1 = ap (λ (v : PagesView). v.steady) c.visit.ensures.unchanged ∙ steady in
-    let spells1 = subst (λ (x : List (Option (List ℕ))). Spells T.order (at x) T.page n) (sym pages_is) first.spells in
-    let body1 = subst (λ (x : List (Option (List ℕ))). Body (TreeAt T.order (at x) T.order level) level n es first.below) (sym pages_is) first.body in
-    let apart1 = subst Apart first.us_is apart in
-    let unvisited1 = subst (Each (λ u. is_visited M u ≡ false)) first.us_is unvisited in
-    let later = subst (λ (ms : List ℕ). Each (λ u. is_visited ms u ≡ false) first.below) (sym c.in_ok-visit.ensures.visited) (more_visited M T.page first.below apart1.0 unvisited1.1) in
     let i = c.in-Ok.i in
-    let key_is = sought_here T.order P level n es first.below c.args.key.now i first.body (λ given is. (c.in-Ok.ensures.found given is c.in_ok-visit.ensures.stands.ascends).here ([], [])) (λ none. (c.in-Ok.ensures.first none).0) (λ none. omega (arith, (c.in-Ok.ensures.first none).1)) in
-    removed_top T.order c.args.pages.now.pages c.visit.new.pages.pages c.delete_here.new.edit.writes.items c.delete_here.new.edit.freed.items least level T.page es us M M1 c.delete_here.new.visited.items (sought c.args.key.now es) (element_at n i).0 (Some c.in_ok-shrunk-in-Ok.shrunk)
-    pages_is c.in_ok-visit.ensures.visited key_is (page_in T.page us first.below first.us_is)
-    (c.in_ok-shrunk-in-Ok.ensures.removes steady1 least es us first.below low spells1 first.least_is body1 first.us_is between apart later)
+    let r = c.in_ok-shrunk-in-Ok.shrunk in
+    let ws = c.delete_here.new.edit.writes.items in
+    let fs = c.delete_here.new.edit.freed.items in
+    let at_goal = goal.at.delete_below-returns-in_ok-shrunk-in-Ok-clause-removes g t c in
+    let first = first_of g t at_goal.After-place_to_take steady least es us tree between unvisited in
+    let key_is = sought_here T.order (at c.args.pages.now.pages) (T.height - 1) n es first.below c.args.key.now i first.body (λ given is. (c.in-Ok.ensures.found given is c.in_ok-visit.ensures.stands.ascends).here ([], [])) (λ none. (c.in-Ok.ensures.first none).0) (λ none. omega (arith, (c.in-Ok.ensures.first none).1)) in
+    removed_top T.order c.args.pages.now.pages c.visit.new.pages.pages ws fs least (T.height - 1) T.page es us c.args.visited.now.items c.visit.new.visited.items c.delete_here.new.visited.items (sought c.args.key.now es) (element_at n i).0 (Some r)
+    (ap (λ (v : PagesView). v.pages) c.visit.ensures.unchanged) c.in_ok-visit.ensures.visited key_is (page_in T.page us first.below first.us_is)
+    (asked_here g t at_goal.After-delete_here (λ low es us. RemovesBelow (head_page T.order low (T.height - 1) T.page) (pages_freed (at c.visit.new.pages.pages) (after (at c.visit.new.pages.pages) ws fs) 0 (length fs)) es us (visits c.visit.new.visited.items c.delete_here.new.visited.items) (element_at n i).0 (Some r)) steady least es us c.in_ok-visit.ensures.visited first low between apart unvisited c.in_ok-shrunk-in-Ok.ensures.removes)
 
 pub delete_below-returns-in_ok-shrunk-in-Ok-clause-up : goal.delete_below-returns-in_ok-shrunk-in-Ok-clause-up
 delete_below-returns-in_ok-shrunk-in-Ok-clause-up g t c =
@@ -114,48 +122,103 @@ delete_below-returns-in_ok-shrunk-in-Ok-clause-up g t c =
 pub delete_below-returns-then-tree-eq1-clause-removes : goal.delete_below-returns-then-tree-eq1-clause-removes
 delete_below-returns-then-tree-eq1-clause-removes g t c = λ steady least es us low tree between apart unvisited.
     let T = c.args.tree.now in
-    let P = at c.args.pages.now.pages in
     let M = c.args.visited.now.items in
-    let level = T.height - 1 in
-    let n = c.visit.new.node in
-    let new = head_each (λ u. is_visited M u ≡ false) T.order P least T.height T.page es us tree unvisited in
-    let first = read_top T.order P least T.height T.page es us T.bounds (kind_of_level T.height) n c.requires.height refl (λ m spells kind within. c.in_ok-visit.ensures.exact steady m spells kind within new) tree between in
-    let ups = c.in_ok-visit.ensures.stands.ascends in
+    let first = first_of g t (goal.at.delete_below-returns-then-tree-eq1-clause-removes g t c).After-place_to_take steady least es us tree between unvisited in
     record {
       drops = sought_none c.args.key.now es (λ none. (c.in-Err.ensures.first none).1 c.if-tree-eq1.true)
-          (λ given is. none_here T.order P least T.height level T.page es us T.bounds n given c.in-Err.i (omega (arith, c.if-tree-eq1.true)) first (c.in-Err.ensures.found given is ups));
+          (λ given is. none_here T.order (at c.args.pages.now.pages) least T.height (T.height - 1) T.page es us T.bounds c.visit.new.node given c.in-Err.i (omega (arith, c.if-tree-eq1.true)) first (c.in-Err.ensures.found given is c.in_ok-visit.ensures.stands.ascends));
       unvisited = subst (λ (ms : List ℕ). StaysUnvisited M ms us) (sym c.in_ok-visit.ensures.visited) (page_unvisited M T.page us (page_in T.page us first.below first.us_is));
     }
 
+-- the son below which the key is taken out, and what the call on it took out
+module _ (g : given.Over) (t : ℕ) (c : delete_below-After-delete_below g t) where
+  abbrev levels : ℕ
+  levels = c.args.tree.now.height - 1 - 1
+
+  two : c.args.tree.now.height - 1 ≡ suc levels
+  two = omega (arith, c.requires.height, c.if-tree-eq1.false)
+
+  abbrev Old : Stands
+  Old = TreeAt c.args.tree.now.order (at c.args.pages.now.pages) c.args.tree.now.order (suc levels)
+
+  abbrev changed : PageMap
+  changed = after (at c.args.pages.now.pages) c.delete_below.new.edit.writes.items c.delete_below.new.edit.freed.items
+
+  abbrev ToRemove : (new : Stands) (Same : ℕ → Type 0) (least : ℕ) (es : List Element) (us : List ℕ) → Type 0
+  ToRemove new Same least es us = CalledSon c.args.tree.now c.tree_of_son-below.result c.args.pages.now c.visit.new.pages c.args.visited.now.items c.visit.new.visited.items c.args.key.now least es us c.visit.new.node c.in-Err.i levels new Same
+
+  abbrev Answers : Option Shrunk → Type 0
+  Answers r =
+      let sub = c.tree_of_son-below.result in
+      let ps = c.visit.new.pages.pages in
+      Removing sub c.visit.new.pages c.visit.new.visited.items (λ least es us. RemovesBelow (head_page sub.order least (sub.height - 1) sub.page) (with_edit (at ps) c.delete_below.new.edit) es us (visits c.visit.new.visited.items c.delete_below.new.visited.items) (sought c.args.key.now es) r)
+
+  module _ (steady : IsTrue c.args.pages.now.steady) (least : ℕ) (es : List Element) (us : List ℕ) (visited_is : c.visit.new.visited.items ≡ c.args.visited.now.items ++ c.args.tree.now.page ∷ []) (ascends : Ascends c.visit.new.node.elements.items) (first : Top c.args.tree.now.order (at c.args.pages.now.pages) least c.args.tree.now.height (c.args.tree.now.height - 1) c.args.tree.now.page es us c.args.tree.now.bounds c.visit.new.node) (between : Between c.args.tree.now.bounds es) (apart : Apart us) (unvisited : Each (λ u. is_visited c.args.visited.now.items u ≡ false) us) where
+    son_of : (new : Stands) (Same : ℕ → Type 0) → ((s : ℕ) (xs : List Element) (vs : List ℕ) → Old s xs vs → Each Same vs → new s xs vs) → ToRemove new Same least es us
+    son_of new Same move =
+        called_son c.args.tree.now c.tree_of_son-below.result c.args.pages.now c.visit.new.pages c.args.visited.now.items c.visit.new.visited.items c.args.key.now least es us c.visit.new.node c.in-Err.i levels new Same move c.requires.order.0 two first ascends (λ given is. c.in-Err.ensures.found given is ascends) (λ none. (c.in-Err.ensures.first none).0)
+        c.tree_of_son-below.ensures (ap (λ (v : PagesView). v.pages) c.visit.ensures.unchanged) (ap (λ (v : PagesView). v.steady) c.visit.ensures.unchanged ∙ steady) visited_is between apart unvisited
+
+    taken : (new : Stands) (Same : ℕ → Type 0) (s : ToRemove new Same least es us) (r r2 : Option Shrunk) → r ≡ r2 → Answers r
+        → RemovesBelow (head_page c.args.tree.now.order c.args.tree.now.order levels (son_at c.visit.new.node c.in-Err.i)) (with_edit (at c.args.pages.now.pages) c.delete_below.new.edit) s.son.xs s.son.mine (visits (c.args.visited.now.items ++ c.args.tree.now.page ∷ []) c.delete_below.new.visited.items) (sought c.args.key.now es) r2
+    taken new Same s r r2 is removing =
+        called_removed (son_tree c.args.tree.now c.visit.new.node c.in-Err.i) c.tree_of_son-below.result c.args.pages.now c.visit.new.pages (c.args.visited.now.items ++ c.args.tree.now.page ∷ []) c.visit.new.visited.items c.delete_below.new.visited.items levels s.son.xs s.son.mine c.delete_below.new.edit.writes.items c.delete_below.new.edit.freed.items c.args.key.now (sought c.args.key.now es) r r2 s.called s.key_is is removing
+
+    abbrev Removed : Option Shrunk → Type 0
+    Removed r = RemovesBelow (head_of c.args.tree.now least) (with_edit (at c.args.pages.now.pages) c.delete_below.new.edit) es us (visits c.args.visited.now.items c.delete_below.new.visited.items) (sought c.args.key.now es) r
+
+    lifted : (r : Option Shrunk) → RemovesBelow (head_page c.args.tree.now.order least (suc levels) c.args.tree.now.page) (with_edit (at c.args.pages.now.pages) c.delete_below.new.edit) es us (visits c.args.visited.now.items c.delete_below.new.visited.items) (sought c.args.key.now es) r → Removed r
+    lifted r = subst (λ (h : ℕ). RemovesBelow (head_page c.args.tree.now.order least h c.args.tree.now.page) (with_edit (at c.args.pages.now.pages) c.delete_below.new.edit) es us (visits c.args.visited.now.items c.delete_below.new.visited.items) (sought c.args.key.now es) r) (sym two)
+
+    refused : (X : Type 0) → Removing c.tree_of_son-below.result c.visit.new.pages c.visit.new.visited.items (λ _ _ _. X) → X
+    refused X removing =
+        let s = son_of Old (λ (q : ℕ). Unit {0}) (λ s xs vs is _. is) in
+        answered (son_tree c.args.tree.now c.visit.new.node c.in-Err.i) c.tree_of_son-below.result c.args.pages.now c.visit.new.pages (c.args.visited.now.items ++ c.args.tree.now.page ∷ []) c.visit.new.visited.items levels s.son.xs s.son.mine (λ _ _ _. X) s.called removing
+
+    none_below : (r : Option Shrunk) → r ≡ None → Answers r → Removed None
+    none_below r is removing =
+        let s = son_of Old (λ (q : ℕ). Unit {0}) (λ s xs vs is _. is) in
+        let gone = taken Old (λ (q : ℕ). Unit {0}) s r None is removing in
+        lifted None (drop_none c.args.tree.now.order (at c.args.pages.now.pages) changed 0 (length c.delete_below.new.edit.freed.items) least c.args.tree.now.height levels c.args.tree.now.page es us c.args.tree.now.bounds c.visit.new.node c.in-Err.i c.args.visited.now.items c.delete_below.new.visited.items (sought c.args.key.now es) s.head s.son gone)
+
+    whole_below : (r : Option Shrunk) (e : Element) → r ≡ Some (Whole e) → Answers r → Removed (Some (Whole e))
+    whole_below r e is removing =
+        let T = c.args.tree.now in
+        let P = at c.args.pages.now.pages in
+        let New = TreeAt T.order changed T.order (suc levels) in
+        let s = son_of New (λ q. changed q ≡ P q) (λ s xs vs is same. tree_move T.order P changed T.order (suc levels) s xs vs is same) in
+        let gone = taken New (λ q. changed q ≡ P q) s r (Some (Whole e)) is removing in
+        lifted (Some (Whole e)) (drop_whole T.order P c.delete_below.new.edit.writes.items c.delete_below.new.edit.freed.items least T.height levels T.page es us T.bounds c.visit.new.node c.in-Err.i e c.args.visited.now.items c.delete_below.new.visited.items (sought c.args.key.now es) apart s.head s.son gone)
+
+    -- the son is underfull now
+    short_below : (r : Option Shrunk) (e : Element) (son : Node) → r ≡ Some (Underfull e son) → Answers r → BelowShort c.args.tree.now (at c.args.pages.now.pages) c.delete_below.new.edit.writes.items c.delete_below.new.edit.freed.items c.args.key.now es us c.visit.new.node c.in-Err.i levels e son c.args.visited.now.items c.delete_below.new.visited.items
+    short_below r e son is removing =
+        let T = c.args.tree.now in
+        let P = at c.args.pages.now.pages in
+        let p = son_at c.visit.new.node c.in-Err.i in
+        let visited2 = c.delete_below.new.visited.items in
+        let New = Kin T.order P changed visited2 levels p son in
+        let s = son_of New (IsBeside P changed visited2 p) (λ s xs vs is beside. kin_move T.order P changed visited2 levels p son s xs vs is beside) in
+        let gone = taken New (IsBeside P changed visited2 p) s r (Some (Underfull e son)) is removing in
+        let broken = drop_broken T.order P c.delete_below.new.edit.writes.items c.delete_below.new.edit.freed.items least T.height levels T.page es us T.bounds c.visit.new.node c.in-Err.i e son c.args.visited.now.items visited2 (sought c.args.key.now es) apart s.head s.son unvisited gone in
+        record {
+          broken = broken.0;
+          value = broken.1;
+          key_is = broken.2;
+          between = left_between c.args.key.now e T.bounds es (some_around es s.son.pre s.son.xs s.son.post s.son.es_is s.some) broken.2 between;
+          inner = s.head.body.0;
+          mine = s.son.mine;
+          head_in = page_in T.page us (s.son.upre ++ (s.son.mine ++ s.son.upost)) s.us_is;
+          mine_in = below_in T.page us s.son.upre s.son.mine s.son.upost s.us_is;
+          unvisited = gone.unvisited;
+        }
+
 pub delete_below-returns-in_err-removed-in-Err-clause-removes : goal.delete_below-returns-in_err-removed-in-Err-clause-removes
 delete_below-returns-in_err-removed-in-Err-clause-removes g t c = λ steady least es us low tree between apart unvisited.
-    let T = c.args.tree.now in
-    let P = at c.args.pages.now.pages in
-    let M = c.args.visited.now.items in
-    let level = T.height - 1 in
-    let n = c.visit.new.node in
-    let M1 = c.visit.new.visited.items in
     let p = err_from_is_err_and c.from_residual-in_err-removed-in-Err.result c.from_residual-in_err-removed-in-Err.ensures.1 in
-    let new = head_each (λ u. is_visited M u ≡ false) T.order P least T.height T.page es us tree unvisited in
-    let first = read_top T.order P least T.height T.page es us T.bounds (kind_of_level T.height) n c.requires.height refl (λ m spells kind within. c.in_ok-visit.ensures.exact steady m spells kind within new) tree between in
-    let pages_is = ap (λ (v : PagesView). v.pages) c.visit.ensures.unchanged in
-    let steady1 = ap (λ (v : PagesView). v.steady) c.visit.ensures.unchanged ∙ steady in
-    let i = c.in-Err.i in
-    let key = c.args.key.now in
-    let ups = c.in_ok-visit.ensures.stands.ascends in
-    let is_first : key ≡ None → i ≡ 0 = λ none. (c.in-Err.ensures.first none).0 in
-    let t_is = c.tree_of_son-below.ensures in
-    let S = son_tree T n i in
-    let t2 = c.tree_of_son-below.result in
-    let K = sought key es in
-    let up : level ≡ suc (level - 1) = omega (arith, c.requires.height, c.if-tree-eq1.false) in
-    let head = subst (λ (x : ℕ). Top T.order P least T.height x T.page es us T.bounds n) up first in
-    let place = sought_place T.order P (level - 1) n es head.below key i c.requires.order.0 head.body ups between.ascends (λ given is. c.in-Err.ensures.found given is ups) is_first in
-    let son = focus (TreeAt T.order P T.order (suc (level - 1))) (TreeAt T.order P T.order (suc (level - 1))) (λ (q : ℕ). Unit {0}) (λ s xs vs is _. is) n.sons.items n.elements.items es head.below K i T.bounds head.body.1 between place in
-    let us_is = head.us_is ∙ ap (λ vs. T.page ∷ vs) son.us_is in
-    let there = known_there c.args.pages.now.pages c.visit.new.pages.pages S t2 (level - 1) son.xs son.mine (M ++ T.page ∷ []) M1 pages_is t_is c.in_ok-visit.ensures.visited up
-    (record { tree = son.here; between = son.between; apart = apart_below T.page us son.upre son.mine son.upost us_is apart; unvisited = unvisited_below M T.page us son.upre son.mine son.upost us_is apart unvisited }) in
-    rw (p.1, p.2) (c.in_err-removed-in-Err.ensures.removes steady1 t2.order son.xs son.mine (omega arith) there.tree there.between there.apart there.unvisited)
+    let at_goal = goal.at.delete_below-returns-in_err-removed-in-Err-clause-removes g t c in
+    let first = first_of g t at_goal.After-place_to_take steady least es us tree between unvisited in
+    rw (p.1, p.2) (refused g t at_goal.After-delete_below steady least es us c.in_ok-visit.ensures.visited c.in_ok-visit.ensures.stands.ascends first between apart unvisited (IsOutside c.in_err-removed-in-Err.field-0.0) c.in_err-removed-in-Err.ensures.removes)
 
 -- what went up from a son that is underfull, and the visit of it
 module _ (g : given.Over) (t : ℕ) (c : delete_below-In-Some-Underfull g t) where
@@ -202,52 +265,38 @@ delete_below-treat_and_settle-requires-clause-page_kept g t c =
     let p = (goal.at.delete_below-treat_and_settle-requires-clause-page_kept g t c).In-Some-Underfull in
     subst (λ (x : Subtree). Untouched c.delete_below.new.edit.writes.items c.delete_below.new.edit.freed.items x.page) (sym c.tree_left-left.ensures) ((son_visited g t p).older c.args.tree.now.page (head_visited g t p))
 
+-- the pages as they are where the underfull son is treated
+module _ (g : given.Over) (t : ℕ) (c : delete_below-In-Some-Underfull g t) where
+  later_is : c.delete_below.new.pages.pages ≡ c.args.pages.now.pages
+  later_is = ap (λ (v : PagesView). v.pages) c.delete_below.ensures.unchanged ∙ ap (λ (v : PagesView). v.pages) c.visit.ensures.unchanged
+
+  later_steady : IsTrue c.args.pages.now.steady → IsTrue c.delete_below.new.pages.steady
+  later_steady steady = ap (λ (v : PagesView). v.steady) c.delete_below.ensures.unchanged ∙ (ap (λ (v : PagesView). v.steady) c.visit.ensures.unchanged ∙ steady)
+
+  abbrev left_tree : Subtree
+  left_tree = record c.args.tree.now { bounds = left_bounds c.args.key.now c.in-Some-Underfull.removed c.args.tree.now.bounds }
+
 pub delete_below-returns-in_err-shrunk-in-Some-Underfull-clause-removes : goal.delete_below-returns-in_err-shrunk-in-Some-Underfull-clause-removes
 delete_below-returns-in_err-shrunk-in-Some-Underfull-clause-removes g t c = λ steady least es us low tree between apart unvisited.
-    let T = c.args.tree.now in
-    let P = at c.args.pages.now.pages in
-    let M = c.args.visited.now.items in
-    let level = T.height - 1 in
-    let n = c.visit.new.node in
-    let M1 = c.visit.new.visited.items in
     let p = err_from_is_err_and c.from_residual-in_err-shrunk-in-Some-Underfull.result c.from_residual-in_err-shrunk-in-Some-Underfull.ensures.1 in
-    let new = head_each (λ u. is_visited M u ≡ false) T.order P least T.height T.page es us tree unvisited in
-    let first = read_top T.order P least T.height T.page es us T.bounds (kind_of_level T.height) n c.requires.height refl (λ m spells kind within. c.in_ok-visit.ensures.exact steady m spells kind within new) tree between in
-    let pages_is = ap (λ (v : PagesView). v.pages) c.visit.ensures.unchanged in
-    let steady1 = ap (λ (v : PagesView). v.steady) c.visit.ensures.unchanged ∙ steady in
-    let i = c.in-Err.i in
-    let key = c.args.key.now in
-    let ups = c.in_ok-visit.ensures.stands.ascends in
-    let is_first : key ≡ None → i ≡ 0 = λ none. (c.in-Err.ensures.first none).0 in
-    let t_is = c.tree_of_son-below.ensures in
-    let S = son_tree T n i in
-    let t2 = c.tree_of_son-below.result in
-    let ws = c.delete_below.new.edit.writes.items in
-    let fs = c.delete_below.new.edit.freed.items in
+    let X = IsOutside c.in_err-shrunk-in-Some-Underfull.field-0.0 in
+    let asks = c.in_err-shrunk-in-Some-Underfull.ensures in
+    let at_goal = goal.at.delete_below-returns-in_err-shrunk-in-Some-Underfull-clause-removes g t c in
+    let h = levels g t at_goal.After-delete_below in
+    let up = two g t at_goal.After-delete_below in
+    let l = left_tree g t at_goal.In-Some-Underfull in
+    let l2 = c.tree_left-left.result in
+    let ps = c.args.pages.now.pages in
+    let ps3 = c.delete_below.new.pages.pages in
     let visited2 = c.delete_below.new.visited.items in
-    let K = sought key es in
-    let up : level ≡ suc (level - 1) = omega (arith, c.requires.height, c.if-tree-eq1.false) in
-    let head = subst (λ (x : ℕ). Top T.order P least T.height x T.page es us T.bounds n) up first in
-    let place = sought_place T.order P (level - 1) n es head.below key i c.requires.order.0 head.body ups between.ascends (λ given is. c.in-Err.ensures.found given is ups) is_first in
-    let son = focus (TreeAt T.order P T.order (suc (level - 1))) (Kin T.order P (after P ws fs) visited2 (level - 1) (son_at n i) c.in-Some-Underfull.son) (IsBeside P (after P ws fs) visited2 (son_at n i)) (λ s xs vs is beside. kin_move T.order P (after P ws fs) visited2 (level - 1) (son_at n i) c.in-Some-Underfull.son s xs vs is beside) n.sons.items n.elements.items es head.below K i T.bounds head.body.1 between place in
-    let us_is = head.us_is ∙ ap (λ vs. T.page ∷ vs) son.us_is in
-    let some = tree_some T.order P T.order (suc (level - 1)) (son_at n i) son.xs son.mine c.requires.order.0 c.requires.order.0 son.here in
-    let key_is = sought_below key es son.pre son.xs son.post son.es_is some son.below in
-    let there = known_there c.args.pages.now.pages c.visit.new.pages.pages S t2 (level - 1) son.xs son.mine (M ++ T.page ∷ []) M1 pages_is t_is c.in_ok-visit.ensures.visited up
-    (record { tree = son.here; between = son.between; apart = apart_below T.page us son.upre son.mine son.upost us_is apart; unvisited = unvisited_below M T.page us son.upre son.mine son.upost us_is apart unvisited }) in
-    let e = c.in-Some-Underfull.removed in
-    let underfull = c.in-Some-Underfull.son in
-    let l_is = c.tree_left-left.ensures in
-    let found = removed_here c.args.pages.now.pages c.visit.new.pages.pages ws fs S t2 (level - 1) son.xs son.mine (M ++ T.page ∷ []) M1 visited2 K (sought key son.xs) c.in_ok-removed-in-Err.field-0 (Some (Underfull e underfull)) pages_is t_is c.in_ok-visit.ensures.visited up key_is (c.in-Some-Underfull.is ∙ ap Some c.in-Some-Underfull.field-0-is)
-    (c.in_ok-removed-in-Err.ensures.removes steady1 t2.order son.xs son.mine (omega arith) there.tree there.between there.apart there.unvisited) in
-    let broken = drop_broken T.order P ws fs least T.height (level - 1) T.page es us T.bounds n i e underfull M visited2 K apart head son unvisited found in
-    let LB = left_bounds key e T.bounds in
-    let fair = left_between key e T.bounds es (some_around es son.pre son.xs son.post son.es_is some) broken.2 between in
-    let later_is = ap (λ (v : PagesView). v.pages) c.delete_below.ensures.unchanged ∙ pages_is in
-    let later_steady = ap (λ (v : PagesView). v.steady) c.delete_below.ensures.unchanged ∙ steady1 in
-    rw (p.1, p.2) (ask (IsOutside c.in_err-shrunk-in-Some-Underfull.field-0.0) T.order P (after P ws fs) visited2 0 (length fs) (level - 1) level T.page (son_at n i) underfull n (set_in K None es) us LB i (sym up) c.in_ok-visit.ensures.some c.in-Err.ensures.within refl fair broken.0
-    (λ less o spells kind within free. c.in_err-shrunk-in-Some-Underfull.ensures.right later_steady less o (subst (λ (x : Subtree). Spells x.order (at c.delete_below.new.pages.pages) (son_at n (suc (i))) o) (sym l_is) (subst (λ (z : List (Option (List ℕ))). Spells T.order (at z) (son_at n (suc (i))) o) (sym later_is) spells)) (subst (λ (x : Subtree). o.kind ≡ kind_of_level (x.height - 1)) (sym l_is) kind) (subst (λ (x : Subtree). AreWithin (son_bounds n.elements.items (suc (i)) x.bounds) o.elements.items) (sym l_is) within) free)
-    (λ j is last o spells kind within free. c.in_err-shrunk-in-Some-Underfull.ensures.left later_steady j is last o (subst (λ (x : Subtree). Spells x.order (at c.delete_below.new.pages.pages) (son_at n j) o) (sym l_is) (subst (λ (z : List (Option (List ℕ))). Spells T.order (at z) (son_at n j) o) (sym later_is) spells)) (subst (λ (x : Subtree). o.kind ≡ kind_of_level (x.height - 1)) (sym l_is) kind) (subst (λ (x : Subtree). AreWithin (son_bounds n.elements.items j x.bounds) o.elements.items) (sym l_is) within) free))
+    let n = c.visit.new.node in
+    let i = c.in-Err.i in
+    let later = later_is g t at_goal.In-Some-Underfull in
+    let steady3 = later_steady g t at_goal.In-Some-Underfull steady in
+    let first = first_of g t at_goal.After-place_to_take steady least es us tree between unvisited in
+    let short = short_below g t at_goal.After-delete_below steady least es us c.in_ok-visit.ensures.visited c.in_ok-visit.ensures.stands.ascends first between apart unvisited c.in_ok-removed-in-Err.field-0 c.in-Some-Underfull.removed c.in-Some-Underfull.son (c.in-Some-Underfull.is ∙ ap Some c.in-Some-Underfull.field-0-is) c.in_ok-removed-in-Err.ensures.removes in
+    rw (p.1, p.2) (ask X l.order (at ps) (changed g t at_goal.After-delete_below) visited2 0 (length c.delete_below.new.edit.freed.items) h (l.height - 1) l.page (son_at n i) c.in-Some-Underfull.son n (set_in (sought c.args.key.now es) None es) us l.bounds i (sym up) c.in_ok-visit.ensures.some c.in-Err.ensures.within refl short.between short.broken
+    (asked_right (λ _ _. X) l l2 ps ps3 visited2 n i c.tree_left-left.ensures later (asks.right steady3)) (asked_left (λ _ _ _. X) l l2 ps ps3 visited2 n i c.tree_left-left.ensures later (asks.left steady3)))
 
 pub delete_below-returns-in_ok-shrunk-in-Some-Underfull-clause-removes : goal.delete_below-returns-in_ok-shrunk-in-Some-Underfull-clause-removes
 delete_below-returns-in_ok-shrunk-in-Some-Underfull-clause-removes g t c = λ steady least es us low tree between apart unvisited.
@@ -328,40 +377,9 @@ delete_below-returns-in_ok-shrunk-in-Some-Underfull-clause-visit g t c =
 
 pub delete_below-returns-in-None-clause-removes : goal.delete_below-returns-in-None-clause-removes
 delete_below-returns-in-None-clause-removes g t c = λ steady least es us low tree between apart unvisited.
-    let T = c.args.tree.now in
-    let P = at c.args.pages.now.pages in
-    let M = c.args.visited.now.items in
-    let level = T.height - 1 in
-    let n = c.visit.new.node in
-    let M1 = c.visit.new.visited.items in
-    let new = head_each (λ u. is_visited M u ≡ false) T.order P least T.height T.page es us tree unvisited in
-    let first = read_top T.order P least T.height T.page es us T.bounds (kind_of_level T.height) n c.requires.height refl (λ m spells kind within. c.in_ok-visit.ensures.exact steady m spells kind within new) tree between in
-    let pages_is = ap (λ (v : PagesView). v.pages) c.visit.ensures.unchanged in
-    let steady1 = ap (λ (v : PagesView). v.steady) c.visit.ensures.unchanged ∙ steady in
-    let i = c.in-Err.i in
-    let key = c.args.key.now in
-    let ups = c.in_ok-visit.ensures.stands.ascends in
-    let is_first : key ≡ None → i ≡ 0 = λ none. (c.in-Err.ensures.first none).0 in
-    let t_is = c.tree_of_son-below.ensures in
-    let S = son_tree T n i in
-    let t2 = c.tree_of_son-below.result in
-    let ws = c.delete_below.new.edit.writes.items in
-    let fs = c.delete_below.new.edit.freed.items in
-    let visited2 = c.delete_below.new.visited.items in
-    let K = sought key es in
-    let up : level ≡ suc (level - 1) = omega (arith, c.requires.height, c.if-tree-eq1.false) in
-    let head = subst (λ (x : ℕ). Top T.order P least T.height x T.page es us T.bounds n) up first in
-    let place = sought_place T.order P (level - 1) n es head.below key i c.requires.order.0 head.body ups between.ascends (λ given is. c.in-Err.ensures.found given is ups) is_first in
-    let son = focus (TreeAt T.order P T.order (suc (level - 1))) (TreeAt T.order P T.order (suc (level - 1))) (λ (q : ℕ). Unit {0}) (λ s xs vs is _. is) n.sons.items n.elements.items es head.below K i T.bounds head.body.1 between place in
-    let us_is = head.us_is ∙ ap (λ vs. T.page ∷ vs) son.us_is in
-    let some = tree_some T.order P T.order (suc (level - 1)) (son_at n i) son.xs son.mine c.requires.order.0 c.requires.order.0 son.here in
-    let key_is = sought_below key es son.pre son.xs son.post son.es_is some son.below in
-    let there = known_there c.args.pages.now.pages c.visit.new.pages.pages S t2 (level - 1) son.xs son.mine (M ++ T.page ∷ []) M1 pages_is t_is c.in_ok-visit.ensures.visited up
-    (record { tree = son.here; between = son.between; apart = apart_below T.page us son.upre son.mine son.upost us_is apart; unvisited = unvisited_below M T.page us son.upre son.mine son.upost us_is apart unvisited }) in
-    let found = removed_here c.args.pages.now.pages c.visit.new.pages.pages ws fs S t2 (level - 1) son.xs son.mine (M ++ T.page ∷ []) M1 visited2 K (sought key son.xs) c.in_ok-removed-in-Err.field-0 (None) pages_is t_is c.in_ok-visit.ensures.visited up key_is (c.in-None.is)
-    (c.in_ok-removed-in-Err.ensures.removes steady1 t2.order son.xs son.mine (omega arith) there.tree there.between there.apart there.unvisited) in
-    subst (λ (h : ℕ). RemovesBelow (head_page T.order least h T.page) (pages_freed P (after P ws fs) 0 (length fs)) es us (visits M visited2) K None) (sym up)
-    (drop_none T.order P (after P ws fs) 0 (length fs) least T.height (level - 1) T.page es us T.bounds n i M visited2 K head son found)
+    let at_goal = goal.at.delete_below-returns-in-None-clause-removes g t c in
+    let first = first_of g t at_goal.After-place_to_take steady least es us tree between unvisited in
+    none_below g t at_goal.After-delete_below steady least es us c.in_ok-visit.ensures.visited c.in_ok-visit.ensures.stands.ascends first between apart unvisited c.in_ok-removed-in-Err.field-0 c.in-None.is c.in_ok-removed-in-Err.ensures.removes
 
 -- what was visited where the page stays as it is
 module _ (g : given.Over) (t : ℕ) (c : delete_below-After-delete_below g t) where
@@ -377,40 +395,9 @@ delete_below-returns-in-None-clause-visit g t c = stays_visited g t (goal.at.del
 
 pub delete_below-returns-in-Some-Whole-clause-removes : goal.delete_below-returns-in-Some-Whole-clause-removes
 delete_below-returns-in-Some-Whole-clause-removes g t c = λ steady least es us low tree between apart unvisited.
-    let T = c.args.tree.now in
-    let P = at c.args.pages.now.pages in
-    let M = c.args.visited.now.items in
-    let level = T.height - 1 in
-    let n = c.visit.new.node in
-    let M1 = c.visit.new.visited.items in
-    let new = head_each (λ u. is_visited M u ≡ false) T.order P least T.height T.page es us tree unvisited in
-    let first = read_top T.order P least T.height T.page es us T.bounds (kind_of_level T.height) n c.requires.height refl (λ m spells kind within. c.in_ok-visit.ensures.exact steady m spells kind within new) tree between in
-    let pages_is = ap (λ (v : PagesView). v.pages) c.visit.ensures.unchanged in
-    let steady1 = ap (λ (v : PagesView). v.steady) c.visit.ensures.unchanged ∙ steady in
-    let i = c.in-Err.i in
-    let key = c.args.key.now in
-    let ups = c.in_ok-visit.ensures.stands.ascends in
-    let is_first : key ≡ None → i ≡ 0 = λ none. (c.in-Err.ensures.first none).0 in
-    let t_is = c.tree_of_son-below.ensures in
-    let S = son_tree T n i in
-    let t2 = c.tree_of_son-below.result in
-    let ws = c.delete_below.new.edit.writes.items in
-    let fs = c.delete_below.new.edit.freed.items in
-    let visited2 = c.delete_below.new.visited.items in
-    let K = sought key es in
-    let up : level ≡ suc (level - 1) = omega (arith, c.requires.height, c.if-tree-eq1.false) in
-    let head = subst (λ (x : ℕ). Top T.order P least T.height x T.page es us T.bounds n) up first in
-    let place = sought_place T.order P (level - 1) n es head.below key i c.requires.order.0 head.body ups between.ascends (λ given is. c.in-Err.ensures.found given is ups) is_first in
-    let son = focus (TreeAt T.order P T.order (suc (level - 1))) (TreeAt T.order (after P ws fs) T.order (suc (level - 1))) (λ q. after P ws fs q ≡ P q) (λ s xs vs is same. tree_move T.order P (after P ws fs) T.order (suc (level - 1)) s xs vs is same) n.sons.items n.elements.items es head.below K i T.bounds head.body.1 between place in
-    let us_is = head.us_is ∙ ap (λ vs. T.page ∷ vs) son.us_is in
-    let some = tree_some T.order P T.order (suc (level - 1)) (son_at n i) son.xs son.mine c.requires.order.0 c.requires.order.0 son.here in
-    let key_is = sought_below key es son.pre son.xs son.post son.es_is some son.below in
-    let there = known_there c.args.pages.now.pages c.visit.new.pages.pages S t2 (level - 1) son.xs son.mine (M ++ T.page ∷ []) M1 pages_is t_is c.in_ok-visit.ensures.visited up
-    (record { tree = son.here; between = son.between; apart = apart_below T.page us son.upre son.mine son.upost us_is apart; unvisited = unvisited_below M T.page us son.upre son.mine son.upost us_is apart unvisited }) in
-    let found = removed_here c.args.pages.now.pages c.visit.new.pages.pages ws fs S t2 (level - 1) son.xs son.mine (M ++ T.page ∷ []) M1 visited2 K (sought key son.xs) c.in_ok-removed-in-Err.field-0 (Some (Whole c.in-Some-Whole.removed)) pages_is t_is c.in_ok-visit.ensures.visited up key_is (c.in-Some-Whole.is ∙ ap Some c.in-Some-Whole.field-0-is)
-    (c.in_ok-removed-in-Err.ensures.removes steady1 t2.order son.xs son.mine (omega arith) there.tree there.between there.apart there.unvisited) in
-    subst (λ (h : ℕ). RemovesBelow (head_page T.order least h T.page) (pages_freed P (after P ws fs) 0 (length fs)) es us (visits M visited2) K (Some (Whole c.in-Some-Whole.removed))) (sym up)
-    (drop_whole T.order P ws fs least T.height (level - 1) T.page es us T.bounds n i c.in-Some-Whole.removed M visited2 K apart head son found)
+    let at_goal = goal.at.delete_below-returns-in-Some-Whole-clause-removes g t c in
+    let first = first_of g t at_goal.After-place_to_take steady least es us tree between unvisited in
+    whole_below g t at_goal.After-delete_below steady least es us c.in_ok-visit.ensures.visited c.in_ok-visit.ensures.stands.ascends first between apart unvisited c.in_ok-removed-in-Err.field-0 c.in-Some-Whole.removed (c.in-Some-Whole.is ∙ ap Some c.in-Some-Whole.field-0-is) c.in_ok-removed-in-Err.ensures.removes
 
 pub delete_below-returns-in-Some-Whole-clause-up : goal.delete_below-returns-in-Some-Whole-clause-up
 delete_below-returns-in-Some-Whole-clause-up g t c =
