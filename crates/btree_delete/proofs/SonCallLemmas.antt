@@ -193,3 +193,13 @@ pub record BelowShort (t : Subtree) (old : PageMap) (ws : List (ℕ × List ℕ)
   pub head_in : IsIn t.page us
   pub mine_in : (q : ℕ) → IsIn q mine → IsIn q us
   pub unvisited : StaysUnvisited (visited ++ t.page ∷ []) visited2 mine
+
+-- the same of the son behind an element, which the next greater one took the place of
+pub record BehindShort (t : Subtree) (old : PageMap) (ws : List (ℕ × List ℕ)) (fs : List ℕ) (es : List Element) (us : List ℕ) (n m : Node) (i h : ℕ) (son : Node) (visited visited2 : List ℕ) : Type 0 where
+  pub broken : Broken t.order old (after old ws fs) visited2 0 (length fs) h t.page (son_at n (suc i)) son m (set_in (element_at n i).0 None es) us
+  pub value : lookup_in (element_at n i).0 es ≡ Some (element_at n i).1
+  pub between : Between t.bounds (set_in (element_at n i).0 None es)
+  pub inner : n.kind ≡ Inner
+  pub mine : List ℕ
+  pub mine_in : (q : ℕ) → IsIn q mine → IsIn q us
+  pub unvisited : StaysUnvisited visited visited2 mine

@@ -1,4 +1,4 @@
-use Rattle.std.proofs.Common.{◌≡◌, ◌+◌, ◌-◌, ◌≤◌, IsTrue, ℕ, suc, List, Option, Some, None, [], ◌∷◌, ◌++◌, true, false, length, get_or, refl, ap, sym, ◌∙◌, subst, arith, inr}
+use Rattle.std.proofs.Common.{set, ◌≡◌, ◌+◌, ◌-◌, ◌≤◌, IsTrue, ℕ, suc, List, Option, Some, None, [], ◌∷◌, ◌++◌, true, false, length, get_or, refl, ap, sym, ◌∙◌, subst, arith, inr}
 use Rattle.std.specs.List.{remove}
 use Rattle.std.proofs.lemmas.List.{get_or_default, length-set}
 use Rattle.std.proofs.lemmas.Result.{err_from_is_err_and}
@@ -9,37 +9,35 @@ use Rattle.btree_node.specs.Lists.{Element, Each, Ascends}
 use Rattle.btree_node.specs.Spelling.{IsElement}
 use Rattle.btree_node.proofs.ElementOrderLemmas.{Each_at}
 use Rattle.btree_insert.specs.declared.bounds.Bounds.{Bounds}
-use Rattle.btree_insert.specs.Bounds.{AreWithin, Between, Over, Under, son_bounds}
+use Rattle.btree_insert.specs.Bounds.{Between, Over, Under, son_bounds}
 use Rattle.btree_insert.specs.Contents.{lookup_in, set_in}
 use Rattle.btree_insert.specs.Growth.{IsOutside, IsWithin}
 use Rattle.btree_insert.specs.PageTrees.{Apart, TreeAt, Body, Spells, kind_of_level}
-use Rattle.btree_insert.proofs.SonsAroundLemmas.{Stands, focus}
+use Rattle.btree_insert.proofs.SonsAroundLemmas.{Stands}
 use Rattle.btree_insert.proofs.ChangedTreeLemmas.{tree_move}
 use Rattle.btree_insert.proofs.ElementMapLemmas.{lookup-here}
-use Rattle.btree_insert.proofs.VisitedLemmas.{unvisited_below, apart_below}
 use Rattle.btree_insert.proofs.PlaceLemmas.{son_within}
 use Rattle.btree_insert.proofs.HeadNodeLemmas.{Top, top, read_top, head_each}
 use Rattle.btree_delete.specs.declared.delete_below.Shrunk.{Shrunk}
 use Rattle.btree_delete.specs.declared.delete_below.Shrunk.TheVariants.{Whole, Underfull}
 use Rattle.btree_delete.specs.declared.subtree.Subtree.{Subtree}
 use Rattle.btree_delete.specs.Treatment.{element_at, son_at, brothers}
-use Rattle.btree_delete.specs.Shrinking.{MayBeUnderfull, StaysUnvisited, UnderfullGoesUp, TreatsAndSettles, RemovesBelow, sought}
+use Rattle.btree_delete.specs.Shrinking.{WritesOrHandsUp, MayBeUnderfull, StaysUnvisited, UnderfullGoesUp, TreatsAndSettles, RemovesBelow, sought}
 use Rattle.btree_delete.specs.Subtrees.{head_of, son_tree, behind, left_bounds, head_page}
-use Rattle.btree_delete.specs.Tidy.{is_visited, Untouched, IsTidy, IsVisit, visits, done_so_far}
+use Rattle.btree_delete.specs.Tidy.{is_visited, Untouched, IsTidy, IsVisit, visits, done_so_far, so_far}
 use Rattle.btree_delete.specs.PagesLeft.{pages_freed, with_edit}
-use Rattle.btree_delete.proofs.SonCallLemmas.{BelowShort, Removing, RemovingHere, CalledSon, answered, called_removed, called_son, asked_right, asked_left, known_there, removed_here}
-use Rattle.btree_delete.proofs.DeletionLemmas.{is_at, drop_leaf, drop_whole, drop_none, drop_broken, drop_treated, next_whole, next_broken, removed_top, none_here, on_unvisited, each_mid}
+use Rattle.btree_delete.proofs.SonCallLemmas.{called_next, CalledNext, BehindShort, BelowShort, Removing, RemovingHere, CalledSon, answered, called_removed, called_son, asked_right, asked_left}
+use Rattle.btree_delete.proofs.DeletionLemmas.{drop_leaf, drop_whole, drop_none, drop_broken, drop_treated, next_whole, next_broken, removed_top, none_here, on_unvisited}
 use Rattle.btree_delete.proofs.SonsLemmas.{IsBeside, Kin, kin_move}
-use Rattle.btree_delete.proofs.BrotherPairLemmas.{next}
 use Rattle.btree_delete.proofs.ElementRemovalLemmas.{remove-between_bounds}
 use Rattle.btree_delete.proofs.SettledPageLemmas.{settled_up, settled_tidy, settled_others, treated_visit, whole_visit, page_visited}
-use Rattle.btree_delete.proofs.DeletionStepLemmas.{ask, treat_son, still_unvisited, page_unvisited, below_in, page_in}
-use Rattle.btree_delete.proofs.FirstElementLemmas.{WentUp, more_visited, took_of, tree_some, some_around, sought_place, sought_below, sought_here, sought_none, left_between, left_may_be_underfull, left_son, goes_left, went_up}
-use Rattle.btree_delete.proofs.UnderfullNodeLemmas.{right_stands_at, next_may_be_underfull, set_may_be_underfull, set_son_bounds, leaf_without, leaf_behind}
+use Rattle.btree_delete.proofs.DeletionStepLemmas.{AskRight, AskLeft, ask, treat_son, still_unvisited, page_unvisited, below_in, page_in}
+use Rattle.btree_delete.proofs.FirstElementLemmas.{Takes, WentUp, more_visited, took_of, some_around, sought_here, sought_none, left_between, left_may_be_underfull, left_son, goes_left, went_up}
+use Rattle.btree_delete.proofs.UnderfullNodeLemmas.{next_may_be_underfull, set_son_bounds, leaf_without, leaf_behind}
 use Rattle.btree_delete.proofs.EditLemmas.{untouched_empty, visited_differs}
 use Rattle.btree_delete.proofs.delete_below.+shrinking.Given as given
 use Rattle.btree_delete.proofs.delete_below.+shrinking.Goals as goal
-use Rattle.btree_delete.proofs.delete_below.+shrinking.Goals.{delete_below-After-place_to_take, delete_below-After-delete_here, delete_below-After-delete_below, delete_below-In-Some-Underfull, delete_here-After-delete_below, delete_here-After-remove, delete_here-After-set_element, delete_here-After-set_element-in-Some-Underfull}
+use Rattle.btree_delete.proofs.delete_below.+shrinking.Goals.{delete_here-After-index-deref-i, delete_below-After-tree_left-left, delete_below-After-place_to_take, delete_below-After-delete_here, delete_below-After-delete_below, delete_below-In-Some-Underfull, delete_here-After-delete_below, delete_here-After-remove, delete_here-After-set_element, delete_here-After-set_element-in-Some-Underfull}
 
 pub delete_below-returns-in_err-visit-clause-removes : goal.delete_below-returns-in_err-visit-clause-removes
 delete_below-returns-in_err-visit-clause-removes g t c = λ steady least es us low tree between apart unvisited.
@@ -265,93 +263,80 @@ delete_below-treat_and_settle-requires-clause-page_kept g t c =
     let p = (goal.at.delete_below-treat_and_settle-requires-clause-page_kept g t c).In-Some-Underfull in
     subst (λ (x : Subtree). Untouched c.delete_below.new.edit.writes.items c.delete_below.new.edit.freed.items x.page) (sym c.tree_left-left.ensures) ((son_visited g t p).older c.args.tree.now.page (head_visited g t p))
 
--- the pages as they are where the underfull son is treated
-module _ (g : given.Over) (t : ℕ) (c : delete_below-In-Some-Underfull g t) where
+-- the underfull son is treated
+module _ (g : given.Over) (t : ℕ) (c : delete_below-After-tree_left-left g t) where
+  abbrev left_tree : Subtree
+  left_tree = record c.args.tree.now { bounds = left_bounds c.args.key.now c.in-Some-Underfull.removed c.args.tree.now.bounds }
+
   later_is : c.delete_below.new.pages.pages ≡ c.args.pages.now.pages
   later_is = ap (λ (v : PagesView). v.pages) c.delete_below.ensures.unchanged ∙ ap (λ (v : PagesView). v.pages) c.visit.ensures.unchanged
 
-  later_steady : IsTrue c.args.pages.now.steady → IsTrue c.delete_below.new.pages.steady
-  later_steady steady = ap (λ (v : PagesView). v.steady) c.delete_below.ensures.unchanged ∙ (ap (λ (v : PagesView). v.steady) c.visit.ensures.unchanged ∙ steady)
+  abbrev AsksRight : (Subtree → Node → Type 0) → Type 0
+  AsksRight X = let l2 = c.tree_left-left.result in IsTrue c.delete_below.new.pages.steady → AskRight l2.order (at c.delete_below.new.pages.pages) (l2.height - 1) c.delete_below.new.visited.items l2.bounds c.visit.new.node c.in-Err.i (X l2)
 
-  abbrev left_tree : Subtree
-  left_tree = record c.args.tree.now { bounds = left_bounds c.args.key.now c.in-Some-Underfull.removed c.args.tree.now.bounds }
+  abbrev AsksLeft : (Subtree → ℕ → Node → Type 0) → Type 0
+  AsksLeft X = let l2 = c.tree_left-left.result in IsTrue c.delete_below.new.pages.steady → AskLeft l2.order (at c.delete_below.new.pages.pages) (l2.height - 1) c.delete_below.new.visited.items l2.bounds c.visit.new.node c.in-Err.i (X l2)
+
+  module _ (es : List Element) (us : List ℕ) (steady : IsTrue c.args.pages.now.steady) (up : c.args.tree.now.height - 1 ≡ suc (c.args.tree.now.height - 1 - 1))
+      (short : BelowShort c.args.tree.now (at c.args.pages.now.pages) c.delete_below.new.edit.writes.items c.delete_below.new.edit.freed.items c.args.key.now es us c.visit.new.node c.in-Err.i (c.args.tree.now.height - 1 - 1) c.in-Some-Underfull.removed c.in-Some-Underfull.son c.args.visited.now.items c.delete_below.new.visited.items) where
+    later_steady : IsTrue c.delete_below.new.pages.steady
+    later_steady = ap (λ (v : PagesView). v.steady) c.delete_below.ensures.unchanged ∙ (ap (λ (v : PagesView). v.steady) c.visit.ensures.unchanged ∙ steady)
+
+    to_right : (X : Subtree → Node → Type 0) → AsksRight X → AskRight left_tree.order (at c.args.pages.now.pages) (left_tree.height - 1) c.delete_below.new.visited.items left_tree.bounds c.visit.new.node c.in-Err.i (X left_tree)
+    to_right X asks = asked_right X left_tree c.tree_left-left.result c.args.pages.now.pages c.delete_below.new.pages.pages c.delete_below.new.visited.items c.visit.new.node c.in-Err.i c.tree_left-left.ensures later_is (asks later_steady)
+
+    to_left : (X : Subtree → ℕ → Node → Type 0) → AsksLeft X → AskLeft left_tree.order (at c.args.pages.now.pages) (left_tree.height - 1) c.delete_below.new.visited.items left_tree.bounds c.visit.new.node c.in-Err.i (X left_tree)
+    to_left X asks = asked_left X left_tree c.tree_left-left.result c.args.pages.now.pages c.delete_below.new.pages.pages c.delete_below.new.visited.items c.visit.new.node c.in-Err.i c.tree_left-left.ensures later_is (asks later_steady)
+
+    ask_below : (X : Type 0) → AsksRight (λ _ _. X) → AsksLeft (λ _ _ _. X) → X
+    ask_below X right left =
+        let P = at c.args.pages.now.pages in
+        let fs = c.delete_below.new.edit.freed.items in
+        ask X left_tree.order P (after P c.delete_below.new.edit.writes.items fs) c.delete_below.new.visited.items 0 (length fs) (c.args.tree.now.height - 1 - 1) (left_tree.height - 1) left_tree.page (son_at c.visit.new.node c.in-Err.i) c.in-Some-Underfull.son c.visit.new.node (set_in (sought c.args.key.now es) None es) us left_tree.bounds c.in-Err.i (sym up)
+        c.in_ok-visit.ensures.some c.in-Err.ensures.within refl short.between short.broken (to_right (λ _ _. X) right) (to_left (λ _ _ _. X) left)
+
+    module _ (least : ℕ) (low : least ≤ c.args.tree.now.order) (ws3 : List (ℕ × List ℕ)) (fs3 visited3 : List ℕ) (r : Shrunk) where
+      abbrev Settled : Subtree → ℕ → Node → Node → ℕ → Type 0
+      Settled x j L R q = (visited3 ≡ c.delete_below.new.visited.items ++ q ∷ []) × TreatsAndSettles x c.visit.new.node (brothers j L R) c.in-Some-Underfull.removed (so_far c.delete_below.new.edit) (done_so_far ws3 fs3) r
+
+      treat_below : Untouched c.delete_below.new.edit.writes.items c.delete_below.new.edit.freed.items (son_at c.visit.new.node c.in-Err.i)
+          → AsksRight (λ x o. Settled x c.in-Err.i c.in-Some-Underfull.son o (son_at c.visit.new.node (suc c.in-Err.i))) → AsksLeft (λ x j o. Settled x j o c.in-Some-Underfull.son (son_at c.visit.new.node j))
+          → RemovesBelow (head_of c.args.tree.now least) (pages_freed (at c.args.pages.now.pages) (after (at c.args.pages.now.pages) ws3 fs3) 0 (length fs3)) es us (visits c.args.visited.now.items visited3) (sought c.args.key.now es) (Some r)
+      treat_below kept right left =
+          let T = c.args.tree.now in
+          let P = at c.args.pages.now.pages in
+          let n = c.visit.new.node in
+          let i = c.in-Err.i in
+          let h = T.height - 1 - 1 in
+          let ws = c.delete_below.new.edit.writes.items in
+          let fs = c.delete_below.new.edit.freed.items in
+          let visited2 = c.delete_below.new.visited.items in
+          let e = c.in-Some-Underfull.removed in
+          let underfull = c.in-Some-Underfull.son in
+          let K = sought c.args.key.now es in
+          let treated = treat_son T.order T.height P visited2 visited3 0 h (T.height - 1) T.page (son_at n i) underfull n e r ws ws3 fs fs3 (set_in K None es) us left_tree.bounds i c.requires.order.0 (sym up) c.in_ok-visit.ensures.some c.in-Err.ensures.within refl short.between kept c.in_ok-removed-in-Err.ensures.tidy.unvisited short.broken
+          (to_right (λ x o. Settled x i underfull o (son_at n (suc i))) right) (to_left (λ x j o. Settled x j o underfull (son_at n j)) left) in
+          let drops = drop_treated T.order P ws ws3 fs fs3 least T.height h T.page (son_at n i) es us left_tree.bounds n underfull e e r visited2 visited3 K c.requires.order.0 low short.broken treated (sym c.in_ok-visit.ensures.stands.kind ∙ short.inner) refl short.key_is short.value in
+          let unvisited3 = still_unvisited c.args.visited.now.items visited2 visited3 T.page treated.son.t us short.mine short.head_in short.mine_in (short.broken.loses.left.within treated.son.t (inr treated.son.t_in)) short.unvisited treated.son.visited_is in
+          subst (λ (l : ℕ). RemovesBelow (head_page T.order least l T.page) (pages_freed P (after P ws3 fs3) 0 (length fs3)) es us (visits c.args.visited.now.items visited3) K (Some r)) (sym up) (record { drops = drops; unvisited = unvisited3 })
 
 pub delete_below-returns-in_err-shrunk-in-Some-Underfull-clause-removes : goal.delete_below-returns-in_err-shrunk-in-Some-Underfull-clause-removes
 delete_below-returns-in_err-shrunk-in-Some-Underfull-clause-removes g t c = λ steady least es us low tree between apart unvisited.
     let p = err_from_is_err_and c.from_residual-in_err-shrunk-in-Some-Underfull.result c.from_residual-in_err-shrunk-in-Some-Underfull.ensures.1 in
-    let X = IsOutside c.in_err-shrunk-in-Some-Underfull.field-0.0 in
-    let asks = c.in_err-shrunk-in-Some-Underfull.ensures in
     let at_goal = goal.at.delete_below-returns-in_err-shrunk-in-Some-Underfull-clause-removes g t c in
-    let h = levels g t at_goal.After-delete_below in
-    let up = two g t at_goal.After-delete_below in
-    let l = left_tree g t at_goal.In-Some-Underfull in
-    let l2 = c.tree_left-left.result in
-    let ps = c.args.pages.now.pages in
-    let ps3 = c.delete_below.new.pages.pages in
-    let visited2 = c.delete_below.new.visited.items in
-    let n = c.visit.new.node in
-    let i = c.in-Err.i in
-    let later = later_is g t at_goal.In-Some-Underfull in
-    let steady3 = later_steady g t at_goal.In-Some-Underfull steady in
     let first = first_of g t at_goal.After-place_to_take steady least es us tree between unvisited in
     let short = short_below g t at_goal.After-delete_below steady least es us c.in_ok-visit.ensures.visited c.in_ok-visit.ensures.stands.ascends first between apart unvisited c.in_ok-removed-in-Err.field-0 c.in-Some-Underfull.removed c.in-Some-Underfull.son (c.in-Some-Underfull.is ∙ ap Some c.in-Some-Underfull.field-0-is) c.in_ok-removed-in-Err.ensures.removes in
-    rw (p.1, p.2) (ask X l.order (at ps) (changed g t at_goal.After-delete_below) visited2 0 (length c.delete_below.new.edit.freed.items) h (l.height - 1) l.page (son_at n i) c.in-Some-Underfull.son n (set_in (sought c.args.key.now es) None es) us l.bounds i (sym up) c.in_ok-visit.ensures.some c.in-Err.ensures.within refl short.between short.broken
-    (asked_right (λ _ _. X) l l2 ps ps3 visited2 n i c.tree_left-left.ensures later (asks.right steady3)) (asked_left (λ _ _ _. X) l l2 ps ps3 visited2 n i c.tree_left-left.ensures later (asks.left steady3)))
+    let refused = c.in_err-shrunk-in-Some-Underfull in
+    rw (p.1, p.2) (ask_below g t at_goal.After-tree_left-left es us steady (two g t at_goal.After-delete_below) short (IsOutside refused.field-0.0) refused.ensures.right refused.ensures.left)
 
 pub delete_below-returns-in_ok-shrunk-in-Some-Underfull-clause-removes : goal.delete_below-returns-in_ok-shrunk-in-Some-Underfull-clause-removes
 delete_below-returns-in_ok-shrunk-in-Some-Underfull-clause-removes g t c = λ steady least es us low tree between apart unvisited.
-    let T = c.args.tree.now in
-    let P = at c.args.pages.now.pages in
-    let M = c.args.visited.now.items in
-    let level = T.height - 1 in
-    let n = c.visit.new.node in
-    let M1 = c.visit.new.visited.items in
-    let new = head_each (λ u. is_visited M u ≡ false) T.order P least T.height T.page es us tree unvisited in
-    let first = read_top T.order P least T.height T.page es us T.bounds (kind_of_level T.height) n c.requires.height refl (λ m spells kind within. c.in_ok-visit.ensures.exact steady m spells kind within new) tree between in
-    let pages_is = ap (λ (v : PagesView). v.pages) c.visit.ensures.unchanged in
-    let steady1 = ap (λ (v : PagesView). v.steady) c.visit.ensures.unchanged ∙ steady in
-    let i = c.in-Err.i in
-    let key = c.args.key.now in
-    let ups = c.in_ok-visit.ensures.stands.ascends in
-    let is_first : key ≡ None → i ≡ 0 = λ none. (c.in-Err.ensures.first none).0 in
-    let t_is = c.tree_of_son-below.ensures in
-    let S = son_tree T n i in
-    let t2 = c.tree_of_son-below.result in
-    let ws = c.delete_below.new.edit.writes.items in
-    let fs = c.delete_below.new.edit.freed.items in
-    let visited2 = c.delete_below.new.visited.items in
-    let K = sought key es in
-    let up : level ≡ suc (level - 1) = omega (arith, c.requires.height, c.if-tree-eq1.false) in
-    let head = subst (λ (x : ℕ). Top T.order P least T.height x T.page es us T.bounds n) up first in
-    let place = sought_place T.order P (level - 1) n es head.below key i c.requires.order.0 head.body ups between.ascends (λ given is. c.in-Err.ensures.found given is ups) is_first in
-    let son = focus (TreeAt T.order P T.order (suc (level - 1))) (Kin T.order P (after P ws fs) visited2 (level - 1) (son_at n i) c.in-Some-Underfull.son) (IsBeside P (after P ws fs) visited2 (son_at n i)) (λ s xs vs is beside. kin_move T.order P (after P ws fs) visited2 (level - 1) (son_at n i) c.in-Some-Underfull.son s xs vs is beside) n.sons.items n.elements.items es head.below K i T.bounds head.body.1 between place in
-    let us_is = head.us_is ∙ ap (λ vs. T.page ∷ vs) son.us_is in
-    let some = tree_some T.order P T.order (suc (level - 1)) (son_at n i) son.xs son.mine c.requires.order.0 c.requires.order.0 son.here in
-    let key_is = sought_below key es son.pre son.xs son.post son.es_is some son.below in
-    let there = known_there c.args.pages.now.pages c.visit.new.pages.pages S t2 (level - 1) son.xs son.mine (M ++ T.page ∷ []) M1 pages_is t_is c.in_ok-visit.ensures.visited up
-    (record { tree = son.here; between = son.between; apart = apart_below T.page us son.upre son.mine son.upost us_is apart; unvisited = unvisited_below M T.page us son.upre son.mine son.upost us_is apart unvisited }) in
-    let e = c.in-Some-Underfull.removed in
-    let underfull = c.in-Some-Underfull.son in
-    let l_is = c.tree_left-left.ensures in
-    let found = removed_here c.args.pages.now.pages c.visit.new.pages.pages ws fs S t2 (level - 1) son.xs son.mine (M ++ T.page ∷ []) M1 visited2 K (sought key son.xs) c.in_ok-removed-in-Err.field-0 (Some (Underfull e underfull)) pages_is t_is c.in_ok-visit.ensures.visited up key_is (c.in-Some-Underfull.is ∙ ap Some c.in-Some-Underfull.field-0-is)
-    (c.in_ok-removed-in-Err.ensures.removes steady1 t2.order son.xs son.mine (omega arith) there.tree there.between there.apart there.unvisited) in
-    let broken = drop_broken T.order P ws fs least T.height (level - 1) T.page es us T.bounds n i e underfull M visited2 K apart head son unvisited found in
-    let LB = left_bounds key e T.bounds in
-    let fair = left_between key e T.bounds es (some_around es son.pre son.xs son.post son.es_is some) broken.2 between in
-    let later_is = ap (λ (v : PagesView). v.pages) c.delete_below.ensures.unchanged ∙ pages_is in
-    let later_steady = ap (λ (v : PagesView). v.steady) c.delete_below.ensures.unchanged ∙ steady1 in
-    let went = went_up S t2 key ws fs c.in_ok-removed-in-Err.field-0 (Underfull e underfull) t_is (c.in-Some-Underfull.is ∙ ap Some c.in-Some-Underfull.field-0-is) c.in_ok-removed-in-Err.ensures.up in
-    let ws3 = c.treat_and_settle.new.edit.writes.items in
-    let fs3 = c.treat_and_settle.new.edit.freed.items in
-    let visited3 = c.treat_and_settle.new.visited.items in
-    let r = c.in_ok-shrunk-in-Some-Underfull.shrunk in
-    let treated = treat_son T.order T.height P visited2 visited3 0 (level - 1) level T.page (son_at n i) underfull n e r ws ws3 fs fs3 (set_in K None es) us LB i c.requires.order.0 (sym up) c.in_ok-visit.ensures.some c.in-Err.ensures.within refl fair went.goes.2 c.in_ok-removed-in-Err.ensures.tidy.unvisited broken.0
-    (λ less o spells kind within free. let done = c.in_ok-shrunk-in-Some-Underfull.ensures.right later_steady less o (subst (λ (x : Subtree). Spells x.order (at c.delete_below.new.pages.pages) (son_at n (suc (i))) o) (sym l_is) (subst (λ (z : List (Option (List ℕ))). Spells T.order (at z) (son_at n (suc (i))) o) (sym later_is) spells)) (subst (λ (x : Subtree). o.kind ≡ kind_of_level (x.height - 1)) (sym l_is) kind) (subst (λ (x : Subtree). AreWithin (son_bounds n.elements.items (suc (i)) x.bounds) o.elements.items) (sym l_is) within) free in (done.0, subst (λ (x : Subtree). TreatsAndSettles x n (brothers i underfull o) e (done_so_far ws fs) (done_so_far ws3 fs3) r) l_is done.1))
-    (λ j is last o spells kind within free. let done = c.in_ok-shrunk-in-Some-Underfull.ensures.left later_steady j is last o (subst (λ (x : Subtree). Spells x.order (at c.delete_below.new.pages.pages) (son_at n j) o) (sym l_is) (subst (λ (z : List (Option (List ℕ))). Spells T.order (at z) (son_at n j) o) (sym later_is) spells)) (subst (λ (x : Subtree). o.kind ≡ kind_of_level (x.height - 1)) (sym l_is) kind) (subst (λ (x : Subtree). AreWithin (son_bounds n.elements.items j x.bounds) o.elements.items) (sym l_is) within) free in (done.0, subst (λ (x : Subtree). TreatsAndSettles x n (brothers j o underfull) e (done_so_far ws fs) (done_so_far ws3 fs3) r) l_is done.1)) in
-    let drops = drop_treated T.order P ws ws3 fs fs3 least T.height (level - 1) T.page (son_at n i) es us LB n underfull e e r visited2 visited3 K c.requires.order.0 low broken.0 treated (sym c.in_ok-visit.ensures.stands.kind ∙ head.body.0) refl broken.2 broken.1 in
-    let unvisited3 = still_unvisited M visited2 visited3 T.page treated.son.t us son.mine (page_in T.page us (son.upre ++ (son.mine ++ son.upost)) us_is) (below_in T.page us son.upre son.mine son.upost us_is) (broken.0.loses.left.within treated.son.t (inr treated.son.t_in)) found.unvisited treated.son.visited_is in
-    let all : RemovesBelow (head_page T.order least (suc (level - 1)) T.page) (pages_freed P (after P ws3 fs3) 0 (length fs3)) es us (visits M visited3) K (Some r) = record { drops = drops; unvisited = unvisited3 } in
-    subst (λ (h : ℕ). RemovesBelow (head_page T.order least h T.page) (pages_freed P (after P ws3 fs3) 0 (length fs3)) es us (visits M visited3) K (Some r)) (sym up) all
+    let at_goal = goal.at.delete_below-returns-in_ok-shrunk-in-Some-Underfull-clause-removes g t c in
+    let first = first_of g t at_goal.After-place_to_take steady least es us tree between unvisited in
+    let short = short_below g t at_goal.After-delete_below steady least es us c.in_ok-visit.ensures.visited c.in_ok-visit.ensures.stands.ascends first between apart unvisited c.in_ok-removed-in-Err.field-0 c.in-Some-Underfull.removed c.in-Some-Underfull.son (c.in-Some-Underfull.is ∙ ap Some c.in-Some-Underfull.field-0-is) c.in_ok-removed-in-Err.ensures.removes in
+    let went = went_below g t at_goal.In-Some-Underfull in
+    let settled = c.in_ok-shrunk-in-Some-Underfull in
+    treat_below g t at_goal.After-tree_left-left es us steady (two g t at_goal.After-delete_below) short least low c.treat_and_settle.new.edit.writes.items c.treat_and_settle.new.edit.freed.items c.treat_and_settle.new.visited.items settled.shrunk went.goes.2 settled.ensures.right settled.ensures.left
 
 pub delete_below-returns-in_ok-shrunk-in-Some-Underfull-clause-up : goal.delete_below-returns-in_ok-shrunk-in-Some-Underfull-clause-up
 delete_below-returns-in_ok-shrunk-in-Some-Underfull-clause-up g t c =
@@ -431,6 +416,11 @@ module _ (g : given.Over) (t : ℕ) (c : delete_here-After-remove g t) where
   without : MayBeUnderfull c.args.tree.now.order 1 c.args.tree.now.bounds left_leaf
   without = leaf_without c.args.tree.now.order c.args.tree.now.bounds c.args.node left_leaf c.args.i as_leaf.kind c.requires.place as_leaf refl c.remove.ensures.items refl
 
+-- the element that goes is the one at place i
+module _ (g : given.Over) (t : ℕ) (c : delete_here-After-index-deref-i g t) where
+  removed_is : c.index-deref-i.result ≡ element_at c.args.node c.args.i
+  removed_is = c.index-deref-i.is ∙ ap (λ (xs : List Element). get_or xs c.args.i c.index-deref-i.result) c.deref.ensures.0 ∙ get_or_default c.args.node.elements.items c.args.i c.index-deref-i.result ([], []) c.requires.place
+
 pub delete_here-settle-requires-clause-may_be_underfull : goal.delete_here-settle-requires-clause-may_be_underfull
 delete_here-settle-requires-clause-may_be_underfull g t c = (1, c.args.tree.now.bounds, without g t (goal.at.delete_here-settle-requires-clause-may_be_underfull g t c).After-remove)
 
@@ -438,20 +428,17 @@ pub delete_here-returns-then-tree-eq1-clause-removes : goal.delete_here-returns-
 delete_here-returns-then-tree-eq1-clause-removes g t c = λ steady least es us below low spells least_is body us_is between apart unvisited.
     let T = c.args.tree.now in
     let P = at c.args.pages.now.pages in
+    let at_goal = goal.at.delete_here-returns-then-tree-eq1-clause-removes g t c in
+    let m = left_leaf g t at_goal.After-remove in
+    let n = c.args.node in
     let M = c.args.visited.now.items in
     let level = T.height - 1 in
-    let n = c.args.node in
-    let i = c.args.i in
-    let may_be_underfull1 = subst (λ (h : ℕ). MayBeUnderfull T.order h T.bounds n) c.if-tree-eq1.true c.requires.node in
-    let m : Node = record { kind = n.kind; elements = c.remove.new.self; sons = n.sons } in
-    let without = leaf_without T.order T.bounds n m i may_be_underfull1.kind c.requires.place may_be_underfull1 refl c.remove.ensures.items refl in
-    let x = c.index-deref-i.result in
-    let e_is : x ≡ element_at n i = c.index-deref-i.is ∙ ap (λ (xs : List Element). get_or xs i x) c.deref.ensures.0 ∙ get_or_default n.elements.items i x ([], []) c.requires.place in
-    let head : Top T.order P least T.height level T.page es us T.bounds n = record { below = below; spells = spells; least_is = least_is; kind = c.requires.node.kind; within = c.requires.node.within; body = body; us_is = us_is } in
+    let r = c.in_ok-settle.field-0 in
     let ws2 = c.settle.new.edit.writes.items in
-    let done = drop_leaf T.order P c.args.edit.now.writes.items ws2 c.args.edit.now.freed.items least T.height level T.page es us T.bounds T.bounds n m i x c.in_ok-settle.field-0 M (omega (arith, c.if-tree-eq1.true)) c.requires.order.0 low c.requires.unwritten c.requires.unfreed apart between head
-    (subst (λ (h : ℕ). MayBeUnderfull T.order h T.bounds m) (sym c.if-tree-eq1.true) without) c.requires.node.ascends c.requires.place e_is refl c.remove.ensures.items c.in_ok-settle.ensures.settles in
-    subst (λ (fs : List ℕ). RemovesBelow (head_page T.order least level T.page) (pages_freed P (after P ws2 fs) 0 (length fs)) es us (visits M M) (element_at n i).0 (Some c.in_ok-settle.field-0)) (sym (ap (λ v. v.items) c.in_ok-settle.ensures.freed)) done
+    let head : Top T.order P least T.height level T.page es us T.bounds n = record { below = below; spells = spells; least_is = least_is; kind = c.requires.node.kind; within = c.requires.node.within; body = body; us_is = us_is } in
+    let done = drop_leaf T.order P c.args.edit.now.writes.items ws2 c.args.edit.now.freed.items least T.height level T.page es us T.bounds T.bounds n m c.args.i c.index-deref-i.result r M (omega (arith, c.if-tree-eq1.true)) c.requires.order.0 low c.requires.unwritten c.requires.unfreed apart between head
+    (subst (λ (h : ℕ). MayBeUnderfull T.order h T.bounds m) (sym c.if-tree-eq1.true) (without g t at_goal.After-remove)) c.requires.node.ascends c.requires.place (removed_is g t at_goal.After-index-deref-i) refl c.remove.ensures.items c.in_ok-settle.ensures.settles in
+    subst (λ (fs : List ℕ). RemovesBelow (head_page T.order least level T.page) (pages_freed P (after P ws2 fs) 0 (length fs)) es us (visits M M) (element_at n c.args.i).0 (Some r)) (sym (ap (λ v. v.items) c.in_ok-settle.ensures.freed)) done
 
 pub delete_here-returns-then-tree-eq1-clause-up : goal.delete_here-returns-then-tree-eq1-clause-up
 delete_here-returns-then-tree-eq1-clause-up g t c =
@@ -476,28 +463,97 @@ delete_here-returns-then-tree-eq1-clause-first g t c = λ low is.
     (settled_up T.order T.height T.page b c.args.edit.now.writes.items c.settle.new.edit.writes.items c.args.edit.now.freed.items c.index-deref-i.result m c.in_ok-settle.field-0 (subst (λ (h : ℕ). MayBeUnderfull T.order h b m) (sym c.if-tree-eq1.true) left.2)
     (untouched_empty c.args.edit.now.writes.items c.args.edit.now.freed.items T.page c.requires.unwritten c.requires.unfreed) c.in_ok-settle.ensures.settles)
 
+-- the son behind the element, and what the call on it took out
+module _ (g : given.Over) (t : ℕ) (c : delete_here-After-delete_below g t) where
+  abbrev levels_behind : ℕ
+  levels_behind = c.args.tree.now.height - 1 - 1
+
+  two_behind : c.args.tree.now.height - 1 ≡ suc levels_behind
+  two_behind = omega (arith, c.requires.height, c.if-tree-eq1.false)
+
+  abbrev OldBehind : Stands
+  OldBehind = TreeAt c.args.tree.now.order (at c.args.pages.now.pages) c.args.tree.now.order (suc levels_behind)
+
+  abbrev changed_behind : PageMap
+  changed_behind = after (at c.args.pages.now.pages) c.delete_below.new.edit.writes.items c.delete_below.new.edit.freed.items
+
+  abbrev FirstGoes : Option Shrunk → Type 0
+  FirstGoes r =
+      let sub = c.tree_of_son-behind.result in
+      Removing sub c.args.pages.now c.args.visited.now.items (λ least es us. RemovesBelow (head_page sub.order least (sub.height - 1) sub.page) (with_edit (at c.args.pages.now.pages) c.delete_below.new.edit) es us (visits c.args.visited.now.items c.delete_below.new.visited.items) (sought None es) r)
+
+  module _ (steady : IsTrue c.args.pages.now.steady) (least : ℕ) (es : List Element) (us below : List ℕ) (spells : Spells c.args.tree.now.order (at c.args.pages.now.pages) c.args.tree.now.page c.args.node) (least_is : least ≤ length c.args.node.elements.items) (body : Body (TreeAt c.args.tree.now.order (at c.args.pages.now.pages) c.args.tree.now.order (c.args.tree.now.height - 1)) (c.args.tree.now.height - 1) c.args.node es below)
+      (us_is : us ≡ c.args.tree.now.page ∷ below) (between : Between c.args.tree.now.bounds es) (apart : Apart us) (unvisited : Each (λ u. is_visited c.args.visited.now.items u ≡ false) below) where
+    abbrev ToTake : (new : Stands) (Same : ℕ → Type 0) → Type 0
+    ToTake new Same = CalledNext c.args.tree.now c.tree_of_son-behind.result c.args.pages.now c.args.visited.now.items least es us below c.args.node c.args.i levels_behind new Same
+
+    next_of : (new : Stands) (Same : ℕ → Type 0) → ((s : ℕ) (xs : List Element) (vs : List ℕ) → OldBehind s xs vs → Each Same vs → new s xs vs) → ToTake new Same
+    next_of new Same move =
+        called_next c.args.tree.now c.tree_of_son-behind.result c.args.pages.now c.args.visited.now.items least es us below c.args.node c.args.i levels_behind new Same move c.requires.order.0 two_behind c.requires.node c.requires.place c.tree_of_son-behind.ensures steady spells least_is body us_is between apart unvisited
+
+    refused_behind : (X : Type 0) → Removing c.tree_of_son-behind.result c.args.pages.now c.args.visited.now.items (λ _ _ _. X) → X
+    refused_behind X removing =
+        let s = next_of OldBehind (λ (q : ℕ). Unit {0}) (λ s xs vs is _. is) in
+        answered (son_tree c.args.tree.now c.args.node (suc c.args.i)) c.tree_of_son-behind.result c.args.pages.now c.args.pages.now c.args.visited.now.items c.args.visited.now.items levels_behind s.son.xs s.son.mine (λ _ _ _. X) s.called removing
+
+    took : (new : Stands) (Same : ℕ → Type 0) (s : ToTake new Same) (r : Option Shrunk) (first : Shrunk) → r ≡ Some first → FirstGoes r
+        → Takes c.args.tree.now.order (at c.args.pages.now.pages) changed_behind 0 (length c.delete_below.new.edit.freed.items) c.args.tree.now.order levels_behind (son_at c.args.node (suc c.args.i)) s.son.xs s.son.mine c.args.visited.now.items c.delete_below.new.visited.items first
+    took new Same s r first is removing =
+        let T = c.args.tree.now in
+        let M = c.args.visited.now.items in
+        let visited2 = c.delete_below.new.visited.items in
+        let ws = c.delete_below.new.edit.writes.items in
+        let fs = c.delete_below.new.edit.freed.items in
+        took_of T.order (at c.args.pages.now.pages) changed_behind 0 (length fs) T.order levels_behind (son_at c.args.node (suc c.args.i)) s.son.xs s.son.mine M visited2 first s.some
+        (called_removed (son_tree T c.args.node (suc c.args.i)) c.tree_of_son-behind.result c.args.pages.now c.args.pages.now M M visited2 levels_behind s.son.xs s.son.mine ws fs None (sought None s.son.xs) r (Some first) s.called refl is removing)
+
+    -- the son stayed whole, and the node was settled
+    whole_behind : (low : least ≤ c.args.tree.now.order) (m : Node) (x e : Element) (ws2 : List (ℕ × List ℕ)) (fs2 : List ℕ) (settled : Shrunk) (r : Option Shrunk) → r ≡ Some (Whole e) → FirstGoes r
+        → m.kind ≡ c.args.node.kind → m.elements.items ≡ set c.args.node.elements.items c.args.i e → m.sons.items ≡ c.args.node.sons.items → MayBeUnderfull c.args.tree.now.order c.args.tree.now.height c.args.tree.now.bounds m → x ≡ element_at c.args.node c.args.i
+        → Untouched c.delete_below.new.edit.writes.items c.delete_below.new.edit.freed.items c.args.tree.now.page → WritesOrHandsUp c.args.tree.now.order c.delete_below.new.edit.writes.items ws2 c.args.tree.now.page x m settled → c.delete_below.new.edit.freed.items ≡ fs2
+        → RemovesBelow (head_of c.args.tree.now least) (pages_freed (at c.args.pages.now.pages) (after (at c.args.pages.now.pages) ws2 fs2) 0 (length fs2)) es us (visits c.args.visited.now.items c.delete_below.new.visited.items) (element_at c.args.node c.args.i).0 (Some settled)
+    whole_behind low m x e ws2 fs2 settled r is removing kind_is els_is sons_is left x_is kept settles freed =
+        let T = c.args.tree.now in
+        let P = at c.args.pages.now.pages in
+        let M = c.args.visited.now.items in
+        let visited2 = c.delete_below.new.visited.items in
+        let key = (element_at c.args.node c.args.i).0 in
+        let New = TreeAt T.order changed_behind T.order (suc levels_behind) in
+        let s = next_of New (λ q. changed_behind q ≡ P q) (λ s xs vs is same. tree_move T.order P changed_behind T.order (suc levels_behind) s xs vs is same) in
+        let went = took New (λ q. changed_behind q ≡ P q) s r (Whole e) is removing in
+        let fs = c.delete_below.new.edit.freed.items in
+        let done = next_whole T.order P c.delete_below.new.edit.writes.items ws2 fs least T.height levels_behind T.page es us T.bounds T.bounds c.args.node m c.args.i x e settled M visited2 c.requires.order.0 low apart between s.head s.son went left x_is kind_is els_is sons_is kept settles in
+        subst (λ (z : List ℕ). RemovesBelow (head_of T least) (pages_freed P (after P ws2 z) 0 (length z)) es us (visits M visited2) key (Some settled)) freed
+        (subst (λ (l : ℕ). RemovesBelow (head_page T.order least l T.page) (pages_freed P (after P ws2 fs) 0 (length fs)) es us (visits M visited2) key (Some settled)) (sym two_behind) done)
+
+    -- the son is underfull now
+    short_behind : (m : Node) (e : Element) (son : Node) (r : Option Shrunk) → r ≡ Some (Underfull e son) → FirstGoes r → m.elements.items ≡ set c.args.node.elements.items c.args.i e → m.sons.items ≡ c.args.node.sons.items
+        → BehindShort c.args.tree.now (at c.args.pages.now.pages) c.delete_below.new.edit.writes.items c.delete_below.new.edit.freed.items es us c.args.node m c.args.i levels_behind son c.args.visited.now.items c.delete_below.new.visited.items
+    short_behind m e son r is removing els_is sons_is =
+        let T = c.args.tree.now in
+        let P = at c.args.pages.now.pages in
+        let M = c.args.visited.now.items in
+        let p = son_at c.args.node (suc c.args.i) in
+        let visited2 = c.delete_below.new.visited.items in
+        let x = element_at c.args.node c.args.i in
+        let New = Kin T.order P changed_behind visited2 levels_behind p son in
+        let s = next_of New (IsBeside P changed_behind visited2 p) (λ s xs vs is beside. kin_move T.order P changed_behind visited2 levels_behind p son s xs vs is beside) in
+        let went = took New (IsBeside P changed_behind visited2 p) s r (Underfull e son) is removing in
+        record {
+          broken = next_broken T.order P c.delete_below.new.edit.writes.items c.delete_below.new.edit.freed.items least T.height levels_behind T.page es us T.bounds c.args.node m c.args.i e son M visited2 apart s.head s.son s.unvisited went els_is sons_is;
+          value = ap (lookup_in x.0) s.son.es_is ∙ lookup-here x.0 s.son.pre x (s.son.xs ++ s.son.post) s.son.below refl;
+          between = remove-between_bounds T.bounds x.0 es between;
+          inner = s.head.body.0;
+          mine = s.son.mine;
+          mine_in = below_in T.page us s.son.upre s.son.mine s.son.upost s.us_is;
+          unvisited = went.unvisited;
+        }
+
 pub delete_here-returns-in_err-next-clause-removes : goal.delete_here-returns-in_err-next-clause-removes
 delete_here-returns-in_err-next-clause-removes g t c = λ steady least es us below low spells least_is body us_is between apart unvisited.
-    let T = c.args.tree.now in
-    let P = at c.args.pages.now.pages in
-    let M = c.args.visited.now.items in
-    let level = T.height - 1 in
-    let n = c.args.node in
-    let i = c.args.i in
     let p = err_from_is_err_and c.from_residual-in_err-next.result c.from_residual-in_err-next.ensures.1 in
-    let next_i : i + 1 ≡ suc i = omega arith in
-    let t2 = c.tree_of_son-behind.result in
-    let t_is = c.tree_of_son-behind.ensures ∙ ap (son_tree T n) next_i in
-    let S = son_tree T n (suc i) in
-    let up : level ≡ suc (level - 1) = omega (arith, c.requires.height, c.if-tree-eq1.false) in
-    let inner = subst (λ (h : ℕ). Body (TreeAt T.order P T.order h) h n es below) up body in
-    let head : Top T.order P least T.height (suc (level - 1)) T.page es us T.bounds n = record { below = below; spells = spells; least_is = least_is; kind = c.requires.node.kind; within = c.requires.node.within; body = inner; us_is = us_is } in
-    let key = (element_at n i).0 in
-    let here = get_or_default n.elements.items i ([], []) (element_at n i) c.requires.place in
-    let son = next (TreeAt T.order P T.order (suc (level - 1))) (TreeAt T.order P T.order (suc (level - 1))) (λ (q : ℕ). Unit {0}) (λ s xs vs is _. is) n.sons.items n.elements.items es head.below key i T.bounds (element_at n i) head.body.1 between (is_at n.elements.items i c.requires.node.ascends c.requires.place) here in
-    let all_is = head.us_is ∙ ap (λ vs. T.page ∷ vs) son.us_is in
-    let there = known_there c.args.pages.now.pages c.args.pages.now.pages S t2 (level - 1) son.xs son.mine M M refl t_is refl up (record { tree = son.here; between = son.between; apart = apart_below T.page us son.upre son.mine son.upost all_is apart; unvisited = each_mid (λ u. is_visited M u ≡ false) head.below son.upre son.mine son.upost son.us_is unvisited }) in
-    rw (p.1, p.2) (c.in_err-next.ensures.removes steady t2.order son.xs son.mine (omega arith) there.tree there.between there.apart there.unvisited)
+    let called = (goal.at.delete_here-returns-in_err-next-clause-removes g t c).After-delete_below in
+    rw (p.1, p.2) (refused_behind g t called steady least es us below spells least_is body us_is between apart unvisited (IsOutside c.in_err-next.field-0.0) c.in_err-next.ensures.removes)
 
 -- the next greater element stands in the node, and its son stayed whole
 module _ (g : given.Over) (t : ℕ) (c : delete_here-After-set_element g t) where
@@ -521,46 +577,11 @@ delete_here-settle-requires-in-Some-Whole-clause-may_be_underfull g t c = (c.arg
 
 pub delete_here-returns-in_ok-settle-in-Some-Whole-clause-removes : goal.delete_here-returns-in_ok-settle-in-Some-Whole-clause-removes
 delete_here-returns-in_ok-settle-in-Some-Whole-clause-removes g t c = λ steady least es us below low spells least_is body us_is between apart unvisited.
-    let T = c.args.tree.now in
-    let P = at c.args.pages.now.pages in
-    let M = c.args.visited.now.items in
-    let level = T.height - 1 in
-    let n = c.args.node in
-    let i = c.args.i in
-    let next_i : i + 1 ≡ suc i = omega arith in
-    let t2 = c.tree_of_son-behind.result in
-    let t_is = c.tree_of_son-behind.ensures ∙ ap (son_tree T n) next_i in
-    let S = son_tree T n (suc i) in
-    let ws = c.delete_below.new.edit.writes.items in
-    let fs = c.delete_below.new.edit.freed.items in
-    let visited2 = c.delete_below.new.visited.items in
-    let up : level ≡ suc (level - 1) = omega (arith, c.requires.height, c.if-tree-eq1.false) in
-    let inner = subst (λ (h : ℕ). Body (TreeAt T.order P T.order h) h n es below) up body in
-    let head : Top T.order P least T.height (suc (level - 1)) T.page es us T.bounds n = record { below = below; spells = spells; least_is = least_is; kind = c.requires.node.kind; within = c.requires.node.within; body = inner; us_is = us_is } in
-    let key = (element_at n i).0 in
-    let here = get_or_default n.elements.items i ([], []) (element_at n i) c.requires.place in
-    let son = next (TreeAt T.order P T.order (suc (level - 1))) (TreeAt T.order (after P ws fs) T.order (suc (level - 1))) (λ q. after P ws fs q ≡ P q) (λ s xs vs is same. tree_move T.order P (after P ws fs) T.order (suc (level - 1)) s xs vs is same) n.sons.items n.elements.items es head.below key i T.bounds (element_at n i) head.body.1 between (is_at n.elements.items i c.requires.node.ascends c.requires.place) here in
-    let all_is = head.us_is ∙ ap (λ vs. T.page ∷ vs) son.us_is in
-    let there = known_there c.args.pages.now.pages c.args.pages.now.pages S t2 (level - 1) son.xs son.mine M M refl t_is refl up (record { tree = son.here; between = son.between; apart = apart_below T.page us son.upre son.mine son.upost all_is apart; unvisited = each_mid (λ u. is_visited M u ≡ false) head.below son.upre son.mine son.upost son.us_is unvisited }) in
-    let e = c.in-Some-Whole.next in
-    let m = c.set_element.new.node in
-    let went = went_up S t2 None ws fs c.in_ok-next.field-0 (Whole e) t_is (c.in-Some-Whole.is ∙ ap Some c.in-Some-Whole.field-0-is) c.in_ok-next.ensures.up in
-    let stands = right_stands_at i n.elements.items T.bounds e c.requires.place c.requires.node.ascends c.requires.node.within went.fits went.within in
-    let sons_is = ap (λ s. s.items) c.set_element.ensures.sons in
-    let may_be_underfull = set_may_be_underfull T.order T.height i T.bounds n m e c.requires.place c.requires.node stands c.set_element.ensures.kind c.set_element.ensures.elements sons_is in
-    let visit_made = subst (λ (x : Subtree). IsVisit M visited2 ws fs x.height x.page) t_is c.in_ok-next.ensures.visit in
-    let ws2 = c.settle-in-Some-Whole.new.edit.writes.items in
-    let r = c.in_ok-settle-in-Some-Whole.field-0 in
-    let freed = sym (ap (λ v. v.items) c.in_ok-settle-in-Some-Whole.ensures.freed) in
-    let x = c.index-deref-i.result in
-    let e_is : x ≡ element_at n i = c.index-deref-i.is ∙ ap (λ (xs : List Element). get_or xs i x) c.deref.ensures.0 ∙ get_or_default n.elements.items i x ([], []) c.requires.place in
-    let some = tree_some T.order P T.order (suc (level - 1)) (son_at n (suc i)) son.xs son.mine c.requires.order.0 c.requires.order.0 son.here in
-    let took = took_of T.order P (after P ws fs) 0 (length fs) T.order (level - 1) (son_at n (suc i)) son.xs son.mine M visited2 (Whole e) some
-    (removed_here c.args.pages.now.pages c.args.pages.now.pages ws fs S t2 (level - 1) son.xs son.mine M M visited2 (sought None son.xs) (sought None son.xs) c.in_ok-next.field-0 (Some (Whole e)) refl t_is refl up refl (c.in-Some-Whole.is ∙ ap Some c.in-Some-Whole.field-0-is)
-    (c.in_ok-next.ensures.removes steady t2.order son.xs son.mine (omega arith) there.tree there.between there.apart there.unvisited)) in
-    let done = next_whole T.order P ws ws2 fs least T.height (level - 1) T.page es us T.bounds T.bounds n m i x e r M visited2 c.requires.order.0 low apart between head son took may_be_underfull e_is c.set_element.ensures.kind c.set_element.ensures.elements sons_is (visit_made.older T.page c.requires.visited) c.in_ok-settle-in-Some-Whole.ensures.settles in
-    subst (λ (z : List ℕ). RemovesBelow (head_page T.order least level T.page) (pages_freed P (after P ws2 z) 0 (length z)) es us (visits M visited2) key (Some r)) freed
-    (subst (λ (h : ℕ). RemovesBelow (head_page T.order least h T.page) (pages_freed P (after P ws2 fs) 0 (length fs)) es us (visits M visited2) key (Some r)) (sym up) done)
+    let at_goal = goal.at.delete_here-returns-in_ok-settle-in-Some-Whole-clause-removes g t c in
+    let put = c.set_element in
+    let settled = c.in_ok-settle-in-Some-Whole in
+    whole_behind g t at_goal.After-delete_below steady least es us below spells least_is body us_is between apart unvisited low put.new.node c.index-deref-i.result c.in-Some-Whole.next c.settle-in-Some-Whole.new.edit.writes.items c.settle-in-Some-Whole.new.edit.freed.items settled.field-0 c.in_ok-next.field-0 (c.in-Some-Whole.is ∙ ap Some c.in-Some-Whole.field-0-is) c.in_ok-next.ensures.removes
+    put.ensures.kind put.ensures.elements (ap (λ s. s.items) put.ensures.sons) (with_next g t at_goal.After-set_element) (removed_is g t at_goal.After-index-deref-i) ((whole_visited g t at_goal.After-set_element).older c.args.tree.now.page c.requires.visited) settled.ensures.settles (sym (ap (λ v. v.items) settled.ensures.freed))
 
 pub delete_here-returns-in_ok-settle-in-Some-Whole-clause-up : goal.delete_here-returns-in_ok-settle-in-Some-Whole-clause-up
 delete_here-returns-in_ok-settle-in-Some-Whole-clause-up g t c =
@@ -628,101 +649,77 @@ delete_here-treat_and_settle-requires-clause-other g t c =
     let p = (goal.at.delete_here-treat_and_settle-requires-clause-other g t c).After-set_element-in-Some-Underfull in
     λ is. visited_differs c.args.visited.now.items c.args.tree.now.page (son_at c.args.node (suc c.args.i)) c.requires.visited (short_visited g t p).fresh (is ∙ sym (short_son g t p))
 
+-- the underfull son behind the element is treated
+module _ (g : given.Over) (t : ℕ) (c : delete_here-After-set_element-in-Some-Underfull g t) where
+  abbrev AsksRightHere : (Node → Type 0) → Type 0
+  AsksRightHere = λ X. let T = c.args.tree.now in IsTrue c.delete_below.new.pages.steady → AskRight T.order (at c.delete_below.new.pages.pages) (T.height - 1) c.delete_below.new.visited.items T.bounds c.set_element-in-Some-Underfull.new.node (c.args.i + 1) X
+
+  abbrev AsksLeftHere : (ℕ → Node → Type 0) → Type 0
+  AsksLeftHere = λ X. let T = c.args.tree.now in IsTrue c.delete_below.new.pages.steady → AskLeft T.order (at c.delete_below.new.pages.pages) (T.height - 1) c.delete_below.new.visited.items T.bounds c.set_element-in-Some-Underfull.new.node (c.args.i + 1) X
+
+  module _ (es : List Element) (us : List ℕ) (steady : IsTrue c.args.pages.now.steady) (up : c.args.tree.now.height - 1 ≡ suc (c.args.tree.now.height - 1 - 1))
+      (short : BehindShort c.args.tree.now (at c.args.pages.now.pages) c.delete_below.new.edit.writes.items c.delete_below.new.edit.freed.items es us c.args.node c.set_element-in-Some-Underfull.new.node c.args.i (c.args.tree.now.height - 1 - 1) c.in-Some-Underfull.son c.args.visited.now.items c.delete_below.new.visited.items) where
+    steady_here : IsTrue c.delete_below.new.pages.steady
+    steady_here = ap (λ (v : PagesView). v.steady) c.delete_below.ensures.unchanged ∙ steady
+
+    size_here : length c.set_element-in-Some-Underfull.new.node.elements.items ≡ length c.args.node.elements.items
+    size_here = ap length c.set_element-in-Some-Underfull.ensures.elements ∙ length-set c.args.node.elements.items c.args.i c.in-Some-Underfull.next
+
+    right_here : (X : Node → Type 0) → AsksRightHere X → AskRight c.args.tree.now.order (at c.args.pages.now.pages) (c.args.tree.now.height - 1) c.delete_below.new.visited.items c.args.tree.now.bounds c.set_element-in-Some-Underfull.new.node (c.args.i + 1) X
+    right_here X asks = asked_right (λ _. X) c.args.tree.now c.args.tree.now c.args.pages.now.pages c.delete_below.new.pages.pages c.delete_below.new.visited.items c.set_element-in-Some-Underfull.new.node (c.args.i + 1) refl (ap (λ (v : PagesView). v.pages) c.delete_below.ensures.unchanged) (asks steady_here)
+
+    left_here : (X : ℕ → Node → Type 0) → AsksLeftHere X → AskLeft c.args.tree.now.order (at c.args.pages.now.pages) (c.args.tree.now.height - 1) c.delete_below.new.visited.items c.args.tree.now.bounds c.set_element-in-Some-Underfull.new.node (c.args.i + 1) X
+    left_here X asks = asked_left (λ _. X) c.args.tree.now c.args.tree.now c.args.pages.now.pages c.delete_below.new.pages.pages c.delete_below.new.visited.items c.set_element-in-Some-Underfull.new.node (c.args.i + 1) refl (ap (λ (v : PagesView). v.pages) c.delete_below.ensures.unchanged) (asks steady_here)
+
+    ask_behind : (X : Type 0) → AsksRightHere (λ _. X) → AsksLeftHere (λ _ _. X) → X
+    ask_behind X right left =
+        let T = c.args.tree.now in
+        let P = at c.args.pages.now.pages in
+        let fs = c.delete_below.new.edit.freed.items in
+        ask X T.order P (after P c.delete_below.new.edit.writes.items fs) c.delete_below.new.visited.items 0 (length fs) (T.height - 1 - 1) (T.height - 1) T.page (son_at c.args.node (suc c.args.i)) c.in-Some-Underfull.son c.set_element-in-Some-Underfull.new.node (set_in (element_at c.args.node c.args.i).0 None es) us T.bounds (c.args.i + 1) (sym up)
+        (omega (arith, size_here, c.requires.place)) (omega (arith, size_here, c.requires.place)) (short_son g t c) short.between short.broken (right_here (λ _. X) right) (left_here (λ _ _. X) left)
+
+    module _ (least : ℕ) (low : least ≤ c.args.tree.now.order) (ws3 : List (ℕ × List ℕ)) (fs3 visited3 : List ℕ) (x : Element) (r : Shrunk) where
+      abbrev SettledHere : ℕ → Node → Node → ℕ → Type 0
+      SettledHere j L R q = (visited3 ≡ c.delete_below.new.visited.items ++ q ∷ []) × TreatsAndSettles c.args.tree.now c.set_element-in-Some-Underfull.new.node (brothers j L R) x (so_far c.delete_below.new.edit) (done_so_far ws3 fs3) r
+
+      treat_behind : x ≡ element_at c.args.node c.args.i → AsksRightHere (λ o. SettledHere (c.args.i + 1) c.in-Some-Underfull.son o (son_at c.set_element-in-Some-Underfull.new.node (suc (c.args.i + 1))))
+          → AsksLeftHere (λ j o. SettledHere j o c.in-Some-Underfull.son (son_at c.set_element-in-Some-Underfull.new.node j))
+          → RemovesBelow (head_of c.args.tree.now least) (pages_freed (at c.args.pages.now.pages) (after (at c.args.pages.now.pages) ws3 fs3) 0 (length fs3)) es us (visits c.args.visited.now.items visited3) (element_at c.args.node c.args.i).0 (Some r)
+      treat_behind x_is right left =
+          let T = c.args.tree.now in
+          let P = at c.args.pages.now.pages in
+          let M = c.args.visited.now.items in
+          let h = T.height - 1 - 1 in
+          let p = son_at c.args.node (suc c.args.i) in
+          let m = c.set_element-in-Some-Underfull.new.node in
+          let ws = c.delete_below.new.edit.writes.items in
+          let fs = c.delete_below.new.edit.freed.items in
+          let visited2 = c.delete_below.new.visited.items in
+          let underfull = c.in-Some-Underfull.son in
+          let key = (element_at c.args.node c.args.i).0 in
+          let treated = treat_son T.order T.height P visited2 visited3 0 h (T.height - 1) T.page p underfull m x r ws ws3 fs fs3 (set_in key None es) us T.bounds (c.args.i + 1) c.requires.order.0 (sym up) (omega (arith, size_here, c.requires.place)) (omega (arith, size_here, c.requires.place)) (short_son g t c) short.between
+          (subst (λ (z : ℕ). Untouched ws fs z) (short_son g t c) (went_behind g t c).goes.2) c.in_ok-next.ensures.tidy.unvisited short.broken (right_here (λ o. SettledHere (c.args.i + 1) underfull o (son_at m (suc (c.args.i + 1)))) right) (left_here (λ j o. SettledHere j o underfull (son_at m j)) left) in
+          let drops = drop_treated T.order P ws ws3 fs fs3 least T.height h T.page p es us T.bounds m underfull x (element_at c.args.node c.args.i) r visited2 visited3 key c.requires.order.0 low short.broken treated (sym c.requires.node.kind ∙ short.inner) x_is refl short.value in
+          let unvisited3 = on_unvisited M visited2 visited3 treated.son.t us short.mine short.mine_in (short.broken.loses.left.within treated.son.t (inr treated.son.t_in)) short.unvisited treated.son.visited_is in
+          subst (λ (l : ℕ). RemovesBelow (head_page T.order least l T.page) (pages_freed P (after P ws3 fs3) 0 (length fs3)) es us (visits M visited3) key (Some r)) (sym up) (record { drops = drops; unvisited = unvisited3 })
+
 pub delete_here-returns-in_err-shrunk-in-Some-Underfull-clause-removes : goal.delete_here-returns-in_err-shrunk-in-Some-Underfull-clause-removes
 delete_here-returns-in_err-shrunk-in-Some-Underfull-clause-removes g t c = λ steady least es us below low spells least_is body us_is between apart unvisited.
-    let T = c.args.tree.now in
-    let P = at c.args.pages.now.pages in
-    let M = c.args.visited.now.items in
-    let level = T.height - 1 in
-    let n = c.args.node in
-    let i = c.args.i in
     let p = err_from_is_err_and c.from_residual-in_err-shrunk-in-Some-Underfull.result c.from_residual-in_err-shrunk-in-Some-Underfull.ensures.1 in
-    let next_i : i + 1 ≡ suc i = omega arith in
-    let t2 = c.tree_of_son-behind.result in
-    let t_is = c.tree_of_son-behind.ensures ∙ ap (son_tree T n) next_i in
-    let S = son_tree T n (suc i) in
-    let ws = c.delete_below.new.edit.writes.items in
-    let fs = c.delete_below.new.edit.freed.items in
-    let visited2 = c.delete_below.new.visited.items in
-    let up : level ≡ suc (level - 1) = omega (arith, c.requires.height, c.if-tree-eq1.false) in
-    let inner = subst (λ (h : ℕ). Body (TreeAt T.order P T.order h) h n es below) up body in
-    let head : Top T.order P least T.height (suc (level - 1)) T.page es us T.bounds n = record { below = below; spells = spells; least_is = least_is; kind = c.requires.node.kind; within = c.requires.node.within; body = inner; us_is = us_is } in
-    let key = (element_at n i).0 in
-    let here = get_or_default n.elements.items i ([], []) (element_at n i) c.requires.place in
-    let son = next (TreeAt T.order P T.order (suc (level - 1))) (Kin T.order P (after P ws fs) visited2 (level - 1) (son_at n (suc i)) c.in-Some-Underfull.son) (IsBeside P (after P ws fs) visited2 (son_at n (suc i))) (λ s xs vs is beside. kin_move T.order P (after P ws fs) visited2 (level - 1) (son_at n (suc i)) c.in-Some-Underfull.son s xs vs is beside) n.sons.items n.elements.items es head.below key i T.bounds (element_at n i) head.body.1 between (is_at n.elements.items i c.requires.node.ascends c.requires.place) here in
-    let all_is = head.us_is ∙ ap (λ vs. T.page ∷ vs) son.us_is in
-    let there = known_there c.args.pages.now.pages c.args.pages.now.pages S t2 (level - 1) son.xs son.mine M M refl t_is refl up (record { tree = son.here; between = son.between; apart = apart_below T.page us son.upre son.mine son.upost all_is apart; unvisited = each_mid (λ u. is_visited M u ≡ false) head.below son.upre son.mine son.upost son.us_is unvisited }) in
-    let e = c.in-Some-Underfull.next in
-    let underfull = c.in-Some-Underfull.son in
-    let m = c.set_element-in-Some-Underfull.new.node in
-    let sons_is = ap (λ s. s.items) c.set_element-in-Some-Underfull.ensures.sons in
-    let s_is : son_at n (suc i) ≡ son_at m (i + 1) = ap (λ (xs : List ℕ). get_or xs (suc i) 0) (sym sons_is) ∙ ap (son_at m) (sym next_i) in
-    let some = tree_some T.order P T.order (suc (level - 1)) (son_at n (suc i)) son.xs son.mine c.requires.order.0 c.requires.order.0 son.here in
-    let took = took_of T.order P (after P ws fs) 0 (length fs) T.order (level - 1) (son_at n (suc i)) son.xs son.mine M visited2 (Underfull e underfull) some
-    (removed_here c.args.pages.now.pages c.args.pages.now.pages ws fs S t2 (level - 1) son.xs son.mine M M visited2 (sought None son.xs) (sought None son.xs) c.in_ok-next.field-0 (Some (Underfull e underfull)) refl t_is refl up refl (c.in-Some-Underfull.is ∙ ap Some c.in-Some-Underfull.field-0-is)
-    (c.in_ok-next.ensures.removes steady t2.order son.xs son.mine (omega arith) there.tree there.between there.apart there.unvisited)) in
-    let broken = next_broken T.order P ws fs least T.height (level - 1) T.page es us T.bounds n m i e underfull M visited2 apart head son unvisited took c.set_element-in-Some-Underfull.ensures.elements sons_is in
-    let size = ap length c.set_element-in-Some-Underfull.ensures.elements ∙ length-set n.elements.items i e in
-    let fair = remove-between_bounds T.bounds key es between in
-    let later_is = ap (λ (v : PagesView). v.pages) c.delete_below.ensures.unchanged in
-    let later_steady = ap (λ (v : PagesView). v.steady) c.delete_below.ensures.unchanged ∙ steady in
-    rw (p.1, p.2) (ask (IsOutside c.in_err-shrunk-in-Some-Underfull.field-0.0) T.order P (after P ws fs) visited2 0 (length fs) (level - 1) level T.page (son_at n (suc i)) underfull m (set_in key None es) us T.bounds (i + 1) (sym up) (omega (arith, size, c.requires.place)) (omega (arith, size, c.requires.place)) s_is fair broken
-    (λ less o asked kind within free. c.in_err-shrunk-in-Some-Underfull.ensures.right later_steady less o (subst (λ (z : List (Option (List ℕ))). Spells T.order (at z) (son_at m (suc (i + 1))) o) (sym later_is) asked) kind within free)
-    (λ j is last o asked kind within free. c.in_err-shrunk-in-Some-Underfull.ensures.left later_steady j is last o (subst (λ (z : List (Option (List ℕ))). Spells T.order (at z) (son_at m j) o) (sym later_is) asked) kind within free))
+    let at_goal = goal.at.delete_here-returns-in_err-shrunk-in-Some-Underfull-clause-removes g t c in
+    let put = c.set_element-in-Some-Underfull in
+    let short = short_behind g t at_goal.After-delete_below steady least es us below spells least_is body us_is between apart unvisited put.new.node c.in-Some-Underfull.next c.in-Some-Underfull.son c.in_ok-next.field-0 (c.in-Some-Underfull.is ∙ ap Some c.in-Some-Underfull.field-0-is) c.in_ok-next.ensures.removes put.ensures.elements (ap (λ s. s.items) put.ensures.sons) in
+    let refused = c.in_err-shrunk-in-Some-Underfull in
+    rw (p.1, p.2) (ask_behind g t at_goal.After-set_element-in-Some-Underfull es us steady (two_behind g t at_goal.After-delete_below) short (IsOutside refused.field-0.0) refused.ensures.right refused.ensures.left)
 
 pub delete_here-returns-in_ok-shrunk-in-Some-Underfull-clause-removes : goal.delete_here-returns-in_ok-shrunk-in-Some-Underfull-clause-removes
 delete_here-returns-in_ok-shrunk-in-Some-Underfull-clause-removes g t c = λ steady least es us below low spells least_is body us_is between apart unvisited.
-    let T = c.args.tree.now in
-    let P = at c.args.pages.now.pages in
-    let M = c.args.visited.now.items in
-    let level = T.height - 1 in
-    let n = c.args.node in
-    let i = c.args.i in
-    let next_i : i + 1 ≡ suc i = omega arith in
-    let t2 = c.tree_of_son-behind.result in
-    let t_is = c.tree_of_son-behind.ensures ∙ ap (son_tree T n) next_i in
-    let S = son_tree T n (suc i) in
-    let ws = c.delete_below.new.edit.writes.items in
-    let fs = c.delete_below.new.edit.freed.items in
-    let visited2 = c.delete_below.new.visited.items in
-    let up : level ≡ suc (level - 1) = omega (arith, c.requires.height, c.if-tree-eq1.false) in
-    let inner = subst (λ (h : ℕ). Body (TreeAt T.order P T.order h) h n es below) up body in
-    let head : Top T.order P least T.height (suc (level - 1)) T.page es us T.bounds n = record { below = below; spells = spells; least_is = least_is; kind = c.requires.node.kind; within = c.requires.node.within; body = inner; us_is = us_is } in
-    let key = (element_at n i).0 in
-    let here = get_or_default n.elements.items i ([], []) (element_at n i) c.requires.place in
-    let son = next (TreeAt T.order P T.order (suc (level - 1))) (Kin T.order P (after P ws fs) visited2 (level - 1) (son_at n (suc i)) c.in-Some-Underfull.son) (IsBeside P (after P ws fs) visited2 (son_at n (suc i))) (λ s xs vs is beside. kin_move T.order P (after P ws fs) visited2 (level - 1) (son_at n (suc i)) c.in-Some-Underfull.son s xs vs is beside) n.sons.items n.elements.items es head.below key i T.bounds (element_at n i) head.body.1 between (is_at n.elements.items i c.requires.node.ascends c.requires.place) here in
-    let all_is = head.us_is ∙ ap (λ vs. T.page ∷ vs) son.us_is in
-    let there = known_there c.args.pages.now.pages c.args.pages.now.pages S t2 (level - 1) son.xs son.mine M M refl t_is refl up (record { tree = son.here; between = son.between; apart = apart_below T.page us son.upre son.mine son.upost all_is apart; unvisited = each_mid (λ u. is_visited M u ≡ false) head.below son.upre son.mine son.upost son.us_is unvisited }) in
-    let e = c.in-Some-Underfull.next in
-    let underfull = c.in-Some-Underfull.son in
-    let m = c.set_element-in-Some-Underfull.new.node in
-    let sons_is = ap (λ s. s.items) c.set_element-in-Some-Underfull.ensures.sons in
-    let s_is : son_at n (suc i) ≡ son_at m (i + 1) = ap (λ (xs : List ℕ). get_or xs (suc i) 0) (sym sons_is) ∙ ap (son_at m) (sym next_i) in
-    let went = went_up S t2 None ws fs c.in_ok-next.field-0 (Underfull e underfull) t_is (c.in-Some-Underfull.is ∙ ap Some c.in-Some-Underfull.field-0-is) c.in_ok-next.ensures.up in
-    let some = tree_some T.order P T.order (suc (level - 1)) (son_at n (suc i)) son.xs son.mine c.requires.order.0 c.requires.order.0 son.here in
-    let took = took_of T.order P (after P ws fs) 0 (length fs) T.order (level - 1) (son_at n (suc i)) son.xs son.mine M visited2 (Underfull e underfull) some
-    (removed_here c.args.pages.now.pages c.args.pages.now.pages ws fs S t2 (level - 1) son.xs son.mine M M visited2 (sought None son.xs) (sought None son.xs) c.in_ok-next.field-0 (Some (Underfull e underfull)) refl t_is refl up refl (c.in-Some-Underfull.is ∙ ap Some c.in-Some-Underfull.field-0-is)
-    (c.in_ok-next.ensures.removes steady t2.order son.xs son.mine (omega arith) there.tree there.between there.apart there.unvisited)) in
-    let broken = next_broken T.order P ws fs least T.height (level - 1) T.page es us T.bounds n m i e underfull M visited2 apart head son unvisited took c.set_element-in-Some-Underfull.ensures.elements sons_is in
-    let size = ap length c.set_element-in-Some-Underfull.ensures.elements ∙ length-set n.elements.items i e in
-    let fair = remove-between_bounds T.bounds key es between in
-    let later_is = ap (λ (v : PagesView). v.pages) c.delete_below.ensures.unchanged in
-    let later_steady = ap (λ (v : PagesView). v.steady) c.delete_below.ensures.unchanged ∙ steady in
-    let ws3 = c.treat_and_settle.new.edit.writes.items in
-    let fs3 = c.treat_and_settle.new.edit.freed.items in
-    let visited3 = c.treat_and_settle.new.visited.items in
-    let r = c.in_ok-shrunk-in-Some-Underfull.shrunk in
-    let x = c.index-deref-i.result in
-    let e_is : x ≡ element_at n i = c.index-deref-i.is ∙ ap (λ (xs : List Element). get_or xs i x) c.deref.ensures.0 ∙ get_or_default n.elements.items i x ([], []) c.requires.place in
-    let treated = treat_son T.order T.height P visited2 visited3 0 (level - 1) level T.page (son_at n (suc i)) underfull m x r ws ws3 fs fs3 (set_in key None es) us T.bounds (i + 1) c.requires.order.0 (sym up) (omega (arith, size, c.requires.place)) (omega (arith, size, c.requires.place)) s_is fair
-    (subst (λ (z : ℕ). Untouched ws fs z) s_is went.goes.2) c.in_ok-next.ensures.tidy.unvisited broken
-    (λ less o asked kind within free. c.in_ok-shrunk-in-Some-Underfull.ensures.right later_steady less o (subst (λ (z : List (Option (List ℕ))). Spells T.order (at z) (son_at m (suc (i + 1))) o) (sym later_is) asked) kind within free)
-    (λ j is last o asked kind within free. c.in_ok-shrunk-in-Some-Underfull.ensures.left later_steady j is last o (subst (λ (z : List (Option (List ℕ))). Spells T.order (at z) (son_at m j) o) (sym later_is) asked) kind within free) in
-    let found = ap (lookup_in key) son.es_is ∙ lookup-here key son.pre (element_at n i) (son.xs ++ son.post) son.below refl in
-    let drops = drop_treated T.order P ws ws3 fs fs3 least T.height (level - 1) T.page (son_at n (suc i)) es us T.bounds m underfull x (element_at n i) r visited2 visited3 key c.requires.order.0 low broken treated (sym c.requires.node.kind ∙ head.body.0) e_is refl found in
-    let unvisited3 = on_unvisited M visited2 visited3 treated.son.t us son.mine (below_in T.page us son.upre son.mine son.upost all_is) (broken.loses.left.within treated.son.t (inr treated.son.t_in)) took.unvisited treated.son.visited_is in
-    let done : RemovesBelow (head_page T.order least (suc (level - 1)) T.page) (pages_freed P (after P ws3 fs3) 0 (length fs3)) es us (visits M visited3) key (Some r) = record { drops = drops; unvisited = unvisited3 } in
-    subst (λ (h : ℕ). RemovesBelow (head_page T.order least h T.page) (pages_freed P (after P ws3 fs3) 0 (length fs3)) es us (visits M visited3) key (Some r)) (sym up) done
+    let at_goal = goal.at.delete_here-returns-in_ok-shrunk-in-Some-Underfull-clause-removes g t c in
+    let put = c.set_element-in-Some-Underfull in
+    let short = short_behind g t at_goal.After-delete_below steady least es us below spells least_is body us_is between apart unvisited put.new.node c.in-Some-Underfull.next c.in-Some-Underfull.son c.in_ok-next.field-0 (c.in-Some-Underfull.is ∙ ap Some c.in-Some-Underfull.field-0-is) c.in_ok-next.ensures.removes put.ensures.elements (ap (λ s. s.items) put.ensures.sons) in
+    let settled = c.in_ok-shrunk-in-Some-Underfull in
+    treat_behind g t at_goal.After-set_element-in-Some-Underfull es us steady (two_behind g t at_goal.After-delete_below) short least low c.treat_and_settle.new.edit.writes.items c.treat_and_settle.new.edit.freed.items c.treat_and_settle.new.visited.items c.index-deref-i.result settled.shrunk (removed_is g t at_goal.After-index-deref-i) settled.ensures.right settled.ensures.left
 
 pub delete_here-returns-in_ok-shrunk-in-Some-Underfull-clause-older : goal.delete_here-returns-in_ok-shrunk-in-Some-Underfull-clause-older
 delete_here-returns-in_ok-shrunk-in-Some-Underfull-clause-older g t c = λ q is other.
