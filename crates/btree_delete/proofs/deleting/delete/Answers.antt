@@ -1,8 +1,9 @@
-use Rattle.std.proofs.Common.{◌-◌, ℕ, List, Option, Some, length, refl, ap, sym, subst, arith, None}
+use Rattle.std.proofs.Common.{◌≡◌, ◌-◌, IsTrue, ℕ, List, Option, Some, length, refl, ap, sym, subst, arith, None}
 use Rattle.std.proofs.lemmas.Result.{err_from_is_err_and}
 use Rattle.page_store.specs.CanStage.{CanStage}
 use Rattle.page_store.specs.PageMap.{at, after}
 use Rattle.page_store.specs.PagesView.{PagesView}
+use Rattle.btree_node.specs.Lists.{Element}
 use Rattle.btree_insert.specs.PageTrees.{Holds}
 use Rattle.btree_insert.proofs.BoundLemmas.{Between-all}
 use Rattle.btree_insert.proofs.VisitedLemmas.{unvisited_none}
@@ -11,36 +12,50 @@ use Rattle.btree_insert.proofs.HeadNodeLemmas.{root_tree}
 use Rattle.btree_delete.specs.declared.delete_below.Shrunk.{Shrunk}
 use Rattle.btree_delete.specs.declared.subtree.Subtree.{Subtree}
 use Rattle.btree_insert.specs.Bounds.{unbounded}
+use Rattle.btree_insert.specs.Growth.{IsOutside}
 use Rattle.btree_insert.specs.Contents.{set_in}
 use Rattle.btree_delete.specs.Shrinking.{LeavesTree, RemovesBelow}
-use Rattle.btree_delete.specs.Subtrees.{head_page}
-use Rattle.btree_delete.specs.PagesLeft.{pages_freed}
+use Rattle.btree_delete.specs.Subtrees.{head_page, head_of}
+use Rattle.btree_delete.specs.PagesLeft.{pages_freed, with_edit}
 use Rattle.btree_delete.specs.Tidy.{visits}
+use Rattle.btree_delete.proofs.SonCallLemmas.{Removing}
 use Rattle.btree_delete.proofs.RootLemmas.{deleted_at, deleted_none}
 use Rattle.btree_delete.proofs.FirstElementLemmas.{went_up}
+use Rattle.btree_delete.proofs.deleting.delete.Given as given
 use Rattle.btree_delete.proofs.deleting.delete.Goals as goal
+use Rattle.btree_delete.proofs.deleting.delete.Goals.{After-delete_below}
+
+-- the deletion below the root, of a table that the pages hold
+module _ (g : given.Over) (c : After-delete_below g) where
+  abbrev whole : Subtree
+  whole = record { order = c.args.tree.now.order; height = c.args.tree.now.height; page = c.args.tree.now.root; bounds = unbounded }
+
+  module _ (steady : IsTrue c.args.pages.now.steady) (es : List Element) (us : List ℕ) (holds : Holds (at c.args.pages.now.pages) c.args.tree.now es us) where
+    asked : (X : ℕ → List Element → List ℕ → Type 0) → Removing whole c.args.pages.now c.new-visited.result.items X → X 1 es us
+    asked X removing =
+        let T = c.args.tree.now in
+        removing steady 1 es us c.requires.tree.order.0 (root_tree T.order (at c.args.pages.now.pages) T.height T.root es us (omega arith) holds.tree) (Between-all es holds.ascends) holds.apart (unvisited_none c.new-visited.result.items us c.new-visited.ensures)
+
+    abbrev Removed : ℕ → List Element → List ℕ → Option Shrunk → Type 0
+    Removed least xs vs r = RemovesBelow (head_of whole least) (with_edit (at c.args.pages.now.pages) c.delete_below.new.edit) xs vs (visits c.new-visited.result.items c.delete_below.new.visited.items) c.args.key.now r
+
+    removed : (r r2 : Option Shrunk) → r ≡ r2 → Removing whole c.args.pages.now c.new-visited.result.items (λ least xs vs. Removed least xs vs r) → Removed 1 es us r2
+    removed r r2 is removing = subst (Removed 1 es us) is (asked (λ least xs vs. Removed least xs vs r) removing)
 
 pub returns-in_err-shrunk-clause-deleted : goal.returns-in_err-shrunk-clause-deleted
 returns-in_err-shrunk-clause-deleted g c = λ steady es us holds.
     let p = err_from_is_err_and c.from_residual.result c.from_residual.ensures.1 in
-    let T = c.args.tree.now in
-    rw (p.1, p.2) (c.in_err-shrunk.ensures.removes steady 1 es us c.requires.tree.order.0 (root_tree T.order (at c.args.pages.now.pages) T.height T.root es us (omega arith) holds.tree) (Between-all es holds.ascends) holds.apart (unvisited_none c.new-visited.result.items us c.new-visited.ensures))
+    rw (p.1, p.2) (asked g (goal.at.returns-in_err-shrunk-clause-deleted g c).After-delete_below steady es us holds (λ _ _ _. IsOutside c.in_err-shrunk.field-0.0) c.in_err-shrunk.ensures.removes)
 
 pub returns-in_default-clause-deleted : goal.returns-in_default-clause-deleted
 returns-in_default-clause-deleted g c = λ steady es us holds.
-    let T = c.args.tree.now in
-    let P = at c.args.pages.now.pages in
-    let ws = c.delete_below.new.edit.writes.items in
-    let fs = c.delete_below.new.edit.freed.items in
-    let call = c.in_ok-shrunk.ensures.removes steady 1 es us c.requires.tree.order.0 (root_tree T.order P T.height T.root es us (omega arith) holds.tree) (Between-all es holds.ascends) holds.apart (unvisited_none c.new-visited.result.items us c.new-visited.ensures) in
-    let none = subst (λ (s : Option Shrunk). RemovesBelow (head_page T.order 1 (T.height - 1) T.root) (pages_freed P (after P ws fs) 0 (length fs)) es us (visits c.new-visited.result.items c.delete_below.new.visited.items) c.args.key.now s) c.in_default.is call in
-    deleted_none P (at c.delete_below.new.pages.pages) T es us c.args.key.now (ap (λ (v : PagesView). at v.pages) c.delete_below.ensures.unchanged) holds none.drops
+    let none = removed g (goal.at.returns-in_default-clause-deleted g c).After-delete_below steady es us holds c.in_ok-shrunk.shrunk None c.in_default.is c.in_ok-shrunk.ensures.removes in
+    deleted_none (at c.args.pages.now.pages) (at c.delete_below.new.pages.pages) c.args.tree.now es us c.args.key.now (ap (λ (v : PagesView). at v.pages) c.delete_below.ensures.unchanged) holds none.drops
 
 pub shrink_tree-requires-clause-up : goal.shrink_tree-requires-clause-up
 shrink_tree-requires-clause-up g c =
-    let T = c.args.tree.now in
-    let whole : Subtree = record { order = T.order; height = T.height; page = T.root; bounds = unbounded } in
-    (went_up whole whole (Some c.args.key.now) c.delete_below.new.edit.writes.items c.delete_below.new.edit.freed.items c.in_ok-shrunk.shrunk c.in-Some.shrunk refl c.in-Some.is c.in_ok-shrunk.ensures.up).goes
+    let sub = whole g (goal.at.shrink_tree-requires-clause-up g c).After-delete_below in
+    (went_up sub sub (Some c.args.key.now) c.delete_below.new.edit.writes.items c.delete_below.new.edit.freed.items c.in_ok-shrunk.shrunk c.in-Some.shrunk refl c.in-Some.is c.in_ok-shrunk.ensures.up).goes
 
 pub stage-requires : goal.stage-requires
 stage-requires g c =
@@ -51,14 +66,8 @@ stage-requires g c =
 pub returns-in_err-shrunk-2-clause-deleted : goal.returns-in_err-shrunk-2-clause-deleted
 returns-in_err-shrunk-2-clause-deleted g c = λ steady es us holds.
     let p = err_from_is_err_and c.from_residual-in_err-shrunk-2.result c.from_residual-in_err-shrunk-2.ensures.1 in
-    let T = c.args.tree.now in
-    let P = at c.args.pages.now.pages in
-    let ws = c.delete_below.new.edit.writes.items in
-    let fs = c.delete_below.new.edit.freed.items in
-    let pages_is = ap (λ (v : PagesView). v.pages) c.delete_below.ensures.unchanged in
-    let call = c.in_ok-shrunk.ensures.removes steady 1 es us c.requires.tree.order.0 (root_tree T.order P T.height T.root es us (omega arith) holds.tree) (Between-all es holds.ascends) holds.apart (unvisited_none c.new-visited.result.items us c.new-visited.ensures) in
-    let some = subst (λ (s : Option Shrunk). RemovesBelow (head_page T.order 1 (T.height - 1) T.root) (pages_freed P (after P ws fs) 0 (length fs)) es us (visits c.new-visited.result.items c.delete_below.new.visited.items) c.args.key.now s) c.in-Some.is call in
-    rw (p.1, p.2) (c.in_err-shrunk-2.ensures.deleted P es us c.args.key.now holds some.drops.1 some.drops.2)
+    let some = removed g (goal.at.returns-in_err-shrunk-2-clause-deleted g c).After-delete_below steady es us holds c.in_ok-shrunk.shrunk (Some c.in-Some.shrunk) c.in-Some.is c.in_ok-shrunk.ensures.removes in
+    rw (p.1, p.2) (c.in_err-shrunk-2.ensures.deleted (at c.args.pages.now.pages) es us c.args.key.now holds some.drops.1 some.drops.2)
 
 pub returns-clause-deleted : goal.returns-clause-deleted
 returns-clause-deleted g c = λ steady es us holds.
@@ -67,8 +76,7 @@ returns-clause-deleted g c = λ steady es us holds.
     let ws = c.delete_below.new.edit.writes.items in
     let fs = c.delete_below.new.edit.freed.items in
     let pages_is = ap (λ (v : PagesView). v.pages) c.delete_below.ensures.unchanged in
-    let call = c.in_ok-shrunk.ensures.removes steady 1 es us c.requires.tree.order.0 (root_tree T.order P T.height T.root es us (omega arith) holds.tree) (Between-all es holds.ascends) holds.apart (unvisited_none c.new-visited.result.items us c.new-visited.ensures) in
-    let some = subst (λ (s : Option Shrunk). RemovesBelow (head_page T.order 1 (T.height - 1) T.root) (pages_freed P (after P ws fs) 0 (length fs)) es us (visits c.new-visited.result.items c.delete_below.new.visited.items) c.args.key.now s) c.in-Some.is call in
+    let some = removed g (goal.at.returns-clause-deleted g c).After-delete_below steady es us holds c.in_ok-shrunk.shrunk (Some c.in-Some.shrunk) c.in-Some.is c.in_ok-shrunk.ensures.removes in
     let there = subst (λ (ps : List (Option (List ℕ))). Holds (at ps) T es us) (sym pages_is) holds in
     let leaves = subst (λ (ps : List (Option (List ℕ))). LeavesTree (head_page T.order 1 (T.height - 1) T.root) (pages_freed (at ps) (after (at ps) ws fs) 0 (length fs)) us (set_in c.args.key.now None es) c.in-Some.shrunk) (sym pages_is) some.drops.2 in
     let done = c.in_ok-shrunk-2.ensures.deleted (at c.delete_below.new.pages.pages) es us c.args.key.now there some.drops.1 leaves in
