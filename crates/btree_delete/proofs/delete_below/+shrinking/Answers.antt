@@ -43,11 +43,9 @@ pub delete_below-returns-in_err-visit-clause-removes : goal.delete_below-returns
 delete_below-returns-in_err-visit-clause-removes g t c = λ steady least es us low tree between apart unvisited.
     let T = c.args.tree.now in
     let P = at c.args.pages.now.pages in
-    let M = c.args.visited.now.items in
-    let level = T.height - 1 in
     let p = err_from_is_err_and c.from_residual.result c.from_residual.ensures.1 in
-    let new = head_each (λ u. is_visited M u ≡ false) T.order P least T.height T.page es us tree unvisited in
-    let head = top T.order P least T.height level T.page es us T.bounds (omega arith) tree between in
+    let new = head_each (λ u. is_visited c.args.visited.now.items u ≡ false) T.order P least T.height T.page es us tree unvisited in
+    let head = top T.order P least T.height (T.height - 1) T.page es us T.bounds (omega arith) tree between in
     rw (p.1, p.2) (subst IsOutside (sym (c.in_err-visit.ensures.exact steady head.0 head.1.spells head.1.kind head.1.within new)) tt)
 
 -- the node that was visited is the one at the head of the tree
@@ -102,19 +100,18 @@ delete_below-returns-in_ok-shrunk-in-Ok-clause-removes g t c = λ steady least e
 pub delete_below-returns-in_ok-shrunk-in-Ok-clause-up : goal.delete_below-returns-in_ok-shrunk-in-Ok-clause-up
 delete_below-returns-in_ok-shrunk-in-Ok-clause-up g t c =
     let T = c.args.tree.now in
-    let n = c.visit.new.node in
+    let els = c.visit.new.node.elements.items in
     let i = c.in-Ok.i in
-    let may_be_underfull = c.in_ok-visit.ensures.stands in
-    let x = element_at n i in
-    let here = get_or_default n.elements.items i ([], []) x c.in-Ok.ensures.within in
-    let gone_is = sym c.in_ok-shrunk-in-Ok.ensures.gone in
-    let ws = c.delete_here.new.edit.writes.items in
-    let fs = c.delete_here.new.edit.freed.items in
-    let s = c.in_ok-shrunk-in-Ok.shrunk in (
-      subst (λ (e : Element). IsElement e) gone_is (Each_at IsElement n.elements.items i x may_be_underfull.fit c.in-Ok.ensures.within here),
-      subst (λ (e : Element). IsWithin T.bounds e.0) gone_is (Each_at (λ (e : Element). Over T.bounds.low e.0) n.elements.items i x may_be_underfull.within.over c.in-Ok.ensures.within here, Each_at (λ (e : Element). Under T.bounds.high e.0) n.elements.items i x may_be_underfull.within.under c.in-Ok.ensures.within here),
-      subst (λ (e : Element). UnderfullGoesUp T.order T.height (left_bounds c.args.key.now e T.bounds) T.page ws fs s) gone_is
-          (goes_left c.args.key.now T.order T.height T.page T.bounds x ws fs s c.in_ok-shrunk-in-Ok.ensures.up (λ none. c.in_ok-shrunk-in-Ok.ensures.first (c.in-Ok.ensures.first none).1 (c.in-Ok.ensures.first none).0)),
+    let stands = c.in_ok-visit.ensures.stands in
+    let x = element_at c.visit.new.node i in
+    let here = get_or_default els i ([], []) x c.in-Ok.ensures.within in
+    let took = c.in_ok-shrunk-in-Ok in
+    let gone_is = sym took.ensures.gone in
+    let edit = c.delete_here.new.edit in (
+      subst (λ (e : Element). IsElement e) gone_is (Each_at IsElement els i x stands.fit c.in-Ok.ensures.within here),
+      subst (λ (e : Element). IsWithin T.bounds e.0) gone_is (Each_at (λ (e : Element). Over T.bounds.low e.0) els i x stands.within.over c.in-Ok.ensures.within here, Each_at (λ (e : Element). Under T.bounds.high e.0) els i x stands.within.under c.in-Ok.ensures.within here),
+      subst (λ (e : Element). UnderfullGoesUp T.order T.height (left_bounds c.args.key.now e T.bounds) T.page edit.writes.items edit.freed.items took.shrunk) gone_is
+          (goes_left c.args.key.now T.order T.height T.page T.bounds x edit.writes.items edit.freed.items took.shrunk took.ensures.up (λ none. took.ensures.first (c.in-Ok.ensures.first none).1 (c.in-Ok.ensures.first none).0)),
     )
 
 pub delete_below-returns-then-tree-eq1-clause-removes : goal.delete_below-returns-then-tree-eq1-clause-removes
@@ -307,17 +304,14 @@ module _ (g : given.Over) (t : ℕ) (c : delete_below-After-tree_left-left g t) 
           let P = at c.args.pages.now.pages in
           let n = c.visit.new.node in
           let i = c.in-Err.i in
-          let h = T.height - 1 - 1 in
           let ws = c.delete_below.new.edit.writes.items in
           let fs = c.delete_below.new.edit.freed.items in
-          let visited2 = c.delete_below.new.visited.items in
           let e = c.in-Some-Underfull.removed in
-          let underfull = c.in-Some-Underfull.son in
           let K = sought c.args.key.now es in
-          let treated = treat_son T.order T.height P visited2 visited3 0 h (T.height - 1) T.page (son_at n i) underfull n e r ws ws3 fs fs3 (set_in K None es) us left_tree.bounds i c.requires.order.0 (sym up) c.in_ok-visit.ensures.some c.in-Err.ensures.within refl short.between kept c.in_ok-removed-in-Err.ensures.tidy.unvisited short.broken
-          (to_right (λ x o. Settled x i underfull o (son_at n (suc i))) right) (to_left (λ x j o. Settled x j o underfull (son_at n j)) left) in
-          let drops = drop_treated T.order P ws ws3 fs fs3 least T.height h T.page (son_at n i) es us left_tree.bounds n underfull e e r visited2 visited3 K c.requires.order.0 low short.broken treated (sym c.in_ok-visit.ensures.stands.kind ∙ short.inner) refl short.key_is short.value in
-          let unvisited3 = still_unvisited c.args.visited.now.items visited2 visited3 T.page treated.son.t us short.mine short.head_in short.mine_in (short.broken.loses.left.within treated.son.t (inr treated.son.t_in)) short.unvisited treated.son.visited_is in
+          let treated = treat_son T.order T.height P c.delete_below.new.visited.items visited3 0 (T.height - 1 - 1) (T.height - 1) T.page (son_at n i) c.in-Some-Underfull.son n e r ws ws3 fs fs3 (set_in K None es) us left_tree.bounds i c.requires.order.0 (sym up) c.in_ok-visit.ensures.some c.in-Err.ensures.within refl short.between kept c.in_ok-removed-in-Err.ensures.tidy.unvisited short.broken
+          (to_right (λ x o. Settled x i c.in-Some-Underfull.son o (son_at n (suc i))) right) (to_left (λ x j o. Settled x j o c.in-Some-Underfull.son (son_at n j)) left) in
+          let drops = drop_treated T.order P ws ws3 fs fs3 least T.height (T.height - 1 - 1) T.page (son_at n i) es us left_tree.bounds n c.in-Some-Underfull.son e e r c.delete_below.new.visited.items visited3 K c.requires.order.0 low short.broken treated (sym c.in_ok-visit.ensures.stands.kind ∙ short.inner) refl short.key_is short.value in
+          let unvisited3 = still_unvisited c.args.visited.now.items c.delete_below.new.visited.items visited3 T.page treated.son.t us short.mine short.head_in short.mine_in (short.broken.loses.left.within treated.son.t (inr treated.son.t_in)) short.unvisited treated.son.visited_is in
           subst (λ (l : ℕ). RemovesBelow (head_page T.order least l T.page) (pages_freed P (after P ws3 fs3) 0 (length fs3)) es us (visits c.args.visited.now.items visited3) K (Some r)) (sym up) (record { drops = drops; unvisited = unvisited3 })
 
 pub delete_below-returns-in_err-shrunk-in-Some-Underfull-clause-removes : goal.delete_below-returns-in_err-shrunk-in-Some-Underfull-clause-removes
@@ -388,17 +382,11 @@ pub delete_below-returns-in-Some-Whole-clause-up : goal.delete_below-returns-in-
 delete_below-returns-in-Some-Whole-clause-up g t c =
     let T = c.args.tree.now in
     let n = c.visit.new.node in
-    let i = c.in-Err.i in
-    let key = c.args.key.now in
-    let ups = c.in_ok-visit.ensures.stands.ascends in
-    let t_is = c.tree_of_son-below.ensures in
-    let S = son_tree T n i in
-    let t2 = c.tree_of_son-below.result in
-    let ws = c.delete_below.new.edit.writes.items in
-    let fs = c.delete_below.new.edit.freed.items in
-    let went = went_up S t2 key ws fs c.in_ok-removed-in-Err.field-0 (Whole c.in-Some-Whole.removed) t_is (c.in-Some-Whole.is ∙ ap Some c.in-Some-Whole.field-0-is) c.in_ok-removed-in-Err.ensures.up in (
+    let e = c.in-Some-Whole.removed in
+    let stands = c.in_ok-visit.ensures.stands in
+    let went = went_up (son_tree T n c.in-Err.i) c.tree_of_son-below.result c.args.key.now c.delete_below.new.edit.writes.items c.delete_below.new.edit.freed.items c.in_ok-removed-in-Err.field-0 (Whole e) c.tree_of_son-below.ensures (c.in-Some-Whole.is ∙ ap Some c.in-Some-Whole.field-0-is) c.in_ok-removed-in-Err.ensures.up in (
       went.fits,
-      son_within n.elements.items i T.bounds c.in-Some-Whole.removed.0 ups c.in_ok-visit.ensures.stands.within went.within,
+      son_within n.elements.items c.in-Err.i T.bounds e.0 stands.ascends stands.within went.within,
       tt,
     )
 
