@@ -8,16 +8,17 @@ use Rattle.std.specs.List.{list_any}
 use Rattle.page_store.specs.FreeNumbers.{candidate}
 use Rattle.page_store.specs.PagesView.{PagesView}
 use Rattle.page_store.specs.PageMap.{at, overlay}
-use Rattle.btree_node.specs.Lists.{Element}
+use Rattle.btree_node.specs.Lists.{Element, IsPlace}
 use Rattle.btree_node.specs.Spelling.{spelling}
 use Rattle.btree_node.specs.declared.node.Node.{Node}
-use Rattle.btree_node.specs.declared.node.NodeKind.TheVariants.{Leaf, Inner}
+use Rattle.btree_node.specs.declared.node.NodeKind.TheVariants.{Inner}
 use Rattle.btree_insert.specs.declared.insert_below.Grown.{Grown}
-use Rattle.btree_insert.specs.declared.insert_below.Grown.TheVariants.{Replaced}
-use Rattle.btree_insert.specs.Bounds.{AreWithin, Between}
-use Rattle.btree_insert.specs.Growth.{IsOutside, IsWithin, Grew, SplitGoesUp, WritesOrSplits, TakesNumbers, WritesFit}
+use Rattle.btree_insert.specs.declared.insert_below.Grown.TheVariants.{Replaced, Split}
+use Rattle.btree_insert.specs.Bounds.{AreWithin, Between, son_bounds}
+use Rattle.btree_insert.specs.Growth.{MayBeOverfull, IsOutside, IsWithin, Grew, SplitGoesUp, WritesOrSplits, TakesNumbers, WritesFit}
 use Rattle.btree_insert.specs.PageTrees.{TreeAt, kind_of_level, tree_below}
 use Rattle.btree_insert.specs.Spelt.{AreSpeltIn}
+use Rattle.btree_insert.specs.declared.step.Step.TheVariants.{Ends, Goes}
 use Rattle.btree_insert.specs.Steps.{Steps}
 use Rattle.btree_insert.specs.PagesGrown.{edited}
 use Rattle.btree_insert.proofs.EditFitLemmas.{wrote_fits, stays_within, takes_more}
@@ -27,7 +28,9 @@ use Rattle.btree_insert.proofs.PlaceLemmas.{within_place, place_within, son_with
 use Rattle.btree_insert.proofs.SettledTreeLemmas.{focus_of, grow_stays, grow_split, grow_leaf, grow_replaced}
 use Rattle.btree_insert.proofs.HeadNodeLemmas.{kind_above, head_each, top}
 use Rattle.btree_insert.proofs.StepNodeLemmas.{still_known, taken_top}
+use Rattle.btree_insert.proofs.insert_below.+insert_below.Given as given
 use Rattle.btree_insert.proofs.insert_below.+insert_below.Goals as goal
+use Rattle.btree_insert.proofs.insert_below.+insert_below.Goals.{After-insert, After-insert-in-Split-2}
 
 pub returns-then-was_visited-clause-grew : goal.returns-then-was_visited-clause-grew
 returns-then-was_visited-clause-grew g t c = λ steady none least es us tree between apart unvisited.
@@ -56,19 +59,33 @@ write_node-requires-clause-stands g t c =
     let stands = set_stands k s.node c.replace-old.new.node c.in-Found.i c.args.element s.known.stands steps.0 c.requires.element kind_is els_is sons_is in
     stands
 
+-- a leaf with one element more
+module _ (g : given.Over) (t : ℕ) (c : After-insert g t) where
+  abbrev leaf_met : Node
+  leaf_met = c.in_ok-i.ensures.stepped.node
+
+  ends_here : Steps c.args.spot.now.level leaf_met c.args.spot.now.bounds c.args.element.0 (Ends c.in-Ends.i)
+  ends_here = subst (Steps c.args.spot.now.level leaf_met c.args.spot.now.bounds c.args.element.0) c.in-Ends.is c.in_ok-i.ensures.stepped.steps
+
+  leaf_filled : c.fill_node-in-Ends.new.node ≡ leaf_met
+  leaf_filled = c.fill_node-in-Ends.ensures.known leaf_met (still_known c.args.order c.args.pages.now c.take_step.new.pages c.args.spot.now.page c.args.in_place c.take_step.new.node leaf_met c.take_step.ensures.unchanged c.in_ok-i.ensures.stepped.known)
+
+  abbrev longer_leaf : Node
+  longer_leaf = record { kind = c.fill_node-in-Ends.new.node.kind; elements = c.insert.new.self; sons = c.fill_node-in-Ends.new.node.sons }
+
+  leaf_kind : longer_leaf.kind ≡ leaf_met.kind
+  leaf_kind = ap (λ (n : Node). n.kind) leaf_filled
+
+  leaf_elements : longer_leaf.elements.items ≡ insert leaf_met.elements.items c.in-Ends.i c.args.element
+  leaf_elements = c.insert.ensures.items ∙ ap (λ (n : Node). insert n.elements.items c.in-Ends.i c.args.element) leaf_filled
+
+  leaf_overfull : MayBeOverfull c.args.order longer_leaf
+  leaf_overfull =
+      let met = c.in_ok-i.ensures.stepped in
+      leaf_may_be_overfull c.args.order leaf_met longer_leaf c.in-Ends.i c.args.element met.known.stands (met.belongs.kind ∙ ap kind_of_level ends_here.0) ends_here.1 c.requires.element leaf_kind leaf_elements (ap (λ (n : Node). n.sons.items) leaf_filled)
+
 pub settle-requires-clause-may_be_overfull : goal.settle-requires-clause-may_be_overfull
-settle-requires-clause-may_be_overfull g t c =
-    let k = c.args.order in
-    let spot = c.args.spot.now in
-    let s = c.in_ok-i.ensures.stepped in
-    let steps = subst (Steps spot.level s.node spot.bounds c.args.element.0) c.in-Ends.is s.steps in
-    let filled = c.fill_node-in-Ends.ensures.known s.node (still_known k c.args.pages.now c.take_step.new.pages spot.page c.args.in_place c.take_step.new.node s.node c.take_step.ensures.unchanged s.known) in
-    let leaf : s.node.kind ≡ Leaf = s.belongs.kind ∙ ap kind_of_level steps.0 in
-    let m : Node = record { kind = c.fill_node-in-Ends.new.node.kind; elements = c.insert.new.self; sons = c.fill_node-in-Ends.new.node.sons } in
-    let kind_is : m.kind ≡ s.node.kind = ap (λ (n : Node). n.kind) filled in
-    let els_is = c.insert.ensures.items ∙ ap (λ (n : Node). insert n.elements.items c.in-Ends.i c.args.element) filled in
-    let may_be_overfull = leaf_may_be_overfull k s.node m c.in-Ends.i c.args.element s.known.stands leaf steps.1 c.requires.element kind_is els_is (ap (λ (n : Node). n.sons.items) filled) in
-    may_be_overfull
+settle-requires-clause-may_be_overfull g t c = leaf_overfull g t (goal.at.settle-requires-clause-may_be_overfull g t c).After-insert
 
 pub insert_below-requires : goal.insert_below-requires
 insert_below-requires g t c = λ κs sub.
@@ -96,26 +113,50 @@ returns-in_err-done-in-Goes-clause-grew g t c = λ steady none least es us tree 
     let call = c.in_err-done-in-Goes.ensures.grew (ap (λ (v : PagesView). v.steady) c.take_step.ensures.unchanged ∙ steady) none k son.xs son.mine tree2 (subst (λ b. Between b son.xs) (sym steps.3) son.between) (apart_below spot.page us son.upre son.mine son.upost us_is apart) unvisited2 in
     rw (p.1, p.2) call
 
+-- a node with the half that was split off its son
+module _ (g : given.Over) (t : ℕ) (c : After-insert-in-Split-2 g t) where
+  abbrev father_met : Node
+  father_met = c.in_ok-i.ensures.stepped.node
+
+  goes_down : Steps c.args.spot.now.level father_met c.args.spot.now.bounds c.args.element.0 (Goes c.in-Goes.i c.in-Goes.page c.in-Goes.bounds)
+  goes_down = subst (Steps c.args.spot.now.level father_met c.args.spot.now.bounds c.args.element.0) c.in-Goes.is c.in_ok-i.ensures.stepped.steps
+
+  father_filled : c.fill_node-in-Split.new.node ≡ father_met
+  father_filled =
+      c.fill_node-in-Split.ensures.known father_met (still_known c.args.order c.take_step.new.pages c.insert_below.new.pages c.args.spot.now.page c.args.in_place c.take_step.new.node father_met c.in_ok-done-in-Goes.ensures.unchanged
+      (still_known c.args.order c.args.pages.now c.take_step.new.pages c.args.spot.now.page c.args.in_place c.take_step.new.node father_met c.take_step.ensures.unchanged c.in_ok-i.ensures.stepped.known))
+
+  split_up : SplitGoesUp c.in-Goes.bounds (Split c.in-Split.middle c.in-Split.right)
+  split_up = subst (SplitGoesUp c.in-Goes.bounds) c.in-Split.is c.in_ok-done-in-Goes.ensures.goes_up
+
+  split_inside : IsWithin (son_bounds father_met.elements.items c.in-Goes.i c.args.spot.now.bounds) c.in-Split.middle.0
+  split_inside = subst (λ b. IsWithin b c.in-Split.middle.0) goes_down.3 split_up.1
+
+  split_among : IsPlace father_met.elements.items c.in-Split.middle.0 c.in-Goes.i
+  split_among = within_place father_met.elements.items c.in-Goes.i c.args.spot.now.bounds c.in-Split.middle.0 goes_down.1.within c.in_ok-i.ensures.stepped.known.stands.ascends split_inside
+
+  abbrev longer_father : Node
+  longer_father = record { kind = c.fill_node-in-Split.new.node.kind; elements = c.insert-in-Split.new.self; sons = c.insert-in-Split-2.new.self }
+
+  father_kind : longer_father.kind ≡ father_met.kind
+  father_kind = ap (λ (n : Node). n.kind) father_filled
+
+  father_elements : longer_father.elements.items ≡ insert father_met.elements.items c.in-Goes.i c.in-Split.middle
+  father_elements = c.insert-in-Split.ensures.items ∙ ap (λ (n : Node). insert n.elements.items c.in-Goes.i c.in-Split.middle) father_filled
+
+  father_sons : longer_father.sons.items ≡ insert father_met.sons.items (suc c.in-Goes.i) c.in-Split.right
+  father_sons =
+      let next_is : c.in-Goes.i + 1 ≡ suc c.in-Goes.i = omega arith in
+      c.insert-in-Split-2.ensures.items ∙ ap (λ j. insert c.fill_node-in-Split.new.node.sons.items j c.in-Split.right) next_is ∙ ap (λ (n : Node). insert n.sons.items (suc c.in-Goes.i) c.in-Split.right) father_filled
+
+  father_overfull : MayBeOverfull c.args.order longer_father
+  father_overfull =
+      let met = c.in_ok-i.ensures.stepped in
+      let inner : father_met.kind ≡ Inner = met.belongs.kind ∙ kind_above c.args.spot.now.level (λ one. absurd (omega (arith, one, goes_down.0))) in
+      inner_may_be_overfull c.args.order father_met longer_father c.in-Goes.i c.in-Split.right c.in-Split.middle met.known.stands inner split_among split_up.0 split_up.2 father_kind father_elements father_sons
+
 pub settle-requires-in-Split-clause-may_be_overfull : goal.settle-requires-in-Split-clause-may_be_overfull
-settle-requires-in-Split-clause-may_be_overfull g t c =
-    let k = c.args.order in
-    let spot = c.args.spot.now in
-    let s = c.in_ok-i.ensures.stepped in
-    let steps = subst (Steps spot.level s.node spot.bounds c.args.element.0) c.in-Goes.is s.steps in
-    let known = still_known k c.take_step.new.pages c.insert_below.new.pages spot.page c.args.in_place c.take_step.new.node s.node c.in_ok-done-in-Goes.ensures.unchanged
-    (still_known k c.args.pages.now c.take_step.new.pages spot.page c.args.in_place c.take_step.new.node s.node c.take_step.ensures.unchanged s.known) in
-    let filled = c.fill_node-in-Split.ensures.known s.node known in
-    let up = subst (SplitGoesUp c.in-Goes.bounds) c.in-Split.is c.in_ok-done-in-Goes.ensures.goes_up in
-    let inside = subst (λ b. IsWithin b c.in-Split.middle.0) steps.3 up.1 in
-    let among = within_place s.node.elements.items c.in-Goes.i spot.bounds c.in-Split.middle.0 steps.1.within s.known.stands.ascends inside in
-    let inner : s.node.kind ≡ Inner = s.belongs.kind ∙ kind_above spot.level (λ one. absurd (omega (arith, one, steps.0))) in
-    let next_is : c.in-Goes.i + 1 ≡ suc c.in-Goes.i = omega arith in
-    let m : Node = record { kind = c.fill_node-in-Split.new.node.kind; elements = c.insert-in-Split.new.self; sons = c.insert-in-Split-2.new.self } in
-    let kind_is : m.kind ≡ s.node.kind = ap (λ (n : Node). n.kind) filled in
-    let els_is = c.insert-in-Split.ensures.items ∙ ap (λ (n : Node). insert n.elements.items c.in-Goes.i c.in-Split.middle) filled in
-    let sons_is = c.insert-in-Split-2.ensures.items ∙ ap (λ j. insert c.fill_node-in-Split.new.node.sons.items j c.in-Split.right) next_is ∙ ap (λ (n : Node). insert n.sons.items (suc c.in-Goes.i) c.in-Split.right) filled in
-    let may_be_overfull = inner_may_be_overfull k s.node m c.in-Goes.i c.in-Split.right c.in-Split.middle s.known.stands inner among up.0 up.2 kind_is els_is sons_is in
-    may_be_overfull
+settle-requires-in-Split-clause-may_be_overfull g t c = father_overfull g t (goal.at.settle-requires-in-Split-clause-may_be_overfull g t c).After-insert-in-Split-2
 
 pub returns-in_ok-write_node-in-Found-clause-grew : goal.returns-in_ok-write_node-in-Found-clause-grew
 returns-in_ok-write_node-in-Found-clause-grew g t c = λ steady none least es us tree between apart unvisited.
@@ -147,39 +188,32 @@ returns-in_ok-settle-in-Ends-clause-grew g t c = λ steady none least es us tree
     let k = c.args.order in
     let spot = c.args.spot.now in
     let s = c.in_ok-i.ensures.stepped in
-    let steps = subst (Steps spot.level s.node spot.bounds c.args.element.0) c.in-Ends.is s.steps in
-    let filled = c.fill_node-in-Ends.ensures.known s.node (still_known k c.args.pages.now c.take_step.new.pages spot.page c.args.in_place c.take_step.new.node s.node c.take_step.ensures.unchanged s.known) in
+    let p = (goal.at.returns-in_ok-settle-in-Ends-clause-grew g t c).After-insert in
+    let m = longer_leaf g t p in
+    let steps = ends_here g t p in
+    let els_is = leaf_elements g t p in
     let head = taken_top k c.args.pages.now least spot es us c.args.element.0 c.args.in_place c.take_step.new.node c.in_ok-i.field-0 c.requires.order.1 c.requires.level steady s tree between in
-    let leaf : s.node.kind ≡ Leaf = s.belongs.kind ∙ ap kind_of_level steps.0 in
-    let m : Node = record { kind = c.fill_node-in-Ends.new.node.kind; elements = c.insert.new.self; sons = c.fill_node-in-Ends.new.node.sons } in
-    let kind_is : m.kind ≡ s.node.kind = ap (λ (n : Node). n.kind) filled in
-    let els_is = c.insert.ensures.items ∙ ap (λ (n : Node). insert n.elements.items c.in-Ends.i c.args.element) filled in
-    let may_be_overfull = leaf_may_be_overfull k s.node m c.in-Ends.i c.args.element s.known.stands leaf steps.1 c.requires.element kind_is els_is (ap (λ (n : Node). n.sons.items) filled) in
     let size = ap length els_is ∙ length-insert s.node.elements.items c.in-Ends.i c.args.element steps.1.within in
     grow_leaf k (at c.args.pages.now.pages) c.args.edit.now c.settle.new.edit (candidate c.args.pages.now.pages) least spot.level (spot.level - 1) spot.page es us spot.bounds
     s.node m c.args.element.0 c.args.element.1 c.in-Ends.i c.in_ok-settle-in-Ends.field-0 (omega (arith, c.requires.level)) (omega (arith, steps.0)) c.requires.order.0 none (candidates_free c.args.pages.now.pages) (in_use k (at c.args.pages.now.pages) least spot.level spot.page es us tree) apart head steps.1
-    may_be_overfull (omega (arith, size, head.least_is)) kind_is els_is
+    (leaf_overfull g t p) (omega (arith, size, head.least_is)) (leaf_kind g t p) els_is
     (subst (λ (v : PagesView). WritesOrSplits k (candidate v.pages c.args.edit.now.taken) c.args.edit.now c.settle.new.edit spot.page m c.in_ok-settle-in-Ends.field-0) c.take_step.ensures.unchanged c.in_ok-settle-in-Ends.ensures.settles)
 
 pub returns-in_ok-settle-in-Ends-clause-goes_up : goal.returns-in_ok-settle-in-Ends-clause-goes_up
 returns-in_ok-settle-in-Ends-clause-goes_up g t c =
-    let k = c.args.order in
-    let spot = c.args.spot.now in
     let s = c.in_ok-i.ensures.stepped in
-    let steps = subst (Steps spot.level s.node spot.bounds c.args.element.0) c.in-Ends.is s.steps in
-    let filled = c.fill_node-in-Ends.ensures.known s.node (still_known k c.args.pages.now c.take_step.new.pages spot.page c.args.in_place c.take_step.new.node s.node c.take_step.ensures.unchanged s.known) in
-    let els_is = c.insert.ensures.items ∙ ap (λ (n : Node). insert n.elements.items c.in-Ends.i c.args.element) filled in
-    c.in_ok-settle-in-Ends.ensures.goes_up spot.bounds (subst (AreWithin spot.bounds) (sym els_is) (insert_within spot.bounds s.node.elements.items c.in-Ends.i c.args.element s.belongs.within c.requires.within))
+    let els_is = leaf_elements g t (goal.at.returns-in_ok-settle-in-Ends-clause-goes_up g t c).After-insert in
+    c.in_ok-settle-in-Ends.ensures.goes_up c.args.spot.now.bounds (subst (AreWithin c.args.spot.now.bounds) (sym els_is) (insert_within c.args.spot.now.bounds s.node.elements.items c.in-Ends.i c.args.element s.belongs.within c.requires.within))
 
 pub returns-in_ok-settle-in-Split-clause-grew : goal.returns-in_ok-settle-in-Split-clause-grew
 returns-in_ok-settle-in-Split-clause-grew g t c = λ steady none least es us tree between apart unvisited.
     let k = c.args.order in
     let spot = c.args.spot.now in
     let s = c.in_ok-i.ensures.stepped in
-    let steps = subst (Steps spot.level s.node spot.bounds c.args.element.0) c.in-Goes.is s.steps in
-    let known = still_known k c.take_step.new.pages c.insert_below.new.pages spot.page c.args.in_place c.take_step.new.node s.node c.in_ok-done-in-Goes.ensures.unchanged
-    (still_known k c.args.pages.now c.take_step.new.pages spot.page c.args.in_place c.take_step.new.node s.node c.take_step.ensures.unchanged s.known) in
-    let filled = c.fill_node-in-Split.ensures.known s.node known in
+    let p = (goal.at.returns-in_ok-settle-in-Split-clause-grew g t c).After-insert-in-Split-2 in
+    let m = longer_father g t p in
+    let steps = goes_down g t p in
+    let els_is = father_elements g t p in
     let head = taken_top k c.args.pages.now least spot es us c.args.element.0 c.args.in_place c.take_step.new.node c.in_ok-i.field-0 c.requires.order.1 c.requires.level steady s tree between in
     let son = focus_of k (at c.args.pages.now.pages) (overlay (at c.args.pages.now.pages) c.insert_below.new.edit.writes.items) (spot.level - 1) s.node es head.below c.args.element.0 c.in-Goes.i spot.bounds (omega (arith, steps.0)) head.body between steps.1 in
     let us_is = head.us_is ∙ ap (λ vs. spot.page ∷ vs) son.us_is in
@@ -189,46 +223,22 @@ returns-in_ok-settle-in-Split-clause-grew g t c = λ steady none least es us tre
     let call = c.in_ok-done-in-Goes.ensures.grew (ap (λ (v : PagesView). v.steady) c.take_step.ensures.unchanged ∙ steady) none k son.xs son.mine tree2 (subst (λ b. Between b son.xs) (sym steps.3) son.between) (apart_below spot.page us son.upre son.mine son.upost us_is apart) unvisited2 in
     let grew = subst (λ q. Grew (tree_below k k (spot.level - 1) q) (edited c.args.pages.now.pages c.args.edit.now.taken c.insert_below.new.edit) son.xs son.mine c.args.element.0 c.args.element.1 c.in_ok-done-in-Goes.done) steps.2
     (subst (λ (v : PagesView). Grew (tree_below k k (spot.level - 1) c.in-Goes.page) (edited v.pages c.args.edit.now.taken c.insert_below.new.edit) son.xs son.mine c.args.element.0 c.args.element.1 c.in_ok-done-in-Goes.done) c.take_step.ensures.unchanged call) in
-    let up = subst (SplitGoesUp c.in-Goes.bounds) c.in-Split.is c.in_ok-done-in-Goes.ensures.goes_up in
-    let inside = subst (λ b. IsWithin b c.in-Split.middle.0) steps.3 up.1 in
-    let among = within_place s.node.elements.items c.in-Goes.i spot.bounds c.in-Split.middle.0 steps.1.within s.known.stands.ascends inside in
-    let inner : s.node.kind ≡ Inner = s.belongs.kind ∙ kind_above spot.level (λ one. absurd (omega (arith, one, steps.0))) in
-    let next_is : c.in-Goes.i + 1 ≡ suc c.in-Goes.i = omega arith in
-    let m : Node = record { kind = c.fill_node-in-Split.new.node.kind; elements = c.insert-in-Split.new.self; sons = c.insert-in-Split-2.new.self } in
-    let kind_is : m.kind ≡ s.node.kind = ap (λ (n : Node). n.kind) filled in
-    let els_is = c.insert-in-Split.ensures.items ∙ ap (λ (n : Node). insert n.elements.items c.in-Goes.i c.in-Split.middle) filled in
-    let sons_is = c.insert-in-Split-2.ensures.items ∙ ap (λ j. insert c.fill_node-in-Split.new.node.sons.items j c.in-Split.right) next_is ∙ ap (λ (n : Node). insert n.sons.items (suc c.in-Goes.i) c.in-Split.right) filled in
-    let may_be_overfull = inner_may_be_overfull k s.node m c.in-Goes.i c.in-Split.right c.in-Split.middle s.known.stands inner among up.0 up.2 kind_is els_is sons_is in
-    let size = ap length els_is ∙ length-insert s.node.elements.items c.in-Goes.i c.in-Split.middle among.within in
+    let size = ap length els_is ∙ length-insert s.node.elements.items c.in-Goes.i c.in-Split.middle (split_among g t p).within in
     let counted = subst (TakesNumbers (spot.level - 1) c.args.edit.now.taken c.insert_below.new.edit.taken) c.in-Split.is c.in_ok-done-in-Goes.ensures.takes in
     grow_split k (at c.args.pages.now.pages) c.insert_below.new.edit c.settle-in-Split.new.edit (candidate c.args.pages.now.pages) c.args.edit.now.taken least spot.level (spot.level - 1) spot.page es us spot.bounds
     s.node m c.args.element.0 c.args.element.1 c.in-Goes.i c.in-Split.middle c.in-Split.right c.in_ok-settle-in-Split.field-0 (omega (arith, c.requires.level)) (omega (arith, steps.0)) c.requires.order.0 counted.0 (candidates_free c.args.pages.now.pages) (in_use k (at c.args.pages.now.pages) least spot.level spot.page es us tree) apart head son
     (subst (λ (r : Grown). Grew (tree_below k k (spot.level - 1) (get_or s.node.sons.items c.in-Goes.i 0)) (edited c.args.pages.now.pages c.args.edit.now.taken c.insert_below.new.edit) son.xs son.mine c.args.element.0 c.args.element.1 r) c.in-Split.is grew)
-    may_be_overfull (omega (arith, size, head.least_is)) kind_is els_is sons_is
+    (father_overfull g t p) (omega (arith, size, head.least_is)) (father_kind g t p) els_is (father_sons g t p)
     (subst (λ (ps : List (Option (List ℕ))). WritesOrSplits k (candidate ps c.insert_below.new.edit.taken) c.insert_below.new.edit c.settle-in-Split.new.edit spot.page m c.in_ok-settle-in-Split.field-0)
     (ap (λ (v : PagesView). v.pages) c.in_ok-done-in-Goes.ensures.unchanged ∙ ap (λ (v : PagesView). v.pages) c.take_step.ensures.unchanged) c.in_ok-settle-in-Split.ensures.settles)
 
 pub returns-in_ok-settle-in-Split-clause-goes_up : goal.returns-in_ok-settle-in-Split-clause-goes_up
 returns-in_ok-settle-in-Split-clause-goes_up g t c =
-    let k = c.args.order in
-    let spot = c.args.spot.now in
+    let b = c.args.spot.now.bounds in
     let s = c.in_ok-i.ensures.stepped in
-    let steps = subst (Steps spot.level s.node spot.bounds c.args.element.0) c.in-Goes.is s.steps in
-    let known = still_known k c.take_step.new.pages c.insert_below.new.pages spot.page c.args.in_place c.take_step.new.node s.node c.in_ok-done-in-Goes.ensures.unchanged
-    (still_known k c.args.pages.now c.take_step.new.pages spot.page c.args.in_place c.take_step.new.node s.node c.take_step.ensures.unchanged s.known) in
-    let filled = c.fill_node-in-Split.ensures.known s.node known in
-    let up = subst (SplitGoesUp c.in-Goes.bounds) c.in-Split.is c.in_ok-done-in-Goes.ensures.goes_up in
-    let inside = subst (λ b. IsWithin b c.in-Split.middle.0) steps.3 up.1 in
-    let among = within_place s.node.elements.items c.in-Goes.i spot.bounds c.in-Split.middle.0 steps.1.within s.known.stands.ascends inside in
-    let inner : s.node.kind ≡ Inner = s.belongs.kind ∙ kind_above spot.level (λ one. absurd (omega (arith, one, steps.0))) in
-    let next_is : c.in-Goes.i + 1 ≡ suc c.in-Goes.i = omega arith in
-    let m : Node = record { kind = c.fill_node-in-Split.new.node.kind; elements = c.insert-in-Split.new.self; sons = c.insert-in-Split-2.new.self } in
-    let kind_is : m.kind ≡ s.node.kind = ap (λ (n : Node). n.kind) filled in
-    let els_is = c.insert-in-Split.ensures.items ∙ ap (λ (n : Node). insert n.elements.items c.in-Goes.i c.in-Split.middle) filled in
-    let sons_is = c.insert-in-Split-2.ensures.items ∙ ap (λ j. insert c.fill_node-in-Split.new.node.sons.items j c.in-Split.right) next_is ∙ ap (λ (n : Node). insert n.sons.items (suc c.in-Goes.i) c.in-Split.right) filled in
-    let may_be_overfull = inner_may_be_overfull k s.node m c.in-Goes.i c.in-Split.right c.in-Split.middle s.known.stands inner among up.0 up.2 kind_is els_is sons_is in
-    c.in_ok-settle-in-Split.ensures.goes_up spot.bounds (subst (AreWithin spot.bounds) (sym els_is)
-    (insert_within spot.bounds s.node.elements.items c.in-Goes.i c.in-Split.middle s.belongs.within (son_within s.node.elements.items c.in-Goes.i spot.bounds c.in-Split.middle.0 s.known.stands.ascends s.belongs.within inside)))
+    let p = (goal.at.returns-in_ok-settle-in-Split-clause-goes_up g t c).After-insert-in-Split-2 in
+    c.in_ok-settle-in-Split.ensures.goes_up b (subst (AreWithin b) (sym (father_elements g t p))
+    (insert_within b s.node.elements.items c.in-Goes.i c.in-Split.middle s.belongs.within (son_within s.node.elements.items c.in-Goes.i b c.in-Split.middle.0 s.known.stands.ascends s.belongs.within (split_inside g t p))))
 
 pub returns-in_default : goal.returns-in_default
 returns-in_default g t c = record {
