@@ -1,5 +1,5 @@
 -- Closes that are tried again.
-use Rattle.std.proofs.Common.{◌≡◌, ℕ, ◌+◌, ◌-◌, ◌<◌, ◌≤◌, ◌++◌, ⊎_elim, List, [], ◌∷◌, length, take, Option, Some, None, zero, suc, refl, sym, ap, ◌∙◌, subst, inr, arith, append-nil, unwrap_or}
+use Rattle.std.proofs.Common.{◌≡◌, ℕ, ◌+◌, ◌-◌, ◌<◌, ◌≤◌, ◌++◌, ⊎_elim, List, [], ◌∷◌, length, take, Option, Some, None, zero, suc, refl, sym, ap, ◌∙◌, subst, inl, inr, arith, append-nil, unwrap_or}
 use Rattle.std.proofs.lemmas.List.{append_assoc, take-append-le}
 use Rattle.std.proofs.Math.Seq.{take-append-add, take-append_seam, take-length}
 use Rattle.std.proofs.lemmas.Bool.{cases_lt}
@@ -10,7 +10,7 @@ use Rattle.page_store.specs.declared.step.Step.{Step}
 use Rattle.page_store.proofs.TryLemmas.{carried-append}
 use Rattle.btree_delete.specs.Closing.{closing, IsNewOrFile, IsEither}
 use Rattle.btree_delete.specs.TableView.{TableView}
-use Rattle.recfile_c.specs.Paged.{HasNoStep, HasTried, IsTriedAgain, OpensPages, Settles}
+use Rattle.recfile_c.specs.Paged.{HasNoStep, HasTried, IsTriedAgain, MakesPages, OpensPages, Settles}
 use Rattle.recfile_c.specs.FileTables.{origin_of}
 use Rattle.recfile_c.specs.declared.file_table.FileTable.TheVariants.{Paged}
 use Rattle.recfile_c.specs.Steps.{JournalView, pages_of, journal_of}
@@ -107,15 +107,26 @@ tries_again : (n : ℕ) (old new : TableView) (opened : List (List ℕ)) (ks : L
 tries_again zero old new opened ks same has = (ks, subst (λ (t : TableView). HasTried t opened ks) (sym same) has)
 tries_again (suc n) old new opened ks tries has = let next = tries.1.tries opened ks has in tries_again n tries.0 new opened (ks ++ next.0 ∷ []) tries.2 next.1
 
--- from the pages that were handed in to the steps that are handed out
-pub handed_in : (pages : List (List ℕ)) (limits : Bounds) (made now last : TableView) (n : ℕ) (j : JournalView) → OpensPages pages limits made
+-- from the pages of a new file or of an opened one to the steps that are handed out
+from_pages : (pages : List (List ℕ)) (made now last : TableView) (n : ℕ) (j : JournalView) → HasNoStep made pages → IsNewOrFile pages
     → origin_of (Paged now) ≡ origin_of (Paged made) → IsTriedAgain n now last → Settles last j
     → (j.opened ≡ pages) × ((k : ℕ) → IsEither pages (pages_of j) (carried pages (take k j.steps)))
-handed_in pages limits made now last n j opens same tries settles =
-    let has = tries_again n now last pages [] tries (none_tried now pages (same ∙ opens.steps)) in
-    let is = settles.opened pages has.0 has.1 in
-    let file : IsNewOrFile pages = inr (record { h = opens.opens.h; tree = made.tree; es = opens.opens.es; us = opens.opens.us; clean = opens.opens.clean }) in (
+from_pages pages made now last n j none file same tries settles =
+    let has = tries_again n now last pages [] tries (none_tried now pages (same ∙ none)) in
+    let is = settles.opened pages has.0 has.1 in (
       is,
       λ k. subst (λ (ps : List (List ℕ)). IsEither ps (pages_of j) (carried ps (take k j.steps))) is
           (settles.fronts has.0 (subst (λ (ps : List (List ℕ)). HasTried last ps has.0) (sym is) has.1) (subst IsNewOrFile (sym is) file) k),
     )
+
+pub handed_in : (pages : List (List ℕ)) (limits : Bounds) (made now last : TableView) (n : ℕ) (j : JournalView) → OpensPages pages limits made
+    → origin_of (Paged now) ≡ origin_of (Paged made) → IsTriedAgain n now last → Settles last j
+    → (j.opened ≡ pages) × ((k : ℕ) → IsEither pages (pages_of j) (carried pages (take k j.steps)))
+handed_in pages limits made now last n j opens =
+    from_pages pages made now last n j opens.steps
+    (inr (record { h = opens.opens.h; tree = made.tree; es = opens.opens.es; us = opens.opens.us; clean = opens.opens.clean }))
+
+pub newly_made : (order : ℕ) (limits : Bounds) (made now last : TableView) (n : ℕ) (j : JournalView) → MakesPages order limits made
+    → origin_of (Paged now) ≡ origin_of (Paged made) → IsTriedAgain n now last → Settles last j
+    → (j.opened ≡ []) × ((k : ℕ) → IsEither [] (pages_of j) (carried [] (take k j.steps)))
+newly_made order limits made now last n j makes = from_pages [] made now last n j makes.steps (inl refl)

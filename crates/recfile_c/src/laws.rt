@@ -7,7 +7,7 @@ ghost use Rattle.page_store.specs.Fronts.{two_pages, page_1_written};
 ghost use Rattle.page_store.specs.Journal.{carried};
 ghost use Rattle.rec_types.specs.LimitBounds.{Bounds};
 ghost use Rattle.recfile_c.specs.FileTables.{origin_of};
-ghost use Rattle.recfile_c.specs.Paged.{OpensPages, IsTriedAgain, Settles};
+ghost use Rattle.recfile_c.specs.Paged.{OpensPages, MakesPages, IsTriedAgain, Settles};
 ghost use Rattle.recfile_c.specs.declared.file_table.FileTable.TheVariants.{Paged};
 ghost use Rattle.recfile_c.specs.Steps.{JournalView, pages_of, page_1_left_out, written_before_longer, longer_before_written};
 
@@ -28,6 +28,16 @@ pub fn steps_are_for_the_pages_handed_in()
         → origin_of (Paged now) ≡ origin_of (Paged made) → IsTriedAgain n now last → Settles last j
         → (j.opened ≡ pages)
         × ((k : ℕ) → IsEither pages (pages_of j) (carried pages (take k j.steps))) }
+{}
+
+/// The same holds of a file that was made: its steps are for no page, and each front of them leaves no
+/// page, or pages that opening refuses, or the new file.
+pub fn steps_of_a_new_file_are_for_no_page()
+    ensures { (order : ℕ) (limits : Bounds) (made now last : TableView) (n : ℕ)
+        → (j : JournalView)
+        → MakesPages order limits made → origin_of (Paged now) ≡ origin_of (Paged made)
+        → IsTriedAgain n now last → Settles last j → (j.opened ≡ [])
+        × ((k : ℕ) → IsEither [] (pages_of j) (carried [] (take k j.steps))) }
 {}
 
 /// Steps are carried out in their order. Of two pages page 0 and page 1 are written. It fails where the
