@@ -13,5 +13,6 @@ pub mod NumberSetLemmas
 pub mod SlotLemmas
 pub mod Staging
 pub mod Totals
+pub mod TryExamples
 pub mod TryLemmas
 pub mod WriteBackLemmas

@@ -35,3 +35,10 @@ marked_late = SetPages 2 ∷ Write 1 (3 ∷ []) ∷ Sync ∷ Write 0 (4 ∷ []) 
 -- two tries that stopped, after one call and after two
 abbrev pub two_tries : List Step
 two_tries = SetPages 2 ∷ SetPages 2 ∷ Write 0 (4 ∷ []) ∷ []
+
+-- how no tries begin: page 1 written with no mark, and page 1 written twice in one try
+abbrev pub unmarked : List Step
+unmarked = SetPages 2 ∷ Write 1 (3 ∷ []) ∷ []
+
+abbrev pub page_1_twice : List Step
+page_1_twice = SetPages 2 ∷ Write 0 (4 ∷ []) ∷ Sync ∷ Write 1 (3 ∷ []) ∷ Write 1 (3 ∷ []) ∷ []

@@ -1,10 +1,11 @@
 //! Facts of the definitions that contracts of this crate cite.
-ghost use Rattle.std.specs.Prelude.{◌≡◌, ◌≢◌, ℕ, ◌+◌, ◌<◌, ◌≤◌, ◌==◌, List, [], ◌∷◌, length, take, Option, None, is_some};
+ghost use Rattle.std.specs.Prelude.{◌≡◌, ◌≢◌, ℕ, ◌+◌, ◌<◌, ◌≤◌, ◌==◌, List, [], ◌∷◌, ◌++◌, length, take, Option, None, is_some};
 ghost use Rattle.std.specs.List.{list_any};
 ghost use Rattle.page_store.specs.PageMap.{PageMap, at};
 ghost use Rattle.page_store.specs.FreeNumbers.{free_numbers, candidate, count_after, AreDistinct, pages_1_and_3};
 ghost use Rattle.page_store.specs.Journal.{carried, writing_back};
-ghost use Rattle.page_store.specs.Fronts.{IsPartWay, tried, two_pages, new_page_1, page_1_written, closed_first, marked_late, two_tries};
+ghost use Rattle.page_store.specs.declared.step.Step.{Step};
+ghost use Rattle.page_store.specs.Fronts.{IsPartWay, tried, two_pages, new_page_1, page_1_written, closed_first, marked_late, two_tries, unmarked, page_1_twice};
 
 /// The numbers that an edit takes: no page of such a number is in use, they ascend, they aren't 0,
 /// and they are below the page count that the edit leaves.
@@ -63,4 +64,18 @@ pub fn tries_of_a_writing_back()
         (writing_back pages count writing clean)
         ≡ carried old (writing_back pages count writing clean) }
     ensures example { tried (1 ∷ 2 ∷ []) page_1_written ≡ two_tries }
+{}
+
+/// Tries hold the calls of a writing back alone, in their order. Where page 1 of two is written, none
+/// begin by writing page 1 with no mark in page 0, or before the mark, or by closing page 0 before
+/// page 1 is written, or write page 1 twice with nothing between, whatever comes after.
+pub fn tries_by_example()
+    ensures unmarked { (ks : List ℕ) (more : List Step)
+        → tried ks page_1_written ≢ unmarked ++ more }
+    ensures marked_late { (ks : List ℕ) (more : List Step)
+        → tried ks page_1_written ≢ marked_late ++ more }
+    ensures closed_first { (ks : List ℕ) (more : List Step)
+        → tried ks page_1_written ≢ closed_first ++ more }
+    ensures twice { (ks : List ℕ) (more : List Step)
+        → tried ks page_1_written ≢ page_1_twice ++ more }
 {}
