@@ -1,4 +1,5 @@
 pub mod Journals
 pub mod StepLaws
+pub mod TryExamples
 pub mod TryLemmas
 pub mod Values

@@ -103,7 +103,7 @@ fronts_tried t j ks steps has fronts again file m =
     (subst (λ (ps : List (List ℕ)). IsEither j.opened (carried j.opened all) ps) (sym left) (fronts j.opened front.0 file))
 
 -- each of several closes is one more try
-tries_again : (n : ℕ) (old new : TableView) (opened : List (List ℕ)) (ks : List ℕ) → IsTriedAgain n old new → HasTried old opened ks → (js : List ℕ) × HasTried new opened js
+pub tries_again : (n : ℕ) (old new : TableView) (opened : List (List ℕ)) (ks : List ℕ) → IsTriedAgain n old new → HasTried old opened ks → (js : List ℕ) × HasTried new opened js
 tries_again zero old new opened ks same has = (ks, subst (λ (t : TableView). HasTried t opened ks) (sym same) has)
 tries_again (suc n) old new opened ks tries has = let next = tries.1.tries opened ks has in tries_again n tries.0 new opened (ks ++ next.0 ∷ []) tries.2 next.1
 

@@ -9,3 +9,4 @@ pub mod Roots
 pub mod Shown
 pub mod Slots
 pub mod Steps
+pub mod Tried

@@ -5,11 +5,13 @@ ghost use Rattle.btree_delete.specs.Closing.{IsEither};
 ghost use Rattle.btree_delete.specs.TableView.{TableView};
 ghost use Rattle.page_store.specs.Fronts.{two_pages, page_1_written};
 ghost use Rattle.page_store.specs.Journal.{carried};
+ghost use Rattle.page_store.specs.declared.step.Step.{Step};
 ghost use Rattle.rec_types.specs.LimitBounds.{Bounds};
 ghost use Rattle.recfile_c.specs.FileTables.{origin_of};
-ghost use Rattle.recfile_c.specs.Paged.{OpensPages, MakesPages, IsTriedAgain, Settles};
+ghost use Rattle.recfile_c.specs.Paged.{OpensPages, MakesPages, HasTried, IsTriedAgain, Settles};
 ghost use Rattle.recfile_c.specs.declared.file_table.FileTable.TheVariants.{Paged};
 ghost use Rattle.recfile_c.specs.Steps.{JournalView, pages_of, page_1_left_out, written_before_longer, longer_before_written};
+ghost use Rattle.recfile_c.specs.Tried.{table_over, changed_table, made_longer, made_too_long, written_unmarked, kept_first};
 
 /// A close may leave one list of steps over one list of pages: with another order of the steps, or with
 /// one left out, it doesn't settle the table.
@@ -47,4 +49,33 @@ pub fn steps_by_example()
     ensures left_out { carried two_pages page_1_left_out ≢ carried two_pages page_1_written }
     ensures another_order { carried two_pages written_before_longer
         ≢ carried two_pages longer_before_written }
+{}
+
+/// Closes that found no memory, by example. The table's store was made of two pages, and page 1 is to be
+/// written anew. Before the first such close the table has kept no step, and after one that stopped at
+/// its second call one step. None keep another length, or page 1 written with no mark, or a sync before
+/// anything else, and none are for other pages than those that the store was made of.
+pub fn tried_closes_by_example()
+    ensures untried { HasTried (changed_table []) two_pages [] }
+    ensures once { HasTried (changed_table made_longer) two_pages (1 ∷ []) }
+    ensures too_long { (ks : List ℕ) → HasTried (changed_table made_too_long) two_pages ks → ⊥ }
+    ensures unmarked { (ks : List ℕ) → HasTried (changed_table written_unmarked) two_pages ks → ⊥ }
+    ensures kept_first { (ks : List ℕ) → HasTried (changed_table kept_first) two_pages ks → ⊥ }
+    ensures other_pages { (steps : List Step) (ks : List ℕ)
+        → HasTried (table_over [] steps) two_pages ks → ⊥ }
+{}
+
+/// The same of a handle whose close is tried again, any number of times: it never comes to have steps
+/// that no tries keep, or fewer steps than before, or steps for other pages.
+pub fn closes_again_by_example()
+    ensures once { IsTriedAgain 1 (changed_table []) (changed_table made_longer) }
+    ensures fewer { (n : ℕ)
+        → IsTriedAgain n (changed_table made_longer) (changed_table []) → ⊥ }
+    ensures too_long { (n : ℕ)
+        → IsTriedAgain n (changed_table []) (changed_table made_too_long) → ⊥ }
+    ensures unmarked { (n : ℕ)
+        → IsTriedAgain n (changed_table []) (changed_table written_unmarked) → ⊥ }
+    ensures kept_first { (n : ℕ)
+        → IsTriedAgain n (changed_table []) (changed_table kept_first) → ⊥ }
+    ensures other_pages { (n : ℕ) → IsTriedAgain n (changed_table []) (table_over [] []) → ⊥ }
 {}
