@@ -1,4 +1,4 @@
-ghost use Rattle.std.specs.Prelude.{◌≡◌, ◌*◌, ◌≤◌, [], IfOk, IfErr};
+ghost use Rattle.std.specs.Prelude.{◌≡◌, ◌*◌, ◌≤◌, ◌↔◌, [], IfOk, IfErr, IsOk};
 ghost use Rattle.rec_types.specs.Table.{counted};
 ghost use Rattle.page_store.specs.StoreFaults.{is_failed};
 
@@ -112,6 +112,7 @@ fn page_start(n: u32) -> u64
 /// The answer for the caller, with a failure counted.
 fn noted(failures: &mut u64, answer: io::Result<()>) -> Result<(), StoreFault>
     ensures failures { failures.new ≡ counted failures.old (is_failed result) }
+    ensures told { IsOk result ↔ IsOk answer }
     ensures fault { IfErr result (λ fault. fault ≡ StoreFault.Failed) }
 {
     if answer.is_err() {
