@@ -4,12 +4,12 @@ use Rattle.std.proofs.lemmas.List.{length-reverse}
 use Rattle.rec_types.specs.History.{log_len}
 use Rattle.rec_types.specs.Kept.{undone}
 use Rattle.rec_types.specs.declared.transaction.TxId.{TxId}
-use Rattle.tx_log.proofs.HoldCalls.{key_of_change, compensated_keys}
+use Rattle.tx_log.proofs.HoldCalls.{IsKeyOf, key_of_change, compensated_keys}
 use Rattle.tx_log.specs.Holdings.{held, absent_at, IsHeld}
 use Rattle.tx_log.specs.Marks.{first_lsn, AreMarked}
 use Rattle.tx_log.specs.OpenTxs.{opens}
 use Rattle.tx_log.specs.declared.holding.Holding.{Holding}
-use Rattle.tx_log.proofs.KeptLogLemmas.{sized, some_of, state_len, recounted, none_is, counted_change, kept_now}
+use Rattle.tx_log.proofs.KeptLogLemmas.{IsSized, IsCounted, sized, some_of, state_len, recounted, none_is, counted_change, kept_now}
 use Rattle.tx_log.proofs.LogIndex.{reverse-push, record_of_chain}
 use Rattle.tx_log.proofs.MarkLemmas.{as_many, marked_more}
 use Rattle.tx_log.proofs.PlaceOf.{read_at, write_at}
@@ -23,12 +23,53 @@ use Rattle.tx_log.specs.Finds.{finding, PutsAt}
 use Rattle.tx_log.specs.Log.{lsn_of, key_of, kept_of, chain}
 use Rattle.tx_log.specs.LogState.{LogState, history_in, undo_in, compensations_in}
 use Rattle.tx_log.specs.Walks.{newest_in}
+use Rattle.tx_log.specs.declared.log.TxLog.TheInside.{Inside}
 use Rattle.tx_log.specs.declared.log_record.LogRecord.{LogRecord}
 use Rattle.tx_log.specs.declared.log_record.LogRecord.TheVariants.{Compensation}
 use Rattle.tx_log.specs.declared.mark.Mark.{Mark}
 use Rattle.tx_log.specs.declared.open_tx.OpenTx.{OpenTx}
 use Rattle.tx_log.specs.declared.undo_chain.LiveChange.{LiveChange}
 use Rattle.tx_log.proofs.log.TxLog.compensate.Goals as goal
+use Rattle.tx_log.proofs.log.TxLog.compensate.Goals.{After-index, After-deref-3, After-index_mut-open_tx}
+
+-- the transaction of the change that is taken back
+module _ (c : After-index) where
+  met : finding c.self.inside.txs.entries c.args.tx.0 ≡ Some c.index.result.now
+  met = read_at c.self.inside.txs c.args.tx.0 c.place_of-at.result c.index.result.now c.place_of-at.ensures.stands c.index.ensures
+
+  met_sizes : IsSized (reverse c.self.inside.records.items) c.self.inside.pending c.self.inside.gone c.index.result.now
+  met_sizes = sized (reverse c.self.inside.records.items) c.self.inside.txs.entries c.self.inside.begun c.self.inside.pending c.self.inside.gone c.args.tx.0 c.index.result.now c.self.invariant.log_kept met
+
+-- what is known of the change that is taken back
+record IsNext (l : Inside) (t : ℕ) (e : OpenTx) (change : LiveChange) : Type 0 where
+  pub found : finding l.txs.entries t ≡ Some e
+  pub step : IsStep (reverse l.records.items) e.last change
+  pub counted : IsCounted l.pending change e
+  pub at : IsKeyOf l t change step.update step.rest
+
+module _ (c : After-deref-3) where
+  next : IsNext c.self.inside c.args.tx.0 c.index.result.now c.unwrap-change.result
+  next =
+      let l = c.self.inside in
+      let rs = reverse l.records.items in
+      let e = c.index.result.now in
+      let change = c.unwrap-change.result in
+      let found = read_at l.txs c.args.tx.0 c.place_of-at.result e c.place_of-at.ensures.stands c.index.ensures in
+      let step = walk_step rs e.last change c.self.invariant.log_kept.numbered (ap (λ (log : List LogRecord). newest_in (chain (reverse log) e.last)) (sym c.deref.ensures.value) ∙ sym c.newest_change-newest.ensures ∙ c.unwrap-change.ensures) in
+      record {
+        found = found;
+        step = step;
+        counted = counted_change rs l.txs.entries l.begun l.pending l.gone c.args.tx.0 e change c.self.invariant.log_kept found step;
+        at = key_of_change l c.self.invariant c.args.tx.0 e change found step;
+      }
+
+  was_none : c.is_none-was.result ≡ not (is_some c.unwrap-change.result.after)
+  was_none = none_is (is_some c.unwrap-change.result.after) c.is_none-was.result c.is_none-was.ensures
+
+-- the transaction's entry is still the one that was read
+module _ (c : After-index_mut-open_tx) where
+  same_entry : finding c.self.inside.txs.entries c.args.tx.0 ≡ Some c.index.result.now → c.index_mut-open_tx.result.now ≡ c.index.result.now
+  same_entry found = some_of c.index_mut-open_tx.result.now c.index.result.now (sym (read_at c.self.inside.txs c.args.tx.0 c.place_of-at.result c.index_mut-open_tx.result.now c.place_of-at.ensures.stands c.index_mut-open_tx.ensures.value) ∙ found)
 
 pub place_of-at-requires : goal.place_of-at-requires
 place_of-at-requires c =
@@ -39,271 +80,170 @@ place_of-at-requires c =
 
 pub newest_change-newest-requires-clause-within : goal.newest_change-newest-requires-clause-within
 newest_change-newest-requires-clause-within c =
-    let l = c.self.inside in
-    let rs = reverse l.records.items in
-    let e = c.index.result.now in
-    let found = read_at l.txs c.args.tx.0 c.place_of-at.result e c.place_of-at.ensures.stands c.index.ensures in
-    let size = sized rs l.txs.entries l.begun l.pending l.gone c.args.tx.0 e c.self.invariant.log_kept found in
-    subst (λ (k : ℕ). e.last ≤ k) (length-reverse l.records.items ∙ ap length (sym c.deref.ensures.value)) size.last
+    let size = met_sizes (goal.at.newest_change-newest-requires-clause-within c).After-index in
+    subst (λ (k : ℕ). c.index.result.now.last ≤ k) (length-reverse c.self.inside.records.items ∙ ap length (sym c.deref.ensures.value)) size.last
 
 pub unwrap-change-requires : goal.unwrap-change-requires
 unwrap-change-requires c =
     let l = c.self.inside in
-    let rs = reverse l.records.items in
     let e = c.index.result.now in
-    let found = read_at l.txs c.args.tx.0 c.place_of-at.result e c.place_of-at.ensures.stands c.index.ensures in
-    let head = undo_head rs l.txs.entries l.begun l.pending l.gone c.args.tx.0 e c.self.invariant.log_kept found (ap (λ (s : LogState). is_some (undo_in s c.args.tx.0)) c.self.view_is ∙ c.requires) in
+    let head = undo_head (reverse l.records.items) l.txs.entries l.begun l.pending l.gone c.args.tx.0 e c.self.invariant.log_kept (met (goal.at.unwrap-change-requires c).After-index) (ap (λ (s : LogState). is_some (undo_in s c.args.tx.0)) c.self.view_is ∙ c.requires) in
     ap is_some (c.newest_change-newest.ensures ∙ ap (λ (log : List LogRecord). newest_in (chain (reverse log) e.last)) c.deref.ensures.value) ∙ head
 
 pub is_absent_below-will-requires-clause-some : goal.is_absent_below-will-requires-clause-some
 is_absent_below-will-requires-clause-some c =
-    let l = c.self.inside in
-    let rs = reverse l.records.items in
-    let e = c.index.result.now in
-    let change = c.unwrap-change.result in
-    let step = walk_step rs e.last change c.self.invariant.log_kept.numbered (ap (λ (log : List LogRecord). newest_in (chain (reverse log) e.last)) (sym c.deref.ensures.value) ∙ sym c.newest_change-newest.ensures ∙ c.unwrap-change.ensures) in
-    omega (arith, step.falls)
+    omega (arith, (next (goal.at.is_absent_below-will-requires-clause-some c).After-deref-3).step.falls)
 
 pub is_absent_below-will-requires-clause-within : goal.is_absent_below-will-requires-clause-within
 is_absent_below-will-requires-clause-within c =
     let l = c.self.inside in
-    let rs = reverse l.records.items in
-    let e = c.index.result.now in
     let change = c.unwrap-change.result in
-    let step = walk_step rs e.last change c.self.invariant.log_kept.numbered (ap (λ (log : List LogRecord). newest_in (chain (reverse log) e.last)) (sym c.deref.ensures.value) ∙ sym c.newest_change-newest.ensures ∙ c.unwrap-change.ensures) in
-    let low : change.lsn ≤ length l.marks.items = omega (arith, step.within, length-reverse l.records.items, as_many l.records.items l.marks.items c.self.invariant.marked) in
+    let low : change.lsn ≤ length l.marks.items = omega (arith, (next (goal.at.is_absent_below-will-requires-clause-within c).After-deref-3).step.within, length-reverse l.records.items, as_many l.records.items l.marks.items c.self.invariant.marked) in
     subst (λ (k : ℕ). change.lsn ≤ k) (ap length (sym c.deref-3.ensures.value)) low
 
 pub newest_number-below-requires : goal.newest_number-below-requires
 newest_number-below-requires c =
     let l = c.self.inside in
-    let rs = reverse l.records.items in
-    let e = c.index.result.now in
     let change = c.unwrap-change.result in
-    let step = walk_step rs e.last change c.self.invariant.log_kept.numbered (ap (λ (log : List LogRecord). newest_in (chain (reverse log) e.last)) (sym c.deref.ensures.value) ∙ sym c.newest_change-newest.ensures ∙ c.unwrap-change.ensures) in
+    let step = (next (goal.at.newest_number-below-requires c).After-deref-3).step in
     let low : change.prev ≤ length l.marks.items = omega (arith, step.falls, step.within, length-reverse l.records.items, as_many l.records.items l.marks.items c.self.invariant.marked) in
     subst (λ (k : ℕ). change.prev ≤ k) (ap length (sym c.deref-4.ensures.value)) low
 
 pub lower-requires-clause-there : goal.lower-requires-clause-there
 lower-requires-clause-there c =
-    let l = c.self.inside in
-    let rs = reverse l.records.items in
-    let e = c.index.result.now in
-    let found = read_at l.txs c.args.tx.0 c.place_of-at.result e c.place_of-at.ensures.stands c.index.ensures in
-    let change = c.unwrap-change.result in
-    let step = walk_step rs e.last change c.self.invariant.log_kept.numbered (ap (λ (log : List LogRecord). newest_in (chain (reverse log) e.last)) (sym c.deref.ensures.value) ∙ sym c.newest_change-newest.ensures ∙ c.unwrap-change.ensures) in
-    ap is_some (key_of_change l c.self.invariant c.args.tx.0 e change found step).there
+    ap is_some (next (goal.at.lower-requires-clause-there c).After-deref-3).at.there
 
 pub lower-requires-clause-some : goal.lower-requires-clause-some
 lower-requires-clause-some c = λ h there.
-    let l = c.self.inside in
-    let rs = reverse l.records.items in
-    let e = c.index.result.now in
-    let found = read_at l.txs c.args.tx.0 c.place_of-at.result e c.place_of-at.ensures.stands c.index.ensures in
-    let change = c.unwrap-change.result in
-    let step = walk_step rs e.last change c.self.invariant.log_kept.numbered (ap (λ (log : List LogRecord). newest_in (chain (reverse log) e.last)) (sym c.deref.ensures.value) ∙ sym c.newest_change-newest.ensures ∙ c.unwrap-change.ensures) in
-    let at = key_of_change l c.self.invariant c.args.tx.0 e change found step in
+    let at = (next (goal.at.lower-requires-clause-some c).After-deref-3).at in
     let live_is : h.live ≡ at.hold.hold.live = ap (λ (x : Holding). x.live) (some_of h at.hold.hold (sym there ∙ at.there)) in
     omega (arith, live_is, at.hold.live)
 
 pub overflow_sub-self : goal.overflow_sub-self
 overflow_sub-self c =
-    let l = c.self.inside in
-    let rs = reverse l.records.items in
-    let e = c.index.result.now in
-    let found = read_at l.txs c.args.tx.0 c.place_of-at.result e c.place_of-at.ensures.stands c.index.ensures in
-    let change = c.unwrap-change.result in
-    let step = walk_step rs e.last change c.self.invariant.log_kept.numbered (ap (λ (log : List LogRecord). newest_in (chain (reverse log) e.last)) (sym c.deref.ensures.value) ∙ sym c.newest_change-newest.ensures ∙ c.unwrap-change.ensures) in
-    let counted = counted_change rs l.txs.entries l.begun l.pending l.gone c.args.tx.0 e change c.self.invariant.log_kept found step in
-    omega (arith, counted.waits)
+    omega (arith, (next (goal.at.overflow_sub-self c).After-deref-3).counted.waits)
 
 pub recount-self-inside-requires-clause-some : goal.recount-self-inside-requires-clause-some
 recount-self-inside-requires-clause-some c = λ was.
-    let l = c.self.inside in
-    let rs = reverse l.records.items in
-    let e = c.index.result.now in
-    let found = read_at l.txs c.args.tx.0 c.place_of-at.result e c.place_of-at.ensures.stands c.index.ensures in
-    let change = c.unwrap-change.result in
-    let step = walk_step rs e.last change c.self.invariant.log_kept.numbered (ap (λ (log : List LogRecord). newest_in (chain (reverse log) e.last)) (sym c.deref.ensures.value) ∙ sym c.newest_change-newest.ensures ∙ c.unwrap-change.ensures) in
-    let size = sized rs l.txs.entries l.begun l.pending l.gone c.args.tx.0 e c.self.invariant.log_kept found in
-    let counted = counted_change rs l.txs.entries l.begun l.pending l.gone c.args.tx.0 e change c.self.invariant.log_kept found step in
-    let was_is : c.is_none-was.result ≡ not (is_some change.after) = none_is (is_some change.after) c.is_none-was.result c.is_none-was.ensures in
-    let some = counted.lacking (sym was_is ∙ was) in
+    let size = met_sizes (goal.at.recount-self-inside-requires-clause-some c).After-index in
+    let some = (next (goal.at.recount-self-inside-requires-clause-some c).After-deref-3).counted.lacking (sym (was_none (goal.at.recount-self-inside-requires-clause-some c).After-deref-3) ∙ was) in
     omega (arith, some, size.absent_part)
 
 pub recount-self-inside-requires-clause-most : goal.recount-self-inside-requires-clause-most
 recount-self-inside-requires-clause-most c =
-    let l = c.self.inside in
-    let rs = reverse l.records.items in
-    let e = c.index.result.now in
-    let found = read_at l.txs c.args.tx.0 c.place_of-at.result e c.place_of-at.ensures.stands c.index.ensures in
-    let size = sized rs l.txs.entries l.begun l.pending l.gone c.args.tx.0 e c.self.invariant.log_kept found in
+    let size = met_sizes (goal.at.recount-self-inside-requires-clause-most c).After-index in
     omega (arith, size.gone_keys, c.self.invariant.bounded.fits, c.self.invariant.bounded.most_records)
 
 pub overflow_sub-open_tx-2 : goal.overflow_sub-open_tx-2
 overflow_sub-open_tx-2 c =
     let l = c.self.inside in
-    let rs = reverse l.records.items in
-    let e = c.index.result.now in
-    let found = read_at l.txs c.args.tx.0 c.place_of-at.result e c.place_of-at.ensures.stands c.index.ensures in
-    let n = c.index_mut-open_tx.result.now in
-    let again = read_at l.txs c.args.tx.0 c.place_of-at.result n c.place_of-at.ensures.stands c.index_mut-open_tx.ensures.value in
-    let same : n ≡ e = some_of n e (sym again ∙ found) in
+    let found = met (goal.at.overflow_sub-open_tx-2 c).After-index in
     let asked = ap (λ (s : LogState). is_some (undo_in s c.args.tx.0)) c.self.view_is ∙ c.requires in
-    subst (λ (x : OpenTx). 0 < x.left) (sym same) (left_some rs l.txs.entries l.begun l.pending l.gone c.args.tx.0 e c.self.invariant.log_kept found asked)
+    subst (λ (x : OpenTx). 0 < x.left) (sym (same_entry (goal.at.overflow_sub-open_tx-2 c).After-index_mut-open_tx found)) (left_some (reverse l.records.items) l.txs.entries l.begun l.pending l.gone c.args.tx.0 c.index.result.now c.self.invariant.log_kept found asked)
 
 pub overflow_sub-open_tx : goal.overflow_sub-open_tx
 overflow_sub-open_tx c =
-    let l = c.self.inside in
-    let rs = reverse l.records.items in
-    let e = c.index.result.now in
-    let found = read_at l.txs c.args.tx.0 c.place_of-at.result e c.place_of-at.ensures.stands c.index.ensures in
-    let change = c.unwrap-change.result in
-    let step = walk_step rs e.last change c.self.invariant.log_kept.numbered (ap (λ (log : List LogRecord). newest_in (chain (reverse log) e.last)) (sym c.deref.ensures.value) ∙ sym c.newest_change-newest.ensures ∙ c.unwrap-change.ensures) in
-    let counted = counted_change rs l.txs.entries l.begun l.pending l.gone c.args.tx.0 e change c.self.invariant.log_kept found step in
-    let n = c.index_mut-open_tx.result.now in
-    let again = read_at l.txs c.args.tx.0 c.place_of-at.result n c.place_of-at.ensures.stands c.index_mut-open_tx.ensures.value in
-    let same : n ≡ e = some_of n e (sym again ∙ found) in
-    subst (λ (x : OpenTx). 0 < x.live) (sym same) counted.live
+    let now = next (goal.at.overflow_sub-open_tx c).After-deref-3 in
+    subst (λ (x : OpenTx). 0 < x.live) (sym (same_entry (goal.at.overflow_sub-open_tx c).After-index_mut-open_tx now.found)) now.counted.live
 
 pub recount-open_tx-requires-clause-some : goal.recount-open_tx-requires-clause-some
 recount-open_tx-requires-clause-some c = λ was.
-    let l = c.self.inside in
-    let rs = reverse l.records.items in
-    let e = c.index.result.now in
-    let found = read_at l.txs c.args.tx.0 c.place_of-at.result e c.place_of-at.ensures.stands c.index.ensures in
-    let change = c.unwrap-change.result in
-    let step = walk_step rs e.last change c.self.invariant.log_kept.numbered (ap (λ (log : List LogRecord). newest_in (chain (reverse log) e.last)) (sym c.deref.ensures.value) ∙ sym c.newest_change-newest.ensures ∙ c.unwrap-change.ensures) in
-    let counted = counted_change rs l.txs.entries l.begun l.pending l.gone c.args.tx.0 e change c.self.invariant.log_kept found step in
-    let was_is : c.is_none-was.result ≡ not (is_some change.after) = none_is (is_some change.after) c.is_none-was.result c.is_none-was.ensures in
-    let n = c.index_mut-open_tx.result.now in
-    let again = read_at l.txs c.args.tx.0 c.place_of-at.result n c.place_of-at.ensures.stands c.index_mut-open_tx.ensures.value in
-    let same : n ≡ e = some_of n e (sym again ∙ found) in
-    subst (λ (x : OpenTx). 0 < x.absent) (sym same) (counted.lacking (sym was_is ∙ was))
+    let now = next (goal.at.recount-open_tx-requires-clause-some c).After-deref-3 in
+    subst (λ (x : OpenTx). 0 < x.absent) (sym (same_entry (goal.at.recount-open_tx-requires-clause-some c).After-index_mut-open_tx now.found)) (now.counted.lacking (sym (was_none (goal.at.recount-open_tx-requires-clause-some c).After-deref-3) ∙ was))
 
 pub recount-open_tx-requires-clause-most : goal.recount-open_tx-requires-clause-most
 recount-open_tx-requires-clause-most c =
-    let l = c.self.inside in
-    let rs = reverse l.records.items in
-    let e = c.index.result.now in
-    let found = read_at l.txs c.args.tx.0 c.place_of-at.result e c.place_of-at.ensures.stands c.index.ensures in
-    let size = sized rs l.txs.entries l.begun l.pending l.gone c.args.tx.0 e c.self.invariant.log_kept found in
-    let n = c.index_mut-open_tx.result.now in
-    let again = read_at l.txs c.args.tx.0 c.place_of-at.result n c.place_of-at.ensures.stands c.index_mut-open_tx.ensures.value in
-    let same : n ≡ e = some_of n e (sym again ∙ found) in
-    subst (λ (x : OpenTx). x.absent < 4294967295) (sym same) (omega (arith, size.absent_part, size.gone_keys, c.self.invariant.bounded.fits, c.self.invariant.bounded.most_records))
+    let size = met_sizes (goal.at.recount-open_tx-requires-clause-most c).After-index in
+    subst (λ (x : OpenTx). x.absent < 4294967295) (sym (same_entry (goal.at.recount-open_tx-requires-clause-most c).After-index_mut-open_tx (met (goal.at.recount-open_tx-requires-clause-most c).After-index))) (omega (arith, size.absent_part, size.gone_keys, c.self.invariant.bounded.fits, c.self.invariant.bounded.most_records))
 
--- the change that is taken back
-step_of : (c : goal.After-self-4-1) → IsStep (reverse c.self.inside.records.items) c.index.result.now.last c.unwrap-change.result
-step_of c =
-    let l = c.self.inside in
-    let rs = reverse l.records.items in
-    let e = c.index.result.now in
-    let change = c.unwrap-change.result in
-    let step = walk_step rs e.last change c.self.invariant.log_kept.numbered (ap (λ (log : List LogRecord). newest_in (chain (reverse log) e.last)) (sym c.deref.ensures.value) ∙ sym c.newest_change-newest.ensures ∙ c.unwrap-change.ensures) in
-    step
+-- the record that was pushed, its mark, and the transaction's new entry, with the table
+module _ (c : goal.After-self-4-1) where
+  abbrev record_pushed : LogRecord
+  record_pushed = Compensation (c.len.result + 1) c.index.result.now.last c.args.tx c.unwrap-change.result.key c.unwrap-change.result.before c.unwrap-change.result.prev
 
--- the record that was pushed
-pushed : (c : goal.After-self-4-1) → c.push.new.self.items ≡ c.self.inside.records.items ++ Compensation (c.len.result + 1) c.index.result.now.last c.args.tx c.unwrap-change.result.key c.unwrap-change.result.before c.unwrap-change.result.prev ∷ []
-pushed c =
-    let l = c.self.inside in
-    let rs = reverse l.records.items in
-    let e = c.index.result.now in
-    let found = read_at l.txs c.args.tx.0 c.place_of-at.result e c.place_of-at.ensures.stands c.index.ensures in
-    let change = c.unwrap-change.result in
-    let counted = counted_change rs l.txs.entries l.begun l.pending l.gone c.args.tx.0 e change c.self.invariant.log_kept found (step_of c) in
-    let ok = c.push.ensures.succeeds (omega (arith, counted.waits, c.self.invariant.records_room.held)) in
-    c.push.ensures.items ∙ ap (λ (b : Bool). cond b (l.records.items ++ Compensation (c.len.result + 1) e.last c.args.tx change.key change.before change.prev ∷ []) l.records.items) ok
+  abbrev entry_left : OpenTx
+  entry_left = let n = c.index_mut-open_tx.result.now in record { rollback = n.rollback; last = c.len.result + 1; live = n.live - 1; left = n.left - 1; absent = c.recount-open_tx.result; saves = n.saves }
 
--- and its mark
-mark_pushed : (c : goal.After-self-4-1) → c.push-2.new.self.items ≡ c.self.inside.marks.items ++ record { newest = c.newest_number-below.result; absent = c.is_absent_below-will.result } ∷ []
-mark_pushed c =
-    let l = c.self.inside in
-    let rs = reverse l.records.items in
-    let e = c.index.result.now in
-    let found = read_at l.txs c.args.tx.0 c.place_of-at.result e c.place_of-at.ensures.stands c.index.ensures in
-    let m : Mark = record { newest = c.newest_number-below.result; absent = c.is_absent_below-will.result } in
-    let counted = counted_change rs l.txs.entries l.begun l.pending l.gone c.args.tx.0 e c.unwrap-change.result c.self.invariant.log_kept found (step_of c) in
-    let ok = c.push-2.ensures.succeeds (omega (arith, counted.waits, c.self.invariant.marks_room.held)) in
-    c.push-2.ensures.items ∙ ap (λ (b : Bool). cond b (l.marks.items ++ m ∷ []) l.marks.items) ok
+  abbrev table_left : List (TxId × OpenTx)
+  table_left = (with_value_at c.self.inside.txs c.place_of-at.result entry_left).entries
 
--- whether the changes that are left take its key out
-will_is : (c : goal.After-self-4-1) → c.is_absent_below-will.result ≡ absent_at c.unwrap-change.result.key (step_of c).rest
-will_is c =
-    let l = c.self.inside in
-    let rs = reverse l.records.items in
-    let step = step_of c in
-    let lsn_is : lsn_of step.update ≡ c.unwrap-change.result.lsn = ap (λ (x : LiveChange). x.lsn) step.told in
-    let key_is : key_of step.update ≡ c.unwrap-change.result.key = ap (λ (x : LiveChange). x.key) step.told in
-    c.is_absent_below-will.ensures rs step.rest c.index.result.now.last step.update c.self.invariant.log_kept.numbered (subst (λ (ms : List Mark). AreMarked rs (reverse ms)) (sym c.deref-3.ensures.value) c.self.invariant.marked) step.is lsn_is
-    ∙ ap (λ k. absent_at k step.rest) key_is
+  puts_entry : PutsAt (finding c.self.inside.txs.entries) (finding table_left) c.args.tx.0 (Some entry_left)
+  puts_entry = write_at c.self.inside.txs c.args.tx.0 c.place_of-at.result entry_left c.place_of-at.ensures.stands
 
--- the transaction's new entry, and the table with it
-abbrev new_of : goal.After-self-4-1 → OpenTx
-new_of c = let n = c.index_mut-open_tx.result.now in record { rollback = n.rollback; last = c.len.result + 1; live = n.live - 1; left = n.left - 1; absent = c.recount-open_tx.result; saves = n.saves }
+  pushed : 0 < c.self.inside.pending → c.push.new.self.items ≡ c.self.inside.records.items ++ record_pushed ∷ []
+  pushed waits =
+      let l = c.self.inside in
+      let ok = c.push.ensures.succeeds (omega (arith, waits, c.self.invariant.records_room.held)) in
+      c.push.ensures.items ∙ ap (λ (b : Bool). cond b (l.records.items ++ record_pushed ∷ []) l.records.items) ok
 
-abbrev table_of : goal.After-self-4-1 → List (TxId × OpenTx)
-table_of c = (with_value_at c.self.inside.txs c.place_of-at.result (new_of c)).entries
+  mark_pushed : 0 < c.self.inside.pending → c.push-2.new.self.items ≡ c.self.inside.marks.items ++ record { newest = c.newest_number-below.result; absent = c.is_absent_below-will.result } ∷ []
+  mark_pushed waits =
+      let l = c.self.inside in
+      let m : Mark = record { newest = c.newest_number-below.result; absent = c.is_absent_below-will.result } in
+      let ok = c.push-2.ensures.succeeds (omega (arith, waits, c.self.invariant.marks_room.held)) in
+      c.push-2.ensures.items ∙ ap (λ (b : Bool). cond b (l.marks.items ++ m ∷ []) l.marks.items) ok
 
-puts_of : (c : goal.After-self-4-1) → PutsAt (finding c.self.inside.txs.entries) (finding (table_of c)) c.args.tx.0 (Some (new_of c))
-puts_of c = write_at c.self.inside.txs c.args.tx.0 c.place_of-at.result (new_of c) c.place_of-at.ensures.stands
+  -- whether the changes that are left take its key out
+  will_is : (step : IsStep (reverse c.self.inside.records.items) c.index.result.now.last c.unwrap-change.result) → c.is_absent_below-will.result ≡ absent_at c.unwrap-change.result.key step.rest
+  will_is step =
+      let l = c.self.inside in
+      let rs = reverse l.records.items in
+      let lsn_is : lsn_of step.update ≡ c.unwrap-change.result.lsn = ap (λ (x : LiveChange). x.lsn) step.told in
+      let key_is : key_of step.update ≡ c.unwrap-change.result.key = ap (λ (x : LiveChange). x.key) step.told in
+      c.is_absent_below-will.ensures rs step.rest c.index.result.now.last step.update c.self.invariant.log_kept.numbered (subst (λ (ms : List Mark). AreMarked rs (reverse ms)) (sym c.deref-3.ensures.value) c.self.invariant.marked) step.is lsn_is
+      ∙ ap (λ k. absent_at k step.rest) key_is
 
-taken_back : (c : goal.After-self-4-1) → IsCompensated (c.len.result + 1) c.index.result.now.last c.args.tx c.unwrap-change.result (reverse c.self.inside.records.items) (finding c.self.inside.txs.entries) c.self.inside.pending c.self.inside.gone (c.self.inside.pending - 1) c.recount-self-inside.result c.index.result.now (new_of c)
-taken_back c =
-    let l = c.self.inside in
-    let rs = reverse l.records.items in
-    let e = c.index.result.now in
-    let found = read_at l.txs c.args.tx.0 c.place_of-at.result e c.place_of-at.ensures.stands c.index.ensures in
-    let change = c.unwrap-change.result in
-    let step = step_of c in
-    let counted = counted_change rs l.txs.entries l.begun l.pending l.gone c.args.tx.0 e change c.self.invariant.log_kept found step in
-    let n = c.index_mut-open_tx.result.now in
-    let again = read_at l.txs c.args.tx.0 c.place_of-at.result n c.place_of-at.ensures.stands c.index_mut-open_tx.ensures.value in
-    let same : n ≡ e = some_of n e (sym again ∙ found) in
-    let was_is : c.is_none-was.result ≡ not (is_some change.after) = none_is (is_some change.after) c.is_none-was.result c.is_none-was.ensures in
-    let will : c.is_absent_below-will.result ≡ absent_at change.key (chain rs change.prev) = will_is c ∙ ap (absent_at change.key) (sym step.tail) in
-    let many : vec_len l.records ≡ length l.records.items = omega (arith, l.records.ok.0) in
-    let live_is : n.live ≡ e.live = ap (λ (x : OpenTx). x.live) same in
-    let asked = ap (λ (s : LogState). is_some (undo_in s c.args.tx.0)) c.self.view_is ∙ c.requires in
-    record {
-      lsn_is = ap (λ k. k + 1) (c.len.ensures ∙ many ∙ sym (length-reverse l.records.items));
-      prev_is = refl;
-      step = step;
-      rollback_same = ap (λ (x : OpenTx). x.rollback) same;
-      saves_same = ap (λ (x : OpenTx). x.saves.items) same;
-      last_new = refl;
-      live_new = omega (arith, counted.live);
-      left_new = (let more = left_some rs l.txs.entries l.begun l.pending l.gone c.args.tx.0 e c.self.invariant.log_kept found asked in let left_is : n.left ≡ e.left = ap (λ (x : OpenTx). x.left) same in omega arith);
-      above = undo_above rs l.txs.entries l.begun l.pending l.gone c.args.tx.0 e change c.self.invariant.log_kept found asked step;
-      absent_new = recounted c.recount-open_tx.result n.absent e.absent c.is_none-was.result _ c.is_absent_below-will.result _ was_is will (ap (λ (x : OpenTx). x.absent) same) c.recount-open_tx.ensures;
-      pending_one = omega (arith, counted.waits);
-      gone_one = recounted c.recount-self-inside.result l.gone l.gone c.is_none-was.result _ c.is_absent_below-will.result _ was_is will refl c.recount-self-inside.ensures;
-    }
+  taken_back : IsNext c.self.inside c.args.tx.0 c.index.result.now c.unwrap-change.result → c.is_none-was.result ≡ not (is_some c.unwrap-change.result.after) → c.index_mut-open_tx.result.now ≡ c.index.result.now
+      → IsCompensated (c.len.result + 1) c.index.result.now.last c.args.tx c.unwrap-change.result (reverse c.self.inside.records.items) (finding c.self.inside.txs.entries) c.self.inside.pending c.self.inside.gone (c.self.inside.pending - 1) c.recount-self-inside.result c.index.result.now entry_left
+  taken_back now was_is same =
+      let l = c.self.inside in
+      let rs = reverse l.records.items in
+      let e = c.index.result.now in
+      let change = c.unwrap-change.result in
+      let n = c.index_mut-open_tx.result.now in
+      let will : c.is_absent_below-will.result ≡ absent_at change.key (chain rs change.prev) = will_is now.step ∙ ap (absent_at change.key) (sym now.step.tail) in
+      let many : vec_len l.records ≡ length l.records.items = omega (arith, l.records.ok.0) in
+      let live_is : n.live ≡ e.live = ap (λ (x : OpenTx). x.live) same in
+      let asked = ap (λ (s : LogState). is_some (undo_in s c.args.tx.0)) c.self.view_is ∙ c.requires in
+      record {
+        lsn_is = ap (λ k. k + 1) (c.len.ensures ∙ many ∙ sym (length-reverse l.records.items));
+        prev_is = refl;
+        step = now.step;
+        rollback_same = ap (λ (x : OpenTx). x.rollback) same;
+        saves_same = ap (λ (x : OpenTx). x.saves.items) same;
+        last_new = refl;
+        live_new = omega (arith, now.counted.live);
+        left_new = (let more = left_some rs l.txs.entries l.begun l.pending l.gone c.args.tx.0 e c.self.invariant.log_kept now.found asked in let left_is : n.left ≡ e.left = ap (λ (x : OpenTx). x.left) same in omega arith);
+        above = undo_above rs l.txs.entries l.begun l.pending l.gone c.args.tx.0 e change c.self.invariant.log_kept now.found asked now.step;
+        absent_new = recounted c.recount-open_tx.result n.absent e.absent c.is_none-was.result _ c.is_absent_below-will.result _ was_is will (ap (λ (x : OpenTx). x.absent) same) c.recount-open_tx.ensures;
+        pending_one = omega (arith, now.counted.waits);
+        gone_one = recounted c.recount-self-inside.result l.gone l.gone c.is_none-was.result _ c.is_absent_below-will.result _ was_is will refl c.recount-self-inside.ensures;
+      }
 
 pub invariant_of-self : goal.invariant_of-self
 invariant_of-self c =
     let l = c.self.inside in
     let rs = reverse l.records.items in
     let e = c.index.result.now in
-    let found = read_at l.txs c.args.tx.0 c.place_of-at.result e c.place_of-at.ensures.stands c.index.ensures in
+    let places = goal.at.invariant_of-self c in
+    let now = next places.After-deref-3 in
     let change = c.unwrap-change.result in
-    let turned : reverse c.push.new.self.items ≡ Compensation (c.len.result + 1) e.last c.args.tx change.key change.before change.prev ∷ rs = ap reverse (pushed c) ∙ reverse-push l.records.items _ in
-    let back = taken_back c in
-    let kept = compensated (c.len.result + 1) e.last c.args.tx change rs (finding l.txs.entries) (finding (table_of c)) l.begun l.pending l.gone (l.pending - 1) c.recount-self-inside.result e (new_of c) c.self.invariant.log_kept found (puts_of c) back in
+    let turned : reverse c.push.new.self.items ≡ record_pushed c ∷ rs = ap reverse (pushed c now.counted.waits) ∙ reverse-push l.records.items _ in
+    let back = taken_back c now (was_none places.After-deref-3) (same_entry places.After-index_mut-open_tx now.found) in
+    let kept = compensated (c.len.result + 1) e.last c.args.tx change rs (finding l.txs.entries) (finding (table_left c)) l.begun l.pending l.gone (l.pending - 1) c.recount-self-inside.result e (entry_left c) c.self.invariant.log_kept now.found (puts_entry c) back in
     let bounded = c.self.invariant.bounded in
     let longer : vec_len c.push.new.self ≤ vec_len l.records + 1 = c.push.ensures.upper_bound in
     let wider : vec_capacity l.records ≤ vec_capacity c.push.new.self = c.push.ensures.capacity in
     let one = back.pending_one in
-    let at = key_of_change l c.self.invariant c.args.tx.0 e change found (step_of c) in
-    let will = will_is c in
+    let will = will_is c now.step in
     let below : c.newest_number-below.result ≡ first_lsn (chain rs change.prev) = c.newest_number-below.ensures rs c.self.invariant.log_kept.numbered (subst (λ (ms : List Mark). AreMarked rs (reverse ms)) (sym c.deref-4.ensures.value) c.self.invariant.marked) in
     let more_marks : vec_len c.push-2.new.self ≤ vec_len l.marks + 1 = c.push-2.ensures.upper_bound in
     let marks_wider : vec_capacity l.marks ≤ vec_capacity c.push-2.new.self = c.push-2.ensures.capacity in
-    let keys = compensated_keys l c.self.invariant c.args.tx e (new_of c) change (step_of c).update (step_of c).rest at (finding (table_of c)) (held c.lower.new.holdings) (c.len.result + 1) e.last c.is_absent_below-will.result found (puts_of c) will (c.lower.ensures at.hold.hold at.there) in
+    let keys = compensated_keys l c.self.invariant c.args.tx e (entry_left c) change now.step.update now.step.rest now.at (finding (table_left c)) (held c.lower.new.holdings) (c.len.result + 1) e.last c.is_absent_below-will.result now.found (puts_entry c) will (c.lower.ensures now.at.hold.hold now.at.there) in
     record {
       log_kept = kept_turned _ _ _ _ _ _ turned kept;
-      marked = marked_more l.records.items c.push.new.self.items l.marks.items c.push-2.new.self.items _ _ turned (mark_pushed c) (record { newest = below; absent = will ∙ ap (absent_at change.key) (sym (step_of c).tail) }) c.self.invariant.marked;
-      holding = subst (λ (xs : List LogRecord). IsHeld xs (opens (finding (table_of c))) (held c.lower.new.holdings)) (sym turned) keys.holding;
+      marked = marked_more l.records.items c.push.new.self.items l.marks.items c.push-2.new.self.items _ _ turned (mark_pushed c now.counted.waits) (record { newest = below; absent = will ∙ ap (absent_at change.key) (sym now.step.tail) }) c.self.invariant.marked;
+      holding = subst (λ (xs : List LogRecord). IsHeld xs (opens (finding (table_left c))) (held c.lower.new.holdings)) (sym turned) keys.holding;
       busy_keys = keys.busy_keys;
       reserved = tt;
       bounded = record {
@@ -327,19 +267,18 @@ returns-clause-after c =
     let l = c.self.inside in
     let rs = reverse l.records.items in
     let e = c.index.result.now in
-    let found = read_at l.txs c.args.tx.0 c.place_of-at.result e c.place_of-at.ensures.stands c.index.ensures in
+    let places = goal.at.returns-clause-after c in
+    let now = next places.After-deref-3 in
     let change = c.unwrap-change.result in
     let t = c.args.tx.0 in
-    let n = c.index_mut-open_tx.result.now in
     let kept = c.self.invariant.log_kept in
-    let fits = found_fits rs l.begun t (finding l.txs.entries) e kept.fit found in
-    let step = step_of c in
-    let back = taken_back c in
-    let r : LogRecord = Compensation (c.len.result + 1) e.last c.args.tx change.key change.before change.prev in
-    let stay = txs_stay r rs l.begun t l.txs.entries (table_of c) (new_of c) e back.lsn_is kept.fit (puts_of c) found back.rollback_same back.saves_same in
-    let undo = undo_told rs l.txs.entries l.begun l.pending l.gone t e change kept found (ap (λ (s : LogState). is_some (undo_in s t)) c.self.view_is ∙ c.requires) step in
+    let fits = found_fits rs l.begun t (finding l.txs.entries) e kept.fit now.found in
+    let step = now.step in
+    let back = taken_back c now (was_none places.After-deref-3) (same_entry places.After-index_mut-open_tx now.found) in
+    let stay = txs_stay (record_pushed c) rs l.begun t l.txs.entries (table_left c) (entry_left c) e back.lsn_is kept.fit (puts_entry c) now.found back.rollback_same back.saves_same in
+    let undo = undo_told rs l.txs.entries l.begun l.pending l.gone t e change kept now.found (ap (λ (s : LogState). is_some (undo_in s t)) c.self.view_is ∙ c.requires) step in
     let told = told_compensation (state l.records.items l.txs.entries l.begun l.limits l.room) c.args.tx (c.len.result + 1) e.last change step.update (back.lsn_is ∙ ap (λ k. k + 1) (length-reverse l.records.items)) (fits.last) undo step.told (record_of_chain l.records.items e.last step.update step.rest kept.numbered step.is) in
-    compensate_state l.records.items c.push.new.self.items l.txs.entries (table_of c) l.begun l.limits l.room (c.len.result + 1) e.last c.args.tx change.key change.before change.prev (pushed c) told stay
+    compensate_state l.records.items c.push.new.self.items l.txs.entries (table_left c) l.begun l.limits l.room (c.len.result + 1) e.last c.args.tx change.key change.before change.prev (pushed c now.counted.waits) told stay
     ∙ ap (λ (s : LogState). record s { records = s.records ++ compensations_in s c.args.tx; changes = undone t s.changes; room = None }) c.self.view_is
 
 pub returns-clause-kept : goal.returns-clause-kept
