@@ -51,6 +51,12 @@ pub roomy : (pages : List (Option (List ℕ))) (taken : ℕ) → length pages �
 roomy pages zero most room = omega (arith, most)
 roomy pages (suc taken) most room = room (omega arith)
 
+-- what an edit put in place leaves: its pages, which of them are in memory, and what keeps holding
+pub record IsStaged (stored : List (List ℕ)) (slots : List (Option (List ℕ))) (free : List ℕ) (count : ℕ) (writes : List (ℕ × List ℕ)) (freed : List ℕ) (slots2 : List (Option (List ℕ))) (free2 : List ℕ) (count2 : ℕ) : Type 0 where
+  pub pages : (n : ℕ) → at (pages_of stored slots2 free2 count2) n ≡ after (at (pages_of stored slots free count)) writes freed n
+  pub memory : (n : ℕ) → is_some (to_write slots2 free2 count2 n) ≡ ((is_written writes n || is_some (to_write slots free count n)) && not (is_freed freed n))
+  pub are : ArePages stored slots2 free2 count2 true
+
 module _ (stored : List (List ℕ)) (slots : List (Option (List ℕ))) (free : List ℕ) (count : ℕ) (changed : Bool) (are : ArePages stored slots free count changed) where
   -- slots and free numbers that are the same at each number make the same pages
   pub pages_stay : (slots' : List (Option (List ℕ))) (free' : List ℕ) → ((n : ℕ) → at slots' n ≡ at slots n) → ((n : ℕ) → is_among free' n ≡ is_among free n) → pages_of stored slots' free' count ≡ pages_of stored slots free count
@@ -174,7 +180,7 @@ module _ (stored : List (List ℕ)) (slots : List (Option (List ℕ))) (free : L
             staged_other n f w ∙ sym (not_freed (overlay (at (pages_of stored slots free count)) writes) freed n f ∙ not_written (at (pages_of stored slots free count)) writes n w)
 
         -- the pages after the edit
-        pub staged : (n : ℕ) → at (pages_of stored slots2 free2 count2) n ≡ after (at (pages_of stored slots free count)) writes freed n
+        staged : (n : ℕ) → at (pages_of stored slots2 free2 count2) n ≡ after (at (pages_of stored slots free count)) writes freed n
         staged n = staged_by n (is_freed freed n) (is_written writes n) refl refl
 
         memory_by : (n : ℕ) (gone here : Bool) → is_freed freed n ≡ gone → is_written writes n ≡ here → is_some (to_write slots2 free2 count2 n) ≡ ((here || is_some (to_write slots free count n)) && not gone)
@@ -202,7 +208,7 @@ module _ (stored : List (List ℕ)) (slots : List (Option (List ℕ))) (free : L
             ∙ neither_so (is_some (to_write slots free count n))
 
         -- which pages are in memory after the edit
-        pub memory_after : (n : ℕ) → is_some (to_write slots2 free2 count2 n) ≡ ((is_written writes n || is_some (to_write slots free count n)) && not (is_freed freed n))
+        memory_after : (n : ℕ) → is_some (to_write slots2 free2 count2 n) ≡ ((is_written writes n || is_some (to_write slots free count n)) && not (is_freed freed n))
         memory_after n = memory_by n (is_freed freed n) (is_written writes n) refl refl
 
         free_after : (n : ℕ) (old gone here : Bool) → is_among free n ≡ old → is_freed freed n ≡ gone → is_written writes n ≡ here → is_among free2 n ≡ true → (1 ≤ n) × (n < count2)
@@ -225,7 +231,7 @@ module _ (stored : List (List ℕ)) (slots : List (Option (List ℕ))) (free : L
             (cases_lt n count)
 
         -- what keeps holding
-        pub are_after : ArePages stored slots2 free2 count2 true
+        are_after : ArePages stored slots2 free2 count2 true
         are_after =
             let size = length-pages_of stored slots free count in
             let first = are.some in
@@ -239,3 +245,6 @@ module _ (stored : List (List ℕ)) (slots : List (Option (List ℕ))) (free : L
               there = λ n above below used past. there_after n (is_written writes n) refl above below used past;
               idle = λ kept. absurd (false≢true (sym kept));
             }
+
+        pub is_staged : IsStaged stored slots free count writes freed slots2 free2 count2
+        is_staged = record { pages = staged; memory = memory_after; are = are_after }
