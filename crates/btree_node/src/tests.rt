@@ -166,22 +166,16 @@ fn the_three_record_file_is_written(rt: HostRuntime) -> Result<(), Fail> {
 #[test]
 fn the_three_record_file_is_read(rt: HostRuntime) -> Result<(), Fail> {
     let pages = three_record_file();
-    let header = read_header(&pages[0])?;
-    assert_eq!(rt; header.order, 1);
-    assert_eq!(rt; header.pages, 4);
-    assert_eq!(rt; header.root, 3);
-    assert_eq!(rt; header.count, 3);
-    let first = decode(&pages[1], 1)?;
-    assert_eq!(rt; first.kind, NodeKind::Leaf);
-    assert_eq!(rt;
-        first.elements.as_slice(),
-        [element(b"a", b"x")?].as_slice()
-    );
-    assert!(rt; first.sons.is_empty());
-    let root = decode(&pages[3], 1)?;
-    assert_eq!(rt; root.kind, NodeKind::Inner);
-    assert_eq!(rt; root.elements.as_slice(), [element(b"b", b"y")?].as_slice());
-    assert_eq!(rt; root.sons.as_slice(), [1, 2].as_slice());
+    let header = Header {
+        order: 1,
+        pages: 4,
+        root: 3,
+        count: 3,
+    };
+    assert_eq!(rt; read_header(&pages[0])?, header);
+    assert_eq!(rt; decode(&pages[1], 1)?, leaf(element(b"a", b"x")?));
+    let root = inner(element(b"b", b"y")?, 1, 2);
+    assert_eq!(rt; decode(&pages[3], 1)?, root);
     Ok(())
 }
 
@@ -387,12 +381,42 @@ fn distributed(
     Ok(distribute(left, middle, right, k))
 }
 
+/// Expects what two brothers of order `k` become once they are catenated.
+fn expect_catenated(
+    rt: &impl Abort,
+    brothers: (Node, u8, Node),
+    k: u16,
+    wanted: Node,
+) -> Result<(), Fail> {
+    let (left, middle, right) = brothers;
+    assert_eq!(rt; catenated(rt, left, middle, right, k)?, wanted);
+    Ok(())
+}
+
+/// Expects what two brothers of order `k` become once they are distributed.
+fn expect_distributed(
+    rt: &impl Abort,
+    brothers: (Node, u8, Node),
+    k: u16,
+    wanted: (Node, u8, Node),
+) -> Result<(), Fail> {
+    let (left, middle, right) = brothers;
+    let (left, up, right) = distributed(rt, left, middle, right, k)?;
+    assert_eq!(rt; left, wanted.0);
+    assert_eq!(rt; up, element(&[wanted.1], b"v")?);
+    assert_eq!(rt; right, wanted.2);
+    Ok(())
+}
+
 #[test]
 fn leaves_are_catenated(rt: HostRuntime) -> Result<(), Fail> {
-    let right_short = catenated(&rt, leaf_of(&rt, b"d")?, b'e', leaf_of(&rt, b"fg")?, 2)?;
-    assert_eq!(rt; right_short, leaf_of(&rt, b"defg")?);
-    let left_full = catenated(&rt, leaf_of(&rt, b"ab")?, b'd', leaf_of(&rt, b"e")?, 2)?;
-    assert_eq!(rt; left_full, leaf_of(&rt, b"abde")?);
+    for (left, middle, right, wanted) in [
+        (b"d".as_slice(), b'e', b"fg".as_slice(), b"defg".as_slice()),
+        (b"ab", b'd', b"e", b"abde"),
+    ] {
+        let brothers = (leaf_of(&rt, left)?, middle, leaf_of(&rt, right)?);
+        expect_catenated(&rt, brothers, 2, leaf_of(&rt, wanted)?)?;
+    }
     Ok(())
 }
 
@@ -400,41 +424,43 @@ fn leaves_are_catenated(rt: HostRuntime) -> Result<(), Fail> {
 fn inner_nodes_are_catenated(rt: HostRuntime) -> Result<(), Fail> {
     let left = inner_of(&rt, b"b", &[1, 2])?;
     let right = inner_of(&rt, b"", &[3])?;
-    let node = catenated(&rt, left, b'c', right, 1)?;
-    assert_eq!(rt; node, inner_of(&rt, b"bc", &[1, 2, 3])?);
-    Ok(())
+    let wanted = inner_of(&rt, b"bc", &[1, 2, 3])?;
+    expect_catenated(&rt, (left, b'c', right), 1, wanted)
 }
 
 #[test]
 fn leaves_are_distributed(rt: HostRuntime) -> Result<(), Fail> {
-    let (left, up, right) = distributed(&rt, leaf_of(&rt, b"b")?, b'c', leaf_of(&rt, b"defg")?, 2)?;
-    assert_eq!(rt; left, leaf_of(&rt, b"bc")?);
-    assert_eq!(rt; up, element(b"d", b"v")?);
-    assert_eq!(rt; right, leaf_of(&rt, b"efg")?);
-    let (left, up, right) = distributed(&rt, leaf_of(&rt, b"b")?, b'd', leaf_of(&rt, b"efg")?, 2)?;
-    assert_eq!(rt; left, leaf_of(&rt, b"bd")?);
-    assert_eq!(rt; up, element(b"e", b"v")?);
-    assert_eq!(rt; right, leaf_of(&rt, b"fg")?);
-    let (left, up, right) = distributed(&rt, leaf_of(&rt, b"abcd")?, b'e', leaf_of(&rt, b"f")?, 2)?;
-    assert_eq!(rt; left, leaf_of(&rt, b"ab")?);
-    assert_eq!(rt; up, element(b"c", b"v")?);
-    assert_eq!(rt; right, leaf_of(&rt, b"def")?);
+    for ((left, middle, right), (wanted_left, up, wanted_right)) in [
+        (
+            (b"b".as_slice(), b'c', b"defg".as_slice()),
+            (b"bc".as_slice(), b'd', b"efg".as_slice()),
+        ),
+        ((b"b", b'd', b"efg"), (b"bd", b'e', b"fg")),
+        ((b"abcd", b'e', b"f"), (b"ab", b'c', b"def")),
+    ] {
+        let brothers = (leaf_of(&rt, left)?, middle, leaf_of(&rt, right)?);
+        let wanted = (leaf_of(&rt, wanted_left)?, up, leaf_of(&rt, wanted_right)?);
+        expect_distributed(&rt, brothers, 2, wanted)?;
+    }
     Ok(())
 }
 
 #[test]
 fn inner_nodes_are_distributed(rt: HostRuntime) -> Result<(), Fail> {
-    let short = inner_of(&rt, b"", &[1])?;
-    let full = inner_of(&rt, b"cd", &[2, 3, 4])?;
-    let (left, up, right) = distributed(&rt, short, b'b', full, 1)?;
-    assert_eq!(rt; left, inner_of(&rt, b"b", &[1, 2])?);
-    assert_eq!(rt; up, element(b"c", b"v")?);
-    assert_eq!(rt; right, inner_of(&rt, b"d", &[3, 4])?);
-    let full = inner_of(&rt, b"bc", &[1, 2, 3])?;
-    let short = inner_of(&rt, b"", &[4])?;
-    let (left, up, right) = distributed(&rt, full, b'd', short, 1)?;
-    assert_eq!(rt; left, inner_of(&rt, b"b", &[1, 2])?);
-    assert_eq!(rt; up, element(b"c", b"v")?);
-    assert_eq!(rt; right, inner_of(&rt, b"d", &[3, 4])?);
+    for ((left, left_sons), middle, (right, right_sons)) in [
+        (
+            (b"".as_slice(), [1].as_slice()),
+            b'b',
+            (b"cd".as_slice(), [2, 3, 4].as_slice()),
+        ),
+        ((b"bc", &[1, 2, 3]), b'd', (b"", &[4])),
+    ] {
+        let left = inner_of(&rt, left, left_sons)?;
+        let right = inner_of(&rt, right, right_sons)?;
+        let wanted_left = inner_of(&rt, b"b", &[1, 2])?;
+        let wanted_right = inner_of(&rt, b"d", &[3, 4])?;
+        let wanted = (wanted_left, b'c', wanted_right);
+        expect_distributed(&rt, (left, middle, right), 1, wanted)?;
+    }
     Ok(())
 }
