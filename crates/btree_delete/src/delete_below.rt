@@ -58,7 +58,7 @@ fn settle(
     Ok(Shrunk::Whole(removed))
 }
 
-/// treats son i of the father at the head of a tree, and writes the father unless it is underfull then. The
+/// Treats son i of the father at the head of a tree, and writes the father unless it is underfull then. The
 /// element that went and the son's node are `short`. Faults as in `treat`.
 fn treat_and_settle<S: Store>(
     pages: &mut Pages<S>,

@@ -41,7 +41,7 @@ pub(crate) fn set_element(node: &mut Node, i: usize, element: (Key, Record))
     node.elements.as_mut_slice()[i] = element;
 }
 
-/// treats sons i and i + 1 of a father, of which one is underfull: with fewer than `2k` keys they become
+/// Treats sons i and i + 1 of a father, of which one is underfull: with fewer than `2k` keys they become
 /// one page, else their keys are distributed. Fault: Memory.
 fn treat_pair(
     edit: &mut PageEdit,
@@ -81,7 +81,7 @@ fn treat_pair(
     Ok(())
 }
 
-/// treats son i of a father at the head of a tree, which is underfull, with an adjacent brother: the right
+/// Treats son i of a father at the head of a tree, which is underfull, with an adjacent brother: the right
 /// one where there is one, else the left one. Faults: Device, Damaged with the brother as `visit`
 /// answers it, Memory.
 pub(crate) fn treat_underflow<S: Store>(
