@@ -1,3 +1,4 @@
+pub mod HandleLemmas
 pub mod Journals
 pub mod StepLaws
 pub mod TryExamples

@@ -1,0 +1,7 @@
+use Rattle.recfile_c.proofs.HandleLemmas.{lent_of, handed_on}
+use Rattle.recfile_c.proofs.transactions.recfile_release.Goals as goal
+
+pub returns : goal.returns
+returns c =
+    rw (lent_of _ c.take.ensures.value c.in-Some.is c.deref_mut.ensures.value)
+    (rw c.give.ensures (rw (handed_on c.release-status.result c.release-status.type_inv) c.release-status.ensures))
