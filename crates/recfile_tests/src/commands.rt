@@ -49,97 +49,63 @@ fn expect(rt: &impl Abort, alloc: Global, lines: &str, wanted: &str) -> Result<(
     Ok(())
 }
 
-#[test]
-fn each_command_is_read(rt: HostRuntime) -> Result<(), Fail> {
-    expect(
-        &rt,
-        rt.alloc(),
+/// Lines, and what each of them says.
+const LINES: [(&str, &str, &str); 9] = [
+    (
+        "each command is read",
         "begin\nput 1 a =x\ndel 2 b\nget 3 c\nsave 4\nrelease 5 6\nback 7 8\nresume 9\nabort 10\ncommit 11\nlist\nkeys 12\nlog",
         "begin\nput 1 [97] [120]\ndel 2 [98]\nget 3 [99]\nsave 4\nrelease 5 6\nback 7 8\nresume 9\nabort 10\ncommit 11\nlist\nkeys 12\nlog\n",
-    )
-}
-
-#[test]
-fn lines_without_a_command(rt: HostRuntime) -> Result<(), Fail> {
-    expect(
-        &rt,
-        rt.alloc(),
+    ),
+    (
+        "lines without a command",
         "\n   \n\r\n  \r\n# note\n  # note\n#begin\n#\n#\r\n \r ",
         "-\n-\n-\n-\n-\n-\n-\n-\n-\nUnknownCommand\n",
-    )
-}
-
-#[test]
-fn names_are_whole_words(rt: HostRuntime) -> Result<(), Fail> {
-    expect(
-        &rt,
-        rt.alloc(),
+    ),
+    (
+        "names are whole words",
         "frob\nBegin\nbeginx\nbegi\nb#\nput# 1 a =x\nbegin\tx\n%62egin\nfrob x y z u v",
         "UnknownCommand\nUnknownCommand\nUnknownCommand\nUnknownCommand\nUnknownCommand\nUnknownCommand\nUnknownCommand\nUnknownCommand\nUnknownCommand\n",
-    )
-}
-
-#[test]
-fn spaces_and_line_ends(rt: HostRuntime) -> Result<(), Fail> {
-    expect(
-        &rt,
-        rt.alloc(),
+    ),
+    (
+        "spaces and line ends",
         "  begin  \n  commit   01\nput  1  a  =x  \nbegin\r\nbegin \r\nbegin\r\r\nbe\rgin\n\rbegin\nget 1 a\rb\nget 1 a\r\r\ncommit 1\r\ncommit 1\r\r",
         "begin\ncommit 1\nput 1 [97] [120]\nbegin\nbegin\nUnknownCommand\nUnknownCommand\nUnknownCommand\nget 1 [97, 13, 98]\nget 1 [97, 13]\ncommit 1\nBadNumber\n",
-    )
-}
-
-#[test]
-fn numbers_have_32_bits(rt: HostRuntime) -> Result<(), Fail> {
-    expect(
-        &rt,
-        rt.alloc(),
+    ),
+    (
+        "numbers have 32 bits",
         "save 0\nsave 4294967295\nsave 4294967296\nsave 4294967300\nsave 0000000000000000000000000000000000000007\nsave 9999999999999999999999999999999999999999\nsave 18446744073709551617\nsave -1\nsave +1\nsave 1x\nsave x1\nsave 0x1\nsave 1:\nsave 1/\nrelease 004294967295 0004294967295\nback 1 4294967296\nback 4294967296 1",
         "save 0\nsave 4294967295\nBadNumber\nBadNumber\nsave 7\nBadNumber\nBadNumber\nBadNumber\nBadNumber\nBadNumber\nBadNumber\nBadNumber\nBadNumber\nBadNumber\nrelease 4294967295 4294967295\nBadNumber\nBadNumber\n",
-    )
-}
-
-#[test]
-fn a_word_too_many_and_too_few(rt: HostRuntime) -> Result<(), Fail> {
-    let alloc = rt.alloc();
-    let lines =
-        "begin 1\nput 1 a\nput 1 a =x =y\ndel 1\ndel 1 a b\nget 1\nget 1 a b\nsave\nsave 1 2\nrelease 1\nrelease 1 2 3\nback 1\nback 1 2 3\nresume\nresume 1 2\nabort\nabort 1 2\ncommit\ncommit 1 2\nlist 1\nkeys\nkeys 1 2\nlog 1\nput\nput 1\ndel\nget\nrelease\nback\nput 1 a =x y";
-    let mut wanted = String::new(alloc);
-    for _ in 0..30 {
-        wanted.push_str("WordCount\n")?;
-    }
-    expect(&rt, alloc, lines, &wanted)
-}
-
-// A line with two faults has the first one of the order.
-#[test]
-fn the_first_fault_of_a_line(rt: HostRuntime) -> Result<(), Fail> {
-    expect(
-        &rt,
-        rt.alloc(),
+    ),
+    (
+        "a word too many and too few",
+        "begin 1\nput 1 a\nput 1 a =x =y\ndel 1\ndel 1 a b\nget 1\nget 1 a b\nsave\nsave 1 2\nrelease 1\nrelease 1 2 3\nback 1\nback 1 2 3\nresume\nresume 1 2\nabort\nabort 1 2\ncommit\ncommit 1 2\nlist 1\nkeys\nkeys 1 2\nlog 1\nput\nput 1\ndel\nget\nrelease\nback\nput 1 a =x y",
+        "WordCount\nWordCount\nWordCount\nWordCount\nWordCount\nWordCount\nWordCount\nWordCount\nWordCount\nWordCount\nWordCount\nWordCount\nWordCount\nWordCount\nWordCount\nWordCount\nWordCount\nWordCount\nWordCount\nWordCount\nWordCount\nWordCount\nWordCount\nWordCount\nWordCount\nWordCount\nWordCount\nWordCount\nWordCount\nWordCount\n",
+    ),
+    // A line with two faults has the first one of the order.
+    (
+        "the first fault of a line",
         "frob x\nget x\nget x abcdefghijklmnopq\ndel x abcdefghijklmnopq\nrelease x y\nput x abcdefghijklmnopq =x\nput x a x\nput x a =abcdefghijklmnopqrstuvwxyz0123456\nput 1 abcdefghijklmnopq x\nput 1 abcdefghijklmnopq =abcdefghijklmnopqrstuvwxyz0123456\nput 1 a abcdefghijklmnopqrstuvwxyz0123456\nput 1 a x=\nput 1 =a =b\nget 1 =",
         "UnknownCommand\nWordCount\nBadNumber\nBadNumber\nBadNumber\nBadNumber\nBadNumber\nBadNumber\nKeyTooLong\nKeyTooLong\nNoRecordMark\nNoRecordMark\nput 1 [61, 97] [98]\nget 1 [61]\n",
-    )
-}
-
-#[test]
-fn keys_and_records_have_a_greatest_length(rt: HostRuntime) -> Result<(), Fail> {
-    expect(
-        &rt,
-        rt.alloc(),
+    ),
+    (
+        "keys and records have a greatest length",
         "get 1 abcdefghijklmnop\nget 1 abcdefghijklmnopq\nget 1 abcdefghijklmno%70\nget 1 abcdefghijklmnop%\nget 1 abcdefghijklmno%7\nget 1 abcdefghijklm%70\nput 1 a =abcdefghijklmnopqrstuvwxyz012345\nput 1 a =abcdefghijklmnopqrstuvwxyz0123456\nput 1 a =abcdefghijklmnopqrstuvwxyz01234%35\nput 1 a =",
         "get 1 [97, 98, 99, 100, 101, 102, 103, 104, 105, 106, 107, 108, 109, 110, 111, 112]\nKeyTooLong\nget 1 [97, 98, 99, 100, 101, 102, 103, 104, 105, 106, 107, 108, 109, 110, 111, 112]\nKeyTooLong\nKeyTooLong\nget 1 [97, 98, 99, 100, 101, 102, 103, 104, 105, 106, 107, 108, 109, 112]\nput 1 [97] [97, 98, 99, 100, 101, 102, 103, 104, 105, 106, 107, 108, 109, 110, 111, 112, 113, 114, 115, 116, 117, 118, 119, 120, 121, 122, 48, 49, 50, 51, 52, 53]\nRecordTooLong\nput 1 [97] [97, 98, 99, 100, 101, 102, 103, 104, 105, 106, 107, 108, 109, 110, 111, 112, 113, 114, 115, 116, 117, 118, 119, 120, 121, 122, 48, 49, 50, 51, 52, 53]\nput 1 [97] []\n",
-    )
-}
-
-#[test]
-fn escapes_are_read(rt: HostRuntime) -> Result<(), Fail> {
-    expect(
-        &rt,
-        rt.alloc(),
+    ),
+    (
+        "escapes are read",
         "get 1 %00\nget 1 %fF\nget 1 %Ff\nget 1 %c3%A9\nget 1 %\nget 1 a%\nget 1 %0\nget 1 %zz\nget 1 %0g\nget 1 %g0\nget 1 %%41\nget 1 %25%34%31\nget 1 %2541\nput 1 %zz =%c3%A9%\nput 1 a =%20%0a%0D\nput 1 a =%3d=\nput 1 a %3dx",
         "get 1 [0]\nget 1 [255]\nget 1 [255]\nget 1 [195, 169]\nget 1 [37]\nget 1 [97, 37]\nget 1 [37, 48]\nget 1 [37, 122, 122]\nget 1 [37, 48, 103]\nget 1 [37, 103, 48]\nget 1 [37, 65]\nget 1 [37, 52, 49]\nget 1 [37, 52, 49]\nput 1 [37, 122, 122] [195, 169, 37]\nput 1 [97] [32, 10, 13]\nput 1 [97] [61, 61]\nNoRecordMark\n",
-    )
+    ),
+];
+
+#[test]
+fn lines_are_read(rt: HostRuntime) -> Result<(), Fail> {
+    let alloc = rt.alloc();
+    for (name, lines, wanted) in LINES {
+        assert_eq!(rt; (name, said(alloc, lines)?.as_str()), (name, wanted));
+    }
+    Ok(())
 }
 
 /// A word of this many bytes, after a beginning.

@@ -43,14 +43,6 @@ const RECORD_FAULTS: [(RecordFault, &str); 1] = [(
     "a record has at most 32 bytes",
 )];
 
-#[test]
-fn texts_of_key_fault_and_others(rt: HostRuntime) -> Result<(), Fail> {
-    let alloc = rt.alloc();
-    expect_texts(&rt, alloc, &KEY_FAULTS)?;
-    expect_texts(&rt, alloc, &LIMIT_FAULTS)?;
-    expect_texts(&rt, alloc, &RECORD_FAULTS)
-}
-
 const TABLE_FAULTS: [(TableFault, &str); 4] = [
     (TableFault::Device, "the device failed"),
     (TableFault::Damaged(7), "page 7 is damaged"),
@@ -61,11 +53,6 @@ const TABLE_FAULTS: [(TableFault, &str); 4] = [
     (TableFault::Memory, "out of memory"),
 ];
 
-#[test]
-fn texts_of_table_faults(rt: HostRuntime) -> Result<(), Fail> {
-    expect_texts(&rt, rt.alloc(), &TABLE_FAULTS)
-}
-
 const BEGIN_FAULTS: [(BeginFault, &str); 2] = [
     (
         BeginFault::BeginsSpent,
@@ -73,11 +60,6 @@ const BEGIN_FAULTS: [(BeginFault, &str); 2] = [
     ),
     (BeginFault::Memory, "out of memory"),
 ];
-
-#[test]
-fn texts_of_begin_faults(rt: HostRuntime) -> Result<(), Fail> {
-    expect_texts(&rt, rt.alloc(), &BEGIN_FAULTS)
-}
 
 const PUT_FAULTS: [(PutFault, &str); 8] = [
     (PutFault::NoSuchTx, "no such open transaction"),
@@ -118,14 +100,6 @@ const GET_FAULTS: [(GetFault, &str); 5] = [
     (GetFault::Damaged(7), "page 7 is damaged"),
 ];
 
-#[test]
-fn texts_of_put_fault_and_others(rt: HostRuntime) -> Result<(), Fail> {
-    let alloc = rt.alloc();
-    expect_texts(&rt, alloc, &PUT_FAULTS)?;
-    expect_texts(&rt, alloc, &REMOVE_FAULTS)?;
-    expect_texts(&rt, alloc, &GET_FAULTS)
-}
-
 const SAVEPOINT_FAULTS: [(SavepointFault, &str); 3] = [
     (SavepointFault::NoSuchTx, "no such open transaction"),
     (
@@ -161,14 +135,6 @@ const ROLLBACK_TO_FAULTS: [(RollbackToFault, &str); 4] = [
     ),
 ];
 
-#[test]
-fn texts_of_savepoint_fault_and_others(rt: HostRuntime) -> Result<(), Fail> {
-    let alloc = rt.alloc();
-    expect_texts(&rt, alloc, &SAVEPOINT_FAULTS)?;
-    expect_texts(&rt, alloc, &RELEASE_FAULTS)?;
-    expect_texts(&rt, alloc, &ROLLBACK_TO_FAULTS)
-}
-
 const ABORT_FAULTS: [(AbortFault, &str); 3] = [
     (AbortFault::NoSuchTx, "no such open transaction"),
     (AbortFault::Rolling, "the transaction is being rolled back"),
@@ -203,14 +169,6 @@ const COMMIT_FAULTS: [(CommitFault, &str); 2] = [
     (CommitFault::Rolling, "the transaction is being rolled back"),
 ];
 
-#[test]
-fn texts_of_abort_fault_and_others(rt: HostRuntime) -> Result<(), Fail> {
-    let alloc = rt.alloc();
-    expect_texts(&rt, alloc, &ABORT_FAULTS)?;
-    expect_texts(&rt, alloc, &RESUME_FAULTS)?;
-    expect_texts(&rt, alloc, &COMMIT_FAULTS)
-}
-
 const ENTRIES_FAULTS: [(EntriesFault, &str); 3] = [
     (EntriesFault::Device, "the device failed"),
     (EntriesFault::Damaged(7), "page 7 is damaged"),
@@ -227,14 +185,6 @@ const STATUS_FAULTS: [(StatusFault, &str); 1] = [(
     "no such open transaction",
 )];
 
-#[test]
-fn texts_of_entries_fault_and_others(rt: HostRuntime) -> Result<(), Fail> {
-    let alloc = rt.alloc();
-    expect_texts(&rt, alloc, &ENTRIES_FAULTS)?;
-    expect_texts(&rt, alloc, &KEYS_OF_FAULTS)?;
-    expect_texts(&rt, alloc, &STATUS_FAULTS)
-}
-
 const LINE_FAULTS: [(LineFault, &str); 6] = [
     (LineFault::UnknownCommand, "UnknownCommand"),
     (LineFault::WordCount, "WordCount"),
@@ -244,22 +194,12 @@ const LINE_FAULTS: [(LineFault, &str); 6] = [
     (LineFault::RecordTooLong, "RecordTooLong"),
 ];
 
-#[test]
-fn texts_of_line_faults(rt: HostRuntime) -> Result<(), Fail> {
-    expect_texts(&rt, rt.alloc(), &LINE_FAULTS)
-}
-
 const SCRIPT_FAULTS: [(ScriptFault, &str); 4] = [
     (ScriptFault::ScriptTooLong, "ScriptTooLong"),
     (ScriptFault::ReadFault, "ReadFault"),
     (ScriptFault::WriteFault { done: 1 }, "WriteFault 1"),
     (ScriptFault::Memory { done: 1 }, "Memory 1"),
 ];
-
-#[test]
-fn texts_of_script_faults(rt: HostRuntime) -> Result<(), Fail> {
-    expect_texts(&rt, rt.alloc(), &SCRIPT_FAULTS)
-}
 
 const END_FAULTS: [(EndFault, &str); 3] = [
     (
@@ -291,11 +231,6 @@ const END_FAULTS: [(EndFault, &str); 3] = [
     ),
 ];
 
-#[test]
-fn texts_of_end_faults(rt: HostRuntime) -> Result<(), Fail> {
-    expect_texts(&rt, rt.alloc(), &END_FAULTS)
-}
-
 const STORE_FAULTS: [(StoreFault, &str); 2] = [
     (StoreFault::Failed, "the store failed"),
     (StoreFault::Memory, "out of memory"),
@@ -310,14 +245,6 @@ const WRITE_FAULTS: [(WriteFault, &str); 2] = [
     (WriteFault::Device, "a write to the store failed"),
     (WriteFault::Memory, "out of memory"),
 ];
-
-#[test]
-fn texts_of_store_fault_and_others(rt: HostRuntime) -> Result<(), Fail> {
-    let alloc = rt.alloc();
-    expect_texts(&rt, alloc, &STORE_FAULTS)?;
-    expect_texts(&rt, alloc, &FETCH_FAULTS)?;
-    expect_texts(&rt, alloc, &WRITE_FAULTS)
-}
 
 const HEADER_FAULTS: [(HeaderFault, &str); 5] = [
     (HeaderFault::BadMagic, "the file is no record file"),
@@ -355,13 +282,6 @@ const NODE_FAULTS: [(NodeFault, &str); 7] = [
     ),
 ];
 
-#[test]
-fn texts_of_header_fault_and_others(rt: HostRuntime) -> Result<(), Fail> {
-    let alloc = rt.alloc();
-    expect_texts(&rt, alloc, &HEADER_FAULTS)?;
-    expect_texts(&rt, alloc, &NODE_FAULTS)
-}
-
 const TREE_FAULTS: [(TreeFault, &str); 3] = [
     (TreeFault::Device, "a read of the store failed"),
     (
@@ -370,11 +290,6 @@ const TREE_FAULTS: [(TreeFault, &str); 3] = [
     ),
     (TreeFault::Memory, "no memory"),
 ];
-
-#[test]
-fn texts_of_tree_faults(rt: HostRuntime) -> Result<(), Fail> {
-    expect_texts(&rt, rt.alloc(), &TREE_FAULTS)
-}
 
 const OPEN_FAULTS: [(OpenFault, &str); 11] = [
     (OpenFault::Device, "a read of the file failed"),
@@ -412,8 +327,49 @@ const CREATE_FAULTS: [(CreateFault, &str); 3] = [
 ];
 
 #[test]
-fn texts_of_files_and_tables(rt: HostRuntime) -> Result<(), Fail> {
+fn texts_of_values_and_tables(rt: HostRuntime) -> Result<(), Fail> {
     let alloc = rt.alloc();
+    expect_texts(&rt, alloc, &KEY_FAULTS)?;
+    expect_texts(&rt, alloc, &LIMIT_FAULTS)?;
+    expect_texts(&rt, alloc, &RECORD_FAULTS)?;
+    expect_texts(&rt, alloc, &TABLE_FAULTS)
+}
+
+#[test]
+fn texts_of_the_file(rt: HostRuntime) -> Result<(), Fail> {
+    let alloc = rt.alloc();
+    expect_texts(&rt, alloc, &BEGIN_FAULTS)?;
+    expect_texts(&rt, alloc, &PUT_FAULTS)?;
+    expect_texts(&rt, alloc, &REMOVE_FAULTS)?;
+    expect_texts(&rt, alloc, &GET_FAULTS)?;
+    expect_texts(&rt, alloc, &SAVEPOINT_FAULTS)?;
+    expect_texts(&rt, alloc, &RELEASE_FAULTS)?;
+    expect_texts(&rt, alloc, &ROLLBACK_TO_FAULTS)?;
+    expect_texts(&rt, alloc, &ABORT_FAULTS)?;
+    expect_texts(&rt, alloc, &RESUME_FAULTS)?;
+    expect_texts(&rt, alloc, &COMMIT_FAULTS)?;
+    expect_texts(&rt, alloc, &ENTRIES_FAULTS)?;
+    expect_texts(&rt, alloc, &KEYS_OF_FAULTS)?;
+    expect_texts(&rt, alloc, &STATUS_FAULTS)
+}
+
+#[test]
+fn texts_of_scripts(rt: HostRuntime) -> Result<(), Fail> {
+    let alloc = rt.alloc();
+    expect_texts(&rt, alloc, &LINE_FAULTS)?;
+    expect_texts(&rt, alloc, &SCRIPT_FAULTS)?;
+    expect_texts(&rt, alloc, &END_FAULTS)
+}
+
+#[test]
+fn texts_of_pages_and_trees(rt: HostRuntime) -> Result<(), Fail> {
+    let alloc = rt.alloc();
+    expect_texts(&rt, alloc, &STORE_FAULTS)?;
+    expect_texts(&rt, alloc, &FETCH_FAULTS)?;
+    expect_texts(&rt, alloc, &WRITE_FAULTS)?;
+    expect_texts(&rt, alloc, &HEADER_FAULTS)?;
+    expect_texts(&rt, alloc, &NODE_FAULTS)?;
+    expect_texts(&rt, alloc, &TREE_FAULTS)?;
     expect_texts(&rt, alloc, &OPEN_FAULTS)?;
     expect_texts(&rt, alloc, &CREATE_FAULTS)
 }

@@ -559,13 +559,6 @@ const NOTHING_STAGED: PagesRow<'static> = PagesRow {
     wanted: " 1-0:1,2:true; 1+3 9 none none none",
 };
 
-#[test]
-fn pages_are_taken_and_freed(rt: HostRuntime) {
-    for row in [TAKEN_AND_FREED, NOTHING_STAGED] {
-        expect_pages(&rt, rt.alloc(), &row);
-    }
-}
-
 const STAGED_OVER_STORED: PagesRow<'static> = PagesRow {
     stored: Stored {
         pages: &[1, 2],
@@ -589,11 +582,6 @@ const STAGED_OVER_STORED: PagesRow<'static> = PagesRow {
     ],
     wanted: " 2 out 2 device 2 6 7 8 4-0:4,5:true; 2+3 1 2 none none",
 };
-
-#[test]
-fn staged_pages_stand_over_stored_ones(rt: HostRuntime) {
-    expect_pages(&rt, rt.alloc(), &STAGED_OVER_STORED);
-}
 
 const WRITTEN_TWICE: PagesRow<'static> = PagesRow {
     stored: ONE_PAGE,
@@ -631,8 +619,14 @@ const WRITTEN_ONCE_MORE: PagesRow<'static> = PagesRow {
 };
 
 #[test]
-fn changed_pages_are_written_back(rt: HostRuntime) {
-    for row in [WRITTEN_TWICE, WRITTEN_ONCE_MORE] {
+fn steps_over_pages(rt: HostRuntime) {
+    for row in [
+        TAKEN_AND_FREED,
+        NOTHING_STAGED,
+        STAGED_OVER_STORED,
+        WRITTEN_TWICE,
+        WRITTEN_ONCE_MORE,
+    ] {
         expect_pages(&rt, rt.alloc(), &row);
     }
 }

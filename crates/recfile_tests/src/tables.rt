@@ -125,25 +125,22 @@ fn check_steps(
 }
 
 #[test]
-fn pages_are_split(rt: HostRuntime) -> Result<(), Fail> {
-    check_steps(&rt, rt.alloc(), 1, b"ab", 1, 2, "ab ")?;
-    check_steps(&rt, rt.alloc(), 1, b"abc", 3, 3, "a c 1b2 ")?;
-    check_steps(&rt, rt.alloc(), 1, b"abcCBA", 0, 0, "   ")?;
-    check_steps(&rt, rt.alloc(), 2, b"abcdefg", 3, 7, "ab defg 1c2 ")
-}
-
-#[test]
-fn pages_are_levelled_and_catenated(rt: HostRuntime) -> Result<(), Fail> {
-    check_steps(&rt, rt.alloc(), 2, b"abcdefgA", 3, 6, "bc efg 1d2 ")?;
-    check_steps(&rt, rt.alloc(), 2, b"abcdefgAC", 3, 5, "bd fg 1e2 ")?;
-    check_steps(&rt, rt.alloc(), 2, b"abcdefgACB", 1, 4, "defg   ")?;
-    check_steps(&rt, rt.alloc(), 2, b"abcdefgACBbcaGFEDCBA", 0, 0, "   ")
-}
-
-#[test]
-fn the_next_key_stands_for_one_of_the_root(rt: HostRuntime) -> Result<(), Fail> {
-    check_steps(&rt, rt.alloc(), 2, b"abcde", 3, 5, "ab de 1c2 ")?;
-    check_steps(&rt, rt.alloc(), 2, b"abcdeC", 1, 4, "abde   ")
+fn pages_are_split_levelled_and_catenated(rt: HostRuntime) -> Result<(), Fail> {
+    for (order, steps, root, count, pages) in [
+        (1, b"ab".as_slice(), 1, 2, "ab "),
+        (1, b"abc".as_slice(), 3, 3, "a c 1b2 "),
+        (1, b"abcCBA".as_slice(), 0, 0, "   "),
+        (2, b"abcdefg".as_slice(), 3, 7, "ab defg 1c2 "),
+        (2, b"abcdefgA".as_slice(), 3, 6, "bc efg 1d2 "),
+        (2, b"abcdefgAC".as_slice(), 3, 5, "bd fg 1e2 "),
+        (2, b"abcdefgACB".as_slice(), 1, 4, "defg   "),
+        (2, b"abcdefgACBbcaGFEDCBA".as_slice(), 0, 0, "   "),
+        (2, b"abcde".as_slice(), 3, 5, "ab de 1c2 "),
+        (2, b"abcdeC".as_slice(), 1, 4, "abde   "),
+    ] {
+        check_steps(&rt, rt.alloc(), order, steps, root, count, pages)?;
+    }
+    Ok(())
 }
 
 /// A page of order 1 with one key and its record, and these sons.
@@ -266,17 +263,9 @@ fn check_shuffled(rt: &impl Abort, alloc: Global, order: u16) -> Result<(), Fail
 }
 
 #[test]
-fn all_keys_go_in_and_out_at_order_1(rt: HostRuntime) -> Result<(), Fail> {
-    check_shuffled(&rt, rt.alloc(), 1)
-}
-
-#[test]
-fn all_keys_go_in_and_out_at_orders_2_and_3(rt: HostRuntime) -> Result<(), Fail> {
-    check_shuffled(&rt, rt.alloc(), 2)?;
-    check_shuffled(&rt, rt.alloc(), 3)
-}
-
-#[test]
-fn all_keys_go_in_and_out_at_order_16(rt: HostRuntime) -> Result<(), Fail> {
-    check_shuffled(&rt, rt.alloc(), 16)
+fn all_keys_go_in_and_out(rt: HostRuntime) -> Result<(), Fail> {
+    for order in [1, 2, 3, 16] {
+        check_shuffled(&rt, rt.alloc(), order)?;
+    }
+    Ok(())
 }

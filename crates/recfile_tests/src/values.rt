@@ -50,11 +50,6 @@ fn keys_and_records_have_their_lengths(rt: HostRuntime) -> Result<(), Fail> {
     assert_eq!(rt; Record::new(b"")?.bytes().len(), 0);
     assert_eq!(rt; Key::default().bytes(), b"\0".as_slice());
     assert_eq!(rt; Record::default().bytes().len(), 0);
-    Ok(())
-}
-
-#[test]
-fn a_proper_prefix_comes_first(rt: HostRuntime) -> Result<(), Fail> {
     let short = Key::new(b"ab")?;
     let long = Key::new(b"ab\0")?;
     let other = Key::new(b"b")?;

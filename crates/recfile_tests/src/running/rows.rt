@@ -126,11 +126,6 @@ const ONE_TRANSACTION: [Row<'static>; 8] = [
     },
 ];
 
-#[test]
-fn what_one_transaction_sees(rt: HostRuntime) -> Result<(), Fail> {
-    expect_rows(&rt, rt.alloc(), &ONE_TRANSACTION)
-}
-
 const LINES: [Row<'static>; 3] = [
     Row {
         name: "lines that say nothing or cannot be read",
@@ -157,11 +152,6 @@ const LINES: [Row<'static>; 3] = [
         commands: 5,
     },
 ];
-
-#[test]
-fn how_lines_are_read(rt: HostRuntime) -> Result<(), Fail> {
-    expect_rows(&rt, rt.alloc(), &LINES)
-}
 
 const SEVERAL_TRANSACTIONS: [Row<'static>; 6] = [
     Row {
@@ -192,11 +182,6 @@ const SEVERAL_TRANSACTIONS: [Row<'static>; 6] = [
         commands: 12,
     },
 ];
-
-#[test]
-fn what_several_transactions_see(rt: HostRuntime) -> Result<(), Fail> {
-    expect_rows(&rt, rt.alloc(), &SEVERAL_TRANSACTIONS)
-}
 
 const HELD_KEYS: [Row<'static>; 6] = [
     Row {
@@ -242,11 +227,6 @@ const HELD_KEYS: [Row<'static>; 6] = [
     },
 ];
 
-#[test]
-fn when_a_key_is_held(rt: HostRuntime) -> Result<(), Fail> {
-    expect_rows(&rt, rt.alloc(), &HELD_KEYS)
-}
-
 const STOPPED_ROLLBACKS: [Row<'static>; 3] = [
     STOPPED,
     Row {
@@ -268,6 +248,11 @@ const STOPPED_ROLLBACKS: [Row<'static>; 3] = [
 ];
 
 #[test]
-fn rollbacks_that_the_device_stops(rt: HostRuntime) -> Result<(), Fail> {
-    expect_rows(&rt, rt.alloc(), &STOPPED_ROLLBACKS)
+fn scripts_over_every_table(rt: HostRuntime) -> Result<(), Fail> {
+    let alloc = rt.alloc();
+    expect_rows(&rt, alloc, &ONE_TRANSACTION)?;
+    expect_rows(&rt, alloc, &LINES)?;
+    expect_rows(&rt, alloc, &SEVERAL_TRANSACTIONS)?;
+    expect_rows(&rt, alloc, &HELD_KEYS)?;
+    expect_rows(&rt, alloc, &STOPPED_ROLLBACKS)
 }

@@ -41,8 +41,7 @@ fn fault_of(rt: &impl Abort, alloc: Global, change: &Change) -> Result<Option<Op
     }
 }
 
-/// Looks that the changed file isn't opened, for that reason, at the second time where memory was
-/// refused at the first.
+/// Expects that of the changed file, at the second time where memory was refused at the first.
 fn check_fault(
     rt: &impl Abort,
     alloc: Global,
@@ -53,81 +52,61 @@ fn check_fault(
     if told == Some(OpenFault::Memory) {
         told = fault_of(rt, alloc, change)?;
     }
-    assert!(rt; told == fault);
+    let place = (change.pages, change.tail, change.page, change.byte);
+    assert_eq!(rt; (place, told), (place, fault));
     Ok(())
 }
 
-/// One byte becomes another.
-fn check_byte(
-    rt: &impl Abort,
-    alloc: Global,
-    page: usize,
-    byte: usize,
-    value: u8,
-    fault: OpenFault,
-) -> Result<(), Fail> {
-    let change = Change {
+/// The file is cut to so many pages and a tail.
+fn cut(pages: usize, tail: u16) -> Change {
+    Change {
+        pages,
+        tail,
+        ..NOTHING
+    }
+}
+
+/// One byte of a page becomes another.
+fn byte(page: usize, byte: usize, value: u8) -> Change {
+    Change {
         page,
         byte,
         value,
         ..NOTHING
-    };
-    check_fault(rt, alloc, &change, Some(fault))
+    }
 }
 
-/// The file is cut.
-fn check_cut(
-    rt: &impl Abort,
-    alloc: Global,
-    pages: usize,
-    tail: u16,
-    fault: OpenFault,
-) -> Result<(), Fail> {
-    let change = Change {
-        pages,
-        tail,
-        ..NOTHING
-    };
-    check_fault(rt, alloc, &change, Some(fault))
+/// At most so many records.
+fn records(records: u32) -> Change {
+    Change { records, ..NOTHING }
 }
 
 #[test]
-fn a_file_that_was_cut(rt: HostRuntime) -> Result<(), Fail> {
+fn files_that_are_not_opened(rt: HostRuntime) -> Result<(), Fail> {
     check_fault(&rt, rt.alloc(), &NOTHING, None)?;
-    check_cut(&rt, rt.alloc(), 0, 0, OpenFault::BadLength)?;
-    check_cut(&rt, rt.alloc(), 0, 4095, OpenFault::BadLength)?;
-    check_cut(&rt, rt.alloc(), 3, 4095, OpenFault::BadLength)?;
-    check_cut(&rt, rt.alloc(), 3, 0, OpenFault::BadHeader)
-}
-
-#[test]
-fn a_header_with_another_byte(rt: HostRuntime) -> Result<(), Fail> {
-    check_byte(&rt, rt.alloc(), 0, 0, 0, OpenFault::BadMagic)?;
-    check_byte(&rt, rt.alloc(), 0, 9, 9, OpenFault::BadVersion(9))?;
-    check_byte(&rt, rt.alloc(), 0, 11, 0, OpenFault::BadOrder)?;
-    check_byte(&rt, rt.alloc(), 0, 11, 17, OpenFault::BadOrder)?;
-    check_byte(&rt, rt.alloc(), 0, 24, 2, OpenFault::NotClean)?;
-    check_byte(&rt, rt.alloc(), 0, 24, 3, OpenFault::BadHeader)?;
-    check_byte(&rt, rt.alloc(), 0, 19, 4, OpenFault::BadHeader)?;
-    check_byte(&rt, rt.alloc(), 0, 23, 4, OpenFault::WrongCount)
-}
-
-#[test]
-fn a_page_with_another_byte(rt: HostRuntime) -> Result<(), Fail> {
-    check_byte(&rt, rt.alloc(), 1, 9, b'd', OpenFault::Damaged(1))?;
-    check_byte(&rt, rt.alloc(), 1, 3, 0, OpenFault::Damaged(1))?;
-    check_byte(&rt, rt.alloc(), 2, 2000, 1, OpenFault::Damaged(2))?;
-    check_byte(&rt, rt.alloc(), 3, 115, 3, OpenFault::Damaged(3))?;
-    check_byte(&rt, rt.alloc(), 3, 115, 4, OpenFault::Damaged(3))
-}
-
-#[test]
-fn a_file_with_more_records_than_the_limit(rt: HostRuntime) -> Result<(), Fail> {
-    let change = Change {
-        records: 2,
-        ..NOTHING
-    };
-    check_fault(&rt, rt.alloc(), &change, Some(OpenFault::TooManyRecords))
+    for (change, fault) in [
+        (cut(0, 0), OpenFault::BadLength),
+        (cut(0, 4095), OpenFault::BadLength),
+        (cut(3, 4095), OpenFault::BadLength),
+        (cut(3, 0), OpenFault::BadHeader),
+        (byte(0, 0, 0), OpenFault::BadMagic),
+        (byte(0, 9, 9), OpenFault::BadVersion(9)),
+        (byte(0, 11, 0), OpenFault::BadOrder),
+        (byte(0, 11, 17), OpenFault::BadOrder),
+        (byte(0, 24, 2), OpenFault::NotClean),
+        (byte(0, 24, 3), OpenFault::BadHeader),
+        (byte(0, 19, 4), OpenFault::BadHeader),
+        (byte(0, 23, 4), OpenFault::WrongCount),
+        (byte(1, 9, b'd'), OpenFault::Damaged(1)),
+        (byte(1, 3, 0), OpenFault::Damaged(1)),
+        (byte(2, 2000, 1), OpenFault::Damaged(2)),
+        (byte(3, 115, 3), OpenFault::Damaged(3)),
+        (byte(3, 115, 4), OpenFault::Damaged(3)),
+        (records(2), OpenFault::TooManyRecords),
+    ] {
+        check_fault(&rt, rt.alloc(), &change, Some(fault))?;
+    }
+    Ok(())
 }
 
 /// Looks that two copies of the changed file are refused alike, and as is expected.
@@ -178,36 +157,23 @@ fn check_complements(
 ) -> Result<(), Fail> {
     let pages = three_records();
     assert!(rt; page < 4 && bytes <= 4096);
-    for byte in 0..bytes {
-        let change = Change {
-            page,
-            byte,
-            value: !pages[page][byte],
-            ..NOTHING
-        };
-        check_twice(rt, alloc, &change, fault_of_byte(page, byte))?;
+    for place in 0..bytes {
+        let change = byte(page, place, !pages[page][place]);
+        check_twice(rt, alloc, &change, fault_of_byte(page, place))?;
     }
     Ok(())
 }
 
 #[test]
-fn each_byte_of_the_header_is_turned(rt: HostRuntime) -> Result<(), Fail> {
-    check_complements(&rt, rt.alloc(), 0, 4096)
-}
-
-#[test]
-fn each_byte_of_the_left_leaf_is_turned(rt: HostRuntime) -> Result<(), Fail> {
-    check_complements(&rt, rt.alloc(), 1, 4096)
-}
-
-#[test]
-fn each_byte_of_the_right_leaf_is_turned(rt: HostRuntime) -> Result<(), Fail> {
-    check_complements(&rt, rt.alloc(), 2, 4096)
-}
-
-#[test]
-fn each_byte_of_the_root_is_turned(rt: HostRuntime) -> Result<(), Fail> {
+fn each_byte_of_the_header_and_the_root_is_turned(rt: HostRuntime) -> Result<(), Fail> {
+    check_complements(&rt, rt.alloc(), 0, 4096)?;
     check_complements(&rt, rt.alloc(), 3, 4096)
+}
+
+#[test]
+fn each_byte_of_the_leaves_is_turned(rt: HostRuntime) -> Result<(), Fail> {
+    check_complements(&rt, rt.alloc(), 1, 4096)?;
+    check_complements(&rt, rt.alloc(), 2, 4096)
 }
 
 /// Cuts the file within a page, and before it.
@@ -218,12 +184,7 @@ fn check_cuts(rt: &impl Abort, alloc: Global, pages: usize, most: u16) -> Result
         } else {
             OpenFault::BadLength
         };
-        let change = Change {
-            pages,
-            tail,
-            ..NOTHING
-        };
-        check_twice(rt, alloc, &change, Some(fault))?;
+        check_twice(rt, alloc, &cut(pages, tail), Some(fault))?;
     }
     Ok(())
 }

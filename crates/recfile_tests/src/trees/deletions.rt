@@ -66,66 +66,67 @@ fn expect_tree(
     rt: &impl Abort,
     alloc: Global,
     order: u16,
-    steps: &[u8],
+    steps: &str,
     wanted: &str,
 ) -> Result<(), Fail> {
     let mut pages = new_pages(alloc)?;
-    let tree = run(rt, alloc, &mut pages, order, steps)?;
+    let tree = run(rt, alloc, &mut pages, order, steps.as_bytes())?;
     assert_eq!(rt; tree_text(rt, alloc, &mut pages, &tree)?.as_str(), wanted);
     Ok(())
 }
 
+/// Trees of an order after these steps, in which pages are levelled and catenated.
+const TREES: [(u16, &str, &str); 8] = [
+    (
+        2,
+        "abcdefgA",
+        "3 2 6 3 of 4; leaf b=b c=c; leaf e=e f=f g=g; inner d=d 1 2",
+    ),
+    (
+        2,
+        "abcdefgAC",
+        "3 2 5 3 of 4; leaf b=b d=d; leaf f=f g=g; inner e=e 1 2",
+    ),
+    (
+        2,
+        "abcdefgACB",
+        "1 1 4 1 of 4; leaf d=d e=e f=f g=g; free; free",
+    ),
+    (
+        2,
+        "abcdefgACBh",
+        "3 2 5 3 of 4; leaf d=d e=e; leaf g=g h=h; inner f=f 1 2",
+    ),
+    // The leaves a, c and e are the pages 1, 2 and 4 below page 3.
+    (
+        1,
+        "abcdeA",
+        "3 2 4 3 of 5; leaf b=b c=c; free; inner d=d 1 4; leaf e=e",
+    ),
+    (
+        1,
+        "abcdeC",
+        "3 2 4 3 of 5; leaf a=a; leaf d=d e=e; inner b=b 1 2; free",
+    ),
+    (
+        1,
+        "abcdeE",
+        "3 2 4 3 of 5; leaf a=a; leaf c=c d=d; inner b=b 1 2; free",
+    ),
+    // The next key stands for one of the root.
+    (
+        2,
+        "abcdeC",
+        "1 1 4 1 of 4; leaf a=a b=b d=d e=e; free; free",
+    ),
+];
+
 #[test]
 fn pages_are_levelled_and_catenated(rt: HostRuntime) -> Result<(), Fail> {
-    for (steps, wanted) in [
-        (
-            b"abcdefgA".as_slice(),
-            "3 2 6 3 of 4; leaf b=b c=c; leaf e=e f=f g=g; inner d=d 1 2",
-        ),
-        (
-            b"abcdefgAC".as_slice(),
-            "3 2 5 3 of 4; leaf b=b d=d; leaf f=f g=g; inner e=e 1 2",
-        ),
-        (
-            b"abcdefgACB".as_slice(),
-            "1 1 4 1 of 4; leaf d=d e=e f=f g=g; free; free",
-        ),
-        (
-            b"abcdefgACBh".as_slice(),
-            "3 2 5 3 of 4; leaf d=d e=e; leaf g=g h=h; inner f=f 1 2",
-        ),
-    ] {
-        expect_tree(&rt, rt.alloc(), 2, steps, wanted)?;
+    for (order, steps, wanted) in TREES {
+        expect_tree(&rt, rt.alloc(), order, steps, wanted)?;
     }
     Ok(())
-}
-
-// The leaves a, c and e are the pages 1, 2 and 4 below page 3.
-#[test]
-fn a_short_page_takes_the_brother_on_its_right(rt: HostRuntime) -> Result<(), Fail> {
-    for (steps, wanted) in [
-        (
-            b"abcdeA".as_slice(),
-            "3 2 4 3 of 5; leaf b=b c=c; free; inner d=d 1 4; leaf e=e",
-        ),
-        (
-            b"abcdeC".as_slice(),
-            "3 2 4 3 of 5; leaf a=a; leaf d=d e=e; inner b=b 1 2; free",
-        ),
-        (
-            b"abcdeE".as_slice(),
-            "3 2 4 3 of 5; leaf a=a; leaf c=c d=d; inner b=b 1 2; free",
-        ),
-    ] {
-        expect_tree(&rt, rt.alloc(), 1, steps, wanted)?;
-    }
-    Ok(())
-}
-
-#[test]
-fn the_next_key_stands_for_one_of_the_root(rt: HostRuntime) -> Result<(), Fail> {
-    let wanted = "1 1 4 1 of 4; leaf a=a b=b d=d e=e; free; free";
-    expect_tree(&rt, rt.alloc(), 2, b"abcdeC", wanted)
 }
 
 /// Looks that a deletion of each key finds none, and leaves the tree as it is.
@@ -201,26 +202,19 @@ fn check_order(rt: &impl Abort, alloc: Global, order: u16, step: u16) -> Result<
     check_tree(rt, alloc, &mut pages, &tree, 0)
 }
 
-#[test]
-fn all_keys_go_in_ascending_order(rt: HostRuntime) -> Result<(), Fail> {
+/// Does so for trees of several orders.
+fn check_orders(rt: &impl Abort, alloc: Global, step: u16) -> Result<(), Fail> {
     for order in [1, 2, 3, 16] {
-        check_order(&rt, rt.alloc(), order, 1)?;
+        check_order(rt, alloc, order, step)?;
     }
     Ok(())
 }
 
+// In ascending, in descending and in a shuffled order.
 #[test]
-fn all_keys_go_in_descending_order(rt: HostRuntime) -> Result<(), Fail> {
-    for order in [1, 2, 3, 16] {
-        check_order(&rt, rt.alloc(), order, 199)?;
-    }
-    Ok(())
-}
-
-#[test]
-fn all_keys_go_in_a_shuffled_order(rt: HostRuntime) -> Result<(), Fail> {
-    for order in [1, 2, 3, 16] {
-        check_order(&rt, rt.alloc(), order, 77)?;
+fn all_keys_go(rt: HostRuntime) -> Result<(), Fail> {
+    for step in [1, 199, 77] {
+        check_orders(&rt, rt.alloc(), step)?;
     }
     Ok(())
 }
@@ -343,8 +337,9 @@ fn check_row(
     check_damaged(rt, alloc, &mut pages, &tree, key, n)
 }
 
+// On the path, and beside it.
 #[test]
-fn damaged_pages_on_the_path(rt: HostRuntime) -> Result<(), Fail> {
+fn damaged_pages(rt: HostRuntime) -> Result<(), Fail> {
     let (a, c, root) = (leaf(b'a'), leaf(b'c'), inner(1, 2));
     for (three, n, height, key, damaged) in [
         ([NO_NODE, c, root], 3, 2, b'a', 1),
@@ -353,25 +348,15 @@ fn damaged_pages_on_the_path(rt: HostRuntime) -> Result<(), Fail> {
         ([a, a, root], 3, 2, b'c', 2),
         ([root, c, root], 3, 2, b'a', 1),
         ([a, c, root], 3, 1, b'a', 3),
+        ([a, NO_NODE, root], 3, 2, b'a', 2),
+        ([NO_NODE, c, root], 3, 2, b'c', 1),
+        ([a, a, root], 3, 2, b'a', 2),
+        ([c, c, root], 3, 2, b'c', 1),
+        ([a, root, root], 3, 2, b'a', 2),
+        ([a, c, inner(1, 1)], 3, 2, b'a', 1),
+        ([a, c, inner(1, 7)], 3, 2, b'a', 7),
     ] {
         check_row(&rt, rt.alloc(), &three, n, height, key, damaged)?;
-    }
-    Ok(())
-}
-
-#[test]
-fn damaged_brothers(rt: HostRuntime) -> Result<(), Fail> {
-    let (a, c, root) = (leaf(b'a'), leaf(b'c'), inner(1, 2));
-    for (three, key, damaged) in [
-        ([a, NO_NODE, root], b'a', 2),
-        ([NO_NODE, c, root], b'c', 1),
-        ([a, a, root], b'a', 2),
-        ([c, c, root], b'c', 1),
-        ([a, root, root], b'a', 2),
-        ([a, c, inner(1, 1)], b'a', 1),
-        ([a, c, inner(1, 7)], b'a', 7),
-    ] {
-        check_row(&rt, rt.alloc(), &three, 3, 2, key, damaged)?;
     }
     Ok(())
 }

@@ -128,45 +128,27 @@ fn check_order(rt: &impl Abort, alloc: Global, order: u16, numbers: &[u16]) -> R
     check_nodes(&mut pages, tree.order)
 }
 
-/// Does so for trees of several orders.
-fn check_orders(rt: &impl Abort, alloc: Global, numbers: &[u16]) -> Result<(), Fail> {
+/// Does so for trees of several orders, with the numbers shuffled by a factor and a shift.
+fn check_orders(rt: &impl Abort, alloc: Global, factor: u32, shift: u32) -> Result<(), Fail> {
+    assert!(rt; factor < 300 && shift < 300);
+    let mut numbers = Vec::new(alloc);
+    numbers.reserve(300)?;
+    for n in 0..300u32 {
+        numbers.push(((n * factor + shift) % 300) as u16)?;
+    }
     for order in [1, 2, 3, 16] {
-        check_order(rt, alloc, order, numbers)?;
+        check_order(rt, alloc, order, &numbers)?;
     }
     Ok(())
 }
 
+// The keys ascend, descend, and are shuffled.
 #[test]
-fn a_walk_is_sorted_after_ascending_keys(rt: HostRuntime) -> Result<(), Fail> {
-    let mut numbers = Vec::new(rt.alloc());
-    for n in 0..300u16 {
-        if numbers.push(n).is_err() {
-            numbers.push(n)?;
-        }
+fn a_walk_is_sorted(rt: HostRuntime) -> Result<(), Fail> {
+    for (factor, shift) in [(1, 0), (299, 299), (7, 0)] {
+        check_orders(&rt, rt.alloc(), factor, shift)?;
     }
-    check_orders(&rt, rt.alloc(), numbers.as_slice())
-}
-
-#[test]
-fn a_walk_is_sorted_after_descending_keys(rt: HostRuntime) -> Result<(), Fail> {
-    let mut numbers = Vec::new(rt.alloc());
-    for n in 0..300u16 {
-        if numbers.push(299 - n).is_err() {
-            numbers.push(299 - n)?;
-        }
-    }
-    check_orders(&rt, rt.alloc(), numbers.as_slice())
-}
-
-#[test]
-fn a_walk_is_sorted_after_shuffled_keys(rt: HostRuntime) -> Result<(), Fail> {
-    let mut numbers = Vec::new(rt.alloc());
-    for n in 0..300u16 {
-        if numbers.push(n * 7 % 300).is_err() {
-            numbers.push(n * 7 % 300)?;
-        }
-    }
-    check_orders(&rt, rt.alloc(), numbers.as_slice())
+    Ok(())
 }
 
 /// A tree of order 1 with the keys a, b and c.
@@ -217,13 +199,6 @@ fn pages_that_are_no_tree(rt: HostRuntime) -> Result<(), Fail> {
     };
     let (_, walked) = looks(&rt, rt.alloc(), &mut pages, &narrow, b'a')?;
     assert_eq!(rt; walked, Some(TreeFault::Damaged(2)));
-    Ok(())
-}
-
-#[test]
-fn a_tree_of_the_greatest_count(rt: HostRuntime) -> Result<(), Fail> {
-    let mut pages = new_pages(rt.alloc())?;
-    let tree = three_keys(&rt, rt.alloc(), &mut pages)?;
     let full = Tree {
         height: 2,
         used: 3,
@@ -401,27 +376,21 @@ fn seven_pages(rt: &impl Abort, alloc: Global, keys: &[u8; 7]) -> Result<Pages<M
 }
 
 #[test]
-fn keys_within_the_bounds_of_all_levels(rt: HostRuntime) -> Result<(), Fail> {
+fn keys_within_and_outside_the_bounds_of_all_levels(rt: HostRuntime) -> Result<(), Fail> {
     let mut pages = seven_pages(&rt, rt.alloc(), b"agdntqm")?;
     let elements = walk_again(&rt, rt.alloc(), &mut pages, &tree_at(7, 3))?;
     assert_eq!(rt; elements.len(), 7);
     for (element, key) in elements.iter().zip(b"adgmnqt") {
         assert!(rt; *element == (Key::new(&[*key])?, Record::new(&[*key])?));
     }
-    Ok(())
-}
-
-#[test]
-fn keys_outside_the_bounds_of_a_level(rt: HostRuntime) -> Result<(), Fail> {
-    let cases = [
+    for (keys, key, n) in [
         (b"apdntqm", b'e', 2),
         (b"amdntqm", b'e', 2),
         (b"agzntqm", b'a', 3),
         (b"agdctqm", b'o', 4),
         (b"agdnpqm", b't', 5),
         (b"agdntbm", b'x', 6),
-    ];
-    for (keys, key, n) in cases {
+    ] {
         let mut pages = seven_pages(&rt, rt.alloc(), keys)?;
         check_damaged(&rt, rt.alloc(), &mut pages, &tree_at(7, 3), key, n)?;
     }

@@ -9,101 +9,102 @@ use std::test::Fail;
 
 // What the replies of scripts show is tested by scripts. Here are the calls that no script makes.
 
-/// Runs a script over a new file in the table, whose device fails at these calls of `set`, makes these calls, and
-/// expects what they answer, a line each.
+/// A script over a new file, whose device fails at these calls of `set`; calls after it; and what they answer, a line
+/// each.
+#[derive(Clone, Copy)]
+struct Row<'a> {
+    name: &'a str,
+    failing: &'a [u64],
+    script: &'a str,
+    calls: &'a [Call],
+    answers: &'a str,
+}
+
+/// Expects the answers over a new file in the table.
 fn expect_over<T: Table>(
     rt: &impl Abort,
     alloc: Global,
     table: T,
-    failing: &[u64],
-    script: &str,
-    calls: &[Call],
-    wanted: &str,
+    row: &Row<'_>,
 ) -> Result<(), Fail> {
-    let mut file = flaky_file(rt, alloc, table, Limits::new(9, 99, 9)?, failing)?;
-    answers_to(alloc, &mut file, &calls_of(alloc, script)?)?;
-    let text = text_of(alloc, &answers_to(alloc, &mut file, calls)?)?;
-    assert_eq!(rt; text.as_str(), wanted);
+    let mut file = flaky_file(rt, alloc, table, Limits::new(9, 99, 9)?, row.failing)?;
+    answers_to(alloc, &mut file, &calls_of(alloc, row.script)?)?;
+    let text = text_of(alloc, &answers_to(alloc, &mut file, row.calls)?)?;
+    assert_eq!(rt; (row.name, text.as_str()), (row.name, row.answers));
     Ok(())
 }
 
-/// Does so over a sorted table.
-fn expect(
-    rt: &impl Abort,
-    alloc: Global,
-    failing: &[u64],
-    script: &str,
-    calls: &[Call],
-    wanted: &str,
-) -> Result<(), Fail> {
+/// Expects them over a sorted table.
+fn expect(rt: &impl Abort, alloc: Global, row: &Row<'_>) -> Result<(), Fail> {
     let table = SortedTable::new(alloc, Limits::new(9, 99, 9)?);
-    expect_over(rt, alloc, table, failing, script, calls, wanted)
+    expect_over(rt, alloc, table, row)
 }
 
 #[test]
-fn two_partial_rollbacks_leave_their_log(rt: HostRuntime) -> Result<(), Fail> {
-    let calls = [
-        Call::LogRecord(0),
-        Call::LogRecord(1),
-        Call::LogRecord(2),
-        Call::LogRecord(3),
-        Call::LogRecord(4),
-        Call::LogRecord(5),
-        Call::LogRecord(6),
-        Call::LogRecord(7),
-        Call::LogRecord(8),
-        Call::LogRecord(9),
-    ];
-    let log =
-        "-\n1 0 1 a - to 1\n2 1 1 a 1 to 2\n3 2 1 b - to 3\n4 3 1 b back to -, then 2\n5 4 1 a back to 1, then 1\n6 5 1 c - to 4\n7 6 1 c back to -, then 5\n8 7 1 a back to -, then 0\n-\n";
-    expect(&rt, rt.alloc(), &[], TWO_ROLLBACKS.script, &calls, log)
-}
-
-#[test]
-fn a_status_tells_savepoints_and_changes(rt: HostRuntime) -> Result<(), Fail> {
-    let tx = TxId(1);
-    let calls = [
-        Call::Status(tx),
-        Call::Put(tx, Key::new(b"d")?, Record::new(b"5")?),
-        Call::Status(tx),
-        Call::Begun,
-        Call::LogLen,
-        Call::LogUse,
-        Call::Charged,
-        Call::Status(TxId(2)),
-    ];
-    let answers = "active 1 0\n-\nactive 1 1\n1\n9\n10\n1\nNoSuchTx\n";
-    expect(&rt, rt.alloc(), &[], TWO_ROLLBACKS.script, &calls, answers)
-}
-
-#[test]
-fn a_stopped_abort_is_rolling(rt: HostRuntime) -> Result<(), Fail> {
-    let tx = TxId(1);
-    let calls = [
-        Call::Abort(tx),
-        Call::Status(tx),
-        Call::Resume(tx),
-        Call::Resume(tx),
-        Call::Status(tx),
-    ];
-    let script = "begin\nput 1 a =1\nput 1 b =2\n";
-    let answers =
-        "Err(Stopped { undone: 1, left: 1, cause: Device })\nrolling 1 true\nOk(1)\nErr(NoSuchTx)\nNoSuchTx\n";
-    expect(&rt, rt.alloc(), &[4], script, &calls, answers)
-}
-
-#[test]
-fn lists_name_the_owners(rt: HostRuntime) -> Result<(), Fail> {
-    let calls = [Call::Entries, Call::KeysOf(TxId(1)), Call::KeysOf(TxId(2))];
-    let script = "begin\nbegin\nput 1 b =x\nput 2 a =y\ncommit 2\n";
-    expect(
-        &rt,
-        rt.alloc(),
-        &[],
+fn what_the_log_and_the_status_tell(rt: HostRuntime) -> Result<(), Fail> {
+    let script = TWO_ROLLBACKS.script;
+    let log = Row {
+        name: "two partial rollbacks leave their log",
+        failing: &[],
         script,
-        &calls,
-        "a=y b=x@1 \nb \nNoSuchTx\n",
-    )
+        calls: &[
+            Call::LogRecord(0),
+            Call::LogRecord(1),
+            Call::LogRecord(2),
+            Call::LogRecord(3),
+            Call::LogRecord(4),
+            Call::LogRecord(5),
+            Call::LogRecord(6),
+            Call::LogRecord(7),
+            Call::LogRecord(8),
+            Call::LogRecord(9),
+        ],
+        answers: "-\n1 0 1 a - to 1\n2 1 1 a 1 to 2\n3 2 1 b - to 3\n4 3 1 b back to -, then 2\n5 4 1 a back to 1, then 1\n6 5 1 c - to 4\n7 6 1 c back to -, then 5\n8 7 1 a back to -, then 0\n-\n",
+    };
+    expect(&rt, rt.alloc(), &log)?;
+    let status = Row {
+        name: "a status tells savepoints and changes",
+        failing: &[],
+        script,
+        calls: &[
+            Call::Status(TxId(1)),
+            Call::Put(TxId(1), Key::new(b"d")?, Record::new(b"5")?),
+            Call::Status(TxId(1)),
+            Call::Begun,
+            Call::LogLen,
+            Call::LogUse,
+            Call::Charged,
+            Call::Status(TxId(2)),
+        ],
+        answers: "active 1 0\n-\nactive 1 1\n1\n9\n10\n1\nNoSuchTx\n",
+    };
+    expect(&rt, rt.alloc(), &status)
+}
+
+#[test]
+fn what_a_stop_and_the_lists_tell(rt: HostRuntime) -> Result<(), Fail> {
+    let stopped = Row {
+        name: "a stopped abort is rolling",
+        failing: &[4],
+        script: "begin\nput 1 a =1\nput 1 b =2\n",
+        calls: &[
+            Call::Abort(TxId(1)),
+            Call::Status(TxId(1)),
+            Call::Resume(TxId(1)),
+            Call::Resume(TxId(1)),
+            Call::Status(TxId(1)),
+        ],
+        answers: "Err(Stopped { undone: 1, left: 1, cause: Device })\nrolling 1 true\nOk(1)\nErr(NoSuchTx)\nNoSuchTx\n",
+    };
+    expect(&rt, rt.alloc(), &stopped)?;
+    let lists = Row {
+        name: "lists name the owners",
+        failing: &[],
+        script: "begin\nbegin\nput 1 b =x\nput 2 a =y\ncommit 2\n",
+        calls: &[Call::Entries, Call::KeysOf(TxId(1)), Call::KeysOf(TxId(2))],
+        answers: "a=y b=x@1 \nb \nNoSuchTx\n",
+    };
+    expect(&rt, rt.alloc(), &lists)
 }
 
 /// Gives the table back, and finds the record of a key in it.
