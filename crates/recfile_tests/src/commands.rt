@@ -290,27 +290,34 @@ fn lists_are_written(rt: HostRuntime) -> Result<(), Fail> {
     Ok(())
 }
 
+/// The reply with a record of this byte.
+fn printed(alloc: Global, byte: u8) -> Result<String, AllocError> {
+    if byte > 32 && byte < 127 && byte != b'%' {
+        format!(in alloc; "ok ={}\n", char::from(byte))
+    } else {
+        format!(in alloc; "ok =%{byte:02X}\n")
+    }
+}
+
+/// Expects the word to be read as a record of this byte.
+fn expect_read(rt: &impl Abort, alloc: Global, word: &str, byte: u8) -> Result<(), Fail> {
+    let line = format!(in alloc; "put 1 a {word}")?;
+    let wanted = format!(in alloc; "put 1 [97] [{byte}]\n")?;
+    expect(rt, alloc, &line, &wanted)
+}
+
+/// Expects a record of this byte to be printed so, and to be read again.
+fn expect_again(rt: &impl Abort, alloc: Global, byte: u8) -> Result<(), Fail> {
+    let text = written(alloc, &Reply::Get(Ok(Some(Record::new(&[byte])?))))?;
+    assert_eq!(rt; text.as_str(), printed(alloc, byte)?.as_str());
+    let word = text.trim_start_matches("ok ").trim_end_matches("\n");
+    expect_read(rt, alloc, word, byte)
+}
+
 #[test]
 fn every_byte_is_printed_and_read_again(rt: HostRuntime) -> Result<(), Fail> {
-    let alloc = rt.alloc();
-    for byte in 0..=255u8 {
-        let text = written(alloc, &Reply::Get(Ok(Some(Record::new(&[byte])?))))?;
-        let mut wanted = String::new(alloc);
-        if byte > 32 && byte < 127 && byte != b'%' {
-            write!(wanted, "ok ={}\n", char::from(byte))?;
-        } else {
-            write!(wanted, "ok =%{byte:02X}\n")?;
-        }
-        assert_eq!(rt; text.as_str(), wanted.as_str());
-        let mut line = String::new(alloc);
-        write!(
-            line,
-            "put 1 a {}",
-            text.trim_start_matches("ok ").trim_end_matches("\n")
-        )?;
-        let mut put = String::new(alloc);
-        write!(put, "put 1 [97] [{byte}]\n")?;
-        expect(&rt, alloc, &line, &put)?;
+    for byte in 0..=u8::MAX {
+        expect_again(&rt, rt.alloc(), byte)?;
     }
     Ok(())
 }

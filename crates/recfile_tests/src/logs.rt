@@ -34,6 +34,19 @@ fn put(
     Ok(log.accept(tx, *key, before, after))
 }
 
+/// Does so with a key and records of one byte.
+fn put_bytes(
+    rt: &impl Abort,
+    log: &mut TxLog,
+    tx: u32,
+    key: u8,
+    before: Option<u8>,
+    after: Option<u8>,
+) -> Result<u32, Fail> {
+    let (before, after) = (record_of(before)?, record_of(after)?);
+    Ok(put(rt, log, TxId(tx), &key_of(key)?, before, after)?)
+}
+
 /// Begins a transaction, once more where memory was refused.
 fn begin(rt: &impl Abort, log: &mut TxLog) -> Result<TxId, BeginFault> {
     let begun = log.begun();
@@ -140,16 +153,18 @@ fn expect_undo(
     rt: &impl Abort,
     log: &mut TxLog,
     tx: TxId,
-    key: Key,
-    before: Option<Record>,
+    key: u8,
+    before: Option<u8>,
     lsn: u32,
-) {
+) -> Result<(), Fail> {
+    let (key, before) = (key_of(key)?, record_of(before)?);
     let step = log.next_undo(tx);
     assert!(rt; step.is_some());
     if let Some(step) = step {
         assert_eq!(rt; (step.key, step.before), (key, before));
     }
     assert_eq!(rt; log.compensate(tx), lsn);
+    Ok(())
 }
 
 fn finish(rt: &impl Abort, log: &mut TxLog, tx: TxId, ends: bool) {
@@ -172,14 +187,17 @@ fn expect_keys(rt: &impl Abort, log: &TxLog, tx: TxId, bytes: &[u8]) -> Result<(
     Ok(())
 }
 
+fn expect_owner(rt: &impl Abort, log: &TxLog, key: u8, owner: Option<u32>) -> Result<(), Fail> {
+    assert_eq!(rt; log.owner(&key_of(key)?).map(|tx| tx.0), owner);
+    Ok(())
+}
+
 /// Makes the changing calls of a step.
 fn change(rt: &impl Abort, log: &mut TxLog, step: &Step) -> Result<(), Fail> {
     match *step {
         Step::Begin(number) => expect_begin(rt, log, number),
         Step::Put(tx, key, before, after, lsn) => {
-            let (before, after) = (record_of(before)?, record_of(after)?);
-            let answer = put(rt, log, TxId(tx), &key_of(key)?, before, after)?;
-            assert_eq!(rt; answer, lsn);
+            assert_eq!(rt; put_bytes(rt, log, tx, key, before, after)?, lsn);
         }
         Step::Save(tx, number) => assert_eq!(rt; save(rt, log, TxId(tx)), number),
         Step::Release(tx, n) => release(rt, log, TxId(tx), n),
@@ -187,9 +205,7 @@ fn change(rt: &impl Abort, log: &mut TxLog, step: &Step) -> Result<(), Fail> {
             assert_eq!(rt; roll_back(rt, log, TxId(tx), n, ends), count);
         }
         Step::Start(tx, n, ends) => start(rt, log, TxId(tx), n, ends),
-        Step::Undo(tx, key, before, lsn) => {
-            expect_undo(rt, log, TxId(tx), key_of(key)?, record_of(before)?, lsn);
-        }
+        Step::Undo(tx, key, before, lsn) => expect_undo(rt, log, TxId(tx), key, before, lsn)?,
         Step::Finish(tx) => finish(rt, log, TxId(tx), true),
         Step::End(tx) => end(rt, log, TxId(tx)),
         _ => look(rt, log, step)?,
@@ -200,9 +216,7 @@ fn change(rt: &impl Abort, log: &mut TxLog, step: &Step) -> Result<(), Fail> {
 /// Makes the looks of a step.
 fn look(rt: &impl Abort, log: &TxLog, step: &Step) -> Result<(), Fail> {
     match *step {
-        Step::Owner(key, owner) => {
-            assert_eq!(rt; log.owner(&key_of(key)?).map(|tx| tx.0), owner);
-        }
+        Step::Owner(key, owner) => expect_owner(rt, log, key, owner)?,
         Step::Keys(tx, bytes) => expect_keys(rt, log, TxId(tx), bytes)?,
         Step::Phase(tx, phase) => assert_eq!(rt; log.phase(TxId(tx)), phase),
         Step::Counts(tx, depth, live, left) => {

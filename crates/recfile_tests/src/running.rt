@@ -67,6 +67,19 @@ fn run<T: Table>(
 }
 
 /// Expects the replies, each with its end, and this many commands.
+fn expect_replies<T: Table>(
+    rt: &impl Abort,
+    alloc: Global,
+    file: &mut RecordFile<T>,
+    row: &Row<'_>,
+) -> Result<(), Fail> {
+    let (text, end) = run(alloc, file, row.script)?;
+    assert_eq!(rt; (row.name, text.as_str()), (row.name, row.replies));
+    assert_eq!(rt; (row.name, end), (row.name, Ok(row.commands)));
+    Ok(())
+}
+
+/// Does so over a new file in the table.
 fn expect_over<T: Table>(
     rt: &impl Abort,
     alloc: Global,
@@ -76,10 +89,7 @@ fn expect_over<T: Table>(
     let (records, log_records, begins) = row.limits;
     let limits = Limits::new(records, log_records, begins)?;
     let mut file = flaky_file(rt, alloc, table, limits, row.failing)?;
-    let (text, end) = run(alloc, &mut file, row.script)?;
-    assert_eq!(rt; (row.name, text.as_str()), (row.name, row.replies));
-    assert_eq!(rt; (row.name, end), (row.name, Ok(row.commands)));
-    Ok(())
+    expect_replies(rt, alloc, &mut file, row)
 }
 
 /// Expects it over a sorted table, and over trees of the orders 1, 2 and 16.

@@ -70,6 +70,14 @@ fn run<T: Table>(rt: &impl Abort, table: &mut T, steps: &[u8]) -> Result<(), Fai
     Ok(())
 }
 
+/// Appends the number of the son at this place, where there is one.
+fn push_son(text: &mut String, sons: &[u32], place: usize) -> Result<(), Fail> {
+    if let Some(son) = sons.get(place) {
+        write!(text, "{son}")?;
+    }
+    Ok(())
+}
+
 /// What a page spells: its keys, with the numbers of the sons around each in an inner one. A page that
 /// spells nothing is empty.
 fn push_page(
@@ -82,23 +90,37 @@ fn push_page(
     let Ok(node) = decode(page, order) else {
         return Ok(());
     };
-    for son in node.sons.as_slice().iter().take(1) {
-        assert!(rt; *son <= 9);
-        text.push((b'0' + *son as u8) as char)?;
-    }
+    push_son(text, node.sons.as_slice(), 0)?;
     for (i, (key, record)) in node.elements.as_slice().iter().enumerate() {
         assert!(rt; key.bytes() == record.bytes());
         text.push(key.bytes()[0] as char)?;
-        for son in node.sons.as_slice().iter().skip(i + 1).take(1) {
-            assert!(rt; *son <= 9);
-            text.push((b'0' + *son as u8) as char)?;
-        }
+        push_son(text, node.sons.as_slice(), i + 1)?;
     }
     Ok(())
 }
 
-/// Looks at the file of a new table after these steps: its root and its count, and what each page
-/// spells.
+/// Looks at the pages of a file: its root and its count, and what each page but the header spells.
+fn expect_pages(
+    rt: &impl Abort,
+    alloc: Global,
+    stored: &[[u8; 4096]],
+    order: u16,
+    root: u8,
+    count: u8,
+    pages: &str,
+) -> Result<(), Fail> {
+    assert!(rt; !stored.is_empty());
+    assert!(rt; stored[0][19] == root && stored[0][23] == count);
+    let mut text = String::new(alloc);
+    for page in &stored[1..] {
+        push_page(rt, &mut text, page, order)?;
+        text.push(' ')?;
+    }
+    assert_eq!(rt; text.as_str(), pages);
+    Ok(())
+}
+
+/// Does so with the file of a new table after these steps.
 fn check_steps(
     rt: &impl Abort,
     alloc: Global,
@@ -111,15 +133,7 @@ fn check_steps(
     let mut table = make(alloc, no_pages(alloc), order, 26)?;
     run(rt, &mut table, steps)?;
     let store = close(table)?;
-    let stored = store.pages();
-    assert!(rt; !stored.is_empty());
-    assert!(rt; stored[0][19] == root && stored[0][23] == count);
-    let mut text = String::new(alloc);
-    for page in &stored[1..] {
-        push_page(rt, &mut text, page, order)?;
-        text.push(' ')?;
-    }
-    assert_eq!(rt; text.as_str(), pages);
+    expect_pages(rt, alloc, store.pages(), order, root, count, pages)?;
     open(alloc, store, 26)?;
     Ok(())
 }
@@ -188,29 +202,41 @@ fn the_file_of_three_records(rt: HostRuntime) -> Result<(), Fail> {
     Ok(())
 }
 
-/// Looks that a table of one record whose close fails at the call of that number has it still, and that
-/// a second close leaves a file that has it.
-fn check_close(rt: &impl Abort, alloc: Global, call: u64) -> Result<(), Fail> {
+/// Looks that a table of one record that was not closed has it still, and that a second close leaves a file that has it.
+fn check_second_close<S: Store>(
+    rt: &impl Abort,
+    alloc: Global,
+    stop: CloseStop<S>,
+) -> Result<(), Fail> {
+    assert!(rt; stop.fault == WriteFault::Device && stop.table.count() == 1);
+    let mut table = open(alloc, close(stop.table)?, 9)?;
+    assert!(rt; table.get(&Key::new(b"a")?)? == Some(Record::new(b"a")?));
+    Ok(())
+}
+
+/// Does so with a new table in the store, at which the first close fails.
+fn check_close<S: Store>(rt: &impl Abort, alloc: Global, store: S) -> Result<(), Fail> {
+    let mut table = make(alloc, store, 1, 9)?;
+    run(rt, &mut table, b"a")?;
+    match table.close() {
+        Ok(_) => Err(Fail::from("a call that failed was not told")),
+        Err(stop) => check_second_close(rt, alloc, stop),
+    }
+}
+
+/// A store without pages that fails at the call of this number.
+fn failing_at(alloc: Global, call: u64) -> Result<FlakyStore<MemStore>, Fail> {
     let mut writes = Vec::new(alloc);
     if writes.push(call).is_err() {
         writes.push(call)?;
     }
-    let store = FlakyStore::new(no_pages(alloc), Vec::new(alloc), writes);
-    let mut table = make(alloc, store, 1, 9)?;
-    run(rt, &mut table, b"a")?;
-    let Err(CloseStop { table, fault }) = table.close() else {
-        panic!(rt; "a call that failed was not told");
-    };
-    assert!(rt; fault == WriteFault::Device && table.count() == 1);
-    let mut table = open(alloc, close(table)?, 9)?;
-    assert!(rt; table.get(&Key::new(b"a")?)? == Some(Record::new(b"a")?));
-    Ok(())
+    Ok(FlakyStore::new(no_pages(alloc), Vec::new(alloc), writes))
 }
 
 #[test]
 fn a_table_with_a_record_is_closed_again(rt: HostRuntime) -> Result<(), Fail> {
     for call in 1..8u64 {
-        check_close(&rt, rt.alloc(), call)?;
+        check_close(&rt, rt.alloc(), failing_at(rt.alloc(), call)?)?;
     }
     Ok(())
 }
@@ -220,23 +246,45 @@ fn key_of(i: u32, factor: u32) -> [u8; 1] {
     [33 + (u64::from(i) * u64::from(factor) % 41) as u8]
 }
 
+/// One change in the table and in another.
+fn set_both<T: Table, U: Table>(
+    rt: &impl Abort,
+    table: &mut T,
+    other: &mut U,
+    key: &[u8],
+    to: Option<Record>,
+) -> Result<(), Fail> {
+    let before = set(table, Key::new(key)?, to.as_ref().copied())?;
+    let expected = set(other, Key::new(key)?, to)?;
+    assert!(rt; before == expected);
+    Ok(())
+}
+
+/// Looks that the table has the records of another.
+fn check_same<T: Table, U: Table>(
+    rt: &impl Abort,
+    table: &mut T,
+    other: &mut U,
+) -> Result<(), Fail> {
+    assert!(rt; table.count() == other.count());
+    assert!(rt; table.entries()? == other.entries()?);
+    Ok(())
+}
+
 /// One change in the table and in a sorted one. The table's file is opened again after it, which looks
 /// at every page, and then has the records of the sorted one.
-fn change_both(
+fn change_both<S: Store>(
     rt: &impl Abort,
     alloc: Global,
-    table: TreeTable<MemStore>,
+    table: TreeTable<S>,
     sorted: &mut SortedTable,
     key: &[u8],
     to: Option<Record>,
-) -> Result<TreeTable<MemStore>, Fail> {
+) -> Result<TreeTable<S>, Fail> {
     let mut table = table;
-    let before = set(&mut table, Key::new(key)?, to.as_ref().copied())?;
-    let expected = set(sorted, Key::new(key)?, to)?;
-    assert!(rt; before == expected);
+    set_both(rt, &mut table, sorted, key, to)?;
     let mut table = open(alloc, close(table)?, 41)?;
-    assert!(rt; table.count() == sorted.count());
-    assert!(rt; table.entries()? == sorted.entries()?);
+    check_same(rt, &mut table, sorted)?;
     Ok(table)
 }
 

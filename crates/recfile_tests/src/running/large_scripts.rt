@@ -19,16 +19,27 @@ fn new_session(alloc: Global) -> Session {
     }
 }
 
-/// Expects the replies, and that each line was a command.
+/// Expects the replies over the file, and that each line was a command.
+fn expect_replies<T: Table>(
+    rt: &impl Abort,
+    alloc: Global,
+    file: &mut RecordFile<T>,
+    session: &Session,
+    commands: u32,
+) -> Result<(), Fail> {
+    let (text, end) = run(alloc, file, &session.script)?;
+    assert!(rt; text.as_str() == session.replies.as_str());
+    assert_eq!(rt; end, Ok(commands));
+    Ok(())
+}
+
+/// Does so over a new file.
 fn expect(rt: &impl Abort, alloc: Global, session: &Session, commands: u32) -> Result<(), Fail> {
     let limits = greatest()?;
     let table = SortedTable::new(alloc, limits);
     assert!(rt; table.limit() == limits.records());
     let mut file = RecordFile::new(alloc, table, limits);
-    let (text, end) = run(alloc, &mut file, &session.script)?;
-    assert!(rt; text.as_str() == session.replies.as_str());
-    assert_eq!(rt; end, Ok(commands));
-    Ok(())
+    expect_replies(rt, alloc, &mut file, session, commands)
 }
 
 /// As many transactions begin, and each puts at a key of its own.

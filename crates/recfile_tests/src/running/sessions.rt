@@ -130,17 +130,25 @@ fn expect_silent<T: Table>(
     Ok(())
 }
 
-#[test]
-fn scripts_that_are_not_run_to_their_end(rt: HostRuntime) -> Result<(), Fail> {
-    let alloc = rt.alloc();
-    let mut file = empty_file(alloc, greatest()?);
-    expect_silent(&rt, alloc, &mut file, b"#", 1_048_575, Ok(0))?;
+/// Expects a comment to say nothing, a longer script not to be run, and one whose reply is refused to end there.
+fn expect_unrun<T: Table>(
+    rt: &impl Abort,
+    alloc: Global,
+    file: &mut RecordFile<T>,
+) -> Result<(), Fail> {
+    expect_silent(rt, alloc, file, b"#", 1_048_575, Ok(0))?;
     let fault = Err(ScriptFault::ScriptTooLong);
-    expect_silent(&rt, alloc, &mut file, b"begin\n", 1_048_571, fault)?;
+    expect_silent(rt, alloc, file, b"begin\n", 1_048_571, fault)?;
     let mut reader = b"begin\n".as_slice();
-    let ran = run_over(alloc, &mut file, &mut reader, &mut Closing { writes: 0 });
+    let ran = run_over(alloc, file, &mut reader, &mut Closing { writes: 0 });
     assert_eq!(rt; ran, (Err(ScriptFault::WriteFault { done: 1 }), 1));
     Ok(())
+}
+
+#[test]
+fn scripts_that_are_not_run_to_their_end(rt: HostRuntime) -> Result<(), Fail> {
+    let mut file = empty_file(rt.alloc(), greatest()?);
+    expect_unrun(&rt, rt.alloc(), &mut file)
 }
 
 /// Expects this status of the program's session, and what it writes to standard error.

@@ -1,6 +1,6 @@
 use super::{open, page_with, store_of, three_records};
 use btree_delete::{CloseStop, CreateFault, OpenFault, TreeTable};
-use page_store::{FlakyStore, Store, WriteFault};
+use page_store::{FlakyStore, MemStore, Store, WriteFault};
 use rec_types::Limits;
 use std::alloc::Global;
 use std::process::Abort;
@@ -268,33 +268,47 @@ fn no_table_is_made(rt: HostRuntime) -> Result<(), Fail> {
     check_create(&rt, rt.alloc(), 1, 0, 1, CreateFault::NotEmpty)
 }
 
-/// Looks that a new table whose close fails at the call of that number is closed by a second one.
-fn check_close(rt: &impl Abort, alloc: Global, call: u64) -> Result<(), Fail> {
-    let mut writes = Vec::new(alloc);
-    if writes.push(call).is_err() {
-        writes.push(call)?;
+/// Looks that an empty table that was not closed is closed by a second call.
+fn check_second_close<S: Store>(
+    rt: &impl Abort,
+    alloc: Global,
+    stop: CloseStop<S>,
+) -> Result<(), Fail> {
+    assert!(rt; stop.fault == WriteFault::Device);
+    match stop.table.close() {
+        Ok(store) => {
+            assert_eq!(rt; numbers_of(&open(alloc, store)?), (2, 0, 0, 1, 0));
+            Ok(())
+        }
+        Err(_) => Err(Fail::from(OpenFault::Device)),
     }
-    let store = FlakyStore::new(store_of(rt, alloc, &[], 0)?, Vec::new(alloc), writes);
+}
+
+/// Does so with a new table in the store, at which the first close fails.
+fn check_close<S: Store>(rt: &impl Abort, alloc: Global, store: S) -> Result<(), Fail> {
     let Ok(table) = TreeTable::create(alloc, store, 2, Limits::new(9, 2, 1)?) else {
         return Err(Fail::from(OpenFault::Device));
     };
     match table.close() {
-        Ok(_) => panic!(rt; "a call that failed was not told"),
-        Err(CloseStop { table, fault }) => {
-            assert!(rt; fault == WriteFault::Device);
-            let Ok(store) = table.close() else {
-                return Err(Fail::from(OpenFault::Device));
-            };
-            assert_eq!(rt; numbers_of(&open(alloc, store)?), (2, 0, 0, 1, 0));
-            Ok(())
-        }
+        Ok(_) => Err(Fail::from("a call that failed was not told")),
+        Err(stop) => check_second_close(rt, alloc, stop),
     }
+}
+
+/// A store without pages that fails at the call of this number.
+fn failing_at(rt: &impl Abort, alloc: Global, call: u64) -> Result<FlakyStore<MemStore>, Fail> {
+    let mut writes = Vec::new(alloc);
+    if writes.push(call).is_err() {
+        writes.push(call)?;
+    }
+    let store = store_of(rt, alloc, &[], 0)?;
+    Ok(FlakyStore::new(store, Vec::new(alloc), writes))
 }
 
 #[test]
 fn a_table_is_closed_again(rt: HostRuntime) -> Result<(), Fail> {
     for call in 1..7u64 {
-        check_close(&rt, rt.alloc(), call)?;
+        check_close(&rt, rt.alloc(), failing_at(&rt, rt.alloc(), call)?)?;
     }
     Ok(())
 }

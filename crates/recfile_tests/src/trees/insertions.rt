@@ -48,21 +48,32 @@ fn expect_letters(
     Ok(())
 }
 
+/// Puts another record at a key that is there, which leaves the tree as it is and answers the record before.
+fn check_replaced<S: Store>(
+    rt: &impl Abort,
+    alloc: Global,
+    pages: &mut Pages<S>,
+    tree: &Tree,
+    key: &[u8],
+    before: &[u8],
+) -> Result<(), Fail> {
+    let (same, old) = put(rt, alloc, pages, tree, key, b"new")?;
+    assert_eq!(rt; same, *tree);
+    assert!(rt; old == Some(Record::new(before)?));
+    Ok(())
+}
+
 #[test]
 fn three_keys_of_order_one(rt: HostRuntime) -> Result<(), Fail> {
-    let alloc = rt.alloc();
-    let mut pages = new_pages(alloc)?;
+    let mut pages = new_pages(rt.alloc())?;
     let records = [(b'a', b'x'), (b'b', b'y'), (b'c', b'z')];
-    let tree = put_all(&rt, alloc, &mut pages, 1, &records)?;
-    let text = tree_text(&rt, alloc, &mut pages, &tree)?;
+    let tree = put_all(&rt, rt.alloc(), &mut pages, 1, &records)?;
+    let text = tree_text(&rt, rt.alloc(), &mut pages, &tree)?;
     assert_eq!(rt;
         text.as_str(),
         "3 2 3 3 of 4; leaf a=x; leaf c=z; inner b=y 1 2"
     );
-    let (same, old) = put(&rt, alloc, &mut pages, &tree, b"b", b"new")?;
-    assert_eq!(rt; same, tree);
-    assert!(rt; old == Some(Record::new(b"y")?));
-    Ok(())
+    check_replaced(&rt, rt.alloc(), &mut pages, &tree, b"b", b"y")
 }
 
 #[test]
@@ -101,31 +112,58 @@ fn check_nodes<S: Store>(pages: &mut Pages<S>, order: u16) -> Result<(), Fail>
     Ok(())
 }
 
-/// Inserts the numbers below 300 in an order, as keys, walks over them, and looks at all pages.
-fn check_order(rt: &impl Abort, alloc: Global, order: u16, numbers: &[u16]) -> Result<(), Fail> {
-    let mut pages = new_pages(alloc)?;
+/// Puts the numbers at themselves as keys.
+fn put_numbers<S: Store>(
+    rt: &impl Abort,
+    alloc: Global,
+    pages: &mut Pages<S>,
+    order: u16,
+    numbers: &[u16],
+) -> Result<Tree, Fail> {
     let mut tree = empty(order);
     for n in numbers {
-        tree = put(
-            rt,
-            alloc,
-            &mut pages,
-            &tree,
-            &n.to_be_bytes(),
-            &n.to_be_bytes(),
-        )?
-        .0;
+        let bytes = n.to_be_bytes();
+        tree = put(rt, alloc, pages, &tree, &bytes, &bytes)?.0;
     }
-    assert!(rt; 1 <= tree.order && tree.order <= 16 && tree.height <= 19);
-    assert!(rt; tree.count <= 1_000_000 && tree.used <= 1_000_000);
-    let elements = walk_again(rt, alloc, &mut pages, &tree)?;
-    assert_eq!(rt; (elements.len(), tree.count), (300, 300));
-    for (element, n) in elements.iter().zip(0..300u16) {
+    Ok(tree)
+}
+
+/// Looks that a walk over the tree gives the numbers below its count.
+fn check_numbers<S: Store>(
+    rt: &impl Abort,
+    alloc: Global,
+    pages: &mut Pages<S>,
+    tree: &Tree,
+) -> Result<(), Fail> {
+    let elements = walk_again(rt, alloc, pages, tree)?;
+    assert_eq!(rt; elements.len(), tree.count as usize);
+    for (element, n) in elements.iter().zip(0..tree.count as u16) {
         let bytes = n.to_be_bytes();
         assert!(rt; *element == (Key::new(&bytes)?, Record::new(&bytes)?));
     }
+    Ok(())
+}
+
+/// Inserts the numbers below their count in an order, as keys, walks over them, and looks at all pages.
+fn check_order_in<S: Store>(
+    rt: &impl Abort,
+    alloc: Global,
+    pages: &mut Pages<S>,
+    order: u16,
+    numbers: &[u16],
+) -> Result<(), Fail> {
+    let tree = put_numbers(rt, alloc, pages, order, numbers)?;
+    assert!(rt; tree.order == order && order <= 16 && tree.used <= 1_000_000);
+    assert_eq!(rt; tree.count as usize, numbers.len());
+    check_numbers(rt, alloc, pages, &tree)?;
     assert_eq!(rt; pages.page_count(), tree.used + 1);
-    check_nodes(&mut pages, tree.order)
+    check_nodes(pages, order)
+}
+
+/// Does so in new pages.
+fn check_order(rt: &impl Abort, alloc: Global, order: u16, numbers: &[u16]) -> Result<(), Fail> {
+    let mut pages = new_pages(alloc)?;
+    check_order_in(rt, alloc, &mut pages, order, numbers)
 }
 
 /// Does so for trees of several orders, with the numbers shuffled by a factor and a shift.
@@ -199,6 +237,13 @@ fn pages_that_are_no_tree(rt: HostRuntime) -> Result<(), Fail> {
     };
     let (_, walked) = looks(&rt, rt.alloc(), &mut pages, &narrow, b'a')?;
     assert_eq!(rt; walked, Some(TreeFault::Damaged(2)));
+    Ok(())
+}
+
+#[test]
+fn a_tree_of_the_greatest_count(rt: HostRuntime) -> Result<(), Fail> {
+    let mut pages = new_pages(rt.alloc())?;
+    let tree = three_keys(&rt, rt.alloc(), &mut pages)?;
     let full = Tree {
         height: 2,
         used: 3,
@@ -375,14 +420,30 @@ fn seven_pages(rt: &impl Abort, alloc: Global, keys: &[u8; 7]) -> Result<Pages<M
     Ok(pages)
 }
 
-#[test]
-fn keys_within_and_outside_the_bounds_of_all_levels(rt: HostRuntime) -> Result<(), Fail> {
-    let mut pages = seven_pages(&rt, rt.alloc(), b"agdntqm")?;
-    let elements = walk_again(&rt, rt.alloc(), &mut pages, &tree_at(7, 3))?;
-    assert_eq!(rt; elements.len(), 7);
-    for (element, key) in elements.iter().zip(b"adgmnqt") {
+/// Looks that a walk over the tree gives these keys, each as its own record.
+fn check_keys<S: Store>(
+    rt: &impl Abort,
+    alloc: Global,
+    pages: &mut Pages<S>,
+    tree: &Tree,
+    keys: &[u8],
+) -> Result<(), Fail> {
+    let elements = walk_again(rt, alloc, pages, tree)?;
+    assert_eq!(rt; elements.len(), keys.len());
+    for (element, key) in elements.iter().zip(keys) {
         assert!(rt; *element == (Key::new(&[*key])?, Record::new(&[*key])?));
     }
+    Ok(())
+}
+
+#[test]
+fn keys_within_the_bounds_of_all_levels(rt: HostRuntime) -> Result<(), Fail> {
+    let mut pages = seven_pages(&rt, rt.alloc(), b"agdntqm")?;
+    check_keys(&rt, rt.alloc(), &mut pages, &tree_at(7, 3), b"adgmnqt")
+}
+
+#[test]
+fn keys_outside_the_bounds_of_a_level(rt: HostRuntime) -> Result<(), Fail> {
     for (keys, key, n) in [
         (b"apdntqm", b'e', 2),
         (b"amdntqm", b'e', 2),

@@ -20,6 +20,17 @@ struct Row<'a> {
     answers: &'a str,
 }
 
+/// What the calls answer after the script, a line each.
+fn text_after<T: Table>(
+    alloc: Global,
+    file: &mut RecordFile<T>,
+    script: &str,
+    calls: &[Call],
+) -> Result<String, Fail> {
+    answers_to(alloc, file, &calls_of(alloc, script)?)?;
+    text_of(alloc, &answers_to(alloc, file, calls)?)
+}
+
 /// Expects the answers over a new file in the table.
 fn expect_over<T: Table>(
     rt: &impl Abort,
@@ -28,8 +39,7 @@ fn expect_over<T: Table>(
     row: &Row<'_>,
 ) -> Result<(), Fail> {
     let mut file = flaky_file(rt, alloc, table, Limits::new(9, 99, 9)?, row.failing)?;
-    answers_to(alloc, &mut file, &calls_of(alloc, row.script)?)?;
-    let text = text_of(alloc, &answers_to(alloc, &mut file, row.calls)?)?;
+    let text = text_after(alloc, &mut file, row.script, row.calls)?;
     assert_eq!(rt; (row.name, text.as_str()), (row.name, row.answers));
     Ok(())
 }
@@ -107,40 +117,52 @@ fn what_a_stop_and_the_lists_tell(rt: HostRuntime) -> Result<(), Fail> {
     expect(&rt, rt.alloc(), &lists)
 }
 
-/// Gives the table back, and finds the record of a key in it.
-fn find_behind<T: Table>(
+/// Commits the one transaction of the file, whose table then comes back, and finds the record of a key in it.
+fn found_once_committed<T: Table>(
+    alloc: Global,
+    file: RecordFile<T>,
+    key: &Key,
+) -> Result<Option<Record>, Fail> {
+    let mut file = file;
+    answers_to(alloc, &mut file, &[Call::Commit(TxId(1))])?;
+    match file.into_table() {
+        Ok(mut table) => Ok(table.get(key)?),
+        Err(_) => Err(Fail::from("a transaction is open")),
+    }
+}
+
+/// Does so with a file whose table doesn't come back before.
+fn found_after<T: Table>(
     rt: &impl Abort,
+    alloc: Global,
     file: RecordFile<T>,
     key: &Key,
 ) -> Result<Option<Record>, Fail> {
     match file.into_table() {
-        Ok(mut table) => Ok(table.get(key)?),
-        Err(_) => panic!(rt; "a transaction is open"),
+        Ok(_) => Err(Fail::from("no transaction is open")),
+        Err(still) => {
+            assert_eq!(rt; still.count, 1);
+            found_once_committed(alloc, still.file, key)
+        }
     }
 }
 
-/// Puts a record into a new file, whose table comes back only once the transaction is committed; the record that the
-/// table has then.
-fn found_after<T: Table>(
+/// Does so with a new file in the table, into which a transaction has put a record.
+fn found_over<T: Table>(
     rt: &impl Abort,
     alloc: Global,
     table: T,
     key: &Key,
 ) -> Result<Option<Record>, Fail> {
     let mut file = flaky_file(rt, alloc, table, Limits::new(9, 99, 9)?, &[])?;
-    answers_to(alloc, &mut file, &calls_of(alloc, "begin\nput 1 a =x\n")?)?;
-    let Err(mut still) = file.into_table() else {
-        panic!(rt; "a transaction is open");
-    };
-    assert_eq!(rt; still.count, 1);
-    answers_to(alloc, &mut still.file, &[Call::Commit(TxId(1))])?;
-    find_behind(rt, still.file, key)
+    text_after(alloc, &mut file, "begin\nput 1 a =x\n", &[])?;
+    found_after(rt, alloc, file, key)
 }
 
 #[test]
 fn the_table_comes_back_once_all_have_ended(rt: HostRuntime) -> Result<(), Fail> {
     let table = SortedTable::new(rt.alloc(), Limits::new(9, 99, 9)?);
-    let found = found_after(&rt, rt.alloc(), table, &Key::new(b"a")?)?;
+    let found = found_over(&rt, rt.alloc(), table, &Key::new(b"a")?)?;
     assert_eq!(rt; found, Some(Record::new(b"x")?));
     Ok(())
 }

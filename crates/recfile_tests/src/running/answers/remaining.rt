@@ -1,7 +1,7 @@
 use super::{answers_to, calls_of, push_answer, text_of};
 use crate::running::rows::{CHARGED_KEYS, COMMIT_BESIDE, OWNER_LEFT, STOPPED, TWO_ROLLBACKS};
 use crate::running::{Row, flaky_file, tree};
-use rec_types::{Limits, Table, TxId};
+use rec_types::{FlakyTable, Limits, Table, TxId};
 use record_file::{Answer, Call, RecordFile};
 use std::alloc::Global;
 use std::process::Abort;
@@ -56,15 +56,35 @@ fn remaining_calls(
     Ok((remaining, text))
 }
 
-/// The records with their owners, and the keys of each transaction.
-fn seen<T: Table>(alloc: Global, file: &mut RecordFile<T>) -> Result<String, Fail> {
-    let calls = [
-        Call::Entries,
-        Call::KeysOf(TxId(1)),
-        Call::KeysOf(TxId(2)),
-        Call::KeysOf(TxId(3)),
-    ];
-    text_of(alloc, &answers_to(alloc, file, &calls)?)
+/// What looks at the records with their owners, and at the keys of each transaction.
+const LOOKS: [Call; 4] = [
+    Call::Entries,
+    Call::KeysOf(TxId(1)),
+    Call::KeysOf(TxId(2)),
+    Call::KeysOf(TxId(3)),
+];
+
+/// What the calls answer, a line each.
+fn answered<T: Table>(
+    alloc: Global,
+    file: &mut RecordFile<T>,
+    calls: &[Call],
+) -> Result<String, Fail> {
+    text_of(alloc, &answers_to(alloc, file, calls)?)
+}
+
+/// Expects the calls to answer this.
+fn expect_answers<T: Table>(
+    rt: &impl Abort,
+    alloc: Global,
+    file: &mut RecordFile<T>,
+    name: &str,
+    calls: &[Call],
+    wanted: &str,
+) -> Result<(), Fail> {
+    let text = answered(alloc, file, calls)?;
+    assert_eq!(rt; (name, text.as_str()), (name, wanted));
+    Ok(())
 }
 
 /// Runs the script: the calls that remain, and what they answered.
@@ -91,11 +111,23 @@ fn expect_alone<T: Table>(
 ) -> Result<(), Fail> {
     let (remaining, wanted) = run_whole(alloc, file, row.script)?;
     assert_eq!(rt; (row.name, remaining.len()), (row.name, count));
-    let text = text_of(alloc, &answers_to(alloc, alone, &remaining)?)?;
-    assert_eq!(rt; (row.name, text.as_str()), (row.name, wanted.as_str()));
-    let (one, other) = (seen(alloc, file)?, seen(alloc, alone)?);
-    assert_eq!(rt; (row.name, one.as_str()), (row.name, other.as_str()));
-    Ok(())
+    expect_answers(rt, alloc, alone, row.name, &remaining, &wanted)?;
+    let seen = answered(alloc, file, &LOOKS)?;
+    expect_answers(rt, alloc, alone, row.name, &LOOKS, &seen)
+}
+
+/// Does so with a new file in the table beside this one.
+fn expect_beside<T: Table>(
+    rt: &impl Abort,
+    alloc: Global,
+    file: &mut RecordFile<FlakyTable<T>>,
+    other: T,
+    limits: Limits,
+    row: &Row<'_>,
+    count: usize,
+) -> Result<(), Fail> {
+    let mut alone = flaky_file(rt, alloc, other, limits, &[])?;
+    expect_alone(rt, alloc, file, &mut alone, row, count)
 }
 
 /// Does so over files in these tables.
@@ -109,8 +141,7 @@ fn expect_over<T: Table>(
     count: usize,
 ) -> Result<(), Fail> {
     let mut file = flaky_file(rt, alloc, one, limits, row.failing)?;
-    let mut alone = flaky_file(rt, alloc, other, limits, &[])?;
-    expect_alone(rt, alloc, &mut file, &mut alone, row, count)
+    expect_beside(rt, alloc, &mut file, other, limits, row, count)
 }
 
 /// Does so over trees of order 1 with the row's limits.

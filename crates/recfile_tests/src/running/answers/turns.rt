@@ -176,7 +176,26 @@ fn answers_over<T: Table>(
     text_of(alloc, &answers_to(alloc, &mut file, calls)?)
 }
 
-/// Makes the row's calls over the table with this `set` failing, where there are so many: the answers are these.
+/// Makes the row's calls so: the answers are these, and something is said of a failure if this `set` is one of so many.
+fn expect_persisted<T: Table>(
+    rt: &impl Abort,
+    alloc: Global,
+    file: &mut RecordFile<T>,
+    row: &Row<'_>,
+    number: u64,
+    sets: u64,
+    wanted: &str,
+) -> Result<(), Fail> {
+    let mut faults = String::new(alloc);
+    let text = persist_all(alloc, file, &calls_of(alloc, row.script)?, &mut faults)?;
+    assert_eq!(rt;
+        (row.name, number, text.as_str(), faults.is_empty()),
+        (row.name, number, wanted, number > sets)
+    );
+    Ok(())
+}
+
+/// Does so over the table with this `set` failing.
 fn fail_set<T: Table>(
     rt: &impl Abort,
     alloc: Global,
@@ -188,16 +207,8 @@ fn fail_set<T: Table>(
 ) -> Result<(), Fail> {
     let (records, log_records, begins) = row.limits;
     let limits = Limits::new(records, log_records, begins)?;
-    let calls = calls_of(alloc, row.script)?;
     let mut file = flaky_file(rt, alloc, table, limits, &[number])?;
-    let mut faults = String::new(alloc);
-    let text = persist_all(alloc, &mut file, &calls, &mut faults)?;
-    assert_eq!(rt; (row.name, text.as_str()), (row.name, wanted));
-    assert_eq!(rt;
-        (row.name, number, faults.is_empty()),
-        (row.name, number, number > sets)
-    );
-    Ok(())
+    expect_persisted(rt, alloc, &mut file, row, number, sets, wanted)
 }
 
 /// Does so over a sorted table and over a tree of order 1: the answers are those of a run in which none fails.
@@ -254,28 +265,41 @@ fn each_set_fails_in_turn(rt: HostRuntime) -> Result<(), Fail> {
     Ok(())
 }
 
-/// Expects the table to have x at the key a alone, as a file over it lists it.
-fn expect_record<T: Table>(rt: &impl Abort, alloc: Global, table: T) -> Result<T, Fail> {
-    let mut file = file_over(rt, alloc, table)?;
-    let (text, _) = run(alloc, &mut file, "list\n")?;
-    assert_eq!(rt; text.as_str(), "- a =x\nok 1\n");
+/// Runs the script over the file, in which no transaction is open then: the replies are these, and the table comes back.
+fn expect_run<T: Table>(
+    rt: &impl Abort,
+    alloc: Global,
+    file: RecordFile<T>,
+    script: &str,
+    replies: &str,
+) -> Result<T, Fail> {
+    let mut file = file;
+    let (text, _) = run(alloc, &mut file, script)?;
+    assert_eq!(rt; text.as_str(), replies);
     match file.into_table() {
         Ok(table) => Ok(table),
         Err(_) => Err(Fail::from("a transaction is open")),
     }
 }
 
+/// Expects the table to have x at the key a alone, as a file over it lists it.
+fn expect_record<T: Table>(rt: &impl Abort, alloc: Global, table: T) -> Result<T, Fail> {
+    let file = file_over(rt, alloc, table)?;
+    expect_run(rt, alloc, file, "list\n", "- a =x\nok 1\n")
+}
+
+/// Puts x at the key a of an empty table in a transaction.
+fn with_record<T: Table>(rt: &impl Abort, alloc: Global, table: T) -> Result<T, Fail> {
+    let file = file_over(rt, alloc, table)?;
+    let (script, replies) = ("begin\nput 1 a =x\ncommit 1\n", "ok 1\nok none\nok\n");
+    expect_record(rt, alloc, expect_run(rt, alloc, file, script, replies)?)
+}
+
 /// A table of order 1 in the store, in which a transaction has put x at the key a.
 fn filled<S: Store>(rt: &impl Abort, alloc: Global, store: S) -> Result<TreeTable<S>, Fail> {
-    let Ok(table) = TreeTable::create(alloc, store, 1, Limits::new(9, 2, 1)?) else {
-        return Err(Fail::from("the table isn't made"));
-    };
-    let mut file = file_over(rt, alloc, table)?;
-    let (_, end) = run(alloc, &mut file, "begin\nput 1 a =x\ncommit 1\n")?;
-    assert_eq!(rt; end, Ok(3));
-    match file.into_table() {
-        Ok(table) => expect_record(rt, alloc, table),
-        Err(_) => Err(Fail::from("a transaction is open")),
+    match TreeTable::create(alloc, store, 1, Limits::new(9, 2, 1)?) {
+        Ok(table) => with_record(rt, alloc, table),
+        Err(_) => Err(Fail::from("the table isn't made")),
     }
 }
 

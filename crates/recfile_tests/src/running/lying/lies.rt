@@ -16,7 +16,20 @@ struct Row<'a> {
     replies: &'a str,
 }
 
-/// Expects the replies over a new file in the table.
+/// Expects the replies.
+fn expect_replies<T: Table>(
+    rt: &impl Abort,
+    alloc: Global,
+    file: &mut RecordFile<T>,
+    row: &Row<'_>,
+) -> Result<(), Fail> {
+    let (text, end) = run(alloc, file, row.script)?;
+    assert_eq!(rt; (row.name, text.as_str()), (row.name, row.replies));
+    assert!(rt; end.is_ok());
+    Ok(())
+}
+
+/// Expects them over a new file in the table.
 fn expect_over<T: Table>(
     rt: &impl Abort,
     alloc: Global,
@@ -27,10 +40,7 @@ fn expect_over<T: Table>(
     let table = LyingTable::new(inner, Vec::from_slice(alloc, row.lies)?);
     assert!(rt; table.limit() == limits.records());
     let mut file = RecordFile::new(alloc, table, limits);
-    let (text, end) = run(alloc, &mut file, row.script)?;
-    assert_eq!(rt; (row.name, text.as_str()), (row.name, row.replies));
-    assert!(rt; end.is_ok());
-    Ok(())
+    expect_replies(rt, alloc, &mut file, row)
 }
 
 /// Expects them over a sorted table, and over a tree of order 1.
