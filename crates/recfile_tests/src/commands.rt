@@ -257,36 +257,53 @@ fn stops_and_faults_are_written(rt: HostRuntime) -> Result<(), Fail> {
     Ok(())
 }
 
+/// Two keys, the first of which is a zero byte.
+fn two_keys() -> Result<[Key; 2], Fail> {
+    Ok([Key::new(&[0])?, Key::new(b"%zz")?])
+}
+
+/// Their entries, the first of which has an owner.
+fn two_entries() -> Result<[Entry; 2], Fail> {
+    let [first, second] = two_keys()?;
+    Ok([
+        Entry {
+            key: first,
+            value: Record::new(b"abcdefghijklmnopqrstuvwxyz012345")?,
+            owner: Some(TxId(1)),
+        },
+        Entry {
+            key: second,
+            value: Record::new(&[195, 169, 37])?,
+            owner: None,
+        },
+    ])
+}
+
+/// The reply with a list of these entries, which is made anew from what it gives back.
+fn list_text(rt: &impl Abort, alloc: Global, entries: &[Entry]) -> Result<String, Fail> {
+    let list = EntryList::new(Vec::from_slice(alloc, entries)?);
+    assert_eq!(rt; list.as_slice().len(), entries.len());
+    written(alloc, &Reply::List(Ok(EntryList::new(list.into_vec()))))
+}
+
+/// The same of a list of these keys.
+fn keys_text(rt: &impl Abort, alloc: Global, keys: &[Key]) -> Result<String, Fail> {
+    let list = KeyList::new(Vec::from_slice(alloc, keys)?);
+    assert_eq!(rt; list.as_slice().len(), keys.len());
+    written(alloc, &Reply::Keys(Ok(KeyList::new(list.into_vec()))))
+}
+
 #[test]
 fn lists_are_written(rt: HostRuntime) -> Result<(), Fail> {
-    let alloc = rt.alloc();
-    let (a, b) = (Key::new(&[0])?, Key::new(b"%zz")?);
-    let mut entries = Vec::with_capacity(alloc, 2)?;
-    entries.push(Entry {
-        key: a,
-        value: Record::new(b"abcdefghijklmnopqrstuvwxyz012345")?,
-        owner: Some(TxId(1)),
-    })?;
-    entries.push(Entry {
-        key: b,
-        value: Record::new(&[195, 169, 37])?,
-        owner: None,
-    })?;
-    let list = EntryList::new(entries);
-    assert_eq!(rt; list.as_slice().len(), 2);
     assert_eq!(rt;
-        written(alloc, &Reply::List(Ok(list)))?.as_str(),
+        list_text(&rt, rt.alloc(), &two_entries()?)?.as_str(),
         "- %00 =abcdefghijklmnopqrstuvwxyz012345 @1\n- %25zz =%C3%A9%25\nok 2\n"
     );
-    let keys = KeyList::new(Vec::from_slice(alloc, &[a, b])?);
-    assert_eq!(rt; keys.as_slice().len(), 2);
-    let keys = KeyList::new(keys.into_vec());
     assert_eq!(rt;
-        written(alloc, &Reply::Keys(Ok(keys)))?.as_str(),
+        keys_text(&rt, rt.alloc(), &two_keys()?)?.as_str(),
         "- %00\n- %25zz\nok 2\n"
     );
-    let none = EntryList::new(EntryList::new(Vec::new(alloc)).into_vec());
-    assert_eq!(rt; written(alloc, &Reply::List(Ok(none)))?.as_str(), "ok 0\n");
+    assert_eq!(rt; list_text(&rt, rt.alloc(), &[])?.as_str(), "ok 0\n");
     Ok(())
 }
 

@@ -235,33 +235,47 @@ fn look(rt: &impl Abort, log: &TxLog, step: &Step) -> Result<(), Fail> {
     Ok(())
 }
 
+/// Makes the steps one after another.
+fn make_steps(rt: &impl Abort, log: &mut TxLog, steps: &[Step]) -> Result<(), Fail> {
+    for step in steps {
+        change(rt, log, step)?;
+    }
+    Ok(())
+}
+
+/// Expects the log to have these records, and none before and behind them.
+fn expect_records(rt: &impl Abort, log: &TxLog, records: &[LogRecord]) {
+    let mut lsn: u32 = 0;
+    assert_eq!(rt; log.entry_at(lsn), None);
+    for record in records {
+        lsn = lsn.saturating_add(1);
+        assert_eq!(rt; log.entry_at(lsn), Some(*record), "record {lsn}");
+    }
+    assert_eq!(rt; log.entry_at(lsn.saturating_add(1)), None);
+}
+
+const TWO_PARTIAL_ROLLBACKS: [Step; 14] = [
+    Step::Begin(Some(1)),
+    Step::Save(1, 1),
+    Step::Put(1, b'a', None, Some(b'1'), 1),
+    Step::Save(1, 2),
+    Step::Put(1, b'a', Some(b'1'), Some(b'2'), 2),
+    Step::Save(1, 3),
+    Step::Put(1, b'b', None, Some(b'3'), 3),
+    Step::Back(1, 2, false, 2),
+    Step::Counts(1, 2, 1, 0),
+    Step::Put(1, b'c', None, Some(b'4'), 6),
+    Step::Save(1, 3),
+    Step::Back(1, 1, false, 2),
+    Step::Counts(1, 1, 0, 0),
+    Step::Whole(8, 8, 0, 1),
+];
+
 #[test]
 fn two_partial_rollbacks(rt: HostRuntime) -> Result<(), Fail> {
     let mut log = TxLog::new(rt.alloc(), Limits::new(10, 100, 10)?);
-    for step in [
-        Step::Begin(Some(1)),
-        Step::Save(1, 1),
-        Step::Put(1, b'a', None, Some(b'1'), 1),
-        Step::Save(1, 2),
-        Step::Put(1, b'a', Some(b'1'), Some(b'2'), 2),
-        Step::Save(1, 3),
-        Step::Put(1, b'b', None, Some(b'3'), 3),
-        Step::Back(1, 2, false, 2),
-        Step::Counts(1, 2, 1, 0),
-        Step::Put(1, b'c', None, Some(b'4'), 6),
-        Step::Save(1, 3),
-        Step::Back(1, 1, false, 2),
-        Step::Counts(1, 1, 0, 0),
-        Step::Whole(8, 8, 0, 1),
-    ] {
-        change(&rt, &mut log, &step)?;
-    }
-    let mut lsn: u32 = 0;
-    for entry in &eight_records(TxId(1))? {
-        lsn = lsn.saturating_add(1);
-        assert_eq!(rt; log.entry_at(lsn), Some(*entry), "record {lsn}");
-    }
-    assert_eq!(rt; (log.entry_at(0), log.entry_at(9)), (None, None));
+    make_steps(&rt, &mut log, &TWO_PARTIAL_ROLLBACKS)?;
+    expect_records(&rt, &log, &eight_records(TxId(1))?);
     Ok(())
 }
 
@@ -298,66 +312,81 @@ fn eight_records(tx: TxId) -> Result<[LogRecord; 8], Fail> {
     ])
 }
 
+const OWNERS_AND_KEYS: [Step; 24] = [
+    Step::Begin(Some(1)),
+    Step::Begin(Some(2)),
+    Step::Put(1, b'b', None, Some(b'x'), 1),
+    Step::Put(1, b'a', None, Some(b'x'), 2),
+    Step::Save(1, 1),
+    Step::Put(1, b'b', Some(b'x'), None, 3),
+    Step::Put(2, b'c', Some(b'x'), None, 4),
+    Step::Keys(1, b"ab"),
+    Step::Owner(b'a', Some(1)),
+    Step::Owner(b'c', Some(2)),
+    Step::Whole(4, 8, 2, 2),
+    Step::Back(1, 1, false, 1),
+    Step::Owner(b'b', Some(1)),
+    Step::Whole(5, 8, 1, 2),
+    Step::Back(1, 0, true, 2),
+    Step::Owner(b'a', None),
+    Step::Owner(b'b', None),
+    Step::Owner(b'c', Some(2)),
+    Step::Phase(1, None),
+    Step::Keys(1, b""),
+    Step::Counts(1, 0, 0, 0),
+    Step::End(2),
+    Step::Owner(b'c', None),
+    Step::Whole(7, 7, 0, 2),
+];
+
 #[test]
 fn owners_and_keys(rt: HostRuntime) -> Result<(), Fail> {
     let mut log = TxLog::new(rt.alloc(), Limits::new(10, 100, 10)?);
-    for step in [
-        Step::Begin(Some(1)),
-        Step::Begin(Some(2)),
-        Step::Put(1, b'b', None, Some(b'x'), 1),
-        Step::Put(1, b'a', None, Some(b'x'), 2),
-        Step::Save(1, 1),
-        Step::Put(1, b'b', Some(b'x'), None, 3),
-        Step::Put(2, b'c', Some(b'x'), None, 4),
-        Step::Keys(1, b"ab"),
-        Step::Owner(b'a', Some(1)),
-        Step::Owner(b'c', Some(2)),
-        Step::Whole(4, 8, 2, 2),
-        Step::Back(1, 1, false, 1),
-        Step::Owner(b'b', Some(1)),
-        Step::Whole(5, 8, 1, 2),
-        Step::Back(1, 0, true, 2),
-        Step::Owner(b'a', None),
-        Step::Owner(b'b', None),
-        Step::Owner(b'c', Some(2)),
-        Step::Phase(1, None),
-        Step::Keys(1, b""),
-        Step::Counts(1, 0, 0, 0),
-        Step::End(2),
-        Step::Owner(b'c', None),
-        Step::Whole(7, 7, 0, 2),
-    ] {
-        change(&rt, &mut log, &step)?;
-    }
-    Ok(())
+    make_steps(&rt, &mut log, &OWNERS_AND_KEYS)
 }
+
+const A_ROLLBACK_BETWEEN: [Step; 16] = [
+    Step::Begin(Some(1)),
+    Step::Begin(Some(2)),
+    Step::Put(1, b'a', None, Some(b'1'), 1),
+    Step::Put(1, b'a', Some(b'1'), Some(b'2'), 2),
+    Step::Start(1, 0, true),
+    Step::Undo(1, b'a', Some(b'1'), 3),
+    Step::Put(2, b'b', None, Some(b'1'), 4),
+    Step::Phase(1, Some(Phase::Rolling { ends: true })),
+    Step::Counts(1, 0, 1, 1),
+    Step::Owner(b'a', Some(1)),
+    Step::Undo(1, b'a', None, 5),
+    Step::Counts(1, 0, 0, 0),
+    Step::Owner(b'a', None),
+    Step::Finish(1),
+    Step::Phase(1, None),
+    Step::Counts(2, 0, 1, 0),
+];
 
 #[test]
 fn a_rollback_between_other_changes(rt: HostRuntime) -> Result<(), Fail> {
     let mut log = TxLog::new(rt.alloc(), Limits::new(10, 100, 10)?);
-    for step in [
-        Step::Begin(Some(1)),
-        Step::Begin(Some(2)),
-        Step::Put(1, b'a', None, Some(b'1'), 1),
-        Step::Put(1, b'a', Some(b'1'), Some(b'2'), 2),
-        Step::Start(1, 0, true),
-        Step::Undo(1, b'a', Some(b'1'), 3),
-        Step::Put(2, b'b', None, Some(b'1'), 4),
-        Step::Phase(1, Some(Phase::Rolling { ends: true })),
-        Step::Counts(1, 0, 1, 1),
-        Step::Owner(b'a', Some(1)),
-        Step::Undo(1, b'a', None, 5),
-        Step::Counts(1, 0, 0, 0),
-        Step::Owner(b'a', None),
-        Step::Finish(1),
-        Step::Phase(1, None),
-        Step::Counts(2, 0, 1, 0),
-    ] {
-        change(&rt, &mut log, &step)?;
-    }
+    make_steps(&rt, &mut log, &A_ROLLBACK_BETWEEN)?;
     assert!(rt; log.next_undo(TxId(2)).is_none());
     Ok(())
 }
+
+const SAVEPOINTS_AND_LIMITS: [Step; 13] = [
+    Step::Release(1, 32),
+    Step::Counts(1, 31, 0, 0),
+    Step::Save(1, 32),
+    Step::Back(1, 0, false, 0),
+    Step::Counts(1, 0, 0, 0),
+    Step::Put(1, b'a', None, Some(b'x'), 1),
+    Step::Put(1, b'b', None, Some(b'x'), 2),
+    Step::Whole(2, 4, 0, 1),
+    Step::Back(1, 0, false, 2),
+    Step::Whole(4, 4, 0, 1),
+    Step::Begin(Some(2)),
+    Step::Begin(None),
+    Step::Whole(4, 4, 0, 2),
+];
 
 #[test]
 fn savepoints_and_limits(rt: HostRuntime) -> Result<(), Fail> {
@@ -366,23 +395,7 @@ fn savepoints_and_limits(rt: HostRuntime) -> Result<(), Fail> {
     for number in 1..33 {
         assert_eq!(rt; save(&rt, &mut log, TxId(1)), number);
     }
-    for step in [
-        Step::Release(1, 32),
-        Step::Counts(1, 31, 0, 0),
-        Step::Save(1, 32),
-        Step::Back(1, 0, false, 0),
-        Step::Counts(1, 0, 0, 0),
-        Step::Put(1, b'a', None, Some(b'x'), 1),
-        Step::Put(1, b'b', None, Some(b'x'), 2),
-        Step::Whole(2, 4, 0, 1),
-        Step::Back(1, 0, false, 2),
-        Step::Whole(4, 4, 0, 1),
-        Step::Begin(Some(2)),
-        Step::Begin(None),
-        Step::Whole(4, 4, 0, 2),
-    ] {
-        change(&rt, &mut log, &step)?;
-    }
+    make_steps(&rt, &mut log, &SAVEPOINTS_AND_LIMITS)?;
     assert!(rt; !log.can_accept());
     Ok(())
 }

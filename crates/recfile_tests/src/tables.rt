@@ -180,25 +180,41 @@ fn header_of_three() -> [u8; 4096] {
     page
 }
 
-#[test]
-fn the_file_of_three_records(rt: HostRuntime) -> Result<(), Fail> {
-    let mut table = make(rt.alloc(), no_pages(rt.alloc()), 1, 3)?;
-    for (key, record) in [(b"a", b"x"), (b"b", b"y"), (b"c", b"z")] {
-        set(&mut table, Key::new(key)?, Some(Record::new(record)?))?;
-    }
-    let store = close(table)?;
-    let pages = [
+/// Its pages.
+fn pages_of_three() -> [[u8; 4096]; 4] {
+    [
         header_of_three(),
         page_of(1, b'a', b'x', 0, 0),
         page_of(1, b'c', b'z', 0, 0),
         page_of(2, b'b', b'y', 1, 2),
-    ];
-    assert!(rt; store.pages() == pages.as_slice());
-    let mut table = open(rt.alloc(), store, 3)?;
+    ]
+}
+
+/// Puts its records.
+fn set_three<T: Table>(table: &mut T) -> Result<(), Fail> {
+    for (key, record) in [(b"a", b"x"), (b"b", b"y"), (b"c", b"z")] {
+        set(table, Key::new(key)?, Some(Record::new(record)?))?;
+    }
+    Ok(())
+}
+
+/// Looks that the table has z at the key c, and no room for another key.
+fn check_full<T: Table>(rt: &impl Abort, table: &mut T) -> Result<(), Fail> {
     assert!(rt; table.get(&Key::new(b"c")?)? == Some(Record::new(b"z")?));
-    let answer = set(&mut table, Key::new(b"d")?, Some(Record::new(b"w")?));
+    let answer = set(table, Key::new(b"d")?, Some(Record::new(b"w")?));
     assert!(rt; answer == Err(TableFault::NoRoom));
-    assert!(rt; close(table)?.pages() == pages.as_slice());
+    Ok(())
+}
+
+#[test]
+fn the_file_of_three_records(rt: HostRuntime) -> Result<(), Fail> {
+    let mut table = make(rt.alloc(), no_pages(rt.alloc()), 1, 3)?;
+    set_three(&mut table)?;
+    let store = close(table)?;
+    assert!(rt; store.pages() == pages_of_three().as_slice());
+    let mut table = open(rt.alloc(), store, 3)?;
+    check_full(&rt, &mut table)?;
+    assert!(rt; close(table)?.pages() == pages_of_three().as_slice());
     Ok(())
 }
 

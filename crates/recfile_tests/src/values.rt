@@ -32,24 +32,19 @@ fn limits_are_refused_in_their_order(rt: HostRuntime) {
 #[test]
 fn keys_and_records_have_their_lengths(rt: HostRuntime) -> Result<(), Fail> {
     let long = [b'a'; 33];
-    assert_eq!(rt; Key::new(b"").is_ok(), false);
-    match Key::new(b"") {
-        Ok(_) => assert!(rt; false),
-        Err(fault) => assert_eq!(rt; fault, KeyFault::Empty),
-    }
-    match Key::new(&long[..17]) {
-        Ok(_) => assert!(rt; false),
-        Err(fault) => assert_eq!(rt; fault, KeyFault::TooLong),
-    }
-    match Record::new(&long) {
-        Ok(_) => assert!(rt; false),
-        Err(fault) => assert_eq!(rt; fault, RecordFault::TooLong),
-    }
+    assert_eq!(rt; Key::new(b"").err(), Some(KeyFault::Empty));
+    assert_eq!(rt; Key::new(&long[..17]).err(), Some(KeyFault::TooLong));
+    assert_eq!(rt; Record::new(&long).err(), Some(RecordFault::TooLong));
     assert_eq!(rt; Key::new(&long[..16])?.bytes().len(), 16);
     assert_eq!(rt; Record::new(&long[..32])?.bytes().len(), 32);
     assert_eq!(rt; Record::new(b"")?.bytes().len(), 0);
     assert_eq!(rt; Key::default().bytes(), b"\0".as_slice());
     assert_eq!(rt; Record::default().bytes().len(), 0);
+    Ok(())
+}
+
+#[test]
+fn keys_are_in_the_order_of_their_bytes(rt: HostRuntime) -> Result<(), Fail> {
     let short = Key::new(b"ab")?;
     let long = Key::new(b"ab\0")?;
     let other = Key::new(b"b")?;

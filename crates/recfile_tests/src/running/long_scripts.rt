@@ -101,63 +101,105 @@ fn rolling_is_the_first_refusal(rt: HostRuntime) -> Result<(), Fail> {
     )
 }
 
+/// The key with this number, and the record that is the number.
+fn numbered(alloc: Global, n: u32) -> Result<(Key, Record), Fail> {
+    let key = format!(in alloc; "k{n}")?;
+    let value = format!(in alloc; "{n}")?;
+    Ok((Key::new(key.as_bytes())?, Record::new(value.as_bytes())?))
+}
+
 /// A table with a thousand records: at the key k1000 the record 1000, and so on.
 fn thousand_records(rt: &impl Abort, alloc: Global) -> Result<SortedTable, Fail> {
     let limits = greatest()?;
     let mut table = SortedTable::new(alloc, limits);
     for n in 1000..2000u32 {
-        let mut key = String::new(alloc);
-        let mut value = String::new(alloc);
-        write!(key, "k{n}")?;
-        write!(value, "{n}")?;
-        let (key, value) = (Key::new(key.as_bytes())?, Record::new(value.as_bytes())?);
+        let (key, value) = numbered(alloc, n)?;
         assert_eq!(rt; table.set(key, Some(value))?, None);
     }
     assert!(rt; table.limit() == limits.records());
     Ok(table)
 }
 
-/// Changes a thousand keys, a third of them twice, takes all back, and lists what is left; and the replies.
-fn changes_and_back(alloc: Global) -> Result<(String, String), Fail> {
+/// Changes the key with this number, each third one twice.
+fn push_change(script: &mut String, n: u32) -> Result<(), Fail> {
+    Ok(match n % 3 {
+        0 => writeln!(script, "put 1 k{n} =new\ndel 1 k{n}")?,
+        1 => writeln!(script, "del 1 k{n}")?,
+        _ => writeln!(script, "put 1 n{n} =new")?,
+    })
+}
+
+/// The replies to that.
+fn push_reply(replies: &mut String, n: u32) -> Result<(), Fail> {
+    Ok(match n % 3 {
+        0 => writeln!(replies, "ok ={n}\nok =new")?,
+        1 => writeln!(replies, "ok ={n}")?,
+        _ => replies.push_str("ok none\n")?,
+    })
+}
+
+/// Changes a thousand keys, takes all back, and lists what is left.
+fn changes_and_back(alloc: Global) -> Result<String, Fail> {
     let mut script = String::new(alloc);
-    let mut replies = String::new(alloc);
-    let mut list = String::new(alloc);
     script.push_str("begin\n")?;
-    replies.push_str("ok 1\n")?;
     for n in 1000..2000u32 {
-        match n % 3 {
-            0 => {
-                writeln!(script, "put 1 k{n} =new\ndel 1 k{n}")?;
-                writeln!(replies, "ok ={n}\nok =new")?;
-            }
-            1 => {
-                writeln!(script, "del 1 k{n}")?;
-                writeln!(replies, "ok ={n}")?;
-            }
-            _ => {
-                writeln!(script, "put 1 n{n} =new")?;
-                replies.push_str("ok none\n")?;
-            }
-        }
-        writeln!(list, "- k{n} ={n}")?;
+        push_change(&mut script, n)?;
     }
     script.push_str("back 1 0\nlist\nlog\n")?;
+    Ok(script)
+}
+
+/// The list of the thousand records.
+fn push_list(replies: &mut String) -> Result<(), Fail> {
+    for n in 1000..2000u32 {
+        writeln!(replies, "- k{n} ={n}")?;
+    }
+    Ok(())
+}
+
+/// The replies to the script.
+fn replies_to_changes(alloc: Global) -> Result<String, Fail> {
+    let mut replies = String::new(alloc);
+    replies.push_str("ok 1\n")?;
+    for n in 1000..2000u32 {
+        push_reply(&mut replies, n)?;
+    }
     replies.push_str("ok 1333\n")?;
-    replies.push_str(&list)?;
+    push_list(&mut replies)?;
     replies.push_str("ok 1000\nok 2666 2666\n")?;
-    Ok((script, replies))
+    Ok(replies)
+}
+
+/// Expects these replies to the script over the file, and this many commands.
+fn expect_run<T: Table>(
+    rt: &impl Abort,
+    alloc: Global,
+    file: &mut RecordFile<T>,
+    script: &str,
+    replies: &str,
+    commands: u32,
+) -> Result<(), Fail> {
+    let (text, end) = run(alloc, file, script)?;
+    assert_eq!(rt; text.as_str(), replies);
+    assert_eq!(rt; end, Ok(commands));
+    Ok(())
+}
+
+/// Expects the thousand records of a file to be there again after a rollback.
+fn expect_rolled_back<T: Table>(
+    rt: &impl Abort,
+    alloc: Global,
+    file: &mut RecordFile<T>,
+) -> Result<(), Fail> {
+    let (script, replies) = (changes_and_back(alloc)?, replies_to_changes(alloc)?);
+    expect_run(rt, alloc, file, &script, &replies, 1337)
 }
 
 #[test]
 fn a_rollback_over_a_table_of_a_thousand_records(rt: HostRuntime) -> Result<(), Fail> {
-    let alloc = rt.alloc();
     let limits = greatest()?;
-    let table = thousand_records(&rt, alloc)?;
+    let table = thousand_records(&rt, rt.alloc())?;
     assert!(rt; table.limit() == limits.records());
-    let mut file = RecordFile::new(alloc, table, limits);
-    let (script, replies) = changes_and_back(alloc)?;
-    let (text, end) = run(alloc, &mut file, &script)?;
-    assert_eq!(rt; text.as_str(), replies.as_str());
-    assert_eq!(rt; end, Ok(1337));
-    Ok(())
+    let mut file = RecordFile::new(rt.alloc(), table, limits);
+    expect_rolled_back(&rt, rt.alloc(), &mut file)
 }

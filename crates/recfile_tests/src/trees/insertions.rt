@@ -136,6 +136,7 @@ fn check_numbers<S: Store>(
     tree: &Tree,
 ) -> Result<(), Fail> {
     let elements = walk_again(rt, alloc, pages, tree)?;
+    assert!(rt; tree.count <= 1000);
     assert_eq!(rt; elements.len(), tree.count as usize);
     for (element, n) in elements.iter().zip(0..tree.count as u16) {
         let bytes = n.to_be_bytes();
