@@ -1,4 +1,4 @@
-use Rattle.std.proofs.Common.{arith, sym, ◌∙◌}
+use Rattle.std.proofs.Common.{rules, arith, sym, ◌∙◌}
 use Rattle.std.proofs.lemmas.Bool.{false≢true}
 use Rattle.btree_node.proofs.ElementOrderLemmas.{Ascends-more, Ascends-neighbours}
 use Rattle.btree_node.proofs.decoding.ascends.Goals as goal
@@ -11,3 +11,6 @@ returns-then-not-is_below c = (
 
 pub loop-i-preserved : goal.loop-i-preserved
 loop-i-preserved c = Ascends-more c.args.elements.now c.loop-i.i c.index-elements-i.result c.index-elements-i-in-loop-i.result (omega arith) (omega arith) c.loop-i.invariant (c.is_below.ensures.0 c.if-not-is_below.false)
+
+pub loop-i-init : goal.loop-i-init
+loop-i-init c = search rules

@@ -1,4 +1,4 @@
-use Rattle.std.proofs.Common.{refl, ap, sym, ◌∙◌, arith}
+use Rattle.std.proofs.Common.{rules, refl, ap, sym, ◌∙◌, arith}
 use Rattle.btree_node.specs.Layout.{first_layout}
 use Rattle.btree_node.specs.Spelling.{spelling}
 use Rattle.btree_node.proofs.DecodeLemmas.{read_stands, same_node}
@@ -17,3 +17,12 @@ returns-then-read_first-clause-found c =
 pub returns-then-read_first-clause-only : goal.returns-then-read_first-clause-only
 returns-then-read_first-clause-only c = λ n can is.
     (refl, same_node first_layout c.args.k c.args.page.now n c.read_first.new.node c.requires can is (c.read_first.ensures.value c.if-read_first.true))
+
+pub returns-clause-found : goal.returns-clause-found
+returns-clause-found c = search rules
+
+pub returns-clause-only : goal.returns-clause-only
+returns-clause-only c = search rules
+
+pub returns-clause-fault : goal.returns-clause-fault
+returns-clause-fault c = search rules

@@ -1,4 +1,4 @@
-use Rattle.std.proofs.Common.{◌≤◌, ℕ, refl, sym, subst}
+use Rattle.std.proofs.Common.{rules, ◌≤◌, ℕ, refl, sym, subst}
 use Rattle.btree_insert.specs.Contents.{contents_of}
 use Rattle.recfile.proofs.page_file.check_in.Goals as goal
 
@@ -10,3 +10,6 @@ returns-clause-closed g c steady =
       record { h = opened.h; es = opened.es; us = opened.us; clean = opened.clean; records = refl },
       subst (λ (n : ℕ). n ≤ c.args.limits.records) (sym opened.clean.count) opened.few,
     )
+
+pub returns-in-Err-clause-closed : goal.returns-in-Err-clause-closed
+returns-in-Err-clause-closed g c = search rules

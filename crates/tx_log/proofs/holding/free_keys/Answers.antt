@@ -1,4 +1,4 @@
-use Rattle.std.proofs.Common.{List, None, cond, reverse, sym, ap, ◌∙◌, arith}
+use Rattle.std.proofs.Common.{rules, List, None, cond, reverse, sym, ap, ◌∙◌, arith}
 use Rattle.std.specs.List.{list_any}
 use Rattle.tx_log.proofs.HoldingLemmas.{freed_more}
 use Rattle.tx_log.proofs.WalkSteps.{walk_step, walk_end}
@@ -28,3 +28,6 @@ pub returns : goal.returns
 returns c = λ q.
     ap (λ (us : List LogRecord). cond (list_any (is_at q) us) None (held c.loop-change.holdings q)) (sym (walk_end (reverse c.args.log.now) c.loop-change.at (sym c.in_default.ensures)))
     ∙ c.loop-change.invariant.1 q
+
+pub loop-change-init : goal.loop-change-init
+loop-change-init c = search rules

@@ -1,4 +1,4 @@
-use Rattle.std.proofs.Common.{ℕ, List, Option, Err, ap}
+use Rattle.std.proofs.Common.{rules, ℕ, List, Option, Err, ap}
 use Rattle.page_store.specs.PagesView.{PagesView}
 use Rattle.rec_types.specs.declared.table.TableFault.TheVariants.{NoRoom}
 use Rattle.btree_delete.specs.TableView.{TableView}
@@ -36,3 +36,6 @@ pub returns-in-Err-clause-full : goal.returns-in-Err-clause-full
 returns-in-Err-clause-full g c = λ steady puts absent full device.
     let here : TableView = record { pages = c.self.inside.pages; tree = c.self.inside.tree; limit = c.self.inside.limit; refusals = c.self.inside.faults.refusals; damages = record { count = c.self.inside.faults.damaged; page = c.self.inside.faults.page } } in
     ap Err (full_refused (Option (List ℕ)) here c.args.self.now c.change-changed.new.pages.pages c.args.key c.args.to c.change-changed.result c.in-Err.fault c.self.view_is c.self.invariant c.change-changed.ensures.set c.in-Err.is steady puts absent full device)
+
+pub returns-in-Ok-clause-answered : goal.returns-in-Ok-clause-answered
+returns-in-Ok-clause-answered g c = search rules

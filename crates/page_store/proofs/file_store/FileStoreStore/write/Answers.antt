@@ -1,4 +1,4 @@
-use Rattle.std.proofs.Common.{ap, ◌∙◌, [], get_or, sym}
+use Rattle.std.proofs.Common.{rules, ap, ◌∙◌, [], get_or, sym}
 use Rattle.std.proofs.lemmas.List.{set-get_or}
 use Rattle.std.proofs.lemmas.Bool.{false≢true}
 use Rattle.page_store.specs.OpenedFile.{OpenedFile}
@@ -13,3 +13,6 @@ returns-clause-other_pages g c =
 pub returns-clause-page : goal.returns-clause-page
 returns-clause-page g c = λ steady.
     absurd (false≢true (sym gives_back-is ∙ ap (λ (o : OpenedFile). o.steady) c.self.view_is ∙ steady))
+
+pub returns-clause-changes : goal.returns-clause-changes
+returns-clause-changes g c = search rules

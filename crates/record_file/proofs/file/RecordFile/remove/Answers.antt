@@ -1,4 +1,4 @@
-use Rattle.std.proofs.Common.{Some, None, ◌≤◌, ◌+◌, ap, sym, subst, inl, ◌∙◌}
+use Rattle.std.proofs.Common.{rules, Some, None, ◌≤◌, ◌+◌, ap, sym, subst, inl, ◌∙◌}
 use Rattle.std.specs.FinMap as maps
 use Rattle.rec_types.specs.Contents.{set_to}
 use Rattle.tx_log.specs.LogState.{LogState, use_in, open_in, history_in}
@@ -57,3 +57,12 @@ returns-in-Some-2-clause-table g c = record {
   device = c.in_ok-taken.ensures.answered.device ∙ c.in_ok-get.ensures.answered.device ∙ ap (λ (s : OpenFile _). g.T.TableState.device_failures s.table) c.self.view_is;
   damages = inl (c.in_ok-taken.ensures.answered.damages ∙ c.in_ok-get.ensures.answered.damages ∙ ap (λ (s : OpenFile _). g.T.TableState.damages s.table) c.self.view_is);
 }
+
+pub returns-then-is_none-clause-step : goal.returns-then-is_none-clause-step
+returns-then-is_none-clause-step g c = search rules
+
+pub returns-then-is_none-clause-table : goal.returns-then-is_none-clause-table
+returns-then-is_none-clause-table g c = search rules
+
+pub returns-in-None-clause-table : goal.returns-in-None-clause-table
+returns-in-None-clause-table g c = search rules

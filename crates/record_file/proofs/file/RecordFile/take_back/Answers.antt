@@ -1,4 +1,4 @@
-use Rattle.std.proofs.Common.{Some, None, refl, ◌∙◌}
+use Rattle.std.proofs.Common.{rules, Some, None, refl, ◌∙◌}
 use Rattle.record_file.proofs.RollbackLemmas.{rolled_none, rolled_some, rolled_more, rolled_out, rolled_all}
 use Rattle.record_file.proofs.TableCallLemmas.{changes_none, changes_then}
 use Rattle.record_file.proofs.file.RecordFile.take_back.Goals as goal
@@ -29,3 +29,6 @@ returns-clause-table g c = changes_then g.T.TableState c.args.self.now c.loop-un
 
 pub returns-in-Err-clause-table : goal.returns-in-Err-clause-table
 returns-in-Err-clause-table g c = changes_then g.T.TableState c.args.self.now c.loop-undone.self c.take_one_back.new.self (Some c.in-Err.cause) c.loop-undone.invariant.changes c.in-Err.ensures.table
+
+pub returns-in-Err-clause-rolled : goal.returns-in-Err-clause-rolled
+returns-in-Err-clause-rolled g c = search rules

@@ -1,4 +1,4 @@
-use Rattle.std.proofs.Common.{inl, ◌<◌, Err, ap, is_some, sym, subst, ◌∙◌, option_map, arith}
+use Rattle.std.proofs.Common.{rules, inl, ◌<◌, Err, ap, is_some, sym, subst, ◌∙◌, option_map, arith}
 use Rattle.rec_types.specs.History.{undo_last}
 use Rattle.tx_log.specs.Transactions.{left_in}
 use Rattle.tx_log.specs.declared.phase.UndoStep.{UndoStep}
@@ -65,3 +65,9 @@ returns-in-Ok-clause-table g c =
       device = c.in-Ok.ensures.answered.device ∙ ap (λ (s : OpenFile _). g.T.TableState.device_failures s.table) c.self.view_is;
       damages = inl (c.in-Ok.ensures.answered.damages ∙ ap (λ (s : OpenFile _). g.T.TableState.damages s.table) c.self.view_is);
     }
+
+pub returns-in-Err-Device-clause-table : goal.returns-in-Err-Device-clause-table
+returns-in-Err-Device-clause-table g c = search rules
+
+pub returns-in-Err-Device-clause-memory : goal.returns-in-Err-Device-clause-memory
+returns-in-Err-Device-clause-memory g c = search rules

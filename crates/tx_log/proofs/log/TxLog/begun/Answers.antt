@@ -1,4 +1,4 @@
-use Rattle.std.proofs.Common.{subst}
+use Rattle.std.proofs.Common.{rules, subst}
 use Rattle.tx_log.proofs.KeptLogLemmas.{kept_now}
 use Rattle.tx_log.proofs.LogLawLemmas.{is_chained}
 use Rattle.tx_log.specs.LogLaws.{IsChained}
@@ -12,3 +12,6 @@ pub returns-clause-chained : goal.returns-clause-chained
 returns-clause-chained c =
     let l = c.self.inside in
     subst (λ (s : LogState). IsChained s.records s.changes) c.self.view_is (is_chained l.records.items c.self.invariant.log_kept.numbered c.self.invariant.log_kept.written)
+
+pub returns-clause-value : goal.returns-clause-value
+returns-clause-value c = search rules

@@ -1,3 +1,4 @@
+use Rattle.std.proofs.Common.{rules}
 use Rattle.tx_log.proofs.KeptLogLemmas.{kept_now}
 use Rattle.tx_log.proofs.log.TxLog.reserve.Goals as goal
 
@@ -12,3 +13,6 @@ returns-then-is_err-2-clause-kept c = kept_now c.self.inside c.self.invariant _ 
 
 pub returns-then-is_err-3-clause-kept : goal.returns-then-is_err-3-clause-kept
 returns-then-is_err-3-clause-kept c = kept_now c.self.inside c.self.invariant _ c.self.view_is
+
+pub invariant_of-self-2 : goal.invariant_of-self-2
+invariant_of-self-2 c = search rules

@@ -1,0 +1,8 @@
+use Rattle.std.proofs.Common.{rules}
+use Rattle.page_store.proofs.file_store.FileStore.open_path.Goals as goal
+
+pub invariant_of-result : goal.invariant_of-result
+invariant_of-result g c = search rules
+
+pub returns-clause-tail : goal.returns-clause-tail
+returns-clause-tail g c = search rules

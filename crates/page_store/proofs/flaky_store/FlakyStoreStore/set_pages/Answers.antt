@@ -1,0 +1,11 @@
+use Rattle.std.proofs.Common.{rules}
+use Rattle.page_store.proofs.flaky_store.FlakyStoreStore.set_pages.Goals as goal
+
+pub returns-clause-pages : goal.returns-clause-pages
+returns-clause-pages g c = search rules
+
+pub returns-clause-old_pages : goal.returns-clause-old_pages
+returns-clause-old_pages g c = search rules
+
+pub returns-clause-changes : goal.returns-clause-changes
+returns-clause-changes g c = search rules
