@@ -16,8 +16,6 @@ mod read_first;
 mod searching;
 mod spelt;
 mod splitting;
-#[cfg(test)]
-mod tests;
 
 pub use brothers::{catenate, distribute};
 pub use changing::{insert_in, replace_in};

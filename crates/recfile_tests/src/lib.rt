@@ -8,6 +8,8 @@ mod fault_texts;
 #[cfg(test)]
 mod logs;
 #[cfg(test)]
+mod nodes;
+#[cfg(test)]
 mod program;
 #[cfg(test)]
 mod running;

@@ -1,4 +1,5 @@
 use Rattle.std.proofs.Common.{◌≡◌, ◌+◌, ℕ, suc, inr, List, [], ◌∷◌, ◌++◌, get_or, ap, sym, ◌∙◌, subst, arith}
+use Rattle.std.proofs.lemmas.Grind.{common_steps, elements}
 use Rattle.std.proofs.lemmas.List.{get_or_default}
 use Rattle.btree_node.specs.Layout.{first_layout}
 use Rattle.btree_node.specs.Lists.{Element, Each}
@@ -19,3 +20,21 @@ returns-clause-treats c =
     middle_is (omega arith) c.set_element.ensures.kind c.set_element.ensures.elements (ap (λ s. s.items) c.set_element.ensures.sons) c.distribute-left.ensures.left (c.distribute-left.ensures.middle ([], [])) c.distribute-left.ensures.right stand.0 stand.1
     (ap (λ (xs : List ℕ). get_or xs c.args.i 0) c.deref-2.ensures.0) (ap (λ (xs : List ℕ). get_or xs (c.args.i + 1) 0) c.deref-3.ensures.0 ∙ ap (λ (j : ℕ). get_or c.args.father.now.sons.items j 0) next) c.in_ok-write_node-2.ensures.writes c.in_ok-write_node-3.ensures.writes
     (ap (λ v. v.items) (c.in_ok-write_node-3.ensures.freed ∙ c.in_ok-write_node-2.ensures.freed)))
+
+pub catenate-node-requires-clause-brothers : goal.catenate-node-requires-clause-brothers
+catenate-node-requires-clause-brothers c = grind (arith, common_steps)
+
+pub write_node-requires-clause-stands : goal.write_node-requires-clause-stands
+write_node-requires-clause-stands c = grind (arith, common_steps)
+
+pub returns-then-len-order-clause-treats : goal.returns-then-len-order-clause-treats
+returns-then-len-order-clause-treats c = grind (arith, elements)
+
+pub distribute-left-requires-clause-brothers : goal.distribute-left-requires-clause-brothers
+distribute-left-requires-clause-brothers c = grind (arith, common_steps)
+
+pub write_node-requires-2-clause-stands : goal.write_node-requires-2-clause-stands
+write_node-requires-2-clause-stands c = grind (arith, common_steps)
+
+pub write_node-requires-3-clause-stands : goal.write_node-requires-3-clause-stands
+write_node-requires-3-clause-stands c = grind (arith, common_steps)

@@ -1,4 +1,5 @@
 use Rattle.std.proofs.Common.{◌≡◌, ◌+◌, ◌-◌, ℕ, suc, [], ◌∷◌, ◌++◌, true, false, IsSome, ap, sym, ◌∙◌, subst, arith}
+use Rattle.std.proofs.lemmas.Grind.{common_steps}
 use Rattle.page_store.specs.PageMap.{at}
 use Rattle.btree_node.specs.declared.node.Node.{Node}
 use Rattle.btree_insert.specs.Bounds.{AreWithin, son_bounds}
@@ -126,3 +127,15 @@ returns-clause-others g c = λ q visited other is.
     let unvisited = subst (λ (x : Subtree). is_visited c.args.visited.now.items x.page ≡ false) c.tree_of_son-previous.ensures c.in_ok-visit-2.ensures.unvisited in
     treats_others q c.args.tree.now.order (left g p) c.args.father.now c.treat_pair-2.new.father c.visit-2.new.node c.args.son c.args.edit.now.writes.items c.treat_pair-2.new.edit.writes.items c.args.edit.now.freed.items c.treat_pair-2.new.edit.freed.items
     (visited_differs c.args.visited.now.items q (son_at c.args.father.now (left g p)) visited unvisited) (λ e. other (e ∙ sym (ap (son_at c.args.father.now) (left_is g p)))) c.in_ok-treat_pair-2.ensures.treats is
+
+pub returns-then-i-len-clause-stays : goal.returns-then-i-len-clause-stays
+returns-then-i-len-clause-stays g c = grind (arith, common_steps)
+
+pub returns-then-i-len-clause-one_more : goal.returns-then-i-len-clause-one_more
+returns-then-i-len-clause-one_more g c = grind (arith, common_steps)
+
+pub returns-clause-stays : goal.returns-clause-stays
+returns-clause-stays g c = grind (arith, common_steps)
+
+pub returns-clause-one_more : goal.returns-clause-one_more
+returns-clause-one_more g c = grind (arith, common_steps)

@@ -1,4 +1,5 @@
 use Rattle.std.proofs.Common.{◌≡◌, ◌+◌, ◌-◌, ◌<◌, ℕ, suc, Some, List, ◌++◌, length, get_or, take, drop, refl, ap, sym, ◌∙◌, subst, arith}
+use Rattle.std.proofs.lemmas.Grind.{common_steps}
 use Rattle.std.proofs.lemmas.List.{take_rest}
 use Rattle.std.proofs.lemmas.Result.{err_from_is_err_and}
 use Rattle.page_store.specs.PagesView.{PagesView}
@@ -102,3 +103,9 @@ walk_sons-returns-clause-adds g t c = λ steady between.
     (adds_below k (at c.args.pages.now.pages) (at c.walk_below-2.new.pages.pages) c.args.above.now.height c.args.above.now.height (drop 1 c.args.sons.now) sons (drop 1 c.args.elements.now) els behind c.add_elements.new.out.items c.walk_sons.new.out.items c.walk_below-2.new.left c.walk_sons.new.left
     pages_is refl (take_rest c.args.sons.now 1) els_is back))
     (c.walk_sons.ensures.adds (ap (λ (v : PagesView). v.steady) c.in_ok-walk_below.ensures.unchanged ∙ steady) (subst (Between behind) (sym els_is) (rest_within c.args.above.now.bounds c.args.elements.now x some x_is between)))
+
+pub walk_sons-returns-then-is_empty-clause-walked : goal.walk_sons-returns-then-is_empty-clause-walked
+walk_sons-returns-then-is_empty-clause-walked g t c = grind (arith, common_steps)
+
+pub walk_sons-returns-then-is_empty-clause-adds : goal.walk_sons-returns-then-is_empty-clause-adds
+walk_sons-returns-then-is_empty-clause-adds g t c = grind (arith, common_steps)

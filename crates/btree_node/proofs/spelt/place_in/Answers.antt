@@ -1,4 +1,5 @@
 use Rattle.std.proofs.Common.{◌≡◌, ◌+◌, suc, [], take, sym, ◌∙◌, subst, arith}
+use Rattle.std.proofs.lemmas.Grind.{common_steps}
 use Rattle.std.proofs.lemmas.Map.Lookups.{exact_bytes}
 use Rattle.btree_node.specs.Lists.{Each, Below}
 use Rattle.btree_node.proofs.ElementOrderLemmas.{Below-flip}
@@ -32,3 +33,6 @@ returns-in-Greater-clause-found c = λ node can is.
       above = above_from node.elements.items c.args.key.now c.loop-at.at ([], []) can.ascends (omega (arith, low))
           (subst (λ k. Below c.args.key.now k) (c.key_in.ensures node ([], []) can is) (Below-flip _ _ (sym c.cmp.ensures ∙ c.in-Greater.is)));
     }
+
+pub returns-clause-found : goal.returns-clause-found
+returns-clause-found c = grind (arith, common_steps)

@@ -1,4 +1,5 @@
 use Rattle.std.proofs.Common.{◌≡◌, ℕ, ◌+◌, ◌<◌, zero, suc, Bool, true, List, Option, IsSome, slice_get, is_some, refl, subst, sym, ap, ◌∙◌, arith}
+use Rattle.std.proofs.lemmas.Grind.{elements}
 use Rattle.rec_types.specs.Table.{counted}
 use Rattle.page_store.specs.Overlaid.{slots_of}
 use Rattle.page_store.specs.Calls.{counted_times, how_many}
@@ -88,3 +89,6 @@ returns-clause-journal g c =
     let high = c.loop-n-test.false in
     let done : c.loop-n.n ≡ c.args.count = omega arith in
     c.loop-n.invariant.journal ∙ ap (λ n. noted (g.S.StoreState.journal c.args.store.now) (writes_below pages n)) done
+
+pub returns-in_err-write-clause-others : goal.returns-in_err-write-clause-others
+returns-in_err-write-clause-others g c = grind (arith, elements)

@@ -1,5 +1,6 @@
 use Rattle.std.proofs.Common.{◌≡◌, ℕ, ◌+◌, List, length, is_some, slice_get, ap, ◌∙◌, arith}
 use Rattle.std.proofs.lemmas.Bool.Decides.{nat_tests}
+use Rattle.std.proofs.lemmas.Grind.{common_steps, elements}
 use Rattle.page_store.specs.Overlaid.{slots_of}
 use Rattle.page_store.specs.Calls.{counted_times, how_many}
 use Rattle.page_store.specs.PageMap.{PageMap}
@@ -99,3 +100,27 @@ returns-clause-journal_err g c =
     let pages : PageMap = to_write (slots_of c.args.changed.now) c.args.free.now.keys c.args.count in
     let J = g.S.StoreState.journal in
     no_close pages c.args.count c.args.writing.now c.args.clean.now (J c.args.store.now) (J c.set_pages.new.self) (J c.put_header.new.store) (J c.put_changed.new.store) (J c.sync.new.self) (J c.put_header-2.new.store) c.in_ok-set_pages.ensures.changes.journal c.in_ok-put_header.ensures.journal c.in_ok-put_changed.ensures.journal c.in_ok-sync.ensures.changes.journal c.put_header-2.result c.put_header-2.ensures.journal_err
+
+pub put_header-requires : goal.put_header-requires
+put_header-requires g c = grind (arith, common_steps)
+
+pub put_changed-requires-clause-long : goal.put_changed-requires-clause-long
+put_changed-requires-clause-long g c = grind (arith, common_steps)
+
+pub put_header-requires-2 : goal.put_header-requires-2
+put_header-requires-2 g c = grind (arith, common_steps)
+
+pub returns-clause-count : goal.returns-clause-count
+returns-clause-count g c = grind (arith, common_steps)
+
+pub returns-in_err-set_pages-clause-others : goal.returns-in_err-set_pages-clause-others
+returns-in_err-set_pages-clause-others g c = grind (arith, elements)
+
+pub returns-in_err-set_pages-clause-stopped : goal.returns-in_err-set_pages-clause-stopped
+returns-in_err-set_pages-clause-stopped g c = grind (arith, elements)
+
+pub returns-in_err-put_header-clause-others : goal.returns-in_err-put_header-clause-others
+returns-in_err-put_header-clause-others g c = grind (arith, elements)
+
+pub returns-in_err-put_header-clause-stopped : goal.returns-in_err-put_header-clause-stopped
+returns-in_err-put_header-clause-stopped g c = grind (arith, elements)

@@ -1,4 +1,4 @@
-use Rattle.std.proofs.Common.{rules, ℕ, List, Option, Err, ap}
+use Rattle.std.proofs.Common.{rules, ℕ, List, Option, Err, ap, ◌∙◌}
 use Rattle.page_store.specs.PagesView.{PagesView}
 use Rattle.rec_types.specs.declared.table.TableFault.TheVariants.{NoRoom}
 use Rattle.btree_delete.specs.TableView.{TableView}
@@ -21,6 +21,14 @@ pub returns-in-Ok-clause-ok : goal.returns-in-Ok-clause-ok
 returns-in-Ok-clause-ok g c =
     let here : TableView = record { pages = c.self.inside.pages; tree = c.self.inside.tree; limit = c.self.inside.limit; refusals = c.self.inside.faults.refusals; damages = record { count = c.self.inside.faults.damaged; page = c.self.inside.faults.page } } in
     set_contents here c.args.self.now c.change-changed.new.pages.pages c.args.key c.args.to c.change-changed.result c.in-Ok.tree c.in-Ok.before c.self.view_is c.self.invariant c.change-changed.ensures.set c.in-Ok.is c.change-changed.ensures.order
+
+pub returns-in-Ok-clause-in_class : goal.returns-in-Ok-clause-in_class
+returns-in-Ok-clause-in_class g c = λ steady.
+    let here : TableView = record { pages = c.self.inside.pages; tree = c.self.inside.tree; limit = c.self.inside.limit; refusals = c.self.inside.faults.refusals; damages = record { count = c.self.inside.faults.damaged; page = c.self.inside.faults.page } } in
+    let call = c.change-changed.ensures in
+    let table = set_table here c.change-changed.new.pages c.args.key c.args.to c.change-changed.result c.in-Ok.tree c.in-Ok.before c.note.new.self.refusals (record { count = c.note.new.self.damaged; page = c.note.new.self.page }) c.self.invariant call.set c.in-Ok.is call.small call.order call.taken_out_none call.taken_out call.put
+    (ap (λ (v : PagesView). v.stored) call.store) (ap (λ (v : PagesView). v.tail) call.store) (ap (λ (v : PagesView). v.steady) call.store) call.spelt in
+    table.holds (ap (λ (v : PagesView). v.steady) call.store ∙ ap (λ (t : TableView). t.pages.steady) c.self.view_is ∙ steady)
 
 pub returns-in-Ok-clause-full : goal.returns-in-Ok-clause-full
 returns-in-Ok-clause-full g c = λ steady puts absent full _.

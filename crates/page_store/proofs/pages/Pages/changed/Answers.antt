@@ -1,4 +1,4 @@
-use Rattle.std.proofs.Common.{◌≡◌, ◌≤◌, false, true, length, IsSome, slice_get, ap, subst, ◌∙◌, arith}
+use Rattle.std.proofs.Common.{◌≡◌, ◌≤◌, false, true, length, IsSome, slice_get, ap, subst, ◌∙◌, arith, rules}
 use Rattle.page_store.specs.PagesView.{PagesView, is_in_memory}
 use Rattle.page_store.specs.PageMap.{at}
 use Rattle.page_store.specs.Overlaid.{slots_of}
@@ -26,3 +26,6 @@ returns-clause-fits g c =
     let long = length-pages_of (g.S.StoreState.pages c.self.inside.store) (slots_of c.self.inside.changed.items) c.self.inside.free.keys c.self.inside.count in
     let few = c.self.invariant.store_fits in
     subst (λ (v : PagesView). length v.stored ≤ length v.pages) c.self.view_is (omega arith)
+
+pub returns-clause-value : goal.returns-clause-value
+returns-clause-value g c = search rules

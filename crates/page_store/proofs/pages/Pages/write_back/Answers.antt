@@ -1,4 +1,4 @@
-use Rattle.std.proofs.Common.{◌≡◌, ◌≢◌, ℕ, ◌+◌, ◌-◌, ◌++◌, Bool, false, if◌then◌else◌, get_or, [], List, Option, None, Result, Err, Box, Global, is_some, length, slice_get, sym, ap, ◌∙◌, refl, subst}
+use Rattle.std.proofs.Common.{◌≡◌, ◌≢◌, ℕ, ◌+◌, ◌-◌, ◌++◌, Bool, false, if◌then◌else◌, get_or, [], List, Option, None, Result, Err, Box, Global, is_some, length, slice_get, sym, ap, ◌∙◌, refl, subst, rules}
 use Rattle.std.proofs.lemmas.Bool.{false≢true}
 use Rattle.page_store.specs.declared.store_fault.StoreFault.{StoreFault}
 use Rattle.page_store.specs.declared.store_fault.StoreFault.TheVariants.{Failed, Memory as NoMemory}
@@ -178,3 +178,6 @@ returns-clause-journal g c =
     let all = steps_in c.args.self.now (g.S.StoreState.pages c.self.inside.store) _ c.self.inside.changed.items c.self.inside.free.keys c.self.inside.count c.args.writing.now c.args.clean.now c.deref.ensures.value (ap (λ (v : PagesView). v.pages) c.self.view_is) (ap (λ (v : PagesView). v.in_memory) c.self.view_is) in
     c.in_default.ensures.journal ∙ ap (λ old. noted old (writing_back (to_write (slots_of c.deref.result.now) c.self.inside.free.keys c.self.inside.count) c.self.inside.count c.args.writing.now c.args.clean.now)) (ap (λ (v : PagesView). v.journal) c.self.view_is)
     ∙ ap (noted c.args.self.now.journal) all
+
+pub returns-clause-idle : goal.returns-clause-idle
+returns-clause-idle g c = search rules

@@ -1,16 +1,19 @@
-use Rattle.std.proofs.Common.{ℕ, List, Option, Result, Err, ◌≡◌, ◌≤◌, ◌+◌, Some, ap, sym, subst, ◌∙◌, arith}
+use Rattle.std.proofs.Common.{ℕ, List, Option, Result, Err, ◌≡◌, ◌≤◌, ◌+◌, Some, ap, sym, subst, inl, ◌∙◌, rules, arith}
 use Rattle.std.specs.FinMap as maps
+use Rattle.rec_types.specs.Contents.{set_to}
 use Rattle.tx_log.specs.LogState.{LogState, use_in}
+use Rattle.tx_log.specs.declared.log_record.LogRecord.{LogRecord}
 use Rattle.record_file.specs.Abstract.{File, OpenFile, file_of, is_full, records_of, with_change}
 use Rattle.std.proofs.lemmas.Result.{err_from_is_err_and}
 use Rattle.rec_types.specs.Table.{is_device, counted}
 use Rattle.rec_types.specs.declared.table.TableFault.TheVariants as table_faults
 use Rattle.record_file.specs.declared.fault.PutFault.{PutFault}
-use Rattle.record_file.specs.Steps.{rose, put_refusal, PutStep}
+use Rattle.record_file.specs.Steps.{rose, put_refusal, PutStep, Accepts, key_change}
 use Rattle.record_file.proofs.FaultLemmas.{none_by, rose_same, put_err}
 use Rattle.record_file.proofs.FileLemmas.{put_has_room}
 use Rattle.record_file.proofs.FullnessLemmas.{put_accepts, room_now}
-use Rattle.record_file.proofs.InvariantLemmas.{change_kept, change_file}
+use Rattle.record_file.proofs.InvariantLemmas.{change_kept, change_file, change_accepted}
+use Rattle.record_file.proofs.LogGrowthLemmas.{tells_one}
 use Rattle.record_file.proofs.file.RecordFile.put.Goals as goal
 
 pub accept-lsn-requires-clause-fits : goal.accept-lsn-requires-clause-fits
@@ -45,6 +48,45 @@ returns-clause-step g c = λ sound lt.
       change_file _ _ _ c.self.inside.log c.self.invariant c.in_ok-reserve.ensures.kept (g.T.TableState.contents c.set.new.self) c.reserve.new.self c.accept-lsn.new.self c.args.tx c.args.key c.in_ok-before.before c.copied-told.result _ c.in_ok-reserve.ensures.ok (c.in_ok-before.ensures.ok here) stood (c.copied-told.ensures ∙ c.as_ref.ensures.value) c.accept-lsn.ensures.after
           ∙ ap (λ (f : File). with_change f c.args.tx.0 c.args.key (Some c.args.value)) link,
     )
+
+pub returns-clause-accepted : goal.returns-clause-accepted
+returns-clause-accepted g c =
+    let F = file_of c.accept-lsn.new.self (g.T.TableState.contents c.set.new.self) in
+    let link = ap (λ (s : OpenFile _). s.file) c.self.view_is ∙ c.is_full.ensures.same.1 in
+    let log_link = ap (λ (s : OpenFile _). s.log) c.self.view_is ∙ c.is_full.ensures.same.2 in
+    subst (λ (o : Option (List ℕ)). Accepts c.args.self.now.file c.args.self.now.log (key_change c.args.tx c.args.key o (Some c.args.value)) F c.accept-lsn.new.self.records) (c.copied-told.ensures ∙ c.as_ref.ensures.value)
+    (subst (λ (l : List LogRecord). Accepts c.args.self.now.file l (key_change c.args.tx c.args.key c.copied-told.result (Some c.args.value)) F c.accept-lsn.new.self.records) log_link
+    (subst (λ (f : File). Accepts f c.self.inside.log.records (key_change c.args.tx c.args.key c.copied-told.result (Some c.args.value)) F c.accept-lsn.new.self.records) link
+    (change_accepted _ _ _ c.self.inside.log c.self.invariant c.in_ok-reserve.ensures.kept (g.T.TableState.contents c.set.new.self) c.reserve.new.self c.accept-lsn.new.self c.args.tx c.args.key c.copied-told.result (Some c.args.value) c.in_ok-reserve.ensures.ok c.accept-lsn.ensures.after)))
+
+pub returns-clause-err : goal.returns-clause-err
+returns-clause-err g c = tt
+
+pub returns-clause-table : goal.returns-clause-table
+returns-clause-table g c =
+    let sound_is = ap (λ (s : OpenFile _). g.T.TableState.sound s.table) c.self.view_is ∙ c.is_full.ensures.answered.soundness in record {
+      told = tells_one _ _ _ _ c.reserve.new.self.records c.accept-lsn.new.self.records _
+          (ap (λ (s : LogState). s.records) c.in_ok-reserve.ensures.ok ∙ ap (λ (s : OpenFile _). s.log) c.self.view_is ∙ c.is_full.ensures.same.2)
+          (ap (λ (s : LogState). s.records) c.accept-lsn.ensures.after)
+          (λ sound. c.in_ok-before.ensures.ok (sound_is ∙ sound) ∙ ap (λ m. set_to m c.args.key (Some c.args.value)) (ap (λ (s : OpenFile _). g.T.TableState.contents s.table) c.self.view_is ∙ c.is_full.ensures.same.0));
+      soundness = c.in_ok-before.ensures.answered.soundness ∙ sound_is;
+      origin = c.in_ok-before.ensures.answered.origin ∙ ap (λ (s : OpenFile _). g.T.TableState.origin s.table) c.self.view_is ∙ c.in_ok-is_full.ensures.answered.origin;
+      device = c.in_ok-before.ensures.answered.device ∙ ap (λ (s : OpenFile _). g.T.TableState.device_failures s.table) c.self.view_is ∙ c.in_ok-is_full.ensures.answered.device;
+      damages = inl (c.in_ok-before.ensures.answered.damages ∙ ap (λ (s : OpenFile _). g.T.TableState.damages s.table) c.self.view_is ∙ c.in_ok-is_full.ensures.answered.damages);
+    }
+
+-- the log has no room
+pub returns-in_err-reserve-clause-step : goal.returns-in_err-reserve-clause-step
+returns-in_err-reserve-clause-step g c = search rules
+
+pub returns-in_err-reserve-clause-err : goal.returns-in_err-reserve-clause-err
+returns-in_err-reserve-clause-err g c = search rules
+
+pub returns-in_err-reserve-clause-table : goal.returns-in_err-reserve-clause-table
+returns-in_err-reserve-clause-table g c = search rules
+
+pub returns-in_err-reserve-clause-memory : goal.returns-in_err-reserve-clause-memory
+returns-in_err-reserve-clause-memory g c = search rules
 
 -- the table refused the change
 pub returns-in_err-before-clause-step : goal.returns-in_err-before-clause-step

@@ -66,3 +66,6 @@ returns-then-is_none-clause-table g c = search rules
 
 pub returns-in-None-clause-table : goal.returns-in-None-clause-table
 returns-in-None-clause-table g c = search rules
+
+pub returns-in-None-clause-err : goal.returns-in-None-clause-err
+returns-in-None-clause-err g c = search rules

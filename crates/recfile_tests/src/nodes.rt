@@ -1,14 +1,14 @@
-ghost use Rattle.std.specs.Prelude.{◌≡◌, ◌+◌, ◌<◌, ◌≤◌, [], IfOk, length, IsTrue};
+ghost use Rattle.std.specs.Prelude.{◌≡◌, ◌+◌, ◌<◌, ◌≤◌, [], IfOk, length, All, IsTrue};
 ghost use Rattle.btree_node.specs.Joined.{AreBrothers};
+ghost use Rattle.btree_node.specs.Lists.{Ascends, Below};
 ghost use Rattle.btree_node.specs.Spelling.{SonsFit, CanStand, IsSpelt};
 
-use crate::decoding::{ascends, sons_stand};
-use crate::layout::{KEY_WIDTH, RECORD_WIDTH};
-use crate::{
-    Header, HeaderFault, Node, NodeFault, NodeKind, catenate, count_in, decode, decode_into,
-    distribute, encode, insert_in, place_of, read_header, replace_in, split, write_header,
-};
 use arrayvec::ArrayVec;
+use btree_node::{
+    Header, HeaderFault, KEY_WIDTH, Node, NodeFault, NodeKind, RECORD_WIDTH, catenate, count_in,
+    decode, decode_into, distribute, encode, insert_in, place_of, read_header, replace_in, split,
+    write_header,
+};
 use rec_types::{Key, Record};
 use std::process::Abort;
 use std::test::Fail;
@@ -121,6 +121,13 @@ fn inner_of(rt: &impl Abort, keys: &[u8], sons: &[u32]) -> Result<Node, Fail> {
     })
 }
 
+/// Whether no son is 0.
+fn sons_stand(sons: &[u32]) -> bool
+    ensures { IsTrue result → All (λ son. 0 < son) sons.now }
+{
+    sons.iter().all(|son| *son != 0)
+}
+
 /// Whether these are the sons of a node of a kind with so many keys.
 fn sons_fit(kind: NodeKind, count: usize, sons: &[u32]) -> bool
     requires { count ≤ 33 }
@@ -130,6 +137,26 @@ fn sons_fit(kind: NodeKind, count: usize, sons: &[u32]) -> bool
         NodeKind::Leaf => sons.is_empty(),
         NodeKind::Inner => sons.len() == count + 1 && sons_stand(sons),
     }
+}
+
+/// Whether a key is below another.
+#[tactic(auto, unfolding(btree_node::specs::Lists::Below))]
+fn is_below(low: &Key, high: &Key) -> bool
+    ensures { IsTrue result → Below low.now high.now }
+{
+    low.cmp(high).is_lt()
+}
+
+/// Whether each key is below the next one.
+fn ascends(elements: &[(Key, Record)]) -> bool
+    ensures { IsTrue result → Ascends elements.now }
+{
+    for i in 1..elements.len() {
+        if !is_below(&elements[i - 1].0, &elements[i].0) {
+            return false;
+        }
+    }
+    true
 }
 
 /// Fails where the two nodes can't stand side by side.
