@@ -123,14 +123,25 @@ fn memory_command<'a>(alloc: Global) -> Result<Command<'a>, AllocError> {
     with_limits(alloc, memory)
 }
 
+// The program with none of its commands.
+fn bare_program<'a>(alloc: Global) -> Result<Command<'a>, AllocError> {
+    let program = Command::new(alloc, "recfile").bin_name("recfile")?;
+    Ok(program.about("A keyed record file under transactions; with no words, the same as memory"))
+}
+
+fn with_command<'a>(
+    program: Command<'a>,
+    command: Result<Command<'a>, AllocError>,
+) -> Result<Command<'a>, AllocError> {
+    program.subcommand(command?)
+}
+
 fn program<'a>(alloc: Global) -> Result<Command<'a>, AllocError> {
-    Command::new(alloc, "recfile")
-        .bin_name("recfile")?
-        .about("A keyed record file under transactions; with no words, the same as memory")
-        .subcommand(create_command(alloc)?)?
-        .subcommand(run_command(alloc)?)?
-        .subcommand(check_command(alloc)?)?
-        .subcommand(memory_command(alloc)?)
+    let program = bare_program(alloc)?;
+    let program = with_command(program, create_command(alloc))?;
+    let program = with_command(program, run_command(alloc))?;
+    let program = with_command(program, check_command(alloc))?;
+    with_command(program, memory_command(alloc))
 }
 
 // The limits that were asked for; those that were not are the greatest.

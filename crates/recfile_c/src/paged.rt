@@ -3,7 +3,7 @@ ghost use Rattle.std.specs.Prelude.{◌≡◌, None, pos};
 ghost use Rattle.rec_types.specs.Limits.{limits_of};
 ghost use Rattle.recfile_c.specs.Opening.{IsOpened};
 ghost use Rattle.recfile_c.specs.Outcomes.{just, memory};
-ghost use Rattle.recfile_c.specs.Paged.{paged_file, OnImage, AddsPage, OpensFrom, CreatesOf, OpensImage, CreatesImage, TakesImage};
+ghost use Rattle.recfile_c.specs.Paged.{paged_file, OnImage, AddsPage, OpensFrom, CreatesOf, BecomesOpen, OpensImage, CreatesImage, TakesImage};
 
 use crate::file_table::FileTable;
 use crate::handle::RecFile;
@@ -106,7 +106,24 @@ pub extern "C" fn recfile_page(alloc: Global, file: &mut RecFile, page: &[u8; 40
     status
 }
 
-// Opens a file of the pages that were handed in; where it is not opened, none is left.
+// Opens a file of these pages; where it is not opened, none is left.
+fn opened_image(
+    alloc: Global,
+    pages: Vec<[u8; 4096]>,
+    records: u32,
+    log_records: u32,
+    begins: u32,
+) -> (Held, Outcome)
+    ensures { BecomesOpen (OpensFrom pages.items (limits_of records log_records begins)) result.1
+        result.0 }
+{
+    match open_pages(alloc, pages, records, log_records, begins) {
+        Ok(opened) => (opened, Outcome::just(OK)),
+        Err(told) => (Held::Image(Vec::new(alloc)), told),
+    }
+}
+
+// Opens a file of the pages that were handed in.
 fn open_image(
     alloc: Global,
     held: &mut Held,
@@ -117,10 +134,7 @@ fn open_image(
     ensures { OpensImage (limits_of records log_records begins) result held.old held.new }
 {
     let (left, told) = match std::mem::replace(held, Held::Image(Vec::new(alloc))) {
-        Held::Image(pages) => match open_pages(alloc, pages, records, log_records, begins) {
-            Ok(opened) => (opened, Outcome::just(OK)),
-            Err(told) => (Held::Image(Vec::new(alloc)), told),
-        },
+        Held::Image(pages) => opened_image(alloc, pages, records, log_records, begins),
         Held::Open(session) => (Held::Open(session), Outcome::just(NOT_CLOSED)),
         Held::Unclosed(table) => (Held::Unclosed(table), Outcome::just(NOT_CLOSED)),
         Held::Closed(store) => (Held::Closed(store), Outcome::just(NOT_CLOSED)),
