@@ -14,6 +14,4 @@ mod outcome;
 mod paged;
 mod records;
 mod shown;
-#[cfg(test)]
-mod tests;
 mod transactions;

@@ -1,4 +1,4 @@
-use Rattle.std.proofs.Common.{◌≡◌, Option, None, MatchOption, IfSome, sym, subst, ◌∙◌}
+use Rattle.std.proofs.Common.{rules, ◌≡◌, Option, None, MatchOption, IfSome, sym, subst, ◌∙◌}
 use Rattle.btree_insert.specs.declared.tree.Tree.{Tree}
 use Rattle.btree_delete.specs.CleanFile.{IsOutside}
 use Rattle.btree_delete.specs.TableView.{IsClosed}
@@ -25,3 +25,9 @@ returns-in-Ok-clause-session g c steady tree contents closed few =
     let same = c.in-Ok.ensures.stored in
     let ends = λ (s : Seen). EndsFile (g.R.Read.remaining c.args.reader.now) (g.R.Read.remaining c.run_opened.new.reader) (g.W.Write.contents c.args.out.now) (g.W.Write.contents c.run_opened.new.out) s (λ records good. MatchOption c.run_opened.result.store (c.run_opened.result.status ≡ 1) (λ x. ((t : Tree) × IsClosed (g.S.StoreState.pages x) (g.S.StoreState.tail x) t records) × (c.run_opened.result.status ≡ good))) c.run_opened.result.status in
     subst (λ (o : Option OpenFault). MatchOption o (ends (opened_file contents c.args.limits (g.S.StoreState.failures c.args.store))) IsOutside) (sym c.run_opened.ensures.opened) (subst ends (λ i. opened_file (opened.1 i) c.args.limits (same.4 i)) (c.run_opened.ensures.session (same.2 ∙ steady) c.in-Ok.ensures.no_faults.0 c.in-Ok.ensures.no_faults.1))
+
+pub returns-in-Err-clause-unread : goal.returns-in-Err-clause-unread
+returns-in-Err-clause-unread g c = search rules
+
+pub returns-in-Err-clause-untouched : goal.returns-in-Err-clause-untouched
+returns-in-Err-clause-untouched g c = search rules

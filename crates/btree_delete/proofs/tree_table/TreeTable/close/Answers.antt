@@ -1,4 +1,4 @@
-use Rattle.std.proofs.Common.{◌≡◌, ℕ, List, true, false, Some, ap, sym, ◌∙◌, subst, arith}
+use Rattle.std.proofs.Common.{rules, ◌≡◌, ℕ, List, true, false, Some, ap, sym, ◌∙◌, subst, arith}
 use Rattle.page_store.specs.Fronts.{tried}
 use Rattle.page_store.specs.Journal.{noted, NotesFront, carried}
 use Rattle.page_store.specs.declared.step.Step.{Step}
@@ -73,3 +73,6 @@ returns-then-not-changed-clause-again g c = λ old ks.
     let here : TableView = record { pages = c.self.inside.pages; tree = c.self.inside.tree; limit = c.self.inside.limit; refusals = c.self.inside.faults.refusals; damages = record { count = c.self.inside.faults.damaged; page = c.self.inside.faults.page } } in
     let idle : here.pages.changed ≡ false = sym c.changed.ensures.value ∙ c.if-not-changed.true in
     subst (λ (t : TableView). carried (carried old (tried ks (closing t))) (closing t) ≡ carried old (closing t)) c.self.view_is (again_idle here old ks idle)
+
+pub returns-in-Err-clause-device : goal.returns-in-Err-clause-device
+returns-in-Err-clause-device g c = search rules

@@ -1,0 +1,335 @@
+/* The calls of recfile.h, each with its status and a number that it tells: a session over a file in memory, and the
+ * same over a page file, which is closed, its steps carried out in memory, and opened again. */
+#include "recfile.h"
+
+#include <inttypes.h>
+#include <stdio.h>
+#include <stdlib.h>
+#include <string.h>
+
+enum { MOST_PAGES = 8 };
+
+/* What a call is given: a transaction or another number, a savepoint, a key, a record. */
+typedef struct {
+    uint32_t of;
+    uint32_t save;
+    const char *key;
+    const char *value;
+} arguments;
+
+typedef struct {
+    const char *name;
+    int32_t (*call)(recfile *file, arguments given, uint64_t *number);
+    arguments given;
+    int32_t status;
+    uint64_t number;
+} row;
+
+#define ROW(call, of, save, key, value, status, number)                                                                \
+    { #call, call, {of, save, key, value}, RECFILE_##status, number }
+
+/* Asked with no argument, of a number, at a key. */
+#define ASK(call, status, number) ROW(call, 0, 0, "", "", status, number)
+#define OF(call, of, status, number) ROW(call, of, 0, "", "", status, number)
+#define AT(call, of, key, status, number) ROW(call, of, 0, key, "", status, number)
+#define PUT(of, key, value, status, number) ROW(put, of, 0, key, value, status, number)
+#define SAVE(call, of, save, status, number) ROW(call, of, save, "", "", status, number)
+
+static const char LONG_RECORD[] = "123456789 123456789 123456789 123";
+
+static const uint8_t *bytes(const char *text) { return (const uint8_t *)text; }
+
+/* The first byte of a record, and 0 where there is none. */
+static uint64_t first(const recfile_record *record) { return record->is_there ? record->bytes[0] : 0; }
+
+static int32_t memory(recfile *file, arguments given, uint64_t *number) {
+    (void)given;
+    (void)number;
+    return recfile_memory(file, 10, 100, 100);
+}
+
+static int32_t create(recfile *file, arguments given, uint64_t *number) {
+    recfile_detail detail;
+    (void)number;
+    return recfile_create(file, (uint16_t)given.of, 10, 100, 100, &detail);
+}
+
+static int32_t begin(recfile *file, arguments given, uint64_t *number) {
+    uint32_t tx = 0;
+    int32_t status = recfile_begin(file, &tx);
+    (void)given;
+    *number = tx;
+    return status;
+}
+
+static int32_t put(recfile *file, arguments given, uint64_t *number) {
+    recfile_record before = {0};
+    recfile_detail detail;
+    int32_t status = recfile_put(file, given.of, bytes(given.key), strlen(given.key), bytes(given.value),
+                                 strlen(given.value), &before, &detail);
+    *number = status == RECFILE_HELD ? detail.owner : first(&before);
+    return status;
+}
+
+static int32_t get(recfile *file, arguments given, uint64_t *number) {
+    recfile_record found = {0};
+    recfile_detail detail;
+    int32_t status = recfile_get(file, given.of, bytes(given.key), strlen(given.key), &found, &detail);
+    *number = first(&found);
+    return status;
+}
+
+static int32_t take(recfile *file, arguments given, uint64_t *number) {
+    recfile_record taken = {0};
+    recfile_detail detail;
+    int32_t status = recfile_remove(file, given.of, bytes(given.key), strlen(given.key), &taken, &detail);
+    *number = first(&taken);
+    return status;
+}
+
+static int32_t savepoint(recfile *file, arguments given, uint64_t *number) {
+    uint32_t n = 0;
+    int32_t status = recfile_savepoint(file, given.of, &n);
+    *number = n;
+    return status;
+}
+
+static int32_t release(recfile *file, arguments given, uint64_t *number) {
+    (void)number;
+    return recfile_release(file, given.of, given.save);
+}
+
+static int32_t rollback_to(recfile *file, arguments given, uint64_t *number) {
+    uint32_t undone = 0;
+    recfile_detail detail;
+    int32_t status = recfile_rollback_to(file, given.of, given.save, &undone, &detail);
+    *number = undone;
+    return status;
+}
+
+static int32_t roll_back(recfile *file, arguments given, uint64_t *number) {
+    uint32_t undone = 0;
+    recfile_detail detail;
+    int32_t status = recfile_abort(file, given.of, &undone, &detail);
+    *number = undone;
+    return status;
+}
+
+static int32_t resume(recfile *file, arguments given, uint64_t *number) {
+    uint32_t undone = 0;
+    recfile_detail detail;
+    int32_t status = recfile_resume(file, given.of, &undone, &detail);
+    *number = undone;
+    return status;
+}
+
+static int32_t commit(recfile *file, arguments given, uint64_t *number) {
+    (void)number;
+    return recfile_commit(file, given.of);
+}
+
+static int32_t live_changes(recfile *file, arguments given, uint64_t *number) {
+    recfile_tx_status told = {0};
+    int32_t status = recfile_status(file, given.of, &told);
+    *number = told.live;
+    return status;
+}
+
+static int32_t charged(recfile *file, arguments given, uint64_t *number) {
+    (void)given;
+    return recfile_charged(file, number);
+}
+
+static int32_t begun(recfile *file, arguments given, uint64_t *number) {
+    uint32_t n = 0;
+    int32_t status = recfile_begun(file, &n);
+    (void)given;
+    *number = n;
+    return status;
+}
+
+static int32_t log_len(recfile *file, arguments given, uint64_t *number) {
+    uint32_t n = 0;
+    int32_t status = recfile_log_len(file, &n);
+    (void)given;
+    *number = n;
+    return status;
+}
+
+static int32_t log_use(recfile *file, arguments given, uint64_t *number) {
+    uint32_t n = 0;
+    int32_t status = recfile_log_use(file, &n);
+    (void)given;
+    *number = n;
+    return status;
+}
+
+static int32_t log_record(recfile *file, arguments given, uint64_t *number) {
+    recfile_log_entry entry = {0};
+    int32_t status = recfile_log_record(file, given.of, &entry);
+    *number = entry.kind;
+    return status;
+}
+
+static int32_t entries(recfile *file, arguments given, uint64_t *number) {
+    recfile_detail detail;
+    (void)given;
+    return recfile_entries(file, number, &detail);
+}
+
+static int32_t entry(recfile *file, arguments given, uint64_t *number) {
+    recfile_listed told = {0};
+    int32_t status = recfile_entry(file, given.of, &told);
+    *number = first(&told.value);
+    return status;
+}
+
+static int32_t keys_of(recfile *file, arguments given, uint64_t *number) {
+    return recfile_keys_of(file, given.of, number);
+}
+
+static int32_t key_length(recfile *file, arguments given, uint64_t *number) {
+    recfile_key_bytes told = {0};
+    int32_t status = recfile_key(file, given.of, &told);
+    *number = told.len;
+    return status;
+}
+
+static int32_t close(recfile *file, arguments given, uint64_t *number) {
+    recfile_detail detail;
+    int32_t status = recfile_close(file, &detail);
+    (void)given;
+    *number = detail.left;
+    return status;
+}
+
+static int32_t step_count(recfile *file, arguments given, uint64_t *number) {
+    (void)given;
+    return recfile_step_count(file, number);
+}
+
+static int32_t discard(recfile *file, arguments given, uint64_t *number) {
+    (void)given;
+    (void)number;
+    return recfile_discard(file);
+}
+
+/* Two transactions, a partial rollback, a key that is held. */
+static const row SESSION[] = {
+    ASK(begin, OK, 1),
+    ASK(begin, OK, 2),
+    PUT(1, "", "", EMPTY_KEY, 0),
+    PUT(1, "a", LONG_RECORD, LONG_RECORD, 0),
+    PUT(1, "12345678 12345678", "", LONG_KEY, 0),
+    PUT(3, "a", "\1", NO_SUCH_TX, 0),
+    PUT(1, "a", "\1", OK, 0),
+    OF(savepoint, 1, OK, 1),
+    PUT(1, "a", "\2", OK, 1),
+    PUT(1, "b", "\3", OK, 0),
+    PUT(2, "c", "\4", OK, 0),
+    PUT(1, "c", "\5", HELD, 2),
+    AT(get, 1, "a", OK, 2),
+    OF(live_changes, 1, OK, 3),
+    SAVE(rollback_to, 1, 2, NO_SUCH_SAVE, 0),
+    SAVE(rollback_to, 1, 1, OK, 2),
+    SAVE(release, 1, 1, OK, 0),
+    OF(resume, 1, NOT_ROLLING, 0),
+    AT(get, 1, "a", OK, 1),
+    AT(take, 1, "b", ABSENT, 0),
+    PUT(1, "b", "\6", OK, 0),
+    AT(take, 1, "b", OK, 6),
+    OF(keys_of, 1, OK, 2),
+    OF(key_length, 0, OK, 1),
+    OF(key_length, 2, NO_SUCH_ENTRY, 0),
+    ASK(entries, OK, 2),
+    OF(entry, 1, OK, 4),
+    OF(entry, 2, NO_SUCH_ENTRY, 0),
+    ASK(charged, OK, 3),
+    ASK(begun, OK, 2),
+    ASK(log_len, OK, 8),
+    ASK(log_use, OK, 12),
+    OF(log_record, 5, OK, 2),
+    OF(log_record, 9, OK, 0),
+    ASK(memory, NOT_CLOSED, 0),
+    ASK(step_count, NOT_CLOSED, 0),
+    ASK(close, STILL_OPEN, 2),
+    OF(commit, 1, OK, 0),
+    OF(roll_back, 2, OK, 1),
+    ASK(close, OK, 0),
+    ASK(begin, CLOSED, 0),
+};
+
+static const row IN_MEMORY[] = {ASK(begin, CLOSED, 0), ASK(memory, OK, 0)};
+static const row OF_MEMORY[] = {ASK(step_count, OK, 0), ASK(discard, OK, 0), ASK(discard, CLOSED, 0)};
+static const row IN_PAGES[] = {OF(create, 17, BAD_ORDER, 0), OF(create, 2, OK, 0)};
+static const row REOPENED[] = {
+    ASK(entries, OK, 1), OF(entry, 0, OK, 1), ASK(close, OK, 0), ASK(step_count, OK, 0), ASK(discard, OK, 0),
+};
+
+static void expect(int is_so, const char *what) {
+    if (!is_so) {
+        fprintf(stderr, "calls: not so: %s\n", what);
+        exit(1);
+    }
+}
+
+static void expect_rows(recfile *file, const row *rows, size_t count) {
+    for (size_t i = 0; i < count; i++) {
+        uint64_t number = 0;
+        int32_t status = rows[i].call(file, rows[i].given, &number);
+        if (status != rows[i].status || number != rows[i].number) {
+            fprintf(stderr, "calls: row %zu, %s: status %" PRId32 ", number %" PRIu64 "\n", i, rows[i].name, status,
+                    number);
+            exit(1);
+        }
+    }
+}
+
+#define EXPECT(file, rows) expect_rows(file, rows, sizeof(rows) / sizeof(rows)[0])
+
+/* The pages of a new file whose steps are carried out; how many there are. */
+static uint32_t carry_out(recfile *file, uint8_t pages[MOST_PAGES][4096]) {
+    uint32_t count = 0;
+    uint64_t steps = 0;
+    uint8_t page[4096];
+    recfile_step_shown step;
+    expect(recfile_step_count(file, &steps) == RECFILE_OK, "the file has steps");
+    for (uint64_t i = 0; i < steps; i++) {
+        expect(recfile_step(file, i, &step, page) == RECFILE_OK, "each step is told");
+        if (step.kind == RECFILE_SET_PAGES)
+            count = step.number;
+        expect(count <= MOST_PAGES, "the file is small");
+        if (step.kind == RECFILE_WRITE) {
+            expect(step.number < count, "a page is written that is there");
+            memcpy(pages[step.number], page, sizeof page);
+        }
+    }
+    expect(recfile_step(file, steps, &step, page) == RECFILE_NO_SUCH_ENTRY, "no step comes after the last");
+    return count;
+}
+
+static void reopen(recfile *file, uint8_t pages[MOST_PAGES][4096], uint32_t count) {
+    recfile_detail detail;
+    for (uint32_t n = 0; n < count; n++)
+        expect(recfile_page(file, pages[n]) == RECFILE_OK, "a page is handed in");
+    expect(recfile_open(file, 10, 100, 100, &detail) == RECFILE_OK, "the file is opened again");
+}
+
+int main(void) {
+    static uint8_t pages[MOST_PAGES][4096];
+    uint32_t count;
+    recfile *file = NULL;
+    expect(recfile_new(&file) == RECFILE_OK, "a handle is made");
+    EXPECT(file, IN_MEMORY);
+    EXPECT(file, SESSION);
+    EXPECT(file, OF_MEMORY);
+    EXPECT(file, IN_PAGES);
+    EXPECT(file, SESSION);
+    count = carry_out(file, pages);
+    expect(count == 2, "the file has two pages");
+    expect(recfile_discard(file) == RECFILE_OK, "the steps are given up");
+    reopen(file, pages, count);
+    EXPECT(file, REOPENED);
+    recfile_free(file);
+    return 0;
+}
