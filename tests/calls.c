@@ -54,12 +54,17 @@ static int32_t create(recfile *file, arguments given, uint64_t *number) {
     return recfile_create(file, (uint16_t)given.of, 10, 100, 100, &detail);
 }
 
-static int32_t begin(recfile *file, arguments given, uint64_t *number) {
-    uint32_t tx = 0;
-    int32_t status = recfile_begin(file, &tx);
-    (void)given;
-    *number = tx;
+/* Asks for a number of 32 bits. */
+static int32_t narrow(int32_t (*ask)(recfile *, uint32_t *), recfile *file, uint64_t *number) {
+    uint32_t n = 0;
+    int32_t status = ask(file, &n);
+    *number = n;
     return status;
+}
+
+static int32_t begin(recfile *file, arguments given, uint64_t *number) {
+    (void)given;
+    return narrow(recfile_begin, file, number);
 }
 
 static int32_t put(recfile *file, arguments given, uint64_t *number) {
@@ -107,20 +112,22 @@ static int32_t rollback_to(recfile *file, arguments given, uint64_t *number) {
     return status;
 }
 
-static int32_t roll_back(recfile *file, arguments given, uint64_t *number) {
+/* Takes back what is left of a transaction: how many changes. */
+static int32_t take_back(int32_t (*call)(recfile *, uint32_t, uint32_t *, recfile_detail *), recfile *file, uint32_t tx,
+                         uint64_t *number) {
     uint32_t undone = 0;
     recfile_detail detail;
-    int32_t status = recfile_abort(file, given.of, &undone, &detail);
+    int32_t status = call(file, tx, &undone, &detail);
     *number = undone;
     return status;
 }
 
+static int32_t roll_back(recfile *file, arguments given, uint64_t *number) {
+    return take_back(recfile_abort, file, given.of, number);
+}
+
 static int32_t resume(recfile *file, arguments given, uint64_t *number) {
-    uint32_t undone = 0;
-    recfile_detail detail;
-    int32_t status = recfile_resume(file, given.of, &undone, &detail);
-    *number = undone;
-    return status;
+    return take_back(recfile_resume, file, given.of, number);
 }
 
 static int32_t commit(recfile *file, arguments given, uint64_t *number) {
@@ -141,27 +148,18 @@ static int32_t charged(recfile *file, arguments given, uint64_t *number) {
 }
 
 static int32_t begun(recfile *file, arguments given, uint64_t *number) {
-    uint32_t n = 0;
-    int32_t status = recfile_begun(file, &n);
     (void)given;
-    *number = n;
-    return status;
+    return narrow(recfile_begun, file, number);
 }
 
 static int32_t log_len(recfile *file, arguments given, uint64_t *number) {
-    uint32_t n = 0;
-    int32_t status = recfile_log_len(file, &n);
     (void)given;
-    *number = n;
-    return status;
+    return narrow(recfile_log_len, file, number);
 }
 
 static int32_t log_use(recfile *file, arguments given, uint64_t *number) {
-    uint32_t n = 0;
-    int32_t status = recfile_log_use(file, &n);
     (void)given;
-    *number = n;
-    return status;
+    return narrow(recfile_log_use, file, number);
 }
 
 static int32_t log_record(recfile *file, arguments given, uint64_t *number) {
