@@ -157,9 +157,7 @@ impl<S: Store> TreeTable<S> {
             taken: 0,
             freed: Vec::new(alloc),
         };
-        let Ok(()) = pages.stage(nothing) else {
-            unreachable!();
-        };
+        pages.stage(nothing).unwrap();
         let tree = Tree {
             order: k,
             root: 0,

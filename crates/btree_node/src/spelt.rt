@@ -39,10 +39,7 @@ pub fn key_in(page: &[u8; 4096], k: u16, i: usize) -> Key
         → result ≡ (slice_index_or node.elements.items i other).0 }
 {
     let place = place_of_page(FIRST_LAYOUT, page, i);
-    let Some(key) = Key::in_field(&sixteen(place, 1), place[0]) else {
-        unreachable!();
-    };
-    key
+    Key::in_field(&sixteen(place, 1), place[0]).unwrap()
 }
 
 /// Record i of the node that the page spells, in a tree of order `k`.
@@ -54,10 +51,7 @@ pub fn record_in(page: &[u8; 4096], k: u16, i: usize) -> Record
         → result ≡ (slice_index_or node.elements.items i other).1 }
 {
     let place = place_of_page(FIRST_LAYOUT, page, i);
-    let Some(value) = Record::in_field(&thirty_two(place, RECORD_AT + 1), place[RECORD_AT]) else {
-        unreachable!();
-    };
-    value
+    Record::in_field(&thirty_two(place, RECORD_AT + 1), place[RECORD_AT]).unwrap()
 }
 
 /// Son j of the node that the page spells, in a tree of order `k`, where j is at most its number of

@@ -11,8 +11,5 @@ pub fn greatest_limits() -> Limits
       begins = most_begins;
     } }
 {
-    let Ok(limits) = Limits::new(MOST_RECORDS, MOST_LOG_RECORDS, MOST_BEGINS) else {
-        unreachable!()
-    };
-    limits
+    Limits::new(MOST_RECORDS, MOST_LOG_RECORDS, MOST_BEGINS).unwrap()
 }

@@ -1,18 +1,17 @@
-use Rattle.std.proofs.Common.{[], ◌∙◌, arith}
-use Rattle.std.proofs.lemmas.Bool.{false≢true}
+use Rattle.std.proofs.Common.{[], arith}
 use Rattle.btree_node.proofs.SpeltPageLemmas.{few_places, record_spelt}
 use Rattle.btree_node.proofs.spelt.record_in.Goals as goal
 
 pub place_of_page-place-requires-clause-index : goal.place_of_page-place-requires-clause-index
 place_of_page-place-requires-clause-index c = omega (arith, c.requires.index, few_places c.args.k c.args.page.now c.requires.order c.requires.spelt)
 
-pub unreachable-requires : goal.unreachable-requires
-unreachable-requires c =
+pub unwrap-requires : goal.unwrap-requires
+unwrap-requires c =
     let spelt = c.requires.spelt in
     let value = record_spelt c.args.k c.args.page.now c.place_of_page-place.result.now c.thirty_two.result spelt.0 c.args.i ([], []) c.requires.order spelt.1 spelt.2 c.requires.index c.place_of_page-place.ensures.value c.thirty_two.ensures in
-    absurd (false≢true (c.in_default.ensures.some.1 (value.fits, value.zeros)))
+    c.in_field.ensures.some.1 (value.fits, value.zeros)
 
 pub returns : goal.returns
 returns c = λ node other can is.
     let value = record_spelt c.args.k c.args.page.now c.place_of_page-place.result.now c.thirty_two.result node c.args.i other c.requires.order can is c.requires.index c.place_of_page-place.ensures.value c.thirty_two.ensures in
-    c.in-Some.ensures.value ∙ value.front
+    grind (arith, c.unwrap.ensures, c.in_field.ensures.value, value.front)
