@@ -3,6 +3,7 @@ use Rattle.std.proofs.Common.{◌≡◌, ℕ, zero, suc, ◌+◌, ◌<◌, ◌�
 use Rattle.std.proofs.lemmas.Bool.Decides.{nat_tests}
 use Rattle.std.proofs.lemmas.List.{get_or_past}
 use Rattle.std.proofs.lemmas.Option.{slice_get_past}
+use Rattle.rec_types.specs.LimitBounds.{most_records}
 use Rattle.rec_types.specs.Contents.{Contents}
 use Rattle.rec_types.specs.Table.{Damages, counted}
 use Rattle.page_store.specs.Calls.{counted_times}
@@ -12,6 +13,7 @@ use Rattle.page_store.specs.WritingBack.{AreStored}
 use Rattle.btree_node.specs.declared.header.Header.{Header}
 use Rattle.btree_node.specs.HeaderSpelling.{header_spelling, clean_state}
 use Rattle.btree_node.specs.Lists.{Element}
+use Rattle.btree_insert.specs.Sizes.{IsTree}
 use Rattle.btree_insert.specs.declared.tree.Tree.{Tree}
 use Rattle.btree_insert.specs.PageTrees.{IsIn, RootAt, Holds}
 use Rattle.btree_insert.specs.Contents.{contents_of}
@@ -208,20 +210,16 @@ written_back pages stored tail count tree held long tail_is count_is some most h
 
 -- a table whose file was opened
 pub opened_table : (stored : List (List ℕ)) (tail most reads : ℕ) (pages : PagesView) (tree : Tree) (limit refusals : ℕ) (damages : Damages) (steady : Bool) → pages.stored ≡ stored → pages.tail ≡ tail → pages.steady ≡ steady → (IsTrue steady → Opens stored tail most reads pages tree)
-    → 1 ≤ tree.order → tree.order ≤ 16 → tree.height ≤ 19 → tree.used ≤ 1000000 → tree.count ≤ most → limit ≡ most → limit ≤ 1000000 → ((n : ℕ) → is_in_memory pages n ≡ false) → IsTable (record { pages = pages; tree = tree; limit = limit; refusals = refusals; damages = damages })
-opened_table stored tail most reads pages tree limit refusals damages steady stored_is tail_is steady_is found some_order most_order low used count limit_is limit_most none = record {
-  some_order = some_order;
-  most_order = most_order;
-  low = low;
-  used = used;
-  small = omega (arith, count, limit_is, limit_most);
+    → IsTree tree → tree.count ≤ most → limit ≡ most → limit ≤ most_records → ((n : ℕ) → is_in_memory pages n ≡ false) → IsTable (record { pages = pages; tree = tree; limit = limit; refusals = refusals; damages = damages })
+opened_table stored tail most reads pages tree limit refusals damages steady stored_is tail_is steady_is found sizes count limit_is limit_most none = record {
+  tree = sizes;
   count = λ _. omega (arith, count, limit_is);
   limit = limit_most;
   spelt = spelt_none tree.order pages none;
   holds = λ is. let opens = found (sym steady_is ∙ is) in record { es = opens.es; us = opens.us; fills = record { holds = opens.holds; alone = opens.alone } };
   closed = λ is _.
       let contents = contents_at tree.order (at pages.pages) tree.height tree.root in
-      subst (λ (t : ℕ). IsClosed pages.stored t tree contents) (sym tail_is) (subst (λ (ps : List (List ℕ)). IsClosed ps tail tree contents) (sym stored_is) (opened_closed stored tail most reads pages tree most_order (found (sym steady_is ∙ is))));
+      subst (λ (t : ℕ). IsClosed pages.stored t tree contents) (sym tail_is) (subst (λ (ps : List (List ℕ)). IsClosed ps tail tree contents) (sym stored_is) (opened_closed stored tail most reads pages tree sizes.order.1 (found (sym steady_is ∙ is))));
 }
 
 -- a closed file that was opened has the records that it was closed with

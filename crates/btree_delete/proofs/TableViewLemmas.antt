@@ -9,6 +9,7 @@ use Rattle.rec_types.specs.declared.table.TableFault.TheVariants.{Device, Damage
 use Rattle.page_store.specs.PageMap.{at}
 use Rattle.page_store.specs.PagesView.{PagesView}
 use Rattle.btree_node.specs.Lists.{Element, Ascends}
+use Rattle.btree_insert.specs.Sizes.{greatest_height, greatest_count}
 use Rattle.btree_insert.specs.declared.tree.Tree.{Tree}
 use Rattle.btree_insert.specs.declared.tree.TreeFault.{TreeFault}
 use Rattle.btree_insert.specs.declared.tree.TreeFault.TheVariants.{Device as ReadFailed}
@@ -33,7 +34,7 @@ pub count_is : (t : TableView) → IsTable t → IsTrue t.pages.steady → t.tre
 count_is t is steady =
     let held = is.holds steady in
     let holds = held.fills.holds in
-    holds.count ∙ sym (len-contents_of held.es holds.ascends) ∙ ap maps.len (sym (held_contents (at t.pages.pages) t.tree held.es held.us is.most_order holds))
+    holds.count ∙ sym (len-contents_of held.es holds.ascends) ∙ ap maps.len (sym (held_contents (at t.pages.pages) t.tree held.es held.us is.tree.order.1 holds))
 
 -- the count is that of the contents
 pub count_seen : (here now : TableView) → here ≡ now → IsTable here → IsTrue now.pages.steady → here.tree.count ≡ maps.len (table_contents now)
@@ -60,7 +61,7 @@ err_set t new key to r fault is steady call r_is =
 
 -- a look-up in the tree is one in the contents
 pub looked_up : (t : TableView) (key : List ℕ) (is : IsTable t) (steady : IsTrue t.pages.steady) → lookup_in key (is.holds steady).es ≡ maps.get (table_contents t) key
-looked_up t key is steady = let held = is.holds steady in contents_get (at t.pages.pages) t.tree held.es held.us key is.most_order held.fills.holds
+looked_up t key is steady = let held = is.holds steady in contents_get (at t.pages.pages) t.tree held.es held.us key is.tree.order.1 held.fills.holds
 
 -- what stood at the key
 pub set_value : (here now : TableView) (new : List (Option (List ℕ))) (key : List ℕ) (to : Option (List ℕ)) (r : Result (Tree × Option (List ℕ)) TableFault) (next : Tree) (before : Option (List ℕ)) → here ≡ now → IsTable here → Changes here new key to r → r ≡ Ok (next, before)
@@ -77,7 +78,7 @@ set_contents here now new key to r next before same is call r_is order steady =
     let held = is.holds steady2 in
     let done = ok_set here new key to r next before is steady2 call r_is in
     let order2 = subst (λ (r : Result (Tree × Option (List ℕ)) TableFault). IfOk r (λ x. x.0.order ≡ here.tree.order)) r_is order in
-    contents_set (at here.pages.pages) (at new) here.tree next held.es held.us done.vs key to is.most_order order2 held.fills.holds done.fills.holds
+    contents_set (at here.pages.pages) (at new) here.tree next held.es held.us done.vs key to is.tree.order.1 order2 held.fills.holds done.fills.holds
     ∙ ap (λ (t : TableView). set_to (table_contents t) key to) same
 
 full_of : (here now : TableView) (key : List ℕ) (to : Option (List ℕ)) (is : IsTable here) (same : here ≡ now) (steady : IsTrue here.pages.steady) → IsSome to → maps.get (table_contents now) key ≡ None → now.limit ≤ maps.len (table_contents now) → IsFull here.limit here.tree.count (is.holds steady).es key to
@@ -144,19 +145,20 @@ idle_of t pages next None None out_none out put idle = out_none refl refl
 
 -- the table after it
 pub set_table : (t : TableView) (pages : PagesView) (key : List ℕ) (to : Option (List ℕ)) (r : Result (Tree × Option (List ℕ)) TableFault) (next : Tree) (before : Option (List ℕ)) (refusals : ℕ) (damages : Damages) → IsTable t → Changes t pages.pages key to r → r ≡ Ok (next, before)
-    → IfOk r (λ x. (x.0.height ≤ 19) × (x.0.count ≤ 1000000) × (x.0.used ≤ 1000000)) → IfOk r (λ x. x.0.order ≡ t.tree.order) → (to ≡ None → IfOk r (λ x. x.1 ≡ None → IsIdle t pages x.0)) → (to ≡ None → IfOk r (λ x. IsSome x.1 → pages.changed ≡ true)) → (IsSome to → IsOk r → pages.changed ≡ true)
+    → IfOk r (λ x. (x.0.height ≤ greatest_height) × (x.0.count ≤ greatest_count) × (x.0.used ≤ greatest_count)) → IfOk r (λ x. x.0.order ≡ t.tree.order) → (to ≡ None → IfOk r (λ x. x.1 ≡ None → IsIdle t pages x.0)) → (to ≡ None → IfOk r (λ x. IsSome x.1 → pages.changed ≡ true)) → (IsSome to → IsOk r → pages.changed ≡ true)
     → pages.stored ≡ t.pages.stored → pages.tail ≡ t.pages.tail → pages.steady ≡ t.pages.steady → AreSpeltIn t.tree.order pages → IsTable (record { pages = pages; tree = next; limit = t.limit; refusals = refusals; damages = damages })
 set_table t pages key to r next before refusals damages is call r_is small order out_none out put stored tail steady_is spelt =
-    let small2 = subst (λ (r : Result (Tree × Option (List ℕ)) TableFault). IfOk r (λ x. (x.0.height ≤ 19) × (x.0.count ≤ 1000000) × (x.0.used ≤ 1000000))) r_is small in
+    let small2 = subst (λ (r : Result (Tree × Option (List ℕ)) TableFault). IfOk r (λ x. (x.0.height ≤ greatest_height) × (x.0.count ≤ greatest_count) × (x.0.used ≤ greatest_count))) r_is small in
     let order2 = subst (λ (r : Result (Tree × Option (List ℕ)) TableFault). IfOk r (λ x. x.0.order ≡ t.tree.order)) r_is order in
     let ok = subst (λ (r : Result (Tree × Option (List ℕ)) TableFault). IsOk r) (sym r_is) refl in
     let done : (steady : IsTrue pages.steady) → IsSet pages.pages next t.limit (is.holds (sym steady_is ∙ steady)).es key to before = λ steady. ok_set t pages.pages key to r next before is (sym steady_is ∙ steady) call r_is in
     record {
-      some_order = omega (arith, is.some_order, order2);
-      most_order = omega (arith, is.most_order, order2);
-      low = small2.0;
-      used = small2.2;
-      small = small2.1;
+      tree = record {
+        order = (omega (arith, is.tree.order.0, order2), omega (arith, is.tree.order.1, order2));
+        height = small2.0;
+        count = small2.1;
+        used = small2.2;
+      };
       count = λ steady. (done steady).few;
       limit = is.limit;
       spelt = subst (λ (k : ℕ). AreSpeltIn k pages) (sym order2) spelt;
@@ -189,6 +191,6 @@ pub listed : (X : Type 0) (items : X → List Element) (here now : TableView) (r
 listed X items here now (Ok list) same is call steady =
     let steady2 = ap (λ (t : TableView). t.pages.steady) same ∙ steady in
     let held = is.holds steady2 in
-    call steady2 held.es held.us held.fills.holds ∙ sym (entries-contents_of held.es held.fills.holds.ascends) ∙ ap maps.entries (sym (held_contents (at here.pages.pages) here.tree held.es held.us is.most_order held.fills.holds))
+    call steady2 held.es held.us held.fills.holds ∙ sym (entries-contents_of held.es held.fills.holds.ascends) ∙ ap maps.entries (sym (held_contents (at here.pages.pages) here.tree held.es held.us is.tree.order.1 held.fills.holds))
     ∙ ap (λ (t : TableView). maps.entries (table_contents t)) same
 listed X items here now (Err fault) same is call steady = tt

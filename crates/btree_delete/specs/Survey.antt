@@ -3,6 +3,7 @@ use Rattle.std.specs.Prelude.{◌≡◌, ℕ, zero, suc, ◌+◌, ◌-◌, ◌<�
 use Rattle.page_store.specs.PageMap.{PageMap, at}
 use Rattle.page_store.specs.Calls.{counted_times}
 use Rattle.btree_node.specs.Lists.{Element, Ascends}
+use Rattle.btree_insert.specs.Sizes.{greatest_height}
 use Rattle.btree_insert.specs.declared.bounds.Bounds.{Bounds}
 use Rattle.btree_insert.specs.declared.tree.Tree.{Tree}
 use Rattle.btree_insert.specs.Bounds.{Between}
@@ -97,7 +98,7 @@ pub record WentThrough (k : ℕ) (pages : PageMap) (count root : ℕ) (new : See
   pub es : List Element
   pub us : List ℕ
   pub rooted : IsRooted k pages root height es us
-  pub low : height ≤ 19
+  pub low : height ≤ greatest_height
   pub is : new ≡ seen_of count height es us
   pub read : reads' ≡ counted_times reads (length us)
 
@@ -112,6 +113,6 @@ pub record Measured (k : ℕ) (pages : List (Option (List ℕ))) (root : ℕ) (t
   pub holds : Holds (at pages) tree es us
   pub order : tree.order ≡ k
   pub root_is : tree.root ≡ root
-  pub low : tree.height ≤ 19
+  pub low : tree.height ≤ greatest_height
   pub others : AreFree (length pages) us free
   pub read : reads' ≡ counted_times reads tree.used

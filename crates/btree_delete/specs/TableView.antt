@@ -5,13 +5,14 @@ use Rattle.page_store.specs.PagesView.{PagesView}
 use Rattle.btree_node.specs.declared.header.Header.{Header}
 use Rattle.btree_node.specs.Lists.{Element}
 use Rattle.btree_insert.specs.declared.tree.Tree.{Tree}
+use Rattle.btree_insert.specs.Sizes.{IsTree}
 use Rattle.btree_insert.specs.PageTrees.{IsIn, Holds}
 use Rattle.btree_insert.specs.Spelt.{AreSpeltIn}
 use Rattle.btree_insert.specs.Contents.{contents_of}
 use Rattle.btree_insert.specs.Elements.{contents_at}
 use Rattle.rec_types.specs.Contents.{Contents}
+use Rattle.rec_types.specs.LimitBounds.{most_records}
 use Rattle.rec_types.specs.Table.{Damages}
-use Rattle.btree_node.specs.Layout.{greatest_order}
 use Rattle.btree_delete.specs.CleanFile.{IsCleanFile}
 
 -- the pages, the tree in them, how many records there may be, how many calls a refused growth ended, and what was told of damaged pages
@@ -47,13 +48,9 @@ pub record IsClosed (stored : List (List ℕ)) (tail : ℕ) (tree : Tree) (conte
 
 -- sizes within the limits; each page in memory spells a node; over a steady store the pages hold the tree, and where nothing was changed the store has them
 pub record IsTable (t : TableView) : Type 0 where
-  pub some_order : 1 ≤ t.tree.order
-  pub most_order : t.tree.order ≤ greatest_order
-  pub low : t.tree.height ≤ 19
-  pub used : t.tree.used ≤ 1000000
-  pub small : t.tree.count ≤ 1000000
+  pub tree : IsTree t.tree
   pub count : IsTrue t.pages.steady → t.tree.count ≤ t.limit
-  pub limit : t.limit ≤ 1000000
+  pub limit : t.limit ≤ most_records
   pub spelt : AreSpeltIn t.tree.order t.pages
   pub holds : IsTrue t.pages.steady → HoldsTree t.pages t.tree
   pub closed : IsTrue t.pages.steady → t.pages.changed ≡ false → IsClosed t.pages.stored t.pages.tail t.tree (table_contents t)

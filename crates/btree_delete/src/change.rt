@@ -1,8 +1,10 @@
 ghost use Rattle.std.specs.Prelude.{◌≡◌, ◌≢◌, ◌+◌, ◌-◌, ◌*◌, ◌<◌, ◌≤◌, ◌↔◌, ℕ, List, Option, Some, None, true, false, IsTrue, IsSome, IsOk, IfOk, IfErr, OnErr, Ok, Err, MatchResult, length};
+ghost use Rattle.rec_types.specs.LimitBounds.{most_records};
 ghost use Rattle.rec_types.specs.Table.{counted, is_device};
 ghost use Rattle.page_store.specs.PageMap.{at};
 ghost use Rattle.btree_node.specs.Lists.{Element};
-ghost use Rattle.btree_node.specs.Layout.{greatest_order};
+ghost use Rattle.btree_node.specs.Layout.{IsOrder};
+ghost use Rattle.btree_insert.specs.Sizes.{IsTree, greatest_height, greatest_count};
 ghost use Rattle.btree_insert.specs.Contents.{lookup_in};
 ghost use Rattle.btree_insert.specs.PageTrees.{Holds};
 ghost use Rattle.btree_insert.specs.Spelt.{AreSpeltIn};
@@ -24,9 +26,8 @@ fn is_full_for<S: Store>(
     limit: u32,
     key: &Key,
 ) -> Result<bool, TableFault>
-    requires some_order { 1 ≤ tree.now.order }
-    requires most_order { tree.now.order ≤ greatest_order }
-    requires height { tree.now.height ≤ 19 }
+    requires order { IsOrder tree.now.order }
+    requires height { tree.now.height ≤ greatest_height }
     requires spelt { AreSpeltIn tree.now.order pages.old }
     ensures full { IsTrue pages.old.steady → (es : List Element) (us : List ℕ)
         → Holds (at pages.old.pages) tree.now es us
@@ -60,19 +61,15 @@ fn put<S: Store>(
     key: Key,
     value: Record,
 ) -> Result<(Tree, Option<Record>), TableFault>
-    requires some_order { 1 ≤ tree.now.order }
-    requires most_order { tree.now.order ≤ greatest_order }
-    requires height { tree.now.height ≤ 19 }
-    requires count { tree.now.count ≤ 1000000 }
-    requires used { tree.now.used ≤ 1000000 }
-    requires limit { limit ≤ 1000000 }
+    requires tree { IsTree tree.now }
+    requires limit { limit ≤ most_records }
     requires spelt { AreSpeltIn tree.now.order pages.old }
     ensures set { IsTrue pages.old.steady → (es : List Element) (us : List ℕ)
         → Fills pages.old.pages tree.now es us → tree.now.count ≤ limit
         → MatchResult result (λ r. IsSet pages.new.pages r.0 limit es key (Some value) r.1)
         (MayRefuse limit tree.now.count es key (Some value)) }
-    ensures small { IfOk result (λ r. (r.0.height ≤ 19) × (r.0.count ≤ 1000000)
-        × (r.0.used ≤ 1000000)) }
+    ensures small { IfOk result (λ r. (r.0.height ≤ greatest_height)
+        × (r.0.count ≤ greatest_count) × (r.0.used ≤ greatest_count)) }
     ensures spelt { AreSpeltIn tree.now.order pages.new }
     ensures order { IfOk result (λ r. r.0.order ≡ tree.now.order) }
     ensures changed { IsOk result → pages.new.changed ≡ true }
@@ -108,19 +105,15 @@ pub(crate) fn change<S: Store>(
     key: Key,
     to: Option<Record>,
 ) -> Result<(Tree, Option<Record>), TableFault>
-    requires some_order { 1 ≤ tree.now.order }
-    requires most_order { tree.now.order ≤ greatest_order }
-    requires height { tree.now.height ≤ 19 }
-    requires count { tree.now.count ≤ 1000000 }
-    requires used { tree.now.used ≤ 1000000 }
-    requires limit { limit ≤ 1000000 }
+    requires tree { IsTree tree.now }
+    requires limit { limit ≤ most_records }
     requires spelt { AreSpeltIn tree.now.order pages.old }
     ensures set { IsTrue pages.old.steady → (es : List Element) (us : List ℕ)
         → Fills pages.old.pages tree.now es us → tree.now.count ≤ limit
         → MatchResult result (λ r. IsSet pages.new.pages r.0 limit es key to r.1)
         (MayRefuse limit tree.now.count es key to) }
-    ensures small { IfOk result (λ r. (r.0.height ≤ 19) × (r.0.count ≤ 1000000)
-        × (r.0.used ≤ 1000000)) }
+    ensures small { IfOk result (λ r. (r.0.height ≤ greatest_height)
+        × (r.0.count ≤ greatest_count) × (r.0.used ≤ greatest_count)) }
     ensures spelt { AreSpeltIn tree.now.order pages.new }
     ensures order { IfOk result (λ r. r.0.order ≡ tree.now.order) }
     ensures taken_out_none { to ≡ None → IfOk result (λ r. r.1 ≡ None → (r.0 ≡ tree.now)

@@ -4,7 +4,8 @@ ghost use Rattle.std.specs.Ordering.{nat_cmp};
 ghost use Rattle.rec_types.specs.Table.{counted};
 ghost use Rattle.page_store.specs.PageMap.{at};
 ghost use Rattle.btree_node.specs.Lists.{Element};
-ghost use Rattle.btree_node.specs.Layout.{greatest_order};
+ghost use Rattle.btree_node.specs.Layout.{IsOrder};
+ghost use Rattle.btree_insert.specs.Sizes.{greatest_height, greatest_count};
 ghost use Rattle.btree_insert.specs.Faults.{is_device};
 ghost use Rattle.btree_insert.specs.Growth.{IsOutside};
 ghost use Rattle.btree_insert.specs.PageTrees.{Holds};
@@ -30,8 +31,7 @@ pub(crate) fn measure_tree<S: Store>(
     order: u16,
     root: u32,
 ) -> Result<(Tree, BTreeSet<u32>), TreeFault>
-    requires some_order { 1 ≤ order }
-    requires most_order { order ≤ greatest_order }
+    requires order { IsOrder order }
     requires idle { pages.old.changed ≡ false }
     ensures found { IsTrue pages.old.steady → IfOk result
         (λ r. Measured order pages.old.pages root r.0
@@ -41,8 +41,8 @@ pub(crate) fn measure_tree<S: Store>(
         → MatchResult result (λ r. r.0 ≡ tree) IsOutside }
     ensures free_fits { IfOk result (λ r. (n : ℕ) → IsTrue (contains nat_cmp r.1 n)
         → (1 ≤ n) × (n < length pages.old.pages)) }
-    ensures small { IfOk result (λ r. (r.0.order ≡ order) × (r.0.height ≤ 19)
-        × (r.0.used ≤ 1000000)) }
+    ensures small { IfOk result (λ r. (r.0.order ≡ order)
+        × (r.0.height ≤ greatest_height) × (r.0.used ≤ greatest_count)) }
     ensures device { pages.new.failures ≡ counted pages.old.failures (is_device result) }
     ensures unchanged { pages.new
         ≡ record pages.old { reads = pages.new.reads; failures = pages.new.failures } }
@@ -66,7 +66,7 @@ pub(crate) fn measure_tree<S: Store>(
 /// How many levels there are where the first leaf stands so far below the most.
 fn height_of(leaf: Option<u32>) -> u32
     ensures value { result ≡ height_of leaf }
-    ensures most { result ≤ 19 }
+    ensures most { result ≤ greatest_height }
 {
     match leaf {
         Some(level) => MOST_LEVELS.saturating_sub(level),
@@ -81,8 +81,7 @@ fn survey_root<S: Store>(
     order: u16,
     root: u32,
 ) -> Result<Survey, TreeFault>
-    requires some_order { 1 ≤ order }
-    requires most_order { order ≤ greatest_order }
+    requires order { IsOrder order }
     requires idle { pages.old.changed ≡ false }
     ensures found { IsTrue pages.old.steady → IfOk result (λ new. WentThrough order
         (at pages.old.pages) (length pages.old.pages) root new pages.old.reads pages.new.reads) }

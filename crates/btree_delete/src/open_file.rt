@@ -6,7 +6,8 @@ ghost use Rattle.page_store.specs.PageMap.{at};
 ghost use Rattle.page_store.specs.PagesView.{is_in_memory};
 ghost use Rattle.btree_node.specs.Lists.{Element};
 ghost use Rattle.btree_node.specs.declared.header.Header.{Header as HeaderValue};
-ghost use Rattle.btree_node.specs.Layout.{IsOrder, greatest_order};
+ghost use Rattle.btree_node.specs.Layout.{IsOrder};
+ghost use Rattle.btree_insert.specs.Sizes.{greatest_height, greatest_count};
 ghost use Rattle.btree_insert.specs.declared.tree.Tree.{Tree as TreeValue};
 ghost use Rattle.btree_delete.specs.CleanFile.{HasLength, Begins, HasTree, IsCleanFile, IsFirst, FailsTree, Opens, IsOutside, is_device, is_device_fault, tree_fault};
 ghost use Rattle.btree_delete.specs.Survey.{Measured};
@@ -48,8 +49,7 @@ fn measure_file<S: Store>(
     header: &Header,
     limit: u32,
 ) -> Result<(Tree, BTreeSet<u32>), OpenFault>
-    requires some_order { 1 ≤ header.now.order }
-    requires most_order { header.now.order ≤ greatest_order }
+    requires order { IsOrder header.now.order }
     requires idle { pages.old.changed ≡ false }
     ensures found { IsTrue pages.old.steady → IfOk result
         (λ r. Measured header.now.order pages.old.pages
@@ -63,8 +63,8 @@ fn measure_file<S: Store>(
         (FailsTree (at pages.old.pages) header.now limit) }
     ensures free_fits { IfOk result (λ r. (n : ℕ) → IsTrue (contains nat_cmp r.1 n)
         → (1 ≤ n) × (n < length pages.old.pages)) }
-    ensures small { IfOk result (λ r. (r.0.order ≡ header.now.order) × (r.0.height ≤ 19)
-        × (r.0.used ≤ 1000000)) }
+    ensures small { IfOk result (λ r. (r.0.order ≡ header.now.order)
+        × (r.0.height ≤ greatest_height) × (r.0.used ≤ greatest_count)) }
     ensures device { pages.new.failures ≡ counted pages.old.failures (is_device result) }
     ensures unchanged { pages.new
         ≡ record pages.old { reads = pages.new.reads; failures = pages.new.failures } }
@@ -125,8 +125,8 @@ pub(crate) fn open_file<S: Store>(
         → MatchResult result (λ r. r.1 ≡ tree) (λ stop. IsOutside stop.fault) }
     ensures fault { IsTrue (S.steady store) → IfErr result
         (λ stop. IsFirst (S.pages store) (S.tail store) limits.records stop.fault) }
-    ensures small { IfOk result (λ r. (1 ≤ r.1.order) × (r.1.order ≤ greatest_order)
-        × (r.1.height ≤ 19) × (r.1.used ≤ 1000000) × (r.1.count ≤ limits.records)) }
+    ensures small { IfOk result (λ r. IsOrder r.1.order × (r.1.height ≤ greatest_height)
+        × (r.1.used ≤ greatest_count) × (r.1.count ≤ limits.records)) }
     ensures idle { IfOk result (λ r. r.0.changed ≡ false) }
     ensures in_memory { IfOk result (λ r. (n : ℕ) → is_in_memory r.0 n ≡ false) }
     ensures stored { IfOk result (λ r. (r.0.stored ≡ S.pages store) × (r.0.tail ≡ S.tail store)

@@ -12,6 +12,7 @@ ghost use Rattle.btree_delete.specs.CleanFile.{IsCleanFile, IsFirst, Opens, IsOu
 ghost use Rattle.page_store.specs.Fronts.{tried};
 ghost use Rattle.page_store.specs.Journal.{noted, NotesFront, carried, untouched};
 ghost use Rattle.btree_node.specs.Layout.{greatest_order};
+ghost use Rattle.btree_insert.specs.Sizes.{greatest_height};
 ghost use Rattle.btree_delete.specs.Closing.{closing, IsNewOrFile, IsEither};
 ghost use Rattle.btree_delete.specs.TableView.{TableView, HoldsTree, IsClosed, table_contents};
 ghost use Rattle.btree_delete.specs.Created.{IsEmpty, IsCreated, IsCreateFault, is_create_device, is_create_device_fault};
@@ -294,7 +295,7 @@ impl<S: Store> TreeTable<S> {
     /// How many levels the tree has, at most 19.
     pub fn height(&self) -> u32
         ensures value { result ≡ self.now.tree.height }
-        ensures most { result ≤ 19 }
+        ensures most { result ≤ greatest_height }
     {
         self.tree.height
     }
