@@ -1,6 +1,7 @@
 -- Which lists of pages are a file that was closed, and why one is not opened.
 use Rattle.std.specs.Prelude.{◌≡◌, ℕ, ◌<◌, ◌≤◌, ◌⊎◌, ◌+◌, Bool, true, false, List, length, Some, None, IsSome, ◌==◌, if◌then◌else◌, Result, Ok, Err, slice_get}
 use Rattle.page_store.specs.Calls.{counted_times}
+use Rattle.page_store.specs.FreeNumbers.{greatest_page_count}
 use Rattle.page_store.specs.PageMap.{PageMap, at}
 use Rattle.page_store.specs.PagesView.{PagesView}
 use Rattle.page_store.specs.declared.page_edit.WriteFault.{WriteFault}
@@ -25,7 +26,7 @@ in_file stored n = if n == 0 then None else slice_get stored n
 pub record HasLength (stored : List (List ℕ)) (tail : ℕ) : Type 0 where
   pub no_tail : tail ≡ 0
   pub some : 1 ≤ length stored
-  pub most : length stored ≤ 1000001
+  pub most : length stored ≤ greatest_page_count
 
 -- page 0 spells the header of a closed file
 pub record HasHeader (stored : List (List ℕ)) (h : Header) : Type 0 where

@@ -72,15 +72,15 @@ pub record Surveyed (tree : ℕ → List Element → List ℕ → Type 0) (may :
 abbrev pub none_of : ℕ → List Bool
 none_of count = replicate count false
 
--- where the first leaf of a tree of a height stands: a tree has at most 19 levels
+-- where the first leaf of a tree of a height stands
 abbrev pub leaf_of : ℕ → Option ℕ
 leaf_of zero = None
-leaf_of (suc h) = Some (18 - h)
+leaf_of (suc h) = Some (greatest_height - 1 - h)
 
 -- the height of the tree whose first leaf stands there
 abbrev pub height_of : Option ℕ → ℕ
 height_of None = 0
-height_of (Some level) = 19 - level
+height_of (Some level) = greatest_height - level
 
 -- what was seen of the whole tree of a root
 abbrev pub seen_of : ℕ → ℕ → List Element → List ℕ → SeenSoFar

@@ -1,8 +1,9 @@
 -- What a deletion has visited, written and freed so far.
-use Rattle.std.specs.Prelude.{◌≡◌, ℕ, ◌+◌, ◌*◌, ◌≤◌, Bool, true, false, List, length, Option, IsSome, ◌==◌}
+use Rattle.std.specs.Prelude.{◌≡◌, ℕ, ◌+◌, ◌-◌, ◌*◌, ◌≤◌, Bool, true, false, List, length, Option, IsSome, ◌==◌}
 use Rattle.std.specs.List.{AllByRecursion, list_any}
 use Rattle.page_store.specs.PageMap.{at, is_written, is_freed}
 use Rattle.page_store.specs.declared.page_edit.PageEdit.{PageEdit}
+use Rattle.btree_insert.specs.Sizes.{greatest_height}
 
 -- what was written and what was freed so far
 pub record DoneSoFar : Type 0 where
@@ -22,6 +23,10 @@ pub record Visits : Type 0 where
 
 abbrev pub visits : List ℕ → List ℕ → Visits
 visits before now = record { before = before; now = now }
+
+-- the most pages that a deletion visits: one a level, and below the root a brother of each
+abbrev pub most_visited : ℕ
+most_visited = 2 * greatest_height - 1
 
 -- whether page q was visited
 abbrev pub is_visited : List ℕ → ℕ → Bool

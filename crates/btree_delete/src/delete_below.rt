@@ -10,14 +10,14 @@ ghost use Rattle.btree_insert.specs.Growth.{IsOutside};
 ghost use Rattle.btree_insert.specs.PageTrees.{TreeAt, Apart, Body, Spells, kind_of_level};
 ghost use Rattle.btree_delete.specs.Subtrees.{behind, head_of};
 ghost use Rattle.btree_delete.specs.Shrinking.{MayBeUnderfull, WritesOrHandsUp, UnderfullGoesUp, MayGoUp, TreatsAndSettles, RemovesBelow, gone, sought};
-ghost use Rattle.btree_delete.specs.Tidy.{is_visited, Untouched, IsTidy, IsVisit, visits, so_far};
+ghost use Rattle.btree_delete.specs.Tidy.{is_visited, Untouched, IsTidy, IsVisit, most_visited, visits, so_far};
 ghost use Rattle.btree_delete.specs.Treatment.{element_at, son_at, brothers};
 ghost use Rattle.btree_delete.specs.PagesLeft.{with_edit};
 ghost use Rattle.btree_node.specs.Layout.{IsOrder};
 
 use crate::subtree::{Subtree, tree_left, tree_of_son};
 use crate::underflow::{set_element, treat_underflow};
-use crate::visit::visit;
+use crate::visit::{MOST_VISITED, visit};
 use arrayvec::ArrayVec;
 use btree_insert::{TreeFault, write_node};
 use btree_node::{Node, place_of};
@@ -63,7 +63,7 @@ fn settle(
 fn treat_and_settle<S: Store>(
     pages: &mut Pages<S>,
     edit: &mut PageEdit,
-    visited: &mut ArrayVec<u32, 37>,
+    visited: &mut ArrayVec<u32, MOST_VISITED>,
     tree: &Subtree,
     mut father: Node,
     i: usize,
@@ -71,7 +71,7 @@ fn treat_and_settle<S: Store>(
 ) -> Result<Shrunk, TreeFault>
     requires order { IsOrder tree.now.order }
     requires height { 2 ≤ tree.now.height }
-    requires room { length visited.old.items < 37 }
+    requires room { length visited.old.items < most_visited }
     requires father { MayBeUnderfull tree.now.order tree.now.height tree.now.bounds father }
     requires some { 0 < length father.elements.items }
     requires place { i ≤ length father.elements.items }
@@ -158,7 +158,7 @@ fn place_to_take(node: &Node, height: u32, key: &Option<Key>) -> Result<usize, u
 fn delete_here<S: Store>(
     pages: &mut Pages<S>,
     edit: &mut PageEdit,
-    visited: &mut ArrayVec<u32, 37>,
+    visited: &mut ArrayVec<u32, MOST_VISITED>,
     tree: &Subtree,
     mut node: Node,
     i: usize,
@@ -236,7 +236,7 @@ fn delete_here<S: Store>(
 pub(crate) fn delete_below<S: Store>(
     pages: &mut Pages<S>,
     edit: &mut PageEdit,
-    visited: &mut ArrayVec<u32, 37>,
+    visited: &mut ArrayVec<u32, MOST_VISITED>,
     tree: &Subtree,
     key: &Option<Key>,
 ) -> Result<Option<Shrunk>, TreeFault>

@@ -2,6 +2,7 @@ ghost use Rattle.std.specs.Prelude.{◌≡◌, ◌-◌, ◌<◌, ◌≤◌, ℕ,
 ghost use Rattle.std.specs.BTreeSet.{contains};
 ghost use Rattle.std.specs.Ordering.{nat_cmp};
 ghost use Rattle.rec_types.specs.Table.{counted};
+ghost use Rattle.page_store.specs.FreeNumbers.{greatest_page_count};
 ghost use Rattle.page_store.specs.PageMap.{at};
 ghost use Rattle.btree_node.specs.Lists.{Element};
 ghost use Rattle.btree_node.specs.Layout.{IsOrder};
@@ -14,13 +15,10 @@ ghost use Rattle.btree_delete.specs.Survey.{height_of, seen_of, IsRooted, WentTh
 
 use crate::free_numbers::free_numbers;
 use crate::survey::{Above, Survey, survey_page};
-use btree_insert::{Bounds, Tree, TreeFault};
+use btree_insert::{Bounds, GREATEST_HEIGHT, Tree, TreeFault};
 use page_store::{Pages, Store};
 use std::alloc::Global;
 use std::collections::BTreeSet;
-
-/// A tree has at most so many levels.
-const MOST_LEVELS: u32 = 19;
 
 /// The tree of a root as the pages hold it, and the numbers that none of its pages has. It reads each
 /// page of the tree once, and takes memory before the first read and after the last. Faults: Device;
@@ -69,7 +67,7 @@ fn height_of(leaf: Option<u32>) -> u32
     ensures most { result ≤ greatest_height }
 {
     match leaf {
-        Some(level) => MOST_LEVELS.saturating_sub(level),
+        Some(level) => GREATEST_HEIGHT.saturating_sub(level),
         None => 0,
     }
 }
@@ -91,7 +89,7 @@ fn survey_root<S: Store>(
         IsOutside }
     ensures long { IfOk result (λ new. length new.reached ≡ length pages.old.pages) }
     ensures some { 1 ≤ length pages.old.pages }
-    ensures most { length pages.old.pages ≤ 1000001 }
+    ensures most { length pages.old.pages ≤ greatest_page_count }
     ensures header { at pages.old.pages 0 ≡ None }
     ensures device { pages.new.failures ≡ counted pages.old.failures (is_device result) }
     ensures unchanged { pages.new
@@ -107,7 +105,7 @@ fn survey_root<S: Store>(
     }
     let above = Above {
         from: root,
-        left: MOST_LEVELS - 1,
+        left: GREATEST_HEIGHT - 1,
         bounds: Bounds {
             low: None,
             high: None,

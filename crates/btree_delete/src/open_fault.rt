@@ -4,8 +4,10 @@ ghost use Rattle.btree_node.specs.declared.header.Header.{Header as HeaderValue}
 ghost use Rattle.btree_node.specs.Layout.{IsOrder};
 ghost use Rattle.btree_delete.specs.CleanFile.{HasLength, HasHeader, Agrees, Begins, IsFirst, header_fault, is_device};
 
+use btree_insert::GREATEST_PAGE_COUNT;
 use btree_node::{Header, HeaderFault, read_header};
 use page_store::Store;
+use rec_types::PAGE_WIDTH;
 use thiserror::Error;
 
 /// Why a file was not opened. Device and Memory are answered where they are met, the others in this
@@ -36,9 +38,6 @@ pub enum OpenFault {
     Memory,
 }
 
-/// The most pages of a file, page 0 included.
-const MOST_PAGES: u64 = 1_000_001;
-
 /// How many pages the file has: 1 to 1,000,001, with no bytes after them. Faults: Device, BadLength.
 pub(crate) fn check_length<S: Store>(store: &mut S) -> Result<u32, OpenFault>
     ensures ok { IfOk result (λ pages. HasLength (S.pages store.old) (S.tail store.old)
@@ -57,7 +56,7 @@ pub(crate) fn check_length<S: Store>(store: &mut S) -> Result<u32, OpenFault>
     let Ok(shape) = store.shape() else {
         return Err(OpenFault::Device);
     };
-    if shape.tail != 0 || shape.pages == 0 || shape.pages > MOST_PAGES {
+    if shape.tail != 0 || shape.pages == 0 || shape.pages > u64::from(GREATEST_PAGE_COUNT) {
         return Err(OpenFault::BadLength);
     }
     Ok(shape.pages as u32)
@@ -99,7 +98,7 @@ pub(crate) fn check_header<S: Store>(store: &mut S, pages: u32) -> Result<Header
     ensures failures { S.failures store.new ≡ counted (S.failures store.old) (is_device result) }
     ensures journal { S.journal store.new ≡ S.journal store.old }
 {
-    let mut page = [0; 4096];
+    let mut page = [0; PAGE_WIDTH];
     if store.read(0, &mut page).is_err() {
         return Err(OpenFault::Device);
     }

@@ -4,7 +4,7 @@ ghost use Rattle.page_store.specs.PageMap.{at};
 ghost use Rattle.btree_node.specs.Lists.{Element};
 ghost use Rattle.btree_node.specs.Spelling.{CanStand};
 ghost use Rattle.btree_node.specs.declared.node.Node.{Node};
-ghost use Rattle.btree_node.specs.Layout.{greatest_order};
+ghost use Rattle.btree_node.specs.Layout.{greatest_order, most_keys};
 ghost use Rattle.btree_insert.specs.Bounds.{AreWithin, Between};
 ghost use Rattle.btree_insert.specs.Faults.{is_device};
 ghost use Rattle.btree_insert.specs.PageTrees.{Spells};
@@ -13,7 +13,7 @@ ghost use Rattle.btree_delete.specs.Survey.{SeenSoFar, unreached, after, below_p
 use btree_insert::{Bounds, TreeFault, are_within};
 use btree_node::{Node, NodeKind, decode_into};
 use page_store::{FetchFault, Pages, Store};
-use rec_types::{Key, Record};
+use rec_types::{Key, PAGE_WIDTH, Record};
 use std::marker::Model;
 
 /// What a walk has seen: which pages it reached, where the first leaf stood, how many keys there are.
@@ -158,7 +158,7 @@ fn read_page<S: Store>(
         ≡ record pages.old { reads = pages.new.reads; failures = pages.new.failures } }
     ensures one_read { OnOk result (pages.new.reads ≡ counted pages.old.reads true) }
 {
-    let mut page = [0; 4096];
+    let mut page = [0; PAGE_WIDTH];
     match pages.fetch(n, &mut page) {
         Ok(()) => {}
         Err(FetchFault::Device) => return Err(TreeFault::Device),
@@ -188,7 +188,7 @@ pub(crate) fn survey_page<S: Store>(
 ) -> Result<(), TreeFault>
     requires order { order ≤ greatest_order }
     requires idle { pages.old.changed ≡ false }
-    requires room { survey.old.keys + 32 * unreached survey.old.reached < 2 ^ 32 }
+    requires room { survey.old.keys + most_keys * unreached survey.old.reached < 2 ^ 32 }
     ensures found { IsTrue pages.old.steady → OnOk result
         (Surveyed (below_page order (at pages.old.pages) least n)
         (allowed above.now.left above.now.bounds) survey.old survey.new
@@ -199,8 +199,8 @@ pub(crate) fn survey_page<S: Store>(
         → MatchResult result (λ _. survey.new ≡ after level es us survey.old)
         (λ fault. fault ≡ TreeFault.Device) }
     ensures no_memory { IfErr result (λ fault. fault ≢ TreeFault.Memory) }
-    ensures room { OnOk result (survey.new.keys + 32 * unreached survey.new.reached
-        ≤ survey.old.keys + 32 * unreached survey.old.reached) }
+    ensures room { OnOk result (survey.new.keys + most_keys * unreached survey.new.reached
+        ≤ survey.old.keys + most_keys * unreached survey.old.reached) }
     ensures long { length survey.new.reached ≡ length survey.old.reached }
     ensures device { pages.new.failures ≡ counted pages.old.failures (is_device result) }
     ensures unchanged { pages.new
@@ -248,7 +248,7 @@ fn survey_sons<S: Store>(
     requires order { order ≤ greatest_order }
     requires idle { pages.old.changed ≡ false }
     requires sons { length sons.now ≡ length elements.now + 1 }
-    requires room { survey.old.keys + length elements.now + 32 * unreached survey.old.reached
+    requires room { survey.old.keys + length elements.now + most_keys * unreached survey.old.reached
         < 2 ^ 32 }
     ensures found { IsTrue pages.old.steady → Between above.now.bounds elements.now → OnOk result
         (Surveyed (below_sons order (at pages.old.pages) sons.now elements.now)
@@ -260,8 +260,8 @@ fn survey_sons<S: Store>(
         → MatchResult result (λ _. survey.new ≡ after level es us survey.old)
         (λ fault. fault ≡ TreeFault.Device) }
     ensures no_memory { IfErr result (λ fault. fault ≢ TreeFault.Memory) }
-    ensures room { OnOk result (survey.new.keys + 32 * unreached survey.new.reached
-        ≤ survey.old.keys + length elements.now + 32 * unreached survey.old.reached) }
+    ensures room { OnOk result (survey.new.keys + most_keys * unreached survey.new.reached
+        ≤ survey.old.keys + length elements.now + most_keys * unreached survey.old.reached) }
     ensures long { length survey.new.reached ≡ length survey.old.reached }
     ensures device { pages.new.failures ≡ counted pages.old.failures (is_device result) }
     ensures unchanged { pages.new

@@ -21,7 +21,7 @@ use crate::change::change;
 use crate::fault_counts::{FaultCounts, NO_FAULTS, told};
 use crate::open_file::{OpenStop, open_file};
 use btree_insert::{Tree, look_up, walk};
-use btree_node::{Header, write_header};
+use btree_node::{GREATEST_ORDER, Header, write_header};
 use page_store::{PageEdit, Pages, Store, WriteFault};
 use rec_types::{Key, Limits, Record, Table, TableFault, TableState};
 use std::alloc::Global;
@@ -145,7 +145,7 @@ impl<S: Store> TreeTable<S> {
             ≡ counted (S.failures store) (is_create_device_fault stop.fault)) }
     {
         let mut store = store;
-        if !(1..=16).contains(&k) {
+        if !(1..=GREATEST_ORDER).contains(&k) {
             let fault = CreateFault::BadOrder;
             return Err(CreateStop { store, fault });
         }

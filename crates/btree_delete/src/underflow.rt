@@ -11,11 +11,11 @@ ghost use Rattle.btree_insert.specs.Growth.{IsOutside};
 ghost use Rattle.btree_insert.specs.PageTrees.{Spells, kind_of_level};
 ghost use Rattle.btree_delete.specs.Treatment.{element_at, son_at, both, Treats, brothers};
 ghost use Rattle.btree_delete.specs.Shrinking.{MayBeUnderfull};
-ghost use Rattle.btree_delete.specs.Tidy.{is_visited, Untouched, IsTidy, so_far};
+ghost use Rattle.btree_delete.specs.Tidy.{is_visited, Untouched, IsTidy, most_visited, so_far};
 ghost use Rattle.btree_node.specs.Layout.{IsOrder};
 
 use crate::subtree::{Subtree, tree_of_son};
-use crate::visit::visit;
+use crate::visit::{MOST_VISITED, visit};
 use arrayvec::ArrayVec;
 use btree_insert::{TreeFault, write_node};
 use btree_node::{Node, catenate, distribute};
@@ -87,7 +87,7 @@ fn treat_pair(
 pub(crate) fn treat_underflow<S: Store>(
     pages: &mut Pages<S>,
     edit: &mut PageEdit,
-    visited: &mut ArrayVec<u32, 37>,
+    visited: &mut ArrayVec<u32, MOST_VISITED>,
     tree: &Subtree,
     father: &mut Node,
     i: usize,
@@ -95,7 +95,7 @@ pub(crate) fn treat_underflow<S: Store>(
 ) -> Result<(), TreeFault>
     requires order { IsOrder tree.now.order }
     requires height { 2 ≤ tree.now.height }
-    requires room { length visited.old.items < 37 }
+    requires room { length visited.old.items < most_visited }
     requires father { MayBeUnderfull tree.now.order tree.now.height tree.now.bounds father.old }
     requires some { 0 < length father.old.elements.items }
     requires place { i ≤ length father.old.elements.items }

@@ -6,26 +6,29 @@ ghost use Rattle.btree_insert.specs.Bounds.{AreWithin};
 ghost use Rattle.btree_insert.specs.Faults.{is_device};
 ghost use Rattle.btree_insert.specs.PageTrees.{Spells, kind_of_level};
 ghost use Rattle.btree_delete.specs.Shrinking.{MayBeUnderfull};
-ghost use Rattle.btree_delete.specs.Tidy.{is_visited};
+ghost use Rattle.btree_delete.specs.Tidy.{is_visited, most_visited};
 ghost use Rattle.btree_node.specs.Layout.{greatest_order};
 
 use crate::subtree::Subtree;
 use arrayvec::ArrayVec;
-use btree_insert::{TreeFault, kind_of_level, read_into, was_visited};
+use btree_insert::{GREATEST_HEIGHT, TreeFault, kind_of_level, read_into, was_visited};
 use btree_node::Node;
 use page_store::{Pages, Store};
+
+/// The most pages that a deletion visits: one a level, and below the root a brother of each.
+pub(crate) const MOST_VISITED: usize = 2 * GREATEST_HEIGHT as usize - 1;
 
 /// Fills the node with that at the head of a tree, with its keys within the bounds. `visited` gains the
 /// page. Faults: Device, and Damaged with the page where it was visited before, is not in use or spells no
 /// such node; the node may then be any.
 pub(crate) fn visit<S: Store>(
     pages: &mut Pages<S>,
-    visited: &mut ArrayVec<u32, 37>,
+    visited: &mut ArrayVec<u32, MOST_VISITED>,
     tree: &Subtree,
     node: &mut Node,
 ) -> Result<(), TreeFault>
     requires order { tree.now.order ≤ greatest_order }
-    requires room { length visited.old.items < 37 }
+    requires room { length visited.old.items < most_visited }
     ensures exact { IsTrue pages.old.steady → (m : Node)
         → Spells tree.now.order (at pages.old.pages) tree.now.page m
         → m.kind ≡ kind_of_level tree.now.height

@@ -17,7 +17,7 @@ ghost use Rattle.btree_insert.specs.Steps.{IsKnown};
 ghost use Rattle.btree_insert.specs.PagesGrown.{edited};
 
 use crate::step::{Spot, Step, take_step};
-use crate::tree::TreeFault;
+use crate::tree::{PATH_ROOM, TreeFault};
 use arrayvec::ArrayVec;
 use btree_node::{Node, decode_into, encode, split};
 use page_store::{PageEdit, Pages, Store};
@@ -113,7 +113,7 @@ fn fill_node<S: Store>(pages: &Pages<S>, order: u16, n: u32, in_place: bool, nod
 pub(crate) fn insert_below<S: Store>(
     pages: &mut Pages<S>,
     edit: &mut PageEdit,
-    visited: &mut ArrayVec<u32, 19>,
+    visited: &mut ArrayVec<u32, PATH_ROOM>,
     order: u16,
     spot: &Spot,
     element: (Key, Record),
@@ -124,7 +124,7 @@ pub(crate) fn insert_below<S: Store>(
     requires levels { length visited.old.items + spot.now.level ≤ greatest_height }
     requires element { IsElement element }
     requires within { IsWithin spot.now.bounds element.0 }
-    requires taken { edit.old.taken ≤ 50 }
+    requires taken { edit.old.taken ≤ greatest_height }
     requires fits { WritesFit pages.old.pages edit.old.writes.items edit.old.taken }
     requires spelt { IsTrue in_place → AreSpeltIn order pages.old }
     ensures grew { IsTrue pages.old.steady → edit.old.writes.items ≡ []

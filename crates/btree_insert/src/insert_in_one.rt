@@ -15,7 +15,7 @@ ghost use Rattle.btree_insert.specs.PagesGrown.{edited};
 use crate::step::{Spot, Step, step_in_page};
 use btree_node::{count_in, insert_in, replace_in};
 use page_store::{PageEdit, Pages, Store};
-use rec_types::{Key, Memory, Record};
+use rec_types::{Key, Memory, PAGE_WIDTH, Record};
 
 /// The one page that an insertion changed.
 #[derive(Clone, Copy)]
@@ -98,7 +98,7 @@ fn write_replaced(
     edit: &mut PageEdit,
     order: u16,
     n: u32,
-    page: &[u8; 4096],
+    page: &[u8; PAGE_WIDTH],
     i: usize,
     element: (Key, Record),
 ) -> Result<(), Memory>
@@ -122,7 +122,12 @@ fn write_replaced(
 }
 
 /// Adds a page to the edit as page n.
-fn write_page(edit: &mut PageEdit, order: u16, n: u32, page: &[u8; 4096]) -> Result<(), Memory>
+fn write_page(
+    edit: &mut PageEdit,
+    order: u16,
+    n: u32,
+    page: &[u8; PAGE_WIDTH],
+) -> Result<(), Memory>
     requires { IsSpelt order page.now }
     ensures writes { OnOk result
         (edit.new.writes.items ≡ edit.old.writes.items ++ (n, page.now) ∷ []) }
@@ -139,7 +144,7 @@ fn write_inserted(
     edit: &mut PageEdit,
     order: u16,
     n: u32,
-    page: &[u8; 4096],
+    page: &[u8; PAGE_WIDTH],
     i: usize,
     element: (Key, Record),
 ) -> Result<(), Memory>

@@ -10,7 +10,7 @@ ghost use Rattle.btree_insert.specs.Inserted.{leaf_of, root_of, Inserted, IsSmal
 ghost use Rattle.btree_insert.specs.PageTrees.{Holds, tree_below};
 ghost use Rattle.btree_insert.specs.Spelt.{AreSpeltIn};
 ghost use Rattle.btree_node.specs.Layout.{greatest_order};
-ghost use Rattle.btree_insert.specs.Sizes.{IsTree, greatest_count};
+ghost use Rattle.btree_insert.specs.Sizes.{IsTree, greatest_count, greatest_height};
 ghost use Rattle.btree_insert.specs.PagesGrown.{edited, taking};
 
 use crate::bounds::Bounds;
@@ -19,9 +19,9 @@ use crate::insert_in_one::insert_in_one;
 use crate::step::Spot;
 use crate::tree::{GREATEST_COUNT, GREATEST_HEIGHT, GREATEST_PAGE_COUNT, Tree, TreeFault};
 use arrayvec::ArrayVec;
-use btree_node::{KEY_WIDTH, Node, NodeKind, RECORD_WIDTH};
+use btree_node::{Node, NodeKind};
 use page_store::{PageEdit, Pages, Store};
-use rec_types::{Key, Memory, Record};
+use rec_types::{KEY_WIDTH, Key, Memory, RECORD_WIDTH, Record};
 use std::alloc::Global;
 
 /// A tree after an insertion that is not in place yet.
@@ -43,7 +43,7 @@ fn add_node<S: Store>(
 ) -> Result<u32, Memory>
     requires order { order ≤ greatest_order }
     requires stands { CanStand node.now order }
-    requires taken { edit.old.taken ≤ 100 }
+    requires taken { edit.old.taken ≤ greatest_height + 1 }
     requires fits { WritesFit pages.now.pages edit.old.writes.items edit.old.taken }
     ensures number { IfOk result (λ n. n ≡ candidate pages.now.pages edit.old.taken) }
     ensures writes { IfOk result (λ n. edit.new.writes.items
@@ -89,7 +89,7 @@ fn root_node(left: u32, middle: (Key, Record), right: u32) -> Node
 
 /// Whether a tree, and a page count after so many numbers were taken, are within their limits.
 fn is_small<S: Store>(pages: &Pages<S>, tree: &Tree, taken: u32) -> bool
-    requires { taken ≤ 100 }
+    requires { taken ≤ greatest_height + 1 }
     ensures { IsTrue result ↔ IsSmall tree.now (count_after pages.now.pages taken) }
 {
     let count = pages.page_count() + taken.saturating_sub(pages.free_count());
@@ -120,7 +120,7 @@ fn grow_tree<S: Store>(
         element.0 element.1 (changed.tree, changed.old))
         IsOutside }
     ensures fits { OnOk result (WritesFit pages.old.pages edit.new.writes.items edit.new.taken) }
-    ensures few { OnOk result (edit.new.taken ≤ 20) }
+    ensures few { OnOk result (edit.new.taken ≤ greatest_height + 1) }
     ensures order { IfOk result (λ changed. changed.tree.order ≡ tree.now.order) }
     ensures used { IfOk result (λ changed. changed.tree.used ≡ tree.now.used + edit.new.taken) }
     ensures spelt { AreSpelt tree.now.order edit.old.writes.items
@@ -165,7 +165,7 @@ fn grow_below<S: Store>(
         element.0 element.1 (changed.tree, changed.old))
         IsOutside }
     ensures fits { OnOk result (WritesFit pages.old.pages edit.new.writes.items edit.new.taken) }
-    ensures few { OnOk result (edit.new.taken ≤ 20) }
+    ensures few { OnOk result (edit.new.taken ≤ greatest_height + 1) }
     ensures order { IfOk result (λ changed. changed.tree.order ≡ tree.now.order) }
     ensures used { IfOk result (λ changed. changed.tree.used ≡ tree.now.used + edit.new.taken) }
     ensures spelt { AreSpelt tree.now.order edit.old.writes.items
@@ -217,7 +217,7 @@ fn grow_in_one<S: Store>(
         tree.now es us element.0 element.1 (changed.tree, changed.old))) }
     ensures none { result ≡ Ok None → edit.new ≡ edit.old }
     ensures fits { OnOk result (WritesFit pages.now.pages edit.new.writes.items edit.new.taken) }
-    ensures few { OnOk result (edit.new.taken ≤ 20) }
+    ensures few { OnOk result (edit.new.taken ≤ greatest_height + 1) }
     ensures order { IfOk result (λ r. IfSome r (λ changed.
         changed.tree.order ≡ tree.now.order)) }
     ensures used { IfOk result (λ r. IfSome r (λ changed.
@@ -275,7 +275,7 @@ fn changed_tree<S: Store>(
         (λ changed. Inserted (edited pages.now.pages 0 edit.new) tree.now es us key value
         (changed.tree, changed.old)) }
     ensures fits { OnOk result (WritesFit pages.now.pages edit.new.writes.items edit.new.taken) }
-    ensures few { OnOk result (edit.new.taken ≤ 20) }
+    ensures few { OnOk result (edit.new.taken ≤ greatest_height + 1) }
     ensures order { IfOk result (λ changed. changed.tree.order ≡ tree.now.order) }
     ensures used { IfOk result (λ changed. changed.tree.used ≡ tree.now.used + edit.new.taken) }
     ensures spelt { AreSpelt tree.now.order edit.old.writes.items
@@ -326,7 +326,7 @@ fn plant<S: Store>(
         (λ changed. Inserted (edited pages.now.pages 0 edit.new) tree.now es us
         element.0 element.1 (changed.tree, changed.old)) }
     ensures fits { OnOk result (WritesFit pages.now.pages edit.new.writes.items edit.new.taken) }
-    ensures few { OnOk result (edit.new.taken ≤ 20) }
+    ensures few { OnOk result (edit.new.taken ≤ greatest_height + 1) }
     ensures order { IfOk result (λ changed. changed.tree.order ≡ tree.now.order) }
     ensures used { IfOk result (λ changed. changed.tree.used ≡ tree.now.used + edit.new.taken) }
     ensures spelt { AreSpelt tree.now.order edit.old.writes.items
@@ -345,7 +345,7 @@ fn plant<S: Store>(
 fn grown_tree(tree: &Tree, root: u32, height: u32, taken: u32) -> Tree
     requires count { tree.now.count ≤ greatest_count }
     requires used { tree.now.used ≤ greatest_count }
-    requires taken { taken ≤ 100 }
+    requires taken { taken ≤ greatest_height + 1 }
     ensures { result ≡ record {
       order = tree.now.order;
       root = root;

@@ -12,6 +12,7 @@ use crate::bounds::{Bounds, are_within};
 use crate::tree::TreeFault;
 use btree_node::{Node, NodeKind, decode_into};
 use page_store::{FetchFault, Pages, Store};
+use rec_types::PAGE_WIDTH;
 
 /// Fills the node with that of page n, which is of a kind and has its keys within the bounds: nothing as
 /// large as a node is made or moved, and a page in memory is read where it lies. The condition is an
@@ -46,7 +47,7 @@ pub fn read_into<S: Store>(
     if let Some(page) = pages.in_memory(n) {
         return take_into(page, order, kind, n, bounds, node);
     }
-    let mut page = [0; 4096];
+    let mut page = [0; PAGE_WIDTH];
     match pages.fetch(n, &mut page) {
         Ok(()) => take_into(&page, order, kind, n, bounds, node),
         Err(FetchFault::Device) => Err(TreeFault::Device),
@@ -56,7 +57,7 @@ pub fn read_into<S: Store>(
 
 /// Fills the node with what the bytes of page n spell. Fault: Damaged(n).
 fn take_into(
-    page: &[u8; 4096],
+    page: &[u8; PAGE_WIDTH],
     order: u16,
     kind: NodeKind,
     n: u32,

@@ -17,7 +17,7 @@ use crate::reading::{kind_of_level, read_into};
 use crate::tree::TreeFault;
 use btree_node::{Node, count_in, key_in, kind_in, place_in, place_of, record_in, son_in};
 use page_store::{Pages, Store};
-use rec_types::{Key, Record};
+use rec_types::{Key, PAGE_WIDTH, Record};
 
 /// A page on the way down from a root.
 #[derive(Clone, Copy)]
@@ -103,7 +103,7 @@ fn step_in_node(node: &Node, spot: &Spot, key: &Key) -> Step
 /// The step from a page that spells a node. Fault: Damaged with the page where the node does not belong at
 /// the spot.
 pub(crate) fn step_in_page(
-    page: &[u8; 4096],
+    page: &[u8; PAGE_WIDTH],
     order: u16,
     spot: &Spot,
     key: &Key,
@@ -134,7 +134,7 @@ pub(crate) fn step_in_page(
 }
 
 /// Whether the keys of the node that the page spells are within the bounds.
-fn is_within(page: &[u8; 4096], order: u16, bounds: &Bounds) -> bool
+fn is_within(page: &[u8; PAGE_WIDTH], order: u16, bounds: &Bounds) -> bool
     requires order { order ≤ greatest_order }
     requires spelt { IsSpelt order page.now }
     ensures { (m : Node) → CanStand m order → page.now ≡ spelling m order
@@ -146,7 +146,7 @@ fn is_within(page: &[u8; 4096], order: u16, bounds: &Bounds) -> bool
 }
 
 /// The bounds of son i of the node that the page spells: the same as `bounds_of_son` of its elements.
-fn bounds_in(page: &[u8; 4096], order: u16, bounds: &Bounds, i: usize) -> Bounds
+fn bounds_in(page: &[u8; PAGE_WIDTH], order: u16, bounds: &Bounds, i: usize) -> Bounds
     requires order { order ≤ greatest_order }
     requires spelt { IsSpelt order page.now }
     requires index { i ≤ count_at page.now }
@@ -159,7 +159,7 @@ fn bounds_in(page: &[u8; 4096], order: u16, bounds: &Bounds, i: usize) -> Bounds
     }
 }
 
-fn low_in(page: &[u8; 4096], order: u16, low: &Option<Key>, i: usize) -> Option<Key>
+fn low_in(page: &[u8; PAGE_WIDTH], order: u16, low: &Option<Key>, i: usize) -> Option<Key>
     requires order { order ≤ greatest_order }
     requires spelt { IsSpelt order page.now }
     requires index { i ≤ count_at page.now }
@@ -173,7 +173,7 @@ fn low_in(page: &[u8; 4096], order: u16, low: &Option<Key>, i: usize) -> Option<
     }
 }
 
-fn high_in(page: &[u8; 4096], order: u16, high: &Option<Key>, i: usize) -> Option<Key>
+fn high_in(page: &[u8; PAGE_WIDTH], order: u16, high: &Option<Key>, i: usize) -> Option<Key>
     requires order { order ≤ greatest_order }
     requires spelt { IsSpelt order page.now }
     requires index { i ≤ count_at page.now }

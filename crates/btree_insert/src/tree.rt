@@ -4,6 +4,9 @@ use thiserror::Error;
 /// The most levels of a tree.
 pub const GREATEST_HEIGHT: u32 = 19;
 
+/// The pages on a way down a tree: one a level.
+pub const PATH_ROOM: usize = GREATEST_HEIGHT as usize;
+
 /// The most keys of a tree, and the most pages.
 pub const GREATEST_COUNT: u32 = 1_000_000;
 

@@ -2,10 +2,11 @@
 use Rattle.std.specs.Prelude.{◌≡◌, ℕ, ◌^◌, ◌<◌, ◌≤◌, List, [], ◌∷◌, ◌++◌, drop, slice_index, ◌⊎◌}
 use Rattle.byteorder.specs.Endian.{big_bytes}
 use Rattle.rec_types.specs.Padded.{padded}
+use Rattle.rec_types.specs.Widths.{page_width}
 use Rattle.btree_node.specs.declared.header.Header.{Header}
 use Rattle.btree_node.specs.declared.header.HeaderFault.{HeaderFault}
 use Rattle.btree_node.specs.declared.header.HeaderFault.TheVariants.{BadMagic, BadVersion, BadOrder, NotClean, BadHeader}
-use Rattle.btree_node.specs.Layout.{page_width, first_version, greatest_order}
+use Rattle.btree_node.specs.Layout.{first_version, greatest_order}
 use Rattle.btree_node.specs.Reading.{part, number_at, IsZero}
 
 -- the text BMKRFILE

@@ -1,14 +1,11 @@
 -- Where the parts of a node page stand.
 use Rattle.std.specs.Prelude.{ℕ, ◌+◌, ◌*◌, ◌≤◌}
+use Rattle.rec_types.specs.Widths.{key_width, widest_record}
 use Rattle.btree_node.specs.declared.layout.Layout.{Layout}
 
 -- the layout of the first file version: records of up to 32 bytes
 abbrev pub first_layout : Layout
-first_layout = record { record_width = 32 }
-
--- the bytes of the longest record, of any layout
-abbrev pub widest_record : ℕ
-widest_record = 32
+first_layout = record { record_width = widest_record }
 
 -- the number of the first file version
 abbrev pub first_version : ℕ
@@ -18,21 +15,17 @@ first_version = 1
 abbrev pub greatest_order : ℕ
 greatest_order = 16
 
+-- the most keys of a page, of any order
+abbrev pub most_keys : ℕ
+most_keys = 2 * greatest_order
+
 -- an order that a tree can have
 abbrev pub IsOrder : ℕ → Type 0
 IsOrder k = (1 ≤ k) × (k ≤ greatest_order)
 
--- the bytes of a page
-abbrev pub page_width : ℕ
-page_width = 4096
-
 -- the bytes before the first place
 abbrev pub head_width : ℕ
 head_width = 8
-
--- the bytes that a key may take
-abbrev pub key_width : ℕ
-key_width = 16
 
 -- where the record's length stands in a place, behind the key's length and the key
 abbrev pub record_at : ℕ

@@ -2,13 +2,14 @@
 use Rattle.std.specs.Prelude.{◌≡◌, ℕ, ◌+◌, ◌-◌, ◌*◌, ◌<◌, ◌≤◌, List, [], map, length, take, drop, slice_index, Option, Some, None, IsSome, unwrap_or, ◌==◌, if◌then◌else◌}
 use Rattle.std.specs.List.{range_with_len, All}
 use Rattle.byteorder.specs.Endian.{big_number}
+use Rattle.rec_types.specs.Widths.{key_width}
 use Rattle.btree_node.specs.declared.layout.Layout.{Layout}
 use Rattle.btree_node.specs.declared.node.Node.{Node}
 use Rattle.btree_node.specs.declared.node.NodeKind.{NodeKind}
 use Rattle.btree_node.specs.declared.node.NodeKind.TheVariants.{Leaf, Inner}
 use Rattle.btree_node.specs.declared.node.NodeFault.{NodeFault}
 use Rattle.btree_node.specs.declared.node.NodeFault.TheVariants.{Kind, Count, KeyLength, RecordLength, Order, Son, NotZero}
-use Rattle.btree_node.specs.Layout.{first_layout, key_width, record_at, place_width, place_start, sons_start}
+use Rattle.btree_node.specs.Layout.{first_layout, record_at, place_width, place_start, sons_start}
 use Rattle.btree_node.specs.Lists.{Element, Each, Ascends}
 
 -- some bytes of a page

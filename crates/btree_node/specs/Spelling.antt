@@ -3,11 +3,12 @@ use Rattle.std.specs.Prelude.{◌≡◌, ℕ, ◌+◌, ◌*◌, ◌^◌, ◌<◌
 use Rattle.std.specs.List.{flat_map}
 use Rattle.byteorder.specs.Endian.{big_bytes}
 use Rattle.rec_types.specs.Padded.{padded}
+use Rattle.rec_types.specs.Widths.{key_width, page_width}
 use Rattle.btree_node.specs.declared.layout.Layout.{Layout}
 use Rattle.btree_node.specs.declared.node.Node.{Node}
 use Rattle.btree_node.specs.declared.node.NodeKind.{NodeKind}
 use Rattle.btree_node.specs.declared.node.NodeKind.TheVariants.{Leaf, Inner}
-use Rattle.btree_node.specs.Layout.{first_layout, page_width, key_width, sons_start}
+use Rattle.btree_node.specs.Layout.{first_layout, sons_start}
 use Rattle.btree_node.specs.Lists.{Element, Each, Ascends}
 
 -- the bytes behind their number, padded to a width

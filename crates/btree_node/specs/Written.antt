@@ -1,6 +1,7 @@
 -- How the bytes written so far lie in a page, and what a page is after some of its bytes are written over.
 use Rattle.std.specs.Prelude.{◌≡◌, ℕ, ◌+◌, ◌≤◌, List, ◌++◌, length, take, drop}
 use Rattle.rec_types.specs.Padded.{padded}
+use Rattle.rec_types.specs.Widths.{page_width}
 use Rattle.btree_node.specs.Lists.{Element}
 use Rattle.btree_node.specs.declared.node.Node.{Node}
 use Rattle.btree_node.specs.declared.page_writer.PageWriter.TheInside.{Inside}
@@ -10,9 +11,9 @@ written w = take w.at w.page
 
 -- the rest of the page is zero
 pub record IsWriter (w : Inside) : Type 0 where
-  pub within : w.at ≤ 4096
-  pub whole : length w.page ≡ 4096
-  pub zeros : w.page ≡ padded 4096 (take w.at w.page)
+  pub within : w.at ≤ page_width
+  pub whole : length w.page ≡ page_width
+  pub zeros : w.page ≡ padded page_width (take w.at w.page)
 
 -- the page with bytes written over those from a place on
 unfoldable pub put_at : ℕ → List ℕ → List ℕ → List ℕ

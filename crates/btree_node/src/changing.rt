@@ -1,24 +1,25 @@
 ghost use Rattle.std.specs.Prelude.{◌≡◌, ◌+◌, ◌*◌, ◌<◌, ◌≤◌, length, replicate, slice_set};
 ghost use Rattle.std.specs.List.{insert};
-ghost use Rattle.btree_node.specs.Layout.{first_layout, greatest_order};
+ghost use Rattle.btree_node.specs.Layout.{first_layout, place_width, greatest_order};
 ghost use Rattle.btree_node.specs.Reading.{count_at};
 ghost use Rattle.btree_node.specs.Spelling.{field, place, spelling, CanStand, IsElement, IsSpelt};
 ghost use Rattle.btree_node.specs.Written.{put_at, with_elements};
 ghost use Rattle.byteorder.specs.Endian.{big_bytes};
+ghost use Rattle.rec_types.specs.Widths.{page_width};
 ghost use Rattle.btree_node.specs.declared.node.Node.{Node};
 
 use crate::decoding::count_of;
-use crate::layout::{FIRST_LAYOUT, KEY_WIDTH, RECORD_AT, RECORD_WIDTH};
+use crate::layout::{FIRST_LAYOUT, RECORD_AT};
 use crate::part::part_of;
 use byteorder::{BigEndian, ByteOrder};
-use rec_types::{Key, Record};
+use rec_types::{KEY_WIDTH, Key, PAGE_WIDTH, RECORD_WIDTH, Record};
 
 /// Where the number of keys stands in a page.
 const COUNT_AT: usize = 2;
 
 /// Puts another element in the place of element i of the node that the page spells, in a tree of order
 /// `k`.
-pub fn replace_in(page: &mut [u8; 4096], k: u16, i: usize, element: &(Key, Record))
+pub fn replace_in(page: &mut [u8; PAGE_WIDTH], k: u16, i: usize, element: &(Key, Record))
     requires order { k ≤ greatest_order }
     requires spelt { IsSpelt k page.old }
     requires element { IsElement element.now }
@@ -32,7 +33,13 @@ pub fn replace_in(page: &mut [u8; 4096], k: u16, i: usize, element: &(Key, Recor
 
 /// Puts an element before element i of the node that the page spells, in a tree of order `k`. The page
 /// has room for it; `was` is a copy of it, to move places from.
-pub fn insert_in(page: &mut [u8; 4096], was: &[u8; 4096], k: u16, i: usize, element: &(Key, Record))
+pub fn insert_in(
+    page: &mut [u8; PAGE_WIDTH],
+    was: &[u8; PAGE_WIDTH],
+    k: u16,
+    i: usize,
+    element: &(Key, Record),
+)
     requires order { k ≤ greatest_order }
     requires copy { was.now ≡ page.old }
     requires spelt { IsSpelt k page.old }
@@ -55,7 +62,7 @@ pub fn insert_in(page: &mut [u8; 4096], was: &[u8; 4096], k: u16, i: usize, elem
 }
 
 /// Writes the number of keys.
-fn put_count(page: &mut [u8; 4096], count: usize)
+fn put_count(page: &mut [u8; PAGE_WIDTH], count: usize)
     requires { count ≤ 65535 }
     ensures { page.new ≡ put_at 2 (big_bytes 2 count) page.old }
 {
@@ -66,9 +73,9 @@ fn put_count(page: &mut [u8; 4096], count: usize)
 
 /// Writes a place over the bytes from `at` on.
 #[tactic(auto, unfolding(crate::specs::Spelling::place))]
-fn put_place(page: &mut [u8; 4096], at: usize, element: &(Key, Record))
+fn put_place(page: &mut [u8; PAGE_WIDTH], at: usize, element: &(Key, Record))
     requires element { IsElement element.now }
-    requires room { at + 50 ≤ 4096 }
+    requires room { at + place_width first_layout ≤ page_width }
     ensures { page.new ≡ put_at at (place first_layout element.now) page.old }
 {
     put_field(page, at, element.0.bytes(), KEY_WIDTH);
@@ -77,10 +84,10 @@ fn put_place(page: &mut [u8; 4096], at: usize, element: &(Key, Record))
 
 /// Writes a field over the bytes from `at` on: the bytes behind their number, padded to a width below
 /// 256.
-fn put_field(page: &mut [u8; 4096], at: usize, bytes: &[u8], width: usize)
+fn put_field(page: &mut [u8; PAGE_WIDTH], at: usize, bytes: &[u8], width: usize)
     requires fits { length bytes.now ≤ width }
     requires short { width ≤ 255 }
-    requires room { at + (1 + width) ≤ 4096 }
+    requires room { at + (1 + width) ≤ page_width }
     ensures { page.new ≡ put_at at (field width bytes.now) page.old }
 {
     let end = at + 1 + bytes.len();
@@ -90,16 +97,16 @@ fn put_field(page: &mut [u8; 4096], at: usize, bytes: &[u8], width: usize)
 }
 
 /// Writes zeros over the bytes from `at` on.
-fn put_zeros(page: &mut [u8; 4096], at: usize, count: usize)
-    requires { at + count ≤ 4096 }
+fn put_zeros(page: &mut [u8; PAGE_WIDTH], at: usize, count: usize)
+    requires { at + count ≤ page_width }
     ensures { page.new ≡ put_at at (replicate count 0) page.old }
 {
     page[at..at + count].fill(0);
 }
 
 /// Writes bytes over those from `at` on.
-fn put_bytes(page: &mut [u8; 4096], at: usize, bytes: &[u8])
-    requires { at + length bytes.now ≤ 4096 }
+fn put_bytes(page: &mut [u8; PAGE_WIDTH], at: usize, bytes: &[u8])
+    requires { at + length bytes.now ≤ page_width }
     ensures { page.new ≡ put_at at bytes.now page.old }
 {
     page[at..at + bytes.len()].copy_from_slice(bytes);

@@ -1,5 +1,6 @@
 ghost use Rattle.std.specs.Prelude.{◌≡◌, ℕ, ◌+◌, ◌*◌, ◌^◌, ◌<◌, ◌≤◌, ◌↔◌, [], Ok, IfOk, IfErr, OnOk, IsOk, MatchResult, length, All, IsTrue};
-ghost use Rattle.btree_node.specs.Layout.{key_width, record_at, place_width, sons_start, widest_record, greatest_order};
+ghost use Rattle.rec_types.specs.Widths.{key_width, widest_record};
+ghost use Rattle.btree_node.specs.Layout.{record_at, place_width, sons_start, greatest_order, most_keys};
 ghost use Rattle.btree_node.specs.Lists.{Below, Ascends};
 ghost use Rattle.btree_node.specs.Spelling.{spelling, spelling_in, CanStand, CanStandIn};
 ghost use Rattle.btree_node.specs.Reading.{kind_at, count_at, place_at, element_in, elements_at, son_at, sons_at, sons_of_kind, kind_read, node_at, key_length, record_length, KeyLengths, RecordLengths, PassesBefore, FirstFault, FirstFaultIn};
@@ -7,16 +8,16 @@ ghost use Rattle.btree_node.specs.declared.node.Node.{Node};
 ghost use Rattle.btree_node.specs.declared.node.NodeFault.TheVariants.{NotZero};
 
 use crate::encoding::spell;
-use crate::layout::{FIRST_LAYOUT, KEY_WIDTH, Layout, RECORD_AT, SON_WIDTH};
-use crate::node::{Node, NodeFault, NodeKind};
+use crate::layout::{FIRST_LAYOUT, Layout, RECORD_AT, SON_WIDTH};
+use crate::node::{ELEMENT_ROOM, Node, NodeFault, NodeKind, SON_ROOM};
 use crate::part::{part_of, u16_of, u32_of};
 use crate::read_first::read_first;
 use arrayvec::ArrayVec;
-use rec_types::{Key, Record};
+use rec_types::{KEY_WIDTH, Key, PAGE_WIDTH, Record};
 
 /// The node that the page spells, in a tree of order `k`. The faults in their order: Kind, Count,
 /// KeyLength, RecordLength, Order, Son, NotZero.
-pub fn decode(page: &[u8; 4096], k: u16) -> Result<Node, NodeFault>
+pub fn decode(page: &[u8; PAGE_WIDTH], k: u16) -> Result<Node, NodeFault>
     requires { k ≤ greatest_order }
 
     // What is read is spelled so.
@@ -37,7 +38,7 @@ pub fn decode(page: &[u8; 4096], k: u16) -> Result<Node, NodeFault>
 
 /// The same as `decode`, into a node that there is: nothing as large as a node is made or moved. After
 /// a fault the node may be any.
-pub fn decode_into(page: &[u8; 4096], k: u16, node: &mut Node) -> Result<(), NodeFault>
+pub fn decode_into(page: &[u8; PAGE_WIDTH], k: u16, node: &mut Node) -> Result<(), NodeFault>
     requires { k ≤ greatest_order }
     ensures found { OnOk result (CanStand node.new k × (page.now ≡ spelling node.new k)) }
     ensures only { (n : Node) → CanStand n k → page.now ≡ spelling n k
@@ -54,7 +55,7 @@ pub fn decode_into(page: &[u8; 4096], k: u16, node: &mut Node) -> Result<(), Nod
 /// locals.
 #[cold]
 #[inline(never)]
-fn decode_by_tests(page: &[u8; 4096], k: u16, node: &mut Node) -> Result<(), NodeFault>
+fn decode_by_tests(page: &[u8; PAGE_WIDTH], k: u16, node: &mut Node) -> Result<(), NodeFault>
     requires { k ≤ greatest_order }
     ensures found { OnOk result (CanStand node.new k × (page.now ≡ spelling node.new k)) }
     ensures only { (n : Node) → CanStand n k → page.now ≡ spelling n k
@@ -71,7 +72,7 @@ fn decode_by_tests(page: &[u8; 4096], k: u16, node: &mut Node) -> Result<(), Nod
 }
 
 /// The node that the page spells in a layout.
-fn decode_in(layout: Layout, page: &[u8; 4096], k: u16) -> Result<Node, NodeFault>
+fn decode_in(layout: Layout, page: &[u8; PAGE_WIDTH], k: u16) -> Result<Node, NodeFault>
     requires width { layout.record_width ≤ widest_record }
     requires order { k ≤ greatest_order }
     ensures found { IfOk result (λ n. CanStandIn layout n k × (page.now ≡ spelling_in layout n k)) }
@@ -89,7 +90,7 @@ fn decode_in(layout: Layout, page: &[u8; 4096], k: u16) -> Result<Node, NodeFaul
 
 /// The node that stands at the fixed places of the page.
 #[tactic(auto, unfolding(crate::specs::Reading::Passes, crate::specs::Reading::node_at))]
-fn node_of(layout: Layout, page: &[u8; 4096], k: u16) -> Result<Node, NodeFault>
+fn node_of(layout: Layout, page: &[u8; PAGE_WIDTH], k: u16) -> Result<Node, NodeFault>
     requires width { layout.record_width ≤ widest_record }
     requires order { k ≤ greatest_order }
     ensures value { IfOk result (λ n. n ≡ node_at layout k page.now) }
@@ -126,7 +127,7 @@ fn node_of(layout: Layout, page: &[u8; 4096], k: u16) -> Result<Node, NodeFault>
 
 /// The kind of page that its first byte names.
 #[tactic(auto, unfolding(crate::specs::Reading::kind_at))]
-pub(crate) fn kind_of(page: &[u8; 4096]) -> Option<NodeKind>
+pub(crate) fn kind_of(page: &[u8; PAGE_WIDTH]) -> Option<NodeKind>
     ensures { result ≡ kind_at page.now }
 {
     match page[0] {
@@ -137,7 +138,7 @@ pub(crate) fn kind_of(page: &[u8; 4096]) -> Option<NodeKind>
 }
 
 /// The number of keys that its head names.
-pub(crate) fn count_of(page: &[u8; 4096]) -> usize
+pub(crate) fn count_of(page: &[u8; PAGE_WIDTH]) -> usize
     ensures { result ≡ count_at page.now }
 {
     u16_of(page, 2) as usize
@@ -152,9 +153,9 @@ pub(crate) fn count_fits(count: usize, k: u16) -> bool
 }
 
 /// The bytes of place i.
-pub(crate) fn place_of_page(layout: Layout, page: &[u8; 4096], i: usize) -> &[u8]
+pub(crate) fn place_of_page(layout: Layout, page: &[u8; PAGE_WIDTH], i: usize) -> &[u8]
     requires width { layout.record_width ≤ widest_record }
-    requires index { i < 32 }
+    requires index { i < most_keys }
     ensures value { result.now ≡ place_at layout page.now i }
     ensures len { length result.now ≡ place_width layout }
 {
@@ -162,9 +163,9 @@ pub(crate) fn place_of_page(layout: Layout, page: &[u8; 4096], i: usize) -> &[u8
 }
 
 #[tactic(auto, unfolding(crate::specs::Reading::key_length))]
-fn key_lengths_fit(layout: Layout, page: &[u8; 4096], count: usize) -> bool
+fn key_lengths_fit(layout: Layout, page: &[u8; PAGE_WIDTH], count: usize) -> bool
     requires width { layout.record_width ≤ widest_record }
-    requires count { count ≤ 32 }
+    requires count { count ≤ most_keys }
     ensures { IsTrue result ↔ KeyLengths layout page.now count }
 {
     for i in 0..count {
@@ -177,9 +178,9 @@ fn key_lengths_fit(layout: Layout, page: &[u8; 4096], count: usize) -> bool
 }
 
 #[tactic(auto, unfolding(crate::specs::Reading::record_length))]
-fn record_lengths_fit(layout: Layout, page: &[u8; 4096], count: usize) -> bool
+fn record_lengths_fit(layout: Layout, page: &[u8; PAGE_WIDTH], count: usize) -> bool
     requires width { layout.record_width ≤ widest_record }
-    requires count { count ≤ 32 }
+    requires count { count ≤ most_keys }
     ensures { IsTrue result ↔ RecordLengths layout page.now count }
 {
     for i in 0..count {
@@ -192,9 +193,13 @@ fn record_lengths_fit(layout: Layout, page: &[u8; 4096], count: usize) -> bool
 }
 
 #[tactic(auto, unfolding(crate::specs::Reading::elements_at))]
-fn elements_of(layout: Layout, page: &[u8; 4096], count: usize) -> ArrayVec<(Key, Record), 33>
+fn elements_of(
+    layout: Layout,
+    page: &[u8; PAGE_WIDTH],
+    count: usize,
+) -> ArrayVec<(Key, Record), ELEMENT_ROOM>
     requires width { layout.record_width ≤ widest_record }
-    requires count { count ≤ 32 }
+    requires count { count ≤ most_keys }
     requires keys { KeyLengths layout page.now count }
     requires records { RecordLengths layout page.now count }
     ensures { result.items ≡ elements_at layout page.now count }
@@ -241,14 +246,14 @@ pub(crate) fn is_below(low: &Key, high: &Key) -> bool
 
 fn sons_of(
     layout: Layout,
-    page: &[u8; 4096],
+    page: &[u8; PAGE_WIDTH],
     k: u16,
     kind: NodeKind,
     count: usize,
-) -> ArrayVec<u32, 34>
+) -> ArrayVec<u32, SON_ROOM>
     requires width { layout.record_width ≤ widest_record }
     requires order { k ≤ greatest_order }
-    requires count { count ≤ 32 }
+    requires count { count ≤ most_keys }
     ensures { result.items ≡ sons_of_kind kind layout k page.now count }
 {
     match kind {
@@ -257,10 +262,15 @@ fn sons_of(
     }
 }
 
-fn numbers_of(layout: Layout, page: &[u8; 4096], k: u16, count: usize) -> ArrayVec<u32, 34>
+fn numbers_of(
+    layout: Layout,
+    page: &[u8; PAGE_WIDTH],
+    k: u16,
+    count: usize,
+) -> ArrayVec<u32, SON_ROOM>
     requires width { layout.record_width ≤ widest_record }
     requires order { k ≤ greatest_order }
-    requires count { count ≤ 33 }
+    requires count { count ≤ most_keys + 1 }
     ensures { result.items ≡ sons_at layout k page.now count }
 {
     let mut sons = ArrayVec::new();
@@ -272,14 +282,14 @@ fn numbers_of(layout: Layout, page: &[u8; 4096], k: u16, count: usize) -> ArrayV
 #[tactic(auto, unfolding(crate::specs::Reading::sons_at))]
 pub(crate) fn push_sons(
     layout: Layout,
-    page: &[u8; 4096],
+    page: &[u8; PAGE_WIDTH],
     k: u16,
     count: usize,
-    sons: &mut ArrayVec<u32, 34>,
+    sons: &mut ArrayVec<u32, SON_ROOM>,
 )
     requires width { layout.record_width ≤ widest_record }
     requires order { k ≤ greatest_order }
-    requires count { count ≤ 33 }
+    requires count { count ≤ most_keys + 1 }
     requires empty { sons.old.items ≡ [] }
     ensures { sons.new.items ≡ sons_at layout k page.now count }
 {

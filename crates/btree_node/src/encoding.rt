@@ -1,17 +1,18 @@
 ghost use Rattle.std.specs.Prelude.{◌≡◌, ◌+◌, ◌*◌, ◌≤◌, ◌++◌, length};
 ghost use Rattle.std.specs.List.{flat_map};
 ghost use Rattle.rec_types.specs.Padded.{padded};
-ghost use Rattle.btree_node.specs.Layout.{place_width, widest_record, greatest_order};
+ghost use Rattle.rec_types.specs.Widths.{widest_record, page_width};
+ghost use Rattle.btree_node.specs.Layout.{place_width, greatest_order};
 ghost use Rattle.btree_node.specs.Lists.{Each};
 ghost use Rattle.btree_node.specs.Spelling.{head, place, sons_bytes, spelling, spelling_in, ElementFits, CanStand, CanStandIn};
 
-use crate::layout::{FIRST_LAYOUT, KEY_WIDTH, Layout};
+use crate::layout::{FIRST_LAYOUT, Layout};
 use crate::node::{Node, NodeKind};
 use crate::page_writer::PageWriter;
-use rec_types::{Key, Record};
+use rec_types::{KEY_WIDTH, Key, PAGE_WIDTH, Record};
 
 /// The one page that spells the node, for a tree of order `k`.
-pub fn encode(node: &Node, k: u16) -> [u8; 4096]
+pub fn encode(node: &Node, k: u16) -> [u8; PAGE_WIDTH]
     requires order { k ≤ greatest_order }
     requires stands { CanStand node.now k }
     ensures { result ≡ spelling node.now k }
@@ -25,7 +26,7 @@ pub fn spell(layout: Layout, node: &Node, k: u16) -> PageWriter
     requires width { layout.record_width ≤ widest_record }
     requires order { k ≤ greatest_order }
     requires stands { CanStandIn layout node.now k }
-    ensures { padded 4096 result ≡ spelling_in layout node.now k }
+    ensures { padded page_width result ≡ spelling_in layout node.now k }
 {
     let mut page = PageWriter::new();
     put_head(&mut page, node.kind, node.elements.len());
@@ -37,7 +38,7 @@ pub fn spell(layout: Layout, node: &Node, k: u16) -> PageWriter
 
 #[tactic(auto, unfolding(crate::specs::Spelling::head))]
 fn put_head(page: &mut PageWriter, kind: NodeKind, count: usize)
-    requires room { length page.old + 8 ≤ 4096 }
+    requires room { length page.old + 8 ≤ page_width }
     requires small { count ≤ 65535 }
     ensures value { page.new ≡ page.old ++ head kind count }
     ensures len { length page.new ≡ length page.old + 8 }
@@ -54,7 +55,7 @@ fn put_head(page: &mut PageWriter, kind: NodeKind, count: usize)
 fn put_places(page: &mut PageWriter, layout: Layout, elements: &[(Key, Record)])
     requires width { layout.record_width ≤ widest_record }
     requires fit { Each (ElementFits layout) elements.now }
-    requires room { length page.old + place_width layout * length elements.now ≤ 4096 }
+    requires room { length page.old + place_width layout * length elements.now ≤ page_width }
     ensures value { page.new ≡ page.old ++ flat_map (place layout) elements.now }
     ensures len { length page.new ≡ length page.old + place_width layout * length elements.now }
 {
@@ -67,7 +68,7 @@ fn put_places(page: &mut PageWriter, layout: Layout, elements: &[(Key, Record)])
 fn put_place(page: &mut PageWriter, layout: Layout, element: &(Key, Record))
     requires width { layout.record_width ≤ widest_record }
     requires fits { ElementFits layout element.now }
-    requires room { length page.old + place_width layout ≤ 4096 }
+    requires room { length page.old + place_width layout ≤ page_width }
     ensures value { page.new ≡ page.old ++ place layout element.now }
     ensures len { length page.new ≡ length page.old + place_width layout }
 {
@@ -77,7 +78,7 @@ fn put_place(page: &mut PageWriter, layout: Layout, element: &(Key, Record))
 
 #[tactic(auto, unfolding(crate::specs::Spelling::sons_bytes))]
 fn put_sons(page: &mut PageWriter, sons: &[u32])
-    requires { length page.old + 4 * length sons.now ≤ 4096 }
+    requires { length page.old + 4 * length sons.now ≤ page_width }
     ensures { page.new ≡ page.old ++ sons_bytes sons.now }
 {
     for son in sons {

@@ -6,8 +6,10 @@ ghost use Rattle.btree_node.specs.declared.header.HeaderFault.TheVariants.{BadHe
 ghost use Rattle.btree_node.specs.Layout.{IsOrder, greatest_order};
 
 use crate::header::{Header, HeaderFault};
+use crate::layout::GREATEST_ORDER;
 use crate::page_writer::PageWriter;
 use crate::part::{part_of, u16_of, u32_of};
+use rec_types::PAGE_WIDTH;
 
 /// The text that a record file begins with.
 const MAGIC: [u8; 8] = *b"BMKRFILE";
@@ -36,7 +38,7 @@ const STATE_AT: usize = 24;
 
 /// The header that the page spells, of a file that was closed. The faults in their order: BadMagic,
 /// BadVersion with the version of the page, BadOrder, NotClean, BadHeader.
-pub fn read_header(page: &[u8; 4096]) -> Result<Header, HeaderFault>
+pub fn read_header(page: &[u8; PAGE_WIDTH]) -> Result<Header, HeaderFault>
     // What is read is spelled so.
     ensures found { IfOk result (λ h. HeaderFits h × (page.now ≡ header_spelling h clean_state)) }
 
@@ -57,7 +59,7 @@ pub fn read_header(page: &[u8; 4096]) -> Result<Header, HeaderFault>
 
 /// The one page that spells the header, of a file that is closed or being written.
 #[tactic(auto, unfolding(crate::specs::HeaderSpelling::header_spelling, crate::specs::HeaderSpelling::header_bytes, crate::specs::HeaderSpelling::magic))]
-pub fn write_header(header: &Header, clean: bool) -> [u8; 4096]
+pub fn write_header(header: &Header, clean: bool) -> [u8; PAGE_WIDTH]
     requires least { 1 ≤ header.now.order }
     requires most { header.now.order ≤ greatest_order }
     ensures { result ≡ header_spelling header.now (if clean then clean_state else writing_state) }
@@ -74,14 +76,14 @@ pub fn write_header(header: &Header, clean: bool) -> [u8; 4096]
 }
 
 #[tactic(auto, unfolding(crate::specs::HeaderSpelling::magic))]
-fn has_magic(page: &[u8; 4096]) -> bool
+fn has_magic(page: &[u8; PAGE_WIDTH]) -> bool
     ensures { IsTrue result ↔ (part 0 8 page.now ≡ magic) }
 {
     part_of(page, 0, MAGIC.len()) == MAGIC.as_slice()
 }
 
 #[tactic(auto, unfolding(crate::specs::HeaderSpelling::state_at))]
-fn state_of(page: &[u8; 4096]) -> u8
+fn state_of(page: &[u8; PAGE_WIDTH]) -> u8
     ensures { result ≡ state_at page.now }
 {
     page[STATE_AT]
@@ -95,7 +97,7 @@ fn state_byte(clean: bool) -> u8
 
 /// The header that stands at the fixed places of the page.
 #[tactic(auto, unfolding(crate::specs::HeaderSpelling::HeaderPasses))]
-fn header_of(page: &[u8; 4096]) -> Result<Header, HeaderFault>
+fn header_of(page: &[u8; PAGE_WIDTH]) -> Result<Header, HeaderFault>
     ensures value { IfOk result (λ h. h ≡ header_at page.now) }
     ensures passes { IfOk result (λ _. HeaderPassesBefore page.now BadHeader) }
     ensures fault { IfErr result (λ e. FirstHeaderFault page.now e) }
@@ -119,11 +121,11 @@ fn header_of(page: &[u8; 4096]) -> Result<Header, HeaderFault>
 fn is_order(k: u16) -> bool
     ensures { IsTrue result ↔ IsOrder k }
 {
-    (1..=16).contains(&k)
+    (1..=GREATEST_ORDER).contains(&k)
 }
 
 #[tactic(auto, unfolding(crate::specs::HeaderSpelling::header_at))]
-fn fields_of(page: &[u8; 4096]) -> Header
+fn fields_of(page: &[u8; PAGE_WIDTH]) -> Header
     ensures { result ≡ header_at page.now }
 {
     Header {

@@ -1,14 +1,11 @@
 ghost use Rattle.std.specs.Prelude.{◌≡◌, ◌+◌, ◌*◌, ◌≤◌};
-ghost use Rattle.btree_node.specs.Layout.{place_width, place_start, sons_start, widest_record, greatest_order};
+ghost use Rattle.rec_types.specs.Widths.{widest_record, page_width};
+ghost use Rattle.btree_node.specs.Layout.{place_width, place_start, sons_start, greatest_order, most_keys};
 
-/// The bytes of a page.
-pub const PAGE_WIDTH: usize = 4096;
+use rec_types::{KEY_WIDTH, RECORD_WIDTH};
 
-/// The bytes that a key may take.
-pub const KEY_WIDTH: usize = 16;
-
-/// The bytes that a record may take in the first file version.
-pub const RECORD_WIDTH: usize = 32;
+/// The greatest order of a tree: a page of it has room for its places and sons.
+pub const GREATEST_ORDER: u16 = 16;
 
 /// Where the record's length stands in a place, behind the key's length and the key.
 pub const RECORD_AT: usize = 1 + KEY_WIDTH;
@@ -43,9 +40,9 @@ impl Layout {
     /// Where place `i` begins.
     pub fn place_start(self, i: usize) -> usize
         requires width { self.record_width ≤ widest_record }
-        requires index { i ≤ 32 }
+        requires index { i ≤ most_keys }
         ensures value { result ≡ place_start self i }
-        ensures within { result ≤ 3784 }
+        ensures within { result + 4 * (most_keys + 1) ≤ page_width }
     {
         HEAD_WIDTH + self.place_width() * i
     }
@@ -55,7 +52,7 @@ impl Layout {
         requires width { self.record_width ≤ widest_record }
         requires order { k ≤ greatest_order }
         ensures value { result ≡ sons_start self k }
-        ensures within { result ≤ 3784 }
+        ensures within { result + 4 * (most_keys + 1) ≤ page_width }
     {
         self.place_start(2 * k as usize)
     }

@@ -14,16 +14,22 @@ pub enum NodeKind {
     Inner,
 }
 
-/// A page of the tree. It has room for one element and one son more than a page of order 16 holds, so
-/// that it can be split.
+/// The elements that a node has room for: one more than a page of the greatest order holds, so that it
+/// can be split.
+pub const ELEMENT_ROOM: usize = 33;
+
+/// The sons that a node has room for.
+pub const SON_ROOM: usize = ELEMENT_ROOM + 1;
+
+/// A page of the tree.
 #[derive(Debug, PartialEq, Eq, Drop)]
 pub struct Node {
     /// Whether the node has sons.
     pub kind: NodeKind,
     /// The keys with their records, in ascending order.
-    pub elements: ArrayVec<(Key, Record), 33>,
+    pub elements: ArrayVec<(Key, Record), ELEMENT_ROOM>,
     /// The numbers of the pages below, from left to right. A leaf has none.
-    pub sons: ArrayVec<u32, 34>,
+    pub sons: ArrayVec<u32, SON_ROOM>,
 }
 
 impl Node {

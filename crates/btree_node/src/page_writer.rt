@@ -1,16 +1,17 @@
 ghost use Rattle.std.specs.Prelude.{◌≡◌, ◌+◌, ◌≤◌, ◌↔◌, [], ◌++◌, length, replicate, IsTrue};
 ghost use Rattle.byteorder.specs.Endian.{big_bytes};
 ghost use Rattle.rec_types.specs.Padded.{padded};
+ghost use Rattle.rec_types.specs.Widths.{page_width};
 ghost use Rattle.btree_node.specs.Spelling.{field};
 
-use crate::layout::PAGE_WIDTH;
 use byteorder::{BigEndian, ByteOrder};
+use rec_types::PAGE_WIDTH;
 use std::marker::Model;
 
 /// A page that is written from its front on. Contracts see the bytes so far. The others are zero.
 #[derive(Drop)]
 pub struct PageWriter {
-    page: [u8; 4096],
+    page: [u8; PAGE_WIDTH],
     at: usize,
 }
 
@@ -42,7 +43,7 @@ impl PageWriter {
 
     /// Writes the bytes.
     pub fn put(&mut self, bytes: &[u8])
-        requires { length self.old + length bytes.now ≤ 4096 }
+        requires { length self.old + length bytes.now ≤ page_width }
         ensures { self.new ≡ self.old ++ bytes.now }
     {
         let end = self.at + bytes.len();
@@ -52,7 +53,7 @@ impl PageWriter {
 
     /// Leaves `count` zeros.
     pub fn skip(&mut self, count: usize)
-        requires { length self.old + count ≤ 4096 }
+        requires { length self.old + count ≤ page_width }
         ensures { self.new ≡ self.old ++ replicate count 0 }
     {
         self.at += count;
@@ -61,7 +62,7 @@ impl PageWriter {
     /// Writes zeros up to the place `at`.
     pub fn skip_to(&mut self, at: usize)
         requires behind { length self.old ≤ at }
-        requires within { at ≤ 4096 }
+        requires within { at ≤ page_width }
         ensures value { self.new ≡ padded at self.old }
         ensures len { length self.new ≡ at }
     {
@@ -72,7 +73,7 @@ impl PageWriter {
     pub fn put_field(&mut self, bytes: &[u8], width: usize)
         requires fits { length bytes.now ≤ width }
         requires short { width ≤ 255 }
-        requires room { length self.old + (1 + width) ≤ 4096 }
+        requires room { length self.old + (1 + width) ≤ page_width }
         ensures value { self.new ≡ self.old ++ field width bytes.now }
         ensures len { length self.new ≡ length self.old + (1 + width) }
     {
@@ -83,7 +84,7 @@ impl PageWriter {
 
     /// Writes a number of two bytes.
     pub fn put_u16(&mut self, number: u16)
-        requires { length self.old + 2 ≤ 4096 }
+        requires { length self.old + 2 ≤ page_width }
         ensures value { self.new ≡ self.old ++ big_bytes 2 number }
         ensures len { length self.new ≡ length self.old + 2 }
     {
@@ -94,7 +95,7 @@ impl PageWriter {
 
     /// Writes a number of four bytes.
     pub fn put_u32(&mut self, number: u32)
-        requires { length self.old + 4 ≤ 4096 }
+        requires { length self.old + 4 ≤ page_width }
         ensures value { self.new ≡ self.old ++ big_bytes 4 number }
         ensures len { length self.new ≡ length self.old + 4 }
     {
@@ -104,15 +105,15 @@ impl PageWriter {
     }
 
     /// Whether the page is the one that was written.
-    pub fn wrote(&self, page: &[u8; 4096]) -> bool
-        ensures { IsTrue result ↔ (page.now ≡ padded 4096 self.now) }
+    pub fn wrote(&self, page: &[u8; PAGE_WIDTH]) -> bool
+        ensures { IsTrue result ↔ (page.now ≡ padded page_width self.now) }
     {
         self.page == *page
     }
 
     /// The page, zero behind what was written.
-    pub fn finish(self) -> [u8; 4096]
-        ensures { result ≡ padded 4096 self }
+    pub fn finish(self) -> [u8; PAGE_WIDTH]
+        ensures { result ≡ padded page_width self }
     {
         self.page
     }
@@ -120,8 +121,8 @@ impl PageWriter {
 
 /// A page of zeros.
 #[tactic(auto, unfolding(rec_types::specs::Padded::padded))]
-fn blank() -> [u8; 4096]
-    ensures { result ≡ padded 4096 [] }
+fn blank() -> [u8; PAGE_WIDTH]
+    ensures { result ≡ padded page_width [] }
 {
     [0; PAGE_WIDTH]
 }

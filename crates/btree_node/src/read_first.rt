@@ -1,5 +1,5 @@
 ghost use Rattle.std.specs.Prelude.{◌≡◌, ℕ, ◌+◌, ◌-◌, ◌*◌, ◌<◌, ◌≤◌, List, [], ◌∷◌, ◌++◌, IsTrue, length, drop};
-ghost use Rattle.btree_node.specs.Layout.{first_layout, place_width, place_start, sons_start, greatest_order};
+ghost use Rattle.btree_node.specs.Layout.{first_layout, place_width, place_start, sons_start, greatest_order, most_keys};
 ghost use Rattle.btree_node.specs.Lists.{Ascends};
 ghost use Rattle.btree_node.specs.Reading.{part, place_at, elements_at, sons_of_kind, node_at, IsZero, IsGoodPlace, Passes, PassesBefore};
 ghost use Rattle.btree_node.specs.declared.node.NodeFault.TheVariants.{NotZero};
@@ -7,17 +7,17 @@ ghost use Rattle.btree_node.specs.declared.node.NodeFault.TheVariants.{NotZero};
 use crate::decoding::{
     count_fits, count_of, is_below, kind_of, place_of_page, push_sons, sons_stand,
 };
-use crate::layout::{FIRST_LAYOUT, PAGE_WIDTH, RECORD_AT, SON_WIDTH};
-use crate::node::{Node, NodeKind};
+use crate::layout::{FIRST_LAYOUT, RECORD_AT, SON_WIDTH};
+use crate::node::{ELEMENT_ROOM, Node, NodeKind, SON_ROOM};
 use crate::part::part_of;
 use arrayvec::ArrayVec;
-use rec_types::{Key, Record};
+use rec_types::{Key, PAGE_WIDTH, Record};
 
 /// Whether the page of the first file version passes every test; the node is then what it spells. It
 /// looks at each byte once, and tells no fault: where it answers false, the tests one by one tell which.
 /// Its widths are constants, so that fields are copied by moves.
 #[tactic(auto, unfolding(crate::specs::Reading::node_at))]
-pub(crate) fn read_first(page: &[u8; 4096], k: u16, node: &mut Node) -> bool
+pub(crate) fn read_first(page: &[u8; PAGE_WIDTH], k: u16, node: &mut Node) -> bool
     requires order { k ≤ greatest_order }
     ensures before { IsTrue result → PassesBefore first_layout k page.now NotZero }
     ensures padding { IsTrue result → Passes first_layout k page.now NotZero }
@@ -45,11 +45,11 @@ pub(crate) fn read_first(page: &[u8; 4096], k: u16, node: &mut Node) -> bool
 /// keys ascend.
 #[tactic(auto, unfolding(crate::specs::Reading::elements_at))]
 fn fill_elements(
-    page: &[u8; 4096],
+    page: &[u8; PAGE_WIDTH],
     count: usize,
-    elements: &mut ArrayVec<(Key, Record), 33>,
+    elements: &mut ArrayVec<(Key, Record), ELEMENT_ROOM>,
 ) -> bool
-    requires { count ≤ 32 }
+    requires { count ≤ most_keys }
     ensures items { IsTrue result → elements.new.items ≡ elements_at first_layout page.now count }
     ensures ascends { IsTrue result → Ascends elements.new.items }
     ensures good { IsTrue result
@@ -104,9 +104,15 @@ pub(crate) fn thirty_two(bytes: &[u8], at: usize) -> [u8; 32]
     copy
 }
 
-fn fill_sons(page: &[u8; 4096], k: u16, kind: NodeKind, count: usize, sons: &mut ArrayVec<u32, 34>)
+fn fill_sons(
+    page: &[u8; PAGE_WIDTH],
+    k: u16,
+    kind: NodeKind,
+    count: usize,
+    sons: &mut ArrayVec<u32, SON_ROOM>,
+)
     requires order { k ≤ greatest_order }
-    requires count { count ≤ 32 }
+    requires count { count ≤ most_keys }
     ensures { sons.new.items ≡ sons_of_kind kind first_layout k page.now count }
 {
     sons.clear();
@@ -117,7 +123,7 @@ fn fill_sons(page: &[u8; 4096], k: u16, kind: NodeKind, count: usize, sons: &mut
 }
 
 /// Whether the bytes of the head that belong to no field are zero.
-fn head_is_zero(page: &[u8; 4096]) -> bool
+fn head_is_zero(page: &[u8; PAGE_WIDTH]) -> bool
     ensures second { IsTrue result → IsZero (part 1 1 page.now) }
     ensures head { IsTrue result → IsZero (part 4 4 page.now) }
 {
@@ -125,10 +131,10 @@ fn head_is_zero(page: &[u8; 4096]) -> bool
 }
 
 /// Whether the places behind `count` places and the bytes behind `sons` sons are zero.
-fn rest_is_zero(page: &[u8; 4096], k: u16, count: usize, sons: usize) -> bool
+fn rest_is_zero(page: &[u8; PAGE_WIDTH], k: u16, count: usize, sons: usize) -> bool
     requires order { k ≤ greatest_order }
     requires count { count ≤ 2 * k }
-    requires sons { sons ≤ 33 }
+    requires sons { sons ≤ most_keys + 1 }
     ensures places { IsTrue result → IsZero (part (place_start first_layout count)
         (place_width first_layout * (2 * k - count)) page.now) }
     ensures rest { IsTrue result

@@ -3,18 +3,18 @@ ghost use Rattle.btree_node.specs.Lists.{Element, Each, Below, IsAt, IsPlace};
 ghost use Rattle.btree_node.specs.Reading.{count_at};
 ghost use Rattle.btree_node.specs.Spelling.{spelling, CanStand, IsSpelt};
 ghost use Rattle.btree_node.specs.declared.node.Node.{Node};
-ghost use Rattle.btree_node.specs.Layout.{greatest_order};
+ghost use Rattle.btree_node.specs.Layout.{greatest_order, most_keys};
 
 use crate::decoding::{count_of, is_below, kind_of, place_of_page};
 use crate::layout::{FIRST_LAYOUT, RECORD_AT, SON_WIDTH};
 use crate::node::NodeKind;
 use crate::part::u32_of;
 use crate::read_first::{sixteen, thirty_two};
-use rec_types::{Key, Record};
+use rec_types::{Key, PAGE_WIDTH, Record};
 use std::cmp::Ordering;
 
 /// The kind of the node that the page spells.
-pub fn kind_in(page: &[u8; 4096]) -> NodeKind
+pub fn kind_in(page: &[u8; PAGE_WIDTH]) -> NodeKind
     ensures { (k : ℕ) (node : Node) → k ≤ greatest_order → CanStand node k
         → page.now ≡ spelling node k → result ≡ node.kind }
 {
@@ -22,7 +22,7 @@ pub fn kind_in(page: &[u8; 4096]) -> NodeKind
 }
 
 /// How many keys the node has that the page spells.
-pub fn count_in(page: &[u8; 4096]) -> usize
+pub fn count_in(page: &[u8; PAGE_WIDTH]) -> usize
     ensures value { result ≡ count_at page.now }
     ensures node { (k : ℕ) (node : Node) → k ≤ greatest_order → CanStand node k
         → page.now ≡ spelling node k → result ≡ length node.elements.items }
@@ -31,7 +31,7 @@ pub fn count_in(page: &[u8; 4096]) -> usize
 }
 
 /// Key i of the node that the page spells, in a tree of order `k`.
-pub fn key_in(page: &[u8; 4096], k: u16, i: usize) -> Key
+pub fn key_in(page: &[u8; PAGE_WIDTH], k: u16, i: usize) -> Key
     requires order { k ≤ greatest_order }
     requires spelt { IsSpelt k page.now }
     requires index { i < count_at page.now }
@@ -43,7 +43,7 @@ pub fn key_in(page: &[u8; 4096], k: u16, i: usize) -> Key
 }
 
 /// Record i of the node that the page spells, in a tree of order `k`.
-pub fn record_in(page: &[u8; 4096], k: u16, i: usize) -> Record
+pub fn record_in(page: &[u8; PAGE_WIDTH], k: u16, i: usize) -> Record
     requires order { k ≤ greatest_order }
     requires spelt { IsSpelt k page.now }
     requires index { i < count_at page.now }
@@ -56,9 +56,9 @@ pub fn record_in(page: &[u8; 4096], k: u16, i: usize) -> Record
 
 /// Son j of the node that the page spells, in a tree of order `k`, where j is at most its number of
 /// keys. The node is no leaf.
-pub fn son_in(page: &[u8; 4096], k: u16, j: usize) -> u32
+pub fn son_in(page: &[u8; PAGE_WIDTH], k: u16, j: usize) -> u32
     requires order { k ≤ greatest_order }
-    requires index { j ≤ 32 }
+    requires index { j ≤ most_keys }
     ensures { (node : Node) (other : ℕ) → CanStand node k → page.now ≡ spelling node k
         → j < length node.sons.items → result ≡ slice_index_or node.sons.items j other }
 {
@@ -67,7 +67,7 @@ pub fn son_in(page: &[u8; 4096], k: u16, j: usize) -> u32
 
 /// The place of the key among the keys of the node that the page spells, in a tree of order `k`, and
 /// else the number of smaller keys there: the same as `place_of` of the node.
-pub fn place_in(page: &[u8; 4096], k: u16, key: &Key) -> Result<usize, usize>
+pub fn place_in(page: &[u8; PAGE_WIDTH], k: u16, key: &Key) -> Result<usize, usize>
     requires order { k ≤ greatest_order }
     requires spelt { IsSpelt k page.now }
     ensures within { MatchResult result (λ i. i < count_at page.now) (λ i. i ≤ count_at page.now) }
@@ -89,7 +89,7 @@ pub fn place_in(page: &[u8; 4096], k: u16, key: &Key) -> Result<usize, usize>
 
 /// How many keys from the first on, in fours, are smaller. Steps of equal width let the processor read
 /// ahead of what it compares.
-fn fours_below(page: &[u8; 4096], k: u16, key: &Key) -> usize
+fn fours_below(page: &[u8; PAGE_WIDTH], k: u16, key: &Key) -> usize
     requires order { k ≤ greatest_order }
     requires spelt { IsSpelt k page.now }
     ensures within { result ≤ count_at page.now }

@@ -8,7 +8,7 @@ ghost use Rattle.command_text.specs.Words.{is_percent, key_from, record_from};
 use crate::LineFault;
 use arrayvec::ArrayVec;
 use percent_encoding::percent_decode;
-use rec_types::{Key, Record, TxId};
+use rec_types::{KEY_WIDTH, Key, RECORD_WIDTH, Record, TxId};
 
 // The digit that a byte stands for.
 fn digit_of(byte: u8) -> Option<u8>
@@ -98,7 +98,7 @@ pub fn key_at(word: &[u8]) -> Result<Key, LineFault>
     if !has_percent(word) {
         return key_of_bytes(word);
     }
-    match decoded::<16>(word) {
+    match decoded::<KEY_WIDTH>(word) {
         Some(bytes) => key_of_bytes(&bytes),
         None => Err(LineFault::KeyTooLong),
     }
@@ -111,7 +111,7 @@ fn escaped_record(escaped: &[u8]) -> Result<Record, LineFault>
     if !has_percent(escaped) {
         return record_of_bytes(escaped);
     }
-    match decoded::<32>(escaped) {
+    match decoded::<RECORD_WIDTH>(escaped) {
         Some(bytes) => record_of_bytes(&bytes),
         None => Err(LineFault::RecordTooLong),
     }

@@ -1,6 +1,7 @@
 //! What holds of lines and texts. The functions do nothing: their contracts are the laws.
 ghost use Rattle.std.specs.Prelude.{◌≡◌, ◌≢◌, ℕ, ◌<◌, true, List, [], ◌∷◌, ◌++◌, length, nat_lt, if◌then◌else◌, Some, None, Ok, Err, codes};
 ghost use Rattle.std.specs.List.{All, list_all};
+ghost use Rattle.rec_types.specs.Widths.{key_width};
 ghost use Rattle.percent_encoding.specs.Percent.{percent_decode};
 ghost use Rattle.record_file.specs.declared.fault.Cause.TheVariants as causes;
 ghost use Rattle.record_file.specs.declared.fault.PutFault.TheVariants as put_faults;
@@ -46,7 +47,7 @@ pub fn commands_by_example()
 /// A word of a line has a byte, and so its key has one: it is too long, or a key.
 pub fn keys_of_words()
     ensures { (word : List ℕ) → is_word word ≡ true → key_at word
-        ≡ (if nat_lt 16 (length (percent_decode word)) then Err faults.KeyTooLong
+        ≡ (if nat_lt key_width (length (percent_decode word)) then Err faults.KeyTooLong
         else Ok (percent_decode word)) }
 {}
 

@@ -2,7 +2,7 @@
 use Rattle.std.specs.Prelude.{ℕ, ◌+◌, ◌==◌, min, Bool, true, List, refl}
 use Rattle.std.specs.Coded.{Coded, code_by, coded×, coded_ℕ, coded_list}
 use Rattle.std.specs.List.{list_any}
-use Rattle.rec_types.specs.Table.{counted}
+use Rattle.rec_types.specs.Table.{counted, greatest_count}
 
 -- the store below, the numbers of the reads and of the changing calls that fail, how many of each there were, and how
 -- many of each failed here
@@ -36,12 +36,12 @@ with_write s failed = record s { writes = counted s.writes true; failed_writes =
 
 -- how many reads there were, below and failed ones here; it stays at the greatest value of 64 bits
 abbrev pub reads_of : {S : Type 0} → (S → ℕ) → FlakyStored S → ℕ
-reads_of reads s = min (reads s.inner + s.failed_reads) 18446744073709551615
+reads_of reads s = min (reads s.inner + s.failed_reads) greatest_count
 
 -- how many changing calls there were, below and failed ones here; it stays at the greatest value of 64 bits
 abbrev pub writes_of : {S : Type 0} → (S → ℕ) → FlakyStored S → ℕ
-writes_of writes s = min (writes s.inner + s.failed_writes) 18446744073709551615
+writes_of writes s = min (writes s.inner + s.failed_writes) greatest_count
 
 -- how many calls failed, below and here; it stays at the greatest value of 64 bits
 abbrev pub failures_of : {S : Type 0} → (S → ℕ) → FlakyStored S → ℕ
-failures_of failures s = min (failures s.inner + (s.failed_reads + s.failed_writes)) 18446744073709551615
+failures_of failures s = min (failures s.inner + (s.failed_reads + s.failed_writes)) greatest_count

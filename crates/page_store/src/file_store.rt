@@ -1,16 +1,21 @@
-ghost use Rattle.std.specs.Prelude.{◌≡◌, ◌*◌, ◌≤◌, ◌↔◌, [], IfOk, IfErr, IsOk};
+ghost use Rattle.std.specs.Prelude.{◌≡◌, ◌*◌, ◌<◌, ◌↔◌, [], IfOk, IfErr, IsOk};
 ghost use Rattle.rec_types.specs.Table.{counted};
+ghost use Rattle.rec_types.specs.Widths.{page_width};
 ghost use Rattle.page_store.specs.StoreFaults.{is_failed};
 
 use crate::count::count_up;
 use crate::store::Store;
 use crate::store_fault::{Shape, StoreFault};
 use crate::store_state::StoreState;
+use rec_types::PAGE_WIDTH;
 use std::fs::{OpenFile, OpenOptions};
 use std::io;
 use std::marker::Model;
 use std::os::unix::fs::FileExt;
 use std::rt::Files;
+
+/// The bytes of a page, counted as a file's are.
+const PAGE_BYTES: u64 = PAGE_WIDTH as u64;
 
 /// A store in a file. The file's length is taken once, at opening, and kept; only `set_pages` changes
 /// it. Contracts see pages and whether the store is steady, of which they tell no more than `Store`
@@ -26,7 +31,8 @@ pub struct FileStore<F> {
 }
 
 impl<F> Model for FileStore<F> {
-    ghost use Rattle.std.specs.Prelude.{◌≤◌};
+    ghost use Rattle.std.specs.Prelude.{◌<◌};
+    ghost use Rattle.rec_types.specs.Widths.{page_width};
     ghost use Rattle.page_store.specs.OpenedFile.{OpenedFile};
     ghost use Rattle.page_store.specs.FileValues.{gives_back, pages_in_file};
 
@@ -42,7 +48,7 @@ impl<F> Model for FileStore<F> {
       failures = s.failures;
     } };
 
-    ghost invariant = { λ s. s.tail ≤ 4095 };
+    ghost invariant = { λ s. s.tail < page_width };
 }
 
 impl<F: OpenFile + FileExt + Drop> FileStore<F> {
@@ -50,7 +56,7 @@ impl<F: OpenFile + FileExt + Drop> FileStore<F> {
     pub fn open_path<R: Files<File = F>>(rt: &R, path: &str) -> Result<FileStore<F>, StoreFault>
         ensures counts { IfOk result
             (λ store. (store.reads ≡ 0) × (store.writes ≡ 0) × (store.failures ≡ 0)) }
-        ensures tail { IfOk result (λ store. store.tail ≤ 4095) }
+        ensures tail { IfOk result (λ store. store.tail < page_width) }
         ensures fault { IfErr result (λ fault. fault ≡ StoreFault.Failed) }
     {
         let opened = OpenOptions::new().read(true).write(true).open(rt, path);
@@ -63,8 +69,8 @@ impl<F: OpenFile + FileExt + Drop> FileStore<F> {
         let len = metadata.len();
         Ok(FileStore {
             file,
-            pages: len / 4096,
-            tail: (len % 4096) as u16,
+            pages: len / PAGE_BYTES,
+            tail: (len % PAGE_BYTES) as u16,
             reads: 0,
             writes: 0,
             failures: 0,
@@ -104,9 +110,9 @@ impl<F: OpenFile + FileExt + Drop> FileStore<F> {
 
 /// Where page n begins in the file.
 fn page_start(n: u32) -> u64
-    ensures { result ≡ n * 4096 }
+    ensures { result ≡ n * page_width }
 {
-    u64::from(n) * 4096
+    u64::from(n) * PAGE_BYTES
 }
 
 /// The answer for the caller, with a failure counted.
@@ -148,13 +154,13 @@ impl<F: OpenFile + FileExt + Drop> Store for FileStore<F> {
         })
     }
 
-    fn read(&mut self, n: u32, to: &mut [u8; 4096]) -> Result<(), StoreFault> {
+    fn read(&mut self, n: u32, to: &mut [u8; PAGE_WIDTH]) -> Result<(), StoreFault> {
         count_up(&mut self.reads);
         let answer = self.file.read_exact_at(to, page_start(n));
         noted(&mut self.failures, answer)
     }
 
-    fn write(&mut self, n: u32, from: &[u8; 4096]) -> Result<(), StoreFault> {
+    fn write(&mut self, n: u32, from: &[u8; PAGE_WIDTH]) -> Result<(), StoreFault> {
         count_up(&mut self.writes);
         let answer = self.file.write_all_at(from, page_start(n));
         noted(&mut self.failures, answer)
@@ -164,7 +170,7 @@ impl<F: OpenFile + FileExt + Drop> Store for FileStore<F> {
     fn set_pages(&mut self, n: u32) -> Result<(), StoreFault> {
         count_up(&mut self.writes);
         if self.tail > 0 {
-            let answer = self.file.set_len(self.pages * 4096);
+            let answer = self.file.set_len(self.pages * PAGE_BYTES);
             noted(&mut self.failures, answer)?;
             self.tail = 0;
         }

@@ -1,5 +1,6 @@
 ghost use Rattle.std.specs.Prelude.{◌≡◌, ◌≢◌, ℕ, ◌-◌, ◌<◌, ◌≤◌, ◌++◌, List, length, IsTrue, true, false, Some, Err, IfOk, OnOk, OnErr, slice_get, slice_set};
 ghost use Rattle.rec_types.specs.Table.{counted};
+ghost use Rattle.rec_types.specs.Widths.{page_width};
 ghost use Rattle.page_store.specs.Blank.{blanks};
 ghost use Rattle.page_store.specs.Growth.{GrowsTo};
 ghost use Rattle.page_store.specs.StoreCalls.{LeavesStore, ChangesStore};
@@ -10,6 +11,7 @@ ghost use Rattle.page_store.specs.FlakyStored.{read_fails, write_fails, with_rea
 use crate::store::Store;
 use crate::store_fault::{Shape, StoreFault};
 use crate::store_state::StoreState;
+use rec_types::PAGE_WIDTH;
 use std::marker::Model;
 
 /// A store that fails at chosen calls. Everything else it hands on to the store below it. The reads are
@@ -119,7 +121,7 @@ impl<S: Store> Store for FlakyStore<S> {
     fn shape(&mut self) -> Result<Shape, StoreFault>
         ensures pages { IfOk result (λ shape. shape.pages ≡ length (S.pages self.old.inner)) }
         ensures tail { IfOk result (λ shape. shape.tail ≡ S.tail self.old.inner) }
-        ensures short_tail { OnOk result (S.tail self.old.inner ≤ 4095) }
+        ensures short_tail { OnOk result (S.tail self.old.inner < page_width) }
         ensures no_memory { result ≢ Err StoreFault.Memory }
         ensures leaves { LeavesStore ⟦<FlakyStore<S> as StoreState>⟧ false
             self.old result self.new }
@@ -134,7 +136,7 @@ impl<S: Store> Store for FlakyStore<S> {
 
     /// Reads page n, which is there. Fault: Failed, at the chosen reads, where nothing is read, and
     /// where the store below fails.
-    fn read(&mut self, n: u32, to: &mut [u8; 4096]) -> Result<(), StoreFault>
+    fn read(&mut self, n: u32, to: &mut [u8; PAGE_WIDTH]) -> Result<(), StoreFault>
         requires { n < length (S.pages self.old.inner) }
         ensures page { IsTrue (S.steady self.old.inner)
             → OnOk result (slice_get (S.pages self.old.inner) n ≡ Some to.new) }
@@ -159,7 +161,7 @@ impl<S: Store> Store for FlakyStore<S> {
 
     /// Writes page n, which is there. Fault: Failed, at the chosen calls, which change nothing, and
     /// where the store below fails; the page then has any bytes, and the other pages are unchanged.
-    fn write(&mut self, n: u32, from: &[u8; 4096]) -> Result<(), StoreFault>
+    fn write(&mut self, n: u32, from: &[u8; PAGE_WIDTH]) -> Result<(), StoreFault>
         requires { n < length (S.pages self.old.inner) }
         ensures page { IsTrue (S.steady self.old.inner)
             → OnOk result (S.pages self.new.inner ≡ slice_set (S.pages self.old.inner) n from.now) }

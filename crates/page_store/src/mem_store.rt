@@ -1,24 +1,27 @@
-ghost use Rattle.std.specs.Prelude.{◌≡◌, ◌≤◌};
+ghost use Rattle.std.specs.Prelude.{◌≡◌, ◌<◌};
+ghost use Rattle.rec_types.specs.Widths.{page_width};
 
 use crate::blank::add_blank_pages;
 use crate::count::count_up;
 use crate::store::Store;
 use crate::store_fault::{Shape, StoreFault};
 use crate::store_state::StoreState;
+use rec_types::PAGE_WIDTH;
 use std::marker::Model;
 
 /// A store in memory, which is always steady and never fails. Contracts see its pages, the length of
 /// its tail and the numbers of its reads and of its changing calls.
 #[derive(Drop)]
 pub struct MemStore {
-    pages: Vec<[u8; 4096]>,
+    pages: Vec<[u8; PAGE_WIDTH]>,
     tail: u16,
     reads: u64,
     writes: u64,
 }
 
 impl Model for MemStore {
-    ghost use Rattle.std.specs.Prelude.{◌≤◌};
+    ghost use Rattle.std.specs.Prelude.{◌<◌};
+    ghost use Rattle.rec_types.specs.Widths.{page_width};
     ghost use Rattle.page_store.specs.StoredPages.{StoredPages};
 
     ghost Value = { StoredPages };
@@ -30,13 +33,13 @@ impl Model for MemStore {
       writes = s.writes;
     } };
 
-    ghost invariant = { λ s. s.tail ≤ 4095 };
+    ghost invariant = { λ s. s.tail < page_width };
 }
 
 impl MemStore {
     /// A store of these pages, with a tail of that many bytes, at most 4,095.
-    pub fn new(pages: Vec<[u8; 4096]>, tail: u16) -> MemStore
-        requires { tail ≤ 4095 }
+    pub fn new(pages: Vec<[u8; PAGE_WIDTH]>, tail: u16) -> MemStore
+        requires { tail < page_width }
         ensures { result ≡ record { pages = pages.items; tail = tail; reads = 0; writes = 0 } }
     {
         MemStore {
@@ -48,7 +51,7 @@ impl MemStore {
     }
 
     /// The pages.
-    pub fn pages(&self) -> &[[u8; 4096]]
+    pub fn pages(&self) -> &[[u8; PAGE_WIDTH]]
         ensures { result.now ≡ self.now.pages }
     {
         self.pages.as_slice()
@@ -81,13 +84,13 @@ impl Store for MemStore {
         })
     }
 
-    fn read(&mut self, n: u32, to: &mut [u8; 4096]) -> Result<(), StoreFault> {
+    fn read(&mut self, n: u32, to: &mut [u8; PAGE_WIDTH]) -> Result<(), StoreFault> {
         count_up(&mut self.reads);
         *to = self.pages[n as usize];
         Ok(())
     }
 
-    fn write(&mut self, n: u32, from: &[u8; 4096]) -> Result<(), StoreFault> {
+    fn write(&mut self, n: u32, from: &[u8; PAGE_WIDTH]) -> Result<(), StoreFault> {
         count_up(&mut self.writes);
         self.pages[n as usize] = *from;
         Ok(())

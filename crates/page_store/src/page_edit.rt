@@ -1,10 +1,11 @@
+use rec_types::PAGE_WIDTH;
 use thiserror::Error;
 
 /// An edit of several pages, which is put in place whole or not at all.
 #[derive(Drop)]
 pub struct PageEdit {
     /// The pages to write, with their numbers. Of two pages for one number the later stays.
-    pub writes: Vec<(u32, [u8; 4096])>,
+    pub writes: Vec<(u32, [u8; PAGE_WIDTH])>,
     /// How many page numbers are taken: the first so many candidates.
     pub taken: u32,
     /// The page numbers to free.

@@ -21,7 +21,7 @@ use crate::slot::{
 };
 use crate::store::Store;
 use crate::write_back::{told, write_out};
-use rec_types::Memory;
+use rec_types::{Memory, PAGE_WIDTH};
 use std::alloc::Global;
 use std::collections::BTreeSet;
 use std::marker::Model;
@@ -105,7 +105,7 @@ impl<S: Store> Pages<S> {
     /// Reads page n's newest bytes: a changed page from memory, where the store isn't called, any other
     /// by one read of the store, each time. Faults: Device where the store failed, OutOfRange where page
     /// n is not in use; `to` is as it was then. No page changes.
-    pub fn fetch(&mut self, n: u32, to: &mut [u8; 4096]) -> Result<(), FetchFault>
+    pub fn fetch(&mut self, n: u32, to: &mut [u8; PAGE_WIDTH]) -> Result<(), FetchFault>
         ensures page { IsTrue self.old.steady → OnOk result (at self.old.pages n ≡ Some to.new) }
         ensures out_of_range { (result ≡ Err FetchFault.OutOfRange) ↔ (at self.old.pages n ≡ None) }
         ensures device { self.new.failures ≡ counted self.old.failures (is_device result) }
@@ -135,7 +135,7 @@ impl<S: Store> Pages<S> {
 
     /// Page n's newest bytes where they lie in memory, without a copy. None where the page isn't in use
     /// or has to be read from the store.
-    pub fn in_memory(&self, n: u32) -> Option<&[u8; 4096]>
+    pub fn in_memory(&self, n: u32) -> Option<&[u8; PAGE_WIDTH]>
         ensures page { IfSome result (λ page. at self.now.pages n ≡ Some page.now) }
         ensures number { OnSome result (0 < n) }
         ensures some { is_some result ≡ is_in_memory self.now n }
@@ -226,7 +226,11 @@ impl<S: Store> Pages<S> {
     /// failed, Memory where it was not made longer. No page here, number or answer of `changed` is
     /// different then, so that the call can be made again; in a steady store no page but page 0 has
     /// changed, or page 0 is `writing`, or each page in use is there.
-    pub fn write_back(&mut self, writing: &[u8; 4096], clean: &[u8; 4096]) -> Result<(), WriteFault>
+    pub fn write_back(
+        &mut self,
+        writing: &[u8; PAGE_WIDTH],
+        clean: &[u8; PAGE_WIDTH],
+    ) -> Result<(), WriteFault>
         ensures count { OnOk result (length self.new.stored ≡ length self.old.pages) }
         ensures tail { OnOk result (self.new.tail ≡ 0) }
         ensures header { IsTrue self.old.steady

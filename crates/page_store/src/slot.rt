@@ -6,12 +6,12 @@ ghost use Rattle.page_store.specs.PageMap.{at, is_freed, is_written};
 ghost use Rattle.page_store.specs.Overlaid.{slots_of};
 ghost use Rattle.page_store.specs.Slots.{bytes_in, put_slots, AreTheNew};
 
-use rec_types::Memory;
+use rec_types::{Memory, PAGE_WIDTH};
 use std::alloc::Global;
 use std::collections::BTreeSet;
 
 /// A page in memory, where it was changed.
-pub(crate) type Slot = Option<Box<[u8; 4096]>>;
+pub(crate) type Slot = Option<Box<[u8; PAGE_WIDTH]>>;
 
 /// Whether page n is in use: not page 0, below the count and not free.
 pub(crate) fn is_in_use(count: u32, free: &BTreeSet<u32>, n: u32) -> bool
@@ -21,7 +21,7 @@ pub(crate) fn is_in_use(count: u32, free: &BTreeSet<u32>, n: u32) -> bool
 }
 
 /// The changed page of that number.
-pub(crate) fn changed_page(changed: &[Slot], n: u32) -> Option<&[u8; 4096]>
+pub(crate) fn changed_page(changed: &[Slot], n: u32) -> Option<&[u8; PAGE_WIDTH]>
     ensures { option_copied result ≡ at (slots_of changed.now) n }
 {
     let at = n as usize;
@@ -38,8 +38,8 @@ pub(crate) fn changed_page(changed: &[Slot], n: u32) -> Option<&[u8; 4096]>
 pub(crate) fn boxed(
     alloc: Global,
     changed: &[Slot],
-    writes: &[(u32, [u8; 4096])],
-) -> Result<Vec<(u32, Box<[u8; 4096]>)>, Memory>
+    writes: &[(u32, [u8; PAGE_WIDTH])],
+) -> Result<Vec<(u32, Box<[u8; PAGE_WIDTH]>)>, Memory>
     ensures pages { IfOk result
         (λ pages. AreTheNew (slots_of changed.now) writes.now (bytes_in pages.items)) }
     ensures empty { writes.now ≡ [] → IsOk result }
@@ -60,7 +60,7 @@ pub(crate) fn boxed(
 }
 
 /// How many slots the pages to write need: none where there are none.
-pub(crate) fn slots_needed(writes: &[(u32, [u8; 4096])], count: u32) -> u32
+pub(crate) fn slots_needed(writes: &[(u32, [u8; PAGE_WIDTH])], count: u32) -> u32
     ensures { result ≡ (if length writes.now == 0 then 0 else count) }
 {
     if writes.is_empty() { 0 } else { count }
@@ -90,8 +90,8 @@ pub(crate) fn make_slots(changed: &mut Vec<Slot>, count: u32) -> Result<(), Memo
 pub(crate) fn write_pages(
     changed: &mut Vec<Slot>,
     free: &mut BTreeSet<u32>,
-    new: Vec<(u32, Box<[u8; 4096]>)>,
-    writes: &[(u32, [u8; 4096])],
+    new: Vec<(u32, Box<[u8; PAGE_WIDTH]>)>,
+    writes: &[(u32, [u8; PAGE_WIDTH])],
 )
     requires fits { All (λ w. w.0 < length changed.old.items) writes.now }
     requires new { AreTheNew (slots_of changed.old.items) writes.now (bytes_in new.items) }
@@ -105,7 +105,7 @@ pub(crate) fn write_pages(
 }
 
 /// Puts each page into its slot.
-fn put_pages(changed: &mut Vec<Slot>, pages: Vec<(u32, Box<[u8; 4096]>)>)
+fn put_pages(changed: &mut Vec<Slot>, pages: Vec<(u32, Box<[u8; PAGE_WIDTH]>)>)
     requires { All (λ w. w.0 < length changed.old.items) (bytes_in pages.items) }
     ensures { slots_of changed.new.items
         ≡ put_slots (slots_of changed.old.items) (bytes_in pages.items) }
@@ -116,7 +116,7 @@ fn put_pages(changed: &mut Vec<Slot>, pages: Vec<(u32, Box<[u8; 4096]>)>)
 }
 
 /// Writes over the pages, which are in memory, and takes their numbers out of the free ones.
-fn write_over(changed: &mut Vec<Slot>, free: &mut BTreeSet<u32>, writes: &[(u32, [u8; 4096])])
+fn write_over(changed: &mut Vec<Slot>, free: &mut BTreeSet<u32>, writes: &[(u32, [u8; PAGE_WIDTH])])
     requires { All (λ w. IsSome (at (slots_of changed.old.items) w.0)) writes.now }
     ensures slots { slots_of changed.new.items
         ≡ put_slots (slots_of changed.old.items) writes.now }
@@ -130,7 +130,7 @@ fn write_over(changed: &mut Vec<Slot>, free: &mut BTreeSet<u32>, writes: &[(u32,
 }
 
 /// Writes over the page of that number, which is in memory.
-fn write_one_over(changed: &mut Vec<Slot>, n: u32, page: &[u8; 4096])
+fn write_one_over(changed: &mut Vec<Slot>, n: u32, page: &[u8; PAGE_WIDTH])
     requires { IsSome (at (slots_of changed.old.items) n) }
     ensures { slots_of changed.new.items
         ≡ slice_set (slots_of changed.old.items) n (Some page.now) }

@@ -1,4 +1,5 @@
 ghost use Rattle.std.specs.Prelude.{◌≡◌, ◌≢◌, ℕ, ◌-◌, ◌<◌, ◌≤◌, List, true, false, ◌++◌, length, IsTrue, IfOk, OnOk, OnErr, slice_get, slice_set};
+ghost use Rattle.rec_types.specs.Widths.{page_width};
 ghost use Rattle.page_store.specs.Blank.{blanks};
 ghost use Rattle.page_store.specs.Growth.{GrowsTo};
 ghost use Rattle.page_store.specs.StoreCalls.{LeavesStore, ChangesStore};
@@ -6,6 +7,7 @@ ghost use Rattle.page_store.specs.declared.step.Step.{Step};
 
 use crate::store_fault::{Shape, StoreFault};
 use crate::store_state::StoreState;
+use rec_types::PAGE_WIDTH;
 
 /// A file of pages of 4,096 bytes. Its meaning is a list of pages and a tail of 0 to 4,095 further
 /// bytes, a fact `steady`, which no call changes, and three counts, which stay at the greatest 64-bit
@@ -20,12 +22,12 @@ pub trait Store: StoreState + Drop {
     fn shape(&mut self) -> Result<Shape, StoreFault>
         ensures pages { IfOk result (λ shape. shape.pages ≡ length (Self.pages self.old)) }
         ensures tail { IfOk result (λ shape. shape.tail ≡ Self.tail self.old) }
-        ensures short_tail { OnOk result (Self.tail self.old ≤ 4095) }
+        ensures short_tail { OnOk result (Self.tail self.old < page_width) }
         ensures no_memory { result ≢ Err StoreFault.Memory }
         ensures leaves { LeavesStore Self.StoreState false self.old result self.new };
 
     /// Reads page n, which is there. Fault: Failed; no page has changed then.
-    fn read(&mut self, n: u32, to: &mut [u8; 4096]) -> Result<(), StoreFault>
+    fn read(&mut self, n: u32, to: &mut [u8; PAGE_WIDTH]) -> Result<(), StoreFault>
         requires { n < length (Self.pages self.old) }
         ensures page { IsTrue (Self.steady self.old)
             → OnOk result (slice_get (Self.pages self.old) n ≡ Some to.new) }
@@ -34,7 +36,7 @@ pub trait Store: StoreState + Drop {
 
     /// Writes page n, which is there. Fault: Failed; the page then has any bytes, and the other pages
     /// are unchanged.
-    fn write(&mut self, n: u32, from: &[u8; 4096]) -> Result<(), StoreFault>
+    fn write(&mut self, n: u32, from: &[u8; PAGE_WIDTH]) -> Result<(), StoreFault>
         requires { n < length (Self.pages self.old) }
         ensures page { IsTrue (Self.steady self.old)
             → OnOk result (Self.pages self.new ≡ slice_set (Self.pages self.old) n from.now) }

@@ -15,6 +15,7 @@ use crate::page_edit::WriteFault;
 use crate::slot::{Slot, changed_page, is_in_use};
 use crate::store::Store;
 use crate::store_fault::StoreFault;
+use rec_types::PAGE_WIDTH;
 use std::collections::BTreeSet;
 
 /// The fault of a writing back that a fault of the store ends.
@@ -33,7 +34,7 @@ fn page_to_write<'a>(
     free: &BTreeSet<u32>,
     count: u32,
     n: u32,
-) -> Option<&'a [u8; 4096]>
+) -> Option<&'a [u8; PAGE_WIDTH]>
     ensures { option_copied result ≡ to_write (slots_of changed.now) free.now.keys count n }
 {
     match changed_page(changed, n) {
@@ -43,7 +44,7 @@ fn page_to_write<'a>(
 }
 
 /// Writes page 0, which is there, and has the device keep it. Fault: Failed; page 0 then has any bytes.
-fn put_header<S: Store>(store: &mut S, page: &[u8; 4096]) -> Result<(), StoreFault>
+fn put_header<S: Store>(store: &mut S, page: &[u8; PAGE_WIDTH]) -> Result<(), StoreFault>
     requires { 0 < length (S.pages store.old) }
     ensures page { IsTrue (S.steady store.old)
         → OnOk result (slice_get (S.pages store.new) 0 ≡ Some page.now) }
@@ -110,8 +111,8 @@ pub(crate) fn write_out<S: Store>(
     changed: &[Slot],
     free: &BTreeSet<u32>,
     count: u32,
-    writing: &[u8; 4096],
-    clean: &[u8; 4096],
+    writing: &[u8; PAGE_WIDTH],
+    clean: &[u8; PAGE_WIDTH],
 ) -> Result<(), StoreFault>
     requires some { 1 ≤ count }
     requires fits { length (S.pages store.old) ≤ count }

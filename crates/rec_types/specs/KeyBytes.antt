@@ -2,6 +2,7 @@
 use Rattle.std.specs.Prelude.{◌≡◌, ℕ, ◌<◌, ◌≤◌, List, length, take}
 use Rattle.rec_types.specs.Padded.{padded}
 use Rattle.rec_types.specs.Taken.{length_taken}
+use Rattle.rec_types.specs.Widths.{key_width}
 use Rattle.rec_types.specs.declared.key.Key.TheInside.{Inside}
 
 abbrev pub bytes_of : Inside → List ℕ
@@ -9,12 +10,12 @@ bytes_of k = take k.len k.bytes
 
 pub record IsKey (k : Inside) : Type 0 where
   pub some : 0 < k.len
-  pub most : k.len ≤ 16
-  pub whole : length k.bytes ≡ 16
-  pub zeros : padded 16 (take k.len k.bytes) ≡ k.bytes
+  pub most : k.len ≤ key_width
+  pub whole : length k.bytes ≡ key_width
+  pub zeros : padded key_width (take k.len k.bytes) ≡ k.bytes
 
 abbrev pub fields_of : List ℕ → Inside
-fields_of bytes = record { bytes = padded 16 bytes; len = length bytes }
+fields_of bytes = record { bytes = padded key_width bytes; len = length bytes }
 
 pub fields_of_bytes : (k : Inside) → IsKey k → fields_of (bytes_of k) ≡ k
-fields_of_bytes k is i = record { bytes = is.zeros i; len = length_taken 16 k.len k.bytes is.most is.whole i }
+fields_of_bytes k is i = record { bytes = is.zeros i; len = length_taken key_width k.len k.bytes is.most is.whole i }

@@ -15,3 +15,4 @@ pub mod Sorted
 pub mod SortedFields
 pub mod Table
 pub mod Taken
+pub mod Widths

@@ -2,18 +2,19 @@
 use Rattle.std.specs.Prelude.{◌≡◌, ℕ, ◌≤◌, List, length, take}
 use Rattle.rec_types.specs.Padded.{padded}
 use Rattle.rec_types.specs.Taken.{length_taken}
+use Rattle.rec_types.specs.Widths.{widest_record}
 use Rattle.rec_types.specs.declared.record.Record.TheInside.{Inside}
 
 abbrev pub bytes_of : Inside → List ℕ
 bytes_of r = take r.len r.bytes
 
 pub record IsRecord (r : Inside) : Type 0 where
-  pub most : r.len ≤ 32
-  pub whole : length r.bytes ≡ 32
-  pub zeros : padded 32 (take r.len r.bytes) ≡ r.bytes
+  pub most : r.len ≤ widest_record
+  pub whole : length r.bytes ≡ widest_record
+  pub zeros : padded widest_record (take r.len r.bytes) ≡ r.bytes
 
 abbrev pub fields_of : List ℕ → Inside
-fields_of bytes = record { bytes = padded 32 bytes; len = length bytes }
+fields_of bytes = record { bytes = padded widest_record bytes; len = length bytes }
 
 pub fields_of_bytes : (r : Inside) → IsRecord r → fields_of (bytes_of r) ≡ r
-fields_of_bytes r is i = record { bytes = is.zeros i; len = length_taken 32 r.len r.bytes is.most is.whole i }
+fields_of_bytes r is i = record { bytes = is.zeros i; len = length_taken widest_record r.len r.bytes is.most is.whole i }

@@ -1,6 +1,7 @@
 -- How a sorted table lies in its fields.
 use Rattle.std.specs.Prelude.{◌≤◌, length}
 use Rattle.std.specs.FinMap as maps
+use Rattle.rec_types.specs.LimitBounds.{most_records}
 use Rattle.rec_types.specs.Sorted.{SortedState, is_sorted}
 use Rattle.rec_types.specs.declared.sorted_table.SortedTable.TheInside.{Inside}
 
@@ -10,4 +11,4 @@ state_of t = record { contents = maps.from_sorted t.records.entries; limit = t.l
 pub record IsSortedTable (t : Inside) : Type 0 where
   pub sorted : is_sorted t.records.entries
   pub within : length t.records.entries ≤ t.limit
-  pub limited : t.limit ≤ 1000000
+  pub limited : t.limit ≤ most_records

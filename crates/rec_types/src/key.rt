@@ -1,8 +1,10 @@
 ghost use Rattle.std.specs.Prelude.{◌≡◌, ◌<◌, ◌≤◌, ◌↔◌, length, take, Result, Ok, Err, IfSome, IsSome};
 ghost use Rattle.rec_types.specs.Key.{key_of};
 ghost use Rattle.rec_types.specs.Padded.{IsZeroFrom};
+ghost use Rattle.rec_types.specs.Widths.{key_width};
 
 use crate::number::{is_zero_from, number_of};
+use crate::widths::KEY_WIDTH;
 use std::cmp::Ordering;
 use std::hash::{Hash, Hasher};
 use std::marker::Model;
@@ -20,7 +22,7 @@ pub enum KeyFault {
 /// A key of 1 to 16 bytes, ordered by its bytes, a proper prefix first. Contracts see its bytes.
 #[derive(Clone, Copy, Debug)]
 pub struct Key {
-    bytes: [u8; 16],
+    bytes: [u8; KEY_WIDTH],
     len: u8,
 }
 
@@ -51,10 +53,10 @@ impl Key {
         if bytes.is_empty() {
             return Err(KeyFault::Empty);
         }
-        if bytes.len() > 16 {
+        if bytes.len() > KEY_WIDTH {
             return Err(KeyFault::TooLong);
         }
-        let mut padded = [0; 16];
+        let mut padded = [0; KEY_WIDTH];
         padded[..bytes.len()].copy_from_slice(bytes);
         Ok(Key {
             bytes: padded,
@@ -64,11 +66,11 @@ impl Key {
 
     /// The key in the first `len` bytes of a field of the greatest length. None where no key has that
     /// length, or a byte behind it isn't zero.
-    pub fn in_field(field: &[u8; 16], len: u8) -> Option<Key>
+    pub fn in_field(field: &[u8; KEY_WIDTH], len: u8) -> Option<Key>
         ensures value { IfSome result (λ bytes. bytes ≡ take len field.now) }
-        ensures some { IsSome result ↔ ((0 < len) × (len ≤ 16) × IsZeroFrom len field.now) }
+        ensures some { IsSome result ↔ ((0 < len) × (len ≤ key_width) × IsZeroFrom len field.now) }
     {
-        if len == 0 || len > 16 || !is_zero_from(field, len) {
+        if len == 0 || len as usize > KEY_WIDTH || !is_zero_from(field, len) {
             return None;
         }
         Some(Key { bytes: *field, len })
@@ -78,7 +80,7 @@ impl Key {
     pub fn bytes(&self) -> &[u8]
         ensures value { result.now ≡ self.now }
         ensures some { 0 < length self.now }
-        ensures most { length self.now ≤ 16 }
+        ensures most { length self.now ≤ key_width }
     {
         &self.bytes[..self.len as usize]
     }
@@ -92,7 +94,7 @@ impl Default for Key {
     /// The key of one zero byte.
     fn default() -> Key {
         Key {
-            bytes: [0; 16],
+            bytes: [0; KEY_WIDTH],
             len: 1,
         }
     }

@@ -11,6 +11,7 @@ mod sorted_table;
 mod table;
 mod table_state;
 mod transaction;
+mod widths;
 
 pub use flaky_table::FlakyTable;
 pub use key::{Key, KeyFault};
@@ -21,3 +22,4 @@ pub use sorted_table::SortedTable;
 pub use table::{Table, TableFault};
 pub use table_state::TableState;
 pub use transaction::{Entry, TxId};
+pub use widths::{KEY_WIDTH, PAGE_WIDTH, RECORD_WIDTH};

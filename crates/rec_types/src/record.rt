@@ -1,8 +1,10 @@
 ghost use Rattle.std.specs.Prelude.{◌≡◌, ◌≤◌, ◌↔◌, length, take, IfSome, IsSome};
 ghost use Rattle.rec_types.specs.Padded.{IsZeroFrom};
 ghost use Rattle.rec_types.specs.Record.{record_of};
+ghost use Rattle.rec_types.specs.Widths.{widest_record};
 
 use crate::number::is_zero_behind;
+use crate::widths::RECORD_WIDTH;
 use std::marker::Model;
 use thiserror::Error;
 
@@ -16,7 +18,7 @@ pub enum RecordFault {
 /// A record of 0 to 32 bytes. Contracts see its bytes.
 #[derive(Clone, Copy, Debug)]
 pub struct Record {
-    bytes: [u8; 32],
+    bytes: [u8; RECORD_WIDTH],
     len: u8,
 }
 
@@ -44,10 +46,10 @@ impl Record {
     pub fn new(bytes: &[u8]) -> Result<Record, RecordFault>
         ensures { result ≡ record_of bytes.now }
     {
-        if bytes.len() > 32 {
+        if bytes.len() > RECORD_WIDTH {
             return Err(RecordFault::TooLong);
         }
-        let mut padded = [0; 32];
+        let mut padded = [0; RECORD_WIDTH];
         padded[..bytes.len()].copy_from_slice(bytes);
         Ok(Record {
             bytes: padded,
@@ -57,11 +59,11 @@ impl Record {
 
     /// The record in the first `len` bytes of a field of the greatest length. None where no record has
     /// that length, or a byte behind it isn't zero.
-    pub fn in_field(field: &[u8; 32], len: u8) -> Option<Record>
+    pub fn in_field(field: &[u8; RECORD_WIDTH], len: u8) -> Option<Record>
         ensures value { IfSome result (λ bytes. bytes ≡ take len field.now) }
-        ensures some { IsSome result ↔ ((len ≤ 32) × IsZeroFrom len field.now) }
+        ensures some { IsSome result ↔ ((len ≤ widest_record) × IsZeroFrom len field.now) }
     {
-        if len > 32 || !is_zero_behind(field, len) {
+        if len as usize > RECORD_WIDTH || !is_zero_behind(field, len) {
             return None;
         }
         Some(Record { bytes: *field, len })
@@ -70,7 +72,7 @@ impl Record {
     /// The bytes of the record.
     pub fn bytes(&self) -> &[u8]
         ensures value { result.now ≡ self.now }
-        ensures most { length self.now ≤ 32 }
+        ensures most { length self.now ≤ widest_record }
     {
         &self.bytes[..self.len as usize]
     }
@@ -84,7 +86,7 @@ impl Default for Record {
     /// The empty record.
     fn default() -> Record {
         Record {
-            bytes: [0; 32],
+            bytes: [0; RECORD_WIDTH],
             len: 0,
         }
     }

@@ -12,7 +12,7 @@ use Rattle.command_text.specs.Script.{entries_of}
 use Rattle.command_text.specs.Texts.{text_of}
 use Rattle.recfile.specs.declared.script.ScriptFault.{ScriptFault}
 use Rattle.recfile.specs.declared.script.ScriptFault.TheVariants as faults
-use Rattle.recfile.specs.Whole.{IsWhole, IsTooLong, TakesAtMost}
+use Rattle.recfile.specs.Whole.{IsWhole, IsTooLong, TakesAtMost, longest_script}
 
 -- The calls that the reply to a command tells of. A line that can't be read makes no call, and no other reply is given.
 abbrev pub ScriptTellsOf : Read Command → Reply → List Called → Type 0
@@ -111,7 +111,7 @@ pub record ScriptStopsAt (held holds : Option (List ℕ)) (old new : Seen) (scri
 -- a script that wasn't read whole, and how much of it was taken
 abbrev pub ReadStops : Option (List ℕ) → Option (List ℕ) → ScriptFault → Type 0
 ReadStops left leaves faults.ScriptTooLong = IsTooLong left leaves
-ReadStops left leaves faults.ReadFault = TakesAtMost left leaves 1048576
+ReadStops left leaves faults.ReadFault = TakesAtMost left leaves longest_script
 ReadStops left leaves (faults.WriteFault done) = ⊥
 ReadStops left leaves (faults.Memory done) = done ≡ 0
 

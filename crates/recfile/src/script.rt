@@ -1,7 +1,7 @@
 ghost use Rattle.std.specs.Prelude.{◌≡◌, ◌+◌, ◌<◌, ◌≤◌, List, length, take, IfOk, IfErr, OnOk};
 ghost use Rattle.std.specs.List.{flat_map};
 ghost use Rattle.std.specs.Io.KnownBytes.{Appends};
-ghost use Rattle.recfile.specs.Whole.{IsWhole};
+ghost use Rattle.recfile.specs.Whole.{IsWhole, longest_script};
 ghost use Rattle.command_text.specs.Script.{entries_of};
 ghost use Rattle.command_text.specs.Texts.{text_of};
 ghost use Rattle.recfile.specs.Run.{Session, Finished, Faulted, ReadStops, ScriptStopsAt, IsUnsent, commands};
@@ -37,6 +37,9 @@ pub enum ScriptFault {
 // The greatest length of a script.
 const SCRIPT_LIMIT: usize = 1_048_576;
 
+// How many bytes of it are read at a time.
+const CHUNK: usize = 4096;
+
 // All that the reader has, in at most 1,048,578 reads. Faults: ScriptTooLong, ReadFault, Memory { done: 0 },
 // each where it is met.
 fn read_script<L: Ledger, R: Read>(
@@ -47,12 +50,12 @@ fn read_script<L: Ledger, R: Read>(
     ensures whole { IfOk result (λ script. IsWhole (R.remaining reader.old)
         (R.remaining reader.new) script.items) }
     ensures stops { IfErr result (ReadStops (R.remaining reader.old) (R.remaining reader.new)) }
-    ensures reads { reads.new ≤ reads.old + 1048578 }
+    ensures reads { reads.new ≤ reads.old + (longest_script + 2) }
 {
     let mut script = Vec::new(alloc);
-    let mut chunk = [0; 4096];
+    let mut chunk = [0; CHUNK];
     for turn in 0..SCRIPT_LIMIT + 2 {
-        let room = (SCRIPT_LIMIT + 1 - script.len()).min(4096);
+        let room = (SCRIPT_LIMIT + 1 - script.len()).min(CHUNK);
         if room == 0 {
             return Err(ScriptFault::ScriptTooLong);
         }
@@ -124,7 +127,7 @@ pub fn run_script_counted<L: Ledger, T: Table, R: Read, W: Write>(
     ensures faulted { IfErr result (Faulted (R.remaining reader.old) (R.remaining reader.new)
         (W.contents writer.old) (W.contents writer.new)
         (seen T.TableState file.old) (seen T.TableState file.new)) }
-    ensures reads { reads.new ≤ reads.old + 1048578 }
+    ensures reads { reads.new ≤ reads.old + (longest_script + 2) }
 {
     match read_script(alloc, reader, reads) {
         Ok(script) => run_lines(alloc, &script, writer, file),
@@ -139,7 +142,7 @@ fn run_lines<T: Table, W: Write>(
     writer: &mut W,
     file: &mut RecordFile<T>,
 ) -> Result<u32, ScriptFault>
-    requires { length script.now ≤ 1048576 }
+    requires { length script.now ≤ longest_script }
     ensures finished { IfOk result (λ done. (replies : List Reply)
         × Session (seen T.TableState file.old) (entries_of script.now) replies
         (seen T.TableState file.new)

@@ -63,7 +63,7 @@ fn records_option<'a>(alloc: Global) -> Arg<'a> {
         .help("Records that the file may have, 1 to 1000000")
         .default_value("1000000")
         .action(ArgAction::Set)
-        .value_parser(value_parser!(u32).range(1..=1000000))
+        .value_parser(value_parser!(u32).range(1..=i64::from(MOST_RECORDS)))
 }
 
 fn log_option<'a>(alloc: Global) -> Arg<'a> {
@@ -73,7 +73,7 @@ fn log_option<'a>(alloc: Global) -> Arg<'a> {
         .help("Log records that the session may need, 2 to 4000000")
         .default_value("4000000")
         .action(ArgAction::Set)
-        .value_parser(value_parser!(u32).range(2..=4000000))
+        .value_parser(value_parser!(u32).range(2..=i64::from(MOST_LOG_RECORDS)))
 }
 
 fn begins_option<'a>(alloc: Global) -> Arg<'a> {
@@ -83,7 +83,7 @@ fn begins_option<'a>(alloc: Global) -> Arg<'a> {
         .help("Transactions that the session may begin, 1 to 1000000")
         .default_value("1000000")
         .action(ArgAction::Set)
-        .value_parser(value_parser!(u32).range(1..=1000000))
+        .value_parser(value_parser!(u32).range(1..=i64::from(MOST_BEGINS)))
 }
 
 fn with_limits<'a>(alloc: Global, command: Command<'a>) -> Result<Command<'a>, AllocError> {

@@ -13,6 +13,7 @@ use crate::journal::JournalStore;
 use crate::outcome::{CLOSED, MEMORY, NO_SUCH_ENTRY, NOT_CLOSED, OK, Outcome};
 use crate::shown::StepShown;
 use btree_delete::TreeTable;
+use rec_types::PAGE_WIDTH;
 use record_file::StillOpen;
 use std::alloc::Global;
 
@@ -125,7 +126,7 @@ pub extern "C" fn recfile_step_count(alloc: Global, file: &mut RecFile, n: &mut 
 }
 
 // A step, and the page that it writes.
-fn step(held: &mut Held, i: u64, told: &mut StepShown, page: &mut [u8; 4096]) -> i32
+fn step(held: &mut Held, i: u64, told: &mut StepShown, page: &mut [u8; PAGE_WIDTH]) -> i32
     ensures { StepAt i result told.new page.old page.new held.old held.new }
 {
     *told = StepShown::default();
@@ -148,7 +149,7 @@ pub extern "C" fn recfile_step(
     file: &mut RecFile,
     i: u64,
     told: &mut StepShown,
-    page: &mut [u8; 4096],
+    page: &mut [u8; PAGE_WIDTH],
 ) -> i32
     ensures { OnHeld ((result ≡ pos closed) × (told.new ≡ no_step) × (page.new ≡ page.old))
         file.old.slot.value file.new.slot.value

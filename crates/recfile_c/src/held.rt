@@ -2,7 +2,7 @@
 use crate::file_table::FileTable;
 use crate::journal::JournalStore;
 use btree_delete::TreeTable;
-use rec_types::{Entry, Key};
+use rec_types::{Entry, Key, PAGE_WIDTH};
 use record_file::RecordFile;
 
 /// An open file, with the lists that were made last.
@@ -20,7 +20,7 @@ pub struct Session {
 #[derive(Drop)]
 pub enum Held {
     /// The pages of a file that is to be opened.
-    Image(Vec<[u8; 4096]>),
+    Image(Vec<[u8; PAGE_WIDTH]>),
     /// An open file.
     Open(Session),
     /// A table whose closing found no memory.

@@ -6,6 +6,7 @@ ghost use Rattle.page_store.specs.Journal.{carry, carried};
 ghost use Rattle.recfile_c.specs.Steps.{pages_of};
 
 use page_store::{Shape, Step, Store, StoreFault, StoreState};
+use rec_types::PAGE_WIDTH;
 use std::alloc::Global;
 use std::marker::Model;
 
@@ -14,7 +15,7 @@ use std::marker::Model;
 /// in, the steps, and the counts of a store.
 #[derive(Drop)]
 pub struct JournalStore {
-    opened: Vec<[u8; 4096]>,
+    opened: Vec<[u8; PAGE_WIDTH]>,
     steps: Vec<Step>,
     count: u64,
     reads: u64,
@@ -41,14 +42,14 @@ impl Model for JournalStore {
 }
 
 // A page of zeros.
-fn blank_page() -> [u8; 4096]
+fn blank_page() -> [u8; PAGE_WIDTH]
     ensures { result ≡ blank }
 {
-    [0; 4096]
+    [0; PAGE_WIDTH]
 }
 
 // What a step leaves of page n, and of the number of pages.
-fn follow(step: &Step, n: u32, count: &mut u64, page: &mut [u8; 4096])
+fn follow(step: &Step, n: u32, count: &mut u64, page: &mut [u8; PAGE_WIDTH])
     ensures { (pages : List (List ℕ))
         → count.old ≡ length pages → page.old ≡ slice_index_or pages n blank
         → (count.new ≡ length (carry pages step.now))
@@ -66,7 +67,7 @@ fn follow(step: &Step, n: u32, count: &mut u64, page: &mut [u8; 4096])
 }
 
 // Page n of the pages that steps leave.
-fn page_after(opened: &[[u8; 4096]], steps: &[Step], n: u32) -> [u8; 4096]
+fn page_after(opened: &[[u8; PAGE_WIDTH]], steps: &[Step], n: u32) -> [u8; PAGE_WIDTH]
     requires { n < length (carried opened.now steps.now) }
     ensures { slice_get (carried opened.now steps.now) n ≡ Some result }
 {
@@ -83,7 +84,7 @@ fn page_after(opened: &[[u8; 4096]], steps: &[Step], n: u32) -> [u8; 4096]
 
 impl JournalStore {
     /// A store over these pages, with no step.
-    pub fn new(alloc: Global, pages: Vec<[u8; 4096]>) -> JournalStore
+    pub fn new(alloc: Global, pages: Vec<[u8; PAGE_WIDTH]>) -> JournalStore
         ensures { result ≡ record {
           opened = pages.items;
           steps = [];
@@ -165,13 +166,13 @@ impl Store for JournalStore {
         })
     }
 
-    fn read(&mut self, n: u32, to: &mut [u8; 4096]) -> Result<(), StoreFault> {
+    fn read(&mut self, n: u32, to: &mut [u8; PAGE_WIDTH]) -> Result<(), StoreFault> {
         self.reads = self.reads.saturating_add(1);
         *to = page_after(&self.opened, &self.steps, n);
         Ok(())
     }
 
-    fn write(&mut self, n: u32, from: &[u8; 4096]) -> Result<(), StoreFault> {
+    fn write(&mut self, n: u32, from: &[u8; PAGE_WIDTH]) -> Result<(), StoreFault> {
         self.note(Step::Write(n, *from), self.count)
     }
 

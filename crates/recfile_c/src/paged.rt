@@ -11,7 +11,7 @@ use crate::held::{Held, Session};
 use crate::journal::JournalStore;
 use crate::outcome::{BAD_LENGTH, MEMORY, NOT_CLOSED, OK, Outcome};
 use btree_delete::TreeTable;
-use rec_types::Limits;
+use rec_types::{Limits, PAGE_WIDTH};
 use record_file::RecordFile;
 use std::alloc::Global;
 
@@ -30,7 +30,7 @@ fn session_over(alloc: Global, table: TreeTable<JournalStore>, limits: Limits) -
 // Opens a file of these pages. Faults: those of limits in their order, and then those of a file that is not opened.
 fn open_pages(
     alloc: Global,
-    pages: Vec<[u8; 4096]>,
+    pages: Vec<[u8; PAGE_WIDTH]>,
     records: u32,
     log_records: u32,
     begins: u32,
@@ -80,7 +80,7 @@ fn take_image(alloc: Global, file: &mut RecFile) -> Option<Box<Held, Global>>
 }
 
 // Adds a page to those of a file that is to be opened. Faults: NOT_CLOSED, MEMORY.
-fn add_page(held: &mut Held, page: &[u8; 4096]) -> i32
+fn add_page(held: &mut Held, page: &[u8; PAGE_WIDTH]) -> i32
     ensures { AddsPage page.now result held.old held.new }
 {
     match held {
@@ -94,7 +94,7 @@ fn add_page(held: &mut Held, page: &[u8; 4096]) -> i32
 
 /// Hands in the next page of a file that is to be opened, to a closed handle. Statuses: OK, NOT_CLOSED, MEMORY.
 #[unsafe(no_mangle)]
-pub extern "C" fn recfile_page(alloc: Global, file: &mut RecFile, page: &[u8; 4096]) -> i32
+pub extern "C" fn recfile_page(alloc: Global, file: &mut RecFile, page: &[u8; PAGE_WIDTH]) -> i32
     ensures { OnImage (result ≡ pos memory) file.old.slot.value file.new.slot.value
         (AddsPage page.now result) }
 {
@@ -109,7 +109,7 @@ pub extern "C" fn recfile_page(alloc: Global, file: &mut RecFile, page: &[u8; 40
 // Opens a file of these pages; where it is not opened, none is left.
 fn opened_image(
     alloc: Global,
-    pages: Vec<[u8; 4096]>,
+    pages: Vec<[u8; PAGE_WIDTH]>,
     records: u32,
     log_records: u32,
     begins: u32,

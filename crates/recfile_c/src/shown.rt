@@ -3,7 +3,7 @@ ghost use Rattle.std.specs.Prelude.{◌≡◌, if◌then◌else◌};
 ghost use Rattle.recfile_c.specs.Shown.{step_shown, page_left};
 
 use page_store::Step;
-use rec_types::{Entry, Key, Record};
+use rec_types::{Entry, KEY_WIDTH, Key, PAGE_WIDTH, RECORD_WIDTH, Record};
 use record_file::{Status, StatusFault};
 use tx_log::LogRecord;
 
@@ -11,7 +11,7 @@ use tx_log::LogRecord;
 #[repr(C)]
 #[derive(Clone, Copy)]
 pub struct KeyBytes {
-    pub bytes: [u8; 16],
+    pub bytes: [u8; KEY_WIDTH],
     pub len: u8,
 }
 
@@ -19,7 +19,7 @@ pub struct KeyBytes {
 #[repr(C)]
 #[derive(Clone, Copy)]
 pub struct Found {
-    pub bytes: [u8; 32],
+    pub bytes: [u8; RECORD_WIDTH],
     pub len: u8,
     pub is_there: u8,
 }
@@ -79,7 +79,7 @@ impl Default for KeyBytes {
     /// No key.
     fn default() -> KeyBytes {
         KeyBytes {
-            bytes: [0; 16],
+            bytes: [0; KEY_WIDTH],
             len: 0,
         }
     }
@@ -94,7 +94,7 @@ impl From<&Key> for KeyBytes {
     /// The bytes of a key.
     fn from(key: &Key) -> KeyBytes {
         let from = key.bytes();
-        let mut bytes = [0; 16];
+        let mut bytes = [0; KEY_WIDTH];
         bytes[..from.len()].copy_from_slice(from);
         KeyBytes {
             bytes,
@@ -112,7 +112,7 @@ impl Default for Found {
     /// No record.
     fn default() -> Found {
         Found {
-            bytes: [0; 32],
+            bytes: [0; RECORD_WIDTH],
             len: 0,
             is_there: 0,
         }
@@ -128,7 +128,7 @@ impl From<&Record> for Found {
     /// A record.
     fn from(value: &Record) -> Found {
         let from = value.bytes();
-        let mut bytes = [0; 32];
+        let mut bytes = [0; RECORD_WIDTH];
         bytes[..from.len()].copy_from_slice(from);
         Found {
             bytes,
@@ -384,7 +384,7 @@ impl Default for StepShown {
 
 impl StepShown {
     /// A step, and the page that it writes.
-    pub(crate) fn of(step: &Step, page: &mut [u8; 4096]) -> StepShown
+    pub(crate) fn of(step: &Step, page: &mut [u8; PAGE_WIDTH]) -> StepShown
         ensures told { step_shown result page.new ≡ step.now }
         ensures page { page.new ≡ page_left step.now page.old }
     {

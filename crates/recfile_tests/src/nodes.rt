@@ -5,11 +5,10 @@ ghost use Rattle.btree_node.specs.Spelling.{SonsFit, CanStand, IsSpelt};
 
 use arrayvec::ArrayVec;
 use btree_node::{
-    Header, HeaderFault, KEY_WIDTH, Node, NodeFault, NodeKind, RECORD_WIDTH, catenate, count_in,
-    decode, decode_into, distribute, encode, insert_in, place_of, read_header, replace_in, split,
-    write_header,
+    Header, HeaderFault, Node, NodeFault, NodeKind, catenate, count_in, decode, decode_into,
+    distribute, encode, insert_in, place_of, read_header, replace_in, split, write_header,
 };
-use rec_types::{Key, Record};
+use rec_types::{KEY_WIDTH, Key, RECORD_WIDTH, Record};
 use std::process::Abort;
 use std::test::Fail;
 

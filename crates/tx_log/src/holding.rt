@@ -1,4 +1,4 @@
-ghost use Rattle.std.specs.Prelude.{◌≡◌, ℕ, ◌+◌, ◌<◌, ◌≤◌, Bool, List, IsSome, None, Some, length, reverse, OnOk, OnErr, if◌then◌else◌};
+ghost use Rattle.std.specs.Prelude.{◌≡◌, ℕ, ◌+◌, ◌^◌, ◌-◌, ◌<◌, ◌≤◌, Bool, List, IsSome, None, Some, length, reverse, OnOk, OnErr, if◌then◌else◌};
 ghost use Rattle.std.specs.List.{list_any};
 ghost use Rattle.indexmap.specs.IndexMap.{index_map_len};
 ghost use Rattle.tx_log.specs.Log.{chain, IsNumbered};
@@ -72,7 +72,7 @@ fn place_of_key(holdings: &Holdings, key: &Key) -> usize
 /// Counts one more live change at a key that is there, and answers whether the key was absent.
 pub fn raise(holdings: &mut Holdings, key: &Key, tx: TxId, absent: bool) -> bool
     requires there { IsSome (held holdings.old key.now) }
-    requires most { (h : Holding) → held holdings.old key.now ≡ Some h → h.live < 4294967295 }
+    requires most { (h : Holding) → held holdings.old key.now ≡ Some h → h.live < 2 ^ 32 - 1 }
     ensures { (h : Holding) → held holdings.old key.now ≡ Some h → (result ≡ h.absent)
         × Places (held holdings.old) (held holdings.new) key.now
         (Some (record { owner = tx; live = h.live + 1; absent = absent })) }

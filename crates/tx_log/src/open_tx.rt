@@ -1,4 +1,4 @@
-ghost use Rattle.std.specs.Prelude.{◌≡◌, ℕ, ◌+◌, ◌-◌, ◌<◌, ◌≤◌, [], ◌∷◌, ◌++◌, length, slice_get, take, None, Some, option_map, IsSome, IsTrue, if◌then◌else◌};
+ghost use Rattle.std.specs.Prelude.{◌≡◌, ℕ, ◌+◌, ◌^◌, ◌-◌, ◌<◌, ◌≤◌, [], ◌∷◌, ◌++◌, length, slice_get, take, None, Some, option_map, IsSome, IsTrue, if◌then◌else◌};
 ghost use Rattle.indexmap.specs.IndexMap.{index_map_len};
 ghost use Rattle.tx_log.specs.Transactions.{place_in, most_savepoints};
 ghost use Rattle.tx_log.specs.LogState.{rollback_phase};
@@ -156,7 +156,7 @@ pub fn take_out(txs: &mut OpenTxs, at: usize) -> OpenTx
 /// A count after one of the things that were counted changed.
 pub fn recount(count: u32, was: bool, will: bool) -> u32
     requires some { IsTrue was → 0 < count }
-    requires most { count < 4294967295 }
+    requires most { count < 2 ^ 32 - 1 }
     ensures { result + (if was then 1 else 0) ≡ count + (if will then 1 else 0) }
 {
     match (was, will) {
