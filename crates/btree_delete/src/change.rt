@@ -45,10 +45,8 @@ fn is_full_for<S: Store>(
     if tree.count < limit {
         return Ok(false);
     }
-    match told(look_up(pages, tree, key)) {
-        Ok(found) => Ok(found.is_none()),
-        Err(fault) => Err(fault),
-    }
+    let found = told(look_up(pages, tree, key))?;
+    Ok(found.is_none())
 }
 
 /// Puts the record at the key, and answers the new tree and what stood there. Faults: Device, Damaged,
@@ -88,11 +86,10 @@ fn put<S: Store>(
     ensures reads { pages.new.reads ≤ pages.old.reads + 2 * tree.now.height }
 {
     let _count = pages.page_count();
-    match is_full_for(pages, tree, limit, &key) {
-        Ok(false) => told(insert_in_place(alloc, pages, tree, key, value)),
-        Ok(true) => Err(TableFault::NoRoom),
-        Err(fault) => Err(fault),
+    if is_full_for(pages, tree, limit, &key)? {
+        return Err(TableFault::NoRoom);
     }
+    told(insert_in_place(alloc, pages, tree, key, value))
 }
 
 /// Puts a record at the key, or takes the key out, and answers the new tree and what stood there.

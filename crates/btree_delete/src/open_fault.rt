@@ -102,14 +102,9 @@ pub(crate) fn check_header<S: Store>(store: &mut S, pages: u32) -> Result<Header
     if store.read(0, &mut page).is_err() {
         return Err(OpenFault::Device);
     }
-    match read_header(&page) {
-        Err(fault) => Err(header_fault(fault)),
-        Ok(header) => {
-            if header.pages == pages && header.root < pages {
-                Ok(header)
-            } else {
-                Err(OpenFault::BadHeader)
-            }
-        }
+    let header = read_header(&page).map_err(header_fault)?;
+    if header.pages != pages || header.root >= pages {
+        return Err(OpenFault::BadHeader);
     }
+    Ok(header)
 }

@@ -69,10 +69,7 @@ fn measure_file<S: Store>(
     ensures unchanged { pages.new
         ≡ record pages.old { reads = pages.new.reads; failures = pages.new.failures } }
 {
-    let (tree, free) = match measure_tree(alloc, pages, header.order, header.root) {
-        Ok(measured) => measured,
-        Err(fault) => return Err(tree_fault(fault)),
-    };
+    let (tree, free) = measure_tree(alloc, pages, header.order, header.root).map_err(tree_fault)?;
     if tree.count != header.count {
         return Err(OpenFault::WrongCount);
     }

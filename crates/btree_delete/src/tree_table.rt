@@ -411,13 +411,9 @@ impl<S: Store> Table for TreeTable<S> {
     {
         let changed = change(self.alloc, &mut self.pages, &self.tree, self.limit, key, to);
         self.faults.note(&changed);
-        match changed {
-            Ok((tree, before)) => {
-                self.tree = tree;
-                Ok(before)
-            }
-            Err(fault) => Err(fault),
-        }
+        let (tree, before) = changed?;
+        self.tree = tree;
+        Ok(before)
     }
 
     /// The records in key order. It makes at most as many reads of the store as the tree has pages.

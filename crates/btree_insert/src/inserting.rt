@@ -137,10 +137,9 @@ fn grow_tree<S: Store>(
     if !in_place {
         return grow_below(pages, edit, tree, element, false);
     }
-    match grow_in_one(pages, edit, tree, element) {
-        Ok(Some(changed)) => Ok(changed),
-        Ok(None) => grow_below(pages, edit, tree, element, true),
-        Err(_) => Err(TreeFault::Memory),
+    match grow_in_one(pages, edit, tree, element)? {
+        Some(changed) => Ok(changed),
+        None => grow_below(pages, edit, tree, element, true),
     }
 }
 

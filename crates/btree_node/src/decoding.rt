@@ -30,10 +30,8 @@ pub fn decode(page: &[u8; PAGE_WIDTH], k: u16) -> Result<Node, NodeFault>
     ensures fault { IfErr result (λ e. FirstFault page.now k e) }
 {
     let mut node = Node::blank();
-    match decode_into(page, k, &mut node) {
-        Ok(()) => Ok(node),
-        Err(fault) => Err(fault),
-    }
+    decode_into(page, k, &mut node)?;
+    Ok(node)
 }
 
 /// The same as `decode`, into a node that there is: nothing as large as a node is made or moved. After
@@ -62,13 +60,8 @@ fn decode_by_tests(page: &[u8; PAGE_WIDTH], k: u16, node: &mut Node) -> Result<(
         → IsOk result × (node.new ≡ n) }
     ensures fault { IfErr result (λ e. FirstFault page.now k e) }
 {
-    match decode_in(FIRST_LAYOUT, page, k) {
-        Ok(read) => {
-            *node = read;
-            Ok(())
-        }
-        Err(fault) => Err(fault),
-    }
+    *node = decode_in(FIRST_LAYOUT, page, k)?;
+    Ok(())
 }
 
 /// The node that the page spells in a layout.

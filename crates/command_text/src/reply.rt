@@ -231,8 +231,6 @@ fn reply_text(alloc: Global, reply: &Reply) -> Result<String, AllocError>
 pub fn write_reply(alloc: Global, reply: &Reply) -> Result<Vec<u8>, Memory>
     ensures { IfOk result (λ text. text.items ≡ text_of reply.now) }
 {
-    match reply_text(alloc, reply) {
-        Ok(text) => Ok(text.into_bytes()),
-        Err(_) => Err(Memory),
-    }
+    let text = reply_text(alloc, reply).map_err(|_| Memory)?;
+    Ok(text.into_bytes())
 }

@@ -115,14 +115,11 @@ fn end_one<T: Table>(file: &mut RecordFile<T>, tx: TxId) -> Result<bool, EndFaul
     ensures asks { Asks (seen T.TableState file.old) (end_cause result)
         (seen T.TableState file.new) }
 {
-    match go_on(file, tx) {
-        Ok(false) => Ok(false),
-        Ok(true) => match give_up(file, tx) {
-            Ok(()) => Ok(true),
-            Err(fault) => Err(fault),
-        },
-        Err(fault) => Err(fault),
+    if !go_on(file, tx)? {
+        return Ok(false);
     }
+    give_up(file, tx)?;
+    Ok(true)
 }
 
 fn one_if(test: bool) -> u32
@@ -146,10 +143,7 @@ pub fn end_all<T: Table>(file: &mut RecordFile<T>) -> Result<u32, EndFault>
 {
     let mut ended = 0;
     for number in 0..file.begun() {
-        match end_one(file, TxId(number + 1)) {
-            Ok(was_open) => ended += one_if(was_open),
-            Err(fault) => return Err(fault),
-        }
+        ended += one_if(end_one(file, TxId(number + 1))?);
     }
     let _begun = file.begun();
     Ok(ended)

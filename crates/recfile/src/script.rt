@@ -129,10 +129,8 @@ pub fn run_script_counted<L: Ledger, T: Table, R: Read, W: Write>(
         (seen T.TableState file.old) (seen T.TableState file.new)) }
     ensures reads { reads.new ≤ reads.old + (longest_script + 2) }
 {
-    match read_script(alloc, reader, reads) {
-        Ok(script) => run_lines(alloc, &script, writer, file),
-        Err(fault) => Err(fault),
-    }
+    let script = read_script(alloc, reader, reads)?;
+    run_lines(alloc, &script, writer, file)
 }
 
 // Runs the lines of a script, one after another.
@@ -177,10 +175,7 @@ fn send<W: Write>(alloc: Global, writer: &mut W, reply: Reply, done: u32) -> Res
     let Ok(text) = write_reply(alloc, &reply) else {
         return Err(ScriptFault::Memory { done });
     };
-    match write_text(writer, &text) {
-        Ok(()) => Ok(()),
-        Err(_) => Err(ScriptFault::WriteFault { done }),
-    }
+    write_text(writer, &text).map_err(|_| ScriptFault::WriteFault { done })
 }
 
 // Writes a text whole. At a write that fails, or takes nothing, it answers how many bytes are written.

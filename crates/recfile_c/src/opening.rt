@@ -26,10 +26,7 @@ fn memory_session(alloc: Global, limits: Limits) -> Held
 fn boxed(alloc: Global, held: Held) -> Result<Box<Held, Global>, i32>
     ensures { MakesBox held result }
 {
-    match Box::new(alloc, held) {
-        Ok(held) => Ok(held),
-        Err(_) => Err(MEMORY),
-    }
+    Box::new(alloc, held).map_err(|_| MEMORY)
 }
 
 // An empty file in memory. Faults: those of limits in their order, MEMORY.
@@ -41,10 +38,10 @@ fn memory(
 ) -> Result<Box<Held, Global>, i32>
     ensures { MakesMemory (limits_of records log_records begins) (unboxed result) }
 {
-    match Limits::new(records, log_records, begins) {
-        Ok(limits) => boxed(alloc, memory_session(alloc, limits)),
-        Err(fault) => Err(Outcome::from(fault).status),
-    }
+    let limits = Limits::new(records, log_records, begins)
+        .map_err(Outcome::from)
+        .map_err(|outcome| outcome.status)?;
+    boxed(alloc, memory_session(alloc, limits))
 }
 
 /// Opens a closed handle on an empty file in memory. Statuses: OK, NOT_CLOSED, BAD_RECORDS, BAD_LOG, BAD_BEGINS,

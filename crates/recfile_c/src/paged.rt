@@ -37,10 +37,7 @@ fn open_pages(
 ) -> Result<Held, Outcome>
     ensures { OpensFrom pages.items (limits_of records log_records begins) result }
 {
-    let limits = match Limits::new(records, log_records, begins) {
-        Ok(limits) => limits,
-        Err(fault) => return Err(Outcome::from(fault)),
-    };
+    let limits = Limits::new(records, log_records, begins).map_err(Outcome::from)?;
     match TreeTable::open_from(alloc, JournalStore::new(alloc, pages), limits) {
         Ok(table) => Ok(session_over(alloc, table, limits)),
         Err(stop) => Err(Outcome::from(stop.fault)),
@@ -57,10 +54,7 @@ fn create_pages(
 ) -> Result<Held, Outcome>
     ensures { CreatesOf order (limits_of records log_records begins) result }
 {
-    let limits = match Limits::new(records, log_records, begins) {
-        Ok(limits) => limits,
-        Err(fault) => return Err(Outcome::from(fault)),
-    };
+    let limits = Limits::new(records, log_records, begins).map_err(Outcome::from)?;
     let store = JournalStore::new(alloc, Vec::new(alloc));
     match TreeTable::create(alloc, store, order, limits) {
         Ok(table) => Ok(session_over(alloc, table, limits)),

@@ -108,10 +108,7 @@ fn exact<T: Table>(file: &RecordFile<T>)
 fn keep(answers: &mut Vec<Answer>, answer: Answer) -> Result<(), Memory>
     ensures { OnOk result (answers.new.items ≡ answers.old.items ++ answer ∷ []) }
 {
-    match answers.push(answer) {
-        Ok(()) => Ok(()),
-        Err(_) => Err(Memory),
-    }
+    answers.push(answer).map_err(|_| Memory)
 }
 
 /// Makes any calls one after another, and answers what each answered. They are a run, and the file is

@@ -9,8 +9,8 @@ use Rattle.btree_delete.specs.TableAnswers.{IsSet, MayRefuse}
 use Rattle.btree_delete.proofs.TableAnswerLemmas.{put_answer}
 use Rattle.btree_delete.proofs.change.put.Goals as goal
 
-pub returns-in-Ok-false-clause-set : goal.returns-in-Ok-false-clause-set
-returns-in-Ok-false-clause-set g c = λ steady es us fills few.
+pub returns-clause-set : goal.returns-clause-set
+returns-clause-set g c = λ steady es us fills few.
     let T = c.args.tree.now in
     let P = c.is_full_for.new.pages.pages in
     let Q = c.insert_in_place.new.pages.pages in
@@ -18,9 +18,9 @@ returns-in-Ok-false-clause-set g c = λ steady es us fills few.
     let pages_is = ap (λ (v : PagesView). v.pages) same in
     let long = ap length pages_is in
     let there = subst (λ (ps : List (Option (List ℕ))). Fills ps T es us) (sym pages_is) fills in
-    let full = c.in-Ok-false.ensures.full steady es us fills.holds in
+    let full = c.in_ok-is_full_for.ensures.full steady es us fills.holds in
     let room : lookup_in c.args.key es ≡ None → T.count < c.args.limit = λ none.
-    let low : c.args.limit ≤ T.count → ⊥ = λ high. absurd (let yes_is = sym (full.1 (none, high)) ∙ c.in-Ok-false.field-0-test in cc) in
+    let low : c.args.limit ≤ T.count → ⊥ = λ high. absurd (let yes_is = sym (full.1 (none, high)) ∙ c.if-branch.false in cc) in
     omega (arith, low) in
     let count = c.page_count-count.ensures in
     subst (λ (r : Result (Tree × Option (List ℕ)) TableFault). MatchResult r (λ x. IsSet Q x.0 c.args.limit es c.args.key (Some c.args.value) x.1) (MayRefuse c.args.limit T.count es c.args.key (Some c.args.value))) (sym c.told.ensures)

@@ -1,14 +1,14 @@
 use Rattle.std.proofs.Common.{rules}
 use Rattle.btree_node.proofs.decoding.decode.Goals as goal
 
-pub returns-in-Ok-clause-found : goal.returns-in-Ok-clause-found
-returns-in-Ok-clause-found c = search rules
+pub returns-clause-found : goal.returns-clause-found
+returns-clause-found c = search rules
 
-pub returns-in-Ok-clause-only : goal.returns-in-Ok-clause-only
-returns-in-Ok-clause-only c = search rules
+pub returns-clause-only : goal.returns-clause-only
+returns-clause-only c = search rules
 
-pub returns-in-Err-clause-only : goal.returns-in-Err-clause-only
-returns-in-Err-clause-only c = search rules
+pub returns-in_err-decode_into-clause-only : goal.returns-in_err-decode_into-clause-only
+returns-in_err-decode_into-clause-only c = search rules
 
-pub returns-in-Err-clause-fault : goal.returns-in-Err-clause-fault
-returns-in-Err-clause-fault c = search rules
+pub returns-in_err-decode_into-clause-fault : goal.returns-in_err-decode_into-clause-fault
+returns-in_err-decode_into-clause-fault c = search rules

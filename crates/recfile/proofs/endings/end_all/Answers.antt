@@ -1,4 +1,5 @@
 use Rattle.std.proofs.Common.{◌≡◌, ℕ, ◌+◌, Some, None, subst, ◌∙◌, arith}
+use Rattle.std.proofs.lemmas.Result.{err_from_is_err_and}
 use Rattle.rec_types.specs.History.{replay}
 use Rattle.record_file.specs.Abstract.{open_of}
 use Rattle.record_file.specs.Runs.{seen}
@@ -16,20 +17,24 @@ loop-number-init g c = record {
   few = omega arith;
 }
 
-pub returns-in-Err-clause-stopped : goal.returns-in-Err-clause-stopped
-returns-in-Err-clause-stopped g c = stops_ending c.args.file.now.file c.loop-number.file.file c.end_one.new.file.file (c.loop-number.number + 1) c.in-Err.fault c.loop-number.invariant.ended c.in-Err.ensures.stopped c.in-Err.ensures.number
+pub returns-in_err-end_one-clause-stopped : goal.returns-in_err-end_one-clause-stopped
+returns-in_err-end_one-clause-stopped g c =
+    let p = err_from_is_err_and c.from_residual.result c.from_residual.ensures.1 in
+    rw (p.1, p.2) (stops_ending c.args.file.now.file c.loop-number.file.file c.end_one.new.file.file (c.loop-number.number + 1) c.in_err-end_one.field-0.0 c.loop-number.invariant.ended c.in_err-end_one.ensures.stopped c.in_err-end_one.ensures.number)
 
-pub returns-in-Err-clause-asks : goal.returns-in-Err-clause-asks
-returns-in-Err-clause-asks g c = asks_on (seen g.T.TableState c.args.file.now) (seen g.T.TableState c.loop-number.file) (seen g.T.TableState c.end_one.new.file) (Some (stop_of c.in-Err.fault)) c.loop-number.invariant.asks c.in-Err.ensures.asks
+pub returns-in_err-end_one-clause-asks : goal.returns-in_err-end_one-clause-asks
+returns-in_err-end_one-clause-asks g c =
+    let p = err_from_is_err_and c.from_residual.result c.from_residual.ensures.1 in
+    rw (p.1, p.2) (asks_on (seen g.T.TableState c.args.file.now) (seen g.T.TableState c.loop-number.file) (seen g.T.TableState c.end_one.new.file) (Some (stop_of c.in_err-end_one.field-0.0)) c.loop-number.invariant.asks c.in_err-end_one.ensures.asks)
 
 pub loop-number-preserved : goal.loop-number-preserved
 loop-number-preserved g c =
     let known = c.loop-number.invariant in
     record {
-      ended = below_next c.args.file.now.file c.loop-number.file.file c.end_one.new.file.file (c.loop-number.number + 1) c.in-Ok.was_open known.ended c.in-Ok.ensures.ended;
-      asks = asks_on (seen g.T.TableState c.args.file.now) (seen g.T.TableState c.loop-number.file) (seen g.T.TableState c.end_one.new.file) None known.asks c.in-Ok.ensures.asks;
-      count = count_next c.loop-number.file.file c.end_one.new.file.file (c.loop-number.number + 1) c.loop-number.ended c.one_if-ended.result _ c.in-Ok.was_open known.count c.in-Ok.ensures.ended c.one_if-ended.ensures;
-      few = few_next c.loop-number.number c.loop-number.ended c.one_if-ended.result c.in-Ok.was_open known.few c.one_if-ended.ensures;
+      ended = below_next c.args.file.now.file c.loop-number.file.file c.end_one.new.file.file (c.loop-number.number + 1) c.in_ok-end_one.field-0 known.ended c.in_ok-end_one.ensures.ended;
+      asks = asks_on (seen g.T.TableState c.args.file.now) (seen g.T.TableState c.loop-number.file) (seen g.T.TableState c.end_one.new.file) None known.asks c.in_ok-end_one.ensures.asks;
+      count = count_next c.loop-number.file.file c.end_one.new.file.file (c.loop-number.number + 1) c.loop-number.ended c.one_if.result _ c.in_ok-end_one.field-0 known.count c.in_ok-end_one.ensures.ended c.one_if.ensures;
+      few = few_next c.loop-number.number c.loop-number.ended c.one_if.result c.in_ok-end_one.field-0 known.few c.one_if.ensures;
     }
 
 pub returns-clause-ended : goal.returns-clause-ended
