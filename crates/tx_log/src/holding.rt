@@ -141,13 +141,11 @@ fn add_idle(holdings: &mut Holdings, key: &Key) -> Result<(), Memory>
         (Some (or_idle (held holdings.old key.now)))) }
     ensures err { OnErr result ((q : List ℕ) → held holdings.new q ≡ held holdings.old q) }
 {
-    match holdings.entry(*key) {
-        Ok(entry) => {
-            entry.or_insert(Holding::idle());
-            Ok(())
-        }
-        Err(_) => Err(Memory),
-    }
+    let Ok(entry) = holdings.entry(*key) else {
+        return Err(Memory);
+    };
+    entry.or_insert(Holding::idle());
+    Ok(())
 }
 
 /// Puts the key in where it isn't there, and takes out the one that was left over. Fault: Memory.

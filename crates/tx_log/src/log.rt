@@ -243,13 +243,11 @@ impl TxLog {
             return Err(BeginFault::BeginsSpent);
         }
         let tx = TxId(self.begun + 1);
-        match self.txs.insert(tx, OpenTx::new()) {
-            Ok(_) => {
-                self.begun = tx.0;
-                Ok(tx)
-            }
-            Err(_) => Err(BeginFault::Memory),
-        }
+        let Ok(_) = self.txs.insert(tx, OpenTx::new()) else {
+            return Err(BeginFault::Memory);
+        };
+        self.begun = tx.0;
+        Ok(tx)
     }
 
     /// Makes room for the next change, at this key, and for taking it back. Fault: Memory, which leaves

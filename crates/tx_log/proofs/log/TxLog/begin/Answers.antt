@@ -8,20 +8,21 @@ use Rattle.tx_log.specs.Finds.{finding, PutsAt}
 use Rattle.tx_log.specs.LogState.{LogState}
 use Rattle.tx_log.specs.Transactions.{fresh}
 use Rattle.tx_log.specs.declared.open_tx.OpenTx.{OpenTx}
+use Rattle.tx_log.proofs.log.TxLog.begin.Goals.{In-Ok}
 use Rattle.tx_log.proofs.log.TxLog.begin.Goals as goal
 
 -- the new transaction is put in
-puts_of : (c : goal.After-self-in-Ok-1) → PutsAt (finding c.self.inside.txs.entries) (finding c.insert.new.self.entries) (c.self.inside.begun + 1) (Some fresh_entry)
+puts_of : (c : In-Ok) → PutsAt (finding c.self.inside.txs.entries) (finding c.insert.new.self.entries) (c.self.inside.begun + 1) (Some fresh_entry)
 puts_of c = λ q. c.in-Ok.ensures.updates.0 (record { 0 = q }) ∙ ap (λ (e : OpenTx). cond (eqb (c.self.inside.begun + 1) q) (Some e) (finding c.self.inside.txs.entries q)) c.new.ensures
 
-pub invariant_of-self-in-Ok : goal.invariant_of-self-in-Ok
-invariant_of-self-in-Ok c =
+pub invariant_of-self-2 : goal.invariant_of-self-2
+invariant_of-self-2 c =
     let l = c.self.inside in
     let bounded = c.self.invariant.bounded in
     record {
-      log_kept = begun_kept (reverse l.records.items) (finding l.txs.entries) (finding c.insert.new.self.entries) l.begun l.pending l.gone c.self.invariant.log_kept (puts_of c);
+      log_kept = begun_kept (reverse l.records.items) (finding l.txs.entries) (finding c.insert.new.self.entries) l.begun l.pending l.gone c.self.invariant.log_kept (puts_of (goal.at.invariant_of-self-2 c).In-Ok);
       marked = c.self.invariant.marked;
-      holding = held_more (reverse l.records.items) (finding l.txs.entries) (finding c.insert.new.self.entries) (held l.holdings) l.begun fresh_entry c.self.invariant.log_kept.fit (puts_of c) (known_last (reverse l.records.items) l.begun (l.begun + 1) (omega arith) c.self.invariant.log_kept.known).1 c.self.invariant.holding;
+      holding = held_more (reverse l.records.items) (finding l.txs.entries) (finding c.insert.new.self.entries) (held l.holdings) l.begun fresh_entry c.self.invariant.log_kept.fit (puts_of (goal.at.invariant_of-self-2 c).In-Ok) (known_last (reverse l.records.items) l.begun (l.begun + 1) (omega arith) c.self.invariant.log_kept.known).1 c.self.invariant.holding;
       busy_keys = c.self.invariant.busy_keys;
       reserved = tt;
       bounded = record {
@@ -34,17 +35,17 @@ invariant_of-self-in-Ok c =
       marks_room = record { held = c.self.invariant.marks_room.held; spare = tt };
     }
 
-pub returns-in-Ok-clause-ok : goal.returns-in-Ok-clause-ok
-returns-in-Ok-clause-ok c =
+pub returns-clause-ok : goal.returns-clause-ok
+returns-clause-ok c =
     let l = c.self.inside in
-    begun_state l.records.items l.txs.entries c.insert.new.self.entries l.begun l.limits l.room (puts_of c)
+    begun_state l.records.items l.txs.entries c.insert.new.self.entries l.begun l.limits l.room (puts_of (goal.at.returns-clause-ok c).In-Ok)
     ∙ ap (λ (s : LogState). record s { begun = s.begun + 1; txs = maps.insert s.txs (s.begun + 1) fresh; room = None }) c.self.view_is
 
 pub returns-then-self-most-clause-kept : goal.returns-then-self-most-clause-kept
 returns-then-self-most-clause-kept c = kept_now c.self.inside c.self.invariant _ c.self.view_is
 
-pub returns-in-Ok-clause-kept : goal.returns-in-Ok-clause-kept
-returns-in-Ok-clause-kept c = kept_now c.self.inside c.self.invariant _ c.self.view_is
+pub returns-clause-kept : goal.returns-clause-kept
+returns-clause-kept c = kept_now c.self.inside c.self.invariant _ c.self.view_is
 
-pub returns-in-Err-clause-kept : goal.returns-in-Err-clause-kept
-returns-in-Err-clause-kept c = kept_now c.self.inside c.self.invariant _ c.self.view_is
+pub returns-in_default-clause-kept : goal.returns-in_default-clause-kept
+returns-in_default-clause-kept c = kept_now c.self.inside c.self.invariant _ c.self.view_is
