@@ -12,8 +12,7 @@ use Rattle.btree_insert.specs.declared.bounds.Bounds.{Bounds}
 use Rattle.btree_insert.specs.Bounds.{Over, Under, AreWithin, Between}
 use Rattle.btree_insert.specs.PageTrees.{Spells, Fan, Body, TreeAt}
 use Rattle.btree_insert.proofs.BoundLemmas.{Between-left, Between-right}
-use Rattle.btree_insert.proofs.SonsAroundLemmas.{Stands}
-use Rattle.btree_insert.proofs.ReachLemmas.{Between-join}
+use Rattle.btree_insert.proofs.ReachLemmas.{Between-join, last_fan, more_fan, head_within}
 use Rattle.btree_insert.proofs.HeadNodeLemmas.{body_each}
 use Rattle.btree_insert.proofs.SonsLemmas.{fan_last, fan_first}
 use Rattle.btree_delete.specs.Survey.{SeenSoFar, mark, AreUnvisited, unreached, after, below_page, below_sons, Sound, Surveyed, allowed}
@@ -199,12 +198,6 @@ inner_exact k pages least left p b n old reached (suc h) level es us kind reache
   back = λ new is. is ∙ ap (λ (s : SeenSoFar). after level es top.below s) reached_is ∙ ap (λ (vs : List ℕ). after level es vs old) (sym top.us_is);
 }
 
-last_fan : (tree : Stands) (sons : List ℕ) (els es : List Element) (us : List ℕ) → length els ≡ 0 → length sons ≡ length els + 1 → tree (get_or sons 0 0) es us → Fan tree sons els es us
-last_fan tree [] els es us none size here = absurd (omega arith)
-last_fan tree (s ∷ []) [] es us none size here = here
-last_fan tree (s ∷ []) (e ∷ els) es us none size here = absurd (omega arith)
-last_fan tree (s ∷ (t ∷ ss)) els es us none size here = absurd (omega arith)
-
 -- a list that is told to be empty is
 pub empty : (els : List Element) (b : Bool) → b ≡ eqb (length els) 0 → b ≡ true → length els ≡ 0
 empty els b is none = grind (arith, nat_tests)
@@ -238,16 +231,6 @@ last_exact k pages left b sons els old h level es us none sound = record {
   unvisited = sound.unvisited;
   leaf = sound.leaf;
 }
-
-more_fan : (tree : Stands) (sons : List ℕ) (els xs ys : List Element) (x : Element) (us vs : List ℕ) → 0 < length els → length sons ≡ length els + 1 → x ≡ get_or els 0 x → tree (get_or sons 0 0) xs us → Fan tree (drop 1 sons) (drop 1 els) ys vs → Fan tree sons els (xs ++ x ∷ ys) (us ++ vs)
-more_fan tree [] els xs ys x us vs some size is first more = absurd (omega arith)
-more_fan tree (s ∷ ss) [] xs ys x us vs some size is first more = absurd (omega arith)
-more_fan tree (s ∷ []) (e ∷ els) xs ys x us vs some size is first more = absurd (omega arith)
-more_fan tree (s ∷ (t ∷ ss)) (e ∷ els) xs ys x us vs some size is first more = (xs, ys, us, vs, first, more, ap (λ (y : Element). xs ++ y ∷ ys) is, refl)
-
-head_within : (b : Bounds) (els : List Element) (x : Element) → 0 < length els → x ≡ get_or els 0 x → Between b els → (Over b.low x.0) × (Under b.high x.0)
-head_within b [] x some is between = absurd (omega arith)
-head_within b (e ∷ els) x some is between = (subst (λ (y : Element). Over b.low y.0) (sym is) between.within.over.0, subst (λ (y : Element). Under b.high y.0) (sym is) between.within.under.0)
 
 -- the first son, the key behind it and the other sons were gone through
 pub more_found : (k : ℕ) (pages : PageMap) (left : ℕ) (b : Bounds) (sons : List ℕ) (els : List Element) (x : Element) (old first second new : SeenSoFar) (r0 r1 r2 : ℕ) → 0 < length els → length sons ≡ length els + 1 → x ≡ get_or els 0 x → Between b els

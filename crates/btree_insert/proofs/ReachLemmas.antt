@@ -93,7 +93,8 @@ adds_inner spells height h p b n out out' left one_less left' is spelled kind so
   fewer = omega (arith, adds.fewer);
 }
 
-last_fan : (tree : Stands) (sons : List ℕ) (els es : List Element) (us : List ℕ) → length els ≡ 0 → length sons ≡ length els + 1 → tree (get_or sons 0 0) es us → Fan tree sons els es us
+-- a fan of one son
+pub last_fan : (tree : Stands) (sons : List ℕ) (els es : List Element) (us : List ℕ) → length els ≡ 0 → length sons ≡ length els + 1 → tree (get_or sons 0 0) es us → Fan tree sons els es us
 last_fan tree [] els es us none size here = absurd (omega arith)
 last_fan tree (s ∷ []) [] es us none size here = here
 last_fan tree (s ∷ []) (e ∷ els) es us none size here = absurd (omega arith)
@@ -110,13 +111,15 @@ adds_last tree sons els b out out' left left' none size adds = record {
   fewer = adds.fewer;
 }
 
-more_fan : (tree : Stands) (sons : List ℕ) (els xs ys : List Element) (x : Element) (us vs : List ℕ) → 0 < length els → length sons ≡ length els + 1 → x ≡ get_or els 0 x → tree (get_or sons 0 0) xs us → Fan tree (drop 1 sons) (drop 1 els) ys vs → Fan tree sons els (xs ++ x ∷ ys) (us ++ vs)
+-- a fan of a first son, the element behind it and the others
+pub more_fan : (tree : Stands) (sons : List ℕ) (els xs ys : List Element) (x : Element) (us vs : List ℕ) → 0 < length els → length sons ≡ length els + 1 → x ≡ get_or els 0 x → tree (get_or sons 0 0) xs us → Fan tree (drop 1 sons) (drop 1 els) ys vs → Fan tree sons els (xs ++ x ∷ ys) (us ++ vs)
 more_fan tree [] els xs ys x us vs some size is first more = absurd (omega arith)
 more_fan tree (s ∷ ss) [] xs ys x us vs some size is first more = absurd (omega arith)
 more_fan tree (s ∷ []) (e ∷ els) xs ys x us vs some size is first more = absurd (omega arith)
 more_fan tree (s ∷ (t ∷ ss)) (e ∷ els) xs ys x us vs some size is first more = (xs, ys, us, vs, first, more, ap (λ (y : Element). xs ++ y ∷ ys) is, refl)
 
-head_within : (b : Bounds) (els : List Element) (x : Element) → 0 < length els → x ≡ get_or els 0 x → Between b els → (Over b.low x.0) × (Under b.high x.0)
+-- the first element of a page is within its bounds
+pub head_within : (b : Bounds) (els : List Element) (x : Element) → 0 < length els → x ≡ get_or els 0 x → Between b els → (Over b.low x.0) × (Under b.high x.0)
 head_within b [] x some is between = absurd (omega arith)
 head_within b (e ∷ els) x some is between = (subst (λ (y : Element). Over b.low y.0) (sym is) between.within.over.0, subst (λ (y : Element). Under b.high y.0) (sym is) between.within.under.0)
 
