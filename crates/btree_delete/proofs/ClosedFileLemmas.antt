@@ -190,7 +190,7 @@ written_back pages stored tail count tree held long tail_is count_is some most h
         begins = record {
           long = record { no_tail = tail_is; some = omega (arith, some, count_is, long); most = omega (arith, most, count_is, long) };
           header = record {
-            fits = record { some_order = some_order; most_order = most_order; pages = omega (arith, most); root = omega (arith, low, most, count_is); count = omega (arith, small) };
+            fits = record { order = (some_order, most_order); pages = omega (arith, most); root = omega (arith, low, most, count_is); count = omega (arith, small) };
             page = first;
           };
           agrees = record { pages = count_is ∙ sym long; root = omega (arith, low, long) };

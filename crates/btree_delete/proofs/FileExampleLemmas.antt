@@ -14,7 +14,7 @@ use Rattle.btree_delete.specs.FileExamples.{three_header, three_records, unclean
 use Rattle.btree_delete.proofs.ClosedFileLemmas.{holds_move}
 
 header_fits : HeaderFits three_header
-header_fits = record { some_order = omega arith; most_order = omega arith; pages = omega arith; root = omega arith; count = omega arith }
+header_fits = record { order = (omega arith, omega arith); pages = omega arith; root = omega arith; count = omega arith }
 
 -- the tree's pages are those of the file
 page_same : (q p : ℕ) → in_file three_records p ≡ at three_pages p → q ≡ p → in_file three_records q ≡ at three_pages q

@@ -26,7 +26,7 @@ unfolding header_bytes magic part state_at
 fields_read h state rest fits = record {
   text = refl;
   version = number_reads 2 8 1 (header_bytes h state ++ rest) refl (omega arith);
-  order = number_reads 2 10 h.order (header_bytes h state ++ rest) refl (omega (arith, fits.most_order));
+  order = number_reads 2 10 h.order (header_bytes h state ++ rest) refl (omega (arith, fits.order.1));
   pages = number_reads 4 12 h.pages (header_bytes h state ++ rest) refl fits.pages;
   root = number_reads 4 16 h.root (header_bytes h state ++ rest) refl fits.root;
   count = number_reads 4 20 h.count (header_bytes h state ++ rest) refl fits.count;
@@ -113,7 +113,7 @@ header_passes : (page : List ℕ) (h : Header) → HeaderFits h → page ≡ hea
 unfolding HeaderPasses
 header_passes page h fits is r BadMagic = r.text
 header_passes page h fits is r (BadVersion version) = r.version
-header_passes page h fits is r BadOrder = (omega (arith, r.order, fits.some_order), omega (arith, r.order, fits.most_order))
+header_passes page h fits is r BadOrder = (omega (arith, r.order, fits.order.0), omega (arith, r.order, fits.order.1))
 header_passes page h fits is r NotClean = λ writing. absurd (omega (arith, r.state, writing))
 header_passes page h fits is r BadHeader = (inl r.state, rest_zero page h clean_state is)
 
@@ -129,8 +129,7 @@ same_header page h g fits is read = read ∙ fields_same page h clean_state (hea
 pub read_fits : (page : List ℕ) (g : Header) → ((i : ℕ) → slice_index page i < 256) → HeaderPassesBefore page BadHeader → g ≡ header_at page → HeaderFits g
 unfolding header_at HeaderPasses
 read_fits page g bytes before read = subst HeaderFits (sym read) record {
-  some_order = before.2.0;
-  most_order = before.2.1;
+  order = before.2;
   pages = number_fits 4 12 page bytes;
   root = number_fits 4 16 page bytes;
   count = number_fits 4 20 page bytes;

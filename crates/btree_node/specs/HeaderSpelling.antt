@@ -1,12 +1,12 @@
 -- Which header a page spells, and the first fault of a page that spells none.
-use Rattle.std.specs.Prelude.{◌≡◌, ℕ, ◌^◌, ◌<◌, ◌≤◌, List, [], ◌∷◌, ◌++◌, drop, slice_index, ◌⊎◌}
+use Rattle.std.specs.Prelude.{◌≡◌, ℕ, ◌^◌, ◌<◌, List, [], ◌∷◌, ◌++◌, drop, slice_index, ◌⊎◌}
 use Rattle.byteorder.specs.Endian.{big_bytes}
 use Rattle.rec_types.specs.Padded.{padded}
 use Rattle.rec_types.specs.Widths.{page_width}
 use Rattle.btree_node.specs.declared.header.Header.{Header}
 use Rattle.btree_node.specs.declared.header.HeaderFault.{HeaderFault}
 use Rattle.btree_node.specs.declared.header.HeaderFault.TheVariants.{BadMagic, BadVersion, BadOrder, NotClean, BadHeader}
-use Rattle.btree_node.specs.Layout.{first_version, greatest_order}
+use Rattle.btree_node.specs.Layout.{first_version, IsOrder}
 use Rattle.btree_node.specs.Reading.{part, number_at, IsZero}
 
 -- the text BMKRFILE
@@ -29,10 +29,9 @@ header_bytes h state =
 unfoldable pub header_spelling : Header → ℕ → List ℕ
 header_spelling h state = padded page_width (header_bytes h state)
 
--- what a page can hold: an order from 1 to the greatest, and numbers of four bytes
+-- what a page can hold: an order, and numbers of four bytes
 pub record HeaderFits (h : Header) : Type 0 where
-  pub some_order : 1 ≤ h.order
-  pub most_order : h.order ≤ greatest_order
+  pub order : IsOrder h.order
   pub pages : h.pages < 2 ^ 32
   pub root : h.root < 2 ^ 32
   pub count : h.count < 2 ^ 32
@@ -54,7 +53,7 @@ state_at page = slice_index page 24
 unfoldable pub HeaderPasses : List ℕ → HeaderFault → Type 0
 HeaderPasses page BadMagic = part 0 8 page ≡ magic
 HeaderPasses page (BadVersion version) = version_at page ≡ first_version
-HeaderPasses page BadOrder = (1 ≤ order_at page) × (order_at page ≤ greatest_order)
+HeaderPasses page BadOrder = IsOrder (order_at page)
 HeaderPasses page NotClean = state_at page ≡ writing_state → ⊥
 HeaderPasses page BadHeader = ((state_at page ≡ clean_state) ⊎ (state_at page ≡ writing_state)) × IsZero (drop 25 page)
 

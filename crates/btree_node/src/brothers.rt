@@ -3,7 +3,7 @@ ghost use Rattle.btree_node.specs.Cut.{left_of, right_of};
 ghost use Rattle.btree_node.specs.Joined.{joined, keys_of_both, half_of_both, AreBrothers};
 ghost use Rattle.btree_node.specs.Lists.{Element, Each};
 ghost use Rattle.btree_node.specs.Spelling.{IsElement, CanStand};
-ghost use Rattle.btree_node.specs.Layout.{greatest_order};
+ghost use Rattle.btree_node.specs.Layout.{IsOrder};
 
 use crate::node::Node;
 use crate::splitting::items_from;
@@ -15,8 +15,7 @@ use rec_types::{Key, Record};
 /// brothers of one kind with the sons that fit it, keys that ascend in that order, and fewer than
 /// `2k` keys in the two nodes together. The node that it answers fits a page.
 pub fn catenate(mut left: Node, middle: (Key, Record), right: Node, k: u16) -> Node
-    requires some_order { 1 ≤ k }
-    requires order { k ≤ greatest_order }
+    requires order { IsOrder k }
     requires brothers { AreBrothers left middle right }
     requires few { keys_of_both left right < 2 * k }
     ensures joined { result ≡ joined left middle right }
@@ -45,8 +44,7 @@ pub fn distribute(
     mut right: Node,
     k: u16,
 ) -> (Node, (Key, Record), Node)
-    requires some_order { 1 ≤ k }
-    requires order { k ≤ greatest_order }
+    requires order { IsOrder k }
     requires brothers { AreBrothers left middle right }
     requires left_most { length left.elements.items ≤ 2 * k }
     requires right_most { length right.elements.items ≤ 2 * k }

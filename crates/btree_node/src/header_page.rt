@@ -1,9 +1,9 @@
-ghost use Rattle.std.specs.Prelude.{◌≡◌, ◌+◌, ◌≤◌, ◌↔◌, Ok, IfOk, IfErr, IsTrue, if◌then◌else◌, length};
+ghost use Rattle.std.specs.Prelude.{◌≡◌, ◌+◌, ◌↔◌, Ok, IfOk, IfErr, IsTrue, if◌then◌else◌, length};
 ghost use Rattle.btree_node.specs.Reading.{part};
 ghost use Rattle.btree_node.specs.HeaderSpelling.{magic, header_spelling, HeaderFits, header_at, state_at, HeaderPassesBefore, FirstHeaderFault, clean_state, writing_state};
 ghost use Rattle.btree_node.specs.declared.header.Header.{Header};
 ghost use Rattle.btree_node.specs.declared.header.HeaderFault.TheVariants.{BadHeader};
-ghost use Rattle.btree_node.specs.Layout.{IsOrder, greatest_order};
+ghost use Rattle.btree_node.specs.Layout.{IsOrder};
 
 use crate::header::{Header, HeaderFault};
 use crate::layout::GREATEST_ORDER;
@@ -60,8 +60,7 @@ pub fn read_header(page: &[u8; PAGE_WIDTH]) -> Result<Header, HeaderFault>
 /// The one page that spells the header, of a file that is closed or being written.
 #[tactic(auto, unfolding(crate::specs::HeaderSpelling::header_spelling, crate::specs::HeaderSpelling::header_bytes, crate::specs::HeaderSpelling::magic))]
 pub fn write_header(header: &Header, clean: bool) -> [u8; PAGE_WIDTH]
-    requires least { 1 ≤ header.now.order }
-    requires most { header.now.order ≤ greatest_order }
+    requires { IsOrder header.now.order }
     ensures { result ≡ header_spelling header.now (if clean then clean_state else writing_state) }
 {
     let mut page = PageWriter::new();

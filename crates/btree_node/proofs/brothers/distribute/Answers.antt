@@ -25,5 +25,5 @@ returns-clause-whole c =
 
 pub returns-clause-stand : goal.returns-clause-stand
 returns-clause-stand c = λ fit.
-    distributed_stand c.args.k c.args.left c.args.middle c.args.right _ _ c.requires.some_order c.requires.brothers c.requires.left_most c.requires.right_most c.requires.many
+    distributed_stand c.args.k c.args.left c.args.middle c.args.right _ _ c.requires.order.0 c.requires.brothers c.requires.left_most c.requires.right_most c.requires.many
     (returns-clause-left c) (returns-clause-right c) fit

@@ -12,7 +12,7 @@ returns-in_err-header-clause-only c = λ h fits is. absurd (no_header_fault c.ar
 pub write_header-requires : goal.write_header-requires
 write_header-requires c =
     let fits = read_fits c.args.page.now _ c.fits-page c.in_ok-header.ensures.passes c.in_ok-header.ensures.value in
-    record { least = fits.some_order; most = fits.most_order }
+    fits.order
 
 pub returns-then-eq-clause-found : goal.returns-then-eq-clause-found
 returns-then-eq-clause-found c = (
