@@ -8,7 +8,26 @@ use Rattle.page_store.specs.WritingBack.{to_write}
 use Rattle.page_store.proofs.CallCountLemmas.{then_calls, after_calls, no_more, all_calls, on_err, last_calls, last_up_to}
 use Rattle.page_store.proofs.WriteBackLemmas.{leaves_by, same_two}
 use Rattle.page_store.proofs.JournalLemmas.{no_header, no_writes, no_sync, all_noted, no_close}
+use Rattle.page_store.proofs.write_back.write_out.Given as given
 use Rattle.page_store.proofs.write_back.write_out.Goals as goal
+use Rattle.page_store.proofs.write_back.write_out.Goals.{After-put_changed, After-sync}
+
+-- how many changing calls were made by then, and how many pages there are to write
+module _ (g : given.Over) (c : After-put_changed g) where
+  marked : g.S.StoreState.writes c.put_header.new.store ≡ counted_times (g.S.StoreState.writes c.args.store.now) 3
+  marked =
+      let W = g.S.StoreState.writes in
+      then_calls (W c.args.store.now) (W c.set_pages.new.self) _ 1 2 c.set_pages.ensures.changes.writes c.in_ok-put_header.ensures.writes
+
+module _ (g : given.Over) (c : After-sync g) where
+  abbrev many : ℕ
+  many = how_many (λ n. is_some (to_write (slots_of c.args.changed.now) c.args.free.now.keys c.args.count n)) c.args.count
+
+  kept : g.S.StoreState.writes c.put_header.new.store ≡ counted_times (g.S.StoreState.writes c.args.store.now) 3 → g.S.StoreState.writes c.sync.new.self ≡ counted_times (g.S.StoreState.writes c.args.store.now) (3 + many + 1)
+  kept was_marked =
+      let W = g.S.StoreState.writes in
+      let put = then_calls (W c.args.store.now) (W c.put_header.new.store) _ 3 many was_marked c.in_ok-put_changed.ensures.writes in
+      then_calls (W c.args.store.now) (W c.put_changed.new.store) _ (3 + many) 1 put c.sync.ensures.changes.writes
 
 pub returns-in_err-put_header-clause-writes_err : goal.returns-in_err-put_header-clause-writes_err
 returns-in_err-put_header-clause-writes_err g c =
@@ -27,8 +46,7 @@ pub returns-in_err-put_changed-clause-writes_err :
 returns-in_err-put_changed-clause-writes_err g c =
     let W = g.S.StoreState.writes in
     let k = how_many (λ n. is_some (to_write (slots_of c.args.changed.now) c.args.free.now.keys c.args.count n)) c.args.count in
-    let header : W c.put_header.new.store ≡ counted_times (W c.args.store.now) 3 = then_calls (W c.args.store.now) (W c.set_pages.new.self) _ 1 2 c.set_pages.ensures.changes.writes c.in_ok-put_header.ensures.writes in
-    on_err _ (no_more (W c.args.store.now) _ (3 + k) (6 + k) (omega arith) (after_calls (W c.args.store.now) (W c.put_header.new.store) _ 3 k header c.in_err-put_changed.ensures.writes_err))
+    on_err _ (no_more (W c.args.store.now) _ (3 + k) (6 + k) (omega arith) (after_calls (W c.args.store.now) (W c.put_header.new.store) _ 3 k (marked g (goal.at.returns-in_err-put_changed-clause-writes_err g c).After-put_changed) c.in_err-put_changed.ensures.writes_err))
 
 pub returns-in_err-sync-clause-others : goal.returns-in_err-sync-clause-others
 returns-in_err-sync-clause-others g c =
@@ -40,11 +58,9 @@ returns-in_err-sync-clause-others g c =
 pub returns-in_err-sync-clause-writes_err : goal.returns-in_err-sync-clause-writes_err
 returns-in_err-sync-clause-writes_err g c =
     let W = g.S.StoreState.writes in
-    let k = how_many (λ n. is_some (to_write (slots_of c.args.changed.now) c.args.free.now.keys c.args.count n)) c.args.count in
-    let header : W c.put_header.new.store ≡ counted_times (W c.args.store.now) 3 = then_calls (W c.args.store.now) (W c.set_pages.new.self) _ 1 2 c.set_pages.ensures.changes.writes c.in_ok-put_header.ensures.writes in
-    let put : W c.put_changed.new.store ≡ counted_times (W c.args.store.now) (3 + k) = then_calls (W c.args.store.now) (W c.put_header.new.store) _ 3 k header c.in_ok-put_changed.ensures.writes in
-    let kept : W c.sync.new.self ≡ counted_times (W c.args.store.now) (3 + k + 1) = then_calls (W c.args.store.now) (W c.put_changed.new.store) _ (3 + k) 1 put c.sync.ensures.changes.writes in
-    on_err _ (all_calls (W c.args.store.now) _ (3 + k + 1) (6 + k) (omega arith) (omega arith) kept)
+    let place = goal.at.returns-in_err-sync-clause-writes_err g c in
+    let k = many g place.After-sync in
+    on_err _ (all_calls (W c.args.store.now) _ (3 + k + 1) (6 + k) (omega arith) (omega arith) (kept g place.After-sync (marked g place.After-put_changed)))
 
 pub returns-clause-others : goal.returns-clause-others
 returns-clause-others g c =
@@ -56,20 +72,16 @@ returns-clause-others g c =
 pub returns-clause-writes : goal.returns-clause-writes
 returns-clause-writes g c =
     let W = g.S.StoreState.writes in
-    let k = how_many (λ n. is_some (to_write (slots_of c.args.changed.now) c.args.free.now.keys c.args.count n)) c.args.count in
-    let header : W c.put_header.new.store ≡ counted_times (W c.args.store.now) 3 = then_calls (W c.args.store.now) (W c.set_pages.new.self) _ 1 2 c.set_pages.ensures.changes.writes c.in_ok-put_header.ensures.writes in
-    let put : W c.put_changed.new.store ≡ counted_times (W c.args.store.now) (3 + k) = then_calls (W c.args.store.now) (W c.put_header.new.store) _ 3 k header c.in_ok-put_changed.ensures.writes in
-    let kept : W c.sync.new.self ≡ counted_times (W c.args.store.now) (3 + k + 1) = then_calls (W c.args.store.now) (W c.put_changed.new.store) _ (3 + k) 1 put c.sync.ensures.changes.writes in
-    last_calls c.put_header-2.result (W c.args.store.now) (W c.sync.new.self) (W c.put_header-2.new.store) (3 + k + 1) 2 (6 + k) kept (omega arith) c.put_header-2.ensures.writes
+    let place = goal.at.returns-clause-writes g c in
+    let k = many g place.After-sync in
+    last_calls c.put_header-2.result (W c.args.store.now) (W c.sync.new.self) (W c.put_header-2.new.store) (3 + k + 1) 2 (6 + k) (kept g place.After-sync (marked g place.After-put_changed)) (omega arith) c.put_header-2.ensures.writes
 
 pub returns-clause-writes_err : goal.returns-clause-writes_err
 returns-clause-writes_err g c =
     let W = g.S.StoreState.writes in
-    let k = how_many (λ n. is_some (to_write (slots_of c.args.changed.now) c.args.free.now.keys c.args.count n)) c.args.count in
-    let header : W c.put_header.new.store ≡ counted_times (W c.args.store.now) 3 = then_calls (W c.args.store.now) (W c.set_pages.new.self) _ 1 2 c.set_pages.ensures.changes.writes c.in_ok-put_header.ensures.writes in
-    let put : W c.put_changed.new.store ≡ counted_times (W c.args.store.now) (3 + k) = then_calls (W c.args.store.now) (W c.put_header.new.store) _ 3 k header c.in_ok-put_changed.ensures.writes in
-    let kept : W c.sync.new.self ≡ counted_times (W c.args.store.now) (3 + k + 1) = then_calls (W c.args.store.now) (W c.put_changed.new.store) _ (3 + k) 1 put c.sync.ensures.changes.writes in
-    last_up_to c.put_header-2.result (W c.args.store.now) (W c.sync.new.self) (W c.put_header-2.new.store) (3 + k + 1) 2 (6 + k) kept (omega arith) c.put_header-2.ensures.writes_err
+    let place = goal.at.returns-clause-writes_err g c in
+    let k = many g place.After-sync in
+    last_up_to c.put_header-2.result (W c.args.store.now) (W c.sync.new.self) (W c.put_header-2.new.store) (3 + k + 1) 2 (6 + k) (kept g place.After-sync (marked g place.After-put_changed)) (omega arith) c.put_header-2.ensures.writes_err
 
 pub returns-in_err-put_header-clause-journal_err : goal.returns-in_err-put_header-clause-journal_err
 returns-in_err-put_header-clause-journal_err g c =
