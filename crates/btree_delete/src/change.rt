@@ -2,6 +2,7 @@ ghost use Rattle.std.specs.Prelude.{◌≡◌, ◌≢◌, ◌+◌, ◌-◌, ◌*
 ghost use Rattle.rec_types.specs.LimitBounds.{most_records};
 ghost use Rattle.rec_types.specs.Table.{counted, is_device};
 ghost use Rattle.page_store.specs.PageMap.{at};
+ghost use Rattle.page_store.specs.PagesView.{OnlyReads, OnlyStages};
 ghost use Rattle.btree_node.specs.Lists.{Element};
 ghost use Rattle.btree_node.specs.Layout.{IsOrder};
 ghost use Rattle.btree_insert.specs.Sizes.{IsTree, greatest_height, greatest_count};
@@ -37,8 +38,7 @@ fn is_full_for<S: Store>(
     ensures no_memory { result ≢ Err TableFault.Memory }
     ensures no_room { result ≢ Err TableFault.NoRoom }
     ensures device { pages.new.failures ≡ counted pages.old.failures (is_device result) }
-    ensures unchanged { pages.new
-        ≡ record pages.old { reads = pages.new.reads; failures = pages.new.failures } }
+    ensures unchanged { OnlyReads pages.old pages.new }
     ensures no_read { tree.now.count < limit → (result ≡ Ok false) × (pages.new ≡ pages.old) }
     ensures reads { pages.new.reads ≤ pages.old.reads + tree.now.height }
 {
@@ -72,15 +72,8 @@ fn put<S: Store>(
     ensures order { IfOk result (λ r. r.0.order ≡ tree.now.order) }
     ensures changed { IsOk result → pages.new.changed ≡ true }
     ensures device { pages.new.failures ≡ counted pages.old.failures (is_device result) }
-    ensures err { OnErr result (pages.new
-        ≡ record pages.old { reads = pages.new.reads; failures = pages.new.failures }) }
-    ensures store { pages.new ≡ record pages.old {
-      pages = pages.new.pages;
-      changed = pages.new.changed;
-      in_memory = pages.new.in_memory;
-      reads = pages.new.reads;
-      failures = pages.new.failures;
-    } }
+    ensures err { OnErr result (OnlyReads pages.old pages.new) }
+    ensures store { OnlyStages pages.old pages.new }
     ensures one_descent { tree.now.count < limit
         → pages.new.reads ≤ pages.old.reads + tree.now.height }
     ensures reads { pages.new.reads ≤ pages.old.reads + 2 * tree.now.height }
@@ -118,15 +111,8 @@ pub(crate) fn change<S: Store>(
     ensures taken_out { to ≡ None → IfOk result (λ r. IsSome r.1 → pages.new.changed ≡ true) }
     ensures put { IsSome to → IsOk result → pages.new.changed ≡ true }
     ensures device { pages.new.failures ≡ counted pages.old.failures (is_device result) }
-    ensures err { OnErr result (pages.new
-        ≡ record pages.old { reads = pages.new.reads; failures = pages.new.failures }) }
-    ensures store { pages.new ≡ record pages.old {
-      pages = pages.new.pages;
-      changed = pages.new.changed;
-      in_memory = pages.new.in_memory;
-      reads = pages.new.reads;
-      failures = pages.new.failures;
-    } }
+    ensures err { OnErr result (OnlyReads pages.old pages.new) }
+    ensures store { OnlyStages pages.old pages.new }
     ensures one_descent { IsSome to → tree.now.count < limit
         → pages.new.reads ≤ pages.old.reads + tree.now.height }
     ensures reads { pages.new.reads ≤ pages.old.reads + 2 * tree.now.height }

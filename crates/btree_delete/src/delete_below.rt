@@ -1,6 +1,7 @@
 ghost use Rattle.std.specs.Prelude.{◌≡◌, ◌+◌, ◌-◌, ◌*◌, ◌<◌, ◌≤◌, ◌∷◌, ◌++◌, ℕ, suc, List, [], Some, None, true, false, length, IsTrue, IsSome, IfOk, OnOk, MatchResult};
 ghost use Rattle.rec_types.specs.Table.{counted};
 ghost use Rattle.page_store.specs.PageMap.{at};
+ghost use Rattle.page_store.specs.PagesView.{OnlyReads};
 ghost use Rattle.btree_node.specs.Lists.{Element, Each, Ascends, IsAt, IsPlace};
 ghost use Rattle.btree_node.specs.Spelling.{AreSpelt};
 ghost use Rattle.btree_insert.specs.Bounds.{AreWithin, Between, son_bounds};
@@ -124,8 +125,7 @@ fn treat_and_settle<S: Store>(
         → OnOk result (AreSpelt tree.now.order edit.new.writes.items) }
     ensures taken { edit.new.taken ≡ edit.old.taken }
     ensures device { pages.new.failures ≡ counted pages.old.failures (is_device result) }
-    ensures unchanged { pages.new
-        ≡ record pages.old { reads = pages.new.reads; failures = pages.new.failures } }
+    ensures unchanged { OnlyReads pages.old pages.new }
     ensures one_read { pages.new.reads ≤ pages.old.reads + 1 }
 {
     let (removed, son) = underfull;
@@ -204,8 +204,7 @@ fn delete_here<S: Store>(
     ensures spelt { OnOk result (AreSpelt tree.now.order edit.new.writes.items) }
     ensures taken { edit.new.taken ≡ edit.old.taken }
     ensures device { pages.new.failures ≡ counted pages.old.failures (is_device result) }
-    ensures unchanged { pages.new
-        ≡ record pages.old { reads = pages.new.reads; failures = pages.new.failures } }
+    ensures unchanged { OnlyReads pages.old pages.new }
     ensures reads { pages.new.reads + 2 ≤ pages.old.reads + 2 * tree.now.height }
 {
     let removed = node.elements[i];
@@ -265,8 +264,7 @@ pub(crate) fn delete_below<S: Store>(
     ensures spelt { OnOk result (AreSpelt tree.now.order edit.new.writes.items) }
     ensures taken { edit.new.taken ≡ edit.old.taken }
     ensures device { pages.new.failures ≡ counted pages.old.failures (is_device result) }
-    ensures unchanged { pages.new
-        ≡ record pages.old { reads = pages.new.reads; failures = pages.new.failures } }
+    ensures unchanged { OnlyReads pages.old pages.new }
     ensures reads { pages.new.reads + 1 ≤ pages.old.reads + 2 * tree.now.height }
 {
     let mut node = Node::blank();

@@ -9,6 +9,7 @@ ghost use Rattle.btree_insert.specs.PageTrees.{Holds};
 ghost use Rattle.btree_insert.specs.Spelt.{AreSpeltIn};
 ghost use Rattle.btree_insert.specs.Contents.{lookup_in, set_in};
 ghost use Rattle.page_store.specs.CanStage.{CanStage};
+ghost use Rattle.page_store.specs.PagesView.{OnlyReads, OnlyStages};
 ghost use Rattle.btree_delete.specs.Deleted.{Deleted};
 ghost use Rattle.btree_delete.specs.Treatment.{son_at};
 ghost use Rattle.btree_delete.specs.Shrinking.{MayBeUnderfull, UnderfullGoesUp, LeavesTree, ShrinksRoot, gone};
@@ -161,15 +162,8 @@ pub fn delete<S: Store>(
     ensures changed { IfOk result (λ r. IsSome r.1 → pages.new.changed ≡ true) }
     ensures page_count { length pages.new.pages ≡ length pages.old.pages }
     ensures device { pages.new.failures ≡ counted pages.old.failures (is_device result) }
-    ensures err { OnErr result (pages.new
-        ≡ record pages.old { reads = pages.new.reads; failures = pages.new.failures }) }
-    ensures store { pages.new ≡ record pages.old {
-      pages = pages.new.pages;
-      changed = pages.new.changed;
-      in_memory = pages.new.in_memory;
-      reads = pages.new.reads;
-      failures = pages.new.failures;
-    } }
+    ensures err { OnErr result (OnlyReads pages.old pages.new) }
+    ensures store { OnlyStages pages.old pages.new }
     ensures reads { pages.new.reads ≤ pages.old.reads + (2 * tree.now.height - 1) }
 {
     if tree.height == 0 {

@@ -4,6 +4,7 @@ ghost use Rattle.std.specs.Ordering.{nat_cmp};
 ghost use Rattle.rec_types.specs.Table.{counted};
 ghost use Rattle.page_store.specs.FreeNumbers.{greatest_page_count};
 ghost use Rattle.page_store.specs.PageMap.{at};
+ghost use Rattle.page_store.specs.PagesView.{OnlyReads};
 ghost use Rattle.btree_node.specs.Lists.{Element};
 ghost use Rattle.btree_node.specs.Layout.{IsOrder};
 ghost use Rattle.btree_insert.specs.Sizes.{greatest_height, greatest_count};
@@ -42,8 +43,7 @@ pub(crate) fn measure_tree<S: Store>(
     ensures small { IfOk result (λ r. (r.0.order ≡ order)
         × (r.0.height ≤ greatest_height) × (r.0.used ≤ greatest_count)) }
     ensures device { pages.new.failures ≡ counted pages.old.failures (is_device result) }
-    ensures unchanged { pages.new
-        ≡ record pages.old { reads = pages.new.reads; failures = pages.new.failures } }
+    ensures unchanged { OnlyReads pages.old pages.new }
 {
     let survey = survey_root(alloc, pages, order, root)?;
     let height = height_of(survey.leaf());
@@ -92,8 +92,7 @@ fn survey_root<S: Store>(
     ensures most { length pages.old.pages ≤ greatest_page_count }
     ensures header { at pages.old.pages 0 ≡ None }
     ensures device { pages.new.failures ≡ counted pages.old.failures (is_device result) }
-    ensures unchanged { pages.new
-        ≡ record pages.old { reads = pages.new.reads; failures = pages.new.failures } }
+    ensures unchanged { OnlyReads pages.old pages.new }
 {
     let count = pages.page_count() as usize;
     let Ok(reached) = vec![in alloc; false; count] else {

@@ -3,7 +3,7 @@ ghost use Rattle.std.specs.BTreeSet.{contains};
 ghost use Rattle.std.specs.Ordering.{nat_cmp};
 ghost use Rattle.rec_types.specs.Table.{counted};
 ghost use Rattle.page_store.specs.PageMap.{at};
-ghost use Rattle.page_store.specs.PagesView.{is_in_memory};
+ghost use Rattle.page_store.specs.PagesView.{is_in_memory, OnlyReads};
 ghost use Rattle.btree_node.specs.Lists.{Element};
 ghost use Rattle.btree_node.specs.declared.header.Header.{Header as HeaderValue};
 ghost use Rattle.btree_node.specs.Layout.{IsOrder};
@@ -66,8 +66,7 @@ fn measure_file<S: Store>(
     ensures small { IfOk result (λ r. (r.0.order ≡ header.now.order)
         × (r.0.height ≤ greatest_height) × (r.0.used ≤ greatest_count)) }
     ensures device { pages.new.failures ≡ counted pages.old.failures (is_device result) }
-    ensures unchanged { pages.new
-        ≡ record pages.old { reads = pages.new.reads; failures = pages.new.failures } }
+    ensures unchanged { OnlyReads pages.old pages.new }
 {
     let (tree, free) = measure_tree(alloc, pages, header.order, header.root).map_err(tree_fault)?;
     if tree.count != header.count {

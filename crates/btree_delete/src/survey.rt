@@ -1,6 +1,7 @@
 ghost use Rattle.std.specs.Prelude.{◌≡◌, ◌≢◌, ◌+◌, ◌*◌, ◌^◌, ◌<◌, ◌≤◌, ◌⊎◌, ℕ, true, false, List, Some, None, length, IsTrue, IfOk, IfErr, OnOk, MatchResult, slice_index_or, slice_set};
 ghost use Rattle.rec_types.specs.Table.{counted};
 ghost use Rattle.page_store.specs.PageMap.{at};
+ghost use Rattle.page_store.specs.PagesView.{OnlyReads};
 ghost use Rattle.btree_node.specs.Lists.{Element};
 ghost use Rattle.btree_node.specs.Spelling.{CanStand};
 ghost use Rattle.btree_node.specs.declared.node.Node.{Node};
@@ -154,8 +155,7 @@ fn read_page<S: Store>(
     ensures within { OnOk result (AreWithin bounds.now node.new.elements.items) }
     ensures no_memory { IfErr result (λ fault. fault ≢ TreeFault.Memory) }
     ensures device { pages.new.failures ≡ counted pages.old.failures (is_device result) }
-    ensures unchanged { pages.new
-        ≡ record pages.old { reads = pages.new.reads; failures = pages.new.failures } }
+    ensures unchanged { OnlyReads pages.old pages.new }
     ensures one_read { OnOk result (pages.new.reads ≡ counted pages.old.reads true) }
 {
     let mut page = [0; PAGE_WIDTH];
@@ -203,8 +203,7 @@ pub(crate) fn survey_page<S: Store>(
         ≤ survey.old.keys + most_keys * unreached survey.old.reached) }
     ensures long { length survey.new.reached ≡ length survey.old.reached }
     ensures device { pages.new.failures ≡ counted pages.old.failures (is_device result) }
-    ensures unchanged { pages.new
-        ≡ record pages.old { reads = pages.new.reads; failures = pages.new.failures } }
+    ensures unchanged { OnlyReads pages.old pages.new }
 {
     if !survey.reach(n) {
         return Err(TreeFault::Damaged(above.from));
@@ -264,8 +263,7 @@ fn survey_sons<S: Store>(
         ≤ survey.old.keys + length elements.now + most_keys * unreached survey.old.reached) }
     ensures long { length survey.new.reached ≡ length survey.old.reached }
     ensures device { pages.new.failures ≡ counted pages.old.failures (is_device result) }
-    ensures unchanged { pages.new
-        ≡ record pages.old { reads = pages.new.reads; failures = pages.new.failures } }
+    ensures unchanged { OnlyReads pages.old pages.new }
 {
     if elements.is_empty() {
         return survey_page(pages, survey, order, order, sons[0], above);

@@ -11,6 +11,7 @@ ghost use Rattle.btree_insert.specs.declared.tree.Tree.{Tree as TreeValue};
 ghost use Rattle.btree_delete.specs.CleanFile.{IsCleanFile, IsFirst, Opens, IsOutside, is_device_fault, is_close_device_fault};
 ghost use Rattle.page_store.specs.Fronts.{tried};
 ghost use Rattle.page_store.specs.Journal.{noted, NotesFront, carried, untouched};
+ghost use Rattle.page_store.specs.PagesView.{OnlyReads, OnlyStages, with_reads};
 ghost use Rattle.btree_node.specs.Layout.{greatest_order};
 ghost use Rattle.btree_insert.specs.Sizes.{greatest_height};
 ghost use Rattle.btree_delete.specs.Closing.{closing, IsNewOrFile, IsEither};
@@ -351,10 +352,7 @@ impl<S: Store> Table for TreeTable<S> {
         ensures no_room { result ≢ Err TableFault.NoRoom }
         ensures answered { Answered ⟦<TreeTable<S> as TableState>⟧ self.old result self.new }
         ensures rest { self.new ≡ record self.old {
-          pages = record self.old.pages {
-            reads = self.new.pages.reads;
-            failures = self.new.pages.failures;
-          };
+          pages = with_reads self.old.pages self.new.pages;
           damages = self.new.damages;
         } }
         ensures reads { self.new.pages.reads ≤ self.old.pages.reads + self.old.tree.height }
@@ -393,18 +391,8 @@ impl<S: Store> Table for TreeTable<S> {
             → (self.new.tree ≡ self.old.tree)
             × (self.new.pages.pages ≡ self.old.pages.pages)
             × (self.new.pages.changed ≡ self.old.pages.changed) }
-        ensures refused { OnErr result ((self.new.tree ≡ self.old.tree) × (self.new.pages
-            ≡ record self.old.pages {
-              reads = self.new.pages.reads;
-              failures = self.new.pages.failures;
-            })) }
-        ensures store { self.new.pages ≡ record self.old.pages {
-          pages = self.new.pages.pages;
-          changed = self.new.pages.changed;
-          in_memory = self.new.pages.in_memory;
-          reads = self.new.pages.reads;
-          failures = self.new.pages.failures;
-        } }
+        ensures refused { OnErr result ((self.new.tree ≡ self.old.tree) × (OnlyReads self.old.pages self.new.pages)) }
+        ensures store { OnlyStages self.old.pages self.new.pages }
         ensures one_descent { IsSome to → self.old.tree.count < self.old.limit
             → self.new.pages.reads ≤ self.old.pages.reads + self.old.tree.height }
         ensures reads { self.new.pages.reads ≤ self.old.pages.reads + 2 * self.old.tree.height }
@@ -425,10 +413,7 @@ impl<S: Store> Table for TreeTable<S> {
         ensures no_room { result ≢ Err TableFault.NoRoom }
         ensures answered { Answered ⟦<TreeTable<S> as TableState>⟧ self.old result self.new }
         ensures rest { self.new ≡ record self.old {
-          pages = record self.old.pages {
-            reads = self.new.pages.reads;
-            failures = self.new.pages.failures;
-          };
+          pages = with_reads self.old.pages self.new.pages;
           refusals = self.new.refusals;
           damages = self.new.damages;
         } }

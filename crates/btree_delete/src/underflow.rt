@@ -1,6 +1,7 @@
 ghost use Rattle.std.specs.Prelude.{◌≡◌, ◌+◌, ◌-◌, ◌*◌, ◌<◌, ◌≤◌, ◌∷◌, ◌++◌, [], suc, ℕ, true, false, length, IsTrue, IsSome, IfOk, OnOk, MatchResult, slice_set};
 ghost use Rattle.rec_types.specs.Table.{counted};
 ghost use Rattle.page_store.specs.PageMap.{at};
+ghost use Rattle.page_store.specs.PagesView.{OnlyReads};
 ghost use Rattle.btree_node.specs.declared.node.Node.{Node};
 ghost use Rattle.btree_node.specs.Joined.{AreBrothers};
 ghost use Rattle.btree_node.specs.Lists.{Each};
@@ -145,8 +146,7 @@ pub(crate) fn treat_underflow<S: Store>(
         → OnOk result (AreSpelt tree.now.order edit.new.writes.items) }
     ensures taken { edit.new.taken ≡ edit.old.taken }
     ensures device { pages.new.failures ≡ counted pages.old.failures (is_device result) }
-    ensures unchanged { pages.new
-        ≡ record pages.old { reads = pages.new.reads; failures = pages.new.failures } }
+    ensures unchanged { OnlyReads pages.old pages.new }
     ensures one_read { pages.new.reads ≤ pages.old.reads + 1 }
 {
     let mut brother = Node::blank();

@@ -1,6 +1,7 @@
 ghost use Rattle.std.specs.Prelude.{◌≡◌, ◌+◌, ◌<◌, ◌≤◌, ◌⊎◌, ◌∷◌, ◌++◌, [], ℕ, false, length, IsTrue, IsSome, IfOk, IfErr, OnOk, MatchResult};
 ghost use Rattle.rec_types.specs.Table.{counted};
 ghost use Rattle.page_store.specs.PageMap.{at};
+ghost use Rattle.page_store.specs.PagesView.{OnlyReads};
 ghost use Rattle.btree_node.specs.declared.node.Node.{Node};
 ghost use Rattle.btree_insert.specs.Bounds.{AreWithin};
 ghost use Rattle.btree_insert.specs.Faults.{is_device};
@@ -44,8 +45,7 @@ pub(crate) fn visit<S: Store>(
     ensures unvisited { OnOk result (is_visited visited.old.items tree.now.page ≡ false) }
     ensures in_use { OnOk result (IsSome (at pages.old.pages tree.now.page)) }
     ensures device { pages.new.failures ≡ counted pages.old.failures (is_device result) }
-    ensures unchanged { pages.new
-        ≡ record pages.old { reads = pages.new.reads; failures = pages.new.failures } }
+    ensures unchanged { OnlyReads pages.old pages.new }
     ensures one_read { pages.new.reads ≤ pages.old.reads + 1 }
 {
     if was_visited(visited.as_slice(), tree.page) {

@@ -1,7 +1,7 @@
 -- What pages spell after an edit.
 use Rattle.std.proofs.Common.{◌≡◌, ℕ, Bool, true, false, not, ◌||◌, ◌&&◌, cond, eqb, Option, Some, None, List, [], ◌∷◌, ◌++◌, refl, ap, sym, ◌∙◌, subst}
 use Rattle.page_store.specs.PageMap.{PageMap, at, write_page, overlay, free_all, after, is_written, is_freed}
-use Rattle.page_store.specs.PagesView.{PagesView, is_in_memory}
+use Rattle.page_store.specs.PagesView.{PagesView, is_in_memory, OnlyReads}
 use Rattle.btree_node.specs.declared.node.Node.{Node}
 use Rattle.btree_node.specs.Spelling.{spelling, CanStand, IsSpelt, AreSpelt}
 use Rattle.btree_node.proofs.ElementOrderLemmas.{Each-append}
@@ -65,7 +65,7 @@ spelt_staged k old new ws fs pages in_memory writes spelt n page here there =
     by_case false false d written kept here is = absurd (cc)
 
 -- the pages in memory after calls that changed none
-pub spelt_unchanged : (k : ℕ) (old new : PagesView) → new ≡ record old { reads = new.reads; failures = new.failures } → AreSpeltIn k old → AreSpeltIn k new
+pub spelt_unchanged : (k : ℕ) (old new : PagesView) → OnlyReads old new → AreSpeltIn k old → AreSpeltIn k new
 spelt_unchanged k old new same spelt n page here there =
     spelt n page (ap (λ (v : PagesView). is_in_memory v n) (sym same) ∙ here) (ap (λ (v : PagesView). at v.pages n) (sym same) ∙ there)
 

@@ -1,7 +1,7 @@
 -- The node that a step of a search was taken from.
 use Rattle.std.proofs.Common.{◌≡◌, ℕ, ◌-◌, ◌<◌, ◌≤◌, Bool, IsTrue, List, refl, ap, sym, ◌∙◌, subst, arith}
 use Rattle.page_store.specs.PageMap.{PageMap, at}
-use Rattle.page_store.specs.PagesView.{PagesView}
+use Rattle.page_store.specs.PagesView.{PagesView, OnlyReads}
 use Rattle.btree_node.specs.declared.node.Node.{Node}
 use Rattle.btree_node.specs.Layout.{first_layout}
 use Rattle.btree_node.specs.Lists.{Element}
@@ -17,7 +17,7 @@ use Rattle.btree_insert.proofs.HeadNodeLemmas.{Top, top}
 use Rattle.btree_insert.proofs.SpeltLemmas.{bytes_of}
 
 -- what is known of a page after calls that changed none
-pub still_known : (k : ℕ) (old new : PagesView) (p : ℕ) (in_place : Bool) (read n : Node) → new ≡ record old { reads = new.reads; failures = new.failures } → IsKnown k old p in_place read n → IsKnown k new p in_place read n
+pub still_known : (k : ℕ) (old new : PagesView) (p : ℕ) (in_place : Bool) (read n : Node) → OnlyReads old new → IsKnown k old p in_place read n → IsKnown k new p in_place read n
 still_known k old new p in_place read n same known =
     subst (λ (v : PagesView). IsKnown k v p in_place read n) (sym same) (record { stands = known.stands; lies = known.lies; was_read = known.was_read })
 

@@ -1,6 +1,7 @@
 ghost use Rattle.std.specs.Prelude.{◌≡◌, ◌≢◌, ◌+◌, ◌<◌, ◌≤◌, ℕ, None, List, IsTrue, IfOk, IfErr, MatchResult};
 ghost use Rattle.rec_types.specs.Table.{counted};
 ghost use Rattle.page_store.specs.PageMap.{at};
+ghost use Rattle.page_store.specs.PagesView.{OnlyReads};
 ghost use Rattle.btree_node.specs.Lists.{Element};
 ghost use Rattle.btree_insert.specs.Bounds.{Between};
 ghost use Rattle.btree_insert.specs.Contents.{lookup_in};
@@ -37,8 +38,7 @@ pub fn find<S: Store>(
         (Spells tree.now.order (at pages.old.pages)) key.now tree.now.height tree.now.root) }
     ensures no_memory { IfErr result (λ fault. fault ≢ TreeFault.Memory) }
     ensures device { pages.new.failures ≡ counted pages.old.failures (is_device result) }
-    ensures unchanged { pages.new
-        ≡ record pages.old { reads = pages.new.reads; failures = pages.new.failures } }
+    ensures unchanged { OnlyReads pages.old pages.new }
     ensures reads { pages.new.reads ≤ pages.old.reads + tree.now.height }
 {
     if tree.height == 0 {
@@ -65,8 +65,7 @@ pub fn look_up<S: Store>(
         (Spells tree.now.order (at pages.old.pages)) key.now tree.now.height tree.now.root) }
     ensures no_memory { IfErr result (λ fault. fault ≢ TreeFault.Memory) }
     ensures device { pages.new.failures ≡ counted pages.old.failures (is_device result) }
-    ensures unchanged { pages.new
-        ≡ record pages.old { reads = pages.new.reads; failures = pages.new.failures } }
+    ensures unchanged { OnlyReads pages.old pages.new }
     ensures reads { pages.new.reads ≤ pages.old.reads + tree.now.height }
 {
     if tree.height == 0 {
@@ -113,8 +112,7 @@ fn look_up_below<S: Store>(
         (Spells order (at pages.old.pages)) key.now spot.now.level spot.now.page spot.now.bounds) }
     ensures no_memory { IfErr result (λ fault. fault ≢ TreeFault.Memory) }
     ensures device { pages.new.failures ≡ counted pages.old.failures (is_device result) }
-    ensures unchanged { pages.new
-        ≡ record pages.old { reads = pages.new.reads; failures = pages.new.failures } }
+    ensures unchanged { OnlyReads pages.old pages.new }
     ensures reads { pages.new.reads ≤ pages.old.reads + spot.now.level }
 {
     let Some(lies) = pages.in_memory(spot.page) else {
@@ -155,8 +153,7 @@ fn read_below<S: Store>(
         (Spells order (at pages.old.pages)) key.now spot.now.level spot.now.page spot.now.bounds) }
     ensures no_memory { IfErr result (λ fault. fault ≢ TreeFault.Memory) }
     ensures device { pages.new.failures ≡ counted pages.old.failures (is_device result) }
-    ensures unchanged { pages.new
-        ≡ record pages.old { reads = pages.new.reads; failures = pages.new.failures } }
+    ensures unchanged { OnlyReads pages.old pages.new }
     ensures reads { pages.new.reads ≤ pages.old.reads + spot.now.level }
 {
     let mut node = Node::blank();
@@ -185,8 +182,7 @@ fn find_below<S: Store>(
         (Spells order (at pages.old.pages)) key.now spot.now.level spot.now.page spot.now.bounds) }
     ensures no_memory { IfErr result (λ fault. fault ≢ TreeFault.Memory) }
     ensures device { pages.new.failures ≡ counted pages.old.failures (is_device result) }
-    ensures unchanged { pages.new
-        ≡ record pages.old { reads = pages.new.reads; failures = pages.new.failures } }
+    ensures unchanged { OnlyReads pages.old pages.new }
     ensures reads { pages.new.reads ≤ pages.old.reads + spot.now.level }
 {
     match take_step(pages, order, spot, key, in_place, node)? {

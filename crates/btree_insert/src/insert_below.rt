@@ -3,6 +3,7 @@ ghost use Rattle.std.specs.List.{list_any};
 ghost use Rattle.rec_types.specs.Table.{counted};
 ghost use Rattle.page_store.specs.FreeNumbers.{candidate};
 ghost use Rattle.page_store.specs.PageMap.{at};
+ghost use Rattle.page_store.specs.PagesView.{OnlyReads};
 ghost use Rattle.btree_node.specs.Lists.{Element, Each};
 ghost use Rattle.btree_node.specs.Spelling.{spelling, CanStand, IsElement, AreSpelt};
 ghost use Rattle.btree_insert.specs.Bounds.{AreWithin, Between};
@@ -146,8 +147,7 @@ pub(crate) fn insert_below<S: Store>(
     ensures in_use { OnOk result (IsSome (at pages.old.pages spot.now.page)) }
     ensures some_page { OnOk result (0 < spot.now.page) }
     ensures device { pages.new.failures ≡ counted pages.old.failures (is_device result) }
-    ensures unchanged { pages.new
-        ≡ record pages.old { reads = pages.new.reads; failures = pages.new.failures } }
+    ensures unchanged { OnlyReads pages.old pages.new }
     ensures reads { pages.new.reads ≤ pages.old.reads + spot.now.level }
 {
     let n = spot.page;

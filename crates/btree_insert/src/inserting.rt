@@ -2,6 +2,7 @@ ghost use Rattle.std.specs.Prelude.{◌≡◌, ◌+◌, ◌-◌, ◌<◌, ◌≤
 ghost use Rattle.rec_types.specs.Table.{counted};
 ghost use Rattle.page_store.specs.FreeNumbers.{candidate, count_after};
 ghost use Rattle.page_store.specs.PageMap.{at};
+ghost use Rattle.page_store.specs.PagesView.{OnlyReads, OnlyStages};
 ghost use Rattle.btree_node.specs.Lists.{Element};
 ghost use Rattle.btree_node.specs.Spelling.{spelling, CanStand, IsElement, AreSpelt};
 ghost use Rattle.btree_insert.specs.Faults.{is_device};
@@ -127,8 +128,7 @@ fn grow_tree<S: Store>(
         → OnOk result (AreSpelt tree.now.order edit.new.writes.items) }
     ensures freed { edit.new.freed ≡ edit.old.freed }
     ensures device { pages.new.failures ≡ counted pages.old.failures (is_device result) }
-    ensures unchanged { pages.new
-        ≡ record pages.old { reads = pages.new.reads; failures = pages.new.failures } }
+    ensures unchanged { OnlyReads pages.old pages.new }
     ensures reads { pages.new.reads ≤ pages.old.reads + tree.now.height }
 {
     if tree.height == 0 {
@@ -171,8 +171,7 @@ fn grow_below<S: Store>(
         → OnOk result (AreSpelt tree.now.order edit.new.writes.items) }
     ensures freed { edit.new.freed ≡ edit.old.freed }
     ensures device { pages.new.failures ≡ counted pages.old.failures (is_device result) }
-    ensures unchanged { pages.new
-        ≡ record pages.old { reads = pages.new.reads; failures = pages.new.failures } }
+    ensures unchanged { OnlyReads pages.old pages.new }
     ensures reads { pages.new.reads ≤ pages.old.reads + tree.now.height }
 {
     let root = Spot {
@@ -399,15 +398,8 @@ pub fn insert<S: Store>(
     ensures order { IfOk result (λ r. r.0.order ≡ tree.now.order) }
     ensures spelt { AreSpeltIn tree.now.order pages.old → AreSpeltIn tree.now.order pages.new }
     ensures device { pages.new.failures ≡ counted pages.old.failures (is_device result) }
-    ensures err { OnErr result (pages.new
-        ≡ record pages.old { reads = pages.new.reads; failures = pages.new.failures }) }
-    ensures store { pages.new ≡ record pages.old {
-      pages = pages.new.pages;
-      changed = pages.new.changed;
-      in_memory = pages.new.in_memory;
-      reads = pages.new.reads;
-      failures = pages.new.failures;
-    } }
+    ensures err { OnErr result (OnlyReads pages.old pages.new) }
+    ensures store { OnlyStages pages.old pages.new }
     ensures reads { pages.new.reads ≤ pages.old.reads + tree.now.height }
 {
     insert_from_root(alloc, pages, tree, key, value, false)
@@ -437,15 +429,8 @@ pub fn insert_in_place<S: Store>(
     ensures order { IfOk result (λ r. r.0.order ≡ tree.now.order) }
     ensures spelt { AreSpeltIn tree.now.order pages.new }
     ensures device { pages.new.failures ≡ counted pages.old.failures (is_device result) }
-    ensures err { OnErr result (pages.new
-        ≡ record pages.old { reads = pages.new.reads; failures = pages.new.failures }) }
-    ensures store { pages.new ≡ record pages.old {
-      pages = pages.new.pages;
-      changed = pages.new.changed;
-      in_memory = pages.new.in_memory;
-      reads = pages.new.reads;
-      failures = pages.new.failures;
-    } }
+    ensures err { OnErr result (OnlyReads pages.old pages.new) }
+    ensures store { OnlyStages pages.old pages.new }
     ensures reads { pages.new.reads ≤ pages.old.reads + tree.now.height }
 {
     insert_from_root(alloc, pages, tree, key, value, true)
@@ -476,15 +461,8 @@ fn insert_from_root<S: Store>(
     ensures order { IfOk result (λ r. r.0.order ≡ tree.now.order) }
     ensures spelt { AreSpeltIn tree.now.order pages.old → AreSpeltIn tree.now.order pages.new }
     ensures device { pages.new.failures ≡ counted pages.old.failures (is_device result) }
-    ensures err { OnErr result (pages.new
-        ≡ record pages.old { reads = pages.new.reads; failures = pages.new.failures }) }
-    ensures store { pages.new ≡ record pages.old {
-      pages = pages.new.pages;
-      changed = pages.new.changed;
-      in_memory = pages.new.in_memory;
-      reads = pages.new.reads;
-      failures = pages.new.failures;
-    } }
+    ensures err { OnErr result (OnlyReads pages.old pages.new) }
+    ensures store { OnlyStages pages.old pages.new }
     ensures reads { pages.new.reads ≤ pages.old.reads + tree.now.height }
 {
     let mut edit = PageEdit {

@@ -1,6 +1,7 @@
 ghost use Rattle.std.specs.Prelude.{◌≡◌, ◌+◌, ◌<◌, ◌≤◌, ◌⊎◌, ◌↔◌, ℕ, length, IsTrue, IsSome, IsOk, IfOk, IfErr, OnOk, MatchResult};
 ghost use Rattle.rec_types.specs.Table.{counted};
 ghost use Rattle.page_store.specs.PageMap.{at};
+ghost use Rattle.page_store.specs.PagesView.{OnlyReads};
 ghost use Rattle.btree_node.specs.Layout.{greatest_order};
 ghost use Rattle.btree_node.specs.Lists.{Ascends};
 ghost use Rattle.btree_node.specs.Reading.{count_at};
@@ -66,8 +67,7 @@ pub(crate) fn take_step<S: Store>(
     ensures fault { IfErr result
         (λ fault. (fault ≡ TreeFault.Device) ⊎ (fault ≡ TreeFault.Damaged spot.now.page)) }
     ensures device { pages.new.failures ≡ counted pages.old.failures (is_device result) }
-    ensures unchanged { pages.new
-        ≡ record pages.old { reads = pages.new.reads; failures = pages.new.failures } }
+    ensures unchanged { OnlyReads pages.old pages.new }
     ensures one_read { pages.new.reads ≤ pages.old.reads + 1 }
 {
     if in_place {

@@ -1,6 +1,7 @@
 ghost use Rattle.std.specs.Prelude.{◌≡◌, ◌+◌, ◌<◌, ◌≤◌, ◌++◌, ℕ, List, Err, IsTrue, IfOk, OnOk, MatchResult, length};
 ghost use Rattle.rec_types.specs.Table.{counted};
 ghost use Rattle.page_store.specs.PageMap.{at};
+ghost use Rattle.page_store.specs.PagesView.{OnlyReads};
 ghost use Rattle.btree_node.specs.Lists.{Element};
 ghost use Rattle.btree_insert.specs.Bounds.{Between};
 ghost use Rattle.btree_insert.specs.Faults.{is_device};
@@ -34,8 +35,7 @@ pub fn walk<S: Store>(
     ensures there { IsTrue pages.old.steady → IfOk result
         (λ elements. Walks (Spells tree.now.order (at pages.old.pages)) tree.now elements.items) }
     ensures device { pages.new.failures ≡ counted pages.old.failures (is_device result) }
-    ensures unchanged { pages.new
-        ≡ record pages.old { reads = pages.new.reads; failures = pages.new.failures } }
+    ensures unchanged { OnlyReads pages.old pages.new }
     ensures reads { pages.new.reads ≤ pages.old.reads + tree.now.used }
 {
     let mut out = Vec::new(alloc);
@@ -86,8 +86,7 @@ fn walk_below<S: Store>(
         above.now.bounds out.old.items out.new.items left.old left.new) }
     ensures spent { left.old ≡ 0 → result ≡ Err (TreeFault.Damaged n) }
     ensures device { pages.new.failures ≡ counted pages.old.failures (is_device result) }
-    ensures unchanged { pages.new
-        ≡ record pages.old { reads = pages.new.reads; failures = pages.new.failures } }
+    ensures unchanged { OnlyReads pages.old pages.new }
     ensures reads { pages.new.reads + left.new ≤ pages.old.reads + left.old }
 {
     if *left == 0 {
@@ -147,8 +146,7 @@ fn walk_sons<S: Store>(
         sons.now elements.now)
         above.now.bounds out.old.items out.new.items left.old left.new) }
     ensures device { pages.new.failures ≡ counted pages.old.failures (is_device result) }
-    ensures unchanged { pages.new
-        ≡ record pages.old { reads = pages.new.reads; failures = pages.new.failures } }
+    ensures unchanged { OnlyReads pages.old pages.new }
     ensures reads { pages.new.reads + left.new ≤ pages.old.reads + left.old }
 {
     if elements.is_empty() {

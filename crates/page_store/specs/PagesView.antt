@@ -1,5 +1,5 @@
 -- What contracts see of a store with changed pages in memory.
-use Rattle.std.specs.Prelude.{ℕ, Bool, false, not, ◌&&◌, List, Option, None, is_some, if◌then◌else◌, slice_index_or}
+use Rattle.std.specs.Prelude.{◌≡◌, ℕ, Bool, false, not, ◌&&◌, List, Option, None, is_some, if◌then◌else◌, slice_index_or}
 use Rattle.page_store.specs.PageMap.{PageMap, at}
 use Rattle.page_store.specs.Journal.{Journal}
 
@@ -27,3 +27,15 @@ is_read v n = is_some (at v.pages n) && not (is_in_memory v n)
 -- the pages in use whose newest bytes are in memory
 abbrev pub memory_pages : PagesView → PageMap
 memory_pages v n = if is_in_memory v n then at v.pages n else None
+
+-- the old pages, with the new counts of reads and of failures
+abbrev pub with_reads : PagesView → PagesView → PagesView
+with_reads old new = record old { reads = new.reads; failures = new.failures }
+
+-- pages were at most read
+abbrev pub OnlyReads : PagesView → PagesView → Type 0
+OnlyReads old new = new ≡ with_reads old new
+
+-- pages were at most read, and edits staged
+abbrev pub OnlyStages : PagesView → PagesView → Type 0
+OnlyStages old new = new ≡ record (with_reads old new) { pages = new.pages; changed = new.changed; in_memory = new.in_memory }

@@ -4,7 +4,7 @@ ghost use Rattle.std.specs.BTreeSet.{contains};
 ghost use Rattle.rec_types.specs.Table.{counted};
 ghost use Rattle.page_store.specs.PageMap.{at, after, is_written, is_freed};
 ghost use Rattle.page_store.specs.Journal.{noted, NotesFront, writing_back};
-ghost use Rattle.page_store.specs.PagesView.{is_in_memory, is_read, memory_pages};
+ghost use Rattle.page_store.specs.PagesView.{OnlyReads, is_in_memory, is_read, memory_pages};
 ghost use Rattle.page_store.specs.Calls.{counted_times, CountedUpTo, how_many};
 ghost use Rattle.page_store.specs.FreeNumbers.{free_numbers, candidate, count_after, greatest_page_count};
 ghost use Rattle.page_store.specs.CanStage.{CanStage};
@@ -109,8 +109,7 @@ impl<S: Store> Pages<S> {
         ensures page { IsTrue self.old.steady → OnOk result (at self.old.pages n ≡ Some to.new) }
         ensures out_of_range { (result ≡ Err FetchFault.OutOfRange) ↔ (at self.old.pages n ≡ None) }
         ensures device { self.new.failures ≡ counted self.old.failures (is_device result) }
-        ensures unchanged { self.new
-            ≡ record self.old { reads = self.new.reads; failures = self.new.failures } }
+        ensures unchanged { OnlyReads self.old self.new }
         ensures nothing_there { at self.old.pages n ≡ None → self.new ≡ self.old }
         ensures nothing_read { at self.old.pages n ≡ None → to.new ≡ to.old }
         ensures from_memory { is_in_memory self.old n ≡ true
