@@ -1,5 +1,5 @@
 -- A rollback under way, after some of its changes were taken back.
-use Rattle.std.proofs.Common.{◌≡◌, ℕ, ◌+◌, ◌-◌, ◌≤◌, ◌<◌, suc, Bool, true, false, if◌then◌else◌, nat_le, take, List, Option, Some, None, Ok, Err, refl, sym, ap, subst, ◌∙◌, arith, option_map}
+use Rattle.std.proofs.Common.{◌≡◌, ℕ, ◌+◌, ◌-◌, ◌≤◌, ◌<◌, suc, Bool, true, false, if◌then◌else◌, nat_le, take, List, Option, Some, None, Result, Ok, Err, refl, sym, ap, subst, ◌∙◌, arith, option_map}
 use Rattle.std.proofs.lemmas.Bool.Decides.{nat_tests}
 use Rattle.std.specs.FinMap as maps
 use Rattle.rec_types.specs.Contents.{Contents}
@@ -16,7 +16,7 @@ use Rattle.record_file.specs.declared.fault.Cause.{Cause}
 use Rattle.record_file.specs.declared.fault.Cause.TheVariants as causes
 use Rattle.record_file.specs.Abstract.{File, tx_of, phase_at}
 use Rattle.record_file.specs.Outside.{by_device, by_memory}
-use Rattle.record_file.specs.Steps.{rose, rolling_place, places_at, rollback_in, rollback_refusal, RollsBack, EndsBy, StopsAt, TakesBack}
+use Rattle.record_file.specs.Steps.{rose, rolling_place, places_at, rollback_in, rollback_refusal, RollsBack, RollsFrom, EndsBy, StopsAt, TakesBack}
 use Rattle.record_file.proofs.FaultLemmas.{rose_same, rose_counted}
 use Rattle.record_file.proofs.OpenTxLemmas.{get-inserted_tx, insert-insert_tx, remove-insert_tx}
 
@@ -108,7 +108,7 @@ rollback_starts f t n active le = ap (rollback_in n (depth_of (tx_of f t))) acti
     below a b le = grind (arith, nat_tests)
 
 -- what taking back says of the started file, it says of the file before
-pub started_back : (f now new : File) (t n undone : ℕ) (ends : Bool) → now ≡ started f t n ends → RollsBack now t (Ok undone) new
+started_back : (f now new : File) (t n undone : ℕ) (ends : Bool) → now ≡ started f t n ends → RollsBack now t (Ok undone) new
     → TakesBack f t (place_in (places_at f t) n) (if ends then maps.remove f.txs t else maps.insert f.txs t (active_with (take n (places_at f t)))) undone new
 started_back f now new t n undone ends is step =
     let rolling = rolling_to (places_at f t) n ends in
@@ -122,11 +122,16 @@ started_back f now new t n undone ends is step =
     at false told = (told.0, told.1 ∙ ap (λ (txs : Transactions). let g : File = record f { opening = new.opening; history = take_back f.history t (place_in (places_at f t) n); txs = txs } in g) (insert-insert_tx f.txs t (rolling_to (places_at f t) n ends) (active_with (take n (places_at f t)))))
 
 -- a stop of a rollback, said of the file before it started
-pub started_stop : (f now new : File) (t n : ℕ) (ends : Bool) (stop : Stop) → now ≡ started f t n ends → RollsBack now t (Err stop) new
+started_stop : (f now new : File) (t n : ℕ) (ends : Bool) (stop : Stop) → now ≡ started f t n ends → RollsBack now t (Err stop) new
     → StopsAt f t (place_in (places_at f t) n) (maps.insert f.txs t (rolling_to (places_at f t) n ends)) stop.undone stop.left new
 started_stop f now new t n ends stop is step =
     let over = subst (λ (g : File). RollsBack g t (Err stop) new) is step in
     subst (λ (o : Option Tx). StopsAt (started f t n ends) t (rolling_place o) (started f t n ends).txs stop.undone stop.left new) (get-inserted_tx f.txs t (rolling_to (places_at f t) n ends)) over
+
+-- what a started rollback comes to, said of the file before
+pub started_rolls : (f now new : File) (t n : ℕ) (ends : Bool) (answer : Result ℕ Stop) → now ≡ started f t n ends → RollsBack now t answer new → RollsFrom f t n ends answer new
+started_rolls f now new t n ends (Ok undone) is step = started_back f now new t n undone ends is step
+started_rolls f now new t n ends (Err stop) is step = started_stop f now new t n ends stop is step
 
 -- starting a rollback leaves the opening contents
 pub started_opening : (f now new : File) (t n : ℕ) (ends : Bool) → now ≡ started f t n ends → new.opening ≡ now.opening → new.opening ≡ f.opening

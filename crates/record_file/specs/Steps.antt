@@ -223,6 +223,13 @@ abbrev pub RollsBack : File → ℕ → Result ℕ Stop → File → Type 0
 RollsBack old t (Ok undone) new = TakesBack old t (rolling_place (tx_of old t)) (finished old.txs t (tx_of old t)) undone new
 RollsBack old t (Err stop) new = StopsAt old t (rolling_place (tx_of old t)) old.txs stop.undone stop.left new
 
+-- The rollback of an active transaction to savepoint n, which ends the transaction or leaves it there, as a whole.
+abbrev pub RollsFrom : File → ℕ → ℕ → Bool → Result ℕ Stop → File → Type 0
+RollsFrom old t n ends (Ok undone) new =
+    TakesBack old t (place_in (places_at old t) n) (if ends then maps.remove old.txs t else maps.insert old.txs t (active_with (take n (places_at old t)))) undone new
+RollsFrom old t n ends (Err stop) new =
+    StopsAt old t (place_in (places_at old t) n) (maps.insert old.txs t (rolling_to (places_at old t) n ends)) stop.undone stop.left new
+
 abbrev pub rollback_in : ℕ → ℕ → Option Phase → Option RollbackToFault
 rollback_in n depth None = Some rollback_faults.NoSuchTx
 rollback_in n depth (Some (phases.Rolling ends)) = Some rollback_faults.Rolling

@@ -7,7 +7,7 @@ ghost use Rattle.tx_log.specs.Transactions.{depth_of, left_in};
 ghost use Rattle.tx_log.specs.LogState.{rolling_to, finished, IsRolling};
 ghost use Rattle.record_file.specs.Outside.{stop_cause, rollback_cause, abort_cause, resume_cause, step_cause, by_memory};
 ghost use Rattle.record_file.specs.TableCalls.{ChangesTable};
-ghost use Rattle.record_file.specs.Steps.{rose, RollsBackTo, RollbackToStep, Aborts, AbortStep, Resumes, ResumeStep, rollback_refusal, abort_refusal, resume_refusal, RollsBack, places_at};
+ghost use Rattle.record_file.specs.Steps.{rose, RollsBackTo, RollbackToStep, Aborts, AbortStep, Resumes, ResumeStep, rollback_refusal, abort_refusal, resume_refusal, RollsBack, RollsFrom, EndsBy, places_at};
 
 use super::RecordFile;
 use crate::fault::{AbortFault, Cause, ResumeFault, RollbackToFault, Stop};
@@ -42,21 +42,7 @@ impl<T: Table> RecordFile<T> {
                 if n > self.log.depth(tx) {
                     return Err(RollbackToFault::NoSuchSave);
                 }
-                self.start_rollback(tx, n, false);
-                match self.take_back(tx) {
-                    Ok(undone) => Ok(undone),
-                    Err(
-                        Stop {
-                            undone,
-                            left,
-                            cause,
-                        },
-                    ) => Err(RollbackToFault::Stopped {
-                        undone,
-                        left,
-                        cause,
-                    }),
-                }
+                Ok(self.roll_back(tx, n, false)?)
             }
         }
     }
@@ -83,23 +69,7 @@ impl<T: Table> RecordFile<T> {
         match self.log.phase(tx) {
             None => Err(AbortFault::NoSuchTx),
             Some(Phase::Rolling { .. }) => Err(AbortFault::Rolling),
-            Some(Phase::Active) => {
-                self.start_rollback(tx, 0, true);
-                match self.take_back(tx) {
-                    Ok(undone) => Ok(undone),
-                    Err(
-                        Stop {
-                            undone,
-                            left,
-                            cause,
-                        },
-                    ) => Err(AbortFault::Stopped {
-                        undone,
-                        left,
-                        cause,
-                    }),
-                }
-            }
+            Some(Phase::Active) => Ok(self.roll_back(tx, 0, true)?),
         }
     }
 
@@ -125,21 +95,30 @@ impl<T: Table> RecordFile<T> {
         match self.log.phase(tx) {
             None => Err(ResumeFault::NoSuchTx),
             Some(Phase::Active) => Err(ResumeFault::NotRolling),
-            Some(Phase::Rolling { .. }) => match self.take_back(tx) {
-                Ok(undone) => Ok(undone),
-                Err(
-                    Stop {
-                        undone,
-                        left,
-                        cause,
-                    },
-                ) => Err(ResumeFault::Stopped {
-                    undone,
-                    left,
-                    cause,
-                }),
-            },
+            Some(Phase::Rolling { .. }) => Ok(self.take_back(tx)?),
         }
+    }
+
+    // Starts a rollback of an active transaction, and takes back what it has to.
+    fn roll_back(&mut self, tx: TxId, n: u32, ends: bool) -> Result<u32, Stop>
+        requires active { phase_at self.old.file tx.0 ≡ Some Phase.Active }
+        requires within { n ≤ depth_of (tx_of self.old.file tx.0) }
+        requires whole { IsTrue ends → n ≡ 0 }
+        ensures rolled { RollsFrom self.old.file tx.0 n ends result self.new.file }
+        ensures opening { IsTrue (T.sound self.old.table)
+            → self.new.file.opening ≡ self.old.file.opening }
+        ensures ended { IsTrue (T.sound self.old.table)
+            → T.device_failures self.old.table < greatest_count
+            → T.memory_refusals self.old.table < greatest_count
+            → EndsBy (rose (T.device_failures self.old.table) (T.device_failures self.new.table))
+            (rose (T.memory_refusals self.old.table) (T.memory_refusals self.new.table))
+            (stop_cause result) }
+        ensures table { ChangesTable T.TableState self.old (stop_cause result) self.new }
+        ensures memory { T.memory_refusals self.new.table
+            ≡ counted (T.memory_refusals self.old.table) (by_memory (stop_cause result)) }
+    {
+        self.start_rollback(tx, n, ends);
+        self.take_back(tx)
     }
 
     // Starts a rollback of an active transaction.
