@@ -3,7 +3,7 @@ use Rattle.std.proofs.Common.{◌≡◌, ℕ, ◌≤◌, true, false, Option, So
 use Rattle.std.specs.FinMap as maps
 use Rattle.std.specs.FinMap.{empty_of_len}
 use Rattle.rec_types.specs.Contents.{Contents, set_to}
-use Rattle.rec_types.specs.Table.{Damages, is_device}
+use Rattle.rec_types.specs.Table.{is_device}
 use Rattle.rec_types.specs.declared.table.TableFault.{TableFault}
 use Rattle.rec_types.specs.declared.table.TableFault.TheVariants.{Device, Damaged, NoRoom, Memory}
 use Rattle.page_store.specs.PageMap.{at}
@@ -22,7 +22,8 @@ use Rattle.btree_insert.proofs.TreeElementLemmas.{contents_set, contents_get}
 use Rattle.btree_insert.proofs.ElementMapLemmas.{one_if_none, put-length}
 use Rattle.btree_delete.specs.TableAnswers.{table_answer, IsSet, IsFull, MayRefuse}
 use Rattle.btree_insert.specs.Spelt.{AreSpeltIn}
-use Rattle.btree_delete.specs.TableView.{TableView, Fills, IsClosed, IsTable, table_contents}
+use Rattle.btree_delete.specs.declared.fault_counts.FaultCounts.{FaultCounts}
+use Rattle.btree_delete.specs.TableView.{TableView, Fills, IsClosed, IsTable, table_contents, table_of}
 use Rattle.btree_delete.proofs.ClosedFileLemmas.{held_contents}
 
 -- no elements are no contents
@@ -144,10 +145,10 @@ idle_of t pages next None (Some value) out_none out put idle = absurd (let never
 idle_of t pages next None None out_none out put idle = out_none refl refl
 
 -- the table after it
-pub set_table : (t : TableView) (pages : PagesView) (key : List ℕ) (to : Option (List ℕ)) (r : Result (Tree × Option (List ℕ)) TableFault) (next : Tree) (before : Option (List ℕ)) (refusals : ℕ) (damages : Damages) → IsTable t → Changes t pages.pages key to r → r ≡ Ok (next, before)
+pub set_table : (t : TableView) (pages : PagesView) (key : List ℕ) (to : Option (List ℕ)) (r : Result (Tree × Option (List ℕ)) TableFault) (next : Tree) (before : Option (List ℕ)) (faults : FaultCounts) → IsTable t → Changes t pages.pages key to r → r ≡ Ok (next, before)
     → IfOk r (λ x. (x.0.height ≤ greatest_height) × (x.0.count ≤ greatest_count) × (x.0.used ≤ greatest_count)) → IfOk r (λ x. x.0.order ≡ t.tree.order) → (to ≡ None → IfOk r (λ x. x.1 ≡ None → IsIdle t pages x.0)) → (to ≡ None → IfOk r (λ x. IsSome x.1 → pages.changed ≡ true)) → (IsSome to → IsOk r → pages.changed ≡ true)
-    → pages.stored ≡ t.pages.stored → pages.tail ≡ t.pages.tail → pages.steady ≡ t.pages.steady → AreSpeltIn t.tree.order pages → IsTable (record { pages = pages; tree = next; limit = t.limit; refusals = refusals; damages = damages })
-set_table t pages key to r next before refusals damages is call r_is small order out_none out put stored tail steady_is spelt =
+    → pages.stored ≡ t.pages.stored → pages.tail ≡ t.pages.tail → pages.steady ≡ t.pages.steady → AreSpeltIn t.tree.order pages → IsTable (table_of pages next t.limit faults)
+set_table t pages key to r next before faults is call r_is small order out_none out put stored tail steady_is spelt =
     let small2 = subst (λ (r : Result (Tree × Option (List ℕ)) TableFault). IfOk r (λ x. (x.0.height ≤ greatest_height) × (x.0.count ≤ greatest_count) × (x.0.used ≤ greatest_count))) r_is small in
     let order2 = subst (λ (r : Result (Tree × Option (List ℕ)) TableFault). IfOk r (λ x. x.0.order ≡ t.tree.order)) r_is order in
     let ok = subst (λ (r : Result (Tree × Option (List ℕ)) TableFault). IsOk r) (sym r_is) refl in

@@ -13,6 +13,7 @@ use Rattle.btree_insert.specs.Elements.{contents_at}
 use Rattle.rec_types.specs.Contents.{Contents}
 use Rattle.rec_types.specs.LimitBounds.{most_records}
 use Rattle.rec_types.specs.Table.{Damages}
+use Rattle.btree_delete.specs.declared.fault_counts.FaultCounts.{FaultCounts}
 use Rattle.btree_delete.specs.CleanFile.{IsCleanFile}
 
 -- the pages, the tree in them, how many records there may be, how many calls a refused growth ended, and what was told of damaged pages
@@ -22,6 +23,10 @@ pub record TableView : Type 0 where
   pub limit : ℕ
   pub refusals : ℕ
   pub damages : Damages
+
+-- the table of these parts
+abbrev pub table_of : PagesView → Tree → ℕ → FaultCounts → TableView
+table_of pages tree limit faults = record { pages = pages; tree = tree; limit = limit; refusals = faults.refusals; damages = record { count = faults.damaged; page = faults.page } }
 
 -- the records, as a function of the pages and the tree: total, whatever the pages hold
 abbrev pub table_contents : TableView → Contents

@@ -43,25 +43,13 @@ pub struct TreeTable<S: Store> {
 }
 
 impl<S: Store> Model for TreeTable<S> {
-    ghost use Rattle.btree_delete.specs.TableView.{TableView, IsTable};
+    ghost use Rattle.btree_delete.specs.TableView.{TableView, IsTable, table_of};
 
     ghost Value = { TableView };
 
-    ghost view = { λ t. record {
-      pages = t.pages;
-      tree = t.tree;
-      limit = t.limit;
-      refusals = t.faults.refusals;
-      damages = record { count = t.faults.damaged; page = t.faults.page };
-    } };
+    ghost view = { λ t. table_of t.pages t.tree t.limit t.faults };
 
-    ghost invariant = { λ t. IsTable (record {
-      pages = t.pages;
-      tree = t.tree;
-      limit = t.limit;
-      refusals = t.faults.refusals;
-      damages = record { count = t.faults.damaged; page = t.faults.page };
-    }) };
+    ghost invariant = { λ t. IsTable (table_of t.pages t.tree t.limit t.faults) };
 }
 
 /// Why no table was made.
