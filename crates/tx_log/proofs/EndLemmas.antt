@@ -12,22 +12,24 @@ use Rattle.tx_log.proofs.AbsentOwnedLemmas.{only, without, pending_of, absent_in
 use Rattle.tx_log.proofs.Chains.{same_number, unequal}
 use Rattle.tx_log.proofs.Counts.{count}
 use Rattle.tx_log.proofs.Lives.{single, lives, stack_is_lives}
-use Rattle.tx_log.proofs.OpenTxLemmas.{get-txs_of, found_fits, fit-put, opens-remove, opens-more, txs-remove, txs-put}
+use Rattle.tx_log.proofs.OpenTxLemmas.{found_fits, fit-put, opens-remove, opens-more, txs-remove, txs-put}
 use Rattle.tx_log.proofs.OwnerLemmas.{owned-fewer, begun-more, and_left}
 use Rattle.tx_log.proofs.OpenTxReadLemmas.{lives_length, phase_is}
-use Rattle.tx_log.proofs.KeptLogLemmas.{tx_of_entry}
+use Rattle.tx_log.proofs.KeptLogLemmas.{tx_of_entry, some_of}
 use Rattle.tx_log.proofs.LogStateLemmas.{state}
 use Rattle.tx_log.specs.Finds.{Txs, finding, PutsAt}
 use Rattle.tx_log.specs.Fits.{AllKnown, FitsTx}
 use Rattle.tx_log.specs.Log.{tx_of_record, lsn_of, kept_of, last_of, stepped, stack, noted}
-use Rattle.tx_log.specs.LogFields.{IsKept}
-use Rattle.tx_log.specs.LogState.{IsRolling, phase_of, places_of, active_with, finished, finished_by, rollback_phase}
+use Rattle.tx_log.specs.LogFields.{IsKept, state_of}
+use Rattle.tx_log.specs.LogState.{IsRolling, phase_of, places_of, active_with, finished, finished_by, rollback_phase, with_txs}
 use Rattle.tx_log.specs.Owners.{absence}
 use Rattle.tx_log.specs.Places.{place_at}
-use Rattle.tx_log.specs.OpenTxs.{ends_at, rollback_at, txs_of, tx_at, opens}
-use Rattle.tx_log.specs.Transactions.{Transactions, Tx, fresh}
+use Rattle.tx_log.specs.OpenTxs.{stays_at, rollback_at, txs_of, opens}
+use Rattle.tx_log.specs.Transactions.{Transactions, Tx, fresh, left_of, left_in}
+use Rattle.tx_log.specs.declared.log.TxLog.TheInside.{Inside}
 use Rattle.tx_log.specs.declared.log_record.LogRecord.{LogRecord}
 use Rattle.tx_log.specs.declared.open_tx.OpenTx.{OpenTx}
+use Rattle.tx_log.specs.declared.phase.Phase.TheVariants.{Active}
 use Rattle.tx_log.specs.declared.phase.Rollback.{Rollback}
 
 -- ---- the end of a transaction
@@ -84,11 +86,8 @@ closed rs old new begun pending gone_keys t e kept found puts =
     }
 
 -- the state without that transaction
-pub closed_state : (records : List LogRecord) (es fs : List (TxId × OpenTx)) (begun : ℕ) (limits : Bounds) (room : Option (List ℕ)) (t : ℕ) → PutsAt (finding es) (finding fs) t None → state records fs begun limits None ≡ record (state records es begun limits room) { txs = maps.remove (txs_of (kept_of (reverse records)) es) t; room = None }
-closed_state records es fs begun limits room t puts =
-    let cs = kept_of (reverse records) in
-    let txs_are = txs-remove cs es fs t puts in
-    λ j. record { records = records; changes = cs; txs = txs_are j; begun = begun; limits = limits; room = None }
+pub closed_state : (l : Inside) (fs : List (TxId × OpenTx)) (t : ℕ) → PutsAt (finding l.txs.entries) (finding fs) t None → state l.records.items fs l.begun l.limits None ≡ with_txs (state_of l) (maps.remove (state_of l).txs t)
+closed_state l fs t puts = ap (with_txs (state_of l)) (txs-remove (kept_of (reverse l.records.items)) l.txs.entries fs t puts)
 
 -- ---- a new transaction
 
@@ -172,31 +171,46 @@ live_part rs es begun pending gone_keys t e kept found =
 -- ---- the end of a rollback
 
 -- a transaction that is rolling is open
-pub rolling_found : (cs : List Kept) (es : List (TxId × OpenTx)) (t : ℕ) → IsRolling (option_map phase_of (maps.get (txs_of cs es) t)) → is_some (finding es t) ≡ true
-rolling_found cs es t h = rolling_case (finding es t) (subst (λ (o : Option Tx). IsRolling (option_map phase_of o)) (get-txs_of cs es t) h)
-  where
-    rolling_case : (o : Option OpenTx) → IsRolling (option_map phase_of (option_map (tx_at t cs) o)) → is_some o ≡ true
-    rolling_case None h = absurd h
-    rolling_case (Some e) h = refl
+pub rolling_open : (o : Option Tx) → IsRolling (option_map phase_of o) → is_some o ≡ true
+rolling_open None h = absurd h
+rolling_open (Some x) h = refl
 
-finished_case : (cs : List Kept) (txs : Transactions) (t u : ℕ) (places : List ℕ) (s : Option Rollback) → IsRolling (Some (rollback_phase s)) → finished_by txs t places (rollback_at u cs s) ≡ cond (ends_at s) (maps.remove txs t) (maps.insert txs t (active_with places))
+-- so is one that is active
+pub active_open : (o : Option Tx) → option_map phase_of o ≡ Some Active → is_some o ≡ true
+active_open None h = absurd (cc)
+active_open (Some x) h = refl
+
+-- and that has nothing to take back
+pub active_left : (h : List Change) (t : ℕ) (o : Option Tx) → option_map phase_of o ≡ Some Active → left_in h t o ≡ 0
+active_left h t None active = refl
+active_left h t (Some x) active = active_case x.rollback (some_of _ _ active)
+  where
+    active_case : (s : Option Rollback) → rollback_phase s ≡ Active → left_of h t s ≡ 0
+    active_case None f = refl
+    active_case (Some r) f = absurd (cc)
+
+finished_case : (cs : List Kept) (txs : Transactions) (t u : ℕ) (places : List ℕ) (s : Option Rollback) → IsRolling (Some (rollback_phase s)) → finished_by txs t places (rollback_at u cs s) ≡ cond (stays_at s) (maps.insert txs t (active_with places)) (maps.remove txs t)
 finished_case cs txs t u places None h = absurd h
-finished_case cs txs t u places (Some r) h = refl
+finished_case cs txs t u places (Some r) h = turned r.ends
+  where
+    turned : (b : Bool) → cond b (maps.remove txs t) (maps.insert txs t (active_with places)) ≡ cond (not b) (maps.insert txs t (active_with places)) (maps.remove txs t)
+    turned true = refl
+    turned false = refl
 
 -- what a finished rollback leaves, by whether it ends its transaction
-pub finished_is : (cs : List Kept) (es : List (TxId × OpenTx)) (t : ℕ) (e : OpenTx) → finding es t ≡ Some e → IsRolling (option_map phase_of (maps.get (txs_of cs es) t)) → finished (txs_of cs es) t (maps.get (txs_of cs es) t) ≡ cond (ends_at e.rollback) (maps.remove (txs_of cs es) t) (maps.insert (txs_of cs es) t (active_with (places_of (maps.get (txs_of cs es) t))))
+pub finished_is : (cs : List Kept) (es : List (TxId × OpenTx)) (t : ℕ) (e : OpenTx) → finding es t ≡ Some e → IsRolling (option_map phase_of (maps.get (txs_of cs es) t)) → finished (txs_of cs es) t (maps.get (txs_of cs es) t) ≡ cond (stays_at e.rollback) (maps.insert (txs_of cs es) t (active_with (places_of (maps.get (txs_of cs es) t)))) (maps.remove (txs_of cs es) t)
 finished_is cs es t e found h =
     let entry = tx_of_entry cs es t e found in
     ap (finished (txs_of cs es) t) entry
     ∙ finished_case cs (txs_of cs es) t t (map (λ s. place_at t s cs) e.saves.items) e.rollback (subst IsRolling (phase_is cs es t e found) h)
-    ∙ ap (λ (o : Option Tx). cond (ends_at e.rollback) (maps.remove (txs_of cs es) t) (maps.insert (txs_of cs es) t (active_with (places_of o)))) (sym entry)
+    ∙ ap (λ (o : Option Tx). cond (stays_at e.rollback) (maps.insert (txs_of cs es) t (active_with (places_of o))) (maps.remove (txs_of cs es) t)) (sym entry)
 
 -- a rollback that ends its transaction takes it out
-pub finished_ends : (cs : List Kept) (es : List (TxId × OpenTx)) (t : ℕ) (e : OpenTx) → finding es t ≡ Some e → IsRolling (option_map phase_of (maps.get (txs_of cs es) t)) → ends_at e.rollback ≡ true → finished (txs_of cs es) t (maps.get (txs_of cs es) t) ≡ maps.remove (txs_of cs es) t
+pub finished_ends : (cs : List Kept) (es : List (TxId × OpenTx)) (t : ℕ) (e : OpenTx) → finding es t ≡ Some e → IsRolling (option_map phase_of (maps.get (txs_of cs es) t)) → stays_at e.rollback ≡ false → finished (txs_of cs es) t (maps.get (txs_of cs es) t) ≡ maps.remove (txs_of cs es) t
 finished_ends cs es t e found h ends =
-    finished_is cs es t e found h ∙ ap (λ (b : Bool). cond b (maps.remove (txs_of cs es) t) (maps.insert (txs_of cs es) t (active_with (places_of (maps.get (txs_of cs es) t))))) ends
+    finished_is cs es t e found h ∙ ap (λ (b : Bool). cond b (maps.insert (txs_of cs es) t (active_with (places_of (maps.get (txs_of cs es) t)))) (maps.remove (txs_of cs es) t)) ends
 
 -- any other leaves it active
-pub finished_goes : (cs : List Kept) (es : List (TxId × OpenTx)) (t : ℕ) (e : OpenTx) → finding es t ≡ Some e → IsRolling (option_map phase_of (maps.get (txs_of cs es) t)) → ends_at e.rollback ≡ false → finished (txs_of cs es) t (maps.get (txs_of cs es) t) ≡ maps.insert (txs_of cs es) t (active_with (places_of (maps.get (txs_of cs es) t)))
+pub finished_goes : (cs : List Kept) (es : List (TxId × OpenTx)) (t : ℕ) (e : OpenTx) → finding es t ≡ Some e → IsRolling (option_map phase_of (maps.get (txs_of cs es) t)) → stays_at e.rollback ≡ true → finished (txs_of cs es) t (maps.get (txs_of cs es) t) ≡ maps.insert (txs_of cs es) t (active_with (places_of (maps.get (txs_of cs es) t)))
 finished_goes cs es t e found h goes =
-    finished_is cs es t e found h ∙ ap (λ (b : Bool). cond b (maps.remove (txs_of cs es) t) (maps.insert (txs_of cs es) t (active_with (places_of (maps.get (txs_of cs es) t))))) goes
+    finished_is cs es t e found h ∙ ap (λ (b : Bool). cond b (maps.insert (txs_of cs es) t (active_with (places_of (maps.get (txs_of cs es) t)))) (maps.remove (txs_of cs es) t)) goes

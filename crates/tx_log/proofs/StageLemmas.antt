@@ -5,22 +5,25 @@ use Rattle.std.specs.List.{take-map}
 use Rattle.std.proofs.lemmas.List.{map-append}
 use Rattle.rec_types.specs.History.{is_pending, own_count}
 use Rattle.rec_types.specs.Kept.{Kept, history_of, IsOwned}
-use Rattle.rec_types.specs.declared.transaction.TxId.{TxId}
-use Rattle.rec_types.specs.LimitBounds.{Bounds}
 use Rattle.tx_log.proofs.AbsentOwnedLemmas.{absent_in}
 use Rattle.tx_log.proofs.Counts.{count}
 use Rattle.tx_log.proofs.KeptLogLemmas.{tx_of_entry}
 use Rattle.tx_log.proofs.OpenTxLemmas.{found_fits, fit-put, opens-put, txs-put}
 use Rattle.tx_log.proofs.PlaceLemmas.{kept_rises, place-zero, place-new}
-use Rattle.tx_log.proofs.LogStateLemmas.{state}
-use Rattle.tx_log.specs.Finds.{Txs, finding, PutsAt}
+use Rattle.tx_log.proofs.HoldSteps.{held_put}
+use Rattle.tx_log.proofs.PlaceOf.{write_at}
+use Rattle.tx_log.proofs.LogStateLemmas.{unroomed}
+use Rattle.tx_log.specs.Finds.{Txs, found, PutsAt, StandsAt}
+use Rattle.tx_log.specs.Holdings.{held}
+use Rattle.indexmap.specs.IndexMap.{with_value_at}
+use Rattle.tx_log.specs.declared.log.TxLog.TheInside.{Inside}
 use Rattle.tx_log.specs.Fits.{AllUpTo, RollbackUpTo, FitsTx, left_above}
 use Rattle.tx_log.specs.Log.{kept_of, last_of, stack, IsNumbered}
-use Rattle.tx_log.specs.LogFields.{IsKept}
-use Rattle.tx_log.specs.LogState.{places_of, places_in}
+use Rattle.tx_log.specs.LogFields.{IsKept, IsTxLog, state_of}
+use Rattle.tx_log.specs.LogState.{LogState, places_of, places_in, with_txs}
 use Rattle.tx_log.specs.Places.{place_at}
-use Rattle.tx_log.specs.OpenTxs.{rollback_at, tx_at, txs_of}
-use Rattle.tx_log.specs.Transactions.{Tx, place_in, most_savepoints}
+use Rattle.tx_log.specs.OpenTxs.{rollback_at, tx_at}
+use Rattle.tx_log.specs.Transactions.{Tx, Transactions, place_in, most_savepoints}
 use Rattle.tx_log.specs.declared.log_record.LogRecord.{LogRecord}
 use Rattle.tx_log.specs.declared.open_tx.OpenTx.{OpenTx}
 use Rattle.tx_log.specs.declared.phase.Rollback.{Rollback}
@@ -50,7 +53,7 @@ moved_fits rs n t e s left ss fits move = record {
 }
 
 -- what is kept of a log stays true
-pub moved_kept : (rs : List LogRecord) (old new : Txs) (begun pending gone t : ℕ) (e d : OpenTx) (s : Option Rollback) (left : ℕ) (ss : List ℕ) → IsKept rs old begun pending gone → old t ≡ Some e → PutsAt old new t (Some d) → d ≡ moved e s left ss → IsMove rs t s left ss → IsKept rs new begun pending gone
+moved_kept : (rs : List LogRecord) (old new : Txs) (begun pending gone t : ℕ) (e d : OpenTx) (s : Option Rollback) (left : ℕ) (ss : List ℕ) → IsKept rs old begun pending gone → old t ≡ Some e → PutsAt old new t (Some d) → d ≡ moved e s left ss → IsMove rs t s left ss → IsKept rs new begun pending gone
 moved_kept rs old new begun pending gone t e d s left ss kept there puts new_is move =
     let fits : FitsTx rs begun t d = subst (FitsTx rs begun t) (sym new_is) (moved_fits rs begun t e s left ss (found_fits rs begun t old e kept.fit there) move) in
     let same = opens-put t old new d e puts there in
@@ -69,17 +72,32 @@ moved_kept rs old new begun pending gone t e d s left ss kept there puts new_is 
 abbrev pub moved_tx : List Kept → ℕ → Option Rollback → List ℕ → Tx
 moved_tx cs t s ss = record { rollback = rollback_at t cs s; places = map (λ k. place_at t k cs) ss }
 
--- the state then
-pub moved_state : (records : List LogRecord) (es fs : List (TxId × OpenTx)) (begun : ℕ) (limits : Bounds) (room : Option (List ℕ)) (t : ℕ) (e new : OpenTx) (s : Option Rollback) (left : ℕ) (ss : List ℕ) → PutsAt (finding es) (finding fs) t (Some new) → new ≡ moved e s left ss → state records fs begun limits None ≡ record (state records es begun limits room) { txs = maps.insert (txs_of (kept_of (reverse records)) es) t (moved_tx (kept_of (reverse records)) t s ss); room = None }
-moved_state records es fs begun limits room t e new s left ss puts new_is =
-    let cs = kept_of (reverse records) in
-    let txs_are = txs-put cs es fs t new puts ∙ ap (λ (x : OpenTx). maps.insert (txs_of cs es) t (tx_at t cs x)) new_is in
-    λ j. record { records = records; changes = cs; txs = txs_are j; begun = begun; limits = limits; room = None }
+-- what is known of the fields stays true when the transaction's entry is written
+pub moved_log : (l : Inside) (t at : ℕ) (e d : OpenTx) (s : Option Rollback) (left : ℕ) (ss : List ℕ) → IsTxLog l → found l.txs t ≡ Some e → StandsAt l.txs t at → d ≡ moved e s left ss → IsMove (reverse l.records.items) t s left ss → IsTxLog (record l { txs = with_value_at l.txs at d; room = None })
+moved_log l t at e d s left ss is there stands new_is move =
+    let rs = reverse l.records.items in
+    let new = found (with_value_at l.txs at d) in
+    let puts = write_at l.txs t at d stands in
+    record {
+      log_kept = moved_kept rs (found l.txs) new l.begun l.pending l.gone t e d s left ss is.log_kept there puts new_is move;
+      marked = is.marked;
+      holding = held_put rs (found l.txs) new (held l.holdings) t e d puts there is.holding;
+      busy_keys = is.busy_keys;
+      reserved = tt;
+      bounded = is.bounded;
+      records_room = unroomed _ _ _ _ is.records_room;
+      marks_room = unroomed _ _ _ _ is.marks_room;
+    }
 
--- the places of a transaction
-pub places_are : (records : List LogRecord) (es : List (TxId × OpenTx)) (begun : ℕ) (limits : Bounds) (room : Option (List ℕ)) (t : ℕ) (e : OpenTx) → finding es t ≡ Some e → places_in (state records es begun limits room) t ≡ map (λ k. place_at t k (kept_of (reverse records))) e.saves.items
-places_are records es begun limits room t e found =
-    ap places_of (tx_of_entry (kept_of (reverse records)) es t e found)
+-- the state has the entry's transaction then
+pub moved_view : (l : Inside) (t at : ℕ) (e d : OpenTx) (s : Option Rollback) (left : ℕ) (ss : List ℕ) (tx : LogState → List ℕ → Tx) → found l.txs t ≡ Some e → StandsAt l.txs t at → d ≡ moved e s left ss → moved_tx (kept_of (reverse l.records.items)) t s ss ≡ tx (state_of l) (map (λ k. place_at t k (kept_of (reverse l.records.items))) e.saves.items) → (v : LogState) → state_of l ≡ v → state_of (record l { txs = with_value_at l.txs at d; room = None }) ≡ with_txs v (maps.insert v.txs t (tx v (places_in v t)))
+moved_view l t at e d s left ss tx there stands new_is tx_is v view =
+    let cs = kept_of (reverse l.records.items) in
+    let old = state_of l in
+    let new_txs = txs-put cs l.txs.entries (with_value_at l.txs at d).entries t d (write_at l.txs t at d stands) in
+    ap (λ (m : Transactions). with_txs old m) (new_txs ∙ ap (λ (x : OpenTx). maps.insert old.txs t (tx_at t cs x)) new_is)
+    ∙ ap (λ (x : Tx). with_txs old (maps.insert old.txs t x)) (tx_is ∙ ap (tx old) (sym (ap places_of (tx_of_entry cs l.txs.entries t e there))))
+    ∙ ap (λ (w : LogState). with_txs w (maps.insert w.txs t (tx w (places_in w t)))) view
 
 -- ---- savepoints
 

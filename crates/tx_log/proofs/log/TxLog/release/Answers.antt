@@ -1,18 +1,12 @@
-use Rattle.std.proofs.Common.{ℕ, ◌-◌, List, None, length, take, reverse, sym, ap, ◌∙◌}
-use Rattle.std.specs.FinMap as maps
-use Rattle.tx_log.proofs.HoldSteps.{held_put}
-use Rattle.tx_log.specs.Holdings.{held}
+use Rattle.std.proofs.Common.{◌-◌, None, length, take, reverse, ap, ◌∙◌}
 use Rattle.tx_log.proofs.KeptLogLemmas.{open_of_phase, active_rollback, kept_now}
-use Rattle.tx_log.proofs.StageLemmas.{moved, IsMove, moved_kept, moved_state, places_are, up_to_take, kept_saves, short_take}
-use Rattle.tx_log.proofs.PlaceOf.{read_at, write_at}
-use Rattle.indexmap.specs.IndexMap.{with_value_at}
+use Rattle.tx_log.proofs.StageLemmas.{moved, IsMove, moved_log, moved_view, up_to_take, kept_saves, short_take}
+use Rattle.tx_log.proofs.PlaceOf.{read_at}
 use Rattle.tx_log.proofs.OpenTxLemmas.{found_fits}
-use Rattle.tx_log.proofs.LogStateLemmas.{state, unroomed}
 use Rattle.tx_log.specs.Finds.{finding}
 use Rattle.tx_log.specs.Fits.{left_above}
 use Rattle.tx_log.specs.Log.{stack, kept_of}
-use Rattle.tx_log.specs.LogState.{LogState, phase_in, places_in, active_with}
-use Rattle.tx_log.specs.Transactions.{Tx}
+use Rattle.tx_log.specs.LogState.{LogState, phase_in, active_with}
 use Rattle.tx_log.specs.declared.phase.Phase.TheVariants.{Active}
 use Rattle.tx_log.proofs.log.TxLog.release.Goals as goal
 
@@ -32,21 +26,10 @@ invariant_of-self c =
     let found = read_at l.txs t c.place_of-at.result e c.place_of-at.ensures.stands c.index_mut-open_tx.ensures.value in
     let fits = found_fits rs l.begun t (finding l.txs.entries) e c.self.invariant.log_kept.fit found in
     let w = c.keep_saves.new.self in
-    let m = with_value_at l.txs c.place_of-at.result w in
-    let puts = write_at l.txs t c.place_of-at.result w c.place_of-at.ensures.stands in
     let rollback_is = active_rollback (kept_of rs) l.txs.entries t e found (ap (λ (s : LogState). phase_in s t) c.self.view_is ∙ c.requires.active) in
     let new_is = c.keep_saves.ensures ∙ ap (λ s. moved e s e.left (take (c.args.n - 1) e.saves.items)) rollback_is in
     let move : IsMove rs t None e.left (take (c.args.n - 1) e.saves.items) = record { remaining = fits.left ∙ ap (left_above (stack t rs)) rollback_is; saves = up_to_take (c.args.n - 1) (length rs) e.saves.items fits.saves; depth = short_take (c.args.n - 1) 32 e.saves.items fits.depth; rollback = tt } in
-    record {
-      log_kept = moved_kept rs (finding l.txs.entries) (finding m.entries) l.begun l.pending l.gone t e w None e.left (take (c.args.n - 1) e.saves.items) c.self.invariant.log_kept found puts new_is move;
-      marked = c.self.invariant.marked;
-      holding = held_put rs (finding l.txs.entries) (finding m.entries) (held l.holdings) t e w puts found c.self.invariant.holding;
-      busy_keys = c.self.invariant.busy_keys;
-      reserved = tt;
-      bounded = c.self.invariant.bounded;
-      records_room = unroomed _ _ _ _ c.self.invariant.records_room;
-      marks_room = unroomed _ _ _ _ c.self.invariant.marks_room;
-    }
+    moved_log l t c.place_of-at.result e w None e.left (take (c.args.n - 1) e.saves.items) c.self.invariant found c.place_of-at.ensures.stands new_is move
 
 pub returns-clause-after : goal.returns-clause-after
 returns-clause-after c =
@@ -55,18 +38,10 @@ returns-clause-after c =
     let t = c.args.tx.0 in
     let e = c.index_mut-open_tx.result.now in
     let found = read_at l.txs t c.place_of-at.result e c.place_of-at.ensures.stands c.index_mut-open_tx.ensures.value in
-    let fits = found_fits rs l.begun t (finding l.txs.entries) e c.self.invariant.log_kept.fit found in
     let w = c.keep_saves.new.self in
-    let m = with_value_at l.txs c.place_of-at.result w in
-    let puts = write_at l.txs t c.place_of-at.result w c.place_of-at.ensures.stands in
     let rollback_is = active_rollback (kept_of rs) l.txs.entries t e found (ap (λ (s : LogState). phase_in s t) c.self.view_is ∙ c.requires.active) in
     let new_is = c.keep_saves.ensures ∙ ap (λ s. moved e s e.left (take (c.args.n - 1) e.saves.items)) rollback_is in
-    let cs = kept_of rs in
-    let old = state l.records.items l.txs.entries l.begun l.limits l.room in
-    let are = places_are l.records.items l.txs.entries l.begun l.limits l.room t e found in
-    moved_state l.records.items l.txs.entries m.entries l.begun l.limits l.room t e w None e.left (take (c.args.n - 1) e.saves.items) puts new_is
-    ∙ ap (λ (x : Tx). record old { txs = maps.insert old.txs t x; room = None }) (kept_saves rs t (c.args.n - 1) e.saves.items ∙ ap (λ (ps : List ℕ). active_with (take (c.args.n - 1) ps)) (sym are))
-    ∙ ap (λ (s : LogState). record s { txs = maps.insert s.txs t (active_with (take (c.args.n - 1) (places_in s t))); room = None }) c.self.view_is
+    moved_view l t c.place_of-at.result e w None e.left (take (c.args.n - 1) e.saves.items) (λ s ps. active_with (take (c.args.n - 1) ps)) found c.place_of-at.ensures.stands new_is (kept_saves rs t (c.args.n - 1) e.saves.items) _ c.self.view_is
 
 pub returns-clause-kept : goal.returns-clause-kept
 returns-clause-kept c = kept_now c.self.inside c.self.invariant _ c.self.view_is

@@ -1,18 +1,13 @@
-use Rattle.std.proofs.Common.{◌≡◌, Option, Some, ℕ, ◌≤◌, List, None, length, take, reverse, sym, ap, subst, ◌∙◌}
-use Rattle.std.specs.FinMap as maps
-use Rattle.tx_log.proofs.HoldSteps.{held_put}
-use Rattle.tx_log.specs.Holdings.{held}
+use Rattle.std.proofs.Common.{◌≡◌, Option, Some, ℕ, ◌≤◌, List, length, take, reverse, sym, ap, subst, ◌∙◌}
 use Rattle.tx_log.proofs.KeptLogLemmas.{open_of_phase, kept_now, sized, some_of}
-use Rattle.tx_log.proofs.StageLemmas.{IsMove, moved_tx, moved_kept, moved_state, places_are, up_to_take, up_to_place, rolling_is, short_take}
-use Rattle.tx_log.proofs.PlaceOf.{read_at, write_at}
-use Rattle.indexmap.specs.IndexMap.{with_value_at}
+use Rattle.tx_log.proofs.StageLemmas.{IsMove, moved_tx, moved_log, moved_view, up_to_take, up_to_place, rolling_is, short_take}
+use Rattle.tx_log.proofs.PlaceOf.{read_at}
 use Rattle.tx_log.proofs.OpenTxLemmas.{found_fits}
 use Rattle.tx_log.proofs.OpenTxReadLemmas.{depth_is, entry_chain}
-use Rattle.tx_log.proofs.LogStateLemmas.{state, unroomed}
 use Rattle.tx_log.specs.Finds.{finding}
 use Rattle.tx_log.specs.Log.{kept_of, stack, chain}
-use Rattle.tx_log.specs.LogState.{LogState, phase_in, tx_in, places_in, rolling_to}
-use Rattle.tx_log.specs.Transactions.{Tx, depth_of, place_in}
+use Rattle.tx_log.specs.LogState.{LogState, phase_in, tx_in, rolling_to}
+use Rattle.tx_log.specs.Transactions.{depth_of, place_in}
 use Rattle.std.specs.List.{filter}
 use Rattle.std.proofs.lemmas.List.{length-reverse}
 use Rattle.tx_log.specs.Walks.{is_after}
@@ -76,20 +71,9 @@ invariant_of-self c =
     let found = read_at l.txs t c.place_of-at.result e c.place_of-at.ensures.stands c.index_mut-open_tx.ensures.value in
     let fits = found_fits rs l.begun t (finding l.txs.entries) e c.self.invariant.log_kept.fit found in
     let w = c.turn_back.new.self in
-    let m = with_value_at l.txs c.place_of-at.result w in
-    let puts = write_at l.txs t c.place_of-at.result w c.place_of-at.ensures.stands in
     let rollback : Option Rollback = Some (record { to = c.save_at-to.result; ends = c.args.ends }) in
     let move : IsMove rs t rollback c.count_changes-left.result (take c.args.n e.saves.items) = record { remaining = left_is c; saves = up_to_take c.args.n (length rs) e.saves.items fits.saves; depth = short_take c.args.n 32 e.saves.items fits.depth; rollback = subst (λ (k : ℕ). k ≤ length rs) (sym (to_is c)) (up_to_place (length rs) e.saves.items c.args.n fits.saves) } in
-    record {
-      log_kept = moved_kept rs (finding l.txs.entries) (finding m.entries) l.begun l.pending l.gone t e w rollback c.count_changes-left.result (take c.args.n e.saves.items) c.self.invariant.log_kept found puts c.turn_back.ensures move;
-      marked = c.self.invariant.marked;
-      holding = held_put rs (finding l.txs.entries) (finding m.entries) (held l.holdings) t e w puts found c.self.invariant.holding;
-      busy_keys = c.self.invariant.busy_keys;
-      reserved = tt;
-      bounded = c.self.invariant.bounded;
-      records_room = unroomed _ _ _ _ c.self.invariant.records_room;
-      marks_room = unroomed _ _ _ _ c.self.invariant.marks_room;
-    }
+    moved_log l t c.place_of-at.result e w rollback c.count_changes-left.result (take c.args.n e.saves.items) c.self.invariant found c.place_of-at.ensures.stands c.turn_back.ensures move
 
 pub returns-clause-after : goal.returns-clause-after
 returns-clause-after c =
@@ -99,14 +83,8 @@ returns-clause-after c =
     let e = c.index_mut-open_tx.result.now in
     let found = read_at l.txs t c.place_of-at.result e c.place_of-at.ensures.stands c.index_mut-open_tx.ensures.value in
     let w = c.turn_back.new.self in
-    let m = with_value_at l.txs c.place_of-at.result w in
-    let puts = write_at l.txs t c.place_of-at.result w c.place_of-at.ensures.stands in
-    let old = state l.records.items l.txs.entries l.begun l.limits l.room in
-    let are = places_are l.records.items l.txs.entries l.begun l.limits l.room t e found in
     let there = ap (λ k. moved_tx (kept_of rs) t (Some (record { to = k; ends = c.args.ends })) (take c.args.n e.saves.items)) (to_is c) in
-    moved_state l.records.items l.txs.entries m.entries l.begun l.limits l.room t e w (Some (record { to = c.save_at-to.result; ends = c.args.ends })) c.count_changes-left.result (take c.args.n e.saves.items) puts c.turn_back.ensures
-    ∙ ap (λ (x : Tx). record old { txs = maps.insert old.txs t x; room = None }) (there ∙ rolling_is rs t c.args.n c.args.ends e.saves.items c.self.invariant.log_kept.numbered ∙ ap (λ (ps : List ℕ). rolling_to ps c.args.n c.args.ends) (sym are))
-    ∙ ap (λ (s : LogState). record s { txs = maps.insert s.txs t (rolling_to (places_in s t) c.args.n c.args.ends); room = None }) c.self.view_is
+    moved_view l t c.place_of-at.result e w (Some (record { to = c.save_at-to.result; ends = c.args.ends })) c.count_changes-left.result (take c.args.n e.saves.items) (λ s ps. rolling_to ps c.args.n c.args.ends) found c.place_of-at.ensures.stands c.turn_back.ensures (there ∙ rolling_is rs t c.args.n c.args.ends e.saves.items c.self.invariant.log_kept.numbered) _ c.self.view_is
 
 pub returns-clause-kept : goal.returns-clause-kept
 returns-clause-kept c = kept_now c.self.inside c.self.invariant _ c.self.view_is
