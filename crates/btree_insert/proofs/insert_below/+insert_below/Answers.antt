@@ -1,4 +1,4 @@
-use Rattle.std.proofs.Common.{◌≡◌, ◌+◌, ◌-◌, ℕ, suc, Option, List, ◌∷◌, true, false, ◌==◌, length, get_or, set, ap, sym, ◌∙◌, subst, arith, rules}
+use Rattle.std.proofs.Common.{◌≡◌, ◌+◌, ◌-◌, ℕ, suc, IsTrue, Option, List, ◌∷◌, true, false, ◌==◌, length, get_or, set, ap, sym, ◌∙◌, subst, arith, rules}
 use Rattle.std.specs.List.{insert}
 use Rattle.std.proofs.lemmas.Bool.{false≢true}
 use Rattle.std.proofs.lemmas.List.{length-set, get_or_default}
@@ -7,16 +7,17 @@ use Rattle.std.proofs.lemmas.Result.{err_from_is_err_and}
 use Rattle.std.specs.List.{list_any}
 use Rattle.page_store.specs.FreeNumbers.{candidate}
 use Rattle.page_store.specs.PagesView.{PagesView}
-use Rattle.page_store.specs.PageMap.{at, overlay}
-use Rattle.btree_node.specs.Lists.{Element, IsPlace}
-use Rattle.btree_node.specs.Spelling.{spelling}
+use Rattle.page_store.specs.PageMap.{PageMap, at, overlay}
+use Rattle.btree_node.specs.Lists.{Element, IsAt, IsPlace}
+use Rattle.btree_node.specs.Spelling.{spelling, CanStand}
 use Rattle.btree_node.specs.declared.node.Node.{Node}
 use Rattle.btree_node.specs.declared.node.NodeKind.TheVariants.{Inner}
 use Rattle.btree_insert.specs.declared.insert_below.Grown.{Grown}
 use Rattle.btree_insert.specs.declared.insert_below.Grown.TheVariants.{Replaced, Split}
+use Rattle.btree_insert.specs.declared.bounds.Bounds.{Bounds}
 use Rattle.btree_insert.specs.Bounds.{AreWithin, Between, son_bounds}
 use Rattle.btree_insert.specs.Growth.{MayBeOverfull, IsOutside, IsWithin, Grew, SplitGoesUp, WritesOrSplits, TakesNumbers, WritesFit}
-use Rattle.btree_insert.specs.PageTrees.{TreeAt, kind_of_level, tree_below}
+use Rattle.btree_insert.specs.PageTrees.{Apart, TreeAt, kind_of_level, tree_below}
 use Rattle.btree_insert.specs.Spelt.{AreSpeltIn}
 use Rattle.btree_insert.specs.declared.step.Step.TheVariants.{Ends, Goes}
 use Rattle.btree_insert.specs.Steps.{Steps}
@@ -25,12 +26,88 @@ use Rattle.btree_insert.proofs.EditFitLemmas.{wrote_fits, stays_within, takes_mo
 use Rattle.btree_insert.proofs.ChangedTreeLemmas.{in_use}
 use Rattle.btree_insert.proofs.VisitedLemmas.{Unvisited, unvisited_below, apart_below, candidates_free}
 use Rattle.btree_insert.proofs.PlaceLemmas.{within_place, place_within, son_within, insert_within, leaf_may_be_overfull, inner_may_be_overfull, set_stands}
+use Rattle.btree_insert.proofs.SonsAroundLemmas.{Focus}
 use Rattle.btree_insert.proofs.SettledTreeLemmas.{focus_of, grow_stays, grow_split, grow_leaf, grow_replaced}
-use Rattle.btree_insert.proofs.HeadNodeLemmas.{kind_above, head_each, top}
+use Rattle.btree_insert.proofs.HeadNodeLemmas.{Top, kind_above, head_each, top}
 use Rattle.btree_insert.proofs.StepNodeLemmas.{still_known, taken_top}
 use Rattle.btree_insert.proofs.insert_below.+insert_below.Given as given
 use Rattle.btree_insert.proofs.insert_below.+insert_below.Goals as goal
-use Rattle.btree_insert.proofs.insert_below.+insert_below.Goals.{After-insert, After-insert-in-Split-2}
+use Rattle.btree_insert.proofs.insert_below.+insert_below.Goals.{In_ok-i, In-Goes, In_ok-done-in-Goes, After-replace-old, After-insert, After-insert-in-Split-2}
+
+-- a son's tree within its bounds, none of whose pages was visited
+record IsSon (k : ℕ) (pages : List (Option (List ℕ))) (level s : ℕ) (xs : List Element) (mine visited : List ℕ) (b : Bounds) : Type 0 where
+  pub tree : TreeAt k (at pages) k level s xs mine
+  pub between : Between b xs
+  pub apart : Apart mine
+  pub unvisited : Unvisited visited mine
+
+-- the node that the step was taken from is the one at the head of the tree
+module _ (g : given.Over) (t : ℕ) (c : In_ok-i g t) where
+  head_of : (steady : IsTrue c.args.pages.now.steady) (least : ℕ) (es : List Element) (us : List ℕ) → TreeAt c.args.order (at c.args.pages.now.pages) least c.args.spot.now.level c.args.spot.now.page es us → Between c.args.spot.now.bounds es
+      → Top c.args.order (at c.args.pages.now.pages) least c.args.spot.now.level (c.args.spot.now.level - 1) c.args.spot.now.page es us c.args.spot.now.bounds c.in_ok-i.ensures.stepped.node
+  head_of steady least es us tree between =
+      taken_top c.args.order c.args.pages.now least c.args.spot.now es us c.args.element.0 c.args.in_place c.take_step.new.node c.in_ok-i.field-0 c.requires.order.1 c.requires.level steady c.in_ok-i.ensures.stepped tree between
+
+-- the node with another record in the place of the one at the key
+module _ (g : given.Over) (t : ℕ) (c : After-replace-old g t) where
+  abbrev met : Node
+  met = c.in_ok-i.ensures.stepped.node
+
+  found : IsAt met.elements.items c.args.element.0 c.in-Found.i
+  found = (subst (Steps c.args.spot.now.level met c.args.spot.now.bounds c.args.element.0) c.in-Found.is c.in_ok-i.ensures.stepped.steps).0
+
+  filled : c.fill_node.new.node ≡ met
+  filled = c.fill_node.ensures.known met (still_known c.args.order c.args.pages.now c.take_step.new.pages c.args.spot.now.page c.args.in_place c.take_step.new.node met c.take_step.ensures.unchanged c.in_ok-i.ensures.stepped.known)
+
+  replaced_kind : c.replace-old.new.node.kind ≡ met.kind
+  replaced_kind = c.replace-old.ensures.kind ∙ ap (λ (n : Node). n.kind) filled
+
+  replaced_elements : c.replace-old.new.node.elements.items ≡ set met.elements.items c.in-Found.i c.args.element
+  replaced_elements = c.replace-old.ensures.elements ∙ ap (λ (n : Node). set n.elements.items c.in-Found.i c.args.element) filled
+
+  replaced_sons : c.replace-old.new.node.sons.items ≡ met.sons.items
+  replaced_sons = ap (λ s. s.items) c.replace-old.ensures.sons ∙ ap (λ (n : Node). n.sons.items) filled
+
+  replaced_stands : CanStand c.replace-old.new.node c.args.order
+  replaced_stands = set_stands c.args.order met c.replace-old.new.node c.in-Found.i c.args.element c.in_ok-i.ensures.stepped.known.stands found c.requires.element replaced_kind replaced_elements replaced_sons
+
+-- the son that the descent goes to
+module _ (g : given.Over) (t : ℕ) (c : In-Goes g t) where
+  abbrev father : Node
+  father = c.in_ok-i.ensures.stepped.node
+
+  way_down : Steps c.args.spot.now.level father c.args.spot.now.bounds c.args.element.0 (Goes c.in-Goes.i c.in-Goes.page c.in-Goes.bounds)
+  way_down = subst (Steps c.args.spot.now.level father c.args.spot.now.bounds c.args.element.0) c.in-Goes.is c.in_ok-i.ensures.stepped.steps
+
+  son_of : (new : PageMap) (least : ℕ) (es : List Element) (us : List ℕ) → Between c.args.spot.now.bounds es → (head : Top c.args.order (at c.args.pages.now.pages) least c.args.spot.now.level (c.args.spot.now.level - 1) c.args.spot.now.page es us c.args.spot.now.bounds father)
+      → Focus (TreeAt c.args.order (at c.args.pages.now.pages) c.args.order (c.args.spot.now.level - 1)) (TreeAt c.args.order new c.args.order (c.args.spot.now.level - 1)) (λ q. new q ≡ at c.args.pages.now.pages q) father.sons.items father.elements.items es head.below c.args.element.0 c.in-Goes.i c.args.spot.now.bounds
+  son_of new least es us between head =
+      focus_of c.args.order (at c.args.pages.now.pages) new (c.args.spot.now.level - 1) father es head.below c.args.element.0 c.in-Goes.i c.args.spot.now.bounds (omega (arith, way_down.0)) head.body between way_down.1
+
+  son_known : (new : PageMap) (es : List Element) (us below : List ℕ) → us ≡ c.args.spot.now.page ∷ below → Apart us → Unvisited c.args.visited.now.items us
+      → (son : Focus (TreeAt c.args.order (at c.args.pages.now.pages) c.args.order (c.args.spot.now.level - 1)) (TreeAt c.args.order new c.args.order (c.args.spot.now.level - 1)) (λ q. new q ≡ at c.args.pages.now.pages q) father.sons.items father.elements.items es below c.args.element.0 c.in-Goes.i c.args.spot.now.bounds)
+      → IsSon c.args.order c.take_step.new.pages.pages (c.args.spot.now.level - 1) c.in-Goes.page son.xs son.mine c.push.new.self.items c.in-Goes.bounds
+  son_known new es us below us_is apart unvisited son =
+      let k = c.args.order in
+      let spot = c.args.spot.now in
+      let around = us_is ∙ ap (λ vs. spot.page ∷ vs) son.us_is in
+      record {
+        tree = subst (λ (v : PagesView). TreeAt k (at v.pages) k (spot.level - 1) c.in-Goes.page son.xs son.mine) (sym c.take_step.ensures.unchanged)
+            (subst (λ q. TreeAt k (at c.args.pages.now.pages) k (spot.level - 1) q son.xs son.mine) (sym way_down.2) son.here);
+        between = subst (λ b. Between b son.xs) (sym way_down.3) son.between;
+        apart = apart_below spot.page us son.upre son.mine son.upost around apart;
+        unvisited = subst (λ (visited : List ℕ). Unvisited visited son.mine) (sym c.push.ensures.items) (unvisited_below c.args.visited.now.items spot.page us son.upre son.mine son.upost around apart unvisited);
+      }
+
+-- what the call on the son came to, said of the pages before the step
+module _ (g : given.Over) (t : ℕ) (c : In_ok-done-in-Goes g t) where
+  grew_below : (n : Node) → c.in-Goes.page ≡ get_or n.sons.items c.in-Goes.i 0 → (xs : List Element) (mine : List ℕ) → Grew (tree_below c.args.order c.args.order (c.args.spot.now.level - 1) c.in-Goes.page) (edited c.take_step.new.pages.pages c.args.edit.now.taken c.insert_below.new.edit) xs mine c.args.element.0 c.args.element.1 c.in_ok-done-in-Goes.done
+      → Grew (tree_below c.args.order c.args.order (c.args.spot.now.level - 1) (get_or n.sons.items c.in-Goes.i 0)) (edited c.args.pages.now.pages c.args.edit.now.taken c.insert_below.new.edit) xs mine c.args.element.0 c.args.element.1 c.in_ok-done-in-Goes.done
+  grew_below n son_is xs mine grew =
+      let k = c.args.order in
+      let level = c.args.spot.now.level - 1 in
+      subst (λ q. Grew (tree_below k k level q) (edited c.args.pages.now.pages c.args.edit.now.taken c.insert_below.new.edit) xs mine c.args.element.0 c.args.element.1 c.in_ok-done-in-Goes.done) son_is
+      (subst (λ (v : PagesView). Grew (tree_below k k level c.in-Goes.page) (edited v.pages c.args.edit.now.taken c.insert_below.new.edit) xs mine c.args.element.0 c.args.element.1 c.in_ok-done-in-Goes.done) c.take_step.ensures.unchanged grew)
 
 pub returns-then-was_visited-clause-grew : goal.returns-then-was_visited-clause-grew
 returns-then-was_visited-clause-grew g t c = λ steady none least es us tree between apart unvisited.
@@ -47,17 +124,7 @@ returns-in_err-i-clause-grew g t c = λ steady none least es us tree between apa
     rw (p.1, p.2) (subst IsOutside (sym (c.in_err-i.ensures.exact steady head.0 head.1.spells (record { kind = head.1.kind; within = head.1.within }))) tt)
 
 pub write_node-requires-clause-stands : goal.write_node-requires-clause-stands
-write_node-requires-clause-stands g t c =
-    let k = c.args.order in
-    let spot = c.args.spot.now in
-    let s = c.in_ok-i.ensures.stepped in
-    let steps = subst (Steps spot.level s.node spot.bounds c.args.element.0) c.in-Found.is s.steps in
-    let filled = c.fill_node.ensures.known s.node (still_known k c.args.pages.now c.take_step.new.pages spot.page c.args.in_place c.take_step.new.node s.node c.take_step.ensures.unchanged s.known) in
-    let kind_is = c.replace-old.ensures.kind ∙ ap (λ (n : Node). n.kind) filled in
-    let els_is = c.replace-old.ensures.elements ∙ ap (λ (n : Node). set n.elements.items c.in-Found.i c.args.element) filled in
-    let sons_is = ap (λ s. s.items) c.replace-old.ensures.sons ∙ ap (λ (n : Node). n.sons.items) filled in
-    let stands = set_stands k s.node c.replace-old.new.node c.in-Found.i c.args.element s.known.stands steps.0 c.requires.element kind_is els_is sons_is in
-    stands
+write_node-requires-clause-stands g t c = replaced_stands g t (goal.at.write_node-requires-clause-stands g t c).After-replace-old
 
 -- a leaf with one element more
 module _ (g : given.Over) (t : ℕ) (c : After-insert g t) where
@@ -91,27 +158,20 @@ pub insert_below-requires : goal.insert_below-requires
 insert_below-requires g t c = λ κs sub.
     let k = c.args.order in
     let spot = c.args.spot.now in
-    let s = c.in_ok-i.ensures.stepped in
-    let steps = subst (Steps spot.level s.node spot.bounds c.args.element.0) c.in-Goes.is s.steps in
-    let inside = subst (λ b. IsWithin b c.args.element.0) (sym steps.3) (place_within s.node.elements.items c.in-Goes.i spot.bounds c.args.element.0 c.requires.within steps.1) in
+    let n = c.in_ok-i.ensures.stepped.node in
+    let steps = way_down g t (goal.at.insert_below-requires g t c).In-Goes in
+    let inside = subst (λ b. IsWithin b c.args.element.0) (sym steps.3) (place_within n.elements.items c.in-Goes.i spot.bounds c.args.element.0 c.requires.within steps.1) in
     let fits = subst (λ (v : PagesView). WritesFit v.pages c.args.edit.now.writes.items c.args.edit.now.taken) (sym c.take_step.ensures.unchanged) c.requires.fits in
     (omega (arith, c.decreases, c.requires.level), (sub, (c.requires.order, (omega (arith, steps.0), (omega (arith, c.push.ensures.len, c.requires.levels, steps.0), (c.requires.element, (inside, (c.requires.taken, (fits, λ in_place. subst (AreSpeltIn k) (sym c.take_step.ensures.unchanged) (c.requires.spelt in_place))))))))))
 
 pub returns-in_err-done-in-Goes-clause-grew : goal.returns-in_err-done-in-Goes-clause-grew
 returns-in_err-done-in-Goes-clause-grew g t c = λ steady none least es us tree between apart unvisited.
-    let k = c.args.order in
-    let spot = c.args.spot.now in
-    let s = c.in_ok-i.ensures.stepped in
-    let steps = subst (Steps spot.level s.node spot.bounds c.args.element.0) c.in-Goes.is s.steps in
     let p = err_from_is_err_and c.from_residual-in_err-done-in-Goes.result c.from_residual-in_err-done-in-Goes.ensures.1 in
-    let head = taken_top k c.args.pages.now least spot es us c.args.element.0 c.args.in_place c.take_step.new.node c.in_ok-i.field-0 c.requires.order.1 c.requires.level steady s tree between in
-    let son = focus_of k (at c.args.pages.now.pages) (at c.args.pages.now.pages) (spot.level - 1) s.node es head.below c.args.element.0 c.in-Goes.i spot.bounds (omega (arith, steps.0)) head.body between steps.1 in
-    let us_is = head.us_is ∙ ap (λ vs. spot.page ∷ vs) son.us_is in
-    let tree2 = subst (λ (v : PagesView). TreeAt k (at v.pages) k (spot.level - 1) c.in-Goes.page son.xs son.mine) (sym c.take_step.ensures.unchanged)
-    (subst (λ q. TreeAt k (at c.args.pages.now.pages) k (spot.level - 1) q son.xs son.mine) (sym steps.2) son.here) in
-    let unvisited2 = subst (λ (visited : List ℕ). Unvisited visited son.mine) (sym c.push.ensures.items) (unvisited_below c.args.visited.now.items spot.page us son.upre son.mine son.upost us_is apart unvisited) in
-    let call = c.in_err-done-in-Goes.ensures.grew (ap (λ (v : PagesView). v.steady) c.take_step.ensures.unchanged ∙ steady) none k son.xs son.mine tree2 (subst (λ b. Between b son.xs) (sym steps.3) son.between) (apart_below spot.page us son.upre son.mine son.upost us_is apart) unvisited2 in
-    rw (p.1, p.2) call
+    let place = goal.at.returns-in_err-done-in-Goes-clause-grew g t c in
+    let head = head_of g t place.In_ok-i steady least es us tree between in
+    let son = son_of g t place.In-Goes (at c.args.pages.now.pages) least es us between head in
+    let known = son_known g t place.In-Goes (at c.args.pages.now.pages) es us head.below head.us_is apart unvisited son in
+    rw (p.1, p.2) (c.in_err-done-in-Goes.ensures.grew (ap (λ (v : PagesView). v.steady) c.take_step.ensures.unchanged ∙ steady) none c.args.order son.xs son.mine known.tree known.between known.apart known.unvisited)
 
 -- a node with the half that was split off its son
 module _ (g : given.Over) (t : ℕ) (c : After-insert-in-Split-2 g t) where
@@ -162,20 +222,17 @@ pub returns-in_ok-write_node-in-Found-clause-grew : goal.returns-in_ok-write_nod
 returns-in_ok-write_node-in-Found-clause-grew g t c = λ steady none least es us tree between apart unvisited.
     let k = c.args.order in
     let spot = c.args.spot.now in
-    let s = c.in_ok-i.ensures.stepped in
-    let steps = subst (Steps spot.level s.node spot.bounds c.args.element.0) c.in-Found.is s.steps in
-    let filled = c.fill_node.ensures.known s.node (still_known k c.args.pages.now c.take_step.new.pages spot.page c.args.in_place c.take_step.new.node s.node c.take_step.ensures.unchanged s.known) in
-    let head = taken_top k c.args.pages.now least spot es us c.args.element.0 c.args.in_place c.take_step.new.node c.in_ok-i.field-0 c.requires.order.1 c.requires.level steady s tree between in
-    let kind_is = c.replace-old.ensures.kind ∙ ap (λ (n : Node). n.kind) filled in
-    let els_is = c.replace-old.ensures.elements ∙ ap (λ (n : Node). set n.elements.items c.in-Found.i c.args.element) filled in
-    let sons_is = ap (λ s. s.items) c.replace-old.ensures.sons ∙ ap (λ (n : Node). n.sons.items) filled in
-    let stands = set_stands k s.node c.replace-old.new.node c.in-Found.i c.args.element s.known.stands steps.0 c.requires.element kind_is els_is sons_is in
-    let x : Element = get_or s.node.elements.items c.in-Found.i c.args.element in
-    let size = ap length els_is ∙ length-set s.node.elements.items c.in-Found.i c.args.element in
+    let place = goal.at.returns-in_ok-write_node-in-Found-clause-grew g t c in
+    let p = place.After-replace-old in
+    let n = met g t p in
+    let at_key = found g t p in
+    let head = head_of g t place.In_ok-i steady least es us tree between in
+    let x : Element = get_or n.elements.items c.in-Found.i c.args.element in
+    let size = ap length (replaced_elements g t p) ∙ length-set n.elements.items c.in-Found.i c.args.element in
     let grew = grow_replaced k (at c.args.pages.now.pages) c.args.edit.now.writes.items c.write_node.new.edit.writes.items (candidate c.args.pages.now.pages) c.args.edit.now.taken c.write_node.new.edit.taken least spot.level (spot.level - 1) spot.page es us spot.bounds
-    s.node c.replace-old.new.node c.args.element.0 c.args.element.1 c.in-Found.i x (omega (arith, c.requires.level)) none c.in_ok-write_node-in-Found.ensures.taken (candidates_free c.args.pages.now.pages) (in_use k (at c.args.pages.now.pages) least spot.level spot.page es us tree) apart head between.ascends steps.0
-    (get_or_default s.node.elements.items c.in-Found.i c.args.element x steps.0.within) stands (omega (arith, size, head.least_is)) kind_is els_is sons_is c.in_ok-write_node-in-Found.ensures.writes in
-    let old_is = c.replace-old.ensures.old c.args.element ∙ ap (λ (n : Node). (get_or n.elements.items c.in-Found.i c.args.element).1) filled in
+    n c.replace-old.new.node c.args.element.0 c.args.element.1 c.in-Found.i x (omega (arith, c.requires.level)) none c.in_ok-write_node-in-Found.ensures.taken (candidates_free c.args.pages.now.pages) (in_use k (at c.args.pages.now.pages) least spot.level spot.page es us tree) apart head between.ascends at_key
+    (get_or_default n.elements.items c.in-Found.i c.args.element x at_key.within) (replaced_stands g t p) (omega (arith, size, head.least_is)) (replaced_kind g t p) (replaced_elements g t p) (replaced_sons g t p) c.in_ok-write_node-in-Found.ensures.writes in
+    let old_is = c.replace-old.ensures.old c.args.element ∙ ap (λ (n : Node). (get_or n.elements.items c.in-Found.i c.args.element).1) (filled g t p) in
     subst (λ (old : List ℕ). Grew (tree_below k least spot.level spot.page) (edited c.args.pages.now.pages c.args.edit.now.taken c.write_node.new.edit) es us c.args.element.0 c.args.element.1 (Replaced old)) (sym old_is) grew
 
 pub returns-in_ok-write_node-in-Found-clause-fits : goal.returns-in_ok-write_node-in-Found-clause-fits
@@ -188,11 +245,12 @@ returns-in_ok-settle-in-Ends-clause-grew g t c = λ steady none least es us tree
     let k = c.args.order in
     let spot = c.args.spot.now in
     let s = c.in_ok-i.ensures.stepped in
-    let p = (goal.at.returns-in_ok-settle-in-Ends-clause-grew g t c).After-insert in
+    let place = goal.at.returns-in_ok-settle-in-Ends-clause-grew g t c in
+    let p = place.After-insert in
     let m = longer_leaf g t p in
     let steps = ends_here g t p in
     let els_is = leaf_elements g t p in
-    let head = taken_top k c.args.pages.now least spot es us c.args.element.0 c.args.in_place c.take_step.new.node c.in_ok-i.field-0 c.requires.order.1 c.requires.level steady s tree between in
+    let head = head_of g t place.In_ok-i steady least es us tree between in
     let size = ap length els_is ∙ length-insert s.node.elements.items c.in-Ends.i c.args.element steps.1.within in
     grow_leaf k (at c.args.pages.now.pages) c.args.edit.now c.settle.new.edit (candidate c.args.pages.now.pages) least spot.level (spot.level - 1) spot.page es us spot.bounds
     s.node m c.args.element.0 c.args.element.1 c.in-Ends.i c.in_ok-settle-in-Ends.field-0 (omega (arith, c.requires.level)) (omega (arith, steps.0)) c.requires.order.0 none (candidates_free c.args.pages.now.pages) (in_use k (at c.args.pages.now.pages) least spot.level spot.page es us tree) apart head steps.1
@@ -210,19 +268,16 @@ returns-in_ok-settle-in-Split-clause-grew g t c = λ steady none least es us tre
     let k = c.args.order in
     let spot = c.args.spot.now in
     let s = c.in_ok-i.ensures.stepped in
-    let p = (goal.at.returns-in_ok-settle-in-Split-clause-grew g t c).After-insert-in-Split-2 in
+    let place = goal.at.returns-in_ok-settle-in-Split-clause-grew g t c in
+    let p = place.After-insert-in-Split-2 in
     let m = longer_father g t p in
     let steps = goes_down g t p in
     let els_is = father_elements g t p in
-    let head = taken_top k c.args.pages.now least spot es us c.args.element.0 c.args.in_place c.take_step.new.node c.in_ok-i.field-0 c.requires.order.1 c.requires.level steady s tree between in
-    let son = focus_of k (at c.args.pages.now.pages) (overlay (at c.args.pages.now.pages) c.insert_below.new.edit.writes.items) (spot.level - 1) s.node es head.below c.args.element.0 c.in-Goes.i spot.bounds (omega (arith, steps.0)) head.body between steps.1 in
-    let us_is = head.us_is ∙ ap (λ vs. spot.page ∷ vs) son.us_is in
-    let tree2 = subst (λ (v : PagesView). TreeAt k (at v.pages) k (spot.level - 1) c.in-Goes.page son.xs son.mine) (sym c.take_step.ensures.unchanged)
-    (subst (λ q. TreeAt k (at c.args.pages.now.pages) k (spot.level - 1) q son.xs son.mine) (sym steps.2) son.here) in
-    let unvisited2 = subst (λ (visited : List ℕ). Unvisited visited son.mine) (sym c.push.ensures.items) (unvisited_below c.args.visited.now.items spot.page us son.upre son.mine son.upost us_is apart unvisited) in
-    let call = c.in_ok-done-in-Goes.ensures.grew (ap (λ (v : PagesView). v.steady) c.take_step.ensures.unchanged ∙ steady) none k son.xs son.mine tree2 (subst (λ b. Between b son.xs) (sym steps.3) son.between) (apart_below spot.page us son.upre son.mine son.upost us_is apart) unvisited2 in
-    let grew = subst (λ q. Grew (tree_below k k (spot.level - 1) q) (edited c.args.pages.now.pages c.args.edit.now.taken c.insert_below.new.edit) son.xs son.mine c.args.element.0 c.args.element.1 c.in_ok-done-in-Goes.done) steps.2
-    (subst (λ (v : PagesView). Grew (tree_below k k (spot.level - 1) c.in-Goes.page) (edited v.pages c.args.edit.now.taken c.insert_below.new.edit) son.xs son.mine c.args.element.0 c.args.element.1 c.in_ok-done-in-Goes.done) c.take_step.ensures.unchanged call) in
+    let head = head_of g t place.In_ok-i steady least es us tree between in
+    let son = son_of g t place.In-Goes (overlay (at c.args.pages.now.pages) c.insert_below.new.edit.writes.items) least es us between head in
+    let known = son_known g t place.In-Goes (overlay (at c.args.pages.now.pages) c.insert_below.new.edit.writes.items) es us head.below head.us_is apart unvisited son in
+    let call = c.in_ok-done-in-Goes.ensures.grew (ap (λ (v : PagesView). v.steady) c.take_step.ensures.unchanged ∙ steady) none k son.xs son.mine known.tree known.between known.apart known.unvisited in
+    let grew = grew_below g t place.In_ok-done-in-Goes s.node steps.2 son.xs son.mine call in
     let size = ap length els_is ∙ length-insert s.node.elements.items c.in-Goes.i c.in-Split.middle (split_among g t p).within in
     let counted = subst (TakesNumbers (spot.level - 1) c.args.edit.now.taken c.insert_below.new.edit.taken) c.in-Split.is c.in_ok-done-in-Goes.ensures.takes in
     grow_split k (at c.args.pages.now.pages) c.insert_below.new.edit c.settle-in-Split.new.edit (candidate c.args.pages.now.pages) c.args.edit.now.taken least spot.level (spot.level - 1) spot.page es us spot.bounds
@@ -246,16 +301,13 @@ returns-in_default g t c = record {
       let k = c.args.order in
       let spot = c.args.spot.now in
       let s = c.in_ok-i.ensures.stepped in
-      let steps = subst (Steps spot.level s.node spot.bounds c.args.element.0) c.in-Goes.is s.steps in
-      let head = taken_top k c.args.pages.now least spot es us c.args.element.0 c.args.in_place c.take_step.new.node c.in_ok-i.field-0 c.requires.order.1 c.requires.level steady s tree between in
-      let son = focus_of k (at c.args.pages.now.pages) (overlay (at c.args.pages.now.pages) c.insert_below.new.edit.writes.items) (spot.level - 1) s.node es head.below c.args.element.0 c.in-Goes.i spot.bounds (omega (arith, steps.0)) head.body between steps.1 in
-      let us_is = head.us_is ∙ ap (λ vs. spot.page ∷ vs) son.us_is in
-      let tree2 = subst (λ (v : PagesView). TreeAt k (at v.pages) k (spot.level - 1) c.in-Goes.page son.xs son.mine) (sym c.take_step.ensures.unchanged)
-      (subst (λ q. TreeAt k (at c.args.pages.now.pages) k (spot.level - 1) q son.xs son.mine) (sym steps.2) son.here) in
-      let unvisited2 = subst (λ (visited : List ℕ). Unvisited visited son.mine) (sym c.push.ensures.items) (unvisited_below c.args.visited.now.items spot.page us son.upre son.mine son.upost us_is apart unvisited) in
-      let call = c.in_ok-done-in-Goes.ensures.grew (ap (λ (v : PagesView). v.steady) c.take_step.ensures.unchanged ∙ steady) none k son.xs son.mine tree2 (subst (λ b. Between b son.xs) (sym steps.3) son.between) (apart_below spot.page us son.upre son.mine son.upost us_is apart) unvisited2 in
-      let grew = subst (λ q. Grew (tree_below k k (spot.level - 1) q) (edited c.args.pages.now.pages c.args.edit.now.taken c.insert_below.new.edit) son.xs son.mine c.args.element.0 c.args.element.1 c.in_ok-done-in-Goes.done) steps.2
-      (subst (λ (v : PagesView). Grew (tree_below k k (spot.level - 1) c.in-Goes.page) (edited v.pages c.args.edit.now.taken c.insert_below.new.edit) son.xs son.mine c.args.element.0 c.args.element.1 c.in_ok-done-in-Goes.done) c.take_step.ensures.unchanged call) in
+      let place = goal.at.returns-in_default g t c in
+      let steps = way_down g t place.In-Goes in
+      let head = head_of g t place.In_ok-i steady least es us tree between in
+      let son = son_of g t place.In-Goes (overlay (at c.args.pages.now.pages) c.insert_below.new.edit.writes.items) least es us between head in
+      let known = son_known g t place.In-Goes (overlay (at c.args.pages.now.pages) c.insert_below.new.edit.writes.items) es us head.below head.us_is apart unvisited son in
+      let call = c.in_ok-done-in-Goes.ensures.grew (ap (λ (v : PagesView). v.steady) c.take_step.ensures.unchanged ∙ steady) none k son.xs son.mine known.tree known.between known.apart known.unvisited in
+      let grew = grew_below g t place.In_ok-done-in-Goes s.node steps.2 son.xs son.mine call in
       grow_stays k (at c.args.pages.now.pages) (overlay (at c.args.pages.now.pages) c.insert_below.new.edit.writes.items) (candidate c.args.pages.now.pages) c.args.edit.now.taken c.insert_below.new.edit.taken least spot.level (spot.level - 1) spot.page es us spot.bounds s.node c.args.element.0 c.args.element.1 c.in-Goes.i c.in_ok-done-in-Goes.done
       (omega (arith, c.requires.level)) (omega (arith, steps.0)) (candidates_free c.args.pages.now.pages) (in_use k (at c.args.pages.now.pages) least spot.level spot.page es us tree) apart head son c.in_default.not-Split grew;
   fits = subst (λ (v : PagesView). WritesFit v.pages c.insert_below.new.edit.writes.items c.insert_below.new.edit.taken) c.take_step.ensures.unchanged c.in_ok-done-in-Goes.ensures.fits;

@@ -1,4 +1,4 @@
-use Rattle.std.proofs.Common.{ℕ, List, refl, ap, sym, ◌∙◌, arith}
+use Rattle.std.proofs.Common.{◌≡◌, ℕ, List, length, refl, ap, sym, ◌∙◌, arith}
 use Rattle.std.specs.List.{insert}
 use Rattle.btree_node.specs.declared.node.Node.{Node}
 use Rattle.btree_node.specs.Spelling.{spelling}
@@ -7,53 +7,51 @@ use Rattle.btree_node.proofs.SpeltPageLemmas.{count_spelt}
 use Rattle.btree_insert.proofs.OnePageLemmas.{leaf_stands, last_write, last_rewritten}
 use Rattle.btree_insert.proofs.SpeltLemmas.{spelt_more}
 use Rattle.btree_insert.proofs.insert_in_one.write_inserted.Goals as goal
+use Rattle.btree_insert.proofs.insert_in_one.write_inserted.Goals.{After-element-1}
+
+-- the page that was added to the edit
+module _ (c : After-element-1) where
+  stands_at : c.len-at.result ≡ length c.args.edit.now.writes.items
+  stands_at = c.len-at.ensures ∙ c.args.edit.now.writes.ok.0
+
+  added : c.index_mut.result.now ≡ (c.args.n, c.args.page.now)
+  added = last_write c.args.edit.now.writes.items c.write_page.new.edit.writes.items (c.args.n, c.args.page.now) c.index_mut.result.now c.len-at.result c.in_ok-write_page.ensures.writes stands_at c.index_mut.ensures.value
+
+  bytes : c.index_mut.result.now.1 ≡ c.args.page.now
+  bytes = ap (λ (w : ℕ × List ℕ). w.1) added
 
 pub insert_in-requires-clause-copy : goal.insert_in-requires-clause-copy
 insert_in-requires-clause-copy c =
-    let ws = c.args.edit.now.writes in
-    let at = c.len-at.ensures ∙ ws.ok.0 in
-    let here = last_write ws.items c.write_page.new.edit.writes.items (c.args.n, c.args.page.now) c.index_mut.result.now c.len-at.result c.in_ok-write_page.ensures.writes at c.index_mut.ensures.value in
-    ap (λ (w : ℕ × List ℕ). w.1) (sym here)
+    sym (bytes (goal.at.insert_in-requires-clause-copy c).After-element-1)
 
 pub insert_in-requires-clause-index : goal.insert_in-requires-clause-index
 insert_in-requires-clause-index c =
     let n = c.requires.spelt.0 in
     let can = c.requires.spelt.1 in
     let is = c.requires.spelt.2 in
-    let ws = c.args.edit.now.writes in
-    let at = c.len-at.ensures ∙ ws.ok.0 in
-    let here = last_write ws.items c.write_page.new.edit.writes.items (c.args.n, c.args.page.now) c.index_mut.result.now c.len-at.result c.in_ok-write_page.ensures.writes at c.index_mut.ensures.value in
-    let bytes = ap (λ (w : ℕ × List ℕ). w.1) here in
     let place = (c.requires.leaf n can is).1 in
-    omega (arith, count_spelt c.args.order c.index_mut.result.now.1 n c.requires.order can (bytes ∙ is), place.within)
+    omega (arith, count_spelt c.args.order c.index_mut.result.now.1 n c.requires.order can (bytes (goal.at.insert_in-requires-clause-index c).After-element-1 ∙ is), place.within)
 
 pub insert_in-requires-clause-room : goal.insert_in-requires-clause-room
 insert_in-requires-clause-room c =
     let n = c.requires.spelt.0 in
     let can = c.requires.spelt.1 in
     let is = c.requires.spelt.2 in
-    let ws = c.args.edit.now.writes in
-    let at = c.len-at.ensures ∙ ws.ok.0 in
-    let here = last_write ws.items c.write_page.new.edit.writes.items (c.args.n, c.args.page.now) c.index_mut.result.now c.len-at.result c.in_ok-write_page.ensures.writes at c.index_mut.ensures.value in
-    let bytes = ap (λ (w : ℕ × List ℕ). w.1) here in
     let room = (c.requires.leaf n can is).2 in
-    omega (arith, count_spelt c.args.order c.index_mut.result.now.1 n c.requires.order can (bytes ∙ is), room)
+    omega (arith, count_spelt c.args.order c.index_mut.result.now.1 n c.requires.order can (bytes (goal.at.insert_in-requires-clause-room c).After-element-1 ∙ is), room)
 
 pub returns-clause-writes : goal.returns-clause-writes
 returns-clause-writes c = λ n can is.
+    let place = (goal.at.returns-clause-writes c).After-element-1 in
     let leaf = c.requires.leaf n can is in
     let m : Node = with_elements n (insert n.elements.items c.args.i c.args.element) in
-    let ws = c.args.edit.now.writes in
-    let at = c.len-at.ensures ∙ ws.ok.0 in
-    let here = last_write ws.items c.write_page.new.edit.writes.items (c.args.n, c.args.page.now) c.index_mut.result.now c.len-at.result c.in_ok-write_page.ensures.writes at c.index_mut.ensures.value in
-    let bytes = ap (λ (w : ℕ × List ℕ). w.1) here in
     record {
       node = m;
       stands = leaf_stands c.args.order n m c.args.i c.args.element can leaf.0 leaf.1 leaf.2 c.requires.element refl refl refl;
       kind = refl;
       elements = refl;
       sons = refl;
-      written = last_rewritten ws.items c.write_page.new.edit.writes.items (c.args.n, c.args.page.now) c.index_mut.result.now c.insert_in.new.page (spelling m c.args.order) c.len-at.result c.in_ok-write_page.ensures.writes at here (c.insert_in.ensures n can (bytes ∙ is));
+      written = last_rewritten c.args.edit.now.writes.items c.write_page.new.edit.writes.items (c.args.n, c.args.page.now) c.index_mut.result.now c.insert_in.new.page (spelling m c.args.order) c.len-at.result c.in_ok-write_page.ensures.writes (stands_at place) (added place) (c.insert_in.ensures n can (bytes place ∙ is));
     }
 
 pub returns-clause-spelt : goal.returns-clause-spelt
