@@ -1,4 +1,4 @@
-use Rattle.std.proofs.Common.{◌≡◌, ◌≢◌, ℕ, ◌+◌, ◌-◌, ◌++◌, Bool, false, if◌then◌else◌, get_or, [], List, Option, None, Result, Err, Box, Global, is_some, length, slice_get, sym, ap, ◌∙◌, refl, subst, rules}
+use Rattle.std.proofs.Common.{◌≡◌, ◌≢◌, ℕ, IsTrue, ◌+◌, ◌-◌, ◌++◌, Bool, false, if◌then◌else◌, get_or, [], List, Option, None, Result, Err, Box, Global, is_some, length, slice_get, sym, ap, ◌∙◌, refl, subst, rules}
 use Rattle.std.proofs.lemmas.Bool.{false≢true}
 use Rattle.page_store.specs.declared.store_fault.StoreFault.{StoreFault}
 use Rattle.page_store.specs.declared.store_fault.StoreFault.TheVariants.{Failed, Memory as NoMemory}
@@ -18,7 +18,9 @@ use Rattle.page_store.proofs.JournalLemmas.{writing_alike}
 use Rattle.page_store.proofs.InMemoryLemmas.{none_in_memory, many_in_memory, written_in_memory}
 use Rattle.page_store.proofs.NewestPageLemmas.{length-pages_of}
 use Rattle.page_store.proofs.WriteBackLemmas.{pages_kept, leaves_pages, unwritten_pages, all_stored, stopped_pages, same_use, same_free, pages_dropped}
+use Rattle.page_store.proofs.pages.Pages.write_back.Given as given
 use Rattle.page_store.proofs.pages.Pages.write_back.Goals as goal
+use Rattle.page_store.proofs.pages.Pages.write_back.Goals.{In-Err, After-clear-arg-1}
 
 memory_back : (fault : StoreFault) (answer : WriteFault) → answer ≡ told fault → ◌≡◌ {A = Result (Unit {0}) WriteFault} (Err answer) (Err Memory) → ◌≡◌ {A = Result (Unit {0}) StoreFault} (Err fault) (Err NoMemory)
 memory_back Failed answer is same =
@@ -41,10 +43,25 @@ stored_in : (seen items : List (Option (Box (List ℕ) Global))) (free : List �
 stored_in seen items free count new same put =
     subst (λ (xs : List (Option (Box (List ℕ) Global))). AreStored (to_write (slots_of xs) free count) new) same put
 
+-- what a writing back that was stopped leaves in the store, and the pages that are seen as before
+module _ (g : given.Over) (c : In-Err g) where
+  stopped_leaves : KeepsOthers (to_write (slots_of c.self.inside.changed.items) c.self.inside.free.keys c.self.inside.count) c.self.inside.count (g.S.StoreState.pages c.self.inside.store) (g.S.StoreState.pages c.write_out-written.new.store)
+  stopped_leaves = leaves_in _ _ c.self.inside.free.keys _ _ _ c.deref.ensures.value c.write_out-written.ensures.others
+
+  same_pages : pages_of (g.S.StoreState.pages c.write_out-written.new.store) (slots_of c.self.inside.changed.items) c.self.inside.free.keys c.self.inside.count ≡ c.args.self.now.pages
+  same_pages = pages_kept _ _ _ _ _ c.self.invariant _ stopped_leaves ∙ ap (λ (v : PagesView). v.pages) c.self.view_is
+
+-- what a whole one leaves
+module _ (g : given.Over) (c : After-clear-arg-1 g) where
+  leaves : KeepsOthers (to_write (slots_of c.self.inside.changed.items) c.self.inside.free.keys c.self.inside.count) c.self.inside.count (g.S.StoreState.pages c.self.inside.store) (g.S.StoreState.pages c.write_out-written.new.store)
+  leaves = leaves_in _ _ c.self.inside.free.keys _ _ _ c.deref.ensures.value c.write_out-written.ensures.others
+
+  put : IsTrue c.args.self.now.steady → AreStored (to_write (slots_of c.self.inside.changed.items) c.self.inside.free.keys c.self.inside.count) (g.S.StoreState.pages c.write_out-written.new.store)
+  put steady = stored_in _ _ c.self.inside.free.keys c.self.inside.count _ c.deref.ensures.value (c.in_default.ensures.pages (ap (λ (v : PagesView). v.steady) c.self.view_is ∙ steady))
+
 pub returns-in-Err-clause-pages : goal.returns-in-Err-clause-pages
 returns-in-Err-clause-pages g c = λ _.
-    let leaves = leaves_in _ _ c.self.inside.free.keys _ _ _ c.deref.ensures.value c.write_out-written.ensures.others in
-    pages_kept _ _ _ _ _ c.self.invariant _ leaves ∙ ap (λ (v : PagesView). v.pages) c.self.view_is
+    same_pages g (goal.at.returns-in-Err-clause-pages g c).In-Err
 
 pub returns-in-Err-clause-same_count : goal.returns-in-Err-clause-same_count
 returns-in-Err-clause-same_count g c =
@@ -52,19 +69,16 @@ returns-in-Err-clause-same_count g c =
 
 pub returns-in-Err-clause-same_free : goal.returns-in-Err-clause-same_free
 returns-in-Err-clause-same_free g c =
-    let leaves = leaves_in _ _ c.self.inside.free.keys _ _ _ c.deref.ensures.value c.write_out-written.ensures.others in
-    ap free_numbers (pages_kept _ _ _ _ _ c.self.invariant _ leaves) ∙ ap (λ (v : PagesView). free_numbers v.pages) c.self.view_is
+    ap free_numbers (same_pages g (goal.at.returns-in-Err-clause-same_free g c).In-Err)
 
 pub returns-in-Err-clause-same_use : goal.returns-in-Err-clause-same_use
 returns-in-Err-clause-same_use g c = λ n.
-    let leaves = leaves_in _ _ c.self.inside.free.keys _ _ _ c.deref.ensures.value c.write_out-written.ensures.others in
-    ap (λ (ps : List (Option (List ℕ))). is_some (at ps n)) (pages_kept _ _ _ _ _ c.self.invariant _ leaves) ∙ ap (λ (v : PagesView). is_some (at v.pages n)) c.self.view_is
+    ap (λ (ps : List (Option (List ℕ))). is_some (at ps n)) (same_pages g (goal.at.returns-in-Err-clause-same_use g c).In-Err)
 
 pub returns-in-Err-clause-err : goal.returns-in-Err-clause-err
 returns-in-Err-clause-err g c =
-    let leaves = leaves_in _ _ c.self.inside.free.keys _ _ _ c.deref.ensures.value c.write_out-written.ensures.others in
     λ i. record {
-      pages = (pages_kept _ _ _ _ _ c.self.invariant _ leaves ∙ ap (λ (v : PagesView). v.pages) c.self.view_is) i;
+      pages = (same_pages g (goal.at.returns-in-Err-clause-err g c).In-Err) i;
       changed = ap (λ (v : PagesView). v.changed) c.self.view_is i;
       in_memory = ap (λ (v : PagesView). v.in_memory) c.self.view_is i;
       stored = g.S.StoreState.pages c.write_out-written.new.store;
@@ -78,14 +92,12 @@ returns-in-Err-clause-err g c =
 
 pub returns-in-Err-clause-others : goal.returns-in-Err-clause-others
 returns-in-Err-clause-others g c =
-    let leaves = leaves_in _ _ c.self.inside.free.keys _ _ _ c.deref.ensures.value c.write_out-written.ensures.others in
-    subst (λ (v : PagesView). KeepsOthers (at v.pages) (length v.pages) v.stored (g.S.StoreState.pages c.write_out-written.new.store)) c.self.view_is (leaves_pages _ _ _ _ _ c.self.invariant _ leaves)
+    subst (λ (v : PagesView). KeepsOthers (at v.pages) (length v.pages) v.stored (g.S.StoreState.pages c.write_out-written.new.store)) c.self.view_is (leaves_pages _ _ _ _ _ c.self.invariant _ (stopped_leaves g (goal.at.returns-in-Err-clause-others g c).In-Err))
 
 pub returns-in-Err-clause-stopped : goal.returns-in-Err-clause-stopped
 returns-in-Err-clause-stopped g c = λ steady.
-    let leaves = leaves_in _ _ c.self.inside.free.keys _ _ _ c.deref.ensures.value c.write_out-written.ensures.others in
     let stopped = subst (λ (xs : List (Option (Box (List ℕ) Global))). Stopped (to_write (slots_of xs) c.self.inside.free.keys c.self.inside.count) c.args.writing.now (g.S.StoreState.pages c.self.inside.store) (g.S.StoreState.pages c.write_out-written.new.store)) c.deref.ensures.value (c.in-Err.ensures.stopped (ap (λ (v : PagesView). v.steady) c.self.view_is ∙ steady)) in
-    subst (λ (v : PagesView). Stopped (at v.pages) c.args.writing.now v.stored (g.S.StoreState.pages c.write_out-written.new.store)) c.self.view_is (stopped_pages _ _ _ _ _ c.self.invariant _ leaves c.args.writing.now stopped)
+    subst (λ (v : PagesView). Stopped (at v.pages) c.args.writing.now v.stored (g.S.StoreState.pages c.write_out-written.new.store)) c.self.view_is (stopped_pages _ _ _ _ _ c.self.invariant _ (stopped_leaves g (goal.at.returns-in-Err-clause-stopped g c).In-Err) c.args.writing.now stopped)
 
 pub returns-in-Err-clause-memory : goal.returns-in-Err-clause-memory
 returns-in-Err-clause-memory g c = λ same.
@@ -100,22 +112,19 @@ returns-clause-count g c =
 
 pub returns-clause-stored : goal.returns-clause-stored
 returns-clause-stored g c = λ steady.
-    let leaves = leaves_in _ _ c.self.inside.free.keys _ _ _ c.deref.ensures.value c.write_out-written.ensures.others in
-    let put = stored_in _ _ c.self.inside.free.keys c.self.inside.count _ c.deref.ensures.value (c.in_default.ensures.pages (ap (λ (v : PagesView). v.steady) c.self.view_is ∙ steady)) in
-    subst (λ (v : PagesView). AreStored (at v.pages) (g.S.StoreState.pages c.write_out-written.new.store)) c.self.view_is (all_stored _ _ _ _ _ c.self.invariant _ leaves put)
+    let place = (goal.at.returns-clause-stored g c).After-clear-arg-1 in
+    subst (λ (v : PagesView). AreStored (at v.pages) (g.S.StoreState.pages c.write_out-written.new.store)) c.self.view_is (all_stored _ _ _ _ _ c.self.invariant _ (leaves g place) (put g place steady))
 
 pub returns-clause-unwritten : goal.returns-clause-unwritten
 returns-clause-unwritten g c =
-    let leaves = leaves_in _ _ c.self.inside.free.keys _ _ _ c.deref.ensures.value c.write_out-written.ensures.others in
     let same = subst (λ (xs : List (Option (Box (List ℕ) Global))). (n : ℕ) → n ≢ 0 → to_write (slots_of xs) c.self.inside.free.keys c.self.inside.count n ≡ None → slice_get (g.S.StoreState.pages c.write_out-written.new.store) n ≡ slice_get (g.S.StoreState.pages c.self.inside.store ++ blanks (c.self.inside.count - length (g.S.StoreState.pages c.self.inside.store))) n) c.deref.ensures.value c.in_default.ensures.unwritten in
-    subst (λ (v : PagesView). (n : ℕ) → n ≢ 0 → at v.pages n ≡ None → slice_get (g.S.StoreState.pages c.write_out-written.new.store) n ≡ slice_get (v.stored ++ blanks (length v.pages - length v.stored)) n) c.self.view_is (unwritten_pages _ _ _ _ _ c.self.invariant _ leaves same)
+    subst (λ (v : PagesView). (n : ℕ) → n ≢ 0 → at v.pages n ≡ None → slice_get (g.S.StoreState.pages c.write_out-written.new.store) n ≡ slice_get (v.stored ++ blanks (length v.pages - length v.stored)) n) c.self.view_is (unwritten_pages _ _ _ _ _ c.self.invariant _ (leaves g (goal.at.returns-clause-unwritten g c).After-clear-arg-1) same)
 
 pub returns-clause-pages : goal.returns-clause-pages
 returns-clause-pages g c = λ steady.
-    let leaves = leaves_in _ _ c.self.inside.free.keys _ _ _ c.deref.ensures.value c.write_out-written.ensures.others in
-    let put = stored_in _ _ c.self.inside.free.keys c.self.inside.count _ c.deref.ensures.value (c.in_default.ensures.pages (ap (λ (v : PagesView). v.steady) c.self.view_is ∙ steady)) in
+    let place = (goal.at.returns-clause-pages g c).After-clear-arg-1 in
     ap (λ (xs : List (Option (Box (List ℕ) Global))). pages_of (g.S.StoreState.pages c.write_out-written.new.store) (slots_of xs) c.self.inside.free.keys c.self.inside.count) c.clear.ensures.items
-    ∙ pages_dropped _ _ _ _ _ c.self.invariant _ leaves c.in_default.ensures.count put
+    ∙ pages_dropped _ _ _ _ _ c.self.invariant _ (leaves g place) c.in_default.ensures.count (put g place steady)
     ∙ ap (λ (v : PagesView). v.pages) c.self.view_is
 
 pub returns-clause-same_count : goal.returns-clause-same_count
@@ -124,22 +133,19 @@ returns-clause-same_count g c =
 
 pub returns-clause-same_free : goal.returns-clause-same_free
 returns-clause-same_free g c =
-    let leaves = leaves_in _ _ c.self.inside.free.keys _ _ _ c.deref.ensures.value c.write_out-written.ensures.others in
     ap (λ (xs : List (Option (Box (List ℕ) Global))). free_numbers (pages_of (g.S.StoreState.pages c.write_out-written.new.store) (slots_of xs) c.self.inside.free.keys c.self.inside.count)) c.clear.ensures.items
-    ∙ same_free _ _ _ _ _ c.self.invariant _ leaves c.in_default.ensures.count
+    ∙ same_free _ _ _ _ _ c.self.invariant _ (leaves g (goal.at.returns-clause-same_free g c).After-clear-arg-1) c.in_default.ensures.count
     ∙ ap (λ (v : PagesView). free_numbers v.pages) c.self.view_is
 
 pub returns-clause-same_use : goal.returns-clause-same_use
 returns-clause-same_use g c = λ n.
-    let leaves = leaves_in _ _ c.self.inside.free.keys _ _ _ c.deref.ensures.value c.write_out-written.ensures.others in
     ap (λ (xs : List (Option (Box (List ℕ) Global))). is_some (at (pages_of (g.S.StoreState.pages c.write_out-written.new.store) (slots_of xs) c.self.inside.free.keys c.self.inside.count) n)) c.clear.ensures.items
-    ∙ same_use _ _ _ _ _ c.self.invariant _ leaves c.in_default.ensures.count n
+    ∙ same_use _ _ _ _ _ c.self.invariant _ (leaves g (goal.at.returns-clause-same_use g c).After-clear-arg-1) c.in_default.ensures.count n
     ∙ ap (λ (v : PagesView). is_some (at v.pages n)) c.self.view_is
 
 pub returns-clause-others : goal.returns-clause-others
 returns-clause-others g c =
-    let leaves = leaves_in _ _ c.self.inside.free.keys _ _ _ c.deref.ensures.value c.write_out-written.ensures.others in
-    subst (λ (v : PagesView). KeepsOthers (at v.pages) (length v.pages) v.stored (g.S.StoreState.pages c.write_out-written.new.store)) c.self.view_is (leaves_pages _ _ _ _ _ c.self.invariant _ leaves)
+    subst (λ (v : PagesView). KeepsOthers (at v.pages) (length v.pages) v.stored (g.S.StoreState.pages c.write_out-written.new.store)) c.self.view_is (leaves_pages _ _ _ _ _ c.self.invariant _ (leaves g (goal.at.returns-clause-others g c).After-clear-arg-1))
 
 pub returns-in-Err-clause-writes_err : goal.returns-in-Err-clause-writes_err
 returns-in-Err-clause-writes_err g c =
