@@ -126,10 +126,7 @@ impl<S: Store> Pages<S> {
             *to = *page;
             return Ok(());
         }
-        match self.store.read(n, to) {
-            Ok(()) => Ok(()),
-            Err(_) => Err(FetchFault::Device),
-        }
+        self.store.read(n, to).map_err(|_| FetchFault::Device)
     }
 
     /// Page n's newest bytes where they lie in memory, without a copy. None where the page isn't in use

@@ -1,4 +1,4 @@
-use Rattle.std.proofs.Common.{◌≡◌, ℕ, true, false, is_some, List, Option, Some, None, IsSome, Box, Global, sym, ap, ◌∙◌, refl, subst, slice_get}
+use Rattle.std.proofs.Common.{rules, ◌≡◌, ℕ, true, false, is_some, List, Option, Some, None, IsSome, Box, Global, sym, ap, ◌∙◌, refl, subst, slice_get}
 use Rattle.std.proofs.lemmas.Bool.{false≢true}
 use Rattle.rec_types.specs.Table.{counted}
 use Rattle.page_store.specs.PagesView.{PagesView, is_in_memory}
@@ -8,7 +8,7 @@ use Rattle.page_store.proofs.InMemoryLemmas.{memory_used, slot_in_memory, unused
 use Rattle.page_store.proofs.NewestPageLemmas.{outside, from_slot, from_store, stored_in_use}
 use Rattle.page_store.proofs.pages.Pages.fetch.Given as given
 use Rattle.page_store.proofs.pages.Pages.fetch.Goals as goal
-use Rattle.page_store.proofs.pages.Pages.fetch.Goals.{in-Ok, in-Err, Then-not-is_in_use, After-to-1, After-read-arg-2-1}
+use Rattle.page_store.proofs.pages.Pages.fetch.Goals.{Then-not-is_in_use, After-to-1, After-read-arg-2-1}
 
 in_view : (v : PagesView) (pages : List (Option (List ℕ))) (n : ℕ) (x : Option (List ℕ)) → pages ≡ v.pages → at pages n ≡ x → at v.pages n ≡ x
 in_view v pages n x same is = ap (λ (ps : List (Option (List ℕ))). at ps n) (sym same) ∙ is
@@ -85,12 +85,12 @@ pub returns-clause-page : goal.returns-clause-page
 returns-clause-page g c = λ steady.
     let there = stored g (goal.at.returns-clause-page g c).After-read-arg-2-1 in
     let read = c.read.ensures.page (ap (λ (v : PagesView). v.steady) c.self.view_is ∙ steady) in
-    elim c.match-read.branch [ in-Ok w ↦ rw w.result-is (there ∙ (rw w.in-Ok.is at read)) | in-Err w ↦ rw w.result-is tt ]
+    search rules
 
 pub returns-clause-out_of_range : goal.returns-clause-out_of_range
 returns-clause-out_of_range g c =
     let never = some g (goal.at.returns-clause-out_of_range g c).After-read-arg-2-1 in
-    elim c.match-read.branch [ in-Ok w ↦ rw w.result-is (λ other. absurd (cc), λ gone. absurd (never gone)) | in-Err w ↦ rw w.result-is (λ other. absurd (cc), λ gone. absurd (never gone)) ]
+    (λ other. search rules, λ gone. absurd (never gone))
 
 pub returns-clause-nothing_there : goal.returns-clause-nothing_there
 returns-clause-nothing_there g c = λ gone. absurd (some g (goal.at.returns-clause-nothing_there g c).After-read-arg-2-1 gone)
