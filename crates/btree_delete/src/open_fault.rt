@@ -1,5 +1,6 @@
 ghost use Rattle.std.specs.Prelude.{◌≡◌, ◌≢◌, ◌⊎◌, ℕ, ◌<◌, ◌≤◌, length, true, IsTrue, Ok, Err, IfOk, IfErr};
 ghost use Rattle.rec_types.specs.Table.{counted};
+ghost use Rattle.page_store.specs.StoreCalls.{StaysStore};
 ghost use Rattle.btree_node.specs.declared.header.Header.{Header as HeaderValue};
 ghost use Rattle.btree_node.specs.Layout.{IsOrder};
 ghost use Rattle.btree_delete.specs.CleanFile.{HasLength, HasHeader, Agrees, Begins, IsFirst, header_fault, is_device};
@@ -45,13 +46,9 @@ pub(crate) fn check_length<S: Store>(store: &mut S) -> Result<u32, OpenFault>
     ensures fault { IfErr result (λ fault. (fault ≡ OpenFault.Device)
         ⊎ ((fault ≡ OpenFault.BadLength)
         × (HasLength (S.pages store.old) (S.tail store.old) → ⊥))) }
-    ensures pages { S.pages store.new ≡ S.pages store.old }
-    ensures tail { S.tail store.new ≡ S.tail store.old }
-    ensures steady { S.steady store.new ≡ S.steady store.old }
+    ensures stays { StaysStore S.StoreState store.old store.new }
     ensures reads { S.reads store.new ≡ S.reads store.old }
-    ensures writes { S.writes store.new ≡ S.writes store.old }
     ensures failures { S.failures store.new ≡ counted (S.failures store.old) (is_device result) }
-    ensures journal { S.journal store.new ≡ S.journal store.old }
 {
     let Ok(shape) = store.shape() else {
         return Err(OpenFault::Device);
@@ -90,13 +87,9 @@ pub(crate) fn check_header<S: Store>(store: &mut S, pages: u32) -> Result<Header
     ensures fault { IsTrue (S.steady store.old) → (limit : ℕ) → IfErr result
         (IsFirst (S.pages store.old) (S.tail store.old) limit) }
     ensures no_memory { IfErr result (λ fault. fault ≢ OpenFault.Memory) }
-    ensures pages { S.pages store.new ≡ S.pages store.old }
-    ensures tail { S.tail store.new ≡ S.tail store.old }
-    ensures steady { S.steady store.new ≡ S.steady store.old }
+    ensures stays { StaysStore S.StoreState store.old store.new }
     ensures reads { S.reads store.new ≡ counted (S.reads store.old) true }
-    ensures writes { S.writes store.new ≡ S.writes store.old }
     ensures failures { S.failures store.new ≡ counted (S.failures store.old) (is_device result) }
-    ensures journal { S.journal store.new ≡ S.journal store.old }
 {
     let mut page = [0; PAGE_WIDTH];
     if store.read(0, &mut page).is_err() {

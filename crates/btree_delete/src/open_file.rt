@@ -4,6 +4,7 @@ ghost use Rattle.std.specs.Ordering.{nat_cmp};
 ghost use Rattle.rec_types.specs.Table.{counted};
 ghost use Rattle.page_store.specs.PageMap.{at};
 ghost use Rattle.page_store.specs.PagesView.{is_in_memory, OnlyReads};
+ghost use Rattle.page_store.specs.StoreCalls.{StaysStore};
 ghost use Rattle.btree_node.specs.Lists.{Element};
 ghost use Rattle.btree_node.specs.declared.header.Header.{Header as HeaderValue};
 ghost use Rattle.btree_node.specs.Layout.{IsOrder};
@@ -91,13 +92,9 @@ fn check_file<S: Store>(store: &mut S) -> Result<Header, OpenFault>
     ensures fault { IsTrue (S.steady store.old) → (limit : ℕ) → IfErr result
         (IsFirst (S.pages store.old) (S.tail store.old) limit) }
     ensures no_memory { IfErr result (λ fault. fault ≢ OpenFault.Memory) }
-    ensures pages { S.pages store.new ≡ S.pages store.old }
-    ensures tail { S.tail store.new ≡ S.tail store.old }
-    ensures steady { S.steady store.new ≡ S.steady store.old }
+    ensures stays { StaysStore S.StoreState store.old store.new }
     ensures reads { IsOk result → S.reads store.new ≡ counted (S.reads store.old) true }
-    ensures writes { S.writes store.new ≡ S.writes store.old }
     ensures failures { S.failures store.new ≡ counted (S.failures store.old) (is_device result) }
-    ensures journal { S.journal store.new ≡ S.journal store.old }
 {
     let pages = check_length(store)?;
     check_header(store, pages)

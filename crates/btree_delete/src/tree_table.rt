@@ -12,6 +12,7 @@ ghost use Rattle.btree_delete.specs.CleanFile.{IsCleanFile, IsFirst, Opens, IsOu
 ghost use Rattle.page_store.specs.Fronts.{tried};
 ghost use Rattle.page_store.specs.Journal.{noted, NotesFront, carried, untouched};
 ghost use Rattle.page_store.specs.PagesView.{OnlyReads, OnlyStages, with_reads};
+ghost use Rattle.page_store.specs.StoreCalls.{StaysStore};
 ghost use Rattle.btree_node.specs.Layout.{greatest_order};
 ghost use Rattle.btree_insert.specs.Sizes.{greatest_height};
 ghost use Rattle.btree_delete.specs.Closing.{closing, IsNewOrFile, IsEither};
@@ -86,14 +87,10 @@ fn check_empty<S: Store>(store: &mut S) -> Result<(), CreateFault>
     ensures ok { OnOk result (IsEmpty (S.pages store.old) (S.tail store.old)) }
     ensures fault { IfErr result (λ fault. (fault ≡ CreateFault.Device)
         ⊎ ((fault ≡ CreateFault.NotEmpty) × (IsEmpty (S.pages store.old) (S.tail store.old) → ⊥))) }
-    ensures pages { S.pages store.new ≡ S.pages store.old }
-    ensures tail { S.tail store.new ≡ S.tail store.old }
-    ensures steady { S.steady store.new ≡ S.steady store.old }
+    ensures stays { StaysStore S.StoreState store.old store.new }
     ensures reads { S.reads store.new ≡ S.reads store.old }
-    ensures writes { S.writes store.new ≡ S.writes store.old }
     ensures failures { S.failures store.new
         ≡ counted (S.failures store.old) (is_create_device result) }
-    ensures journal { S.journal store.new ≡ S.journal store.old }
 {
     let Ok(shape) = store.shape() else {
         return Err(CreateFault::Device);

@@ -25,3 +25,11 @@ pub record ChangesStore {S A : Type 0} (s : Ghosts S) (step : Step) (old : S) (a
   pub failures : s.failures new ≡ counted (s.failures old) (is_failed answer)
   pub journal : OnOk answer (s.journal new ≡ noted (s.journal old) (step ∷ []))
   pub same_journal : OnErr answer (s.journal new ≡ s.journal old)
+
+-- a store that was at most read
+pub record StaysStore {S : Type 0} (s : Ghosts S) (old new : S) : Type 0 where
+  pub pages : s.pages new ≡ s.pages old
+  pub tail : s.tail new ≡ s.tail old
+  pub steady : s.steady new ≡ s.steady old
+  pub writes : s.writes new ≡ s.writes old
+  pub journal : s.journal new ≡ s.journal old

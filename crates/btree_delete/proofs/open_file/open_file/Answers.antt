@@ -17,9 +17,9 @@ pub returns-in-Ok-measured-clause-found : goal.returns-in-Ok-measured-clause-fou
 returns-in-Ok-measured-clause-found g c = λ steady.
     let stored = g.S.StoreState.pages c.args.store in
     let none : (n : ℕ) → contains nat_cmp c.new.result n ≡ false = λ n. ap (λ (keys : List ℕ). list_any (is_at (nat_cmp n)) keys) c.new.ensures.empty in
-    let map_is : at c.new-pages.result.pages ≡ in_file stored = file_map stored (g.S.StoreState.pages c.check_file.new.store) c.new-pages.result.pages c.in-Ok.header.pages (contains nat_cmp c.new.result) c.check_file.ensures.pages c.in-Ok.ensures.long.0 c.new-pages.ensures.count c.new-pages.ensures.pages none in
-    let steady2 = ap (λ (v : PagesView). v.steady) c.new-pages.ensures.store ∙ c.check_file.ensures.steady ∙ steady in
-    let kept = c.into_store-store.ensures.pages ∙ ap (λ (v : PagesView). v.stored) c.measure_file-measured.ensures.unchanged ∙ ap (λ (v : PagesView). v.stored) c.new-pages.ensures.store ∙ c.check_file.ensures.pages in
+    let map_is : at c.new-pages.result.pages ≡ in_file stored = file_map stored (g.S.StoreState.pages c.check_file.new.store) c.new-pages.result.pages c.in-Ok.header.pages (contains nat_cmp c.new.result) c.check_file.ensures.stays.pages c.in-Ok.ensures.long.0 c.new-pages.ensures.count c.new-pages.ensures.pages none in
+    let steady2 = ap (λ (v : PagesView). v.steady) c.new-pages.ensures.store ∙ c.check_file.ensures.stays.steady ∙ steady in
+    let kept = c.into_store-store.ensures.pages ∙ ap (λ (v : PagesView). v.stored) c.measure_file-measured.ensures.unchanged ∙ ap (λ (v : PagesView). v.stored) c.new-pages.ensures.store ∙ c.check_file.ensures.stays.pages in
     opened stored (g.S.StoreState.tail c.args.store) c.args.limits.records c.in-Ok.header c.new-pages.result.pages c.new-in-Ok-measured.result c.in-Ok-measured.tree (contains nat_cmp c.in-Ok-measured.free) (g.S.StoreState.reads c.args.store) c.new-pages.result.reads c.measure_file-measured.new.pages.reads
     (c.in-Ok.ensures.found steady) map_is (c.new-pages.ensures.count ∙ c.in-Ok.ensures.long.0) (c.in-Ok-measured.ensures.found steady2) (c.in-Ok-measured.ensures.count.0, omega (arith, c.in-Ok-measured.ensures.count.1, c.records.ensures.value))
     (c.new-in-Ok-measured.ensures.count ∙ c.in-Ok.ensures.long.0)
@@ -30,8 +30,8 @@ pub returns-in-Ok-measured-clause-exact : goal.returns-in-Ok-measured-clause-exa
 returns-in-Ok-measured-clause-exact g c = λ steady h tree es us clean few.
     let stored = g.S.StoreState.pages c.args.store in
     let none : (n : ℕ) → contains nat_cmp c.new.result n ≡ false = λ n. ap (λ (keys : List ℕ). list_any (is_at (nat_cmp n)) keys) c.new.ensures.empty in
-    let map_is : at c.new-pages.result.pages ≡ in_file stored = file_map stored (g.S.StoreState.pages c.check_file.new.store) c.new-pages.result.pages c.in-Ok.header.pages (contains nat_cmp c.new.result) c.check_file.ensures.pages c.in-Ok.ensures.long.0 c.new-pages.ensures.count c.new-pages.ensures.pages none in
-    let steady2 = ap (λ (v : PagesView). v.steady) c.new-pages.ensures.store ∙ c.check_file.ensures.steady ∙ steady in
+    let map_is : at c.new-pages.result.pages ≡ in_file stored = file_map stored (g.S.StoreState.pages c.check_file.new.store) c.new-pages.result.pages c.in-Ok.header.pages (contains nat_cmp c.new.result) c.check_file.ensures.stays.pages c.in-Ok.ensures.long.0 c.new-pages.ensures.count c.new-pages.ensures.pages none in
+    let steady2 = ap (λ (v : PagesView). v.steady) c.new-pages.ensures.store ∙ c.check_file.ensures.stays.steady ∙ steady in
     let header_is = the_header c.in-Ok.header h (c.in-Ok.ensures.only steady h clean.begins) in
     let same = ap (λ (x : Header). x.count) header_is in
     c.in-Ok-measured.ensures.exact steady2 tree es us (tree_there stored (at c.new-pages.result.pages) h c.in-Ok.header tree es us map_is header_is clean.there) (clean.count ∙ sym same) (omega (arith, few, same, c.records.ensures.value))
@@ -40,8 +40,8 @@ pub returns-in-Err-measured-clause-exact : goal.returns-in-Err-measured-clause-e
 returns-in-Err-measured-clause-exact g c = λ steady h tree es us clean few.
     let stored = g.S.StoreState.pages c.args.store in
     let none : (n : ℕ) → contains nat_cmp c.new.result n ≡ false = λ n. ap (λ (keys : List ℕ). list_any (is_at (nat_cmp n)) keys) c.new.ensures.empty in
-    let map_is : at c.new-pages.result.pages ≡ in_file stored = file_map stored (g.S.StoreState.pages c.check_file.new.store) c.new-pages.result.pages c.in-Ok.header.pages (contains nat_cmp c.new.result) c.check_file.ensures.pages c.in-Ok.ensures.long.0 c.new-pages.ensures.count c.new-pages.ensures.pages none in
-    let steady2 = ap (λ (v : PagesView). v.steady) c.new-pages.ensures.store ∙ c.check_file.ensures.steady ∙ steady in
+    let map_is : at c.new-pages.result.pages ≡ in_file stored = file_map stored (g.S.StoreState.pages c.check_file.new.store) c.new-pages.result.pages c.in-Ok.header.pages (contains nat_cmp c.new.result) c.check_file.ensures.stays.pages c.in-Ok.ensures.long.0 c.new-pages.ensures.count c.new-pages.ensures.pages none in
+    let steady2 = ap (λ (v : PagesView). v.steady) c.new-pages.ensures.store ∙ c.check_file.ensures.stays.steady ∙ steady in
     let header_is = the_header c.in-Ok.header h (c.in-Ok.ensures.only steady h clean.begins) in
     let same = ap (λ (x : Header). x.count) header_is in
     c.in-Err-measured.ensures.exact steady2 tree es us (tree_there stored (at c.new-pages.result.pages) h c.in-Ok.header tree es us map_is header_is clean.there) (clean.count ∙ sym same) (omega (arith, few, same, c.records.ensures.value))
@@ -50,8 +50,8 @@ pub returns-in-Err-measured-clause-fault : goal.returns-in-Err-measured-clause-f
 returns-in-Err-measured-clause-fault g c = λ steady.
     let stored = g.S.StoreState.pages c.args.store in
     let none : (n : ℕ) → contains nat_cmp c.new.result n ≡ false = λ n. ap (λ (keys : List ℕ). list_any (is_at (nat_cmp n)) keys) c.new.ensures.empty in
-    let map_is : at c.new-pages.result.pages ≡ in_file stored = file_map stored (g.S.StoreState.pages c.check_file.new.store) c.new-pages.result.pages c.in-Ok.header.pages (contains nat_cmp c.new.result) c.check_file.ensures.pages c.in-Ok.ensures.long.0 c.new-pages.ensures.count c.new-pages.ensures.pages none in
-    let steady2 = ap (λ (v : PagesView). v.steady) c.new-pages.ensures.store ∙ c.check_file.ensures.steady ∙ steady in
+    let map_is : at c.new-pages.result.pages ≡ in_file stored = file_map stored (g.S.StoreState.pages c.check_file.new.store) c.new-pages.result.pages c.in-Ok.header.pages (contains nat_cmp c.new.result) c.check_file.ensures.stays.pages c.in-Ok.ensures.long.0 c.new-pages.ensures.count c.new-pages.ensures.pages none in
+    let steady2 = ap (λ (v : PagesView). v.steady) c.new-pages.ensures.store ∙ c.check_file.ensures.stays.steady ∙ steady in
     let fails = c.in-Err-measured.ensures.fault steady2 in
     fails_first stored (g.S.StoreState.tail c.args.store) c.args.limits.records c.in-Ok.header c.in-Err-measured.fault (c.in-Ok.ensures.found steady)
     (subst (λ (limit : ℕ). FailsTree (in_file stored) c.in-Ok.header limit c.in-Err-measured.fault) c.records.ensures.value (subst (λ (f : PageMap). FailsTree f c.in-Ok.header c.records.result c.in-Err-measured.fault) map_is fails))
