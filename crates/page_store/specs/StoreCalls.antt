@@ -7,15 +7,19 @@ use Rattle.page_store.specs.declared.step.Step.{Step}
 use Rattle.page_store.specs.declared.store_fault.StoreFault.{StoreFault}
 use Rattle.page_store.specs.declared.store_state.StoreState.{Ghosts}
 
--- a call that changes no page, and is a read or none
-pub record LeavesStore {S A : Type 0} (s : Ghosts S) (read : Bool) (old : S) (answer : Result A StoreFault) (new : S) : Type 0 where
+-- a store that was at most read
+pub record StaysStore {S : Type 0} (s : Ghosts S) (old new : S) : Type 0 where
   pub pages : s.pages new ≡ s.pages old
   pub tail : s.tail new ≡ s.tail old
   pub steady : s.steady new ≡ s.steady old
-  pub reads : s.reads new ≡ counted (s.reads old) read
   pub writes : s.writes new ≡ s.writes old
-  pub failures : s.failures new ≡ counted (s.failures old) (is_failed answer)
   pub journal : s.journal new ≡ s.journal old
+
+-- a call that changes no page, and is a read or none
+pub record LeavesStore {S A : Type 0} (s : Ghosts S) (read : Bool) (old : S) (answer : Result A StoreFault) (new : S) : Type 0 where
+  pub stays : StaysStore s old new
+  pub reads : s.reads new ≡ counted (s.reads old) read
+  pub failures : s.failures new ≡ counted (s.failures old) (is_failed answer)
 
 -- a changing call, and the step that it is
 pub record ChangesStore {S A : Type 0} (s : Ghosts S) (step : Step) (old : S) (answer : Result A StoreFault) (new : S) : Type 0 where
@@ -25,11 +29,3 @@ pub record ChangesStore {S A : Type 0} (s : Ghosts S) (step : Step) (old : S) (a
   pub failures : s.failures new ≡ counted (s.failures old) (is_failed answer)
   pub journal : OnOk answer (s.journal new ≡ noted (s.journal old) (step ∷ []))
   pub same_journal : OnErr answer (s.journal new ≡ s.journal old)
-
--- a store that was at most read
-pub record StaysStore {S : Type 0} (s : Ghosts S) (old new : S) : Type 0 where
-  pub pages : s.pages new ≡ s.pages old
-  pub tail : s.tail new ≡ s.tail old
-  pub steady : s.steady new ≡ s.steady old
-  pub writes : s.writes new ≡ s.writes old
-  pub journal : s.journal new ≡ s.journal old
