@@ -125,12 +125,8 @@ pub(crate) fn open_file<S: Store>(
     ensures stored { IfOk result (λ r. (r.0.stored ≡ S.pages store) × (r.0.tail ≡ S.tail store)
         × (r.0.steady ≡ S.steady store) × (r.0.writes ≡ S.writes store)
         × (r.0.failures ≡ S.failures store)) }
-    ensures journal { MatchResult result (λ r. r.0.journal ≡ S.journal store)
-        (λ stop. S.journal stop.store ≡ S.journal store) }
-    ensures pages { IfErr result (λ stop. S.pages stop.store ≡ S.pages store) }
-    ensures tail { IfErr result (λ stop. S.tail stop.store ≡ S.tail store) }
-    ensures steady { IfErr result (λ stop. S.steady stop.store ≡ S.steady store) }
-    ensures writes { IfErr result (λ stop. S.writes stop.store ≡ S.writes store) }
+    ensures journal { IfOk result (λ r. r.0.journal ≡ S.journal store) }
+    ensures stays { IfErr result (λ stop. StaysStore S.StoreState store stop.store) }
     ensures failures { IfErr result (λ stop. S.failures stop.store
         ≡ counted (S.failures store) (is_device_fault stop.fault)) }
 {

@@ -115,18 +115,14 @@ impl<S: Store> TreeTable<S> {
         ensures store { IfOk result (λ t. (t.pages.steady ≡ S.steady store)
             × (t.pages.reads ≡ S.reads store) × (t.pages.writes ≡ S.writes store)
             × (t.pages.failures ≡ S.failures store)) }
-        ensures journal { MatchResult result (λ t. t.pages.journal ≡ S.journal store)
-            (λ stop. S.journal stop.store ≡ S.journal store) }
+        ensures journal { IfOk result (λ t. t.pages.journal ≡ S.journal store) }
         ensures limit { IfOk result (λ t. t.limit ≡ limits.records) }
         ensures empty { IfOk result (λ t. table_contents t ≡ maps.empty) }
         ensures no_faults { IfOk result (λ t. (t.refusals ≡ 0) × (t.damages ≡ no_damage)) }
         ensures fault { IfErr result
             (λ stop. IsCreateFault (S.pages store) (S.tail store) k stop.fault) }
-        ensures pages { IfErr result (λ stop. S.pages stop.store ≡ S.pages store) }
-        ensures tail { IfErr result (λ stop. S.tail stop.store ≡ S.tail store) }
-        ensures steady { IfErr result (λ stop. S.steady stop.store ≡ S.steady store) }
+        ensures stays { IfErr result (λ stop. StaysStore S.StoreState store stop.store) }
         ensures reads { IfErr result (λ stop. S.reads stop.store ≡ S.reads store) }
-        ensures writes { IfErr result (λ stop. S.writes stop.store ≡ S.writes store) }
         ensures failures { IfErr result (λ stop. S.failures stop.store
             ≡ counted (S.failures store) (is_create_device_fault stop.fault)) }
     {
@@ -183,12 +179,8 @@ impl<S: Store> TreeTable<S> {
         ensures stored { IfOk result (λ t. (t.pages.stored ≡ S.pages store)
             × (t.pages.tail ≡ S.tail store) × (t.pages.steady ≡ S.steady store)
             × (t.pages.writes ≡ S.writes store) × (t.pages.failures ≡ S.failures store)) }
-        ensures journal { MatchResult result (λ t. t.pages.journal ≡ S.journal store)
-            (λ stop. S.journal stop.store ≡ S.journal store) }
-        ensures pages { IfErr result (λ stop. S.pages stop.store ≡ S.pages store) }
-        ensures tail { IfErr result (λ stop. S.tail stop.store ≡ S.tail store) }
-        ensures steady { IfErr result (λ stop. S.steady stop.store ≡ S.steady store) }
-        ensures writes { IfErr result (λ stop. S.writes stop.store ≡ S.writes store) }
+        ensures journal { IfOk result (λ t. t.pages.journal ≡ S.journal store) }
+        ensures stays { IfErr result (λ stop. StaysStore S.StoreState store stop.store) }
         ensures failures { IfErr result (λ stop. S.failures stop.store
             ≡ counted (S.failures store) (is_device_fault stop.fault)) }
     {
