@@ -73,13 +73,10 @@ both_within bounds es first last r some up first_is last_is over under = (
   λ within. under.1 (subst (λ (x : Element). Under bounds.high x.0) last_is (Each_at (λ (e : Element). Under bounds.high e.0) es (length es - 1) last within.under (omega arith) last_is)),
 )
 
-before_each : (xs : List Element) (e : Element) (ys : List Element) → Ascends (xs ++ e ∷ ys) → Each (λ x. Below x.0 e.0) xs
-before_each [] e ys up = tt
-before_each (x ∷ xs) e ys up = ((Each-right (λ later. Below x.0 later.0) xs (e ∷ ys) up.0).0, before_each xs e ys up.1)
-
 -- the keys before one of the keys
 pub Ascends-before : (xs : List Element) (e : Element) (ys : List Element) → Ascends (xs ++ e ∷ ys) → Each (λ x. Below x.0 e.0) xs
-Ascends-before = before_each
+Ascends-before [] e ys up = tt
+Ascends-before (x ∷ xs) e ys up = ((Each-right (λ later. Below x.0 later.0) xs (e ∷ ys) up.0).0, Ascends-before xs e ys up.1)
 
 -- the elements before one are below it
 pub Between-left : (b : Bounds) (xs : List Element) (e : Element) (ys : List Element) → Between b (xs ++ e ∷ ys) → Between (record { low = b.low; high = Some e.0 }) xs
@@ -87,7 +84,7 @@ Between-left b xs e ys is = record {
   ascends = Ascends-left xs (e ∷ ys) is.ascends;
   within = record {
     over = Each-left (λ x. Over b.low x.0) xs (e ∷ ys) is.within.over;
-    under = before_each xs e ys is.ascends;
+    under = Ascends-before xs e ys is.ascends;
   };
 }
 

@@ -106,7 +106,7 @@ takes_more height low hi (Replaced value) takes = takes
 takes_more height low hi Fits takes = (takes.0, omega (arith, takes.1))
 takes_more height low hi (Split middle right) takes = (takes.0, omega (arith, takes.1))
 
-nothing_splits : {P : Type 0} (middle : Element) (right : ℕ) → ((m : Element) (r : ℕ) → Split middle right ≡ Split m r → ⊥) → P
+pub nothing_splits : {P : Type 0} (middle : Element) (right : ℕ) → ((m : Element) (r : ℕ) → Split middle right ≡ Split m r → ⊥) → P
 nothing_splits middle right never = absurd (never middle right refl)
 
 -- nothing goes up where no page was split

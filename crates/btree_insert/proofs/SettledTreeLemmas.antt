@@ -20,7 +20,7 @@ use Rattle.btree_insert.specs.PagesGrown.{PagesGrown, pages_change}
 use Rattle.btree_insert.specs.PageTrees.{IsIn, Apart, Fan, Body, TreeAt, tree_below}
 use Rattle.page_store.specs.declared.page_edit.PageEdit.{PageEdit}
 use Rattle.btree_insert.proofs.SonsAroundLemmas.{Focus, focus, spot}
-use Rattle.btree_insert.proofs.EditFitLemmas.{put_is_insert}
+use Rattle.btree_insert.proofs.EditFitLemmas.{put_is_insert, nothing_splits}
 use Rattle.btree_insert.proofs.ChangedTreeLemmas.{tree_move, body_move, body_cut, left_half, right_half, may_be_overfull_stands}
 use Rattle.btree_insert.proofs.PagesAroundLemmas.{IsFree, InUse, kept_none, kept_behind_others, kept_before_others, kept_write, kept_add, same_below, not_new}
 use Rattle.btree_insert.proofs.ElementMapLemmas.{lookup-between, put-between, put-here}
@@ -187,9 +187,6 @@ whole_up k old new fresh lo hi least height h p es us b n key value i some free 
       kept = subst (λ (xs : List ℕ). PagesGrown old new fresh lo hi xs (p ∷ below)) (sym us_is) sides.kept;
     }
 
-no_split : {P : Type 0} (middle : Element) (right : ℕ) → ((m : Element) (r : ℕ) → Split middle right ≡ Split m r → ⊥) → P
-no_split middle right never = absurd (never middle right refl)
-
 found_same : (k : ℕ) (old new : PageMap) (h : ℕ) (n : Node) (es : List Element) (below : List ℕ) (key : List ℕ) (i : ℕ) (b : Bounds) → (at : Focus (TreeAt k old k h) (TreeAt k new k h) (λ q. new q ≡ old q) n.sons.items n.elements.items es below key i b) → lookup_in key at.xs ≡ lookup_in key es
 found_same k old new h n es below key i b at = sym (ap (lookup_in key) at.es_is ∙ lookup-between key at.pre at.xs at.post at.below at.above)
 
@@ -207,7 +204,7 @@ grow_stays k old new fresh lo hi least height h p es us b n key value i Fits is 
       told = told_up key at.xs es Fits (found_same k old new h n es head.below key i b at) grew.told;
       grows = whole_up k old new fresh lo hi least height h p es us b n key value i some free used apart head at grew.grows;
     })
-grow_stays k old new fresh lo hi least height h p es us b n key value i (Split middle right) is some free used apart head at never grew = no_split middle right never
+grow_stays k old new fresh lo hi least height h p es us b n key value i (Split middle right) is some free used apart head at never grew = nothing_splits middle right never
 
 -- what an insertion that split a son comes to at the page
 pub grow_split : (k : ℕ) (old : PageMap) (e e2 : PageEdit) (fresh : ℕ → ℕ) (lo least height h p : ℕ) (es : List Element) (us : List ℕ) (b : Bounds) (n m : Node) (key value : List ℕ) (i : ℕ) (middle : Element) (right : ℕ) (g : Grown)

@@ -100,7 +100,7 @@ memory_used stored slots free count n there =
     (λ (never : InUse free count n → ⊥). absurd (false≢true (sym (memory_at slots free count n ∙ ap is_some (unused_written slots free count n never)) ∙ there)))
     (use_of free count n)
 
-none_not_some : {P : Type 0} (o : Option (List ℕ)) → o ≡ None → IsSome o → P
+pub none_not_some : {P : Type 0} (o : Option (List ℕ)) → o ≡ None → IsSome o → P
 none_not_some o none some = let never : IsSome {T = List ℕ} None = subst IsSome none some in absurd (cc)
 
 -- any other page in use is the store's

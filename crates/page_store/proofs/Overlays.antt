@@ -33,27 +33,27 @@ freed_is_none pages (f ∷ freed) n here =
     rw e (freed_is_none pages freed n (sym (ap (λ b. b || is_freed freed n) e) ∙ here)))
     (cases_eq n f)
 
-not_first : (a b : Bool) → (a || b) ≡ false → (a ≡ false) × (b ≡ false)
-not_first true b e = absurd (false≢true (sym e))
-not_first false b e = (refl, e)
+pub neither : (a b : Bool) → (a || b) ≡ false → (a ≡ false) × (b ≡ false)
+neither true b e = absurd (false≢true (sym e))
+neither false b e = (refl, e)
 
 -- a page that isn't freed is as it was
 pub not_freed : (pages : PageMap) (freed : List ℕ) (n : ℕ) → is_freed freed n ≡ false → free_all pages freed n ≡ pages n
 not_freed pages [] n gone = refl
-not_freed pages (f ∷ freed) n gone = let parts = not_first (eqb n f) (is_freed freed n) gone in rw parts.0 (not_freed pages freed n parts.1)
+not_freed pages (f ∷ freed) n gone = let parts = neither (eqb n f) (is_freed freed n) gone in rw parts.0 (not_freed pages freed n parts.1)
 
 -- a page that isn't written is as it was
 pub not_written : (pages : PageMap) (writes : List (ℕ × List ℕ)) (n : ℕ) → is_written writes n ≡ false → overlay pages writes n ≡ pages n
 not_written pages [] n gone = refl
 not_written pages (w ∷ writes) n gone =
-    let parts = not_first (eqb n w.0) (is_written writes n) gone in
+    let parts = neither (eqb n w.0) (is_written writes n) gone in
     not_written (write_page pages w.0 w.1) writes n parts.1 ∙ rw parts.0 refl
 
 -- so is its slot
 pub slot_not_written : (slots : List (Option (List ℕ))) (writes : List (ℕ × List ℕ)) (n : ℕ) → is_written writes n ≡ false → at (put_slots slots writes) n ≡ at slots n
 slot_not_written slots [] n gone = refl
 slot_not_written slots (w ∷ writes) n gone =
-    let parts = not_first (eqb n w.0) (is_written writes n) gone in
+    let parts = neither (eqb n w.0) (is_written writes n) gone in
     let other : n ≢ w.0 = grind (arith, nat_tests, parts.0) in
     slot_not_written (set slots w.0 (Some w.1)) writes n parts.1 ∙ get_or-set_other slots w.0 n (Some w.1) None other
 

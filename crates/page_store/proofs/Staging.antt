@@ -11,11 +11,8 @@ use Rattle.page_store.specs.Slots.{put_slots}
 use Rattle.page_store.proofs.NewestPageLemmas.{length-pages_of, at_below, at_past, inside, outside}
 use Rattle.page_store.proofs.Candidates.{candidate_is_some, candidate_fits, taken_above}
 use Rattle.page_store.specs.WritingBack.{to_write}
-use Rattle.page_store.proofs.InMemoryLemmas.{InUse, use_of, used_written, unused_written}
+use Rattle.page_store.proofs.InMemoryLemmas.{InUse, use_of, used_written, unused_written, none_not_some}
 use Rattle.page_store.proofs.Overlays.{at_written, at_freed, freed_is_none, not_freed, not_written, slot_not_written, written_is_some, slot_written, some_written}
-
-none_not_some : {P : Type 0} (o : Option (List ℕ)) → o ≡ None → IsSome o → P
-none_not_some o none some = let never : IsSome {T = List ℕ} None = subst IsSome none some in absurd (cc)
 
 or_else_first : (o other : Option (List ℕ)) → IsSome o → or_else o other ≡ o
 or_else_first None other some = absurd (false≢true some)

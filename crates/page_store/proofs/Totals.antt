@@ -7,6 +7,7 @@ use Rattle.std.proofs.lemmas.Bool.Decides.{nat_tests}
 use Rattle.std.proofs.lemmas.Map.Made.{length-from_same_keys}
 use Rattle.page_store.specs.PageMap.{at}
 use Rattle.page_store.specs.FreeNumbers.{free_from, free_numbers, AreDistinct, pages_1_and_3}
+use Rattle.page_store.proofs.Overlays.{neither}
 
 -- the numbers of the pages in use, where the first page has number n
 abbrev used_from : ℕ → List (Option (List ℕ)) → List ℕ
@@ -44,10 +45,6 @@ used_at n (suc k) (Some page ∷ pages) =
     let f : eqb (n + suc k) n ≡ false = grind (arith, nat_tests) in
     let e : n + suc k ≡ (n + 1) + k = omega arith in
     ap (λ b. b || is_one (used_from (n + 1) pages) (n + suc k)) f ∙ ap (is_one (used_from (n + 1) pages)) e ∙ used_at (n + 1) k pages
-
-neither : (a b : Bool) → (a || b) ≡ false → (a ≡ false) × (b ≡ false)
-neither true b e = absurd (false≢true (sym e))
-neither false b e = (refl, e)
 
 none_alike : (n : ℕ) (numbers : List ℕ) → is_one numbers n ≡ false → AllByRecursion (λ m. eqb n m ≡ false) numbers
 none_alike n [] gone = tt

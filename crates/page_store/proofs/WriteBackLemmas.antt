@@ -11,11 +11,8 @@ use Rattle.page_store.specs.Overlaid.{or_else, pages_of, ArePages}
 use Rattle.page_store.specs.WritingBack.{to_write, AreStored, SameBut, KeepsOthers, Stopped}
 use Rattle.page_store.proofs.NewestPageLemmas.{length-pages_of, at_below, inside, outside}
 use Rattle.page_store.proofs.FreeNumberLemmas.{bytes_of_used}
-use Rattle.page_store.proofs.InMemoryLemmas.{InUse, use_of, used_written, unused_written}
+use Rattle.page_store.proofs.InMemoryLemmas.{InUse, use_of, used_written, unused_written, none_not_some}
 use Rattle.page_store.proofs.Staging.{in_use}
-
-none_not_some : {P : Type 0} (o : Option (List ℕ)) → o ≡ None → IsSome o → P
-none_not_some o none some = let never : IsSome {T = List ℕ} None = subst IsSome none some in absurd (cc)
 
 -- the same numbers have no page
 same_free_from : (n : ℕ) (xs ys : List (Option (List ℕ))) → length xs ≡ length ys → ((k : ℕ) → is_some (at xs k) ≡ is_some (at ys k)) → free_from n xs ≡ free_from n ys

@@ -4,7 +4,7 @@ use Rattle.rec_types.specs.Table.{counted}
 use Rattle.page_store.specs.PagesView.{PagesView, is_in_memory}
 use Rattle.page_store.specs.PageMap.{at}
 use Rattle.page_store.specs.Overlaid.{slots_of}
-use Rattle.page_store.proofs.InMemoryLemmas.{memory_used, slot_in_memory, unused_unread, memory_unread, others_read}
+use Rattle.page_store.proofs.InMemoryLemmas.{memory_used, slot_in_memory, unused_unread, memory_unread, others_read, none_not_some}
 use Rattle.page_store.proofs.NewestPageLemmas.{outside, from_slot, from_store, stored_in_use}
 use Rattle.page_store.proofs.pages.Pages.fetch.Given as given
 use Rattle.page_store.proofs.pages.Pages.fetch.Goals as goal
@@ -12,9 +12,6 @@ use Rattle.page_store.proofs.pages.Pages.fetch.Goals.{Then-not-is_in_use, After-
 
 in_view : (v : PagesView) (pages : List (Option (List ℕ))) (n : ℕ) (x : Option (List ℕ)) → pages ≡ v.pages → at pages n ≡ x → at v.pages n ≡ x
 in_view v pages n x same is = ap (λ (ps : List (Option (List ℕ))). at ps n) (sym same) ∙ is
-
-none_not_some : {P : Type 0} (o : Option (List ℕ)) → o ≡ None → IsSome o → P
-none_not_some o none some = let never : IsSome {T = List ℕ} None = subst IsSome none some in absurd (cc)
 
 some_or_none : (o : Option (List ℕ)) → (o ≡ None → ⊥) → IsSome o
 some_or_none None never = absurd (never refl)
