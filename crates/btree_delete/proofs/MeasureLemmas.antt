@@ -193,9 +193,13 @@ root_height : (k : ℕ) (pages : PageMap) (root height : ℕ) (es : List Element
 root_height k pages root zero es us some rooted = absurd (some rooted.tree.0)
 root_height k pages root (suc h) es us some rooted = omega arith
 
+-- the tree of a root is sound where the walk begins, and at its end all of it is seen
+abbrev pub SoundRoot : ℕ → List (Option (List ℕ)) → ℕ → ℕ → List Element → List ℕ → SeenSoFar → Type 0
+SoundRoot k pages root height es us start = (h : ℕ) × Sound (below_page k (at pages) 1 root) (allowed 18 unbounded) start h (18 - h) es us × (after (18 - h) es us start ≡ seen_of (length pages) height es us)
+
 -- a tree below a root that is a page
 pub rooted_exact : (k : ℕ) (pages : List (Option (List ℕ))) (root height : ℕ) (es : List Element) (us : List ℕ) (start : SeenSoFar) → (root ≡ 0 → ⊥) → 0 < k → length pages ≤ 1000001 → start ≡ begin_with (none_of (length pages))
-    → IsRooted k (at pages) root height es us → (h : ℕ) × Sound (below_page k (at pages) 1 root) (allowed 18 unbounded) start h (18 - h) es us × (after (18 - h) es us start ≡ seen_of (length pages) height es us)
+    → IsRooted k (at pages) root height es us → SoundRoot k pages root height es us start
 rooted_exact k pages root zero es us start some order most start_is rooted = absurd (some rooted.tree.0)
 rooted_exact k pages root (suc h) es us start some order most start_is rooted =
     let sound = sound_root k pages h root es us start order most start_is rooted in

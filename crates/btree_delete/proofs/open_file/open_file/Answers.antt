@@ -1,57 +1,67 @@
-use Rattle.std.proofs.Common.{◌≡◌, ℕ, false, List, ap, sym, ◌∙◌, subst, arith, refl}
+use Rattle.std.proofs.Common.{◌≡◌, ℕ, ◌≤◌, List, IsTrue, ap, sym, ◌∙◌, subst, arith, refl}
 use Rattle.std.specs.BTreeSet.{contains}
 use Rattle.std.specs.BTreeMap.{is_at}
 use Rattle.std.specs.List.{list_any}
 use Rattle.std.specs.Ordering.{nat_cmp}
 use Rattle.page_store.specs.PageMap.{PageMap, at}
 use Rattle.page_store.specs.PagesView.{PagesView}
+use Rattle.btree_node.specs.Lists.{Element}
 use Rattle.btree_node.specs.declared.header.Header.{Header}
-use Rattle.btree_delete.specs.CleanFile.{in_file, FailsTree}
+use Rattle.btree_insert.specs.declared.tree.Tree.{Tree}
+use Rattle.btree_delete.specs.CleanFile.{in_file, HasTree, IsCleanFile, FailsTree}
 use Rattle.btree_delete.proofs.ClosedFileLemmas.{shown_as, file_map, opened, fails_first, the_header, tree_there}
+use Rattle.btree_delete.proofs.open_file.open_file.Given as given
 use Rattle.btree_delete.proofs.open_file.open_file.Goals as goal
+use Rattle.btree_delete.proofs.open_file.open_file.Goals.{After-records}
+
+-- the pages that are measured are those of the file
+module _ (g : given.Over) (c : After-records g) where
+  abbrev stored : List (List ℕ)
+  stored = g.S.StoreState.pages c.args.store
+
+  map_is : at c.new-pages.result.pages ≡ in_file stored
+  map_is = file_map stored (g.S.StoreState.pages c.check_file.new.store) c.new-pages.result.pages c.in-Ok.header.pages (contains nat_cmp c.new.result) c.check_file.ensures.pages c.in-Ok.ensures.long.0 c.new-pages.ensures.count c.new-pages.ensures.pages
+      (λ n. ap (λ (keys : List ℕ). list_any (is_at (nat_cmp n)) keys) c.new.ensures.empty)
+
+  stays_steady : IsTrue (g.S.StoreState.steady c.args.store) → IsTrue c.new-pages.result.steady
+  stays_steady steady = ap (λ (v : PagesView). v.steady) c.new-pages.ensures.store ∙ c.check_file.ensures.steady ∙ steady
+
+  -- a clean file's tree stands in them, and is as large as the header says
+  clean_tree : IsTrue (g.S.StoreState.steady c.args.store) → (h : Header) (tree : Tree) (es : List Element) (us : List ℕ) → IsCleanFile stored (g.S.StoreState.tail c.args.store) h tree es us → h.count ≤ c.args.limits.records
+      → HasTree (at c.new-pages.result.pages) c.in-Ok.header tree es us × (tree.count ≡ c.in-Ok.header.count) × (c.in-Ok.header.count ≤ c.records.result)
+  clean_tree steady h tree es us clean few =
+      let header_is = the_header c.in-Ok.header h (c.in-Ok.ensures.only steady h clean.begins) in
+      let same = ap (λ (x : Header). x.count) header_is in
+      (tree_there stored (at c.new-pages.result.pages) h c.in-Ok.header tree es us map_is header_is clean.there, clean.count ∙ sym same, omega (arith, few, same, c.records.ensures.value))
 
 pub returns-in-Err-clause-fault : goal.returns-in-Err-clause-fault
 returns-in-Err-clause-fault g c = λ steady. c.in-Err.ensures.fault steady c.args.limits.records
 
 pub returns-in-Ok-measured-clause-found : goal.returns-in-Ok-measured-clause-found
 returns-in-Ok-measured-clause-found g c = λ steady.
-    let stored = g.S.StoreState.pages c.args.store in
-    let none : (n : ℕ) → contains nat_cmp c.new.result n ≡ false = λ n. ap (λ (keys : List ℕ). list_any (is_at (nat_cmp n)) keys) c.new.ensures.empty in
-    let map_is : at c.new-pages.result.pages ≡ in_file stored = file_map stored (g.S.StoreState.pages c.check_file.new.store) c.new-pages.result.pages c.in-Ok.header.pages (contains nat_cmp c.new.result) c.check_file.ensures.stays.pages c.in-Ok.ensures.long.0 c.new-pages.ensures.count c.new-pages.ensures.pages none in
-    let steady2 = ap (λ (v : PagesView). v.steady) c.new-pages.ensures.store ∙ c.check_file.ensures.stays.steady ∙ steady in
-    let kept = c.into_store-store.ensures.pages ∙ ap (λ (v : PagesView). v.stored) c.measure_file-measured.ensures.unchanged ∙ ap (λ (v : PagesView). v.stored) c.new-pages.ensures.store ∙ c.check_file.ensures.stays.pages in
-    opened stored (g.S.StoreState.tail c.args.store) c.args.limits.records c.in-Ok.header c.new-pages.result.pages c.new-in-Ok-measured.result c.in-Ok-measured.tree (contains nat_cmp c.in-Ok-measured.free) (g.S.StoreState.reads c.args.store) c.new-pages.result.reads c.measure_file-measured.new.pages.reads
-    (c.in-Ok.ensures.found steady) map_is (c.new-pages.ensures.count ∙ c.in-Ok.ensures.long.0) (c.in-Ok-measured.ensures.found steady2) (c.in-Ok-measured.ensures.count.0, omega (arith, c.in-Ok-measured.ensures.count.1, c.records.ensures.value))
+    let place = (goal.at.returns-in-Ok-measured-clause-found g c).After-records in
+    let kept = c.into_store-store.ensures.pages ∙ ap (λ (v : PagesView). v.stored) c.measure_file-measured.ensures.unchanged ∙ ap (λ (v : PagesView). v.stored) c.new-pages.ensures.store ∙ c.check_file.ensures.pages in
+    opened (stored g place) (g.S.StoreState.tail c.args.store) c.args.limits.records c.in-Ok.header c.new-pages.result.pages c.new-in-Ok-measured.result c.in-Ok-measured.tree (contains nat_cmp c.in-Ok-measured.free) (g.S.StoreState.reads c.args.store) c.new-pages.result.reads c.measure_file-measured.new.pages.reads
+    (c.in-Ok.ensures.found steady) (map_is g place) (c.new-pages.ensures.count ∙ c.in-Ok.ensures.long.0) (c.in-Ok-measured.ensures.found (stays_steady g place steady)) (c.in-Ok-measured.ensures.count.0, omega (arith, c.in-Ok-measured.ensures.count.1, c.records.ensures.value))
     (c.new-in-Ok-measured.ensures.count ∙ c.in-Ok.ensures.long.0)
     (λ n low. c.new-in-Ok-measured.ensures.pages n (omega (arith, low, c.in-Ok.ensures.long.0)) ∙ ap (λ (xs : List (List ℕ)). shown_as xs (contains nat_cmp c.in-Ok-measured.free) n) kept)
     (ap (λ (v : PagesView). v.reads) c.new-pages.ensures.store ∙ c.in-Ok.ensures.reads refl) (ap (λ (v : PagesView). v.reads) c.new-in-Ok-measured.ensures.store ∙ c.into_store-store.ensures.reads)
 
 pub returns-in-Ok-measured-clause-exact : goal.returns-in-Ok-measured-clause-exact
 returns-in-Ok-measured-clause-exact g c = λ steady h tree es us clean few.
-    let stored = g.S.StoreState.pages c.args.store in
-    let none : (n : ℕ) → contains nat_cmp c.new.result n ≡ false = λ n. ap (λ (keys : List ℕ). list_any (is_at (nat_cmp n)) keys) c.new.ensures.empty in
-    let map_is : at c.new-pages.result.pages ≡ in_file stored = file_map stored (g.S.StoreState.pages c.check_file.new.store) c.new-pages.result.pages c.in-Ok.header.pages (contains nat_cmp c.new.result) c.check_file.ensures.stays.pages c.in-Ok.ensures.long.0 c.new-pages.ensures.count c.new-pages.ensures.pages none in
-    let steady2 = ap (λ (v : PagesView). v.steady) c.new-pages.ensures.store ∙ c.check_file.ensures.stays.steady ∙ steady in
-    let header_is = the_header c.in-Ok.header h (c.in-Ok.ensures.only steady h clean.begins) in
-    let same = ap (λ (x : Header). x.count) header_is in
-    c.in-Ok-measured.ensures.exact steady2 tree es us (tree_there stored (at c.new-pages.result.pages) h c.in-Ok.header tree es us map_is header_is clean.there) (clean.count ∙ sym same) (omega (arith, few, same, c.records.ensures.value))
+    let place = (goal.at.returns-in-Ok-measured-clause-exact g c).After-records in
+    let (there, count, low) = clean_tree g place steady h tree es us clean few in
+    c.in-Ok-measured.ensures.exact (stays_steady g place steady) tree es us there count low
 
 pub returns-in-Err-measured-clause-exact : goal.returns-in-Err-measured-clause-exact
 returns-in-Err-measured-clause-exact g c = λ steady h tree es us clean few.
-    let stored = g.S.StoreState.pages c.args.store in
-    let none : (n : ℕ) → contains nat_cmp c.new.result n ≡ false = λ n. ap (λ (keys : List ℕ). list_any (is_at (nat_cmp n)) keys) c.new.ensures.empty in
-    let map_is : at c.new-pages.result.pages ≡ in_file stored = file_map stored (g.S.StoreState.pages c.check_file.new.store) c.new-pages.result.pages c.in-Ok.header.pages (contains nat_cmp c.new.result) c.check_file.ensures.stays.pages c.in-Ok.ensures.long.0 c.new-pages.ensures.count c.new-pages.ensures.pages none in
-    let steady2 = ap (λ (v : PagesView). v.steady) c.new-pages.ensures.store ∙ c.check_file.ensures.stays.steady ∙ steady in
-    let header_is = the_header c.in-Ok.header h (c.in-Ok.ensures.only steady h clean.begins) in
-    let same = ap (λ (x : Header). x.count) header_is in
-    c.in-Err-measured.ensures.exact steady2 tree es us (tree_there stored (at c.new-pages.result.pages) h c.in-Ok.header tree es us map_is header_is clean.there) (clean.count ∙ sym same) (omega (arith, few, same, c.records.ensures.value))
+    let place = (goal.at.returns-in-Err-measured-clause-exact g c).After-records in
+    let (there, count, low) = clean_tree g place steady h tree es us clean few in
+    c.in-Err-measured.ensures.exact (stays_steady g place steady) tree es us there count low
 
 pub returns-in-Err-measured-clause-fault : goal.returns-in-Err-measured-clause-fault
 returns-in-Err-measured-clause-fault g c = λ steady.
-    let stored = g.S.StoreState.pages c.args.store in
-    let none : (n : ℕ) → contains nat_cmp c.new.result n ≡ false = λ n. ap (λ (keys : List ℕ). list_any (is_at (nat_cmp n)) keys) c.new.ensures.empty in
-    let map_is : at c.new-pages.result.pages ≡ in_file stored = file_map stored (g.S.StoreState.pages c.check_file.new.store) c.new-pages.result.pages c.in-Ok.header.pages (contains nat_cmp c.new.result) c.check_file.ensures.stays.pages c.in-Ok.ensures.long.0 c.new-pages.ensures.count c.new-pages.ensures.pages none in
-    let steady2 = ap (λ (v : PagesView). v.steady) c.new-pages.ensures.store ∙ c.check_file.ensures.stays.steady ∙ steady in
-    let fails = c.in-Err-measured.ensures.fault steady2 in
-    fails_first stored (g.S.StoreState.tail c.args.store) c.args.limits.records c.in-Ok.header c.in-Err-measured.fault (c.in-Ok.ensures.found steady)
-    (subst (λ (limit : ℕ). FailsTree (in_file stored) c.in-Ok.header limit c.in-Err-measured.fault) c.records.ensures.value (subst (λ (f : PageMap). FailsTree f c.in-Ok.header c.records.result c.in-Err-measured.fault) map_is fails))
+    let place = (goal.at.returns-in-Err-measured-clause-fault g c).After-records in
+    let fails = c.in-Err-measured.ensures.fault (stays_steady g place steady) in
+    fails_first (stored g place) (g.S.StoreState.tail c.args.store) c.args.limits.records c.in-Ok.header c.in-Err-measured.fault (c.in-Ok.ensures.found steady)
+    (subst (λ (limit : ℕ). FailsTree (in_file (stored g place)) c.in-Ok.header limit c.in-Err-measured.fault) c.records.ensures.value (subst (λ (f : PageMap). FailsTree f c.in-Ok.header c.records.result c.in-Err-measured.fault) (map_is g place) fails))
