@@ -24,12 +24,12 @@ use Rattle.btree_delete.specs.Shrinking.{MayBeUnderfull, WritesOrHandsUp, Loses,
 use Rattle.btree_delete.specs.Tidy.{is_visited, Untouched, visits}
 use Rattle.btree_delete.specs.Subtrees.{head_page}
 use Rattle.btree_delete.specs.PagesLeft.{pages_freed}
-use Rattle.btree_delete.proofs.SonsLemmas.{IsBeside, Kin, kin_underfull}
+use Rattle.btree_delete.proofs.SonsLemmas.{IsBeside, Kin, kin_underfull, fan_same}
 use Rattle.btree_delete.proofs.PagesLeftLemmas.{loses_around}
 use Rattle.btree_delete.proofs.BrotherPairLemmas.{Next}
 use Rattle.btree_delete.proofs.ElementRemovalLemmas.{remove-between, remove-here, remove_is_remove}
 use Rattle.btree_delete.proofs.SettledPageLemmas.{around_son, settled_leaves, settled_gone, loses_nothing, treated_leaves}
-use Rattle.btree_delete.proofs.DeletionStepLemmas.{Broken, SettledSon, son_unvisited, below_in, page_in}
+use Rattle.btree_delete.proofs.DeletionStepLemmas.{Broken, SettledSon, son_unvisited, below_in}
 use Rattle.btree_delete.proofs.FirstElementLemmas.{Takes, more_visited}
 use Rattle.btree_delete.proofs.EditLemmas.{untouched_empty, unvisited_push}
 
@@ -46,21 +46,22 @@ is_at els i up low =
     }
 
 -- the pages around a son below which some pages went
-pub record Beside (old mid : PageMap) (lo hi p : ℕ) (upre mine upost vs : List ℕ) : Type 0 where
+pub record Beside (old mid : PageMap) (lo hi p : ℕ) (us upre upost vs : List ℕ) : Type 0 where
   pub before : Each (λ q. mid q ≡ old q) upre
   pub behind : Each (λ q. mid q ≡ old q) upost
   pub page : mid p ≡ old p
-  pub loses : Loses old mid lo hi (p ∷ (upre ++ (mine ++ upost))) (p ∷ (upre ++ (vs ++ upost)))
+  pub loses : Loses old mid lo hi us (p ∷ (upre ++ (vs ++ upost)))
 
 -- the pages beside a son that lost some
-pub beside_son : (old mid : PageMap) (lo hi p : ℕ) (upre mine upost vs : List ℕ) → Apart (p ∷ (upre ++ (mine ++ upost))) → Loses old mid lo hi mine vs → Beside old mid lo hi p upre mine upost vs
-beside_son old mid lo hi p upre mine upost vs apart loses =
+pub beside_son : (old mid : PageMap) (lo hi p : ℕ) (us upre mine upost vs : List ℕ) → us ≡ p ∷ (upre ++ (mine ++ upost)) → Apart us → Loses old mid lo hi mine vs → Beside old mid lo hi p us upre upost vs
+beside_son old mid lo hi p us upre mine upost vs us_is apart_us loses =
+    let apart = subst Apart us_is apart_us in
     let inner = Apart-right upre (mine ++ upost) apart.1 in
     record {
       before = each_in (λ q. mid q ≡ old q) upre (λ q is. loses.left.same q (λ own. Apart-across q upre (mine ++ upost) apart.1 is (in_left q mine upost own)));
       behind = each_in (λ q. mid q ≡ old q) upost (λ q is. loses.left.same q (λ own. Apart-across q mine upost inner own is));
       page = loses.left.same p (λ own. apart.0 (in_right p upre (mine ++ upost) (in_left p mine upost own)));
-      loses = loses_around old mid lo hi (p ∷ upre) mine vs upost apart loses;
+      loses = subst (λ (xs : List ℕ). Loses old mid lo hi xs (p ∷ (upre ++ (vs ++ upost)))) (sym us_is) (loses_around old mid lo hi (p ∷ upre) mine vs upost apart loses);
     }
 
 found_gone : (k p : ℕ) (ws ws2 : List (ℕ × List ℕ)) (e x : Element) (m : Node) (g : Shrunk) (key : List ℕ) (es : List Element) → WritesOrHandsUp k ws ws2 p e m g → e ≡ x → lookup_in key es ≡ Some x.1 → lookup_in key es ≡ Some (gone g).1
@@ -97,7 +98,7 @@ next_es pre xs post x nx rest es key es_is xs_is removed = ap (set_in key None) 
 inner_body : (k : ℕ) (pages : PageMap) (h : ℕ) (n m : Node) (sons : List ℕ) (els es : List Element) (us : List ℕ) → n.kind ≡ Inner → m.kind ≡ n.kind → m.elements.items ≡ els → m.sons.items ≡ sons → Fan (TreeAt k pages k (suc h)) sons els es us → Body (TreeAt k pages k (suc h)) (suc h) m es us
 inner_body k pages h n m sons els es us inner kind_is els_is sons_is fan = (
   kind_is ∙ inner,
-  subst (λ (xs : List Element). Fan (TreeAt k pages k (suc h)) m.sons.items xs es us) (sym els_is) (subst (λ (ss : List ℕ). Fan (TreeAt k pages k (suc h)) ss els es us) (sym sons_is) fan),
+  fan_same (TreeAt k pages k (suc h)) sons m.sons.items els m.elements.items es es us sons_is els_is refl fan,
 )
 
 -- an element in an inner page gives way to the next greater one, and no son is underfull
@@ -109,20 +110,19 @@ pub next_whole : (k : ℕ) (old : PageMap) (ws ws2 : List (ℕ × List ℕ)) (fs
 next_whole k old ws ws2 fs least height h p es us b c n m i e nx g visited visited2 order low apart between head at took may_be_underfull e_is kind_is els_is sons_is untouched done =
     let mid = after old ws fs in
     let key = (element_at n i).0 in
-    let us_is : us ≡ p ∷ (at.upre ++ (at.mine ++ at.upost)) = head.us_is ∙ ap (λ vs. p ∷ vs) at.us_is in
+    let us_is = head.us_is ∙ ap (λ (vs : List ℕ). p ∷ vs) at.us_is in
     let (vs, tree, loses) = took.leaves in
-    let beside = beside_son old mid 0 (length fs) p at.upre at.mine at.upost vs (subst Apart us_is apart) loses in
+    let beside = beside_son old mid 0 (length fs) p us at.upre at.mine at.upost vs us_is apart loses in
     let below = at.upre ++ (vs ++ at.upost) in
     let fan = at.keep beside.before beside.behind nx took.rest vs tree in
     let gone_is = next_es at.pre at.xs at.post (element_at n i) nx took.rest es key at.es_is took.first (remove-here key at.pre (element_at n i) (at.xs ++ at.post) at.below refl) in
     let body = inner_body k mid h n m n.sons.items (set n.elements.items i nx) (at.pre ++ nx ∷ (took.rest ++ at.post)) below head.body.0 kind_is els_is sons_is fan in
     let found = ap (lookup_in key) at.es_is ∙ lookup-here key at.pre (element_at n i) (at.xs ++ at.post) at.below refl in
-    let fewer = subst (λ (xs : List ℕ). Loses old mid 0 (length fs) xs (p ∷ below)) (sym us_is) beside.loses in
     record {
       drops = (
         key_gone k p ws ws2 e (element_at n i) m g key done e_is refl,
         found_gone k p ws ws2 e (element_at n i) m g key es done e_is found,
-        settled_leaves k old least height (suc h) p 0 (length fs) c ws ws2 fs us below (set_in key None es) e m g order low may_be_underfull untouched (subst (λ (zs : List Element). Body (TreeAt k mid k (suc h)) (suc h) m zs below) (sym gone_is) body) fewer done,
+        settled_leaves k old least height (suc h) p 0 (length fs) c ws ws2 fs us below (set_in key None es) e m g order low may_be_underfull untouched (subst (λ (zs : List Element). Body (TreeAt k mid k (suc h)) (suc h) m zs below) (sym gone_is) body) beside.loses done,
       );
       unvisited = λ q unvisited out. took.unvisited q unvisited (λ is. out (below_in p us at.upre at.mine at.upost us_is q is));
     }
@@ -136,18 +136,16 @@ next_broken k old ws fs least height h p es us b n m i nx son visited visited2 a
     let mid = after old ws fs in
     let s = son_at n (suc i) in
     let key = (element_at n i).0 in
-    let us_is : us ≡ p ∷ (at.upre ++ (at.mine ++ at.upost)) = head.us_is ∙ ap (λ vs. p ∷ vs) at.us_is in
+    let us_is = head.us_is ∙ ap (λ (vs : List ℕ). p ∷ vs) at.us_is in
     let (below, body, same, loses) = took.leaves in
-    let around = around_son old mid visited visited2 0 (length fs) p s at.upre at.mine at.upost (s ∷ below) (subst Apart us_is apart) (subst (Each (λ u. is_visited visited u ≡ false)) at.us_is unvisited) took.unvisited (loses.left.within s (inl refl)) loses in
+    let around = around_son old mid visited visited2 0 (length fs) p s us at.upre at.mine at.upost (s ∷ below) us_is apart (subst (Each (λ u. is_visited visited u ≡ false)) at.us_is unvisited) took.unvisited (loses.left.within s (inl refl)) loses in
     let fan = at.keep around.before around.behind nx took.rest (s ∷ below) (kin_underfull k old mid visited2 h s son s took.rest below refl body) in
     let mids = at.upre ++ ((s ∷ below) ++ at.upost) in
     let gone_is = next_es at.pre at.xs at.post (element_at n i) nx took.rest es key at.es_is took.first (remove-here key at.pre (element_at n i) (at.xs ++ at.post) at.below refl) in
     record {
       mids = mids;
-      fan = subst (λ (zs : List Element). Fan (Kin k old mid visited2 h s son) m.sons.items m.elements.items zs mids) (sym gone_is)
-          (subst (λ (ss : List ℕ). Fan (Kin k old mid visited2 h s son) ss m.elements.items (at.pre ++ nx ∷ (took.rest ++ at.post)) mids) (sym sons_is)
-          (subst (λ (xs : List Element). Fan (Kin k old mid visited2 h s son) n.sons.items xs (at.pre ++ nx ∷ (took.rest ++ at.post)) mids) (sym els_is) fan));
-      loses = subst (λ (xs : List ℕ). Loses old mid 0 (length fs) xs (p ∷ mids)) (sym us_is) around.loses;
+      fan = fan_same (Kin k old mid visited2 h s son) n.sons.items m.sons.items (set n.elements.items i nx) m.elements.items (at.pre ++ nx ∷ (took.rest ++ at.post)) (set_in key None es) mids sons_is els_is gone_is fan;
+      loses = around.loses;
     }
 
 -- a page whose underfull son was treated, where the key was found
@@ -168,9 +166,9 @@ pub drop_whole : (k : ℕ) (old : PageMap) (ws : List (ℕ × List ℕ)) (fs : L
     → RemovesBelow (head_page k k h (son_at n i)) (pages_freed old (after old ws fs) 0 (length fs)) at.xs at.mine (visits (visited ++ p ∷ []) visited2) key (Some (Whole e)) → RemovesBelow (head_page k least (suc h) p) (pages_freed old (after old ws fs) 0 (length fs)) es us (visits visited visited2) key (Some (Whole e))
 drop_whole k old ws fs least height h p es us b n i e visited visited2 key apart head at removed =
     let mid = after old ws fs in
-    let us_is : us ≡ p ∷ (at.upre ++ (at.mine ++ at.upost)) = head.us_is ∙ ap (λ vs. p ∷ vs) at.us_is in
+    let us_is = head.us_is ∙ ap (λ (vs : List ℕ). p ∷ vs) at.us_is in
     let (key_is, found, (vs, tree, loses)) = removed.drops in
-    let beside = beside_son old mid 0 (length fs) p at.upre at.mine at.upost vs (subst Apart us_is apart) loses in
+    let beside = beside_son old mid 0 (length fs) p us at.upre at.mine at.upost vs us_is apart loses in
     let below = at.upre ++ (vs ++ at.upost) in
     let gone_is = ap (set_in key None) at.es_is ∙ remove-between key at.pre at.xs at.post at.below at.above in
     let fan = at.keep beside.before beside.behind (set_in key None at.xs) vs tree in
@@ -181,10 +179,10 @@ drop_whole k old ws fs least height h p es us b n i e visited visited2 key apart
         (
           p ∷ below,
           (n, below, record { page = beside.page ∙ head.spells.page; stands = head.spells.stands }, head.least_is, (head.body.0, subst (λ (zs : List Element). Fan (TreeAt k mid k (suc h)) n.sons.items n.elements.items zs below) (sym gone_is) fan), refl),
-          subst (λ (xs : List ℕ). Loses old mid 0 (length fs) xs (p ∷ below)) (sym us_is) beside.loses,
+          beside.loses,
         ),
       );
-      unvisited = son_unvisited visited visited2 p us at.mine (page_in p us (at.upre ++ (at.mine ++ at.upost)) us_is) (below_in p us at.upre at.mine at.upost us_is) removed.unvisited;
+      unvisited = son_unvisited visited visited2 p us at.upre at.mine at.upost us_is removed.unvisited;
     }
 
 -- not below a son
@@ -192,10 +190,10 @@ pub drop_none : (k : ℕ) (old new : PageMap) (lo hi least height h p : ℕ) (es
     → (at : Focus (TreeAt k old k (suc h)) (TreeAt k old k (suc h)) (λ q. Unit {0}) n.sons.items n.elements.items es head.below key i b)
     → RemovesBelow (head_page k k h (son_at n i)) (pages_freed old new lo hi) at.xs at.mine (visits (visited ++ p ∷ []) visited2) key None → RemovesBelow (head_page k least (suc h) p) (pages_freed old new lo hi) es us (visits visited visited2) key None
 drop_none k old new lo hi least height h p es us b n i visited visited2 key head at removed =
-    let us_is : us ≡ p ∷ (at.upre ++ (at.mine ++ at.upost)) = head.us_is ∙ ap (λ vs. p ∷ vs) at.us_is in
+    let us_is = head.us_is ∙ ap (λ (vs : List ℕ). p ∷ vs) at.us_is in
     record {
       drops = ap (lookup_in key) at.es_is ∙ lookup-between key at.pre at.xs at.post at.below at.above ∙ removed.drops;
-      unvisited = son_unvisited visited visited2 p us at.mine (page_in p us (at.upre ++ (at.mine ++ at.upost)) us_is) (below_in p us at.upre at.mine at.upost us_is) removed.unvisited;
+      unvisited = son_unvisited visited visited2 p us at.upre at.mine at.upost us_is removed.unvisited;
     }
 
 -- below a son, which is underfull now
@@ -206,18 +204,18 @@ pub drop_broken : (k : ℕ) (old : PageMap) (ws : List (ℕ × List ℕ)) (fs : 
 drop_broken k old ws fs least height h p es us b n i e son visited visited2 key apart head at unvisited removed =
     let mid = after old ws fs in
     let s = son_at n i in
-    let us_is : us ≡ p ∷ (at.upre ++ (at.mine ++ at.upost)) = head.us_is ∙ ap (λ vs. p ∷ vs) at.us_is in
+    let us_is = head.us_is ∙ ap (λ (vs : List ℕ). p ∷ vs) at.us_is in
     let apart2 = subst Apart us_is apart in
     let (key_is, found, (below, body, same, loses)) = removed.drops in
     let unvisited2 = subst (Each (λ u. is_visited visited u ≡ false)) us_is unvisited in
-    let around = around_son old mid (visited ++ p ∷ []) visited2 0 (length fs) p s at.upre at.mine at.upost (s ∷ below) apart2 (more_visited visited p (at.upre ++ (at.mine ++ at.upost)) apart2.0 unvisited2.1) removed.unvisited (loses.left.within s (inl refl)) loses in
+    let around = around_son old mid (visited ++ p ∷ []) visited2 0 (length fs) p s us at.upre at.mine at.upost (s ∷ below) us_is apart (more_visited visited p (at.upre ++ (at.mine ++ at.upost)) apart2.0 unvisited2.1) removed.unvisited (loses.left.within s (inl refl)) loses in
     let mids = at.upre ++ ((s ∷ below) ++ at.upost) in
     let gone_is = ap (set_in key None) at.es_is ∙ remove-between key at.pre at.xs at.post at.below at.above in
     let fan = at.keep around.before around.behind (set_in key None at.xs) (s ∷ below) (kin_underfull k old mid visited2 h s son s (set_in key None at.xs) below refl body) in (
       record {
         mids = mids;
         fan = subst (λ (zs : List Element). Fan (Kin k old mid visited2 h s son) n.sons.items n.elements.items zs mids) (sym gone_is) fan;
-        loses = subst (λ (xs : List ℕ). Loses old mid 0 (length fs) xs (p ∷ mids)) (sym us_is) around.loses;
+        loses = around.loses;
       },
       ap (lookup_in key) at.es_is ∙ lookup-between key at.pre at.xs at.post at.below at.above ∙ found,
       key_is,

@@ -84,10 +84,10 @@ treat_son k height old visited visited2 lo h level p s node F e g ws ws3 fs fs2 
     record {
       G = done.1.treated;
       son = record {
-        treated = treated_right k old visited h s node F done.1.treated ws (unsettled g ws3) fs fs2 es broken.mids b i order s_is broken.loses.left.apart.1 mine.kept (untouched (son_at F (suc i)) br.beside.unvisited).kept br done.1.treats;
+        treated = treated_right k old visited h s node F done.1.treated ws (unsettled g ws3) fs fs2 es broken.mids b i order mine.kept (untouched (son_at F (suc i)) br.beside.unvisited).kept br done.1.treats;
         t = son_at F (suc i);
         visited_is = done.0;
-        t_in = pair_in (son_at F (suc i)) broken.mids br.at.upre br.at.lefts br.at.rights br.at.upost br.at.us_is (in_right (son_at F (suc i)) br.at.lefts br.at.rights (subst (IsIn (son_at F (suc i))) (sym br.head.us_is) (inl refl)));
+        t_in = pair_in (son_at F (suc i)) broken.mids br.sons.at.upre br.sons.at.lefts br.sons.at.rights br.sons.at.upost br.sons.at.us_is (in_right (son_at F (suc i)) br.sons.at.lefts br.sons.at.rights (subst (IsIn (son_at F (suc i))) (sym br.head.us_is) (inl refl)));
       };
       may_be_underfull = done.1.may_be_underfull;
       kept = done.1.kept;
@@ -105,10 +105,10 @@ treat_son k height old visited visited2 lo h level p s node F e g ws ws3 fs fs2 
         record {
           G = done.1.treated;
           son = record {
-            treated = treated_left k old visited h s node F done.1.treated ws (unsettled g ws3) fs fs2 es broken.mids b j order (s_is ∙ ap (son_at F) i_is) broken.loses.left.apart.1 (untouched (son_at F j) br.beside.unvisited).kept (subst (λ (x : ℕ). Untouched ws fs (son_at F x)) i_is mine).kept br done.1.treats;
+            treated = treated_left k old visited h s node F done.1.treated ws (unsettled g ws3) fs fs2 es broken.mids b j order (untouched (son_at F j) br.beside.unvisited).kept (subst (λ (x : ℕ). Untouched ws fs (son_at F x)) i_is mine).kept br done.1.treats;
             t = son_at F j;
             visited_is = done.0;
-            t_in = pair_in (son_at F j) broken.mids br.at.upre br.at.lefts br.at.rights br.at.upost br.at.us_is (in_left (son_at F j) br.at.lefts br.at.rights (subst (IsIn (son_at F j)) (sym br.head.us_is) (inl refl)));
+            t_in = pair_in (son_at F j) broken.mids br.sons.at.upre br.sons.at.lefts br.sons.at.rights br.sons.at.upost br.sons.at.us_is (in_left (son_at F j) br.sons.at.lefts br.sons.at.rights (subst (IsIn (son_at F j)) (sym br.head.us_is) (inl refl)));
           };
           may_be_underfull = done.1.may_be_underfull;
           kept = done.1.kept;
@@ -121,10 +121,6 @@ still_unvisited visited visited2 visited3 p t us mine p_in mine_in t_in stays vi
     subst (λ (ms : List ℕ). is_visited ms q ≡ false) (sym visited_is)
     (unvisited_push visited2 t q (stays q (unvisited_push visited p q unvisited (λ e. out (subst (λ (x : ℕ). IsIn x us) (sym e) p_in))) (λ is. out (mine_in q is))) (λ e. out (subst (λ (x : ℕ). IsIn x us) (sym e) t_in)))
 
--- what a call on a son leaves unvisited
-pub son_unvisited : (visited visited2 : List ℕ) (p : ℕ) (us mine : List ℕ) → IsIn p us → ((q : ℕ) → IsIn q mine → IsIn q us) → StaysUnvisited (visited ++ p ∷ []) visited2 mine → StaysUnvisited visited visited2 us
-son_unvisited visited visited2 p us mine p_in mine_in stays = λ q unvisited out. stays q (unvisited_push visited p q unvisited (λ e. out (subst (λ (x : ℕ). IsIn x us) (sym e) p_in))) (λ is. out (mine_in q is))
-
 -- a visit of one page leaves the others unvisited
 pub page_unvisited : (visited : List ℕ) (p : ℕ) (us : List ℕ) → IsIn p us → StaysUnvisited visited (visited ++ p ∷ []) us
 page_unvisited visited p us p_in = λ q unvisited out. unvisited_push visited p q unvisited (λ e. out (subst (λ (x : ℕ). IsIn x us) (sym e) p_in))
@@ -136,3 +132,8 @@ below_in p us upre mine upost us_is q is = subst (IsIn q) (sym us_is) (inr (in_r
 -- a tree's head is one of its pages
 pub page_in : (p : ℕ) (us below : List ℕ) → us ≡ p ∷ below → IsIn p us
 page_in p us below us_is = subst (IsIn p) (sym us_is) (inl refl)
+
+-- what a call on a son leaves unvisited
+pub son_unvisited : (visited visited2 : List ℕ) (p : ℕ) (us upre mine upost : List ℕ) → us ≡ p ∷ (upre ++ (mine ++ upost)) → StaysUnvisited (visited ++ p ∷ []) visited2 mine → StaysUnvisited visited visited2 us
+son_unvisited visited visited2 p us upre mine upost us_is stays = λ q unvisited out.
+    stays q (unvisited_push visited p q unvisited (λ e. out (subst (λ (x : ℕ). IsIn x us) (sym e) (page_in p us (upre ++ (mine ++ upost)) us_is)))) (λ is. out (below_in p us upre mine upost us_is q is))

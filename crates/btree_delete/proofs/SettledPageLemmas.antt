@@ -80,16 +80,16 @@ loses_nothing old ws fs us no_writes none_freed apart =
     (subst (λ (n : ℕ). Loses old old 0 n us us) (ap length (sym none_freed)) (loses_none old 0 us apart))
 
 -- the pages around a son below which some pages went
-pub record Around (old mid : PageMap) (visited : List ℕ) (lo hi p s : ℕ) (upre mine upost vs : List ℕ) : Type 0 where
+pub record Around (old mid : PageMap) (visited : List ℕ) (lo hi p s : ℕ) (us upre upost vs : List ℕ) : Type 0 where
   pub before : Each (IsBeside old mid visited s) upre
   pub behind : Each (IsBeside old mid visited s) upost
-  pub loses : Loses old mid lo hi (p ∷ (upre ++ (mine ++ upost))) (p ∷ (upre ++ (vs ++ upost)))
-  pub page : mid p ≡ old p
+  pub loses : Loses old mid lo hi us (p ∷ (upre ++ (vs ++ upost)))
 
 -- the pages around a son that changed
-pub around_son : (old mid : PageMap) (visited visited2 : List ℕ) (lo hi p s : ℕ) (upre mine upost vs : List ℕ) → Apart (p ∷ (upre ++ (mine ++ upost))) → Each (λ u. is_visited visited u ≡ false) (upre ++ (mine ++ upost)) → StaysUnvisited visited visited2 mine → IsIn s mine → Loses old mid lo hi mine vs
-    → Around old mid visited2 lo hi p s upre mine upost vs
-around_son old mid visited visited2 lo hi p s upre mine upost vs apart unvisited stays s_in loses =
+pub around_son : (old mid : PageMap) (visited visited2 : List ℕ) (lo hi p s : ℕ) (us upre mine upost vs : List ℕ) → us ≡ p ∷ (upre ++ (mine ++ upost)) → Apart us → Each (λ u. is_visited visited u ≡ false) (upre ++ (mine ++ upost)) → StaysUnvisited visited visited2 mine → IsIn s mine → Loses old mid lo hi mine vs
+    → Around old mid visited2 lo hi p s us upre upost vs
+around_son old mid visited visited2 lo hi p s us upre mine upost vs us_is apart_us unvisited stays s_in loses =
+    let apart = subst Apart us_is apart_us in
     let all = upre ++ (mine ++ upost) in
     let inner = Apart-right upre (mine ++ upost) apart.1 in
     let beside : (q : ℕ) → IsIn q all → (IsIn q mine → ⊥) → IsBeside old mid visited2 s q = λ q is out. record {
@@ -100,8 +100,7 @@ around_son old mid visited visited2 lo hi p s upre mine upost vs apart unvisited
     record {
       before = each_in (IsBeside old mid visited2 s) upre (λ q is. beside q (in_left q upre (mine ++ upost) is) (λ own. Apart-across q upre (mine ++ upost) apart.1 is (in_left q mine upost own)));
       behind = each_in (IsBeside old mid visited2 s) upost (λ q is. beside q (in_right q upre (mine ++ upost) (in_right q mine upost is)) (λ own. Apart-across q mine upost inner own is));
-      loses = loses_around old mid lo hi (p ∷ upre) mine vs upost apart loses;
-      page = loses.left.same p (λ own. apart.0 (in_right p upre (mine ++ upost) (in_left p mine upost own)));
+      loses = subst (λ (xs : List ℕ). Loses old mid lo hi xs (p ∷ (upre ++ (vs ++ upost)))) (sym us_is) (loses_around old mid lo hi (p ∷ upre) mine vs upost apart loses);
     }
 
 -- what is left below a page whose underfull son was treated

@@ -67,6 +67,11 @@ kin_is_beside k old mid visited h s node t xs us other (inr (same, below, body, 
 pub across : (left right : List ℕ) (p q : ℕ) → Apart (left ++ right) → IsIn p left → IsIn q right → p ≡ q → ⊥
 across left right p q apart front back same = Apart-across q left right apart (subst (λ (x : ℕ). IsIn x left) same front) back
 
+-- a fan under equal lists
+pub fan_same : (tree : Stands) (sons sons2 : List ℕ) (els els2 es es2 : List Element) (us : List ℕ) → sons2 ≡ sons → els2 ≡ els → es2 ≡ es → Fan tree sons els es us → Fan tree sons2 els2 es2 us
+fan_same tree sons sons2 els els2 es es2 us sons_is els_is es_is fan =
+    subst (λ (ss : List ℕ). Fan tree ss els2 es2 us) (sym sons_is) (subst (λ (xs : List Element). Fan tree sons xs es2 us) (sym els_is) (subst (λ (zs : List Element). Fan tree sons els zs us) (sym es_is) fan))
+
 -- the joined bodies of two nodes
 fan_join : (tree : Stands) (s1 : List ℕ) (l1 xs : List Element) (u1 s2 : List ℕ) (l2 ys : List Element) (u2 : List ℕ) (m : Element) → Fan tree s1 l1 xs u1 → Fan tree s2 l2 ys u2 → Fan tree (s1 ++ s2) (l1 ++ m ∷ l2) (xs ++ m ∷ ys) (u1 ++ u2)
 fan_join tree [] l1 xs u1 s2 l2 ys u2 m left right = absurd left
