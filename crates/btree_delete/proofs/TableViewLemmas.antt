@@ -37,57 +37,31 @@ count_is t is steady =
     let holds = held.fills.holds in
     holds.count ∙ sym (len-contents_of held.es holds.ascends) ∙ ap maps.len (sym (held_contents (at t.pages.pages) t.tree held.es held.us is.tree.order.1 holds))
 
+-- pages that are seen to be steady are
+steady_here : (here now : TableView) → here ≡ now → IsTrue now.pages.steady → IsTrue here.pages.steady
+steady_here here now same steady = ap (λ (t : TableView). t.pages.steady) same ∙ steady
+
 -- the count is that of the contents
 pub count_seen : (here now : TableView) → here ≡ now → IsTable here → IsTrue now.pages.steady → here.tree.count ≡ maps.len (table_contents now)
-count_seen here now same is steady = count_is here is (ap (λ (t : TableView). t.pages.steady) same ∙ steady) ∙ ap (λ (t : TableView). maps.len (table_contents t)) same
+count_seen here now same is steady = count_is here is (steady_here here now same steady) ∙ ap (λ (t : TableView). maps.len (table_contents t)) same
 
 -- what a change answers over the pages of a table
 abbrev pub Changes : TableView → List (Option (List ℕ)) → List ℕ → Option (List ℕ) → Result (Tree × Option (List ℕ)) TableFault → Type 0
 Changes t new key to r =
     IsTrue t.pages.steady → (es : List Element) → (us : List ℕ) → Fills t.pages.pages t.tree es us → t.tree.count ≤ t.limit → MatchResult r (λ x. IsSet new x.0 t.limit es key to x.1) (MayRefuse t.limit t.tree.count es key to)
 
--- a set that is answered
-pub ok_set : (t : TableView) (new : List (Option (List ℕ))) (key : List ℕ) (to : Option (List ℕ)) (r : Result (Tree × Option (List ℕ)) TableFault) (next : Tree) (before : Option (List ℕ)) (is : IsTable t) (steady : IsTrue t.pages.steady) → Changes t new key to r → r ≡ Ok (next, before)
-    → IsSet new next t.limit (is.holds steady).es key to before
-ok_set t new key to r next before is steady call r_is =
-    let held = is.holds steady in
-    subst (λ (r : Result (Tree × Option (List ℕ)) TableFault). MatchResult r (λ x. IsSet new x.0 t.limit held.es key to x.1) (MayRefuse t.limit t.tree.count held.es key to)) r_is (call steady held.es held.us held.fills (is.count steady))
-
--- a set that is refused
-pub err_set : (t : TableView) (new : List (Option (List ℕ))) (key : List ℕ) (to : Option (List ℕ)) (r : Result (Tree × Option (List ℕ)) TableFault) (fault : TableFault) (is : IsTable t) (steady : IsTrue t.pages.steady) → Changes t new key to r → r ≡ Err fault
-    → MayRefuse t.limit t.tree.count (is.holds steady).es key to fault
-err_set t new key to r fault is steady call r_is =
+-- the answer of a set, where it is known
+set_answer : (t : TableView) (new : List (Option (List ℕ))) (key : List ℕ) (to : Option (List ℕ)) (r answer : Result (Tree × Option (List ℕ)) TableFault) (is : IsTable t) (steady : IsTrue t.pages.steady) → Changes t new key to r → r ≡ answer
+    → MatchResult answer (λ x. IsSet new x.0 t.limit (is.holds steady).es key to x.1) (MayRefuse t.limit t.tree.count (is.holds steady).es key to)
+set_answer t new key to r answer is steady call r_is =
     let held = is.holds steady in
     subst (λ (r : Result (Tree × Option (List ℕ)) TableFault). MatchResult r (λ x. IsSet new x.0 t.limit held.es key to x.1) (MayRefuse t.limit t.tree.count held.es key to)) r_is (call steady held.es held.us held.fills (is.count steady))
 
 -- a look-up in the tree is one in the contents
-pub looked_up : (t : TableView) (key : List ℕ) (is : IsTable t) (steady : IsTrue t.pages.steady) → lookup_in key (is.holds steady).es ≡ maps.get (table_contents t) key
-looked_up t key is steady = let held = is.holds steady in contents_get (at t.pages.pages) t.tree held.es held.us key is.tree.order.1 held.fills.holds
-
--- what stood at the key
-pub set_value : (here now : TableView) (new : List (Option (List ℕ))) (key : List ℕ) (to : Option (List ℕ)) (r : Result (Tree × Option (List ℕ)) TableFault) (next : Tree) (before : Option (List ℕ)) → here ≡ now → IsTable here → Changes here new key to r → r ≡ Ok (next, before)
-    → IsTrue now.pages.steady → before ≡ maps.get (table_contents now) key
-set_value here now new key to r next before same is call r_is steady =
-    let steady2 = ap (λ (t : TableView). t.pages.steady) same ∙ steady in
-    (ok_set here new key to r next before is steady2 call r_is).answer ∙ looked_up here key is steady2 ∙ ap (λ (t : TableView). maps.get (table_contents t) key) same
-
--- the records after it
-pub set_contents : (here now : TableView) (new : List (Option (List ℕ))) (key : List ℕ) (to : Option (List ℕ)) (r : Result (Tree × Option (List ℕ)) TableFault) (next : Tree) (before : Option (List ℕ)) → here ≡ now → IsTable here → Changes here new key to r → r ≡ Ok (next, before)
-    → IfOk r (λ x. x.0.order ≡ here.tree.order) → IsTrue now.pages.steady → contents_at next.order (at new) next.height next.root ≡ set_to (table_contents now) key to
-set_contents here now new key to r next before same is call r_is order steady =
-    let steady2 = ap (λ (t : TableView). t.pages.steady) same ∙ steady in
-    let held = is.holds steady2 in
-    let done = ok_set here new key to r next before is steady2 call r_is in
-    let order2 = subst (λ (r : Result (Tree × Option (List ℕ)) TableFault). IfOk r (λ x. x.0.order ≡ here.tree.order)) r_is order in
-    contents_set (at here.pages.pages) (at new) here.tree next held.es held.us done.vs key to is.tree.order.1 order2 held.fills.holds done.fills.holds
-    ∙ ap (λ (t : TableView). set_to (table_contents t) key to) same
-
-full_of : (here now : TableView) (key : List ℕ) (to : Option (List ℕ)) (is : IsTable here) (same : here ≡ now) (steady : IsTrue here.pages.steady) → IsSome to → maps.get (table_contents now) key ≡ None → now.limit ≤ maps.len (table_contents now) → IsFull here.limit here.tree.count (is.holds steady).es key to
-full_of here now key to is same steady puts absent full = record {
-  puts = puts;
-  absent = looked_up here key is steady ∙ ap (λ (t : TableView). maps.get (table_contents t) key) same ∙ absent;
-  full = omega (arith, ap (λ (t : TableView). t.limit) same, full, count_seen here now same is (sym (ap (λ (t : TableView). t.pages.steady) same) ∙ steady));
-}
+looked_up : (here now : TableView) (key : List ℕ) (same : here ≡ now) (is : IsTable here) (steady : IsTrue here.pages.steady) → lookup_in key (is.holds steady).es ≡ maps.get (table_contents now) key
+looked_up here now key same is steady =
+    let held = is.holds steady in
+    contents_get (at here.pages.pages) here.tree held.es held.us key is.tree.order.1 held.fills.holds ∙ ap (λ (t : TableView). maps.get (table_contents t) key) same
 
 too_many : (limit count next : ℕ) (es : List Element) (key : List ℕ) (to : Option (List ℕ)) → Ascends es → count ≡ length es → next ≡ length (set_in key to es) → next ≤ limit → IsFull limit count es key to → ⊥
 too_many limit count next es key None up count_is next_is few full = absurd (let never = full.puts in cc)
@@ -97,30 +71,9 @@ too_many limit count next es key (Some value) up count_is next_is few full =
     let high = full.full in
     absurd (omega (arith, one, added, high, few, count_is, next_is))
 
--- a new key is not put where there are as many records as there may be
-pub set_full : (here now : TableView) (new : List (Option (List ℕ))) (key : List ℕ) (to : Option (List ℕ)) (r : Result (Tree × Option (List ℕ)) TableFault) (next : Tree) (before : Option (List ℕ)) → here ≡ now → IsTable here → Changes here new key to r → r ≡ Ok (next, before)
-    → IsTrue now.pages.steady → IsSome to → maps.get (table_contents now) key ≡ None → now.limit ≤ maps.len (table_contents now) → ⊥
-set_full here now new key to r next before same is call r_is steady puts absent full =
-    let steady2 = ap (λ (t : TableView). t.pages.steady) same ∙ steady in
-    let held = is.holds steady2 in
-    let done = ok_set here new key to r next before is steady2 call r_is in
-    too_many here.limit here.tree.count next.count held.es key to held.fills.holds.ascends held.fills.holds.count done.fills.holds.count done.few (full_of here now key to is same steady2 puts absent full)
-
 -- equal answers have equal faults
 pub same_fault : {X : Type 0} (a b : TableFault) → ◌≡◌ {A = Result X TableFault} (Err a) (Err b) → a ≡ b
 same_fault a b same = cc
-
--- NoRoom comes of a new key at the limit
-pub refused_room : (here now : TableView) (new : List (Option (List ℕ))) (key : List ℕ) (to : Option (List ℕ)) (r : Result (Tree × Option (List ℕ)) TableFault) (fault : TableFault) → here ≡ now → IsTable here → Changes here new key to r → r ≡ Err fault
-    → IsTrue now.pages.steady → fault ≡ NoRoom → IsSome to × (maps.get (table_contents now) key ≡ None) × (now.limit ≤ maps.len (table_contents now))
-refused_room here now new key to r fault same is call r_is steady fault_is =
-    let steady2 = ap (λ (t : TableView). t.pages.steady) same ∙ steady in
-    let refused = err_set here new key to r fault is steady2 call r_is in
-    let full = subst (MayRefuse here.limit here.tree.count (is.holds steady2).es key to) fault_is refused in (
-      full.puts,
-      sym (looked_up here key is steady2 ∙ ap (λ (t : TableView). maps.get (table_contents t) key) same) ∙ full.absent,
-      (let high = full.full in omega (arith, high, ap (λ (t : TableView). t.limit) same, count_seen here now same is steady)),
-    )
 
 only_room : (X : Type 0) (limit count : ℕ) (es : List Element) (key : List ℕ) (to : Option (List ℕ)) (fault : TableFault) → MayRefuse limit count es key to fault → IsFull limit count es key to → is_device {A = X} (Err fault) ≡ false → fault ≡ NoRoom
 only_room X limit count es key to Device refused full device = absurd (cc)
@@ -128,12 +81,56 @@ only_room X limit count es key to (Damaged page) refused full device = absurd re
 only_room X limit count es key to NoRoom refused full device = refl
 only_room X limit count es key to Memory refused full device = absurd (refused full)
 
--- and always comes of it
-pub full_refused : (X : Type 0) (here now : TableView) (new : List (Option (List ℕ))) (key : List ℕ) (to : Option (List ℕ)) (r : Result (Tree × Option (List ℕ)) TableFault) (fault : TableFault) → here ≡ now → IsTable here → Changes here new key to r → r ≡ Err fault
-    → IsTrue now.pages.steady → IsSome to → maps.get (table_contents now) key ≡ None → now.limit ≤ maps.len (table_contents now) → is_device {A = X} (Err fault) ≡ false → fault ≡ NoRoom
-full_refused X here now new key to r fault same is call r_is steady puts absent full device =
-    let steady2 = ap (λ (t : TableView). t.pages.steady) same ∙ steady in
-    only_room X here.limit here.tree.count (is.holds steady2).es key to fault (err_set here new key to r fault is steady2 call r_is) (full_of here now key to is same steady2 puts absent full) device
+-- a change over the pages of a table
+module _ (here now : TableView) (new : List (Option (List ℕ))) (key : List ℕ) (to : Option (List ℕ)) (r : Result (Tree × Option (List ℕ)) TableFault) (same : here ≡ now) (is : IsTable here) (call : Changes here new key to r) (steady : IsTrue now.pages.steady) where
+  steady2 : IsTrue here.pages.steady
+  steady2 = steady_here here now same steady
+
+  done : (next : Tree) (before : Option (List ℕ)) → r ≡ Ok (next, before) → IsSet new next here.limit (is.holds steady2).es key to before
+  done next before r_is = set_answer here new key to r (Ok (next, before)) is steady2 call r_is
+
+  refused : (fault : TableFault) → r ≡ Err fault → MayRefuse here.limit here.tree.count (is.holds steady2).es key to fault
+  refused fault r_is = set_answer here new key to r (Err fault) is steady2 call r_is
+
+  full_of : IsSome to → maps.get (table_contents now) key ≡ None → now.limit ≤ maps.len (table_contents now) → IsFull here.limit here.tree.count (is.holds steady2).es key to
+  full_of puts absent full = record {
+    puts = puts;
+    absent = looked_up here now key same is steady2 ∙ absent;
+    full = omega (arith, ap (λ (t : TableView). t.limit) same, full, count_seen here now same is steady);
+  }
+
+  -- what stood at the key
+  pub set_value : (next : Tree) (before : Option (List ℕ)) → r ≡ Ok (next, before) → before ≡ maps.get (table_contents now) key
+  set_value next before r_is = (done next before r_is).answer ∙ looked_up here now key same is steady2
+
+  -- the records after it
+  pub set_contents : (next : Tree) (before : Option (List ℕ)) → r ≡ Ok (next, before) → IfOk r (λ x. x.0.order ≡ here.tree.order) → contents_at next.order (at new) next.height next.root ≡ set_to (table_contents now) key to
+  set_contents next before r_is order =
+      let held = is.holds steady2 in
+      let set = done next before r_is in
+      let order2 = subst (λ (r : Result (Tree × Option (List ℕ)) TableFault). IfOk r (λ x. x.0.order ≡ here.tree.order)) r_is order in
+      contents_set (at here.pages.pages) (at new) here.tree next held.es held.us set.vs key to is.tree.order.1 order2 held.fills.holds set.fills.holds
+      ∙ ap (λ (t : TableView). set_to (table_contents t) key to) same
+
+  -- a new key is not put where there are as many records as there may be
+  pub set_full : (next : Tree) (before : Option (List ℕ)) → r ≡ Ok (next, before) → IsSome to → maps.get (table_contents now) key ≡ None → now.limit ≤ maps.len (table_contents now) → ⊥
+  set_full next before r_is puts absent full =
+      let held = is.holds steady2 in
+      let set = done next before r_is in
+      too_many here.limit here.tree.count next.count held.es key to held.fills.holds.ascends held.fills.holds.count set.fills.holds.count set.few (full_of puts absent full)
+
+  -- NoRoom comes of a new key at the limit
+  pub refused_room : (fault : TableFault) → r ≡ Err fault → fault ≡ NoRoom → IsSome to × (maps.get (table_contents now) key ≡ None) × (now.limit ≤ maps.len (table_contents now))
+  refused_room fault r_is fault_is =
+      let full = subst (MayRefuse here.limit here.tree.count (is.holds steady2).es key to) fault_is (refused fault r_is) in (
+        full.puts,
+        sym (looked_up here now key same is steady2) ∙ full.absent,
+        (let high = full.full in omega (arith, high, ap (λ (t : TableView). t.limit) same, count_seen here now same is steady)),
+      )
+
+  -- and always comes of it
+  pub full_refused : (X : Type 0) (fault : TableFault) → r ≡ Err fault → IsSome to → maps.get (table_contents now) key ≡ None → now.limit ≤ maps.len (table_contents now) → is_device {A = X} (Err fault) ≡ false → fault ≡ NoRoom
+  full_refused X fault r_is puts absent full device = only_room X here.limit here.tree.count (is.holds steady2).es key to fault (refused fault r_is) (full_of puts absent full) device
 
 -- where no edit was staged, the tree and the pages are as they were
 abbrev pub IsIdle : TableView → PagesView → Tree → Type 0
@@ -152,7 +149,7 @@ set_table t pages key to r next before faults is call r_is small order out_none 
     let small2 = subst (λ (r : Result (Tree × Option (List ℕ)) TableFault). IfOk r (λ x. (x.0.height ≤ greatest_height) × (x.0.count ≤ greatest_count) × (x.0.used ≤ greatest_count))) r_is small in
     let order2 = subst (λ (r : Result (Tree × Option (List ℕ)) TableFault). IfOk r (λ x. x.0.order ≡ t.tree.order)) r_is order in
     let ok = subst (λ (r : Result (Tree × Option (List ℕ)) TableFault). IsOk r) (sym r_is) refl in
-    let done : (steady : IsTrue pages.steady) → IsSet pages.pages next t.limit (is.holds (sym steady_is ∙ steady)).es key to before = λ steady. ok_set t pages.pages key to r next before is (sym steady_is ∙ steady) call r_is in
+    let done : (steady : IsTrue pages.steady) → IsSet pages.pages next t.limit (is.holds (sym steady_is ∙ steady)).es key to before = λ steady. set_answer t pages.pages key to r (Ok (next, before)) is (sym steady_is ∙ steady) call r_is in
     record {
       tree = record {
         order = (omega (arith, is.tree.order.0, order2), omega (arith, is.tree.order.1, order2));
@@ -181,16 +178,16 @@ pub got : (here now : TableView) (key : List ℕ) (r : Result (Option (List ℕ)
     → (IsTrue here.pages.steady → (es : List Element) → (us : List ℕ) → Holds (at here.pages.pages) here.tree es us → MatchResult r (λ found. found ≡ lookup_in key es) (λ fault. fault ≡ ReadFailed))
     → IsTrue now.pages.steady → IfOk (table_answer r) (λ found. found ≡ maps.get (table_contents now) key)
 got here now key (Ok found) same is call steady =
-    let steady2 = ap (λ (t : TableView). t.pages.steady) same ∙ steady in
+    let steady2 = steady_here here now same steady in
     let held = is.holds steady2 in
-    call steady2 held.es held.us held.fills.holds ∙ looked_up here key is steady2 ∙ ap (λ (t : TableView). maps.get (table_contents t) key) same
+    call steady2 held.es held.us held.fills.holds ∙ looked_up here now key same is steady2
 got here now key (Err fault) same is call steady = tt
 
 -- and a walk
 pub listed : (X : Type 0) (items : X → List Element) (here now : TableView) (r : Result X TreeFault) → here ≡ now → IsTable here → (IsTrue here.pages.steady → (es : List Element) → (us : List ℕ) → Holds (at here.pages.pages) here.tree es us → MatchResult r (λ list. items list ≡ es) IsOutside)
     → IsTrue now.pages.steady → IfOk (table_answer r) (λ list. items list ≡ maps.entries (table_contents now))
 listed X items here now (Ok list) same is call steady =
-    let steady2 = ap (λ (t : TableView). t.pages.steady) same ∙ steady in
+    let steady2 = steady_here here now same steady in
     let held = is.holds steady2 in
     call steady2 held.es held.us held.fills.holds ∙ sym (entries-contents_of held.es held.fills.holds.ascends) ∙ ap maps.entries (sym (held_contents (at here.pages.pages) here.tree held.es held.us is.tree.order.1 held.fills.holds))
     ∙ ap (λ (t : TableView). maps.entries (table_contents t)) same

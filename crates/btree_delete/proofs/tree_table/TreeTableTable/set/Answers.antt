@@ -22,14 +22,14 @@ pub invariant_of-self-2 : goal.invariant_of-self-2
 invariant_of-self-2 g c = changed g (goal.at.invariant_of-self-2 g c).After-tree-2-1
 
 pub returns-clause-value : goal.returns-clause-value
-returns-clause-value g c =
+returns-clause-value g c = λ steady.
     let here = table_of c.self.inside.pages c.self.inside.tree c.self.inside.limit c.self.inside.faults in
-    set_value here c.args.self.now c.change-changed.new.pages.pages c.args.key c.args.to c.change-changed.result c.in_ok-tree.tree c.in_ok-tree.before c.self.view_is c.self.invariant c.change-changed.ensures.set c.in_ok-tree.was
+    set_value here c.args.self.now c.change-changed.new.pages.pages c.args.key c.args.to c.change-changed.result c.self.view_is c.self.invariant c.change-changed.ensures.set steady c.in_ok-tree.tree c.in_ok-tree.before c.in_ok-tree.was
 
 pub returns-clause-ok : goal.returns-clause-ok
-returns-clause-ok g c =
+returns-clause-ok g c = λ steady.
     let here = table_of c.self.inside.pages c.self.inside.tree c.self.inside.limit c.self.inside.faults in
-    set_contents here c.args.self.now c.change-changed.new.pages.pages c.args.key c.args.to c.change-changed.result c.in_ok-tree.tree c.in_ok-tree.before c.self.view_is c.self.invariant c.change-changed.ensures.set c.in_ok-tree.was c.change-changed.ensures.order
+    set_contents here c.args.self.now c.change-changed.new.pages.pages c.args.key c.args.to c.change-changed.result c.self.view_is c.self.invariant c.change-changed.ensures.set steady c.in_ok-tree.tree c.in_ok-tree.before c.in_ok-tree.was c.change-changed.ensures.order
 
 pub returns-clause-in_class : goal.returns-clause-in_class
 returns-clause-in_class g c = λ steady.
@@ -38,19 +38,19 @@ returns-clause-in_class g c = λ steady.
 pub returns-clause-full : goal.returns-clause-full
 returns-clause-full g c = λ steady puts absent full _.
     let here = table_of c.self.inside.pages c.self.inside.tree c.self.inside.limit c.self.inside.faults in
-    absurd (set_full here c.args.self.now c.change-changed.new.pages.pages c.args.key c.args.to c.change-changed.result c.in_ok-tree.tree c.in_ok-tree.before c.self.view_is c.self.invariant c.change-changed.ensures.set c.in_ok-tree.was steady puts absent full)
+    absurd (set_full here c.args.self.now c.change-changed.new.pages.pages c.args.key c.args.to c.change-changed.result c.self.view_is c.self.invariant c.change-changed.ensures.set steady c.in_ok-tree.tree c.in_ok-tree.before c.in_ok-tree.was puts absent full)
 
 pub returns-in_err-tree-clause-no_room : goal.returns-in_err-tree-clause-no_room
 returns-in_err-tree-clause-no_room g c = λ steady told.
     let p = err_from_is_err_and c.from_residual.result c.from_residual.ensures.1 in
     let here = table_of c.self.inside.pages c.self.inside.tree c.self.inside.limit c.self.inside.faults in
-    refused_room here c.args.self.now c.change-changed.new.pages.pages c.args.key c.args.to c.change-changed.result p.0 c.self.view_is c.self.invariant c.change-changed.ensures.set (c.in_err-tree.was ∙ ap Err (sym p.2)) steady (same_fault p.0 NoRoom (sym p.1 ∙ told))
+    refused_room here c.args.self.now c.change-changed.new.pages.pages c.args.key c.args.to c.change-changed.result c.self.view_is c.self.invariant c.change-changed.ensures.set steady p.0 (c.in_err-tree.was ∙ ap Err (sym p.2)) (same_fault p.0 NoRoom (sym p.1 ∙ told))
 
 pub returns-in_err-tree-clause-full : goal.returns-in_err-tree-clause-full
 returns-in_err-tree-clause-full g c = λ steady puts absent full device.
     let p = err_from_is_err_and c.from_residual.result c.from_residual.ensures.1 in
     let here = table_of c.self.inside.pages c.self.inside.tree c.self.inside.limit c.self.inside.faults in
-    p.1 ∙ ap Err (full_refused (Option (List ℕ)) here c.args.self.now c.change-changed.new.pages.pages c.args.key c.args.to c.change-changed.result p.0 c.self.view_is c.self.invariant c.change-changed.ensures.set (c.in_err-tree.was ∙ ap Err (sym p.2)) steady puts absent full (ap is_device (sym p.1) ∙ device))
+    p.1 ∙ ap Err (full_refused here c.args.self.now c.change-changed.new.pages.pages c.args.key c.args.to c.change-changed.result c.self.view_is c.self.invariant c.change-changed.ensures.set steady (Option (List ℕ)) p.0 (c.in_err-tree.was ∙ ap Err (sym p.2)) puts absent full (ap is_device (sym p.1) ∙ device))
 
 pub returns-clause-answered : goal.returns-clause-answered
 returns-clause-answered g c = search rules
