@@ -10,7 +10,7 @@ use Rattle.btree_node.specs.declared.node.NodeKind.TheVariants.{Leaf, Inner}
 use Rattle.btree_node.specs.Lists.{Element}
 use Rattle.btree_insert.specs.declared.bounds.Bounds.{Bounds}
 use Rattle.btree_insert.specs.Bounds.{Over, Under, AreWithin, Between}
-use Rattle.btree_insert.specs.PageTrees.{Spells, Fan, Body, TreeAt}
+use Rattle.btree_insert.specs.PageTrees.{Spells, Body, TreeAt}
 use Rattle.btree_insert.proofs.BoundLemmas.{Between-left, Between-right}
 use Rattle.btree_insert.proofs.ReachLemmas.{Between-join, last_fan, more_fan, head_within}
 use Rattle.btree_insert.proofs.HeadNodeLemmas.{body_each}
