@@ -16,7 +16,7 @@ use Rattle.btree_delete.specs.Treatment.{element_at, son_at, both, Catenates, Di
 use Rattle.btree_delete.specs.Tidy.{done_so_far}
 use Rattle.btree_delete.proofs.EditedPagesLemmas.{after_write, after_free, free_here, free_other, free_page}
 use Rattle.btree_delete.proofs.SonsLemmas.{IsBeside, Kin, IsKept, kin_kept, kin_head, kin_is_underfull, kin_is_beside, across}
-use Rattle.btree_delete.proofs.UnderflowLemmas.{Treated, Brothers, catenated, distributed}
+use Rattle.btree_delete.proofs.UnderflowLemmas.{Treated, SonPair, catenated, distributed}
 use Rattle.btree_delete.proofs.BrotherPairLemmas.{Pair, pair}
 
 -- a page that differs, between two maps
@@ -24,7 +24,7 @@ same_map : (old new : PageMap) → old ≡ new → (q : ℕ) → new q ≡ old q
 same_map old new is q = ap (λ (m : PageMap). m q) (sym is)
 
 -- two brothers are treated
-module _ (k : ℕ) (old : PageMap) (visited : List ℕ) (h s : ℕ) (node F G L R : Node) (j : ℕ) (ws ws2 : List (ℕ × List ℕ)) (fs fs2 : List ℕ) (es : List Element) (us : List ℕ) (b : Bounds) (br : Brothers k old (after old ws fs) (after old ws2 fs2) visited h s node F L R j es us b) (left_kept : is_freed fs (son_at F j) ≡ false) where
+module _ (k : ℕ) (old : PageMap) (visited : List ℕ) (h s : ℕ) (node F G L R : Node) (j : ℕ) (ws ws2 : List (ℕ × List ℕ)) (fs fs2 : List ℕ) (es : List Element) (us : List ℕ) (b : Bounds) (br : SonPair k old (after old ws fs) (after old ws2 fs2) visited h s node F L R j es us b) (left_kept : is_freed fs (son_at F j) ≡ false) where
   abbrev p : ℕ
   p = son_at F j
 
@@ -81,7 +81,7 @@ sides k old mid new visited h s node F es us b j apart at =
 -- the brother behind the underfull son i
 pub record RightBrother (k : ℕ) (old mid new : PageMap) (visited : List ℕ) (h s : ℕ) (node F : Node) (es : List Element) (us : List ℕ) (b : Bounds) (i : ℕ) : Type 0 where
   pub n : Node
-  pub sons : Brothers k old mid new visited h s node F node n i es us b
+  pub sons : SonPair k old mid new visited h s node F node n i es us b
   pub beside : IsBeside old mid visited s (son_at F (suc i))
   pub head : Top k mid k (suc h) h (son_at F (suc i)) sons.at.ys sons.at.rights (son_bounds F.elements.items (suc i) b) n
   pub spells : Spells k old (son_at F (suc i)) n
@@ -118,7 +118,7 @@ treated_right k old visited h s node F G ws ws2 fs fs2 es us b i order left_kept
 -- the brother before the underfull son j + 1
 pub record LeftBrother (k : ℕ) (old mid new : PageMap) (visited : List ℕ) (h s : ℕ) (node F : Node) (es : List Element) (us : List ℕ) (b : Bounds) (j : ℕ) : Type 0 where
   pub n : Node
-  pub sons : Brothers k old mid new visited h s node F n node j es us b
+  pub sons : SonPair k old mid new visited h s node F n node j es us b
   pub beside : IsBeside old mid visited s (son_at F j)
   pub head : Top k mid k (suc h) h (son_at F j) sons.at.xs sons.at.lefts (son_bounds F.elements.items j b) n
   pub spells : Spells k old (son_at F j) n

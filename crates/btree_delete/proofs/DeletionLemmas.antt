@@ -5,7 +5,7 @@ use Rattle.std.proofs.lemmas.List.{get_or_default}
 use Rattle.page_store.specs.PageMap.{PageMap, at, after}
 use Rattle.btree_node.specs.declared.node.Node.{Node}
 use Rattle.btree_node.specs.declared.node.NodeKind.TheVariants.{Inner}
-use Rattle.btree_node.specs.Lists.{Element, Each, Ascends, IsAt, IsPlace}
+use Rattle.btree_node.specs.Lists.{Element, Each, Below, Ascends, IsAt, IsPlace}
 use Rattle.btree_node.proofs.SplitLemmas.{around}
 use Rattle.btree_node.proofs.ElementOrderLemmas.{Ascends-right}
 use Rattle.btree_insert.specs.declared.bounds.Bounds.{Bounds}
@@ -91,9 +91,9 @@ drop_leaf k old ws ws2 fs least height zero p es us b c n m i e g visited is ord
       unvisited = λ q unvisited _. unvisited;
     }
 
--- the key of an inner page, for which the next one stands now: what is asked of the son behind it
-pub next_es : (pre xs post : List Element) (x nx : Element) (rest es : List Element) (key : List ℕ) → es ≡ pre ++ x ∷ (xs ++ post) → xs ≡ nx ∷ rest → set_in key None (pre ++ x ∷ (xs ++ post)) ≡ pre ++ (xs ++ post) → set_in key None es ≡ pre ++ nx ∷ (rest ++ post)
-next_es pre xs post x nx rest es key es_is xs_is removed = ap (set_in key None) es_is ∙ removed ∙ ap (λ (zs : List Element). pre ++ (zs ++ post)) xs_is
+-- an inner page without a key, for which the next one stands now: what is asked of the son behind it
+pub next_es : (pre xs post : List Element) (x nx : Element) (rest es : List Element) → es ≡ pre ++ x ∷ (xs ++ post) → xs ≡ nx ∷ rest → Each (λ (e : Element). Below e.0 x.0) pre → set_in x.0 None es ≡ pre ++ nx ∷ (rest ++ post)
+next_es pre xs post x nx rest es es_is xs_is below = ap (set_in x.0 None) es_is ∙ remove-here x.0 pre x (xs ++ post) below refl ∙ ap (λ (zs : List Element). pre ++ (zs ++ post)) xs_is
 
 inner_body : (k : ℕ) (pages : PageMap) (h : ℕ) (n m : Node) (sons : List ℕ) (els es : List Element) (us : List ℕ) → n.kind ≡ Inner → m.kind ≡ n.kind → m.elements.items ≡ els → m.sons.items ≡ sons → Fan (TreeAt k pages k (suc h)) sons els es us → Body (TreeAt k pages k (suc h)) (suc h) m es us
 inner_body k pages h n m sons els es us inner kind_is els_is sons_is fan = (
@@ -115,7 +115,7 @@ next_whole k old ws ws2 fs least height h p es us b c n m i e nx g visited visit
     let beside = beside_son old mid 0 (length fs) p us at.upre at.mine at.upost vs us_is apart loses in
     let below = at.upre ++ (vs ++ at.upost) in
     let fan = at.keep beside.before beside.behind nx took.rest vs tree in
-    let gone_is = next_es at.pre at.xs at.post (element_at n i) nx took.rest es key at.es_is took.first (remove-here key at.pre (element_at n i) (at.xs ++ at.post) at.below refl) in
+    let gone_is = next_es at.pre at.xs at.post (element_at n i) nx took.rest es at.es_is took.first at.below in
     let body = inner_body k mid h n m n.sons.items (set n.elements.items i nx) (at.pre ++ nx ∷ (took.rest ++ at.post)) below head.body.0 kind_is els_is sons_is fan in
     let found = ap (lookup_in key) at.es_is ∙ lookup-here key at.pre (element_at n i) (at.xs ++ at.post) at.below refl in
     record {
@@ -135,16 +135,15 @@ pub next_broken : (k : ℕ) (old : PageMap) (ws : List (ℕ × List ℕ)) (fs : 
 next_broken k old ws fs least height h p es us b n m i nx son visited visited2 apart head at unvisited took els_is sons_is =
     let mid = after old ws fs in
     let s = son_at n (suc i) in
-    let key = (element_at n i).0 in
     let us_is = head.us_is ∙ ap (λ (vs : List ℕ). p ∷ vs) at.us_is in
     let (below, body, same, loses) = took.leaves in
     let around = around_son old mid visited visited2 0 (length fs) p s us at.upre at.mine at.upost (s ∷ below) us_is apart (subst (Each (λ u. is_visited visited u ≡ false)) at.us_is unvisited) took.unvisited (loses.left.within s (inl refl)) loses in
     let fan = at.keep around.before around.behind nx took.rest (s ∷ below) (kin_underfull k old mid visited2 h s son s took.rest below refl body) in
     let mids = at.upre ++ ((s ∷ below) ++ at.upost) in
-    let gone_is = next_es at.pre at.xs at.post (element_at n i) nx took.rest es key at.es_is took.first (remove-here key at.pre (element_at n i) (at.xs ++ at.post) at.below refl) in
+    let gone_is = next_es at.pre at.xs at.post (element_at n i) nx took.rest es at.es_is took.first at.below in
     record {
       mids = mids;
-      fan = fan_same (Kin k old mid visited2 h s son) n.sons.items m.sons.items (set n.elements.items i nx) m.elements.items (at.pre ++ nx ∷ (took.rest ++ at.post)) (set_in key None es) mids sons_is els_is gone_is fan;
+      fan = fan_same (Kin k old mid visited2 h s son) n.sons.items m.sons.items (set n.elements.items i nx) m.elements.items (at.pre ++ nx ∷ (took.rest ++ at.post)) (set_in (element_at n i).0 None es) mids sons_is els_is gone_is fan;
       loses = around.loses;
     }
 

@@ -1,7 +1,7 @@
 -- What stands below a father once a underfull son was treated.
 use Rattle.std.proofs.Common.{◌≡◌, ℕ, zero, suc, ◌+◌, ◌<◌, ◌≤◌, ⊎_elim, inl, inr, Some, None, List, [], ◌∷◌, ◌++◌, length, get_or, set, refl, ap, sym, ◌∙◌, subst, arith, length-append}
 use Rattle.std.specs.List.{remove}
-use Rattle.std.proofs.lemmas.List.{length-take, length-drop}
+use Rattle.std.proofs.lemmas.List.{length-take, length-drop, get_or_default}
 use Rattle.page_store.specs.PageMap.{PageMap}
 use Rattle.btree_node.specs.declared.node.Node.{Node}
 use Rattle.btree_node.specs.Cut.{left_of, right_of}
@@ -76,7 +76,7 @@ moved_on : (u1 u2 c1 c2 : List ℕ) (p r q : ℕ) → u1 ++ u2 ≡ c1 ++ c2 → 
 moved_on u1 u2 c1 c2 p r q same is = ⊎_elim (λ e. inl e) (λ later. inr (moved u1 u2 c1 c2 r q same later)) is
 
 -- two brothers below a father, of which one is the underfull son s
-pub record Brothers (k : ℕ) (old mid new : PageMap) (visited : List ℕ) (h s : ℕ) (node F L R : Node) (j : ℕ) (es : List Element) (us : List ℕ) (b : Bounds) : Type 0 where
+pub record SonPair (k : ℕ) (old mid new : PageMap) (visited : List ℕ) (h s : ℕ) (node F L R : Node) (j : ℕ) (es : List Element) (us : List ℕ) (b : Bounds) : Type 0 where
   pub at : Pair (Kin k old mid visited h s node) (TreeAt k new k (suc h)) (IsKept mid new s) F.sons.items F.elements.items es us j b
   pub left : Part k mid h (son_at F j) L at.xs at.lefts
   pub right : Part k mid h (son_at F (suc j)) R at.ys at.rights
@@ -85,7 +85,7 @@ pub record Brothers (k : ℕ) (old mid new : PageMap) (visited : List ℕ) (h s 
   pub s_in : IsIn s (at.lefts ++ at.rights)
 
 -- the two are treated, and no other page changes
-module _ (k : ℕ) (old mid new : PageMap) (visited : List ℕ) (lo h s : ℕ) (node F G L R : Node) (j : ℕ) (es : List Element) (us : List ℕ) (b : Bounds) (br : Brothers k old mid new visited h s node F L R j es us b) (others : (q : ℕ) → (q ≡ son_at F j → ⊥) → (q ≡ son_at F (suc j) → ⊥) → new q ≡ mid q) where
+module _ (k : ℕ) (old mid new : PageMap) (visited : List ℕ) (lo h s : ℕ) (node F G L R : Node) (j : ℕ) (es : List Element) (us : List ℕ) (b : Bounds) (br : SonPair k old mid new visited h s node F L R j es us b) (others : (q : ℕ) → (q ≡ son_at F j → ⊥) → (q ≡ son_at F (suc j) → ⊥) → new q ≡ mid q) where
   abbrev p : ℕ
   p = son_at F j
 
@@ -153,7 +153,7 @@ module _ (k : ℕ) (old mid new : PageMap) (visited : List ℕ) (lo h s : ℕ) (
   pub distributed : (half : ℕ) → half < length J.elements.items → CanStand (left_of half J) k → CanStand (right_of half J) k → k ≤ half → k + suc half ≤ length J.elements.items
       → new p ≡ Some (spelling (left_of half J) k) → new r ≡ Some (spelling (right_of half J) k) → G.elements.items ≡ set F.elements.items j (element_at J half) → G.sons.items ≡ F.sons.items → Treated k mid new lo lo h G es us
   distributed half low left_stands right_stands left_least right_least wrote_left wrote_right els_is sons_is =
-      let cut = body_cut (TreeAt k new k h) h J all (u1 ++ u2) half (element_at J half) body low (same_default J.elements.items half ([], []) low) in
+      let cut = body_cut (TreeAt k new k h) h J all (u1 ++ u2) half (element_at J half) body low (get_or_default J.elements.items half ([], []) (element_at J half) low) in
       let vs = (p ∷ cut.before) ++ r ∷ cut.behind in
       let left_tree : TreeAt k new k (suc h) p cut.xs (p ∷ cut.before) =
       (left_of half J, cut.before, record { page = wrote_left; stands = left_stands }, omega (arith, length-take half J.elements.items), cut.left_body, refl) in
@@ -171,8 +171,3 @@ module _ (k : ℕ) (old mid new : PageMap) (visited : List ℕ) (lo h s : ℕ) (
         fan = fan_same (TreeAt k new k (suc h)) _ G.sons.items _ G.elements.items _ es (br.at.upre ++ (vs ++ br.at.upost)) sons_is els_is (br.at.es_is ∙ ap (λ (zs : List Element). br.at.pre ++ (zs ++ br.at.post)) cut.es_is) fan;
         loses = loses_beside lo vs same_count;
       }
-    where
-      same_default : (xs : List Element) (i : ℕ) (e : Element) → i < length xs → get_or xs i e ≡ get_or xs i (get_or xs i e)
-      same_default [] i e within_is = absurd (omega arith)
-      same_default (x ∷ xs) zero e within_is = refl
-      same_default (x ∷ xs) (suc i) e within_is = same_default xs i e (omega (arith, within_is))

@@ -1,7 +1,7 @@
 -- Which nodes stand after a page was treated, whatever the pages hold.
 use Rattle.std.proofs.Common.{◌≡◌, ℕ, zero, suc, ◌+◌, ◌*◌, ◌<◌, ◌≤◌, inl, inr, Option, Some, List, [], ◌∷◌, ◌++◌, length, get_or, set, take, drop, refl, ap, sym, ◌∙◌, subst, arith, length-append}
 use Rattle.std.specs.List.{remove}
-use Rattle.std.proofs.lemmas.List.{length-set}
+use Rattle.std.proofs.lemmas.List.{length-set, get_or_default}
 use Rattle.std.proofs.lemmas.List.Edits.{length-remove}
 use Rattle.btree_node.specs.declared.node.Node.{Node}
 use Rattle.btree_node.specs.declared.node.NodeKind.{NodeKind}
@@ -72,16 +72,11 @@ middle_stands_at i els b d low up within fit =
     let x = get_or els i d in
     let split = subst Ascends (around i els d low) up in
     record {
-      fits = Each_at (ElementFits first_layout) els i x fit low (same_default els i d low);
+      fits = Each_at (ElementFits first_layout) els i x fit low (get_or_default els i d x low);
       below = Ascends-before (take i els) x (drop (suc i) els) split;
       above = (Ascends-right (take i els) (x ∷ drop (suc i) els) split).0;
-      within = (Each_at (λ (e : Element). Over b.low e.0) els i x within.over low (same_default els i d low), Each_at (λ (e : Element). Under b.high e.0) els i x within.under low (same_default els i d low));
+      within = (Each_at (λ (e : Element). Over b.low e.0) els i x within.over low (get_or_default els i d x low), Each_at (λ (e : Element). Under b.high e.0) els i x within.under low (get_or_default els i d x low));
     }
-  where
-    same_default : (xs : List Element) (j : ℕ) (e : Element) → j < length xs → get_or xs j e ≡ get_or xs j (get_or xs j e)
-    same_default [] j e within_is = absurd (omega arith)
-    same_default (y ∷ ys) zero e within_is = refl
-    same_default (y ∷ ys) (suc j) e within_is = same_default ys j e (omega (arith, within_is))
 
 zip_within : (b : Bounds) (es : List Element) → AreWithin b es → Each (λ e. IsWithin b e.0) es
 zip_within b es within = at es within.over within.under
@@ -225,12 +220,7 @@ treated_may_be_underfull k level i b F G L R ws ws2 fs fs2 order some low father
     let half = half_of_both L R in
     let y = element_at J half in
     let half_is = half_low k L R (element_at F i) order done.many in
-    set_may_be_underfull k (level + 1) i b F G y low father (Each_at (Stands i F.elements.items b) J.elements.items half y (both_stand k level i b F L R low father left right) half_is (same_default J.elements.items half ([], []) half_is)) done.kind done.elements done.sons
-  where
-    same_default : (xs : List Element) (j : ℕ) (e : Element) → j < length xs → get_or xs j e ≡ get_or xs j (get_or xs j e)
-    same_default [] j e within_is = absurd (omega arith)
-    same_default (x ∷ xs) zero e within_is = refl
-    same_default (x ∷ xs) (suc j) e within_is = same_default xs j e (omega (arith, within_is))
+    set_may_be_underfull k (level + 1) i b F G y low father (Each_at (Stands i F.elements.items b) J.elements.items half y (both_stand k level i b F L R low father left right) half_is (get_or_default J.elements.items half ([], []) y half_is)) done.kind done.elements done.sons
 
 -- bounds behind an element
 pub set_son_bounds : (els : List Element) (i : ℕ) (b : Bounds) (y : Element) → i < length els → son_bounds (set els i y) (suc i) b ≡ behind y (son_bounds els (suc i) b)
