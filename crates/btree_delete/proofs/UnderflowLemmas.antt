@@ -1,5 +1,5 @@
 -- What stands below a father once a underfull son was treated.
-use Rattle.std.proofs.Common.{◌≡◌, ℕ, zero, suc, ◌+◌, ◌<◌, ◌≤◌, ⊎_elim, inl, inr, Some, None, List, [], ◌∷◌, ◌++◌, length, get_or, set, refl, ap, sym, ◌∙◌, subst, arith, length-append}
+use Rattle.std.proofs.Common.{◌≡◌, ℕ, suc, ◌+◌, ◌<◌, ◌≤◌, ⊎_elim, inl, inr, Some, None, List, [], ◌∷◌, ◌++◌, length, set, refl, ap, sym, ◌∙◌, subst, arith, length-append}
 use Rattle.std.specs.List.{remove}
 use Rattle.std.proofs.lemmas.List.{length-take, length-drop, get_or_default}
 use Rattle.page_store.specs.PageMap.{PageMap}
