@@ -55,7 +55,7 @@ set_answer : (t : TableView) (new : List (Option (List ℕ))) (key : List ℕ) (
     → MatchResult answer (λ x. IsSet new x.0 t.limit (is.holds steady).es key to x.1) (MayRefuse t.limit t.tree.count (is.holds steady).es key to)
 set_answer t new key to r answer is steady call r_is =
     let held = is.holds steady in
-    subst (λ (r : Result (Tree × Option (List ℕ)) TableFault). MatchResult r (λ x. IsSet new x.0 t.limit held.es key to x.1) (MayRefuse t.limit t.tree.count held.es key to)) r_is (call steady held.es held.us held.fills (is.count steady))
+    subst (Changes t new key to) r_is call steady held.es held.us held.fills (is.count steady)
 
 -- a look-up in the tree is one in the contents
 looked_up : (here now : TableView) (key : List ℕ) (same : here ≡ now) (is : IsTable here) (steady : IsTrue here.pages.steady) → lookup_in key (is.holds steady).es ≡ maps.get (table_contents now) key
