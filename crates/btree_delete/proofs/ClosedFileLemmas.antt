@@ -29,7 +29,8 @@ use Rattle.btree_insert.proofs.SpeltLemmas.{spelt_none}
 use Rattle.btree_delete.specs.TableView.{HoldsTree, IsClosed, IsTable}
 use Rattle.btree_delete.proofs.SurveyLemmas.{counted_before}
 use Rattle.btree_delete.proofs.MeasureLemmas.{root_in_use, below_count}
-use Rattle.btree_delete.proofs.TableLimitLemmas.{is_in}
+use Rattle.btree_insert.proofs.InsertionLemmas.{some_not_none}
+use Rattle.btree_delete.proofs.PagesLeftLemmas.{in_or_not}
 
 -- page n of a file with free numbers
 abbrev pub shown_as : List (List ℕ) → (ℕ → Bool) → ℕ → Option (List ℕ)
@@ -85,24 +86,20 @@ moved stored pages count free old tree es us count_is long shown out old_is old_
     let no_free = not_true (free q) (out q is) in
     shown q (omega (arith, low, old_long)) ∙ ap (λ (b : Bool). cond (eqb q 0 || b) None (slice_get stored q)) no_free ∙ ap (λ (b : Bool). cond b None (slice_get stored q)) (or_false (eqb q 0)) ∙ sym (ap (λ (f : PageMap). f q) old_is))
 
-some_is_no_none : (o : Option (List ℕ)) → IsSome o → o ≡ None → ⊥
-some_is_no_none (Some x) some is = absurd (cc)
-some_is_no_none None some is = absurd (cc)
-
 -- where the other numbers are free, no other page is in use
 alone_in : (stored : List (List ℕ)) (pages : List (Option (List ℕ))) (free : ℕ → Bool) (us : List ℕ) (count : ℕ) → count ≡ length stored → length pages ≡ length stored → ((n : ℕ) → n < length stored → at pages n ≡ shown_as stored free n) → AreFree count us free
     → (n : ℕ) → IsSome (at pages n) → IsIn n us
 alone_in stored pages free us count count_is long shown others n there =
-    ⊎_elim (λ is. is) (λ (out : IsIn n us → ⊥). absurd (hidden out (eqb n 0) refl)) (is_in n us)
+    ⊎_elim (λ is. is) (λ (out : IsIn n us → ⊥). absurd (hidden out (eqb n 0) refl)) (in_or_not n us)
   where
     low : n < length stored
-    low = let below = below_count pages n (some_is_no_none (at pages n) there) in omega (arith, below, long)
+    low = let below = below_count pages n (some_not_none (at pages n) there) in omega (arith, below, long)
 
     hidden : (IsIn n us → ⊥) → (b : Bool) → eqb n 0 ≡ b → ⊥
-    hidden out true is = some_is_no_none (at pages n) there (shown n low ∙ ap (λ (b : Bool). cond (b || free n) None (slice_get stored n)) is)
+    hidden out true is = some_not_none (at pages n) there (shown n low ∙ ap (λ (b : Bool). cond (b || free n) None (slice_get stored n)) is)
     hidden out false is =
         let is_free = (others n).1 (grind (arith, nat_tests), omega (arith, low, count_is), out) in
-        some_is_no_none (at pages n) there (shown n low ∙ ap (λ (b : Bool). cond (b || free n) None (slice_get stored n)) is ∙ ap (λ (b : Bool). cond b None (slice_get stored n)) is_free)
+        some_not_none (at pages n) there (shown n low ∙ ap (λ (b : Bool). cond (b || free n) None (slice_get stored n)) is ∙ ap (λ (b : Bool). cond b None (slice_get stored n)) is_free)
 
 -- a closed file was opened
 pub opened : (stored : List (List ℕ)) (tail limit : ℕ) (h : Header) (old : List (Option (List ℕ))) (pages : PagesView) (tree : Tree) (free : ℕ → Bool) (reads r0 r1 : ℕ) → Begins stored tail h → at old ≡ in_file stored → length old ≡ length stored

@@ -11,14 +11,11 @@ use Rattle.btree_node.specs.Spelling.{spelling}
 use Rattle.btree_delete.specs.Treatment.{son_at, both, Treats, brothers}
 use Rattle.btree_delete.specs.Tidy.{is_visited, Untouched, IsTidy, done_so_far}
 use Rattle.btree_insert.proofs.EditFitLemmas.{or_true}
+use Rattle.btree_delete.proofs.EditedPagesLemmas.{or_right}
 
 or_left : (b c : Bool) → (b || c) ≡ false → b ≡ false
 or_left true c is = is
 or_left false c is = refl
-
-or_right : (b c : Bool) → (b || c) ≡ false → c ≡ false
-or_right true c is = absurd (cc)
-or_right false c is = is
 
 -- numbers that differ are told apart
 pub differ : (q n : ℕ) → (q ≡ n → ⊥) → eqb q n ≡ false

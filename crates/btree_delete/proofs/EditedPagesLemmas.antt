@@ -18,14 +18,14 @@ first_kept : (b c : Bool) → (b || c) ≡ false → b ≡ true → ⊥
 first_kept true c is on = let never : true ≡ false = is in absurd (cc)
 first_kept false c is on = absurd (cc)
 
-rest_kept : (b c : Bool) → (b || c) ≡ false → c ≡ false
-rest_kept true c is = absurd (cc)
-rest_kept false c is = is
+pub or_right : (b c : Bool) → (b || c) ≡ false → c ≡ false
+or_right true c is = absurd (cc)
+or_right false c is = is
 
 free_write : (pages : PageMap) (fs : List ℕ) (n : ℕ) (page : List ℕ) (q : ℕ) → is_freed fs n ≡ false → free_all (write_page pages n page) fs q ≡ write_page (free_all pages fs) n page q
 free_write pages [] n page q kept = refl
 free_write pages (f ∷ fs) n page q kept =
-    ap (λ (rest : Option (List ℕ)). cond (eqb q f) None rest) (free_write pages fs n page q (rest_kept (eqb n f) (is_freed fs n) kept))
+    ap (λ (rest : Option (List ℕ)). cond (eqb q f) None rest) (free_write pages fs n page q (or_right (eqb n f) (is_freed fs n) kept))
     ∙ swap (eqb q f) (eqb q n) page (free_all pages fs q)
     (λ is_f is_n. first_kept (eqb n f) (is_freed fs n) kept (eq-eqb n f (sym (same_number q n is_n) ∙ same_number q f is_f)))
 
@@ -55,7 +55,7 @@ after_free pages ws fs n = λ i q. free_push (overlay pages ws) fs n q i
 free_kept : (pages : PageMap) (fs : List ℕ) (q : ℕ) → is_freed fs q ≡ false → free_all pages fs q ≡ pages q
 free_kept pages [] q kept = refl
 free_kept pages (f ∷ fs) q kept =
-    at (eqb q f) (is_freed fs q) kept (free_kept pages fs q (rest_kept (eqb q f) (is_freed fs q) kept))
+    at (eqb q f) (is_freed fs q) kept (free_kept pages fs q (or_right (eqb q f) (is_freed fs q) kept))
   where
     at : (b c : Bool) → (b || c) ≡ false → free_all pages fs q ≡ pages q → cond b None (free_all pages fs q) ≡ pages q
     at true c is rest = absurd (cc)
@@ -67,7 +67,7 @@ write_kept pages n page q is = ap (λ (b : Bool). cond b (Some page) (pages q)) 
 overlay_kept : (pages : PageMap) (ws : List (ℕ × List ℕ)) (q : ℕ) → is_written ws q ≡ false → overlay pages ws q ≡ pages q
 overlay_kept pages [] q kept = refl
 overlay_kept pages (w ∷ ws) q kept =
-    overlay_kept (write_page pages w.0 w.1) ws q (rest_kept (eqb q w.0) (is_written ws q) kept)
+    overlay_kept (write_page pages w.0 w.1) ws q (or_right (eqb q w.0) (is_written ws q) kept)
     ∙ write_kept pages w.0 w.1 q (first_false (eqb q w.0) (is_written ws q) kept)
   where
     first_false : (b c : Bool) → (b || c) ≡ false → b ≡ false

@@ -18,23 +18,8 @@ use Rattle.btree_delete.specs.Survey.{mark, unreached, none_of}
 use Rattle.btree_delete.specs.TableView.{Fills}
 use Rattle.btree_delete.proofs.FreeNumberLemmas.{one_less}
 use Rattle.btree_delete.proofs.MeasureLemmas.{unmarked, stays_unmarked, apart_unvisited, fewer_left, all_unreached, long_mark, below_count, root_in_use}
-
--- a number is in a list or it isn't
-pub is_in : (q : ℕ) (us : List ℕ) → IsIn q us ⊎ (IsIn q us → ⊥)
-is_in q [] = inr (λ none. none)
-is_in q (u ∷ us) = at (eqb q u) refl (is_in q us)
-  where
-    at : (b : Bool) → eqb q u ≡ b → IsIn q us ⊎ (IsIn q us → ⊥) → IsIn q (u ∷ us) ⊎ (IsIn q (u ∷ us) → ⊥)
-    at true same rest = inl (inl (grind (arith, nat_tests)))
-    at false other (inl later) = inl (inr later)
-    at false other (inr out) = inr (λ either. ⊎_elim (λ (e : q ≡ u). absurd (differ e)) out either)
-      where
-        differ : q ≡ u → ⊥
-        differ e = absurd (grind (arith, nat_tests))
-
-some_is_no_none : (o : Option (List ℕ)) → IsSome o → o ≡ None → ⊥
-some_is_no_none (Some x) some is = absurd (cc)
-some_is_no_none None some is = absurd (cc)
+use Rattle.btree_insert.proofs.InsertionLemmas.{some_not_none}
+use Rattle.btree_delete.proofs.PagesLeftLemmas.{in_or_not}
 
 not_false : (b : Bool) → (b ≡ false → ⊥) → b ≡ true
 not_false true never = refl
@@ -78,12 +63,12 @@ all_pages pages tree es us some header fills =
 -- after an insertion no other page is in use
 pub grown_alone : (old new : PageMap) (fresh : ℕ → ℕ) (taken : ℕ) (us vs : List ℕ) → PagesGrown old new fresh 0 taken us vs → ((q : ℕ) → IsSome (old q) → IsIn q us) → (q : ℕ) → IsSome (new q) → IsIn q vs
 grown_alone old new fresh taken us vs kept alone q there =
-    ⊎_elim (λ is. is) (λ (out : IsIn q vs → ⊥). absurd (out (kept.stays q (inl (alone q (subst IsSome (kept.same q (λ is. out (kept.stays q (inl is))) (λ is. out (kept.stays q (inr is)))) there)))))) (is_in q vs)
+    ⊎_elim (λ is. is) (λ (out : IsIn q vs → ⊥). absurd (out (kept.stays q (inl (alone q (subst IsSome (kept.same q (λ is. out (kept.stays q (inl is))) (λ is. out (kept.stays q (inr is)))) there)))))) (in_or_not q vs)
 
 -- nor after a deletion
 pub left_alone : (old new : PageMap) (us vs : List ℕ) → PagesLeft old new us vs → ((q : ℕ) → IsSome (old q) → IsIn q us) → (q : ℕ) → IsSome (new q) → IsIn q vs
 left_alone old new us vs left alone q there =
-    ⊎_elim (λ is. is) (λ (out : IsIn q vs → ⊥). absurd (⊎_elim (λ (is : IsIn q us). some_is_no_none (new q) there (left.gone q is out)) (λ (gone : IsIn q us → ⊥). gone (alone q (subst IsSome (left.same q gone) there))) (is_in q us))) (is_in q vs)
+    ⊎_elim (λ is. is) (λ (out : IsIn q vs → ⊥). absurd (⊎_elim (λ (is : IsIn q us). some_not_none (new q) there (left.gone q is out)) (λ (gone : IsIn q us → ⊥). gone (alone q (subst IsSome (left.same q gone) there))) (in_or_not q us))) (in_or_not q vs)
 
 -- a tree of at most a million keys has few levels and few pages
 few_levels : (h k count : ℕ) → 1 ≤ k → 2 * (k + 1) ^ h ≤ count + 1 → count ≤ 1000000 → h ≤ 18

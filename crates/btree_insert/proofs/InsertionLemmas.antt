@@ -94,7 +94,7 @@ leaf_stands k e some fits = record { some = omega arith; most = omega arith; fit
 pub root_stands : (k left right : ℕ) (e : Element) → 1 ≤ k → ElementFits first_layout e → IsSon left → IsSon right → CanStand (root_of left e right) k
 root_stands k left right e some fits left_son right_son = record { some = omega arith; most = omega arith; fit = (fits, tt); ascends = (tt, tt); sons = (refl, (left_son, (right_son, tt))) }
 
-some_not_none : (o : Option (List ℕ)) → IsSome o → o ≡ None → ⊥
+pub some_not_none : (o : Option (List ℕ)) → IsSome o → o ≡ None → ⊥
 some_not_none o some none = let never : IsSome {T = List ℕ} None = subst IsSome none some in absurd (cc)
 
 -- a page in use has a number

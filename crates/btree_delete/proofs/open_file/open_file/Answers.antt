@@ -20,11 +20,11 @@ module _ (g : given.Over) (c : After-records g) where
   stored = g.S.StoreState.pages c.args.store
 
   map_is : at c.new-pages.result.pages ≡ in_file stored
-  map_is = file_map stored (g.S.StoreState.pages c.check_file.new.store) c.new-pages.result.pages c.in-Ok.header.pages (contains nat_cmp c.new.result) c.check_file.ensures.pages c.in-Ok.ensures.long.0 c.new-pages.ensures.count c.new-pages.ensures.pages
+  map_is = file_map stored (g.S.StoreState.pages c.check_file.new.store) c.new-pages.result.pages c.in-Ok.header.pages (contains nat_cmp c.new.result) c.check_file.ensures.stays.pages c.in-Ok.ensures.long.0 c.new-pages.ensures.count c.new-pages.ensures.pages
       (λ n. ap (λ (keys : List ℕ). list_any (is_at (nat_cmp n)) keys) c.new.ensures.empty)
 
   stays_steady : IsTrue (g.S.StoreState.steady c.args.store) → IsTrue c.new-pages.result.steady
-  stays_steady steady = ap (λ (v : PagesView). v.steady) c.new-pages.ensures.store ∙ c.check_file.ensures.steady ∙ steady
+  stays_steady steady = ap (λ (v : PagesView). v.steady) c.new-pages.ensures.store ∙ c.check_file.ensures.stays.steady ∙ steady
 
   -- a clean file's tree stands in them, and is as large as the header says
   clean_tree : IsTrue (g.S.StoreState.steady c.args.store) → (h : Header) (tree : Tree) (es : List Element) (us : List ℕ) → IsCleanFile stored (g.S.StoreState.tail c.args.store) h tree es us → h.count ≤ c.args.limits.records
@@ -40,7 +40,7 @@ returns-in-Err-clause-fault g c = λ steady. c.in-Err.ensures.fault steady c.arg
 pub returns-in-Ok-measured-clause-found : goal.returns-in-Ok-measured-clause-found
 returns-in-Ok-measured-clause-found g c = λ steady.
     let place = (goal.at.returns-in-Ok-measured-clause-found g c).After-records in
-    let kept = c.into_store-store.ensures.pages ∙ ap (λ (v : PagesView). v.stored) c.measure_file-measured.ensures.unchanged ∙ ap (λ (v : PagesView). v.stored) c.new-pages.ensures.store ∙ c.check_file.ensures.pages in
+    let kept = c.into_store-store.ensures.pages ∙ ap (λ (v : PagesView). v.stored) c.measure_file-measured.ensures.unchanged ∙ ap (λ (v : PagesView). v.stored) c.new-pages.ensures.store ∙ c.check_file.ensures.stays.pages in
     opened (stored g place) (g.S.StoreState.tail c.args.store) c.args.limits.records c.in-Ok.header c.new-pages.result.pages c.new-in-Ok-measured.result c.in-Ok-measured.tree (contains nat_cmp c.in-Ok-measured.free) (g.S.StoreState.reads c.args.store) c.new-pages.result.reads c.measure_file-measured.new.pages.reads
     (c.in-Ok.ensures.found steady) (map_is g place) (c.new-pages.ensures.count ∙ c.in-Ok.ensures.long.0) (c.in-Ok-measured.ensures.found (stays_steady g place steady)) (c.in-Ok-measured.ensures.count.0, omega (arith, c.in-Ok-measured.ensures.count.1, c.records.ensures.value))
     (c.new-in-Ok-measured.ensures.count ∙ c.in-Ok.ensures.long.0)
