@@ -52,6 +52,14 @@ abbrev pub Follows : Bool → Seen → Event → Seen → Type 0
 Follows true s e s2 = Step s e s2 × (e.failed ≡ false) × (e.refused ≡ false)
 Follows false s e s2 = s2 ≡ s
 
+-- what a change at a key finds in both files
+record Alike (f : File) (g : List Change) (s : Seen) (t : ℕ) (x : List ℕ) : Type 0 where
+  pub active : phase_at s.file t ≡ Some phases.Active
+  pub free : held_by s.file t x ≡ None
+  pub room : use_of s.file + 2 ≤ s.file.limits.log_records
+  pub stood : first_lives (past (length f.history) g) ≡ true → get (records_of s.file) x ≡ get (records_of f) x
+  pub not_full : first_lives (past (length f.history) g) ≡ true → is_full f x ≡ false → is_full s.file x ≡ false
+
 -- where the remaining calls, made alone, have come to after an event
 abbrev pub Goes : File → List Change → Event → File → Seen → Type 0
 Goes f g e f2 s =
@@ -76,18 +84,15 @@ not_true : (b : Bool) → (IsTrue b → false ≡ true) → b ≡ false
 not_true true never = absurd (cc (never refl))
 not_true false never = refl
 
+below : (a b : ℕ) → b ≤ a → nat_lt a b ≡ false
+below a b le = grind (arith, nat_tests)
+
 -- a put that is free in an active transaction's room isn't refused
 put_none : (f : File) (t : ℕ) (x : List ℕ) → phase_at f t ≡ Some phases.Active → held_by f t x ≡ None → use_of f + 2 ≤ f.limits.log_records → put_refusal f t x ≡ None
 put_none f t x active free room = ap (put_in f t x) active ∙ ap (put_held f) free ∙ ap (λ b. if b then Some put_faults.LogFull else None) (below f.limits.log_records (use_of f + 2) room)
-  where
-    below : (a b : ℕ) → b ≤ a → nat_lt a b ≡ false
-    below a b le = grind (arith, nat_tests)
 
 remove_none : (f : File) (t : ℕ) (x : List ℕ) → phase_at f t ≡ Some phases.Active → held_by f t x ≡ None → use_of f + 2 ≤ f.limits.log_records → remove_refusal f t x ≡ None
 remove_none f t x active free room = ap (remove_in f t x) active ∙ ap (remove_held f) free ∙ ap (λ b. if b then Some remove_faults.LogFull else None) (below f.limits.log_records (use_of f + 2) room)
-  where
-    below : (a b : ℕ) → b ≤ a → nat_lt a b ≡ false
-    below a b le = grind (arith, nat_tests)
 
 none_some : (o : Option (List ℕ)) (b : Bool) → is_some o ≡ true → is_none o && b ≡ false
 none_some None b some = absurd (cc)
@@ -109,26 +114,30 @@ module _ (g : List Change) (e : Event) where
       )
 
   module _ (f : File) (s : Seen) (alone : Alone f g s) where
+    -- a call that is made again, and leaves the records and the log
+    made_again : (c : Called) (new : File) → e.called ≡ c → e.failed ≡ false → e.refused ≡ false → remains c (past (length f.history) g) ≡ true → Answers s c e.failed e.refused (record s { file = new }) → Follows (remains e.called (past (length f.history) g)) s e (record s { file = new })
+    made_again c new called_is failed refused stays answers = subst (λ b. Follows b s e (record s { file = new })) (sym (ap (λ c. remains c (past (length f.history) g)) called_is ∙ stays)) (
+      record {
+        failures = ap (counted s.failures) (sym failed);
+        refusals = ap (counted s.refusals) (sym refused);
+        sound = refl;
+        told = tells_none s.sound s.records s.records s.log s.log refl refl;
+        answer = subst (λ c. Answers s c e.failed e.refused (record s { file = new })) (sym called_is) answers;
+      },
+      failed,
+      refused,
+    )
+
     begun_alone : (tx : TxId) → e.called ≡ Begin (Ok tx) → e.failed ≡ false → e.refused ≡ false → f.begun < f.limits.begins → tx.0 ≡ f.begun + 1 → Goes f g e (record f { begun = f.begun + 1; txs = maps.insert f.txs (f.begun + 1) fresh }) s
     begun_alone tx called_is failed refused below is = (
       s2,
-      subst (λ b. Follows b s e s2) (ap (λ c. remains c (past (length f.history) g)) (sym called_is)) (
-        record {
-          failures = ap (counted s.failures) (sym failed);
-          refusals = ap (counted s.refusals) (sym refused);
-          sound = refl;
-          told = tells_none s.sound s.records s.records s.log s.log refl refl;
-          answer = subst (λ c. Answers s c e.failed e.refused s2) (sym called_is) (
-            (failed, refused, refl),
-            (
-              omega (arith, below, alone.begun, ap (λ (b : Bounds). b.begins) alone.limits),
-              is ∙ ap (λ n. n + 1) (sym alone.begun),
-              λ i. record s.file { begun = sym alone.begun i + 1; txs = maps.insert s.file.txs (sym alone.begun i + 1) fresh },
-            ),
-          );
-        },
-        failed,
-        refused,
+      made_again (Begin (Ok tx)) s2.file called_is failed refused refl (
+        (failed, refused, refl),
+        (
+          omega (arith, below, alone.begun, ap (λ (b : Bounds). b.begins) alone.limits),
+          is ∙ ap (λ n. n + 1) (sym alone.begun),
+          λ i. record s.file { begun = sym alone.begun i + 1; txs = maps.insert s.file.txs (sym alone.begun i + 1) fresh },
+        ),
       ),
       record {
         sound = alone.sound;
@@ -154,19 +163,9 @@ module _ (g : List Change) (e : Event) where
     commit_alone : (t : TxId) (done : Unit {0}) → e.called ≡ Commit t (Ok done) → e.failed ≡ false → e.refused ≡ false → commit_in (phase_at f t.0) ≡ None → Goes f g e (record f { txs = maps.remove f.txs t.0 }) s
     commit_alone t done called_is failed refused free = (
       s2,
-      subst (λ b. Follows b s e s2) (ap (λ c. remains c (past (length f.history) g)) (sym called_is)) (
-        record {
-          failures = ap (counted s.failures) (sym failed);
-          refusals = ap (counted s.refusals) (sym refused);
-          sound = refl;
-          told = tells_none s.sound s.records s.records s.log s.log refl refl;
-          answer = subst (λ c. Answers s c e.failed e.refused s2) (sym called_is) (
-            (failed, refused, refl),
-            (ap commit_in (alone.active t.0 (some_phase (tx_of f t.0) (λ none. no_refusal _ _ (ap commit_in none) free))), refl),
-          );
-        },
-        failed,
-        refused,
+      made_again (Commit t (Ok done)) s2.file called_is failed refused refl (
+        (failed, refused, refl),
+        (ap commit_in (alone.active t.0 (some_phase (tx_of f t.0) (λ none. no_refusal _ _ (ap commit_in none) free))), refl),
       ),
       record {
         sound = alone.sound;
@@ -211,17 +210,8 @@ module _ (g : List Change) (e : Event) where
       pending : PendingAll (open_of f) tx.0 x f.history
       pending = subst (PendingAll (open_of f) tx.0 x) kept.history (pending_all (open_of f) tx.0 x kept.cs (held-free (open_of f) tx.0 x kept.cs kept.holds.owned (ap (λ (h : List Change). holder_of (open_of f) h tx.0 x) kept.history ∙ free)))
 
-      active_alone : phase_at s.file tx.0 ≡ Some phases.Active
-      active_alone = alone.active tx.0 there
-
-      free_alone : held_by s.file tx.0 x ≡ None
-      free_alone = ap (λ (h : List Change). holder_of (open_of s.file) h tx.0 x) alone.history ∙ free_part (open_of f) (open_of s.file) tx.0 x f.history g leads alone.agree pending
-
       use_alone : use_of s.file ≤ use_of f
       use_alone = subst (λ (h : List Change). log_use (open_of s.file) h ≤ use_of f) (sym alone.history) (use_less (open_of f) (open_of s.file) f.history g leads alone.agree)
-
-      room_alone : use_of s.file + 2 ≤ s.file.limits.log_records
-      room_alone = omega (arith, use_alone, room, ap (λ (b : Bounds). b.log_records) alone.limits)
 
       now : records_of s.file ≡ replay f.opening (part f.history g)
       now i = replay (alone.opening i) (alone.history i)
@@ -229,21 +219,23 @@ module _ (g : List Change) (e : Event) where
       charge : charged_of s.file ≡ charged (open_of s.file) (part f.history g) (replay f.opening (part f.history g))
       charge i = charged (open_of s.file) (alone.history i) (now i)
 
-      module _ (lasts : first_lives (past (length f.history) g) ≡ true) where
-        kept_here : KeptAt x f.history g
-        kept_here = kept_at (open_of f) tx.0 x f.history g _ pending refl on lasts
+      kept_here : first_lives (past (length f.history) g) ≡ true → KeptAt x f.history g
+      kept_here lasts = kept_at (open_of f) tx.0 x f.history g _ pending refl on lasts
 
-        record_alone : get (records_of s.file) x ≡ get (records_of f) x
-        record_alone = ap (λ (n : Contents). get n x) now ∙ same_record (open_of f) x f.history g f.opening f.opening leads kept_here refl
-
-        full_alone : is_full f x ≡ false → is_full s.file x ≡ false
-        full_alone not_full = at (has (charged_of f) x) refl
-          where
-            at : (b : Bool) → has (charged_of f) x ≡ b → is_full s.file x ≡ false
-            at true is = none_some (get (charged_of s.file) x) (nat_le s.file.limits.records (len (charged_of s.file)))
-                (ap (λ (c : Contents). has c x) charge ∙ charged_kept (open_of f) (open_of s.file) x f.history g f.opening leads alone.agree kept_here is)
-            at false is = sym (below_not_full s.file x (len (charged_of s.file)) refl
-                (omega (arith, room_of f x (sym not_full) is, len-within _ _ (charged_less (open_of f) (open_of s.file) f.history g f.opening leads alone.agree), ap len charge, ap (λ (b : Bounds). b.records) alone.limits)))
+      alike : Alike f g s tx.0 x
+      alike = record {
+        active = alone.active tx.0 there;
+        free = ap (λ (h : List Change). holder_of (open_of s.file) h tx.0 x) alone.history ∙ free_part (open_of f) (open_of s.file) tx.0 x f.history g leads alone.agree pending;
+        room = omega (arith, use_alone, room, ap (λ (b : Bounds). b.log_records) alone.limits);
+        stood = λ lasts. ap (λ (n : Contents). get n x) now ∙ same_record (open_of f) x f.history g f.opening f.opening leads (kept_here lasts) refl;
+        not_full = λ lasts not_full. at lasts not_full (has (charged_of f) x) refl;
+      }
+        where
+          at : first_lives (past (length f.history) g) ≡ true → is_full f x ≡ false → (b : Bool) → has (charged_of f) x ≡ b → is_full s.file x ≡ false
+          at lasts not_full true is = none_some (get (charged_of s.file) x) (nat_le s.file.limits.records (len (charged_of s.file)))
+              (ap (λ (c : Contents). has c x) charge ∙ charged_kept (open_of f) (open_of s.file) x f.history g f.opening leads alone.agree (kept_here lasts) is)
+          at lasts not_full false is = sym (below_not_full s.file x (len (charged_of s.file)) refl
+              (omega (arith, room_of f x (sym not_full) is, len-within _ _ (charged_less (open_of f) (open_of s.file) f.history g f.opening leads alone.agree), ap len charge, ap (λ (b : Bounds). b.records) alone.limits)))
 
       made_alone : (before : Option (List ℕ)) → first_lives (past (length f.history) g) ≡ true → Alone (with_change f tx.0 x after) g (made s tx x before after)
       made_alone before lasts =
@@ -257,7 +249,7 @@ module _ (g : List Change) (e : Event) where
             begun = alone.begun;
             history = ap (λ (h : List Change). h ++ c ∷ []) alone.history ∙ sym grown;
             active = alone.active;
-            agree = subst (AgreeOn (open_of f) (open_of s.file)) (sym grown) (agree-push (open_of f) (open_of s.file) (part f.history g) c alone.agree (open_by_phase (tx_of s.file tx.0) phases.Active active_alone ∙ sym there));
+            agree = subst (AgreeOn (open_of f) (open_of s.file)) (sym grown) (agree-push (open_of f) (open_of s.file) (part f.history g) c alone.agree (open_by_phase (tx_of s.file tx.0) phases.Active alike.active ∙ sym there));
           }
 
       -- the change left out
@@ -340,7 +332,8 @@ step_alone m answered fs fs2 e g s kept step move leads on alone = at move
         let refused = not_true e.refused a.0.1 in
         let fits = put_accepts f t.0 x free in
         let next = led (with_change f t.0 x (Some r)) is in
-        let none = put_none s.file t.0 x (active_alone g e f s alone m answered kept t x (Some r) it.0 it.1 fits leads next) (free_alone g e f s alone m answered kept t x (Some r) it.0 it.1 fits leads next) (room_alone g e f s alone m answered kept t x (Some r) it.0 it.1 fits leads next) in
+        let now = alike g e f s alone m answered kept t x (Some r) it.0 it.1 fits leads next in
+        let none = put_none s.file t.0 x now.active now.free now.room in
         let s2 = made s t x before (Some r) in
         changed_alone g e f s alone m answered kept t x (Some r) it.0 it.1 fits leads next before (ap old_record called_is) (λ lasts. (
           record {
@@ -354,8 +347,8 @@ step_alone m answered fs fs2 e g s kept step move leads on alone = at move
                 step = λ here few. (
                   none,
                   not_risen s.failures,
-                  full_alone g e f s alone m answered kept t x (Some r) it.0 it.1 fits leads next lasts room,
-                  stood ∙ sym (record_alone g e f s alone m answered kept t x (Some r) it.0 it.1 fits leads next lasts),
+                  now.not_full lasts room,
+                  stood ∙ sym (now.stood lasts),
                   refl,
                 );
                 refused = subst (λ o. IfSome o (λ fault. (Ok before ≡ Err fault) × (s2 ≡ s))) (sym none) tt;
@@ -377,7 +370,8 @@ step_alone m answered fs fs2 e g s kept step move leads on alone = at move
         let refused = not_true e.refused a.0.1 in
         let fits = remove_accepts f t.0 x free in
         let next = led (with_change f t.0 x None) is in
-        let none = remove_none s.file t.0 x (active_alone g e f s alone m answered kept t x None it.0 it.1 fits leads next) (free_alone g e f s alone m answered kept t x None it.0 it.1 fits leads next) (room_alone g e f s alone m answered kept t x None it.0 it.1 fits leads next) in
+        let now = alike g e f s alone m answered kept t x None it.0 it.1 fits leads next in
+        let none = remove_none s.file t.0 x now.active now.free now.room in
         let s2 = made s t x (Some before) None in
         changed_alone g e f s alone m answered kept t x None it.0 it.1 fits leads next (Some before) (ap old_record called_is) (λ lasts. (
           record {
@@ -391,7 +385,7 @@ step_alone m answered fs fs2 e g s kept step move leads on alone = at move
                 step = λ here few. (
                   none,
                   not_risen s.failures,
-                  record_alone g e f s alone m answered kept t x None it.0 it.1 fits leads next lasts ∙ stood,
+                  now.stood lasts ∙ stood,
                   refl,
                 );
                 refused = subst (λ o. IfSome o (λ fault. (Ok before ≡ Err fault) × (s2 ≡ s))) (sym none) tt;

@@ -1,13 +1,17 @@
 -- What several calls did to a table and its log, one after another.
-use Rattle.std.proofs.Common.{◌≡◌, Option, None, ap, subst, ◌∙◌, inl}
+use Rattle.std.proofs.Common.{◌≡◌, ◌∷◌, [], ◌++◌, Option, None, Ok, IsTrue, refl, ap, subst, ◌∙◌, inl}
+use Rattle.rec_types.specs.Answered.{Answered}
+use Rattle.rec_types.specs.Contents.{set_to}
 use Rattle.rec_types.specs.Table.{counted}
 use Rattle.rec_types.specs.declared.table_state.TableState.{Ghosts}
 use Rattle.record_file.specs.declared.fault.Cause.{Cause}
-use Rattle.record_file.specs.Abstract.{OpenFile}
+use Rattle.tx_log.specs.Log.{key_of}
+use Rattle.tx_log.specs.declared.log_record.LogRecord.{LogRecord}
+use Rattle.record_file.specs.Abstract.{OpenFile, new_in}
 use Rattle.record_file.specs.Outside.{by_device, TellsDamage}
 use Rattle.record_file.specs.TableCalls.{ChangesTable}
 use Rattle.record_file.proofs.FaultLemmas.{tells_no_damage}
-use Rattle.record_file.proofs.LogGrowthLemmas.{tells_none, tells_on}
+use Rattle.record_file.proofs.LogGrowthLemmas.{tells_none, tells_one, tells_on}
 
 -- the table and the log stay
 pub changes_none : {T : Type 0} (t : Ghosts T) (old new : OpenFile T) → new.table ≡ old.table → new.log ≡ old.log → ChangesTable t old None new
@@ -17,6 +21,38 @@ changes_none t old new table log = record {
   origin = ap (λ x. t.origin x) table;
   device = ap (λ x. t.device_failures x) table;
   damages = inl (ap (λ x. t.damages x) table);
+}
+
+-- the table was asked, and its contents and the log stay
+pub changes_asked : {T A : Type 0} (t : Ghosts T) (old new : OpenFile T) (x : A) → Answered t old.table (Ok x) new.table → t.contents new.table ≡ t.contents old.table → new.log ≡ old.log → ChangesTable t old None new
+changes_asked t old new x answered same log = record {
+  told = tells_none _ _ _ _ _ same log;
+  soundness = answered.soundness;
+  origin = answered.origin;
+  device = answered.device;
+  damages = inl answered.damages;
+}
+
+-- the table was asked twice
+pub answered_then : {T A B : Type 0} (t : Ghosts T) (old mid new : T) (x : A) (y : B) → Answered t old (Ok x) mid → Answered t mid (Ok y) new → Answered t old (Ok y) new
+answered_then t old mid new x y first then = record {
+  limit = then.limit ∙ first.limit;
+  soundness = then.soundness ∙ first.soundness;
+  origin = then.origin ∙ first.origin;
+  device = then.device ∙ first.device;
+  memory = then.memory ∙ first.memory;
+  damages = then.damages ∙ first.damages;
+  whole = λ sound. then.whole (first.soundness ∙ sound);
+}
+
+-- a record was set in the table of an open file, and the log tells it
+pub changes_set : {T A : Type 0} (t : Ghosts T) (held old new : OpenFile T) (x : A) (r : LogRecord) → held ≡ old → Answered t held.table (Ok x) new.table → new.log ≡ held.log ++ r ∷ [] → (IsTrue (t.sound held.table) → t.contents new.table ≡ set_to (t.contents held.table) (key_of r) (new_in r)) → ChangesTable t old None new
+changes_set t held old new x r view_is answered grown put = subst (λ s. ChangesTable t s None new) view_is record {
+  told = tells_one _ _ _ _ _ _ r refl grown put;
+  soundness = answered.soundness;
+  origin = answered.origin;
+  device = answered.device;
+  damages = inl answered.damages;
 }
 
 -- a call that nothing from outside ended, and then another one

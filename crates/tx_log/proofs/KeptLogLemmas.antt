@@ -23,7 +23,7 @@ use Rattle.tx_log.specs.Finds.{finding}
 use Rattle.tx_log.specs.Fits.{AllFit}
 use Rattle.tx_log.specs.Log.{tx_of_record, key_of, new_of, kept_of, stepped, stack, chain, noted, AllWritten}
 use Rattle.tx_log.specs.LogFields.{state_of, IsKept, IsTxLog}
-use Rattle.tx_log.specs.LogState.{LogState, phase_of, open_in, use_in, places_of, IsLog}
+use Rattle.tx_log.specs.LogState.{LogState, phase_of, phase_in, open_in, use_in, places_of, IsLog}
 use Rattle.tx_log.specs.Owners.{holder_of, absence}
 use Rattle.tx_log.specs.Places.{place_at}
 use Rattle.tx_log.specs.OpenTxs.{rollback_at, tx_at, txs_of, opens}
@@ -43,9 +43,11 @@ phase_found : (t : ℕ) (cs : List Kept) (o : Option OpenTx) (p : Phase) → opt
 phase_found t cs None p h = absurd (cc)
 phase_found t cs (Some e) p h = refl
 
--- a transaction that has a phase is open
-pub open_of_phase : (cs : List Kept) (es : List (TxId × OpenTx)) (t : ℕ) (p : Phase) → option_map phase_of (maps.get (txs_of cs es) t) ≡ Some p → IsSome (finding es t)
-open_of_phase cs es t p h = phase_found t cs (finding es t) p (ap (option_map phase_of) (sym (get-txs_of cs es t)) ∙ h)
+-- an active transaction of the log is open in its map
+pub active_open : (l : Inside) (s : LogState) (t : ℕ) → state_of l ≡ s → phase_in s t ≡ Some Active → IsSome (finding l.txs.entries t)
+active_open l s t view active =
+    let cs = kept_of (reverse l.records.items) in
+    phase_found t cs (finding l.txs.entries t) Active (ap (option_map phase_of) (sym (get-txs_of cs l.txs.entries t)) ∙ ap (λ (s : LogState). phase_in s t) view ∙ active)
 
 some_entry : (t : ℕ) (cs : List Kept) (o : Option OpenTx) → is_some (option_map (tx_at t cs) o) ≡ true → is_some o ≡ true
 some_entry t cs None h = h
@@ -64,9 +66,10 @@ pub some_of : {A : Type 0} (x y : A) → Some x ≡ Some y → x ≡ y
 some_of x y h = cc
 
 -- an active transaction has no rollback
-pub active_rollback : (cs : List Kept) (es : List (TxId × OpenTx)) (t : ℕ) (e : OpenTx) → finding es t ≡ Some e → option_map phase_of (maps.get (txs_of cs es) t) ≡ Some Active → e.rollback ≡ None
-active_rollback cs es t e found h =
-    active_case cs t e.rollback (some_of _ _ (ap (λ (o : Option OpenTx). option_map phase_of (option_map (tx_at t cs) o)) (sym found) ∙ ap (option_map phase_of) (sym (get-txs_of cs es t)) ∙ h))
+pub active_calm : (l : Inside) (s : LogState) (t : ℕ) (e : OpenTx) → state_of l ≡ s → phase_in s t ≡ Some Active → finding l.txs.entries t ≡ Some e → e.rollback ≡ None
+active_calm l s t e view active found =
+    let cs = kept_of (reverse l.records.items) in
+    active_case cs t e.rollback (some_of _ _ (ap (λ (o : Option OpenTx). option_map phase_of (option_map (tx_at t cs) o)) (sym found) ∙ ap (option_map phase_of) (sym (get-txs_of cs l.txs.entries t)) ∙ ap (λ (s : LogState). phase_in s t) view ∙ active))
 
 -- what the state says of an open transaction
 pub tx_of_entry : (cs : List Kept) (es : List (TxId × OpenTx)) (t : ℕ) (e : OpenTx) → finding es t ≡ Some e → maps.get (txs_of cs es) t ≡ Some (tx_at t cs e)

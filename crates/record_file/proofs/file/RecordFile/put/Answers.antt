@@ -1,7 +1,6 @@
-use Rattle.std.proofs.Common.{ℕ, List, Option, Result, Err, ◌≡◌, ◌≤◌, ◌+◌, Some, ap, sym, subst, inl, ◌∙◌, rules, arith}
+use Rattle.std.proofs.Common.{ℕ, false, List, Option, Result, Err, ◌≡◌, ◌≤◌, ◌+◌, Some, None, IsTrue, ap, sym, subst, [], ◌∷◌, ◌++◌, ◌∙◌, rules, arith}
 use Rattle.std.specs.FinMap as maps
-use Rattle.rec_types.specs.Contents.{set_to}
-use Rattle.tx_log.specs.LogState.{LogState, use_in}
+use Rattle.tx_log.specs.LogState.{LogState, use_in, update_in}
 use Rattle.tx_log.specs.declared.log_record.LogRecord.{LogRecord}
 use Rattle.record_file.specs.Abstract.{File, OpenFile, file_of, is_full, records_of, with_change}
 use Rattle.std.proofs.lemmas.Result.{err_from_is_err_and}
@@ -13,50 +12,62 @@ use Rattle.record_file.proofs.FaultLemmas.{none_by, rose_same, put_err}
 use Rattle.record_file.proofs.FileLemmas.{put_has_room}
 use Rattle.record_file.proofs.FullnessLemmas.{put_accepts, room_now}
 use Rattle.record_file.proofs.InvariantLemmas.{change_kept, change_file, change_accepted}
-use Rattle.record_file.proofs.LogGrowthLemmas.{tells_one}
+use Rattle.record_file.proofs.TableCallLemmas.{changes_asked, changes_set, changes_then}
+use Rattle.record_file.proofs.file.RecordFile.put.Given as given
 use Rattle.record_file.proofs.file.RecordFile.put.Goals as goal
+use Rattle.record_file.proofs.file.RecordFile.put.Goals.{After-reserve}
+
+-- what the calls before the change left, and found
+module _ (g : given.Over) (c : After-reserve g) where
+  link : file_of c.self.inside.log (g.T.TableState.contents c.self.inside.table) ≡ c.args.self.now.file
+  link = ap (λ (s : OpenFile _). s.file) c.self.view_is ∙ c.is_full.ensures.same.1
+
+  sound_is : g.T.TableState.sound c.self.inside.table ≡ g.T.TableState.sound c.args.self.now.table
+  sound_is = ap (λ (s : OpenFile _). g.T.TableState.sound s.table) c.self.view_is ∙ c.is_full.ensures.answered.soundness
+
+  none : put_refusal c.args.self.now.file c.args.tx.0 c.args.key ≡ None
+  none = sym c.put_refusal.ensures ∙ none_by c.put_refusal.result c.in_default.not-Some
+
+  not_full : IsTrue (g.T.TableState.sound c.args.self.now.table) → is_full c.args.self.now.file c.args.key ≡ false
+  not_full sound = sym (c.in_ok-is_full.ensures.value sound) ∙ c.if-branch.false
 
 pub accept-lsn-requires-clause-fits : goal.accept-lsn-requires-clause-fits
 accept-lsn-requires-clause-fits g c =
-    let link = ap (λ (s : OpenFile _). s.file) c.self.view_is ∙ c.is_full.ensures.same.1 in
-    let none = ap (λ (f : File). put_refusal f c.args.tx.0 c.args.key) link ∙ sym c.put_refusal.ensures ∙ none_by c.put_refusal.result c.in_default.not-Some in
-    subst (λ (s : LogState). use_in s + 2 ≤ s.limits.log_records) (sym c.in_ok-reserve.ensures.ok) (put_accepts (file_of c.self.inside.log (g.T.TableState.contents c.self.inside.table)) c.args.tx.0 c.args.key none)
+    let place = (goal.at.accept-lsn-requires-clause-fits g c).After-reserve in
+    let none_here = ap (λ (f : File). put_refusal f c.args.tx.0 c.args.key) (link g place) ∙ none g place in
+    subst (λ (s : LogState). use_in s + 2 ≤ s.limits.log_records) (sym c.in_ok-reserve.ensures.ok) (put_accepts (file_of c.self.inside.log (g.T.TableState.contents c.self.inside.table)) c.args.tx.0 c.args.key none_here)
 
 pub invariant_of-self-2 : goal.invariant_of-self-2
 invariant_of-self-2 g c =
-    let link = ap (λ (s : OpenFile _). s.file) c.self.view_is ∙ c.is_full.ensures.same.1 in
-    let sound_is = ap (λ (s : OpenFile _). g.T.TableState.sound s.table) c.self.view_is ∙ c.is_full.ensures.answered.soundness in
+    let place = (goal.at.invariant_of-self-2 g c).After-reserve in
     change_kept _ _ _ c.self.inside.log c.self.invariant c.in_ok-reserve.ensures.kept
     _ _ _ c.reserve.new.self c.accept-lsn.new.self c.args.tx c.args.key c.in_ok-before.before c.copied-told.result _
     c.in_ok-before.ensures.answered.soundness c.in_ok-before.ensures.answered.limit c.in_ok-reserve.ensures.ok c.in_ok-before.ensures.ok c.in_ok-before.ensures.value
     (c.copied-told.ensures ∙ c.as_ref.ensures.value) c.accept-lsn.ensures.after
     (λ sound. room_now c.self.inside.log (g.T.TableState.contents c.self.inside.table) c.args.key (c.self.invariant.fits sound)
-    (sym c.if-branch.false ∙ c.in_ok-is_full.ensures.value (sym sound_is ∙ sound) ∙ ap (λ (f : File). is_full f c.args.key) (sym link)))
+    (sym (not_full g place (sym (sound_is g place) ∙ sound)) ∙ ap (λ (f : File). is_full f c.args.key) (sym (link g place))))
 
 pub returns-clause-step : goal.returns-clause-step
 returns-clause-step g c = λ sound lt.
-    let link = ap (λ (s : OpenFile _). s.file) c.self.view_is ∙ c.is_full.ensures.same.1 in
-    let sound_is = ap (λ (s : OpenFile _). g.T.TableState.sound s.table) c.self.view_is ∙ c.is_full.ensures.answered.soundness in
-    let here = sound_is ∙ sound in
-    let none = sym c.put_refusal.ensures ∙ none_by c.put_refusal.result c.in_default.not-Some in
+    let place = (goal.at.returns-clause-step g c).After-reserve in
+    let here = sound_is g place ∙ sound in
     let counts = c.in_ok-before.ensures.answered.device ∙ ap (λ (s : OpenFile _). g.T.TableState.device_failures s.table) c.self.view_is ∙ c.in_ok-is_full.ensures.answered.device in
     let stood = c.in_ok-before.ensures.value here in (
-      none,
+      none g place,
       rose_same (g.T.TableState.device_failures c.args.self.now.table) (g.T.TableState.device_failures c.set.new.self) counts,
-      sym (c.in_ok-is_full.ensures.value sound) ∙ c.if-branch.false,
-      stood ∙ ap (λ m. maps.get m c.args.key) (c.self.invariant.fits here).replayed ∙ ap (λ (f : File). maps.get (records_of f) c.args.key) link,
+      not_full g place sound,
+      stood ∙ ap (λ m. maps.get m c.args.key) (c.self.invariant.fits here).replayed ∙ ap (λ (f : File). maps.get (records_of f) c.args.key) (link g place),
       change_file _ _ _ c.self.inside.log c.self.invariant c.in_ok-reserve.ensures.kept (g.T.TableState.contents c.set.new.self) c.reserve.new.self c.accept-lsn.new.self c.args.tx c.args.key c.in_ok-before.before c.copied-told.result _ c.in_ok-reserve.ensures.ok (c.in_ok-before.ensures.ok here) stood (c.copied-told.ensures ∙ c.as_ref.ensures.value) c.accept-lsn.ensures.after
-          ∙ ap (λ (f : File). with_change f c.args.tx.0 c.args.key (Some c.args.value)) link,
+          ∙ ap (λ (f : File). with_change f c.args.tx.0 c.args.key (Some c.args.value)) (link g place),
     )
 
 pub returns-clause-accepted : goal.returns-clause-accepted
 returns-clause-accepted g c =
     let F = file_of c.accept-lsn.new.self (g.T.TableState.contents c.set.new.self) in
-    let link = ap (λ (s : OpenFile _). s.file) c.self.view_is ∙ c.is_full.ensures.same.1 in
-    let log_link = ap (λ (s : OpenFile _). s.log) c.self.view_is ∙ c.is_full.ensures.same.2 in
+    let place = (goal.at.returns-clause-accepted g c).After-reserve in
     subst (λ (o : Option (List ℕ)). Accepts c.args.self.now.file c.args.self.now.log (key_change c.args.tx c.args.key o (Some c.args.value)) F c.accept-lsn.new.self.records) (c.copied-told.ensures ∙ c.as_ref.ensures.value)
-    (subst (λ (l : List LogRecord). Accepts c.args.self.now.file l (key_change c.args.tx c.args.key c.copied-told.result (Some c.args.value)) F c.accept-lsn.new.self.records) log_link
-    (subst (λ (f : File). Accepts f c.self.inside.log.records (key_change c.args.tx c.args.key c.copied-told.result (Some c.args.value)) F c.accept-lsn.new.self.records) link
+    (subst (λ (l : List LogRecord). Accepts c.args.self.now.file l (key_change c.args.tx c.args.key c.copied-told.result (Some c.args.value)) F c.accept-lsn.new.self.records) (ap (λ (s : OpenFile _). s.log) c.self.view_is ∙ c.is_full.ensures.same.2)
+    (subst (λ (f : File). Accepts f c.self.inside.log.records (key_change c.args.tx c.args.key c.copied-told.result (Some c.args.value)) F c.accept-lsn.new.self.records) (link g place)
     (change_accepted _ _ _ c.self.inside.log c.self.invariant c.in_ok-reserve.ensures.kept (g.T.TableState.contents c.set.new.self) c.reserve.new.self c.accept-lsn.new.self c.args.tx c.args.key c.copied-told.result (Some c.args.value) c.in_ok-reserve.ensures.ok c.accept-lsn.ensures.after)))
 
 pub returns-clause-err : goal.returns-clause-err
@@ -64,16 +75,11 @@ returns-clause-err g c = tt
 
 pub returns-clause-table : goal.returns-clause-table
 returns-clause-table g c =
-    let sound_is = ap (λ (s : OpenFile _). g.T.TableState.sound s.table) c.self.view_is ∙ c.is_full.ensures.answered.soundness in record {
-      told = tells_one _ _ _ _ c.reserve.new.self.records c.accept-lsn.new.self.records _
-          (ap (λ (s : LogState). s.records) c.in_ok-reserve.ensures.ok ∙ ap (λ (s : OpenFile _). s.log) c.self.view_is ∙ c.is_full.ensures.same.2)
-          (ap (λ (s : LogState). s.records) c.accept-lsn.ensures.after)
-          (λ sound. c.in_ok-before.ensures.ok (sound_is ∙ sound) ∙ ap (λ m. set_to m c.args.key (Some c.args.value)) (ap (λ (s : OpenFile _). g.T.TableState.contents s.table) c.self.view_is ∙ c.is_full.ensures.same.0));
-      soundness = c.in_ok-before.ensures.answered.soundness ∙ sound_is;
-      origin = c.in_ok-before.ensures.answered.origin ∙ ap (λ (s : OpenFile _). g.T.TableState.origin s.table) c.self.view_is ∙ c.in_ok-is_full.ensures.answered.origin;
-      device = c.in_ok-before.ensures.answered.device ∙ ap (λ (s : OpenFile _). g.T.TableState.device_failures s.table) c.self.view_is ∙ c.in_ok-is_full.ensures.answered.device;
-      damages = inl (c.in_ok-before.ensures.answered.damages ∙ ap (λ (s : OpenFile _). g.T.TableState.damages s.table) c.self.view_is ∙ c.in_ok-is_full.ensures.answered.damages);
-    }
+    changes_then g.T.TableState _ c.is_full.new.self _ None
+    (changes_asked g.T.TableState _ _ _ c.in_ok-is_full.ensures.answered c.is_full.ensures.same.0 c.is_full.ensures.same.2)
+    (changes_set g.T.TableState _ _ _ _ _ c.self.view_is c.in_ok-before.ensures.answered
+    (ap (λ (s : LogState). s.records) c.accept-lsn.ensures.after ∙ ap (λ (s : LogState). s.records ++ update_in s c.args.tx c.args.key c.copied-told.result (Some c.args.value) ∷ []) c.in_ok-reserve.ensures.ok)
+    c.in_ok-before.ensures.ok)
 
 -- the log has no room
 pub returns-in_err-reserve-clause-step : goal.returns-in_err-reserve-clause-step
@@ -91,17 +97,14 @@ returns-in_err-reserve-clause-memory g c = search rules
 -- the table refused the change
 pub returns-in_err-before-clause-step : goal.returns-in_err-before-clause-step
 returns-in_err-before-clause-step g c = λ sound lt.
-    let link = ap (λ (s : OpenFile _). s.file) c.self.view_is ∙ c.is_full.ensures.same.1 in
-    let sound_is = ap (λ (s : OpenFile _). g.T.TableState.sound s.table) c.self.view_is ∙ c.is_full.ensures.answered.soundness in
-    let here = sound_is ∙ sound in
-    let none = sym c.put_refusal.ensures ∙ none_by c.put_refusal.result c.in_default.not-Some in
-    let not_full = sym (c.in_ok-is_full.ensures.value sound) ∙ c.if-branch.false in
+    let place = (goal.at.returns-in_err-before-clause-step g c).After-reserve in
+    let here = sound_is g place ∙ sound in
     let counts = c.in_err-before.ensures.answered.device ∙ ap (λ n. counted n (is_device {A = Option (List ℕ)} (Err c.in_err-before.field-0.0))) (ap (λ (s : OpenFile _). g.T.TableState.device_failures s.table) c.self.view_is ∙ c.in_ok-is_full.ensures.answered.device) in
     let told = err_from_is_err_and c.from_residual-in_err-before.result c.from_residual-in_err-before.ensures.1 in
-    let same = (λ i. file_of (c.in_ok-reserve.ensures.ok i) (c.in_err-before.ensures.err i)) ∙ link in
-    let room = room_now c.self.inside.log (g.T.TableState.contents c.self.inside.table) c.args.key (c.self.invariant.fits here) (sym not_full ∙ ap (λ (f : File). is_full f c.args.key) (sym link)) in
+    let same = (λ i. file_of (c.in_ok-reserve.ensures.ok i) (c.in_err-before.ensures.err i)) ∙ link g place in
+    let room = room_now c.self.inside.log (g.T.TableState.contents c.self.inside.table) c.args.key (c.self.invariant.fits here) (sym (not_full g place sound) ∙ ap (λ (f : File). is_full f c.args.key) (sym (link g place))) in
     subst (λ (r : Result (Option (List ℕ)) PutFault). PutStep c.args.self.now.file c.args.tx.0 c.args.key c.args.value (rose (g.T.TableState.device_failures c.args.self.now.table) (g.T.TableState.device_failures c.set.new.self)) r (file_of c.reserve.new.self (g.T.TableState.contents c.set.new.self))) (sym (told.1 ∙ ap Err told.2))
-    (put_err c.args.self.now.file _ c.args.tx.0 c.args.key c.args.value _ _ c.in_err-before.field-0.0 none not_full same lt counts
+    (put_err c.args.self.now.file _ c.args.tx.0 c.args.key c.args.value _ _ c.in_err-before.field-0.0 (none g place) (not_full g place sound) same lt counts
     (λ (is : c.in_err-before.field-0.0 ≡ table_faults.NoRoom).
     let full = c.in_err-before.ensures.no_room here (ap Err is) in
     absurd (put_has_room _ c.self.inside.log.changes (g.T.TableState.contents c.self.inside.table) c.self.inside.log.limits.records c.args.key (c.self.invariant.within here) room full.1 (omega (arith, full.2, c.self.invariant.limited))))

@@ -1,14 +1,24 @@
-use Rattle.std.proofs.Common.{rules, Some, None, ◌≤◌, ◌+◌, ap, sym, subst, inl, ◌∙◌}
+use Rattle.std.proofs.Common.{rules, Some, None, ◌≤◌, ◌+◌, ap, sym, subst, [], ◌∷◌, ◌++◌, ◌≡◌, IsTrue, ◌∙◌}
 use Rattle.std.specs.FinMap as maps
 use Rattle.rec_types.specs.Contents.{set_to}
-use Rattle.tx_log.specs.LogState.{LogState, use_in, open_in, history_in}
+use Rattle.tx_log.specs.LogState.{LogState, use_in, update_in, open_in, history_in}
 use Rattle.record_file.specs.Abstract.{File, OpenFile, file_of, records_of, with_change}
 use Rattle.record_file.specs.Steps.{remove_refusal, Accepts, key_change}
 use Rattle.record_file.proofs.FaultLemmas.{none_by, rose_same}
 use Rattle.record_file.proofs.FullnessLemmas.{remove_accepts, present_charged}
 use Rattle.record_file.proofs.InvariantLemmas.{change_kept, change_file, change_accepted}
-use Rattle.record_file.proofs.LogGrowthLemmas.{tells_one}
+use Rattle.record_file.proofs.TableCallLemmas.{answered_then, changes_set}
+use Rattle.record_file.proofs.file.RecordFile.remove.Given as given
 use Rattle.record_file.proofs.file.RecordFile.remove.Goals as goal
+use Rattle.record_file.proofs.file.RecordFile.remove.Goals.{After-accept-lsn}
+
+-- what the change did to the table that was lent
+module _ (g : given.Over) (c : After-accept-lsn g) where
+  put : IsTrue (g.T.TableState.sound c.self.inside.table) → g.T.TableState.contents c.set.new.self ≡ set_to (g.T.TableState.contents c.self.inside.table) c.args.key None
+  put sound = c.in_ok-taken.ensures.ok (c.in_ok-get.ensures.answered.soundness ∙ sound) ∙ ap (λ m. set_to m c.args.key None) c.in_ok-get.ensures.same
+
+  stood : IsTrue (g.T.TableState.sound c.self.inside.table) → c.in_ok-taken.field-0 ≡ maps.get (g.T.TableState.contents c.self.inside.table) c.args.key
+  stood sound = c.in_ok-taken.ensures.value (c.in_ok-get.ensures.answered.soundness ∙ sound) ∙ ap (λ m. maps.get m c.args.key) c.in_ok-get.ensures.same
 
 pub accept-lsn-requires-clause-fits : goal.accept-lsn-requires-clause-fits
 accept-lsn-requires-clause-fits g c =
@@ -19,11 +29,10 @@ accept-lsn-requires-clause-fits g c =
 pub invariant_of-self-in-Some-2 : goal.invariant_of-self-in-Some-2
 invariant_of-self-in-Some-2 g c =
     let key = c.args.key in
+    let place = (goal.at.invariant_of-self-in-Some-2 g c).After-accept-lsn in
     change_kept _ _ _ c.self.inside.log c.self.invariant c.in_ok-reserve.ensures.kept
     _ _ _ c.reserve.new.self c.accept-lsn.new.self c.args.tx key c.in_ok-taken.field-0 (Some c.in-Some-2.taken) None
-    (c.in_ok-taken.ensures.answered.soundness ∙ c.in_ok-get.ensures.answered.soundness) (c.in_ok-taken.ensures.answered.limit ∙ c.in_ok-get.ensures.answered.limit) c.in_ok-reserve.ensures.ok (λ sound. c.in_ok-taken.ensures.ok (c.in_ok-get.ensures.answered.soundness ∙ sound) ∙ ap (λ m. set_to m key None) c.in_ok-get.ensures.same)
-    (λ sound. c.in_ok-taken.ensures.value (c.in_ok-get.ensures.answered.soundness ∙ sound) ∙ ap (λ m. maps.get m key) c.in_ok-get.ensures.same)
-    (sym c.in-Some-2.is) c.accept-lsn.ensures.after
+    (c.in_ok-taken.ensures.answered.soundness ∙ c.in_ok-get.ensures.answered.soundness) (c.in_ok-taken.ensures.answered.limit ∙ c.in_ok-get.ensures.answered.limit) c.in_ok-reserve.ensures.ok (put g place) (stood g place) (sym c.in-Some-2.is) c.accept-lsn.ensures.after
     (λ sound absent. absurd (present_charged (open_in c.self.inside.log) (history_in c.self.inside.log) (g.T.TableState.contents c.self.inside.table) key c.in_ok-get.field-0 (c.in_ok-get.ensures.value sound) c.if-is_none.ensures absent))
 
 pub returns-in-Some-2-clause-step : goal.returns-in-Some-2-clause-step
@@ -33,11 +42,11 @@ returns-in-Some-2-clause-step g c = λ sound lt.
     let here = ap (λ (s : OpenFile _). g.T.TableState.sound s.table) c.self.view_is ∙ sound in
     let none = sym c.remove_refusal.ensures ∙ none_by c.remove_refusal.result c.in_default.not-Some in
     let counts = c.in_ok-taken.ensures.answered.device ∙ c.in_ok-get.ensures.answered.device ∙ ap (λ (s : OpenFile _). g.T.TableState.device_failures s.table) c.self.view_is in
-    let stood = c.in_ok-taken.ensures.value (c.in_ok-get.ensures.answered.soundness ∙ here) ∙ ap (λ m. maps.get m key) c.in_ok-get.ensures.same in (
+    let place = (goal.at.returns-in-Some-2-clause-step g c).After-accept-lsn in (
       none,
       rose_same (g.T.TableState.device_failures c.args.self.now.table) (g.T.TableState.device_failures c.set.new.self) counts,
-      sym (sym c.in-Some-2.is ∙ stood ∙ ap (λ m. maps.get m key) (c.self.invariant.fits here).replayed ∙ ap (λ (f : File). maps.get (records_of f) key) link),
-      change_file _ _ _ c.self.inside.log c.self.invariant c.in_ok-reserve.ensures.kept (g.T.TableState.contents c.set.new.self) c.reserve.new.self c.accept-lsn.new.self c.args.tx key c.in_ok-taken.field-0 (Some c.in-Some-2.taken) None c.in_ok-reserve.ensures.ok (c.in_ok-taken.ensures.ok (c.in_ok-get.ensures.answered.soundness ∙ here) ∙ ap (λ m. set_to m key None) c.in_ok-get.ensures.same) stood (sym c.in-Some-2.is) c.accept-lsn.ensures.after
+      sym (sym c.in-Some-2.is ∙ stood g place here ∙ ap (λ m. maps.get m key) (c.self.invariant.fits here).replayed ∙ ap (λ (f : File). maps.get (records_of f) key) link),
+      change_file _ _ _ c.self.inside.log c.self.invariant c.in_ok-reserve.ensures.kept (g.T.TableState.contents c.set.new.self) c.reserve.new.self c.accept-lsn.new.self c.args.tx key c.in_ok-taken.field-0 (Some c.in-Some-2.taken) None c.in_ok-reserve.ensures.ok (put g place here) (stood g place here) (sym c.in-Some-2.is) c.accept-lsn.ensures.after
           ∙ ap (λ (f : File). with_change f c.args.tx.0 key None) link,
     )
 
@@ -47,16 +56,10 @@ returns-in-Some-2-clause-accepted g c =
     (change_accepted _ _ _ c.self.inside.log c.self.invariant c.in_ok-reserve.ensures.kept (g.T.TableState.contents c.set.new.self) c.reserve.new.self c.accept-lsn.new.self c.args.tx c.args.key (Some c.in-Some-2.taken) None c.in_ok-reserve.ensures.ok c.accept-lsn.ensures.after)
 
 pub returns-in-Some-2-clause-table : goal.returns-in-Some-2-clause-table
-returns-in-Some-2-clause-table g c = record {
-  told = tells_one _ _ _ _ c.reserve.new.self.records c.accept-lsn.new.self.records _
-      (ap (λ (s : LogState). s.records) c.in_ok-reserve.ensures.ok ∙ ap (λ (s : OpenFile _). s.log) c.self.view_is)
-      (ap (λ (s : LogState). s.records) c.accept-lsn.ensures.after)
-      (λ sound. c.in_ok-taken.ensures.ok (c.in_ok-get.ensures.answered.soundness ∙ ap (λ (s : OpenFile _). g.T.TableState.sound s.table) c.self.view_is ∙ sound) ∙ ap (λ m. set_to m c.args.key None) c.in_ok-get.ensures.same ∙ ap (λ (s : OpenFile _). set_to (g.T.TableState.contents s.table) c.args.key None) c.self.view_is);
-  soundness = c.in_ok-taken.ensures.answered.soundness ∙ c.in_ok-get.ensures.answered.soundness ∙ ap (λ (s : OpenFile _). g.T.TableState.sound s.table) c.self.view_is;
-  origin = c.in_ok-taken.ensures.answered.origin ∙ c.in_ok-get.ensures.answered.origin ∙ ap (λ (s : OpenFile _). g.T.TableState.origin s.table) c.self.view_is;
-  device = c.in_ok-taken.ensures.answered.device ∙ c.in_ok-get.ensures.answered.device ∙ ap (λ (s : OpenFile _). g.T.TableState.device_failures s.table) c.self.view_is;
-  damages = inl (c.in_ok-taken.ensures.answered.damages ∙ c.in_ok-get.ensures.answered.damages ∙ ap (λ (s : OpenFile _). g.T.TableState.damages s.table) c.self.view_is);
-}
+returns-in-Some-2-clause-table g c =
+    changes_set g.T.TableState _ _ _ _ _ c.self.view_is (answered_then g.T.TableState _ _ _ _ _ c.in_ok-get.ensures.answered c.in_ok-taken.ensures.answered)
+    (ap (λ (s : LogState). s.records) c.accept-lsn.ensures.after ∙ ap (λ (s : LogState). s.records ++ update_in s c.args.tx c.args.key (Some c.in-Some-2.taken) None ∷ []) c.in_ok-reserve.ensures.ok)
+    (put g (goal.at.returns-in-Some-2-clause-table g c).After-accept-lsn)
 
 pub returns-then-is_none-clause-step : goal.returns-then-is_none-clause-step
 returns-then-is_none-clause-step g c = search rules

@@ -1,29 +1,40 @@
-use Rattle.std.proofs.Common.{rules, inl, ◌<◌, Err, ap, is_some, sym, subst, ◌∙◌, option_map, arith}
+use Rattle.std.proofs.Common.{rules, ◌≡◌, ◌<◌, Some, IsTrue, Err, ap, is_some, sym, subst, ◌∙◌, option_map, arith}
 use Rattle.rec_types.specs.History.{undo_last}
+use Rattle.rec_types.specs.Kept.{Kept, newest_live}
 use Rattle.tx_log.specs.Transactions.{left_in}
 use Rattle.tx_log.specs.declared.phase.UndoStep.{UndoStep}
 use Rattle.std.specs.FinMap as maps
-use Rattle.tx_log.specs.LogState.{undo_step, tx_in, open_in}
+use Rattle.tx_log.specs.LogState.{undo_step, undo_in, tx_in, open_in}
 use Rattle.rec_types.specs.Contents.{set_to}
 use Rattle.record_file.specs.Abstract.{File, OpenFile, file_of, tx_of}
 use Rattle.record_file.proofs.FaultLemmas.{step_is}
 use Rattle.record_file.proofs.FileLemmas.{undo_has_room}
 use Rattle.record_file.proofs.InvariantLemmas.{undo_there, undo_kept, undo_file_is, undo_becomes, undo_record}
-use Rattle.record_file.proofs.LogGrowthLemmas.{tells_one}
+use Rattle.record_file.proofs.TableCallLemmas.{changes_set}
+use Rattle.record_file.proofs.file.RecordFile.take_one_back.Given as given
 use Rattle.record_file.proofs.file.RecordFile.take_one_back.Goals as goal
+use Rattle.record_file.proofs.file.RecordFile.take_one_back.Goals.{After-next_undo, After-set-arg-1}
+
+-- the change that is taken back
+module _ (g : given.Over) (c : After-next_undo g) where
+  newest : (u : Kept) × (undo_in c.self.inside.log c.args.tx.0 ≡ Some u) × (newest_live c.args.tx.0 c.self.inside.log.changes ≡ Some u) × IsTrue (open_in c.self.inside.log c.args.tx.0)
+  newest = undo_there c.self.inside.log.changes c.args.tx.0 (tx_in c.self.inside.log c.args.tx.0) (subst (λ (s : OpenFile _). 0 < left_in s.file.history c.args.tx.0 (tx_of s.file c.args.tx.0)) (sym c.self.view_is) c.requires)
+
+-- the step that takes it back
+module _ (g : given.Over) (c : After-set-arg-1 g) where
+  step_of : (u : Kept) → undo_in c.self.inside.log c.args.tx.0 ≡ Some u → c.unwrap-step.result ≡ undo_step u
+  step_of u is = step_is c.unwrap-step.result (undo_step u) (sym c.unwrap-step.ensures ∙ c.next_undo.ensures ∙ ap (option_map undo_step) is)
 
 pub unwrap-step-requires : goal.unwrap-step-requires
 unwrap-step-requires g c =
-    let some = subst (λ (s : OpenFile _). 0 < left_in s.file.history c.args.tx.0 (tx_of s.file c.args.tx.0)) (sym c.self.view_is) c.requires in
-    let u = undo_there c.self.inside.log.changes c.args.tx.0 (tx_in c.self.inside.log c.args.tx.0) some in
-    ap is_some (c.next_undo.ensures ∙ ap (option_map undo_step) u.1)
+    ap is_some (c.next_undo.ensures ∙ ap (option_map undo_step) (newest g (goal.at.unwrap-step-requires g c).After-next_undo).1)
 
 pub invariant_of-self : goal.invariant_of-self
 invariant_of-self g c =
-    let some = subst (λ (s : OpenFile _). 0 < left_in s.file.history c.args.tx.0 (tx_of s.file c.args.tx.0)) (sym c.self.view_is) c.requires in
-    let u = undo_there c.self.inside.log.changes c.args.tx.0 (tx_in c.self.inside.log c.args.tx.0) some in
+    let places = goal.at.invariant_of-self g c in
+    let u = newest g places.After-next_undo in
     undo_kept _ _ _ c.self.inside.log c.self.invariant c.compensate-lsn.ensures.kept _ _ _ c.compensate-lsn.new.self c.args.tx u.0 c.unwrap-step.result c.in-Ok.ensures.answered.soundness c.in-Ok.ensures.answered.limit u.1 u.2 u.3
-    (step_is c.unwrap-step.result (undo_step u.0) (sym c.unwrap-step.ensures ∙ c.next_undo.ensures ∙ ap (option_map undo_step) u.1)) c.in-Ok.ensures.ok c.compensate-lsn.ensures.after
+    (step_of g places.After-set-arg-1 u.0 u.1) c.in-Ok.ensures.ok c.compensate-lsn.ensures.after
 
 pub returns-in-Ok-clause-ok : goal.returns-in-Ok-clause-ok
 returns-in-Ok-clause-ok g c =
@@ -32,19 +43,19 @@ returns-in-Ok-clause-ok g c =
 
 pub returns-in-Ok-clause-opening : goal.returns-in-Ok-clause-opening
 returns-in-Ok-clause-opening g c = λ sound.
-    let some = subst (λ (s : OpenFile _). 0 < left_in s.file.history c.args.tx.0 (tx_of s.file c.args.tx.0)) (sym c.self.view_is) c.requires in
-    let u = undo_there c.self.inside.log.changes c.args.tx.0 (tx_in c.self.inside.log c.args.tx.0) some in
+    let places = goal.at.returns-in-Ok-clause-opening g c in
+    let u = newest g places.After-next_undo in
     let here = ap (λ (s : OpenFile _). g.T.TableState.sound s.table) c.self.view_is ∙ sound in
     ap (λ (f : File). f.opening) (undo_file_is _ _ _ c.self.inside.log c.self.invariant c.compensate-lsn.ensures.kept (g.T.TableState.contents c.set.new.self) c.compensate-lsn.new.self c.args.tx u.0 c.unwrap-step.result u.2
-    (step_is c.unwrap-step.result (undo_step u.0) (sym c.unwrap-step.ensures ∙ c.next_undo.ensures ∙ ap (option_map undo_step) u.1)) (c.in-Ok.ensures.ok here) c.compensate-lsn.ensures.after)
+    (step_of g places.After-set-arg-1 u.0 u.1) (c.in-Ok.ensures.ok here) c.compensate-lsn.ensures.after)
     ∙ ap (λ (s : OpenFile _). s.file.opening) c.self.view_is
 
 -- taking back never wants room that isn't there
 pub returns-in-Err-NoRoom-clause-damaged : goal.returns-in-Err-NoRoom-clause-damaged
 returns-in-Err-NoRoom-clause-damaged g c = λ sound page is.
-    let some = subst (λ (s : OpenFile _). 0 < left_in s.file.history c.args.tx.0 (tx_of s.file c.args.tx.0)) (sym c.self.view_is) c.requires in
-    let u = undo_there c.self.inside.log.changes c.args.tx.0 (tx_in c.self.inside.log c.args.tx.0) some in
-    let step = step_is c.unwrap-step.result (undo_step u.0) (sym c.unwrap-step.ensures ∙ c.next_undo.ensures ∙ ap (option_map undo_step) u.1) in
+    let places = goal.at.returns-in-Err-NoRoom-clause-damaged g c in
+    let u = newest g places.After-next_undo in
+    let step = step_of g places.After-set-arg-1 u.0 u.1 in
     let here = ap (λ (s : OpenFile _). g.T.TableState.sound s.table) c.self.view_is ∙ sound in
     let full = c.in-Err-NoRoom.ensures.no_room here (ap Err c.in-Err-NoRoom.field-0-is) in
     undo_has_room (open_in c.self.inside.log) c.self.inside.log.changes (g.T.TableState.contents c.self.inside.table) c.self.inside.log.limits.records c.args.tx.0 u.0 u.3 u.2 (c.self.invariant.within here)
@@ -53,18 +64,11 @@ returns-in-Err-NoRoom-clause-damaged g c = λ sound page is.
 -- a stop changes nothing, and a step is told by its compensation
 pub returns-in-Ok-clause-table : goal.returns-in-Ok-clause-table
 returns-in-Ok-clause-table g c =
-    let some = subst (λ (s : OpenFile _). 0 < left_in s.file.history c.args.tx.0 (tx_of s.file c.args.tx.0)) (sym c.self.view_is) c.requires in
-    let u = undo_there c.self.inside.log.changes c.args.tx.0 (tx_in c.self.inside.log c.args.tx.0) some in
-    let step = step_is c.unwrap-step.result (undo_step u.0) (sym c.unwrap-step.ensures ∙ c.next_undo.ensures ∙ ap (option_map undo_step) u.1) in
-    record {
-      told = tells_one _ _ _ _ c.self.inside.log.records c.compensate-lsn.new.self.records _ (ap (λ (s : OpenFile _). s.log) c.self.view_is)
-          (undo_record _ _ _ c.self.inside.log c.self.invariant c.compensate-lsn.ensures.kept c.compensate-lsn.new.self c.args.tx u.0 u.1 c.compensate-lsn.ensures.after)
-          (λ sound. c.in-Ok.ensures.ok (ap (λ (s : OpenFile _). g.T.TableState.sound s.table) c.self.view_is ∙ sound) ∙ ap (λ (s : UndoStep). set_to (g.T.TableState.contents c.self.inside.table) s.key s.before) step ∙ ap (λ (s : OpenFile _). set_to (g.T.TableState.contents s.table) u.0.key u.0.before) c.self.view_is);
-      soundness = c.in-Ok.ensures.answered.soundness ∙ ap (λ (s : OpenFile _). g.T.TableState.sound s.table) c.self.view_is;
-      origin = c.in-Ok.ensures.answered.origin ∙ ap (λ (s : OpenFile _). g.T.TableState.origin s.table) c.self.view_is;
-      device = c.in-Ok.ensures.answered.device ∙ ap (λ (s : OpenFile _). g.T.TableState.device_failures s.table) c.self.view_is;
-      damages = inl (c.in-Ok.ensures.answered.damages ∙ ap (λ (s : OpenFile _). g.T.TableState.damages s.table) c.self.view_is);
-    }
+    let places = goal.at.returns-in-Ok-clause-table g c in
+    let u = newest g places.After-next_undo in
+    changes_set g.T.TableState _ _ _ _ _ c.self.view_is c.in-Ok.ensures.answered
+    (undo_record _ _ _ c.self.inside.log c.self.invariant c.compensate-lsn.ensures.kept c.compensate-lsn.new.self c.args.tx u.0 u.1 c.compensate-lsn.ensures.after)
+    (λ sound. c.in-Ok.ensures.ok sound ∙ ap (λ (s : UndoStep). set_to (g.T.TableState.contents c.self.inside.table) s.key s.before) (step_of g places.After-set-arg-1 u.0 u.1))
 
 pub returns-in-Err-Device-clause-table : goal.returns-in-Err-Device-clause-table
 returns-in-Err-Device-clause-table g c = search rules

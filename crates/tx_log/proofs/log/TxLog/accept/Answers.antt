@@ -11,7 +11,7 @@ use Rattle.tx_log.proofs.HoldCalls.{IsFree, free_key, accepted_keys}
 use Rattle.tx_log.specs.Holdings.{held, IsHeld}
 use Rattle.tx_log.specs.OpenTxs.{opens}
 use Rattle.tx_log.specs.declared.holding.Holding.{Holding}
-use Rattle.tx_log.proofs.KeptLogLemmas.{IsSized, active_rollback, open_of_phase, sized, counted_key, held_of_free, some_of, state_use, state_len, recounted, none_is}
+use Rattle.tx_log.proofs.KeptLogLemmas.{IsSized, active_open, active_calm, sized, counted_key, held_of_free, some_of, state_use, state_len, recounted, none_is}
 use Rattle.tx_log.proofs.PlaceOf.{read_at, write_at}
 use Rattle.indexmap.specs.IndexMap.{with_value_at}
 use Rattle.tx_log.proofs.OpenTxLemmas.{found_fits, txs_stay}
@@ -19,7 +19,7 @@ use Rattle.tx_log.proofs.LogStepLemmas.{accepted, IsAccepted}
 use Rattle.tx_log.proofs.LogStateLemmas.{accept_state, kept_turned}
 use Rattle.tx_log.specs.Finds.{finding, PutsAt}
 use Rattle.tx_log.specs.Log.{kept_of, chain}
-use Rattle.tx_log.specs.LogState.{LogState, phase_in, history_in, open_in, use_in, update_in}
+use Rattle.tx_log.specs.LogState.{LogState, history_in, open_in, use_in, update_in}
 use Rattle.tx_log.specs.Owners.{holder_of}
 use Rattle.tx_log.specs.Walks.{change_in, is_at, takes_out}
 use Rattle.tx_log.specs.declared.log.TxLog.TheInside.{Inside}
@@ -27,7 +27,6 @@ use Rattle.tx_log.specs.declared.log_record.LogRecord.{LogRecord}
 use Rattle.tx_log.specs.declared.log_record.LogRecord.TheVariants.{Update}
 use Rattle.tx_log.specs.declared.mark.Mark.{Mark}
 use Rattle.tx_log.specs.declared.open_tx.OpenTx.{OpenTx}
-use Rattle.tx_log.specs.declared.phase.Phase.TheVariants.{Active}
 use Rattle.tx_log.proofs.log.TxLog.accept.Goals as goal
 use Rattle.tx_log.proofs.log.TxLog.accept.Goals.{After-index, After-raise-was, After-index_mut-open_tx}
 
@@ -72,11 +71,7 @@ module _ (c : After-index_mut-open_tx) where
   same_entry found = some_of c.index_mut-open_tx.result.now c.index.result.now (sym (read_at c.self.inside.txs c.args.tx.0 c.place_of-at.result c.index_mut-open_tx.result.now c.place_of-at.ensures.stands c.index_mut-open_tx.ensures.value) ∙ found)
 
 pub place_of-at-requires : goal.place_of-at-requires
-place_of-at-requires c =
-    let l = c.self.inside in
-    let t = c.args.tx.0 in
-    let some = open_of_phase (kept_of (reverse l.records.items)) l.txs.entries t Active (ap (λ (s : LogState). phase_in s t) c.self.view_is ∙ c.requires.active) in
-    some
+place_of-at-requires c = active_open c.self.inside _ c.args.tx.0 c.self.view_is c.requires.active
 
 pub raise-was-requires-clause-there : goal.raise-was-requires-clause-there
 raise-was-requires-clause-there c =
@@ -176,7 +171,7 @@ module _ (c : goal.After-self-4-1) where
         saves_same = ap (λ (x : OpenTx). x.saves.items) same;
         last_new = refl;
         live_new = ap (λ (x : OpenTx). x.live + 1) same;
-        calm = active_rollback (kept_of rs) l.txs.entries c.args.tx.0 e now.found (ap (λ (s : LogState). phase_in s c.args.tx.0) c.self.view_is ∙ c.requires.active);
+        calm = active_calm l _ c.args.tx.0 e c.self.view_is c.requires.active now.found;
         left_same = ap (λ (x : OpenTx). x.left) same;
         absent_new = recounted c.recount-open_tx.result n.absent e.absent c.raise-was.result _ c.is_none-will.result _ was will_is (ap (λ (x : OpenTx). x.absent) same) c.recount-open_tx.ensures;
         pending_one = refl;

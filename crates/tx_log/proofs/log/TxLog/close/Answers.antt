@@ -9,7 +9,7 @@ use Rattle.tx_log.proofs.OpenTxReadLemmas.{entry_chain, left_stored}
 use Rattle.tx_log.specs.Holdings.{held}
 use Rattle.tx_log.specs.Walks.{is_at}
 use Rattle.tx_log.specs.declared.log_record.LogRecord.{LogRecord}
-use Rattle.tx_log.proofs.KeptLogLemmas.{open_of_tx, active_rollback, sized, kept_now}
+use Rattle.tx_log.proofs.KeptLogLemmas.{open_of_tx, active_calm, sized, kept_now}
 use Rattle.tx_log.proofs.StageLemmas.{IsMove, moved_log, moved_view}
 use Rattle.tx_log.proofs.OpenTxLemmas.{found_fits}
 use Rattle.tx_log.proofs.PlaceOf.{read_at}
@@ -113,7 +113,7 @@ returns-then-is_staying-clause-active c = λ active.
     let t = c.args.tx.0 in
     let e = c.index.result.now in
     let found = read_at l.txs t c.place_of-at.result e c.place_of-at.ensures.stands c.index.ensures in
-    let rollback_is = active_rollback (kept_of (reverse l.records.items)) l.txs.entries t e found (ap (λ (s : LogState). phase_in s t) c.self.view_is ∙ active) in
+    let rollback_is = active_calm l _ t e c.self.view_is active found in
     absurd (let no : false ≡ true = sym (ap stays_at rollback_is) ∙ sym c.is_staying.ensures ∙ c.if-is_staying.true in cc)
 
 pub returns-else-is_staying-clause-active : goal.returns-else-is_staying-clause-active

@@ -1,4 +1,4 @@
-use Rattle.std.proofs.Common.{ℕ, ◌≤◌, List, length, map, reverse, option_map, sym, ap, subst, ◌∙◌}
+use Rattle.std.proofs.Common.{◌≡◌, ℕ, ◌≤◌, List, length, map, reverse, option_map, sym, ap, subst, ◌∙◌}
 use Rattle.std.specs.List.{filter}
 use Rattle.std.proofs.lemmas.List.{length-reverse}
 use Rattle.tx_log.proofs.KeptLogLemmas.{sized}
@@ -9,6 +9,25 @@ use Rattle.tx_log.specs.LogState.{LogState, undo_in, undo_of, undo_step}
 use Rattle.tx_log.specs.Walks.{newest_in, is_after}
 use Rattle.tx_log.specs.declared.log_record.LogRecord.{LogRecord}
 use Rattle.tx_log.proofs.log.TxLog.next_undo.Goals as goal
+use Rattle.tx_log.proofs.log.TxLog.next_undo.Goals.{After-deref}
+
+-- the transaction's live changes that the rollback is to take back, read from its chain
+module _ (c : After-deref) where
+  abbrev above : List LogRecord
+  above = filter (is_after c.in-Some-rollback.rollback.to) (chain (reverse c.self.inside.records.items) c.in-Some.open_tx.now.last)
+
+  read_is : newest_in (filter (is_after c.in-Some-rollback.rollback.to) (chain (reverse c.deref.result.now) c.in-Some.open_tx.now.last)) ≡ newest_in above
+  read_is = ap (λ (log : List LogRecord). newest_in (filter (is_after c.in-Some-rollback.rollback.to) (chain (reverse log) c.in-Some.open_tx.now.last))) c.deref.ensures.value
+
+  answer_is : option_map undo_step (first (map noted above)) ≡ option_map undo_step (undo_in c.args.self.now c.args.tx.0)
+  answer_is =
+      let l = c.self.inside in
+      let t = c.args.tx.0 in
+      let e = c.in-Some.open_tx.now in
+      let found = sym c.in-Some.ensures in
+      ap (λ us. option_map undo_step (first (map noted (filter (is_after c.in-Some-rollback.rollback.to) us)))) (entry_chain (reverse l.records.items) l.txs.entries l.begun l.pending l.gone t e c.self.invariant.log_kept found)
+      ∙ ap (option_map undo_step) (sym (undo_is (reverse l.records.items) l.txs.entries l.begun l.pending l.gone t c.in-Some-rollback.rollback e c.self.invariant.log_kept found c.in-Some-rollback.is))
+      ∙ ap (λ (s : LogState). option_map undo_step (undo_in s t)) c.self.view_is
 
 pub returns-in_default : goal.returns-in_default
 returns-in_default c =
@@ -35,24 +54,10 @@ returns-in_default-rollback c =
 
 pub returns-in-Some-newest_above : goal.returns-in-Some-newest_above
 returns-in-Some-newest_above c =
-    let l = c.self.inside in
-    let t = c.args.tx.0 in
-    let e = c.in-Some.open_tx.now in
-    let found = sym c.in-Some.ensures in
-    undo_case (filter (is_after c.in-Some-rollback.rollback.to) (chain (reverse l.records.items) e.last)) c.in-Some-newest_above.change
-    (c.in-Some-newest_above.ensures ∙ ap (λ (log : List LogRecord). newest_in (filter (is_after c.in-Some-rollback.rollback.to) (chain (reverse log) e.last))) c.deref.ensures.value)
-    ∙ ap (λ us. option_map undo_step (first (map noted (filter (is_after c.in-Some-rollback.rollback.to) us)))) (entry_chain (reverse l.records.items) l.txs.entries l.begun l.pending l.gone t e c.self.invariant.log_kept found)
-    ∙ ap (option_map undo_step) (sym (undo_is (reverse l.records.items) l.txs.entries l.begun l.pending l.gone t c.in-Some-rollback.rollback e c.self.invariant.log_kept found c.in-Some-rollback.is))
-    ∙ ap (λ (s : LogState). option_map undo_step (undo_in s t)) c.self.view_is
+    let place = (goal.at.returns-in-Some-newest_above c).After-deref in
+    undo_case (above place) c.in-Some-newest_above.change (c.in-Some-newest_above.ensures ∙ read_is place) ∙ answer_is place
 
 pub returns-in-None : goal.returns-in-None
 returns-in-None c =
-    let l = c.self.inside in
-    let t = c.args.tx.0 in
-    let e = c.in-Some.open_tx.now in
-    let found = sym c.in-Some.ensures in
-    no_undo_case (filter (is_after c.in-Some-rollback.rollback.to) (chain (reverse l.records.items) e.last))
-    (c.in-None.ensures ∙ ap (λ (log : List LogRecord). newest_in (filter (is_after c.in-Some-rollback.rollback.to) (chain (reverse log) e.last))) c.deref.ensures.value)
-    ∙ ap (λ us. option_map undo_step (first (map noted (filter (is_after c.in-Some-rollback.rollback.to) us)))) (entry_chain (reverse l.records.items) l.txs.entries l.begun l.pending l.gone t e c.self.invariant.log_kept found)
-    ∙ ap (option_map undo_step) (sym (undo_is (reverse l.records.items) l.txs.entries l.begun l.pending l.gone t c.in-Some-rollback.rollback e c.self.invariant.log_kept found c.in-Some-rollback.is))
-    ∙ ap (λ (s : LogState). option_map undo_step (undo_in s t)) c.self.view_is
+    let place = (goal.at.returns-in-None c).After-deref in
+    no_undo_case (above place) (c.in-None.ensures ∙ read_is place) ∙ answer_is place
