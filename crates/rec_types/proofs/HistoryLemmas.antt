@@ -4,7 +4,7 @@ use Rattle.std.proofs.lemmas.Bool.Decides.{nat_tests}
 use Rattle.rec_types.specs.History.{Change, live_of, taken_back, live_from, take_back, take_newest, undo_last}
 use Rattle.rec_types.specs.Kept.{Kept, change_of, history_of, newest_or, newest_from, newest_live, is_own, undone, undone_or}
 
-live_of-taken_back : (t : ℕ) (c : Change) → live_of t (taken_back c) ≡ false
+pub live_of-taken_back : (t : ℕ) (c : Change) → live_of t (taken_back c) ≡ false
 live_of-taken_back t c = at (eqb c.tx t)
   where
     at : (b : Bool) → b && false ≡ false

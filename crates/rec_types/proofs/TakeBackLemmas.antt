@@ -82,7 +82,7 @@ none_at t x (d ∷ ds) only none =
     let parts = none_or (newest_live t ds) (is_own t d) d none in
     (λ live here. absurd (cc (sym parts.1 ∙ is_own-of t d (only.0 live here) live)), none_at t x ds only.1 parts.0)
 
-apart_of : (a b : List ℕ) → (a ≡ b → ⊥) → same_key a b ≡ false
+pub apart_of : (a b : List ℕ) → (a ≡ b → ⊥) → same_key a b ≡ false
 apart_of a b differ = at (same_key a b) refl
   where
     at : (s : Bool) → same_key a b ≡ s → same_key a b ≡ false

@@ -10,22 +10,7 @@ use Rattle.record_file.specs.declared.fault.GetFault.TheVariants as get_faults
 use Rattle.record_file.specs.Abstract.{OpenFile, Tells}
 use Rattle.record_file.specs.Outside.{get_cause, by_memory}
 use Rattle.record_file.specs.Runs.{Called, Seen, Step, Run, Answers, seen}
-
--- nothing was written
-pub tells_nothing : (sound : Bool) (m n : Contents) (old new : List LogRecord) → n ≡ m → new ≡ old → Tells sound m old n new
-tells_nothing sound m n old new same is = ([], is ∙ sym (append-nil old), λ _. same, λ _. same)
-
--- what a run sees where the table and the log stay
-pub same_but_file : {T : Type 0} (t : Ghosts T) (old new : OpenFile T) → new.table ≡ old.table → new.log ≡ old.log → seen t new ≡ record (seen t old) { file = new.file }
-same_but_file t old new table log i = record {
-  file = new.file;
-  log = log i;
-  records = t.contents (table i);
-  sound = t.sound (table i);
-  failures = t.device_failures (table i);
-  refusals = t.memory_refusals (table i);
-  damages = t.damages (table i);
-}
+use Rattle.record_file.proofs.LogGrowthLemmas.{tells_none}
 
 -- a call that asks the table nothing
 pub quiet_step : (old new : Seen) (called : Called) → new ≡ record old { file = new.file } → Answers old called false false new → Step old (record { called = called; failed = false; refused = false }) new
@@ -33,7 +18,7 @@ quiet_step old new called same answer = record {
   failures = ap (λ (s : Seen). s.failures) same;
   refusals = ap (λ (s : Seen). s.refusals) same;
   sound = ap (λ (s : Seen). s.sound) same;
-  told = tells_nothing old.sound old.records new.records old.log new.log (ap (λ (s : Seen). s.records) same) (ap (λ (s : Seen). s.log) same);
+  told = tells_none old.sound old.records new.records old.log new.log (ap (λ (s : Seen). s.records) same) (ap (λ (s : Seen). s.log) same);
   answer = answer;
 }
 
@@ -45,17 +30,3 @@ quiet old new called same answer = (new, quiet_step old new called same answer, 
 pub asks : (old new : Seen) (called : Called) (failed refused : Bool) → new.failures ≡ counted old.failures failed → new.refusals ≡ counted old.refusals refused → new.sound ≡ old.sound → Tells old.sound old.records old.log new.records new.log → Answers old called failed refused new
     → Run old (record { called = called; failed = failed; refused = refused } ∷ []) new
 asks old new called failed refused failures refusals sound told answer = (new, record { failures = failures; refusals = refusals; sound = sound; told = told; answer = answer }, refl)
-
--- a refusal leaves all that a run sees
-pub refused_seen : {T A F : Type 0} (t : Ghosts T) (old new : OpenFile T) (refusal : Option F) (answer : Result A F) → IfSome refusal (λ fault. (answer ≡ Err fault) × (new ≡ old)) → IfSome refusal (λ fault. (answer ≡ Err fault) × (seen t new ≡ seen t old))
-refused_seen t old new None answer is = is
-refused_seen t old new (Some fault) answer is = (is.0, ap (seen t) is.1)
-
--- a look never wants memory
-pub get_wants_none : {A : Type 0} (answer : Result A GetFault) → false ≡ by_memory (get_cause answer)
-get_wants_none (Ok found) = refl
-get_wants_none (Err get_faults.NoSuchTx) = refl
-get_wants_none (Err get_faults.Rolling) = refl
-get_wants_none (Err (get_faults.Held owner)) = refl
-get_wants_none (Err get_faults.Device) = refl
-get_wants_none (Err (get_faults.Damaged page)) = refl

@@ -13,13 +13,8 @@ use Rattle.record_file.specs.Steps.{Becomes}
 use Rattle.record_file.proofs.OpenTxLemmas.{same_tx, same_tx-is, get-remove_tx}
 use Rattle.recfile.specs.Examples.{change, four_changes, two_taken_back}
 use Rattle.recfile.specs.Ending.{undone_in, without, rest_of, below, IsWholeTx, AbortsWhole, EndsOne, EndsOpen, EndsBelow, EndsAll}
-
-live_of-taken_back : (t : ℕ) (c : Change) → live_of t (taken_back c) ≡ false
-live_of-taken_back t c = at (eqb c.tx t)
-  where
-    at : (b : Bool) → b && false ≡ false
-    at true = refl
-    at false = refl
+use Rattle.rec_types.proofs.HistoryLemmas.{live_of-taken_back}
+use Rattle.tx_log.proofs.OpenCount.{same_txs}
 
 -- among the transactions below the next number is this one
 next_below : (txs : Transactions) (n t : ℕ) → is_open txs n ≡ true → below txs (suc n) t ≡ cond (eqb t n) true (below txs n t)
@@ -119,9 +114,6 @@ becomes_as old new h x y is same = is ∙ (λ i. record old { opening = new.open
 -- a file becomes itself
 pub becomes_same : (old : File) → Becomes old old.history old.txs old
 becomes_same old = refl
-
-same_txs : (m n : Transactions) → ((q : ℕ) → get m q ≡ get n q) → m ≡ n
-same_txs m n same = same_map nat_cmp_total nat_cmp-IsAntisymmetric m n same
 
 -- each open transaction has a number from 1 on
 abbrev pub Numbers : File → Type 0

@@ -5,6 +5,7 @@ use Rattle.std.specs.FinMap.{get, insert, remove, get-insert, get-remove, same_m
 use Rattle.std.specs.Ordering.{nat_cmp, eq_by_cmp}
 use Rattle.std.specs.Cmp.{nat_cmp_total, eq_by_cmp_equiv}
 use Rattle.tx_log.specs.Transactions.{Transactions, Tx, is_open}
+use Rattle.tx_log.proofs.OpenCount.{same_txs}
 
 -- whether two numbers are the same
 abbrev pub same_tx : ℕ → ℕ → Bool
@@ -41,9 +42,6 @@ open-remove txs t q = ap is_some (get-remove_tx txs t q) ∙ at (same_tx q t)
     at : (b : Bool) → is_some (cond b None (get txs q)) ≡ cond b false (is_open txs q)
     at true = refl
     at false = refl
-
-same_txs : (m n : Transactions) → ((q : ℕ) → get m q ≡ get n q) → m ≡ n
-same_txs m n same = same_map nat_cmp_total nat_cmp-IsAntisymmetric m n same
 
 -- what is told of a transaction last is what is known of it
 pub insert-insert_tx : (txs : Transactions) (t : ℕ) (old new : Tx) → insert (insert txs t old) t new ≡ insert txs t new

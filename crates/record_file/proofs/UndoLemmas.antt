@@ -8,6 +8,7 @@ use Rattle.rec_types.specs.Kept.{Kept, change_of, history_of, BeforesFit, OnlyOf
 use Rattle.rec_types.proofs.ContentsLemmas.{set_to-twice, set_to-same, set_to-other, same_key-is}
 use Rattle.record_file.specs.Abstract.{File, open_of, records_of}
 use Rattle.record_file.proofs.RunLemmas.{KeptRun}
+use Rattle.rec_types.proofs.TakeBackLemmas.{apart_of}
 
 -- what a change's call answered, read off the list of answers
 pub answered_is : (cs : List Kept) (m : Contents) (earlier later : List Change) (c : Change) → BeforesFit m cs → history_of cs ≡ earlier ++ c ∷ later → IsTrue c.live → slice_get (map (λ (c : Kept). c.before) cs) (length earlier) ≡ Some (get (replay m earlier) c.key)
@@ -25,14 +26,6 @@ answered_is (d ∷ ds) m (e ∷ earlier) later c fit is live =
 abbrev pub NoneLiveAt : List ℕ → List Change → Type 0
 NoneLiveAt x [] = Unit {0}
 NoneLiveAt x (d ∷ ds) = (IsTrue d.live → d.key ≡ x → ⊥) × NoneLiveAt x ds
-
--- keys that differ are told apart
-pub apart_of : (a b : List ℕ) → (a ≡ b → ⊥) → same_key a b ≡ false
-apart_of a b differ = at (same_key a b) refl
-  where
-    at : (s : Bool) → same_key a b ≡ s → same_key a b ≡ false
-    at true same = absurd (differ (same_key-is a b same))
-    at false same = same
 
 -- a record put at a key passes over the changes elsewhere
 pub replay_past : (h : List Change) (m : Contents) (x : List ℕ) (w : Option (List ℕ)) → NoneLiveAt x h → replay (set_to m x w) h ≡ set_to (replay m h) x w

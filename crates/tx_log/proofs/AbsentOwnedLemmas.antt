@@ -12,10 +12,12 @@ use Rattle.rec_types.specs.History.{Change, is_pending, replay, applied}
 use Rattle.rec_types.specs.Kept.{Kept, change_of, history_of, is_own, newest_live, undone_or, undone, OnlyOf, IsOwned}
 use Rattle.tx_log.proofs.Chains.{same_number}
 use Rattle.tx_log.proofs.Counts.{history-push}
-use Rattle.tx_log.proofs.KeyLemmas.{same_key-is, same_key-sym, get-set_to}
+use Rattle.tx_log.proofs.KeyLemmas.{get-set_to}
 use Rattle.tx_log.proofs.Lives.{single, lives}
 use Rattle.tx_log.proofs.OwnerLemmas.{kept_at, and_left, and_right}
 use Rattle.tx_log.specs.Owners.{absence, absent}
+use Rattle.rec_types.proofs.ContentsLemmas.{same_key-is, same_key-sym}
+use Rattle.rec_types.proofs.Sizes.{has-set_to}
 
 -- what stands for the absence of a record
 abbrev pub lack : Option (List ℕ) → Option (List ℕ)
@@ -138,14 +140,6 @@ lacks (Some c) = not (is_some c.after)
 some_lack : (w : Option (List ℕ)) → is_some (lack w) ≡ not (is_some w)
 some_lack None = refl
 some_lack (Some r) = refl
-
--- which keys are there after one is set
-pub has-set_to : (m : Contents) (k : List ℕ) (w : Option (List ℕ)) (q : List ℕ) → has (set_to m k w) q ≡ cond (same_key q k) (is_some w) (has m q)
-has-set_to m k w q = ap is_some (get-set_to m k w q) ∙ some_cond (same_key q k)
-  where
-    some_cond : (b : Bool) → is_some (cond b w (maps.get m q)) ≡ cond b (is_some w) (has m q)
-    some_cond true = refl
-    some_cond false = refl
 
 -- a key is out where the newest change at it takes it out
 pub has-gone : (us : List Kept) (x : List ℕ) → has (gone us) x ≡ lacks (find (kept_at x) us)

@@ -13,7 +13,7 @@ use Rattle.tx_log.proofs.Chains.{same_number, unequal}
 use Rattle.tx_log.proofs.Counts.{count}
 use Rattle.tx_log.proofs.Lives.{single, lives, stack_is_lives}
 use Rattle.tx_log.proofs.OpenTxLemmas.{found_fits, fit-put, opens-remove, opens-more, txs-remove, txs-put}
-use Rattle.tx_log.proofs.OwnerLemmas.{owned-fewer, begun-more, and_left}
+use Rattle.tx_log.proofs.OwnerLemmas.{owned-fewer, and_left}
 use Rattle.tx_log.proofs.OpenTxReadLemmas.{lives_length, phase_is}
 use Rattle.tx_log.proofs.KeptLogLemmas.{tx_of_entry, some_of}
 use Rattle.tx_log.proofs.LogStateLemmas.{state}
@@ -31,6 +31,8 @@ use Rattle.tx_log.specs.declared.log_record.LogRecord.{LogRecord}
 use Rattle.tx_log.specs.declared.open_tx.OpenTx.{OpenTx}
 use Rattle.tx_log.specs.declared.phase.Phase.TheVariants.{Active}
 use Rattle.tx_log.specs.declared.phase.Rollback.{Rollback}
+use Rattle.rec_types.proofs.TakeBackLemmas.{begun-more}
+use Rattle.tx_log.proofs.PlaceLemmas.{length_single}
 
 -- ---- the end of a transaction
 
@@ -46,10 +48,6 @@ one_of true false false h n m k e = e
 length_cond : (b : Bool) (c : Change) (h : List Change) → length (cond b (c ∷ h) h) ≡ cond b (suc (length h)) (length h)
 length_cond true c h = refl
 length_cond false c h = refl
-
-length_single : (us : List Kept) (b : Bool) (c : Kept) → length (us ++ single b c) ≡ cond b (suc (length us)) (length us)
-length_single us true c = omega (arith, length-append us (c ∷ []))
-length_single us false c = ap length (append-nil us)
 
 -- without one transaction as many live changes go as it has
 pub count-without : (is_open : ℕ → Bool) (t : ℕ) (cs : List Kept) → is_open t ≡ true → count (is_pending is_open) cs ≡ count (is_pending (without t is_open)) cs + length (lives t cs)

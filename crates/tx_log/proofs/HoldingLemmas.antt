@@ -9,7 +9,6 @@ use Rattle.rec_types.specs.declared.transaction.TxId.{TxId}
 use Rattle.tx_log.specs.declared.log_record.LogRecord.TheVariants.{Update, Compensation}
 use Rattle.tx_log.proofs.AbsentOwnedLemmas.{without}
 use Rattle.tx_log.proofs.Chains.{same_number}
-use Rattle.tx_log.proofs.KeyLemmas.{same_key-is, same_key-refl, same_key-sym}
 use Rattle.tx_log.proofs.Lives.{lives, stack_is_lives, eqb_sym}
 use Rattle.tx_log.proofs.OwnerLemmas.{kept_at, unowned, owned_by, none_other, and_left, and_right}
 use Rattle.tx_log.proofs.LogStepLemmas.{find_noted}
@@ -19,6 +18,7 @@ use Rattle.tx_log.specs.Owners.{owner_of, other_than}
 use Rattle.tx_log.specs.Walks.{change_in, is_at, takes_out}
 use Rattle.tx_log.specs.declared.holding.Holding.{Holding}
 use Rattle.tx_log.specs.declared.log_record.LogRecord.{LogRecord}
+use Rattle.rec_types.proofs.ContentsLemmas.{same_key-is, same_key-sym, same_key-of}
 
 -- two tests of keys are one
 pub same_bytes-key : (a b : List ℕ) → same_bytes a b ≡ same_key a b
@@ -209,8 +209,8 @@ accepted_hold lsn prev tx key before after rs is_open holds h absent is there mi
     let w : Option Holding = Some (record { owner = tx; live = h.live + 1; absent = absent }) in
     record {
       mine = refl;
-      live_there = ap (λ (b : Bool). length (cond b (r ∷ filter (is_at key) us) (filter (is_at key) us))) (same_key-refl key key refl) ∙ (let more : suc (live_at key us) ≡ h.live + 1 = omega (arith, now) in more) ∙ sym (ap (λ (b : Bool). cond b (h.live + 1) 0) own);
-      absent_there = ap (λ (b : Bool). takes_out (option_map change_in (cond b (Some r) (find (is_at key) us)))) (same_key-refl key key refl) ∙ sym absent_is ∙ sym (ap (λ (b : Bool). cond b absent false) own);
+      live_there = ap (λ (b : Bool). length (cond b (r ∷ filter (is_at key) us) (filter (is_at key) us))) (same_key-of key key refl) ∙ (let more : suc (live_at key us) ≡ h.live + 1 = omega (arith, now) in more) ∙ sym (ap (λ (b : Bool). cond b (h.live + 1) 0) own);
+      absent_there = ap (λ (b : Bool). takes_out (option_map change_in (cond b (Some r) (find (is_at key) us)))) (same_key-of key key refl) ∙ sym absent_is ∙ sym (ap (λ (b : Bool). cond b absent false) own);
       live_elsewhere = λ q apart. ap (λ (b : Bool). length (cond b (r ∷ filter (is_at q) us) (filter (is_at q) us))) apart;
       absent_elsewhere = λ q apart. ap (λ (b : Bool). takes_out (option_map change_in (cond b (Some r) (find (is_at q) us)))) apart;
       others = λ u apart. (ap (λ (b : Bool). cond b (h.live + 1) 0) apart ∙ sym (other_live h t u mine apart) ∙ ap (live_of u) (sym there), ap (λ (b : Bool). cond b absent false) apart ∙ sym (other_absent h t u mine idle_here apart) ∙ ap (absent_of u) (sym there));
@@ -235,7 +235,7 @@ holding_of rs is_open holds t u us is opened whole = hold_case (holds k) refl
     k = key_of u
 
     many : live_at k (stack t rs) ≡ suc (live_at k us)
-    many = ap (live_at k) whole ∙ ap (λ (b : Bool). length (cond b (u ∷ filter (is_at k) us) (filter (is_at k) us))) (same_key-refl k k refl)
+    many = ap (live_at k) whole ∙ ap (λ (b : Bool). length (cond b (u ∷ filter (is_at k) us) (filter (is_at k) us))) (same_key-of k k refl)
 
     own_case : (h : Holding) → holds k ≡ Some h → (b : Bool) → eqb h.owner.0 t ≡ b → cond b h.live 0 ≡ suc (live_at k us) → IsHolding rs holds t u us
     own_case h there true f e = record { hold = h; there = there; owner = same_number h.owner.0 t f; live = omega (arith, e) }

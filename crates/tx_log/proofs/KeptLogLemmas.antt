@@ -9,13 +9,12 @@ use Rattle.rec_types.specs.Contents.{Contents, set_to, has}
 use Rattle.rec_types.specs.History.{Change, is_pending, log_len, log_use, replay}
 use Rattle.rec_types.specs.declared.transaction.TxId.{TxId}
 use Rattle.rec_types.specs.Kept.{Kept, history_of, IsOwned, AllBegun}
-use Rattle.tx_log.proofs.AbsentOwnedLemmas.{only, pending_of, absent_in, absent-parts, absent_is_gone, gone, lack, len-set_to, none_of_len, has-set_to}
+use Rattle.tx_log.proofs.AbsentOwnedLemmas.{only, pending_of, absent_in, absent-parts, absent_is_gone, gone, lack, len-set_to, none_of_len}
 use Rattle.tx_log.proofs.Chains.{last_of-le}
 use Rattle.tx_log.proofs.Counts.{count, log_len_is, newest_of_stack, pending-undone}
 use Rattle.tx_log.proofs.Lives.{lives, stack_is_lives}
 use Rattle.tx_log.proofs.OpenTxLemmas.{get-txs_of, opens_is, found_fits, begun_of}
 use Rattle.tx_log.proofs.OwnerLemmas.{HeldBy, held-free}
-use Rattle.tx_log.proofs.KeyLemmas.{same_key-refl}
 use Rattle.tx_log.proofs.LogStepLemmas.{taken_out_is, chain_of}
 use Rattle.tx_log.proofs.WalkSteps.{IsStep}
 use Rattle.tx_log.specs.declared.undo_chain.LiveChange.{LiveChange}
@@ -36,6 +35,8 @@ use Rattle.tx_log.specs.declared.open_tx.OpenTx.{OpenTx}
 use Rattle.tx_log.specs.declared.phase.Rollback.{Rollback}
 use Rattle.tx_log.specs.declared.phase.Phase.{Phase}
 use Rattle.tx_log.specs.declared.phase.Phase.TheVariants.{Active}
+use Rattle.rec_types.proofs.ContentsLemmas.{same_key-of}
+use Rattle.rec_types.proofs.Sizes.{has-set_to}
 
 -- ---- the transaction that a call names
 
@@ -172,10 +173,6 @@ counted_key rs es begun pending gone_keys t prev x e kept found at is =
 
 -- ---- the state
 
--- the log's length is its history's
-pub state_len : (rs : List LogRecord) → AllWritten rs → log_len (history_of (kept_of rs)) ≡ length rs
-state_len rs w = log_len_is rs w
-
 -- the log's use is its length and the live changes of open transactions
 pub state_use : (rs : List LogRecord) (es : List (TxId × OpenTx)) (begun pending gone_keys : ℕ) → IsKept rs (finding es) begun pending gone_keys → log_use (is_open (txs_of (kept_of rs) es)) (history_of (kept_of rs)) ≡ length rs + pending
 state_use rs es begun pending gone_keys kept =
@@ -251,7 +248,7 @@ counted_change rs es begun pending gone_keys t e change kept found step =
     let had : not (is_some change.after) ≡ true → has (absent_in (only t) (kept_of rs)) x ≡ true = λ h.
     ap (λ m. has m x) (absent_is_gone t (kept_of rs) ∙ ap gone now)
     ∙ has-set_to (gone (map noted step.rest)) x (lack (new_of step.update)) x
-    ∙ ap (λ (b : Bool). cond b (is_some (lack (new_of step.update))) (has (gone (map noted step.rest)) x)) (same_key-refl x x refl)
+    ∙ ap (λ (b : Bool). cond b (is_some (lack (new_of step.update))) (has (gone (map noted step.rest)) x)) (same_key-of x x refl)
     ∙ lack_some (new_of step.update) (ap (λ (w : Option (List ℕ)). not (is_some w)) after_is ∙ h) in
     record {
       live = omega arith;

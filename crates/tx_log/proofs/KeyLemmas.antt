@@ -10,18 +10,6 @@ use Rattle.std.specs.Ordering.{eq_by_cmp, is_eq, nat_cmp}
 use Rattle.std.specs.declared.cmp.Ordering.TheVariants.{Less, Equal, Greater}
 use Rattle.rec_types.specs.Contents.{Contents, set_to, same_key}
 
--- keys that are told to be the same are equal
-pub same_key-is : (a b : List ℕ) → same_key a b ≡ true → a ≡ b
-same_key-is a b e = tells_apart exact_bytes a b e
-
--- equal keys are told to be the same
-pub same_key-refl : (a b : List ℕ) → a ≡ b → same_key a b ≡ true
-same_key-refl a b e = ap (same_key a) (sym e) ∙ ap is_eq (tied_itself nat_list_cmp_total a)
-
--- the test doesn't hang on which key comes first
-pub same_key-sym : (a b : List ℕ) → same_key a b ≡ same_key b a
-same_key-sym a b = (eq_by_cmp_equiv nat_list_cmp_total).symm a b
-
 number_case : (a b : Bool) → (m n : ℕ) → ltb m n ≡ a → eqb m n ≡ b → is_eq (cond a Less (cond b Equal Greater)) ≡ eqb n m
 number_case true b m n e f = grind (arith, nat_tests)
 number_case false true m n e f = grind (arith, nat_tests)

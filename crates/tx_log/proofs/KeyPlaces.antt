@@ -6,9 +6,9 @@ use Rattle.std.specs.Map.{lookup_key, values_of}
 use Rattle.indexmap.specs.IndexMap.{IndexMap, with_value_at, IsUnique, Updates}
 use Rattle.indexmap.proofs.CallerLemmas.{updates-with_value_at}
 use Rattle.tx_log.proofs.HoldingLemmas.{same_bytes-key}
-use Rattle.tx_log.proofs.KeyLemmas.{same_key-is}
 use Rattle.tx_log.specs.Holdings.{held, same_bytes, Places, HeldAt, busy}
 use Rattle.tx_log.specs.declared.holding.Holding.{Holding}
+use Rattle.rec_types.proofs.ContentsLemmas.{same_key-is}
 
 -- the test of keys is an equivalence
 pub same_bytes-equiv : IsEquivalence same_bytes

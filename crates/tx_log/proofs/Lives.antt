@@ -41,7 +41,7 @@ lives-push t (c ∷ cs) d = ap (λ us. us ++ single (is_own t c) c) (lives-push 
     push_assoc true d us vs = refl
     push_assoc false d us vs = refl
 
-and_false : (b : Bool) → (b && false) ≡ false
+pub and_false : (b : Bool) → (b && false) ≡ false
 and_false true = refl
 and_false false = refl
 

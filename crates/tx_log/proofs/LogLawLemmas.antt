@@ -6,7 +6,7 @@ use Rattle.std.proofs.lemmas.List.Elements.{filter-append}
 use Rattle.rec_types.specs.Kept.{Kept, is_own, newest_or, newest_live, undone_or, undone}
 use Rattle.tx_log.proofs.Chains.{differs, unequal, same_number, numbered-part}
 use Rattle.tx_log.proofs.Counts.{newest_of_stack, log_len_is}
-use Rattle.tx_log.proofs.Lives.{dead, eqb_sym}
+use Rattle.tx_log.proofs.Lives.{dead, eqb_sym, and_false}
 use Rattle.tx_log.proofs.LogIndex.{reverse_cons}
 use Rattle.tx_log.proofs.PlaceLemmas.{Rises, kept_rises}
 use Rattle.tx_log.specs.Log.{lsn_of, prev_of, tx_of_record, key_of, old_of, leads_to, is_update, last_of, noted, kept_of, stepped, stack, IsNumbered, Undoes, IsWritten, AllWritten}
@@ -69,10 +69,6 @@ up_to_last (r ∷ rs) t is = last_case (eqb (tx_of_record r) t) refl (up_to_last
     last_case false e rest = (λ own. absurd (let no : true ≡ false = sym own ∙ e in cc), rest)
 
 -- ---- the update that a compensation names is the only one
-
-and_false : (b : Bool) → (b && false) ≡ false
-and_false true = refl
-and_false false = refl
 
 -- an update among the records is known by its transaction and its prev
 abbrev IsKnown : LogRecord → LogRecord → Type 0

@@ -8,7 +8,6 @@ use Rattle.rec_types.specs.History.{log_len}
 use Rattle.rec_types.specs.Kept.{history_of, undone}
 use Rattle.rec_types.specs.LimitBounds.{Bounds}
 use Rattle.rec_types.specs.declared.transaction.TxId.{TxId}
-use Rattle.tx_log.proofs.KeptLogLemmas.{state_len}
 use Rattle.tx_log.proofs.LogIndex.{reverse-push}
 use Rattle.tx_log.specs.Finds.{Txs, finding}
 use Rattle.tx_log.specs.Log.{lsn_of, key_of, old_of, noted, last_of, record_at, kept_of, AllWritten}
@@ -20,6 +19,7 @@ use Rattle.tx_log.specs.OpenTxs.{txs_of}
 use Rattle.tx_log.specs.declared.log_record.LogRecord.{LogRecord}
 use Rattle.tx_log.specs.declared.log_record.LogRecord.TheVariants.{Update, Compensation}
 use Rattle.tx_log.specs.declared.open_tx.OpenTx.{OpenTx}
+use Rattle.tx_log.proofs.Counts.{log_len_is}
 
 -- the state that records and open transactions stand for
 abbrev pub state : List LogRecord → List (TxId × OpenTx) → ℕ → Bounds → Option (List ℕ) → LogState
@@ -54,7 +54,7 @@ accept_state records records_new es es_new begun limits room lsn prev tx key bef
     let rs = reverse records in
     let turned : reverse records_new ≡ r ∷ rs = ap reverse pushed ∙ reverse-push records r in
     let r_is : r ≡ update_in (state records es begun limits room) tx key before after = λ i. Update (lsn_is i) (prev_is i) tx key before after in
-    let len_is : lsn ≡ log_len (history_of (kept_of rs)) + 1 = lsn_is ∙ ap (λ n. n + 1) (sym (state_len rs w ∙ length-reverse records)) in
+    let len_is : lsn ≡ log_len (history_of (kept_of rs)) + 1 = lsn_is ∙ ap (λ n. n + 1) (sym (log_len_is rs w ∙ length-reverse records)) in
     let changes_are : kept_of (reverse records_new) ≡ kept_of rs ++ record { lsn = log_len (history_of (kept_of rs)) + 1; tx = tx.0; key = key; before = before; after = after; live = true } ∷ [] =
     ap kept_of turned ∙ ap (λ (n : ℕ). kept_of rs ++ record { lsn = n; tx = tx.0; key = key; before = before; after = after; live = true } ∷ []) len_is in
     let records_are = pushed ∙ ap (λ x. records ++ x ∷ []) r_is in

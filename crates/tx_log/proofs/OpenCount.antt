@@ -37,8 +37,8 @@ open-remove txs t q = ap is_some (get-remove_tx txs t q) ∙ at (same_no q t)
     at true = refl
     at false = refl
 
-same_nos : (m n : Transactions) → ((q : ℕ) → get m q ≡ get n q) → m ≡ n
-same_nos m n same = same_map nat_cmp_total nat_cmp-IsAntisymmetric m n same
+pub same_txs : (m n : Transactions) → ((q : ℕ) → get m q ≡ get n q) → m ≡ n
+same_txs m n same = same_map nat_cmp_total nat_cmp-IsAntisymmetric m n same
 
 -- how many of the transactions 1 to n are open
 abbrev pub open_up_to : Transactions → ℕ → ℕ
@@ -52,7 +52,7 @@ len_without txs t is = at (get txs t) refl is
     gone = open-remove txs t t ∙ ap (λ b. cond b false (is_open txs t)) (same_no-refl t)
 
     back : (tx : Tx) → get txs t ≡ Some tx → insert (remove txs t) t tx ≡ txs
-    back tx there = same_nos _ _ (λ q. get-insert_tx (remove txs t) t tx q ∙ ap (cond (same_no q t) (Some tx)) (get-remove_tx txs t q) ∙ here q (same_no q t) refl)
+    back tx there = same_txs _ _ (λ q. get-insert_tx (remove txs t) t tx q ∙ ap (cond (same_no q t) (Some tx)) (get-remove_tx txs t q) ∙ here q (same_no q t) refl)
       where
         here : (q : ℕ) (b : Bool) → same_no q t ≡ b → cond b (Some tx) (cond b None (get txs q)) ≡ get txs q
         here q true same = sym (ap (get txs) (same_no-is q t same) ∙ there)
@@ -81,7 +81,7 @@ fewer_up_to txs t (suc n) lt = λ i. cond (here i) 1 0 + fewer_up_to txs t n (om
 
 -- where each open transaction is one of 1 to n, those are all
 len-open_up_to : (n : ℕ) (txs : Transactions) → ((t : ℕ) → IsTrue (is_open txs t) → (0 < t) × (t ≤ n)) → len txs ≡ open_up_to txs n
-len-open_up_to zero txs within = ap len (same_nos txs empty (λ q. none q (get txs q) refl ∙ sym (get-empty nat_cmp q))) ∙ len-empty nat_cmp Tx
+len-open_up_to zero txs within = ap len (same_txs txs empty (λ q. none q (get txs q) refl ∙ sym (get-empty nat_cmp q))) ∙ len-empty nat_cmp Tx
   where
     none : (q : ℕ) (o : Option Tx) → get txs q ≡ o → get txs q ≡ None
     none q None is = is

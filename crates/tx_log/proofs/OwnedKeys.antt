@@ -19,7 +19,7 @@ use Rattle.rec_types.specs.History.{is_pending}
 use Rattle.rec_types.specs.declared.transaction.TxId.{TxId}
 use Rattle.rec_types.specs.Kept.{Kept, change_of, history_of, is_own}
 use Rattle.tx_log.proofs.Chains.{same_number}
-use Rattle.tx_log.proofs.KeyLemmas.{same_key-is, get-set_to}
+use Rattle.tx_log.proofs.KeyLemmas.{get-set_to}
 use Rattle.tx_log.proofs.Lives.{single, lives, stack_is_lives}
 use Rattle.tx_log.proofs.OpenTxLemmas.{opens_is, found_fits}
 use Rattle.tx_log.proofs.LogStepLemmas.{chain_of}
@@ -31,6 +31,7 @@ use Rattle.tx_log.specs.OpenTxs.{txs_of, opens}
 use Rattle.tx_log.specs.Transactions.{is_open}
 use Rattle.tx_log.specs.declared.log_record.LogRecord.{LogRecord}
 use Rattle.tx_log.specs.declared.open_tx.OpenTx.{OpenTx}
+use Rattle.rec_types.proofs.ContentsLemmas.{same_key-is}
 
 -- ---- what a map of owned keys has
 

@@ -4,9 +4,9 @@ use Rattle.std.specs.List.{find}
 use Rattle.rec_types.specs.Contents.{same_key}
 use Rattle.rec_types.specs.Kept.{Kept, change_of, history_of, is_own, newest_live, undone_or, undone, OnlyOf, IsOwned, AllBegun}
 use Rattle.tx_log.proofs.Chains.{same_number}
-use Rattle.tx_log.proofs.KeyLemmas.{same_key-is, same_key-refl}
 use Rattle.tx_log.proofs.Lives.{single, lives}
 use Rattle.tx_log.specs.Owners.{claims, owner_of, other_than, holder_of}
+use Rattle.rec_types.proofs.ContentsLemmas.{same_key-is, same_key-of}
 
 -- a test that is true holds
 pub true_is : (b : Bool) → b ≡ true → IsTrue b
@@ -65,11 +65,6 @@ pub begun-push : (n : ℕ) (cs : List Kept) (d : Kept) → AllBegun n cs → d.t
 begun-push n [] d is h = (h, tt)
 begun-push n (c ∷ cs) d is h = (is.0, begun-push n cs d is.1 h)
 
--- what was begun stays begun when more are
-pub begun-more : (n m : ℕ) (cs : List Kept) → n ≤ m → AllBegun n cs → AllBegun m cs
-begun-more n m [] h is = tt
-begun-more n m (c ∷ cs) h is = (let low = is.0 in omega arith, begun-more n m cs h is.1)
-
 -- ---- a change that no other transaction stands against
 
 -- each live change of an open transaction at the key is of this one
@@ -97,7 +92,7 @@ held_case is_open t x c cs is step true claim e =
     let only : OnlyOf c.tx c.key cs = is.0 (true_is c.live (and_left c.live (is_open c.tx) pending)) (true_is (is_open c.tx) (and_right c.live (is_open c.tx) pending)) in
     (λ live opened there. mine, held_from_only is_open t x cs (subst (λ k. OnlyOf t k cs) at (subst (λ u. OnlyOf u c.key cs) mine only)))
 held_case is_open t x c cs is step false claim e =
-    (λ live opened there. absurd (let all : claims is_open x (change_of c) ≡ true = ap (λ a. (a && is_open c.tx) && same_key c.key x) (is_true c.live live) ∙ ap (λ a. a && same_key c.key x) (is_true (is_open c.tx) opened) ∙ same_key-refl c.key x there in let no : true ≡ false = sym all ∙ claim in cc), step e)
+    (λ live opened there. absurd (let all : claims is_open x (change_of c) ≡ true = ap (λ a. (a && is_open c.tx) && same_key c.key x) (is_true c.live live) ∙ ap (λ a. a && same_key c.key x) (is_true (is_open c.tx) opened) ∙ same_key-of c.key x there in let no : true ≡ false = sym all ∙ claim in cc), step e)
 
 -- where no other holds a key, its live changes are the transaction's own
 pub held-free : (is_open : ℕ → Bool) (t : ℕ) (x : List ℕ) (cs : List Kept) → IsOwned is_open cs → holder_of is_open (history_of cs) t x ≡ None → HeldBy is_open t x cs

@@ -117,7 +117,7 @@ record AtPlace (t s : ℕ) (cs : List Kept) : Type 0 where
   counted : live_from (history_of cs) t (place_at t s cs) ≡ length (above_list t s cs)
   newest : newest_from cs t (place_at t s cs) ≡ first (above_list t s cs)
 
-length_single : (us : List Kept) (b : Bool) (c : Kept) → length (us ++ single b c) ≡ cond b (suc (length us)) (length us)
+pub length_single : (us : List Kept) (b : Bool) (c : Kept) → length (us ++ single b c) ≡ cond b (suc (length us)) (length us)
 length_single us true c = omega (arith, length-append us (c ∷ []))
 length_single us false c = ap length (append-nil us)
 

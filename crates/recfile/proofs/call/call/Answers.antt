@@ -5,8 +5,10 @@ use Rattle.record_file.specs.Outside.{put_cause, remove_cause, get_cause, rollba
 use Rattle.record_file.specs.Steps.{put_refusal, remove_refusal, get_refusal, rollback_refusal, abort_refusal, resume_refusal}
 use Rattle.record_file.specs.Runs.{seen, Begin, Put, Remove, Get, Savepoint, Release, RollbackTo, Abort, Resume, Commit, LogLen, LogUse}
 use Rattle.recfile.specs.Run.{HasReply}
-use Rattle.recfile.proofs.CallRunLemmas.{tells_nothing, same_but_file, quiet_step, quiet, asks, refused_seen, get_wants_none}
+use Rattle.recfile.proofs.CallRunLemmas.{quiet_step, quiet, asks}
 use Rattle.recfile.proofs.call.call.Goals as goal
+use Rattle.record_file.proofs.CallStepLemmas.{get_wants_none, refused_seen, same_but_file}
+use Rattle.record_file.proofs.LogGrowthLemmas.{tells_none}
 
 pub returns-in-Begin : goal.returns-in-Begin
 returns-in-Begin g c =
@@ -82,7 +84,7 @@ returns-in-Get g c =
     (record {
       events = record { called = Get c.in-Get.tx c.in-Get.key c.get.result; failed = by_device (get_cause c.get.result); refused = false } ∷ [];
       told = refl;
-      ran = asks old new (Get c.in-Get.tx c.in-Get.key c.get.result) (by_device (get_cause c.get.result)) false c.get.ensures.table.device c.get.ensures.memory c.get.ensures.table.soundness (tells_nothing old.sound old.records new.records old.log new.log c.get.ensures.table.same.0 c.get.ensures.table.same.2) ((refl, get_wants_none c.get.result), record { step = c.get.ensures.step; refused = refused_seen g.T.TableState c.args.file.now c.get.new.self (get_refusal c.args.file.now.file c.in-Get.tx.0 c.in-Get.key) c.get.result c.get.ensures.refused; refused_only = c.get.ensures.refused_only; same = c.get.ensures.table.same; damages = c.get.ensures.table.damages });
+      ran = asks old new (Get c.in-Get.tx c.in-Get.key c.get.result) (by_device (get_cause c.get.result)) false c.get.ensures.table.device c.get.ensures.memory c.get.ensures.table.soundness (tells_none old.sound old.records new.records old.log new.log c.get.ensures.table.same.0 c.get.ensures.table.same.2) ((refl, get_wants_none c.get.result), record { step = c.get.ensures.step; refused = refused_seen g.T.TableState c.args.file.now c.get.new.self (get_refusal c.args.file.now.file c.in-Get.tx.0 c.in-Get.key) c.get.result c.get.ensures.refused; refused_only = c.get.ensures.refused_only; same = c.get.ensures.table.same; damages = c.get.ensures.table.damages });
     })
 
 pub returns-in-Back : goal.returns-in-Back

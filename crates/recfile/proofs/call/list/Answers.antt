@@ -5,8 +5,9 @@ use Rattle.command_text.specs.declared.reply.Reply.TheVariants as replies
 use Rattle.record_file.specs.Outside.{entries_cause, by_device}
 use Rattle.record_file.specs.Runs.{seen, Entries}
 use Rattle.recfile.specs.Run.{HasReply}
-use Rattle.recfile.proofs.CallRunLemmas.{tells_nothing, asks}
+use Rattle.recfile.proofs.CallRunLemmas.{asks}
 use Rattle.recfile.proofs.call.list.Goals as goal
+use Rattle.record_file.proofs.LogGrowthLemmas.{tells_none}
 
 pub returns-in-Ok : goal.returns-in-Ok
 returns-in-Ok g c =
@@ -18,7 +19,7 @@ returns-in-Ok g c =
       events = record { called = Entries (Ok c.in-Ok.entries.items); failed = false; refused = told.memory.0 } ∷ [];
       told = refl;
       ran = asks old new (Entries (Ok c.in-Ok.entries.items)) false told.memory.0 told.table.device told.memory.1 told.table.soundness
-          (tells_nothing old.sound old.records new.records old.log new.log told.table.same.0 told.table.same.2)
+          (tells_none old.sound old.records new.records old.log new.log told.table.same.0 told.table.same.2)
           ((refl, told.memory.2), record { step = told.step; same = told.table.same; damages = told.table.damages });
     })
 
@@ -32,6 +33,6 @@ returns-in-Err g c =
       events = record { called = Entries (Err c.in-Err.fault); failed = failed; refused = told.memory.0 } ∷ [];
       told = refl;
       ran = asks old new (Entries (Err c.in-Err.fault)) failed told.memory.0 told.table.device told.memory.1 told.table.soundness
-          (tells_nothing old.sound old.records new.records old.log new.log told.table.same.0 told.table.same.2)
+          (tells_none old.sound old.records new.records old.log new.log told.table.same.0 told.table.same.2)
           ((refl, told.memory.2), record { step = told.step; same = told.table.same; damages = told.table.damages });
     }

@@ -11,7 +11,7 @@ use Rattle.tx_log.proofs.HoldCalls.{IsFree, free_key, accepted_keys}
 use Rattle.tx_log.specs.Holdings.{held, IsHeld}
 use Rattle.tx_log.specs.OpenTxs.{opens}
 use Rattle.tx_log.specs.declared.holding.Holding.{Holding}
-use Rattle.tx_log.proofs.KeptLogLemmas.{IsSized, active_open, active_calm, sized, counted_key, held_of_free, some_of, state_use, state_len, recounted, none_is}
+use Rattle.tx_log.proofs.KeptLogLemmas.{IsSized, active_open, active_calm, sized, counted_key, held_of_free, some_of, state_use, recounted, none_is}
 use Rattle.tx_log.proofs.PlaceOf.{read_at, write_at}
 use Rattle.indexmap.specs.IndexMap.{with_value_at}
 use Rattle.tx_log.proofs.OpenTxLemmas.{found_fits, txs_stay}
@@ -29,6 +29,7 @@ use Rattle.tx_log.specs.declared.mark.Mark.{Mark}
 use Rattle.tx_log.specs.declared.open_tx.OpenTx.{OpenTx}
 use Rattle.tx_log.proofs.log.TxLog.accept.Goals as goal
 use Rattle.tx_log.proofs.log.TxLog.accept.Goals.{After-index, After-raise-was, After-index_mut-open_tx}
+use Rattle.tx_log.proofs.Counts.{log_len_is}
 
 records_len : (l : Inside) → vec_len l.records ≡ length l.records.items
 records_len l = omega (arith, l.records.ok.0)
@@ -219,7 +220,7 @@ invariant_of-self c =
 pub returns-clause-lsn : goal.returns-clause-lsn
 returns-clause-lsn c =
     let l = c.self.inside in
-    ap (λ k. k + 1) (c.len.ensures ∙ records_len l ∙ sym (length-reverse l.records.items) ∙ sym (state_len (reverse l.records.items) c.self.invariant.log_kept.written) ∙ ap (λ (s : LogState). log_len (history_in s)) c.self.view_is)
+    ap (λ k. k + 1) (c.len.ensures ∙ records_len l ∙ sym (length-reverse l.records.items) ∙ sym (log_len_is (reverse l.records.items) c.self.invariant.log_kept.written) ∙ ap (λ (s : LogState). log_len (history_in s)) c.self.view_is)
 
 pub returns-clause-after : goal.returns-clause-after
 returns-clause-after c =

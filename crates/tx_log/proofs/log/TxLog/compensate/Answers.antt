@@ -9,7 +9,7 @@ use Rattle.tx_log.specs.Holdings.{held, absent_at, IsHeld}
 use Rattle.tx_log.specs.Marks.{first_lsn, AreMarked}
 use Rattle.tx_log.specs.OpenTxs.{opens}
 use Rattle.tx_log.specs.declared.holding.Holding.{Holding}
-use Rattle.tx_log.proofs.KeptLogLemmas.{IsSized, IsCounted, sized, some_of, state_len, recounted, none_is, counted_change, kept_now}
+use Rattle.tx_log.proofs.KeptLogLemmas.{IsSized, IsCounted, sized, some_of, recounted, none_is, counted_change, kept_now}
 use Rattle.tx_log.proofs.LogIndex.{reverse-push, record_of_chain}
 use Rattle.tx_log.proofs.MarkLemmas.{as_many, marked_more}
 use Rattle.tx_log.proofs.PlaceOf.{read_at, write_at}
@@ -31,6 +31,7 @@ use Rattle.tx_log.specs.declared.open_tx.OpenTx.{OpenTx}
 use Rattle.tx_log.specs.declared.undo_chain.LiveChange.{LiveChange}
 use Rattle.tx_log.proofs.log.TxLog.compensate.Goals as goal
 use Rattle.tx_log.proofs.log.TxLog.compensate.Goals.{After-index, After-deref-3, After-index_mut-open_tx}
+use Rattle.tx_log.proofs.Counts.{log_len_is}
 
 -- the transaction of the change that is taken back
 module _ (c : After-index) where
@@ -260,7 +261,7 @@ pub returns-clause-lsn : goal.returns-clause-lsn
 returns-clause-lsn c =
     let l = c.self.inside in
     let many : vec_len l.records ≡ length l.records.items = omega (arith, l.records.ok.0) in
-    ap (λ k. k + 1) (c.len.ensures ∙ many ∙ sym (length-reverse l.records.items) ∙ sym (state_len (reverse l.records.items) c.self.invariant.log_kept.written) ∙ ap (λ (s : LogState). log_len (history_in s)) c.self.view_is)
+    ap (λ k. k + 1) (c.len.ensures ∙ many ∙ sym (length-reverse l.records.items) ∙ sym (log_len_is (reverse l.records.items) c.self.invariant.log_kept.written) ∙ ap (λ (s : LogState). log_len (history_in s)) c.self.view_is)
 
 pub returns-clause-after : goal.returns-clause-after
 returns-clause-after c =
