@@ -15,7 +15,7 @@ use Rattle.record_file.specs.Remaining.{past_first, first_lives}
 use Rattle.record_file.specs.Leads.{NoneLeft, LeadsTo, part, past}
 use Rattle.record_file.proofs.ChargedLemmas.{claimed, has-charged}
 use Rattle.record_file.proofs.FileLemmas.{or_either, or_first, or_second}
-use Rattle.record_file.proofs.UndoLemmas.{apart_of}
+use Rattle.rec_types.proofs.TakeBackLemmas.{apart_of}
 
 -- places
 
