@@ -2,10 +2,10 @@
 use Rattle.std.proofs.Common.{◌≡◌, ℕ, zero, suc, Bool, true, false, cond, ◌&&◌, eqb, List, [], ◌∷◌, ◌++◌, map, length, Option, Some, slice_get, refl, sym, ap, subst, ◌∙◌, IsTrue, arith}
 use Rattle.std.proofs.lemmas.Bool.Decides.{nat_tests}
 use Rattle.std.specs.FinMap.{get}
-use Rattle.rec_types.specs.Contents.{Contents, set_to, same_key}
+use Rattle.rec_types.specs.Contents.{Contents, set_to}
 use Rattle.rec_types.specs.History.{Change, applied, replay, live_of, live_from}
 use Rattle.rec_types.specs.Kept.{Kept, change_of, history_of, BeforesFit, OnlyOf, IsOwned}
-use Rattle.rec_types.proofs.ContentsLemmas.{set_to-twice, set_to-same, set_to-other, same_key-is}
+use Rattle.rec_types.proofs.ContentsLemmas.{set_to-twice, set_to-same, set_to-other}
 use Rattle.record_file.specs.Abstract.{File, open_of, records_of}
 use Rattle.record_file.proofs.RunLemmas.{KeptRun}
 use Rattle.rec_types.proofs.TakeBackLemmas.{apart_of}

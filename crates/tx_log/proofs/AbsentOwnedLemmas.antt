@@ -12,7 +12,6 @@ use Rattle.rec_types.specs.History.{Change, is_pending, replay, applied}
 use Rattle.rec_types.specs.Kept.{Kept, change_of, history_of, is_own, newest_live, undone_or, undone, OnlyOf, IsOwned}
 use Rattle.tx_log.proofs.Chains.{same_number}
 use Rattle.tx_log.proofs.Counts.{history-push}
-use Rattle.tx_log.proofs.KeyLemmas.{get-set_to}
 use Rattle.tx_log.proofs.Lives.{single, lives}
 use Rattle.tx_log.proofs.OwnerLemmas.{kept_at, and_left, and_right}
 use Rattle.tx_log.specs.Owners.{absence, absent}

@@ -1,9 +1,8 @@
 -- Transactions that begin and end.
-use Rattle.std.proofs.Common.{◌≡◌, ℕ, suc, ◌+◌, ◌-◌, ◌<◌, ◌≤◌, Bool, true, false, cond, not, eqb, ◌&&◌, List, [], ◌∷◌, ◌++◌, length, map, reverse, Option, Some, None, option_map, is_some, refl, sym, ap, subst, ◌∙◌, arith, length-append}
+use Rattle.std.proofs.Common.{◌≡◌, ℕ, suc, ◌+◌, ◌-◌, ◌<◌, ◌≤◌, Bool, true, false, cond, not, eqb, ◌&&◌, List, [], ◌∷◌, length, map, reverse, Option, Some, None, option_map, is_some, refl, sym, ap, subst, ◌∙◌, arith}
 use Rattle.std.specs.FinMap as maps
 use Rattle.std.specs.Ordering.{nat_cmp}
 use Rattle.std.specs.Cmp.Lexicographic.{slice_cmp}
-use Rattle.std.proofs.lemmas.List.{append-nil}
 use Rattle.rec_types.specs.History.{Change, is_pending, replay}
 use Rattle.rec_types.specs.Kept.{Kept, change_of, is_own, IsOwned, AllBegun}
 use Rattle.rec_types.specs.declared.transaction.TxId.{TxId}
@@ -11,7 +10,7 @@ use Rattle.rec_types.specs.LimitBounds.{Bounds}
 use Rattle.tx_log.proofs.AbsentOwnedLemmas.{only, without, pending_of, absent_in, absent-parts, absent_is_gone, gone}
 use Rattle.tx_log.proofs.Chains.{same_number, unequal}
 use Rattle.tx_log.proofs.Counts.{count}
-use Rattle.tx_log.proofs.Lives.{single, lives, stack_is_lives}
+use Rattle.tx_log.proofs.Lives.{lives, stack_is_lives}
 use Rattle.tx_log.proofs.OpenTxLemmas.{found_fits, fit-put, opens-remove, opens-more, txs-remove, txs-put}
 use Rattle.tx_log.proofs.OwnerLemmas.{owned-fewer, and_left}
 use Rattle.tx_log.proofs.OpenTxReadLemmas.{lives_length, phase_is}

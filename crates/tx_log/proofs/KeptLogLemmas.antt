@@ -6,7 +6,7 @@ use Rattle.std.specs.Cmp.Lexicographic.{slice_cmp}
 use Rattle.std.specs.Ordering.{nat_cmp}
 use Rattle.std.proofs.lemmas.List.{length-map, length-reverse}
 use Rattle.rec_types.specs.Contents.{Contents, set_to, has}
-use Rattle.rec_types.specs.History.{Change, is_pending, log_len, log_use, replay}
+use Rattle.rec_types.specs.History.{Change, is_pending, log_use, replay}
 use Rattle.rec_types.specs.declared.transaction.TxId.{TxId}
 use Rattle.rec_types.specs.Kept.{Kept, history_of, IsOwned, AllBegun}
 use Rattle.tx_log.proofs.AbsentOwnedLemmas.{only, pending_of, absent_in, absent-parts, absent_is_gone, gone, lack, len-set_to, none_of_len}
@@ -20,7 +20,7 @@ use Rattle.tx_log.proofs.WalkSteps.{IsStep}
 use Rattle.tx_log.specs.declared.undo_chain.LiveChange.{LiveChange}
 use Rattle.tx_log.specs.Finds.{finding}
 use Rattle.tx_log.specs.Fits.{AllFit}
-use Rattle.tx_log.specs.Log.{tx_of_record, key_of, new_of, kept_of, stepped, stack, chain, noted, AllWritten}
+use Rattle.tx_log.specs.Log.{tx_of_record, key_of, new_of, kept_of, stepped, stack, chain, noted}
 use Rattle.tx_log.specs.LogFields.{state_of, IsKept, IsTxLog}
 use Rattle.tx_log.specs.LogState.{LogState, phase_of, phase_in, open_in, use_in, places_of, IsLog}
 use Rattle.tx_log.specs.Owners.{holder_of, absence}

@@ -1,5 +1,5 @@
 -- Owners of keys, along a change and its taking back.
-use Rattle.std.proofs.Common.{◌≡◌, ℕ, ◌≤◌, Bool, true, false, cond, eqb, ◌&&◌, List, [], ◌∷◌, ◌++◌, Option, Some, None, IsTrue, refl, sym, ap, subst, ◌∙◌, arith, eq-eqb, ◌⊎◌, inl, inr, ⊎_elim}
+use Rattle.std.proofs.Common.{◌≡◌, ℕ, ◌≤◌, Bool, true, false, cond, eqb, ◌&&◌, List, [], ◌∷◌, ◌++◌, Option, Some, None, IsTrue, refl, sym, ap, subst, ◌∙◌, eq-eqb, ◌⊎◌, inl, inr, ⊎_elim}
 use Rattle.std.specs.List.{find}
 use Rattle.rec_types.specs.Contents.{same_key}
 use Rattle.rec_types.specs.Kept.{Kept, change_of, history_of, is_own, newest_live, undone_or, undone, OnlyOf, IsOwned, AllBegun}
