@@ -1,15 +1,8 @@
 -- The run of one call, from what its contract says.
-use Rattle.std.proofs.Common.{◌≡◌, Bool, false, List, [], ◌∷◌, Option, Some, None, Result, Ok, Err, refl, sym, ap, ◌∙◌, IfSome}
-use Rattle.std.proofs.lemmas.List.{append-nil}
-use Rattle.rec_types.specs.Contents.{Contents}
+use Rattle.std.proofs.Common.{◌≡◌, Bool, false, [], ◌∷◌, refl, ap}
 use Rattle.rec_types.specs.Table.{counted}
-use Rattle.rec_types.specs.declared.table_state.TableState.{Ghosts}
-use Rattle.tx_log.specs.declared.log_record.LogRecord.{LogRecord}
-use Rattle.record_file.specs.declared.fault.GetFault.{GetFault}
-use Rattle.record_file.specs.declared.fault.GetFault.TheVariants as get_faults
-use Rattle.record_file.specs.Abstract.{OpenFile, Tells}
-use Rattle.record_file.specs.Outside.{get_cause, by_memory}
-use Rattle.record_file.specs.Runs.{Called, Seen, Step, Run, Answers, seen}
+use Rattle.record_file.specs.Abstract.{Tells}
+use Rattle.record_file.specs.Runs.{Called, Seen, Step, Run, Answers}
 use Rattle.record_file.proofs.LogGrowthLemmas.{tells_none}
 
 -- a call that asks the table nothing

@@ -13,7 +13,9 @@ use Rattle.record_file.specs.Abstract.{File, OpenFile, new_file}
 use Rattle.record_file.specs.Runs.{Seen, seen}
 use Rattle.recfile.specs.WholeSession.{IsSession, opened_file}
 use Rattle.recfile.proofs.WholeAbortLemmas.{whole_empty, whole_script, sound_script}
+use Rattle.recfile.proofs.page_file.run_opened.Given as given
 use Rattle.recfile.proofs.page_file.run_opened.Goals as goal
+use Rattle.recfile.proofs.page_file.run_opened.Goals.{After-is_err-script_fault}
 
 -- what a table in a tree shows
 abbrev treed : Ghosts TableView
@@ -42,6 +44,13 @@ closes : {X : Type 0} (o : Option X) (P : Type 0) (R : Tree → X → Type 0) (s
 closes None P R status tree b b' is known = known
 closes (Some s) P R status tree b b' is known = ((tree, known.0), known.1 ∙ ap (λ (t : Bool). if t then 3 else 0) is)
 
+-- what the session was, over the file that was opened
+module _ (g : given.Over) (c : After-is_err-script_fault g) where
+  session : IsTrue c.args.table.pages.steady → c.args.table.refusals ≡ 0 → c.args.table.damages ≡ no_damage
+      → IsSession (g.R.Read.remaining c.args.reader.now) (g.R.Read.remaining c.run_session-end.new.reader) (g.W.Write.contents c.args.out.now) (g.W.Write.contents c.run_session-end.new.out) (opened_file (table_contents c.args.table) c.args.limits c.args.table.pages.failures) c.run_session-end.ensures.0 c.run_session-end.result.script c.run_session-end.result.ended (seen treed c.run_session-end.new.file)
+  session steady refusals damages =
+      subst (λ (s : Seen). IsSession (g.R.Read.remaining c.args.reader.now) (g.R.Read.remaining c.run_session-end.new.reader) (g.W.Write.contents c.args.out.now) (g.W.Write.contents c.run_session-end.new.out) s c.run_session-end.ensures.0 c.run_session-end.result.script c.run_session-end.result.ended (seen treed c.run_session-end.new.file)) (fresh c.new-file.result c.args.table c.args.limits c.new-file.ensures steady refusals damages) c.run_session-end.ensures.1
+
 pub close_file-requires : goal.close_file-requires
 close_file-requires g c = record {
   ended =
@@ -54,8 +63,7 @@ returns-in-Ok-clause-session g c steady refusals damages =
     let old = opened_file (table_contents c.args.table) c.args.limits c.args.table.pages.failures in
     let mid = c.run_session-end.ensures.0 in
     let new = seen treed c.run_session-end.new.file in
-    let start = fresh c.new-file.result c.args.table c.args.limits c.new-file.ensures steady refusals damages in
-    let known = subst (λ (s : Seen). IsSession (g.R.Read.remaining c.args.reader.now) (g.R.Read.remaining c.run_session-end.new.reader) (g.W.Write.contents c.args.out.now) (g.W.Write.contents c.run_session-end.new.out) s mid c.run_session-end.result.script c.run_session-end.result.ended new) start c.run_session-end.ensures.1 in
+    let known = session g (goal.at.returns-in-Ok-clause-session g c).After-is_err-script_fault steady refusals damages in
     let sound = sound_script c.run_session-end.result.script _ _ _ _ old mid known.script in
     record {
       answer = c.run_session-end.result.script;
@@ -73,8 +81,7 @@ returns-in-Err-clause-session g c steady refusals damages =
     let old = opened_file (table_contents c.args.table) c.args.limits c.args.table.pages.failures in
     let mid = c.run_session-end.ensures.0 in
     let new = seen treed c.run_session-end.new.file in
-    let start = fresh c.new-file.result c.args.table c.args.limits c.new-file.ensures steady refusals damages in
-    let known = subst (λ (s : Seen). IsSession (g.R.Read.remaining c.args.reader.now) (g.R.Read.remaining c.run_session-end.new.reader) (g.W.Write.contents c.args.out.now) (g.W.Write.contents c.run_session-end.new.out) s mid c.run_session-end.result.script c.run_session-end.result.ended new) start c.run_session-end.ensures.1 in
+    let known = session g (goal.at.returns-in-Err-clause-session g c).After-is_err-script_fault steady refusals damages in
     record {
       answer = c.run_session-end.result.script;
       ended = Err c.in-Err.field-0;
