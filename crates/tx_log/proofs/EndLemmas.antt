@@ -14,7 +14,7 @@ use Rattle.tx_log.proofs.Lives.{lives, stack_is_lives}
 use Rattle.tx_log.proofs.OpenTxLemmas.{found_fits, fit-put, opens-remove, opens-more, txs-remove, txs-put}
 use Rattle.tx_log.proofs.OwnerLemmas.{owned-fewer, and_left}
 use Rattle.tx_log.proofs.OpenTxReadLemmas.{lives_length, phase_is}
-use Rattle.tx_log.proofs.KeptLogLemmas.{tx_of_entry, some_of}
+use Rattle.tx_log.proofs.KeptLogLemmas.{tx_of_entry}
 use Rattle.tx_log.proofs.LogStateLemmas.{state}
 use Rattle.tx_log.specs.Finds.{Txs, finding, PutsAt}
 use Rattle.tx_log.specs.Fits.{AllKnown, FitsTx}
@@ -23,8 +23,8 @@ use Rattle.tx_log.specs.LogFields.{IsKept, state_of}
 use Rattle.tx_log.specs.LogState.{IsRolling, phase_of, places_of, active_with, finished, finished_by, rollback_phase, with_txs}
 use Rattle.tx_log.specs.Owners.{absence}
 use Rattle.tx_log.specs.Places.{place_at}
-use Rattle.tx_log.specs.OpenTxs.{stays_at, rollback_at, txs_of, opens}
-use Rattle.tx_log.specs.Transactions.{Transactions, Tx, fresh, left_of, left_in}
+use Rattle.tx_log.specs.OpenTxs.{ends_at, rollback_at, txs_of, opens}
+use Rattle.tx_log.specs.Transactions.{Transactions, Tx, fresh}
 use Rattle.tx_log.specs.declared.log.TxLog.TheInside.{Inside}
 use Rattle.tx_log.specs.declared.log_record.LogRecord.{LogRecord}
 use Rattle.tx_log.specs.declared.open_tx.OpenTx.{OpenTx}
@@ -177,37 +177,24 @@ pub active_open : (o : Option Tx) → option_map phase_of o ≡ Some Active → 
 active_open None h = absurd (cc)
 active_open (Some x) h = refl
 
--- and that has nothing to take back
-pub active_left : (h : List Change) (t : ℕ) (o : Option Tx) → option_map phase_of o ≡ Some Active → left_in h t o ≡ 0
-active_left h t None active = refl
-active_left h t (Some x) active = active_case x.rollback (some_of _ _ active)
-  where
-    active_case : (s : Option Rollback) → rollback_phase s ≡ Active → left_of h t s ≡ 0
-    active_case None f = refl
-    active_case (Some r) f = absurd (cc)
-
-finished_case : (cs : List Kept) (txs : Transactions) (t u : ℕ) (places : List ℕ) (s : Option Rollback) → IsRolling (Some (rollback_phase s)) → finished_by txs t places (rollback_at u cs s) ≡ cond (stays_at s) (maps.insert txs t (active_with places)) (maps.remove txs t)
+finished_case : (cs : List Kept) (txs : Transactions) (t u : ℕ) (places : List ℕ) (s : Option Rollback) → IsRolling (Some (rollback_phase s)) → finished_by txs t places (rollback_at u cs s) ≡ cond (ends_at s) (maps.remove txs t) (maps.insert txs t (active_with places))
 finished_case cs txs t u places None h = absurd h
-finished_case cs txs t u places (Some r) h = turned r.ends
-  where
-    turned : (b : Bool) → cond b (maps.remove txs t) (maps.insert txs t (active_with places)) ≡ cond (not b) (maps.insert txs t (active_with places)) (maps.remove txs t)
-    turned true = refl
-    turned false = refl
+finished_case cs txs t u places (Some r) h = refl
 
 -- what a finished rollback leaves, by whether it ends its transaction
-pub finished_is : (cs : List Kept) (es : List (TxId × OpenTx)) (t : ℕ) (e : OpenTx) → finding es t ≡ Some e → IsRolling (option_map phase_of (maps.get (txs_of cs es) t)) → finished (txs_of cs es) t (maps.get (txs_of cs es) t) ≡ cond (stays_at e.rollback) (maps.insert (txs_of cs es) t (active_with (places_of (maps.get (txs_of cs es) t)))) (maps.remove (txs_of cs es) t)
+pub finished_is : (cs : List Kept) (es : List (TxId × OpenTx)) (t : ℕ) (e : OpenTx) → finding es t ≡ Some e → IsRolling (option_map phase_of (maps.get (txs_of cs es) t)) → finished (txs_of cs es) t (maps.get (txs_of cs es) t) ≡ cond (ends_at e.rollback) (maps.remove (txs_of cs es) t) (maps.insert (txs_of cs es) t (active_with (places_of (maps.get (txs_of cs es) t))))
 finished_is cs es t e found h =
     let entry = tx_of_entry cs es t e found in
     ap (finished (txs_of cs es) t) entry
     ∙ finished_case cs (txs_of cs es) t t (map (λ s. place_at t s cs) e.saves.items) e.rollback (subst IsRolling (phase_is cs es t e found) h)
-    ∙ ap (λ (o : Option Tx). cond (stays_at e.rollback) (maps.insert (txs_of cs es) t (active_with (places_of o))) (maps.remove (txs_of cs es) t)) (sym entry)
+    ∙ ap (λ (o : Option Tx). cond (ends_at e.rollback) (maps.remove (txs_of cs es) t) (maps.insert (txs_of cs es) t (active_with (places_of o)))) (sym entry)
 
 -- a rollback that ends its transaction takes it out
-pub finished_ends : (cs : List Kept) (es : List (TxId × OpenTx)) (t : ℕ) (e : OpenTx) → finding es t ≡ Some e → IsRolling (option_map phase_of (maps.get (txs_of cs es) t)) → stays_at e.rollback ≡ false → finished (txs_of cs es) t (maps.get (txs_of cs es) t) ≡ maps.remove (txs_of cs es) t
+pub finished_ends : (cs : List Kept) (es : List (TxId × OpenTx)) (t : ℕ) (e : OpenTx) → finding es t ≡ Some e → IsRolling (option_map phase_of (maps.get (txs_of cs es) t)) → ends_at e.rollback ≡ true → finished (txs_of cs es) t (maps.get (txs_of cs es) t) ≡ maps.remove (txs_of cs es) t
 finished_ends cs es t e found h ends =
-    finished_is cs es t e found h ∙ ap (λ (b : Bool). cond b (maps.insert (txs_of cs es) t (active_with (places_of (maps.get (txs_of cs es) t)))) (maps.remove (txs_of cs es) t)) ends
+    finished_is cs es t e found h ∙ ap (λ (b : Bool). cond b (maps.remove (txs_of cs es) t) (maps.insert (txs_of cs es) t (active_with (places_of (maps.get (txs_of cs es) t))))) ends
 
 -- any other leaves it active
-pub finished_goes : (cs : List Kept) (es : List (TxId × OpenTx)) (t : ℕ) (e : OpenTx) → finding es t ≡ Some e → IsRolling (option_map phase_of (maps.get (txs_of cs es) t)) → stays_at e.rollback ≡ true → finished (txs_of cs es) t (maps.get (txs_of cs es) t) ≡ maps.insert (txs_of cs es) t (active_with (places_of (maps.get (txs_of cs es) t)))
+pub finished_goes : (cs : List Kept) (es : List (TxId × OpenTx)) (t : ℕ) (e : OpenTx) → finding es t ≡ Some e → IsRolling (option_map phase_of (maps.get (txs_of cs es) t)) → ends_at e.rollback ≡ false → finished (txs_of cs es) t (maps.get (txs_of cs es) t) ≡ maps.insert (txs_of cs es) t (active_with (places_of (maps.get (txs_of cs es) t)))
 finished_goes cs es t e found h goes =
-    finished_is cs es t e found h ∙ ap (λ (b : Bool). cond b (maps.insert (txs_of cs es) t (active_with (places_of (maps.get (txs_of cs es) t)))) (maps.remove (txs_of cs es) t)) goes
+    finished_is cs es t e found h ∙ ap (λ (b : Bool). cond b (maps.remove (txs_of cs es) t) (maps.insert (txs_of cs es) t (active_with (places_of (maps.get (txs_of cs es) t))))) goes

@@ -1,5 +1,5 @@
 -- What is kept of an open transaction, and what it stands for.
-use Rattle.std.specs.Prelude.{ℕ, Bool, false, not, List, [], ◌∷◌, map, Option, Some, None, is_some}
+use Rattle.std.specs.Prelude.{ℕ, Bool, false, List, [], ◌∷◌, map, Option, Some, None, is_some}
 use Rattle.std.specs.FinMap as maps
 use Rattle.rec_types.specs.Kept.{Kept}
 use Rattle.rec_types.specs.declared.transaction.TxId.{TxId}
@@ -9,10 +9,9 @@ use Rattle.tx_log.specs.Transactions.{Transactions, Tx}
 use Rattle.tx_log.specs.declared.open_tx.OpenTx.{OpenTx}
 use Rattle.tx_log.specs.declared.phase.Rollback.{Rollback}
 
--- whether the transaction stays open when the rollback under way is over
-abbrev pub stays_at : Option Rollback → Bool
-stays_at None = false
-stays_at (Some r) = not r.ends
+abbrev pub ends_at : Option Rollback → Bool
+ends_at None = false
+ends_at (Some r) = r.ends
 
 -- the rollback under way, with its place in the changes
 abbrev pub rollback_at : ℕ → List Kept → Option Rollback → Option Rollback

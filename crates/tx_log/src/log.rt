@@ -381,7 +381,13 @@ impl TxLog {
             (finished self.old.txs tx.0 (tx_in self.old tx.0)) }
         ensures kept { IsLog self.old }
     {
-        self.close(tx);
+        let at = place_of(&self.txs, tx);
+        if self.txs[at].is_ending() {
+            return self.close(tx);
+        }
+        self.room = None;
+        let open_tx = &mut self.txs[at];
+        open_tx.rollback = None;
     }
 
     /// Sets a savepoint, and answers its number.
@@ -425,27 +431,17 @@ impl TxLog {
         self.close(tx);
     }
 
-    /// Ends an open transaction that has nothing left to take back, or makes it active again where the rollback under
-    /// way is to leave it open.
+    /// Takes an open transaction out, and frees its keys.
     fn close(&mut self, tx: TxId)
-        requires open { IsTrue (open_in self.old tx.0) }
-        requires done { left_in (history_in self.old) tx.0 (tx_in self.old tx.0) ≡ 0 }
-        ensures active { phase_in self.old tx.0 ≡ Some Phase.Active
-            → self.new ≡ with_txs self.old (maps.remove self.old.txs tx.0) }
-        ensures rolling { IsRolling (phase_in self.old tx.0)
-            → self.new ≡ with_txs self.old (finished self.old.txs tx.0 (tx_in self.old tx.0)) }
+        requires { IsTrue (open_in self.old tx.0) }
+        ensures after { self.new ≡ with_txs self.old (maps.remove self.old.txs tx.0) }
         ensures kept { IsLog self.old }
     {
         let at = place_of(&self.txs, tx);
         self.room = None;
-        if self.txs[at].is_staying() {
-            let open_tx = &mut self.txs[at];
-            open_tx.rollback = None;
-        } else {
-            let closed = take_out(&mut self.txs, at);
-            free_keys(&mut self.holdings, &self.records, &self.marks, closed.last);
-            self.pending -= closed.live;
-            self.gone -= closed.absent;
-        }
+        let closed = take_out(&mut self.txs, at);
+        free_keys(&mut self.holdings, &self.records, &self.marks, closed.last);
+        self.pending -= closed.live;
+        self.gone -= closed.absent;
     }
 }

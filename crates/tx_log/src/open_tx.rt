@@ -2,7 +2,7 @@ ghost use Rattle.std.specs.Prelude.{◌≡◌, ℕ, ◌+◌, ◌^◌, ◌-◌, �
 ghost use Rattle.indexmap.specs.IndexMap.{index_map_len};
 ghost use Rattle.tx_log.specs.Transactions.{place_in, most_savepoints};
 ghost use Rattle.tx_log.specs.LogState.{rollback_phase};
-ghost use Rattle.tx_log.specs.OpenTxs.{stays_at};
+ghost use Rattle.tx_log.specs.OpenTxs.{ends_at};
 ghost use Rattle.tx_log.specs.Finds.{found, PutsAt, StandsAt};
 ghost use Rattle.tx_log.specs.declared.open_tx.OpenTx.{OpenTx};
 
@@ -65,13 +65,13 @@ impl OpenTx {
         }
     }
 
-    /// Whether it stays open when the rollback under way is over.
-    pub fn is_staying(&self) -> bool
-        ensures { result ≡ stays_at self.now.rollback }
+    /// Whether it ends with the rollback under way.
+    pub fn is_ending(&self) -> bool
+        ensures { result ≡ ends_at self.now.rollback }
     {
         match self.rollback {
             None => false,
-            Some(rollback) => !rollback.ends,
+            Some(rollback) => rollback.ends,
         }
     }
 
