@@ -368,7 +368,8 @@ impl<S: Store> Table for TreeTable<S> {
             → (self.new.tree ≡ self.old.tree)
             × (self.new.pages.pages ≡ self.old.pages.pages)
             × (self.new.pages.changed ≡ self.old.pages.changed) }
-        ensures refused { OnErr result ((self.new.tree ≡ self.old.tree) × (OnlyReads self.old.pages self.new.pages)) }
+        ensures refused { OnErr result ((self.new.tree ≡ self.old.tree)
+            × OnlyReads self.old.pages self.new.pages) }
         ensures store { OnlyStages self.old.pages self.new.pages }
         ensures one_descent { IsSome to → self.old.tree.count < self.old.limit
             → self.new.pages.reads ≤ self.old.pages.reads + self.old.tree.height }

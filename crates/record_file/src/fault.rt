@@ -286,7 +286,8 @@ impl From<Stop> for RollbackToFault {
     ghost use Rattle.std.specs.Prelude.{◌≡◌};
     ghost use Rattle.record_file.specs.declared.fault.RollbackToFault.TheVariants as rollback_faults;
 
-    ghost from_gives = { λ stop fault. fault ≡ rollback_faults.Stopped stop.undone stop.left stop.cause };
+    ghost from_gives = { λ stop fault.
+        fault ≡ rollback_faults.Stopped stop.undone stop.left stop.cause };
 
     fn from(stop: Stop) -> RollbackToFault {
         RollbackToFault::Stopped {
@@ -301,7 +302,8 @@ impl From<Stop> for AbortFault {
     ghost use Rattle.std.specs.Prelude.{◌≡◌};
     ghost use Rattle.record_file.specs.declared.fault.AbortFault.TheVariants as abort_faults;
 
-    ghost from_gives = { λ stop fault. fault ≡ abort_faults.Stopped stop.undone stop.left stop.cause };
+    ghost from_gives = { λ stop fault.
+        fault ≡ abort_faults.Stopped stop.undone stop.left stop.cause };
 
     fn from(stop: Stop) -> AbortFault {
         AbortFault::Stopped {
@@ -316,7 +318,8 @@ impl From<Stop> for ResumeFault {
     ghost use Rattle.std.specs.Prelude.{◌≡◌};
     ghost use Rattle.record_file.specs.declared.fault.ResumeFault.TheVariants as resume_faults;
 
-    ghost from_gives = { λ stop fault. fault ≡ resume_faults.Stopped stop.undone stop.left stop.cause };
+    ghost from_gives = { λ stop fault.
+        fault ≡ resume_faults.Stopped stop.undone stop.left stop.cause };
 
     fn from(stop: Stop) -> ResumeFault {
         ResumeFault::Stopped {
