@@ -27,3 +27,12 @@ pub returns-clause-stand : goal.returns-clause-stand
 returns-clause-stand c = λ fit.
     distributed_stand c.args.k c.args.left c.args.middle c.args.right _ _ c.requires.order.0 c.requires.brothers c.requires.left_most c.requires.right_most c.requires.many
     (returns-clause-left c) (returns-clause-right c) fit
+
+pub bounds-deref-cut : goal.bounds-deref-cut
+bounds-deref-cut c = grind (arith, common_steps)
+
+pub returns-clause-left_least : goal.returns-clause-left_least
+returns-clause-left_least c = grind (arith, common_steps)
+
+pub returns-clause-right_least : goal.returns-clause-right_least
+returns-clause-right_least c = grind (arith, common_steps)

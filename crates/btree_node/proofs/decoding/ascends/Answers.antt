@@ -1,4 +1,5 @@
 use Rattle.std.proofs.Common.{rules, arith, sym, ◌∙◌}
+use Rattle.std.proofs.lemmas.Grind.{common_steps}
 use Rattle.std.proofs.lemmas.Bool.{false≢true}
 use Rattle.btree_node.proofs.ElementOrderLemmas.{Ascends-more, Ascends-neighbours}
 use Rattle.btree_node.proofs.decoding.ascends.Goals as goal
@@ -14,3 +15,6 @@ loop-i-preserved c = Ascends-more c.args.elements.now c.loop-i.i c.index-element
 
 pub loop-i-init : goal.loop-i-init
 loop-i-init c = search rules
+
+pub returns : goal.returns
+returns c = grind (arith, common_steps)

@@ -1,4 +1,5 @@
 use Rattle.std.proofs.Common.{◌≡◌, ◌+◌, ◌-◌, ◌/◌, suc, take, sym, ◌∙◌, subst, arith}
+use Rattle.std.proofs.lemmas.Grind.{common_steps}
 use Rattle.std.proofs.lemmas.Map.Lookups.{exact_bytes}
 use Rattle.btree_node.specs.Lists.{Each, Below}
 use Rattle.btree_node.proofs.ElementOrderLemmas.{Below-flip}
@@ -31,3 +32,9 @@ loop-low-preserved c =
       below = c.loop-low.invariant.below;
       above = λ up. above_from c.args.elements.now c.args.key.now m c.index-elements-middle.result up (omega arith) (Below-flip _ _ (sym c.cmp.ensures ∙ c.in-Greater.is));
     }
+
+pub loop-low-init : goal.loop-low-init
+loop-low-init c = grind (arith, common_steps)
+
+pub returns-clause-found : goal.returns-clause-found
+returns-clause-found c = grind (arith, common_steps)

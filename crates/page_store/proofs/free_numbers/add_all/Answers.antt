@@ -1,4 +1,5 @@
-use Rattle.std.proofs.Common.{ℕ, List, ap, ◌∙◌}
+use Rattle.std.proofs.Common.{ℕ, List, ap, ◌∙◌, arith}
+use Rattle.std.proofs.lemmas.Grind.{elements}
 use Rattle.page_store.specs.Overlaid.{is_among}
 use Rattle.page_store.proofs.NumberSetLemmas.{put_in_and_out, in_more}
 use Rattle.page_store.proofs.free_numbers.add_all.Goals as goal
@@ -9,3 +10,6 @@ returns-in_default-clause-err c = λ q.
 
 pub loop-i-preserved : goal.loop-i-preserved
 loop-i-preserved c = λ q. in_more c.args.numbers.now c.loop-i.i q _ _ _ c.loop-i-test.true (c.in-Ok.ensures.updates.0 q) (c.loop-i.invariant q)
+
+pub returns-clause-ok : goal.returns-clause-ok
+returns-clause-ok c = grind (arith, elements)

@@ -1,5 +1,7 @@
-use Rattle.std.proofs.Common.{arith}
+use Rattle.std.proofs.Common.{true, ap, ◌∙◌, arith}
 use Rattle.std.proofs.lemmas.Grind.{common_steps, elements}
+use Rattle.rec_types.specs.Table.{counted}
+use Rattle.page_store.proofs.CallCountLemmas.{all_calls, on_err}
 use Rattle.page_store.proofs.write_back.put_header.Goals as goal
 
 pub returns-in_err-write-clause-others : goal.returns-in_err-write-clause-others
@@ -13,3 +15,12 @@ returns-clause-others g c = grind (arith, elements)
 
 pub returns-clause-journal : goal.returns-clause-journal
 returns-clause-journal g c = grind (arith, common_steps)
+
+pub returns-in_err-write-clause-writes_err : goal.returns-in_err-write-clause-writes_err
+returns-in_err-write-clause-writes_err g c =
+    on_err _ (all_calls _ _ 1 2 (omega arith) (omega arith) c.write.ensures.changes.writes)
+
+pub returns-clause-writes_err : goal.returns-clause-writes_err
+returns-clause-writes_err g c =
+    let both = c.sync.ensures.changes.writes ∙ ap (λ k. counted k true) c.write.ensures.changes.writes in
+    on_err _ (all_calls _ _ 2 2 (omega arith) (omega arith) both)

@@ -1,4 +1,5 @@
-use Rattle.std.proofs.Common.{◌≡◌, ◌-◌, ℕ, Bool, true, false, refl, Some, None, cond, eqb, eq-eqb, sym, ap, ◌∙◌}
+use Rattle.std.proofs.Common.{◌≡◌, ◌-◌, ℕ, Bool, true, false, refl, Some, None, cond, eqb, eq-eqb, sym, ap, ◌∙◌, arith}
+use Rattle.std.proofs.lemmas.Grind.{elements}
 use Rattle.tx_log.proofs.Chains.{same_number}
 use Rattle.tx_log.proofs.KeptLogLemmas.{some_of}
 use Rattle.tx_log.proofs.KeyPlaces.{key_read, key_write, taken_there}
@@ -42,3 +43,6 @@ returns-else-last c = λ h there.
         differs_case : (b : Bool) → eqb n 1 ≡ b → b ≡ false
         differs_case true f = absurd (other (same_number n 1 f))
         differs_case false f = refl
+
+pub overflow_sub-holding : goal.overflow_sub-holding
+overflow_sub-holding c = grind (arith, elements)

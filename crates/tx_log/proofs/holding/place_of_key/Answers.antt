@@ -1,4 +1,5 @@
-use Rattle.std.proofs.Common.{sym}
+use Rattle.std.proofs.Common.{sym, arith}
+use Rattle.std.proofs.lemmas.Grind.{elements}
 use Rattle.tx_log.proofs.KeyPlaces.{held_at}
 use Rattle.tx_log.proofs.PlaceOf.{at_some, mapped_some}
 use Rattle.tx_log.proofs.holding.place_of_key.Goals as goal
@@ -8,3 +9,6 @@ returns-clause-stands c =
     let p = c.unwrap-at.result in
     let is = c.unwrap-at.ensures in
     held_at c.args.holdings.now c.args.key.now p.0 p.1.now p.2.now c.len-count.ensures.unique (at_some _ _ p is c.get_full.ensures.entry) (sym (mapped_some _ _ p _ is c.get_full.ensures.key)) (mapped_some _ _ p _ is c.get_full.ensures.value)
+
+pub returns-clause-within : goal.returns-clause-within
+returns-clause-within c = grind (arith, elements)

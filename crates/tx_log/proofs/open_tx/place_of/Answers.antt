@@ -1,4 +1,5 @@
-use Rattle.std.proofs.Common.{sym}
+use Rattle.std.proofs.Common.{sym, arith}
+use Rattle.std.proofs.lemmas.Grind.{elements}
 use Rattle.tx_log.proofs.PlaceOf.{at_some, mapped_some, stands_at}
 use Rattle.tx_log.proofs.open_tx.place_of.Goals as goal
 
@@ -7,3 +8,6 @@ returns-clause-stands c =
     let p = c.unwrap-at.result in
     let is = c.unwrap-at.ensures in
     stands_at c.args.txs.now c.args.tx.0 p.0 p.1.now p.2.now c.len-count.ensures.unique (at_some _ _ p is c.get_full.ensures.entry) (sym (mapped_some _ _ p _ is c.get_full.ensures.key)) (mapped_some _ _ p _ is c.get_full.ensures.value)
+
+pub returns-clause-within : goal.returns-clause-within
+returns-clause-within c = grind (arith, elements)

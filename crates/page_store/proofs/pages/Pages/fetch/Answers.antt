@@ -1,4 +1,4 @@
-use Rattle.std.proofs.Common.{rules, ◌≡◌, ℕ, true, false, is_some, List, Option, Some, None, IsSome, Box, Global, sym, ap, ◌∙◌, refl, subst, slice_get}
+use Rattle.std.proofs.Common.{rules, ◌≡◌, ℕ, is_ok, true, false, is_some, List, Option, Some, None, IsSome, Box, Global, sym, ap, ◌∙◌, refl, subst, slice_get}
 use Rattle.std.proofs.lemmas.Bool.{false≢true}
 use Rattle.rec_types.specs.Table.{counted}
 use Rattle.page_store.specs.PagesView.{PagesView, is_in_memory}
@@ -20,7 +20,7 @@ some_or_none (Some page) never = refl
 -- the page isn't in use
 module _ (g : given.Over) (c : Then-not-is_in_use g) where
   gone : at c.args.self.now.pages c.args.n ≡ None
-  gone = in_view c.args.self.now _ c.args.n None (ap (λ (v : PagesView). v.pages) c.self.view_is) (outside _ _ _ _ c.args.n (λ h. let t = c.is_in_use.ensures.1 h in cc))
+  gone = in_view c.args.self.now _ c.args.n None (ap (λ (v : PagesView). v.pages) c.self.view_is) (outside _ _ _ _ c.args.n (λ h. false≢true (sym c.if-not-is_in_use.true ∙ c.is_in_use.ensures.1 h)))
 
 -- the page is in memory
 module _ (g : given.Over) (c : After-to-1 g) where
@@ -28,7 +28,7 @@ module _ (g : given.Over) (c : After-to-1 g) where
   slot = c.in-Some.ensures ∙ ap (λ (xs : List (Option (Box (List ℕ) Global))). at (slots_of xs) c.args.n) c.deref.ensures.value
 
   newest : at c.args.self.now.pages c.args.n ≡ Some c.in-Some.page.now
-  newest = in_view c.args.self.now _ c.args.n _ (ap (λ (v : PagesView). v.pages) c.self.view_is) (from_slot _ _ _ _ c.args.n c.in-Some.page.now (c.is_in_use.ensures.0 (cc)) slot)
+  newest = in_view c.args.self.now _ c.args.n _ (ap (λ (v : PagesView). v.pages) c.self.view_is) (from_slot _ _ _ _ c.args.n c.in-Some.page.now (c.is_in_use.ensures.0 c.if-not-is_in_use.false) slot)
 
 -- the page is in the store
 module _ (g : given.Over) (c : After-read-arg-2-1 g) where
@@ -36,13 +36,13 @@ module _ (g : given.Over) (c : After-read-arg-2-1 g) where
   no_slot = c.in_default.ensures ∙ ap (λ (xs : List (Option (Box (List ℕ) Global))). at (slots_of xs) c.args.n) c.deref.ensures.value
 
   stored : at c.args.self.now.pages c.args.n ≡ slice_get (g.S.StoreState.pages c.self.inside.store) c.args.n
-  stored = in_view c.args.self.now _ c.args.n _ (ap (λ (v : PagesView). v.pages) c.self.view_is) (from_store _ _ _ _ c.args.n (c.is_in_use.ensures.0 (cc)) no_slot)
+  stored = in_view c.args.self.now _ c.args.n _ (ap (λ (v : PagesView). v.pages) c.self.view_is) (from_store _ _ _ _ c.args.n (c.is_in_use.ensures.0 c.if-not-is_in_use.false) no_slot)
 
   some : at c.args.self.now.pages c.args.n ≡ None → ⊥
-  some none = stored_in_use (g.S.StoreState.pages c.self.inside.store) _ _ _ c.args.n _ c.self.invariant (c.is_in_use.ensures.0 (cc)) no_slot (sym stored ∙ none)
+  some none = stored_in_use (g.S.StoreState.pages c.self.inside.store) _ _ _ c.args.n _ c.self.invariant (c.is_in_use.ensures.0 c.if-not-is_in_use.false) no_slot (sym stored ∙ none)
 
   not_in_memory : is_in_memory c.args.self.now c.args.n ≡ false
-  not_in_memory = ap (λ (v : PagesView). is_in_memory v c.args.n) (sym c.self.view_is) ∙ slot_in_memory (slots_of c.self.inside.changed.items) c.self.inside.free.keys c.self.inside.count c.args.n (c.is_in_use.ensures.0 (cc)) ∙ ap is_some (sym no_slot)
+  not_in_memory = ap (λ (v : PagesView). is_in_memory v c.args.n) (sym c.self.view_is) ∙ slot_in_memory (slots_of c.self.inside.changed.items) c.self.inside.free.keys c.self.inside.count c.args.n (c.is_in_use.ensures.0 c.if-not-is_in_use.false) ∙ ap is_some (sym no_slot)
 
 pub returns-then-not-is_in_use-clause-out_of_range : goal.returns-then-not-is_in_use-clause-out_of_range
 returns-then-not-is_in_use-clause-out_of_range g c = (λ _. gone g (goal.at.returns-then-not-is_in_use-clause-out_of_range g c).Then-not-is_in_use, λ _. refl)
@@ -65,7 +65,7 @@ returns-in-Some-clause-page g c = λ _. newest g (goal.at.returns-in-Some-clause
 pub returns-in-Some-clause-out_of_range : goal.returns-in-Some-clause-out_of_range
 returns-in-Some-clause-out_of_range g c =
     let there = newest g (goal.at.returns-in-Some-clause-out_of_range g c).After-to-1 in
-    (λ other. absurd (cc), λ gone. absurd (cc))
+    (λ other. absurd (false≢true (ap is_ok (sym other))), λ gone. none_not_some _ gone (ap is_some there))
 
 pub returns-in-Some-clause-nothing_read : goal.returns-in-Some-clause-nothing_read
 returns-in-Some-clause-nothing_read g c = λ gone. none_not_some _ gone (ap is_some (newest g (goal.at.returns-in-Some-clause-nothing_read g c).After-to-1))
@@ -75,7 +75,7 @@ returns-in-Some-clause-from_memory g c = λ _. (refl, refl, newest g (goal.at.re
 
 pub returns-in-Some-clause-reads : goal.returns-in-Some-clause-reads
 returns-in-Some-clause-reads g c =
-    let here : is_in_memory c.args.self.now c.args.n ≡ true = ap (λ (v : PagesView). is_in_memory v c.args.n) (sym c.self.view_is) ∙ slot_in_memory (slots_of c.self.inside.changed.items) c.self.inside.free.keys c.self.inside.count c.args.n (c.is_in_use.ensures.0 (cc)) ∙ ap is_some (sym (slot g (goal.at.returns-in-Some-clause-reads g c).After-to-1)) in
+    let here : is_in_memory c.args.self.now c.args.n ≡ true = ap (λ (v : PagesView). is_in_memory v c.args.n) (sym c.self.view_is) ∙ slot_in_memory (slots_of c.self.inside.changed.items) c.self.inside.free.keys c.self.inside.count c.args.n (c.is_in_use.ensures.0 c.if-not-is_in_use.false) ∙ ap is_some (sym (slot g (goal.at.returns-in-Some-clause-reads g c).After-to-1)) in
     ap (counted c.args.self.now.reads) (sym (memory_unread c.args.self.now c.args.n here))
 
 pub returns-clause-page : goal.returns-clause-page

@@ -1,4 +1,5 @@
 use Rattle.std.proofs.Common.{◌+◌, None, Some, cond, eqb, reverse, ap, ◌∙◌, arith}
+use Rattle.std.proofs.lemmas.Grind.{common_steps}
 use Rattle.std.specs.FinMap as maps
 use Rattle.tx_log.proofs.EndLemmas.{fresh_entry, known_last, begun_kept, begun_state}
 use Rattle.tx_log.proofs.HoldSteps.{held_more}
@@ -49,3 +50,9 @@ returns-clause-kept c = kept_now c.self.inside c.self.invariant _ c.self.view_is
 
 pub returns-in_default-clause-kept : goal.returns-in_default-clause-kept
 returns-in_default-clause-kept c = kept_now c.self.inside c.self.invariant _ c.self.view_is
+
+pub returns-in_default-clause-err : goal.returns-in_default-clause-err
+returns-in_default-clause-err c = grind (arith, common_steps)
+
+pub invariant_of-self-in_default : goal.invariant_of-self-in_default
+invariant_of-self-in_default c = grind (arith, common_steps)

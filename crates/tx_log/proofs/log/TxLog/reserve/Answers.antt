@@ -1,4 +1,5 @@
-use Rattle.std.proofs.Common.{rules}
+use Rattle.std.proofs.Common.{rules, arith}
+use Rattle.std.proofs.lemmas.Grind.{common_steps}
 use Rattle.tx_log.proofs.KeptLogLemmas.{kept_now}
 use Rattle.tx_log.proofs.log.TxLog.reserve.Goals as goal
 
@@ -16,3 +17,21 @@ returns-then-is_err-3-clause-kept c = kept_now c.self.inside c.self.invariant _ 
 
 pub invariant_of-self-2 : goal.invariant_of-self-2
 invariant_of-self-2 c = search rules
+
+pub invariant_of-self : goal.invariant_of-self
+invariant_of-self c = grind (arith, common_steps)
+
+pub invariant_of-self-then-is_err-2 : goal.invariant_of-self-then-is_err-2
+invariant_of-self-then-is_err-2 c = grind (arith, common_steps)
+
+pub invariant_of-self-then-is_err-3 : goal.invariant_of-self-then-is_err-3
+invariant_of-self-then-is_err-3 c = grind (arith, common_steps)
+
+pub returns-then-is_err-2-clause-err : goal.returns-then-is_err-2-clause-err
+returns-then-is_err-2-clause-err c = grind (arith, common_steps)
+
+pub returns-then-is_err-3-clause-err : goal.returns-then-is_err-3-clause-err
+returns-then-is_err-3-clause-err c = grind (arith, common_steps)
+
+pub returns-clause-ok : goal.returns-clause-ok
+returns-clause-ok c = grind (arith, common_steps)
