@@ -1,5 +1,5 @@
 -- A page that was settled, and the pages around a son that changed.
-use Rattle.std.proofs.Common.{◌≡◌, ℕ, suc, ◌+◌, ◌-◌, ◌<◌, ◌≤◌, inl, Option, IsSome, true, false, List, [], ◌∷◌, ◌++◌, length, take, refl, ap, sym, ◌∙◌, subst, arith, length-append}
+use Rattle.std.proofs.Common.{◌≡◌, ℕ, suc, ◌+◌, ◌-◌, ◌*◌, ◌<◌, ◌≤◌, inl, Option, IsSome, true, false, List, [], ◌∷◌, ◌++◌, length, take, refl, ap, sym, ◌∙◌, subst, arith, length-append}
 use Rattle.std.proofs.Math.Seq.{take-append_seam}
 use Rattle.page_store.specs.PageMap.{PageMap, at, write_page, after}
 use Rattle.btree_node.specs.declared.node.Node.{Node}
@@ -121,6 +121,22 @@ treated_leaves k old least height h p lo b ws ws2 ws3 fs fs2 us mids es removed 
 -- the page that was visited just now
 pub page_visited : (visited m : List ℕ) (n : ℕ) → m ≡ visited ++ n ∷ [] → is_visited m n ≡ true
 page_visited visited m n m_is = subst (λ (x : List ℕ). is_visited x n ≡ true) (sym m_is) (visited_here visited n)
+
+-- a visit of a page that the element was taken out of
+pub here_visit : (visited m visited2 : List ℕ) (height n : ℕ) (ws : List (ℕ × List ℕ)) (fs : List ℕ)
+    → m ≡ visited ++ n ∷ [] → is_visited visited n ≡ false
+    → ((q : ℕ) → is_visited m q ≡ true → (q ≡ n → ⊥) → Untouched ws fs q)
+    → ((q : ℕ) → is_visited m q ≡ true → is_visited visited2 q ≡ true)
+    → length visited2 + 2 ≤ length m + 2 * height → IsVisit visited visited2 ws fs height n
+here_visit visited m visited2 height n ws fs m_is fresh older stays few =
+    let into : (q : ℕ) → is_visited visited q ≡ true → is_visited m q ≡ true = λ q is. subst (λ (x : List ℕ). is_visited x q ≡ true) (sym m_is) (visited_stays visited n q is) in
+    record {
+      fresh = fresh;
+      older = λ q is. older q (into q is) (visited_differs visited q n is fresh);
+      stays = λ q is. stays q (into q is);
+      here = stays n (page_visited visited m n m_is);
+      few = omega (arith, few, ap length m_is, length-append visited (n ∷ []));
+    }
 
 -- a visit of a page whose son was visited, treated and left
 pub treated_visit : (visited m visited2 visited3 : List ℕ) (height n s : ℕ) (ws ws2 : List (ℕ × List ℕ)) (fs fs2 : List ℕ) → m ≡ visited ++ n ∷ [] → is_visited visited n ≡ false → 1 < height → IsVisit m visited2 ws fs (height - 1) s

@@ -1,4 +1,4 @@
-use Rattle.std.proofs.Common.{set, ◌≡◌, ◌+◌, ◌-◌, ◌≤◌, IsTrue, ℕ, suc, List, Option, Some, None, [], ◌∷◌, ◌++◌, true, false, length, get_or, refl, ap, sym, ◌∙◌, subst, arith, inr}
+use Rattle.std.proofs.Common.{length-append, set, ◌≡◌, ◌+◌, ◌-◌, ◌≤◌, IsTrue, ℕ, suc, List, Option, Some, None, [], ◌∷◌, ◌++◌, true, false, length, get_or, refl, ap, sym, ◌∙◌, subst, arith, inr}
 use Rattle.std.specs.List.{remove}
 use Rattle.std.proofs.lemmas.List.{get_or_default, length-set}
 use Rattle.std.proofs.lemmas.Result.{err_from_is_err_and}
@@ -30,7 +30,7 @@ use Rattle.btree_delete.proofs.SonCallLemmas.{called_next, CalledNext, BehindSho
 use Rattle.btree_delete.proofs.DeletionLemmas.{drop_leaf, drop_whole, drop_none, drop_broken, drop_treated, next_whole, next_broken, removed_top, none_here, on_unvisited}
 use Rattle.btree_delete.proofs.SonsLemmas.{IsBeside, Kin, kin_move}
 use Rattle.btree_delete.proofs.ElementRemovalLemmas.{remove-between_bounds}
-use Rattle.btree_delete.proofs.SettledPageLemmas.{settled_up, settled_tidy, settled_others, treated_visit, whole_visit, page_visited}
+use Rattle.btree_delete.proofs.SettledPageLemmas.{settled_gone, settled_up, settled_tidy, settled_others, here_visit, treated_visit, whole_visit, page_visited}
 use Rattle.btree_delete.proofs.DeletionStepLemmas.{AskRight, AskLeft, ask, treat_son, still_unvisited, page_unvisited, below_in, page_in}
 use Rattle.btree_delete.proofs.FirstElementLemmas.{Takes, WentUp, more_visited, took_of, some_around, sought_here, sought_none, left_between, left_may_be_underfull, left_son, goes_left, went_up}
 use Rattle.btree_delete.proofs.UnderfullNodeLemmas.{next_may_be_underfull, set_son_bounds, leaf_without, leaf_behind}
@@ -114,6 +114,14 @@ delete_below-returns-in_ok-shrunk-in-Ok-clause-up g t c =
           (goes_left c.args.key.now T.order T.height T.page T.bounds x edit.writes.items edit.freed.items took.shrunk took.ensures.up (λ none. took.ensures.first (c.in-Ok.ensures.first none).1 (c.in-Ok.ensures.first none).0)),
     )
 
+pub delete_below-returns-in_ok-shrunk-in-Ok-clause-visit : goal.delete_below-returns-in_ok-shrunk-in-Ok-clause-visit
+delete_below-returns-in_ok-shrunk-in-Ok-clause-visit g t c =
+    let went = c.in_ok-visit.ensures in
+    let took = c.in_ok-shrunk-in-Ok.ensures in
+    let edit = c.delete_here.new.edit in
+    here_visit c.args.visited.now.items c.visit.new.visited.items c.delete_here.new.visited.items c.args.tree.now.height c.args.tree.now.page edit.writes.items edit.freed.items
+    went.visited went.unvisited took.older took.stays took.few
+
 pub delete_below-returns-then-tree-eq1-clause-removes : goal.delete_below-returns-then-tree-eq1-clause-removes
 delete_below-returns-then-tree-eq1-clause-removes g t c = λ steady least es us low tree between apart unvisited.
     let T = c.args.tree.now in
@@ -124,6 +132,14 @@ delete_below-returns-then-tree-eq1-clause-removes g t c = λ steady least es us 
           (λ given is. none_here T.order (at c.args.pages.now.pages) least T.height (T.height - 1) T.page es us T.bounds c.visit.new.node given c.in-Err.i (omega (arith, c.if-tree-eq1.true)) first (c.in-Err.ensures.found given is c.in_ok-visit.ensures.stands.ascends));
       unvisited = subst (λ (ms : List ℕ). StaysUnvisited M ms us) (sym c.in_ok-visit.ensures.visited) (page_unvisited M T.page us (page_in T.page us first.below first.us_is));
     }
+
+pub delete_below-returns-then-tree-eq1-clause-visit : goal.delete_below-returns-then-tree-eq1-clause-visit
+delete_below-returns-then-tree-eq1-clause-visit g t c =
+    let M = c.visit.new.visited.items in
+    let edit = c.args.edit.now in
+    let none = untouched_empty edit.writes.items edit.freed.items in
+    here_visit c.args.visited.now.items M M c.args.tree.now.height c.args.tree.now.page edit.writes.items edit.freed.items
+    c.in_ok-visit.ensures.visited c.in_ok-visit.ensures.unvisited (λ q _ _. none q c.requires.unwritten c.requires.unfreed) (λ q is. is) (omega (arith, c.requires.height))
 
 -- the son below which the key is taken out, and what the call on it took out
 module _ (g : given.Over) (t : ℕ) (c : delete_below-After-delete_below g t) where
@@ -227,6 +243,12 @@ module _ (g : given.Over) (t : ℕ) (c : delete_below-In-Some-Underfull g t) whe
 
   head_visited : is_visited c.visit.new.visited.items c.args.tree.now.page ≡ true
   head_visited = page_visited c.args.visited.now.items c.visit.new.visited.items c.args.tree.now.page c.in_ok-visit.ensures.visited
+
+pub delete_below-treat_and_settle-requires-clause-room : goal.delete_below-treat_and_settle-requires-clause-room
+delete_below-treat_and_settle-requires-clause-room g t c =
+    let few = (son_visited g t (goal.at.delete_below-treat_and_settle-requires-clause-room g t c).In-Some-Underfull).few in
+    let one_more = ap length c.in_ok-visit.ensures.visited in
+    omega (arith, few, one_more, length-append c.args.visited.now.items (c.args.tree.now.page ∷ []), c.requires.levels, c.requires.height, c.if-tree-eq1.false)
 
 pub delete_below-treat_and_settle-requires-clause-father : goal.delete_below-treat_and_settle-requires-clause-father
 delete_below-treat_and_settle-requires-clause-father g t c =
@@ -428,6 +450,11 @@ delete_here-returns-then-tree-eq1-clause-removes g t c = λ steady least es us b
     (subst (λ (h : ℕ). MayBeUnderfull T.order h T.bounds m) (sym c.if-tree-eq1.true) (without g t at_goal.After-remove)) c.requires.node.ascends c.requires.place (removed_is g t at_goal.After-index-deref-i) refl c.remove.ensures.items c.in_ok-settle.ensures.settles in
     subst (λ (fs : List ℕ). RemovesBelow (head_page T.order least level T.page) (pages_freed P (after P ws2 fs) 0 (length fs)) es us (visits M M) (element_at n c.args.i).0 (Some r)) (sym (ap (λ v. v.items) c.in_ok-settle.ensures.freed)) done
 
+pub delete_here-returns-then-tree-eq1-clause-gone : goal.delete_here-returns-then-tree-eq1-clause-gone
+delete_here-returns-then-tree-eq1-clause-gone g t c =
+    let at_goal = goal.at.delete_here-returns-then-tree-eq1-clause-gone g t c in
+    settled_gone c.args.tree.now.order c.args.tree.now.page c.args.edit.now.writes.items c.settle.new.edit.writes.items c.index-deref-i.result (left_leaf g t at_goal.After-remove) c.in_ok-settle.field-0 c.in_ok-settle.ensures.settles ∙ removed_is g t at_goal.After-index-deref-i
+
 pub delete_here-returns-then-tree-eq1-clause-up : goal.delete_here-returns-then-tree-eq1-clause-up
 delete_here-returns-then-tree-eq1-clause-up g t c =
     let T = c.args.tree.now in
@@ -571,6 +598,11 @@ delete_here-returns-in_ok-settle-in-Some-Whole-clause-removes g t c = λ steady 
     whole_behind g t at_goal.After-delete_below steady least es us below spells least_is body us_is between apart unvisited low put.new.node c.index-deref-i.result c.in-Some-Whole.next c.settle-in-Some-Whole.new.edit.writes.items c.settle-in-Some-Whole.new.edit.freed.items settled.field-0 c.in_ok-next.field-0 (c.in-Some-Whole.is ∙ ap Some c.in-Some-Whole.field-0-is) c.in_ok-next.ensures.removes
     put.ensures.kind put.ensures.elements (ap (λ s. s.items) put.ensures.sons) (with_next g t at_goal.After-set_element) (removed_is g t at_goal.After-index-deref-i) ((whole_visited g t at_goal.After-set_element).older c.args.tree.now.page c.requires.visited) settled.ensures.settles (sym (ap (λ v. v.items) settled.ensures.freed))
 
+pub delete_here-returns-in_ok-settle-in-Some-Whole-clause-gone : goal.delete_here-returns-in_ok-settle-in-Some-Whole-clause-gone
+delete_here-returns-in_ok-settle-in-Some-Whole-clause-gone g t c =
+    let settled = c.in_ok-settle-in-Some-Whole in
+    settled_gone c.args.tree.now.order c.args.tree.now.page c.delete_below.new.edit.writes.items c.settle-in-Some-Whole.new.edit.writes.items c.index-deref-i.result c.set_element.new.node settled.field-0 settled.ensures.settles ∙ removed_is g t (goal.at.delete_here-returns-in_ok-settle-in-Some-Whole-clause-gone g t c).After-index-deref-i
+
 pub delete_here-returns-in_ok-settle-in-Some-Whole-clause-up : goal.delete_here-returns-in_ok-settle-in-Some-Whole-clause-up
 delete_here-returns-in_ok-settle-in-Some-Whole-clause-up g t c =
     let T = c.args.tree.now in
@@ -708,6 +740,10 @@ delete_here-returns-in_ok-shrunk-in-Some-Underfull-clause-removes g t c = λ ste
     let short = short_behind g t at_goal.After-delete_below steady least es us below spells least_is body us_is between apart unvisited put.new.node c.in-Some-Underfull.next c.in-Some-Underfull.son c.in_ok-next.field-0 (c.in-Some-Underfull.is ∙ ap Some c.in-Some-Underfull.field-0-is) c.in_ok-next.ensures.removes put.ensures.elements (ap (λ s. s.items) put.ensures.sons) in
     let settled = c.in_ok-shrunk-in-Some-Underfull in
     treat_behind g t at_goal.After-set_element-in-Some-Underfull es us steady (two_behind g t at_goal.After-delete_below) short least low c.treat_and_settle.new.edit.writes.items c.treat_and_settle.new.edit.freed.items c.treat_and_settle.new.visited.items c.index-deref-i.result settled.shrunk (removed_is g t at_goal.After-index-deref-i) settled.ensures.right settled.ensures.left
+
+pub delete_here-returns-in_ok-shrunk-in-Some-Underfull-clause-gone : goal.delete_here-returns-in_ok-shrunk-in-Some-Underfull-clause-gone
+delete_here-returns-in_ok-shrunk-in-Some-Underfull-clause-gone g t c =
+    c.in_ok-shrunk-in-Some-Underfull.ensures.gone ∙ removed_is g t (goal.at.delete_here-returns-in_ok-shrunk-in-Some-Underfull-clause-gone g t c).After-index-deref-i
 
 pub delete_here-returns-in_ok-shrunk-in-Some-Underfull-clause-older : goal.delete_here-returns-in_ok-shrunk-in-Some-Underfull-clause-older
 delete_here-returns-in_ok-shrunk-in-Some-Underfull-clause-older g t c = λ q is other.
