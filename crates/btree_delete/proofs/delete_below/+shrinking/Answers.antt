@@ -1,6 +1,7 @@
 use Rattle.std.proofs.Common.{length-append, set, ◌≡◌, ◌+◌, ◌-◌, ◌≤◌, IsTrue, ℕ, suc, List, Option, Some, None, [], ◌∷◌, ◌++◌, true, false, length, get_or, refl, ap, sym, ◌∙◌, subst, arith, inr}
 use Rattle.std.specs.List.{remove}
 use Rattle.std.proofs.lemmas.List.{get_or_default, length-set}
+use Rattle.std.proofs.lemmas.Grind.{common_steps}
 use Rattle.std.proofs.lemmas.Result.{err_from_is_err_and}
 use Rattle.page_store.specs.PageMap.{PageMap, at, after}
 use Rattle.page_store.specs.PagesView.{PagesView}
@@ -74,6 +75,9 @@ module _ (g : given.Over) (t : ℕ) (c : delete_below-After-delete_here g t) whe
       let unvisited1 = subst (Each (λ u. is_visited M u ≡ false)) first.us_is unvisited in
       let later = subst (λ (ms : List ℕ). Each (λ u. is_visited ms u ≡ false) first.below) (sym visited_is) (more_visited M T.page first.below apart1.0 unvisited1.1) in
       removing steady1 least es us first.below low spells1 first.least_is body1 first.us_is between apart later
+
+pub delete_below-delete_here-requires : goal.delete_below-delete_here-requires
+delete_below-delete_here-requires g t c = grind (arith, common_steps)
 
 pub delete_below-returns-in_err-shrunk-in-Ok-clause-removes : goal.delete_below-returns-in_err-shrunk-in-Ok-clause-removes
 delete_below-returns-in_err-shrunk-in-Ok-clause-removes g t c = λ steady least es us low tree between apart unvisited.
@@ -223,6 +227,9 @@ module _ (g : given.Over) (t : ℕ) (c : delete_below-After-delete_below g t) wh
           mine_in = below_in T.page us s.son.upre s.son.mine s.son.upost s.us_is;
           unvisited = gone.unvisited;
         }
+
+pub delete_below-delete_below-requires : goal.delete_below-delete_below-requires
+delete_below-delete_below-requires g t c = grind (arith, common_steps)
 
 pub delete_below-returns-in_err-removed-in-Err-clause-removes : goal.delete_below-returns-in_err-removed-in-Err-clause-removes
 delete_below-returns-in_err-removed-in-Err-clause-removes g t c = λ steady least es us low tree between apart unvisited.

@@ -1,4 +1,5 @@
-use Rattle.std.proofs.Common.{◌≡◌, ◌-◌, ℕ, Some, None, length, ap, ◌∙◌, subst, ◌≤◌}
+use Rattle.std.proofs.Common.{◌≡◌, ◌-◌, ℕ, Some, None, length, ap, ◌∙◌, subst, ◌≤◌, arith}
+use Rattle.std.proofs.lemmas.Grind.{common_steps}
 use Rattle.page_store.specs.PageMap.{after}
 use Rattle.btree_delete.specs.declared.delete_below.Shrunk.{Shrunk}
 use Rattle.btree_insert.specs.Contents.{set_in}
@@ -46,3 +47,9 @@ returns-in_ok-next-in-Underfull-clause-fits c = λ pages visited used here tidy.
     let up = subst (UnderfullGoesUp T.order T.height (record { low = None; high = None }) T.root c.args.edit.now.writes.items c.args.edit.now.freed.items) c.in-Underfull.is c.requires.up in
     let next_tidy = shrink_tidy pages visited T c.in_ok-shrunk-in-Underfull.shrunk c.in-Underfull.node c.args.edit.now.writes.items c.shrink_root.new.edit.writes.items c.args.edit.now.freed.items c.shrink_root.new.edit.freed.items used here up.2 c.in_ok-shrunk-in-Underfull.ensures.shrinks tidy in
     tidy_stages pages visited c.shrink_root.new.edit.writes.items c.shrink_root.new.edit.freed.items c.shrink_root.new.edit.taken (c.in_ok-shrunk-in-Underfull.ensures.taken ∙ c.requires.none_taken) next_tidy
+
+pub returns-in_err-next-in-Whole-clause-deleted : goal.returns-in_err-next-in-Whole-clause-deleted
+returns-in_err-next-in-Whole-clause-deleted c = grind (arith, common_steps)
+
+pub returns-in_err-next-in-Underfull-clause-deleted : goal.returns-in_err-next-in-Underfull-clause-deleted
+returns-in_err-next-in-Underfull-clause-deleted c = grind (arith, common_steps)
