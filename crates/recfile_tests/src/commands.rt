@@ -6,7 +6,6 @@ use record_file::{
 };
 use std::alloc::{AllocError, Global};
 use std::process::Abort;
-use std::test::Fail;
 
 /// Appends a command with its arguments.
 fn push_command(text: &mut String, command: Command) -> Result<(), AllocError> {
@@ -44,9 +43,8 @@ fn said(alloc: Global, lines: &str) -> Result<String, AllocError> {
 }
 
 /// Expects that the lines say this, line by line.
-fn expect(rt: &impl Abort, alloc: Global, lines: &str, wanted: &str) -> Result<(), Fail> {
-    assert_eq!(rt; said(alloc, lines)?.as_str(), wanted);
-    Ok(())
+fn expect(rt: &impl Abort, alloc: Global, lines: &str, wanted: &str) {
+    assert_eq!(rt; said(alloc, lines).expect(rt, "no memory").as_str(), wanted);
 }
 
 /// Lines, and what each of them says.
@@ -100,12 +98,14 @@ const LINES: [(&str, &str, &str); 9] = [
 ];
 
 #[test]
-fn lines_are_read(rt: HostRuntime) -> Result<(), Fail> {
+fn lines_are_read(rt: HostRuntime) {
     let alloc = rt.alloc();
     for (name, lines, wanted) in LINES {
-        assert_eq!(rt; (name, said(alloc, lines)?.as_str()), (name, wanted));
+        assert_eq!(rt;
+            (name, said(alloc, lines).expect(&rt, "no memory").as_str()),
+            (name, wanted)
+        );
     }
-    Ok(())
 }
 
 /// A word of this many bytes, after a beginning.
@@ -118,19 +118,16 @@ fn long_line(alloc: Global, begin: &str, byte: u8, count: u32) -> Result<Vec<u8>
 }
 
 /// What a long line says.
-fn expect_long(
-    rt: &impl Abort,
-    alloc: Global,
-    begin: &str,
-    byte: u8,
-    wanted: &str,
-) -> Result<(), Fail> {
-    let line = String::from_utf8(long_line(alloc, begin, byte, 1_000_000)?)?;
+fn expect_long(rt: &impl Abort, alloc: Global, begin: &str, byte: u8, wanted: &str) {
+    let line = String::from_utf8(long_line(alloc, begin, byte, 1_000_000).expect(
+        rt,
+        "no answer",
+    )).expect(rt, "no memory");
     expect(rt, alloc, &line, wanted)
 }
 
 #[test]
-fn lines_of_a_million_bytes(rt: HostRuntime) -> Result<(), Fail> {
+fn lines_of_a_million_bytes(rt: HostRuntime) {
     let alloc = rt.alloc();
     for (begin, byte, wanted) in [
         ("#", b'#', "-\n"),
@@ -143,23 +140,22 @@ fn lines_of_a_million_bytes(rt: HostRuntime) -> Result<(), Fail> {
         ("put 1 a =", b'%', "RecordTooLong\n"),
         ("begin", b'\r', "UnknownCommand\n"),
     ] {
-        expect_long(&rt, alloc, begin, byte, wanted)?;
+        expect_long(&rt, alloc, begin, byte, wanted);
     }
-    Ok(())
 }
 
 /// The text of a reply, made once more where memory was refused.
-fn written(alloc: Global, reply: &Reply) -> Result<String, Fail> {
+fn written(rt: &impl Abort, alloc: Global, reply: &Reply) -> String {
     let text = match write_reply(alloc, reply) {
         Ok(text) => text,
-        Err(_) => write_reply(alloc, reply)?,
+        Err(_) => write_reply(alloc, reply).expect(rt, "no memory"),
     };
-    Ok(String::from_utf8(text)?)
+    String::from_utf8(text).expect(rt, "no text")
 }
 
 #[test]
-fn answers_are_written(rt: HostRuntime) -> Result<(), Fail> {
-    let record = Record::new(b"x y")?;
+fn answers_are_written(rt: HostRuntime) {
+    let record = Record::new(b"x y").expect(&rt, "no record");
     for (reply, wanted) in [
         (Reply::Begin(Ok(TxId(1))), "ok 1\n"),
         (Reply::Put(Ok(None)), "ok none\n"),
@@ -175,13 +171,12 @@ fn answers_are_written(rt: HostRuntime) -> Result<(), Fail> {
         (Reply::Commit(Ok(())), "ok\n"),
         (Reply::Log(8, 10), "ok 8 10\n"),
     ] {
-        assert_eq!(rt; written(rt.alloc(), &reply)?.as_str(), wanted);
+        assert_eq!(rt; written(&rt, rt.alloc(), &reply).as_str(), wanted);
     }
-    Ok(())
 }
 
 #[test]
-fn refusals_are_written(rt: HostRuntime) -> Result<(), Fail> {
+fn refusals_are_written(rt: HostRuntime) {
     for (reply, wanted) in [
         (
             Reply::Begin(Err(BeginFault::BeginsSpent)),
@@ -209,13 +204,12 @@ fn refusals_are_written(rt: HostRuntime) -> Result<(), Fail> {
         (Reply::List(Err(EntriesFault::Damaged(1))), "no Damaged 1\n"),
         (Reply::Keys(Err(KeysOfFault::Memory)), "no Memory\n"),
     ] {
-        assert_eq!(rt; written(rt.alloc(), &reply)?.as_str(), wanted);
+        assert_eq!(rt; written(&rt, rt.alloc(), &reply).as_str(), wanted);
     }
-    Ok(())
 }
 
 #[test]
-fn stops_and_faults_are_written(rt: HostRuntime) -> Result<(), Fail> {
+fn stops_and_faults_are_written(rt: HostRuntime) {
     let (undone, left) = (1, 20);
     for (reply, wanted) in [
         (
@@ -252,59 +246,59 @@ fn stops_and_faults_are_written(rt: HostRuntime) -> Result<(), Fail> {
         (Reply::Bad(LineFault::NoRecordMark), "bad NoRecordMark\n"),
         (Reply::Bad(LineFault::RecordTooLong), "bad RecordTooLong\n"),
     ] {
-        assert_eq!(rt; written(rt.alloc(), &reply)?.as_str(), wanted);
+        assert_eq!(rt; written(&rt, rt.alloc(), &reply).as_str(), wanted);
     }
-    Ok(())
 }
 
 /// Two keys, the first of which is a zero byte.
-fn two_keys() -> Result<[Key; 2], Fail> {
-    Ok([Key::new(&[0])?, Key::new(b"%zz")?])
+fn two_keys(rt: &impl Abort) -> [Key; 2] {
+    let first = Key::new(&[0]).expect(rt, "no key");
+    [first, Key::new(b"%zz").expect(rt, "no key")]
 }
 
 /// Their entries, the first of which has an owner.
-fn two_entries() -> Result<[Entry; 2], Fail> {
-    let [first, second] = two_keys()?;
-    Ok([
+fn two_entries(rt: &impl Abort) -> [Entry; 2] {
+    let [first, second] = two_keys(rt);
+    let longest = Record::new(b"abcdefghijklmnopqrstuvwxyz012345");
+    [
         Entry {
             key: first,
-            value: Record::new(b"abcdefghijklmnopqrstuvwxyz012345")?,
+            value: longest.expect(rt, "no record"),
             owner: Some(TxId(1)),
         },
         Entry {
             key: second,
-            value: Record::new(&[195, 169, 37])?,
+            value: Record::new(&[195, 169, 37]).expect(rt, "no record"),
             owner: None,
         },
-    ])
+    ]
 }
 
 /// The reply with a list of these entries, which is made anew from what it gives back.
-fn list_text(rt: &impl Abort, alloc: Global, entries: &[Entry]) -> Result<String, Fail> {
-    let list = EntryList::new(Vec::from_slice(alloc, entries)?);
+fn list_text(rt: &impl Abort, alloc: Global, entries: &[Entry]) -> String {
+    let list = EntryList::new(Vec::from_slice(alloc, entries).expect(rt, "no memory"));
     assert_eq!(rt; list.as_slice().len(), entries.len());
-    written(alloc, &Reply::List(Ok(EntryList::new(list.into_vec()))))
+    written(rt, alloc, &Reply::List(Ok(EntryList::new(list.into_vec()))))
 }
 
 /// The same of a list of these keys.
-fn keys_text(rt: &impl Abort, alloc: Global, keys: &[Key]) -> Result<String, Fail> {
-    let list = KeyList::new(Vec::from_slice(alloc, keys)?);
+fn keys_text(rt: &impl Abort, alloc: Global, keys: &[Key]) -> String {
+    let list = KeyList::new(Vec::from_slice(alloc, keys).expect(rt, "no memory"));
     assert_eq!(rt; list.as_slice().len(), keys.len());
-    written(alloc, &Reply::Keys(Ok(KeyList::new(list.into_vec()))))
+    written(rt, alloc, &Reply::Keys(Ok(KeyList::new(list.into_vec()))))
 }
 
 #[test]
-fn lists_are_written(rt: HostRuntime) -> Result<(), Fail> {
+fn lists_are_written(rt: HostRuntime) {
     assert_eq!(rt;
-        list_text(&rt, rt.alloc(), &two_entries()?)?.as_str(),
+        list_text(&rt, rt.alloc(), &two_entries(&rt)).as_str(),
         "- %00 =abcdefghijklmnopqrstuvwxyz012345 @1\n- %25zz =%C3%A9%25\nok 2\n"
     );
     assert_eq!(rt;
-        keys_text(&rt, rt.alloc(), &two_keys()?)?.as_str(),
+        keys_text(&rt, rt.alloc(), &two_keys(&rt)).as_str(),
         "- %00\n- %25zz\nok 2\n"
     );
-    assert_eq!(rt; list_text(&rt, rt.alloc(), &[])?.as_str(), "ok 0\n");
-    Ok(())
+    assert_eq!(rt; list_text(&rt, rt.alloc(), &[]).as_str(), "ok 0\n");
 }
 
 /// The reply with a record of this byte.
@@ -317,24 +311,30 @@ fn printed(alloc: Global, byte: u8) -> Result<String, AllocError> {
 }
 
 /// Expects the word to be read as a record of this byte.
-fn expect_read(rt: &impl Abort, alloc: Global, word: &str, byte: u8) -> Result<(), Fail> {
-    let line = format!(in alloc; "put 1 a {word}")?;
-    let wanted = format!(in alloc; "put 1 [97] [{byte}]\n")?;
+fn expect_read(rt: &impl Abort, alloc: Global, word: &str, byte: u8) {
+    let line = format!(in alloc; "put 1 a {word}").expect(rt, "no memory");
+    let wanted = format!(in alloc; "put 1 [97] [{byte}]\n").expect(rt, "no memory");
     expect(rt, alloc, &line, &wanted)
 }
 
 /// Expects a record of this byte to be printed so, and to be read again.
-fn expect_again(rt: &impl Abort, alloc: Global, byte: u8) -> Result<(), Fail> {
-    let text = written(alloc, &Reply::Get(Ok(Some(Record::new(&[byte])?))))?;
-    assert_eq!(rt; text.as_str(), printed(alloc, byte)?.as_str());
+fn expect_again(rt: &impl Abort, alloc: Global, byte: u8) {
+    let text = written(
+        rt,
+        alloc,
+        &Reply::Get(Ok(Some(Record::new(&[byte]).expect(rt, "no record")))),
+    );
+    assert_eq!(rt;
+        text.as_str(),
+        printed(alloc, byte).expect(rt, "no memory").as_str()
+    );
     let word = text.trim_start_matches("ok ").trim_end_matches("\n");
     expect_read(rt, alloc, word, byte)
 }
 
 #[test]
-fn every_byte_is_printed_and_read_again(rt: HostRuntime) -> Result<(), Fail> {
+fn every_byte_is_printed_and_read_again(rt: HostRuntime) {
     for byte in 0..=u8::MAX {
-        expect_again(&rt, rt.alloc(), byte)?;
+        expect_again(&rt, rt.alloc(), byte);
     }
-    Ok(())
 }

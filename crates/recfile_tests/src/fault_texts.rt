@@ -12,19 +12,13 @@ use record_file::{
 use std::alloc::Global;
 use std::fmt::Display;
 use std::process::Abort;
-use std::test::Fail;
 
 /// Expects each fault to be shown by the text beside it.
-fn expect_texts<E: Display>(
-    rt: &impl Abort,
-    alloc: Global,
-    rows: &[(E, &str)],
-) -> Result<(), Fail> {
+fn expect_texts<E: Display>(rt: &impl Abort, alloc: Global, rows: &[(E, &str)]) {
     for row in rows {
-        let shown = format!(in alloc; "{}", row.0)?;
+        let shown = format!(in alloc; "{}", row.0).expect(rt, "no memory");
         assert_eq!(rt; shown.as_str(), row.1);
     }
-    Ok(())
 }
 
 const KEY_FAULTS: [(KeyFault, &str); 2] = [
@@ -327,49 +321,49 @@ const CREATE_FAULTS: [(CreateFault, &str); 3] = [
 ];
 
 #[test]
-fn texts_of_values_and_tables(rt: HostRuntime) -> Result<(), Fail> {
+fn texts_of_values_and_tables(rt: HostRuntime) {
     let alloc = rt.alloc();
-    expect_texts(&rt, alloc, &KEY_FAULTS)?;
-    expect_texts(&rt, alloc, &LIMIT_FAULTS)?;
-    expect_texts(&rt, alloc, &RECORD_FAULTS)?;
+    expect_texts(&rt, alloc, &KEY_FAULTS);
+    expect_texts(&rt, alloc, &LIMIT_FAULTS);
+    expect_texts(&rt, alloc, &RECORD_FAULTS);
     expect_texts(&rt, alloc, &TABLE_FAULTS)
 }
 
 #[test]
-fn texts_of_the_file(rt: HostRuntime) -> Result<(), Fail> {
+fn texts_of_the_file(rt: HostRuntime) {
     let alloc = rt.alloc();
-    expect_texts(&rt, alloc, &BEGIN_FAULTS)?;
-    expect_texts(&rt, alloc, &PUT_FAULTS)?;
-    expect_texts(&rt, alloc, &REMOVE_FAULTS)?;
-    expect_texts(&rt, alloc, &GET_FAULTS)?;
-    expect_texts(&rt, alloc, &SAVEPOINT_FAULTS)?;
-    expect_texts(&rt, alloc, &RELEASE_FAULTS)?;
-    expect_texts(&rt, alloc, &ROLLBACK_TO_FAULTS)?;
-    expect_texts(&rt, alloc, &ABORT_FAULTS)?;
-    expect_texts(&rt, alloc, &RESUME_FAULTS)?;
-    expect_texts(&rt, alloc, &COMMIT_FAULTS)?;
-    expect_texts(&rt, alloc, &ENTRIES_FAULTS)?;
-    expect_texts(&rt, alloc, &KEYS_OF_FAULTS)?;
+    expect_texts(&rt, alloc, &BEGIN_FAULTS);
+    expect_texts(&rt, alloc, &PUT_FAULTS);
+    expect_texts(&rt, alloc, &REMOVE_FAULTS);
+    expect_texts(&rt, alloc, &GET_FAULTS);
+    expect_texts(&rt, alloc, &SAVEPOINT_FAULTS);
+    expect_texts(&rt, alloc, &RELEASE_FAULTS);
+    expect_texts(&rt, alloc, &ROLLBACK_TO_FAULTS);
+    expect_texts(&rt, alloc, &ABORT_FAULTS);
+    expect_texts(&rt, alloc, &RESUME_FAULTS);
+    expect_texts(&rt, alloc, &COMMIT_FAULTS);
+    expect_texts(&rt, alloc, &ENTRIES_FAULTS);
+    expect_texts(&rt, alloc, &KEYS_OF_FAULTS);
     expect_texts(&rt, alloc, &STATUS_FAULTS)
 }
 
 #[test]
-fn texts_of_scripts(rt: HostRuntime) -> Result<(), Fail> {
+fn texts_of_scripts(rt: HostRuntime) {
     let alloc = rt.alloc();
-    expect_texts(&rt, alloc, &LINE_FAULTS)?;
-    expect_texts(&rt, alloc, &SCRIPT_FAULTS)?;
+    expect_texts(&rt, alloc, &LINE_FAULTS);
+    expect_texts(&rt, alloc, &SCRIPT_FAULTS);
     expect_texts(&rt, alloc, &END_FAULTS)
 }
 
 #[test]
-fn texts_of_pages_and_trees(rt: HostRuntime) -> Result<(), Fail> {
+fn texts_of_pages_and_trees(rt: HostRuntime) {
     let alloc = rt.alloc();
-    expect_texts(&rt, alloc, &STORE_FAULTS)?;
-    expect_texts(&rt, alloc, &FETCH_FAULTS)?;
-    expect_texts(&rt, alloc, &WRITE_FAULTS)?;
-    expect_texts(&rt, alloc, &HEADER_FAULTS)?;
-    expect_texts(&rt, alloc, &NODE_FAULTS)?;
-    expect_texts(&rt, alloc, &TREE_FAULTS)?;
-    expect_texts(&rt, alloc, &OPEN_FAULTS)?;
+    expect_texts(&rt, alloc, &STORE_FAULTS);
+    expect_texts(&rt, alloc, &FETCH_FAULTS);
+    expect_texts(&rt, alloc, &WRITE_FAULTS);
+    expect_texts(&rt, alloc, &HEADER_FAULTS);
+    expect_texts(&rt, alloc, &NODE_FAULTS);
+    expect_texts(&rt, alloc, &TREE_FAULTS);
+    expect_texts(&rt, alloc, &OPEN_FAULTS);
     expect_texts(&rt, alloc, &CREATE_FAULTS)
 }

@@ -4,7 +4,6 @@ ghost use Rattle.tx_log.specs.LogState.{history_in, open_in};
 
 use rec_types::{Key, Limits, Memory, Record, TxId};
 use std::process::Abort;
-use std::test::Fail;
 use tx_log::{BeginFault, LogRecord, Phase, TxLog};
 
 fn is_free(log: &TxLog, tx: TxId, key: &Key) -> bool
@@ -42,9 +41,9 @@ fn put_bytes(
     key: u8,
     before: Option<u8>,
     after: Option<u8>,
-) -> Result<u32, Fail> {
-    let (before, after) = (record_of(before)?, record_of(after)?);
-    Ok(put(rt, log, TxId(tx), &key_of(key)?, before, after)?)
+) -> u32 {
+    let (before, after) = (record_of(rt, before), record_of(rt, after));
+    put(rt, log, TxId(tx), &key_of(rt, key), before, after).expect(rt, "no answer")
 }
 
 /// Begins a transaction, once more where memory was refused.
@@ -117,14 +116,14 @@ enum Step {
     Whole(u32, u32, u32, u32),
 }
 
-fn key_of(byte: u8) -> Result<Key, Fail> {
-    Ok(Key::new(&[byte])?)
+fn key_of(rt: &impl Abort, byte: u8) -> Key {
+    Key::new(&[byte]).expect(rt, "no key")
 }
 
-fn record_of(byte: Option<u8>) -> Result<Option<Record>, Fail> {
+fn record_of(rt: &impl Abort, byte: Option<u8>) -> Option<Record> {
     match byte {
-        Some(byte) => Ok(Some(Record::new(&[byte])?)),
-        None => Ok(None),
+        Some(byte) => Some(Record::new(&[byte]).expect(rt, "no record")),
+        None => None,
     }
 }
 
@@ -149,22 +148,14 @@ fn start(rt: &impl Abort, log: &mut TxLog, tx: TxId, n: u32, ends: bool) {
     log.start_rollback(tx, n, ends);
 }
 
-fn expect_undo(
-    rt: &impl Abort,
-    log: &mut TxLog,
-    tx: TxId,
-    key: u8,
-    before: Option<u8>,
-    lsn: u32,
-) -> Result<(), Fail> {
-    let (key, before) = (key_of(key)?, record_of(before)?);
+fn expect_undo(rt: &impl Abort, log: &mut TxLog, tx: TxId, key: u8, before: Option<u8>, lsn: u32) {
+    let (key, before) = (key_of(rt, key), record_of(rt, before));
     let step = log.next_undo(tx);
     assert!(rt; step.is_some());
     if let Some(step) = step {
         assert_eq!(rt; (step.key, step.before), (key, before));
     }
     assert_eq!(rt; log.compensate(tx), lsn);
-    Ok(())
 }
 
 fn finish(rt: &impl Abort, log: &mut TxLog, tx: TxId, ends: bool) {
@@ -178,26 +169,24 @@ fn end(rt: &impl Abort, log: &mut TxLog, tx: TxId) {
     log.end(tx);
 }
 
-fn expect_keys(rt: &impl Abort, log: &TxLog, tx: TxId, bytes: &[u8]) -> Result<(), Fail> {
-    let keys = keys_of(log, tx)?;
+fn expect_keys(rt: &impl Abort, log: &TxLog, tx: TxId, bytes: &[u8]) {
+    let keys = keys_of(log, tx).expect(rt, "no answer");
     assert_eq!(rt; keys.len(), bytes.len());
     for (key, byte) in keys.iter().zip(bytes) {
         assert!(rt; key.bytes() == [*byte].as_slice());
     }
-    Ok(())
 }
 
-fn expect_owner(rt: &impl Abort, log: &TxLog, key: u8, owner: Option<u32>) -> Result<(), Fail> {
-    assert_eq!(rt; log.owner(&key_of(key)?).map(|tx| tx.0), owner);
-    Ok(())
+fn expect_owner(rt: &impl Abort, log: &TxLog, key: u8, owner: Option<u32>) {
+    assert_eq!(rt; log.owner(&key_of(rt, key)).map(|tx| tx.0), owner);
 }
 
 /// Makes the changing calls of a step.
-fn change(rt: &impl Abort, log: &mut TxLog, step: &Step) -> Result<(), Fail> {
+fn change(rt: &impl Abort, log: &mut TxLog, step: &Step) {
     match *step {
         Step::Begin(number) => expect_begin(rt, log, number),
         Step::Put(tx, key, before, after, lsn) => {
-            assert_eq!(rt; put_bytes(rt, log, tx, key, before, after)?, lsn);
+            assert_eq!(rt; put_bytes(rt, log, tx, key, before, after), lsn);
         }
         Step::Save(tx, number) => assert_eq!(rt; save(rt, log, TxId(tx)), number),
         Step::Release(tx, n) => release(rt, log, TxId(tx), n),
@@ -205,19 +194,18 @@ fn change(rt: &impl Abort, log: &mut TxLog, step: &Step) -> Result<(), Fail> {
             assert_eq!(rt; roll_back(rt, log, TxId(tx), n, ends), count);
         }
         Step::Start(tx, n, ends) => start(rt, log, TxId(tx), n, ends),
-        Step::Undo(tx, key, before, lsn) => expect_undo(rt, log, TxId(tx), key, before, lsn)?,
+        Step::Undo(tx, key, before, lsn) => expect_undo(rt, log, TxId(tx), key, before, lsn),
         Step::Finish(tx) => finish(rt, log, TxId(tx), true),
         Step::End(tx) => end(rt, log, TxId(tx)),
-        _ => look(rt, log, step)?,
+        _ => look(rt, log, step),
     }
-    Ok(())
 }
 
 /// Makes the looks of a step.
-fn look(rt: &impl Abort, log: &TxLog, step: &Step) -> Result<(), Fail> {
+fn look(rt: &impl Abort, log: &TxLog, step: &Step) {
     match *step {
-        Step::Owner(key, owner) => expect_owner(rt, log, key, owner)?,
-        Step::Keys(tx, bytes) => expect_keys(rt, log, TxId(tx), bytes)?,
+        Step::Owner(key, owner) => expect_owner(rt, log, key, owner),
+        Step::Keys(tx, bytes) => expect_keys(rt, log, TxId(tx), bytes),
         Step::Phase(tx, phase) => assert_eq!(rt; log.phase(TxId(tx)), phase),
         Step::Counts(tx, depth, live, left) => {
             let tx = TxId(tx);
@@ -232,15 +220,13 @@ fn look(rt: &impl Abort, log: &TxLog, step: &Step) -> Result<(), Fail> {
         ),
         _ => {}
     }
-    Ok(())
 }
 
 /// Makes the steps one after another.
-fn make_steps(rt: &impl Abort, log: &mut TxLog, steps: &[Step]) -> Result<(), Fail> {
+fn make_steps(rt: &impl Abort, log: &mut TxLog, steps: &[Step]) {
     for step in steps {
-        change(rt, log, step)?;
+        change(rt, log, step);
     }
-    Ok(())
 }
 
 /// Expects the log to have these records, and none before and behind them.
@@ -272,44 +258,66 @@ const TWO_PARTIAL_ROLLBACKS: [Step; 14] = [
 ];
 
 #[test]
-fn two_partial_rollbacks(rt: HostRuntime) -> Result<(), Fail> {
-    let mut log = TxLog::new(rt.alloc(), Limits::new(10, 100, 10)?);
-    make_steps(&rt, &mut log, &TWO_PARTIAL_ROLLBACKS)?;
-    expect_records(&rt, &log, &eight_records(TxId(1))?);
-    Ok(())
+fn two_partial_rollbacks(rt: HostRuntime) {
+    let mut log = TxLog::new(
+        rt.alloc(),
+        Limits::new(10, 100, 10).expect(&rt, "no limits"),
+    );
+    make_steps(&rt, &mut log, &TWO_PARTIAL_ROLLBACKS);
+    expect_records(&rt, &log, &eight_records(&rt));
 }
 
-/// The log of two partial rollbacks.
-fn eight_records(tx: TxId) -> Result<[LogRecord; 8], Fail> {
-    let (a, b, c) = (key_of(b'a')?, key_of(b'b')?, key_of(b'c')?);
-    let (one, two) = (record_of(Some(b'1'))?, record_of(Some(b'2'))?);
-    let (three, four) = (record_of(Some(b'3'))?, record_of(Some(b'4'))?);
-    let update = |lsn, prev, key, before, after| LogRecord::Update {
+/// A change of transaction 1.
+fn update(
+    lsn: u32,
+    prev: u32,
+    key: Key,
+    before: Option<Record>,
+    after: Option<Record>,
+) -> LogRecord {
+    LogRecord::Update {
         lsn,
         prev,
-        tx,
+        tx: TxId(1),
         key,
         before,
         after,
-    };
-    let compensation = |lsn, prev, key, restored, undo_next| LogRecord::Compensation {
+    }
+}
+
+/// One of its changes taken back.
+fn compensation(
+    lsn: u32,
+    prev: u32,
+    key: Key,
+    restored: Option<Record>,
+    undo_next: u32,
+) -> LogRecord {
+    LogRecord::Compensation {
         lsn,
         prev,
-        tx,
+        tx: TxId(1),
         key,
         restored,
         undo_next,
-    };
-    Ok([
-        update(1, 0, a, None, one),
-        update(2, 1, a, one, two),
+    }
+}
+
+/// The log of two partial rollbacks.
+fn eight_records(rt: &impl Abort) -> [LogRecord; 8] {
+    let (a, b, c) = (key_of(rt, b'a'), key_of(rt, b'b'), key_of(rt, b'c'));
+    let (one, two) = (record_of(rt, Some(b'1')), record_of(rt, Some(b'2')));
+    let (three, four) = (record_of(rt, Some(b'3')), record_of(rt, Some(b'4')));
+    [
+        update(1, 0, a, None, one.as_ref().copied()),
+        update(2, 1, a, one.as_ref().copied(), two),
         update(3, 2, b, None, three),
         compensation(4, 3, b, None, 2),
         compensation(5, 4, a, one, 1),
         update(6, 5, c, None, four),
         compensation(7, 6, c, None, 5),
         compensation(8, 7, a, None, 0),
-    ])
+    ]
 }
 
 const OWNERS_AND_KEYS: [Step; 24] = [
@@ -340,8 +348,11 @@ const OWNERS_AND_KEYS: [Step; 24] = [
 ];
 
 #[test]
-fn owners_and_keys(rt: HostRuntime) -> Result<(), Fail> {
-    let mut log = TxLog::new(rt.alloc(), Limits::new(10, 100, 10)?);
+fn owners_and_keys(rt: HostRuntime) {
+    let mut log = TxLog::new(
+        rt.alloc(),
+        Limits::new(10, 100, 10).expect(&rt, "no limits"),
+    );
     make_steps(&rt, &mut log, &OWNERS_AND_KEYS)
 }
 
@@ -365,11 +376,13 @@ const A_ROLLBACK_BETWEEN: [Step; 16] = [
 ];
 
 #[test]
-fn a_rollback_between_other_changes(rt: HostRuntime) -> Result<(), Fail> {
-    let mut log = TxLog::new(rt.alloc(), Limits::new(10, 100, 10)?);
-    make_steps(&rt, &mut log, &A_ROLLBACK_BETWEEN)?;
+fn a_rollback_between_other_changes(rt: HostRuntime) {
+    let mut log = TxLog::new(
+        rt.alloc(),
+        Limits::new(10, 100, 10).expect(&rt, "no limits"),
+    );
+    make_steps(&rt, &mut log, &A_ROLLBACK_BETWEEN);
     assert!(rt; log.next_undo(TxId(2)).is_none());
-    Ok(())
 }
 
 const SAVEPOINTS_AND_LIMITS: [Step; 13] = [
@@ -389,13 +402,12 @@ const SAVEPOINTS_AND_LIMITS: [Step; 13] = [
 ];
 
 #[test]
-fn savepoints_and_limits(rt: HostRuntime) -> Result<(), Fail> {
-    let mut log = TxLog::new(rt.alloc(), Limits::new(10, 4, 2)?);
+fn savepoints_and_limits(rt: HostRuntime) {
+    let mut log = TxLog::new(rt.alloc(), Limits::new(10, 4, 2).expect(&rt, "no limits"));
     expect_begin(&rt, &mut log, Some(1));
     for number in 1..33 {
         assert_eq!(rt; save(&rt, &mut log, TxId(1)), number);
     }
-    make_steps(&rt, &mut log, &SAVEPOINTS_AND_LIMITS)?;
+    make_steps(&rt, &mut log, &SAVEPOINTS_AND_LIMITS);
     assert!(rt; !log.can_accept());
-    Ok(())
 }

@@ -1,4 +1,4 @@
-ghost use Rattle.std.specs.Prelude.{◌≡◌, ◌+◌, ◌<◌, ◌≤◌, [], IfOk, length, All, IsTrue};
+ghost use Rattle.std.specs.Prelude.{◌≡◌, ◌+◌, ◌<◌, ◌≤◌, [], length, All, IsTrue};
 ghost use Rattle.btree_node.specs.Joined.{AreBrothers};
 ghost use Rattle.btree_node.specs.Lists.{Ascends, Below};
 ghost use Rattle.btree_node.specs.Spelling.{SonsFit, CanStand, IsSpelt};
@@ -10,7 +10,6 @@ use btree_node::{
 };
 use rec_types::{KEY_WIDTH, Key, RECORD_WIDTH, Record};
 use std::process::Abort;
-use std::test::Fail;
 
 /// The page with these bytes from a place on.
 fn with(page: [u8; 4096], at: usize, bytes: &[u8]) -> [u8; 4096]
@@ -47,8 +46,9 @@ fn three_record_file() -> [[u8; 4096]; 4] {
     ]
 }
 
-fn element(key: &[u8], value: &[u8]) -> Result<(Key, Record), Fail> {
-    Ok((Key::new(key)?, Record::new(value)?))
+fn element(rt: &impl Abort, key: &[u8], value: &[u8]) -> (Key, Record) {
+    let key = Key::new(key).expect(rt, "no key");
+    (key, Record::new(value).expect(rt, "no record"))
 }
 
 /// A leaf with one element.
@@ -89,35 +89,36 @@ fn inner(element: (Key, Record), left: u32, right: u32) -> Node
 }
 
 /// A leaf with these keys, each with the record v.
-fn leaf_of(rt: &impl Abort, keys: &[u8]) -> Result<Node, Fail>
-    ensures { IfOk result (λ n. (n.kind ≡ NodeKind.Leaf) × (n.sons.items ≡ [])) }
+fn leaf_of(rt: &impl Abort, keys: &[u8]) -> Node
+    ensures { (result.kind ≡ NodeKind.Leaf) × (result.sons.items ≡ []) }
 {
     let mut elements = ArrayVec::new();
     for key in keys {
         assert!(rt; elements.len() < 33);
-        elements.push(element(&[*key], b"v")?);
+        elements.push(element(rt, &[*key], b"v"));
     }
-    Ok(Node {
+    Node {
         kind: NodeKind::Leaf,
         elements,
         sons: ArrayVec::new(),
-    })
+    }
 }
 
 /// An inner node with these keys, each with the record v, and these sons.
-fn inner_of(rt: &impl Abort, keys: &[u8], sons: &[u32]) -> Result<Node, Fail> {
+fn inner_of(rt: &impl Abort, keys: &[u8], sons: &[u32]) -> Node {
     let Node {
         kind: _,
         elements,
         sons: _,
-    } = leaf_of(rt, keys)?;
+    } = leaf_of(rt, keys);
     let mut numbers = ArrayVec::new();
-    numbers.try_extend_from_slice(sons)?;
-    Ok(Node {
+    let kept = numbers.try_extend_from_slice(sons);
+    kept.expect(rt, "too many sons");
+    Node {
         kind: NodeKind::Inner,
         elements,
         sons: numbers,
-    })
+    }
 }
 
 /// Whether no son is 0.
@@ -174,7 +175,7 @@ fn expect_brothers(rt: &impl Abort, left: &Node, middle: &(Key, Record), right: 
 }
 
 #[test]
-fn the_three_record_file_is_written(rt: HostRuntime) -> Result<(), Fail> {
+fn the_three_record_file_is_written(rt: HostRuntime) {
     let pages = three_record_file();
     let header = Header {
         order: 1,
@@ -183,14 +184,18 @@ fn the_three_record_file_is_written(rt: HostRuntime) -> Result<(), Fail> {
         count: 3,
     };
     assert!(rt; write_header(&header, true) == pages[0]);
-    assert!(rt; encode(&leaf(element(b"a", b"x")?), 1) == pages[1]);
-    assert!(rt; encode(&leaf(element(b"c", b"z")?), 1) == pages[2]);
-    assert!(rt; encode(&inner(element(b"b", b"y")?, 1, 2), 1) == pages[3]);
-    Ok(())
+    assert!(rt; encode(&leaf(element(&rt, b"a", b"x")), 1) == pages[1]);
+    assert!(rt; encode(&leaf(element(&rt, b"c", b"z")), 1) == pages[2]);
+    assert!(rt; encode(&inner(element(&rt, b"b", b"y"), 1, 2), 1) == pages[3]);
+}
+
+/// Expects a page of order 1 to be read as this node.
+fn expect_read(rt: &impl Abort, page: &[u8; 4096], wanted: &Node) {
+    assert_eq!(rt; decode(page, 1).expect(rt, "no node"), *wanted);
 }
 
 #[test]
-fn the_three_record_file_is_read(rt: HostRuntime) -> Result<(), Fail> {
+fn the_three_record_file_is_read(rt: HostRuntime) {
     let pages = three_record_file();
     let header = Header {
         order: 1,
@@ -198,22 +203,19 @@ fn the_three_record_file_is_read(rt: HostRuntime) -> Result<(), Fail> {
         root: 3,
         count: 3,
     };
-    assert_eq!(rt; read_header(&pages[0])?, header);
-    assert_eq!(rt; decode(&pages[1], 1)?, leaf(element(b"a", b"x")?));
-    let root = inner(element(b"b", b"y")?, 1, 2);
-    assert_eq!(rt; decode(&pages[3], 1)?, root);
-    Ok(())
+    assert_eq!(rt; read_header(&pages[0]), Ok(header));
+    expect_read(&rt, &pages[1], &leaf(element(&rt, b"a", b"x")));
+    expect_read(&rt, &pages[3], &inner(element(&rt, b"b", b"y"), 1, 2));
 }
 
 #[test]
-fn a_node_is_read_into_again(rt: HostRuntime) -> Result<(), Fail> {
+fn a_node_is_read_into_again(rt: HostRuntime) {
     let pages = three_record_file();
     let mut node = Node::blank();
-    decode_into(&pages[3], 1, &mut node)?;
-    assert_eq!(rt; node, inner(element(b"b", b"y")?, 1, 2));
-    decode_into(&pages[1], 1, &mut node)?;
-    assert_eq!(rt; node, leaf(element(b"a", b"x")?));
-    Ok(())
+    decode_into(&pages[3], 1, &mut node).expect(&rt, "no node");
+    assert_eq!(rt; node, inner(element(&rt, b"b", b"y"), 1, 2));
+    decode_into(&pages[1], 1, &mut node).expect(&rt, "no node");
+    assert_eq!(rt; node, leaf(element(&rt, b"a", b"x")));
 }
 
 /// The page with an element put before its element i, or in the place of that.
@@ -240,36 +242,46 @@ fn changed(
     changed
 }
 
-#[test]
-fn a_page_is_changed_where_it_lies(rt: HostRuntime) -> Result<(), Fail> {
-    let page = encode(&leaf(element(b"bc", b"a long record")?), 2);
-    for (key, i, replaces, keys) in [
-        (b"bc", 0, true, [b"bc", b"bc"]),
-        (b"ab", 0, false, [b"ab", b"bc"]),
-        (b"cd", 1, false, [b"bc", b"cd"]),
-    ] {
-        let node = decode(&changed(&rt, &page, i, element(key, b"v")?, replaces), 2)?;
-        let elements = node.elements.as_slice();
-        assert_eq!(rt; elements.len(), if replaces { 1 } else { 2 }, "{i}");
-        for (at, element) in elements.iter().enumerate() {
-            assert_eq!(rt; element.0.bytes(), keys[at].as_slice());
-        }
-        assert_eq!(rt; elements[i].1.bytes(), b"v".as_slice());
+/// Expects a page of order 2 to spell these keys, one of them with the record v and the others with a long one.
+fn expect_page(rt: &impl Abort, page: &[u8; 4096], keys: &[&[u8]], i: usize) {
+    let node = decode(page, 2).expect(rt, "no node");
+    assert!(rt; node.elements.len() == keys.len());
+    for at in 0..keys.len() {
+        let (key, record) = &node.elements.as_slice()[at];
+        let wanted = if at == i {
+            b"v".as_slice()
+        } else {
+            b"a long record"
+        };
+        assert!(rt; key.bytes() == keys[at] && record.bytes() == wanted);
     }
-    Ok(())
 }
 
 #[test]
-fn keys_and_records_in_their_fields(rt: HostRuntime) -> Result<(), Fail> {
+fn a_page_is_changed_where_it_lies(rt: HostRuntime) {
+    let page = encode(&leaf(element(&rt, b"bc", b"a long record")), 2);
+    for (key, i, replaces, keys) in [
+        (b"bc", 0, true, [b"bc".as_slice()].as_slice()),
+        (b"ab", 0, false, &[b"ab", b"bc"]),
+        (b"cd", 1, false, &[b"bc", b"cd"]),
+    ] {
+        let page = changed(&rt, &page, i, element(&rt, key, b"v"), replaces);
+        expect_page(&rt, &page, keys, i);
+    }
+}
+
+#[test]
+fn keys_and_records_in_their_fields(rt: HostRuntime) {
     let field = b"ab\x00\x00\x00\x00\x00\x00\x00\x00\x00\x00\x00\x00\x00\x00";
-    assert_eq!(rt; Key::in_field(field, 2), Some(Key::new(b"ab")?));
-    assert_eq!(rt; Key::in_field(field, 1), None);
+    let (key, empty) = element(&rt, b"ab", b"");
+    assert!(rt; Key::in_field(field, 2) == Some(key));
+    assert!(rt; Key::in_field(field, 1).is_none());
     let mut field = [0; 32];
-    assert_eq!(rt; Record::in_field(&field, 0), Some(Record::new(b"")?));
+    assert!(rt; Record::in_field(&field, 0) == Some(empty));
     field[31] = b'z';
-    assert_eq!(rt; Record::in_field(&field, 32), Some(Record::new(&field)?));
-    assert_eq!(rt; Record::in_field(&field, 31), None);
-    Ok(())
+    let (_, longest) = element(&rt, b"ab", &field);
+    assert!(rt; Record::in_field(&field, 32) == Some(longest));
+    assert!(rt; Record::in_field(&field, 31).is_none());
 }
 
 #[test]
@@ -286,6 +298,11 @@ fn a_new_file_of_order_two(rt: HostRuntime) {
     assert!(rt; write_header(&header, false) == writing);
 }
 
+/// Expects a page of order 1 to be refused for this fault.
+fn expect_fault(rt: &impl Abort, page: &[u8; 4096], fault: NodeFault) {
+    assert_eq!(rt; decode(page, 1), Err(fault));
+}
+
 #[test]
 fn the_first_fault_of_a_node_page(rt: HostRuntime) {
     let pages = three_record_file();
@@ -296,20 +313,16 @@ fn the_first_fault_of_a_node_page(rt: HostRuntime) {
         (8, 0x11, NodeFault::KeyLength),
         (25, 0x21, NodeFault::RecordLength),
     ] {
-        assert_eq!(rt;
-            decode(&with(pages[1], at, &[byte]), 1).err(),
-            Some(fault),
-            "at {at}"
-        );
+        expect_fault(&rt, &with(pages[1], at, &[byte]), fault);
     }
     let padded = with(pages[2], 2000, &[1]);
-    assert_eq!(rt; decode(&padded, 1).err(), Some(NodeFault::NotZero));
+    expect_fault(&rt, &padded, NodeFault::NotZero);
     let twice = with(with(pages[1], 3, &[2]), 58, b"\x01a");
-    assert_eq!(rt; decode(&twice, 1).err(), Some(NodeFault::Order));
+    expect_fault(&rt, &twice, NodeFault::Order);
     let no_son = with(pages[3], 111, &[0]);
-    assert_eq!(rt; decode(&no_son, 1).err(), Some(NodeFault::Son));
+    expect_fault(&rt, &no_son, NodeFault::Son);
     let leaf_with_sons = with(pages[3], 0, &[1]);
-    assert_eq!(rt; decode(&leaf_with_sons, 1).err(), Some(NodeFault::NotZero));
+    expect_fault(&rt, &leaf_with_sons, NodeFault::NotZero);
 }
 
 #[test]
@@ -333,8 +346,8 @@ fn the_first_fault_of_a_header_page(rt: HostRuntime) {
 }
 
 #[test]
-fn a_key_has_its_place(rt: HostRuntime) -> Result<(), Fail> {
-    let node = leaf_of(&rt, b"bdf")?;
+fn a_key_has_its_place(rt: HostRuntime) {
+    let node = leaf_of(&rt, b"bdf");
     for (key, place) in [
         (b'a', Err(0)),
         (b'b', Ok(0)),
@@ -342,52 +355,55 @@ fn a_key_has_its_place(rt: HostRuntime) -> Result<(), Fail> {
         (b'f', Ok(2)),
         (b'g', Err(3)),
     ] {
-        assert_eq!(rt; place_of(&node, &Key::new(&[key])?), place, "key {key}");
+        assert_eq!(rt;
+            place_of(&node, &Key::new(&[key]).expect(&rt, "no key")),
+            place,
+            "key {key}"
+        );
     }
-    Ok(())
+}
+
+/// Expects a node to have these keys, each with the record v, and these sons.
+fn expect_node(rt: &impl Abort, node: &Node, keys: &[u8], sons: &[u32]) {
+    assert_eq!(rt;
+        node.elements.as_slice(),
+        leaf_of(rt, keys).elements.as_slice()
+    );
+    assert_eq!(rt; node.sons.as_slice(), sons);
 }
 
 #[test]
-fn a_full_leaf_is_split(rt: HostRuntime) -> Result<(), Fail> {
-    let node = leaf_of(&rt, b"abcde")?;
-    assert_eq!(rt; node.elements.len(), 5);
+fn a_full_leaf_is_split(rt: HostRuntime) {
+    let node = leaf_of(&rt, b"abcde");
+    assert!(rt; node.elements.len() == 5);
     let (left, middle, right) = split(node, 2);
-    assert!(rt; middle == element(b"c", b"v")?);
-    assert_eq!(rt;
-        left.elements.as_slice(),
-        leaf_of(&rt, b"ab")?.elements.as_slice()
-    );
-    assert_eq!(rt;
-        right.elements.as_slice(),
-        leaf_of(&rt, b"de")?.elements.as_slice()
-    );
-    Ok(())
+    expect_node(&rt, &left, b"ab", &[]);
+    assert!(rt; middle == element(&rt, b"c", b"v"));
+    expect_node(&rt, &right, b"de", &[]);
 }
 
 #[test]
-fn a_full_inner_node_is_split(rt: HostRuntime) -> Result<(), Fail> {
-    let mut node = leaf_of(&rt, b"abc")?;
+fn a_full_inner_node_is_split(rt: HostRuntime) {
+    let mut node = leaf_of(&rt, b"abc");
     for son in [4, 5, 6, 7] {
         assert!(rt; !node.sons.is_full());
         node.sons.push(son);
     }
     node.kind = NodeKind::Inner;
-    assert_eq!(rt; node.elements.len(), 3);
-    assert_eq!(rt; node.sons.len(), 4);
+    assert!(rt; node.elements.len() == 3 && node.sons.len() == 4);
     let (left, middle, right) = split(node, 1);
-    assert!(rt; middle == element(b"b", b"v")?);
-    assert_eq!(rt; left.sons.as_slice(), [4, 5].as_slice());
-    assert_eq!(rt; right.sons.as_slice(), [6, 7].as_slice());
-    Ok(())
+    expect_node(&rt, &left, b"a", &[4, 5]);
+    assert!(rt; middle == element(&rt, b"b", b"v"));
+    expect_node(&rt, &right, b"c", &[6, 7]);
 }
 
 /// Two brothers of order `k` in one node.
-fn catenated(rt: &impl Abort, left: Node, middle: u8, right: Node, k: u16) -> Result<Node, Fail> {
-    let middle = element(&[middle], b"v")?;
+fn catenated(rt: &impl Abort, left: Node, middle: u8, right: Node, k: u16) -> Node {
+    let middle = element(rt, &[middle], b"v");
     expect_brothers(rt, &left, &middle, &right);
     assert!(rt; 1 <= k && k <= 16);
     assert!(rt; left.elements.len() + right.elements.len() < 2 * k as usize);
-    Ok(catenate(left, middle, right, k))
+    catenate(left, middle, right, k)
 }
 
 /// Two brothers of order `k`, distributed.
@@ -397,26 +413,20 @@ fn distributed(
     middle: u8,
     right: Node,
     k: u16,
-) -> Result<(Node, (Key, Record), Node), Fail> {
-    let middle = element(&[middle], b"v")?;
+) -> (Node, (Key, Record), Node) {
+    let middle = element(rt, &[middle], b"v");
     expect_brothers(rt, &left, &middle, &right);
     assert!(rt; 1 <= k && k <= 16);
     let most = 2 * k as usize;
     assert!(rt; left.elements.len() <= most && right.elements.len() <= most);
     assert!(rt; most <= left.elements.len() + right.elements.len());
-    Ok(distribute(left, middle, right, k))
+    distribute(left, middle, right, k)
 }
 
 /// Expects what two brothers of order `k` become once they are catenated.
-fn expect_catenated(
-    rt: &impl Abort,
-    brothers: (Node, u8, Node),
-    k: u16,
-    wanted: Node,
-) -> Result<(), Fail> {
+fn expect_catenated(rt: &impl Abort, brothers: (Node, u8, Node), k: u16, wanted: Node) {
     let (left, middle, right) = brothers;
-    assert_eq!(rt; catenated(rt, left, middle, right, k)?, wanted);
-    Ok(())
+    assert_eq!(rt; catenated(rt, left, middle, right, k), wanted);
 }
 
 /// Expects what two brothers of order `k` become once they are distributed.
@@ -425,37 +435,35 @@ fn expect_distributed(
     brothers: (Node, u8, Node),
     k: u16,
     wanted: (Node, u8, Node),
-) -> Result<(), Fail> {
+) {
     let (left, middle, right) = brothers;
-    let (left, up, right) = distributed(rt, left, middle, right, k)?;
+    let (left, up, right) = distributed(rt, left, middle, right, k);
     assert_eq!(rt; left, wanted.0);
-    assert_eq!(rt; up, element(&[wanted.1], b"v")?);
+    assert_eq!(rt; up, element(rt, &[wanted.1], b"v"));
     assert_eq!(rt; right, wanted.2);
-    Ok(())
 }
 
 #[test]
-fn leaves_are_catenated(rt: HostRuntime) -> Result<(), Fail> {
+fn leaves_are_catenated(rt: HostRuntime) {
     for (left, middle, right, wanted) in [
         (b"d".as_slice(), b'e', b"fg".as_slice(), b"defg".as_slice()),
         (b"ab", b'd', b"e", b"abde"),
     ] {
-        let brothers = (leaf_of(&rt, left)?, middle, leaf_of(&rt, right)?);
-        expect_catenated(&rt, brothers, 2, leaf_of(&rt, wanted)?)?;
+        let brothers = (leaf_of(&rt, left), middle, leaf_of(&rt, right));
+        expect_catenated(&rt, brothers, 2, leaf_of(&rt, wanted));
     }
-    Ok(())
 }
 
 #[test]
-fn inner_nodes_are_catenated(rt: HostRuntime) -> Result<(), Fail> {
-    let left = inner_of(&rt, b"b", &[1, 2])?;
-    let right = inner_of(&rt, b"", &[3])?;
-    let wanted = inner_of(&rt, b"bc", &[1, 2, 3])?;
-    expect_catenated(&rt, (left, b'c', right), 1, wanted)
+fn inner_nodes_are_catenated(rt: HostRuntime) {
+    let left = inner_of(&rt, b"b", &[1, 2]);
+    let right = inner_of(&rt, b"", &[3]);
+    let wanted = inner_of(&rt, b"bc", &[1, 2, 3]);
+    expect_catenated(&rt, (left, b'c', right), 1, wanted);
 }
 
 #[test]
-fn leaves_are_distributed(rt: HostRuntime) -> Result<(), Fail> {
+fn leaves_are_distributed(rt: HostRuntime) {
     for ((left, middle, right), (wanted_left, up, wanted_right)) in [
         (
             (b"b".as_slice(), b'c', b"defg".as_slice()),
@@ -464,15 +472,14 @@ fn leaves_are_distributed(rt: HostRuntime) -> Result<(), Fail> {
         ((b"b", b'd', b"efg"), (b"bd", b'e', b"fg")),
         ((b"abcd", b'e', b"f"), (b"ab", b'c', b"def")),
     ] {
-        let brothers = (leaf_of(&rt, left)?, middle, leaf_of(&rt, right)?);
-        let wanted = (leaf_of(&rt, wanted_left)?, up, leaf_of(&rt, wanted_right)?);
-        expect_distributed(&rt, brothers, 2, wanted)?;
+        let brothers = (leaf_of(&rt, left), middle, leaf_of(&rt, right));
+        let wanted = (leaf_of(&rt, wanted_left), up, leaf_of(&rt, wanted_right));
+        expect_distributed(&rt, brothers, 2, wanted);
     }
-    Ok(())
 }
 
 #[test]
-fn inner_nodes_are_distributed(rt: HostRuntime) -> Result<(), Fail> {
+fn inner_nodes_are_distributed(rt: HostRuntime) {
     for ((left, left_sons), middle, (right, right_sons)) in [
         (
             (b"".as_slice(), [1].as_slice()),
@@ -481,12 +488,11 @@ fn inner_nodes_are_distributed(rt: HostRuntime) -> Result<(), Fail> {
         ),
         ((b"bc", &[1, 2, 3]), b'd', (b"", &[4])),
     ] {
-        let left = inner_of(&rt, left, left_sons)?;
-        let right = inner_of(&rt, right, right_sons)?;
-        let wanted_left = inner_of(&rt, b"b", &[1, 2])?;
-        let wanted_right = inner_of(&rt, b"d", &[3, 4])?;
+        let left = inner_of(&rt, left, left_sons);
+        let right = inner_of(&rt, right, right_sons);
+        let wanted_left = inner_of(&rt, b"b", &[1, 2]);
+        let wanted_right = inner_of(&rt, b"d", &[3, 4]);
         let wanted = (wanted_left, b'c', wanted_right);
-        expect_distributed(&rt, (left, middle, right), 1, wanted)?;
+        expect_distributed(&rt, (left, middle, right), 1, wanted);
     }
-    Ok(())
 }

@@ -5,7 +5,6 @@ use std::fs::OpenFile;
 use std::os::unix::fs::FileExt;
 use std::process::Abort;
 use std::rt::Files;
-use std::test::Fail;
 
 /// A call of the program: its words, with a space between them; its script; what it writes to standard output and,
 /// where that text is the program's own, to standard error; and its status.
@@ -41,20 +40,24 @@ fn bad<'a>(words: &'a str, script: &'a str, err: &'a str, status: u8) -> Call<'a
 }
 
 /// Makes the call: its status, and what it wrote to standard output and to standard error.
-fn run<F: OpenFile + FileExt + Drop, H: Files<File = F>>(
+fn run<F: OpenFile + FileExt + Drop, H: Files<File = F> + Abort>(
     rt: &H,
     alloc: Global,
     words: &str,
     script: &str,
-) -> Result<(u8, String, String), Fail> {
+) -> (u8, String, String) {
     let mut list = Vec::new(alloc);
     for word in words.split(' ') {
-        list.push(word)?;
+        list.push(word).expect(rt, "no memory");
     }
     let mut reader = script.as_bytes();
     let (mut out, mut err) = (Vec::new(alloc), Vec::new(alloc));
     let status = run_words(rt, alloc, &list, &mut reader, &mut out, &mut err);
-    Ok((status, String::from_utf8(out)?, String::from_utf8(err)?))
+    (
+        status,
+        String::from_utf8(out).expect(rt, "no text"),
+        String::from_utf8(err).expect(rt, "no text"),
+    )
 }
 
 /// Expects that of the call.
@@ -62,8 +65,8 @@ fn expect_call<F: OpenFile + FileExt + Drop, H: Files<File = F> + Abort>(
     rt: &H,
     alloc: Global,
     call: &Call<'_>,
-) -> Result<(), Fail> {
-    let (status, out, err) = run(rt, alloc, call.words, call.script)?;
+) {
+    let (status, out, err) = run(rt, alloc, call.words, call.script);
     assert_eq!(rt; (call.words, status), (call.words, call.status));
     match call.err {
         Some(text) => {
@@ -75,7 +78,6 @@ fn expect_call<F: OpenFile + FileExt + Drop, H: Files<File = F> + Abort>(
             assert!(rt; texts.contains("Usage: recfile"));
         }
     }
-    Ok(())
 }
 
 /// Does so for each call.
@@ -83,11 +85,10 @@ fn expect_calls<F: OpenFile + FileExt + Drop, H: Files<File = F> + Abort>(
     rt: &H,
     alloc: Global,
     calls: &[Call<'_>],
-) -> Result<(), Fail> {
+) {
     for call in calls {
-        expect_call(rt, alloc, call)?;
+        expect_call(rt, alloc, call);
     }
-    Ok(())
 }
 
 const CHANGES: &str = "begin\nbegin\nbegin\nput 3 m =keep\ncommit 3\nput 1 a =x\nput 2 b =y\n";
@@ -123,11 +124,10 @@ fn two_sessions() -> [Call<'static>; 7] {
 }
 
 #[test]
-fn two_sessions_over_a_file(rt: HostRuntime) -> Result<(), Fail> {
+fn two_sessions_over_a_file(rt: HostRuntime) {
     let _ = fs::remove_file(&rt, "two.rec");
-    expect_calls(&rt, rt.alloc(), &two_sessions())?;
-    fs::remove_file(&rt, "two.rec")?;
-    Ok(())
+    expect_calls(&rt, rt.alloc(), &two_sessions());
+    fs::remove_file(&rt, "two.rec").expect(&rt, "no file");
 }
 
 const FRUIT: &str = "begin\nbegin\nput 1 apple =red\nput 2 pear =yellow\ncommit 1\n";
@@ -157,40 +157,38 @@ fn fruit_session() -> [Call<'static>; 5] {
 
 /// Writes a file of these bytes with another byte at a place.
 fn write_changed(
-    rt: &impl Files,
+    rt: &(impl Files + Abort),
     alloc: Global,
     path: &str,
     bytes: &[u8],
     place: usize,
     value: u8,
-) -> Result<(), Fail> {
-    let mut changed = Vec::from_slice(alloc, bytes)?;
+) {
+    let mut changed = Vec::from_slice(alloc, bytes).expect(rt, "no memory");
     if let Some(byte) = changed.get_mut(place) {
         *byte = value;
     }
-    fs::write(rt, path, &changed)?;
-    Ok(())
+    fs::write(rt, path, &changed).expect(rt, "no file");
 }
 
 #[test]
-fn fruit_in_a_file(rt: HostRuntime) -> Result<(), Fail> {
+fn fruit_in_a_file(rt: HostRuntime) {
     let alloc = rt.alloc();
     let _ = fs::remove_file(&rt, "fruit.rec");
-    expect_calls(&rt, alloc, &fruit_session())?;
-    let bytes = fs::read(&rt, "fruit.rec")?;
-    write_changed(&rt, alloc, "fruit.rec", &bytes, 4096, b'X')?;
+    expect_calls(&rt, alloc, &fruit_session());
+    let bytes = fs::read(&rt, "fruit.rec").expect(&rt, "no file");
+    write_changed(&rt, alloc, "fruit.rec", &bytes, 4096, b'X');
     expect_call(
         &rt,
         alloc,
         &bad("recfile check fruit.rec", "", "recfile: Damaged 1\n", 1),
-    )?;
-    fs::remove_file(&rt, "fruit.rec")?;
-    Ok(())
+    );
+    fs::remove_file(&rt, "fruit.rec").expect(&rt, "no file");
 }
 
 // The text is the words' own fault, or their help.
 #[test]
-fn words_that_ask_for_nothing(rt: HostRuntime) -> Result<(), Fail> {
+fn words_that_ask_for_nothing(rt: HostRuntime) {
     for (words, status) in [
         ("recfile frob", 2),
         ("recfile create no.rec", 2),
@@ -213,13 +211,12 @@ fn words_that_ask_for_nothing(rt: HostRuntime) -> Result<(), Fail> {
             err: None,
             status,
         };
-        expect_call(&rt, rt.alloc(), &call)?;
+        expect_call(&rt, rt.alloc(), &call);
     }
-    Ok(())
 }
 
 #[test]
-fn numbers_out_of_their_ranges(rt: HostRuntime) -> Result<(), Fail> {
+fn numbers_out_of_their_ranges(rt: HostRuntime) {
     for words in [
         "recfile memory --records 0",
         "recfile memory --records 1000001",
@@ -230,15 +227,14 @@ fn numbers_out_of_their_ranges(rt: HostRuntime) -> Result<(), Fail> {
         "recfile memory --begins -1",
         "recfile memory --begins many",
     ] {
-        let (status, out, _) = run(&rt, rt.alloc(), words, "begin\n")?;
+        let (status, out, _) = run(&rt, rt.alloc(), words, "begin\n");
         assert_eq!(rt; (words, status, out.len()), (words, 2, 0));
     }
-    Ok(())
 }
 
 // The ends of each range.
 #[test]
-fn numbers_at_the_ends_of_their_ranges(rt: HostRuntime) -> Result<(), Fail> {
+fn numbers_at_the_ends_of_their_ranges(rt: HostRuntime) {
     for call in [
         good(
             "recfile memory --records 1 --log 2 --begins 1",
@@ -252,16 +248,15 @@ fn numbers_at_the_ends_of_their_ranges(rt: HostRuntime) -> Result<(), Fail> {
         ),
         good("recfile", "begin\nlist\n", "ok 1\nok 0\n"),
     ] {
-        expect_call(&rt, rt.alloc(), &call)?;
+        expect_call(&rt, rt.alloc(), &call);
     }
-    Ok(())
 }
 
 #[test]
-fn files_that_are_not_opened(rt: HostRuntime) -> Result<(), Fail> {
+fn files_that_are_not_opened(rt: HostRuntime) {
     let _ = fs::remove_file(&rt, "none.rec");
-    fs::write(&rt, "empty.rec", "")?;
-    fs::write(&rt, "short.rec", "BMKRFILE")?;
+    fs::write(&rt, "empty.rec", "").expect(&rt, "no file");
+    fs::write(&rt, "short.rec", "BMKRFILE").expect(&rt, "no file");
     for (words, err) in [
         ("recfile run none.rec", "recfile: Device\n"),
         ("recfile check none.rec", "recfile: Device\n"),
@@ -272,11 +267,10 @@ fn files_that_are_not_opened(rt: HostRuntime) -> Result<(), Fail> {
         ("recfile run short.rec", "recfile: BadLength\n"),
         ("recfile check short.rec", "recfile: BadLength\n"),
     ] {
-        expect_call(&rt, rt.alloc(), &bad(words, "begin\n", err, 1))?;
+        expect_call(&rt, rt.alloc(), &bad(words, "begin\n", err, 1));
     }
-    fs::remove_file(&rt, "empty.rec")?;
-    fs::remove_file(&rt, "short.rec")?;
-    Ok(())
+    fs::remove_file(&rt, "empty.rec").expect(&rt, "no file");
+    fs::remove_file(&rt, "short.rec").expect(&rt, "no file");
 }
 
 // Three records at a, b and c, the replies, and what a check tells of their file of order 1.
@@ -310,10 +304,9 @@ fn expect_kept<F: OpenFile + FileExt + Drop, H: Files<File = F> + Abort + Alloc>
     call: &Call<'_>,
     path: &str,
     bytes: &[u8],
-) -> Result<(), Fail> {
-    expect_call(rt, alloc, call)?;
-    assert!(rt; fs::read(rt, path)?.as_slice() == bytes);
-    Ok(())
+) {
+    expect_call(rt, alloc, call);
+    assert!(rt; fs::read(rt, path).expect(rt, "no file").as_slice() == bytes);
 }
 
 /// Expects a check and a session to name the fault, and to leave the file as it is.
@@ -321,17 +314,16 @@ fn expect_damaged<F: OpenFile + FileExt + Drop, H: Files<File = F> + Abort + All
     rt: &H,
     alloc: Global,
     fault: &str,
-) -> Result<(), Fail> {
-    let bytes = fs::read(rt, "damaged.rec")?;
+) {
+    let bytes = fs::read(rt, "damaged.rec").expect(rt, "no file");
     for words in ["recfile check damaged.rec", "recfile run damaged.rec"] {
         let call = bad(words, "begin\n", fault, 1);
-        expect_kept(rt, alloc, &call, "damaged.rec", &bytes)?;
+        expect_kept(rt, alloc, &call, "damaged.rec", &bytes);
     }
-    Ok(())
 }
 
 #[test]
-fn damaged_files_are_named(rt: HostRuntime) -> Result<(), Fail> {
+fn damaged_files_are_named(rt: HostRuntime) {
     let alloc = rt.alloc();
     let _ = fs::remove_file(&rt, "three.rec");
     expect_calls(
@@ -342,36 +334,35 @@ fn damaged_files_are_named(rt: HostRuntime) -> Result<(), Fail> {
             good("recfile run three.rec", THREE_RECORDS, THREE_REPLIES),
             good("recfile check three.rec", "", THREE_CHECKED),
         ],
-    )?;
-    let bytes = fs::read(&rt, "three.rec")?;
+    );
+    let bytes = fs::read(&rt, "three.rec").expect(&rt, "no file");
     for (place, value, fault) in DAMAGES {
-        write_changed(&rt, alloc, "damaged.rec", &bytes, place, value)?;
-        expect_damaged(&rt, alloc, fault)?;
+        write_changed(&rt, alloc, "damaged.rec", &bytes, place, value);
+        expect_damaged(&rt, alloc, fault);
     }
     let words = "recfile run --records 2 three.rec";
     expect_call(
         &rt,
         alloc,
         &bad(words, "begin\n", "recfile: TooManyRecords\n", 1),
-    )?;
-    fs::remove_file(&rt, "damaged.rec")?;
-    fs::remove_file(&rt, "three.rec")?;
-    Ok(())
+    );
+    fs::remove_file(&rt, "damaged.rec").expect(&rt, "no file");
+    fs::remove_file(&rt, "three.rec").expect(&rt, "no file");
 }
 
 /// A script of more than 1,048,576 bytes.
-fn long_script(alloc: Global, lines: u32) -> Result<String, Fail> {
+fn long_script(rt: &impl Abort, alloc: Global, lines: u32) -> String {
     let mut script = String::new(alloc);
     for _ in 0..lines {
-        script.push_str("begin\n#\n")?;
+        script.push_str("begin\n#\n").expect(rt, "no memory");
     }
-    Ok(script)
+    script
 }
 
 // A script that is too long is not run, a session that changes nothing writes nothing, and a new file is not made over
 // one that is there: the file stays as it is.
 #[test]
-fn files_that_stay_as_they_are(rt: HostRuntime) -> Result<(), Fail> {
+fn files_that_stay_as_they_are(rt: HostRuntime) {
     let alloc = rt.alloc();
     let _ = fs::remove_file(&rt, "stays.rec");
     expect_calls(
@@ -382,9 +373,9 @@ fn files_that_stay_as_they_are(rt: HostRuntime) -> Result<(), Fail> {
             good("recfile run stays.rec", THREE_RECORDS, THREE_REPLIES),
             good("recfile check stays.rec", "", THREE_CHECKED),
         ],
-    )?;
-    let bytes = fs::read(&rt, "stays.rec")?;
-    let long = long_script(alloc, 131_073)?;
+    );
+    let bytes = fs::read(&rt, "stays.rec").expect(&rt, "no file");
+    let long = long_script(&rt, alloc, 131_073);
     let back = "begin\nput 1 a =w\nback 1 0\nget 1 a\n";
     for call in [
         bad(
@@ -402,8 +393,7 @@ fn files_that_stay_as_they_are(rt: HostRuntime) -> Result<(), Fail> {
         ),
         good("recfile run stays.rec", "", ""),
     ] {
-        expect_kept(&rt, alloc, &call, "stays.rec", &bytes)?;
+        expect_kept(&rt, alloc, &call, "stays.rec", &bytes);
     }
-    fs::remove_file(&rt, "stays.rec")?;
-    Ok(())
+    fs::remove_file(&rt, "stays.rec").expect(&rt, "no file");
 }

@@ -13,7 +13,6 @@ use recfile::{ScriptFault, run_script};
 use record_file::RecordFile;
 use std::alloc::Global;
 use std::process::Abort;
-use std::test::Fail;
 
 /// A script over an empty file: the limits of records, log records and transactions, the calls of `set` at which
 /// the device fails, the replies, and how many commands there are.
@@ -33,11 +32,11 @@ fn greatest() -> Result<Limits, LimitFault> {
 }
 
 /// An empty table in a tree of this order, over pages in memory.
-fn tree(alloc: Global, k: u16, limits: Limits) -> Result<TreeTable<MemStore>, Fail> {
+fn tree(rt: &impl Abort, alloc: Global, k: u16, limits: Limits) -> TreeTable<MemStore> {
     let store = MemStore::new(Vec::new(alloc), 0);
     match TreeTable::create(alloc, store, k, limits) {
-        Ok(table) => Ok(table),
-        Err(_) => Err(Fail::from("the table isn't made")),
+        Ok(table) => table,
+        Err(_) => panic!(rt; "the table isn't made"),
     }
 }
 
@@ -48,22 +47,26 @@ fn flaky_file<T: Table>(
     table: T,
     limits: Limits,
     failing: &[u64],
-) -> Result<RecordFile<FlakyTable<T>>, Fail> {
-    let table = FlakyTable::new(table, Vec::from_slice(alloc, failing)?);
+) -> RecordFile<FlakyTable<T>> {
+    let table = FlakyTable::new(
+        table,
+        Vec::from_slice(alloc, failing).expect(rt, "no memory"),
+    );
     assert!(rt; table.limit() == limits.records());
-    Ok(RecordFile::new(alloc, table, limits))
+    RecordFile::new(alloc, table, limits)
 }
 
 /// Runs the script: its replies, and how it ended.
 fn run<T: Table>(
+    rt: &impl Abort,
     alloc: Global,
     file: &mut RecordFile<T>,
     script: &str,
-) -> Result<(String, Result<u32, ScriptFault>), Fail> {
+) -> (String, Result<u32, ScriptFault>) {
     let mut reader = script.as_bytes();
     let mut out = Vec::new(alloc);
     let end = run_script(alloc, &mut reader, &mut out, file);
-    Ok((String::from_utf8(out)?, end))
+    (String::from_utf8(out).expect(rt, "no text"), end)
 }
 
 /// Expects the replies, each with its end, and this many commands.
@@ -72,35 +75,33 @@ fn expect_replies<T: Table>(
     alloc: Global,
     file: &mut RecordFile<T>,
     row: &Row<'_>,
-) -> Result<(), Fail> {
-    let (text, end) = run(alloc, file, row.script)?;
+) {
+    let (text, end) = run(rt, alloc, file, row.script);
     assert_eq!(rt; (row.name, text.as_str()), (row.name, row.replies));
     assert_eq!(rt; (row.name, end), (row.name, Ok(row.commands)));
-    Ok(())
 }
 
 /// Does so over a new file in the table.
-fn expect_over<T: Table>(
-    rt: &impl Abort,
-    alloc: Global,
-    table: T,
-    row: &Row<'_>,
-) -> Result<(), Fail> {
+fn expect_over<T: Table>(rt: &impl Abort, alloc: Global, table: T, row: &Row<'_>) {
     let (records, log_records, begins) = row.limits;
-    let limits = Limits::new(records, log_records, begins)?;
-    let mut file = flaky_file(rt, alloc, table, limits, row.failing)?;
+    let limits = Limits::new(records, log_records, begins).expect(rt, "no limits");
+    let mut file = flaky_file(rt, alloc, table, limits, row.failing);
     expect_replies(rt, alloc, &mut file, row)
 }
 
 /// Expects it over a sorted table, and over trees of the orders 1, 2 and 16.
-fn expect_row(rt: &impl Abort, alloc: Global, row: &Row<'_>) -> Result<(), Fail> {
+fn expect_row(rt: &impl Abort, alloc: Global, row: &Row<'_>) {
     let (records, log_records, begins) = row.limits;
-    let limits = Limits::new(records, log_records, begins)?;
-    expect_over(rt, alloc, SortedTable::new(alloc, limits), row)?;
+    let limits = Limits::new(records, log_records, begins).expect(rt, "no limits");
+    expect_over(rt, alloc, SortedTable::new(alloc, limits), row);
     for k in [1, 2, 16] {
-        expect_over(rt, alloc, tree(alloc, k, limits)?, row)?;
+        expect_over(rt, alloc, tree(rt, alloc, k, limits), row);
     }
-    Ok(())
+}
+
+/// Adds to a script or to its replies.
+fn add(rt: &impl Abort, text: &mut String, more: &str) {
+    text.push_str(more).expect(rt, "no memory");
 }
 
 /// A page that begins with these bytes.
@@ -135,27 +136,22 @@ fn three_records() -> [[u8; 4096]; 4] {
 }
 
 /// A store with these pages, and a tail.
-fn store_of(
-    rt: &impl Abort,
-    alloc: Global,
-    pages: &[[u8; 4096]],
-    tail: u16,
-) -> Result<MemStore, Fail> {
+fn store_of(rt: &impl Abort, alloc: Global, pages: &[[u8; 4096]], tail: u16) -> MemStore {
     assert!(rt; tail <= 4095);
     let mut stored = Vec::new(alloc);
     if stored.reserve(pages.len()).is_err() {
-        stored.reserve(pages.len())?;
+        stored.reserve(pages.len()).expect(rt, "no memory");
     }
     for page in pages {
-        stored.push(*page)?;
+        stored.push(*page).expect(rt, "no memory");
     }
-    Ok(MemStore::new(stored, tail))
+    MemStore::new(stored, tail)
 }
 
 /// Opens the store's file, of at most nine records.
-fn open<S: Store>(alloc: Global, store: S) -> Result<TreeTable<S>, Fail> {
-    match TreeTable::open_from(alloc, store, Limits::new(9, 2, 1)?) {
-        Ok(table) => Ok(table),
-        Err(stop) => Err(Fail::from(stop.fault)),
+fn open<S: Store>(rt: &impl Abort, alloc: Global, store: S) -> TreeTable<S> {
+    match TreeTable::open_from(alloc, store, Limits::new(9, 2, 1).expect(rt, "no limits")) {
+        Ok(table) => table,
+        Err(stop) => panic!(rt; "{}", stop.fault),
     }
 }

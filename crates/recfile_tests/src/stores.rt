@@ -11,7 +11,6 @@ use std::alloc::{AllocError, Global};
 use std::collections::BTreeSet;
 use std::path::PathBuf;
 use std::process::Abort;
-use std::test::Fail;
 use std::{env, fs, io, process};
 use thiserror::Error;
 
@@ -726,9 +725,11 @@ fn new_file_text(rt: &HostRuntime, name: &str, calls: &[Call]) -> Result<String,
 }
 
 #[test]
-fn a_file_of_two_pages(rt: HostRuntime) -> Result<(), Fail> {
-    let path = path_of(&rt, "two").or_else(|_| path_of(&rt, "two"))?;
-    let name = path.as_path().to_str().ok_or("the path is no text")?;
+fn a_file_of_two_pages(rt: HostRuntime) {
+    let path = path_of(&rt, "two")
+        .or_else(|_| path_of(&rt, "two"))
+        .expect(&rt, "no memory");
+    let name = path.as_path().to_str().expect(&rt, "no text");
     let calls = [
         Call::SetPages(2),
         Call::Write(0, 4),
@@ -740,12 +741,11 @@ fn a_file_of_two_pages(rt: HostRuntime) -> Result<(), Fail> {
     let first = new_file_text(&rt, name, &calls);
     let _ = fs::remove_file(&rt, name);
     if matches!(&first, Ok(text) if text.as_str() == wanted) {
-        return Ok(());
+        return;
     }
     let again = new_file_text(&rt, name, &calls);
     let _ = fs::remove_file(&rt, name);
     assert!(rt; matches!(&again, Ok(text) if text.as_str() == wanted));
-    Ok(())
 }
 
 /// A file of one page and a tail: the answers of these calls, and what the file has then.
@@ -775,9 +775,11 @@ fn tail_text(rt: &HostRuntime, name: &str) -> Result<String, Stop> {
 }
 
 #[test]
-fn a_file_with_a_tail(rt: HostRuntime) -> Result<(), Fail> {
-    let path = path_of(&rt, "tail").or_else(|_| path_of(&rt, "tail"))?;
-    let name = path.as_path().to_str().ok_or("the path is no text")?;
+fn a_file_with_a_tail(rt: HostRuntime) {
+    let path = path_of(&rt, "tail")
+        .or_else(|_| path_of(&rt, "tail"))
+        .expect(&rt, "no memory");
+    let name = path.as_path().to_str().expect(&rt, "no text");
     let wanted = " 1+904 ok ok kept ok 2+0 0";
     let first = tail_text(&rt, name);
     if !matches!(&first, Ok(text) if text.as_str() == wanted) {
@@ -785,5 +787,4 @@ fn a_file_with_a_tail(rt: HostRuntime) -> Result<(), Fail> {
         assert!(rt; matches!(&again, Ok(text) if text.as_str() == wanted));
     }
     let _ = fs::remove_file(&rt, name);
-    Ok(())
 }

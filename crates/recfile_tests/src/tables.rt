@@ -4,7 +4,6 @@ use page_store::{FlakyStore, MemStore, Store, WriteFault};
 use rec_types::{Key, Limits, Record, SortedTable, Table, TableFault};
 use std::alloc::Global;
 use std::process::Abort;
-use std::test::Fail;
 
 /// A store without pages.
 fn no_pages(alloc: Global) -> MemStore {
@@ -12,35 +11,46 @@ fn no_pages(alloc: Global) -> MemStore {
 }
 
 /// A new table of the order in the store, for so many records.
-fn make<S: Store>(alloc: Global, store: S, order: u16, records: u32) -> Result<TreeTable<S>, Fail> {
-    match TreeTable::create(alloc, store, order, Limits::new(records, 2, 1)?) {
-        Ok(table) => Ok(table),
-        Err(stop) => Err(Fail::from(stop.fault)),
+fn make<S: Store>(
+    rt: &impl Abort,
+    alloc: Global,
+    store: S,
+    order: u16,
+    records: u32,
+) -> TreeTable<S> {
+    match TreeTable::create(
+        alloc,
+        store,
+        order,
+        Limits::new(records, 2, 1).expect(rt, "no limits"),
+    ) {
+        Ok(table) => table,
+        Err(stop) => panic!(rt; "{}", stop.fault),
     }
 }
 
 /// Opens the store's file, of at most so many records, once more where memory was refused.
-fn open<S: Store>(alloc: Global, store: S, records: u32) -> Result<TreeTable<S>, Fail> {
-    let limits = Limits::new(records, 2, 1)?;
+fn open<S: Store>(rt: &impl Abort, alloc: Global, store: S, records: u32) -> TreeTable<S> {
+    let limits = Limits::new(records, 2, 1).expect(rt, "no limits");
     match TreeTable::open_from(alloc, store, limits) {
-        Ok(table) => Ok(table),
+        Ok(table) => table,
         Err(stop) if stop.fault == OpenFault::Memory => {
             match TreeTable::open_from(alloc, stop.store, limits) {
-                Ok(table) => Ok(table),
-                Err(stop) => Err(Fail::from(stop.fault)),
+                Ok(table) => table,
+                Err(stop) => panic!(rt; "{}", stop.fault),
             }
         }
-        Err(stop) => Err(Fail::from(stop.fault)),
+        Err(stop) => panic!(rt; "{}", stop.fault),
     }
 }
 
 /// Closes a table, whose store does not fail.
-fn close<S: Store>(table: TreeTable<S>) -> Result<S, Fail> {
+fn close<S: Store>(rt: &impl Abort, table: TreeTable<S>) -> S {
     match table.close() {
-        Ok(store) => Ok(store),
+        Ok(store) => store,
         Err(CloseStop { table, .. }) => match table.close() {
-            Ok(store) => Ok(store),
-            Err(stop) => Err(Fail::from(stop.fault)),
+            Ok(store) => store,
+            Err(stop) => panic!(rt; "{}", stop.fault),
         },
     }
 }
@@ -58,45 +68,40 @@ fn set<T: Table>(
 }
 
 /// Puts a record that is the key at each small letter, and takes each great letter's small one out.
-fn run<T: Table>(rt: &impl Abort, table: &mut T, steps: &[u8]) -> Result<(), Fail> {
+fn run<T: Table>(rt: &impl Abort, table: &mut T, steps: &[u8]) {
     for step in steps {
         let letter = step.to_ascii_lowercase();
-        let record = Record::new(&[letter])?;
+        let record = Record::new(&[letter]).expect(rt, "no record");
         let taken = step.is_ascii_uppercase();
         let to = if taken { None } else { Some(record) };
-        let before = set(table, Key::new(&[letter])?, to)?;
+        let before = set(table, Key::new(&[letter]).expect(rt, "no key"), to).expect(
+            rt,
+            "no answer",
+        );
         assert!(rt; before.is_some() == taken);
     }
-    Ok(())
 }
 
 /// Appends the number of the son at this place, where there is one.
-fn push_son(text: &mut String, sons: &[u32], place: usize) -> Result<(), Fail> {
+fn push_son(rt: &impl Abort, text: &mut String, sons: &[u32], place: usize) {
     if let Some(son) = sons.get(place) {
-        write!(text, "{son}")?;
+        write!(text, "{son}").expect(rt, "no memory");
     }
-    Ok(())
 }
 
 /// What a page spells: its keys, with the numbers of the sons around each in an inner one. A page that
 /// spells nothing is empty.
-fn push_page(
-    rt: &impl Abort,
-    text: &mut String,
-    page: &[u8; 4096],
-    order: u16,
-) -> Result<(), Fail> {
+fn push_page(rt: &impl Abort, text: &mut String, page: &[u8; 4096], order: u16) {
     assert!(rt; 1 <= order && order <= 16);
     let Ok(node) = decode(page, order) else {
-        return Ok(());
+        return;
     };
-    push_son(text, node.sons.as_slice(), 0)?;
+    push_son(rt, text, node.sons.as_slice(), 0);
     for (i, (key, record)) in node.elements.as_slice().iter().enumerate() {
         assert!(rt; key.bytes() == record.bytes());
-        text.push(key.bytes()[0] as char)?;
-        push_son(text, node.sons.as_slice(), i + 1)?;
+        text.push(key.bytes()[0] as char).expect(rt, "no memory");
+        push_son(rt, text, node.sons.as_slice(), i + 1);
     }
-    Ok(())
 }
 
 /// Looks at the pages of a file: its root and its count, and what each page but the header spells.
@@ -108,16 +113,15 @@ fn expect_pages(
     root: u8,
     count: u8,
     pages: &str,
-) -> Result<(), Fail> {
+) {
     assert!(rt; !stored.is_empty());
     assert!(rt; stored[0][19] == root && stored[0][23] == count);
     let mut text = String::new(alloc);
     for page in &stored[1..] {
-        push_page(rt, &mut text, page, order)?;
-        text.push(' ')?;
+        push_page(rt, &mut text, page, order);
+        text.push(' ').expect(rt, "no memory");
     }
     assert_eq!(rt; text.as_str(), pages);
-    Ok(())
 }
 
 /// Does so with the file of a new table after these steps.
@@ -129,17 +133,16 @@ fn check_steps(
     root: u8,
     count: u8,
     pages: &str,
-) -> Result<(), Fail> {
-    let mut table = make(alloc, no_pages(alloc), order, 26)?;
-    run(rt, &mut table, steps)?;
-    let store = close(table)?;
-    expect_pages(rt, alloc, store.pages(), order, root, count, pages)?;
-    open(alloc, store, 26)?;
-    Ok(())
+) {
+    let mut table = make(rt, alloc, no_pages(alloc), order, 26);
+    run(rt, &mut table, steps);
+    let store = close(rt, table);
+    expect_pages(rt, alloc, store.pages(), order, root, count, pages);
+    open(rt, alloc, store, 26);
 }
 
 #[test]
-fn pages_are_split_levelled_and_catenated(rt: HostRuntime) -> Result<(), Fail> {
+fn pages_are_split_levelled_and_catenated(rt: HostRuntime) {
     for (order, steps, root, count, pages) in [
         (1, b"ab".as_slice(), 1, 2, "ab "),
         (1, b"abc".as_slice(), 3, 3, "a c 1b2 "),
@@ -152,9 +155,8 @@ fn pages_are_split_levelled_and_catenated(rt: HostRuntime) -> Result<(), Fail> {
         (2, b"abcde".as_slice(), 3, 5, "ab de 1c2 "),
         (2, b"abcdeC".as_slice(), 1, 4, "abde   "),
     ] {
-        check_steps(&rt, rt.alloc(), order, steps, root, count, pages)?;
+        check_steps(&rt, rt.alloc(), order, steps, root, count, pages);
     }
-    Ok(())
 }
 
 /// A page of order 1 with one key and its record, and these sons.
@@ -191,70 +193,80 @@ fn pages_of_three() -> [[u8; 4096]; 4] {
 }
 
 /// Puts its records.
-fn set_three<T: Table>(table: &mut T) -> Result<(), Fail> {
+fn set_three<T: Table>(rt: &impl Abort, table: &mut T) {
     for (key, record) in [(b"a", b"x"), (b"b", b"y"), (b"c", b"z")] {
-        set(table, Key::new(key)?, Some(Record::new(record)?))?;
+        set(
+            table,
+            Key::new(key).expect(rt, "no key"),
+            Some(Record::new(record).expect(rt, "no record")),
+        )
+        .expect(rt, "no answer");
     }
-    Ok(())
 }
 
 /// Looks that the table has z at the key c, and no room for another key.
-fn check_full<T: Table>(rt: &impl Abort, table: &mut T) -> Result<(), Fail> {
-    assert!(rt; table.get(&Key::new(b"c")?)? == Some(Record::new(b"z")?));
-    let answer = set(table, Key::new(b"d")?, Some(Record::new(b"w")?));
+fn check_full<T: Table>(rt: &impl Abort, table: &mut T) {
+    assert!(rt;
+        table
+            .get(&Key::new(b"c").expect(rt, "no key"))
+            .expect(rt, "no answer")
+            == Some(Record::new(b"z").expect(rt, "no record"))
+    );
+    let answer = set(
+        table,
+        Key::new(b"d").expect(rt, "no key"),
+        Some(Record::new(b"w").expect(rt, "no record")),
+    );
     assert!(rt; answer == Err(TableFault::NoRoom));
-    Ok(())
 }
 
 #[test]
-fn the_file_of_three_records(rt: HostRuntime) -> Result<(), Fail> {
-    let mut table = make(rt.alloc(), no_pages(rt.alloc()), 1, 3)?;
-    set_three(&mut table)?;
-    let store = close(table)?;
+fn the_file_of_three_records(rt: HostRuntime) {
+    let mut table = make(&rt, rt.alloc(), no_pages(rt.alloc()), 1, 3);
+    set_three(&rt, &mut table);
+    let store = close(&rt, table);
     assert!(rt; store.pages() == pages_of_three().as_slice());
-    let mut table = open(rt.alloc(), store, 3)?;
-    check_full(&rt, &mut table)?;
-    assert!(rt; close(table)?.pages() == pages_of_three().as_slice());
-    Ok(())
+    let mut table = open(&rt, rt.alloc(), store, 3);
+    check_full(&rt, &mut table);
+    assert!(rt; close(&rt, table).pages() == pages_of_three().as_slice());
 }
 
 /// Looks that a table of one record that was not closed has it still, and that a second close leaves a file that has it.
-fn check_second_close<S: Store>(
-    rt: &impl Abort,
-    alloc: Global,
-    stop: CloseStop<S>,
-) -> Result<(), Fail> {
+fn check_second_close<S: Store>(rt: &impl Abort, alloc: Global, stop: CloseStop<S>) {
     assert!(rt; stop.fault == WriteFault::Device && stop.table.count() == 1);
-    let mut table = open(alloc, close(stop.table)?, 9)?;
-    assert!(rt; table.get(&Key::new(b"a")?)? == Some(Record::new(b"a")?));
-    Ok(())
+    let mut table = open(rt, alloc, close(rt, stop.table), 9);
+    assert!(rt;
+        table
+            .get(&Key::new(b"a").expect(rt, "no key"))
+            .expect(rt, "no answer")
+            == Some(Record::new(b"a").expect(rt, "no record"))
+    );
 }
 
 /// Does so with a new table in the store, at which the first close fails.
-fn check_close<S: Store>(rt: &impl Abort, alloc: Global, store: S) -> Result<(), Fail> {
-    let mut table = make(alloc, store, 1, 9)?;
-    run(rt, &mut table, b"a")?;
+fn check_close<S: Store>(rt: &impl Abort, alloc: Global, store: S) {
+    let mut table = make(rt, alloc, store, 1, 9);
+    run(rt, &mut table, b"a");
     match table.close() {
-        Ok(_) => Err(Fail::from("a call that failed was not told")),
+        Ok(_) => panic!(rt; "a call that failed was not told"),
         Err(stop) => check_second_close(rt, alloc, stop),
     }
 }
 
 /// A store without pages that fails at the call of this number.
-fn failing_at(alloc: Global, call: u64) -> Result<FlakyStore<MemStore>, Fail> {
+fn failing_at(rt: &impl Abort, alloc: Global, call: u64) -> FlakyStore<MemStore> {
     let mut writes = Vec::new(alloc);
     if writes.push(call).is_err() {
-        writes.push(call)?;
+        writes.push(call).expect(rt, "no memory");
     }
-    Ok(FlakyStore::new(no_pages(alloc), Vec::new(alloc), writes))
+    FlakyStore::new(no_pages(alloc), Vec::new(alloc), writes)
 }
 
 #[test]
-fn a_table_with_a_record_is_closed_again(rt: HostRuntime) -> Result<(), Fail> {
+fn a_table_with_a_record_is_closed_again(rt: HostRuntime) {
     for call in 1..8u64 {
-        check_close(&rt, rt.alloc(), failing_at(rt.alloc(), call)?)?;
+        check_close(&rt, rt.alloc(), failing_at(&rt, rt.alloc(), call));
     }
-    Ok(())
 }
 
 /// The key number i of a shuffle of 41.
@@ -269,22 +281,21 @@ fn set_both<T: Table, U: Table>(
     other: &mut U,
     key: &[u8],
     to: Option<Record>,
-) -> Result<(), Fail> {
-    let before = set(table, Key::new(key)?, to.as_ref().copied())?;
-    let expected = set(other, Key::new(key)?, to)?;
+) {
+    let before = set(
+        table,
+        Key::new(key).expect(rt, "no key"),
+        to.as_ref().copied(),
+    )
+    .expect(rt, "no answer");
+    let expected = set(other, Key::new(key).expect(rt, "no key"), to).expect(rt, "no answer");
     assert!(rt; before == expected);
-    Ok(())
 }
 
 /// Looks that the table has the records of another.
-fn check_same<T: Table, U: Table>(
-    rt: &impl Abort,
-    table: &mut T,
-    other: &mut U,
-) -> Result<(), Fail> {
+fn check_same<T: Table, U: Table>(rt: &impl Abort, table: &mut T, other: &mut U) {
     assert!(rt; table.count() == other.count());
-    assert!(rt; table.entries()? == other.entries()?);
-    Ok(())
+    assert!(rt; table.entries().expect(rt, "no answer") == other.entries().expect(rt, "no answer"));
 }
 
 /// One change in the table and in a sorted one. The table's file is opened again after it, which looks
@@ -296,18 +307,18 @@ fn change_both<S: Store>(
     sorted: &mut SortedTable,
     key: &[u8],
     to: Option<Record>,
-) -> Result<TreeTable<S>, Fail> {
+) -> TreeTable<S> {
     let mut table = table;
-    set_both(rt, &mut table, sorted, key, to)?;
-    let mut table = open(alloc, close(table)?, 41)?;
-    check_same(rt, &mut table, sorted)?;
-    Ok(table)
+    set_both(rt, &mut table, sorted, key, to);
+    let mut table = open(rt, alloc, close(rt, table), 41);
+    check_same(rt, &mut table, sorted);
+    table
 }
 
 /// All keys are put in one shuffled order and taken out in another.
-fn check_shuffled(rt: &impl Abort, alloc: Global, order: u16) -> Result<(), Fail> {
-    let mut table = make(alloc, no_pages(alloc), order, 41)?;
-    let mut sorted = SortedTable::new(alloc, Limits::new(41, 2, 1)?);
+fn check_shuffled(rt: &impl Abort, alloc: Global, order: u16) {
+    let mut table = make(rt, alloc, no_pages(alloc), order, 41);
+    let mut sorted = SortedTable::new(alloc, Limits::new(41, 2, 1).expect(rt, "no limits"));
     for i in 0..41u32 {
         let key = key_of(i, 16);
         table = change_both(
@@ -316,20 +327,18 @@ fn check_shuffled(rt: &impl Abort, alloc: Global, order: u16) -> Result<(), Fail
             table,
             &mut sorted,
             &key,
-            Some(Record::new(&key)?),
-        )?;
+            Some(Record::new(&key).expect(rt, "no record")),
+        );
     }
     for i in 0..41u32 {
-        table = change_both(rt, alloc, table, &mut sorted, &key_of(i, 26), None)?;
+        table = change_both(rt, alloc, table, &mut sorted, &key_of(i, 26), None);
     }
     assert!(rt; table.count() == 0 && table.height() == 0);
-    Ok(())
 }
 
 #[test]
-fn all_keys_go_in_and_out(rt: HostRuntime) -> Result<(), Fail> {
+fn all_keys_go_in_and_out(rt: HostRuntime) {
     for order in [1, 2, 3, 16] {
-        check_shuffled(&rt, rt.alloc(), order)?;
+        check_shuffled(&rt, rt.alloc(), order);
     }
-    Ok(())
 }

@@ -11,7 +11,6 @@ use rec_types::{Key, Record};
 use std::alloc::Global;
 use std::collections::BTreeSet;
 use std::process::Abort;
-use std::test::Fail;
 
 fn empty(order: u16) -> Tree {
     Tree {
@@ -24,12 +23,12 @@ fn empty(order: u16) -> Tree {
 }
 
 /// A store of one page, with nothing in it.
-fn new_pages(alloc: Global) -> Result<Pages<MemStore>, Fail> {
+fn new_pages(rt: &impl Abort, alloc: Global) -> Pages<MemStore> {
     let mut pages = Vec::new(alloc);
     if pages.push([0; 4096]).is_err() {
-        pages.push([0; 4096])?;
+        pages.push([0; 4096]).expect(rt, "no memory");
     }
-    Ok(Pages::new(alloc, MemStore::new(pages, 0), 1, BTreeSet::new(alloc)))
+    Pages::new(alloc, MemStore::new(pages, 0), 1, BTreeSet::new(alloc))
 }
 
 /// Inserts, once more where memory was refused; then nothing has changed at the key.
@@ -76,44 +75,43 @@ fn put<S: Store>(
     tree: &Tree,
     key: &[u8],
     value: &[u8],
-) -> Result<(Tree, Option<Record>), Fail> {
-    let key = Key::new(key)?;
-    let value = Record::new(value)?;
+) -> (Tree, Option<Record>) {
+    let key = Key::new(key).expect(rt, "no key");
+    let value = Record::new(value).expect(rt, "no record");
     assert!(rt; 1 <= tree.order && tree.order <= 16 && tree.height <= 19);
-    let before = find(pages, tree, &key)?;
-    let (grown, old) = insert_again(rt, alloc, pages, tree, key, value)?;
+    let before = find(pages, tree, &key).expect(rt, "no answer");
+    let (grown, old) = insert_again(rt, alloc, pages, tree, key, value).expect(rt, "no answer");
     assert!(rt; old == before);
-    Ok((grown, old))
+    (grown, old)
 }
 
 /// Appends a key or a record, of letters.
-fn push_bytes(text: &mut String, bytes: &[u8]) -> Result<(), Fail> {
+fn push_bytes(rt: &impl Abort, text: &mut String, bytes: &[u8]) {
     for byte in bytes {
-        text.push(char::from(*byte))?;
+        text.push(char::from(*byte)).expect(rt, "no memory");
     }
-    Ok(())
 }
 
 /// Appends what a page spells: its kind, its keys and their records, and its sons.
-fn push_page(text: &mut String, page: &[u8; 4096], order: u16) -> Result<(), Fail>
+fn push_page(rt: &impl Abort, text: &mut String, page: &[u8; 4096], order: u16)
     requires { order ≤ greatest_order }
 {
-    let node = decode(page, order)?;
+    let node = decode(page, order).expect(rt, "no node");
     text.push_str(if node.kind == NodeKind::Leaf {
         "leaf"
     } else {
         "inner"
-    })?;
+    })
+    .expect(rt, "no memory");
     for (key, record) in node.elements.as_slice() {
-        text.push(' ')?;
-        push_bytes(text, key.bytes())?;
-        text.push('=')?;
-        push_bytes(text, record.bytes())?;
+        text.push(' ').expect(rt, "no memory");
+        push_bytes(rt, text, key.bytes());
+        text.push('=').expect(rt, "no memory");
+        push_bytes(rt, text, record.bytes());
     }
     for son in node.sons.as_slice() {
-        write!(text, " {son}")?;
+        write!(text, " {son}").expect(rt, "no memory");
     }
-    Ok(())
 }
 
 /// The tree's root, height, count and pages used, how many pages there are, and what each but page 0 spells, or that it is
@@ -123,7 +121,7 @@ fn tree_text<S: Store>(
     alloc: Global,
     pages: &mut Pages<S>,
     tree: &Tree,
-) -> Result<String, Fail> {
+) -> String {
     assert!(rt; tree.order <= 16);
     let mut text = String::new(alloc);
     let (root, height, count, used) = (tree.root, tree.height, tree.count, tree.used);
@@ -131,15 +129,16 @@ fn tree_text<S: Store>(
         text,
         "{root} {height} {count} {used} of {}",
         pages.page_count()
-    )?;
+    )
+    .expect(rt, "no memory");
     let mut page = [0; 4096];
     for n in 1..pages.page_count() {
-        text.push_str("; ")?;
+        text.push_str("; ").expect(rt, "no memory");
         match pages.fetch(n, &mut page) {
-            Err(FetchFault::OutOfRange) => text.push_str("free")?,
-            Err(fault) => return Err(Fail::from(fault)),
-            Ok(()) => push_page(&mut text, &page, tree.order)?,
+            Err(FetchFault::OutOfRange) => text.push_str("free").expect(rt, "no memory"),
+            Err(fault) => panic!(rt; "{}", fault),
+            Ok(()) => push_page(rt, &mut text, &page, tree.order),
         }
     }
-    Ok(text)
+    text
 }

@@ -3,7 +3,7 @@ use rec_types::{
     TableFault,
 };
 use std::alloc::Global;
-use std::test::Fail;
+use std::process::Abort;
 
 fn greatest() -> Result<Limits, LimitFault> {
     Limits::new(1_000_000, 4_000_000, 1_000_000)
@@ -30,27 +30,34 @@ fn limits_are_refused_in_their_order(rt: HostRuntime) {
 }
 
 #[test]
-fn keys_and_records_have_their_lengths(rt: HostRuntime) -> Result<(), Fail> {
+fn keys_and_records_have_their_lengths(rt: HostRuntime) {
     let long = [b'a'; 33];
     assert_eq!(rt; Key::new(b"").err(), Some(KeyFault::Empty));
     assert_eq!(rt; Key::new(&long[..17]).err(), Some(KeyFault::TooLong));
     assert_eq!(rt; Record::new(&long).err(), Some(RecordFault::TooLong));
-    assert_eq!(rt; Key::new(&long[..16])?.bytes().len(), 16);
-    assert_eq!(rt; Record::new(&long[..32])?.bytes().len(), 32);
-    assert_eq!(rt; Record::new(b"")?.bytes().len(), 0);
+    assert_eq!(rt;
+        Key::new(&long[..16]).expect(&rt, "no key").bytes().len(),
+        16
+    );
+    assert_eq!(rt;
+        Record::new(&long[..32])
+            .expect(&rt, "no record")
+            .bytes()
+            .len(),
+        32
+    );
+    assert_eq!(rt; Record::new(b"").expect(&rt, "no record").bytes().len(), 0);
     assert_eq!(rt; Key::default().bytes(), b"\0".as_slice());
     assert_eq!(rt; Record::default().bytes().len(), 0);
-    Ok(())
 }
 
 #[test]
-fn keys_are_in_the_order_of_their_bytes(rt: HostRuntime) -> Result<(), Fail> {
-    let short = Key::new(b"ab")?;
-    let long = Key::new(b"ab\0")?;
-    let other = Key::new(b"b")?;
+fn keys_are_in_the_order_of_their_bytes(rt: HostRuntime) {
+    let short = Key::new(b"ab").expect(&rt, "no key");
+    let long = Key::new(b"ab\0").expect(&rt, "no key");
+    let other = Key::new(b"b").expect(&rt, "no key");
     assert!(rt; short < long && long < other);
-    assert!(rt; short == Key::new(b"ab")? && short != long);
-    Ok(())
+    assert!(rt; short == Key::new(b"ab").expect(&rt, "no key") && short != long);
 }
 
 /// Sets, once more where memory was refused.
@@ -78,58 +85,67 @@ enum Call {
     Counts,
 }
 
-fn record_of(byte: Option<u8>) -> Result<Option<Record>, Fail> {
+fn record_of(rt: &impl Abort, byte: Option<u8>) -> Option<Record> {
     match byte {
-        Some(byte) => Ok(Some(Record::new(&[byte])?)),
-        None => Ok(None),
+        Some(byte) => Some(Record::new(&[byte]).expect(rt, "no record")),
+        None => None,
     }
 }
 
-fn push_bytes(text: &mut String, bytes: &[u8]) -> Result<(), Fail> {
+fn push_bytes(rt: &impl Abort, text: &mut String, bytes: &[u8]) {
     for byte in bytes {
-        text.push(char::from(*byte))?;
+        text.push(char::from(*byte)).expect(rt, "no memory");
     }
-    Ok(())
 }
 
 /// Appends a record, that there is none, or why there is no answer.
-fn push_answer(text: &mut String, answer: Result<Option<Record>, TableFault>) -> Result<(), Fail> {
+fn push_answer(rt: &impl Abort, text: &mut String, answer: Result<Option<Record>, TableFault>) {
     match answer {
-        Ok(Some(record)) => push_bytes(text, record.bytes()),
-        Ok(None) => Ok(text.push_str("none")?),
-        Err(fault) => Ok(write!(text, "{fault:?}")?),
+        Ok(Some(record)) => push_bytes(rt, text, record.bytes()),
+        Ok(None) => text.push_str("none").expect(rt, "no memory"),
+        Err(fault) => write!(text, "{fault:?}").expect(rt, "no memory"),
     }
 }
 
 /// Appends each key with its record.
-fn push_entries(text: &mut String, entries: &[(Key, Record)]) -> Result<(), Fail> {
+fn push_entries(rt: &impl Abort, text: &mut String, entries: &[(Key, Record)]) {
     for (key, record) in entries {
-        push_bytes(text, key.bytes())?;
-        text.push('=')?;
-        push_bytes(text, record.bytes())?;
-        text.push(';')?;
+        push_bytes(rt, text, key.bytes());
+        text.push('=').expect(rt, "no memory");
+        push_bytes(rt, text, record.bytes());
+        text.push(';').expect(rt, "no memory");
     }
-    Ok(())
 }
 
 /// Makes a call, and appends its answer; `Counts` tells the number of records and the limit.
-fn push_call(text: &mut String, table: &mut impl Table, call: Call) -> Result<(), Fail> {
+fn push_call(rt: &impl Abort, text: &mut String, table: &mut impl Table, call: Call) {
     match call {
-        Call::Set(key, to) => push_answer(text, set(table, Key::new(&[key])?, record_of(to)?)),
-        Call::Get(key) => push_answer(text, table.get(&Key::new(&[key])?)),
-        Call::Entries => push_entries(text, &entries(table)?),
-        Call::Counts => Ok(write!(text, "{} of {}", table.count(), table.limit())?),
+        Call::Set(key, to) => push_answer(
+            rt,
+            text,
+            set(
+                table,
+                Key::new(&[key]).expect(rt, "no key"),
+                record_of(rt, to),
+            ),
+        ),
+        Call::Get(key) => push_answer(rt, text, table.get(&Key::new(&[key]).expect(rt, "no key"))),
+        Call::Entries => push_entries(rt, text, &entries(table).expect(rt, "no answer")),
+        Call::Counts => write!(text, "{} of {}", table.count(), table.limit()).expect(
+            rt,
+            "no memory",
+        ),
     }
 }
 
 /// What the calls answer, each behind a space.
-fn answers(alloc: Global, table: &mut impl Table, calls: &[Call]) -> Result<String, Fail> {
+fn answers(rt: &impl Abort, alloc: Global, table: &mut impl Table, calls: &[Call]) -> String {
     let mut text = String::new(alloc);
     for call in calls {
-        text.push(' ')?;
-        push_call(&mut text, table, *call)?;
+        text.push(' ').expect(rt, "no memory");
+        push_call(rt, &mut text, table, *call);
     }
-    Ok(text)
+    text
 }
 
 const SORTED_CALLS: [Call; 10] = [
@@ -146,14 +162,13 @@ const SORTED_CALLS: [Call; 10] = [
 ];
 
 #[test]
-fn a_sorted_table_keeps_key_order(rt: HostRuntime) -> Result<(), Fail> {
-    let mut table = SortedTable::new(rt.alloc(), Limits::new(2, 2, 1)?);
-    let text = answers(rt.alloc(), &mut table, &SORTED_CALLS)?;
+fn a_sorted_table_keeps_key_order(rt: HostRuntime) {
+    let mut table = SortedTable::new(rt.alloc(), Limits::new(2, 2, 1).expect(&rt, "no limits"));
+    let text = answers(&rt, rt.alloc(), &mut table, &SORTED_CALLS);
     assert_eq!(rt;
         text.as_str(),
         " none none x NoRoom none y none a=y;b=y; y 1 of 2"
     );
-    Ok(())
 }
 
 const FLAKY_CALLS: [Call; 9] = [
@@ -169,31 +184,35 @@ const FLAKY_CALLS: [Call; 9] = [
 ];
 
 /// A table with x at the keys a and b, and room for seven more.
-fn two_records(alloc: Global) -> Result<SortedTable, Fail> {
-    let mut table = SortedTable::new(alloc, Limits::new(9, 2, 1)?);
+fn two_records(rt: &impl Abort, alloc: Global) -> SortedTable {
+    let mut table = SortedTable::new(alloc, Limits::new(9, 2, 1).expect(rt, "no limits"));
     for key in b"ab" {
-        set(&mut table, Key::new(&[*key])?, record_of(Some(b'x'))?)?;
+        set(
+            &mut table,
+            Key::new(&[*key]).expect(rt, "no key"),
+            record_of(rt, Some(b'x')),
+        )
+        .expect(rt, "no answer");
     }
-    Ok(table)
+    table
 }
 
-fn flaky(alloc: Global) -> Result<FlakyTable<SortedTable>, Fail> {
+fn flaky(rt: &impl Abort, alloc: Global) -> FlakyTable<SortedTable> {
     let numbers = [2, 4, 5];
     let failing = match Vec::from_slice(alloc, &numbers) {
         Ok(failing) => failing,
-        Err(_) => Vec::from_slice(alloc, &numbers)?,
+        Err(_) => Vec::from_slice(alloc, &numbers).expect(rt, "no memory"),
     };
-    Ok(FlakyTable::new(two_records(alloc)?, failing))
+    FlakyTable::new(two_records(rt, alloc), failing)
 }
 
 // A refused growth would use a number up, so the table below has its memory before.
 #[test]
-fn a_flaky_table_fails_at_its_numbers(rt: HostRuntime) -> Result<(), Fail> {
-    let mut table = flaky(rt.alloc())?;
-    let text = answers(rt.alloc(), &mut table, &FLAKY_CALLS)?;
+fn a_flaky_table_fails_at_its_numbers(rt: HostRuntime) {
+    let mut table = flaky(&rt, rt.alloc());
+    let text = answers(&rt, rt.alloc(), &mut table, &FLAKY_CALLS);
     assert_eq!(rt;
         text.as_str(),
         " x Device none none Device Device a=y;b=x; x 1 of 9"
     );
-    Ok(())
 }

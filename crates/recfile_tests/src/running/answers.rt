@@ -7,7 +7,7 @@ use rec_types::{Entry, Key, Record, Table};
 use record_file::{Answer, Call, RecordFile, Status, run_calls};
 use std::alloc::Global;
 use std::fmt::Debug;
-use std::test::Fail;
+use std::process::Abort;
 use tx_log::LogRecord;
 
 /// The call of a command.
@@ -30,62 +30,71 @@ fn call_of(command: Command) -> Call {
 }
 
 /// The calls of a script.
-fn calls_of(alloc: Global, script: &str) -> Result<Vec<Call>, Fail> {
+fn calls_of(rt: &impl Abort, alloc: Global, script: &str) -> Vec<Call> {
     let mut calls = Vec::new(alloc);
     for line in script.as_bytes().split(|b| *b == b'\n') {
-        if let Some(command) = read_line(line)? {
-            calls.push(call_of(command))?;
+        if let Some(command) = read_line(line).expect(rt, "no answer") {
+            calls.push(call_of(command)).expect(rt, "no memory");
         }
     }
-    Ok(calls)
+    calls
 }
 
-fn shown(key: &Key) -> Result<&str, Fail> {
-    Ok(str::from_utf8(key.bytes())?)
+fn shown<'a>(rt: &impl Abort, key: &'a Key) -> &'a str {
+    str::from_utf8(key.bytes()).expect(rt, "no text")
 }
 
 /// The text of a record, or a dash.
-fn word(record: &Option<Record>) -> Result<&str, Fail> {
+fn word<'a>(rt: &impl Abort, record: &'a Option<Record>) -> &'a str {
     match record {
-        Some(record) => Ok(str::from_utf8(record.bytes())?),
-        None => Ok("-"),
+        Some(record) => str::from_utf8(record.bytes()).expect(rt, "no text"),
+        None => "-",
     }
 }
 
-fn push_fault(text: &mut String, fault: &impl Debug) -> Result<(), Fail> {
-    Ok(write!(text, "{fault:?}")?)
+fn push_fault(rt: &impl Abort, text: &mut String, fault: &impl Debug) {
+    write!(text, "{fault:?}").expect(rt, "no memory")
 }
 
 /// Each key with its record and its owner.
-fn push_entries(text: &mut String, entries: &[Entry]) -> Result<(), Fail> {
+fn push_entries(rt: &impl Abort, text: &mut String, entries: &[Entry]) {
     for entry in entries {
-        write!(text, "{}={}", shown(&entry.key)?, word(&Some(entry.value))?)?;
+        write!(
+            text,
+            "{}={}",
+            shown(rt, &entry.key),
+            word(rt, &Some(entry.value))
+        )
+        .expect(rt, "no memory");
         if let Some(tx) = entry.owner {
-            write!(text, "@{}", tx.0)?;
+            write!(text, "@{}", tx.0).expect(rt, "no memory");
         }
-        text.push_str(" ")?;
+        text.push_str(" ").expect(rt, "no memory");
     }
-    Ok(())
 }
 
-fn push_keys(text: &mut String, keys: &[Key]) -> Result<(), Fail> {
+fn push_keys(rt: &impl Abort, text: &mut String, keys: &[Key]) {
     for key in keys {
-        write!(text, "{} ", shown(key)?)?;
+        write!(text, "{} ", shown(rt, key)).expect(rt, "no memory");
     }
-    Ok(())
 }
 
-fn push_status(text: &mut String, status: &Status) -> Result<(), Fail> {
+fn push_status(rt: &impl Abort, text: &mut String, status: &Status) {
     match status {
-        Status::Active { saves, live } => write!(text, "active {saves} {live}")?,
-        Status::Rolling { left, ends } => write!(text, "rolling {left} {ends}")?,
+        Status::Active { saves, live } => write!(text, "active {saves} {live}").expect(
+            rt,
+            "no memory",
+        ),
+        Status::Rolling { left, ends } => write!(text, "rolling {left} {ends}").expect(
+            rt,
+            "no memory",
+        ),
     }
-    Ok(())
 }
 
 /// Number, the one before, transaction and key; the records before and after, or the restored one and the
 /// change that is next to be taken back.
-fn push_log_record(text: &mut String, record: &Option<LogRecord>) -> Result<(), Fail> {
+fn push_log_record(rt: &impl Abort, text: &mut String, record: &Option<LogRecord>) {
     match record {
         Some(
             LogRecord::Update {
@@ -97,8 +106,8 @@ fn push_log_record(text: &mut String, record: &Option<LogRecord>) -> Result<(), 
                 after,
             },
         ) => {
-            let (key, before, after) = (shown(key)?, word(before)?, word(after)?);
-            write!(text, "{lsn} {prev} {} {key} {before} to {after}", tx.0)?;
+            let (key, before, after) = (shown(rt, key), word(rt, before), word(rt, after));
+            write!(text, "{lsn} {prev} {} {key} {before} to {after}", tx.0).expect(rt, "no memory");
         }
         Some(
             LogRecord::Compensation {
@@ -110,77 +119,78 @@ fn push_log_record(text: &mut String, record: &Option<LogRecord>) -> Result<(), 
                 undo_next,
             },
         ) => {
-            let (key, restored) = (shown(key)?, word(restored)?);
+            let (key, restored) = (shown(rt, key), word(rt, restored));
             write!(
                 text,
                 "{lsn} {prev} {} {key} back to {restored}, then {undo_next}",
                 tx.0
-            )?;
+            )
+            .expect(rt, "no memory");
         }
-        None => text.push_str("-")?,
+        None => text.push_str("-").expect(rt, "no memory"),
     }
-    Ok(())
 }
 
 /// The answers of changes, and of transactions that begin and end.
-fn push_change(text: &mut String, answer: &Answer) -> Result<(), Fail> {
+fn push_change(rt: &impl Abort, text: &mut String, answer: &Answer) {
     match answer {
-        Answer::Begin(Ok(tx)) => Ok(write!(text, "{}", tx.0)?),
-        Answer::Begin(Err(fault)) => push_fault(text, fault),
-        Answer::Put(Ok(old)) => Ok(text.push_str(word(old)?)?),
-        Answer::Put(Err(fault)) => push_fault(text, fault),
-        Answer::Remove(Ok(old)) => Ok(text.push_str(word(&Some(*old))?)?),
-        Answer::Remove(Err(fault)) => push_fault(text, fault),
-        Answer::Savepoint(answer) => push_fault(text, answer),
-        Answer::Release(answer) => push_fault(text, answer),
-        Answer::RollbackTo(answer) => push_fault(text, answer),
-        Answer::Abort(answer) => push_fault(text, answer),
-        Answer::Resume(answer) => push_fault(text, answer),
-        Answer::Commit(answer) => push_fault(text, answer),
-        _ => push_look(text, answer),
+        Answer::Begin(Ok(tx)) => write!(text, "{}", tx.0).expect(rt, "no memory"),
+        Answer::Begin(Err(fault)) => push_fault(rt, text, fault),
+        Answer::Put(Ok(old)) => text.push_str(word(rt, old)).expect(rt, "no memory"),
+        Answer::Put(Err(fault)) => push_fault(rt, text, fault),
+        Answer::Remove(Ok(old)) => text.push_str(word(rt, &Some(*old))).expect(rt, "no memory"),
+        Answer::Remove(Err(fault)) => push_fault(rt, text, fault),
+        Answer::Savepoint(answer) => push_fault(rt, text, answer),
+        Answer::Release(answer) => push_fault(rt, text, answer),
+        Answer::RollbackTo(answer) => push_fault(rt, text, answer),
+        Answer::Abort(answer) => push_fault(rt, text, answer),
+        Answer::Resume(answer) => push_fault(rt, text, answer),
+        Answer::Commit(answer) => push_fault(rt, text, answer),
+        _ => push_look(rt, text, answer),
     }
 }
 
 /// The answers of calls that change nothing.
-fn push_look(text: &mut String, answer: &Answer) -> Result<(), Fail> {
+fn push_look(rt: &impl Abort, text: &mut String, answer: &Answer) {
     match answer {
-        Answer::Get(Ok(found)) => Ok(text.push_str(word(found)?)?),
-        Answer::Get(Err(fault)) => push_fault(text, fault),
-        Answer::Entries(Ok(entries)) => push_entries(text, entries),
-        Answer::Entries(Err(fault)) => push_fault(text, fault),
-        Answer::KeysOf(Ok(keys)) => push_keys(text, keys),
-        Answer::KeysOf(Err(fault)) => push_fault(text, fault),
-        Answer::Status(Ok(status)) => push_status(text, status),
-        Answer::Status(Err(fault)) => push_fault(text, fault),
-        Answer::Charged(count) => Ok(write!(text, "{count}")?),
+        Answer::Get(Ok(found)) => text.push_str(word(rt, found)).expect(rt, "no memory"),
+        Answer::Get(Err(fault)) => push_fault(rt, text, fault),
+        Answer::Entries(Ok(entries)) => push_entries(rt, text, entries),
+        Answer::Entries(Err(fault)) => push_fault(rt, text, fault),
+        Answer::KeysOf(Ok(keys)) => push_keys(rt, text, keys),
+        Answer::KeysOf(Err(fault)) => push_fault(rt, text, fault),
+        Answer::Status(Ok(status)) => push_status(rt, text, status),
+        Answer::Status(Err(fault)) => push_fault(rt, text, fault),
+        Answer::Charged(count) => write!(text, "{count}").expect(rt, "no memory"),
         Answer::Begun(count) | Answer::LogLen(count) | Answer::LogUse(count) => {
-            Ok(write!(text, "{count}")?)
+            write!(text, "{count}").expect(rt, "no memory")
         }
-        Answer::LogRecord(record) => push_log_record(text, record),
-        _ => Ok(()),
+        Answer::LogRecord(record) => push_log_record(rt, text, record),
+        _ => (),
     }
 }
 
 /// Makes the calls.
 fn answers_to<T: Table>(
+    rt: &impl Abort,
     alloc: Global,
     file: &mut RecordFile<T>,
     calls: &[Call],
-) -> Result<Vec<Answer>, Fail> {
-    Ok(run_calls(alloc, file, calls)?)
+) -> Vec<Answer> {
+    run_calls(alloc, file, calls).expect(rt, "no answer")
 }
 
 /// Appends an answer as a line.
-fn push_answer(text: &mut String, answer: &Answer) -> Result<(), Fail> {
-    push_change(text, answer)?;
-    Ok(text.push_str("\n")?)
+fn push_answer(rt: &impl Abort, text: &mut String, answer: &Answer) {
+    push_change(rt, text, answer);
+    text.push_str("\n").expect(rt, "no memory")
 }
 
 /// The answers, a line each.
-fn text_of(alloc: Global, answers: &[Answer]) -> Result<String, Fail> {
+fn text_of(rt: &impl Abort, alloc: Global, answers: &[Answer]) -> String {
     let mut text = String::new(alloc);
     for answer in answers {
-        push_answer(&mut text, answer)?;
+        push_answer(rt, &mut text, answer);
     }
-    Ok(text)
+    text
 }

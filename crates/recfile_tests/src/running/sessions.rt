@@ -7,7 +7,6 @@ use std::alloc::Global;
 use std::io;
 use std::io::{Read, Write};
 use std::process::Abort;
-use std::test::Fail;
 
 fn empty_file(alloc: Global, limits: Limits) -> RecordFile<SortedTable> {
     RecordFile::new(alloc, SortedTable::new(alloc, limits), limits)
@@ -79,12 +78,7 @@ fn run_over<T: Table, R: Read, W: Write>(
 
 /// Expects a reader that fails after so many reads to end the script before its first command, and a writer that
 /// refuses after so many writes to end it behind the command whose reply is refused.
-fn expect_ends<T: Table>(
-    rt: &impl Abort,
-    alloc: Global,
-    file: &mut RecordFile<T>,
-    calls: u32,
-) -> Result<(), Fail> {
+fn expect_ends<T: Table>(rt: &impl Abort, alloc: Global, file: &mut RecordFile<T>, calls: u32) {
     let mut out = Vec::new(alloc);
     let read = run_over(alloc, file, &mut Failing { reads: calls }, &mut out);
     assert_eq!(rt; read, (Err(ScriptFault::ReadFault), 0));
@@ -93,25 +87,23 @@ fn expect_ends<T: Table>(
     let mut reader = b"begin\nbegin\nbegin\nbegin\n".as_slice();
     let written = run_over(alloc, file, &mut reader, &mut Closing { writes: calls });
     assert_eq!(rt; written, (Err(ScriptFault::WriteFault { done }), done));
-    Ok(())
 }
 
 #[test]
-fn readers_and_writers_fail_at_any_call(rt: HostRuntime) -> Result<(), Fail> {
+fn readers_and_writers_fail_at_any_call(rt: HostRuntime) {
     for calls in 0..3 {
-        let mut file = empty_file(rt.alloc(), greatest()?);
-        expect_ends(&rt, rt.alloc(), &mut file, calls)?;
+        let mut file = empty_file(rt.alloc(), greatest().expect(&rt, "no limits"));
+        expect_ends(&rt, rt.alloc(), &mut file, calls);
     }
-    Ok(())
 }
 
 /// A script of these bytes and so many `#`.
-fn long_script(alloc: Global, first: &[u8], more: usize) -> Result<Vec<u8>, Fail> {
-    let mut script = Vec::from_slice(alloc, first)?;
+fn long_script(rt: &impl Abort, alloc: Global, first: &[u8], more: usize) -> Vec<u8> {
+    let mut script = Vec::from_slice(alloc, first).expect(rt, "no memory");
     for _ in 0..more {
-        script.push(b'#')?;
+        script.push(b'#').expect(rt, "no memory");
     }
-    Ok(script)
+    script
 }
 
 /// Expects the script of these bytes and so many `#` to end so, with nothing written and nothing begun.
@@ -122,32 +114,26 @@ fn expect_silent<T: Table>(
     first: &[u8],
     more: usize,
     end: Result<u32, ScriptFault>,
-) -> Result<(), Fail> {
+) {
     let mut out = Vec::new(alloc);
-    let script = long_script(alloc, first, more)?;
+    let script = long_script(rt, alloc, first, more);
     let ran = run_over(alloc, file, &mut script.as_slice(), &mut out);
     assert_eq!(rt; (ran, out.len()), ((end, 0), 0));
-    Ok(())
 }
 
 /// Expects a comment to say nothing, a longer script not to be run, and one whose reply is refused to end there.
-fn expect_unrun<T: Table>(
-    rt: &impl Abort,
-    alloc: Global,
-    file: &mut RecordFile<T>,
-) -> Result<(), Fail> {
-    expect_silent(rt, alloc, file, b"#", 1_048_575, Ok(0))?;
+fn expect_unrun<T: Table>(rt: &impl Abort, alloc: Global, file: &mut RecordFile<T>) {
+    expect_silent(rt, alloc, file, b"#", 1_048_575, Ok(0));
     let fault = Err(ScriptFault::ScriptTooLong);
-    expect_silent(rt, alloc, file, b"begin\n", 1_048_571, fault)?;
+    expect_silent(rt, alloc, file, b"begin\n", 1_048_571, fault);
     let mut reader = b"begin\n".as_slice();
     let ran = run_over(alloc, file, &mut reader, &mut Closing { writes: 0 });
     assert_eq!(rt; ran, (Err(ScriptFault::WriteFault { done: 1 }), 1));
-    Ok(())
 }
 
 #[test]
-fn scripts_that_are_not_run_to_their_end(rt: HostRuntime) -> Result<(), Fail> {
-    let mut file = empty_file(rt.alloc(), greatest()?);
+fn scripts_that_are_not_run_to_their_end(rt: HostRuntime) {
+    let mut file = empty_file(rt.alloc(), greatest().expect(&rt, "no limits"));
     expect_unrun(&rt, rt.alloc(), &mut file)
 }
 
@@ -159,19 +145,24 @@ fn expect_session<R: Read, W: Write>(
     out: &mut W,
     fault: &str,
     status: u8,
-) -> Result<(), Fail> {
+) {
     let mut err = Vec::new(alloc);
     assert_eq!(rt;
-        run_memory(alloc, greatest()?, reader, out, &mut err),
+        run_memory(
+            alloc,
+            greatest().expect(rt, "no limits"),
+            reader,
+            out,
+            &mut err
+        ),
         status
     );
-    let text = String::from_utf8(err)?;
+    let text = String::from_utf8(err).expect(rt, "no text");
     assert_eq!(rt; text.as_str(), fault);
-    Ok(())
 }
 
 #[test]
-fn a_session_names_its_fault(rt: HostRuntime) -> Result<(), Fail> {
+fn a_session_names_its_fault(rt: HostRuntime) {
     let alloc = rt.alloc();
     let mut out = Vec::new(alloc);
     expect_session(
@@ -181,13 +172,13 @@ fn a_session_names_its_fault(rt: HostRuntime) -> Result<(), Fail> {
         &mut out,
         "",
         0,
-    )?;
-    let text = String::from_utf8(out)?;
+    );
+    let text = String::from_utf8(out).expect(&rt, "no text");
     assert_eq!(rt; text.as_str(), "ok 1\nok 0\n");
     let mut out = Vec::new(alloc);
     let mut open = b"begin\nbegin\nput 1 a =x\nsave 2\nput 2 b =y\n".as_slice();
-    expect_session(&rt, alloc, &mut open, &mut out, "", 0)?;
-    let text = String::from_utf8(out)?;
+    expect_session(&rt, alloc, &mut open, &mut out, "", 0);
+    let text = String::from_utf8(out).expect(&rt, "no text");
     assert_eq!(rt; text.as_str(), "ok 1\nok 2\nok none\nok 1\nok none\n");
     let mut out = Vec::new(alloc);
     let mut failing = Failing { reads: 1 };
@@ -198,7 +189,7 @@ fn a_session_names_its_fault(rt: HostRuntime) -> Result<(), Fail> {
         &mut out,
         "recfile: ReadFault\n",
         3,
-    )?;
+    );
     assert_eq!(rt; out.len(), 0);
     let mut closing = Closing { writes: 1 };
     let mut reader = b"begin\nbegin\nbegin\n".as_slice();
@@ -218,12 +209,12 @@ fn end_in<T: Table>(
     alloc: Global,
     file: &mut RecordFile<T>,
     script: &str,
-) -> Result<(Result<u32, EndFault>, String), Fail> {
-    let (_, end) = run(alloc, file, script)?;
+) -> (Result<u32, EndFault>, String) {
+    let (_, end) = run(rt, alloc, file, script);
     assert!(rt; end.is_ok());
     let ended = end_all(file);
-    let (text, _) = run(alloc, file, "list\nlog\n")?;
-    Ok((ended, text))
+    let (text, _) = run(rt, alloc, file, "list\nlog\n");
+    (ended, text)
 }
 
 /// Does so over an empty table whose device fails at these calls of `set`.
@@ -232,10 +223,10 @@ fn end_after(
     alloc: Global,
     numbers: &[u64],
     script: &str,
-) -> Result<(Result<u32, EndFault>, String), Fail> {
-    let limits = greatest()?;
+) -> (Result<u32, EndFault>, String) {
+    let limits = greatest().expect(rt, "no limits");
     let table = SortedTable::new(alloc, limits);
-    let mut file = flaky_file(rt, alloc, table, limits, numbers)?;
+    let mut file = flaky_file(rt, alloc, table, limits, numbers);
     end_in(rt, alloc, &mut file, script)
 }
 
@@ -247,11 +238,10 @@ fn expect_ended(
     script: &str,
     count: u32,
     after: &str,
-) -> Result<(), Fail> {
-    let (ended, text) = end_after(rt, alloc, numbers, script)?;
+) {
+    let (ended, text) = end_after(rt, alloc, numbers, script);
     assert_eq!(rt; ended, Ok(count));
     assert_eq!(rt; text.as_str(), after);
-    Ok(())
 }
 
 /// Expects the device to stop ending at this transaction with one change left, and this list and log then.
@@ -263,8 +253,8 @@ fn expect_stop(
     tx: u32,
     undone: u32,
     after: &str,
-) -> Result<(), Fail> {
-    let (ended, text) = end_after(rt, alloc, numbers, script)?;
+) {
+    let (ended, text) = end_after(rt, alloc, numbers, script);
     let fault = EndFault::Stopped {
         tx: TxId(tx),
         undone,
@@ -273,11 +263,10 @@ fn expect_stop(
     };
     assert_eq!(rt; ended, Err(fault));
     assert_eq!(rt; text.as_str(), after);
-    Ok(())
 }
 
 #[test]
-fn open_transactions_are_ended(rt: HostRuntime) -> Result<(), Fail> {
+fn open_transactions_are_ended(rt: HostRuntime) {
     for (script, count, after) in [
         ("", 0, "ok 0\nok 0 0\n"),
         ("begin\nput 1 a =x\ncommit 1\n", 0, "- a =x\nok 1\nok 1 1\n"),
@@ -292,14 +281,13 @@ fn open_transactions_are_ended(rt: HostRuntime) -> Result<(), Fail> {
             "ok 0\nok 6 6\n",
         ),
     ] {
-        expect_ended(&rt, rt.alloc(), &[], script, count, after)?;
+        expect_ended(&rt, rt.alloc(), &[], script, count, after);
     }
-    Ok(())
 }
 
 // Three transactions with one change each; and one whose rollback to a savepoint was stopped.
 #[test]
-fn ending_stops_at_the_first_stop(rt: HostRuntime) -> Result<(), Fail> {
+fn ending_stops_at_the_first_stop(rt: HostRuntime) {
     let alloc = rt.alloc();
     let three = "begin\nbegin\nbegin\nput 1 a =1\nput 2 b =2\nput 3 c =3\n";
     let back = "begin\nput 1 a =1\nsave 1\nput 1 b =2\nback 1 1\n";
@@ -311,8 +299,8 @@ fn ending_stops_at_the_first_stop(rt: HostRuntime) -> Result<(), Fail> {
         2,
         0,
         "- b =2 @2\n- c =3 @3\nok 2\nok 4 6\n",
-    )?;
-    expect_ended(&rt, alloc, &[3], back, 1, "ok 0\nok 4 4\n")?;
+    );
+    expect_ended(&rt, alloc, &[3], back, 1, "ok 0\nok 4 4\n");
     expect_stop(
         &rt,
         alloc,
@@ -321,7 +309,7 @@ fn ending_stops_at_the_first_stop(rt: HostRuntime) -> Result<(), Fail> {
         1,
         0,
         "- a =1 @1\n- b =2 @1\nok 2\nok 2 4\n",
-    )?;
+    );
     expect_stop(&rt, alloc, &[3, 5], back, 1, 0, "- a =1 @1\nok 1\nok 3 4\n")
 }
 
@@ -334,23 +322,22 @@ fn end_thrice<T: Table>(
     commands: u32,
     count: u32,
     after: &str,
-) -> Result<(), Fail> {
-    let (_, end) = run(alloc, file, script)?;
+) {
+    let (_, end) = run(rt, alloc, file, script);
     assert_eq!(rt; end, Ok(commands));
     let (first, second) = (end_all(file), end_all(file));
     assert!(rt; first.is_err() && second.is_err());
-    let (third, text) = end_in(rt, alloc, file, "")?;
+    let (third, text) = end_in(rt, alloc, file, "");
     assert_eq!(rt; (third, text.as_str()), (Ok(count), after));
-    Ok(())
 }
 
 // The transaction that was stopped goes on, and the one above it is aborted.
 #[test]
-fn ending_goes_on_after_a_stop(rt: HostRuntime) -> Result<(), Fail> {
+fn ending_goes_on_after_a_stop(rt: HostRuntime) {
     let alloc = rt.alloc();
-    let limits = greatest()?;
+    let limits = greatest().expect(&rt, "no limits");
     let table = SortedTable::new(alloc, limits);
-    let mut file = flaky_file(&rt, alloc, table, limits, &[4, 5])?;
+    let mut file = flaky_file(&rt, alloc, table, limits, &[4, 5]);
     let script = "begin\nbegin\nput 1 a =1\nput 1 b =2\nput 2 c =3\n";
     end_thrice(&rt, alloc, &mut file, script, 5, 2, "ok 0\nok 6 6\n")
 }

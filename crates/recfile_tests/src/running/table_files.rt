@@ -4,7 +4,6 @@ use page_store::{FlakyStore, MemStore, Store, WriteFault};
 use rec_types::Limits;
 use std::alloc::Global;
 use std::process::Abort;
-use std::test::Fail;
 
 /// How the file of three records is changed: how many pages are left of it, with which tail, and which
 /// byte of which page becomes what; and how many records there may be.
@@ -29,32 +28,26 @@ const NOTHING: Change = Change {
 };
 
 /// Why the changed file isn't opened.
-fn fault_of(rt: &impl Abort, alloc: Global, change: &Change) -> Result<Option<OpenFault>, Fail> {
+fn fault_of(rt: &impl Abort, alloc: Global, change: &Change) -> Option<OpenFault> {
     let mut pages = three_records();
     assert!(rt; change.pages <= 4 && change.page < 4 && change.byte < 4096);
     pages[change.page][change.byte] = change.value;
-    let store = store_of(rt, alloc, &pages[..change.pages], change.tail)?;
-    let limits = Limits::new(change.records, 2, 1)?;
+    let store = store_of(rt, alloc, &pages[..change.pages], change.tail);
+    let limits = Limits::new(change.records, 2, 1).expect(rt, "no limits");
     match TreeTable::open_from(alloc, store, limits) {
-        Ok(_) => Ok(None),
-        Err(stop) => Ok(Some(stop.fault)),
+        Ok(_) => None,
+        Err(stop) => Some(stop.fault),
     }
 }
 
 /// Expects that of the changed file, at the second time where memory was refused at the first.
-fn check_fault(
-    rt: &impl Abort,
-    alloc: Global,
-    change: &Change,
-    fault: Option<OpenFault>,
-) -> Result<(), Fail> {
-    let mut told = fault_of(rt, alloc, change)?;
+fn check_fault(rt: &impl Abort, alloc: Global, change: &Change, fault: Option<OpenFault>) {
+    let mut told = fault_of(rt, alloc, change);
     if told == Some(OpenFault::Memory) {
-        told = fault_of(rt, alloc, change)?;
+        told = fault_of(rt, alloc, change);
     }
     let place = (change.pages, change.tail, change.page, change.byte);
     assert_eq!(rt; (place, told), (place, fault));
-    Ok(())
 }
 
 /// The file is cut to so many pages and a tail.
@@ -82,8 +75,8 @@ fn records(records: u32) -> Change {
 }
 
 #[test]
-fn files_that_are_not_opened(rt: HostRuntime) -> Result<(), Fail> {
-    check_fault(&rt, rt.alloc(), &NOTHING, None)?;
+fn files_that_are_not_opened(rt: HostRuntime) {
+    check_fault(&rt, rt.alloc(), &NOTHING, None);
     for (change, fault) in [
         (cut(0, 0), OpenFault::BadLength),
         (cut(0, 4095), OpenFault::BadLength),
@@ -104,24 +97,17 @@ fn files_that_are_not_opened(rt: HostRuntime) -> Result<(), Fail> {
         (byte(3, 115, 4), OpenFault::Damaged(3)),
         (records(2), OpenFault::TooManyRecords),
     ] {
-        check_fault(&rt, rt.alloc(), &change, Some(fault))?;
+        check_fault(&rt, rt.alloc(), &change, Some(fault));
     }
-    Ok(())
 }
 
 /// Looks that two copies of the changed file are refused alike, and as is expected.
-fn check_twice(
-    rt: &impl Abort,
-    alloc: Global,
-    change: &Change,
-    fault: Option<OpenFault>,
-) -> Result<(), Fail> {
-    let one = fault_of(rt, alloc, change)?;
-    let other = fault_of(rt, alloc, change)?;
+fn check_twice(rt: &impl Abort, alloc: Global, change: &Change, fault: Option<OpenFault>) {
+    let one = fault_of(rt, alloc, change);
+    let other = fault_of(rt, alloc, change);
     let place = (change.pages, change.tail, change.page, change.byte);
     assert_eq!(rt; (place, one), (place, fault));
     assert_eq!(rt; (place, other), (place, fault));
-    Ok(())
 }
 
 /// Why the header isn't read once this byte of it is turned into its complement.
@@ -149,52 +135,44 @@ fn fault_of_byte(page: usize, byte: usize) -> Option<OpenFault> {
 }
 
 /// Turns each of the first bytes of a page into its complement.
-fn check_complements(
-    rt: &impl Abort,
-    alloc: Global,
-    page: usize,
-    bytes: usize,
-) -> Result<(), Fail> {
+fn check_complements(rt: &impl Abort, alloc: Global, page: usize, bytes: usize) {
     let pages = three_records();
     assert!(rt; page < 4 && bytes <= 4096);
     for place in 0..bytes {
         let change = byte(page, place, !pages[page][place]);
-        check_twice(rt, alloc, &change, fault_of_byte(page, place))?;
+        check_twice(rt, alloc, &change, fault_of_byte(page, place));
     }
-    Ok(())
 }
 
 #[test]
-fn each_byte_of_the_header_and_the_root_is_turned(rt: HostRuntime) -> Result<(), Fail> {
-    check_complements(&rt, rt.alloc(), 0, 4096)?;
+fn each_byte_of_the_header_and_the_root_is_turned(rt: HostRuntime) {
+    check_complements(&rt, rt.alloc(), 0, 4096);
     check_complements(&rt, rt.alloc(), 3, 4096)
 }
 
 #[test]
-fn each_byte_of_the_leaves_is_turned(rt: HostRuntime) -> Result<(), Fail> {
-    check_complements(&rt, rt.alloc(), 1, 4096)?;
+fn each_byte_of_the_leaves_is_turned(rt: HostRuntime) {
+    check_complements(&rt, rt.alloc(), 1, 4096);
     check_complements(&rt, rt.alloc(), 2, 4096)
 }
 
 /// Cuts the file within a page, and before it.
-fn check_cuts(rt: &impl Abort, alloc: Global, pages: usize, most: u16) -> Result<(), Fail> {
+fn check_cuts(rt: &impl Abort, alloc: Global, pages: usize, most: u16) {
     for tail in 0..most {
         let fault = if tail == 0 && pages > 0 {
             OpenFault::BadHeader
         } else {
             OpenFault::BadLength
         };
-        check_twice(rt, alloc, &cut(pages, tail), Some(fault))?;
+        check_twice(rt, alloc, &cut(pages, tail), Some(fault));
     }
-    Ok(())
 }
 
 #[test]
-fn a_file_is_cut_to_each_length(rt: HostRuntime) -> Result<(), Fail> {
+fn a_file_is_cut_to_each_length(rt: HostRuntime) {
     for pages in 0..4 {
-        check_cuts(&rt, rt.alloc(), pages, 4096)?;
+        check_cuts(&rt, rt.alloc(), pages, 4096);
     }
-    Ok(())
 }
 
 /// What a table says of its tree: order, height, pages used, pages, free pages.
@@ -209,34 +187,32 @@ fn numbers_of<S: Store>(table: &TreeTable<S>) -> (u16, u32, u32, u32, u32) {
 }
 
 #[test]
-fn a_file_is_opened_and_closed(rt: HostRuntime) -> Result<(), Fail> {
-    let store = store_of(&rt, rt.alloc(), &three_records(), 0)?;
-    let table = open(rt.alloc(), store)?;
+fn a_file_is_opened_and_closed(rt: HostRuntime) {
+    let store = store_of(&rt, rt.alloc(), &three_records(), 0);
+    let table = open(&rt, rt.alloc(), store);
     assert_eq!(rt; numbers_of(&table), (1, 2, 3, 4, 0));
     let Ok(store) = table.close() else {
-        return Err(Fail::from(OpenFault::Device));
+        panic!(rt; "no answer");
     };
     assert!(rt; store.pages() == three_records().as_slice());
-    Ok(())
 }
 
 #[test]
-fn a_table_is_made_and_closed(rt: HostRuntime) -> Result<(), Fail> {
-    let store = store_of(&rt, rt.alloc(), &[], 0)?;
-    let limits = Limits::new(9, 2, 1)?;
+fn a_table_is_made_and_closed(rt: HostRuntime) {
+    let store = store_of(&rt, rt.alloc(), &[], 0);
+    let limits = Limits::new(9, 2, 1).expect(&rt, "no limits");
     let Ok(table) = TreeTable::create(rt.alloc(), store, 2, limits) else {
-        return Err(Fail::from(OpenFault::Device));
+        panic!(rt; "no answer");
     };
     assert_eq!(rt; numbers_of(&table), (2, 0, 0, 1, 0));
     let Ok(store) = table.close() else {
-        return Err(Fail::from(OpenFault::Memory));
+        panic!(rt; "no answer");
     };
     let page = page_with(
         b"BMKRFILE\x00\x01\x00\x02\x00\x00\x00\x01\x00\x00\x00\x00\x00\x00\x00\x00\x01",
     );
     assert!(rt; store.pages() == [page].as_slice());
-    assert_eq!(rt; numbers_of(&open(rt.alloc(), store)?), (2, 0, 0, 1, 0));
-    Ok(())
+    assert_eq!(rt; numbers_of(&open(&rt, rt.alloc(), store)), (2, 0, 0, 1, 0));
 }
 
 /// Looks that no table of the order is made in a store with so many pages and that tail.
@@ -247,68 +223,71 @@ fn check_create(
     pages: usize,
     tail: u16,
     fault: CreateFault,
-) -> Result<(), Fail> {
+) {
     assert!(rt; pages <= 4);
-    let store = store_of(rt, alloc, &three_records()[..pages], tail)?;
-    match TreeTable::create(alloc, store, order, Limits::new(9, 2, 1)?) {
+    let store = store_of(rt, alloc, &three_records()[..pages], tail);
+    match TreeTable::create(
+        alloc,
+        store,
+        order,
+        Limits::new(9, 2, 1).expect(rt, "no limits"),
+    ) {
         Ok(_) => panic!(rt; "a table was made"),
         Err(stop) => {
             assert!(rt; stop.fault == fault);
             assert_eq!(rt; stop.store.pages().len(), pages);
-            Ok(())
         }
     }
 }
 
 #[test]
-fn no_table_is_made(rt: HostRuntime) -> Result<(), Fail> {
-    check_create(&rt, rt.alloc(), 0, 0, 0, CreateFault::BadOrder)?;
-    check_create(&rt, rt.alloc(), 17, 1, 0, CreateFault::BadOrder)?;
-    check_create(&rt, rt.alloc(), 16, 1, 0, CreateFault::NotEmpty)?;
+fn no_table_is_made(rt: HostRuntime) {
+    check_create(&rt, rt.alloc(), 0, 0, 0, CreateFault::BadOrder);
+    check_create(&rt, rt.alloc(), 17, 1, 0, CreateFault::BadOrder);
+    check_create(&rt, rt.alloc(), 16, 1, 0, CreateFault::NotEmpty);
     check_create(&rt, rt.alloc(), 1, 0, 1, CreateFault::NotEmpty)
 }
 
 /// Looks that an empty table that was not closed is closed by a second call.
-fn check_second_close<S: Store>(
-    rt: &impl Abort,
-    alloc: Global,
-    stop: CloseStop<S>,
-) -> Result<(), Fail> {
+fn check_second_close<S: Store>(rt: &impl Abort, alloc: Global, stop: CloseStop<S>) {
     assert!(rt; stop.fault == WriteFault::Device);
     match stop.table.close() {
         Ok(store) => {
-            assert_eq!(rt; numbers_of(&open(alloc, store)?), (2, 0, 0, 1, 0));
-            Ok(())
+            assert_eq!(rt; numbers_of(&open(rt, alloc, store)), (2, 0, 0, 1, 0));
         }
-        Err(_) => Err(Fail::from(OpenFault::Device)),
+        Err(stop) => panic!(rt; "{}", stop.fault),
     }
 }
 
 /// Does so with a new table in the store, at which the first close fails.
-fn check_close<S: Store>(rt: &impl Abort, alloc: Global, store: S) -> Result<(), Fail> {
-    let Ok(table) = TreeTable::create(alloc, store, 2, Limits::new(9, 2, 1)?) else {
-        return Err(Fail::from(OpenFault::Device));
+fn check_close<S: Store>(rt: &impl Abort, alloc: Global, store: S) {
+    let Ok(table) = TreeTable::create(
+        alloc,
+        store,
+        2,
+        Limits::new(9, 2, 1).expect(rt, "no limits"),
+    ) else {
+        panic!(rt; "no answer");
     };
     match table.close() {
-        Ok(_) => Err(Fail::from("a call that failed was not told")),
+        Ok(_) => panic!(rt; "a call that failed was not told"),
         Err(stop) => check_second_close(rt, alloc, stop),
     }
 }
 
 /// A store without pages that fails at the call of this number.
-fn failing_at(rt: &impl Abort, alloc: Global, call: u64) -> Result<FlakyStore<MemStore>, Fail> {
+fn failing_at(rt: &impl Abort, alloc: Global, call: u64) -> FlakyStore<MemStore> {
     let mut writes = Vec::new(alloc);
     if writes.push(call).is_err() {
-        writes.push(call)?;
+        writes.push(call).expect(rt, "no memory");
     }
-    let store = store_of(rt, alloc, &[], 0)?;
-    Ok(FlakyStore::new(store, Vec::new(alloc), writes))
+    let store = store_of(rt, alloc, &[], 0);
+    FlakyStore::new(store, Vec::new(alloc), writes)
 }
 
 #[test]
-fn a_table_is_closed_again(rt: HostRuntime) -> Result<(), Fail> {
+fn a_table_is_closed_again(rt: HostRuntime) {
     for call in 1..7u64 {
-        check_close(&rt, rt.alloc(), failing_at(&rt, rt.alloc(), call)?)?;
+        check_close(&rt, rt.alloc(), failing_at(&rt, rt.alloc(), call));
     }
-    Ok(())
 }

@@ -6,7 +6,6 @@ use rec_types::{Key, Record};
 use std::alloc::Global;
 use std::collections::BTreeSet;
 use std::process::Abort;
-use std::test::Fail;
 
 /// Deletes, once more where memory was refused; then the key still has its record.
 fn delete_again<S: Store>(
@@ -35,10 +34,12 @@ fn take<S: Store>(
     pages: &mut Pages<S>,
     tree: &Tree,
     key: &[u8],
-) -> Result<Tree, Fail> {
-    let (next, old) = delete_again(rt, alloc, pages, tree, &Key::new(key)?)?;
-    assert!(rt; old == Some(Record::new(key)?));
-    Ok(next)
+) -> Tree {
+    let name = Key::new(key).expect(rt, "no key");
+    let taken = delete_again(rt, alloc, pages, tree, &name);
+    let (next, old) = taken.expect(rt, "no answer");
+    assert!(rt; old == Some(Record::new(key).expect(rt, "no record")));
+    next
 }
 
 /// Puts each small letter as a key and its record, and takes each great letter's small one out.
@@ -48,31 +49,24 @@ fn run<S: Store>(
     pages: &mut Pages<S>,
     order: u16,
     steps: &[u8],
-) -> Result<Tree, Fail> {
+) -> Tree {
     let mut tree = empty(order);
     for step in steps {
         let key = [step.to_ascii_lowercase()];
         tree = if step.is_ascii_uppercase() {
-            take(rt, alloc, pages, &tree, &key)?
+            take(rt, alloc, pages, &tree, &key)
         } else {
-            put(rt, alloc, pages, &tree, &key, &key)?.0
+            put(rt, alloc, pages, &tree, &key, &key).0
         };
     }
-    Ok(tree)
+    tree
 }
 
 /// Expects the tree of an order after these steps.
-fn expect_tree(
-    rt: &impl Abort,
-    alloc: Global,
-    order: u16,
-    steps: &str,
-    wanted: &str,
-) -> Result<(), Fail> {
-    let mut pages = new_pages(alloc)?;
-    let tree = run(rt, alloc, &mut pages, order, steps.as_bytes())?;
-    assert_eq!(rt; tree_text(rt, alloc, &mut pages, &tree)?.as_str(), wanted);
-    Ok(())
+fn expect_tree(rt: &impl Abort, alloc: Global, order: u16, steps: &str, wanted: &str) {
+    let mut pages = new_pages(rt, alloc);
+    let tree = run(rt, alloc, &mut pages, order, steps.as_bytes());
+    assert_eq!(rt; tree_text(rt, alloc, &mut pages, &tree).as_str(), wanted);
 }
 
 /// Trees of an order after these steps, in which pages are levelled and catenated.
@@ -122,11 +116,10 @@ const TREES: [(u16, &str, &str); 8] = [
 ];
 
 #[test]
-fn pages_are_levelled_and_catenated(rt: HostRuntime) -> Result<(), Fail> {
+fn pages_are_levelled_and_catenated(rt: HostRuntime) {
     for (order, steps, wanted) in TREES {
-        expect_tree(&rt, rt.alloc(), order, steps, wanted)?;
+        expect_tree(&rt, rt.alloc(), order, steps, wanted);
     }
-    Ok(())
 }
 
 /// Looks that a deletion of each key finds none, and leaves the tree as it is.
@@ -136,20 +129,21 @@ fn check_absent<S: Store>(
     pages: &mut Pages<S>,
     tree: &Tree,
     keys: &[u8],
-) -> Result<(), Fail> {
+) {
     for key in keys {
-        let (same, old) = delete_again(rt, alloc, pages, tree, &Key::new(&[*key])?)?;
+        let absent = Key::new(&[*key]).expect(rt, "no key");
+        let taken = delete_again(rt, alloc, pages, tree, &absent);
+        let (same, old) = taken.expect(rt, "no answer");
         assert!(rt; old.is_none());
         assert_eq!(rt; same, *tree);
     }
-    Ok(())
 }
 
 #[test]
-fn an_absent_key_changes_nothing(rt: HostRuntime) -> Result<(), Fail> {
-    let mut pages = new_pages(rt.alloc())?;
-    let tree = run(&rt, rt.alloc(), &mut pages, 1, b"ace")?;
-    check_absent(&rt, rt.alloc(), &mut pages, &tree, b"bdf")?;
+fn an_absent_key_changes_nothing(rt: HostRuntime) {
+    let mut pages = new_pages(&rt, rt.alloc());
+    let tree = run(&rt, rt.alloc(), &mut pages, 1, b"ace");
+    check_absent(&rt, rt.alloc(), &mut pages, &tree, b"bdf");
     check_absent(&rt, rt.alloc(), &mut pages, &empty(1), b"a")
 }
 
@@ -161,8 +155,8 @@ fn check_tree<S: Store>(
     pages: &mut Pages<S>,
     tree: &Tree,
     count: usize,
-) -> Result<(), Fail> {
-    let elements = walk_again(rt, alloc, pages, tree)?;
+) {
+    let elements = walk_again(rt, alloc, pages, tree).expect(rt, "no answer");
     assert_eq!(rt; (elements.len(), tree.count as usize), (count, count));
     let keys = elements.as_slice();
     for i in 1..keys.len() {
@@ -173,22 +167,21 @@ fn check_tree<S: Store>(
         pages.page_count() - 1,
         tree.used.saturating_add(pages.free_count())
     );
-    Ok(())
 }
 
 /// Puts 200 keys into a tree of an order and takes them out again, in an order of their own, and looks
 /// at the tree after every fortieth.
-fn check_order(rt: &impl Abort, alloc: Global, order: u16, step: u16) -> Result<(), Fail> {
-    let mut pages = new_pages(alloc)?;
+fn check_order(rt: &impl Abort, alloc: Global, order: u16, step: u16) {
+    let mut pages = new_pages(rt, alloc);
     let mut tree = empty(order);
     for n in 0..200u16 {
         let key = (n * 7 % 200).to_be_bytes();
-        tree = put(rt, alloc, &mut pages, &tree, &key, &key)?.0;
+        tree = put(rt, alloc, &mut pages, &tree, &key, &key).0;
     }
     assert!(rt; step < 200);
     for n in 0..200u16 {
         if n % 40 == 0 {
-            check_tree(rt, alloc, &mut pages, &tree, 200 - n as usize)?;
+            check_tree(rt, alloc, &mut pages, &tree, 200 - n as usize);
         }
         tree = take(
             rt,
@@ -196,27 +189,25 @@ fn check_order(rt: &impl Abort, alloc: Global, order: u16, step: u16) -> Result<
             &mut pages,
             &tree,
             &(n * step % 200).to_be_bytes(),
-        )?;
+        );
     }
     assert_eq!(rt; (tree.root, tree.height, tree.used), (0, 0, 0));
     check_tree(rt, alloc, &mut pages, &tree, 0)
 }
 
 /// Does so for trees of several orders.
-fn check_orders(rt: &impl Abort, alloc: Global, step: u16) -> Result<(), Fail> {
+fn check_orders(rt: &impl Abort, alloc: Global, step: u16) {
     for order in [1, 2, 3, 16] {
-        check_order(rt, alloc, order, step)?;
+        check_order(rt, alloc, order, step);
     }
-    Ok(())
 }
 
 // In ascending, in descending and in a shuffled order.
 #[test]
-fn all_keys_go(rt: HostRuntime) -> Result<(), Fail> {
+fn all_keys_go(rt: HostRuntime) {
     for step in [1, 199, 77] {
-        check_orders(&rt, rt.alloc(), step)?;
+        check_orders(&rt, rt.alloc(), step);
     }
-    Ok(())
 }
 
 /// Looks that a deletion finds this page damaged, and frees none.
@@ -227,18 +218,23 @@ fn check_damaged<S: Store>(
     tree: &Tree,
     key: u8,
     n: u32,
-) -> Result<(), Fail> {
+) {
     let free = pages.free_count();
-    let answer = delete_again(rt, alloc, pages, tree, &Key::new(&[key])?);
+    let answer = delete_again(
+        rt,
+        alloc,
+        pages,
+        tree,
+        &Key::new(&[key]).expect(rt, "no key"),
+    );
     assert!(rt; answer.err() == Some(TreeFault::Damaged(n)));
     assert_eq!(rt; pages.free_count(), free);
-    Ok(())
 }
 
 #[test]
-fn pages_that_are_no_tree(rt: HostRuntime) -> Result<(), Fail> {
-    let mut pages = new_pages(rt.alloc())?;
-    let tree = run(&rt, rt.alloc(), &mut pages, 1, b"abc")?;
+fn pages_that_are_no_tree(rt: HostRuntime) {
+    let mut pages = new_pages(&rt, rt.alloc());
+    let tree = run(&rt, rt.alloc(), &mut pages, 1, b"abc");
     for (root, count, used, n) in [(1, 3, 3, 1), (9, 3, 3, 9), (3, 0, 3, 3), (3, 3, 1, 3)] {
         let other = Tree {
             root,
@@ -246,9 +242,8 @@ fn pages_that_are_no_tree(rt: HostRuntime) -> Result<(), Fail> {
             used,
             ..tree
         };
-        check_damaged(&rt, rt.alloc(), &mut pages, &other, b'a', n)?;
+        check_damaged(&rt, rt.alloc(), &mut pages, &other, b'a', n);
     }
-    Ok(())
 }
 
 /// A page of order 1 with one key, which is its own record, and these sons.
@@ -299,7 +294,7 @@ const NO_NODE: Page = Page {
 };
 
 /// A store of four pages, of which the last three are these.
-fn four_pages(rt: &impl Abort, alloc: Global, three: &[Page; 3]) -> Result<Pages<MemStore>, Fail> {
+fn four_pages(rt: &impl Abort, alloc: Global, three: &[Page; 3]) -> Pages<MemStore> {
     let nothing = Page {
         kind: 0,
         key: 0,
@@ -309,11 +304,11 @@ fn four_pages(rt: &impl Abort, alloc: Global, three: &[Page; 3]) -> Result<Pages
     let mut pages = Vec::new(alloc);
     for page in [nothing, three[0], three[1], three[2]] {
         if pages.push(bytes_of(page)).is_err() {
-            pages.push(bytes_of(page))?;
+            pages.push(bytes_of(page)).expect(rt, "no memory");
         }
     }
     assert!(rt; pages.len() == 4);
-    Ok(Pages::new(alloc, MemStore::new(pages, 0), 4, BTreeSet::new(alloc)))
+    Pages::new(alloc, MemStore::new(pages, 0), 4, BTreeSet::new(alloc))
 }
 
 /// Looks that the deletion of a key finds this page damaged, in a tree of order 1 of three pages.
@@ -325,8 +320,8 @@ fn check_row(
     height: u32,
     key: u8,
     n: u32,
-) -> Result<(), Fail> {
-    let mut pages = four_pages(rt, alloc, three)?;
+) {
+    let mut pages = four_pages(rt, alloc, three);
     let tree = Tree {
         order: 1,
         root,
@@ -339,7 +334,7 @@ fn check_row(
 
 // On the path, and beside it.
 #[test]
-fn damaged_pages(rt: HostRuntime) -> Result<(), Fail> {
+fn damaged_pages(rt: HostRuntime) {
     let (a, c, root) = (leaf(b'a'), leaf(b'c'), inner(1, 2));
     for (three, n, height, key, damaged) in [
         ([NO_NODE, c, root], 3, 2, b'a', 1),
@@ -356,7 +351,6 @@ fn damaged_pages(rt: HostRuntime) -> Result<(), Fail> {
         ([a, c, inner(1, 1)], 3, 2, b'a', 1),
         ([a, c, inner(1, 7)], 3, 2, b'a', 7),
     ] {
-        check_row(&rt, rt.alloc(), &three, n, height, key, damaged)?;
+        check_row(&rt, rt.alloc(), &three, n, height, key, damaged);
     }
-    Ok(())
 }

@@ -1,4 +1,4 @@
-ghost use Rattle.std.specs.Prelude.{◌≡◌, ◌<◌, ◌≤◌, IfOk, length};
+ghost use Rattle.std.specs.Prelude.{◌≡◌, ◌<◌, ◌≤◌, length};
 ghost use Rattle.btree_node.specs.Spelling.{CanStand};
 ghost use Rattle.btree_node.specs.Layout.{greatest_order};
 
@@ -11,7 +11,6 @@ use rec_types::{KEY_WIDTH, Key, Memory, RECORD_WIDTH, Record};
 use std::alloc::Global;
 use std::collections::BTreeSet;
 use std::process::Abort;
-use std::test::Fail;
 
 /// Puts these records at these keys.
 fn put_all<S: Store>(
@@ -20,32 +19,25 @@ fn put_all<S: Store>(
     pages: &mut Pages<S>,
     order: u16,
     records: &[(u8, u8)],
-) -> Result<Tree, Fail> {
+) -> Tree {
     let mut tree = empty(order);
     for (key, value) in records {
-        let (grown, old) = put(rt, alloc, pages, &tree, &[*key], &[*value])?;
+        let (grown, old) = put(rt, alloc, pages, &tree, &[*key], &[*value]);
         assert!(rt; old.is_none());
         tree = grown;
     }
-    Ok(tree)
+    tree
 }
 
 /// Expects the tree of an order that has the letters as keys, each as its own record.
-fn expect_letters(
-    rt: &impl Abort,
-    alloc: Global,
-    order: u16,
-    letters: &[u8],
-    wanted: &str,
-) -> Result<(), Fail> {
+fn expect_letters(rt: &impl Abort, alloc: Global, order: u16, letters: &[u8], wanted: &str) {
     let mut records = Vec::new(alloc);
     for letter in letters {
-        records.push((*letter, *letter))?;
+        records.push((*letter, *letter)).expect(rt, "no memory");
     }
-    let mut pages = new_pages(alloc)?;
-    let tree = put_all(rt, alloc, &mut pages, order, &records)?;
-    assert_eq!(rt; tree_text(rt, alloc, &mut pages, &tree)?.as_str(), wanted);
-    Ok(())
+    let mut pages = new_pages(rt, alloc);
+    let tree = put_all(rt, alloc, &mut pages, order, &records);
+    assert_eq!(rt; tree_text(rt, alloc, &mut pages, &tree).as_str(), wanted);
 }
 
 /// Puts another record at a key that is there, which leaves the tree as it is and answers the record before.
@@ -56,19 +48,18 @@ fn check_replaced<S: Store>(
     tree: &Tree,
     key: &[u8],
     before: &[u8],
-) -> Result<(), Fail> {
-    let (same, old) = put(rt, alloc, pages, tree, key, b"new")?;
+) {
+    let (same, old) = put(rt, alloc, pages, tree, key, b"new");
     assert_eq!(rt; same, *tree);
-    assert!(rt; old == Some(Record::new(before)?));
-    Ok(())
+    assert!(rt; old == Some(Record::new(before).expect(rt, "no record")));
 }
 
 #[test]
-fn three_keys_of_order_one(rt: HostRuntime) -> Result<(), Fail> {
-    let mut pages = new_pages(rt.alloc())?;
+fn three_keys_of_order_one(rt: HostRuntime) {
+    let mut pages = new_pages(&rt, rt.alloc());
     let records = [(b'a', b'x'), (b'b', b'y'), (b'c', b'z')];
-    let tree = put_all(&rt, rt.alloc(), &mut pages, 1, &records)?;
-    let text = tree_text(&rt, rt.alloc(), &mut pages, &tree)?;
+    let tree = put_all(&rt, rt.alloc(), &mut pages, 1, &records);
+    let text = tree_text(&rt, rt.alloc(), &mut pages, &tree);
     assert_eq!(rt;
         text.as_str(),
         "3 2 3 3 of 4; leaf a=x; leaf c=z; inner b=y 1 2"
@@ -77,7 +68,7 @@ fn three_keys_of_order_one(rt: HostRuntime) -> Result<(), Fail> {
 }
 
 #[test]
-fn seven_and_eight_keys(rt: HostRuntime) -> Result<(), Fail> {
+fn seven_and_eight_keys(rt: HostRuntime) {
     for (order, letters, wanted) in [
         (
             2,
@@ -95,21 +86,19 @@ fn seven_and_eight_keys(rt: HostRuntime) -> Result<(), Fail> {
             "7 3 7 7 of 8; leaf a=a; leaf c=c; inner b=b 1 2; leaf e=e; leaf g=g; inner f=f 4 5; inner d=d 3 6",
         ),
     ] {
-        expect_letters(&rt, rt.alloc(), order, letters, wanted)?;
+        expect_letters(&rt, rt.alloc(), order, letters, wanted);
     }
-    Ok(())
 }
 
 /// Looks that each page but page 0 is a node of the order.
-fn check_nodes<S: Store>(pages: &mut Pages<S>, order: u16) -> Result<(), Fail>
+fn check_nodes<S: Store>(rt: &impl Abort, pages: &mut Pages<S>, order: u16)
     requires { order ≤ greatest_order }
 {
     let mut page = [0; 4096];
     for n in 1..pages.page_count() {
-        pages.fetch(n, &mut page)?;
-        decode(&page, order)?;
+        pages.fetch(n, &mut page).expect(rt, "no answer");
+        decode(&page, order).expect(rt, "no node");
     }
-    Ok(())
 }
 
 /// Puts the numbers at themselves as keys.
@@ -119,30 +108,30 @@ fn put_numbers<S: Store>(
     pages: &mut Pages<S>,
     order: u16,
     numbers: &[u16],
-) -> Result<Tree, Fail> {
+) -> Tree {
     let mut tree = empty(order);
     for n in numbers {
         let bytes = n.to_be_bytes();
-        tree = put(rt, alloc, pages, &tree, &bytes, &bytes)?.0;
+        tree = put(rt, alloc, pages, &tree, &bytes, &bytes).0;
     }
-    Ok(tree)
+    tree
 }
 
 /// Looks that a walk over the tree gives the numbers below its count.
-fn check_numbers<S: Store>(
-    rt: &impl Abort,
-    alloc: Global,
-    pages: &mut Pages<S>,
-    tree: &Tree,
-) -> Result<(), Fail> {
-    let elements = walk_again(rt, alloc, pages, tree)?;
+fn check_numbers<S: Store>(rt: &impl Abort, alloc: Global, pages: &mut Pages<S>, tree: &Tree) {
+    let elements = walk_again(rt, alloc, pages, tree).expect(rt, "no answer");
     assert!(rt; tree.count <= 1000);
     assert_eq!(rt; elements.len(), tree.count as usize);
     for (element, n) in elements.iter().zip(0..tree.count as u16) {
         let bytes = n.to_be_bytes();
-        assert!(rt; *element == (Key::new(&bytes)?, Record::new(&bytes)?));
+        assert!(rt;
+            *element
+                == (
+                    Key::new(&bytes).expect(rt, "no key"),
+                    Record::new(&bytes).expect(rt, "no record")
+                )
+        );
     }
-    Ok(())
 }
 
 /// Inserts the numbers below their count in an order, as keys, walks over them, and looks at all pages.
@@ -152,51 +141,51 @@ fn check_order_in<S: Store>(
     pages: &mut Pages<S>,
     order: u16,
     numbers: &[u16],
-) -> Result<(), Fail> {
-    let tree = put_numbers(rt, alloc, pages, order, numbers)?;
+) {
+    let tree = put_numbers(rt, alloc, pages, order, numbers);
     assert!(rt; tree.order == order && order <= 16 && tree.used <= 1_000_000);
     assert_eq!(rt; tree.count as usize, numbers.len());
-    check_numbers(rt, alloc, pages, &tree)?;
+    check_numbers(rt, alloc, pages, &tree);
     assert_eq!(rt; pages.page_count(), tree.used + 1);
-    check_nodes(pages, order)
+    check_nodes(rt, pages, order)
 }
 
 /// Does so in new pages.
-fn check_order(rt: &impl Abort, alloc: Global, order: u16, numbers: &[u16]) -> Result<(), Fail> {
-    let mut pages = new_pages(alloc)?;
+fn check_order(rt: &impl Abort, alloc: Global, order: u16, numbers: &[u16]) {
+    let mut pages = new_pages(rt, alloc);
     check_order_in(rt, alloc, &mut pages, order, numbers)
 }
 
 /// Does so for trees of several orders, with the numbers shuffled by a factor and a shift.
-fn check_orders(rt: &impl Abort, alloc: Global, factor: u32, shift: u32) -> Result<(), Fail> {
+fn check_orders(rt: &impl Abort, alloc: Global, factor: u32, shift: u32) {
     assert!(rt; factor < 300 && shift < 300);
     let mut numbers = Vec::new(alloc);
-    numbers.reserve(300)?;
+    numbers.reserve(300).expect(rt, "no memory");
     for n in 0..300u32 {
-        numbers.push(((n * factor + shift) % 300) as u16)?;
+        numbers
+            .push(((n * factor + shift) % 300) as u16)
+            .expect(rt, "no memory");
     }
     for order in [1, 2, 3, 16] {
-        check_order(rt, alloc, order, &numbers)?;
+        check_order(rt, alloc, order, &numbers);
     }
-    Ok(())
 }
 
 // The keys ascend, descend, and are shuffled.
 #[test]
-fn a_walk_is_sorted(rt: HostRuntime) -> Result<(), Fail> {
+fn a_walk_is_sorted(rt: HostRuntime) {
     for (factor, shift) in [(1, 0), (299, 299), (7, 0)] {
-        check_orders(&rt, rt.alloc(), factor, shift)?;
+        check_orders(&rt, rt.alloc(), factor, shift);
     }
-    Ok(())
 }
 
 /// A tree of order 1 with the keys a, b and c.
-fn three_keys(rt: &impl Abort, alloc: Global, pages: &mut Pages<MemStore>) -> Result<Tree, Fail> {
+fn three_keys(rt: &impl Abort, alloc: Global, pages: &mut Pages<MemStore>) -> Tree {
     let mut tree = empty(1);
     for key in b"abc" {
-        tree = put(rt, alloc, pages, &tree, &[*key], b"v")?.0;
+        tree = put(rt, alloc, pages, &tree, &[*key], b"v").0;
     }
-    Ok(tree)
+    tree
 }
 
 /// What a look-up and a walk answer.
@@ -206,17 +195,17 @@ fn looks<S: Store>(
     pages: &mut Pages<S>,
     tree: &Tree,
     key: u8,
-) -> Result<(Option<TreeFault>, Option<TreeFault>), Fail> {
+) -> (Option<TreeFault>, Option<TreeFault>) {
     assert!(rt; 1 <= tree.order && tree.order <= 16 && tree.height <= 19);
-    let found = find(pages, tree, &Key::new(&[key])?);
+    let found = find(pages, tree, &Key::new(&[key]).expect(rt, "no key"));
     let walked = walk_again(rt, alloc, pages, tree);
-    Ok((found.err(), walked.err()))
+    (found.err(), walked.err())
 }
 
 #[test]
-fn pages_that_are_no_tree(rt: HostRuntime) -> Result<(), Fail> {
-    let mut pages = new_pages(rt.alloc())?;
-    let tree = three_keys(&rt, rt.alloc(), &mut pages)?;
+fn pages_that_are_no_tree(rt: HostRuntime) {
+    let mut pages = new_pages(&rt, rt.alloc());
+    let tree = three_keys(&rt, rt.alloc(), &mut pages);
     for (root, height, used, fault) in [
         (1, 2, 3, TreeFault::Damaged(1)),
         (9, 1, 3, TreeFault::Damaged(9)),
@@ -227,7 +216,7 @@ fn pages_that_are_no_tree(rt: HostRuntime) -> Result<(), Fail> {
             used,
             ..tree
         };
-        let (found, _) = looks(&rt, rt.alloc(), &mut pages, &other, b'a')?;
+        let (found, _) = looks(&rt, rt.alloc(), &mut pages, &other, b'a');
         assert_eq!(rt; found, Some(fault));
     }
     let narrow = Tree {
@@ -236,49 +225,50 @@ fn pages_that_are_no_tree(rt: HostRuntime) -> Result<(), Fail> {
         count: 3,
         ..tree
     };
-    let (_, walked) = looks(&rt, rt.alloc(), &mut pages, &narrow, b'a')?;
+    let (_, walked) = looks(&rt, rt.alloc(), &mut pages, &narrow, b'a');
     assert_eq!(rt; walked, Some(TreeFault::Damaged(2)));
-    Ok(())
 }
 
 #[test]
-fn a_tree_of_the_greatest_count(rt: HostRuntime) -> Result<(), Fail> {
-    let mut pages = new_pages(rt.alloc())?;
-    let tree = three_keys(&rt, rt.alloc(), &mut pages)?;
+fn a_tree_of_the_greatest_count(rt: HostRuntime) {
+    let mut pages = new_pages(&rt, rt.alloc());
+    let tree = three_keys(&rt, rt.alloc(), &mut pages);
     let full = Tree {
         height: 2,
         used: 3,
         count: 1_000_000,
         ..tree
     };
-    let (d, value) = (Key::new(b"d")?, Record::new(b"v")?);
+    let (d, value) = (
+        Key::new(b"d").expect(&rt, "no key"),
+        Record::new(b"v").expect(&rt, "no record"),
+    );
     let answer = insert_again(&rt, rt.alloc(), &mut pages, &full, d, value);
     assert!(rt; answer.err() == Some(TreeFault::Damaged(2)));
-    Ok(())
 }
 
 /// A leaf with one key, whose record is the key.
-fn leaf(key: u8) -> Result<Node, Fail>
-    ensures stands { IfOk result (λ node. CanStand node 1) }
-    ensures one { IfOk result (λ node. length node.elements.items ≡ 1) }
+fn leaf(rt: &impl Abort, key: u8) -> Node
+    ensures stands { CanStand result 1 }
+    ensures one { length result.elements.items ≡ 1 }
 {
-    let value = Record::new(&[key])?;
-    let key = Key::new(&[key])?;
+    let value = Record::new(&[key]).expect(rt, "no record");
+    let key = Key::new(&[key]).expect(rt, "no key");
     prove!(key.bytes().len() <= KEY_WIDTH && value.bytes().len() <= RECORD_WIDTH);
     let mut elements = ArrayVec::new();
     elements.push((key, value));
-    Ok(Node {
+    Node {
         kind: NodeKind::Leaf,
         elements,
         sons: ArrayVec::new(),
-    })
+    }
 }
 
 /// An inner node with one key, whose record is the key.
-fn inner(key: u8, left: u32, right: u32) -> Result<Node, Fail>
+fn inner(rt: &impl Abort, key: u8, left: u32, right: u32) -> Node
     requires left { 0 < left }
     requires right { 0 < right }
-    ensures { IfOk result (λ node. CanStand node 1) }
+    ensures { CanStand result 1 }
 {
     let mut sons = ArrayVec::new();
     sons.push(left);
@@ -287,12 +277,12 @@ fn inner(key: u8, left: u32, right: u32) -> Result<Node, Fail>
         kind: _,
         elements,
         sons: _,
-    } = leaf(key)?;
-    Ok(Node {
+    } = leaf(rt, key);
+    Node {
         kind: NodeKind::Inner,
         elements,
         sons,
-    })
+    }
 }
 
 /// Stages a node of order 1 as the next page.
@@ -318,18 +308,12 @@ fn stage_page<S: Store>(
 }
 
 /// Does so, once more where memory was refused.
-fn add_page<S: Store>(
-    rt: &impl Abort,
-    alloc: Global,
-    pages: &mut Pages<S>,
-    node: &Node,
-) -> Result<(), Fail>
+fn add_page<S: Store>(rt: &impl Abort, alloc: Global, pages: &mut Pages<S>, node: &Node)
     requires { CanStand node.now 1 }
 {
     if stage_page(rt, alloc, pages, node).is_err() {
-        stage_page(rt, alloc, pages, node)?;
+        stage_page(rt, alloc, pages, node).expect(rt, "no answer");
     }
-    Ok(())
 }
 
 fn tree_at(root: u32, height: u32) -> Tree
@@ -352,30 +336,30 @@ fn check_damaged<S: Store>(
     tree: &Tree,
     key: u8,
     n: u32,
-) -> Result<(), Fail> {
+) {
     assert!(rt; 1 <= tree.order && tree.order <= 16 && tree.height <= 19);
-    let key = Key::new(&[key])?;
+    let key = Key::new(&[key]).expect(rt, "no key");
     let count = pages.page_count();
     assert!(rt; find(pages, tree, &key) == Err(TreeFault::Damaged(n)));
     let answer = walk_again(rt, alloc, pages, tree);
     assert!(rt; answer.err() == Some(TreeFault::Damaged(n)));
-    let answer = insert_again(rt, alloc, pages, tree, key, Record::new(b"v")?);
+    let answer = insert_again(
+        rt,
+        alloc,
+        pages,
+        tree,
+        key,
+        Record::new(b"v").expect(rt, "no record"),
+    );
     assert!(rt; answer.err() == Some(TreeFault::Damaged(n)));
     assert_eq!(rt; pages.page_count(), count);
-    Ok(())
 }
 
 /// Looks that the key is found.
-fn check_found<S: Store>(
-    rt: &impl Abort,
-    pages: &mut Pages<S>,
-    tree: &Tree,
-    key: u8,
-) -> Result<(), Fail> {
+fn check_found<S: Store>(rt: &impl Abort, pages: &mut Pages<S>, tree: &Tree, key: u8) {
     assert!(rt; 1 <= tree.order && tree.order <= 16 && tree.height <= 19);
-    let found = find(pages, tree, &Key::new(&[key])?);
-    assert!(rt; found == Ok(Some(Record::new(&[key])?)));
-    Ok(())
+    let found = find(pages, tree, &Key::new(&[key]).expect(rt, "no key"));
+    assert!(rt; found == Ok(Some(Record::new(&[key]).expect(rt, "no record"))));
 }
 
 /// A node of order 1 with one key, which is its record too: a leaf, or an inner node with its sons.
@@ -386,28 +370,22 @@ enum Spelt {
 }
 
 /// Stages these nodes as the next pages.
-fn add_pages<S: Store>(
-    rt: &impl Abort,
-    alloc: Global,
-    pages: &mut Pages<S>,
-    nodes: &[Spelt],
-) -> Result<(), Fail> {
+fn add_pages<S: Store>(rt: &impl Abort, alloc: Global, pages: &mut Pages<S>, nodes: &[Spelt]) {
     for node in nodes {
         match *node {
-            Spelt::Leaf(key) => add_page(rt, alloc, pages, &leaf(key)?)?,
+            Spelt::Leaf(key) => add_page(rt, alloc, pages, &leaf(rt, key)),
             Spelt::Inner(key, left, right) => {
                 assert!(rt; 0 < left && 0 < right);
-                add_page(rt, alloc, pages, &inner(key, left, right)?)?;
+                add_page(rt, alloc, pages, &inner(rt, key, left, right));
             }
         }
     }
-    Ok(())
 }
 
 /// Seven pages with one key each: the leaves 1 and 2 below page 3, the leaves 4 and 5 below page 6,
 /// and 3 and 6 below page 7.
-fn seven_pages(rt: &impl Abort, alloc: Global, keys: &[u8; 7]) -> Result<Pages<MemStore>, Fail> {
-    let mut pages = new_pages(alloc)?;
+fn seven_pages(rt: &impl Abort, alloc: Global, keys: &[u8; 7]) -> Pages<MemStore> {
+    let mut pages = new_pages(rt, alloc);
     let nodes = [
         Spelt::Leaf(keys[0]),
         Spelt::Leaf(keys[1]),
@@ -417,8 +395,8 @@ fn seven_pages(rt: &impl Abort, alloc: Global, keys: &[u8; 7]) -> Result<Pages<M
         Spelt::Inner(keys[5], 4, 5),
         Spelt::Inner(keys[6], 3, 6),
     ];
-    add_pages(rt, alloc, &mut pages, &nodes)?;
-    Ok(pages)
+    add_pages(rt, alloc, &mut pages, &nodes);
+    pages
 }
 
 /// Looks that a walk over the tree gives these keys, each as its own record.
@@ -428,23 +406,28 @@ fn check_keys<S: Store>(
     pages: &mut Pages<S>,
     tree: &Tree,
     keys: &[u8],
-) -> Result<(), Fail> {
-    let elements = walk_again(rt, alloc, pages, tree)?;
+) {
+    let elements = walk_again(rt, alloc, pages, tree).expect(rt, "no answer");
     assert_eq!(rt; elements.len(), keys.len());
     for (element, key) in elements.iter().zip(keys) {
-        assert!(rt; *element == (Key::new(&[*key])?, Record::new(&[*key])?));
+        assert!(rt;
+            *element
+                == (
+                    Key::new(&[*key]).expect(rt, "no key"),
+                    Record::new(&[*key]).expect(rt, "no record")
+                )
+        );
     }
-    Ok(())
 }
 
 #[test]
-fn keys_within_the_bounds_of_all_levels(rt: HostRuntime) -> Result<(), Fail> {
-    let mut pages = seven_pages(&rt, rt.alloc(), b"agdntqm")?;
+fn keys_within_the_bounds_of_all_levels(rt: HostRuntime) {
+    let mut pages = seven_pages(&rt, rt.alloc(), b"agdntqm");
     check_keys(&rt, rt.alloc(), &mut pages, &tree_at(7, 3), b"adgmnqt")
 }
 
 #[test]
-fn keys_outside_the_bounds_of_a_level(rt: HostRuntime) -> Result<(), Fail> {
+fn keys_outside_the_bounds_of_a_level(rt: HostRuntime) {
     for (keys, key, n) in [
         (b"apdntqm", b'e', 2),
         (b"amdntqm", b'e', 2),
@@ -453,10 +436,9 @@ fn keys_outside_the_bounds_of_a_level(rt: HostRuntime) -> Result<(), Fail> {
         (b"agdnpqm", b't', 5),
         (b"agdntbm", b'x', 6),
     ] {
-        let mut pages = seven_pages(&rt, rt.alloc(), keys)?;
-        check_damaged(&rt, rt.alloc(), &mut pages, &tree_at(7, 3), key, n)?;
+        let mut pages = seven_pages(&rt, rt.alloc(), keys);
+        check_damaged(&rt, rt.alloc(), &mut pages, &tree_at(7, 3), key, n);
     }
-    Ok(())
 }
 
 /// Looks at the damaged pages of trees, each with its root and its height, a key to look for, and the page.
@@ -465,16 +447,15 @@ fn check_all_damaged<S: Store>(
     alloc: Global,
     pages: &mut Pages<S>,
     rows: &[(u32, u32, u8, u32)],
-) -> Result<(), Fail> {
+) {
     for (root, height, key, n) in rows {
-        check_damaged(rt, alloc, pages, &tree_at(*root, *height), *key, *n)?;
+        check_damaged(rt, alloc, pages, &tree_at(*root, *height), *key, *n);
     }
-    Ok(())
 }
 
 #[test]
-fn a_page_that_is_met_twice(rt: HostRuntime) -> Result<(), Fail> {
-    let mut pages = new_pages(rt.alloc())?;
+fn a_page_that_is_met_twice(rt: HostRuntime) {
+    let mut pages = new_pages(&rt, rt.alloc());
     let nodes = [
         Spelt::Leaf(b'a'),
         Spelt::Inner(b'm', 2, 1),
@@ -482,36 +463,36 @@ fn a_page_that_is_met_twice(rt: HostRuntime) -> Result<(), Fail> {
         Spelt::Inner(b'm', 5, 1),
         Spelt::Inner(b'd', 4, 4),
     ];
-    add_pages(&rt, rt.alloc(), &mut pages, &nodes)?;
+    add_pages(&rt, rt.alloc(), &mut pages, &nodes);
     let rows = [(2, 3, b'c', 2), (3, 2, b'z', 1), (4, 4, b'e', 4)];
-    check_all_damaged(&rt, rt.alloc(), &mut pages, &rows)?;
+    check_all_damaged(&rt, rt.alloc(), &mut pages, &rows);
     check_found(&rt, &mut pages, &tree_at(3, 2), b'a')
 }
 
 /// Two pages with nothing in them, both in use.
-fn blank_pages(alloc: Global) -> Result<Pages<MemStore>, Fail> {
+fn blank_pages(rt: &impl Abort, alloc: Global) -> Pages<MemStore> {
     let mut pages = Vec::new(alloc);
     if pages.push([0; 4096]).is_err() {
-        pages.push([0; 4096])?;
+        pages.push([0; 4096]).expect(rt, "no memory");
     }
     if pages.push([0; 4096]).is_err() {
-        pages.push([0; 4096])?;
+        pages.push([0; 4096]).expect(rt, "no memory");
     }
-    Ok(Pages::new(alloc, MemStore::new(pages, 0), 2, BTreeSet::new(alloc)))
+    Pages::new(alloc, MemStore::new(pages, 0), 2, BTreeSet::new(alloc))
 }
 
 #[test]
-fn a_page_that_spells_no_node(rt: HostRuntime) -> Result<(), Fail> {
-    let mut pages = blank_pages(rt.alloc())?;
+fn a_page_that_spells_no_node(rt: HostRuntime) {
+    let mut pages = blank_pages(&rt, rt.alloc());
     let rows = [(1, 1, b'a', 1), (1, 2, b'a', 1), (2, 1, b'a', 2)];
-    check_all_damaged(&rt, rt.alloc(), &mut pages, &rows)?;
-    add_pages(&rt, rt.alloc(), &mut pages, &[Spelt::Inner(b'm', 1, 9)])?;
+    check_all_damaged(&rt, rt.alloc(), &mut pages, &rows);
+    add_pages(&rt, rt.alloc(), &mut pages, &[Spelt::Inner(b'm', 1, 9)]);
     check_all_damaged(&rt, rt.alloc(), &mut pages, &[(2, 2, b'a', 1)])
 }
 
 #[test]
-fn a_page_of_the_wrong_kind(rt: HostRuntime) -> Result<(), Fail> {
-    let mut pages = new_pages(rt.alloc())?;
+fn a_page_of_the_wrong_kind(rt: HostRuntime) {
+    let mut pages = new_pages(&rt, rt.alloc());
     let nodes = [
         Spelt::Leaf(b'a'),
         Spelt::Leaf(b'c'),
@@ -519,13 +500,13 @@ fn a_page_of_the_wrong_kind(rt: HostRuntime) -> Result<(), Fail> {
         Spelt::Leaf(b'z'),
         Spelt::Inner(b'm', 3, 4),
     ];
-    add_pages(&rt, rt.alloc(), &mut pages, &nodes)?;
+    add_pages(&rt, rt.alloc(), &mut pages, &nodes);
     let rows = [
         (5, 1, b'm', 5),
         (5, 2, b'a', 3),
         (4, 2, b'z', 4),
         (5, 3, b'x', 4),
     ];
-    check_all_damaged(&rt, rt.alloc(), &mut pages, &rows)?;
+    check_all_damaged(&rt, rt.alloc(), &mut pages, &rows);
     check_found(&rt, &mut pages, &tree_at(5, 3), b'c')
 }

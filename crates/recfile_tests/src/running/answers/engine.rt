@@ -5,7 +5,6 @@ use rec_types::{Key, Limits, Record, SortedTable, Table, TxId};
 use record_file::{Call, RecordFile};
 use std::alloc::Global;
 use std::process::Abort;
-use std::test::Fail;
 
 // What the replies of scripts show is tested by scripts. Here are the calls that no script makes.
 
@@ -22,36 +21,37 @@ struct Row<'a> {
 
 /// What the calls answer after the script, a line each.
 fn text_after<T: Table>(
+    rt: &impl Abort,
     alloc: Global,
     file: &mut RecordFile<T>,
     script: &str,
     calls: &[Call],
-) -> Result<String, Fail> {
-    answers_to(alloc, file, &calls_of(alloc, script)?)?;
-    text_of(alloc, &answers_to(alloc, file, calls)?)
+) -> String {
+    answers_to(rt, alloc, file, &calls_of(rt, alloc, script));
+    text_of(rt, alloc, &answers_to(rt, alloc, file, calls))
 }
 
 /// Expects the answers over a new file in the table.
-fn expect_over<T: Table>(
-    rt: &impl Abort,
-    alloc: Global,
-    table: T,
-    row: &Row<'_>,
-) -> Result<(), Fail> {
-    let mut file = flaky_file(rt, alloc, table, Limits::new(9, 99, 9)?, row.failing)?;
-    let text = text_after(alloc, &mut file, row.script, row.calls)?;
+fn expect_over<T: Table>(rt: &impl Abort, alloc: Global, table: T, row: &Row<'_>) {
+    let mut file = flaky_file(
+        rt,
+        alloc,
+        table,
+        Limits::new(9, 99, 9).expect(rt, "no limits"),
+        row.failing,
+    );
+    let text = text_after(rt, alloc, &mut file, row.script, row.calls);
     assert_eq!(rt; (row.name, text.as_str()), (row.name, row.answers));
-    Ok(())
 }
 
 /// Expects them over a sorted table.
-fn expect(rt: &impl Abort, alloc: Global, row: &Row<'_>) -> Result<(), Fail> {
-    let table = SortedTable::new(alloc, Limits::new(9, 99, 9)?);
+fn expect(rt: &impl Abort, alloc: Global, row: &Row<'_>) {
+    let table = SortedTable::new(alloc, Limits::new(9, 99, 9).expect(rt, "no limits"));
     expect_over(rt, alloc, table, row)
 }
 
 #[test]
-fn what_the_log_and_the_status_tell(rt: HostRuntime) -> Result<(), Fail> {
+fn what_the_log_and_the_status_tell(rt: HostRuntime) {
     let script = TWO_ROLLBACKS.script;
     let log = Row {
         name: "two partial rollbacks leave their log",
@@ -71,14 +71,16 @@ fn what_the_log_and_the_status_tell(rt: HostRuntime) -> Result<(), Fail> {
         ],
         answers: "-\n1 0 1 a - to 1\n2 1 1 a 1 to 2\n3 2 1 b - to 3\n4 3 1 b back to -, then 2\n5 4 1 a back to 1, then 1\n6 5 1 c - to 4\n7 6 1 c back to -, then 5\n8 7 1 a back to -, then 0\n-\n",
     };
-    expect(&rt, rt.alloc(), &log)?;
+    expect(&rt, rt.alloc(), &log);
+    let key = Key::new(b"d").expect(&rt, "no key");
+    let record = Record::new(b"5").expect(&rt, "no record");
     let status = Row {
         name: "a status tells savepoints and changes",
         failing: &[],
         script,
         calls: &[
             Call::Status(TxId(1)),
-            Call::Put(TxId(1), Key::new(b"d")?, Record::new(b"5")?),
+            Call::Put(TxId(1), key, record),
             Call::Status(TxId(1)),
             Call::Begun,
             Call::LogLen,
@@ -92,7 +94,7 @@ fn what_the_log_and_the_status_tell(rt: HostRuntime) -> Result<(), Fail> {
 }
 
 #[test]
-fn what_a_stop_and_the_lists_tell(rt: HostRuntime) -> Result<(), Fail> {
+fn what_a_stop_and_the_lists_tell(rt: HostRuntime) {
     let stopped = Row {
         name: "a stopped abort is rolling",
         failing: &[4],
@@ -106,7 +108,7 @@ fn what_a_stop_and_the_lists_tell(rt: HostRuntime) -> Result<(), Fail> {
         ],
         answers: "Err(Stopped { undone: 1, left: 1, cause: Device })\nrolling 1 true\nOk(1)\nErr(NoSuchTx)\nNoSuchTx\n",
     };
-    expect(&rt, rt.alloc(), &stopped)?;
+    expect(&rt, rt.alloc(), &stopped);
     let lists = Row {
         name: "lists name the owners",
         failing: &[],
@@ -119,15 +121,16 @@ fn what_a_stop_and_the_lists_tell(rt: HostRuntime) -> Result<(), Fail> {
 
 /// Commits the one transaction of the file, whose table then comes back, and finds the record of a key in it.
 fn found_once_committed<T: Table>(
+    rt: &impl Abort,
     alloc: Global,
     file: RecordFile<T>,
     key: &Key,
-) -> Result<Option<Record>, Fail> {
+) -> Option<Record> {
     let mut file = file;
-    answers_to(alloc, &mut file, &[Call::Commit(TxId(1))])?;
+    answers_to(rt, alloc, &mut file, &[Call::Commit(TxId(1))]);
     match file.into_table() {
-        Ok(mut table) => Ok(table.get(key)?),
-        Err(_) => Err(Fail::from("a transaction is open")),
+        Ok(mut table) => table.get(key).expect(rt, "no answer"),
+        Err(_) => panic!(rt; "a transaction is open"),
     }
 }
 
@@ -137,32 +140,37 @@ fn found_after<T: Table>(
     alloc: Global,
     file: RecordFile<T>,
     key: &Key,
-) -> Result<Option<Record>, Fail> {
+) -> Option<Record> {
     match file.into_table() {
-        Ok(_) => Err(Fail::from("no transaction is open")),
+        Ok(_) => panic!(rt; "no transaction is open"),
         Err(still) => {
             assert_eq!(rt; still.count, 1);
-            found_once_committed(alloc, still.file, key)
+            found_once_committed(rt, alloc, still.file, key)
         }
     }
 }
 
 /// Does so with a new file in the table, into which a transaction has put a record.
-fn found_over<T: Table>(
-    rt: &impl Abort,
-    alloc: Global,
-    table: T,
-    key: &Key,
-) -> Result<Option<Record>, Fail> {
-    let mut file = flaky_file(rt, alloc, table, Limits::new(9, 99, 9)?, &[])?;
-    text_after(alloc, &mut file, "begin\nput 1 a =x\n", &[])?;
+fn found_over<T: Table>(rt: &impl Abort, alloc: Global, table: T, key: &Key) -> Option<Record> {
+    let mut file = flaky_file(
+        rt,
+        alloc,
+        table,
+        Limits::new(9, 99, 9).expect(rt, "no limits"),
+        &[],
+    );
+    text_after(rt, alloc, &mut file, "begin\nput 1 a =x\n", &[]);
     found_after(rt, alloc, file, key)
 }
 
 #[test]
-fn the_table_comes_back_once_all_have_ended(rt: HostRuntime) -> Result<(), Fail> {
-    let table = SortedTable::new(rt.alloc(), Limits::new(9, 99, 9)?);
-    let found = found_over(&rt, rt.alloc(), table, &Key::new(b"a")?)?;
-    assert_eq!(rt; found, Some(Record::new(b"x")?));
-    Ok(())
+fn the_table_comes_back_once_all_have_ended(rt: HostRuntime) {
+    let table = SortedTable::new(rt.alloc(), Limits::new(9, 99, 9).expect(&rt, "no limits"));
+    let found = found_over(
+        &rt,
+        rt.alloc(),
+        table,
+        &Key::new(b"a").expect(&rt, "no key"),
+    );
+    assert_eq!(rt; found, Some(Record::new(b"x").expect(&rt, "no record")));
 }

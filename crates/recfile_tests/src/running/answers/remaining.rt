@@ -5,7 +5,6 @@ use rec_types::{FlakyTable, Limits, Table, TxId};
 use record_file::{Answer, Call, RecordFile};
 use std::alloc::Global;
 use std::process::Abort;
-use std::test::Fail;
 use tx_log::LogRecord;
 
 /// Whether the log takes back the change of this transaction whose update has the record before it with this
@@ -22,24 +21,27 @@ fn is_compensated<T: Table>(file: &RecordFile<T>, of: TxId, number: u32) -> bool
 }
 
 /// Which of the changes are live, oldest first.
-fn live_changes<T: Table>(alloc: Global, file: &RecordFile<T>) -> Result<Vec<bool>, Fail> {
+fn live_changes<T: Table>(rt: &impl Abort, alloc: Global, file: &RecordFile<T>) -> Vec<bool> {
     let mut lives = Vec::new(alloc);
     for lsn in 1..=file.log_len() {
         if let Some(LogRecord::Update { tx, prev, .. }) = file.log_record(lsn) {
-            lives.push(!is_compensated(file, tx, prev))?;
+            lives
+                .push(!is_compensated(file, tx, prev))
+                .expect(rt, "no memory");
         }
     }
-    Ok(lives)
+    lives
 }
 
 /// The accepted begins, the accepted commits, and the puts and removals whose change is live; and what they
 /// answered, a line each.
 fn remaining_calls(
+    rt: &impl Abort,
     alloc: Global,
     calls: &[Call],
     answers: &[Answer],
     lives: &[bool],
-) -> Result<(Vec<Call>, String), Fail> {
+) -> (Vec<Call>, String) {
     let mut changes = lives.iter();
     let (mut remaining, mut text) = (Vec::new(alloc), String::new(alloc));
     for (&call, answer) in calls.iter().zip(answers) {
@@ -49,11 +51,11 @@ fn remaining_calls(
             _ => false,
         };
         if stays {
-            remaining.push(call)?;
-            push_answer(&mut text, answer)?;
+            remaining.push(call).expect(rt, "no memory");
+            push_answer(rt, &mut text, answer);
         }
     }
-    Ok((remaining, text))
+    (remaining, text)
 }
 
 /// What looks at the records with their owners, and at the keys of each transaction.
@@ -66,11 +68,12 @@ const LOOKS: [Call; 4] = [
 
 /// What the calls answer, a line each.
 fn answered<T: Table>(
+    rt: &impl Abort,
     alloc: Global,
     file: &mut RecordFile<T>,
     calls: &[Call],
-) -> Result<String, Fail> {
-    text_of(alloc, &answers_to(alloc, file, calls)?)
+) -> String {
+    text_of(rt, alloc, &answers_to(rt, alloc, file, calls))
 }
 
 /// Expects the calls to answer this.
@@ -81,22 +84,22 @@ fn expect_answers<T: Table>(
     name: &str,
     calls: &[Call],
     wanted: &str,
-) -> Result<(), Fail> {
-    let text = answered(alloc, file, calls)?;
+) {
+    let text = answered(rt, alloc, file, calls);
     assert_eq!(rt; (name, text.as_str()), (name, wanted));
-    Ok(())
 }
 
 /// Runs the script: the calls that remain, and what they answered.
 fn run_whole<T: Table>(
+    rt: &impl Abort,
     alloc: Global,
     file: &mut RecordFile<T>,
     script: &str,
-) -> Result<(Vec<Call>, String), Fail> {
-    let calls = calls_of(alloc, script)?;
-    let answers = answers_to(alloc, file, &calls)?;
-    let lives = live_changes(alloc, file)?;
-    remaining_calls(alloc, &calls, &answers, &lives)
+) -> (Vec<Call>, String) {
+    let calls = calls_of(rt, alloc, script);
+    let answers = answers_to(rt, alloc, file, &calls);
+    let lives = live_changes(rt, alloc, file);
+    remaining_calls(rt, alloc, &calls, &answers, &lives)
 }
 
 /// Runs the row's script over one file, and the calls that remain, of which there are so many, over a new one:
@@ -108,11 +111,11 @@ fn expect_alone<T: Table>(
     alone: &mut RecordFile<T>,
     row: &Row<'_>,
     count: usize,
-) -> Result<(), Fail> {
-    let (remaining, wanted) = run_whole(alloc, file, row.script)?;
+) {
+    let (remaining, wanted) = run_whole(rt, alloc, file, row.script);
     assert_eq!(rt; (row.name, remaining.len()), (row.name, count));
-    expect_answers(rt, alloc, alone, row.name, &remaining, &wanted)?;
-    let seen = answered(alloc, file, &LOOKS)?;
+    expect_answers(rt, alloc, alone, row.name, &remaining, &wanted);
+    let seen = answered(rt, alloc, file, &LOOKS);
     expect_answers(rt, alloc, alone, row.name, &LOOKS, &seen)
 }
 
@@ -125,8 +128,8 @@ fn expect_beside<T: Table>(
     limits: Limits,
     row: &Row<'_>,
     count: usize,
-) -> Result<(), Fail> {
-    let mut alone = flaky_file(rt, alloc, other, limits, &[])?;
+) {
+    let mut alone = flaky_file(rt, alloc, other, limits, &[]);
     expect_alone(rt, alloc, file, &mut alone, row, count)
 }
 
@@ -139,26 +142,21 @@ fn expect_over<T: Table>(
     limits: Limits,
     row: &Row<'_>,
     count: usize,
-) -> Result<(), Fail> {
-    let mut file = flaky_file(rt, alloc, one, limits, row.failing)?;
+) {
+    let mut file = flaky_file(rt, alloc, one, limits, row.failing);
     expect_beside(rt, alloc, &mut file, other, limits, row, count)
 }
 
 /// Does so over trees of order 1 with the row's limits.
-fn expect_over_trees(
-    rt: &impl Abort,
-    alloc: Global,
-    row: &Row<'_>,
-    count: usize,
-) -> Result<(), Fail> {
+fn expect_over_trees(rt: &impl Abort, alloc: Global, row: &Row<'_>, count: usize) {
     let (records, log_records, begins) = row.limits;
-    let limits = Limits::new(records, log_records, begins)?;
-    let (one, other) = (tree(alloc, 1, limits)?, tree(alloc, 1, limits)?);
+    let limits = Limits::new(records, log_records, begins).expect(rt, "no limits");
+    let (one, other) = (tree(rt, alloc, 1, limits), tree(rt, alloc, 1, limits));
     expect_over(rt, alloc, one, other, limits, row, count)
 }
 
 #[test]
-fn what_remains_stands_alone(rt: HostRuntime) -> Result<(), Fail> {
+fn what_remains_stands_alone(rt: HostRuntime) {
     for (row, count) in [
         (COMMIT_BESIDE, 4),
         (OWNER_LEFT, 3),
@@ -166,7 +164,6 @@ fn what_remains_stands_alone(rt: HostRuntime) -> Result<(), Fail> {
         (CHARGED_KEYS, 9),
         (STOPPED, 5),
     ] {
-        expect_over_trees(&rt, rt.alloc(), &row, count)?;
+        expect_over_trees(&rt, rt.alloc(), &row, count);
     }
-    Ok(())
 }

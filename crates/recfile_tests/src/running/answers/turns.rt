@@ -11,7 +11,6 @@ use record_file::{
 };
 use std::alloc::Global;
 use std::process::Abort;
-use std::test::Fail;
 
 /// Whether the device refused the call.
 fn is_refused(answer: &Answer) -> bool {
@@ -37,68 +36,71 @@ fn undone_before(answer: &Answer) -> Option<u32> {
 /// What the call would have answered, had its rollback not been stopped after so many changes, by what going on
 /// with it answers.
 fn whole<T: Table>(
+    rt: &impl Abort,
     file: &mut RecordFile<T>,
     call: Call,
     undone: u32,
     faults: &mut String,
-) -> Result<Answer, Fail> {
+) -> Answer {
     let (Call::RollbackTo(tx, _) | Call::Abort(tx) | Call::Resume(tx)) = call else {
-        return Err(Fail::from("another call was stopped"));
+        panic!(rt; "another call was stopped");
     };
     let resumed = file.resume(tx);
-    push_answer(faults, &Answer::Resume(resumed))?;
+    push_answer(rt, faults, &Answer::Resume(resumed));
     let Ok(more) = resumed else {
-        return Err(Fail::from("a rollback was stopped twice"));
+        panic!(rt; "a rollback was stopped twice");
     };
     let all = undone.saturating_add(more);
-    Ok(match call {
+    match call {
         Call::RollbackTo(..) => Answer::RollbackTo(Ok(all)),
         Call::Abort(_) => Answer::Abort(Ok(all)),
         _ => Answer::Resume(Ok(all)),
-    })
+    }
 }
 
 /// Makes the call, once more where the device refused it, and goes on where it stopped its rollback. What was said of
 /// that goes to the text of the faults.
 fn persist<T: Table>(
+    rt: &impl Abort,
     file: &mut RecordFile<T>,
     call: &Call,
     faults: &mut String,
-) -> Result<Answer, Fail> {
+) -> Answer {
     let answer = make_call(file, *call);
     if is_refused(&answer) {
-        push_answer(faults, &answer)?;
-        return Ok(make_call(file, *call));
+        push_answer(rt, faults, &answer);
+        return make_call(file, *call);
     }
     match undone_before(&answer) {
         Some(undone) => {
-            push_answer(faults, &answer)?;
-            whole(file, *call, undone, faults)
+            push_answer(rt, faults, &answer);
+            whole(rt, file, *call, undone, faults)
         }
-        None => Ok(answer),
+        None => answer,
     }
 }
 
 /// Makes the calls so: what they answered in the end, a line each.
 fn persist_all<T: Table>(
+    rt: &impl Abort,
     alloc: Global,
     file: &mut RecordFile<T>,
     calls: &[Call],
     faults: &mut String,
-) -> Result<String, Fail> {
+) -> String {
     let mut text = String::new(alloc);
     for call in calls {
-        let answer = persist(file, call, faults)?;
-        push_answer(&mut text, &answer)?;
+        let answer = persist(rt, file, call, faults);
+        push_answer(rt, &mut text, &answer);
     }
-    Ok(text)
+    text
 }
 
 /// A file over the table.
-fn file_over<T: Table>(rt: &impl Abort, alloc: Global, table: T) -> Result<RecordFile<T>, Fail> {
-    let limits = Limits::new(9, 99, 9)?;
+fn file_over<T: Table>(rt: &impl Abort, alloc: Global, table: T) -> RecordFile<T> {
+    let limits = Limits::new(9, 99, 9).expect(rt, "no limits");
     assert!(rt; table.limit() == limits.records());
-    Ok(RecordFile::new(alloc, table, limits))
+    RecordFile::new(alloc, table, limits)
 }
 
 /// Makes the calls so over a new file in the table.
@@ -108,9 +110,9 @@ fn persist_over<T: Table>(
     table: T,
     calls: &[Call],
     faults: &mut String,
-) -> Result<String, Fail> {
-    let mut file = file_over(rt, alloc, table)?;
-    persist_all(alloc, &mut file, calls, faults)
+) -> String {
+    let mut file = file_over(rt, alloc, table);
+    persist_all(rt, alloc, &mut file, calls, faults)
 }
 
 /// Makes the calls so over the file of three records, in a store that fails at this read.
@@ -120,10 +122,10 @@ fn with_read_failing(
     number: u64,
     calls: &[Call],
     faults: &mut String,
-) -> Result<String, Fail> {
-    let store = store_of(rt, alloc, &three_records(), 0)?;
-    let reads = Vec::from_slice(alloc, &[number])?;
-    let table = open(alloc, FlakyStore::new(store, reads, Vec::new(alloc)))?;
+) -> String {
+    let store = store_of(rt, alloc, &three_records(), 0);
+    let reads = Vec::from_slice(alloc, &[number]).expect(rt, "no memory");
+    let table = open(rt, alloc, FlakyStore::new(store, reads, Vec::new(alloc)));
     persist_over(rt, alloc, table, calls, faults)
 }
 
@@ -136,32 +138,31 @@ fn fail_each_read(
     wanted: &str,
     first: u64,
     most: u64,
-) -> Result<String, Fail> {
+) -> String {
     let mut all = String::new(alloc);
     for number in first..most {
         let mut faults = String::new(alloc);
-        let text = with_read_failing(rt, alloc, number, calls, &mut faults)?;
+        let text = with_read_failing(rt, alloc, number, calls, &mut faults);
         assert_eq!(rt; (number, text.as_str()), (number, wanted));
         if faults.is_empty() {
-            return Ok(all);
+            return all;
         }
-        all.push_str(&faults)?;
+        all.push_str(&faults).expect(rt, "no memory");
     }
-    Err(Fail::from("a read failed each time"))
+    panic!(rt; "a read failed each time")
 }
 
 // Opening makes four reads, and they are good.
 #[test]
-fn each_read_fails_in_turn(rt: HostRuntime) -> Result<(), Fail> {
+fn each_read_fails_in_turn(rt: HostRuntime) {
     let script = "begin\nbegin\nput 1 a =1\nput 1 a =2\nput 2 c =3\nback 1 0\nlist\n";
     let wanted = "1\n2\nx\n1\nz\nOk(2)\na=x b=y c=3@2 \n";
     let faults =
         "Device\nDevice\nDevice\nDevice\nDevice\nErr(Stopped { undone: 0, left: 2, cause: Device })\nOk(2)\nErr(Stopped { undone: 1, left: 1, cause: Device })\nOk(1)\nDevice\n";
     let alloc = rt.alloc();
-    let calls = calls_of(alloc, script)?;
-    let all = fail_each_read(&rt, alloc, &calls, wanted, 5, 99)?;
+    let calls = calls_of(&rt, alloc, script);
+    let all = fail_each_read(&rt, alloc, &calls, wanted, 5, 99);
     assert_eq!(rt; all.as_str(), faults);
-    Ok(())
 }
 
 /// What the calls answer over a file in the table, in which no `set` fails.
@@ -171,9 +172,9 @@ fn answers_over<T: Table>(
     table: T,
     limits: Limits,
     calls: &[Call],
-) -> Result<String, Fail> {
-    let mut file = flaky_file(rt, alloc, table, limits, &[])?;
-    text_of(alloc, &answers_to(alloc, &mut file, calls)?)
+) -> String {
+    let mut file = flaky_file(rt, alloc, table, limits, &[]);
+    text_of(rt, alloc, &answers_to(rt, alloc, &mut file, calls))
 }
 
 /// Makes the row's calls so: the answers are these, and something is said of a failure if this `set` is one of so many.
@@ -185,14 +186,19 @@ fn expect_persisted<T: Table>(
     number: u64,
     sets: u64,
     wanted: &str,
-) -> Result<(), Fail> {
+) {
     let mut faults = String::new(alloc);
-    let text = persist_all(alloc, file, &calls_of(alloc, row.script)?, &mut faults)?;
+    let text = persist_all(
+        rt,
+        alloc,
+        file,
+        &calls_of(rt, alloc, row.script),
+        &mut faults,
+    );
     assert_eq!(rt;
         (row.name, number, text.as_str(), faults.is_empty()),
         (row.name, number, wanted, number > sets)
     );
-    Ok(())
 }
 
 /// Does so over the table with this `set` failing.
@@ -204,25 +210,19 @@ fn fail_set<T: Table>(
     number: u64,
     sets: u64,
     wanted: &str,
-) -> Result<(), Fail> {
+) {
     let (records, log_records, begins) = row.limits;
-    let limits = Limits::new(records, log_records, begins)?;
-    let mut file = flaky_file(rt, alloc, table, limits, &[number])?;
+    let limits = Limits::new(records, log_records, begins).expect(rt, "no limits");
+    let mut file = flaky_file(rt, alloc, table, limits, &[number]);
     expect_persisted(rt, alloc, &mut file, row, number, sets, wanted)
 }
 
 /// Does so over a sorted table and over a tree of order 1: the answers are those of a run in which none fails.
-fn fail_set_of_both(
-    rt: &impl Abort,
-    alloc: Global,
-    row: &Row<'_>,
-    number: u64,
-    sets: u64,
-) -> Result<(), Fail> {
+fn fail_set_of_both(rt: &impl Abort, alloc: Global, row: &Row<'_>, number: u64, sets: u64) {
     let (records, log_records, begins) = row.limits;
-    let limits = Limits::new(records, log_records, begins)?;
-    let calls = calls_of(alloc, row.script)?;
-    let wanted = answers_over(rt, alloc, SortedTable::new(alloc, limits), limits, &calls)?;
+    let limits = Limits::new(records, log_records, begins).expect(rt, "no limits");
+    let calls = calls_of(rt, alloc, row.script);
+    let wanted = answers_over(rt, alloc, SortedTable::new(alloc, limits), limits, &calls);
     fail_set(
         rt,
         alloc,
@@ -231,11 +231,11 @@ fn fail_set_of_both(
         number,
         sets,
         &wanted,
-    )?;
+    );
     fail_set(
         rt,
         alloc,
-        tree(alloc, 1, limits)?,
+        tree(rt, alloc, 1, limits),
         row,
         number,
         sets,
@@ -244,15 +244,14 @@ fn fail_set_of_both(
 }
 
 /// Does so with each `set` failing in turn, of which there are so many, and once with none failing.
-fn fail_each_set(rt: &impl Abort, alloc: Global, row: &Row<'_>, sets: u64) -> Result<(), Fail> {
+fn fail_each_set(rt: &impl Abort, alloc: Global, row: &Row<'_>, sets: u64) {
     for failed in 0..=sets {
-        fail_set_of_both(rt, alloc, row, failed.saturating_add(1), sets)?;
+        fail_set_of_both(rt, alloc, row, failed.saturating_add(1), sets);
     }
-    Ok(())
 }
 
 #[test]
-fn each_set_fails_in_turn(rt: HostRuntime) -> Result<(), Fail> {
+fn each_set_fails_in_turn(rt: HostRuntime) {
     for (row, sets) in [
         (COMMIT_BESIDE, 3),
         (BESIDE_A_ROOT, 4),
@@ -260,9 +259,8 @@ fn each_set_fails_in_turn(rt: HostRuntime) -> Result<(), Fail> {
         (CHARGED_KEYS, 4),
         (SPLITS, 20),
     ] {
-        fail_each_set(&rt, rt.alloc(), &row, sets)?;
+        fail_each_set(&rt, rt.alloc(), &row, sets);
     }
-    Ok(())
 }
 
 /// Runs the script over the file, in which no transaction is open then: the replies are these, and the table comes back.
@@ -272,93 +270,93 @@ fn expect_run<T: Table>(
     file: RecordFile<T>,
     script: &str,
     replies: &str,
-) -> Result<T, Fail> {
+) -> T {
     let mut file = file;
-    let (text, _) = run(alloc, &mut file, script)?;
+    let (text, _) = run(rt, alloc, &mut file, script);
     assert_eq!(rt; text.as_str(), replies);
     match file.into_table() {
-        Ok(table) => Ok(table),
-        Err(_) => Err(Fail::from("a transaction is open")),
+        Ok(table) => table,
+        Err(_) => panic!(rt; "a transaction is open"),
     }
 }
 
 /// Expects the table to have x at the key a alone, as a file over it lists it.
-fn expect_record<T: Table>(rt: &impl Abort, alloc: Global, table: T) -> Result<T, Fail> {
-    let file = file_over(rt, alloc, table)?;
+fn expect_record<T: Table>(rt: &impl Abort, alloc: Global, table: T) -> T {
+    let file = file_over(rt, alloc, table);
     expect_run(rt, alloc, file, "list\n", "- a =x\nok 1\n")
 }
 
 /// Puts x at the key a of an empty table in a transaction.
-fn with_record<T: Table>(rt: &impl Abort, alloc: Global, table: T) -> Result<T, Fail> {
-    let file = file_over(rt, alloc, table)?;
+fn with_record<T: Table>(rt: &impl Abort, alloc: Global, table: T) -> T {
+    let file = file_over(rt, alloc, table);
     let (script, replies) = ("begin\nput 1 a =x\ncommit 1\n", "ok 1\nok none\nok\n");
-    expect_record(rt, alloc, expect_run(rt, alloc, file, script, replies)?)
+    expect_record(rt, alloc, expect_run(rt, alloc, file, script, replies))
 }
 
 /// A table of order 1 in the store, in which a transaction has put x at the key a.
-fn filled<S: Store>(rt: &impl Abort, alloc: Global, store: S) -> Result<TreeTable<S>, Fail> {
-    match TreeTable::create(alloc, store, 1, Limits::new(9, 2, 1)?) {
+fn filled<S: Store>(rt: &impl Abort, alloc: Global, store: S) -> TreeTable<S> {
+    match TreeTable::create(
+        alloc,
+        store,
+        1,
+        Limits::new(9, 2, 1).expect(rt, "no limits"),
+    ) {
         Ok(table) => with_record(rt, alloc, table),
-        Err(_) => Err(Fail::from("the table isn't made")),
+        Err(_) => panic!(rt; "the table isn't made"),
     }
 }
 
 /// Expects a table that was not closed to have its record still, and to be closed again.
-fn expect_second_close<S: Store>(
-    rt: &impl Abort,
-    alloc: Global,
-    stop: CloseStop<S>,
-) -> Result<(), Fail> {
+fn expect_second_close<S: Store>(rt: &impl Abort, alloc: Global, stop: CloseStop<S>) {
     assert!(rt; stop.fault == WriteFault::Device);
-    match expect_record(rt, alloc, stop.table)?.close() {
+    match expect_record(rt, alloc, stop.table).close() {
         Ok(store) => {
-            expect_record(rt, alloc, open(alloc, store)?)?;
-            Ok(())
+            expect_record(rt, alloc, open(rt, alloc, store));
         }
-        Err(_) => Err(Fail::from("the second close failed")),
+        Err(_) => panic!(rt; "the second close failed"),
     }
 }
 
 /// Whether the store closes a table of one record at the first time. Else it does at the second.
-fn is_closed<S: Store>(rt: &impl Abort, alloc: Global, store: S) -> Result<bool, Fail> {
-    match filled(rt, alloc, store)?.close() {
-        Ok(_) => Ok(true),
+fn is_closed<S: Store>(rt: &impl Abort, alloc: Global, store: S) -> bool {
+    match filled(rt, alloc, store).close() {
+        Ok(_) => true,
         Err(stop) => {
-            expect_second_close(rt, alloc, stop)?;
-            Ok(false)
+            expect_second_close(rt, alloc, stop);
+            false
         }
     }
 }
 
 /// Closes a table of one record with each write, each lengthening and each sync failing in turn, until none fails, and
 /// answers how many failed.
-fn fail_each_write(rt: &impl Abort, alloc: Global, most: u64) -> Result<u64, Fail> {
+fn fail_each_write(rt: &impl Abort, alloc: Global, most: u64) -> u64 {
     for failed in 0..most {
-        let writes = Vec::from_slice(alloc, &[failed + 1])?;
-        let store = FlakyStore::new(store_of(rt, alloc, &[], 0)?, Vec::new(alloc), writes);
-        if is_closed(rt, alloc, store)? {
-            return Ok(failed);
+        let writes = Vec::from_slice(alloc, &[failed + 1]).expect(rt, "no memory");
+        let store = FlakyStore::new(store_of(rt, alloc, &[], 0), Vec::new(alloc), writes);
+        if is_closed(rt, alloc, store) {
+            return failed;
         }
     }
-    Err(Fail::from("a write failed each time"))
+    panic!(rt; "a write failed each time")
 }
 
 // The pages, the header twice, the page of the record, and three syncs.
 #[test]
-fn each_write_of_a_close_fails_in_turn(rt: HostRuntime) -> Result<(), Fail> {
-    assert_eq!(rt; fail_each_write(&rt, rt.alloc(), 99)?, 7);
-    Ok(())
+fn each_write_of_a_close_fails_in_turn(rt: HostRuntime) {
+    assert_eq!(rt; fail_each_write(&rt, rt.alloc(), 99), 7);
 }
 
 /// A session over the store's file: its replies and the line of its fault, and its status.
-fn session_in<S: Store>(alloc: Global, store: S, script: &str) -> Result<(String, u8), Fail> {
+fn session_in<S: Store>(rt: &impl Abort, alloc: Global, store: S, script: &str) -> (String, u8) {
     let mut reader = script.as_bytes();
     let (mut out, mut err) = (Vec::new(alloc), Vec::new(alloc));
-    let limits = Limits::new(9, 99, 9)?;
+    let limits = Limits::new(9, 99, 9).expect(rt, "no limits");
     let end = run_in(alloc, store, limits, &mut reader, &mut out, &mut err);
-    let mut text = String::from_utf8(out)?;
-    text.push_str(&String::from_utf8(err)?)?;
-    Ok((text, end.status))
+    let mut text = String::from_utf8(out).expect(rt, "no text");
+    text.push_str(&String::from_utf8(err).expect(rt, "no text"))
+        .expect(rt, "no memory");
+    (text, end.status)
 }
 
 /// The same over the file of three records, in a store that fails at these reads and writes.
@@ -368,16 +366,16 @@ fn session(
     reads: &[u64],
     writes: &[u64],
     script: &str,
-) -> Result<(String, u8), Fail> {
-    let reads = Vec::from_slice(alloc, reads)?;
-    let writes = Vec::from_slice(alloc, writes)?;
-    let store = FlakyStore::new(store_of(rt, alloc, &three_records(), 0)?, reads, writes);
-    session_in(alloc, store, script)
+) -> (String, u8) {
+    let reads = Vec::from_slice(alloc, reads).expect(rt, "no memory");
+    let writes = Vec::from_slice(alloc, writes).expect(rt, "no memory");
+    let store = FlakyStore::new(store_of(rt, alloc, &three_records(), 0), reads, writes);
+    session_in(rt, alloc, store, script)
 }
 
 // Reads 1 to 4 are those of opening, 5 to 8 those of the script, and the last two those of ending its transaction.
 #[test]
-fn each_read_of_a_session_fails_in_turn(rt: HostRuntime) -> Result<(), Fail> {
+fn each_read_of_a_session_fails_in_turn(rt: HostRuntime) {
     let script = "begin\nput 1 a =1\nput 1 c =2\n";
     for (number, text, status) in [
         (1, "recfile: Device\n", 1),
@@ -392,58 +390,50 @@ fn each_read_of_a_session_fails_in_turn(rt: HostRuntime) -> Result<(), Fail> {
         (10, "ok 1\nok =x\nok =z\nrecfile: Stopped 1 1 1 Device\n", 4),
         (11, "ok 1\nok =x\nok =z\n", 0),
     ] {
-        let (told, end) = session(&rt, rt.alloc(), &[number], &[], script)?;
+        let (told, end) = session(&rt, rt.alloc(), &[number], &[], script);
         assert_eq!(rt; (number, told.as_str(), end), (number, text, status));
     }
-    Ok(())
 }
 
 #[test]
-fn each_write_of_a_session_fails_in_turn(rt: HostRuntime) -> Result<(), Fail> {
+fn each_write_of_a_session_fails_in_turn(rt: HostRuntime) {
     let script = "begin\nput 1 a =1\ncommit 1\n";
     for number in 1..=7 {
-        let (told, end) = session(&rt, rt.alloc(), &[], &[number], script)?;
+        let (told, end) = session(&rt, rt.alloc(), &[], &[number], script);
         assert_eq!(rt;
             (number, told.as_str(), end),
             (number, "ok 1\nok =x\nok\nrecfile: Device\n", 1)
         );
     }
-    let (told, end) = session(&rt, rt.alloc(), &[], &[8], script)?;
+    let (told, end) = session(&rt, rt.alloc(), &[], &[8], script);
     assert_eq!(rt; (told.as_str(), end), ("ok 1\nok =x\nok\n", 0));
-    Ok(())
 }
 
 /// The replies to the script over a new file in the table.
-fn replies_over<T: Table>(
-    rt: &impl Abort,
-    alloc: Global,
-    table: T,
-    script: &str,
-) -> Result<String, Fail> {
-    let mut file = file_over(rt, alloc, table)?;
-    let (text, _) = run(alloc, &mut file, script)?;
-    Ok(text)
+fn replies_over<T: Table>(rt: &impl Abort, alloc: Global, table: T, script: &str) -> String {
+    let mut file = file_over(rt, alloc, table);
+    let (text, _) = run(rt, alloc, &mut file, script);
+    text
 }
 
 /// A closed file of one record.
-fn closed<S: Store>(rt: &impl Abort, alloc: Global, store: S) -> Result<S, Fail> {
-    match filled(rt, alloc, store)?.close() {
-        Ok(store) => Ok(store),
-        Err(_) => Err(Fail::from("the table isn't closed")),
+fn closed<S: Store>(rt: &impl Abort, alloc: Global, store: S) -> S {
+    match filled(rt, alloc, store).close() {
+        Ok(store) => store,
+        Err(_) => panic!(rt; "the table isn't closed"),
     }
 }
 
 // Opening makes two reads.
 #[test]
-fn a_look_and_a_list_are_made_again(rt: HostRuntime) -> Result<(), Fail> {
+fn a_look_and_a_list_are_made_again(rt: HostRuntime) {
     let alloc = rt.alloc();
-    let store = closed(&rt, alloc, store_of(&rt, alloc, &[], 0)?)?;
-    let reads = Vec::from_slice(alloc, &[3, 5])?;
-    let table = open(alloc, FlakyStore::new(store, reads, Vec::new(alloc)))?;
-    let text = replies_over(&rt, alloc, table, "begin\nget 1 a\nget 1 a\nlist\nlist\n")?;
+    let store = closed(&rt, alloc, store_of(&rt, alloc, &[], 0));
+    let reads = Vec::from_slice(alloc, &[3, 5]).expect(&rt, "no memory");
+    let table = open(&rt, alloc, FlakyStore::new(store, reads, Vec::new(alloc)));
+    let text = replies_over(&rt, alloc, table, "begin\nget 1 a\nget 1 a\nlist\nlist\n");
     assert_eq!(rt;
         text.as_str(),
         "ok 1\nno Device\nok =x\nno Device\n- a =x\nok 1\n"
     );
-    Ok(())
 }

@@ -4,7 +4,6 @@ use rec_types::{Limits, SortedTable, Table};
 use record_file::RecordFile;
 use std::alloc::Global;
 use std::process::Abort;
-use std::test::Fail;
 
 /// A script over a table that lies at calls with these numbers, for so many records.
 #[derive(Clone, Copy)]
@@ -22,39 +21,34 @@ fn expect_replies<T: Table>(
     alloc: Global,
     file: &mut RecordFile<T>,
     row: &Row<'_>,
-) -> Result<(), Fail> {
-    let (text, end) = run(alloc, file, row.script)?;
+) {
+    let (text, end) = run(rt, alloc, file, row.script);
     assert_eq!(rt; (row.name, text.as_str()), (row.name, row.replies));
     assert!(rt; end.is_ok());
-    Ok(())
 }
 
 /// Expects them over a new file in the table.
-fn expect_over<T: Table>(
-    rt: &impl Abort,
-    alloc: Global,
-    inner: T,
-    limits: Limits,
-    row: &Row<'_>,
-) -> Result<(), Fail> {
-    let table = LyingTable::new(inner, Vec::from_slice(alloc, row.lies)?);
+fn expect_over<T: Table>(rt: &impl Abort, alloc: Global, inner: T, limits: Limits, row: &Row<'_>) {
+    let table = LyingTable::new(
+        inner,
+        Vec::from_slice(alloc, row.lies).expect(rt, "no memory"),
+    );
     assert!(rt; table.limit() == limits.records());
     let mut file = RecordFile::new(alloc, table, limits);
     expect_replies(rt, alloc, &mut file, row)
 }
 
 /// Expects them over a sorted table, and over a tree of order 1.
-fn expect_row(rt: &impl Abort, alloc: Global, row: &Row<'_>) -> Result<(), Fail> {
-    let limits = Limits::new(row.records, 99, 9)?;
-    expect_over(rt, alloc, SortedTable::new(alloc, limits), limits, row)?;
-    expect_over(rt, alloc, tree(alloc, 1, limits)?, limits, row)
+fn expect_row(rt: &impl Abort, alloc: Global, row: &Row<'_>) {
+    let limits = Limits::new(row.records, 99, 9).expect(rt, "no limits");
+    expect_over(rt, alloc, SortedTable::new(alloc, limits), limits, row);
+    expect_over(rt, alloc, tree(rt, alloc, 1, limits), limits, row)
 }
 
-fn expect_rows(rt: &impl Abort, alloc: Global, rows: &[Row<'_>]) -> Result<(), Fail> {
+fn expect_rows(rt: &impl Abort, alloc: Global, rows: &[Row<'_>]) {
     for row in rows {
-        expect_row(rt, alloc, row)?;
+        expect_row(rt, alloc, row);
     }
-    Ok(())
 }
 
 // Each refused change is made again, and then its list and its log are those of one change.
@@ -145,8 +139,8 @@ const STOPPED_ROLLBACKS: [Row<'static>; 3] = [
 ];
 
 #[test]
-fn what_a_lie_leaves(rt: HostRuntime) -> Result<(), Fail> {
-    expect_rows(&rt, rt.alloc(), &CHANGES)?;
-    expect_rows(&rt, rt.alloc(), &DAMAGED_PAGES)?;
+fn what_a_lie_leaves(rt: HostRuntime) {
+    expect_rows(&rt, rt.alloc(), &CHANGES);
+    expect_rows(&rt, rt.alloc(), &DAMAGED_PAGES);
     expect_rows(&rt, rt.alloc(), &STOPPED_ROLLBACKS)
 }
