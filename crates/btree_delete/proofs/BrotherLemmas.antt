@@ -1,4 +1,4 @@
--- The brother of a underfull son, and what treating with it comes to.
+-- The brother of an underfull son, and what treating with it comes to.
 use Rattle.std.proofs.Common.{◌≡◌, ℕ, suc, ◌<◌, ◌≤◌, inl, inr, false, List, [], ◌∷◌, ◌++◌, length, refl, ap, sym, ◌∙◌, subst, arith, length-append}
 use Rattle.page_store.specs.PageMap.{PageMap, write_page, after, is_freed}
 use Rattle.btree_node.specs.declared.node.Node.{Node}

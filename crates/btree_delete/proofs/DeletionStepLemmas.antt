@@ -43,7 +43,7 @@ AskLeft k old level visited b F i X =
 pair_in : (t : ℕ) (us upre lefts rights upost : List ℕ) → us ≡ upre ++ ((lefts ++ rights) ++ upost) → IsIn t (lefts ++ rights) → IsIn t us
 pair_in t us upre lefts rights upost us_is is = subst (IsIn t) (sym us_is) (in_right t upre ((lefts ++ rights) ++ upost) (in_left t (lefts ++ rights) upost is))
 
--- a underfull son has a brother, so that the question has an answer
+-- an underfull son has a brother, so that the question has an answer
 pub ask : (X : Type 0) (k : ℕ) (old mid : PageMap) (visited : List ℕ) (lo hi h level p s : ℕ) (node F : Node) (es : List Element) (us : List ℕ) (b : Bounds) (i : ℕ) → suc h ≡ level → 0 < length F.elements.items → i ≤ length F.elements.items → s ≡ son_at F i → Between b es
     → Broken k old mid visited lo hi h p s node F es us → AskRight k old level visited b F i (λ n. X) → AskLeft k old level visited b F i (λ j n. X) → X
 ask X k old mid visited lo hi h level p s node F es us b i level_is some low s_is between broken right left =

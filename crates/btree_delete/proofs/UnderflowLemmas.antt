@@ -1,4 +1,4 @@
--- What stands below a father once a underfull son was treated.
+-- What stands below a father once an underfull son was treated.
 use Rattle.std.proofs.Common.{◌≡◌, ℕ, suc, ◌+◌, ◌<◌, ◌≤◌, ⊎_elim, inl, inr, Some, None, List, [], ◌∷◌, ◌++◌, length, set, refl, ap, sym, ◌∙◌, subst, arith, length-append}
 use Rattle.std.specs.List.{remove}
 use Rattle.std.proofs.lemmas.List.{length-take, length-drop, get_or_default}

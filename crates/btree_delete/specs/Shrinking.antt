@@ -34,7 +34,7 @@ WritesOrHandsUp k writes writes' n removed node (Whole e) =
 WritesOrHandsUp k writes writes' n removed node (Underfull e underfull) =
     (e ≡ removed) × (length node.elements.items < k) × (underfull ≡ node) × (writes' ≡ writes)
 
--- a underfull node goes up, its page is not touched
+-- an underfull node goes up, its page is not touched
 abbrev pub UnderfullGoesUp : ℕ → ℕ → Bounds → ℕ → List (ℕ × List ℕ) → List ℕ → Shrunk → Type 0
 UnderfullGoesUp k height bounds n writes freed (Whole e) = Unit {0}
 UnderfullGoesUp k height bounds n writes freed (Underfull e node) =
@@ -78,7 +78,7 @@ pub record RemovesBelow (head : HeadPage) (change : PagesFreed) (es : List Eleme
   pub drops : Drops head change es us key g
   pub unvisited : StaysUnvisited visited.before visited.now us
 
--- what goes up from a deletion: the element that went, and a underfull node of what is left; only a given key may be absent
+-- what goes up from a deletion: the element that went, and an underfull node of what is left; only a given key may be absent
 abbrev pub MayGoUp : Subtree → Option (List ℕ) → DoneSoFar → Option Shrunk → Type 0
 MayGoUp tree key done None = IsSome key
 MayGoUp tree key done (Some g) =

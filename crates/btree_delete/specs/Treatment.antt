@@ -1,4 +1,4 @@
--- How a underfull page is treated with a brother.
+-- How an underfull page is treated with a brother.
 use Rattle.std.specs.Prelude.{◌≡◌, ℕ, suc, ◌*◌, ◌<◌, ◌≤◌, ◌⊎◌, [], ◌∷◌, ◌++◌, slice_index_or, slice_set}
 use Rattle.std.specs.List.{remove}
 use Rattle.btree_node.specs.declared.node.Node.{Node}

@@ -26,7 +26,7 @@ use page_store::{PageEdit, Pages, Store};
 use rec_types::{Key, Memory, Record};
 
 /// What the removal of an element below a page came to: the element, and the page's node where it is
-/// short. A underfull node has fewer keys than a page may and is not written: its page is treated, freed,
+/// short. An underfull node has fewer keys than a page may and is not written: its page is treated, freed,
 /// or the root.
 #[derive(Drop)]
 pub(crate) enum Shrunk {
@@ -34,7 +34,7 @@ pub(crate) enum Shrunk {
     Underfull((Key, Record), Node),
 }
 
-/// Writes a node as page n, but for a underfull one, which goes up.
+/// Writes a node as page n, but for an underfull one, which goes up.
 fn settle(
     edit: &mut PageEdit,
     order: u16,
@@ -213,18 +213,17 @@ fn delete_here<S: Store>(
         return Ok(settle(edit, tree.order, tree.page, removed, node)?);
     }
     let behind = tree_of_son(tree, &node, i + 1);
-    match delete_below(pages, edit, visited, &behind, &None)? {
-        Some(Shrunk::Whole(next)) => {
+    match delete_below(pages, edit, visited, &behind, &None)?.unwrap() {
+        Shrunk::Whole(next) => {
             set_element(&mut node, i, next);
             Ok(settle(edit, tree.order, tree.page, removed, node)?)
         }
-        Some(Shrunk::Underfull(next, son)) => {
+        Shrunk::Underfull(next, son) => {
             set_element(&mut node, i, next);
             let underfull = (removed, son);
             let shrunk = treat_and_settle(pages, edit, visited, tree, node, i + 1, underfull)?;
             Ok(shrunk)
         }
-        None => unreachable!(),
     }
 }
 

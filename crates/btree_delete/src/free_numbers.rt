@@ -20,9 +20,7 @@ pub(crate) fn free_numbers(alloc: Global, reached: &[bool]) -> Result<BTreeSet<u
         if reached[n] {
             continue;
         }
-        let Ok(_) = free.insert(n as u32) else {
-            return Err(Memory);
-        };
+        free.insert(n as u32)?;
     }
     Ok(free)
 }

@@ -66,10 +66,7 @@ fn height_of(leaf: Option<u32>) -> u32
     ensures value { result ≡ height_of leaf }
     ensures most { result ≤ greatest_height }
 {
-    match leaf {
-        Some(level) => GREATEST_HEIGHT.saturating_sub(level),
-        None => 0,
-    }
+    leaf.map_or(0, |level| GREATEST_HEIGHT.saturating_sub(level))
 }
 
 /// What a walk sees of the whole tree of a root.
@@ -95,9 +92,7 @@ fn survey_root<S: Store>(
     ensures unchanged { OnlyReads pages.old pages.new }
 {
     let count = pages.page_count() as usize;
-    let Ok(reached) = vec![in alloc; false; count] else {
-        return Err(TreeFault::Memory);
-    };
+    let reached = vec![in alloc; false; count]?;
     let mut survey = Survey::new(reached);
     if root == 0 {
         return Ok(survey);

@@ -50,9 +50,7 @@ pub(crate) fn check_length<S: Store>(store: &mut S) -> Result<u32, OpenFault>
     ensures reads { S.reads store.new ≡ S.reads store.old }
     ensures failures { S.failures store.new ≡ counted (S.failures store.old) (is_device result) }
 {
-    let Ok(shape) = store.shape() else {
-        return Err(OpenFault::Device);
-    };
+    let shape = store.shape().map_err(|_| OpenFault::Device)?;
     if shape.tail != 0 || shape.pages == 0 || shape.pages > u64::from(GREATEST_PAGE_COUNT) {
         return Err(OpenFault::BadLength);
     }
@@ -92,9 +90,7 @@ pub(crate) fn check_header<S: Store>(store: &mut S, pages: u32) -> Result<Header
     ensures failures { S.failures store.new ≡ counted (S.failures store.old) (is_device result) }
 {
     let mut page = [0; PAGE_WIDTH];
-    if store.read(0, &mut page).is_err() {
-        return Err(OpenFault::Device);
-    }
+    store.read(0, &mut page).map_err(|_| OpenFault::Device)?;
     let header = read_header(&page).map_err(header_fault)?;
     if header.pages != pages || header.root >= pages {
         return Err(OpenFault::BadHeader);

@@ -164,9 +164,7 @@ fn read_page<S: Store>(
         Err(FetchFault::Device) => return Err(TreeFault::Device),
         Err(FetchFault::OutOfRange) => return Err(TreeFault::Damaged(n)),
     }
-    if decode_into(&page, order, node).is_err() {
-        return Err(TreeFault::Damaged(n));
-    }
+    decode_into(&page, order, node).map_err(|_| TreeFault::Damaged(n))?;
     let elements = node.elements.as_slice();
     if elements.len() < least as usize || !are_within(bounds, elements) {
         return Err(TreeFault::Damaged(n));

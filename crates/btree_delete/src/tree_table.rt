@@ -92,9 +92,7 @@ fn check_empty<S: Store>(store: &mut S) -> Result<(), CreateFault>
     ensures failures { S.failures store.new
         ≡ counted (S.failures store.old) (is_create_device result) }
 {
-    let Ok(shape) = store.shape() else {
-        return Err(CreateFault::Device);
-    };
+    let shape = store.shape().map_err(|_| CreateFault::Device)?;
     if shape.pages != 0 || shape.tail != 0 {
         return Err(CreateFault::NotEmpty);
     }

@@ -243,10 +243,7 @@ fn grow_in_one<S: Store>(
 fn grown_in_one(old: Option<Record>) -> Grown
     ensures { result ≡ in_one old }
 {
-    match old {
-        Some(old) => Grown::Replaced(old),
-        None => Grown::Fits,
-    }
+    old.map_or(Grown::Fits, Grown::Replaced)
 }
 
 /// The tree after an insertion below its root. Where the root was split, a new root stands above its

@@ -72,9 +72,7 @@ fn take_into(
     ensures fault { IfErr result (λ fault. fault ≡ TreeFault.Damaged n) }
     ensures within { OnOk result (AreWithin bounds.now node.new.elements.items) }
 {
-    if decode_into(page, order, node).is_err() {
-        return Err(TreeFault::Damaged(n));
-    }
+    decode_into(page, order, node).map_err(|_| TreeFault::Damaged(n))?;
     if node.kind != kind || !are_within(bounds, node.elements.as_slice()) {
         return Err(TreeFault::Damaged(n));
     }

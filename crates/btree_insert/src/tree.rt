@@ -1,4 +1,5 @@
 use rec_types::Memory;
+use std::alloc::AllocError;
 use thiserror::Error;
 
 /// The most levels of a tree.
@@ -37,6 +38,17 @@ pub enum TreeFault {
     Damaged(u32),
     #[error("no memory")]
     Memory,
+}
+
+impl From<AllocError> for TreeFault {
+    ghost use Rattle.std.specs.Prelude.{◌≡◌};
+    ghost use Rattle.btree_insert.specs.declared.tree.TreeFault.TheVariants.{Memory as OutOfMemory};
+
+    ghost from_gives = { λ _ fault. fault ≡ OutOfMemory };
+
+    fn from(_: AllocError) -> TreeFault {
+        TreeFault::from(Memory)
+    }
 }
 
 impl From<Memory> for TreeFault {

@@ -1,5 +1,6 @@
 -- The words of a line from its first one on.
-use Rattle.std.proofs.Common.{◌≡◌, ℕ, ◌+◌, ◌-◌, ◌<◌, ◌≤◌, zero, suc, Bool, true, false, not, cond, List, [], ◌∷◌, length, take, drop, get_or, Some, None, refl, sym, ap, subst, ◌∙◌, arith}
+use Rattle.std.proofs.Common.{◌≡◌, ℕ, ◌+◌, ◌-◌, ◌<◌, ◌≤◌, zero, suc, Bool, true, false, not, cond, List, [], ◌∷◌, length, take, drop, get_or, Option, Some, None, refl, sym, ap, subst, ◌∙◌, arith}
+use Rattle.std.specs.Option.{unwrap_or}
 use Rattle.std.specs.List.{slice_split, onto_first, position, filter}
 use Rattle.std.proofs.lemmas.List.Quantifiers.{position-Some}
 use Rattle.std.proofs.lemmas.List.{drop_all}
@@ -44,6 +45,11 @@ skip_some xs i is =
 -- a text of spaces has no word
 pub skip_none : (xs : List ℕ) → position no_space xs ≡ None → words_of (take (length xs - length xs) (drop (length xs) xs)) ≡ words_of xs
 skip_none xs is = ap words_of (rest_cut xs (length xs)) ∙ words_skip xs (length xs) (omega arith) (λ k lt. not_false (is_space (get_or xs k 0)) (all_fail no_space xs is k lt))
+
+-- a text from its first byte on that is no space, and from its end where there is none
+pub skipped : (xs : List ℕ) (at : Option ℕ) → position no_space xs ≡ at → let i = unwrap_or at (length xs) in (words_of (take (length xs - i) (drop i xs)) ≡ words_of xs) × StartsWord (take (length xs - i) (drop i xs))
+skipped xs (Some i) is = skip_some xs i is
+skipped xs None is = (skip_none xs is, subst StartsWord (sym (rest_cut xs (length xs) ∙ drop_all (length xs) xs (omega arith))) tt)
 
 taken_word : (xs : List ℕ) (i : ℕ) → StartsWord xs → i < length xs → position is_space xs ≡ Some i → is_word (take i xs) ≡ true
 taken_word [] i starts lt is = absurd (omega arith)

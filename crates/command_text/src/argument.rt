@@ -62,9 +62,7 @@ fn decoded<const N: usize>(word: &[u8]) -> Option<ArrayVec<u8, N>>
 {
     let mut bytes = ArrayVec::new();
     for byte in percent_decode(word) {
-        if bytes.try_push(byte).is_err() {
-            return None;
-        }
+        bytes.try_push(byte).ok()?;
     }
     Some(bytes)
 }
@@ -98,10 +96,8 @@ pub fn key_at(word: &[u8]) -> Result<Key, LineFault>
     if !has_percent(word) {
         return key_of_bytes(word);
     }
-    match decoded::<KEY_WIDTH>(word) {
-        Some(bytes) => key_of_bytes(&bytes),
-        None => Err(LineFault::KeyTooLong),
-    }
+    let bytes = decoded::<KEY_WIDTH>(word).ok_or(LineFault::KeyTooLong)?;
+    key_of_bytes(&bytes)
 }
 
 // The record whose bytes stand escaped. Fault: RecordTooLong.
@@ -111,18 +107,14 @@ fn escaped_record(escaped: &[u8]) -> Result<Record, LineFault>
     if !has_percent(escaped) {
         return record_of_bytes(escaped);
     }
-    match decoded::<RECORD_WIDTH>(escaped) {
-        Some(bytes) => record_of_bytes(&bytes),
-        None => Err(LineFault::RecordTooLong),
-    }
+    let bytes = decoded::<RECORD_WIDTH>(escaped).ok_or(LineFault::RecordTooLong)?;
+    record_of_bytes(&bytes)
 }
 
 /// The record that a word with its mark stands for. Faults: NoRecordMark, RecordTooLong.
 pub fn record_at(word: &[u8]) -> Result<Record, LineFault>
     ensures { result ≡ record_at word.now }
 {
-    match word.strip_prefix(b"=") {
-        Some(escaped) => escaped_record(escaped),
-        None => Err(LineFault::NoRecordMark),
-    }
+    let escaped = word.strip_prefix(b"=").ok_or(LineFault::NoRecordMark)?;
+    escaped_record(escaped)
 }

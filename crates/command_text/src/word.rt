@@ -23,10 +23,7 @@ fn skip_spaces(text: &[u8]) -> &[u8]
     ensures words { words_of result.now ≡ words_of text.now }
     ensures first { StartsWord result.now }
 {
-    match first_byte(text) {
-        Some(at) => &text[at..],
-        None => &text[text.len()..],
-    }
+    &text[first_byte(text).unwrap_or(text.len())..]
 }
 
 /// The first word of a line, and what comes after it.
@@ -59,9 +56,7 @@ pub fn alone(text: &[u8], command: Command) -> Result<Option<Command>, LineFault
 pub fn one_word(text: &[u8]) -> Result<&[u8], LineFault>
     ensures { read_as (λ w. w.now) result ≡ one_of (words_of text.now) }
 {
-    let Some((first, rest)) = next_word(text) else {
-        return Err(LineFault::WordCount);
-    };
+    let (first, rest) = next_word(text).ok_or(LineFault::WordCount)?;
     match next_word(rest) {
         None => Ok(first),
         Some(_) => Err(LineFault::WordCount),
@@ -72,9 +67,7 @@ pub fn one_word(text: &[u8]) -> Result<&[u8], LineFault>
 pub fn two_words(text: &[u8]) -> Result<(&[u8], &[u8]), LineFault>
     ensures { read_as (λ p. (p.0.now, p.1.now)) result ≡ two_of (words_of text.now) }
 {
-    let Some((first, rest)) = next_word(text) else {
-        return Err(LineFault::WordCount);
-    };
+    let (first, rest) = next_word(text).ok_or(LineFault::WordCount)?;
     Ok((first, one_word(rest)?))
 }
 
@@ -82,9 +75,7 @@ pub fn two_words(text: &[u8]) -> Result<(&[u8], &[u8]), LineFault>
 pub fn three_words(text: &[u8]) -> Result<(&[u8], &[u8], &[u8]), LineFault>
     ensures { read_as (λ p. (p.0.now, p.1.now, p.2.now)) result ≡ three_of (words_of text.now) }
 {
-    let Some((first, rest)) = next_word(text) else {
-        return Err(LineFault::WordCount);
-    };
+    let (first, rest) = next_word(text).ok_or(LineFault::WordCount)?;
     let (second, third) = two_words(rest)?;
     Ok((first, second, third))
 }

@@ -59,14 +59,8 @@ impl<F: OpenFile + FileExt + Drop> FileStore<F> {
         ensures tail { IfOk result (λ store. store.tail < page_width) }
         ensures fault { IfErr result (λ fault. fault ≡ StoreFault.Failed) }
     {
-        let opened = OpenOptions::new().read(true).write(true).open(rt, path);
-        let Ok(file) = opened else {
-            return Err(StoreFault::Failed);
-        };
-        let Ok(metadata) = file.metadata() else {
-            return Err(StoreFault::Failed);
-        };
-        let len = metadata.len();
+        let file = OpenOptions::new().read(true).write(true).open(rt, path)?;
+        let len = file.metadata()?.len();
         Ok(FileStore {
             file,
             pages: len / PAGE_BYTES,
@@ -89,14 +83,11 @@ impl<F: OpenFile + FileExt + Drop> FileStore<F> {
         }) }
         ensures fault { IfErr result (λ fault. fault ≡ StoreFault.Failed) }
     {
-        let created = OpenOptions::new()
+        let file = OpenOptions::new()
             .read(true)
             .write(true)
             .create_new(true)
-            .open(rt, path);
-        let Ok(file) = created else {
-            return Err(StoreFault::Failed);
-        };
+            .open(rt, path)?;
         Ok(FileStore {
             file,
             pages: 0,

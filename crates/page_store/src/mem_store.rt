@@ -98,9 +98,7 @@ impl Store for MemStore {
 
     fn set_pages(&mut self, n: u32) -> Result<(), StoreFault> {
         count_up(&mut self.writes);
-        if add_blank_pages(&mut self.pages, n).is_err() {
-            return Err(StoreFault::Memory);
-        }
+        add_blank_pages(&mut self.pages, n).map_err(|_| StoreFault::Memory)?;
         self.tail = 0;
         Ok(())
     }

@@ -28,10 +28,7 @@ pub(crate) fn changed_page(changed: &[Slot], n: u32) -> Option<&[u8; PAGE_WIDTH]
     if at >= changed.len() {
         return None;
     }
-    match &changed[at] {
-        Some(page) => Some(page),
-        None => None,
-    }
+    changed[at].as_deref()
 }
 
 /// Memory of its own for each page to write that isn't in memory. Fault: Memory.
@@ -49,12 +46,7 @@ pub(crate) fn boxed(
         if changed_page(changed, *n).is_some() {
             continue;
         }
-        let Ok(page) = Box::new(alloc, *page) else {
-            return Err(Memory);
-        };
-        if pages.push((*n, page)).is_err() {
-            return Err(Memory);
-        }
+        pages.push((*n, Box::new(alloc, *page)?))?;
     }
     Ok(pages)
 }
@@ -74,13 +66,9 @@ pub(crate) fn make_slots(changed: &mut Vec<Slot>, count: u32) -> Result<(), Memo
 {
     let len = changed.len();
     let more = (count as usize).saturating_sub(len);
-    if changed.reserve(more).is_err() {
-        return Err(Memory);
-    }
+    changed.reserve(more)?;
     for _ in 0..more {
-        if changed.push(None).is_err() {
-            return Err(Memory);
-        }
+        changed.push(None)?;
     }
     Ok(())
 }

@@ -1,3 +1,4 @@
+use std::io;
 use thiserror::Error;
 
 /// The length of a store: whole pages, and the bytes after them.
@@ -14,4 +15,15 @@ pub enum StoreFault {
     Failed,
     #[error("out of memory")]
     Memory,
+}
+
+impl From<io::Error> for StoreFault {
+    ghost use Rattle.std.specs.Prelude.{◌≡◌};
+    ghost use Rattle.page_store.specs.declared.store_fault.StoreFault.TheVariants.{Failed};
+
+    ghost from_gives = { λ _ fault. fault ≡ Failed };
+
+    fn from(_: io::Error) -> StoreFault {
+        StoreFault::Failed
+    }
 }

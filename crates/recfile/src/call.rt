@@ -12,10 +12,7 @@ fn list<T: Table>(file: &mut RecordFile<T>) -> Reply
     ensures { HasReply (seen T.TableState file.old) (Ok commands.List) result
         (seen T.TableState file.new) }
 {
-    match file.entries() {
-        Ok(entries) => Reply::List(Ok(EntryList::new(entries))),
-        Err(fault) => Reply::List(Err(fault)),
-    }
+    Reply::List(file.entries().map(EntryList::new))
 }
 
 // The keys that a transaction owns.
@@ -23,10 +20,7 @@ fn keys<T: Table>(file: &mut RecordFile<T>, tx: TxId) -> Reply
     ensures { HasReply (seen T.TableState file.old) (Ok (commands.Keys tx)) result
         (seen T.TableState file.new) }
 {
-    match file.keys_of(tx) {
-        Ok(keys) => Reply::Keys(Ok(KeyList::new(keys))),
-        Err(fault) => Reply::Keys(Err(fault)),
-    }
+    Reply::Keys(file.keys_of(tx).map(KeyList::new))
 }
 
 /// Makes the call that a command asks for.

@@ -91,9 +91,7 @@ fn close_file<S: Store, E: Write>(
         (λ s. IsClosed (S.pages s) (S.tail s) file.table.tree (table_contents file.table)
         × (result.status ≡ (if script_fault then 3 else 0))) }
 {
-    let Ok(table) = file.into_table() else {
-        unreachable!()
-    };
+    let table = file.into_table().unwrap();
     match table.close() {
         Ok(store) => FileEnd {
             status: exit_status(false, false, script_fault),

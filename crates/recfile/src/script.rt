@@ -63,9 +63,9 @@ fn read_script<L: Ledger, R: Read>(
             Err(_) => return Err(ScriptFault::ReadFault),
             Ok(0) => return Ok(script),
             Ok(n) => {
-                if script.extend_from_slice(&chunk[..n]).is_err() {
-                    return Err(ScriptFault::Memory { done: 0 });
-                }
+                script
+                    .extend_from_slice(&chunk[..n])
+                    .map_err(|_| ScriptFault::Memory { done: 0 })?;
             }
         }
     }
@@ -172,9 +172,7 @@ fn send<W: Write>(alloc: Global, writer: &mut W, reply: Reply, done: u32) -> Res
     ensures err { IfErr result
         (IsUnsent (W.contents writer.old) (W.contents writer.new) done (text_of reply)) }
 {
-    let Ok(text) = write_reply(alloc, &reply) else {
-        return Err(ScriptFault::Memory { done });
-    };
+    let text = write_reply(alloc, &reply).map_err(|_| ScriptFault::Memory { done })?;
     write_text(writer, &text).map_err(|_| ScriptFault::WriteFault { done })
 }
 

@@ -157,9 +157,8 @@ fn path_of<'a>(found: &ArgMatches<'a>) -> &'a str {
     found.get_str("FILE").unwrap_or("")
 }
 
-/// What the words ask for; the first is the program's name.
-pub fn read_words<'a>(alloc: Global, words: &'a [&'a str]) -> Result<Task<'a>, UsageFault> {
-    let matches = program(alloc)?.try_get_matches_from(words)?;
+// What was asked for: with no command, the same as with memory.
+fn task_of<'a>(matches: &ArgMatches<'a>) -> Result<Task<'a>, UsageFault> {
     match matches.subcommand() {
         Some(("create", found)) => Ok(Task::Create {
             order: found.get_one::<u16>("order").unwrap_or(0),
@@ -179,4 +178,10 @@ pub fn read_words<'a>(alloc: Global, words: &'a [&'a str]) -> Result<Task<'a>, U
             limits: greatest_limits(),
         }),
     }
+}
+
+/// What the words ask for; the first is the program's name.
+pub fn read_words<'a>(alloc: Global, words: &'a [&'a str]) -> Result<Task<'a>, UsageFault> {
+    let matches = program(alloc)?.try_get_matches_from(words)?;
+    task_of(&matches)
 }

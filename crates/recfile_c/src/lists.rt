@@ -17,10 +17,7 @@ use std::alloc::Global;
 fn list_in<X: Drop, E: Drop>(alloc: Global, answer: Result<Vec<X>, E>) -> Vec<X>
     ensures { result.items ≡ list_in (listed answer) }
 {
-    match answer {
-        Ok(list) => list,
-        Err(_) => Vec::new(alloc),
-    }
+    answer.unwrap_or(Vec::new(alloc))
 }
 
 // Lists the records, and keeps the list.

@@ -16,20 +16,14 @@ use std::alloc::Global;
 fn number_in<E>(answer: &Result<u32, E>) -> u32
     ensures { result ≡ number_in answer.now }
 {
-    match answer {
-        Ok(n) => *n,
-        Err(_) => 0,
-    }
+    answer.as_ref().map_or(0, |n| *n)
 }
 
 // The transaction that was begun, and else 0.
 fn tx_in(answer: &Result<TxId, BeginFault>) -> u32
     ensures { result ≡ tx_in answer.now }
 {
-    match answer {
-        Ok(tx) => tx.0,
-        Err(_) => 0,
-    }
+    answer.as_ref().map_or(0, |tx| tx.0)
 }
 
 // Begins a transaction.

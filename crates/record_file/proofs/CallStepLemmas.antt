@@ -1,11 +1,15 @@
 -- The step of one call, from what its contract says.
 use Rattle.std.proofs.Common.{◌≡◌, Bool, false, Option, Some, None, Result, Ok, Err, refl, ap, IfSome}
+use Rattle.std.specs.Global.{Vec}
 use Rattle.rec_types.specs.Table.{counted}
 use Rattle.rec_types.specs.declared.table_state.TableState.{Ghosts}
 use Rattle.record_file.specs.declared.fault.GetFault.{GetFault}
 use Rattle.record_file.specs.declared.fault.GetFault.TheVariants as get_faults
 use Rattle.record_file.specs.Abstract.{OpenFile, Tells}
-use Rattle.record_file.specs.Outside.{get_cause, by_memory}
+use Rattle.record_file.specs.declared.fault.EntriesFault.{EntriesFault}
+use Rattle.record_file.specs.declared.fault.EntriesFault.TheVariants as entries_faults
+use Rattle.record_file.specs.Outside.{get_cause, entries_cause, by_memory}
+use Rattle.record_file.specs.Steps.{listed}
 use Rattle.record_file.specs.Runs.{Called, Seen, Answers, seen}
 use Rattle.record_file.specs.declared.call.Call.{Call}
 use Rattle.record_file.specs.declared.call.Answer.{Answer}
@@ -59,3 +63,10 @@ get_wants_none (Err get_faults.Rolling) = refl
 get_wants_none (Err (get_faults.Held owner)) = refl
 get_wants_none (Err get_faults.Device) = refl
 get_wants_none (Err (get_faults.Damaged page)) = refl
+
+-- a listing has the cause of its list
+pub listed_cause : {X : Type 0} (told : Result (Vec X) EntriesFault) → entries_cause told ≡ entries_cause (listed told)
+listed_cause (Ok list) = refl
+listed_cause (Err entries_faults.Device) = refl
+listed_cause (Err (entries_faults.Damaged page)) = refl
+listed_cause (Err entries_faults.Memory) = refl

@@ -8,7 +8,8 @@ use Rattle.rec_types.specs.declared.table.TableFault.{TableFault}
 use Rattle.rec_types.specs.declared.table.TableFault.TheVariants as table_faults
 use Rattle.tx_log.specs.declared.phase.UndoStep.{UndoStep}
 use Rattle.record_file.specs.Abstract.{File, records_of, is_full}
-use Rattle.record_file.specs.Faults.{put_fault, remove_fault}
+use Rattle.record_file.specs.Faults.{cause_of, put_fault, remove_fault}
+use Rattle.record_file.specs.declared.fault.Cause.TheVariants as causes
 use Rattle.record_file.specs.Steps.{rose, put_refusal, remove_refusal, PutStep, RemoveStep}
 
 -- an option that can't be something is nothing
@@ -41,6 +42,13 @@ remove_err f new t x a b table_faults.Device none some same lt counts room damag
 remove_err f new t x a b (table_faults.Damaged page) none some same lt counts room damaged = absurd (damaged page refl)
 remove_err f new t x a b table_faults.NoRoom none some same lt counts room damaged = absurd (room refl)
 remove_err f new t x a b table_faults.Memory none some same lt counts room damaged = (none, rose_same a b counts, some, same)
+
+-- a stop that its table neither wanted room for nor named a page in tells of no damaged page
+pub untold : (fault : TableFault) → (fault ≡ table_faults.NoRoom → ⊥) → ((page : ℕ) → fault ≡ table_faults.Damaged page → ⊥) → (page : ℕ) → Some (cause_of fault) ≡ Some (causes.Damaged page) → ⊥
+untold table_faults.Device room damaged page is = cc
+untold (table_faults.Damaged named) room damaged page is = absurd (damaged named refl)
+untold table_faults.NoRoom room damaged page is = absurd (room refl)
+untold table_faults.Memory room damaged page is = cc
 
 -- the step of one answer
 pub step_is : (a b : UndoStep) → Some a ≡ Some b → a ≡ b

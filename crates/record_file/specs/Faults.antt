@@ -1,12 +1,22 @@
--- What a table's fault means to a put, a removal or a listing.
+-- What a table's fault means to a rollback, a put, a removal, a look or a listing.
 use Rattle.rec_types.specs.declared.table.TableFault.{TableFault}
 use Rattle.rec_types.specs.declared.table.TableFault.TheVariants as table_faults
+use Rattle.record_file.specs.declared.fault.Cause.{Cause}
+use Rattle.record_file.specs.declared.fault.Cause.TheVariants as causes
 use Rattle.record_file.specs.declared.fault.PutFault.{PutFault}
 use Rattle.record_file.specs.declared.fault.PutFault.TheVariants as put_faults
 use Rattle.record_file.specs.declared.fault.RemoveFault.{RemoveFault}
 use Rattle.record_file.specs.declared.fault.RemoveFault.TheVariants as remove_faults
+use Rattle.record_file.specs.declared.fault.GetFault.{GetFault}
+use Rattle.record_file.specs.declared.fault.GetFault.TheVariants as get_faults
 use Rattle.record_file.specs.declared.fault.EntriesFault.{EntriesFault}
 use Rattle.record_file.specs.declared.fault.EntriesFault.TheVariants as entries_faults
+
+abbrev pub cause_of : TableFault → Cause
+cause_of table_faults.Device = causes.Device
+cause_of (table_faults.Damaged page) = causes.Damaged page
+cause_of table_faults.NoRoom = causes.Damaged 0
+cause_of table_faults.Memory = causes.Memory
 
 abbrev pub put_fault : TableFault → PutFault
 put_fault table_faults.Device = put_faults.Device
@@ -19,6 +29,12 @@ remove_fault table_faults.Device = remove_faults.Device
 remove_fault (table_faults.Damaged page) = remove_faults.Damaged page
 remove_fault table_faults.NoRoom = remove_faults.Damaged 0
 remove_fault table_faults.Memory = remove_faults.Memory
+
+abbrev pub get_fault : TableFault → GetFault
+get_fault table_faults.Device = get_faults.Device
+get_fault (table_faults.Damaged page) = get_faults.Damaged page
+get_fault table_faults.NoRoom = get_faults.Device
+get_fault table_faults.Memory = get_faults.Device
 
 abbrev pub entries_fault : TableFault → EntriesFault
 entries_fault table_faults.Device = entries_faults.Device

@@ -3,7 +3,6 @@ ghost use Rattle.record_file.specs.Runs.{seen};
 ghost use Rattle.record_file.specs.Calls.{Makes, MakesAll};
 ghost use Rattle.record_file.specs.Exact.{IsExact};
 ghost use Rattle.record_file.specs.declared.call.Answer.{Answer};
-ghost use Rattle.record_file.specs.declared.call.Call.TheVariants as calls;
 
 use crate::RecordFile;
 use crate::fault::{
@@ -60,16 +59,6 @@ pub enum Answer {
     LogRecord(Option<LogRecord>),
 }
 
-// The records of the file.
-fn entries<T: Table>(file: &mut RecordFile<T>) -> Answer
-    ensures { Makes (seen T.TableState file.old) calls.Entries result (seen T.TableState file.new) }
-{
-    match file.entries() {
-        Ok(entries) => Answer::Entries(Ok(entries)),
-        Err(fault) => Answer::Entries(Err(fault)),
-    }
-}
-
 /// Makes a call.
 pub fn make_call<T: Table>(file: &mut RecordFile<T>, call: Call) -> Answer
     ensures { Makes (seen T.TableState file.old) call result (seen T.TableState file.new) }
@@ -85,7 +74,7 @@ pub fn make_call<T: Table>(file: &mut RecordFile<T>, call: Call) -> Answer
         Call::Abort(tx) => Answer::Abort(file.abort(tx)),
         Call::Resume(tx) => Answer::Resume(file.resume(tx)),
         Call::Commit(tx) => Answer::Commit(file.commit(tx)),
-        Call::Entries => entries(file),
+        Call::Entries => Answer::Entries(file.entries()),
         Call::KeysOf(tx) => Answer::KeysOf(file.keys_of(tx)),
         Call::Status(tx) => Answer::Status(file.status(tx)),
         Call::Charged => Answer::Charged(file.charged()),

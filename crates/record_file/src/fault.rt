@@ -190,6 +190,22 @@ pub enum Status {
     Rolling { left: u32, ends: bool },
 }
 
+impl From<TableFault> for Cause {
+    ghost use Rattle.record_file.specs.Faults.{cause_of};
+
+    ghost from_gives = { λ fault cause. cause ≡ cause_of fault };
+
+    // A table that has no room for what it held before isn't sound.
+    fn from(fault: TableFault) -> Cause {
+        match fault {
+            TableFault::Device => Cause::Device,
+            TableFault::Damaged(page) => Cause::Damaged(page),
+            TableFault::NoRoom => Cause::Damaged(0),
+            TableFault::Memory => Cause::Memory,
+        }
+    }
+}
+
 impl From<TableFault> for PutFault {
     ghost use Rattle.record_file.specs.Faults.{put_fault};
 
@@ -218,6 +234,20 @@ impl From<TableFault> for RemoveFault {
             TableFault::Damaged(page) => RemoveFault::Damaged(page),
             TableFault::NoRoom => RemoveFault::Damaged(0),
             TableFault::Memory => RemoveFault::Memory,
+        }
+    }
+}
+
+impl From<TableFault> for GetFault {
+    ghost use Rattle.record_file.specs.Faults.{get_fault};
+
+    ghost from_gives = { λ fault refusal. refusal ≡ get_fault fault };
+
+    // A look wants neither room nor memory.
+    fn from(fault: TableFault) -> GetFault {
+        match fault {
+            TableFault::Damaged(page) => GetFault::Damaged(page),
+            TableFault::Device | TableFault::NoRoom | TableFault::Memory => GetFault::Device,
         }
     }
 }

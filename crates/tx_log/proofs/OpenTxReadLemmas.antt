@@ -2,6 +2,7 @@
 use Rattle.std.proofs.Common.{◌≡◌, ℕ, zero, suc, ◌+◌, ◌<◌, ◌≤◌, Bool, true, false, cond, ltb, List, [], ◌∷◌, ◌++◌, length, map, Option, Some, None, option_map, is_some, refl, sym, ap, ◌∙◌, arith, length-append}
 use Rattle.std.specs.FinMap as maps
 use Rattle.std.specs.List.{filter}
+use Rattle.std.specs.Option.{unwrap_or}
 use Rattle.std.proofs.lemmas.List.{length-map, append-nil}
 use Rattle.rec_types.specs.History.{live_from}
 use Rattle.rec_types.specs.declared.transaction.TxId.{TxId}
@@ -100,6 +101,23 @@ left_stored rs es begun pending gone t e kept found = left_case e.rollback refl
     left_case : (s : Option Rollback) → e.rollback ≡ s → e.left ≡ left_in (history_of (kept_of rs)) t (maps.get (txs_of (kept_of rs) es) t)
     left_case None f = (found_fits rs begun t (finding es) e kept.fit found).left ∙ ap (left_above (stack t rs)) f ∙ sym (left_none (kept_of rs) es t e found f)
     left_case (Some r) f = (found_fits rs begun t (finding es) e kept.fit found).left ∙ ap (left_above (stack t rs)) f ∙ sym (left_is rs es begun pending gone t r e kept found f)
+
+-- what is read of a transaction, open or not
+pub phase_read : (cs : List Kept) (es : List (TxId × OpenTx)) (t : ℕ) (found : Option OpenTx) → finding es t ≡ found → option_map (λ (e : OpenTx). rollback_phase e.rollback) found ≡ option_map phase_of (maps.get (txs_of cs es) t)
+phase_read cs es t None is = sym (ap (option_map phase_of) (tx_none cs es t is))
+phase_read cs es t (Some e) is = sym (phase_is cs es t e is)
+
+pub depth_read : (cs : List Kept) (es : List (TxId × OpenTx)) (t : ℕ) (found : Option OpenTx) → finding es t ≡ found → unwrap_or (option_map (λ (e : OpenTx). length e.saves.items) found) 0 ≡ depth_of (maps.get (txs_of cs es) t)
+depth_read cs es t None is = sym (ap depth_of (tx_none cs es t is))
+depth_read cs es t (Some e) is = sym (depth_is cs es t e is)
+
+pub live_read : (rs : List LogRecord) (es : List (TxId × OpenTx)) (begun pending gone t : ℕ) (found : Option OpenTx) → IsKept rs (finding es) begun pending gone → finding es t ≡ found → unwrap_or (option_map (λ (e : OpenTx). e.live) found) 0 ≡ live_in (history_of (kept_of rs)) t (maps.get (txs_of (kept_of rs) es) t)
+live_read rs es begun pending gone t None kept is = sym (ap (live_in (history_of (kept_of rs)) t) (tx_none (kept_of rs) es t is))
+live_read rs es begun pending gone t (Some e) kept is = sym (live_is rs es begun pending gone t e kept is)
+
+pub left_read : (rs : List LogRecord) (es : List (TxId × OpenTx)) (begun pending gone t : ℕ) (found : Option OpenTx) → IsKept rs (finding es) begun pending gone → finding es t ≡ found → unwrap_or (option_map (λ (e : OpenTx). e.left) found) 0 ≡ left_in (history_of (kept_of rs)) t (maps.get (txs_of (kept_of rs) es) t)
+left_read rs es begun pending gone t None kept is = sym (ap (left_in (history_of (kept_of rs)) t) (tx_none (kept_of rs) es t is))
+left_read rs es begun pending gone t (Some e) kept is = left_stored rs es begun pending gone t e kept is
 
 -- without a rollback nothing is taken back next
 pub undo_none : (cs : List Kept) (es : List (TxId × OpenTx)) (t : ℕ) (e : OpenTx) → finding es t ≡ Some e → e.rollback ≡ None → undo_of cs t (maps.get (txs_of cs es) t) ≡ None

@@ -141,10 +141,7 @@ fn add_idle(holdings: &mut Holdings, key: &Key) -> Result<(), Memory>
         (Some (or_idle (held holdings.old key.now)))) }
     ensures err { OnErr result ((q : List ℕ) → held holdings.new q ≡ held holdings.old q) }
 {
-    let Ok(entry) = holdings.entry(*key) else {
-        return Err(Memory);
-    };
-    entry.or_insert(Holding::idle());
+    holdings.entry(*key)?.or_insert(Holding::idle());
     Ok(())
 }
 

@@ -80,10 +80,7 @@ impl TxLog {
     pub fn phase(&self, tx: TxId) -> Option<Phase>
         ensures { result ≡ phase_in self.now tx.0 }
     {
-        match find_open(&self.txs, tx) {
-            Some(open_tx) => Some(open_tx.phase()),
-            None => None,
-        }
+        find_open(&self.txs, tx).map(|open_tx| open_tx.phase())
     }
 
     /// How many savepoints the transaction has, and 0 where it isn't open.
@@ -91,30 +88,21 @@ impl TxLog {
         ensures value { result ≡ depth_of (tx_in self.now tx.0) }
         ensures most { result ≤ most_savepoints }
     {
-        match find_open(&self.txs, tx) {
-            Some(open_tx) => open_tx.saves.len() as u32,
-            None => 0,
-        }
+        find_open(&self.txs, tx).map_or(0, |open_tx| open_tx.saves.len() as u32)
     }
 
     /// How many live changes the transaction has, and 0 where it isn't open.
     pub fn live(&self, tx: TxId) -> u32
         ensures { result ≡ live_in (history_in self.now) tx.0 (tx_in self.now tx.0) }
     {
-        match find_open(&self.txs, tx) {
-            Some(open_tx) => open_tx.live,
-            None => 0,
-        }
+        find_open(&self.txs, tx).map_or(0, |open_tx| open_tx.live)
     }
 
     /// How many changes a rollback under way is still to take back, and 0 where none is.
     pub fn left(&self, tx: TxId) -> u32
         ensures { result ≡ left_in (history_in self.now) tx.0 (tx_in self.now tx.0) }
     {
-        match find_open(&self.txs, tx) {
-            Some(open_tx) => open_tx.left,
-            None => 0,
-        }
+        find_open(&self.txs, tx).map_or(0, |open_tx| open_tx.left)
     }
 
     /// The open transaction that owns the key.
@@ -243,9 +231,7 @@ impl TxLog {
             return Err(BeginFault::BeginsSpent);
         }
         let tx = TxId(self.begun + 1);
-        let Ok(_) = self.txs.insert(tx, OpenTx::new()) else {
-            return Err(BeginFault::Memory);
-        };
+        self.txs.insert(tx, OpenTx::new())?;
         self.begun = tx.0;
         Ok(tx)
     }
@@ -259,15 +245,9 @@ impl TxLog {
     {
         self.room = None;
         let needed = self.pending as usize + 2;
-        if self.records.reserve(needed).is_err() {
-            return Err(Memory);
-        }
-        if self.marks.reserve(needed).is_err() {
-            return Err(Memory);
-        }
-        if make_room(&mut self.holdings, self.over, key).is_err() {
-            return Err(Memory);
-        }
+        self.records.reserve(needed)?;
+        self.marks.reserve(needed)?;
+        make_room(&mut self.holdings, self.over, key)?;
         self.over = Some(*key);
         self.room = Some(*key);
         Ok(())

@@ -69,10 +69,7 @@ impl OpenTx {
     pub fn is_ending(&self) -> bool
         ensures { result ≡ ends_at self.now.rollback }
     {
-        match self.rollback {
-            None => false,
-            Some(rollback) => rollback.ends,
-        }
+        self.rollback.is_some_and(|rollback| rollback.ends)
     }
 
     /// Sets a savepoint.

@@ -1,4 +1,5 @@
 use rec_types::{Key, Record};
+use std::alloc::AllocFailed;
 use thiserror::Error;
 
 /// Whether an open transaction is active, or is being rolled back.
@@ -30,4 +31,15 @@ pub enum BeginFault {
     BeginsSpent,
     #[error("out of memory")]
     Memory,
+}
+
+impl<T: Drop> From<AllocFailed<T>> for BeginFault {
+    ghost use Rattle.std.specs.Prelude.{◌≡◌};
+    ghost use Rattle.tx_log.specs.declared.phase.BeginFault.TheVariants.{Memory};
+
+    ghost from_gives = { λ _ fault. fault ≡ Memory };
+
+    fn from(_: AllocFailed<T>) -> BeginFault {
+        BeginFault::Memory
+    }
 }

@@ -104,14 +104,10 @@ pub fn changed_keys(
     requires within { from ≤ length log.now }
     ensures { IfOk result (λ keys. keys.items ≡ map key_of (chain (reverse log.now) from)) }
 {
-    let Ok(mut keys) = Vec::with_capacity(alloc, count as usize) else {
-        return Err(Memory);
-    };
+    let mut keys = Vec::with_capacity(alloc, count as usize)?;
     let mut at = from;
     while let Some(change) = newest_change(log, marks, at) {
-        if keys.push(change.key).is_err() {
-            return Err(Memory);
-        }
+        keys.push(change.key)?;
         at = change.prev;
     }
     Ok(keys)

@@ -11,7 +11,7 @@ ghost use Rattle.record_file.specs.Steps.{rose, get_refusal, GetStep, EntriesSte
 
 use super::RecordFile;
 use crate::fault::{EntriesFault, GetFault, KeysOfFault, Status, StatusFault};
-use rec_types::{Entry, Key, Memory, Record, Table, TableFault, TxId};
+use rec_types::{Entry, Key, Memory, Record, Table, TxId};
 use std::alloc::Global;
 use tx_log::{LogRecord, Phase, TxLog};
 
@@ -33,11 +33,7 @@ impl<T: Table> RecordFile<T> {
         if let Some(fault) = self.get_refusal(tx, key) {
             return Err(fault);
         }
-        match self.table.get(key) {
-            Ok(found) => Ok(found),
-            Err(TableFault::Damaged(page)) => Err(GetFault::Damaged(page)),
-            Err(_) => Err(GetFault::Device),
-        }
+        Ok(self.table.get(key)?)
     }
 
     /// The records in key order, each with the transaction that owns its key. Faults: Device or Damaged,
@@ -128,14 +124,10 @@ fn with_owners(alloc: Global, log: &TxLog, records: &[(Key, Record)]) -> Result<
     ensures { IfOk result (λ entries. entries.items
         ≡ map (entry_with (open_in log.now) (history_in log.now)) records.now) }
 {
-    let Ok(mut entries) = Vec::with_capacity(alloc, records.len()) else {
-        return Err(Memory);
-    };
+    let mut entries = Vec::with_capacity(alloc, records.len())?;
     for &(key, value) in records {
         let owner = log.owner(&key);
-        if entries.push(Entry { key, value, owner }).is_err() {
-            return Err(Memory);
-        }
+        entries.push(Entry { key, value, owner })?;
     }
     Ok(entries)
 }

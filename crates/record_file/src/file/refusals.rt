@@ -43,10 +43,7 @@ impl<T: Table> RecordFile<T> {
         match self.log.phase(tx) {
             None => Some(GetFault::NoSuchTx),
             Some(Phase::Rolling { .. }) => Some(GetFault::Rolling),
-            Some(Phase::Active) => match self.holder(tx, key) {
-                Some(owner) => Some(GetFault::Held(owner)),
-                None => None,
-            },
+            Some(Phase::Active) => self.holder(tx, key).map(GetFault::Held),
         }
     }
 

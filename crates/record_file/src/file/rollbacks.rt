@@ -11,7 +11,7 @@ ghost use Rattle.record_file.specs.Steps.{rose, RollsBackTo, RollbackToStep, Abo
 
 use super::RecordFile;
 use crate::fault::{AbortFault, Cause, ResumeFault, RollbackToFault, Stop};
-use rec_types::{Memory, Table, TableFault, TxId};
+use rec_types::{Memory, Table, TxId};
 use tx_log::Phase;
 
 impl<T: Table> RecordFile<T> {
@@ -179,16 +179,9 @@ impl<T: Table> RecordFile<T> {
             ≡ counted (T.memory_refusals self.old.table) (by_memory (step_cause result)) }
     {
         let step = self.log.next_undo(tx).unwrap();
-        match self.table.set(step.key, step.before) {
-            Ok(_) => {
-                let _lsn = self.log.compensate(tx);
-                Ok(())
-            }
-            Err(TableFault::Device) => Err(Cause::Device),
-            Err(TableFault::Damaged(page)) => Err(Cause::Damaged(page)),
-            Err(TableFault::NoRoom) => Err(Cause::Damaged(0)),
-            Err(TableFault::Memory) => Err(Cause::Memory),
-        }
+        self.table.set(step.key, step.before)?;
+        let _lsn = self.log.compensate(tx);
+        Ok(())
     }
 
     // How many changes a rollback under way is still to take back.

@@ -38,7 +38,7 @@ use Rattle.btree_delete.proofs.UnderfullNodeLemmas.{next_may_be_underfull, set_s
 use Rattle.btree_delete.proofs.EditLemmas.{untouched_empty, visited_differs}
 use Rattle.btree_delete.proofs.delete_below.+shrinking.Given as given
 use Rattle.btree_delete.proofs.delete_below.+shrinking.Goals as goal
-use Rattle.btree_delete.proofs.delete_below.+shrinking.Goals.{delete_here-After-index-deref-i, delete_below-After-tree_left-left, delete_below-After-place_to_take, delete_below-After-delete_here, delete_below-After-delete_below, delete_below-In-Some-Underfull, delete_here-After-delete_below, delete_here-After-remove, delete_here-After-set_element, delete_here-After-set_element-in-Some-Underfull}
+use Rattle.btree_delete.proofs.delete_below.+shrinking.Goals.{delete_here-After-index-deref-i, delete_below-After-tree_left-left, delete_below-After-place_to_take, delete_below-After-delete_here, delete_below-After-delete_below, delete_below-In-Some-Underfull, delete_here-After-delete_below, delete_here-After-remove, delete_here-After-set_element, delete_here-After-set_element-in-Underfull}
 
 pub delete_below-returns-in_err-visit-clause-removes : goal.delete_below-returns-in_err-visit-clause-removes
 delete_below-returns-in_err-visit-clause-removes g t c = λ steady least es us low tree between apart unvisited.
@@ -571,11 +571,11 @@ module _ (g : given.Over) (t : ℕ) (c : delete_here-After-delete_below g t) whe
           unvisited = went.unvisited;
         }
 
-pub delete_here-returns-in_err-next-clause-removes : goal.delete_here-returns-in_err-next-clause-removes
-delete_here-returns-in_err-next-clause-removes g t c = λ steady least es us below low spells least_is body us_is between apart unvisited.
-    let p = err_from_is_err_and c.from_residual-in_err-next.result c.from_residual-in_err-next.ensures.1 in
-    let called = (goal.at.delete_here-returns-in_err-next-clause-removes g t c).After-delete_below in
-    rw (p.1, p.2) (refused_behind g t called steady least es us below spells least_is body us_is between apart unvisited (IsOutside c.in_err-next.field-0.0) c.in_err-next.ensures.removes)
+pub delete_here-returns-in_err-delete_below-clause-removes : goal.delete_here-returns-in_err-delete_below-clause-removes
+delete_here-returns-in_err-delete_below-clause-removes g t c = λ steady least es us below low spells least_is body us_is between apart unvisited.
+    let p = err_from_is_err_and c.from_residual-in_err-delete_below.result c.from_residual-in_err-delete_below.ensures.1 in
+    let called = (goal.at.delete_here-returns-in_err-delete_below-clause-removes g t c).After-delete_below in
+    rw (p.1, p.2) (refused_behind g t called steady least es us below spells least_is body us_is between apart unvisited (IsOutside c.in_err-delete_below.field-0.0) c.in_err-delete_below.ensures.removes)
 
 -- the next greater element stands in the node, and its son stayed whole
 module _ (g : given.Over) (t : ℕ) (c : delete_here-After-set_element g t) where
@@ -586,132 +586,132 @@ module _ (g : given.Over) (t : ℕ) (c : delete_here-After-set_element g t) wher
   whole_is = c.tree_of_son-behind.ensures ∙ ap (son_tree c.args.tree.now c.args.node) (omega arith)
 
   whole_visited : IsVisit c.args.visited.now.items c.delete_below.new.visited.items c.delete_below.new.edit.writes.items c.delete_below.new.edit.freed.items (c.args.tree.now.height - 1) (son_at c.args.node (suc c.args.i))
-  whole_visited = subst (λ (x : Subtree). IsVisit c.args.visited.now.items c.delete_below.new.visited.items c.delete_below.new.edit.writes.items c.delete_below.new.edit.freed.items x.height x.page) whole_is c.in_ok-next.ensures.visit
+  whole_visited = subst (λ (x : Subtree). IsVisit c.args.visited.now.items c.delete_below.new.visited.items c.delete_below.new.edit.writes.items c.delete_below.new.edit.freed.items x.height x.page) whole_is c.in_ok-delete_below.ensures.visit
 
   with_next : MayBeUnderfull c.args.tree.now.order c.args.tree.now.height c.args.tree.now.bounds c.set_element.new.node
   with_next =
       let T = c.args.tree.now in
-      let went = went_up (son_tree T c.args.node (suc c.args.i)) c.tree_of_son-behind.result None c.delete_below.new.edit.writes.items c.delete_below.new.edit.freed.items c.in_ok-next.field-0 (Whole c.in-Some-Whole.next) whole_is (c.in-Some-Whole.is ∙ ap Some c.in-Some-Whole.field-0-is) c.in_ok-next.ensures.up in
-      next_may_be_underfull T.order T.height c.args.i T.bounds c.args.node c.set_element.new.node c.in-Some-Whole.next c.requires.place c.requires.node went.fits went.within c.set_element.ensures.kind c.set_element.ensures.elements (ap (λ s. s.items) c.set_element.ensures.sons)
+      let went = went_up (son_tree T c.args.node (suc c.args.i)) c.tree_of_son-behind.result None c.delete_below.new.edit.writes.items c.delete_below.new.edit.freed.items c.in_ok-delete_below.field-0 (Whole c.in-Whole.next) whole_is (c.unwrap.ensures ∙ ap Some c.in-Whole.is) c.in_ok-delete_below.ensures.up in
+      next_may_be_underfull T.order T.height c.args.i T.bounds c.args.node c.set_element.new.node c.in-Whole.next c.requires.place c.requires.node went.fits went.within c.set_element.ensures.kind c.set_element.ensures.elements (ap (λ s. s.items) c.set_element.ensures.sons)
 
-pub delete_here-settle-requires-in-Some-Whole-clause-may_be_underfull : goal.delete_here-settle-requires-in-Some-Whole-clause-may_be_underfull
-delete_here-settle-requires-in-Some-Whole-clause-may_be_underfull g t c = (c.args.tree.now.height, c.args.tree.now.bounds, with_next g t (goal.at.delete_here-settle-requires-in-Some-Whole-clause-may_be_underfull g t c).After-set_element)
+pub delete_here-settle-requires-in-Whole-clause-may_be_underfull : goal.delete_here-settle-requires-in-Whole-clause-may_be_underfull
+delete_here-settle-requires-in-Whole-clause-may_be_underfull g t c = (c.args.tree.now.height, c.args.tree.now.bounds, with_next g t (goal.at.delete_here-settle-requires-in-Whole-clause-may_be_underfull g t c).After-set_element)
 
-pub delete_here-returns-in_ok-settle-in-Some-Whole-clause-removes : goal.delete_here-returns-in_ok-settle-in-Some-Whole-clause-removes
-delete_here-returns-in_ok-settle-in-Some-Whole-clause-removes g t c = λ steady least es us below low spells least_is body us_is between apart unvisited.
-    let at_goal = goal.at.delete_here-returns-in_ok-settle-in-Some-Whole-clause-removes g t c in
+pub delete_here-returns-in_ok-settle-in-Whole-clause-removes : goal.delete_here-returns-in_ok-settle-in-Whole-clause-removes
+delete_here-returns-in_ok-settle-in-Whole-clause-removes g t c = λ steady least es us below low spells least_is body us_is between apart unvisited.
+    let at_goal = goal.at.delete_here-returns-in_ok-settle-in-Whole-clause-removes g t c in
     let put = c.set_element in
-    let settled = c.in_ok-settle-in-Some-Whole in
-    whole_behind g t at_goal.After-delete_below steady least es us below spells least_is body us_is between apart unvisited low put.new.node c.index-deref-i.result c.in-Some-Whole.next c.settle-in-Some-Whole.new.edit.writes.items c.settle-in-Some-Whole.new.edit.freed.items settled.field-0 c.in_ok-next.field-0 (c.in-Some-Whole.is ∙ ap Some c.in-Some-Whole.field-0-is) c.in_ok-next.ensures.removes
+    let settled = c.in_ok-settle-in-Whole in
+    whole_behind g t at_goal.After-delete_below steady least es us below spells least_is body us_is between apart unvisited low put.new.node c.index-deref-i.result c.in-Whole.next c.settle-in-Whole.new.edit.writes.items c.settle-in-Whole.new.edit.freed.items settled.field-0 c.in_ok-delete_below.field-0 (c.unwrap.ensures ∙ ap Some c.in-Whole.is) c.in_ok-delete_below.ensures.removes
     put.ensures.kind put.ensures.elements (ap (λ s. s.items) put.ensures.sons) (with_next g t at_goal.After-set_element) (removed_is g t at_goal.After-index-deref-i) ((whole_visited g t at_goal.After-set_element).older c.args.tree.now.page c.requires.visited) settled.ensures.settles (sym (ap (λ v. v.items) settled.ensures.freed))
 
-pub delete_here-returns-in_ok-settle-in-Some-Whole-clause-gone : goal.delete_here-returns-in_ok-settle-in-Some-Whole-clause-gone
-delete_here-returns-in_ok-settle-in-Some-Whole-clause-gone g t c =
-    let settled = c.in_ok-settle-in-Some-Whole in
-    settled_gone c.args.tree.now.order c.args.tree.now.page c.delete_below.new.edit.writes.items c.settle-in-Some-Whole.new.edit.writes.items c.index-deref-i.result c.set_element.new.node settled.field-0 settled.ensures.settles ∙ removed_is g t (goal.at.delete_here-returns-in_ok-settle-in-Some-Whole-clause-gone g t c).After-index-deref-i
+pub delete_here-returns-in_ok-settle-in-Whole-clause-gone : goal.delete_here-returns-in_ok-settle-in-Whole-clause-gone
+delete_here-returns-in_ok-settle-in-Whole-clause-gone g t c =
+    let settled = c.in_ok-settle-in-Whole in
+    settled_gone c.args.tree.now.order c.args.tree.now.page c.delete_below.new.edit.writes.items c.settle-in-Whole.new.edit.writes.items c.index-deref-i.result c.set_element.new.node settled.field-0 settled.ensures.settles ∙ removed_is g t (goal.at.delete_here-returns-in_ok-settle-in-Whole-clause-gone g t c).After-index-deref-i
 
-pub delete_here-returns-in_ok-settle-in-Some-Whole-clause-up : goal.delete_here-returns-in_ok-settle-in-Some-Whole-clause-up
-delete_here-returns-in_ok-settle-in-Some-Whole-clause-up g t c =
+pub delete_here-returns-in_ok-settle-in-Whole-clause-up : goal.delete_here-returns-in_ok-settle-in-Whole-clause-up
+delete_here-returns-in_ok-settle-in-Whole-clause-up g t c =
     let T = c.args.tree.now in
-    let p = (goal.at.delete_here-returns-in_ok-settle-in-Some-Whole-clause-up g t c).After-set_element in
-    let settled = c.in_ok-settle-in-Some-Whole in
-    let ws2 = c.settle-in-Some-Whole.new.edit.writes.items in
+    let p = (goal.at.delete_here-returns-in_ok-settle-in-Whole-clause-up g t c).After-set_element in
+    let settled = c.in_ok-settle-in-Whole in
+    let ws2 = c.settle-in-Whole.new.edit.writes.items in
     subst (λ (z : List ℕ). UnderfullGoesUp T.order T.height T.bounds T.page ws2 z settled.field-0) (sym (ap (λ v. v.items) settled.ensures.freed))
     (settled_up T.order T.height T.page T.bounds c.delete_below.new.edit.writes.items ws2 c.delete_below.new.edit.freed.items c.index-deref-i.result c.set_element.new.node settled.field-0 (with_next g t p) ((whole_visited g t p).older T.page c.requires.visited) settled.ensures.settles)
 
-pub delete_here-returns-in_ok-settle-in-Some-Whole-clause-tidy : goal.delete_here-returns-in_ok-settle-in-Some-Whole-clause-tidy
-delete_here-returns-in_ok-settle-in-Some-Whole-clause-tidy g t c = λ used.
+pub delete_here-returns-in_ok-settle-in-Whole-clause-tidy : goal.delete_here-returns-in_ok-settle-in-Whole-clause-tidy
+delete_here-returns-in_ok-settle-in-Whole-clause-tidy g t c = λ used.
     let p = c.args.tree.now.page in
-    let visit = whole_visited g t (goal.at.delete_here-returns-in_ok-settle-in-Some-Whole-clause-tidy g t c).After-set_element in
-    let settled = c.in_ok-settle-in-Some-Whole in
-    subst (λ (z : List ℕ). IsTidy c.args.pages.now.pages c.delete_below.new.visited.items c.settle-in-Some-Whole.new.edit.writes.items z) (sym (ap (λ v. v.items) settled.ensures.freed))
-    (settled_tidy c.args.pages.now.pages c.delete_below.new.visited.items c.args.tree.now.order p c.delete_below.new.edit.writes.items c.settle-in-Some-Whole.new.edit.writes.items c.delete_below.new.edit.freed.items c.index-deref-i.result c.set_element.new.node settled.field-0 used (visit.stays p c.requires.visited) (visit.older p c.requires.visited) settled.ensures.settles c.in_ok-next.ensures.tidy)
+    let visit = whole_visited g t (goal.at.delete_here-returns-in_ok-settle-in-Whole-clause-tidy g t c).After-set_element in
+    let settled = c.in_ok-settle-in-Whole in
+    subst (λ (z : List ℕ). IsTidy c.args.pages.now.pages c.delete_below.new.visited.items c.settle-in-Whole.new.edit.writes.items z) (sym (ap (λ v. v.items) settled.ensures.freed))
+    (settled_tidy c.args.pages.now.pages c.delete_below.new.visited.items c.args.tree.now.order p c.delete_below.new.edit.writes.items c.settle-in-Whole.new.edit.writes.items c.delete_below.new.edit.freed.items c.index-deref-i.result c.set_element.new.node settled.field-0 used (visit.stays p c.requires.visited) (visit.older p c.requires.visited) settled.ensures.settles c.in_ok-delete_below.ensures.tidy)
 
-pub delete_here-returns-in_ok-settle-in-Some-Whole-clause-older : goal.delete_here-returns-in_ok-settle-in-Some-Whole-clause-older
-delete_here-returns-in_ok-settle-in-Some-Whole-clause-older g t c = λ q is other.
-    let visit = whole_visited g t (goal.at.delete_here-returns-in_ok-settle-in-Some-Whole-clause-older g t c).After-set_element in
-    let settled = c.in_ok-settle-in-Some-Whole in
-    subst (λ (z : List ℕ). Untouched c.settle-in-Some-Whole.new.edit.writes.items z q) (sym (ap (λ v. v.items) settled.ensures.freed))
-    (settled_others q c.args.tree.now.order c.args.tree.now.page c.delete_below.new.edit.writes.items c.settle-in-Some-Whole.new.edit.writes.items c.delete_below.new.edit.freed.items c.index-deref-i.result c.set_element.new.node settled.field-0 other settled.ensures.settles (visit.older q is))
+pub delete_here-returns-in_ok-settle-in-Whole-clause-older : goal.delete_here-returns-in_ok-settle-in-Whole-clause-older
+delete_here-returns-in_ok-settle-in-Whole-clause-older g t c = λ q is other.
+    let visit = whole_visited g t (goal.at.delete_here-returns-in_ok-settle-in-Whole-clause-older g t c).After-set_element in
+    let settled = c.in_ok-settle-in-Whole in
+    subst (λ (z : List ℕ). Untouched c.settle-in-Whole.new.edit.writes.items z q) (sym (ap (λ v. v.items) settled.ensures.freed))
+    (settled_others q c.args.tree.now.order c.args.tree.now.page c.delete_below.new.edit.writes.items c.settle-in-Whole.new.edit.writes.items c.delete_below.new.edit.freed.items c.index-deref-i.result c.set_element.new.node settled.field-0 other settled.ensures.settles (visit.older q is))
 
 -- the next greater element stands in the node, and its son is underfull
-module _ (g : given.Over) (t : ℕ) (c : delete_here-After-set_element-in-Some-Underfull g t) where
+module _ (g : given.Over) (t : ℕ) (c : delete_here-After-set_element-in-Underfull g t) where
   short_is : c.tree_of_son-behind.result ≡ son_tree c.args.tree.now c.args.node (suc c.args.i)
   short_is = c.tree_of_son-behind.ensures ∙ ap (son_tree c.args.tree.now c.args.node) (omega arith)
 
   short_visited : IsVisit c.args.visited.now.items c.delete_below.new.visited.items c.delete_below.new.edit.writes.items c.delete_below.new.edit.freed.items (c.args.tree.now.height - 1) (son_at c.args.node (suc c.args.i))
-  short_visited = subst (λ (x : Subtree). IsVisit c.args.visited.now.items c.delete_below.new.visited.items c.delete_below.new.edit.writes.items c.delete_below.new.edit.freed.items x.height x.page) short_is c.in_ok-next.ensures.visit
+  short_visited = subst (λ (x : Subtree). IsVisit c.args.visited.now.items c.delete_below.new.visited.items c.delete_below.new.edit.writes.items c.delete_below.new.edit.freed.items x.height x.page) short_is c.in_ok-delete_below.ensures.visit
 
-  went_behind : let S = son_tree c.args.tree.now c.args.node (suc c.args.i) in WentUp S.order S.height S.bounds None S.page c.delete_below.new.edit.writes.items c.delete_below.new.edit.freed.items (Underfull c.in-Some-Underfull.next c.in-Some-Underfull.son)
+  went_behind : let S = son_tree c.args.tree.now c.args.node (suc c.args.i) in WentUp S.order S.height S.bounds None S.page c.delete_below.new.edit.writes.items c.delete_below.new.edit.freed.items (Underfull c.in-Underfull.next c.in-Underfull.son)
   went_behind =
-      let is = c.in-Some-Underfull.is ∙ ap Some c.in-Some-Underfull.field-0-is in
-      went_up (son_tree c.args.tree.now c.args.node (suc c.args.i)) c.tree_of_son-behind.result None c.delete_below.new.edit.writes.items c.delete_below.new.edit.freed.items c.in_ok-next.field-0 (Underfull c.in-Some-Underfull.next c.in-Some-Underfull.son) short_is is c.in_ok-next.ensures.up
+      let is = c.unwrap.ensures ∙ ap Some c.in-Underfull.is in
+      went_up (son_tree c.args.tree.now c.args.node (suc c.args.i)) c.tree_of_son-behind.result None c.delete_below.new.edit.writes.items c.delete_below.new.edit.freed.items c.in_ok-delete_below.field-0 (Underfull c.in-Underfull.next c.in-Underfull.son) short_is is c.in_ok-delete_below.ensures.up
 
-  short_son : son_at c.args.node (suc c.args.i) ≡ son_at c.set_element-in-Some-Underfull.new.node (c.args.i + 1)
+  short_son : son_at c.args.node (suc c.args.i) ≡ son_at c.set_element-in-Underfull.new.node (c.args.i + 1)
   short_son =
-      ap (λ (xs : List ℕ). get_or xs (suc c.args.i) 0) (sym (ap (λ s. s.items) c.set_element-in-Some-Underfull.ensures.sons))
-      ∙ ap (son_at c.set_element-in-Some-Underfull.new.node) (omega arith)
+      ap (λ (xs : List ℕ). get_or xs (suc c.args.i) 0) (sym (ap (λ s. s.items) c.set_element-in-Underfull.ensures.sons))
+      ∙ ap (son_at c.set_element-in-Underfull.new.node) (omega arith)
 
 pub delete_here-treat_and_settle-requires-clause-father : goal.delete_here-treat_and_settle-requires-clause-father
 delete_here-treat_and_settle-requires-clause-father g t c =
     let T = c.args.tree.now in
-    let went = went_behind g t (goal.at.delete_here-treat_and_settle-requires-clause-father g t c).After-set_element-in-Some-Underfull in
-    let put = c.set_element-in-Some-Underfull in
-    next_may_be_underfull T.order T.height c.args.i T.bounds c.args.node put.new.node c.in-Some-Underfull.next c.requires.place c.requires.node went.fits went.within put.ensures.kind put.ensures.elements (ap (λ s. s.items) put.ensures.sons)
+    let went = went_behind g t (goal.at.delete_here-treat_and_settle-requires-clause-father g t c).After-set_element-in-Underfull in
+    let put = c.set_element-in-Underfull in
+    next_may_be_underfull T.order T.height c.args.i T.bounds c.args.node put.new.node c.in-Underfull.next c.requires.place c.requires.node went.fits went.within put.ensures.kind put.ensures.elements (ap (λ s. s.items) put.ensures.sons)
 
 pub delete_here-treat_and_settle-requires-clause-son : goal.delete_here-treat_and_settle-requires-clause-son
 delete_here-treat_and_settle-requires-clause-son g t c =
     let T = c.args.tree.now in
     let i = c.args.i in
     let next_i : i + 1 ≡ suc i = omega arith in
-    let m = c.set_element-in-Some-Underfull.new.node in
-    let e = c.in-Some-Underfull.next in
-    let went = went_behind g t (goal.at.delete_here-treat_and_settle-requires-clause-son g t c).After-set_element-in-Some-Underfull in
+    let m = c.set_element-in-Underfull.new.node in
+    let e = c.in-Underfull.next in
+    let went = went_behind g t (goal.at.delete_here-treat_and_settle-requires-clause-son g t c).After-set_element-in-Underfull in
     let bounds_is : behind e (son_bounds c.args.node.elements.items (suc i) T.bounds) ≡ son_bounds m.elements.items (i + 1) T.bounds =
-    sym (set_son_bounds c.args.node.elements.items i T.bounds e c.requires.place) ∙ ap (λ (xs : List Element). son_bounds xs (suc i) T.bounds) (sym c.set_element-in-Some-Underfull.ensures.elements) ∙ ap (λ (j : ℕ). son_bounds m.elements.items j T.bounds) (sym next_i) in
-    subst (λ (b : Bounds). MayBeUnderfull T.order (T.height - 1) b c.in-Some-Underfull.son) bounds_is went.goes.0
+    sym (set_son_bounds c.args.node.elements.items i T.bounds e c.requires.place) ∙ ap (λ (xs : List Element). son_bounds xs (suc i) T.bounds) (sym c.set_element-in-Underfull.ensures.elements) ∙ ap (λ (j : ℕ). son_bounds m.elements.items j T.bounds) (sym next_i) in
+    subst (λ (b : Bounds). MayBeUnderfull T.order (T.height - 1) b c.in-Underfull.son) bounds_is went.goes.0
 
 pub delete_here-treat_and_settle-requires-clause-other : goal.delete_here-treat_and_settle-requires-clause-other
 delete_here-treat_and_settle-requires-clause-other g t c =
-    let p = (goal.at.delete_here-treat_and_settle-requires-clause-other g t c).After-set_element-in-Some-Underfull in
+    let p = (goal.at.delete_here-treat_and_settle-requires-clause-other g t c).After-set_element-in-Underfull in
     λ is. visited_differs c.args.visited.now.items c.args.tree.now.page (son_at c.args.node (suc c.args.i)) c.requires.visited (short_visited g t p).fresh (is ∙ sym (short_son g t p))
 
 -- the underfull son behind the element is treated
-module _ (g : given.Over) (t : ℕ) (c : delete_here-After-set_element-in-Some-Underfull g t) where
+module _ (g : given.Over) (t : ℕ) (c : delete_here-After-set_element-in-Underfull g t) where
   abbrev AsksRightHere : (Node → Type 0) → Type 0
-  AsksRightHere = λ X. let T = c.args.tree.now in IsTrue c.delete_below.new.pages.steady → AskRight T.order (at c.delete_below.new.pages.pages) (T.height - 1) c.delete_below.new.visited.items T.bounds c.set_element-in-Some-Underfull.new.node (c.args.i + 1) X
+  AsksRightHere = λ X. let T = c.args.tree.now in IsTrue c.delete_below.new.pages.steady → AskRight T.order (at c.delete_below.new.pages.pages) (T.height - 1) c.delete_below.new.visited.items T.bounds c.set_element-in-Underfull.new.node (c.args.i + 1) X
 
   abbrev AsksLeftHere : (ℕ → Node → Type 0) → Type 0
-  AsksLeftHere = λ X. let T = c.args.tree.now in IsTrue c.delete_below.new.pages.steady → AskLeft T.order (at c.delete_below.new.pages.pages) (T.height - 1) c.delete_below.new.visited.items T.bounds c.set_element-in-Some-Underfull.new.node (c.args.i + 1) X
+  AsksLeftHere = λ X. let T = c.args.tree.now in IsTrue c.delete_below.new.pages.steady → AskLeft T.order (at c.delete_below.new.pages.pages) (T.height - 1) c.delete_below.new.visited.items T.bounds c.set_element-in-Underfull.new.node (c.args.i + 1) X
 
   module _ (es : List Element) (us : List ℕ) (steady : IsTrue c.args.pages.now.steady) (up : c.args.tree.now.height - 1 ≡ suc (c.args.tree.now.height - 1 - 1))
-      (short : BehindShort c.args.tree.now (at c.args.pages.now.pages) c.delete_below.new.edit.writes.items c.delete_below.new.edit.freed.items es us c.args.node c.set_element-in-Some-Underfull.new.node c.args.i (c.args.tree.now.height - 1 - 1) c.in-Some-Underfull.son c.args.visited.now.items c.delete_below.new.visited.items) where
+      (short : BehindShort c.args.tree.now (at c.args.pages.now.pages) c.delete_below.new.edit.writes.items c.delete_below.new.edit.freed.items es us c.args.node c.set_element-in-Underfull.new.node c.args.i (c.args.tree.now.height - 1 - 1) c.in-Underfull.son c.args.visited.now.items c.delete_below.new.visited.items) where
     steady_here : IsTrue c.delete_below.new.pages.steady
     steady_here = ap (λ (v : PagesView). v.steady) c.delete_below.ensures.unchanged ∙ steady
 
-    size_here : length c.set_element-in-Some-Underfull.new.node.elements.items ≡ length c.args.node.elements.items
-    size_here = ap length c.set_element-in-Some-Underfull.ensures.elements ∙ length-set c.args.node.elements.items c.args.i c.in-Some-Underfull.next
+    size_here : length c.set_element-in-Underfull.new.node.elements.items ≡ length c.args.node.elements.items
+    size_here = ap length c.set_element-in-Underfull.ensures.elements ∙ length-set c.args.node.elements.items c.args.i c.in-Underfull.next
 
-    right_here : (X : Node → Type 0) → AsksRightHere X → AskRight c.args.tree.now.order (at c.args.pages.now.pages) (c.args.tree.now.height - 1) c.delete_below.new.visited.items c.args.tree.now.bounds c.set_element-in-Some-Underfull.new.node (c.args.i + 1) X
-    right_here X asks = asked_right (λ _. X) c.args.tree.now c.args.tree.now c.args.pages.now.pages c.delete_below.new.pages.pages c.delete_below.new.visited.items c.set_element-in-Some-Underfull.new.node (c.args.i + 1) refl (ap (λ (v : PagesView). v.pages) c.delete_below.ensures.unchanged) (asks steady_here)
+    right_here : (X : Node → Type 0) → AsksRightHere X → AskRight c.args.tree.now.order (at c.args.pages.now.pages) (c.args.tree.now.height - 1) c.delete_below.new.visited.items c.args.tree.now.bounds c.set_element-in-Underfull.new.node (c.args.i + 1) X
+    right_here X asks = asked_right (λ _. X) c.args.tree.now c.args.tree.now c.args.pages.now.pages c.delete_below.new.pages.pages c.delete_below.new.visited.items c.set_element-in-Underfull.new.node (c.args.i + 1) refl (ap (λ (v : PagesView). v.pages) c.delete_below.ensures.unchanged) (asks steady_here)
 
-    left_here : (X : ℕ → Node → Type 0) → AsksLeftHere X → AskLeft c.args.tree.now.order (at c.args.pages.now.pages) (c.args.tree.now.height - 1) c.delete_below.new.visited.items c.args.tree.now.bounds c.set_element-in-Some-Underfull.new.node (c.args.i + 1) X
-    left_here X asks = asked_left (λ _. X) c.args.tree.now c.args.tree.now c.args.pages.now.pages c.delete_below.new.pages.pages c.delete_below.new.visited.items c.set_element-in-Some-Underfull.new.node (c.args.i + 1) refl (ap (λ (v : PagesView). v.pages) c.delete_below.ensures.unchanged) (asks steady_here)
+    left_here : (X : ℕ → Node → Type 0) → AsksLeftHere X → AskLeft c.args.tree.now.order (at c.args.pages.now.pages) (c.args.tree.now.height - 1) c.delete_below.new.visited.items c.args.tree.now.bounds c.set_element-in-Underfull.new.node (c.args.i + 1) X
+    left_here X asks = asked_left (λ _. X) c.args.tree.now c.args.tree.now c.args.pages.now.pages c.delete_below.new.pages.pages c.delete_below.new.visited.items c.set_element-in-Underfull.new.node (c.args.i + 1) refl (ap (λ (v : PagesView). v.pages) c.delete_below.ensures.unchanged) (asks steady_here)
 
     ask_behind : (X : Type 0) → AsksRightHere (λ _. X) → AsksLeftHere (λ _ _. X) → X
     ask_behind X right left =
         let T = c.args.tree.now in
         let P = at c.args.pages.now.pages in
         let fs = c.delete_below.new.edit.freed.items in
-        ask X T.order P (after P c.delete_below.new.edit.writes.items fs) c.delete_below.new.visited.items 0 (length fs) (T.height - 1 - 1) (T.height - 1) T.page (son_at c.args.node (suc c.args.i)) c.in-Some-Underfull.son c.set_element-in-Some-Underfull.new.node (set_in (element_at c.args.node c.args.i).0 None es) us T.bounds (c.args.i + 1) (sym up)
+        ask X T.order P (after P c.delete_below.new.edit.writes.items fs) c.delete_below.new.visited.items 0 (length fs) (T.height - 1 - 1) (T.height - 1) T.page (son_at c.args.node (suc c.args.i)) c.in-Underfull.son c.set_element-in-Underfull.new.node (set_in (element_at c.args.node c.args.i).0 None es) us T.bounds (c.args.i + 1) (sym up)
         (omega (arith, size_here, c.requires.place)) (omega (arith, size_here, c.requires.place)) (short_son g t c) short.between short.broken (right_here (λ _. X) right) (left_here (λ _ _. X) left)
 
     module _ (least : ℕ) (low : least ≤ c.args.tree.now.order) (ws3 : List (ℕ × List ℕ)) (fs3 visited3 : List ℕ) (x : Element) (r : Shrunk) where
       abbrev SettledHere : ℕ → Node → Node → ℕ → Type 0
-      SettledHere j L R q = (visited3 ≡ c.delete_below.new.visited.items ++ q ∷ []) × TreatsAndSettles c.args.tree.now c.set_element-in-Some-Underfull.new.node (brothers j L R) x (so_far c.delete_below.new.edit) (done_so_far ws3 fs3) r
+      SettledHere j L R q = (visited3 ≡ c.delete_below.new.visited.items ++ q ∷ []) × TreatsAndSettles c.args.tree.now c.set_element-in-Underfull.new.node (brothers j L R) x (so_far c.delete_below.new.edit) (done_so_far ws3 fs3) r
 
-      treat_behind : x ≡ element_at c.args.node c.args.i → AsksRightHere (λ o. SettledHere (c.args.i + 1) c.in-Some-Underfull.son o (son_at c.set_element-in-Some-Underfull.new.node (suc (c.args.i + 1))))
-          → AsksLeftHere (λ j o. SettledHere j o c.in-Some-Underfull.son (son_at c.set_element-in-Some-Underfull.new.node j))
+      treat_behind : x ≡ element_at c.args.node c.args.i → AsksRightHere (λ o. SettledHere (c.args.i + 1) c.in-Underfull.son o (son_at c.set_element-in-Underfull.new.node (suc (c.args.i + 1))))
+          → AsksLeftHere (λ j o. SettledHere j o c.in-Underfull.son (son_at c.set_element-in-Underfull.new.node j))
           → RemovesBelow (head_of c.args.tree.now least) (pages_freed (at c.args.pages.now.pages) (after (at c.args.pages.now.pages) ws3 fs3) 0 (length fs3)) es us (visits c.args.visited.now.items visited3) (element_at c.args.node c.args.i).0 (Some r)
       treat_behind x_is right left =
           let T = c.args.tree.now in
@@ -719,41 +719,41 @@ module _ (g : given.Over) (t : ℕ) (c : delete_here-After-set_element-in-Some-U
           let M = c.args.visited.now.items in
           let h = T.height - 1 - 1 in
           let p = son_at c.args.node (suc c.args.i) in
-          let m = c.set_element-in-Some-Underfull.new.node in
+          let m = c.set_element-in-Underfull.new.node in
           let ws = c.delete_below.new.edit.writes.items in
           let fs = c.delete_below.new.edit.freed.items in
           let visited2 = c.delete_below.new.visited.items in
-          let underfull = c.in-Some-Underfull.son in
+          let underfull = c.in-Underfull.son in
           let key = (element_at c.args.node c.args.i).0 in
           let treated = treat_son T.order T.height P visited2 visited3 0 h (T.height - 1) T.page p underfull m x r ws ws3 fs fs3 (set_in key None es) us T.bounds (c.args.i + 1) c.requires.order.0 (sym up) (omega (arith, size_here, c.requires.place)) (omega (arith, size_here, c.requires.place)) (short_son g t c) short.between
-          (subst (λ (z : ℕ). Untouched ws fs z) (short_son g t c) (went_behind g t c).goes.2) c.in_ok-next.ensures.tidy.unvisited short.broken (right_here (λ o. SettledHere (c.args.i + 1) underfull o (son_at m (suc (c.args.i + 1)))) right) (left_here (λ j o. SettledHere j o underfull (son_at m j)) left) in
+          (subst (λ (z : ℕ). Untouched ws fs z) (short_son g t c) (went_behind g t c).goes.2) c.in_ok-delete_below.ensures.tidy.unvisited short.broken (right_here (λ o. SettledHere (c.args.i + 1) underfull o (son_at m (suc (c.args.i + 1)))) right) (left_here (λ j o. SettledHere j o underfull (son_at m j)) left) in
           let drops = drop_treated T.order P ws ws3 fs fs3 least T.height h T.page p es us T.bounds m underfull x (element_at c.args.node c.args.i) r visited2 visited3 key c.requires.order.0 low short.broken treated (sym c.requires.node.kind ∙ short.inner) x_is refl short.value in
           let unvisited3 = on_unvisited M visited2 visited3 treated.son.t us short.mine short.mine_in (short.broken.loses.left.within treated.son.t (inr treated.son.t_in)) short.unvisited treated.son.visited_is in
           subst (λ (l : ℕ). RemovesBelow (head_page T.order least l T.page) (pages_freed P (after P ws3 fs3) 0 (length fs3)) es us (visits M visited3) key (Some r)) (sym up) (record { drops = drops; unvisited = unvisited3 })
 
-pub delete_here-returns-in_err-shrunk-in-Some-Underfull-clause-removes : goal.delete_here-returns-in_err-shrunk-in-Some-Underfull-clause-removes
-delete_here-returns-in_err-shrunk-in-Some-Underfull-clause-removes g t c = λ steady least es us below low spells least_is body us_is between apart unvisited.
-    let p = err_from_is_err_and c.from_residual-in_err-shrunk-in-Some-Underfull.result c.from_residual-in_err-shrunk-in-Some-Underfull.ensures.1 in
-    let at_goal = goal.at.delete_here-returns-in_err-shrunk-in-Some-Underfull-clause-removes g t c in
-    let put = c.set_element-in-Some-Underfull in
-    let short = short_behind g t at_goal.After-delete_below steady least es us below spells least_is body us_is between apart unvisited put.new.node c.in-Some-Underfull.next c.in-Some-Underfull.son c.in_ok-next.field-0 (c.in-Some-Underfull.is ∙ ap Some c.in-Some-Underfull.field-0-is) c.in_ok-next.ensures.removes put.ensures.elements (ap (λ s. s.items) put.ensures.sons) in
-    let refused = c.in_err-shrunk-in-Some-Underfull in
-    rw (p.1, p.2) (ask_behind g t at_goal.After-set_element-in-Some-Underfull es us steady (two_behind g t at_goal.After-delete_below) short (IsOutside refused.field-0.0) refused.ensures.right refused.ensures.left)
+pub delete_here-returns-in_err-shrunk-in-Underfull-clause-removes : goal.delete_here-returns-in_err-shrunk-in-Underfull-clause-removes
+delete_here-returns-in_err-shrunk-in-Underfull-clause-removes g t c = λ steady least es us below low spells least_is body us_is between apart unvisited.
+    let p = err_from_is_err_and c.from_residual-in_err-shrunk-in-Underfull.result c.from_residual-in_err-shrunk-in-Underfull.ensures.1 in
+    let at_goal = goal.at.delete_here-returns-in_err-shrunk-in-Underfull-clause-removes g t c in
+    let put = c.set_element-in-Underfull in
+    let short = short_behind g t at_goal.After-delete_below steady least es us below spells least_is body us_is between apart unvisited put.new.node c.in-Underfull.next c.in-Underfull.son c.in_ok-delete_below.field-0 (c.unwrap.ensures ∙ ap Some c.in-Underfull.is) c.in_ok-delete_below.ensures.removes put.ensures.elements (ap (λ s. s.items) put.ensures.sons) in
+    let refused = c.in_err-shrunk-in-Underfull in
+    rw (p.1, p.2) (ask_behind g t at_goal.After-set_element-in-Underfull es us steady (two_behind g t at_goal.After-delete_below) short (IsOutside refused.field-0.0) refused.ensures.right refused.ensures.left)
 
-pub delete_here-returns-in_ok-shrunk-in-Some-Underfull-clause-removes : goal.delete_here-returns-in_ok-shrunk-in-Some-Underfull-clause-removes
-delete_here-returns-in_ok-shrunk-in-Some-Underfull-clause-removes g t c = λ steady least es us below low spells least_is body us_is between apart unvisited.
-    let at_goal = goal.at.delete_here-returns-in_ok-shrunk-in-Some-Underfull-clause-removes g t c in
-    let put = c.set_element-in-Some-Underfull in
-    let short = short_behind g t at_goal.After-delete_below steady least es us below spells least_is body us_is between apart unvisited put.new.node c.in-Some-Underfull.next c.in-Some-Underfull.son c.in_ok-next.field-0 (c.in-Some-Underfull.is ∙ ap Some c.in-Some-Underfull.field-0-is) c.in_ok-next.ensures.removes put.ensures.elements (ap (λ s. s.items) put.ensures.sons) in
-    let settled = c.in_ok-shrunk-in-Some-Underfull in
-    treat_behind g t at_goal.After-set_element-in-Some-Underfull es us steady (two_behind g t at_goal.After-delete_below) short least low c.treat_and_settle.new.edit.writes.items c.treat_and_settle.new.edit.freed.items c.treat_and_settle.new.visited.items c.index-deref-i.result settled.shrunk (removed_is g t at_goal.After-index-deref-i) settled.ensures.right settled.ensures.left
+pub delete_here-returns-in_ok-shrunk-in-Underfull-clause-removes : goal.delete_here-returns-in_ok-shrunk-in-Underfull-clause-removes
+delete_here-returns-in_ok-shrunk-in-Underfull-clause-removes g t c = λ steady least es us below low spells least_is body us_is between apart unvisited.
+    let at_goal = goal.at.delete_here-returns-in_ok-shrunk-in-Underfull-clause-removes g t c in
+    let put = c.set_element-in-Underfull in
+    let short = short_behind g t at_goal.After-delete_below steady least es us below spells least_is body us_is between apart unvisited put.new.node c.in-Underfull.next c.in-Underfull.son c.in_ok-delete_below.field-0 (c.unwrap.ensures ∙ ap Some c.in-Underfull.is) c.in_ok-delete_below.ensures.removes put.ensures.elements (ap (λ s. s.items) put.ensures.sons) in
+    let settled = c.in_ok-shrunk-in-Underfull in
+    treat_behind g t at_goal.After-set_element-in-Underfull es us steady (two_behind g t at_goal.After-delete_below) short least low c.treat_and_settle.new.edit.writes.items c.treat_and_settle.new.edit.freed.items c.treat_and_settle.new.visited.items c.index-deref-i.result settled.shrunk (removed_is g t at_goal.After-index-deref-i) settled.ensures.right settled.ensures.left
 
-pub delete_here-returns-in_ok-shrunk-in-Some-Underfull-clause-gone : goal.delete_here-returns-in_ok-shrunk-in-Some-Underfull-clause-gone
-delete_here-returns-in_ok-shrunk-in-Some-Underfull-clause-gone g t c =
-    c.in_ok-shrunk-in-Some-Underfull.ensures.gone ∙ removed_is g t (goal.at.delete_here-returns-in_ok-shrunk-in-Some-Underfull-clause-gone g t c).After-index-deref-i
+pub delete_here-returns-in_ok-shrunk-in-Underfull-clause-gone : goal.delete_here-returns-in_ok-shrunk-in-Underfull-clause-gone
+delete_here-returns-in_ok-shrunk-in-Underfull-clause-gone g t c =
+    c.in_ok-shrunk-in-Underfull.ensures.gone ∙ removed_is g t (goal.at.delete_here-returns-in_ok-shrunk-in-Underfull-clause-gone g t c).After-index-deref-i
 
-pub delete_here-returns-in_ok-shrunk-in-Some-Underfull-clause-older : goal.delete_here-returns-in_ok-shrunk-in-Some-Underfull-clause-older
-delete_here-returns-in_ok-shrunk-in-Some-Underfull-clause-older g t c = λ q is other.
-    let p = (goal.at.delete_here-returns-in_ok-shrunk-in-Some-Underfull-clause-older g t c).After-set_element-in-Some-Underfull in
+pub delete_here-returns-in_ok-shrunk-in-Underfull-clause-older : goal.delete_here-returns-in_ok-shrunk-in-Underfull-clause-older
+delete_here-returns-in_ok-shrunk-in-Underfull-clause-older g t c = λ q is other.
+    let p = (goal.at.delete_here-returns-in_ok-shrunk-in-Underfull-clause-older g t c).After-set_element-in-Underfull in
     let visit = short_visited g t p in
-    c.in_ok-shrunk-in-Some-Underfull.ensures.others q (visit.stays q is) (λ same. visited_differs c.args.visited.now.items q (son_at c.args.node (suc c.args.i)) is visit.fresh (same ∙ sym (short_son g t p))) other (visit.older q is)
+    c.in_ok-shrunk-in-Underfull.ensures.others q (visit.stays q is) (λ same. visited_differs c.args.visited.now.items q (son_at c.args.node (suc c.args.i)) is visit.fresh (same ∙ sym (short_son g t p))) other (visit.older q is)

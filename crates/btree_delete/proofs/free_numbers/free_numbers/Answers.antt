@@ -20,7 +20,7 @@ loop-n-preserved c =
     let old = contains nat_cmp c.loop-n.free c.loop-n.n in
     record {
       from = omega (arith, c.loop-n.invariant.from);
-      free = λ q. free_added c.args.reached.now c.loop-n.n q (contains nat_cmp c.loop-n.free q) (contains nat_cmp c.insert.new.self q) c.loop-n.invariant.from unvisited (c.loop-n.invariant.free q) (c.in-Ok.ensures.updates.0 q);
-      count = one_counted (btree_set_len c.loop-n.free) (btree_set_len c.insert.new.self) c.in-Ok.field-0 old c.in-Ok.ensures.added (new_number c.args.reached.now c.loop-n.n old (c.loop-n.invariant.free c.loop-n.n)) c.in-Ok.ensures.len
+      free = λ q. free_added c.args.reached.now c.loop-n.n q (contains nat_cmp c.loop-n.free q) (contains nat_cmp c.insert.new.self q) c.loop-n.invariant.from unvisited (c.loop-n.invariant.free q) (c.in_ok-insert.ensures.updates.0 q);
+      count = one_counted (btree_set_len c.loop-n.free) (btree_set_len c.insert.new.self) c.in_ok-insert.field-0 old c.in_ok-insert.ensures.added (new_number c.args.reached.now c.loop-n.n old (c.loop-n.invariant.free c.loop-n.n)) c.in_ok-insert.ensures.len
           ∙ ap (λ (n : ℕ). n + 1) c.loop-n.invariant.count ∙ sym (count_unvisited c.args.reached.now c.loop-n.n c.loop-n.invariant.from unvisited);
     }

@@ -12,7 +12,7 @@ use Rattle.btree_delete.proofs.measure.survey_root.Goals.{Else-root-eq0}
 -- the walk begins with no page reached, and the whole tree is below the root
 module _ (g : given.Over) (c : Else-root-eq0 g) where
   start_is : c.new-survey.result ≡ begin_with (none_of (length c.args.pages.now.pages))
-  start_is = c.new-survey.ensures ∙ ap (λ (xs : List Bool). begin_with xs) (c.in-Ok.ensures.items_if_clones_equal (λ y h. h) ∙ ap none_of c.page_count-count.ensures.value)
+  start_is = c.new-survey.ensures ∙ ap (λ (xs : List Bool). begin_with xs) (c.in_ok-reached.ensures.items_if_clones_equal (λ y h. h) ∙ ap none_of c.page_count-count.ensures.value)
 
   root_sound : (height : ℕ) (es : List Element) (us : List ℕ) → IsRooted c.args.order (at c.args.pages.now.pages) c.args.root height es us → SoundRoot c.args.order c.args.pages.now.pages c.args.root height es us c.new-survey.result
   root_sound height es us rooted =
@@ -24,7 +24,7 @@ survey_page-requires-clause-room g c =
 
 pub returns-in_err-survey_page-clause-exact : goal.returns-in_err-survey_page-clause-exact
 returns-in_err-survey_page-clause-exact g c = λ steady height es us rooted.
-    let p = err_from_is_err_and c.from_residual.result c.from_residual.ensures.1 in
+    let p = err_from_is_err_and c.from_residual-in_err-survey_page.result c.from_residual-in_err-survey_page.ensures.1 in
     let one = root_sound g (goal.at.returns-in_err-survey_page-clause-exact g c).Else-root-eq0 height es us rooted in
     rw (p.1, p.2) (subst IsOutside (sym (c.in_err-survey_page.ensures.exact steady one.0 (18 - one.0) es us one.1)) tt)
 

@@ -3,8 +3,8 @@ use Rattle.std.proofs.lemmas.Grind.{common_steps}
 use Rattle.page_store.proofs.SlotLemmas.{slots_kept}
 use Rattle.page_store.proofs.slot.make_slots.Goals as goal
 
-pub returns-then-is_err-2-clause-same : goal.returns-then-is_err-2-clause-same
-returns-then-is_err-2-clause-same c = λ n. slots_kept _ c.loop.changed.items c.push.new.self.items n c.push.ensures.items ∙ c.loop.invariant.same n
+pub returns-in_err-push-clause-same : goal.returns-in_err-push-clause-same
+returns-in_err-push-clause-same c = λ n. slots_kept _ c.loop.changed.items c.push.new.self.items n c.push.ensures.items ∙ c.loop.invariant.same n
 
 pub loop-preserved : goal.loop-preserved
 loop-preserved c = record {

@@ -1,13 +1,13 @@
-use Rattle.std.proofs.Common.{false, refl, sym, subst}
-use Rattle.record_file.specs.Outside.{put_cause, remove_cause, get_cause, rollback_cause, abort_cause, resume_cause, by_device, by_memory}
+use Rattle.std.proofs.Common.{false, IsTrue, refl, ap, sym, subst, ◌∙◌}
+use Rattle.record_file.specs.Outside.{put_cause, remove_cause, get_cause, rollback_cause, abort_cause, resume_cause, entries_cause, by_device, by_memory, named_by}
 use Rattle.record_file.specs.Steps.{put_refusal, remove_refusal, get_refusal, rollback_refusal, abort_refusal, resume_refusal, listed}
-use Rattle.record_file.specs.Runs.{seen, Begin, Put, Remove, Get, Savepoint, Release, RollbackTo, Abort, Resume, Commit, KeysOf, StatusOf, Charged, Begun, LogLen, LogUse, RecordAt}
+use Rattle.record_file.specs.Runs.{seen, Begin, Put, Remove, Get, Savepoint, Release, RollbackTo, Abort, Resume, Commit, Entries, KeysOf, StatusOf, Charged, Begun, LogLen, LogUse, RecordAt}
 use Rattle.record_file.specs.declared.call.Call.{Call}
 use Rattle.record_file.specs.declared.call.Call.TheVariants as call
 use Rattle.record_file.specs.declared.call.Answer.TheVariants as answer
 use Rattle.record_file.specs.Calls.{Makes}
 use Rattle.record_file.proofs.LogGrowthLemmas.{tells_none}
-use Rattle.record_file.proofs.CallStepLemmas.{same_but_file, quiet_makes, asks_makes, refused_seen, get_wants_none}
+use Rattle.record_file.proofs.CallStepLemmas.{same_but_file, quiet_makes, asks_makes, refused_seen, get_wants_none, listed_cause}
 use Rattle.record_file.proofs.call.make_call.Goals as goal
 
 pub returns-in-Begin : goal.returns-in-Begin
@@ -172,3 +172,15 @@ returns-in-LogRecord g c =
     let answered = answer.LogRecord c.log_record.result in
     subst (λ (k : Call). Makes old k answered new) (sym c.in-LogRecord.is)
     (quiet_makes old new (call.LogRecord c.in-LogRecord.lsn) answered (RecordAt c.in-LogRecord.lsn c.log_record.result) refl refl ((refl, refl, refl), told))
+
+pub returns-in-Entries : goal.returns-in-Entries
+returns-in-Entries g c =
+    let old = seen g.T.TableState c.args.file.now in
+    let new = seen g.T.TableState c.entries.new.self in
+    let told = c.entries.ensures in
+    let answered = answer.Entries c.entries.result in
+    let cause = listed_cause c.entries.result in
+    subst (λ (k : Call). Makes old k answered new) (sym c.in-Entries.is)
+    (asks_makes old new call.Entries answered (Entries (listed c.entries.result)) (by_device (entries_cause c.entries.result)) told.memory.0 refl told.table.device told.memory.1 told.table.soundness
+    (tells_none old.sound old.records new.records old.log new.log told.table.same.0 told.table.same.2)
+    ((ap by_device cause, λ refused. subst (λ x. IsTrue (by_memory x)) cause (told.memory.2 refused)), record { step = told.step; same = told.table.same; damages = told.table.damages ∙ ap (named_by old.damages) cause }))

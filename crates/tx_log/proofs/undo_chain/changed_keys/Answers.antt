@@ -1,4 +1,4 @@
-use Rattle.std.proofs.Common.{ℕ, Bool, ◌∷◌, [], ◌++◌, List, map, cond, not, reverse, sym, ap, ◌∙◌, arith, append_assoc}
+use Rattle.std.proofs.Common.{ℕ, ◌∷◌, [], ◌++◌, List, map, reverse, sym, ap, ◌∙◌, arith, append_assoc}
 use Rattle.tx_log.specs.Log.{chain, key_of}
 use Rattle.tx_log.proofs.WalkSteps.{walk_step, keys_on}
 use Rattle.tx_log.proofs.undo_chain.changed_keys.Goals as goal
@@ -16,8 +16,7 @@ loop-change-preserved c =
     let rest = map key_of (chain rs c.in-Some.change.prev) in
     let keys = keys_on rs c.loop-change.at c.in-Some.change step in (
       omega (arith, step.falls, step.low, c.loop-change.invariant.0),
-      ap (λ (items : List (List ℕ)). items ++ rest) c.push.ensures.items
-          ∙ ap (λ (b : Bool). cond b (c.loop-change.keys.items ++ c.in-Some.change.key ∷ []) c.loop-change.keys.items ++ rest) (c.is_err.ensures.negation ∙ ap not c.if-is_err.false)
+      ap (λ (items : List (List ℕ)). items ++ rest) c.in_ok-push.ensures.items
           ∙ append_assoc c.loop-change.keys.items (c.in-Some.change.key ∷ []) rest
           ∙ ap (λ ks. c.loop-change.keys.items ++ ks) (sym keys)
           ∙ c.loop-change.invariant.1,

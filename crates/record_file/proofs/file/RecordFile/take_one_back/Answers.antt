@@ -1,13 +1,15 @@
-use Rattle.std.proofs.Common.{rules, ◌≡◌, ◌<◌, Some, IsTrue, Err, ap, is_some, sym, subst, ◌∙◌, option_map, arith}
+use Rattle.std.proofs.Common.{◌≡◌, ◌<◌, ℕ, Some, IsTrue, Err, ap, is_some, sym, subst, ◌∙◌, option_map, arith}
 use Rattle.rec_types.specs.History.{undo_last}
 use Rattle.rec_types.specs.Kept.{Kept, newest_live}
 use Rattle.tx_log.specs.Transactions.{left_in}
 use Rattle.tx_log.specs.declared.phase.UndoStep.{UndoStep}
+use Rattle.std.proofs.lemmas.Result.{err_from_is_err_and}
 use Rattle.std.specs.FinMap as maps
 use Rattle.tx_log.specs.LogState.{undo_step, undo_in, tx_in, open_in}
 use Rattle.rec_types.specs.Contents.{set_to}
 use Rattle.record_file.specs.Abstract.{File, OpenFile, file_of, tx_of}
-use Rattle.record_file.proofs.FaultLemmas.{step_is}
+use Rattle.rec_types.specs.declared.table.TableFault.TheVariants as table_faults
+use Rattle.record_file.proofs.FaultLemmas.{step_is, untold}
 use Rattle.record_file.proofs.FileLemmas.{undo_has_room}
 use Rattle.record_file.proofs.InvariantLemmas.{undo_there, undo_kept, undo_file_is, undo_becomes, undo_record}
 use Rattle.record_file.proofs.TableCallLemmas.{changes_set}
@@ -29,49 +31,47 @@ pub unwrap-step-requires : goal.unwrap-step-requires
 unwrap-step-requires g c =
     ap is_some (c.next_undo.ensures ∙ ap (option_map undo_step) (newest g (goal.at.unwrap-step-requires g c).After-next_undo).1)
 
-pub invariant_of-self : goal.invariant_of-self
-invariant_of-self g c =
-    let places = goal.at.invariant_of-self g c in
+pub invariant_of-self-2 : goal.invariant_of-self-2
+invariant_of-self-2 g c =
+    let places = goal.at.invariant_of-self-2 g c in
     let u = newest g places.After-next_undo in
-    undo_kept _ _ _ c.self.inside.log c.self.invariant c.compensate-lsn.ensures.kept _ _ _ c.compensate-lsn.new.self c.args.tx u.0 c.unwrap-step.result c.in-Ok.ensures.answered.soundness c.in-Ok.ensures.answered.limit u.1 u.2 u.3
-    (step_of g places.After-set-arg-1 u.0 u.1) c.in-Ok.ensures.ok c.compensate-lsn.ensures.after
+    undo_kept _ _ _ c.self.inside.log c.self.invariant c.compensate-lsn.ensures.kept _ _ _ c.compensate-lsn.new.self c.args.tx u.0 c.unwrap-step.result c.in_ok-set.ensures.answered.soundness c.in_ok-set.ensures.answered.limit u.1 u.2 u.3
+    (step_of g places.After-set-arg-1 u.0 u.1) c.in_ok-set.ensures.ok c.compensate-lsn.ensures.after
 
-pub returns-in-Ok-clause-ok : goal.returns-in-Ok-clause-ok
-returns-in-Ok-clause-ok g c =
+pub returns-clause-ok : goal.returns-clause-ok
+returns-clause-ok g c =
     undo_becomes _ _ _ c.self.inside.log c.self.invariant c.compensate-lsn.ensures.kept (g.T.TableState.contents c.set.new.self) c.compensate-lsn.new.self c.args.tx c.compensate-lsn.ensures.after
     ∙ ap (λ (s : OpenFile _). let f : File = record s.file { opening = (file_of c.compensate-lsn.new.self (g.T.TableState.contents c.set.new.self)).opening; history = undo_last c.args.tx.0 s.file.history } in f) c.self.view_is
 
-pub returns-in-Ok-clause-opening : goal.returns-in-Ok-clause-opening
-returns-in-Ok-clause-opening g c = λ sound.
-    let places = goal.at.returns-in-Ok-clause-opening g c in
+pub returns-clause-opening : goal.returns-clause-opening
+returns-clause-opening g c = λ sound.
+    let places = goal.at.returns-clause-opening g c in
     let u = newest g places.After-next_undo in
     let here = ap (λ (s : OpenFile _). g.T.TableState.sound s.table) c.self.view_is ∙ sound in
     ap (λ (f : File). f.opening) (undo_file_is _ _ _ c.self.inside.log c.self.invariant c.compensate-lsn.ensures.kept (g.T.TableState.contents c.set.new.self) c.compensate-lsn.new.self c.args.tx u.0 c.unwrap-step.result u.2
-    (step_of g places.After-set-arg-1 u.0 u.1) (c.in-Ok.ensures.ok here) c.compensate-lsn.ensures.after)
+    (step_of g places.After-set-arg-1 u.0 u.1) (c.in_ok-set.ensures.ok here) c.compensate-lsn.ensures.after)
     ∙ ap (λ (s : OpenFile _). s.file.opening) c.self.view_is
 
 -- taking back never wants room that isn't there
-pub returns-in-Err-NoRoom-clause-damaged : goal.returns-in-Err-NoRoom-clause-damaged
-returns-in-Err-NoRoom-clause-damaged g c = λ sound page is.
-    let places = goal.at.returns-in-Err-NoRoom-clause-damaged g c in
+pub returns-in_err-set-clause-damaged : goal.returns-in_err-set-clause-damaged
+returns-in_err-set-clause-damaged g c = λ sound.
+    let places = goal.at.returns-in_err-set-clause-damaged g c in
     let u = newest g places.After-next_undo in
     let step = step_of g places.After-set-arg-1 u.0 u.1 in
     let here = ap (λ (s : OpenFile _). g.T.TableState.sound s.table) c.self.view_is ∙ sound in
-    let full = c.in-Err-NoRoom.ensures.no_room here (ap Err c.in-Err-NoRoom.field-0-is) in
+    let told = err_from_is_err_and c.from_residual.result c.from_residual.ensures.1 in
+    rw (told.1, told.2) (untold c.in_err-set.field-0.0
+    (λ (is : c.in_err-set.field-0.0 ≡ table_faults.NoRoom).
+    let full = c.in_err-set.ensures.no_room here (ap Err is) in
     undo_has_room (open_in c.self.inside.log) c.self.inside.log.changes (g.T.TableState.contents c.self.inside.table) c.self.inside.log.limits.records c.args.tx.0 u.0 u.3 u.2 (c.self.invariant.within here)
-    (sym (ap (λ (s : UndoStep). maps.get (g.T.TableState.contents c.self.inside.table) s.key) step) ∙ full.1) (omega (arith, full.2, c.self.invariant.limited))
+    (sym (ap (λ (s : UndoStep). maps.get (g.T.TableState.contents c.self.inside.table) s.key) step) ∙ full.1) (omega (arith, full.2, c.self.invariant.limited)))
+    (λ (page : ℕ) (is : c.in_err-set.field-0.0 ≡ table_faults.Damaged page). c.in_err-set.ensures.answered.whole here page (ap Err is)))
 
 -- a stop changes nothing, and a step is told by its compensation
-pub returns-in-Ok-clause-table : goal.returns-in-Ok-clause-table
-returns-in-Ok-clause-table g c =
-    let places = goal.at.returns-in-Ok-clause-table g c in
+pub returns-clause-table : goal.returns-clause-table
+returns-clause-table g c =
+    let places = goal.at.returns-clause-table g c in
     let u = newest g places.After-next_undo in
-    changes_set g.T.TableState _ _ _ _ _ c.self.view_is c.in-Ok.ensures.answered
+    changes_set g.T.TableState _ _ _ _ _ c.self.view_is c.in_ok-set.ensures.answered
     (undo_record _ _ _ c.self.inside.log c.self.invariant c.compensate-lsn.ensures.kept c.compensate-lsn.new.self c.args.tx u.0 u.1 c.compensate-lsn.ensures.after)
-    (λ sound. c.in-Ok.ensures.ok sound ∙ ap (λ (s : UndoStep). set_to (g.T.TableState.contents c.self.inside.table) s.key s.before) (step_of g places.After-set-arg-1 u.0 u.1))
-
-pub returns-in-Err-Device-clause-table : goal.returns-in-Err-Device-clause-table
-returns-in-Err-Device-clause-table g c = search rules
-
-pub returns-in-Err-Device-clause-memory : goal.returns-in-Err-Device-clause-memory
-returns-in-Err-Device-clause-memory g c = search rules
+    (λ sound. c.in_ok-set.ensures.ok sound ∙ ap (λ (s : UndoStep). set_to (g.T.TableState.contents c.self.inside.table) s.key s.before) (step_of g places.After-set-arg-1 u.0 u.1))

@@ -9,21 +9,21 @@ use Rattle.tx_log.specs.Finds.{finding, PutsAt}
 use Rattle.tx_log.specs.LogState.{LogState}
 use Rattle.tx_log.specs.Transactions.{fresh}
 use Rattle.tx_log.specs.declared.open_tx.OpenTx.{OpenTx}
-use Rattle.tx_log.proofs.log.TxLog.begin.Goals.{In-Ok}
+use Rattle.tx_log.proofs.log.TxLog.begin.Goals.{In_ok-insert}
 use Rattle.tx_log.proofs.log.TxLog.begin.Goals as goal
 
 -- the new transaction is put in
-puts_of : (c : In-Ok) → PutsAt (finding c.self.inside.txs.entries) (finding c.insert.new.self.entries) (c.self.inside.begun + 1) (Some fresh_entry)
-puts_of c = λ q. c.in-Ok.ensures.updates.0 (record { 0 = q }) ∙ ap (λ (e : OpenTx). cond (eqb (c.self.inside.begun + 1) q) (Some e) (finding c.self.inside.txs.entries q)) c.new.ensures
+puts_of : (c : In_ok-insert) → PutsAt (finding c.self.inside.txs.entries) (finding c.insert.new.self.entries) (c.self.inside.begun + 1) (Some fresh_entry)
+puts_of c = λ q. c.in_ok-insert.ensures.updates.0 (record { 0 = q }) ∙ ap (λ (e : OpenTx). cond (eqb (c.self.inside.begun + 1) q) (Some e) (finding c.self.inside.txs.entries q)) c.new.ensures
 
 pub invariant_of-self-2 : goal.invariant_of-self-2
 invariant_of-self-2 c =
     let l = c.self.inside in
     let bounded = c.self.invariant.bounded in
     record {
-      log_kept = begun_kept (reverse l.records.items) (finding l.txs.entries) (finding c.insert.new.self.entries) l.begun l.pending l.gone c.self.invariant.log_kept (puts_of (goal.at.invariant_of-self-2 c).In-Ok);
+      log_kept = begun_kept (reverse l.records.items) (finding l.txs.entries) (finding c.insert.new.self.entries) l.begun l.pending l.gone c.self.invariant.log_kept (puts_of (goal.at.invariant_of-self-2 c).In_ok-insert);
       marked = c.self.invariant.marked;
-      holding = held_more (reverse l.records.items) (finding l.txs.entries) (finding c.insert.new.self.entries) (held l.holdings) l.begun fresh_entry c.self.invariant.log_kept.fit (puts_of (goal.at.invariant_of-self-2 c).In-Ok) (known_last (reverse l.records.items) l.begun (l.begun + 1) (omega arith) c.self.invariant.log_kept.known).1 c.self.invariant.holding;
+      holding = held_more (reverse l.records.items) (finding l.txs.entries) (finding c.insert.new.self.entries) (held l.holdings) l.begun fresh_entry c.self.invariant.log_kept.fit (puts_of (goal.at.invariant_of-self-2 c).In_ok-insert) (known_last (reverse l.records.items) l.begun (l.begun + 1) (omega arith) c.self.invariant.log_kept.known).1 c.self.invariant.holding;
       busy_keys = c.self.invariant.busy_keys;
       reserved = tt;
       bounded = record {
@@ -39,7 +39,7 @@ invariant_of-self-2 c =
 pub returns-clause-ok : goal.returns-clause-ok
 returns-clause-ok c =
     let l = c.self.inside in
-    begun_state l.records.items l.txs.entries c.insert.new.self.entries l.begun l.limits l.room (puts_of (goal.at.returns-clause-ok c).In-Ok)
+    begun_state l.records.items l.txs.entries c.insert.new.self.entries l.begun l.limits l.room (puts_of (goal.at.returns-clause-ok c).In_ok-insert)
     ∙ ap (λ (s : LogState). record s { begun = s.begun + 1; txs = maps.insert s.txs (s.begun + 1) fresh; room = None }) c.self.view_is
 
 pub returns-then-self-most-clause-kept : goal.returns-then-self-most-clause-kept
@@ -48,11 +48,11 @@ returns-then-self-most-clause-kept c = kept_now c.self.inside c.self.invariant _
 pub returns-clause-kept : goal.returns-clause-kept
 returns-clause-kept c = kept_now c.self.inside c.self.invariant _ c.self.view_is
 
-pub returns-in_default-clause-kept : goal.returns-in_default-clause-kept
-returns-in_default-clause-kept c = kept_now c.self.inside c.self.invariant _ c.self.view_is
+pub returns-in_err-insert-clause-kept : goal.returns-in_err-insert-clause-kept
+returns-in_err-insert-clause-kept c = kept_now c.self.inside c.self.invariant _ c.self.view_is
 
-pub returns-in_default-clause-err : goal.returns-in_default-clause-err
-returns-in_default-clause-err c = grind (arith, common_steps)
+pub returns-in_err-insert-clause-err : goal.returns-in_err-insert-clause-err
+returns-in_err-insert-clause-err c = grind (arith, common_steps)
 
-pub invariant_of-self-in_default : goal.invariant_of-self-in_default
-invariant_of-self-in_default c = grind (arith, common_steps)
+pub invariant_of-self-in_err-insert : goal.invariant_of-self-in_err-insert
+invariant_of-self-in_err-insert c = grind (arith, common_steps)

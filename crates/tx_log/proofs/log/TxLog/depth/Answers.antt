@@ -1,18 +1,18 @@
-use Rattle.std.proofs.Common.{reverse, sym, ap, ◌∙◌, arith}
-use Rattle.tx_log.proofs.OpenTxReadLemmas.{depth_is, tx_none}
+use Rattle.std.proofs.Common.{◌≡◌, Option, option_map, length, reverse, refl, ap, ◌∙◌, rules}
+use Rattle.std.specs.Option.{unwrap_or}
+use Rattle.tx_log.proofs.OpenTxReadLemmas.{depth_read}
+use Rattle.tx_log.specs.Finds.{finding}
 use Rattle.tx_log.specs.Log.{kept_of}
 use Rattle.tx_log.specs.LogState.{LogState, tx_in}
 use Rattle.tx_log.specs.Transactions.{depth_of}
+use Rattle.tx_log.specs.declared.open_tx.OpenTx.{OpenTx}
 use Rattle.tx_log.proofs.log.TxLog.depth.Goals as goal
 
-pub returns-in-Some-clause-value : goal.returns-in-Some-clause-value
-returns-in-Some-clause-value c =
+pub returns-clause-value : goal.returns-clause-value
+returns-clause-value c =
     let l = c.self.inside in
-    let found = sym c.in-Some.ensures in
-    omega (arith, c.len.ensures.value, sym (depth_is (kept_of (reverse l.records.items)) l.txs.entries c.args.tx.0 c.in-Some.open_tx.now found) ∙ ap (λ (s : LogState). depth_of (tx_in s c.args.tx.0)) c.self.view_is)
-
-pub returns-in-None-clause-value : goal.returns-in-None-clause-value
-returns-in-None-clause-value c =
-    let l = c.self.inside in
-    let none = sym c.in-None.ensures in
-    sym (ap depth_of (tx_none (kept_of (reverse l.records.items)) l.txs.entries c.args.tx.0 none)) ∙ ap (λ (s : LogState). depth_of (tx_in s c.args.tx.0)) c.self.view_is
+    let t = c.args.tx.0 in
+    let read : c.map_or.result ≡ unwrap_or (option_map (λ (e : OpenTx). length e.saves.items) (option_map (λ e. e.now) c.find_open.result)) 0 = search rules in
+    read ∙ ap (λ (o : Option OpenTx). unwrap_or (option_map (λ (e : OpenTx). length e.saves.items) o) 0) c.find_open.ensures
+    ∙ depth_read (kept_of (reverse l.records.items)) l.txs.entries t (finding l.txs.entries t) refl
+    ∙ ap (λ (s : LogState). depth_of (tx_in s t)) c.self.view_is

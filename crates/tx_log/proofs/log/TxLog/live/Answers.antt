@@ -1,22 +1,17 @@
-use Rattle.std.proofs.Common.{reverse, sym, ap, ◌∙◌}
-use Rattle.rec_types.specs.Kept.{history_of}
-use Rattle.tx_log.proofs.OpenTxReadLemmas.{live_is, tx_none}
-use Rattle.tx_log.specs.Log.{kept_of}
+use Rattle.std.proofs.Common.{◌≡◌, Option, option_map, reverse, refl, ap, ◌∙◌, rules}
+use Rattle.std.specs.Option.{unwrap_or}
+use Rattle.tx_log.proofs.OpenTxReadLemmas.{live_read}
+use Rattle.tx_log.specs.Finds.{finding}
 use Rattle.tx_log.specs.LogState.{LogState, tx_in, history_in}
 use Rattle.tx_log.specs.Transactions.{live_in}
+use Rattle.tx_log.specs.declared.open_tx.OpenTx.{OpenTx}
 use Rattle.tx_log.proofs.log.TxLog.live.Goals as goal
 
-pub returns-in-Some : goal.returns-in-Some
-returns-in-Some c =
+pub returns : goal.returns
+returns c =
     let l = c.self.inside in
     let t = c.args.tx.0 in
-    let found = sym c.in-Some.ensures in
-    sym (live_is (reverse l.records.items) l.txs.entries l.begun l.pending l.gone t c.in-Some.open_tx.now c.self.invariant.log_kept found) ∙ ap (λ (s : LogState). live_in (history_in s) t (tx_in s t)) c.self.view_is
-
-pub returns-in-None : goal.returns-in-None
-returns-in-None c =
-    let l = c.self.inside in
-    let t = c.args.tx.0 in
-    let cs = kept_of (reverse l.records.items) in
-    let none = sym c.in-None.ensures in
-    sym (ap (live_in (history_of cs) t) (tx_none cs l.txs.entries t none)) ∙ ap (λ (s : LogState). live_in (history_in s) t (tx_in s t)) c.self.view_is
+    let read : c.map_or.result ≡ unwrap_or (option_map (λ (e : OpenTx). e.live) (option_map (λ e. e.now) c.find_open.result)) 0 = search rules in
+    read ∙ ap (λ (o : Option OpenTx). unwrap_or (option_map (λ (e : OpenTx). e.live) o) 0) c.find_open.ensures
+    ∙ live_read (reverse l.records.items) l.txs.entries l.begun l.pending l.gone t (finding l.txs.entries t) c.self.invariant.log_kept refl
+    ∙ ap (λ (s : LogState). live_in (history_in s) t (tx_in s t)) c.self.view_is
