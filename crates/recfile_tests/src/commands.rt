@@ -1,3 +1,4 @@
+use crate::{expect_named, expect_text};
 use command_text::{Command, EntryList, KeyList, LineFault, Reply, read_line, write_reply};
 use rec_types::{Entry, Key, Record, TxId};
 use record_file::{
@@ -44,7 +45,8 @@ fn said(alloc: Global, lines: &str) -> Result<String, AllocError> {
 
 /// Expects that the lines say this, line by line.
 fn expect(rt: &impl Abort, alloc: Global, lines: &str, wanted: &str) {
-    assert_eq!(rt; said(alloc, lines).expect(rt, "no memory").as_str(), wanted);
+    let text = said(alloc, lines).expect(rt, "no memory");
+    expect_text(rt, text.as_str(), wanted)
 }
 
 /// Lines, and what each of them says.
@@ -97,14 +99,16 @@ const LINES: [(&str, &str, &str); 9] = [
     ),
 ];
 
+/// Expects the lines to say what stands beside them.
+fn expect_lines(rt: &impl Abort, alloc: Global, row: &(&str, &str, &str)) {
+    let text = said(alloc, row.1).expect(rt, "no memory");
+    expect_named(rt, row.0, text.as_str(), row.2)
+}
+
 #[test]
 fn lines_are_read(rt: HostRuntime) {
-    let alloc = rt.alloc();
-    for (name, lines, wanted) in LINES {
-        assert_eq!(rt;
-            (name, said(alloc, lines).expect(&rt, "no memory").as_str()),
-            (name, wanted)
-        );
+    for row in &LINES {
+        expect_lines(&rt, rt.alloc(), row);
     }
 }
 
@@ -153,10 +157,17 @@ fn written(rt: &impl Abort, alloc: Global, reply: &Reply) -> String {
     String::from_utf8(text).expect(rt, "no text")
 }
 
+/// Expects each reply to be written as the text beside it.
+fn expect_written(rt: &impl Abort, alloc: Global, rows: &[(Reply, &str)]) {
+    for row in rows {
+        expect_text(rt, written(rt, alloc, &row.0).as_str(), row.1);
+    }
+}
+
 #[test]
 fn answers_are_written(rt: HostRuntime) {
     let record = Record::new(b"x y").expect(&rt, "no record");
-    for (reply, wanted) in [
+    let rows = [
         (Reply::Begin(Ok(TxId(1))), "ok 1\n"),
         (Reply::Put(Ok(None)), "ok none\n"),
         (Reply::Put(Ok(Some(record))), "ok =x%20y\n"),
@@ -170,14 +181,13 @@ fn answers_are_written(rt: HostRuntime) {
         (Reply::Abort(Ok(10)), "ok 10\n"),
         (Reply::Commit(Ok(())), "ok\n"),
         (Reply::Log(8, 10), "ok 8 10\n"),
-    ] {
-        assert_eq!(rt; written(&rt, rt.alloc(), &reply).as_str(), wanted);
-    }
+    ];
+    expect_written(&rt, rt.alloc(), &rows)
 }
 
 #[test]
 fn refusals_are_written(rt: HostRuntime) {
-    for (reply, wanted) in [
+    let rows = [
         (
             Reply::Begin(Err(BeginFault::BeginsSpent)),
             "no BeginsSpent\n",
@@ -203,15 +213,14 @@ fn refusals_are_written(rt: HostRuntime) {
         (Reply::Commit(Err(CommitFault::Rolling)), "no Rolling\n"),
         (Reply::List(Err(EntriesFault::Damaged(1))), "no Damaged 1\n"),
         (Reply::Keys(Err(KeysOfFault::Memory)), "no Memory\n"),
-    ] {
-        assert_eq!(rt; written(&rt, rt.alloc(), &reply).as_str(), wanted);
-    }
+    ];
+    expect_written(&rt, rt.alloc(), &rows)
 }
 
 #[test]
 fn stops_and_faults_are_written(rt: HostRuntime) {
     let (undone, left) = (1, 20);
-    for (reply, wanted) in [
+    let rows = [
         (
             Reply::Back(Err(RollbackToFault::Stopped {
                 undone,
@@ -245,9 +254,8 @@ fn stops_and_faults_are_written(rt: HostRuntime) {
         (Reply::Bad(LineFault::KeyTooLong), "bad KeyTooLong\n"),
         (Reply::Bad(LineFault::NoRecordMark), "bad NoRecordMark\n"),
         (Reply::Bad(LineFault::RecordTooLong), "bad RecordTooLong\n"),
-    ] {
-        assert_eq!(rt; written(&rt, rt.alloc(), &reply).as_str(), wanted);
-    }
+    ];
+    expect_written(&rt, rt.alloc(), &rows)
 }
 
 /// Two keys, the first of which is a zero byte.
@@ -290,15 +298,17 @@ fn keys_text(rt: &impl Abort, alloc: Global, keys: &[Key]) -> String {
 
 #[test]
 fn lists_are_written(rt: HostRuntime) {
-    assert_eq!(rt;
+    expect_text(
+        &rt,
         list_text(&rt, rt.alloc(), &two_entries(&rt)).as_str(),
-        "- %00 =abcdefghijklmnopqrstuvwxyz012345 @1\n- %25zz =%C3%A9%25\nok 2\n"
+        "- %00 =abcdefghijklmnopqrstuvwxyz012345 @1\n- %25zz =%C3%A9%25\nok 2\n",
     );
-    assert_eq!(rt;
+    expect_text(
+        &rt,
         keys_text(&rt, rt.alloc(), &two_keys(&rt)).as_str(),
-        "- %00\n- %25zz\nok 2\n"
+        "- %00\n- %25zz\nok 2\n",
     );
-    assert_eq!(rt; list_text(&rt, rt.alloc(), &[]).as_str(), "ok 0\n");
+    expect_text(&rt, list_text(&rt, rt.alloc(), &[]).as_str(), "ok 0\n");
 }
 
 /// The reply with a record of this byte.
@@ -324,9 +334,10 @@ fn expect_again(rt: &impl Abort, alloc: Global, byte: u8) {
         alloc,
         &Reply::Get(Ok(Some(Record::new(&[byte]).expect(rt, "no record")))),
     );
-    assert_eq!(rt;
+    expect_text(
+        rt,
         text.as_str(),
-        printed(alloc, byte).expect(rt, "no memory").as_str()
+        printed(alloc, byte).expect(rt, "no memory").as_str(),
     );
     let word = text.trim_start_matches("ok ").trim_end_matches("\n");
     expect_read(rt, alloc, word, byte)

@@ -1,3 +1,4 @@
+use crate::expect_text;
 use btree_delete::{CreateFault, OpenFault};
 use btree_insert::TreeFault;
 use btree_node::{HeaderFault, NodeFault};
@@ -17,7 +18,7 @@ use std::process::Abort;
 fn expect_texts<E: Display>(rt: &impl Abort, alloc: Global, rows: &[(E, &str)]) {
     for row in rows {
         let shown = format!(in alloc; "{}", row.0).expect(rt, "no memory");
-        assert_eq!(rt; shown.as_str(), row.1);
+        expect_text(rt, shown.as_str(), row.1);
     }
 }
 

@@ -21,3 +21,18 @@ mod tables;
 mod trees;
 #[cfg(test)]
 mod values;
+
+#[cfg(test)]
+use std::process::Abort;
+
+/// Expects this text.
+#[cfg(test)]
+fn expect_text(rt: &impl Abort, text: &str, wanted: &str) {
+    assert_eq!(rt; text, wanted);
+}
+
+/// Expects this text of what has a name.
+#[cfg(test)]
+fn expect_named(rt: &impl Abort, name: &str, text: &str, wanted: &str) {
+    assert_eq!(rt; (name, text), (name, wanted));
+}

@@ -4,7 +4,7 @@ ghost use Rattle.tx_log.specs.LogState.{history_in, open_in};
 
 use rec_types::{Key, Limits, Memory, Record, TxId};
 use std::process::Abort;
-use tx_log::{BeginFault, LogRecord, Phase, TxLog};
+use tx_log::{BeginFault, LogRecord, Phase, TxLog, UndoStep};
 
 fn is_free(log: &TxLog, tx: TxId, key: &Key) -> bool
     ensures { IsTrue result → holder_of (open_in log.now) (history_in log.now) tx.0 key.now ≡ None }
@@ -148,14 +148,24 @@ fn start(rt: &impl Abort, log: &mut TxLog, tx: TxId, n: u32, ends: bool) {
     log.start_rollback(tx, n, ends);
 }
 
-fn expect_undo(rt: &impl Abort, log: &mut TxLog, tx: TxId, key: u8, before: Option<u8>, lsn: u32) {
+/// Expects the change that is taken back next to be this one.
+fn expect_next(rt: &impl Abort, step: Option<UndoStep>, key: u8, before: Option<u8>) {
+    let Some(step) = step else {
+        panic!(rt; "nothing is left to take back");
+    };
     let (key, before) = (key_of(rt, key), record_of(rt, before));
+    assert_eq!(rt; (step.key, step.before), (key, before));
+}
+
+fn expect_undo(rt: &impl Abort, log: &mut TxLog, tx: TxId, key: u8, before: Option<u8>, lsn: u32) {
     let step = log.next_undo(tx);
     assert!(rt; step.is_some());
-    if let Some(step) = step {
-        assert_eq!(rt; (step.key, step.before), (key, before));
-    }
+    expect_next(rt, step, key, before);
     assert_eq!(rt; log.compensate(tx), lsn);
+}
+
+fn expect_no_undo(rt: &impl Abort, log: &TxLog, tx: TxId) {
+    assert!(rt; log.next_undo(tx).is_none());
 }
 
 fn finish(rt: &impl Abort, log: &mut TxLog, tx: TxId, ends: bool) {
@@ -382,7 +392,7 @@ fn a_rollback_between_other_changes(rt: HostRuntime) {
         Limits::new(10, 100, 10).expect(&rt, "no limits"),
     );
     make_steps(&rt, &mut log, &A_ROLLBACK_BETWEEN);
-    assert!(rt; log.next_undo(TxId(2)).is_none());
+    expect_no_undo(&rt, &log, TxId(2))
 }
 
 const SAVEPOINTS_AND_LIMITS: [Step; 13] = [
@@ -401,13 +411,18 @@ const SAVEPOINTS_AND_LIMITS: [Step; 13] = [
     Step::Whole(4, 4, 0, 2),
 ];
 
+/// Saves as often as may be.
+fn save_all(rt: &impl Abort, log: &mut TxLog, tx: TxId) {
+    for number in 1..33 {
+        assert_eq!(rt; save(rt, log, tx), number);
+    }
+}
+
 #[test]
 fn savepoints_and_limits(rt: HostRuntime) {
     let mut log = TxLog::new(rt.alloc(), Limits::new(10, 4, 2).expect(&rt, "no limits"));
     expect_begin(&rt, &mut log, Some(1));
-    for number in 1..33 {
-        assert_eq!(rt; save(&rt, &mut log, TxId(1)), number);
-    }
+    save_all(&rt, &mut log, TxId(1));
     make_steps(&rt, &mut log, &SAVEPOINTS_AND_LIMITS);
     assert!(rt; !log.can_accept());
 }

@@ -1,3 +1,4 @@
+use crate::expect_named;
 use recfile::run_words;
 use std::alloc::{Alloc, Global};
 use std::fs;
@@ -70,8 +71,8 @@ fn expect_call<F: OpenFile + FileExt + Drop, H: Files<File = F> + Abort>(
     assert_eq!(rt; (call.words, status), (call.words, call.status));
     match call.err {
         Some(text) => {
-            assert_eq!(rt; (call.words, err.as_str()), (call.words, text));
-            assert_eq!(rt; (call.words, out.as_str()), (call.words, call.out));
+            expect_named(rt, call.words, err.as_str(), text);
+            expect_named(rt, call.words, out.as_str(), call.out);
         }
         None => {
             let texts = if status == 0 { &out } else { &err };

@@ -6,6 +6,7 @@ mod rows;
 mod sessions;
 mod table_files;
 
+use crate::expect_named;
 use btree_delete::TreeTable;
 use page_store::{MemStore, Store};
 use rec_types::{FlakyTable, LimitFault, Limits, SortedTable, Table};
@@ -77,7 +78,7 @@ fn expect_replies<T: Table>(
     row: &Row<'_>,
 ) {
     let (text, end) = run(rt, alloc, file, row.script);
-    assert_eq!(rt; (row.name, text.as_str()), (row.name, row.replies));
+    expect_named(rt, row.name, text.as_str(), row.replies);
     assert_eq!(rt; (row.name, end), (row.name, Ok(row.commands)));
 }
 

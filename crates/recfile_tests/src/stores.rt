@@ -216,18 +216,18 @@ struct StoreRow {
     wanted: &'static str,
 }
 
+/// Whether this is the text.
+fn is_text(found: &Result<String, Stop>, wanted: &str) -> bool {
+    matches!(found, Ok(text) if text.as_str() == wanted)
+}
+
 /// Whether the calls give this text, at the second time where memory was refused at the first.
 fn expect_store(rt: &impl Abort, alloc: Global, row: &StoreRow) {
-    let first = store_text(alloc, row.stored, row.calls);
-    if matches!(&first, Ok(text) if text.as_str() == row.wanted) {
+    if is_text(&store_text(alloc, row.stored, row.calls), row.wanted) {
         return;
     }
     let again = store_text(alloc, row.stored, row.calls);
-    assert!(rt;
-        matches!(&again, Ok(text) if text.as_str() == row.wanted),
-        "{}",
-        row.wanted
-    );
+    assert!(rt; is_text(&again, row.wanted), "{}", row.wanted);
 }
 
 const TWO_PAGES: Stored<'static> = Stored {
@@ -492,15 +492,25 @@ struct PagesRow<'a> {
     wanted: &'a str,
 }
 
-fn pages_text(rt: &impl Abort, alloc: Global, row: &PagesRow<'_>) -> Result<String, Stop> {
-    let mut text = String::new(alloc);
-    let mut pages = pages_of(rt, alloc, opened(alloc, row.stored)?, row.last_free)?;
+/// Makes the steps over the pages of a store, and writes their answers and what the store has in the end.
+fn push_row<S: Store>(
+    rt: &impl Abort,
+    alloc: Global,
+    store: S,
+    row: &PagesRow<'_>,
+    text: &mut String,
+) -> Result<(), Stop> {
+    let mut pages = pages_of(rt, alloc, store, row.last_free)?;
     for step in row.steps {
-        push_step(rt, alloc, &mut pages, *step, &mut text)?;
+        push_step(rt, alloc, &mut pages, *step, text)?;
     }
     text.push_str(";")?;
-    let mut store = pages.into_store();
-    call_store(&mut store, &FOUR_PAGES, &mut text)?;
+    call_store(&mut pages.into_store(), &FOUR_PAGES, text)
+}
+
+fn pages_text(rt: &impl Abort, alloc: Global, row: &PagesRow<'_>) -> Result<String, Stop> {
+    let mut text = String::new(alloc);
+    push_row(rt, alloc, opened(alloc, row.stored)?, row, &mut text)?;
     Ok(text)
 }
 
@@ -514,16 +524,11 @@ const FOUR_PAGES: [Call; 5] = [
 
 /// Whether the steps give this text, at the second time where memory was refused at the first.
 fn expect_pages(rt: &impl Abort, alloc: Global, row: &PagesRow<'_>) {
-    let first = pages_text(rt, alloc, row);
-    if matches!(&first, Ok(text) if text.as_str() == row.wanted) {
+    if is_text(&pages_text(rt, alloc, row), row.wanted) {
         return;
     }
     let again = pages_text(rt, alloc, row);
-    assert!(rt;
-        matches!(&again, Ok(text) if text.as_str() == row.wanted),
-        "{}",
-        row.wanted
-    );
+    assert!(rt; is_text(&again, row.wanted), "{}", row.wanted);
 }
 
 const ONE_PAGE: Stored<'static> = Stored {
@@ -740,12 +745,12 @@ fn a_file_of_two_pages(rt: HostRuntime) {
     let wanted = " missing ok ok ok ok 5 there 2+0 4 5";
     let first = new_file_text(&rt, name, &calls);
     let _ = fs::remove_file(&rt, name);
-    if matches!(&first, Ok(text) if text.as_str() == wanted) {
+    if is_text(&first, wanted) {
         return;
     }
     let again = new_file_text(&rt, name, &calls);
     let _ = fs::remove_file(&rt, name);
-    assert!(rt; matches!(&again, Ok(text) if text.as_str() == wanted));
+    assert!(rt; is_text(&again, wanted));
 }
 
 /// A file of one page and a tail: the answers of these calls, and what the file has then.
@@ -782,9 +787,9 @@ fn a_file_with_a_tail(rt: HostRuntime) {
     let name = path.as_path().to_str().expect(&rt, "no text");
     let wanted = " 1+904 ok ok kept ok 2+0 0";
     let first = tail_text(&rt, name);
-    if !matches!(&first, Ok(text) if text.as_str() == wanted) {
+    if !is_text(&first, wanted) {
         let again = tail_text(&rt, name);
-        assert!(rt; matches!(&again, Ok(text) if text.as_str() == wanted));
+        assert!(rt; is_text(&again, wanted));
     }
     let _ = fs::remove_file(&rt, name);
 }

@@ -1,3 +1,4 @@
+use crate::expect_text;
 use btree_delete::{CloseStop, OpenFault, TreeTable};
 use btree_node::decode;
 use page_store::{FlakyStore, MemStore, Store, WriteFault};
@@ -121,7 +122,7 @@ fn expect_pages(
         push_page(rt, &mut text, page, order);
         text.push(' ').expect(rt, "no memory");
     }
-    assert_eq!(rt; text.as_str(), pages);
+    expect_text(rt, text.as_str(), pages);
 }
 
 /// Does so with the file of a new table after these steps.

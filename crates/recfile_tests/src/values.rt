@@ -1,3 +1,4 @@
+use crate::expect_text;
 use rec_types::{
     FlakyTable, Key, KeyFault, LimitFault, Limits, Record, RecordFault, SortedTable, Table,
     TableFault,
@@ -29,25 +30,40 @@ fn limits_are_refused_in_their_order(rt: HostRuntime) {
     assert!(rt; Limits::new(1, 2, 1).is_ok());
 }
 
+/// How long the key of these bytes is.
+fn key_length(bytes: &[u8]) -> Result<usize, KeyFault> {
+    Ok(Key::new(bytes)?.bytes().len())
+}
+
 #[test]
-fn keys_and_records_have_their_lengths(rt: HostRuntime) {
-    let long = [b'a'; 33];
-    assert_eq!(rt; Key::new(b"").err(), Some(KeyFault::Empty));
-    assert_eq!(rt; Key::new(&long[..17]).err(), Some(KeyFault::TooLong));
-    assert_eq!(rt; Record::new(&long).err(), Some(RecordFault::TooLong));
-    assert_eq!(rt;
-        Key::new(&long[..16]).expect(&rt, "no key").bytes().len(),
-        16
-    );
-    assert_eq!(rt;
-        Record::new(&long[..32])
-            .expect(&rt, "no record")
-            .bytes()
-            .len(),
-        32
-    );
-    assert_eq!(rt; Record::new(b"").expect(&rt, "no record").bytes().len(), 0);
+fn keys_have_their_lengths(rt: HostRuntime) {
+    for (bytes, wanted) in [
+        (b"".as_slice(), Err(KeyFault::Empty)),
+        (b"abcdefghijklmnop", Ok(16)),
+        (b"abcdefghijklmnopq", Err(KeyFault::TooLong)),
+    ] {
+        assert_eq!(rt; key_length(bytes), wanted);
+    }
     assert_eq!(rt; Key::default().bytes(), b"\0".as_slice());
+}
+
+/// How long the record of these bytes is.
+fn record_length(bytes: &[u8]) -> Result<usize, RecordFault> {
+    Ok(Record::new(bytes)?.bytes().len())
+}
+
+#[test]
+fn records_have_their_lengths(rt: HostRuntime) {
+    for (bytes, wanted) in [
+        (b"".as_slice(), Ok(0)),
+        (b"abcdefghijklmnopqrstuvwxyz012345", Ok(32)),
+        (
+            b"abcdefghijklmnopqrstuvwxyz0123456",
+            Err(RecordFault::TooLong),
+        ),
+    ] {
+        assert_eq!(rt; record_length(bytes), wanted);
+    }
     assert_eq!(rt; Record::default().bytes().len(), 0);
 }
 
@@ -165,9 +181,10 @@ const SORTED_CALLS: [Call; 10] = [
 fn a_sorted_table_keeps_key_order(rt: HostRuntime) {
     let mut table = SortedTable::new(rt.alloc(), Limits::new(2, 2, 1).expect(&rt, "no limits"));
     let text = answers(&rt, rt.alloc(), &mut table, &SORTED_CALLS);
-    assert_eq!(rt;
+    expect_text(
+        &rt,
         text.as_str(),
-        " none none x NoRoom none y none a=y;b=y; y 1 of 2"
+        " none none x NoRoom none y none a=y;b=y; y 1 of 2",
     );
 }
 
@@ -211,8 +228,9 @@ fn flaky(rt: &impl Abort, alloc: Global) -> FlakyTable<SortedTable> {
 fn a_flaky_table_fails_at_its_numbers(rt: HostRuntime) {
     let mut table = flaky(&rt, rt.alloc());
     let text = answers(&rt, rt.alloc(), &mut table, &FLAKY_CALLS);
-    assert_eq!(rt;
+    expect_text(
+        &rt,
         text.as_str(),
-        " x Device none none Device Device a=y;b=x; x 1 of 9"
+        " x Device none none Device Device a=y;b=x; x 1 of 9",
     );
 }

@@ -1,4 +1,5 @@
 use super::{Row, add, expect_row, greatest, run};
+use crate::expect_text;
 use rec_types::{Key, Record, SortedTable, Table};
 use record_file::RecordFile;
 use std::alloc::Global;
@@ -197,7 +198,7 @@ fn expect_run<T: Table>(
     commands: u32,
 ) {
     let (text, end) = run(rt, alloc, file, script);
-    assert_eq!(rt; text.as_str(), replies);
+    expect_text(rt, text.as_str(), replies);
     assert_eq!(rt; end, Ok(commands));
 }
 

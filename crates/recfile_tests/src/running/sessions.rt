@@ -1,4 +1,5 @@
 use super::{flaky_file, greatest, run};
+use crate::expect_text;
 use rec_types::{Limits, SortedTable, Table, TxId};
 use recfile::laws::{aborts_are_whole, endings_by_example};
 use recfile::{EndFault, ScriptFault, end_all, exit_status, run_memory, run_script};
@@ -158,45 +159,40 @@ fn expect_session<R: Read, W: Write>(
         status
     );
     let text = String::from_utf8(err).expect(rt, "no text");
-    assert_eq!(rt; text.as_str(), fault);
+    expect_text(rt, text.as_str(), fault);
+}
+
+/// Expects of a session what it writes to standard output, too.
+fn expect_output<R: Read>(
+    rt: &impl Abort,
+    alloc: Global,
+    reader: &mut R,
+    out: &str,
+    fault: &str,
+    status: u8,
+) {
+    let mut bytes = Vec::new(alloc);
+    expect_session(rt, alloc, reader, &mut bytes, fault, status);
+    let text = String::from_utf8(bytes).expect(rt, "no text");
+    expect_text(rt, text.as_str(), out)
 }
 
 #[test]
 fn a_session_names_its_fault(rt: HostRuntime) {
     let alloc = rt.alloc();
-    let mut out = Vec::new(alloc);
-    expect_session(
-        &rt,
-        alloc,
-        &mut b"begin\nlist\n".as_slice(),
-        &mut out,
-        "",
-        0,
-    );
-    let text = String::from_utf8(out).expect(&rt, "no text");
-    assert_eq!(rt; text.as_str(), "ok 1\nok 0\n");
-    let mut out = Vec::new(alloc);
-    let mut open = b"begin\nbegin\nput 1 a =x\nsave 2\nput 2 b =y\n".as_slice();
-    expect_session(&rt, alloc, &mut open, &mut out, "", 0);
-    let text = String::from_utf8(out).expect(&rt, "no text");
-    assert_eq!(rt; text.as_str(), "ok 1\nok 2\nok none\nok 1\nok none\n");
-    let mut out = Vec::new(alloc);
+    let mut script = b"begin\nlist\n".as_slice();
+    expect_output(&rt, alloc, &mut script, "ok 1\nok 0\n", "", 0);
+    let mut script = b"begin\nbegin\nput 1 a =x\nsave 2\nput 2 b =y\n".as_slice();
+    let out = "ok 1\nok 2\nok none\nok 1\nok none\n";
+    expect_output(&rt, alloc, &mut script, out, "", 0);
     let mut failing = Failing { reads: 1 };
-    expect_session(
-        &rt,
-        alloc,
-        &mut failing,
-        &mut out,
-        "recfile: ReadFault\n",
-        3,
-    );
-    assert_eq!(rt; out.len(), 0);
+    expect_output(&rt, alloc, &mut failing, "", "recfile: ReadFault\n", 3);
+    let mut script = b"begin\nbegin\nbegin\n".as_slice();
     let mut closing = Closing { writes: 1 };
-    let mut reader = b"begin\nbegin\nbegin\n".as_slice();
     expect_session(
         &rt,
         alloc,
-        &mut reader,
+        &mut script,
         &mut closing,
         "recfile: WriteFault 2\n",
         3,
@@ -241,7 +237,7 @@ fn expect_ended(
 ) {
     let (ended, text) = end_after(rt, alloc, numbers, script);
     assert_eq!(rt; ended, Ok(count));
-    assert_eq!(rt; text.as_str(), after);
+    expect_text(rt, text.as_str(), after);
 }
 
 /// Expects the device to stop ending at this transaction with one change left, and this list and log then.
@@ -262,7 +258,7 @@ fn expect_stop(
         cause: Cause::Device,
     };
     assert_eq!(rt; ended, Err(fault));
-    assert_eq!(rt; text.as_str(), after);
+    expect_text(rt, text.as_str(), after);
 }
 
 #[test]
@@ -328,7 +324,8 @@ fn end_thrice<T: Table>(
     let (first, second) = (end_all(file), end_all(file));
     assert!(rt; first.is_err() && second.is_err());
     let (third, text) = end_in(rt, alloc, file, "");
-    assert_eq!(rt; (third, text.as_str()), (Ok(count), after));
+    assert_eq!(rt; third, Ok(count));
+    expect_text(rt, text.as_str(), after)
 }
 
 // The transaction that was stopped goes on, and the one above it is aborted.

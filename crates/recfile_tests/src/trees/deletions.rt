@@ -1,4 +1,5 @@
 use super::{empty, new_pages, put, tree_text, walk_again};
+use crate::expect_text;
 use btree_delete::delete;
 use btree_insert::{Tree, TreeFault, find};
 use page_store::{MemStore, Pages, Store};
@@ -66,7 +67,7 @@ fn run<S: Store>(
 fn expect_tree(rt: &impl Abort, alloc: Global, order: u16, steps: &str, wanted: &str) {
     let mut pages = new_pages(rt, alloc);
     let tree = run(rt, alloc, &mut pages, order, steps.as_bytes());
-    assert_eq!(rt; tree_text(rt, alloc, &mut pages, &tree).as_str(), wanted);
+    expect_text(rt, tree_text(rt, alloc, &mut pages, &tree).as_str(), wanted);
 }
 
 /// Trees of an order after these steps, in which pages are levelled and catenated.

@@ -3,6 +3,7 @@ ghost use Rattle.btree_node.specs.Spelling.{CanStand};
 ghost use Rattle.btree_node.specs.Layout.{greatest_order};
 
 use super::{empty, insert_again, new_pages, put, tree_text, walk_again};
+use crate::expect_text;
 use arrayvec::ArrayVec;
 use btree_insert::{Tree, TreeFault, find};
 use btree_node::{Node, NodeKind, decode, encode};
@@ -37,7 +38,7 @@ fn expect_letters(rt: &impl Abort, alloc: Global, order: u16, letters: &[u8], wa
     }
     let mut pages = new_pages(rt, alloc);
     let tree = put_all(rt, alloc, &mut pages, order, &records);
-    assert_eq!(rt; tree_text(rt, alloc, &mut pages, &tree).as_str(), wanted);
+    expect_text(rt, tree_text(rt, alloc, &mut pages, &tree).as_str(), wanted);
 }
 
 /// Puts another record at a key that is there, which leaves the tree as it is and answers the record before.
@@ -60,9 +61,10 @@ fn three_keys_of_order_one(rt: HostRuntime) {
     let records = [(b'a', b'x'), (b'b', b'y'), (b'c', b'z')];
     let tree = put_all(&rt, rt.alloc(), &mut pages, 1, &records);
     let text = tree_text(&rt, rt.alloc(), &mut pages, &tree);
-    assert_eq!(rt;
+    expect_text(
+        &rt,
         text.as_str(),
-        "3 2 3 3 of 4; leaf a=x; leaf c=z; inner b=y 1 2"
+        "3 2 3 3 of 4; leaf a=x; leaf c=z; inner b=y 1 2",
     );
     check_replaced(&rt, rt.alloc(), &mut pages, &tree, b"b", b"y")
 }

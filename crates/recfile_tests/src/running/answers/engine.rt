@@ -1,4 +1,5 @@
 use super::{answers_to, calls_of, text_of};
+use crate::expect_named;
 use crate::running::flaky_file;
 use crate::running::rows::TWO_ROLLBACKS;
 use rec_types::{Key, Limits, Record, SortedTable, Table, TxId};
@@ -41,7 +42,7 @@ fn expect_over<T: Table>(rt: &impl Abort, alloc: Global, table: T, row: &Row<'_>
         row.failing,
     );
     let text = text_after(rt, alloc, &mut file, row.script, row.calls);
-    assert_eq!(rt; (row.name, text.as_str()), (row.name, row.answers));
+    expect_named(rt, row.name, text.as_str(), row.answers);
 }
 
 /// Expects them over a sorted table.

@@ -1,4 +1,5 @@
 use super::{answers_to, calls_of, push_answer, text_of};
+use crate::expect_named;
 use crate::running::rows::{CHARGED_KEYS, COMMIT_BESIDE, OWNER_LEFT, STOPPED, TWO_ROLLBACKS};
 use crate::running::{Row, flaky_file, tree};
 use rec_types::{FlakyTable, Limits, Table, TxId};
@@ -86,7 +87,7 @@ fn expect_answers<T: Table>(
     wanted: &str,
 ) {
     let text = answered(rt, alloc, file, calls);
-    assert_eq!(rt; (name, text.as_str()), (name, wanted));
+    expect_named(rt, name, text.as_str(), wanted);
 }
 
 /// Runs the script: the calls that remain, and what they answered.

@@ -1,4 +1,5 @@
 use super::{answers_to, calls_of, push_answer, text_of};
+use crate::expect_text;
 use crate::running::rows::{BESIDE_A_ROOT, CHARGED_KEYS, COMMIT_BESIDE, SPLITS, TWO_ROLLBACKS};
 use crate::running::{Row, flaky_file, open, run, store_of, three_records, tree};
 use btree_delete::{CloseStop, TreeTable};
@@ -162,7 +163,7 @@ fn each_read_fails_in_turn(rt: HostRuntime) {
     let alloc = rt.alloc();
     let calls = calls_of(&rt, alloc, script);
     let all = fail_each_read(&rt, alloc, &calls, wanted, 5, 99);
-    assert_eq!(rt; all.as_str(), faults);
+    expect_text(&rt, all.as_str(), faults);
 }
 
 /// What the calls answer over a file in the table, in which no `set` fails.
@@ -273,7 +274,7 @@ fn expect_run<T: Table>(
 ) -> T {
     let mut file = file;
     let (text, _) = run(rt, alloc, &mut file, script);
-    assert_eq!(rt; text.as_str(), replies);
+    expect_text(rt, text.as_str(), replies);
     match file.into_table() {
         Ok(table) => table,
         Err(_) => panic!(rt; "a transaction is open"),
@@ -432,8 +433,9 @@ fn a_look_and_a_list_are_made_again(rt: HostRuntime) {
     let reads = Vec::from_slice(alloc, &[3, 5]).expect(&rt, "no memory");
     let table = open(&rt, alloc, FlakyStore::new(store, reads, Vec::new(alloc)));
     let text = replies_over(&rt, alloc, table, "begin\nget 1 a\nget 1 a\nlist\nlist\n");
-    assert_eq!(rt;
+    expect_text(
+        &rt,
         text.as_str(),
-        "ok 1\nno Device\nok =x\nno Device\n- a =x\nok 1\n"
+        "ok 1\nno Device\nok =x\nno Device\n- a =x\nok 1\n",
     );
 }

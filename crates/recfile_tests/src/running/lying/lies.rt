@@ -1,4 +1,5 @@
 use super::{Lie, LyingTable};
+use crate::expect_named;
 use crate::running::{run, tree};
 use rec_types::{Limits, SortedTable, Table};
 use record_file::RecordFile;
@@ -23,7 +24,7 @@ fn expect_replies<T: Table>(
     row: &Row<'_>,
 ) {
     let (text, end) = run(rt, alloc, file, row.script);
-    assert_eq!(rt; (row.name, text.as_str()), (row.name, row.replies));
+    expect_named(rt, row.name, text.as_str(), row.replies);
     assert!(rt; end.is_ok());
 }
 
