@@ -135,7 +135,8 @@ command_of name words =
     if is_text name (codes "put") then read_as (λ a. command.Put a.0 a.1 a.2) (tx_key_record_of words)
     else (if is_text name (codes "del") then read_as (λ a. command.Del a.0 a.1) (tx_key_of words)
     else (if is_text name (codes "get") then read_as (λ a. command.Get a.0 a.1) (tx_key_of words)
-    else tx_command_of name words))
+    else (if is_text name (codes "claim") then read_as (λ a. command.Claim a.0 a.1) (tx_key_of words)
+    else tx_command_of name words)))
 
 abbrev pub begins_with_hash : List ℕ → Bool
 begins_with_hash [] = false

@@ -4,6 +4,8 @@ use Rattle.tx_log.specs.declared.phase.BeginFault.TheVariants as begin_faults
 use Rattle.record_file.specs.declared.fault.Cause.TheVariants as causes
 use Rattle.record_file.specs.declared.fault.PutFault.{PutFault}
 use Rattle.record_file.specs.declared.fault.PutFault.TheVariants as put_faults
+use Rattle.record_file.specs.declared.fault.ClaimFault.{ClaimFault}
+use Rattle.record_file.specs.declared.fault.ClaimFault.TheVariants as claim_faults
 use Rattle.record_file.specs.declared.fault.RemoveFault.{RemoveFault}
 use Rattle.record_file.specs.declared.fault.RemoveFault.TheVariants as remove_faults
 use Rattle.record_file.specs.declared.fault.GetFault.{GetFault}
@@ -40,6 +42,16 @@ put_refusal put_faults.Device = refusals.Failed causes.Device
 put_refusal (put_faults.Damaged page) = refusals.Failed (causes.Damaged page)
 put_refusal put_faults.Full = refusals.Full
 put_refusal put_faults.Memory = refusals.Failed causes.Memory
+
+abbrev pub claim_refusal : ClaimFault → Refusal
+claim_refusal claim_faults.NoSuchTx = refusals.NoSuchTx
+claim_refusal claim_faults.Rolling = refusals.Rolling
+claim_refusal (claim_faults.Held owner) = refusals.Held owner
+claim_refusal claim_faults.LogFull = refusals.LogFull
+claim_refusal claim_faults.Device = refusals.Failed causes.Device
+claim_refusal (claim_faults.Damaged page) = refusals.Failed (causes.Damaged page)
+claim_refusal claim_faults.Full = refusals.Full
+claim_refusal claim_faults.Memory = refusals.Failed causes.Memory
 
 abbrev pub remove_refusal : RemoveFault → Refusal
 remove_refusal remove_faults.NoSuchTx = refusals.NoSuchTx

@@ -13,7 +13,7 @@ use Rattle.command_text.specs.declared.refusal.Refusal.{Refusal}
 use Rattle.command_text.specs.declared.refusal.Refusal.TheVariants as refusals
 use Rattle.command_text.specs.declared.reply.Reply.{Reply}
 use Rattle.command_text.specs.declared.reply.Reply.TheVariants as reply
-use Rattle.command_text.specs.Refusals.{begin_refusal, put_refusal, remove_refusal, get_refusal, savepoint_refusal, release_refusal, rollback_refusal, abort_refusal, resume_refusal, commit_refusal, entries_refusal, keys_refusal}
+use Rattle.command_text.specs.Refusals.{begin_refusal, put_refusal, claim_refusal, remove_refusal, get_refusal, savepoint_refusal, release_refusal, rollback_refusal, abort_refusal, resume_refusal, commit_refusal, entries_refusal, keys_refusal}
 
 -- the bytes 0 to 32, `%`, and those from 127 on are written as `%` and two upper case hexadecimal digits
 abbrev pub is_escaped : ℕ → Bool
@@ -104,6 +104,7 @@ answer_text ok_text refusal_of (Err fault) = refusal_text (refusal_of fault)
 abbrev pub reply_text : Reply → List ℕ
 reply_text (reply.Begin answer) = answer_text (λ t. number_text t.0) begin_refusal answer
 reply_text (reply.Put answer) = answer_text old_text put_refusal answer
+reply_text (reply.Claim answer) = answer_text old_text claim_refusal answer
 reply_text (reply.Del answer) = answer_text record_text remove_refusal answer
 reply_text (reply.Get answer) = answer_text old_text get_refusal answer
 reply_text (reply.Save answer) = answer_text number_text savepoint_refusal answer

@@ -6,6 +6,7 @@ use thiserror::Error;
 pub enum Command {
     Begin,
     Put(TxId, Key, Record),
+    Claim(TxId, Key),
     Del(TxId, Key),
     Get(TxId, Key),
     Save(TxId),

@@ -86,6 +86,15 @@ fn put(rest: &[u8]) -> Result<Option<Command>, LineFault>
 }
 
 #[inline(never)]
+fn claim(rest: &[u8]) -> Result<Option<Command>, LineFault>
+    ensures { result
+        ≡ read_as Some (read_as (λ a. commands.Claim a.0 a.1) (tx_key_of (words_of rest.now))) }
+{
+    let (tx, key) = tx_key(rest)?;
+    Ok(Some(Command::Claim(tx, key)))
+}
+
+#[inline(never)]
 fn del(rest: &[u8]) -> Result<Option<Command>, LineFault>
     ensures { result
         ≡ read_as Some (read_as (λ a. commands.Del a.0 a.1) (tx_key_of (words_of rest.now))) }
@@ -175,6 +184,8 @@ fn command(name: &[u8], rest: &[u8]) -> Result<Option<Command>, LineFault>
         del(rest)
     } else if name == b"get".as_slice() {
         get(rest)
+    } else if name == b"claim".as_slice() {
+        claim(rest)
     } else {
         tx_command(name, rest)
     }

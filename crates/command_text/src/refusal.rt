@@ -1,9 +1,9 @@
 ghost use Rattle.std.specs.Prelude.{◌≡◌};
-ghost use Rattle.command_text.specs.Refusals.{begin_refusal, put_refusal, remove_refusal, get_refusal, savepoint_refusal, release_refusal, rollback_refusal, abort_refusal, resume_refusal, commit_refusal, entries_refusal, keys_refusal};
+ghost use Rattle.command_text.specs.Refusals.{begin_refusal, put_refusal, claim_refusal, remove_refusal, get_refusal, savepoint_refusal, release_refusal, rollback_refusal, abort_refusal, resume_refusal, commit_refusal, entries_refusal, keys_refusal};
 
 use rec_types::TxId;
 use record_file::{
-    AbortFault, BeginFault, Cause, CommitFault, EntriesFault, GetFault, KeysOfFault, PutFault,
+    AbortFault, BeginFault, Cause, ClaimFault, CommitFault, EntriesFault, GetFault, KeysOfFault, PutFault,
     ReleaseFault, RemoveFault, ResumeFault, RollbackToFault, SavepointFault,
 };
 
@@ -54,6 +54,24 @@ impl From<PutFault> for Refusal {
             PutFault::Damaged(page) => Refusal::Failed(Cause::Damaged(page)),
             PutFault::Full => Refusal::Full,
             PutFault::Memory => Refusal::Failed(Cause::Memory),
+        }
+    }
+}
+
+/// The refusal that the reply to `claim` names.
+impl From<ClaimFault> for Refusal {
+    fn from(fault: ClaimFault) -> Refusal
+        ensures { result ≡ claim_refusal fault }
+    {
+        match fault {
+            ClaimFault::NoSuchTx => Refusal::NoSuchTx,
+            ClaimFault::Rolling => Refusal::Rolling,
+            ClaimFault::Held(owner) => Refusal::Held(owner),
+            ClaimFault::LogFull => Refusal::LogFull,
+            ClaimFault::Device => Refusal::Failed(Cause::Device),
+            ClaimFault::Damaged(page) => Refusal::Failed(Cause::Damaged(page)),
+            ClaimFault::Full => Refusal::Full,
+            ClaimFault::Memory => Refusal::Failed(Cause::Memory),
         }
     }
 }

@@ -8,7 +8,7 @@ use crate::{EntryList, KeyList, LineFault};
 use percent_encoding::{AsciiSet, CONTROLS, ascii_set, percent_encode};
 use rec_types::{Entry, Key, Memory, Record, TxId};
 use record_file::{
-    AbortFault, BeginFault, Cause, CommitFault, EntriesFault, GetFault, KeysOfFault, PutFault,
+    AbortFault, BeginFault, Cause, ClaimFault, CommitFault, EntriesFault, GetFault, KeysOfFault, PutFault,
     ReleaseFault, RemoveFault, ResumeFault, RollbackToFault, SavepointFault,
 };
 use std::alloc::{AllocError, Global};
@@ -18,6 +18,7 @@ use std::alloc::{AllocError, Global};
 pub enum Reply {
     Begin(Result<TxId, BeginFault>),
     Put(Result<Option<Record>, PutFault>),
+    Claim(Result<Option<Record>, ClaimFault>),
     Del(Result<Record, RemoveFault>),
     Get(Result<Option<Record>, GetFault>),
     Save(Result<u32, SavepointFault>),
@@ -192,6 +193,8 @@ fn push_reply(text: &mut String, reply: &Reply) -> Result<(), AllocError>
         Reply::Begin(Err(fault)) => push_refusal(text, Refusal::from(*fault)),
         Reply::Put(Ok(old)) => push_old(text, old),
         Reply::Put(Err(fault)) => push_refusal(text, Refusal::from(*fault)),
+        Reply::Claim(Ok(seen)) => push_old(text, seen),
+        Reply::Claim(Err(fault)) => push_refusal(text, Refusal::from(*fault)),
         Reply::Del(Ok(record)) => push_record(text, record),
         Reply::Del(Err(fault)) => push_refusal(text, Refusal::from(*fault)),
         Reply::Get(Ok(value)) => push_old(text, value),

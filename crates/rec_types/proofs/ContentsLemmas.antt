@@ -5,7 +5,7 @@ use Rattle.std.specs.Cmp.Lexicographic.{nat_list_cmp_total}
 use Rattle.std.proofs.lemmas.Map.Lookups.{exact_bytes}
 use Rattle.std.proofs.lemmas.Map.Views.{tells_apart}
 use Rattle.std.specs.Cmp.{eq_by_cmp_equiv}
-use Rattle.rec_types.specs.Contents.{Contents, set_to, same_key}
+use Rattle.rec_types.specs.Contents.{Contents, set_to, write_to, same_key}
 
 -- what stands at a key after a record was put at one, or one was taken out
 pub get-set_to : (m : Contents) (k : List ℕ) (w : Option (List ℕ)) (q : List ℕ) → get (set_to m k w) q ≡ cond (same_key q k) w (get m q)
@@ -68,3 +68,19 @@ set_to-other m j k v w apart = same_contents _ _ (λ q.
     at q true false same_k same_j = refl
     at q false true same_k same_j = refl
     at q false false same_k same_j = refl
+
+-- what is written at one key leaves the others
+pub get-write_to-there : (m : Contents) (k : List ℕ) (w : Option (Option (List ℕ))) (q : List ℕ) → same_key q k ≡ false → get (write_to m k w) q ≡ get m q
+get-write_to-there m k None q apart = refl
+get-write_to-there m k (Some w) q apart = get-set_to-there m k w q apart
+
+-- what is put at a key stays, whatever was written there before
+pub write_to-under : (m : Contents) (k : List ℕ) (v : Option (Option (List ℕ))) (w : Option (List ℕ)) → set_to (write_to m k v) k w ≡ set_to m k w
+write_to-under m k None w = refl
+write_to-under m k (Some v) w = set_to-twice m k v w
+
+-- two keys may be written at in either order
+pub write_to-other : (m : Contents) (j k : List ℕ) (v w : Option (Option (List ℕ))) → same_key j k ≡ false → write_to (write_to m j v) k w ≡ write_to (write_to m k w) j v
+write_to-other m j k None w apart = refl
+write_to-other m j k (Some v) None apart = refl
+write_to-other m j k (Some v) (Some w) apart = set_to-other m j k v w apart

@@ -1,27 +1,27 @@
 -- Taking back the newest live change of a transaction: the contents, what stood before, who owns, and the opening contents.
-use Rattle.std.proofs.Common.{◌≡◌, ℕ, ◌≤◌, Bool, true, false, cond, ◌&&◌, eqb, List, [], ◌∷◌, ◌++◌, Option, Some, None, refl, sym, ap, subst, ◌∙◌, IsTrue, arith}
+use Rattle.std.proofs.Common.{◌≡◌, ℕ, ◌≤◌, Bool, true, false, cond, ◌&&◌, eqb, List, [], ◌∷◌, ◌++◌, Option, Some, None, option_map, refl, sym, ap, subst, ◌∙◌, IsTrue, arith}
 use Rattle.std.specs.FinMap.{get}
 use Rattle.std.proofs.lemmas.Bool.Decides.{nat_tests}
-use Rattle.rec_types.specs.Contents.{Contents, set_to, same_key}
+use Rattle.rec_types.specs.Contents.{Contents, set_to, write_to, same_key}
 use Rattle.rec_types.specs.History.{applied, replay}
-use Rattle.rec_types.specs.Kept.{Kept, change_of, history_of, opening_of, newest_or, newest_live, is_own, undone, undone_or, BeforesFit, OnlyOf, IsOwned, AllBegun}
-use Rattle.rec_types.proofs.ContentsLemmas.{set_to-twice, set_to-same, set_to-other, get-set_to-there, same_key-is}
+use Rattle.rec_types.specs.Kept.{Kept, change_of, history_of, back_of, opening_of, newest_or, newest_live, is_own, undone, undone_or, BeforesFit, OnlyOf, IsOwned, AllBegun}
+use Rattle.rec_types.proofs.ContentsLemmas.{set_to-twice, set_to-same, write_to-under, write_to-other, get-write_to-there, same_key-is}
 
 -- the opening contents
 
 -- a change with what stood before it leaves the opening contents
-pub opening-push : (cs : List Kept) (c : Kept) (m : Contents) → opening_of (cs ++ c ∷ []) m ≡ opening_of cs (set_to m c.key c.before)
+pub opening-push : (cs : List Kept) (c : Kept) (m : Contents) → opening_of (cs ++ c ∷ []) m ≡ opening_of cs (write_to m c.key (back_of c))
 opening-push [] c m = refl
-opening-push (d ∷ cs) c m = ap (λ n. set_to n d.key d.before) (opening-push cs c m)
+opening-push (d ∷ cs) c m = ap (λ n. write_to n d.key (back_of d)) (opening-push cs c m)
 
 -- what is put at a key beforehand doesn't matter there in the end
 opening_past : (cs : List Kept) (m : Contents) (k : List ℕ) (r b : Option (List ℕ)) → set_to (opening_of cs (set_to m k r)) k b ≡ set_to (opening_of cs m) k b
 opening_past [] m k r b = set_to-twice m k r b
 opening_past (c ∷ cs) m k r b = at (opening_past cs m k r b) (same_key c.key k) refl
   where
-    at : set_to (opening_of cs (set_to m k r)) k b ≡ set_to (opening_of cs m) k b → (same : Bool) → same_key c.key k ≡ same → set_to (set_to (opening_of cs (set_to m k r)) c.key c.before) k b ≡ set_to (set_to (opening_of cs m) c.key c.before) k b
-    at later true here = ap (λ x. set_to (set_to (opening_of cs (set_to m k r)) x c.before) k b) (same_key-is c.key k here) ∙ set_to-twice _ k c.before b ∙ later ∙ sym (set_to-twice _ k c.before b) ∙ ap (λ x. set_to (set_to (opening_of cs m) x c.before) k b) (sym (same_key-is c.key k here))
-    at later false apart = set_to-other _ c.key k c.before b apart ∙ ap (λ n. set_to n c.key c.before) later ∙ sym (set_to-other _ c.key k c.before b apart)
+    at : set_to (opening_of cs (set_to m k r)) k b ≡ set_to (opening_of cs m) k b → (same : Bool) → same_key c.key k ≡ same → set_to (opening_of (c ∷ cs) (set_to m k r)) k b ≡ set_to (opening_of (c ∷ cs) m) k b
+    at later true here = ap (λ x. set_to (write_to (opening_of cs (set_to m k r)) x (back_of c)) k b) (same_key-is c.key k here) ∙ write_to-under _ k (back_of c) b ∙ later ∙ sym (write_to-under _ k (back_of c) b) ∙ ap (λ x. set_to (write_to (opening_of cs m) x (back_of c)) k b) (sym (same_key-is c.key k here))
+    at later false apart = write_to-other _ c.key k (back_of c) (Some b) apart ∙ ap (λ n. write_to n c.key (back_of c)) later ∙ sym (write_to-other _ c.key k (back_of c) (Some b) apart)
 
 -- the newest live change
 
@@ -51,17 +51,21 @@ is_own-of t c same live = ap (λ b. eqb c.tx t && b) live ∙ at (eqb c.tx t) re
     at true is = refl
     at false is = absurd (grind (arith, nat_tests))
 
--- a record put at the key of a live change beforehand leaves the opening contents
-pub opening-over : (t : ℕ) (cs : List Kept) (u : Kept) (m : Contents) (r : Option (List ℕ)) → newest_live t cs ≡ Some u → opening_of cs (set_to m u.key r) ≡ opening_of cs m
+-- what taking a live change back writes at its key, written beforehand, leaves the opening contents
+pub opening-over : (t : ℕ) (cs : List Kept) (u : Kept) (m : Contents) (r : Option (List ℕ)) → newest_live t cs ≡ Some u → opening_of cs (write_to m u.key (option_map (λ _. r) u.after)) ≡ opening_of cs m
 opening-over t [] u m r newest = absurd (cc)
 opening-over t (c ∷ cs) u m r newest = at (opening-over t cs u m r) (newest_live t cs) refl newest
   where
-    at : (newest_live t cs ≡ Some u → opening_of cs (set_to m u.key r) ≡ opening_of cs m) → (o : Option Kept) → newest_live t cs ≡ o → newest_or o (is_own t c) c ≡ Some u → opening_of (c ∷ cs) (set_to m u.key r) ≡ opening_of (c ∷ cs) m
-    at ih (Some d) later is = ap (λ n. set_to n c.key c.before) (ih (later ∙ is))
-    at ih None later is = ap (λ (d : Kept). opening_of (c ∷ cs) (set_to m d.key r)) (sym (own_or None (is_own t c) c u is refl).1) ∙ opening_past cs m c.key r c.before
+    here : (w : Option (Option (List ℕ))) → write_to (opening_of cs (write_to m c.key (option_map (λ _. r) w))) c.key (option_map (λ _. c.before) w) ≡ write_to (opening_of cs m) c.key (option_map (λ _. c.before) w)
+    here None = refl
+    here (Some w) = opening_past cs m c.key r c.before
+
+    at : (newest_live t cs ≡ Some u → opening_of cs (write_to m u.key (option_map (λ _. r) u.after)) ≡ opening_of cs m) → (o : Option Kept) → newest_live t cs ≡ o → newest_or o (is_own t c) c ≡ Some u → opening_of (c ∷ cs) (write_to m u.key (option_map (λ _. r) u.after)) ≡ opening_of (c ∷ cs) m
+    at ih (Some d) later is = ap (λ n. write_to n c.key (back_of c)) (ih (later ∙ is))
+    at ih None later is = ap (λ (d : Kept). opening_of (c ∷ cs) (write_to m d.key (option_map (λ _. r) d.after))) (sym (own_or None (is_own t c) c u is refl).1) ∙ here c.after
 
 opening-undone_or : (o : Option Kept) (b : Bool) (c : Kept) (cs done : List Kept) (m : Contents) → opening_of done m ≡ opening_of cs m → opening_of (undone_or o b c cs done) m ≡ opening_of (c ∷ cs) m
-opening-undone_or (Some d) b c cs done m same = ap (λ n. set_to n c.key c.before) same
+opening-undone_or (Some d) b c cs done m same = ap (λ n. write_to n c.key (back_of c)) same
 opening-undone_or None true c cs done m same = refl
 opening-undone_or None false c cs done m same = refl
 
@@ -89,21 +93,21 @@ apart_of a b differ = at (same_key a b) refl
     at true same = absurd (differ (same_key-is a b same))
     at false same = same
 
--- a record put at a key passes over the changes elsewhere
-replay_past : (cs : List Kept) (m : Contents) (x : List ℕ) (w : Option (List ℕ)) → NoneAt x cs → replay (set_to m x w) (history_of cs) ≡ set_to (replay m (history_of cs)) x w
+-- what is written at a key passes over the changes elsewhere
+replay_past : (cs : List Kept) (m : Contents) (x : List ℕ) (w : Option (Option (List ℕ))) → NoneAt x cs → replay (write_to m x w) (history_of cs) ≡ write_to (replay m (history_of cs)) x w
 replay_past [] m x w none = refl
 replay_past (d ∷ ds) m x w none = at (λ n. replay_past ds n x w none.1) d.live refl
   where
-    at : ((n : Contents) → replay (set_to n x w) (history_of ds) ≡ set_to (replay n (history_of ds)) x w) → (live : Bool) → d.live ≡ live → replay (cond live (set_to (set_to m x w) d.key d.after) (set_to m x w)) (history_of ds) ≡ set_to (replay (cond live (set_to m d.key d.after) m) (history_of ds)) x w
-    at ih true live = ap (λ n. replay n (history_of ds)) (sym (set_to-other m d.key x d.after w (apart_of d.key x (none.0 live)))) ∙ ih (set_to m d.key d.after)
+    at : ((n : Contents) → replay (write_to n x w) (history_of ds) ≡ write_to (replay n (history_of ds)) x w) → (live : Bool) → d.live ≡ live → replay (cond live (write_to (write_to m x w) d.key d.after) (write_to m x w)) (history_of ds) ≡ write_to (replay (cond live (write_to m d.key d.after) m) (history_of ds)) x w
+    at ih true live = ap (λ n. replay n (history_of ds)) (sym (write_to-other m d.key x d.after w (apart_of d.key x (none.0 live)))) ∙ ih (write_to m d.key d.after)
     at ih false live = ih m
 
-befores_past : (cs : List Kept) (m : Contents) (x : List ℕ) (w : Option (List ℕ)) → NoneAt x cs → BeforesFit (set_to m x w) cs → BeforesFit m cs
+befores_past : (cs : List Kept) (m : Contents) (x : List ℕ) (w : Option (Option (List ℕ))) → NoneAt x cs → BeforesFit (write_to m x w) cs → BeforesFit m cs
 befores_past [] m x w none fit = tt
-befores_past (d ∷ ds) m x w none fit = (λ live. fit.0 live ∙ get-set_to-there m x w d.key (apart_of d.key x (none.0 live)), at (λ n. befores_past ds n x w none.1) d.live refl fit.1)
+befores_past (d ∷ ds) m x w none fit = (λ live. fit.0 live ∙ get-write_to-there m x w d.key (apart_of d.key x (none.0 live)), at (λ n. befores_past ds n x w none.1) d.live refl fit.1)
   where
-    at : ((n : Contents) → BeforesFit (set_to n x w) ds → BeforesFit n ds) → (live : Bool) → d.live ≡ live → BeforesFit (cond live (set_to (set_to m x w) d.key d.after) (set_to m x w)) ds → BeforesFit (cond live (set_to m d.key d.after) m) ds
-    at ih true live fit = ih (set_to m d.key d.after) (subst (λ n. BeforesFit n ds) (set_to-other m x d.key w d.after (apart_of x d.key (λ same. none.0 live (sym same)))) fit)
+    at : ((n : Contents) → BeforesFit (write_to n x w) ds → BeforesFit n ds) → (live : Bool) → d.live ≡ live → BeforesFit (cond live (write_to (write_to m x w) d.key d.after) (write_to m x w)) ds → BeforesFit (cond live (write_to m d.key d.after) m) ds
+    at ih true live fit = ih (write_to m d.key d.after) (subst (λ n. BeforesFit n ds) (write_to-other m x d.key w d.after (apart_of x d.key (λ same. none.0 live (sym same)))) fit)
     at ih false live fit = ih m fit
 
 -- The heart of every rollback: where a live change is its transaction's newest, the replay without it is the replay
@@ -118,15 +122,37 @@ replay-undone is_open t (c ∷ cs) u m owned open_t fit newest = at (replay-undo
         let before = fit.0 is.1 in
         let nothing = none_at t c.key cs (subst (λ s. OnlyOf s c.key cs) is.0 (owned.0 is.1 (subst (λ s. IsTrue (is_open s)) (sym is.0) open_t))) none in
         ap (λ n. replay n (history_of cs)) (sym (set_to-same m c.key c.before before))
-        ∙ replay_past cs m c.key c.before nothing
-        ∙ sym (set_to-twice (replay m (history_of cs)) c.key c.after c.before)
+        ∙ replay_past cs m c.key (Some c.before) nothing
+        ∙ sym (write_to-under (replay m (history_of cs)) c.key c.after c.before)
         ∙ ap (λ n. set_to n c.key c.before) (sym (replay_past cs m c.key c.after nothing))
-        ∙ ap (λ b. set_to (replay (cond b (set_to m c.key c.after) m) (history_of cs)) c.key c.before) (sym is.1)
+        ∙ ap (λ b. set_to (replay (cond b (write_to m c.key c.after) m) (history_of cs)) c.key c.before) (sym is.1)
 
     at : (newest_live t cs ≡ Some u → replay (applied (change_of c) m) (history_of (undone t cs)) ≡ set_to (replay (applied (change_of c) m) (history_of cs)) u.key u.before) → (o : Option Kept) (b : Bool) → newest_live t cs ≡ o → is_own t c ≡ b → newest_or o b c ≡ Some u → replay m (history_of (undone_or o b c cs (undone t cs))) ≡ set_to (replay (applied (change_of c) m) (history_of cs)) u.key u.before
     at ih (Some d) b later own is = ih (later ∙ is)
     at ih None true later own is = last own later ∙ ap (λ (d : Kept). set_to (replay (applied (change_of c) m) (history_of cs)) d.key d.before) (own_or None true c u is refl).1
     at ih None false later own is = absurd (cc)
+
+-- where the newest live change is a claim the replay stays, whoever else has changes
+pub replay-unclaimed : (t : ℕ) (cs : List Kept) (u : Kept) (m : Contents) → newest_live t cs ≡ Some u → u.after ≡ None → replay m (history_of (undone t cs)) ≡ replay m (history_of cs)
+replay-unclaimed t [] u m newest claim = absurd (cc)
+replay-unclaimed t (c ∷ cs) u m newest claim = at (replay-unclaimed t cs u (applied (change_of c) m)) (newest_live t cs) (is_own t c) refl newest
+  where
+    here : (live : Bool) (w : Option (Option (List ℕ))) → w ≡ None → m ≡ cond live (write_to m c.key w) m
+    here false w none = refl
+    here true w none = ap (write_to m c.key) (sym none)
+
+    at : (newest_live t cs ≡ Some u → u.after ≡ None → replay (applied (change_of c) m) (history_of (undone t cs)) ≡ replay (applied (change_of c) m) (history_of cs)) → (o : Option Kept) (b : Bool) → newest_live t cs ≡ o → newest_or o b c ≡ Some u → replay m (history_of (undone_or o b c cs (undone t cs))) ≡ replay (applied (change_of c) m) (history_of cs)
+    at ih (Some d) b later is = ih (later ∙ is) claim
+    at ih None true later is = ap (λ n. replay n (history_of cs)) (here c.live c.after (ap (λ (d : Kept). d.after) (own_or None true c u is refl).1 ∙ claim))
+    at ih None false later is = absurd (cc)
+
+-- the replay without a transaction's newest live change is the one that taking it back leaves
+pub replay-back : (is_open : ℕ → Bool) (t : ℕ) (cs : List Kept) (u : Kept) (m : Contents) → IsOwned is_open cs → IsTrue (is_open t) → BeforesFit m cs → newest_live t cs ≡ Some u → replay m (history_of (undone t cs)) ≡ write_to (replay m (history_of cs)) u.key (back_of u)
+replay-back is_open t cs u m owned open_t fit newest = at u.after refl
+  where
+    at : (w : Option (Option (List ℕ))) → u.after ≡ w → replay m (history_of (undone t cs)) ≡ write_to (replay m (history_of cs)) u.key (option_map (λ _. u.before) w)
+    at None claim = replay-unclaimed t cs u m newest claim
+    at (Some w) is = replay-undone is_open t cs u m owned open_t fit newest
 
 -- what stood before each live change still fits
 pub befores-undone : (is_open : ℕ → Bool) (t : ℕ) (cs : List Kept) (m : Contents) → IsOwned is_open cs → IsTrue (is_open t) → BeforesFit m cs → BeforesFit m (undone t cs)
@@ -137,7 +163,7 @@ befores-undone is_open t (c ∷ cs) m owned open_t fit = at (befores-undone is_o
     last own none =
         let is = own_is t c own in
         let nothing = none_at t c.key cs (subst (λ s. OnlyOf s c.key cs) is.0 (owned.0 is.1 (subst (λ s. IsTrue (is_open s)) (sym is.0) open_t))) none in
-        befores_past cs m c.key c.after nothing (subst (λ b. BeforesFit (cond b (set_to m c.key c.after) m) cs) is.1 fit.1)
+        befores_past cs m c.key c.after nothing (subst (λ b. BeforesFit (cond b (write_to m c.key c.after) m) cs) is.1 fit.1)
 
     at : BeforesFit (applied (change_of c) m) (undone t cs) → (o : Option Kept) (b : Bool) → newest_live t cs ≡ o → is_own t c ≡ b → BeforesFit m (undone_or o b c cs (undone t cs))
     at ih (Some d) b later own = (fit.0, ih)

@@ -20,6 +20,11 @@ abbrev pub set_to : Contents → List ℕ → Option (List ℕ) → Contents
 set_to m k None = map.remove m k
 set_to m k (Some r) = map.insert m k r
 
+-- the same where something is written at the key; where nothing is, the contents stay
+abbrev pub write_to : Contents → List ℕ → Option (Option (List ℕ)) → Contents
+write_to m k None = m
+write_to m k (Some w) = set_to m k w
+
 -- whether the key has a record
 abbrev pub has : Contents → List ℕ → Bool
 has m k = map.contains_key m k

@@ -1,17 +1,18 @@
 -- Changes, the history of a session, its replay, and what taking back does to it. A history stands oldest first.
 use Rattle.std.specs.Prelude.{ℕ, zero, suc, ◌+◌, Bool, false, not, ◌&&◌, ◌==◌, nat_lt, if◌then◌else◌, List, [], ◌∷◌, length, filter, Option}
-use Rattle.rec_types.specs.Contents.{Contents, set_to}
+use Rattle.rec_types.specs.Contents.{Contents, write_to}
 
--- A transaction wrote a record at the key, or took the key out. The change is live, or was taken back.
+-- A transaction wrote a record at the key, or took the key out, or claimed the key: then nothing is written there. The
+-- change is live, or was taken back.
 pub record Change : Type 0 where
   pub tx : ℕ
   pub key : List ℕ
-  pub after : Option (List ℕ)
+  pub after : Option (Option (List ℕ))
   pub live : Bool
 
--- what a change does to the contents: nothing where it was taken back
+-- what a change does to the contents: nothing where it was taken back, or is a claim
 abbrev pub applied : Change → Contents → Contents
-applied c m = if c.live then set_to m c.key c.after else m
+applied c m = if c.live then write_to m c.key c.after else m
 
 -- the contents that the live changes leave, in order
 abbrev pub replay : Contents → List Change → Contents

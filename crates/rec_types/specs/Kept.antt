@@ -1,7 +1,7 @@
--- Changes with the record that stood at the key before each, and the log record that tells of each. They stand oldest first.
-use Rattle.std.specs.Prelude.{◌≡◌, ℕ, ◌≤◌, zero, suc, Bool, true, false, ◌&&◌, ◌==◌, if◌then◌else◌, List, [], ◌∷◌, map, Option, Some, None, IsTrue}
+-- Changes with the record that stood at the key before each, or that a claim has seen there, and the log record that tells of each. They stand oldest first.
+use Rattle.std.specs.Prelude.{◌≡◌, ℕ, ◌≤◌, zero, suc, Bool, true, false, ◌&&◌, ◌==◌, if◌then◌else◌, List, [], ◌∷◌, map, Option, Some, None, option_map, IsTrue}
 use Rattle.std.specs.FinMap as maps
-use Rattle.rec_types.specs.Contents.{Contents, set_to}
+use Rattle.rec_types.specs.Contents.{Contents, write_to}
 use Rattle.rec_types.specs.History.{Change, applied}
 
 pub record Kept : Type 0 where
@@ -9,7 +9,7 @@ pub record Kept : Type 0 where
   pub tx : ℕ
   pub key : List ℕ
   pub before : Option (List ℕ)
-  pub after : Option (List ℕ)
+  pub after : Option (Option (List ℕ))
   pub live : Bool
 
 abbrev pub change_of : Kept → Change
@@ -18,10 +18,15 @@ change_of c = record { tx = c.tx; key = c.key; after = c.after; live = c.live }
 abbrev pub history_of : List Kept → List Change
 history_of cs = map change_of cs
 
--- The opening contents: at a key with a change what stood there before the first, elsewhere what stands there now.
+-- what taking a change back writes at its key: nothing where it is a claim
+abbrev pub back_of : Kept → Option (Option (List ℕ))
+back_of c = option_map (λ _. c.before) c.after
+
+-- The opening contents: at a key with a change, claims aside, what stood there before the first, elsewhere what stands
+-- there now.
 abbrev pub opening_of : List Kept → Contents → Contents
 opening_of [] m = m
-opening_of (c ∷ cs) m = set_to (opening_of cs m) c.key c.before
+opening_of (c ∷ cs) m = write_to (opening_of cs m) c.key (back_of c)
 
 abbrev pub newest_or : Option Kept → Bool → Kept → Option Kept
 newest_or (Some d) b c = Some d

@@ -8,7 +8,7 @@ use Rattle.tx_log.specs.declared.phase.Rollback.{Rollback}
 use Rattle.tx_log.specs.LogState.{active_with, rolling_to, finished, finished_by}
 use Rattle.tx_log.specs.declared.phase.BeginFault.TheVariants as begin_faults
 use Rattle.record_file.specs.Abstract.{File, tx_of}
-use Rattle.record_file.specs.Runs.{Called, Event, Seen, Run, Answers, Begin, Put, Remove, Get, Savepoint, Release, RollbackTo, Abort, Resume, Commit, Entries, KeysOf, StatusOf, Charged, Begun, LogLen, LogUse, RecordAt, IntoTable}
+use Rattle.record_file.specs.Runs.{Called, Event, Seen, Run, Answers, Begin, Put, Claim, Remove, Get, Savepoint, Release, RollbackTo, Abort, Resume, Commit, Entries, KeysOf, StatusOf, Charged, Begun, LogLen, LogUse, RecordAt, IntoTable}
 use Rattle.record_file.specs.Steps.{places_at}
 use Rattle.record_file.specs.declared.fault.RollbackToFault.TheVariants as rollback_faults
 use Rattle.record_file.specs.declared.fault.AbortFault.TheVariants as abort_faults
@@ -68,6 +68,8 @@ whole_step old new (Begin (Err begin_faults.BeginsSpent)) failed refused step wh
 whole_step old new (Begin (Err begin_faults.Memory)) failed refused step whole = same_file old.file new.file step.1.1 whole
 whole_step old new (Put t x r (Ok before)) failed refused step whole = has_txs new.file old.file.txs (ap (λ (f : File). f.txs) step.1.accepted.history) whole
 whole_step old new (Put t x r (Err fault)) failed refused step whole = same_file old.file new.file step.1.err.1 whole
+whole_step old new (Claim t x (Ok seen)) failed refused step whole = has_txs new.file old.file.txs (ap (λ (f : File). f.txs) step.1.accepted.history) whole
+whole_step old new (Claim t x (Err fault)) failed refused step whole = same_file old.file new.file step.1.err.1 whole
 whole_step old new (Remove t x (Ok before)) failed refused step whole = has_txs new.file old.file.txs (ap (λ (f : File). f.txs) step.1.accepted.history) whole
 whole_step old new (Remove t x (Err fault)) failed refused step whole = same_file old.file new.file step.1.err.1 whole
 whole_step old new (Get t x answer) failed refused step whole = same_file old.file new.file step.1.same.1 whole

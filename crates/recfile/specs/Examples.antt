@@ -3,7 +3,7 @@ use Rattle.std.specs.Prelude.{ℕ, Bool, true, false, List, [], ◌∷◌, Optio
 use Rattle.rec_types.specs.History.{Change}
 
 abbrev pub change : ℕ → ℕ → Option (List ℕ) → Bool → Change
-change t key after live = record { tx = t; key = key ∷ []; after = after; live = live }
+change t key after live = record { tx = t; key = key ∷ []; after = Some after; live = live }
 
 -- transaction 1 put a record at key 97 and took that at 99 out, which was taken back; 2 and 3 put one each
 abbrev pub four_changes : List Change

@@ -2,7 +2,7 @@
 use Rattle.std.specs.Prelude.{◌≡◌, ℕ, ◌<◌, Bool, true, false, List, [], ◌∷◌, ◌++◌, length, filter, map, take, Option, Some, None, Ok, Err, ◌⊎◌}
 use Rattle.std.specs.List.{flat_map}
 use Rattle.std.specs.Io.KnownBytes.{Appends}
-use Rattle.record_file.specs.Runs.{Called, Event, Seen, Run, Begin, Put, Remove, Get, Savepoint, Release, RollbackTo, Abort, Resume, Commit, Entries, KeysOf, LogLen, LogUse}
+use Rattle.record_file.specs.Runs.{Called, Event, Seen, Run, Begin, Put, Claim, Remove, Get, Savepoint, Release, RollbackTo, Abort, Resume, Commit, Entries, KeysOf, LogLen, LogUse}
 use Rattle.command_text.specs.declared.command.Command.{Command}
 use Rattle.command_text.specs.declared.command.Command.TheVariants as command
 use Rattle.command_text.specs.declared.reply.Reply.{Reply}
@@ -19,6 +19,7 @@ abbrev pub ScriptTellsOf : Read Command → Reply → List Called → Type 0
 ScriptTellsOf (Err fault) (reply.Bad told) calls = (told ≡ fault) × (calls ≡ [])
 ScriptTellsOf (Ok command.Begin) (reply.Begin answer) calls = calls ≡ Begin answer ∷ []
 ScriptTellsOf (Ok (command.Put t x r)) (reply.Put answer) calls = calls ≡ Put t x r answer ∷ []
+ScriptTellsOf (Ok (command.Claim t x)) (reply.Claim answer) calls = calls ≡ Claim t x answer ∷ []
 ScriptTellsOf (Ok (command.Del t x)) (reply.Del answer) calls = calls ≡ Remove t x answer ∷ []
 ScriptTellsOf (Ok (command.Get t x)) (reply.Get answer) calls = calls ≡ Get t x answer ∷ []
 ScriptTellsOf (Ok (command.Save t)) (reply.Save answer) calls = calls ≡ Savepoint t answer ∷ []

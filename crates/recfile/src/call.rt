@@ -31,6 +31,7 @@ pub fn call<T: Table>(file: &mut RecordFile<T>, command: Command) -> Reply
     match command {
         Command::Begin => Reply::Begin(file.begin()),
         Command::Put(tx, key, value) => Reply::Put(file.put(tx, key, value)),
+        Command::Claim(tx, key) => Reply::Claim(file.claim(tx, key)),
         Command::Del(tx, key) => Reply::Del(file.remove(tx, key)),
         Command::Get(tx, key) => Reply::Get(file.get(tx, &key)),
         Command::Save(tx) => Reply::Save(file.savepoint(tx)),

@@ -11,8 +11,9 @@ use Rattle.tx_log.specs.Log.{record_at}
 use Rattle.tx_log.specs.declared.phase.BeginFault.{BeginFault}
 use Rattle.tx_log.specs.declared.log_record.LogRecord.{LogRecord}
 use Rattle.record_file.specs.Abstract.{OpenFile, Tells, charged_of, use_of}
-use Rattle.record_file.specs.Steps.{rose, BeginStep, PutStep, RemoveStep, GetStep, SavepointStep, ReleaseStep, CommitStep, RollbackToStep, AbortStep, ResumeStep, status_of}
+use Rattle.record_file.specs.Steps.{rose, BeginStep, PutStep, ClaimStep, RemoveStep, GetStep, SavepointStep, ReleaseStep, CommitStep, RollbackToStep, AbortStep, ResumeStep, status_of}
 use Rattle.record_file.specs.declared.fault.PutFault.{PutFault}
+use Rattle.record_file.specs.declared.fault.ClaimFault.{ClaimFault}
 use Rattle.record_file.specs.declared.fault.RemoveFault.{RemoveFault}
 use Rattle.record_file.specs.declared.fault.GetFault.{GetFault}
 use Rattle.record_file.specs.declared.fault.SavepointFault.{SavepointFault}
@@ -29,7 +30,7 @@ use Rattle.recfile_c.specs.declared.outcome.Outcome.{Outcome}
 use Rattle.recfile_c.specs.declared.shown.TxStatus.{TxStatus}
 use Rattle.recfile_c.specs.FileTables.{contents_of, is_sound, failures_of, refusals_of, origin_of}
 use Rattle.recfile_c.specs.Answers.{found_in, taken_in, number_in, tx_in, TellsStatus}
-use Rattle.recfile_c.specs.Outcomes.{just, empty_key, long_key, long_record, begin_outcome, put_outcome, remove_outcome, get_outcome, savepoint_outcome, release_outcome, rollback_to_outcome, abort_outcome, resume_outcome, commit_outcome, status_outcome, ok}
+use Rattle.recfile_c.specs.Outcomes.{just, empty_key, long_key, long_record, begin_outcome, put_outcome, claim_outcome, remove_outcome, get_outcome, savepoint_outcome, release_outcome, rollback_to_outcome, abort_outcome, resume_outcome, commit_outcome, status_outcome, ok}
 
 abbrev pub FileState : Type 0
 FileState = OpenFile FileTable
@@ -92,6 +93,16 @@ PutBytes t (Err Empty) record_bytes told before old new = (told ≡ just empty_k
 PutBytes t (Err TooLong) record_bytes told before old new = (told ≡ just long_key) × (before ≡ None) × (new ≡ old)
 PutBytes t (Ok x) (Err fault) told before old new = (told ≡ just long_record) × (before ≡ None) × (new ≡ old)
 PutBytes t (Ok x) (Ok r) told before old new = Put t x r told before old new
+
+abbrev pub Claim : TxId → List ℕ → Outcome → Option (List ℕ) → FileState → FileState → Type 0
+Claim t x told seen old new =
+    (answer : Result (Option (List ℕ)) ClaimFault) × (told ≡ claim_outcome answer) × (seen ≡ found_in answer)
+    × Sure old (ClaimStep old.file t.0 x (failed old new) answer new.file) × Keeps old new
+
+abbrev pub ClaimBytes : TxId → Result (List ℕ) KeyFault → Outcome → Option (List ℕ) → FileState → FileState → Type 0
+ClaimBytes t (Err Empty) told seen old new = (told ≡ just empty_key) × (seen ≡ None) × (new ≡ old)
+ClaimBytes t (Err TooLong) told seen old new = (told ≡ just long_key) × (seen ≡ None) × (new ≡ old)
+ClaimBytes t (Ok x) told seen old new = Claim t x told seen old new
 
 abbrev pub Remove : TxId → List ℕ → Outcome → Option (List ℕ) → FileState → FileState → Type 0
 Remove t x told taken old new =

@@ -15,6 +15,8 @@ use Rattle.record_file.specs.declared.fault.Cause.{Cause}
 use Rattle.record_file.specs.declared.fault.Cause.TheVariants as causes
 use Rattle.record_file.specs.declared.fault.PutFault.{PutFault}
 use Rattle.record_file.specs.declared.fault.PutFault.TheVariants as put_faults
+use Rattle.record_file.specs.declared.fault.ClaimFault.{ClaimFault}
+use Rattle.record_file.specs.declared.fault.ClaimFault.TheVariants as claim_faults
 use Rattle.record_file.specs.declared.fault.RemoveFault.{RemoveFault}
 use Rattle.record_file.specs.declared.fault.RemoveFault.TheVariants as remove_faults
 use Rattle.record_file.specs.declared.fault.GetFault.{GetFault}
@@ -210,6 +212,17 @@ put_outcome (Err put_faults.Device) = just device
 put_outcome (Err (put_faults.Damaged n)) = at_page n
 put_outcome (Err put_faults.Full) = just full
 put_outcome (Err put_faults.Memory) = just memory
+
+abbrev pub claim_outcome : {A : Type 0} → Result A ClaimFault → Outcome
+claim_outcome (Ok answer) = just ok
+claim_outcome (Err claim_faults.NoSuchTx) = just no_such_tx
+claim_outcome (Err claim_faults.Rolling) = just rolling
+claim_outcome (Err (claim_faults.Held t)) = held_by t
+claim_outcome (Err claim_faults.LogFull) = just log_full
+claim_outcome (Err claim_faults.Device) = just device
+claim_outcome (Err (claim_faults.Damaged n)) = at_page n
+claim_outcome (Err claim_faults.Full) = just full
+claim_outcome (Err claim_faults.Memory) = just memory
 
 abbrev pub remove_outcome : {A : Type 0} → Result A RemoveFault → Outcome
 remove_outcome (Ok answer) = just ok

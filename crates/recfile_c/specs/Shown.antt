@@ -3,7 +3,7 @@ use Rattle.std.specs.Prelude.{◌≡◌, ℕ, ◌==◌, not, List, [], take, Opt
 use Rattle.rec_types.specs.declared.transaction.TxId.{TxId}
 use Rattle.rec_types.specs.declared.transaction.Entry.{Entry}
 use Rattle.tx_log.specs.declared.log_record.LogRecord.{LogRecord}
-use Rattle.tx_log.specs.declared.log_record.LogRecord.TheVariants.{Update, Compensation}
+use Rattle.tx_log.specs.declared.log_record.LogRecord.TheVariants.{Update, Compensation, Claim, Unclaim}
 use Rattle.recfile_c.specs.declared.shown.KeyBytes.{KeyBytes}
 use Rattle.recfile_c.specs.declared.shown.Found.{Found}
 use Rattle.recfile_c.specs.declared.shown.LogEntry.{LogEntry}
@@ -30,7 +30,9 @@ abbrev pub log_shown : LogEntry → Option LogRecord
 log_shown e =
     if e.kind == 0 then None
     else (if e.kind == 1 then Some (Update e.lsn e.prev (tx_shown e.tx) (key_shown e.key) (shown e.before) (shown e.after))
-    else Some (Compensation e.lsn e.prev (tx_shown e.tx) (key_shown e.key) (shown e.after) e.undo_next))
+    else (if e.kind == 2 then Some (Compensation e.lsn e.prev (tx_shown e.tx) (key_shown e.key) (shown e.after) e.undo_next)
+    else (if e.kind == 3 then Some (Claim e.lsn e.prev (tx_shown e.tx) (key_shown e.key) (shown e.before))
+    else Some (Unclaim e.lsn e.prev (tx_shown e.tx) (key_shown e.key) e.undo_next))))
 
 -- what an open transaction is doing
 abbrev pub status_shown : TxStatus → Status

@@ -4,7 +4,7 @@ ghost use Rattle.recfile_c.specs.Outcomes as outcomes;
 use btree_delete::{CreateFault, OpenFault};
 use rec_types::{KeyFault, LimitFault, TxId};
 use record_file::{
-    AbortFault, BeginFault, Cause, CommitFault, EntriesFault, GetFault, KeysOfFault, PutFault,
+    AbortFault, BeginFault, Cause, ClaimFault, CommitFault, EntriesFault, GetFault, KeysOfFault, PutFault,
     ReleaseFault, RemoveFault, ResumeFault, RollbackToFault, SavepointFault, StatusFault,
 };
 
@@ -265,6 +265,28 @@ impl<A> From<&Result<A, PutFault>> for Outcome {
             Err(PutFault::Damaged(page)) => Outcome::at_page(*page),
             Err(PutFault::Full) => Outcome::just(FULL),
             Err(PutFault::Memory) => Outcome::just(MEMORY),
+        }
+    }
+}
+
+impl<A> From<&Result<A, ClaimFault>> for Outcome {
+    ghost use Rattle.std.specs.Prelude.{◌≡◌};
+    ghost use Rattle.recfile_c.specs.Outcomes.{claim_outcome};
+
+    ghost from_gives = { λ answer told. told ≡ claim_outcome answer.now };
+
+    /// The outcome of `claim`.
+    fn from(answer: &Result<A, ClaimFault>) -> Outcome {
+        match answer {
+            Ok(_) => Outcome::just(OK),
+            Err(ClaimFault::NoSuchTx) => Outcome::just(NO_SUCH_TX),
+            Err(ClaimFault::Rolling) => Outcome::just(ROLLING),
+            Err(ClaimFault::Held(owner)) => Outcome::held_by(*owner),
+            Err(ClaimFault::LogFull) => Outcome::just(LOG_FULL),
+            Err(ClaimFault::Device) => Outcome::just(DEVICE),
+            Err(ClaimFault::Damaged(page)) => Outcome::at_page(*page),
+            Err(ClaimFault::Full) => Outcome::just(FULL),
+            Err(ClaimFault::Memory) => Outcome::just(MEMORY),
         }
     }
 }

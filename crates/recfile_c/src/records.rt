@@ -4,7 +4,7 @@ ghost use Rattle.rec_types.specs.Key.{key_of};
 ghost use Rattle.rec_types.specs.Record.{record_of};
 ghost use Rattle.recfile_c.specs.Shown.{shown, tx_shown};
 ghost use Rattle.recfile_c.specs.Outcomes.{just, closed};
-ghost use Rattle.recfile_c.specs.Calls.{OnHandle, OnSession, InFile, PutBytes, RemoveBytes, GetBytes};
+ghost use Rattle.recfile_c.specs.Calls.{OnHandle, OnSession, InFile, PutBytes, ClaimBytes, RemoveBytes, GetBytes};
 
 use crate::handle::RecFile;
 use crate::held::Held;
@@ -60,6 +60,52 @@ pub extern "C" fn recfile_put(
         return CLOSED;
     };
     *detail = put(&mut held, TxId(tx), key, value, before);
+    file.give(held);
+    detail.status
+}
+
+// Takes a record out.
+fn claim(held: &mut Held, tx: TxId, key: &[u8], seen: &mut Found) -> Outcome
+    ensures { OnSession ((result ≡ just closed) × (shown seen.new ≡ None)) held.old held.new
+        (InFile (ClaimBytes tx (key_of key.now) result (shown seen.new))) }
+{
+    *seen = Found::default();
+    match held {
+        Held::Open(session) => {
+            let key = match Key::new(key) {
+                Ok(key) => key,
+                Err(fault) => return Outcome::from(fault),
+            };
+            let answer = session.file.claim(tx, key);
+            *seen = Found::from(&answer);
+            Outcome::from(&answer)
+        }
+        Held::Image(_) | Held::Unclosed(_) | Held::Closed(_) => Outcome::just(CLOSED),
+    }
+}
+
+/// Takes the record at a key out. Statuses: OK, CLOSED, EMPTY_KEY, LONG_KEY, NO_SUCH_TX, ROLLING, HELD, LOG_FULL,
+/// DEVICE or DAMAGED, ABSENT, MEMORY.
+#[unsafe(no_mangle)]
+pub extern "C" fn recfile_claim(
+    alloc: Global,
+    file: &mut RecFile,
+    tx: u32,
+    key: &[u8],
+    seen: &mut Found,
+    detail: &mut Outcome,
+) -> i32
+    ensures step { OnHandle ((detail.new ≡ just closed) × (shown seen.new ≡ None))
+        file.old.slot.value file.new.slot.value
+        (InFile (ClaimBytes (tx_shown tx) (key_of key.now) detail.new (shown seen.new))) }
+    ensures status { result ≡ detail.new.status }
+{
+    let Some(mut held) = file.take(alloc) else {
+        *seen = Found::default();
+        *detail = Outcome::just(CLOSED);
+        return CLOSED;
+    };
+    *detail = claim(&mut held, TxId(tx), key, seen);
     file.give(held);
     detail.status
 }

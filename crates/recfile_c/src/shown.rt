@@ -249,6 +249,38 @@ impl From<&LogRecord> for LogEntry {
                 before: Found::default(),
                 after: Found::from(restored),
             },
+            LogRecord::Claim {
+                lsn,
+                prev,
+                tx,
+                key,
+                seen,
+            } => LogEntry {
+                kind: 3,
+                lsn: *lsn,
+                prev: *prev,
+                tx: tx.0,
+                undo_next: 0,
+                key: KeyBytes::from(key),
+                before: Found::from(seen),
+                after: Found::default(),
+            },
+            LogRecord::Unclaim {
+                lsn,
+                prev,
+                tx,
+                key,
+                undo_next,
+            } => LogEntry {
+                kind: 4,
+                lsn: *lsn,
+                prev: *prev,
+                tx: tx.0,
+                undo_next: *undo_next,
+                key: KeyBytes::from(key),
+                before: Found::default(),
+                after: Found::default(),
+            },
         }
     }
 }

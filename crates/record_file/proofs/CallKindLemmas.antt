@@ -12,14 +12,15 @@ use Rattle.tx_log.specs.declared.phase.Rollback.{Rollback}
 use Rattle.tx_log.specs.LogState.{active_with, rolling_to, rollback_phase, phase_of, finished, finished_by}
 use Rattle.tx_log.specs.declared.phase.BeginFault.TheVariants as begin_faults
 use Rattle.record_file.specs.Abstract.{File, records_of, open_of, tx_of, phase_at, is_full, with_change}
-use Rattle.record_file.specs.Steps.{BeginStep, CommitStep, Becomes, put_refusal, remove_refusal, savepoint_in, release_in, rollback_in, abort_in, resume_in, places_at, rolling_place, to_of}
-use Rattle.record_file.specs.Runs.{Called, Event, Seen, Step, Answers, Begin, Put, Remove, Get, Savepoint, Release, RollbackTo, Abort, Resume, Commit, Entries, KeysOf, StatusOf, Charged, Begun, LogLen, LogUse, RecordAt, IntoTable}
+use Rattle.record_file.specs.Steps.{BeginStep, CommitStep, Becomes, put_refusal, claim_fault, remove_refusal, savepoint_in, release_in, rollback_in, abort_in, resume_in, places_at, rolling_place, to_of}
+use Rattle.record_file.specs.Runs.{Called, Event, Seen, Step, Answers, Begin, Put, Claim, Remove, Get, Savepoint, Release, RollbackTo, Abort, Resume, Commit, Entries, KeysOf, StatusOf, Charged, Begun, LogLen, LogUse, RecordAt, IntoTable}
 use Rattle.record_file.specs.Undo.{old_record}
 use Rattle.record_file.specs.Remaining.{begins_or_commits}
 use Rattle.record_file.specs.declared.fault.RollbackToFault.TheVariants as rollback_faults
 use Rattle.record_file.specs.declared.fault.AbortFault.TheVariants as abort_faults
 use Rattle.record_file.specs.declared.fault.ResumeFault.TheVariants as resume_faults
 use Rattle.record_file.proofs.OpenTxLemmas.{same_tx, same_tx-is, get-insert_tx, get-remove_tx, open-insert}
+use Rattle.record_file.proofs.FaultLemmas.{unmapped}
 
 -- a rollback that ends its transaction goes back to the beginning
 abbrev pub EndsFirst : Option Rollback → Type 0
@@ -70,8 +71,9 @@ same_open txs t tx there q = open-insert txs t tx q ∙ at (same_tx q t) refl
 pub data Move (old : File) (called : Called) (new : File) : Type 0 where
   Still : new ≡ old → old_record called ≡ None → begins_or_commits called ≡ false → Move old called new
   Began : (tx : TxId) → called ≡ Begin (Ok tx) → BeginStep old (Ok tx) new → Move old called new
-  PutIn : (t : TxId) → (x r : List ℕ) → (before : Option (List ℕ)) → called ≡ Put t x r (Ok before) → put_refusal old t.0 x ≡ None → is_full old x ≡ false → before ≡ get (records_of old) x → new ≡ with_change old t.0 x (Some r) → Move old called new
-  TookOut : (t : TxId) → (x before : List ℕ) → called ≡ Remove t x (Ok before) → remove_refusal old t.0 x ≡ None → get (records_of old) x ≡ Some before → new ≡ with_change old t.0 x None → Move old called new
+  PutIn : (t : TxId) → (x r : List ℕ) → (before : Option (List ℕ)) → called ≡ Put t x r (Ok before) → put_refusal old t.0 x ≡ None → is_full old x ≡ false → before ≡ get (records_of old) x → new ≡ with_change old t.0 x (Some (Some r)) → Move old called new
+  ClaimIn : (t : TxId) → (x : List ℕ) → (before : Option (List ℕ)) → called ≡ Claim t x (Ok before) → put_refusal old t.0 x ≡ None → is_full old x ≡ false → before ≡ get (records_of old) x → new ≡ with_change old t.0 x None → Move old called new
+  TookOut : (t : TxId) → (x before : List ℕ) → called ≡ Remove t x (Ok before) → remove_refusal old t.0 x ≡ None → get (records_of old) x ≡ Some before → new ≡ with_change old t.0 x (Some None) → Move old called new
   Committed : (t : TxId) → (done : Unit {0}) → called ≡ Commit t (Ok done) → CommitStep old t.0 (Ok done) new → Move old called new
   WentBack : (t p n : ℕ) → (txs : Transactions) → open_of old t ≡ true → n ≤ live_from old.history t p → new ≡ record old { history = take_newest old.history t p n; txs = txs } → SameOpen old.txs txs → AllEnd txs → old_record called ≡ None → begins_or_commits called ≡ false → Move old called new
   Ended : (t : ℕ) → open_of old t ≡ true → new ≡ record old { history = take_back old.history t zero; txs = maps.remove old.txs t } → old_record called ≡ None → begins_or_commits called ≡ false → Move old called new
@@ -129,6 +131,8 @@ move_called old new (Begin (Err begin_faults.BeginsSpent)) failed refused sound 
 move_called old new (Begin (Err begin_faults.Memory)) failed refused sound below all step = Still step.1.1 refl refl
 move_called old new (Put t x r (Ok before)) failed refused sound below all step = let s = step.1.step sound below in PutIn t x r before refl s.0 s.2 s.3 s.4
 move_called old new (Put t x r (Err fault)) failed refused sound below all step = Still step.1.err.1 refl refl
+move_called old new (Claim t x (Ok before)) failed refused sound below all step = let s = step.1.step sound below in ClaimIn t x before refl (unmapped claim_fault (put_refusal old.file t.0 x) s.0) s.2 s.3 s.4
+move_called old new (Claim t x (Err fault)) failed refused sound below all step = Still step.1.err.1 refl refl
 move_called old new (Remove t x (Ok before)) failed refused sound below all step = let s = step.1.step sound below in TookOut t x before refl s.0 s.2 s.3
 move_called old new (Remove t x (Err fault)) failed refused sound below all step = Still step.1.err.1 refl refl
 move_called old new (Get t x answer) failed refused sound below all step = Still step.1.same.1 refl refl
@@ -175,6 +179,6 @@ move_called old new (LogUse count) failed refused sound below all step = Still (
 move_called old new (RecordAt lsn answer) failed refused sound below all step = Still (ap (λ (s : Seen). s.file) step.0.2) refl refl
 move_called old new (IntoTable answer) failed refused sound below all step = Still (ap (λ (s : Seen). s.file) step.0.2) refl refl
 
--- each event over a sound table is one of seven kinds
+-- each event over a sound table is one of eight kinds
 pub move_of : (old new : Seen) (e : Event) → IsTrue old.sound → old.failures < greatest_count → AllEnd old.file.txs → Step old e new → Move old.file e.called new.file
 move_of old new e sound below all step = move_called old new e.called e.failed e.refused sound below all step.answer

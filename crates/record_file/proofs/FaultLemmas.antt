@@ -1,5 +1,5 @@
 -- What a table's fault means to a call.
-use Rattle.std.proofs.Common.{◌≡◌, ℕ, ◌+◌, ◌<◌, Bool, true, false, cond, nat_lt, List, Option, Some, None, Err, refl, arith, IsSome, inl, inr}
+use Rattle.std.proofs.Common.{◌≡◌, ℕ, ◌+◌, ◌<◌, Bool, true, false, cond, nat_lt, List, Option, Some, None, option_map, Err, refl, arith, IsSome, inl, inr}
 use Rattle.std.proofs.lemmas.Bool.Decides.{nat_tests}
 use Rattle.std.specs.FinMap as maps
 use Rattle.rec_types.specs.Table.{is_device, counted, greatest_count, Damages}
@@ -8,9 +8,9 @@ use Rattle.rec_types.specs.declared.table.TableFault.{TableFault}
 use Rattle.rec_types.specs.declared.table.TableFault.TheVariants as table_faults
 use Rattle.tx_log.specs.declared.phase.UndoStep.{UndoStep}
 use Rattle.record_file.specs.Abstract.{File, records_of, is_full}
-use Rattle.record_file.specs.Faults.{cause_of, put_fault, remove_fault}
+use Rattle.record_file.specs.Faults.{cause_of, put_fault, table_claim_fault, remove_fault}
 use Rattle.record_file.specs.declared.fault.Cause.TheVariants as causes
-use Rattle.record_file.specs.Steps.{rose, put_refusal, remove_refusal, PutStep, RemoveStep}
+use Rattle.record_file.specs.Steps.{rose, put_refusal, claim_refusal, remove_refusal, PutStep, ClaimStep, RemoveStep}
 
 -- an option that can't be something is nothing
 pub none_by : {A : Type 0} (o : Option A) → ((x : A) → o ≡ Some x → ⊥) → o ≡ None
@@ -35,6 +35,18 @@ put_err f new t x r a b table_faults.Device none not_full same lt counts room da
 put_err f new t x r a b (table_faults.Damaged page) none not_full same lt counts room damaged = absurd (damaged page refl)
 put_err f new t x r a b table_faults.NoRoom none not_full same lt counts room damaged = absurd (room refl)
 put_err f new t x r a b table_faults.Memory none not_full same lt counts room damaged = (none, rose_same a b counts, not_full, same)
+
+-- nothing is made of nothing alone
+pub unmapped : {A B : Type 0} (f : A → B) (o : Option A) → option_map f o ≡ None → o ≡ None
+unmapped f None is = refl
+unmapped f (Some x) is = absurd (cc)
+
+-- a claim that its table refused
+pub claim_err : (f new : File) (t : ℕ) (x : List ℕ) (a b : ℕ) (fault : TableFault) → claim_refusal f t x ≡ None → is_full f x ≡ false → new ≡ f → a < greatest_count → b ≡ counted a (is_device {A = Option (List ℕ)} (Err fault)) → (fault ≡ table_faults.NoRoom → ⊥) → ((page : ℕ) → fault ≡ table_faults.Damaged page → ⊥) → ClaimStep f t x (rose a b) (Err (table_claim_fault fault)) new
+claim_err f new t x a b table_faults.Device none not_full same lt counts room damaged = (none, rose_counted a b lt counts, same)
+claim_err f new t x a b (table_faults.Damaged page) none not_full same lt counts room damaged = absurd (damaged page refl)
+claim_err f new t x a b table_faults.NoRoom none not_full same lt counts room damaged = absurd (room refl)
+claim_err f new t x a b table_faults.Memory none not_full same lt counts room damaged = (none, rose_same a b counts, not_full, same)
 
 -- a removal that its table refused, the look before it included
 pub remove_err : (f new : File) (t : ℕ) (x : List ℕ) (a b : ℕ) (fault : TableFault) → remove_refusal f t x ≡ None → IsSome (maps.get (records_of f) x) → new ≡ f → a < greatest_count → b ≡ counted a (is_device {A = Option (List ℕ)} (Err fault)) → (fault ≡ table_faults.NoRoom → ⊥) → ((page : ℕ) → fault ≡ table_faults.Damaged page → ⊥) → RemoveStep f t x (rose a b) (Err (remove_fault fault)) new

@@ -12,7 +12,7 @@ use Rattle.record_file.specs.Runs.{Called, Event, Seen, Run}
 use Rattle.record_file.specs.Undo.{old_record}
 use Rattle.record_file.specs.Leads.{NoneLeft, LeadsTo}
 use Rattle.record_file.proofs.InvariantLemmas.{OpensNone, none_by_new, none_by_end}
-use Rattle.record_file.proofs.CallKindLemmas.{Move, Still, Began, PutIn, TookOut, Committed, WentBack, Ended, move_of, taken_all}
+use Rattle.record_file.proofs.CallKindLemmas.{Move, Still, Began, PutIn, ClaimIn, TookOut, Committed, WentBack, Ended, move_of, taken_all}
 use Rattle.record_file.proofs.RunLemmas.{KeptRun, step_kept, counted_least, run_failures, added}
 
 -- each change is of one of the first n transactions
@@ -132,6 +132,7 @@ pub move_leads : (old : File) (called : Called) (new : File) → BegunAll old.be
 move_leads old called new begun (Still is no_record no_begin) = over old new old is (leads-refl (open_of old) old.history) (λ t le there. there)
 move_leads old called new begun (Began tx called_is step) = over old new _ step.2 (leads-refl (open_of old) old.history) (none_by_new old.txs old.begun fresh)
 move_leads old called new begun (PutIn t x r before called_is free room stood is) = over old new _ is (leads-push (open_of old) old.history _) (λ t le there. there)
+move_leads old called new begun (ClaimIn t x before called_is free room stood is) = over old new _ is (leads-push (open_of old) old.history _) (λ t le there. there)
 move_leads old called new begun (TookOut t x before called_is free stood is) = over old new _ is (leads-push (open_of old) old.history _) (λ t le there. there)
 move_leads old called new begun (Committed t done called_is step) = over old new _ step.1 (leads-refl (open_of old) old.history) (none_by_end old.txs old.begun t.0)
 move_leads old called new begun (WentBack t p n txs there le is same ends no_record no_begin) = over old new _ is (leads-take_newest (open_of old) old.begun old.history t p n begun there le) (λ q low is. sym (same q) ∙ is)

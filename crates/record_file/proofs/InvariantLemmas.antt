@@ -2,24 +2,24 @@
 use Rattle.std.proofs.Common.{◌≡◌, ℕ, ◌+◌, ◌≤◌, ◌<◌, Bool, true, false, cond, if◌then◌else◌, nat_lt, length, reverse, List, [], ◌∷◌, ◌++◌, Option, Some, None, is_some, refl, sym, ap, subst, ◌∙◌, IsTrue, arith, option_map, Result, Ok, Err, OnOk, OnErr}
 use Rattle.std.specs.FinMap as maps
 use Rattle.std.specs.FinMap.{get, len}
-use Rattle.rec_types.specs.Contents.{Contents, set_to, has}
+use Rattle.rec_types.specs.Contents.{Contents, write_to, has}
 use Rattle.rec_types.specs.History.{Change, log_len, live_from, undo_last}
 use Rattle.rec_types.proofs.HistoryLemmas.{newest_from-some, newest_from-live, history-undone}
 use Rattle.std.proofs.lemmas.Bool.Decides.{nat_tests}
-use Rattle.rec_types.specs.Kept.{Kept, newest_live, newest_from, undone, history_of, opening_of}
+use Rattle.rec_types.specs.Kept.{Kept, back_of, newest_live, newest_from, undone, history_of, opening_of}
 use Rattle.tx_log.specs.Transactions.{Transactions, Tx, is_open, fresh, left_in, left_of}
 use Rattle.tx_log.specs.declared.phase.Rollback.{Rollback}
 use Rattle.tx_log.specs.declared.phase.BeginFault.{BeginFault}
 use Rattle.rec_types.specs.declared.transaction.TxId.{TxId}
 use Rattle.tx_log.specs.Owners.{charged}
-use Rattle.tx_log.specs.LogState.{LogState, IsLog, open_in, history_in, phase_in, phase_of, update_in, tx_in, undo_in, undo_of, undo_from, undo_step, compensations_in, compensations_of, prev_in, finished, finished_by, active_with}
+use Rattle.tx_log.specs.LogState.{LogState, IsLog, open_in, history_in, phase_in, phase_of, update_in, tx_in, undo_in, undo_of, undo_from, step_of, undo_step, compensations_in, compensations_of, prev_in, finished, finished_by, active_with}
 use Rattle.tx_log.specs.declared.phase.Phase.{Phase}
-use Rattle.tx_log.specs.Log.{key_of, last_of, record_at}
+use Rattle.tx_log.specs.Log.{key_of, new_of, change_record, back_record, last_of, record_at}
 use Rattle.tx_log.specs.declared.phase.UndoStep.{UndoStep}
-use Rattle.tx_log.specs.declared.log_record.LogRecord.TheVariants.{Compensation}
 use Rattle.tx_log.specs.declared.log_record.LogRecord.{LogRecord}
-use Rattle.record_file.specs.Abstract.{File, Fits, IsRecordFile, written, Told, AllTold, new_in, file_of, with_change}
+use Rattle.record_file.specs.Abstract.{File, Fits, IsRecordFile, written, Told, AllTold, file_of, with_change}
 use Rattle.record_file.specs.Steps.{Accepts, key_change}
+use Rattle.record_file.specs.TableCalls.{undone_by, step_key}
 use Rattle.record_file.proofs.OpenTxLemmas.{same_tx, same_tx-is, open-insert, open-remove}
 use Rattle.record_file.proofs.FileLemmas.{change, history-push, put_file, undo_file, opening_put, opening_undo, fits_put, fits_undo, charged_put, charged_undo, charged_within}
 
@@ -57,28 +57,74 @@ open_by_phase None p is = absurd (cc)
 open_by_phase (Some tx) p is = refl
 
 -- the log after a change was accepted
-abbrev pub accepted : LogState → TxId → List ℕ → Option (List ℕ) → Option (List ℕ) → LogState
+abbrev pub accepted : LogState → TxId → List ℕ → Option (List ℕ) → Option (Option (List ℕ)) → LogState
 accepted s t x before w = record s { records = s.records ++ update_in s t x before w ∷ []; changes = s.changes ++ record { lsn = log_len (history_in s) + 1; tx = t.0; key = x; before = before; after = w; live = true } ∷ []; room = None }
 
 -- the log after a change was taken back
 abbrev pub compensated : LogState → TxId → LogState
 compensated s t = record s { records = s.records ++ compensations_in s t; changes = undone t.0 s.changes; room = None }
 
-written-push : (rs : List LogRecord) (r : LogRecord) (m : Contents) → written m (rs ++ r ∷ []) ≡ set_to (written m rs) (key_of r) (new_in r)
+written-push : (rs : List LogRecord) (r : LogRecord) (m : Contents) → written m (rs ++ r ∷ []) ≡ write_to (written m rs) (key_of r) (new_of r)
 written-push [] r m = refl
-written-push (s ∷ rs) r m = written-push rs r (set_to m (key_of s) (new_in s))
+written-push (s ∷ rs) r m = written-push rs r (write_to m (key_of s) (new_of s))
 
 all_told_push : (rs : List LogRecord) (r : LogRecord) (m : Contents) → AllTold m rs → Told (written m rs) r → AllTold m (rs ++ r ∷ [])
 all_told_push [] r m told tells = (tells, tt)
-all_told_push (s ∷ rs) r m told tells = (told.0, all_told_push rs r (set_to m (key_of s) (new_in s)) told.1 tells)
+all_told_push (s ∷ rs) r m told tells = (told.0, all_told_push rs r (write_to m (key_of s) (new_of s)) told.1 tells)
 
 -- one more record, which tells what stands at its key
-told_push : (rs : List LogRecord) (r : LogRecord) (b c now : Contents) (x : List ℕ) (w : Option (List ℕ)) → b ≡ c → key_of r ≡ x → new_in r ≡ w → Told now r → (now ≡ written b rs) × AllTold b rs → (set_to now x w ≡ written c (rs ++ r ∷ [])) × AllTold c (rs ++ r ∷ [])
+told_push : (rs : List LogRecord) (r : LogRecord) (b c now : Contents) (x : List ℕ) (w : Option (Option (List ℕ))) → b ≡ c → key_of r ≡ x → new_of r ≡ w → Told now r → (now ≡ written b rs) × AllTold b rs → (write_to now x w ≡ written c (rs ++ r ∷ [])) × AllTold c (rs ++ r ∷ [])
 told_push rs r b c now x w same key new tells told =
-    subst (λ (n : Contents). (set_to now x w ≡ written n (rs ++ r ∷ [])) × AllTold n (rs ++ r ∷ [])) same (
-      (λ i. set_to (told.0 i) (sym key i) (sym new i)) ∙ sym (written-push rs r b),
+    subst (λ (n : Contents). (write_to now x w ≡ written n (rs ++ r ∷ [])) × AllTold n (rs ++ r ∷ [])) same (
+      (λ i. write_to (told.0 i) (sym key i) (sym new i)) ∙ sym (written-push rs r b),
       all_told_push rs r b told.1 (subst (λ (n : Contents). Told n r) told.0 tells),
     )
+
+-- the record of a change tells of it
+key_made : (lsn prev : ℕ) (t : TxId) (x : List ℕ) (before : Option (List ℕ)) (w : Option (Option (List ℕ))) → key_of (change_record lsn prev t x before w) ≡ x
+key_made lsn prev t x before None = refl
+key_made lsn prev t x before (Some w) = refl
+
+new_made : (lsn prev : ℕ) (t : TxId) (x : List ℕ) (before : Option (List ℕ)) (w : Option (Option (List ℕ))) → new_of (change_record lsn prev t x before w) ≡ w
+new_made lsn prev t x before None = refl
+new_made lsn prev t x before (Some w) = refl
+
+told_made : (lsn prev : ℕ) (t : TxId) (x : List ℕ) (before : Option (List ℕ)) (w : Option (Option (List ℕ))) (now : Contents) → before ≡ get now x → Told now (change_record lsn prev t x before w)
+told_made lsn prev t x before None now is = is
+told_made lsn prev t x before (Some w) now is = is
+
+-- and that of one that is taken back
+key_back : (lsn prev : ℕ) (t : TxId) (x : List ℕ) (w : Option (Option (List ℕ))) (next : ℕ) → key_of (back_record lsn prev t x w next) ≡ x
+key_back lsn prev t x None next = refl
+key_back lsn prev t x (Some w) next = refl
+
+new_back : (lsn prev : ℕ) (t : TxId) (x : List ℕ) (w : Option (Option (List ℕ))) (next : ℕ) → new_of (back_record lsn prev t x w next) ≡ w
+new_back lsn prev t x None next = refl
+new_back lsn prev t x (Some w) next = refl
+
+told_back : (lsn prev : ℕ) (t : TxId) (x : List ℕ) (w : Option (Option (List ℕ))) (next : ℕ) (now : Contents) → Told now (back_record lsn prev t x w next)
+told_back lsn prev t x None next now = tt
+told_back lsn prev t x (Some w) next now = tt
+
+-- what the record of a change wrote
+pub change_written : (m : Contents) (lsn prev : ℕ) (t : TxId) (x : List ℕ) (before : Option (List ℕ)) (w : Option (Option (List ℕ))) → write_to m x w ≡ write_to m (key_of (change_record lsn prev t x before w)) (new_of (change_record lsn prev t x before w))
+change_written m lsn prev t x before None = refl
+change_written m lsn prev t x before (Some w) = refl
+
+-- what the record of a change that was taken back wrote
+pub back_written : (m : Contents) (lsn prev : ℕ) (t : TxId) (x : List ℕ) (w : Option (Option (List ℕ))) (next : ℕ) → write_to m (key_of (back_record lsn prev t x w next)) (new_of (back_record lsn prev t x w next)) ≡ write_to m x w
+back_written m lsn prev t x None next = refl
+back_written m lsn prev t x (Some w) next = refl
+
+-- the key of an undo step
+pub key_of_step : (x : List ℕ) (w : Option (Option (List ℕ))) → step_key (step_of x w) ≡ x
+key_of_step x None = refl
+key_of_step x (Some w) = refl
+
+-- what an undo step writes
+pub undone_is : (m : Contents) (x : List ℕ) (w : Option (Option (List ℕ))) → undone_by m (step_of x w) ≡ write_to m x w
+undone_is m x None = refl
+undone_is m x (Some w) = refl
 
 none_by_finished : (txs : Transactions) (n t : ℕ) (places : List ℕ) (r : Option Rollback) → IsTrue (is_open txs t) → OpensNone txs (finished_by txs t places r) n
 none_by_finished txs n t places None there q le is = is
@@ -133,21 +179,21 @@ module _ (sound : Bool) (now : Contents) (limit : ℕ) (log : LogState) (old : I
   file_room room = record { limited = old.limited; fits = old.fits; told = old.told; within = old.within }
 
   -- one more live change, put into the table
-  pub file_put : (room : Option (List ℕ)) (r : LogRecord) (lsn t : ℕ) (x : List ℕ) (before w : Option (List ℕ)) → key_of r ≡ x → new_in r ≡ w → (IsTrue sound → Told now r) → (IsTrue sound → before ≡ get now x) → (IsTrue sound → has (charged (open_in log) (history_in log) now) x ≡ false → len (charged (open_in log) (history_in log) now) < log.limits.records)
-      → IsRecordFile sound (set_to now x w) limit (record log { records = log.records ++ r ∷ []; changes = log.changes ++ change lsn t x before w ∷ []; room = room })
+  pub file_put : (room : Option (List ℕ)) (r : LogRecord) (lsn t : ℕ) (x : List ℕ) (before : Option (List ℕ)) (w : Option (Option (List ℕ))) → key_of r ≡ x → new_of r ≡ w → (IsTrue sound → Told now r) → (IsTrue sound → before ≡ get now x) → (IsTrue sound → has (charged (open_in log) (history_in log) now) x ≡ false → len (charged (open_in log) (history_in log) now) < log.limits.records)
+      → IsRecordFile sound (write_to now x w) limit (record log { records = log.records ++ r ∷ []; changes = log.changes ++ change lsn t x before w ∷ []; room = room })
   file_put room r lsn t x before w key new tells stood room_for = record {
     limited = old.limited;
     fits = λ is. fits_put log.changes now lsn t x before w (old.fits is) (stood is);
-    told = λ is. told_push log.records r (opening_of log.changes now) (opening_of (log.changes ++ change lsn t x before w ∷ []) (set_to now x w)) now x w (sym (opening_put log.changes now lsn t x before w (stood is))) key new (tells is) (old.told is);
+    told = λ is. told_push log.records r (opening_of log.changes now) (opening_of (log.changes ++ change lsn t x before w ∷ []) (write_to now x w)) now x w (sym (opening_put log.changes now lsn t x before w (stood is))) key new (tells is) (old.told is);
     within = λ is. charged_put (open_in log) log.changes now log.limits.records lsn t x before w (old.within is) (room_for is);
   }
 
   -- the newest live change of an open transaction taken back, in the table too
-  pub file_undo : (room : Option (List ℕ)) (r : LogRecord) (t : ℕ) (u : Kept) → key_of r ≡ u.key → new_in r ≡ u.before → Told now r → IsTrue (open_in log t) → newest_live t log.changes ≡ Some u → IsRecordFile sound (set_to now u.key u.before) limit (record log { records = log.records ++ r ∷ []; changes = undone t log.changes; room = room })
+  pub file_undo : (room : Option (List ℕ)) (r : LogRecord) (t : ℕ) (u : Kept) → key_of r ≡ u.key → new_of r ≡ back_of u → Told now r → IsTrue (open_in log t) → newest_live t log.changes ≡ Some u → IsRecordFile sound (write_to now u.key (back_of u)) limit (record log { records = log.records ++ r ∷ []; changes = undone t log.changes; room = room })
   file_undo room r t u key new tells open_t newest = record {
     limited = old.limited;
     fits = λ is. fits_undo (open_in log) log.changes now t u kept.owned open_t newest (old.fits is);
-    told = λ is. told_push log.records r (opening_of log.changes now) (opening_of (undone t log.changes) (set_to now u.key u.before)) now u.key u.before (sym (opening_undo t log.changes u now newest)) key new tells (old.told is);
+    told = λ is. told_push log.records r (opening_of log.changes now) (opening_of (undone t log.changes) (write_to now u.key (back_of u))) now u.key (back_of u) (sym (opening_undo t log.changes u now newest)) key new tells (old.told is);
     within = λ is. charged_undo (open_in log) log.changes now log.limits.records t u open_t newest (old.within is);
   }
 
@@ -165,23 +211,23 @@ module _ (sound : Bool) (now : Contents) (limit : ℕ) (log : LogState) (old : I
   file_ended t new after = subst (λ (s : LogState). IsRecordFile sound now limit s) (sym after) (file_txs (maps.remove log.txs t) log.begun None (none_by_end log.txs log.begun t))
 
   -- the log after room was made at the key and a change was accepted there
-  pub change_kept : (sound2 : Bool) (limit2 : ℕ) (now2 : Contents) (log1 log2 : LogState) (t : TxId) (x : List ℕ) (before told w : Option (List ℕ)) → sound2 ≡ sound → limit2 ≡ limit → log1 ≡ record log { room = Some x } → (IsTrue sound → now2 ≡ set_to now x w) → (IsTrue sound → before ≡ get now x) → told ≡ before → log2 ≡ accepted log1 t x told w
+  pub change_kept : (sound2 : Bool) (limit2 : ℕ) (now2 : Contents) (log1 log2 : LogState) (t : TxId) (x : List ℕ) (before told : Option (List ℕ)) (w : Option (Option (List ℕ))) → sound2 ≡ sound → limit2 ≡ limit → log1 ≡ record log { room = Some x } → (IsTrue sound → now2 ≡ write_to now x w) → (IsTrue sound → before ≡ get now x) → told ≡ before → log2 ≡ accepted log1 t x told w
       → (IsTrue sound → has (charged (open_in log) (history_in log) now) x ≡ false → len (charged (open_in log) (history_in log) now) < log.limits.records) → IsRecordFile sound2 now2 limit2 log2
   change_kept sound2 limit2 now2 log1 log2 t x before told w sound_is limit_is reserved put stood copied accepts room_for =
       let after : log2 ≡ accepted (record log { room = Some x }) t x told w = accepts ∙ ap (λ (s : LogState). accepted s t x told w) reserved in
       subst (λ (s : Bool). IsRecordFile s now2 limit2 log2) (sym sound_is)
       (subst (λ (n : ℕ). IsRecordFile sound now2 n log2) (sym limit_is)
-      (record_over sound (set_to now x w) now2 limit log2 put
-      (subst (λ (s : LogState). IsRecordFile sound (set_to now x w) limit s) (sym after)
-      (file_put None (update_in log t x told w) (log_len (history_in log) + 1) t.0 x told w refl refl (λ is. copied ∙ stood is) (λ is. copied ∙ stood is) room_for))))
+      (record_over sound (write_to now x w) now2 limit log2 put
+      (subst (λ (s : LogState). IsRecordFile sound (write_to now x w) limit s) (sym after)
+      (file_put None (update_in log t x told w) (log_len (history_in log) + 1) t.0 x told w (key_made _ _ t x told w) (new_made _ _ t x told w) (λ is. told_made _ _ t x told w now (copied ∙ stood is)) (λ is. copied ∙ stood is) room_for))))
 
-  pub change_file : (now2 : Contents) (log1 log2 : LogState) (t : TxId) (x : List ℕ) (before told w : Option (List ℕ)) → log1 ≡ record log { room = Some x } → now2 ≡ set_to now x w → before ≡ get now x → told ≡ before → log2 ≡ accepted log1 t x told w → file_of log2 now2 ≡ with_change (file_of log now) t.0 x w
+  pub change_file : (now2 : Contents) (log1 log2 : LogState) (t : TxId) (x : List ℕ) (before told : Option (List ℕ)) (w : Option (Option (List ℕ))) → log1 ≡ record log { room = Some x } → now2 ≡ write_to now x w → before ≡ get now x → told ≡ before → log2 ≡ accepted log1 t x told w → file_of log2 now2 ≡ with_change (file_of log now) t.0 x w
   change_file now2 log1 log2 t x before told w reserved put stood copied accepts =
       let after : log2 ≡ accepted (record log { room = Some x }) t x told w = accepts ∙ ap (λ (s : LogState). accepted s t x told w) reserved in
       (λ i. file_of (after i) (put i)) ∙ put_file log now (log.records ++ update_in log t x told w ∷ []) None (log_len (history_in log) + 1) t.0 x told w (copied ∙ stood)
 
   -- so it is over any table
-  pub change_accepted : (now2 : Contents) (log1 log2 : LogState) (t : TxId) (x : List ℕ) (told w : Option (List ℕ)) → log1 ≡ record log { room = Some x } → log2 ≡ accepted log1 t x told w → Accepts (file_of log now) log.records (key_change t x told w) (file_of log2 now2) log2.records
+  pub change_accepted : (now2 : Contents) (log1 log2 : LogState) (t : TxId) (x : List ℕ) (told : Option (List ℕ)) (w : Option (Option (List ℕ))) → log1 ≡ record log { room = Some x } → log2 ≡ accepted log1 t x told w → Accepts (file_of log now) log.records (key_change t x told w) (file_of log2 now2) log2.records
   change_accepted now2 log1 log2 t x told w reserved accepts =
       let c = change (log_len (history_in log) + 1) t.0 x told w in
       let after : log2 ≡ accepted (record log { room = Some x }) t x told w = accepts ∙ ap (λ (s : LogState). accepted s t x told w) reserved in
@@ -200,7 +246,7 @@ module _ (sound : Bool) (now : Contents) (limit : ℕ) (log : LogState) (old : I
       ∙ ap (λ (m : Contents). let f : File = record { opening = m; history = undo_last t.0 (history_in log); begun = log.begun; txs = log.txs; limits = log.limits } in f) (sym (ap (λ (s : LogState). opening_of s.changes now2) after))
 
   -- the record of a change that was taken back
-  pub undo_record : (log2 : LogState) (t : TxId) (u : Kept) → undo_in log t.0 ≡ Some u → log2 ≡ compensated log t → log2.records ≡ log.records ++ Compensation (length log.records + 1) (last_of t.0 (reverse log.records)) t u.key u.before (prev_in (record_at log.records u.lsn)) ∷ []
+  pub undo_record : (log2 : LogState) (t : TxId) (u : Kept) → undo_in log t.0 ≡ Some u → log2 ≡ compensated log t → log2.records ≡ log.records ++ back_record (length log.records + 1) (last_of t.0 (reverse log.records)) t u.key (back_of u) (prev_in (record_at log.records u.lsn)) ∷ []
   undo_record log2 t u next after = ap (λ (s : LogState). s.records) after ∙ ap (λ (o : Option Kept). log.records ++ compensations_of log t o) next
 
   -- a rollback is over
@@ -208,14 +254,14 @@ module _ (sound : Bool) (now : Contents) (limit : ℕ) (log : LogState) (old : I
   file_finished t new after = subst (λ (s : LogState). IsRecordFile sound now limit s) (sym after) (file_txs (finished log.txs t (tx_in log t)) log.begun None (none_by_finish log.txs log.begun t (tx_in log t) refl))
 
   -- the log after a change was taken back
-  pub undo_kept : (sound2 : Bool) (limit2 : ℕ) (now2 : Contents) (log2 : LogState) (t : TxId) (u : Kept) (step : UndoStep) → sound2 ≡ sound → limit2 ≡ limit → undo_in log t.0 ≡ Some u → newest_live t.0 log.changes ≡ Some u → IsTrue (open_in log t.0) → step ≡ undo_step u → (IsTrue sound → now2 ≡ set_to now step.key step.before) → log2 ≡ compensated log t → IsRecordFile sound2 now2 limit2 log2
+  pub undo_kept : (sound2 : Bool) (limit2 : ℕ) (now2 : Contents) (log2 : LogState) (t : TxId) (u : Kept) (step : UndoStep) → sound2 ≡ sound → limit2 ≡ limit → undo_in log t.0 ≡ Some u → newest_live t.0 log.changes ≡ Some u → IsTrue (open_in log t.0) → step ≡ undo_step u → (IsTrue sound → now2 ≡ undone_by now step) → log2 ≡ compensated log t → IsRecordFile sound2 now2 limit2 log2
   undo_kept sound2 limit2 now2 log2 t u step sound_is limit_is next newest open_t is put after =
       subst (λ (s : Bool). IsRecordFile s now2 limit2 log2) (sym sound_is)
       (subst (λ (n : ℕ). IsRecordFile sound now2 n log2) (sym limit_is)
-      (record_over sound (set_to now u.key u.before) now2 limit log2 (λ here. put here ∙ ap (λ (s : UndoStep). set_to now s.key s.before) is)
-      (subst (λ (s : LogState). IsRecordFile sound (set_to now u.key u.before) limit s) (sym (after ∙ ap (λ (o : Option Kept). let s : LogState = record log { records = log.records ++ compensations_of log t o; changes = undone t.0 log.changes; room = None } in s) next))
-      (file_undo None (Compensation (length log.records + 1) (last_of t.0 (reverse log.records)) t u.key u.before (prev_in (record_at log.records u.lsn))) t.0 u refl refl tt open_t newest))))
+      (record_over sound (write_to now u.key (back_of u)) now2 limit log2 (λ here. put here ∙ ap (undone_by now) is ∙ undone_is now u.key (back_of u))
+      (subst (λ (s : LogState). IsRecordFile sound (write_to now u.key (back_of u)) limit s) (sym (after ∙ ap (λ (o : Option Kept). let s : LogState = record log { records = log.records ++ compensations_of log t o; changes = undone t.0 log.changes; room = None } in s) next))
+      (file_undo None (back_record (length log.records + 1) (last_of t.0 (reverse log.records)) t u.key (back_of u) (prev_in (record_at log.records u.lsn))) t.0 u (key_back _ _ t u.key (back_of u) _) (new_back _ _ t u.key (back_of u) _) (told_back _ _ t u.key (back_of u) _ now) open_t newest))))
 
-  pub undo_file_is : (now2 : Contents) (log2 : LogState) (t : TxId) (u : Kept) (step : UndoStep) → newest_live t.0 log.changes ≡ Some u → step ≡ undo_step u → now2 ≡ set_to now step.key step.before → log2 ≡ compensated log t → file_of log2 now2 ≡ record (file_of log now) { history = undo_last t.0 (history_in log) }
+  pub undo_file_is : (now2 : Contents) (log2 : LogState) (t : TxId) (u : Kept) (step : UndoStep) → newest_live t.0 log.changes ≡ Some u → step ≡ undo_step u → now2 ≡ undone_by now step → log2 ≡ compensated log t → file_of log2 now2 ≡ record (file_of log now) { history = undo_last t.0 (history_in log) }
   undo_file_is now2 log2 t u step newest is put after =
-      (λ i. file_of (after i) ((put ∙ ap (λ (s : UndoStep). set_to now s.key s.before) is) i)) ∙ undo_file log now (log.records ++ compensations_in log t) None t.0 u newest
+      (λ i. file_of (after i) ((put ∙ ap (undone_by now) is ∙ undone_is now u.key (back_of u)) i)) ∙ undo_file log now (log.records ++ compensations_in log t) None t.0 u newest

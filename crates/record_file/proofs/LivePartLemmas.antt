@@ -2,10 +2,10 @@
 use Rattle.std.proofs.Common.{◌≡◌, ◌⊎◌, ℕ, ◌≤◌, zero, suc, Bool, true, false, cond, if◌then◌else◌, ◌&&◌, ◌||◌, eqb, List, [], ◌∷◌, ◌++◌, length, filter, Option, Some, None, is_some, inl, inr, refl, sym, ap, ◌∙◌, IsTrue, arith}
 use Rattle.std.proofs.lemmas.Bool.Decides.{nat_tests}
 use Rattle.std.specs.FinMap.{get, keys, empty}
-use Rattle.rec_types.specs.Contents.{Contents, set_to, same_key, has}
+use Rattle.rec_types.specs.Contents.{Contents, set_to, write_to, same_key, has}
 use Rattle.rec_types.specs.History.{Change, replay, is_pending, log_use}
 use Rattle.rec_types.specs.Kept.{Kept, history_of}
-use Rattle.rec_types.proofs.ContentsLemmas.{get-set_to, get-set_to-there, same_key-of, same_key-is}
+use Rattle.rec_types.proofs.ContentsLemmas.{get-set_to, get-write_to-there, same_key-of, same_key-is}
 use Rattle.rec_types.proofs.Sizes.{IsWithin}
 use Rattle.tx_log.specs.Remaining.{LosesLives, IsPart}
 use Rattle.tx_log.specs.Owners.{claims, owner_of, other_than, holder_of, charged, keys_owned}
@@ -150,8 +150,9 @@ kept_at opened t x (b ∷ h) (d ∷ g) c pending mine leads last = (λ live here
         let taken = leads.2 live is in
         absurd (cc (sym last ∙ none_last b.tx h g c taken.1 (mine ∙ sym (pending.0 live taken.0 here))))
 
-same_set : (m n : Contents) (k : List ℕ) (w : Option (List ℕ)) (x : List ℕ) → get m x ≡ get n x → get (set_to m k w) x ≡ get (set_to n k w) x
-same_set m n k w x same = get-set_to m k w x ∙ ap (cond (same_key x k) w) same ∙ sym (get-set_to n k w x)
+same_set : (m n : Contents) (k : List ℕ) (w : Option (Option (List ℕ))) (x : List ℕ) → get m x ≡ get n x → get (write_to m k w) x ≡ get (write_to n k w) x
+same_set m n k None x same = same
+same_set m n k (Some w) x same = get-set_to m k w x ∙ ap (cond (same_key x k) w) same ∙ sym (get-set_to n k w x)
 
 -- the same record stands there
 pub same_record : (opened : ℕ → Bool) (x : List ℕ) (h g : List Change) (m n : Contents) → LeadsTo opened h g → KeptAt x h g → get m x ≡ get n x → get (replay m (part h g)) x ≡ get (replay n h) x
@@ -159,12 +160,12 @@ same_record opened x [] g m n leads kept same = same
 same_record opened x (c ∷ h) [] m n leads kept same = absurd leads
 same_record opened x (c ∷ h) (d ∷ g) m n leads kept same = at d.live c.live refl refl (λ m2 n2. same_record opened x h g m2 n2 leads.3 kept.1)
   where
-    at : (dl cl : Bool) → d.live ≡ dl → c.live ≡ cl → ((m2 n2 : Contents) → get m2 x ≡ get n2 x → get (replay m2 (part h g)) x ≡ get (replay n2 h) x) → get (replay m (if dl then c ∷ part h g else part h g)) x ≡ get (replay (cond cl (set_to n c.key c.after) n) h) x
-    at true true dl cl ih = ap (λ b. get (replay (cond b (set_to m c.key c.after) m) (part h g)) x) cl ∙ ih (set_to m c.key c.after) (set_to n c.key c.after) (same_set m n c.key c.after x same)
+    at : (dl cl : Bool) → d.live ≡ dl → c.live ≡ cl → ((m2 n2 : Contents) → get m2 x ≡ get n2 x → get (replay m2 (part h g)) x ≡ get (replay n2 h) x) → get (replay m (if dl then c ∷ part h g else part h g)) x ≡ get (replay (cond cl (write_to n c.key c.after) n) h) x
+    at true true dl cl ih = ap (λ b. get (replay (cond b (write_to m c.key c.after) m) (part h g)) x) cl ∙ ih (write_to m c.key c.after) (write_to n c.key c.after) (same_set m n c.key c.after x same)
     at true false dl cl ih = absurd (cc (sym cl ∙ leads.1 dl))
     at false true dl cl ih =
         let apart = apart_of x c.key (λ here. absurd (cc (sym dl ∙ kept.0 cl (sym here)))) in
-        ih m (set_to n c.key c.after) (same ∙ sym (get-set_to-there n c.key c.after x apart))
+        ih m (write_to n c.key c.after) (same ∙ sym (get-write_to-there n c.key c.after x apart))
     at false false dl cl ih = ih m n same
 
 claimed_over : (b : Bool) (c : Change) (o : Option ℕ) → is_some o ≡ true → is_some (if b then Some c.tx else o) ≡ true
@@ -274,8 +275,8 @@ pub part_whole : (g : List Change) (m : Contents) → replay m (part g g) ≡ re
 part_whole [] m = refl
 part_whole (c ∷ g) m = at c.live refl (part_whole g)
   where
-    at : (live : Bool) → c.live ≡ live → ((n : Contents) → replay n (part g g) ≡ replay n g) → replay m (if live then c ∷ part g g else part g g) ≡ replay (cond live (set_to m c.key c.after) m) g
-    at true live ih = ap (λ b. replay (cond b (set_to m c.key c.after) m) (part g g)) live ∙ ih (set_to m c.key c.after)
+    at : (live : Bool) → c.live ≡ live → ((n : Contents) → replay n (part g g) ≡ replay n g) → replay m (if live then c ∷ part g g else part g g) ≡ replay (cond live (write_to m c.key c.after) m) g
+    at true live ih = ap (λ b. replay (cond b (write_to m c.key c.after) m) (part g g)) live ∙ ih (write_to m c.key c.after)
     at false live ih = ih m
 
 charged_whole : (opened also : ℕ → Bool) (g : List Change) (m : Contents) → AgreeOn opened also (part g g) → charged also (part g g) m ≡ charged opened g m

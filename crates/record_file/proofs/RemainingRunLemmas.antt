@@ -4,7 +4,7 @@ use Rattle.std.proofs.lemmas.Bool.Decides.{nat_tests}
 use Rattle.std.specs.FinMap as maps
 use Rattle.std.specs.FinMap.{get, get-empty, len}
 use Rattle.std.specs.Ordering.{nat_cmp}
-use Rattle.rec_types.specs.Contents.{Contents, set_to, has}
+use Rattle.rec_types.specs.Contents.{Contents, set_to, write_to, has}
 use Rattle.rec_types.specs.History.{Change, replay, live_from, take_back, take_newest, log_use}
 use Rattle.rec_types.specs.LimitBounds.{Bounds}
 use Rattle.rec_types.specs.Table.{greatest_count, counted}
@@ -13,24 +13,25 @@ use Rattle.rec_types.proofs.HistoryLemmas.{live_from-take_newest}
 use Rattle.rec_types.proofs.Sizes.{len-within}
 use Rattle.tx_log.specs.Transactions.{Transactions, Tx, is_open, fresh}
 use Rattle.tx_log.specs.LogState.{phase_of}
+use Rattle.tx_log.specs.Log.{change_record}
 use Rattle.tx_log.specs.Owners.{holder_of, charged, keys_owned}
 use Rattle.tx_log.specs.declared.phase.Phase.TheVariants as phases
 use Rattle.tx_log.specs.declared.log_record.LogRecord.TheVariants.{Update}
 use Rattle.tx_log.proofs.OwnerLemmas.{held-free}
 use Rattle.tx_log.proofs.RemainingLemmas.{leaves-take_newest, leaves-take_back}
 use Rattle.record_file.specs.Abstract.{File, open_of, tx_of, phase_at, use_of, held_by, is_full, charged_of, records_of, with_change}
-use Rattle.record_file.specs.Steps.{put_refusal, put_in, put_held, remove_refusal, remove_in, remove_held, commit_in}
-use Rattle.record_file.specs.Runs.{Called, Event, Seen, Step, Run, Answers, Begin, Put, Remove, Commit}
+use Rattle.record_file.specs.Steps.{put_refusal, claim_fault, put_in, put_held, remove_refusal, remove_in, remove_held, commit_in}
+use Rattle.record_file.specs.Runs.{Called, Event, Seen, Step, Run, Answers, Begin, Put, Claim, Remove, Commit}
 use Rattle.record_file.specs.Undo.{Starts, old_record}
 use Rattle.record_file.specs.Remaining.{is_change, begins_or_commits, first_lives, past_first, remains, front_if, remaining, NothingFails}
 use Rattle.record_file.specs.Leads.{LeadsTo, part, past}
 use Rattle.record_file.specs.declared.fault.PutFault.TheVariants as put_faults
 use Rattle.record_file.specs.declared.fault.RemoveFault.TheVariants as remove_faults
 use Rattle.record_file.proofs.OpenTxLemmas.{same_tx, same_tx-is, get-insert_tx, get-remove_tx, open-insert, open-remove}
-use Rattle.record_file.proofs.InvariantLemmas.{open_by_phase}
+use Rattle.record_file.proofs.InvariantLemmas.{open_by_phase, change_written}
 use Rattle.record_file.proofs.FullnessLemmas.{put_accepts, remove_accepts, room_of, below_not_full}
 use Rattle.record_file.proofs.LogGrowthLemmas.{tells_none, tells_one}
-use Rattle.record_file.proofs.CallKindLemmas.{Move, Still, Began, PutIn, TookOut, Committed, WentBack, Ended, move_of, taken_all, some_phase, no_refusal}
+use Rattle.record_file.proofs.CallKindLemmas.{Move, Still, Began, PutIn, ClaimIn, TookOut, Committed, WentBack, Ended, move_of, taken_all, some_phase, no_refusal}
 use Rattle.record_file.proofs.RunLemmas.{KeptRun, added, put_free, remove_free, step_kept, counted_least, run_failures, start_kept}
 use Rattle.record_file.proofs.HistoryLeadLemmas.{run_leads}
 use Rattle.record_file.proofs.LivePartLemmas.{length-push, leaves-length, past-push, part-push, part-stays, AgreeOn, agree-map, agree-push, use_less, KeptAt, PendingAll, pending_all, kept_at, same_record, charged_less, charged_kept, free_part, part_whole, keys_whole}
@@ -99,8 +100,8 @@ none_some None b some = absurd (cc)
 none_some (Some r) b some = refl
 
 -- an accepted change, with its record in the log
-abbrev made : Seen → TxId → List ℕ → Option (List ℕ) → Option (List ℕ) → Seen
-made s t x before after = record s { file = with_change s.file t.0 x after; log = s.log ++ Update 0 0 t x before after ∷ []; records = set_to s.records x after }
+abbrev made : Seen → TxId → List ℕ → Option (List ℕ) → Option (Option (List ℕ)) → Seen
+made s t x before after = record s { file = with_change s.file t.0 x after; log = s.log ++ change_record 0 0 t x before after ∷ []; records = write_to s.records x after }
 
 module _ (g : List Change) (e : Event) where
   -- an event that is left out
@@ -202,7 +203,7 @@ module _ (g : List Change) (e : Event) where
     })
 
     -- a change that is live in the end, in an active transaction's room, at a key that no other transaction holds
-    module _ (m : Contents) (answered : List (Option (List ℕ))) (kept : KeptRun m answered f) (tx : TxId) (x : List ℕ) (after : Option (List ℕ)) (active : phase_at f tx.0 ≡ Some phases.Active) (free : held_by f tx.0 x ≡ None) (room : use_of f + 2 ≤ f.limits.log_records)
+    module _ (m : Contents) (answered : List (Option (List ℕ))) (kept : KeptRun m answered f) (tx : TxId) (x : List ℕ) (after : Option (Option (List ℕ))) (active : phase_at f tx.0 ≡ Some phases.Active) (free : held_by f tx.0 x ≡ None) (room : use_of f + 2 ≤ f.limits.log_records)
         (leads : LeadsTo (open_of f) f.history g) (on : LeadsTo (open_of f) (with_change f tx.0 x after).history g) where
       there : open_of f tx.0 ≡ true
       there = open_by_phase (tx_of f tx.0) phases.Active active
@@ -325,55 +326,72 @@ step_alone m answered fs fs2 e g s kept step move leads on alone = at move
     called : (c : Called) → e.called ≡ c → Answers fs c e.failed e.refused fs2
     called c is = subst (λ c. Answers fs c e.failed e.refused fs2) is step.answer
 
-    put : (t : TxId) (x r : List ℕ) (before : Option (List ℕ)) → e.called ≡ Put t x r (Ok before) → put_refusal f t.0 x ≡ None → is_full f x ≡ false → before ≡ get (records_of f) x → fs2.file ≡ with_change f t.0 x (Some r) → Goes f g e (with_change f t.0 x (Some r)) s
-    put t x r before called_is free room stood is =
+    -- a change that is put or claimed
+    placed : (t : TxId) (x : List ℕ) (after : Option (Option (List ℕ))) (before : Option (List ℕ)) → old_record e.called ≡ Some before → e.failed ≡ false → e.refused ≡ false → put_refusal f t.0 x ≡ None → is_full f x ≡ false → before ≡ get (records_of f) x → fs2.file ≡ with_change f t.0 x after → (put_refusal s.file t.0 x ≡ None → is_full s.file x ≡ false → before ≡ get (records_of s.file) x → Answers s e.called e.failed e.refused (made s t x before after)) → Goes f g e (with_change f t.0 x after) s
+    placed t x after before record_is quiet unrefused free room stood is answers =
         let it = put_free f t.0 x free in
-        let a = called (Put t x r (Ok before)) called_is in
-        let refused = not_true e.refused a.0.1 in
         let fits = put_accepts f t.0 x free in
-        let next = led (with_change f t.0 x (Some r)) is in
-        let now = alike g e f s alone m answered kept t x (Some r) it.0 it.1 fits leads next in
-        let none = put_none s.file t.0 x now.active now.free now.room in
-        let s2 = made s t x before (Some r) in
-        changed_alone g e f s alone m answered kept t x (Some r) it.0 it.1 fits leads next before (ap old_record called_is) (λ lasts. (
+        let next = led (with_change f t.0 x after) is in
+        let now = alike g e f s alone m answered kept t x after it.0 it.1 fits leads next in
+        changed_alone g e f s alone m answered kept t x after it.0 it.1 fits leads next before record_is (λ lasts. (
           record {
-            failures = ap (counted s.failures) (sym a.0.0);
-            refusals = ap (counted s.refusals) (sym refused);
+            failures = ap (counted s.failures) (sym quiet);
+            refusals = ap (counted s.refusals) (sym unrefused);
             sound = refl;
-            told = tells_one s.sound s.records (set_to s.records x (Some r)) s.log s.log s2.log (Update 0 0 t x before (Some r)) refl refl (λ here. refl);
-            answer = subst (λ c. Answers s c e.failed e.refused s2) (sym called_is) (
-              a.0,
-              record {
-                step = λ here few. (
-                  none,
-                  not_risen s.failures,
-                  now.not_full lasts room,
-                  stood ∙ sym (now.stood lasts),
-                  refl,
-                );
-                refused = subst (λ o. IfSome o (λ fault. (Ok before ≡ Err fault) × (s2 ≡ s))) (sym none) tt;
-                refused_only = tt;
-                accepted = record { history = refl; logged = (0, 0, refl) };
-                err = tt;
-                damages = inl refl;
-              },
-            );
+            told = tells_one s.sound s.records (write_to s.records x after) s.log s.log (made s t x before after).log (change_record 0 0 t x before after) refl refl (λ here. change_written s.records 0 0 t x before after);
+            answer = answers (put_none s.file t.0 x now.active now.free now.room) (now.not_full lasts room) (stood ∙ sym (now.stood lasts));
           },
-          a.0.0,
-          refused,
+          quiet,
+          unrefused,
         ))
 
-    take : (t : TxId) (x before : List ℕ) → e.called ≡ Remove t x (Ok before) → remove_refusal f t.0 x ≡ None → get (records_of f) x ≡ Some before → fs2.file ≡ with_change f t.0 x None → Goes f g e (with_change f t.0 x None) s
+    put : (t : TxId) (x r : List ℕ) (before : Option (List ℕ)) → e.called ≡ Put t x r (Ok before) → put_refusal f t.0 x ≡ None → is_full f x ≡ false → before ≡ get (records_of f) x → fs2.file ≡ with_change f t.0 x (Some (Some r)) → Goes f g e (with_change f t.0 x (Some (Some r))) s
+    put t x r before called_is free room stood is =
+        let a = called (Put t x r (Ok before)) called_is in
+        let s2 = made s t x before (Some (Some r)) in
+        placed t x (Some (Some r)) before (ap old_record called_is) a.0.0 (not_true e.refused a.0.1) free room stood is (λ none not_full here_stood.
+        let unrefused = none in
+        subst (λ c. Answers s c e.failed e.refused s2) (sym called_is) (
+          a.0,
+          record {
+            step = λ here few. (unrefused, not_risen s.failures, not_full, here_stood, refl);
+            refused = subst (λ o. IfSome o (λ fault. (Ok before ≡ Err fault) × (s2 ≡ s))) (sym unrefused) tt;
+            refused_only = tt;
+            accepted = record { history = refl; logged = (0, 0, refl) };
+            err = tt;
+            damages = inl refl;
+          },
+        ))
+
+    claim : (t : TxId) (x : List ℕ) (before : Option (List ℕ)) → e.called ≡ Claim t x (Ok before) → put_refusal f t.0 x ≡ None → is_full f x ≡ false → before ≡ get (records_of f) x → fs2.file ≡ with_change f t.0 x None → Goes f g e (with_change f t.0 x None) s
+    claim t x before called_is free room stood is =
+        let a = called (Claim t x (Ok before)) called_is in
+        let s2 = made s t x before None in
+        placed t x None before (ap old_record called_is) a.0.0 (not_true e.refused a.0.1) free room stood is (λ none not_full here_stood.
+        let unrefused = ap (option_map claim_fault) none in
+        subst (λ c. Answers s c e.failed e.refused s2) (sym called_is) (
+          a.0,
+          record {
+            step = λ here few. (unrefused, not_risen s.failures, not_full, here_stood, refl);
+            refused = subst (λ o. IfSome o (λ fault. (Ok before ≡ Err fault) × (s2 ≡ s))) (sym unrefused) tt;
+            refused_only = tt;
+            accepted = record { history = refl; logged = (0, 0, refl) };
+            err = tt;
+            damages = inl refl;
+          },
+        ))
+
+    take : (t : TxId) (x before : List ℕ) → e.called ≡ Remove t x (Ok before) → remove_refusal f t.0 x ≡ None → get (records_of f) x ≡ Some before → fs2.file ≡ with_change f t.0 x (Some None) → Goes f g e (with_change f t.0 x (Some None)) s
     take t x before called_is free stood is =
         let it = remove_free f t.0 x free in
         let a = called (Remove t x (Ok before)) called_is in
         let refused = not_true e.refused a.0.1 in
         let fits = remove_accepts f t.0 x free in
-        let next = led (with_change f t.0 x None) is in
-        let now = alike g e f s alone m answered kept t x None it.0 it.1 fits leads next in
+        let next = led (with_change f t.0 x (Some None)) is in
+        let now = alike g e f s alone m answered kept t x (Some None) it.0 it.1 fits leads next in
         let none = remove_none s.file t.0 x now.active now.free now.room in
-        let s2 = made s t x (Some before) None in
-        changed_alone g e f s alone m answered kept t x None it.0 it.1 fits leads next (Some before) (ap old_record called_is) (λ lasts. (
+        let s2 = made s t x (Some before) (Some None) in
+        changed_alone g e f s alone m answered kept t x (Some None) it.0 it.1 fits leads next (Some before) (ap old_record called_is) (λ lasts. (
           record {
             failures = ap (counted s.failures) (sym a.0.0);
             refusals = ap (counted s.refusals) (sym refused);
@@ -404,6 +422,7 @@ step_alone m answered fs fs2 e g s kept step move leads on alone = at move
     at (Still is no_record no_begin) = over f is (left_out g e f f s no_record no_begin refl alone)
     at (Began tx called_is begun) = let a = called (Begin (Ok tx)) called_is in over _ begun.2 (begun_alone g e f s alone tx called_is a.0.0 a.0.1 begun.0 begun.1)
     at (PutIn t x r before called_is free room stood is) = over _ is (put t x r before called_is free room stood is)
+    at (ClaimIn t x before called_is free room stood is) = over _ is (claim t x before called_is free room stood is)
     at (TookOut t x before called_is free stood is) = over _ is (take t x before called_is free stood is)
     at (Committed t done called_is ended) = let a = called (Commit t (Ok done)) called_is in over _ ended.1 (commit_alone g e f s alone t done called_is a.0.0 a.0.1 ended.0)
     at (WentBack t p n txs opened le is same ends no_record no_begin) =

@@ -8,7 +8,7 @@ use Rattle.rec_types.specs.Contents.{Contents, has}
 use Rattle.rec_types.specs.History.{Change, replay, live_from, take_back, take_newest, undo_last}
 use Rattle.rec_types.specs.Kept.{Kept, change_of, history_of, newest_live, newest_from, is_own, undone, undone_or, BeforesFit, IsOwned, AllBegun}
 use Rattle.rec_types.specs.Table.{counted, greatest_count}
-use Rattle.rec_types.proofs.TakeBackLemmas.{replay-undone, befores-undone, owned-undone, begun-undone, befores-push, begun-push, begun-more, owned-within}
+use Rattle.rec_types.proofs.TakeBackLemmas.{replay-back, befores-undone, owned-undone, begun-undone, befores-push, begun-push, begun-more, owned-within}
 use Rattle.rec_types.proofs.HistoryLemmas.{take_newest-none, take_newest-more, live_from-take_newest, newest_from-some, newest_from-live, history-undone}
 use Rattle.tx_log.specs.Transactions.{Transactions, is_open, fresh}
 use Rattle.tx_log.specs.Owners.{charged, holder_of}
@@ -23,7 +23,7 @@ use Rattle.record_file.proofs.OpenTxLemmas.{same_tx, same_tx-is, open-insert, op
 use Rattle.record_file.proofs.FileLemmas.{change, history-push, replay-push, charged_put, charged_undo, charged_within}
 use Rattle.record_file.proofs.FullnessLemmas.{room_of, present_charged}
 use Rattle.record_file.proofs.InvariantLemmas.{open_by_phase, none_by_new, none_by_end}
-use Rattle.record_file.proofs.CallKindLemmas.{AllEnd, end_empty, end_insert, end_remove, SameOpen, Move, Still, Began, PutIn, TookOut, Committed, WentBack, Ended, move_of, taken_all}
+use Rattle.record_file.proofs.CallKindLemmas.{AllEnd, end_empty, end_insert, end_remove, SameOpen, Move, Still, Began, PutIn, ClaimIn, TookOut, Committed, WentBack, Ended, move_of, taken_all}
 
 -- The changes know what stood before each, keys have one owner, and the charged keys don't exceed the limit.
 pub record Holds (opened : ℕ → Bool) (m : Contents) (begun limit : ℕ) (cs : List Kept) : Type 0 where
@@ -51,7 +51,7 @@ module _ (opened : ℕ → Bool) (m : Contents) (begun limit : ℕ) where
     befores = befores-undone opened t cs m held.owned there held.befores;
     owned = owned-undone opened t cs held.owned;
     all = begun-undone begun t cs held.all;
-    within = subst (λ (n : Contents). len (charged opened (history_of (undone t cs)) n) ≤ limit) (sym (replay-undone opened t cs u m held.owned there held.befores newest)) (charged_undo opened cs (replay m (history_of cs)) limit t u there newest held.within);
+    within = subst (λ (n : Contents). len (charged opened (history_of (undone t cs)) n) ≤ limit) (sym (replay-back opened t cs u m held.owned there held.befores newest)) (charged_undo opened cs (replay m (history_of cs)) limit t u there newest held.within);
   }
 
   -- with fewer transactions open, or one more of which there is no change
@@ -64,7 +64,7 @@ module _ (opened : ℕ → Bool) (m : Contents) (begun limit : ℕ) where
   }
 
   -- one more change, at a key that no other transaction holds
-  holds_push : (cs : List Kept) (t : ℕ) (x : List ℕ) (before after : Option (List ℕ)) → t ≤ begun → holder_of opened (history_of cs) t x ≡ None → before ≡ get (replay m (history_of cs)) x
+  holds_push : (cs : List Kept) (t : ℕ) (x : List ℕ) (before : Option (List ℕ)) (after : Option (Option (List ℕ))) → t ≤ begun → holder_of opened (history_of cs) t x ≡ None → before ≡ get (replay m (history_of cs)) x
       → (has (charged opened (history_of cs) (replay m (history_of cs))) x ≡ false → len (charged opened (history_of cs) (replay m (history_of cs))) < limit)
       → Holds opened m begun limit cs → Holds opened m begun limit (cs ++ change 0 t x before after ∷ [])
   holds_push cs t x before after known free stood room held =
@@ -189,7 +189,7 @@ module _ (m : Contents) (answered : List (Option (List ℕ))) (old : File) (kept
   now : replay m (history_of kept.cs) ≡ records_of old
   now i = replay (sym kept.opening i) (kept.history i)
 
-  push_kept : (t : ℕ) (x : List ℕ) (before after : Option (List ℕ)) → open_of old t ≡ true → held_by old t x ≡ None → before ≡ get (records_of old) x → (has (charged_of old) x ≡ false → len (charged_of old) < old.limits.records) → KeptRun m (answered ++ before ∷ []) (with_change old t x after)
+  push_kept : (t : ℕ) (x : List ℕ) (before : Option (List ℕ)) (after : Option (Option (List ℕ))) → open_of old t ≡ true → held_by old t x ≡ None → before ≡ get (records_of old) x → (has (charged_of old) x ≡ false → len (charged_of old) < old.limits.records) → KeptRun m (answered ++ before ∷ []) (with_change old t x after)
   push_kept t x before after there free stood room = record {
     cs = kept.cs ++ change 0 t x before after ∷ [];
     opening = kept.opening;
@@ -215,10 +215,13 @@ move_kept m answered old called new kept move = at move
     at (Began tx called_is step) = over None _ (ap old_record called_is) step.2 (begun_kept m answered old kept)
     at (PutIn t x r before called_is free room stood is) =
         let it = put_free old t.0 x free in
-        over (Some before) _ (ap old_record called_is) is (push_kept m answered old kept t.0 x before (Some r) (open_by_phase (tx_of old t.0) phases.Active it.0) it.1 stood (room_of old x (sym room)))
+        over (Some before) _ (ap old_record called_is) is (push_kept m answered old kept t.0 x before (Some (Some r)) (open_by_phase (tx_of old t.0) phases.Active it.0) it.1 stood (room_of old x (sym room)))
+    at (ClaimIn t x before called_is free room stood is) =
+        let it = put_free old t.0 x free in
+        over (Some before) _ (ap old_record called_is) is (push_kept m answered old kept t.0 x before None (open_by_phase (tx_of old t.0) phases.Active it.0) it.1 stood (room_of old x (sym room)))
     at (TookOut t x before called_is free stood is) =
         let it = remove_free old t.0 x free in
-        over (Some (Some before)) _ (ap old_record called_is) is (push_kept m answered old kept t.0 x (Some before) None (open_by_phase (tx_of old t.0) phases.Active it.0) it.1 (sym stood) (λ absent. absurd (present_charged (open_of old) old.history (records_of old) x (Some before) (sym stood) refl absent)))
+        over (Some (Some before)) _ (ap old_record called_is) is (push_kept m answered old kept t.0 x (Some before) (Some None) (open_by_phase (tx_of old t.0) phases.Active it.0) it.1 (sym stood) (λ absent. absurd (present_charged (open_of old) old.history (records_of old) x (Some before) (sym stood) refl absent)))
     at (Committed t done called_is step) = over None _ (ap old_record called_is) step.1 (end_kept m answered old kept old.history t.0 kept.cs kept.history kept.answers kept.holds)
     at (WentBack t p n txs there le is same ends no_record no_begin) = over None _ no_record is (back_kept m answered old kept t p n txs there le same ends)
     at (Ended t there is no_record no_begin) = over None _ no_record is (ended_kept m answered old kept t there)

@@ -1,13 +1,13 @@
 -- What several calls did to a table and its log, one after another.
 use Rattle.std.proofs.Common.{◌≡◌, ◌∷◌, [], ◌++◌, Option, None, Ok, IsTrue, refl, ap, subst, ◌∙◌, inl}
 use Rattle.rec_types.specs.Answered.{Answered}
-use Rattle.rec_types.specs.Contents.{set_to}
+use Rattle.rec_types.specs.Contents.{write_to}
 use Rattle.rec_types.specs.Table.{counted}
 use Rattle.rec_types.specs.declared.table_state.TableState.{Ghosts}
 use Rattle.record_file.specs.declared.fault.Cause.{Cause}
-use Rattle.tx_log.specs.Log.{key_of}
+use Rattle.tx_log.specs.Log.{key_of, new_of}
 use Rattle.tx_log.specs.declared.log_record.LogRecord.{LogRecord}
-use Rattle.record_file.specs.Abstract.{OpenFile, new_in}
+use Rattle.record_file.specs.Abstract.{OpenFile}
 use Rattle.record_file.specs.Outside.{by_device, TellsDamage}
 use Rattle.record_file.specs.TableCalls.{ChangesTable}
 use Rattle.record_file.proofs.FaultLemmas.{tells_no_damage}
@@ -46,7 +46,7 @@ answered_then t old mid new x y first then = record {
 }
 
 -- a record was set in the table of an open file, and the log tells it
-pub changes_set : {T A : Type 0} (t : Ghosts T) (held old new : OpenFile T) (x : A) (r : LogRecord) → held ≡ old → Answered t held.table (Ok x) new.table → new.log ≡ held.log ++ r ∷ [] → (IsTrue (t.sound held.table) → t.contents new.table ≡ set_to (t.contents held.table) (key_of r) (new_in r)) → ChangesTable t old None new
+pub changes_set : {T A : Type 0} (t : Ghosts T) (held old new : OpenFile T) (x : A) (r : LogRecord) → held ≡ old → Answered t held.table (Ok x) new.table → new.log ≡ held.log ++ r ∷ [] → (IsTrue (t.sound held.table) → t.contents new.table ≡ write_to (t.contents held.table) (key_of r) (new_of r)) → ChangesTable t old None new
 changes_set t held old new x r view_is answered grown put = subst (λ s. ChangesTable t s None new) view_is record {
   told = tells_one _ _ _ _ _ _ r refl grown put;
   soundness = answered.soundness;

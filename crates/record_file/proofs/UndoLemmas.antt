@@ -1,11 +1,11 @@
 -- A change taken out of a history: what its call answered is put back.
-use Rattle.std.proofs.Common.{◌≡◌, ℕ, zero, suc, Bool, true, false, cond, ◌&&◌, eqb, List, [], ◌∷◌, ◌++◌, map, length, Option, Some, slice_get, refl, sym, ap, subst, ◌∙◌, IsTrue, arith}
+use Rattle.std.proofs.Common.{◌≡◌, ℕ, zero, suc, Bool, true, false, cond, ◌&&◌, eqb, List, [], ◌∷◌, ◌++◌, map, length, Option, Some, None, slice_get, refl, sym, ap, subst, ◌∙◌, IsTrue, arith}
 use Rattle.std.proofs.lemmas.Bool.Decides.{nat_tests}
 use Rattle.std.specs.FinMap.{get}
-use Rattle.rec_types.specs.Contents.{Contents, set_to}
+use Rattle.rec_types.specs.Contents.{Contents, set_to, write_to}
 use Rattle.rec_types.specs.History.{Change, applied, replay, live_of, live_from}
 use Rattle.rec_types.specs.Kept.{Kept, change_of, history_of, BeforesFit, OnlyOf, IsOwned}
-use Rattle.rec_types.proofs.ContentsLemmas.{set_to-twice, set_to-same, set_to-other}
+use Rattle.rec_types.proofs.ContentsLemmas.{write_to-under, set_to-same, write_to-other}
 use Rattle.record_file.specs.Abstract.{File, open_of, records_of}
 use Rattle.record_file.proofs.RunLemmas.{KeptRun}
 use Rattle.rec_types.proofs.TakeBackLemmas.{apart_of}
@@ -28,12 +28,12 @@ NoneLiveAt x [] = Unit {0}
 NoneLiveAt x (d ∷ ds) = (IsTrue d.live → d.key ≡ x → ⊥) × NoneLiveAt x ds
 
 -- a record put at a key passes over the changes elsewhere
-pub replay_past : (h : List Change) (m : Contents) (x : List ℕ) (w : Option (List ℕ)) → NoneLiveAt x h → replay (set_to m x w) h ≡ set_to (replay m h) x w
+pub replay_past : (h : List Change) (m : Contents) (x : List ℕ) (w : Option (Option (List ℕ))) → NoneLiveAt x h → replay (write_to m x w) h ≡ write_to (replay m h) x w
 replay_past [] m x w none = refl
 replay_past (d ∷ ds) m x w none = at (λ n. replay_past ds n x w none.1) d.live refl
   where
-    at : ((n : Contents) → replay (set_to n x w) ds ≡ set_to (replay n ds) x w) → (live : Bool) → d.live ≡ live → replay (cond live (set_to (set_to m x w) d.key d.after) (set_to m x w)) ds ≡ set_to (replay (cond live (set_to m d.key d.after) m) ds) x w
-    at ih true live = ap (λ n. replay n ds) (sym (set_to-other m d.key x d.after w (apart_of d.key x (none.0 live)))) ∙ ih (set_to m d.key d.after)
+    at : ((n : Contents) → replay (write_to n x w) ds ≡ write_to (replay n ds) x w) → (live : Bool) → d.live ≡ live → replay (cond live (write_to (write_to m x w) d.key d.after) (write_to m x w)) ds ≡ write_to (replay (cond live (write_to m d.key d.after) m) ds) x w
+    at ih true live = ap (λ n. replay n ds) (sym (write_to-other m d.key x d.after w (apart_of d.key x (none.0 live)))) ∙ ih (write_to m d.key d.after)
     at ih false live = ih m
 
 -- what is live at the key is of one transaction, which has nothing live there
@@ -69,10 +69,10 @@ replay-append (c ∷ g) h m = replay-append g h (applied c m)
 without : (m : Contents) (later : List Change) (c : Change) → IsTrue c.live → NoneLiveAt c.key later → (before : Option (List ℕ)) → before ≡ get m c.key → replay m later ≡ set_to (replay m (c ∷ later)) c.key before
 without m later c live none before is =
     ap (λ n. replay n later) (sym (set_to-same m c.key before is))
-    ∙ replay_past later m c.key before none
-    ∙ sym (set_to-twice (replay m later) c.key c.after before)
+    ∙ replay_past later m c.key (Some before) none
+    ∙ sym (write_to-under (replay m later) c.key c.after before)
     ∙ ap (λ n. set_to n c.key before) (sym (replay_past later m c.key c.after none))
-    ∙ ap (λ b. set_to (replay (cond b (set_to m c.key c.after) m) later) c.key before) (sym live)
+    ∙ ap (λ b. set_to (replay (cond b (write_to m c.key c.after) m) later) c.key before) (sym live)
 
 own_live : (t : ℕ) (c : Change) → live_of t c ≡ true → (c.tx ≡ t) × (c.live ≡ true)
 own_live t c own = at (eqb c.tx t) c.live refl refl own
@@ -96,3 +96,14 @@ kept_put_back m answered f kept t there earlier later c is own none before answe
     replay-append earlier later m
     ∙ without (replay m earlier) later c mine.1 (none_after (open_of f) t kept.cs earlier later c kept.holds.owned there (kept.history ∙ is) mine.0 mine.1 none) before stood
     ∙ ap (λ (n : Contents). set_to n c.key before) (sym (replay-append earlier (c ∷ later) m) ∙ (λ i. replay (sym kept.opening i) (sym is i)))
+
+claim_leaves : (live : Bool) (k : List ℕ) (w : Option (Option (List ℕ))) (n : Contents) → w ≡ None → n ≡ cond live (write_to n k w) n
+claim_leaves false k w n claim = refl
+claim_leaves true k w n claim = ap (write_to n k) (sym claim)
+
+-- with a claim taken out, the replay stays
+pub kept_claimed : (m : Contents) (answered : List (Option (List ℕ))) (f : File) → KeptRun m answered f → (earlier later : List Change) (c : Change) → f.history ≡ earlier ++ c ∷ later → c.after ≡ None → replay m (earlier ++ later) ≡ records_of f
+kept_claimed m answered f kept earlier later c is claim =
+    replay-append earlier later m
+    ∙ ap (λ n. replay n later) (claim_leaves c.live c.key c.after (replay m earlier) claim)
+    ∙ sym (replay-append earlier (c ∷ later) m) ∙ (λ i. replay (sym kept.opening i) (sym is i))

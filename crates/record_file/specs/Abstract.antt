@@ -3,7 +3,7 @@ use Rattle.std.specs.Prelude.{◌≡◌, ℕ, ◌≤◌, ◌<◌, ◌==◌, Bool
 use Rattle.std.specs.Coded.{Coded, code_by, coded×, coded_ℕ, coded_bool, coded_list, coded_option}
 use Rattle.std.specs.FinMap as maps
 use Rattle.rec_types.specs.LimitBounds.{Bounds, coded_bounds}
-use Rattle.rec_types.specs.Contents.{Contents, coded_contents, set_to}
+use Rattle.rec_types.specs.Contents.{Contents, coded_contents, write_to}
 use Rattle.rec_types.specs.History.{Change, replay, log_use}
 use Rattle.rec_types.specs.Kept.{Kept, history_of, opening_of, BeforesFit}
 use Rattle.tx_log.specs.Transactions.{Transactions, Tx, coded_transactions, is_open, most_savepoints}
@@ -13,8 +13,8 @@ use Rattle.std.specs.List.{list_any}
 use Rattle.tx_log.specs.LogState.{LogState, phase_of, open_in, history_in, places_of}
 use Rattle.tx_log.specs.declared.phase.Phase.{Phase}
 use Rattle.tx_log.specs.declared.log_record.LogRecord.{LogRecord}
-use Rattle.tx_log.specs.declared.log_record.LogRecord.TheVariants.{Update, Compensation}
-use Rattle.tx_log.specs.Log.{key_of}
+use Rattle.tx_log.specs.declared.log_record.LogRecord.TheVariants.{Update, Compensation, Claim, Unclaim}
+use Rattle.tx_log.specs.Log.{key_of, new_of}
 use Rattle.tx_log.specs.LogCode.{coded_log_record}
 
 -- the contents that the session opened with, the history of its changes, how many transactions were begun, those
@@ -27,7 +27,7 @@ pub record File : Type 0 where
   pub limits : Bounds
 
 abbrev pub coded_change : Coded Change
-coded_change = code_by (ℕ × (List ℕ × (Option (List ℕ) × Bool))) (coded× coded_ℕ (coded× (coded_list coded_ℕ) (coded× (coded_option (coded_list coded_ℕ)) coded_bool))) (λ c. (c.tx, (c.key, (c.after, c.live)))) (λ p. record { tx = p.0; key = p.1.0; after = p.1.1.0; live = p.1.1.1 }) (λ _. refl)
+coded_change = code_by (ℕ × (List ℕ × (Option (Option (List ℕ)) × Bool))) (coded× coded_ℕ (coded× (coded_list coded_ℕ) (coded× (coded_option (coded_option (coded_list coded_ℕ))) coded_bool))) (λ c. (c.tx, (c.key, (c.after, c.live)))) (λ p. record { tx = p.0; key = p.1.0; after = p.1.1.0; live = p.1.1.1 }) (λ _. refl)
 
 abbrev pub coded_file : Coded File
 coded_file = code_by (Contents × (List Change × (ℕ × (Transactions × Bounds)))) (coded× coded_contents (coded× (coded_list coded_change) (coded× coded_ℕ (coded× coded_transactions coded_bounds)))) (λ f. (f.opening, (f.history, (f.begun, (f.txs, f.limits))))) (λ p. record { opening = p.0; history = p.1.0; begun = p.1.1.0; txs = p.1.1.1.0; limits = p.1.1.1.1 }) (λ _. refl)
@@ -61,7 +61,7 @@ abbrev pub is_full : File → List ℕ → Bool
 is_full f x = is_none (maps.get (charged_of f) x) && nat_le f.limits.records (maps.len (charged_of f))
 
 -- one more live change
-abbrev pub with_change : File → ℕ → List ℕ → Option (List ℕ) → File
+abbrev pub with_change : File → ℕ → List ℕ → Option (Option (List ℕ)) → File
 with_change f t x w = record f { history = f.history ++ record { tx = t; key = x; after = w; live = true } ∷ [] }
 
 -- nothing was begun
@@ -77,24 +77,22 @@ pub record OpenFile (T : Type 0) : Type 0 where
 abbrev pub coded_open_file : {T : Type 0} → Coded T → Coded (OpenFile T)
 coded_open_file {T} t = code_by (T × (File × List LogRecord)) (coded× t (coded× coded_file (coded_list coded_log_record))) (λ s. (s.table, (s.file, s.log))) (λ p. record { table = p.0; file = p.1.0; log = p.1.1 }) (λ _. refl)
 
--- what a record of the log did to the contents: an update put the new record at its key, a compensation the old one
-abbrev pub new_in : LogRecord → Option (List ℕ)
-new_in (Update lsn prev tx key before after) = after
-new_in (Compensation lsn prev tx key restored undo_next) = restored
-
--- the contents that the records of a log leave, in order
+-- the contents that the records of a log leave, in order: an update puts the new record at its key, a compensation the
+-- old one, and a claim and an unclaim leave them
 abbrev pub written : Contents → List LogRecord → Contents
 written m [] = m
-written m (r ∷ rs) = written (set_to m (key_of r) (new_in r)) rs
+written m (r ∷ rs) = written (write_to m (key_of r) (new_of r)) rs
 
--- what an update tells of before is what the records before it leave at its key
+-- what an update tells of before, and what a claim has seen, is what the records before it leave at its key
 abbrev pub Told : Contents → LogRecord → Type 0
 Told m (Update lsn prev tx key before after) = before ≡ maps.get m key
 Told m (Compensation lsn prev tx key restored undo_next) = Unit {0}
+Told m (Claim lsn prev tx key seen) = seen ≡ maps.get m key
+Told m (Unclaim lsn prev tx key undo_next) = Unit {0}
 
 abbrev pub AllTold : Contents → List LogRecord → Type 0
 AllTold m [] = Unit {0}
-AllTold m (r ∷ rs) = Told m r × AllTold (set_to m (key_of r) (new_in r)) rs
+AllTold m (r ∷ rs) = Told m r × AllTold (write_to m (key_of r) (new_of r)) rs
 
 -- The new log is the old one and what the call has written. Over a sound table that is what became of the contents;
 -- over any table they are untouched where nothing was written.

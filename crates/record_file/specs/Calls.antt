@@ -5,12 +5,13 @@ use Rattle.record_file.specs.declared.call.Call.TheVariants as call
 use Rattle.record_file.specs.declared.call.Answer.{Answer}
 use Rattle.record_file.specs.declared.call.Answer.TheVariants as answer
 use Rattle.record_file.specs.Steps.{listed}
-use Rattle.record_file.specs.Runs.{Called, Event, Seen, Step, Run, Begin, Put, Remove, Get, Savepoint, Release, RollbackTo, Abort, Resume, Commit, Entries, KeysOf, StatusOf, Charged, Begun, LogLen, LogUse, RecordAt}
+use Rattle.record_file.specs.Runs.{Called, Event, Seen, Step, Run, Begin, Put, Claim, Remove, Get, Savepoint, Release, RollbackTo, Abort, Resume, Commit, Entries, KeysOf, StatusOf, Charged, Begun, LogLen, LogUse, RecordAt}
 
 -- the call and its answer, as a run tells of them; a call has no other answer
 abbrev pub TellsOf : Call → Answer → Called → Type 0
 TellsOf call.Begin (answer.Begin told) called = called ≡ Begin told
 TellsOf (call.Put t x r) (answer.Put told) called = called ≡ Put t x r told
+TellsOf (call.Claim t x) (answer.Claim told) called = called ≡ Claim t x told
 TellsOf (call.Remove t x) (answer.Remove told) called = called ≡ Remove t x told
 TellsOf (call.Get t x) (answer.Get told) called = called ≡ Get t x told
 TellsOf (call.Savepoint t) (answer.Savepoint told) called = called ≡ Savepoint t told

@@ -5,6 +5,8 @@ use Rattle.record_file.specs.declared.fault.Cause.{Cause}
 use Rattle.record_file.specs.declared.fault.Cause.TheVariants as causes
 use Rattle.record_file.specs.declared.fault.PutFault.{PutFault}
 use Rattle.record_file.specs.declared.fault.PutFault.TheVariants as put_faults
+use Rattle.record_file.specs.declared.fault.ClaimFault.{ClaimFault}
+use Rattle.record_file.specs.declared.fault.ClaimFault.TheVariants as claim_faults
 use Rattle.record_file.specs.declared.fault.RemoveFault.{RemoveFault}
 use Rattle.record_file.specs.declared.fault.RemoveFault.TheVariants as remove_faults
 use Rattle.record_file.specs.declared.fault.GetFault.{GetFault}
@@ -23,6 +25,12 @@ put_fault table_faults.Device = put_faults.Device
 put_fault (table_faults.Damaged page) = put_faults.Damaged page
 put_fault table_faults.NoRoom = put_faults.Damaged 0
 put_fault table_faults.Memory = put_faults.Memory
+
+abbrev pub table_claim_fault : TableFault → ClaimFault
+table_claim_fault table_faults.Device = claim_faults.Device
+table_claim_fault (table_faults.Damaged page) = claim_faults.Damaged page
+table_claim_fault table_faults.NoRoom = claim_faults.Damaged 0
+table_claim_fault table_faults.Memory = claim_faults.Memory
 
 abbrev pub remove_fault : TableFault → RemoveFault
 remove_fault table_faults.Device = remove_faults.Device

@@ -7,6 +7,8 @@ use Rattle.record_file.specs.declared.fault.Cause.TheVariants.{Device, Damaged, 
 use Rattle.record_file.specs.declared.fault.Stop.{Stop}
 use Rattle.record_file.specs.declared.fault.PutFault.{PutFault}
 use Rattle.record_file.specs.declared.fault.PutFault.TheVariants as put_faults
+use Rattle.record_file.specs.declared.fault.ClaimFault.{ClaimFault}
+use Rattle.record_file.specs.declared.fault.ClaimFault.TheVariants as claim_faults
 use Rattle.record_file.specs.declared.fault.RemoveFault.{RemoveFault}
 use Rattle.record_file.specs.declared.fault.RemoveFault.TheVariants as remove_faults
 use Rattle.record_file.specs.declared.fault.GetFault.{GetFault}
@@ -28,6 +30,13 @@ put_cause (Err put_faults.Device) = Some Device
 put_cause (Err (put_faults.Damaged page)) = Some (Damaged page)
 put_cause (Err put_faults.Memory) = Some Memory
 put_cause (Err fault) = None
+
+abbrev pub claim_cause : {A : Type 0} → Result A ClaimFault → Option Cause
+claim_cause (Ok answer) = None
+claim_cause (Err claim_faults.Device) = Some Device
+claim_cause (Err (claim_faults.Damaged page)) = Some (Damaged page)
+claim_cause (Err claim_faults.Memory) = Some Memory
+claim_cause (Err fault) = None
 
 abbrev pub remove_cause : {A : Type 0} → Result A RemoveFault → Option Cause
 remove_cause (Ok answer) = None
@@ -76,6 +85,13 @@ put_by_file put_faults.Rolling = true
 put_by_file (put_faults.Held owner) = true
 put_by_file put_faults.LogFull = true
 put_by_file fault = false
+
+abbrev pub claim_by_file : ClaimFault → Bool
+claim_by_file claim_faults.NoSuchTx = true
+claim_by_file claim_faults.Rolling = true
+claim_by_file (claim_faults.Held owner) = true
+claim_by_file claim_faults.LogFull = true
+claim_by_file fault = false
 
 abbrev pub remove_by_file : RemoveFault → Bool
 remove_by_file remove_faults.NoSuchTx = true

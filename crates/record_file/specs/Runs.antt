@@ -11,6 +11,7 @@ use Rattle.tx_log.specs.Log.{record_at}
 use Rattle.tx_log.specs.declared.log_record.LogRecord.{LogRecord}
 use Rattle.tx_log.specs.declared.phase.BeginFault.{BeginFault}
 use Rattle.record_file.specs.declared.fault.PutFault.{PutFault}
+use Rattle.record_file.specs.declared.fault.ClaimFault.{ClaimFault}
 use Rattle.record_file.specs.declared.fault.RemoveFault.{RemoveFault}
 use Rattle.record_file.specs.declared.fault.GetFault.{GetFault}
 use Rattle.record_file.specs.declared.fault.SavepointFault.{SavepointFault}
@@ -24,14 +25,15 @@ use Rattle.record_file.specs.declared.fault.KeysOfFault.{KeysOfFault}
 use Rattle.record_file.specs.declared.fault.StatusFault.{StatusFault}
 use Rattle.record_file.specs.declared.fault.Status.{Status}
 use Rattle.record_file.specs.Abstract.{File, OpenFile, Tells, charged_of, use_of}
-use Rattle.record_file.specs.Outside.{put_cause, remove_cause, get_cause, entries_cause, rollback_cause, abort_cause, resume_cause, put_by_file, remove_by_file, get_by_file, by_device, by_memory, named_by, TellsDamage}
+use Rattle.record_file.specs.Outside.{put_cause, claim_cause, remove_cause, get_cause, entries_cause, rollback_cause, abort_cause, resume_cause, put_by_file, claim_by_file, remove_by_file, get_by_file, by_device, by_memory, named_by, TellsDamage}
 use Rattle.record_file.specs.declared.fault.Cause.{Cause}
-use Rattle.record_file.specs.Steps.{rose, put_refusal, remove_refusal, get_refusal, rollback_refusal, abort_refusal, resume_refusal, Accepts, key_change, BeginStep, PutStep, RemoveStep, GetStep, SavepointStep, ReleaseStep, CommitStep, RollsBackTo, RollbackToStep, Aborts, AbortStep, Resumes, ResumeStep, EntriesStep, KeysOfStep, status_of}
+use Rattle.record_file.specs.Steps.{rose, put_refusal, claim_refusal, remove_refusal, get_refusal, rollback_refusal, abort_refusal, resume_refusal, Accepts, key_change, BeginStep, PutStep, ClaimStep, RemoveStep, GetStep, SavepointStep, ReleaseStep, CommitStep, RollsBackTo, RollbackToStep, Aborts, AbortStep, Resumes, ResumeStep, EntriesStep, KeysOfStep, status_of}
 
 -- a call with its arguments, and what it answered
 pub data Called : Type 0 where
   Begin : Result TxId BeginFault → Called
   Put : TxId → List ℕ → List ℕ → Result (Option (List ℕ)) PutFault → Called
+  Claim : TxId → List ℕ → Result (Option (List ℕ)) ClaimFault → Called
   Remove : TxId → List ℕ → Result (List ℕ) RemoveFault → Called
   Get : TxId → List ℕ → Result (Option (List ℕ)) GetFault → Called
   Savepoint : TxId → Result ℕ SavepointFault → Called
@@ -94,15 +96,23 @@ pub record Puts (old : Seen) (t : TxId) (x r : List ℕ) (answer : Result (Optio
   pub step : IsTrue old.sound → old.failures < greatest_count → PutStep old.file t.0 x r (rose old.failures new.failures) answer new.file
   pub refused : IfSome (put_refusal old.file t.0 x) (λ fault. (answer ≡ Err fault) × (new ≡ old))
   pub refused_only : IfErr answer (λ fault. IsTrue (put_by_file fault) → put_refusal old.file t.0 x ≡ Some fault)
-  pub accepted : IfOk answer (λ before. Accepts old.file old.log (key_change t x before (Some r)) new.file new.log)
+  pub accepted : IfOk answer (λ before. Accepts old.file old.log (key_change t x before (Some (Some r))) new.file new.log)
   pub err : OnErr answer (Leaves old new)
   pub damages : TellsDamage old.damages (put_cause answer) new.damages
+
+pub record Claims (old : Seen) (t : TxId) (x : List ℕ) (answer : Result (Option (List ℕ)) ClaimFault) (new : Seen) : Type 0 where
+  pub step : IsTrue old.sound → old.failures < greatest_count → ClaimStep old.file t.0 x (rose old.failures new.failures) answer new.file
+  pub refused : IfSome (claim_refusal old.file t.0 x) (λ fault. (answer ≡ Err fault) × (new ≡ old))
+  pub refused_only : IfErr answer (λ fault. IsTrue (claim_by_file fault) → claim_refusal old.file t.0 x ≡ Some fault)
+  pub accepted : IfOk answer (λ seen. Accepts old.file old.log (key_change t x seen None) new.file new.log)
+  pub err : OnErr answer (Leaves old new)
+  pub damages : TellsDamage old.damages (claim_cause answer) new.damages
 
 pub record Removes (old : Seen) (t : TxId) (x : List ℕ) (answer : Result (List ℕ) RemoveFault) (new : Seen) : Type 0 where
   pub step : IsTrue old.sound → old.failures < greatest_count → RemoveStep old.file t.0 x (rose old.failures new.failures) answer new.file
   pub refused : IfSome (remove_refusal old.file t.0 x) (λ fault. (answer ≡ Err fault) × (new ≡ old))
   pub refused_only : IfErr answer (λ fault. IsTrue (remove_by_file fault) → remove_refusal old.file t.0 x ≡ Some fault)
-  pub accepted : IfOk answer (λ before. Accepts old.file old.log (key_change t x (Some before) None) new.file new.log)
+  pub accepted : IfOk answer (λ before. Accepts old.file old.log (key_change t x (Some before) (Some None)) new.file new.log)
   pub err : OnErr answer (Leaves old new)
   pub damages : TellsDamage old.damages (remove_cause answer) new.damages
 
@@ -148,6 +158,7 @@ GivesTable f (Some count) = (maps.len f.txs ≢ 0) × (count ≡ maps.len f.txs)
 abbrev pub Answers : Seen → Called → Bool → Bool → Seen → Type 0
 Answers old (Begin answer) failed refused new = AsksNothing old failed refused new × BeginStep old.file answer new.file
 Answers old (Put t x r answer) failed refused new = IsCausedOrLog (put_cause answer) failed refused × Puts old t x r answer new
+Answers old (Claim t x answer) failed refused new = IsCausedOrLog (claim_cause answer) failed refused × Claims old t x answer new
 Answers old (Remove t x answer) failed refused new = IsCausedOrLog (remove_cause answer) failed refused × Removes old t x answer new
 Answers old (Get t x answer) failed refused new = IsCaused (get_cause answer) failed refused × Gets old t x answer new
 Answers old (Savepoint t answer) failed refused new = AsksNothing old failed refused new × SavepointStep old.file t.0 answer new.file

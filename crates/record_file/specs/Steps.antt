@@ -19,6 +19,8 @@ use Rattle.record_file.specs.declared.fault.Cause.TheVariants as causes
 use Rattle.record_file.specs.declared.fault.Stop.{Stop}
 use Rattle.record_file.specs.declared.fault.PutFault.{PutFault}
 use Rattle.record_file.specs.declared.fault.PutFault.TheVariants as put_faults
+use Rattle.record_file.specs.declared.fault.ClaimFault.{ClaimFault}
+use Rattle.record_file.specs.declared.fault.ClaimFault.TheVariants as claim_faults
 use Rattle.record_file.specs.declared.fault.RemoveFault.{RemoveFault}
 use Rattle.record_file.specs.declared.fault.RemoveFault.TheVariants as remove_faults
 use Rattle.record_file.specs.declared.fault.GetFault.{GetFault}
@@ -44,7 +46,7 @@ use Rattle.record_file.specs.declared.fault.StatusFault.TheVariants as status_fa
 use Rattle.record_file.specs.declared.fault.Status.{Status}
 use Rattle.record_file.specs.declared.fault.Status.TheVariants as statuses
 use Rattle.tx_log.specs.declared.log_record.LogRecord.{LogRecord}
-use Rattle.tx_log.specs.declared.log_record.LogRecord.TheVariants.{Update}
+use Rattle.tx_log.specs.Log.{change_record}
 use Rattle.record_file.specs.Outside.{rollback_cause, abort_cause, resume_cause}
 use Rattle.record_file.specs.Abstract.{File, records_of, open_of, tx_of, phase_at, use_of, held_by, is_full, with_change}
 
@@ -95,20 +97,20 @@ pub record KeyChange : Type 0 where
   pub tx : TxId
   pub key : List ℕ
   pub before : Option (List ℕ)
-  pub after : Option (List ℕ)
+  pub after : Option (Option (List ℕ))
 
-abbrev pub key_change : TxId → List ℕ → Option (List ℕ) → Option (List ℕ) → KeyChange
+abbrev pub key_change : TxId → List ℕ → Option (List ℕ) → Option (Option (List ℕ)) → KeyChange
 key_change tx key before after = record { tx = tx; key = key; before = before; after = after }
 
 -- An accepted change is live at the end of the history, and its record at the end of the log; so it is over any table.
 pub record Accepts (old : File) (log : List LogRecord) (change : KeyChange) (new : File) (grown : List LogRecord) : Type 0 where
   pub history : Becomes old (old.history ++ record { tx = change.tx.0; key = change.key; after = change.after; live = true } ∷ []) old.txs new
-  pub logged : (lsn prev : ℕ) × (grown ≡ log ++ Update lsn prev change.tx change.key change.before change.after ∷ [])
+  pub logged : (lsn prev : ℕ) × (grown ≡ log ++ change_record lsn prev change.tx change.key change.before change.after ∷ [])
 
 -- A put answers the record that stood there, and its change is live at the end of the history. The device's
 -- failure comes before a want of room, and that before a want of memory.
 abbrev pub PutStep : File → ℕ → List ℕ → List ℕ → Bool → Result (Option (List ℕ)) PutFault → File → Type 0
-PutStep old t x r failed (Ok before) new = (put_refusal old t x ≡ None) × (failed ≡ false) × (is_full old x ≡ false) × (before ≡ maps.get (records_of old) x) × (new ≡ with_change old t x (Some r))
+PutStep old t x r failed (Ok before) new = (put_refusal old t x ≡ None) × (failed ≡ false) × (is_full old x ≡ false) × (before ≡ maps.get (records_of old) x) × (new ≡ with_change old t x (Some (Some r)))
 PutStep old t x r failed (Err put_faults.Device) new = (put_refusal old t x ≡ None) × (failed ≡ true) × (new ≡ old)
 PutStep old t x r failed (Err put_faults.Full) new = (put_refusal old t x ≡ None) × (failed ≡ false) × (is_full old x ≡ true) × (new ≡ old)
 PutStep old t x r failed (Err put_faults.Memory) new = (put_refusal old t x ≡ None) × (failed ≡ false) × (is_full old x ≡ false) × (new ≡ old)
@@ -117,12 +119,36 @@ PutStep old t x r failed (Err fault) new = (put_refusal old t x ≡ Some fault) 
 
 -- A removal answers the record that it takes out.
 abbrev pub RemoveStep : File → ℕ → List ℕ → Bool → Result (List ℕ) RemoveFault → File → Type 0
-RemoveStep old t x failed (Ok before) new = (remove_refusal old t x ≡ None) × (failed ≡ false) × (maps.get (records_of old) x ≡ Some before) × (new ≡ with_change old t x None)
+RemoveStep old t x failed (Ok before) new = (remove_refusal old t x ≡ None) × (failed ≡ false) × (maps.get (records_of old) x ≡ Some before) × (new ≡ with_change old t x (Some None))
 RemoveStep old t x failed (Err remove_faults.Device) new = (remove_refusal old t x ≡ None) × (failed ≡ true) × (new ≡ old)
 RemoveStep old t x failed (Err remove_faults.Absent) new = (remove_refusal old t x ≡ None) × (failed ≡ false) × (maps.get (records_of old) x ≡ None) × (new ≡ old)
 RemoveStep old t x failed (Err remove_faults.Memory) new = (remove_refusal old t x ≡ None) × (failed ≡ false) × IsSome (maps.get (records_of old) x) × (new ≡ old)
 RemoveStep old t x failed (Err (remove_faults.Damaged page)) new = ⊥
 RemoveStep old t x failed (Err fault) new = (remove_refusal old t x ≡ Some fault) × (failed ≡ false) × (new ≡ old)
+
+-- claim: what the file alone refuses it for is what it refuses a put for
+
+abbrev pub claim_fault : PutFault → ClaimFault
+claim_fault put_faults.NoSuchTx = claim_faults.NoSuchTx
+claim_fault put_faults.Rolling = claim_faults.Rolling
+claim_fault (put_faults.Held owner) = claim_faults.Held owner
+claim_fault put_faults.LogFull = claim_faults.LogFull
+claim_fault put_faults.Device = claim_faults.Device
+claim_fault (put_faults.Damaged page) = claim_faults.Damaged page
+claim_fault put_faults.Full = claim_faults.Full
+claim_fault put_faults.Memory = claim_faults.Memory
+
+abbrev pub claim_refusal : File → ℕ → List ℕ → Option ClaimFault
+claim_refusal f t x = option_map claim_fault (put_refusal f t x)
+
+-- A claim answers the record that stands there, and is live at the end of the history.
+abbrev pub ClaimStep : File → ℕ → List ℕ → Bool → Result (Option (List ℕ)) ClaimFault → File → Type 0
+ClaimStep old t x failed (Ok seen) new = (claim_refusal old t x ≡ None) × (failed ≡ false) × (is_full old x ≡ false) × (seen ≡ maps.get (records_of old) x) × (new ≡ with_change old t x None)
+ClaimStep old t x failed (Err claim_faults.Device) new = (claim_refusal old t x ≡ None) × (failed ≡ true) × (new ≡ old)
+ClaimStep old t x failed (Err claim_faults.Full) new = (claim_refusal old t x ≡ None) × (failed ≡ false) × (is_full old x ≡ true) × (new ≡ old)
+ClaimStep old t x failed (Err claim_faults.Memory) new = (claim_refusal old t x ≡ None) × (failed ≡ false) × (is_full old x ≡ false) × (new ≡ old)
+ClaimStep old t x failed (Err (claim_faults.Damaged page)) new = ⊥
+ClaimStep old t x failed (Err fault) new = (claim_refusal old t x ≡ Some fault) × (failed ≡ false) × (new ≡ old)
 
 -- get
 

@@ -1,10 +1,22 @@
 -- What a call of a file does to its table beside its step.
-use Rattle.std.specs.Prelude.{◌≡◌, Option}
+use Rattle.std.specs.Prelude.{◌≡◌, ℕ, List, Option}
+use Rattle.rec_types.specs.Contents.{Contents, set_to}
+use Rattle.tx_log.specs.declared.phase.UndoStep.{UndoStep}
+use Rattle.tx_log.specs.declared.phase.UndoStep.TheVariants.{Restore, Unclaim}
 use Rattle.rec_types.specs.Table.{counted}
 use Rattle.rec_types.specs.declared.table_state.TableState.{Ghosts}
 use Rattle.record_file.specs.Abstract.{OpenFile, Tells}
 use Rattle.record_file.specs.Outside.{by_device, named_by, TellsDamage}
 use Rattle.record_file.specs.declared.fault.Cause.{Cause}
+
+-- what an undo step makes of the contents: a claim's leaves them
+abbrev pub undone_by : Contents → UndoStep → Contents
+undone_by m (Restore key before) = set_to m key before
+undone_by m (Unclaim key) = m
+
+abbrev pub step_key : UndoStep → List ℕ
+step_key (Restore key before) = key
+step_key (Unclaim key) = key
 
 -- a call that changes no record; the cause is what came from outside and ended it
 pub record LeavesTable {T : Type 0} (t : Ghosts T) (old : OpenFile T) (cause : Option Cause) (new : OpenFile T) : Type 0 where

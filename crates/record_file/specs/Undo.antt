@@ -4,7 +4,7 @@ use Rattle.std.specs.Prelude.{◌≡◌, ℕ, ◌≤◌, true, false, List, [], 
 use Rattle.std.specs.FinMap as maps
 use Rattle.rec_types.specs.History.{Change}
 use Rattle.record_file.specs.Abstract.{new_file}
-use Rattle.record_file.specs.Runs.{Called, Event, Seen, Put, Remove}
+use Rattle.record_file.specs.Runs.{Called, Event, Seen, Put, Claim, Remove}
 
 -- A sound table with no more records than the limit, over which nothing was begun.
 pub record Starts (s : Seen) : Type 0 where
@@ -16,6 +16,7 @@ pub record Starts (s : Seen) : Type 0 where
 -- the old record that an accepted put or removal answered
 abbrev pub old_record : Called → Option (Option (List ℕ))
 old_record (Put t x r (Ok before)) = Some before
+old_record (Claim t x (Ok seen)) = Some seen
 old_record (Remove t x (Ok before)) = Some (Some before)
 old_record called = None
 
@@ -31,7 +32,7 @@ old_records (e ∷ es) = with_first (old_record e.called) (old_records es)
 
 -- a live change of transaction t that wrote record [r] at key [x]
 abbrev pub wrote : ℕ → ℕ → ℕ → Change
-wrote t x r = record { tx = t; key = x ∷ []; after = Some (r ∷ []); live = true }
+wrote t x r = record { tx = t; key = x ∷ []; after = Some (Some (r ∷ [])); live = true }
 
 -- a call to which nothing came from outside
 abbrev pub quiet : Called → Event

@@ -6,7 +6,7 @@ ghost use Rattle.record_file.specs.declared.call.Answer.{Answer};
 
 use crate::RecordFile;
 use crate::fault::{
-    AbortFault, CommitFault, EntriesFault, GetFault, KeysOfFault, PutFault, ReleaseFault,
+    AbortFault, CommitFault, EntriesFault, GetFault, KeysOfFault, ClaimFault, PutFault, ReleaseFault,
     RemoveFault, ResumeFault, RollbackToFault, SavepointFault, Status, StatusFault,
 };
 use rec_types::{Entry, Key, Memory, Record, Table, TxId};
@@ -18,6 +18,7 @@ use tx_log::{BeginFault, LogRecord};
 pub enum Call {
     Begin,
     Put(TxId, Key, Record),
+    Claim(TxId, Key),
     Remove(TxId, Key),
     Get(TxId, Key),
     Savepoint(TxId),
@@ -41,6 +42,7 @@ pub enum Call {
 pub enum Answer {
     Begin(Result<TxId, BeginFault>),
     Put(Result<Option<Record>, PutFault>),
+    Claim(Result<Option<Record>, ClaimFault>),
     Remove(Result<Record, RemoveFault>),
     Get(Result<Option<Record>, GetFault>),
     Savepoint(Result<u32, SavepointFault>),
@@ -66,6 +68,7 @@ pub fn make_call<T: Table>(file: &mut RecordFile<T>, call: Call) -> Answer
     match call {
         Call::Begin => Answer::Begin(file.begin()),
         Call::Put(tx, key, value) => Answer::Put(file.put(tx, key, value)),
+        Call::Claim(tx, key) => Answer::Claim(file.claim(tx, key)),
         Call::Remove(tx, key) => Answer::Remove(file.remove(tx, key)),
         Call::Get(tx, key) => Answer::Get(file.get(tx, &key)),
         Call::Savepoint(tx) => Answer::Savepoint(file.savepoint(tx)),

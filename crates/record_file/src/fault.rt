@@ -40,6 +40,27 @@ pub enum PutFault {
     Memory,
 }
 
+/// Why no key was claimed.
+#[derive(Clone, Copy, Debug, PartialEq, Eq, Error)]
+pub enum ClaimFault {
+    #[error("no such open transaction")]
+    NoSuchTx,
+    #[error("the transaction is being rolled back")]
+    Rolling,
+    #[error("the key is held by another transaction")]
+    Held(TxId),
+    #[error("the log is full")]
+    LogFull,
+    #[error("the device failed")]
+    Device,
+    #[error("page {0} is damaged")]
+    Damaged(u32),
+    #[error("the file has as many records as it may")]
+    Full,
+    #[error("out of memory")]
+    Memory,
+}
+
 /// Why no record was removed.
 #[derive(Clone, Copy, Debug, PartialEq, Eq, Error)]
 pub enum RemoveFault {
@@ -222,6 +243,42 @@ impl From<TableFault> for PutFault {
     }
 }
 
+impl From<TableFault> for ClaimFault {
+    ghost use Rattle.record_file.specs.Faults.{table_claim_fault};
+
+    ghost from_gives = { λ fault refusal. refusal ≡ table_claim_fault fault };
+
+    // A look never wants room or memory.
+    fn from(fault: TableFault) -> ClaimFault {
+        match fault {
+            TableFault::Device => ClaimFault::Device,
+            TableFault::Damaged(page) => ClaimFault::Damaged(page),
+            TableFault::NoRoom => ClaimFault::Damaged(0),
+            TableFault::Memory => ClaimFault::Memory,
+        }
+    }
+}
+
+impl From<PutFault> for ClaimFault {
+    ghost use Rattle.record_file.specs.Steps.{claim_fault};
+
+    ghost from_gives = { λ fault refusal. refusal ≡ claim_fault fault };
+
+    // A claim is refused as a put is.
+    fn from(fault: PutFault) -> ClaimFault {
+        match fault {
+            PutFault::NoSuchTx => ClaimFault::NoSuchTx,
+            PutFault::Rolling => ClaimFault::Rolling,
+            PutFault::Held(owner) => ClaimFault::Held(owner),
+            PutFault::LogFull => ClaimFault::LogFull,
+            PutFault::Device => ClaimFault::Device,
+            PutFault::Damaged(page) => ClaimFault::Damaged(page),
+            PutFault::Full => ClaimFault::Full,
+            PutFault::Memory => ClaimFault::Memory,
+        }
+    }
+}
+
 impl From<TableFault> for RemoveFault {
     ghost use Rattle.record_file.specs.Faults.{remove_fault};
 
@@ -260,6 +317,17 @@ impl From<Memory> for PutFault {
 
     fn from(_memory: Memory) -> PutFault {
         PutFault::Memory
+    }
+}
+
+impl From<Memory> for ClaimFault {
+    ghost use Rattle.std.specs.Prelude.{◌≡◌};
+    ghost use Rattle.record_file.specs.declared.fault.ClaimFault.TheVariants as claim_faults;
+
+    ghost from_gives = { λ _ refusal. refusal ≡ claim_faults.Memory };
+
+    fn from(_memory: Memory) -> ClaimFault {
+        ClaimFault::Memory
     }
 }
 

@@ -69,6 +69,11 @@ pub fn undo_commutes()
         → slice_get (old_records events) (length earlier) ≡ Some before
         → replay old.records (earlier ++ later)
         ≡ set_to (records_of new.file) change.key before }
+    ensures claimed { (old new : Seen) (events : List Event)
+        → Starts old → Run old events new → new.failures < greatest_count
+        → (earlier later : List Change) (change : Change)
+        → new.file.history ≡ earlier ++ change ∷ later → change.after ≡ None
+        → replay old.records (earlier ++ later) ≡ records_of new.file }
     ensures never_ended { (old mid new : Seen) (events more : List Event)
         → Starts old → Run old events mid → Run mid more new → new.failures < greatest_count
         → (n : ℕ) (past now : Change) → slice_get mid.file.history n ≡ Some past

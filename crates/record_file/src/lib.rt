@@ -8,7 +8,7 @@ pub mod laws;
 
 pub use call::{Answer, Call, make_call, run_calls};
 pub use fault::{
-    AbortFault, Cause, CommitFault, EntriesFault, GetFault, KeysOfFault, PutFault, ReleaseFault,
+    AbortFault, Cause, ClaimFault, CommitFault, EntriesFault, GetFault, KeysOfFault, PutFault, ReleaseFault,
     RemoveFault, ResumeFault, RollbackToFault, SavepointFault, Status, StatusFault,
 };
 pub use file::{RecordFile, StillOpen};

@@ -6,9 +6,8 @@ use Rattle.rec_types.specs.History.{Change, is_taken, is_pending, log_len}
 use Rattle.rec_types.specs.Kept.{Kept, change_of, history_of, is_own, newest_or, newest_live, undone_or, undone}
 use Rattle.tx_log.proofs.Chains.{same_number}
 use Rattle.tx_log.proofs.Lives.{first, newest_is, stack_is_lives, dead}
-use Rattle.tx_log.specs.Log.{noted, kept_by, kept_of, stack, Undoes, IsWritten, AllWritten}
+use Rattle.tx_log.specs.Log.{tx_of_record, is_update, noted, kept_by, kept_of, stack, Undoes, TellsOf, AllWritten}
 use Rattle.tx_log.specs.declared.log_record.LogRecord.{LogRecord}
-use Rattle.tx_log.specs.declared.log_record.LogRecord.TheVariants.{Update, Compensation}
 
 -- the history of one more change
 pub history-push : (cs : List Kept) (d : Kept) → history_of (cs ++ d ∷ []) ≡ history_of cs ++ change_of d ∷ []
@@ -103,15 +102,15 @@ log_len-undone t cs u e = omega (arith, taken-undone t cs u e, length-history (u
 pub newest_of_stack : (t : ℕ) (rs us : List LogRecord) (u : LogRecord) → stack t rs ≡ u ∷ us → newest_live t (kept_of rs) ≡ Some (noted u)
 newest_of_stack t rs us u e = newest_is t (kept_of rs) ∙ ap first (sym (stack_is_lives t rs) ∙ ap (map noted) e)
 
-undoes_some : (t : ℕ) (rs : List LogRecord) (key : List ℕ) (restored : Option (List ℕ)) (undo_next : ℕ) (us : List LogRecord) → stack t rs ≡ us → Undoes key restored undo_next us → log_len (history_of (undone t (kept_of rs))) ≡ log_len (history_of (kept_of rs)) + 1
-undoes_some t rs key restored undo_next [] e u = absurd u
-undoes_some t rs key restored undo_next (x ∷ us) e u = log_len-undone t (kept_of rs) (noted x) (newest_of_stack t rs us x e)
+undoes_some : (t : ℕ) (rs : List LogRecord) (c : LogRecord) (us : List LogRecord) → stack t rs ≡ us → Undoes c us → log_len (history_of (undone t (kept_of rs))) ≡ log_len (history_of (kept_of rs)) + 1
+undoes_some t rs c [] e u = absurd u
+undoes_some t rs c (x ∷ us) e u = log_len-undone t (kept_of rs) (noted x) (newest_of_stack t rs us x e)
 
-len_step : (r : LogRecord) (rs : List LogRecord) → IsWritten r rs → log_len (history_of (kept_by r (kept_of rs))) ≡ log_len (history_of (kept_of rs)) + 1
-len_step (Update lsn prev tx key before after) rs w = log_len-push (kept_of rs) (noted (Update lsn prev tx key before after)) refl
-len_step (Compensation lsn prev tx key restored undo_next) rs w = undoes_some tx.0 rs key restored undo_next (stack tx.0 rs) refl w.1
+len_step : (k : Bool) (r : LogRecord) (rs : List LogRecord) → TellsOf k r (stack (tx_of_record r) rs) → log_len (history_of (kept_by k r (kept_of rs))) ≡ log_len (history_of (kept_of rs)) + 1
+len_step true r rs w = log_len-push (kept_of rs) (noted r) refl
+len_step false r rs w = undoes_some (tx_of_record r) rs r (stack (tx_of_record r) rs) refl w
 
 -- the log is as long as its history says
 pub log_len_is : (rs : List LogRecord) → AllWritten rs → log_len (history_of (kept_of rs)) ≡ length rs
 log_len_is [] w = refl
-log_len_is (r ∷ rs) w = omega (arith, len_step r rs w.0, log_len_is rs w.1)
+log_len_is (r ∷ rs) w = omega (arith, len_step (is_update r) r rs w.0.1, log_len_is rs w.1)

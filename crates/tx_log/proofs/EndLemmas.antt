@@ -3,7 +3,7 @@ use Rattle.std.proofs.Common.{◌≡◌, ℕ, suc, ◌+◌, ◌-◌, ◌<◌, �
 use Rattle.std.specs.FinMap as maps
 use Rattle.std.specs.Ordering.{nat_cmp}
 use Rattle.std.specs.Cmp.Lexicographic.{slice_cmp}
-use Rattle.rec_types.specs.History.{Change, is_pending, replay}
+use Rattle.rec_types.specs.History.{Change, is_pending}
 use Rattle.rec_types.specs.Kept.{Kept, change_of, is_own, IsOwned, AllBegun}
 use Rattle.rec_types.specs.declared.transaction.TxId.{TxId}
 use Rattle.rec_types.specs.LimitBounds.{Bounds}
@@ -18,10 +18,10 @@ use Rattle.tx_log.proofs.KeptLogLemmas.{tx_of_entry}
 use Rattle.tx_log.proofs.LogStateLemmas.{state}
 use Rattle.tx_log.specs.Finds.{Txs, finding, PutsAt}
 use Rattle.tx_log.specs.Fits.{AllKnown, FitsTx}
-use Rattle.tx_log.specs.Log.{tx_of_record, lsn_of, kept_of, last_of, stepped, stack, noted}
+use Rattle.tx_log.specs.Log.{tx_of_record, lsn_of, is_update, kept_of, last_of, stepped, stack, noted}
 use Rattle.tx_log.specs.LogFields.{IsKept, state_of}
 use Rattle.tx_log.specs.LogState.{IsRolling, phase_of, places_of, active_with, finished, finished_by, rollback_phase, with_txs}
-use Rattle.tx_log.specs.Owners.{absence}
+use Rattle.tx_log.specs.Owners.{Standing, nothing, standing, stands_by}
 use Rattle.tx_log.specs.Places.{place_at}
 use Rattle.tx_log.specs.OpenTxs.{ends_at, rollback_at, txs_of, opens}
 use Rattle.tx_log.specs.Transactions.{Transactions, Tx, fresh}
@@ -94,13 +94,19 @@ known_last [] n t up known = (refl, refl)
 known_last (r ∷ rs) n t up known =
     let rest = known_last rs n t up known.1 in
     let other : eqb (tx_of_record r) t ≡ false = unequal (tx_of_record r) t (let low = known.0 in omega arith) in
-    (ap (λ (b : Bool). cond b (lsn_of r) (last_of t rs)) other ∙ rest.0, ap (λ (b : Bool). cond b (stepped r (stack t rs)) (stack t rs)) other ∙ rest.1)
+    (ap (λ (b : Bool). cond b (lsn_of r) (last_of t rs)) other ∙ rest.0, ap (λ (b : Bool). cond b (stepped (is_update r) r (stack t rs)) (stack t rs)) other ∙ rest.1)
 
 pending_on : (o p : ℕ → Bool) (n : ℕ) (cs : List Kept) → AllBegun n cs → ((u : ℕ) → u ≤ n → o u ≡ p u) → pending_of o cs ≡ pending_of p cs
 pending_on o p n [] begun h = refl
 pending_on o p n (c ∷ cs) begun h =
     ap (λ (b : Bool). cond (c.live && b) (change_of c ∷ pending_of o cs) (pending_of o cs)) (h c.tx begun.0)
     ∙ ap (λ (xs : List Change). cond (c.live && p c.tx) (change_of c ∷ xs) xs) (pending_on o p n cs begun.1 h)
+
+stands_on : (o p : ℕ → Bool) (n : ℕ) (cs : List Kept) (s : Standing) → AllBegun n cs → ((u : ℕ) → u ≤ n → o u ≡ p u) → stands_by o s cs ≡ stands_by p s cs
+stands_on o p n [] s begun h = refl
+stands_on o p n (c ∷ cs) s begun h =
+    ap (λ (b : Bool). stands_by o (cond (c.live && b) (standing s c) s) cs) (h c.tx begun.0)
+    ∙ stands_on o p n cs (cond (c.live && p c.tx) (standing s c) s) begun.1 h
 
 known_more : (n m : ℕ) (rs : List LogRecord) → n ≤ m → AllKnown n rs → AllKnown m rs
 known_more n m [] h known = tt
@@ -117,7 +123,7 @@ fresh_fits : (rs : List LogRecord) (n t : ℕ) → n < t → t ≤ n + 1 → All
 fresh_fits rs n t up most known =
     let nothing = known_last rs n t up known in
     let no_keys : maps.len (absent_in (only t) (kept_of rs)) ≡ 0 =
-    ap maps.len (absent_is_gone t (kept_of rs) ∙ ap gone (sym (stack_is_lives t rs) ∙ ap (map noted) nothing.1)) ∙ maps.len-empty (slice_cmp nat_cmp) (List ℕ) in
+    ap (λ (s : Standing). maps.len s.out) (absent_is_gone t (kept_of rs) ∙ ap gone (sym (stack_is_lives t rs) ∙ ap (map noted) nothing.1)) ∙ maps.len-empty (slice_cmp nat_cmp) (List ℕ) in
     record {
       last = sym nothing.0;
       live = sym (ap length nothing.1);
@@ -146,7 +152,7 @@ begun_kept rs old new begun pending gone_keys kept puts =
       all_begun = begun-more begun (begun + 1) cs (omega arith) kept.all_begun;
       owned = owned-fewer (opens old) (opens new) begun cs kept.all_begun (λ u low h. sym (same u low) ∙ h) kept.owned;
       pending_is = kept.pending_is ∙ ap length (sym waits);
-      absent_is = kept.absent_is ∙ ap (λ (h : List Change). maps.len (replay maps.empty (map absence h))) (sym waits);
+      absent_is = kept.absent_is ∙ ap (λ (s : Standing). maps.len s.out) (sym (stands_on (opens new) (opens old) begun cs nothing kept.all_begun same));
     }
 
 -- the state with that transaction

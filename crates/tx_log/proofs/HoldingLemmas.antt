@@ -6,16 +6,15 @@ use Rattle.rec_types.specs.Contents.{same_key}
 use Rattle.rec_types.specs.Kept.{history_of, IsOwned}
 use Rattle.std.proofs.lemmas.Bool.Decides.{nat_tests}
 use Rattle.rec_types.specs.declared.transaction.TxId.{TxId}
-use Rattle.tx_log.specs.declared.log_record.LogRecord.TheVariants.{Update, Compensation}
 use Rattle.tx_log.proofs.AbsentOwnedLemmas.{without}
 use Rattle.tx_log.proofs.Chains.{same_number}
 use Rattle.tx_log.proofs.Lives.{lives, stack_is_lives, eqb_sym}
 use Rattle.tx_log.proofs.OwnerLemmas.{kept_at, unowned, owned_by, none_other, and_left, and_right}
 use Rattle.tx_log.proofs.LogStepLemmas.{find_noted}
-use Rattle.tx_log.specs.Holdings.{HoldsKey, same_bytes, Places, holder, live_of, absent_of, live_at, absent_at, lowered, busy, or_idle, IsHeld}
-use Rattle.tx_log.specs.Log.{tx_of_record, key_of, kept_of, stepped, stack, noted}
-use Rattle.tx_log.specs.Owners.{owner_of, other_than}
-use Rattle.tx_log.specs.Walks.{change_in, is_at, takes_out}
+use Rattle.tx_log.specs.Holdings.{HoldsKey, same_bytes, Places, holder, live_of, absent_of, live_at, lowered, busy, or_idle, IsHeld}
+use Rattle.tx_log.specs.Log.{tx_of_record, key_of, old_of, new_of, is_update, kept_of, stepped, stack, noted}
+use Rattle.tx_log.specs.Owners.{owner_of, other_than, says}
+use Rattle.tx_log.specs.Walks.{is_at, is_out, absent_at}
 use Rattle.tx_log.specs.declared.holding.Holding.{Holding}
 use Rattle.tx_log.specs.declared.log_record.LogRecord.{LogRecord}
 use Rattle.rec_types.proofs.ContentsLemmas.{same_key-is, same_key-sym, same_key-of}
@@ -44,7 +43,24 @@ some_found k (u ∷ us) h = found_case (is_at k u) h (some_found k us)
 
 -- where no change is at a key, none takes it out
 pub nothing_absent : (k : List ℕ) (us : List LogRecord) → live_at k us ≡ 0 → absent_at k us ≡ false
-nothing_absent k us e = ap (λ o. takes_out (option_map change_in o)) (none_found k us e)
+nothing_absent k [] e = refl
+nothing_absent k (u ∷ us) e = absent_case (is_at k u) e (nothing_absent k us)
+  where
+    absent_case : (b : Bool) → length (cond b (u ∷ filter (is_at k) us) (filter (is_at k) us)) ≡ 0 → (live_at k us ≡ 0 → absent_at k us ≡ false) → cond b (is_out (says (new_of u) (list_any (is_at k) us) (old_of u)) (absent_at k us)) (absent_at k us) ≡ false
+    absent_case true e step = absurd (let no : suc (live_at k us) ≡ 0 = e in omega arith)
+    absent_case false e step = step e
+
+some_counted : (n : ℕ) → true ≡ not (eqb (suc n) 0)
+some_counted n = ap not (sym (let none : eqb (suc n) 0 ≡ false = grind (arith, nat_tests) in none))
+
+-- a change is at a key where one is counted there
+pub any_counted : (k : List ℕ) (us : List LogRecord) → list_any (is_at k) us ≡ not (eqb (live_at k us) 0)
+any_counted k [] = refl
+any_counted k (u ∷ us) = any_case (is_at k u) (any_counted k us)
+  where
+    any_case : (b : Bool) → list_any (is_at k) us ≡ not (eqb (live_at k us) 0) → (b || list_any (is_at k) us) ≡ not (eqb (length (cond b (u ∷ filter (is_at k) us) (filter (is_at k) us))) 0)
+    any_case true e = some_counted (live_at k us)
+    any_case false e = e
 
 -- ---- who the owner is
 
@@ -94,10 +110,10 @@ holder_is rs is_open holds k owned is = holder_case (holds k) refl
 -- what the step makes of the transaction's live changes, and of what is kept of its key
 pub record IsHoldStep (r : LogRecord) (rs : List LogRecord) (is_open : ℕ → Bool) (holds : HoldsKey) (t : ℕ) (k : List ℕ) (w : Option Holding) : Type 0 where
   pub mine : tx_of_record r ≡ t
-  pub live_there : live_at k (stepped r (stack t rs)) ≡ live_of t w
-  pub absent_there : absent_at k (stepped r (stack t rs)) ≡ absent_of t w
-  pub live_elsewhere : (q : List ℕ) → same_key k q ≡ false → live_at q (stepped r (stack t rs)) ≡ live_at q (stack t rs)
-  pub absent_elsewhere : (q : List ℕ) → same_key k q ≡ false → absent_at q (stepped r (stack t rs)) ≡ absent_at q (stack t rs)
+  pub live_there : live_at k (stepped (is_update r) r (stack t rs)) ≡ live_of t w
+  pub absent_there : absent_at k (stepped (is_update r) r (stack t rs)) ≡ absent_of t w
+  pub live_elsewhere : (q : List ℕ) → same_key k q ≡ false → live_at q (stepped (is_update r) r (stack t rs)) ≡ live_at q (stack t rs)
+  pub absent_elsewhere : (q : List ℕ) → same_key k q ≡ false → absent_at q (stepped (is_update r) r (stack t rs)) ≡ absent_at q (stack t rs)
   pub others : (u : ℕ) → eqb t u ≡ false → (live_of u w ≡ live_of u (holds k)) × (absent_of u w ≡ absent_of u (holds k))
   pub owned : IfSome w (λ h. 0 < h.live → is_open h.owner.0 ≡ true)
   pub idle_there : IfSome w (λ h. h.live ≡ 0 → h.absent ≡ false)
@@ -109,19 +125,19 @@ module _ (r : LogRecord) (rs : List LogRecord) (is_open : ℕ → Bool) (old new
   old_at : (q : List ℕ) → same_key k q ≡ true → old k ≡ old q
   old_at q same = ap old (same_key-is k q same)
 
-  counted_case : (u : ℕ) (q : List ℕ) → is_open u ≡ true → (a : Bool) → eqb t u ≡ a → (b : Bool) → same_key k q ≡ b → live_at q (cond a (stepped r (stack u rs)) (stack u rs)) ≡ live_of u (cond b w (old q))
+  counted_case : (u : ℕ) (q : List ℕ) → is_open u ≡ true → (a : Bool) → eqb t u ≡ a → (b : Bool) → same_key k q ≡ b → live_at q (cond a (stepped (is_update r) r (stack u rs)) (stack u rs)) ≡ live_of u (cond b w (old q))
   counted_case u q opened true f true g =
-      (λ i. live_at (sym (same_key-is k q g) i) (stepped r (stack (sym (same_number t u f) i) rs))) ∙ step.live_there ∙ ap (λ (n : ℕ). live_of n w) (same_number t u f)
+      (λ i. live_at (sym (same_key-is k q g) i) (stepped (is_update r) r (stack (sym (same_number t u f) i) rs))) ∙ step.live_there ∙ ap (λ (n : ℕ). live_of n w) (same_number t u f)
   counted_case u q opened true f false g =
-      ap (λ (n : ℕ). live_at q (stepped r (stack n rs))) (sym (same_number t u f)) ∙ step.live_elsewhere q g ∙ ap (λ (n : ℕ). live_at q (stack n rs)) (same_number t u f) ∙ is.counted u q opened
+      ap (λ (n : ℕ). live_at q (stepped (is_update r) r (stack n rs))) (sym (same_number t u f)) ∙ step.live_elsewhere q g ∙ ap (λ (n : ℕ). live_at q (stack n rs)) (same_number t u f) ∙ is.counted u q opened
   counted_case u q opened false f true g = is.counted u q opened ∙ ap (live_of u) (sym (old_at q g)) ∙ sym (step.others u f).0
   counted_case u q opened false f false g = is.counted u q opened
 
-  marked_case : (u : ℕ) (q : List ℕ) → is_open u ≡ true → (a : Bool) → eqb t u ≡ a → (b : Bool) → same_key k q ≡ b → absent_at q (cond a (stepped r (stack u rs)) (stack u rs)) ≡ absent_of u (cond b w (old q))
+  marked_case : (u : ℕ) (q : List ℕ) → is_open u ≡ true → (a : Bool) → eqb t u ≡ a → (b : Bool) → same_key k q ≡ b → absent_at q (cond a (stepped (is_update r) r (stack u rs)) (stack u rs)) ≡ absent_of u (cond b w (old q))
   marked_case u q opened true f true g =
-      (λ i. absent_at (sym (same_key-is k q g) i) (stepped r (stack (sym (same_number t u f) i) rs))) ∙ step.absent_there ∙ ap (λ (n : ℕ). absent_of n w) (same_number t u f)
+      (λ i. absent_at (sym (same_key-is k q g) i) (stepped (is_update r) r (stack (sym (same_number t u f) i) rs))) ∙ step.absent_there ∙ ap (λ (n : ℕ). absent_of n w) (same_number t u f)
   marked_case u q opened true f false g =
-      ap (λ (n : ℕ). absent_at q (stepped r (stack n rs))) (sym (same_number t u f)) ∙ step.absent_elsewhere q g ∙ ap (λ (n : ℕ). absent_at q (stack n rs)) (same_number t u f) ∙ is.marked u q opened
+      ap (λ (n : ℕ). absent_at q (stepped (is_update r) r (stack n rs))) (sym (same_number t u f)) ∙ step.absent_elsewhere q g ∙ ap (λ (n : ℕ). absent_at q (stack n rs)) (same_number t u f) ∙ is.marked u q opened
   marked_case u q opened false f true g = is.marked u q opened ∙ ap (absent_of u) (sym (old_at q g)) ∙ sym (step.others u f).1
   marked_case u q opened false f false g = is.marked u q opened
 
@@ -134,8 +150,8 @@ module _ (r : LogRecord) (rs : List LogRecord) (is_open : ℕ → Bool) (old new
 
   pub held_grown : IsHeld (r ∷ rs) is_open new
   held_grown = record {
-    counted = λ u q opened. ap (λ (b : Bool). live_at q (cond b (stepped r (stack u rs)) (stack u rs))) (mine_is u) ∙ counted_case u q opened (eqb t u) refl (same_key k q) refl ∙ ap (live_of u) (sym (here q));
-    marked = λ u q opened. ap (λ (b : Bool). absent_at q (cond b (stepped r (stack u rs)) (stack u rs))) (mine_is u) ∙ marked_case u q opened (eqb t u) refl (same_key k q) refl ∙ ap (absent_of u) (sym (here q));
+    counted = λ u q opened. ap (λ (b : Bool). live_at q (cond b (stepped (is_update r) r (stack u rs)) (stack u rs))) (mine_is u) ∙ counted_case u q opened (eqb t u) refl (same_key k q) refl ∙ ap (live_of u) (sym (here q));
+    marked = λ u q opened. ap (λ (b : Bool). absent_at q (cond b (stepped (is_update r) r (stack u rs)) (stack u rs))) (mine_is u) ∙ marked_case u q opened (eqb t u) refl (same_key k q) refl ∙ ap (absent_of u) (sym (here q));
     owned = λ q. subst (λ (o : Option Holding). IfSome o (λ h. 0 < h.live → is_open h.owner.0 ≡ true)) (sym (here q)) (some_case (λ h. 0 < h.live → is_open h.owner.0 ≡ true) q step.owned (is.owned q) (same_key k q));
     idle_there = λ q. subst (λ (o : Option Holding). IfSome o (λ h. h.live ≡ 0 → h.absent ≡ false)) (sym (here q)) (some_case (λ h. h.live ≡ 0 → h.absent ≡ false) q step.idle_there (is.idle_there q) (same_key k q));
   }
@@ -197,22 +213,25 @@ other_absent h t u mine idle_here apart = other_case h.live refl (eqb h.owner.0 
 at_itself : (k q : List ℕ) (b : Bool) → same_key k q ≡ b → same_key q k ≡ b
 at_itself k q b f = same_key-sym q k ∙ f
 
+-- a change elsewhere leaves whether a key is out
+pub absent_past : (q : List ℕ) (u : LogRecord) (us : List LogRecord) → is_at q u ≡ false → absent_at q (u ∷ us) ≡ absent_at q us
+absent_past q u us apart = ap (λ (b : Bool). cond b (is_out (says (new_of u) (list_any (is_at q) us) (old_of u)) (absent_at q us)) (absent_at q us)) apart
+
 -- what is kept of a key after one more change there
-pub accepted_hold : (lsn prev : ℕ) (tx : TxId) (key : List ℕ) (before after : Option (List ℕ)) (rs : List LogRecord) (is_open : ℕ → Bool) (holds : HoldsKey) (h : Holding) (absent : Bool) → IsHeld rs is_open holds → holds key ≡ Some h → (0 < h.live → h.owner.0 ≡ tx.0) → is_open tx.0 ≡ true → absent ≡ not (is_some after) → IsHoldStep (Update lsn prev tx key before after) rs is_open holds tx.0 key (Some (record { owner = tx; live = h.live + 1; absent = absent }))
-accepted_hold lsn prev tx key before after rs is_open holds h absent is there mine opened absent_is =
+pub accepted_hold : (r : LogRecord) (tx : TxId) (key : List ℕ) (rs : List LogRecord) (is_open : ℕ → Bool) (holds : HoldsKey) (h : Holding) (absent : Bool) → is_update r ≡ true → tx_of_record r ≡ tx.0 → key_of r ≡ key → IsHeld rs is_open holds → holds key ≡ Some h → (0 < h.live → h.owner.0 ≡ tx.0) → is_open tx.0 ≡ true → absent ≡ absent_at key (r ∷ stack tx.0 rs) → IsHoldStep r rs is_open holds tx.0 key (Some (record { owner = tx; live = h.live + 1; absent = absent }))
+accepted_hold r tx key rs is_open holds h absent up tx_is key_is is there mine opened absent_is =
     let t = tx.0 in
-    let r : LogRecord = Update lsn prev tx key before after in
     let us = stack t rs in
     let own : eqb t t ≡ true = eq-eqb t t refl in
     let now : live_at key us ≡ h.live = is.counted t key opened ∙ ap (live_of t) there ∙ own_or_none h t mine in
     let idle_here : h.live ≡ 0 → h.absent ≡ false = subst (λ (o : Option Holding). IfSome o (λ x. x.live ≡ 0 → x.absent ≡ false)) there (is.idle_there key) in
-    let w : Option Holding = Some (record { owner = tx; live = h.live + 1; absent = absent }) in
+    let elsewhere : (q : List ℕ) → same_key key q ≡ false → is_at q r ≡ false = λ q apart. ap (λ k. same_key k q) key_is ∙ apart in
     record {
-      mine = refl;
-      live_there = ap (λ (b : Bool). length (cond b (r ∷ filter (is_at key) us) (filter (is_at key) us))) (same_key-of key key refl) ∙ (let more : suc (live_at key us) ≡ h.live + 1 = omega (arith, now) in more) ∙ sym (ap (λ (b : Bool). cond b (h.live + 1) 0) own);
-      absent_there = ap (λ (b : Bool). takes_out (option_map change_in (cond b (Some r) (find (is_at key) us)))) (same_key-of key key refl) ∙ sym absent_is ∙ sym (ap (λ (b : Bool). cond b absent false) own);
-      live_elsewhere = λ q apart. ap (λ (b : Bool). length (cond b (r ∷ filter (is_at q) us) (filter (is_at q) us))) apart;
-      absent_elsewhere = λ q apart. ap (λ (b : Bool). takes_out (option_map change_in (cond b (Some r) (find (is_at q) us)))) apart;
+      mine = tx_is;
+      live_there = ap (λ k. live_at key (stepped k r us)) up ∙ ap (λ (b : Bool). length (cond b (r ∷ filter (is_at key) us) (filter (is_at key) us))) (same_key-of (key_of r) key key_is) ∙ (let more : suc (live_at key us) ≡ h.live + 1 = omega (arith, now) in more) ∙ sym (ap (λ (b : Bool). cond b (h.live + 1) 0) own);
+      absent_there = ap (λ k. absent_at key (stepped k r us)) up ∙ sym absent_is ∙ sym (ap (λ (b : Bool). cond b absent false) own);
+      live_elsewhere = λ q apart. ap (λ k. live_at q (stepped k r us)) up ∙ ap (λ (b : Bool). length (cond b (r ∷ filter (is_at q) us) (filter (is_at q) us))) (elsewhere q apart);
+      absent_elsewhere = λ q apart. ap (λ k. absent_at q (stepped k r us)) up ∙ absent_past q r us (elsewhere q apart);
       others = λ u apart. (ap (λ (b : Bool). cond b (h.live + 1) 0) apart ∙ sym (other_live h t u mine apart) ∙ ap (live_of u) (sym there), ap (λ (b : Bool). cond b absent false) apart ∙ sym (other_absent h t u mine idle_here apart) ∙ ap (absent_of u) (sym there));
       owned = λ some. opened;
       idle_there = λ none. absurd (let no : h.live + 1 ≡ 0 = none in omega arith);
@@ -246,13 +265,13 @@ holding_of rs is_open holds t u us is opened whole = hold_case (holds k) refl
     hold_case (Some h) there = own_case h there (eqb h.owner.0 t) refl (sym (is.counted t k opened ∙ ap (live_of t) there) ∙ many)
 
 -- what is kept of a key after a change there is taken back
-pub compensated_hold : (lsn prev : ℕ) (tx : TxId) (restored : Option (List ℕ)) (undo_next : ℕ) (rs : List LogRecord) (is_open : ℕ → Bool) (holds : HoldsKey) (u : LogRecord) (us : List LogRecord) (absent : Bool) (g : IsHolding rs holds tx.0 u us) → IsHeld rs is_open holds → is_open tx.0 ≡ true → stack tx.0 rs ≡ u ∷ us → absent ≡ absent_at (key_of u) us → IsHoldStep (Compensation lsn prev tx (key_of u) restored undo_next) rs is_open holds tx.0 (key_of u) (lowered g.hold absent)
-compensated_hold lsn prev tx restored undo_next rs is_open holds u us absent g is opened whole absent_is = record {
-  mine = refl;
-  live_there = ap (λ xs. live_at k (drop 1 xs)) whole ∙ live_case (eqb h.live 1) refl;
-  absent_there = ap (λ xs. absent_at k (drop 1 xs)) whole ∙ absent_case (eqb h.live 1) refl;
-  live_elsewhere = λ q apart. ap (λ xs. live_at q (drop 1 xs)) whole ∙ sym (ap (λ (b : Bool). length (cond b (u ∷ filter (is_at q) us) (filter (is_at q) us))) apart) ∙ ap (live_at q) (sym whole);
-  absent_elsewhere = λ q apart. ap (λ xs. absent_at q (drop 1 xs)) whole ∙ sym (ap (λ (b : Bool). takes_out (option_map change_in (cond b (Some u) (find (is_at q) us)))) apart) ∙ ap (absent_at q) (sym whole);
+pub compensated_hold : (r : LogRecord) (tx : TxId) (rs : List LogRecord) (is_open : ℕ → Bool) (holds : HoldsKey) (u : LogRecord) (us : List LogRecord) (absent : Bool) (g : IsHolding rs holds tx.0 u us) → is_update r ≡ false → tx_of_record r ≡ tx.0 → IsHeld rs is_open holds → is_open tx.0 ≡ true → stack tx.0 rs ≡ u ∷ us → absent ≡ absent_at (key_of u) us → IsHoldStep r rs is_open holds tx.0 (key_of u) (lowered g.hold absent)
+compensated_hold r tx rs is_open holds u us absent g down tx_is is opened whole absent_is = record {
+  mine = tx_is;
+  live_there = ap (live_at k) less ∙ live_case (eqb h.live 1) refl;
+  absent_there = ap (absent_at k) less ∙ absent_case (eqb h.live 1) refl;
+  live_elsewhere = λ q apart. ap (live_at q) less ∙ sym (ap (λ (b : Bool). length (cond b (u ∷ filter (is_at q) us) (filter (is_at q) us))) apart) ∙ ap (live_at q) (sym whole);
+  absent_elsewhere = λ q apart. ap (absent_at q) less ∙ sym (absent_past q u us apart) ∙ ap (absent_at q) (sym whole);
   others = λ v apart. (live_other v apart (eqb h.live 1) ∙ sym (not_its v apart) ∙ ap (live_of v) (sym g.there), absent_other v apart (eqb h.live 1) ∙ sym (not_its_absent v apart) ∙ ap (absent_of v) (sym g.there));
   owned = owned_case (eqb h.live 1);
   idle_there = idle_case (eqb h.live 1) refl;
@@ -266,6 +285,9 @@ compensated_hold lsn prev tx restored undo_next rs is_open holds u us absent g i
 
     t : ℕ
     t = tx.0
+
+    less : stepped (is_update r) r (stack t rs) ≡ us
+    less = ap (λ b. stepped b r (stack t rs)) down ∙ ap (drop 1) whole
 
     own : eqb h.owner.0 t ≡ true
     own = eq-eqb h.owner.0 t g.owner

@@ -1,42 +1,38 @@
 -- What a kept log says of a transaction, of its state and of the sizes of its counts.
 use Rattle.std.proofs.Common.{◌≡◌, ℕ, suc, ◌+◌, ◌<◌, ◌≤◌, Bool, true, false, cond, not, eqb, List, [], ◌∷◌, length, map, reverse, drop, Option, Some, None, option_map, is_some, IsSome, refl, sym, ap, subst, ◌∙◌, arith, length-drop}
 use Rattle.std.specs.FinMap as maps
-use Rattle.std.specs.List.{find}
 use Rattle.std.specs.Cmp.Lexicographic.{slice_cmp}
 use Rattle.std.specs.Ordering.{nat_cmp}
 use Rattle.std.proofs.lemmas.List.{length-map, length-reverse}
-use Rattle.rec_types.specs.Contents.{Contents, set_to, has}
-use Rattle.rec_types.specs.History.{Change, is_pending, log_use, replay}
+use Rattle.rec_types.specs.Contents.{Contents, write_to, has}
+use Rattle.rec_types.specs.History.{is_pending, log_use}
 use Rattle.rec_types.specs.declared.transaction.TxId.{TxId}
-use Rattle.rec_types.specs.Kept.{Kept, history_of, IsOwned, AllBegun}
-use Rattle.tx_log.proofs.AbsentOwnedLemmas.{only, pending_of, absent_in, absent-parts, absent_is_gone, gone, lack, len-set_to, none_of_len}
+use Rattle.rec_types.specs.Kept.{Kept, change_of, history_of, IsOwned, AllBegun}
+use Rattle.tx_log.proofs.AbsentOwnedLemmas.{only, pending_of, absent_in, absent-parts, absent_is_gone, gone, has-gone, len-said, none_of_len}
 use Rattle.tx_log.proofs.Chains.{last_of-le}
 use Rattle.tx_log.proofs.Counts.{count, log_len_is, newest_of_stack, pending-undone}
 use Rattle.tx_log.proofs.Lives.{lives, stack_is_lives}
 use Rattle.tx_log.proofs.OpenTxLemmas.{get-txs_of, opens_is, found_fits, begun_of}
 use Rattle.tx_log.proofs.OwnerLemmas.{HeldBy, held-free}
-use Rattle.tx_log.proofs.LogStepLemmas.{taken_out_is, chain_of}
+use Rattle.tx_log.proofs.LogStepLemmas.{absent_noted, chain_of}
 use Rattle.tx_log.proofs.WalkSteps.{IsStep}
 use Rattle.tx_log.specs.declared.undo_chain.LiveChange.{LiveChange}
 use Rattle.tx_log.specs.Finds.{finding}
 use Rattle.tx_log.specs.Fits.{AllFit}
-use Rattle.tx_log.specs.Log.{tx_of_record, key_of, new_of, kept_of, stepped, stack, chain, noted}
+use Rattle.tx_log.specs.Log.{tx_of_record, is_update, kept_of, stepped, stack, chain, noted}
 use Rattle.tx_log.specs.LogFields.{state_of, IsKept, IsTxLog}
 use Rattle.tx_log.specs.LogState.{LogState, phase_of, phase_in, open_in, use_in, places_of, IsLog}
-use Rattle.tx_log.specs.Owners.{holder_of, absence}
+use Rattle.tx_log.specs.Owners.{holder_of, says, lack, Standing, nothing, standing, stands_by}
 use Rattle.tx_log.specs.Places.{place_at}
 use Rattle.tx_log.specs.OpenTxs.{rollback_at, tx_at, txs_of, opens}
 use Rattle.tx_log.specs.Transactions.{Tx, Transactions, is_open, most_savepoints}
-use Rattle.tx_log.specs.Walks.{change_in, is_at, takes_out}
+use Rattle.tx_log.specs.Walks.{is_out, absent_at}
 use Rattle.tx_log.specs.declared.log_record.LogRecord.{LogRecord}
-use Rattle.tx_log.specs.declared.log_record.LogRecord.TheVariants.{Update, Compensation}
 use Rattle.tx_log.specs.declared.log.TxLog.TheInside.{Inside}
 use Rattle.tx_log.specs.declared.open_tx.OpenTx.{OpenTx}
 use Rattle.tx_log.specs.declared.phase.Rollback.{Rollback}
 use Rattle.tx_log.specs.declared.phase.Phase.{Phase}
 use Rattle.tx_log.specs.declared.phase.Phase.TheVariants.{Active}
-use Rattle.rec_types.proofs.ContentsLemmas.{same_key-of}
-use Rattle.rec_types.proofs.Sizes.{has-set_to}
 
 -- ---- the transaction that a call names
 
@@ -85,12 +81,12 @@ held_of_free cs es t x owned h = held-free (opens (finding es)) t x cs owned (ap
 drop_le : (us : List LogRecord) (n : ℕ) → length us ≤ n → length (drop 1 us) ≤ n
 drop_le us n h = omega (arith, length-drop 1 us)
 
-stack_step : (t n : ℕ) (r : LogRecord) (us : List LogRecord) → length us ≤ n → length (stepped r us) ≤ suc n
-stack_step t n (Update lsn prev tx key before after) us h = omega arith
-stack_step t n (Compensation lsn prev tx key restored undo_next) us h = let d = drop_le us n h in omega arith
+stack_step : (k : Bool) (t n : ℕ) (r : LogRecord) (us : List LogRecord) → length us ≤ n → length (stepped k r us) ≤ suc n
+stack_step true t n r us h = omega arith
+stack_step false t n r us h = let d = drop_le us n h in omega arith
 
-stack_case : (t n : ℕ) (r : LogRecord) (us : List LogRecord) → length us ≤ n → (b : Bool) → length (cond b (stepped r us) us) ≤ suc n
-stack_case t n r us h true = stack_step t n r us h
+stack_case : (t n : ℕ) (r : LogRecord) (us : List LogRecord) → length us ≤ n → (b : Bool) → length (cond b (stepped (is_update r) r us) us) ≤ suc n
+stack_case t n r us h true = stack_step (is_update r) t n r us h
 stack_case t n r us h false = omega arith
 
 -- a transaction has no more live changes than the log has records
@@ -98,33 +94,33 @@ pub stack-le : (t : ℕ) (rs : List LogRecord) → length (stack t rs) ≤ lengt
 stack-le t [] = omega arith
 stack-le t (r ∷ rs) = stack_case t (length rs) r (stack t rs) (stack-le t rs) (eqb (tx_of_record r) t)
 
-one_more : (m : Contents) (x : List ℕ) (w : Option (List ℕ)) → maps.len (set_to m x (lack w)) ≤ maps.len m + 1
-one_more m x w =
-    let e = len-set_to m x w in
-    let low = most_one (not (is_some w)) in
+one_more : (m : Contents) (x : List ℕ) (v : Option (Option (List ℕ))) → maps.len (write_to m x (option_map lack v)) ≤ maps.len m + 1
+one_more m x v =
+    let e = len-said m x v in
+    let low = most_one (is_out v (has m x)) in
     omega arith
   where
     most_one : (b : Bool) → cond b 1 0 ≤ 1
     most_one true = omega arith
     most_one false = omega arith
 
-gone-le : (us : List Kept) → maps.len (gone us) ≤ length us
+gone-le : (us : List Kept) → maps.len (gone us).out ≤ length us
 gone-le [] = let none = maps.len-empty (slice_cmp nat_cmp) (List ℕ) in omega arith
-gone-le (u ∷ us) = let low = gone-le us in let e = one_more (gone us) u.key u.after in omega arith
+gone-le (u ∷ us) = let low = gone-le us in let e = one_more (gone us).out u.key (says u.after (has (gone us).owned u.key) u.before) in omega arith
 
-absent_case : (m : Contents) (c : Change) (h : List Change) → ((n : Contents) → maps.len (replay n (map absence h)) ≤ maps.len n + length h) → (b : Bool) → maps.len (replay (cond b (set_to m c.key (lack c.after)) m) (map absence h)) ≤ maps.len m + suc (length h)
-absent_case m c h step true = let low = step (set_to m c.key (lack c.after)) in let e = one_more m c.key c.after in omega arith
-absent_case m c h step false = let low = step m in omega arith
-
-absent-le : (m : Contents) (h : List Change) → maps.len (replay m (map absence h)) ≤ maps.len m + length h
-absent-le m [] = omega arith
-absent-le m (c ∷ h) = absent_case m c h (λ n. absent-le n h) c.live
+absent-le : (is_open : ℕ → Bool) (s : Standing) (cs : List Kept) → maps.len (stands_by is_open s cs).out ≤ maps.len s.out + count (is_pending is_open) cs
+absent-le is_open s [] = omega arith
+absent-le is_open s (c ∷ cs) = absent_case (is_pending is_open (change_of c)) (λ s. absent-le is_open s cs)
+  where
+    absent_case : (b : Bool) → ((s : Standing) → maps.len (stands_by is_open s cs).out ≤ maps.len s.out + count (is_pending is_open) cs) → maps.len (stands_by is_open (cond b (standing s c) s) cs).out ≤ maps.len s.out + length (cond b (change_of c ∷ pending_of is_open cs) (pending_of is_open cs))
+    absent_case true step = let low = step (standing s c) in let e = one_more s.out c.key (says c.after (has s.owned c.key) c.before) in omega arith
+    absent_case false step = step s
 
 -- no more keys are out than there are live changes
 pub absent_at_most : (is_open : ℕ → Bool) (cs : List Kept) → maps.len (absent_in is_open cs) ≤ count (is_pending is_open) cs
 absent_at_most is_open cs =
     let none = maps.len-empty (slice_cmp nat_cmp) (List ℕ) in
-    let low = absent-le maps.empty (pending_of is_open cs) in
+    let low = absent-le is_open nothing cs in
     omega arith
 
 -- the counts of a log and of one of its transactions are within the log's length
@@ -144,7 +140,7 @@ sized rs es begun pending gone_keys t e kept found =
     let last_is = fits.last in
     let live_is = fits.live in
     let absent_is : e.absent ≡ maps.len (absent_in (only t) (kept_of rs)) = fits.absent_keys in
-    let keys : maps.len (absent_in (only t) (kept_of rs)) ≤ length (lives t (kept_of rs)) = subst (λ (m : Contents). maps.len m ≤ length (lives t (kept_of rs))) (sym (absent_is_gone t (kept_of rs))) (gone-le (lives t (kept_of rs))) in
+    let keys : maps.len (absent_in (only t) (kept_of rs)) ≤ length (lives t (kept_of rs)) = subst (λ (m : Standing). maps.len m.out ≤ length (lives t (kept_of rs))) (sym (absent_is_gone t (kept_of rs))) (gone-le (lives t (kept_of rs))) in
     let many : length (lives t (kept_of rs)) ≡ length (stack t rs) = ap length (sym (stack_is_lives t rs)) ∙ length-map (stack t rs) noted in
     let all_is = kept.absent_is in
     let pending_is = kept.pending_is in
@@ -158,14 +154,15 @@ sized rs es begun pending gone_keys t e kept found =
     }
 
 -- a key that is absent is counted
-pub counted_key : (rs : List LogRecord) (es : List (TxId × OpenTx)) (begun pending gone_keys t prev : ℕ) (x : List ℕ) (e : OpenTx) → IsKept rs (finding es) begun pending gone_keys → finding es t ≡ Some e → prev ≡ e.last → takes_out (option_map change_in (find (is_at x) (chain rs prev))) ≡ true → 0 < e.absent
+pub counted_key : (rs : List LogRecord) (es : List (TxId × OpenTx)) (begun pending gone_keys t prev : ℕ) (x : List ℕ) (e : OpenTx) → IsKept rs (finding es) begun pending gone_keys → finding es t ≡ Some e → prev ≡ e.last → absent_at x (chain rs prev) ≡ true → 0 < e.absent
 counted_key rs es begun pending gone_keys t prev x e kept found at is =
     let fits = found_fits rs begun t (finding es) e kept.fit found in
     let there = chain_of rs t prev kept.numbered kept.written (at ∙ fits.last) in
     let had : has (absent_in (only t) (kept_of rs)) x ≡ true =
-    ap (λ m. has m x) (absent_is_gone t (kept_of rs) ∙ ap gone (sym (stack_is_lives t rs)))
-    ∙ sym (taken_out_is x (stack t rs))
-    ∙ ap (λ us. takes_out (option_map change_in (find (is_at x) us))) (sym there)
+    ap (λ (s : Standing). has s.out x) (absent_is_gone t (kept_of rs) ∙ ap gone (sym (stack_is_lives t rs)))
+    ∙ has-gone (map noted (stack t rs)) x
+    ∙ absent_noted x (stack t rs)
+    ∙ ap (absent_at x) (sym there)
     ∙ is in
     let some = none_of_len (absent_in (only t) (kept_of rs)) x had in
     let absent_is : e.absent ≡ maps.len (absent_in (only t) (kept_of rs)) = fits.absent_keys in
@@ -224,11 +221,6 @@ none_is false false e = absurd (let no : false ≡ true = e in cc)
 pub record IsCounted (pending : ℕ) (change : LiveChange) (e : OpenTx) : Type 0 where
   pub live : 0 < e.live
   pub waits : 0 < pending
-  pub lacking : not (is_some change.after) ≡ true → 0 < e.absent
-
-lack_some : (w : Option (List ℕ)) → not (is_some w) ≡ true → is_some (lack w) ≡ true
-lack_some None h = refl
-lack_some (Some r) h = absurd (let no : false ≡ true = h in cc)
 
 -- it is, in a log that is kept
 pub counted_change : (rs : List LogRecord) (es : List (TxId × OpenTx)) (begun pending gone_keys t : ℕ) (e : OpenTx) (change : LiveChange) → IsKept rs (finding es) begun pending gone_keys → finding es t ≡ Some e → IsStep rs e.last change → IsCounted pending change e
@@ -241,17 +233,7 @@ counted_change rs es begun pending gone_keys t e change kept found step =
     let newest = newest_of_stack t rs step.rest step.update whole in
     let fewer = pending-undone (opens (finding es)) t (kept_of rs) (noted step.update) opened newest in
     let pending_is = kept.pending_is in
-    let absent_is : e.absent ≡ maps.len (absent_in (only t) (kept_of rs)) = fits.absent_keys in
-    let now : lives t (kept_of rs) ≡ noted step.update ∷ map noted step.rest = sym (stack_is_lives t rs) ∙ ap (map noted) whole in
-    let after_is : new_of step.update ≡ change.after = ap (λ (c : LiveChange). c.after) step.told in
-    let x = key_of step.update in
-    let had : not (is_some change.after) ≡ true → has (absent_in (only t) (kept_of rs)) x ≡ true = λ h.
-    ap (λ m. has m x) (absent_is_gone t (kept_of rs) ∙ ap gone now)
-    ∙ has-set_to (gone (map noted step.rest)) x (lack (new_of step.update)) x
-    ∙ ap (λ (b : Bool). cond b (is_some (lack (new_of step.update))) (has (gone (map noted step.rest)) x)) (same_key-of x x refl)
-    ∙ lack_some (new_of step.update) (ap (λ (w : Option (List ℕ)). not (is_some w)) after_is ∙ h) in
     record {
       live = omega arith;
       waits = omega arith;
-      lacking = λ h. (let some = none_of_len (absent_in (only t) (kept_of rs)) x (had h) in omega arith);
     }

@@ -3,9 +3,8 @@ use Rattle.std.proofs.Common.{◌≡◌, ℕ, Bool, true, false, cond, eqb, ◌&
 use Rattle.std.proofs.lemmas.List.{append-nil}
 use Rattle.rec_types.specs.Kept.{Kept, is_own, newest_or, newest_live, undone_or, undone}
 use Rattle.tx_log.proofs.Chains.{same_number}
-use Rattle.tx_log.specs.Log.{tx_of_record, noted, kept_by, kept_of, stepped, stack}
+use Rattle.tx_log.specs.Log.{tx_of_record, is_update, noted, kept_by, kept_of, stepped, stack}
 use Rattle.tx_log.specs.declared.log_record.LogRecord.{LogRecord}
-use Rattle.tx_log.specs.declared.log_record.LogRecord.TheVariants.{Update, Compensation}
 
 -- the first of a list, where there is one
 abbrev pub first : {A : Type 0} → List A → Option A
@@ -110,21 +109,21 @@ drop_noted : (us : List LogRecord) → drop 1 (map noted us) ≡ map noted (drop
 drop_noted [] = refl
 drop_noted (u ∷ us) = refl
 
-stack_case : (t : ℕ) (r : LogRecord) (rs : List LogRecord) → map noted (stack t rs) ≡ lives t (kept_of rs) → (b : Bool) → eqb (tx_of_record r) t ≡ b → map noted (cond b (stepped r (stack t rs)) (stack t rs)) ≡ lives t (kept_by r (kept_of rs))
-stack_case t (Update lsn prev tx key before after) rs step true own =
-    ap (λ us. noted (Update lsn prev tx key before after) ∷ us) step
-    ∙ ap (λ (b : Bool). single (b && true) (noted (Update lsn prev tx key before after)) ++ lives t (kept_of rs)) (sym own)
-    ∙ sym (lives-push t (kept_of rs) (noted (Update lsn prev tx key before after)))
-stack_case t (Update lsn prev tx key before after) rs step false own =
+stack_case : (k : Bool) (t : ℕ) (r : LogRecord) (rs : List LogRecord) → map noted (stack t rs) ≡ lives t (kept_of rs) → (b : Bool) → eqb (tx_of_record r) t ≡ b → map noted (cond b (stepped k r (stack t rs)) (stack t rs)) ≡ lives t (kept_by k r (kept_of rs))
+stack_case true t r rs step true own =
+    ap (λ us. noted r ∷ us) step
+    ∙ ap (λ (b : Bool). single (b && true) (noted r) ++ lives t (kept_of rs)) (sym own)
+    ∙ sym (lives-push t (kept_of rs) (noted r))
+stack_case true t r rs step false own =
     step
-    ∙ ap (λ (b : Bool). single (b && true) (noted (Update lsn prev tx key before after)) ++ lives t (kept_of rs)) (sym own)
-    ∙ sym (lives-push t (kept_of rs) (noted (Update lsn prev tx key before after)))
-stack_case t (Compensation lsn prev tx key restored undo_next) rs step true own =
-    sym (drop_noted (stack t rs)) ∙ ap (drop 1) step ∙ sym (lives-undone t (kept_of rs)) ∙ ap (λ u. lives t (undone u (kept_of rs))) (sym (same_number tx.0 t own))
-stack_case t (Compensation lsn prev tx key restored undo_next) rs step false own =
-    step ∙ sym (lives-other tx.0 t (kept_of rs) (eqb_sym t tx.0 ∙ own))
+    ∙ ap (λ (b : Bool). single (b && true) (noted r) ++ lives t (kept_of rs)) (sym own)
+    ∙ sym (lives-push t (kept_of rs) (noted r))
+stack_case false t r rs step true own =
+    sym (drop_noted (stack t rs)) ∙ ap (drop 1) step ∙ sym (lives-undone t (kept_of rs)) ∙ ap (λ u. lives t (undone u (kept_of rs))) (sym (same_number (tx_of_record r) t own))
+stack_case false t r rs step false own =
+    step ∙ sym (lives-other (tx_of_record r) t (kept_of rs) (eqb_sym t (tx_of_record r) ∙ own))
 
 -- a transaction's stack, noted as changes, is its live changes
 pub stack_is_lives : (t : ℕ) (rs : List LogRecord) → map noted (stack t rs) ≡ lives t (kept_of rs)
 stack_is_lives t [] = refl
-stack_is_lives t (r ∷ rs) = stack_case t r rs (stack_is_lives t rs) (eqb (tx_of_record r) t) refl
+stack_is_lives t (r ∷ rs) = stack_case (is_update r) t r rs (stack_is_lives t rs) (eqb (tx_of_record r) t) refl

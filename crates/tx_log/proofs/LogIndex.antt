@@ -4,10 +4,9 @@ use Rattle.std.proofs.lemmas.List.{reverse-append, reverse-reverse, length-rever
 use Rattle.std.proofs.Math.Seq.{drop-cons}
 use Rattle.tx_log.proofs.Chains.{chain-skip, chain-found, numbered-part}
 use Rattle.std.specs.List.{slice_get}
-use Rattle.tx_log.specs.Log.{lsn_of, prev_of, leads_to, led, chain, record_at, IsNumbered}
+use Rattle.tx_log.specs.Log.{lsn_of, prev_of, leads_to, led, is_update, chain, record_at, IsNumbered}
 use Rattle.tx_log.specs.Transactions.{place_in}
 use Rattle.tx_log.specs.declared.log_record.LogRecord.{LogRecord}
-use Rattle.tx_log.specs.declared.log_record.LogRecord.TheVariants.{Update, Compensation}
 
 -- a list with one more behind, turned
 pub reverse-push : {A : Type 0} (xs : List A) (x : A) → reverse (xs ++ x ∷ []) ≡ x ∷ reverse xs
@@ -31,7 +30,7 @@ pub record IsRecordAt (log : List LogRecord) (at : ℕ) (r : LogRecord) : Type 0
   pub lsn : lsn_of r ≡ at
   pub prev : prev_of r < at
   pub leads : leads_to r < at
-  pub chain_is : chain (reverse log) at ≡ led r (chain (reverse log) (leads_to r))
+  pub chain_is : chain (reverse log) at ≡ led (is_update r) r (chain (reverse log) (leads_to r))
 
 -- what is read at a place of a numbered log is the record of that number
 pub record_is_at : (log : List LogRecord) (at : ℕ) (d r : LogRecord) → IsNumbered (reverse log) → 0 < at → at ≤ length log → get_or log (at - 1) d ≡ r → IsRecordAt log at r
@@ -43,7 +42,7 @@ record_is_at log at d r is some within read =
     let there = subst IsNumbered cut is in
     let part = numbered-part newer r older there in
     let many : length older ≡ n = length-reverse (take n log) ∙ length-take-le n log (omega arith) in
-    let P : List LogRecord → Type 0 = λ rs. chain rs at ≡ led r (chain rs (leads_to r)) in
+    let P : List LogRecord → Type 0 = λ rs. chain rs at ≡ led (is_update r) r (chain rs (leads_to r)) in
     record {
       lsn = omega (arith, part.0, many);
       prev = omega (arith, part.1, many);
@@ -80,12 +79,12 @@ pub record Stands (rs : List LogRecord) (u : LogRecord) : Type 0 where
 further : (r : LogRecord) (rs : List LogRecord) (u : LogRecord) → Stands rs u → Stands (r ∷ rs) u
 further r rs u s = record { newer = r ∷ s.newer; older = s.older; is = ap (λ xs. r ∷ xs) s.is }
 
-found_stands : (r : LogRecord) (rs : List LogRecord) (u : LogRecord) (us : List LogRecord) → ((m : ℕ) → chain rs m ≡ u ∷ us → Stands rs u) → led r (chain rs (leads_to r)) ≡ u ∷ us → Stands (r ∷ rs) u
-found_stands (Update lsn prev tx key before after) rs u us step e = record { newer = []; older = rs; is = let same : Update lsn prev tx key before after ≡ u = cc in ap (λ x. x ∷ rs) same }
-found_stands (Compensation lsn prev tx key restored undo_next) rs u us step e = further (Compensation lsn prev tx key restored undo_next) rs u (step undo_next e)
+found_stands : (k : Bool) (r : LogRecord) (rs : List LogRecord) (u : LogRecord) (us : List LogRecord) → ((m : ℕ) → chain rs m ≡ u ∷ us → Stands rs u) → led k r (chain rs (leads_to r)) ≡ u ∷ us → Stands (r ∷ rs) u
+found_stands true r rs u us step e = record { newer = []; older = rs; is = let same : r ≡ u = cc in ap (λ x. x ∷ rs) same }
+found_stands false r rs u us step e = further r rs u (step (leads_to r) e)
 
-stands_case : (r : LogRecord) (rs : List LogRecord) (n : ℕ) (u : LogRecord) (us : List LogRecord) → ((m : ℕ) → chain rs m ≡ u ∷ us → Stands rs u) → (b : Bool) → cond b (led r (chain rs (leads_to r))) (chain rs n) ≡ u ∷ us → Stands (r ∷ rs) u
-stands_case r rs n u us step true e = found_stands r rs u us step e
+stands_case : (r : LogRecord) (rs : List LogRecord) (n : ℕ) (u : LogRecord) (us : List LogRecord) → ((m : ℕ) → chain rs m ≡ u ∷ us → Stands rs u) → (b : Bool) → cond b (led (is_update r) r (chain rs (leads_to r))) (chain rs n) ≡ u ∷ us → Stands (r ∷ rs) u
+stands_case r rs n u us step true e = found_stands (is_update r) r rs u us step e
 stands_case r rs n u us step false e = further r rs u (step n e)
 
 -- the head of a chain does

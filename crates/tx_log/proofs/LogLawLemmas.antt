@@ -9,10 +9,9 @@ use Rattle.tx_log.proofs.Counts.{newest_of_stack, log_len_is}
 use Rattle.tx_log.proofs.Lives.{dead, eqb_sym, and_false}
 use Rattle.tx_log.proofs.LogIndex.{reverse_cons}
 use Rattle.tx_log.proofs.PlaceLemmas.{Rises, kept_rises}
-use Rattle.tx_log.specs.Log.{lsn_of, prev_of, tx_of_record, key_of, old_of, leads_to, is_update, last_of, noted, kept_of, stepped, stack, IsNumbered, Undoes, IsWritten, AllWritten}
+use Rattle.tx_log.specs.Log.{lsn_of, prev_of, tx_of_record, key_of, back_in, leads_to, is_update, last_of, noted, kept_by, kept_of, stepped, stack, IsNumbered, Undoes, TellsOf, IsWritten, AllWritten}
 use Rattle.tx_log.specs.LogLaws.{follows, undoes, change_told, IsChained}
 use Rattle.tx_log.specs.declared.log_record.LogRecord.{LogRecord}
-use Rattle.tx_log.specs.declared.log_record.LogRecord.TheVariants.{Update, Compensation}
 
 -- ---- each record of a list
 
@@ -81,8 +80,7 @@ known_older w u (inl b) low up =
 known_older w u (inr other) low up = ap (λ x. x && eqb (prev_of u) (prev_of w)) other ∙ sym (unequal (lsn_of u) (lsn_of w) low)
 
 written_prev : (r : LogRecord) (rs : List LogRecord) → IsWritten r rs → prev_of r ≡ last_of (tx_of_record r) rs
-written_prev (Update lsn prev tx key before after) rs w = w
-written_prev (Compensation lsn prev tx key restored undo_next) rs w = w.0
+written_prev r rs w = w.0
 
 at_or_other : (w u : LogRecord) (rs : List LogRecord) → prev_of w ≡ last_of (tx_of_record w) rs → IsBelow (length rs) u → (eqb (tx_of_record u) (tx_of_record w) ≡ true → lsn_of u ≤ last_of (tx_of_record w) rs) → IsBelow (prev_of w) u ⊎ (eqb (tx_of_record u) (tx_of_record w) ≡ false)
 at_or_other w u rs prev below last = or_case (eqb (tx_of_record u) (tx_of_record w)) refl
@@ -184,20 +182,20 @@ record IsTop (t : ℕ) (rs : List LogRecord) (w : LogRecord) : Type 0 where
   update : is_update w ≡ true
   own : tx_of_record w ≡ t
 
-stack_own_case : (t : ℕ) (r : LogRecord) (rs : List LogRecord) → Each (λ u. (is_update u ≡ true) × (tx_of_record u ≡ t) × In u rs) (stack t rs) → (b : Bool) → eqb (tx_of_record r) t ≡ b → Each (λ u. (is_update u ≡ true) × (tx_of_record u ≡ t) × In u (r ∷ rs)) (cond b (stepped r (stack t rs)) (stack t rs))
-stack_own_case t (Update lsn prev tx key before after) rs step true e =
-    ((refl, same_number tx.0 t e, inl refl), each_more (λ u. (is_update u ≡ true) × (tx_of_record u ≡ t) × In u rs) (λ u. (is_update u ≡ true) × (tx_of_record u ≡ t) × In u (Update lsn prev tx key before after ∷ rs)) (λ u h. (h.0, h.1, inr h.2)) (stack t rs) step)
-stack_own_case t (Compensation lsn prev tx key restored undo_next) rs step true e =
-    dropped (stack t rs) (each_more (λ u. (is_update u ≡ true) × (tx_of_record u ≡ t) × In u rs) (λ u. (is_update u ≡ true) × (tx_of_record u ≡ t) × In u (Compensation lsn prev tx key restored undo_next ∷ rs)) (λ u h. (h.0, h.1, inr h.2)) (stack t rs) step)
+stack_own_case : (k : Bool) (t : ℕ) (r : LogRecord) (rs : List LogRecord) → is_update r ≡ k → Each (λ u. (is_update u ≡ true) × (tx_of_record u ≡ t) × In u rs) (stack t rs) → (b : Bool) → eqb (tx_of_record r) t ≡ b → Each (λ u. (is_update u ≡ true) × (tx_of_record u ≡ t) × In u (r ∷ rs)) (cond b (stepped k r (stack t rs)) (stack t rs))
+stack_own_case true t r rs kind step true e =
+    ((kind, same_number (tx_of_record r) t e, inl refl), each_more (λ u. (is_update u ≡ true) × (tx_of_record u ≡ t) × In u rs) (λ u. (is_update u ≡ true) × (tx_of_record u ≡ t) × In u (r ∷ rs)) (λ u h. (h.0, h.1, inr h.2)) (stack t rs) step)
+stack_own_case false t r rs kind step true e =
+    dropped (stack t rs) (each_more (λ u. (is_update u ≡ true) × (tx_of_record u ≡ t) × In u rs) (λ u. (is_update u ≡ true) × (tx_of_record u ≡ t) × In u (r ∷ rs)) (λ u h. (h.0, h.1, inr h.2)) (stack t rs) step)
   where
-    dropped : (us : List LogRecord) → Each (λ u. (is_update u ≡ true) × (tx_of_record u ≡ t) × In u (Compensation lsn prev tx key restored undo_next ∷ rs)) us → Each (λ u. (is_update u ≡ true) × (tx_of_record u ≡ t) × In u (Compensation lsn prev tx key restored undo_next ∷ rs)) (drop 1 us)
+    dropped : (us : List LogRecord) → Each (λ u. (is_update u ≡ true) × (tx_of_record u ≡ t) × In u (r ∷ rs)) us → Each (λ u. (is_update u ≡ true) × (tx_of_record u ≡ t) × In u (r ∷ rs)) (drop 1 us)
     dropped [] h = tt
     dropped (u ∷ us) h = h.1
-stack_own_case t r rs step false e = each_more (λ u. (is_update u ≡ true) × (tx_of_record u ≡ t) × In u rs) (λ u. (is_update u ≡ true) × (tx_of_record u ≡ t) × In u (r ∷ rs)) (λ u h. (h.0, h.1, inr h.2)) (stack t rs) step
+stack_own_case k t r rs kind step false e = each_more (λ u. (is_update u ≡ true) × (tx_of_record u ≡ t) × In u rs) (λ u. (is_update u ≡ true) × (tx_of_record u ≡ t) × In u (r ∷ rs)) (λ u h. (h.0, h.1, inr h.2)) (stack t rs) step
 
 stack_own : (t : ℕ) (rs : List LogRecord) → Each (λ u. (is_update u ≡ true) × (tx_of_record u ≡ t) × In u rs) (stack t rs)
 stack_own t [] = tt
-stack_own t (r ∷ rs) = stack_own_case t r rs (stack_own t rs) (eqb (tx_of_record r) t) refl
+stack_own t (r ∷ rs) = stack_own_case (is_update r) t r rs refl (stack_own t rs) (eqb (tx_of_record r) t) refl
 
 -- what a compensation names
 record IsUndone (rs : List LogRecord) (c w : LogRecord) : Type 0 where
@@ -206,18 +204,17 @@ record IsUndone (rs : List LogRecord) (c w : LogRecord) : Type 0 where
   own : tx_of_record w ≡ tx_of_record c
   leads : leads_to c ≡ prev_of w
   key : key_of c ≡ key_of w
-  old : old_of c ≡ old_of w
+  back : back_in c ≡ back_in w
   rest : List LogRecord
   top : stack (tx_of_record c) rs ≡ w ∷ rest
 
-undone_of_stack : (rs us : List LogRecord) (c : LogRecord) → stack (tx_of_record c) rs ≡ us → Each (λ u. (is_update u ≡ true) × (tx_of_record u ≡ tx_of_record c) × In u rs) us → Undoes (key_of c) (old_of c) (leads_to c) us → (w : LogRecord) × IsUndone rs c w
+undone_of_stack : (rs us : List LogRecord) (c : LogRecord) → stack (tx_of_record c) rs ≡ us → Each (λ u. (is_update u ≡ true) × (tx_of_record u ≡ tx_of_record c) × In u rs) us → Undoes c us → (w : LogRecord) × IsUndone rs c w
 undone_of_stack rs [] c e h u = absurd u
-undone_of_stack rs (w ∷ us) c e h u = (w, record { member = h.0.2; update = h.0.0; own = h.0.1; leads = u.0; key = u.1; old = u.2; rest = us; top = e })
+undone_of_stack rs (w ∷ us) c e h u = (w, record { member = h.0.2; update = h.0.0; own = h.0.1; leads = u.0; key = u.1; back = u.2; rest = us; top = e })
 
 undone_by : (c : LogRecord) (rs : List LogRecord) → IsWritten c rs → is_update c ≡ false → (w : LogRecord) × IsUndone rs c w
-undone_by (Update lsn prev tx key before after) rs w up = absurd (let no : true ≡ false = up in cc)
-undone_by (Compensation lsn prev tx key restored undo_next) rs w up =
-    undone_of_stack rs (stack tx.0 rs) (Compensation lsn prev tx key restored undo_next) refl (stack_own tx.0 rs) w.1
+undone_by c rs w down =
+    undone_of_stack rs (stack (tx_of_record c) rs) c refl (stack_own (tx_of_record c) rs) (subst (λ k. TellsOf k c (stack (tx_of_record c) rs)) down w.1)
 
 -- ---- the changes are the updates, live where no compensation names them
 
@@ -328,35 +325,36 @@ not_or false false = refl
 abbrev ToldBy : List LogRecord → Type 0
 ToldBy rs = kept_of rs ≡ reverse (map (change_told rs) (filter is_update rs))
 
-told_step : (r : LogRecord) (rs : List LogRecord) → IsNumbered (r ∷ rs) → AllWritten (r ∷ rs) → ToldBy rs → ToldBy (r ∷ rs)
-told_step (Update lsn prev tx key before after) rs is written step =
-    let r : LogRecord = Update lsn prev tx key before after in
+told_step : (k : Bool) (r : LogRecord) (rs : List LogRecord) → is_update r ≡ k → IsNumbered (r ∷ rs) → AllWritten (r ∷ rs) → ToldBy rs → kept_by k r (kept_of rs) ≡ reverse (map (change_told (r ∷ rs)) (cond k (r ∷ filter is_update rs) (filter is_update rs)))
+told_step true r rs kind is written step =
     let ups = filter is_update rs in
-    let none : list_any (undoes r) rs ≡ false = any_none (undoes r) rs (not_named r rs is.3 written.0) in
-    let here : noted r ≡ change_told (r ∷ rs) r = ap (λ (b : Bool). record (noted r) { live = not b }) (sym none) in
+    let none : list_any (undoes r) rs ≡ false = any_none (undoes r) rs (not_named r rs is.3 written.0.0) in
+    let here : noted r ≡ change_told (r ∷ rs) r = ap (λ (b : Bool). record (noted r) { live = not b }) (sym (ap (λ b. (not b && ((eqb (tx_of_record r) (tx_of_record r)) && (eqb (prev_of r) (leads_to r)))) || list_any (undoes r) rs) kind ∙ none)) in
+    let unnamed : (v : LogRecord) → change_told rs v ≡ change_told (r ∷ rs) v = λ v. ap (λ (b : Bool). record (noted v) { live = not b }) (sym (ap (λ b. (not b && ((eqb (tx_of_record v) (tx_of_record r)) && (eqb (prev_of v) (leads_to r)))) || list_any (undoes v) rs) kind)) in
     ap (λ cs. cs ++ noted r ∷ []) step
     ∙ ap (λ c. reverse (map (change_told rs) ups) ++ c ∷ []) here
-    ∙ sym (reverse_cons (change_told (r ∷ rs) r) (map (change_told rs) ups))
-told_step (Compensation lsn prev tx key restored undo_next) rs is written step =
-    let r : LogRecord = Compensation lsn prev tx key restored undo_next in
+    ∙ ap (λ (f : LogRecord → Kept). reverse (map f ups) ++ change_told (r ∷ rs) r ∷ []) (λ i v. unnamed v i)
+    ∙ sym (reverse_cons (change_told (r ∷ rs) r) (map (change_told (r ∷ rs)) ups))
+told_step false r rs kind is written step =
+    let t = tx_of_record r in
     let ups = filter is_update rs in
-    let named = undone_by r rs written.0 refl in
+    let named = undone_by r rs written.0 kind in
     let w = named.0 in
     let u = named.1 in
-    let newest = newest_of_stack tx.0 rs u.rest w u.top in
+    let newest = newest_of_stack t rs u.rest w u.top in
     let one : (v : LogRecord) → IsKnown w v → is_update v ≡ true → mark (lsn_of w) (change_told rs v) ≡ change_told (r ∷ rs) v = λ v known up.
-    let same : (eqb (tx_of_record v) tx.0 && eqb (prev_of v) undo_next) ≡ eqb (lsn_of v) (lsn_of w) =
-    ap (λ t. eqb (tx_of_record v) t && eqb (prev_of v) undo_next) (sym u.own) ∙ ap (λ n. eqb (tx_of_record v) (tx_of_record w) && eqb (prev_of v) n) u.leads ∙ known up in
-    ap (λ (b : Bool). record (noted v) { live = b }) (not_or (eqb (lsn_of v) (lsn_of w)) (list_any (undoes v) rs) ∙ ap (λ x. not (x || list_any (undoes v) rs)) (sym same)) in
+    let same : (eqb (tx_of_record v) t && eqb (prev_of v) (leads_to r)) ≡ eqb (lsn_of v) (lsn_of w) =
+    ap (λ t. eqb (tx_of_record v) t && eqb (prev_of v) (leads_to r)) (sym u.own) ∙ ap (λ n. eqb (tx_of_record v) (tx_of_record w) && eqb (prev_of v) n) u.leads ∙ known up in
+    ap (λ (b : Bool). record (noted v) { live = b }) (not_or (eqb (lsn_of v) (lsn_of w)) (list_any (undoes v) rs) ∙ ap (λ x. not (x || list_any (undoes v) rs)) (sym same) ∙ sym (ap (λ b. not ((not b && (eqb (tx_of_record v) t && eqb (prev_of v) (leads_to r))) || list_any (undoes v) rs)) kind)) in
     let all = map_updates (λ v. mark (lsn_of w) (change_told rs v)) (change_told (r ∷ rs)) rs (each_more (IsKnown w) (λ v. is_update v ≡ true → mark (lsn_of w) (change_told rs v) ≡ change_told (r ∷ rs) v) one rs (only_one rs w is.3 written.1 u.member)) in
-    undone_marks tx.0 0 (kept_of rs) (length rs) (noted w) (kept_rises rs is.3) newest
+    undone_marks t 0 (kept_of rs) (length rs) (noted w) (kept_rises rs is.3) newest
     ∙ ap (map (mark (lsn_of w))) step
     ∙ map_reverse (mark (lsn_of w)) (map (change_told rs) ups)
     ∙ ap reverse (map_twice (mark (lsn_of w)) (change_told rs) ups ∙ all)
 
 told_by : (rs : List LogRecord) → IsNumbered rs → AllWritten rs → ToldBy rs
 told_by [] is written = refl
-told_by (r ∷ rs) is written = told_step r rs is written (told_by rs is.3 written.1)
+told_by (r ∷ rs) is written = told_step (is_update r) r rs refl is written (told_by rs is.3 written.1)
 
 -- ---- no update is compensated twice
 
@@ -478,7 +476,7 @@ is_chained records is written = record {
       let u = found.1 in
       let member : In w (reverse records) = subst (In w) (sym cut) (in_older w c (reverse newer) (reverse older) u.member) in
       let only : filter (follows (tx_of_record c) (leads_to c)) (reverse records) ≡ w ∷ [] = (λ i. filter (follows (sym u.own i) (u.leads i)) (reverse records)) ∙ followed (reverse records) w is written u.update member in
-      (w, filter_turned (follows (tx_of_record c) (leads_to c)) records ∙ ap reverse only, u.key, u.old));
+      (w, filter_turned (follows (tx_of_record c) (leads_to c)) records ∙ ap reverse only, u.key, u.back));
   once = λ older newer u e kind.
       (let cut = turned records older newer u e in
       let member : In u (reverse records) = subst (In u) (sym cut) (in_part u (reverse newer) (reverse older)) in

@@ -1,13 +1,12 @@
 -- A log that grows by a record, beside the open transactions and the counts.
-use Rattle.std.proofs.Common.{◌≡◌, ℕ, suc, ◌+◌, ◌≤◌, Bool, true, false, cond, not, eqb, ◌&&◌, List, [], ◌∷◌, ◌++◌, length, map, drop, Option, Some, None, option_map, is_some, refl, sym, ap, subst, ◌∙◌, arith, eq-eqb}
+use Rattle.std.proofs.Common.{◌≡◌, ℕ, suc, ◌+◌, ◌≤◌, Bool, true, false, cond, not, eqb, ◌&&◌, ◌||◌, List, [], ◌∷◌, ◌++◌, length, map, drop, Option, Some, None, option_map, is_some, refl, sym, ap, subst, ◌∙◌, arith, eq-eqb}
 use Rattle.std.specs.FinMap as maps
-use Rattle.std.specs.List.{find}
-use Rattle.rec_types.specs.Contents.{Contents, set_to, has}
+use Rattle.std.specs.List.{find, list_any}
 use Rattle.rec_types.specs.History.{is_pending}
 use Rattle.rec_types.specs.Kept.{Kept, change_of, newest_live, undone, IsOwned, AllBegun}
 use Rattle.rec_types.specs.declared.transaction.TxId.{TxId}
 use Rattle.tx_log.specs.Transactions.{most_savepoints}
-use Rattle.tx_log.proofs.AbsentOwnedLemmas.{only, without, absent_in, absent-push, absent-push_other, absent-undone_other, absent-parts, absent_is_gone, gone, lacks, has-gone, len-set_to, lack}
+use Rattle.tx_log.proofs.AbsentOwnedLemmas.{only, without, absent_in, stands-push, absent-push_other, absent-undone_other, absent-parts, absent_is_gone, gone, lacks_at, len-gone}
 use Rattle.tx_log.proofs.Chains.{last_of-le, chain_is_stack}
 use Rattle.tx_log.proofs.Counts.{count, count-push, pending-undone, newest_of_stack}
 use Rattle.tx_log.proofs.Lives.{lives, lives-undone, stack_is_lives}
@@ -16,12 +15,12 @@ use Rattle.tx_log.proofs.OwnerLemmas.{kept_at, HeldBy, owned-push, owned-undone,
 use Rattle.tx_log.proofs.WalkSteps.{IsStep}
 use Rattle.tx_log.specs.Finds.{Txs, PutsAt}
 use Rattle.tx_log.specs.Fits.{AllUpTo, RollbackUpTo, FitsTx, left_above}
-use Rattle.tx_log.specs.Log.{leads_to, lsn_of, prev_of, tx_of_record, key_of, new_of, noted, kept_of, last_of, stepped, stack, chain, IsNumbered, Undoes, IsWritten, AllWritten}
+use Rattle.tx_log.specs.Log.{leads_to, lsn_of, prev_of, tx_of_record, key_of, old_of, new_of, back_in, is_update, change_record, back_record, noted, kept_by, kept_of, last_of, stepped, stack, chain, IsNumbered, Undoes, TellsOf, IsWritten, AllWritten}
+use Rattle.tx_log.specs.Owners.{says, Standing, nothing, standing, stands_by}
 use Rattle.tx_log.specs.LogFields.{IsKept}
 use Rattle.tx_log.specs.OpenTxs.{opens}
-use Rattle.tx_log.specs.Walks.{change_in, is_at, takes_out}
+use Rattle.tx_log.specs.Walks.{is_at, is_out, absent_at}
 use Rattle.tx_log.specs.declared.log_record.LogRecord.{LogRecord}
-use Rattle.tx_log.specs.declared.log_record.LogRecord.TheVariants.{Update, Compensation}
 use Rattle.tx_log.specs.declared.open_tx.OpenTx.{OpenTx}
 use Rattle.tx_log.specs.declared.phase.Rollback.{Rollback}
 use Rattle.tx_log.specs.declared.undo_chain.LiveChange.{LiveChange}
@@ -36,9 +35,9 @@ rollback_more n (Some r) up = omega arith
 
 -- ---- the other transactions
 
-absent_other : (r : LogRecord) (rs : List LogRecord) (u : ℕ) → eqb (tx_of_record r) u ≡ false → absent_in (only u) (kept_of (r ∷ rs)) ≡ absent_in (only u) (kept_of rs)
-absent_other (Update lsn prev tx key before after) rs u other = absent-push_other (only u) (kept_of rs) (noted (Update lsn prev tx key before after)) other
-absent_other (Compensation lsn prev tx key restored undo_next) rs u other = absent-undone_other (only u) tx.0 (kept_of rs) other
+absent_other : (k : Bool) (r : LogRecord) (rs : List LogRecord) (u : ℕ) → eqb (tx_of_record r) u ≡ false → absent_in (only u) (kept_by k r (kept_of rs)) ≡ absent_in (only u) (kept_of rs)
+absent_other true r rs u other = absent-push_other (only u) (kept_of rs) (noted r) other
+absent_other false r rs u other = absent-undone_other (only u) (tx_of_record r) (kept_of rs) other
 
 -- a record of one transaction leaves what fits another
 pub grow_other : (r : LogRecord) (rs : List LogRecord) (n t u : ℕ) (e : OpenTx) → tx_of_record r ≡ t → eqb t u ≡ false → FitsTx rs n u e → FitsTx (r ∷ rs) n u e
@@ -46,9 +45,9 @@ grow_other r rs n t u e own other fits =
     let apart : eqb (tx_of_record r) u ≡ false = ap (λ k. eqb k u) own ∙ other in
     record {
       last = fits.last ∙ sym (ap (λ (b : Bool). cond b (lsn_of r) (last_of u rs)) apart);
-      live = fits.live ∙ sym (ap (λ (b : Bool). length (cond b (stepped r (stack u rs)) (stack u rs))) apart);
-      left = fits.left ∙ sym (ap (λ (b : Bool). left_above (cond b (stepped r (stack u rs)) (stack u rs)) e.rollback) apart);
-      absent_keys = fits.absent_keys ∙ sym (ap maps.len (absent_other r rs u apart));
+      live = fits.live ∙ sym (ap (λ (b : Bool). length (cond b (stepped (is_update r) r (stack u rs)) (stack u rs))) apart);
+      left = fits.left ∙ sym (ap (λ (b : Bool). left_above (cond b (stepped (is_update r) r (stack u rs)) (stack u rs)) e.rollback) apart);
+      absent_keys = fits.absent_keys ∙ sym (ap maps.len (absent_other (is_update r) r rs u apart));
       saves = up_to_more (length rs) e.saves.items fits.saves;
       depth = fits.depth;
       rollback = rollback_more (length rs) e.rollback fits.rollback;
@@ -64,8 +63,8 @@ pub record IsOwnStep (r : LogRecord) (rs : List LogRecord) (t : ℕ) (e new : Op
   pub saves : new.saves.items ≡ e.saves.items
   pub mine : tx_of_record r ≡ t
   pub last : new.last ≡ lsn_of r
-  pub live : new.live ≡ length (stepped r (stack t rs))
-  pub left : new.left ≡ left_above (stepped r (stack t rs)) e.rollback
+  pub live : new.live ≡ length (stepped (is_update r) r (stack t rs))
+  pub left : new.left ≡ left_above (stepped (is_update r) r (stack t rs)) e.rollback
   pub absent_keys : new.absent ≡ maps.len (absent_in (only t) (kept_of (r ∷ rs)))
 
 -- what fits the transaction then
@@ -74,8 +73,8 @@ grow_own r rs n t e new fits step =
     let here : eqb (tx_of_record r) t ≡ true = eq-eqb (tx_of_record r) t step.mine in
     record {
       last = step.last ∙ sym (ap (λ (b : Bool). cond b (lsn_of r) (last_of t rs)) here);
-      live = step.live ∙ sym (ap (λ (b : Bool). length (cond b (stepped r (stack t rs)) (stack t rs))) here);
-      left = step.left ∙ (λ i. left_above (sym (ap (λ (b : Bool). cond b (stepped r (stack t rs)) (stack t rs)) here) i) (sym step.rollback i));
+      live = step.live ∙ sym (ap (λ (b : Bool). length (cond b (stepped (is_update r) r (stack t rs)) (stack t rs))) here);
+      left = step.left ∙ (λ i. left_above (sym (ap (λ (b : Bool). cond b (stepped (is_update r) r (stack t rs)) (stack t rs)) here) i) (sym step.rollback i));
       absent_keys = step.absent_keys;
       saves = subst (AllUpTo (suc (length rs))) (sym step.saves) (up_to_more (length rs) e.saves.items fits.saves);
       depth = subst (λ (ss : List ℕ). length ss ≤ most_savepoints) (sym step.saves) fits.depth;
@@ -114,9 +113,9 @@ grown r rs txs txs_new begun pending gone pending_new gone_new t e new kept foun
       absent_is = g.absent_is ∙ ap (λ (o : ℕ → Bool). maps.len (absent_in o (kept_of (r ∷ rs)))) (sym same);
     }
 
--- ---- whether a key is absent, by the newest change at it
+-- ---- whether a key is absent, by the changes at it
 
--- the newest update at a key is the newest change there
+-- the newest change at a key, as a log record and noted
 pub find_noted : (x : List ℕ) (us : List LogRecord) → find (kept_at x) (map noted us) ≡ option_map noted (find (is_at x) us)
 find_noted x [] = refl
 find_noted x (u ∷ us) = noted_case (is_at x u) (find_noted x us)
@@ -125,13 +124,22 @@ find_noted x (u ∷ us) = noted_case (is_at x u) (find_noted x us)
     noted_case true e = refl
     noted_case false e = e
 
-lacks_noted : (o : Option LogRecord) → lacks (option_map noted o) ≡ takes_out (option_map change_in o)
-lacks_noted None = refl
-lacks_noted (Some u) = refl
+any_noted : (x : List ℕ) (us : List LogRecord) → list_any (kept_at x) (map noted us) ≡ list_any (is_at x) us
+any_noted x [] = refl
+any_noted x (u ∷ us) = ap (λ b. is_at x u || b) (any_noted x us)
 
--- it takes the key out where the key is out
-pub taken_out_is : (x : List ℕ) (us : List LogRecord) → takes_out (option_map change_in (find (is_at x) us)) ≡ has (gone (map noted us)) x
-taken_out_is x us = sym (lacks_noted (find (is_at x) us)) ∙ ap lacks (sym (find_noted x us)) ∙ sym (has-gone (map noted us) x)
+-- a key is absent by log records as by the changes that they tell of
+pub absent_noted : (x : List ℕ) (us : List LogRecord) → lacks_at x (map noted us) ≡ absent_at x us
+absent_noted x [] = refl
+absent_noted x (u ∷ us) = λ i. cond (is_at x u) (is_out (says (new_of u) (any_noted x us i) (old_of u)) (absent_noted x us i)) (absent_noted x us i)
+
+-- how many keys are out after one change more
+pub len_noted : (r : LogRecord) (us : List LogRecord) (key : List ℕ) → key_of r ≡ key → maps.len (gone (map noted (r ∷ us))).out + cond (absent_at key us) 1 0 ≡ maps.len (gone (map noted us)).out + cond (absent_at key (r ∷ us)) 1 0
+len_noted r us key is =
+    subst (λ (k : List ℕ). maps.len (gone (map noted (r ∷ us))).out + cond (absent_at k us) 1 0 ≡ maps.len (gone (map noted us)).out + cond (absent_at k (r ∷ us)) 1 0) is
+        ((λ i. maps.len (gone (map noted (r ∷ us))).out + cond (sym (absent_noted (key_of r) us) i) 1 0)
+        ∙ len-gone (map noted us) (noted r)
+        ∙ ap (λ (b : Bool). maps.len (gone (map noted us)).out + cond b 1 0) (absent_noted (key_of r) (r ∷ us)))
 
 -- the chain from a transaction's last record, found by its number
 pub chain_of : (rs : List LogRecord) (t at : ℕ) → IsNumbered rs → AllWritten rs → at ≡ last_of t rs → chain rs at ≡ stack t rs
@@ -153,8 +161,23 @@ total_goes all others one all_new others_new one_new count count_new was will a 
 one_goes : (one one_new count count_new was will : ℕ) → one_new + was ≡ one + will → count ≡ one → count_new + was ≡ count + will → count_new ≡ one_new
 one_goes one one_new count count_new was will d e f = omega arith
 
+-- the record tells of the change
+pub record IsChangeOf (r : LogRecord) (lsn prev : ℕ) (tx : TxId) (key : List ℕ) (before : Option (List ℕ)) (after : Option (Option (List ℕ))) : Type 0 where
+  pub up : is_update r ≡ true
+  pub lsn_is : lsn_of r ≡ lsn
+  pub prev_is : prev_of r ≡ prev
+  pub leads : leads_to r ≡ prev
+  pub tx_is : tx_of_record r ≡ tx.0
+  pub key_is : key_of r ≡ key
+  pub told : noted r ≡ record { lsn = lsn; tx = tx.0; key = key; before = before; after = after; live = true }
+
+-- as the one that is written for it does
+pub change_told_of : (lsn prev : ℕ) (tx : TxId) (key : List ℕ) (before : Option (List ℕ)) (after : Option (Option (List ℕ))) → IsChangeOf (change_record lsn prev tx key before after) lsn prev tx key before after
+change_told_of lsn prev tx key before None = record { up = refl; lsn_is = refl; prev_is = refl; leads = refl; tx_is = refl; key_is = refl; told = refl }
+change_told_of lsn prev tx key before (Some after) = record { up = refl; lsn_is = refl; prev_is = refl; leads = refl; tx_is = refl; key_is = refl; told = refl }
+
 -- the counts after a change
-pub record IsAccepted (lsn prev : ℕ) (tx : TxId) (key : List ℕ) (after : Option (List ℕ)) (rs : List LogRecord) (txs : Txs) (pending gone pending_new gone_new : ℕ) (e new : OpenTx) : Type 0 where
+pub record IsAccepted (r : LogRecord) (lsn prev : ℕ) (tx : TxId) (key : List ℕ) (rs : List LogRecord) (txs : Txs) (pending gone pending_new gone_new : ℕ) (e new : OpenTx) : Type 0 where
   pub lsn_is : lsn ≡ length rs + 1
   pub prev_is : prev ≡ e.last
   pub held : HeldBy (opens txs) tx.0 key (kept_of rs)
@@ -164,64 +187,80 @@ pub record IsAccepted (lsn prev : ℕ) (tx : TxId) (key : List ℕ) (after : Opt
   pub live_new : new.live ≡ e.live + 1
   pub calm : e.rollback ≡ None
   pub left_same : new.left ≡ e.left
-  pub absent_new : new.absent + cond (takes_out (option_map change_in (find (is_at key) (chain rs prev)))) 1 0 ≡ e.absent + cond (not (is_some after)) 1 0
+  pub absent_new : new.absent + cond (absent_at key (chain rs prev)) 1 0 ≡ e.absent + cond (absent_at key (r ∷ chain rs prev)) 1 0
   pub pending_one : pending_new ≡ pending + 1
-  pub gone_one : gone_new + cond (takes_out (option_map change_in (find (is_at key) (chain rs prev)))) 1 0 ≡ gone + cond (not (is_some after)) 1 0
+  pub gone_one : gone_new + cond (absent_at key (chain rs prev)) 1 0 ≡ gone + cond (absent_at key (r ∷ chain rs prev)) 1 0
 
 -- the log is kept after a change
-pub accepted : (lsn prev : ℕ) (tx : TxId) (key : List ℕ) (before after : Option (List ℕ)) (rs : List LogRecord) (txs txs_new : Txs) (begun pending gone_old pending_new gone_new : ℕ) (e new : OpenTx) → IsKept rs txs begun pending gone_old → txs tx.0 ≡ Some e → PutsAt txs txs_new tx.0 (Some new) → IsAccepted lsn prev tx key after rs txs pending gone_old pending_new gone_new e new → IsKept (Update lsn prev tx key before after ∷ rs) txs_new begun pending_new gone_new
-accepted lsn prev tx key before after rs txs txs_new begun pending gone_old pending_new gone_new e new kept found puts a =
-    let r : LogRecord = Update lsn prev tx key before after in
+pub accepted : (r : LogRecord) (lsn prev : ℕ) (tx : TxId) (key : List ℕ) (before : Option (List ℕ)) (after : Option (Option (List ℕ))) (rs : List LogRecord) (txs txs_new : Txs) (begun pending gone_old pending_new gone_new : ℕ) (e new : OpenTx) → IsChangeOf r lsn prev tx key before after → IsKept rs txs begun pending gone_old → txs tx.0 ≡ Some e → PutsAt txs txs_new tx.0 (Some new) → IsAccepted r lsn prev tx key rs txs pending gone_old pending_new gone_new e new → IsKept (r ∷ rs) txs_new begun pending_new gone_new
+accepted r lsn prev tx key before after rs txs txs_new begun pending gone_old pending_new gone_new e new is kept found puts a =
     let d : Kept = noted r in
     let cs = kept_of rs in
+    let us = chain rs prev in
     let t = tx.0 in
     let fits = found_fits rs begun t txs e kept.fit found in
     let prev_last : prev ≡ last_of t rs = a.prev_is ∙ fits.last in
+    let own_prev : prev_of r ≡ last_of (tx_of_record r) rs = is.prev_is ∙ prev_last ∙ ap (λ u. last_of u rs) (sym is.tx_is) in
     let opened : opens txs t ≡ true = ap is_some found in
-    let there : chain rs prev ≡ stack t rs = chain_of rs t prev kept.numbered kept.written prev_last in
-    let was : takes_out (option_map change_in (find (is_at key) (chain rs prev))) ≡ has (absent_in (only t) cs) key =
-    ap (λ us. takes_out (option_map change_in (find (is_at key) us))) there
-    ∙ taken_out_is key (stack t rs)
-    ∙ ap (λ us. has (gone us) key) (stack_is_lives t rs)
-    ∙ ap (λ m. has m key) (sym (absent_is_gone t cs)) in
-    let was_count : ◌≡◌ {A = ℕ} (cond (takes_out (option_map change_in (find (is_at key) (chain rs prev)))) 1 0) (cond (has (absent_in (only t) cs) key) 1 0) = ap (λ (b : Bool). cond b 1 0) was in
-    let mine : only t t ≡ true = eq-eqb t t refl in
-    let one : maps.len (absent_in (only t) (cs ++ d ∷ [])) + cond (has (absent_in (only t) cs) key) 1 0 ≡ maps.len (absent_in (only t) cs) + cond (not (is_some after)) 1 0 =
-    ap (λ (m : Contents). maps.len m + cond (has (absent_in (only t) cs) key) 1 0) (absent-push (only t) cs d refl mine) ∙ len-set_to (absent_in (only t) cs) key after in
-    let owned = owned-push (opens txs) cs d kept.owned a.held in
+    let there : us ≡ stack t rs = chain_of rs t prev kept.numbered kept.written prev_last in
+    let grows : kept_of (r ∷ rs) ≡ cs ++ d ∷ [] = ap (λ k. kept_by k r cs) is.up in
+    let mine : only t d.tx ≡ true = eq-eqb d.tx t is.tx_is in
+    let gone_old_is : stands_by (only t) nothing cs ≡ gone (map noted us) = absent_is_gone t cs ∙ ap gone (sym (stack_is_lives t rs) ∙ ap (map noted) (sym there)) in
+    let gone_new_is : stands_by (only t) nothing (cs ++ d ∷ []) ≡ gone (map noted (r ∷ us)) = stands-push (only t) cs d refl mine ∙ ap (λ s. standing s d) gone_old_is in
+    let one : maps.len (absent_in (only t) (cs ++ d ∷ [])) + cond (absent_at key us) 1 0 ≡ maps.len (absent_in (only t) cs) + cond (absent_at key (r ∷ us)) 1 0 =
+    ap (λ (s : Standing). maps.len s.out + cond (absent_at key us) 1 0) gone_new_is
+    ∙ len_noted r us key is.key_is
+    ∙ ap (λ (s : Standing). maps.len s.out + cond (absent_at key (r ∷ us)) 1 0) (sym gone_old_is) in
+    let owned = owned-push (opens txs) cs d kept.owned (subst (λ u. HeldBy (opens txs) u d.key cs) (sym is.tx_is) (subst (λ x. HeldBy (opens txs) t x cs) (sym is.key_is) a.held)) in
     let all = absent-parts (opens txs) t cs kept.owned opened in
     let all_new = absent-parts (opens txs) t (cs ++ d ∷ []) owned opened in
-    let others = ap maps.len (absent-push_other (without t (opens txs)) cs d (shut_itself t (opens txs))) in
+    let others = ap maps.len (absent-push_other (without t (opens txs)) cs d (ap (without t (opens txs)) is.tx_is ∙ shut_itself t (opens txs))) in
     let e_absent : e.absent ≡ maps.len (absent_in (only t) cs) = fits.absent_keys in
     let new_absent : new.absent ≡ maps.len (absent_in (only t) (cs ++ d ∷ [])) =
-    one_goes _ _ e.absent new.absent (cond (has (absent_in (only t) cs) key) 1 0) (cond (not (is_some after)) 1 0) one e_absent (ap (λ n. new.absent + n) (sym was_count) ∙ a.absent_new) in
+    one_goes _ _ e.absent new.absent (cond (absent_at key us) 1 0) (cond (absent_at key (r ∷ us)) 1 0) one e_absent a.absent_new in
     let total : gone_new ≡ maps.len (absent_in (opens txs) (cs ++ d ∷ [])) =
-    total_goes _ _ _ _ _ _ gone_old gone_new (cond (has (absent_in (only t) cs) key) 1 0) (cond (not (is_some after)) 1 0) all all_new others one kept.absent_is (ap (λ n. gone_new + n) (sym was_count) ∙ a.gone_one) in
+    total_goes _ _ _ _ _ _ gone_old gone_new (cond (absent_at key us) 1 0) (cond (absent_at key (r ∷ us)) 1 0) all all_new others one kept.absent_is a.gone_one in
     let pending_push : count (is_pending (opens txs)) (cs ++ d ∷ []) ≡ count (is_pending (opens txs)) cs + cond (is_pending (opens txs) (change_of d)) 1 0 = count-push (is_pending (opens txs)) cs d in
-    let is_one : ◌≡◌ {A = ℕ} (cond (is_pending (opens txs) (change_of d)) 1 0) 1 = ap (λ (b : Bool). cond b 1 0) opened in
-    let live_is : e.live ≡ length (stack t rs) = fits.live in
+    let is_one : ◌≡◌ {A = ℕ} (cond (is_pending (opens txs) (change_of d)) 1 0) 1 = ap (λ (b : Bool). cond b 1 0) (ap (opens txs) is.tx_is ∙ opened) in
+    let begun_is = begun_of rs begun t txs kept.fit opened in
+    let stepped_is : stepped (is_update r) r (stack t rs) ≡ r ∷ stack t rs = ap (λ k. stepped k r (stack t rs)) is.up in
     let own : IsOwnStep r rs t e new = record {
       rollback = a.rollback_same;
       saves = a.saves_same;
-      mine = refl;
-      last = a.last_new;
-      live = a.live_new ∙ (omega arith);
-      left = a.left_same ∙ fits.left ∙ ap (left_above (stack t rs)) a.calm ∙ sym (ap (left_above (r ∷ stack t rs)) a.calm);
-      absent_keys = new_absent;
+      mine = is.tx_is;
+      last = a.last_new ∙ sym is.lsn_is;
+      live = a.live_new ∙ (let n = fits.live in omega arith) ∙ sym (ap length stepped_is);
+      left = a.left_same ∙ fits.left ∙ ap (left_above (stack t rs)) a.calm ∙ sym (ap (left_above (stepped (is_update r) r (stack t rs))) a.calm);
+      absent_keys = new_absent ∙ ap (λ xs. maps.len (absent_in (only t) xs)) (sym grows);
     } in
     grown r rs txs txs_new begun pending gone_old pending_new gone_new t e new kept found puts record {
       own = own;
-      lsn = a.lsn_is;
-      prev = prev_last;
-      leads = omega (arith, last_of-le rs t kept.numbered);
-      written = prev_last;
-      all_begun = begun-push begun cs d kept.all_begun (begun_of rs begun t txs kept.fit opened).1;
-      owned = owned;
-      pending_is = a.pending_one ∙ (let p = kept.pending_is in omega arith);
-      absent_is = total;
+      lsn = is.lsn_is ∙ a.lsn_is;
+      prev = is.prev_is ∙ prev_last;
+      leads = (let n = is.leads in omega (arith, last_of-le rs t kept.numbered));
+      written = (own_prev, subst (λ k. TellsOf k r (stack (tx_of_record r) rs)) (sym is.up) tt);
+      all_begun = subst (AllBegun begun) (sym grows) (begun-push begun cs d kept.all_begun (let n = is.tx_is in let m = begun_is.1 in omega arith));
+      owned = subst (IsOwned (opens txs)) (sym grows) owned;
+      pending_is = a.pending_one ∙ (let p = kept.pending_is in omega arith) ∙ ap (count (is_pending (opens txs))) (sym grows);
+      absent_is = total ∙ ap (λ xs. maps.len (absent_in (opens txs) xs)) (sym grows);
     }
 
--- ---- a compensation
+-- ---- a change that is taken back
+
+-- the record tells of the taking back
+pub record IsBackOf (r : LogRecord) (lsn prev : ℕ) (tx : TxId) (key : List ℕ) (back : Option (Option (List ℕ))) (undo_next : ℕ) : Type 0 where
+  pub down : is_update r ≡ false
+  pub lsn_is : lsn_of r ≡ lsn
+  pub prev_is : prev_of r ≡ prev
+  pub leads : leads_to r ≡ undo_next
+  pub tx_is : tx_of_record r ≡ tx.0
+  pub key_is : key_of r ≡ key
+  pub back_is : back_in r ≡ back
+
+-- as the one that is written for it does
+pub back_told_of : (lsn prev : ℕ) (tx : TxId) (key : List ℕ) (back : Option (Option (List ℕ))) (undo_next : ℕ) → IsBackOf (back_record lsn prev tx key back undo_next) lsn prev tx key back undo_next
+back_told_of lsn prev tx key None undo_next = record { down = refl; lsn_is = refl; prev_is = refl; leads = refl; tx_is = refl; key_is = refl; back_is = refl }
+back_told_of lsn prev tx key (Some restored) undo_next = record { down = refl; lsn_is = refl; prev_is = refl; leads = refl; tx_is = refl; key_is = refl; back_is = refl }
 
 -- the counts after a change is taken back
 pub record IsCompensated (lsn prev : ℕ) (tx : TxId) (change : LiveChange) (rs : List LogRecord) (txs : Txs) (pending gone pending_new gone_new : ℕ) (e new : OpenTx) : Type 0 where
@@ -234,75 +273,73 @@ pub record IsCompensated (lsn prev : ℕ) (tx : TxId) (change : LiveChange) (rs 
   pub live_new : new.live + 1 ≡ e.live
   pub left_new : new.left + 1 ≡ e.left
   pub above : left_above (step.update ∷ step.rest) e.rollback ≡ left_above step.rest e.rollback + 1
-  pub absent_new : new.absent + cond (not (is_some change.after)) 1 0 ≡ e.absent + cond (takes_out (option_map change_in (find (is_at change.key) (chain rs change.prev)))) 1 0
+  pub absent_new : new.absent + cond (absent_at change.key (chain rs prev)) 1 0 ≡ e.absent + cond (absent_at change.key (chain rs change.prev)) 1 0
   pub pending_one : pending_new + 1 ≡ pending
-  pub gone_one : gone_new + cond (not (is_some change.after)) 1 0 ≡ gone + cond (takes_out (option_map change_in (find (is_at change.key) (chain rs change.prev)))) 1 0
+  pub gone_one : gone_new + cond (absent_at change.key (chain rs prev)) 1 0 ≡ gone + cond (absent_at change.key (chain rs change.prev)) 1 0
 
-undoes_step : (rs : List LogRecord) (prev t : ℕ) (change : LiveChange) → IsStep rs prev change → chain rs prev ≡ stack t rs → Undoes change.key change.before change.prev (stack t rs)
-undoes_step rs prev t change step there =
-    subst (Undoes change.key change.before change.prev) (sym step.is ∙ there)
-    (ap (λ (c : LiveChange). c.prev) (sym step.told), ap (λ (c : LiveChange). c.key) (sym step.told), ap (λ (c : LiveChange). c.before) (sym step.told))
+undoes_step : (r : LogRecord) (rs : List LogRecord) (lsn prev t : ℕ) (tx : TxId) (change : LiveChange) → IsBackOf r lsn prev tx change.key (option_map (λ _. change.before) change.after) change.prev → IsStep rs prev change → chain rs prev ≡ stack t rs → Undoes r (stack t rs)
+undoes_step r rs lsn prev t tx change is step there =
+    subst (Undoes r) (sym step.is ∙ there)
+    (is.leads ∙ ap (λ (c : LiveChange). c.prev) (sym step.told), is.key_is ∙ ap (λ (c : LiveChange). c.key) (sym step.told), is.back_is ∙ ap (λ (c : LiveChange). option_map (λ _. c.before) c.after) (sym step.told))
 
 -- the log is kept after a change is taken back
-pub compensated : (lsn prev : ℕ) (tx : TxId) (change : LiveChange) (rs : List LogRecord) (txs txs_new : Txs) (begun pending gone_old pending_new gone_new : ℕ) (e new : OpenTx) → IsKept rs txs begun pending gone_old → txs tx.0 ≡ Some e → PutsAt txs txs_new tx.0 (Some new) → IsCompensated lsn prev tx change rs txs pending gone_old pending_new gone_new e new → IsKept (Compensation lsn prev tx change.key change.before change.prev ∷ rs) txs_new begun pending_new gone_new
-compensated lsn prev tx change rs txs txs_new begun pending gone_old pending_new gone_new e new kept found puts a =
-    let r : LogRecord = Compensation lsn prev tx change.key change.before change.prev in
+pub compensated : (r : LogRecord) (lsn prev : ℕ) (tx : TxId) (change : LiveChange) (rs : List LogRecord) (txs txs_new : Txs) (begun pending gone_old pending_new gone_new : ℕ) (e new : OpenTx) → IsBackOf r lsn prev tx change.key (option_map (λ _. change.before) change.after) change.prev → IsKept rs txs begun pending gone_old → txs tx.0 ≡ Some e → PutsAt txs txs_new tx.0 (Some new) → IsCompensated lsn prev tx change rs txs pending gone_old pending_new gone_new e new → IsKept (r ∷ rs) txs_new begun pending_new gone_new
+compensated r lsn prev tx change rs txs txs_new begun pending gone_old pending_new gone_new e new is kept found puts a =
     let cs = kept_of rs in
     let t = tx.0 in
     let fits = found_fits rs begun t txs e kept.fit found in
     let prev_last : prev ≡ last_of t rs = a.prev_is ∙ fits.last in
+    let own_prev : prev_of r ≡ last_of (tx_of_record r) rs = is.prev_is ∙ prev_last ∙ ap (λ u. last_of u rs) (sym is.tx_is) in
     let opened : opens txs t ≡ true = ap is_some found in
     let there : chain rs prev ≡ stack t rs = chain_of rs t prev kept.numbered kept.written prev_last in
     let u = a.step.update in
     let us = a.step.rest in
     let whole : stack t rs ≡ u ∷ us = sym there ∙ a.step.is in
     let newest : newest_live t cs ≡ Some (noted u) = newest_of_stack t rs us u whole in
+    let shrinks : kept_of (r ∷ rs) ≡ undone t cs = ap (λ k. kept_by k r cs) is.down ∙ ap (λ v. undone v cs) is.tx_is in
     let left : lives t (undone t cs) ≡ map noted us = lives-undone t cs ∙ ap (drop 1) (sym (stack_is_lives t rs) ∙ ap (map noted) whole) in
-    let now : lives t cs ≡ noted u ∷ map noted us = sym (stack_is_lives t rs) ∙ ap (map noted) whole in
+    let now : lives t cs ≡ map noted (u ∷ us) = sym (stack_is_lives t rs) ∙ ap (map noted) whole in
     let key_is : key_of u ≡ change.key = ap (λ (c : LiveChange). c.key) a.step.told in
-    let after_is : new_of u ≡ change.after = ap (λ (c : LiveChange). c.after) a.step.told in
-    let will : takes_out (option_map change_in (find (is_at change.key) (chain rs change.prev))) ≡ has (gone (map noted us)) change.key =
-    ap (λ xs. takes_out (option_map change_in (find (is_at change.key) xs))) a.step.tail ∙ taken_out_is change.key us in
-    let will_count : ◌≡◌ {A = ℕ} (cond (takes_out (option_map change_in (find (is_at change.key) (chain rs change.prev)))) 1 0) (cond (has (gone (map noted us)) change.key) 1 0) = ap (λ (b : Bool). cond b 1 0) will in
-    let old_gone : absent_in (only t) cs ≡ set_to (gone (map noted us)) change.key (lack change.after) =
-    absent_is_gone t cs ∙ ap gone now ∙ (λ k. set_to (gone (map noted us)) (key_is k) (lack (after_is k))) in
-    let new_gone : absent_in (only t) (undone t cs) ≡ gone (map noted us) = absent_is_gone t (undone t cs) ∙ ap gone left in
-    let put : maps.len (absent_in (only t) cs) + cond (has (gone (map noted us)) change.key) 1 0 ≡ maps.len (gone (map noted us)) + cond (not (is_some change.after)) 1 0 =
-    ap (λ (m : Contents). maps.len m + cond (has (gone (map noted us)) change.key) 1 0) old_gone ∙ len-set_to (gone (map noted us)) change.key change.after in
-    let one : maps.len (absent_in (only t) (undone t cs)) + cond (not (is_some change.after)) 1 0 ≡ maps.len (absent_in (only t) cs) + cond (has (gone (map noted us)) change.key) 1 0 =
-    ap (λ (m : Contents). maps.len m + cond (not (is_some change.after)) 1 0) new_gone ∙ sym put in
+    let old_gone : stands_by (only t) nothing cs ≡ gone (map noted (u ∷ us)) = absent_is_gone t cs ∙ ap gone now in
+    let new_gone : stands_by (only t) nothing (undone t cs) ≡ gone (map noted us) = absent_is_gone t (undone t cs) ∙ ap gone left in
+    let was : absent_at change.key (chain rs prev) ≡ absent_at change.key (u ∷ us) = ap (absent_at change.key) a.step.is in
+    let will : absent_at change.key (chain rs change.prev) ≡ absent_at change.key us = ap (absent_at change.key) a.step.tail in
+    let one : maps.len (absent_in (only t) (undone t cs)) + cond (absent_at change.key (chain rs prev)) 1 0 ≡ maps.len (absent_in (only t) cs) + cond (absent_at change.key (chain rs change.prev)) 1 0 =
+    (λ i. maps.len (new_gone i).out + cond (was i) 1 0)
+    ∙ sym (len_noted u us change.key key_is)
+    ∙ (λ i. maps.len (sym old_gone i).out + cond (sym will i) 1 0) in
     let owned = owned-undone (opens txs) t cs kept.owned in
     let all = absent-parts (opens txs) t cs kept.owned opened in
     let all_new = absent-parts (opens txs) t (undone t cs) owned opened in
     let others = ap maps.len (absent-undone_other (without t (opens txs)) t cs (shut_itself t (opens txs))) in
     let e_absent : e.absent ≡ maps.len (absent_in (only t) cs) = fits.absent_keys in
     let new_absent : new.absent ≡ maps.len (absent_in (only t) (undone t cs)) =
-    one_goes _ _ e.absent new.absent (cond (not (is_some change.after)) 1 0) (cond (has (gone (map noted us)) change.key) 1 0) one e_absent (a.absent_new ∙ ap (λ n. e.absent + n) will_count) in
+    one_goes _ _ e.absent new.absent (cond (absent_at change.key (chain rs prev)) 1 0) (cond (absent_at change.key (chain rs change.prev)) 1 0) one e_absent a.absent_new in
     let total : gone_new ≡ maps.len (absent_in (opens txs) (undone t cs)) =
-    total_goes _ _ _ _ _ _ gone_old gone_new (cond (not (is_some change.after)) 1 0) (cond (has (gone (map noted us)) change.key) 1 0) all all_new others one kept.absent_is (a.gone_one ∙ ap (λ n. gone_old + n) will_count) in
+    total_goes _ _ _ _ _ _ gone_old gone_new (cond (absent_at change.key (chain rs prev)) 1 0) (cond (absent_at change.key (chain rs change.prev)) 1 0) all all_new others one kept.absent_is a.gone_one in
     let fewer = pending-undone (opens txs) t cs (noted u) opened newest in
     let live_is : e.live ≡ suc (length us) = fits.live ∙ ap length whole in
-    let dropped : length us ≡ length (drop 1 (stack t rs)) = ap (λ xs. length (drop 1 xs)) (sym whole) in
+    let stepped_is : stepped (is_update r) r (stack t rs) ≡ us = ap (λ k. stepped k r (stack t rs)) is.down ∙ ap (drop 1) whole in
     let live_left : new.live ≡ length us = (let n = a.live_new in omega arith) in
     let left_all : e.left ≡ left_above us e.rollback + 1 = fits.left ∙ ap (λ xs. left_above xs e.rollback) whole ∙ a.above in
     let left_left : new.left ≡ left_above us e.rollback = (let n = a.left_new in omega arith) in
     let own : IsOwnStep r rs t e new = record {
       rollback = a.rollback_same;
       saves = a.saves_same;
-      mine = refl;
-      last = a.last_new;
-      live = live_left ∙ dropped;
-      left = left_left ∙ ap (λ xs. left_above (drop 1 xs) e.rollback) (sym whole);
-      absent_keys = new_absent;
+      mine = is.tx_is;
+      last = a.last_new ∙ sym is.lsn_is;
+      live = live_left ∙ sym (ap length stepped_is);
+      left = left_left ∙ ap (λ xs. left_above xs e.rollback) (sym stepped_is);
+      absent_keys = new_absent ∙ ap (λ xs. maps.len (absent_in (only t) xs)) (sym shrinks);
     } in
     grown r rs txs txs_new begun pending gone_old pending_new gone_new t e new kept found puts record {
       own = own;
-      lsn = a.lsn_is;
-      prev = prev_last;
-      leads = omega (arith, a.step.falls, a.step.within);
-      written = (prev_last, undoes_step rs prev t change a.step there);
-      all_begun = begun-undone begun t cs kept.all_begun;
-      owned = owned;
-      pending_is = (let p = kept.pending_is in let n = a.pending_one in omega arith);
-      absent_is = total;
+      lsn = is.lsn_is ∙ a.lsn_is;
+      prev = is.prev_is ∙ prev_last;
+      leads = (let n = is.leads in omega (arith, a.step.falls, a.step.within));
+      written = (own_prev, subst (λ k. TellsOf k r (stack (tx_of_record r) rs)) (sym is.down) (subst (λ v. Undoes r (stack v rs)) (sym is.tx_is) (undoes_step r rs lsn prev t tx change is a.step there)));
+      all_begun = subst (AllBegun begun) (sym shrinks) (begun-undone begun t cs kept.all_begun);
+      owned = subst (IsOwned (opens txs)) (sym shrinks) owned;
+      pending_is = (let p = kept.pending_is in let n = a.pending_one in let q : pending_new ≡ count (is_pending (opens txs)) (undone t cs) = omega arith in q) ∙ ap (count (is_pending (opens txs))) (sym shrinks);
+      absent_is = total ∙ ap (λ xs. maps.len (absent_in (opens txs) xs)) (sym shrinks);
     }

@@ -3,10 +3,9 @@ use Rattle.std.proofs.Common.{true, ◌≡◌, ℕ, zero, suc, ◌+◌, ◌-◌,
 use Rattle.std.proofs.lemmas.List.{length-reverse, length-take-le, length-append}
 use Rattle.tx_log.proofs.Chains.{chain-skip, chain-head, numbered-part, length-part}
 use Rattle.tx_log.proofs.LogIndex.{chain-zero, chain_stands, cut_at, record_of_chain, reverse-push}
-use Rattle.tx_log.specs.Holdings.{absent_at}
 use Rattle.tx_log.specs.Log.{lsn_of, key_of, leads_to, led, is_update, chain, record_at, IsNumbered}
 use Rattle.tx_log.specs.Marks.{first_lsn, IsMarked, AreMarked}
-use Rattle.tx_log.specs.Walks.{newest_in}
+use Rattle.tx_log.specs.Walks.{newest_in, absent_at}
 use Rattle.tx_log.specs.declared.log_record.LogRecord.{LogRecord}
 use Rattle.tx_log.specs.declared.mark.Mark.{Mark}
 
@@ -27,7 +26,7 @@ newest_at : (above : List Mark) (m : Mark) (below : List Mark) (rs : List LogRec
 newest_at [] m below [] is marked = absurd marked
 newest_at [] m below (r ∷ rs) is marked =
     let many = marked_length rs below marked.1 in
-    marked.0.newest ∙ sym (ap (λ (b : Bool). first_lsn (cond b (led r (chain rs (leads_to r))) (chain rs (length below + 1)))) (eq-eqb (lsn_of r) (length below + 1) (omega (arith, is.0, many))))
+    marked.0.newest ∙ sym (ap (λ (b : Bool). first_lsn (cond b (led (is_update r) r (chain rs (leads_to r))) (chain rs (length below + 1)))) (eq-eqb (lsn_of r) (length below + 1) (omega (arith, is.0, many))))
 newest_at (x ∷ above) m below [] is marked = absurd marked
 newest_at (x ∷ above) m below (r ∷ rs) is marked =
     let many = marked_length rs (above ++ m ∷ below) marked.1 in

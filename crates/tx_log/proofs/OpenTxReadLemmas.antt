@@ -18,7 +18,7 @@ use Rattle.tx_log.specs.Finds.{finding}
 use Rattle.tx_log.specs.Fits.{left_above}
 use Rattle.tx_log.specs.Log.{kept_of, stack, chain, noted, IsNumbered}
 use Rattle.tx_log.specs.LogFields.{IsKept}
-use Rattle.tx_log.specs.LogState.{phase_of, undo_of, undo_step, rollback_phase}
+use Rattle.tx_log.specs.LogState.{phase_of, undo_of, step_of, undo_step, rollback_phase}
 use Rattle.tx_log.specs.Places.{place_at}
 use Rattle.tx_log.specs.OpenTxs.{rollback_at, tx_at, txs_of}
 use Rattle.tx_log.specs.Transactions.{Tx, depth_of, live_in, left_in}
@@ -136,7 +136,7 @@ undo_is rs es begun pending gone t r e kept found stage =
 
 -- a live change as an undo step
 abbrev pub undo_step_of : LiveChange → UndoStep
-undo_step_of c = record { key = c.key; before = c.before }
+undo_step_of c = step_of c.key (option_map (λ _. c.before) c.after)
 
 -- the newest of some updates is the next undo step
 pub undo_case : (us : List LogRecord) (change : LiveChange) → Some change ≡ newest_in us → Some (undo_step_of change) ≡ option_map undo_step (first (map noted us))

@@ -8,10 +8,9 @@ use Rattle.rec_types.specs.History.{live_from, own_count}
 use Rattle.rec_types.specs.Kept.{Kept, history_of, is_own, newest_or, newest_from, newest_live, undone_or, undone}
 use Rattle.tx_log.proofs.Chains.{last_of-le}
 use Rattle.tx_log.proofs.Lives.{first, single, lives}
-use Rattle.tx_log.specs.Log.{lsn_of, tx_of_record, noted, kept_by, kept_of, last_of, IsNumbered}
+use Rattle.tx_log.specs.Log.{lsn_of, tx_of_record, is_update, noted, kept_by, kept_of, last_of, IsNumbered}
 use Rattle.tx_log.specs.Places.{place_at}
 use Rattle.tx_log.specs.declared.log_record.LogRecord.{LogRecord}
-use Rattle.tx_log.specs.declared.log_record.LogRecord.TheVariants.{Update, Compensation}
 
 -- the numbers of the changes rise, above low and up to high
 abbrev pub Rises : ℕ → List Kept → ℕ → Type 0
@@ -35,19 +34,19 @@ rises-undone : (t low : ℕ) (cs : List Kept) (high : ℕ) → Rises low cs high
 rises-undone t low [] high is = is
 rises-undone t low (c ∷ cs) high is = rises_case (newest_live t cs) (is_own t c) c cs (undone t cs) low high is.0 is.1 (rises-undone t c.lsn cs high is.1)
 
-rises_step : (r : LogRecord) (cs : List Kept) (high : ℕ) → lsn_of r ≡ high + 1 → Rises 0 cs high → Rises 0 (kept_by r cs) (high + 1)
-rises_step (Update lsn prev tx key before after) cs high is rises =
-    let P : ℕ → Type 0 = λ n. Rises 0 (cs ++ noted (Update lsn prev tx key before after) ∷ []) n in
-    subst P is (rises-push 0 cs (noted (Update lsn prev tx key before after)) high (omega arith) rises)
-rises_step (Compensation lsn prev tx key restored undo_next) cs high is rises = rises-more 0 (undone tx.0 cs) high (high + 1) (omega arith) (rises-undone tx.0 0 cs high rises)
+rises_step : (k : Bool) (r : LogRecord) (cs : List Kept) (high : ℕ) → lsn_of r ≡ high + 1 → Rises 0 cs high → Rises 0 (kept_by k r cs) (high + 1)
+rises_step true r cs high is rises =
+    let P : ℕ → Type 0 = λ n. Rises 0 (cs ++ noted r ∷ []) n in
+    subst P is (rises-push 0 cs (noted r) high (omega arith) rises)
+rises_step false r cs high is rises = rises-more 0 (undone (tx_of_record r) cs) high (high + 1) (omega arith) (rises-undone (tx_of_record r) 0 cs high rises)
 
 -- the numbers of a log's updates rise along its changes
 pub kept_rises : (rs : List LogRecord) → IsNumbered rs → Rises 0 (kept_of rs) (length rs)
 kept_rises [] is = omega arith
 kept_rises (r ∷ rs) is =
-    let P : ℕ → Type 0 = λ n. Rises 0 (kept_by r (kept_of rs)) n in
+    let P : ℕ → Type 0 = λ n. Rises 0 (kept_by (is_update r) r (kept_of rs)) n in
     let e : length rs + 1 ≡ suc (length rs) = omega arith in
-    subst P e (rises_step r (kept_of rs) (length rs) is.0 (kept_rises rs is.3))
+    subst P e (rises_step (is_update r) r (kept_of rs) (length rs) is.0 (kept_rises rs is.3))
 
 -- ---- above a place
 
@@ -194,13 +193,13 @@ pub place-undone : (t s u : ℕ) (cs : List Kept) → place_at t s (undone u cs)
 place-undone t s u [] = refl
 place-undone t s u (c ∷ cs) = place_undone_case t s (newest_live u cs) (is_own u c) c cs (undone u cs) (place-undone t s u cs)
 
-place_step : (t s : ℕ) (r : LogRecord) (cs : List Kept) → s < lsn_of r → place_at t s (kept_by r cs) ≡ place_at t s cs
-place_step t s (Update lsn prev tx key before after) cs h = place-push t s cs (noted (Update lsn prev tx key before after)) h
-place_step t s (Compensation lsn prev tx key restored undo_next) cs h = place-undone t s tx.0 cs
+place_step : (k : Bool) (t s : ℕ) (r : LogRecord) (cs : List Kept) → s < lsn_of r → place_at t s (kept_by k r cs) ≡ place_at t s cs
+place_step true t s r cs h = place-push t s cs (noted r) h
+place_step false t s r cs h = place-undone t s (tx_of_record r) cs
 
 -- and so does a newer record
 pub place-grows : (t s : ℕ) (r : LogRecord) (rs : List LogRecord) → s < lsn_of r → place_at t s (kept_of (r ∷ rs)) ≡ place_at t s (kept_of rs)
-place-grows t s r rs h = place_step t s r (kept_of rs) h
+place-grows t s r rs h = place_step (is_update r) t s r (kept_of rs) h
 
 -- ---- a new savepoint
 
@@ -226,13 +225,13 @@ own_undone : (t s u : ℕ) (cs : List Kept) → OwnUpTo t s cs → OwnUpTo t s (
 own_undone t s u [] is = tt
 own_undone t s u (c ∷ cs) is = own_undone_case t s (newest_live u cs) (is_own u c) c cs (undone u cs) is.0 is.1 (own_undone t s u cs is.1)
 
-own_step : (t s : ℕ) (r : LogRecord) (cs : List Kept) → OwnUpTo t s cs → (eqb (tx_of_record r) t ≡ true → lsn_of r ≤ s) → OwnUpTo t s (kept_by r cs)
-own_step t s (Update lsn prev tx key before after) cs is h = own_push t s cs (noted (Update lsn prev tx key before after)) is h
-own_step t s (Compensation lsn prev tx key restored undo_next) cs is h = own_undone t s tx.0 cs is
+own_step : (k : Bool) (t s : ℕ) (r : LogRecord) (cs : List Kept) → OwnUpTo t s cs → (eqb (tx_of_record r) t ≡ true → lsn_of r ≤ s) → OwnUpTo t s (kept_by k r cs)
+own_step true t s r cs is h = own_push t s cs (noted r) is h
+own_step false t s r cs is h = own_undone t s (tx_of_record r) cs is
 
-own_case : (t : ℕ) (r : LogRecord) (rs : List LogRecord) → last_of t rs ≤ lsn_of r → OwnUpTo t (last_of t rs) (kept_of rs) → (b : Bool) → eqb (tx_of_record r) t ≡ b → OwnUpTo t (cond b (lsn_of r) (last_of t rs)) (kept_by r (kept_of rs))
-own_case t r rs low is true own = own_step t (lsn_of r) r (kept_of rs) (own_more t (last_of t rs) (lsn_of r) (kept_of rs) low is) (λ _. omega arith)
-own_case t r rs low is false own = own_step t (last_of t rs) r (kept_of rs) is (λ other. absurd (let no : true ≡ false = sym other ∙ own in cc))
+own_case : (t : ℕ) (r : LogRecord) (rs : List LogRecord) → last_of t rs ≤ lsn_of r → OwnUpTo t (last_of t rs) (kept_of rs) → (b : Bool) → eqb (tx_of_record r) t ≡ b → OwnUpTo t (cond b (lsn_of r) (last_of t rs)) (kept_by (is_update r) r (kept_of rs))
+own_case t r rs low is true own = own_step (is_update r) t (lsn_of r) r (kept_of rs) (own_more t (last_of t rs) (lsn_of r) (kept_of rs) low is) (λ _. omega arith)
+own_case t r rs low is false own = own_step (is_update r) t (last_of t rs) r (kept_of rs) is (λ other. absurd (let no : true ≡ false = sym other ∙ own in cc))
 
 own_up_to : (t : ℕ) (rs : List LogRecord) → IsNumbered rs → OwnUpTo t (last_of t rs) (kept_of rs)
 own_up_to t [] is = tt

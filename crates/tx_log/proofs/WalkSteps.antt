@@ -2,11 +2,10 @@
 use Rattle.std.proofs.Common.{◌≡◌, ℕ, ◌+◌, ◌<◌, ◌≤◌, Bool, true, false, cond, eqb, ltb, List, [], ◌∷◌, length, map, Some, None, refl, sym, ap, ◌∙◌, arith}
 use Rattle.std.proofs.lemmas.Bool.Decides.{nat_tests}
 use Rattle.std.specs.List.{filter}
-use Rattle.tx_log.proofs.Chains.{chain-head, same_number}
+use Rattle.tx_log.proofs.Chains.{chain-head, leads_is_prev, same_number}
 use Rattle.tx_log.specs.Log.{lsn_of, prev_of, key_of, leads_to, led, is_update, chain, IsNumbered}
 use Rattle.tx_log.specs.Walks.{change_in, newest_in, is_after}
 use Rattle.tx_log.specs.declared.log_record.LogRecord.{LogRecord}
-use Rattle.tx_log.specs.declared.log_record.LogRecord.TheVariants.{Update, Compensation}
 use Rattle.tx_log.specs.declared.undo_chain.LiveChange.{LiveChange}
 
 -- a step of the walk down a chain: the update there, and what is below
@@ -20,10 +19,6 @@ pub record IsStep (rs : List LogRecord) (at : ℕ) (change : LiveChange) : Type 
   pub low : change.lsn ≤ at
   pub within : change.lsn ≤ length rs
   pub kind : is_update update ≡ true
-
-leads_is_prev : (u : LogRecord) → is_update u ≡ true → leads_to u ≡ prev_of u
-leads_is_prev (Update lsn prev tx key before after) is = refl
-leads_is_prev (Compensation lsn prev tx key restored undo_next) is = absurd (cc)
 
 step_from : (rs us : List LogRecord) (at : ℕ) (change : LiveChange) → IsNumbered rs → chain rs at ≡ us → newest_in us ≡ Some change → IsStep rs at change
 step_from rs [] at change is e some = absurd (cc)
@@ -62,14 +57,14 @@ walk_end rs at e = none_left (chain rs at) e
 not_after : (m n : ℕ) → n ≤ m → ltb m n ≡ false
 not_after m n h = grind (arith, nat_tests)
 
-low_led : (r : LogRecord) (rs : List LogRecord) (n s : ℕ) → IsNumbered (r ∷ rs) → ((m : ℕ) → m ≤ s → filter (is_after s) (chain rs m) ≡ []) → lsn_of r ≡ n → n ≤ s → filter (is_after s) (led r (chain rs (leads_to r))) ≡ []
-low_led (Update lsn prev tx key before after) rs n s is step at h =
-    let us = filter (is_after s) (chain rs prev) in
-    ap (λ (b : Bool). cond b (Update lsn prev tx key before after ∷ us) us) (not_after s lsn (omega arith)) ∙ step prev (omega (arith, is.0, is.2))
-low_led (Compensation lsn prev tx key restored undo_next) rs n s is step at h = step undo_next (omega (arith, is.0, is.2))
+low_led : (k : Bool) (r : LogRecord) (rs : List LogRecord) (n s : ℕ) → IsNumbered (r ∷ rs) → ((m : ℕ) → m ≤ s → filter (is_after s) (chain rs m) ≡ []) → lsn_of r ≡ n → n ≤ s → filter (is_after s) (led k r (chain rs (leads_to r))) ≡ []
+low_led true r rs n s is step at h =
+    let us = filter (is_after s) (chain rs (leads_to r)) in
+    ap (λ (b : Bool). cond b (r ∷ us) us) (not_after s (lsn_of r) (omega arith)) ∙ step (leads_to r) (omega (arith, is.0, is.2))
+low_led false r rs n s is step at h = step (leads_to r) (omega (arith, is.0, is.2))
 
-low_case : (r : LogRecord) (rs : List LogRecord) (n s : ℕ) → IsNumbered (r ∷ rs) → ((m : ℕ) → m ≤ s → filter (is_after s) (chain rs m) ≡ []) → n ≤ s → (b : Bool) → eqb (lsn_of r) n ≡ b → filter (is_after s) (cond b (led r (chain rs (leads_to r))) (chain rs n)) ≡ []
-low_case r rs n s is step h true e = low_led r rs n s is step (same_number _ _ e) h
+low_case : (r : LogRecord) (rs : List LogRecord) (n s : ℕ) → IsNumbered (r ∷ rs) → ((m : ℕ) → m ≤ s → filter (is_after s) (chain rs m) ≡ []) → n ≤ s → (b : Bool) → eqb (lsn_of r) n ≡ b → filter (is_after s) (cond b (led (is_update r) r (chain rs (leads_to r))) (chain rs n)) ≡ []
+low_case r rs n s is step h true e = low_led (is_update r) r rs n s is step (same_number _ _ e) h
 low_case r rs n s is step h false e = step n h
 
 -- below a savepoint's number the chain has nothing to take back

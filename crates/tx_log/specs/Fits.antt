@@ -2,7 +2,6 @@
 use Rattle.std.specs.Prelude.{◌≡◌, ℕ, ◌<◌, ◌≤◌, ◌==◌, List, [], ◌∷◌, length, Option, None, Some, IfSome}
 use Rattle.std.specs.FinMap as maps
 use Rattle.std.specs.List.{filter}
-use Rattle.rec_types.specs.Kept.{history_of}
 use Rattle.tx_log.specs.Log.{tx_of_record, last_of, stack, kept_of}
 use Rattle.tx_log.specs.Owners.{absent}
 use Rattle.tx_log.specs.Finds.{Txs}
@@ -35,7 +34,7 @@ pub record FitsTx (rs : List LogRecord) (n t : ℕ) (e : OpenTx) : Type 0 where
   pub last : e.last ≡ last_of t rs
   pub live : e.live ≡ length (stack t rs)
   pub left : e.left ≡ left_above (stack t rs) e.rollback
-  pub absent_keys : e.absent ≡ maps.len (absent (λ u. u == t) (history_of (kept_of rs)))
+  pub absent_keys : e.absent ≡ maps.len (absent (λ u. u == t) (kept_of rs))
   pub saves : AllUpTo (length rs) e.saves.items
   pub depth : length e.saves.items ≤ most_savepoints
   pub rollback : RollbackUpTo (length rs) e.rollback

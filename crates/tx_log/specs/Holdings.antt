@@ -1,12 +1,11 @@
 -- Who holds a key, as the log keeps it.
 use Rattle.std.specs.Prelude.{◌≡◌, ℕ, ◌-◌, ◌<◌, ◌==◌, nat_lt, Bool, true, false, List, Option, Some, None, IfSome, slice_get, length, if◌then◌else◌}
-use Rattle.std.specs.List.{filter, find}
-use Rattle.std.specs.Option.{option_map}
+use Rattle.std.specs.List.{filter}
 use Rattle.std.specs.Cmp.Lexicographic.{pointwise}
 use Rattle.indexmap.specs.IndexMap.{IndexMap, get, IsUnique}
 use Rattle.rec_types.specs.declared.transaction.TxId.{TxId}
 use Rattle.tx_log.specs.Log.{stack}
-use Rattle.tx_log.specs.Walks.{change_in, is_at, takes_out}
+use Rattle.tx_log.specs.Walks.{is_at, absent_at}
 use Rattle.tx_log.specs.declared.holding.Holding.{Holding}
 use Rattle.tx_log.specs.declared.log_record.LogRecord.{LogRecord}
 
@@ -41,9 +40,6 @@ absent_of t (Some h) = if h.owner.0 == t then h.absent else false
 -- the same of the live changes themselves
 abbrev pub live_at : List ℕ → List LogRecord → ℕ
 live_at k us = length (filter (is_at k) us)
-
-abbrev pub absent_at : List ℕ → List LogRecord → Bool
-absent_at k us = takes_out (option_map change_in (find (is_at k) us))
 
 -- after one live change less
 abbrev pub lowered : Holding → Bool → Option Holding

@@ -35,7 +35,7 @@ pub record IsKept (rs : List LogRecord) (txs : Txs) (begun pending gone : ℕ) :
   pub all_begun : AllBegun begun (kept_of rs)
   pub owned : IsOwned (opens txs) (kept_of rs)
   pub pending_is : pending ≡ length (filter (is_pending (opens txs)) (history_of (kept_of rs)))
-  pub absent_is : gone ≡ maps.len (absent (opens txs) (history_of (kept_of rs)))
+  pub absent_is : gone ≡ maps.len (absent (opens txs) (kept_of rs))
 
 pub record IsBounded (length pending begun : ℕ) (limits : Bounds) : Type 0 where
   pub fits : length + pending ≤ limits.log_records

@@ -3,7 +3,7 @@ use Rattle.std.specs.Prelude.{◌≡◌, ℕ, ◌+◌, ◌≤◌, Bool, true, fa
 use Rattle.std.specs.List.{list_any}
 use Rattle.rec_types.specs.History.{log_len}
 use Rattle.rec_types.specs.Kept.{Kept, history_of}
-use Rattle.tx_log.specs.Log.{lsn_of, prev_of, tx_of_record, key_of, old_of, leads_to, is_update, last_of, noted}
+use Rattle.tx_log.specs.Log.{lsn_of, prev_of, tx_of_record, key_of, back_in, leads_to, is_update, last_of, noted}
 use Rattle.tx_log.specs.declared.log_record.LogRecord.{LogRecord}
 
 -- an update of the transaction after the record n of that transaction
@@ -24,7 +24,7 @@ pub record IsChained (records : List LogRecord) (changes : List Kept) : Type 0 w
   -- each record leads to the newest one before it of its transaction
   pub prevs : (older newer : List LogRecord) (r : LogRecord) → records ≡ older ++ r ∷ newer → prev_of r ≡ last_of (tx_of_record r) (reverse older)
   -- a compensation names exactly one update, and puts back what stood at its key before it
-  pub named : (older newer : List LogRecord) (c : LogRecord) → records ≡ older ++ c ∷ newer → is_update c ≡ false → (u : LogRecord) × (filter (follows (tx_of_record c) (leads_to c)) records ≡ u ∷ []) × (key_of c ≡ key_of u) × (old_of c ≡ old_of u)
+  pub named : (older newer : List LogRecord) (c : LogRecord) → records ≡ older ++ c ∷ newer → is_update c ≡ false → (u : LogRecord) × (filter (follows (tx_of_record c) (leads_to c)) records ≡ u ∷ []) × (key_of c ≡ key_of u) × (back_in c ≡ back_in u)
   -- no update is compensated twice
   pub once : (older newer : List LogRecord) (u : LogRecord) → records ≡ older ++ u ∷ newer → is_update u ≡ true → length (filter (undoes u) records) ≤ 1
   -- the updates are the changes, and the compensated ones are those taken back

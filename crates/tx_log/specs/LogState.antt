@@ -4,17 +4,17 @@ use Rattle.std.specs.Coded.{Coded, code_by, coded×, coded_ℕ, coded_bool, code
 use Rattle.std.specs.FinMap as maps
 use Rattle.rec_types.specs.LimitBounds.{Bounds, coded_bounds}
 use Rattle.rec_types.specs.History.{Change, log_len, log_use}
-use Rattle.rec_types.specs.Kept.{Kept, history_of, newest_from, undone, IsOwned, AllBegun}
+use Rattle.rec_types.specs.Kept.{Kept, history_of, back_of, newest_from, undone, IsOwned, AllBegun}
 use Rattle.rec_types.specs.declared.transaction.TxId.{TxId}
-use Rattle.tx_log.specs.Log.{prev_of, record_at, last_of}
+use Rattle.tx_log.specs.Log.{prev_of, record_at, last_of, change_record, back_record}
 use Rattle.tx_log.specs.LogCode.{coded_log_record}
 use Rattle.tx_log.specs.declared.log_record.LogRecord.{LogRecord}
-use Rattle.tx_log.specs.declared.log_record.LogRecord.TheVariants.{Update, Compensation}
 use Rattle.tx_log.specs.Transactions.{Transactions, Tx, coded_transactions, is_open, place_in, most_savepoints}
 use Rattle.tx_log.specs.declared.phase.Rollback.{Rollback}
 use Rattle.tx_log.specs.declared.phase.Phase.{Phase}
 use Rattle.tx_log.specs.declared.phase.Phase.TheVariants.{Active, Rolling}
 use Rattle.tx_log.specs.declared.phase.UndoStep.{UndoStep}
+use Rattle.tx_log.specs.declared.phase.UndoStep.TheVariants.{Restore, Unclaim}
 
 -- the log and its changes, both oldest first; the open transactions; how many were begun; the limits; the key with room for a change
 pub record LogState : Type 0 where
@@ -26,8 +26,8 @@ pub record LogState : Type 0 where
   pub room : Option (List ℕ)
 
 abbrev pub coded_kept : Coded Kept
-coded_kept = code_by (ℕ × (ℕ × (List ℕ × (Option (List ℕ) × (Option (List ℕ) × Bool)))))
-    (coded× coded_ℕ (coded× coded_ℕ (coded× (coded_list coded_ℕ) (coded× (coded_option (coded_list coded_ℕ)) (coded× (coded_option (coded_list coded_ℕ)) coded_bool)))))
+coded_kept = code_by (ℕ × (ℕ × (List ℕ × (Option (List ℕ) × (Option (Option (List ℕ)) × Bool)))))
+    (coded× coded_ℕ (coded× coded_ℕ (coded× (coded_list coded_ℕ) (coded× (coded_option (coded_list coded_ℕ)) (coded× (coded_option (coded_option (coded_list coded_ℕ))) coded_bool)))))
     (λ c. (c.lsn, (c.tx, (c.key, (c.before, (c.after, c.live))))))
     (λ p. record { lsn = p.0; tx = p.1.0; key = p.1.1.0; before = p.1.1.1.0; after = p.1.1.1.1.0; live = p.1.1.1.1.1 })
     (λ _. refl)
@@ -65,8 +65,12 @@ phase_of tx = rollback_phase tx.rollback
 abbrev pub phase_in : LogState → ℕ → Option Phase
 phase_in s t = option_map phase_of (tx_in s t)
 
+abbrev pub step_of : List ℕ → Option (Option (List ℕ)) → UndoStep
+step_of key None = Unclaim key
+step_of key (Some before) = Restore key before
+
 abbrev pub undo_step : Kept → UndoStep
-undo_step c = record { key = c.key; before = c.before }
+undo_step c = step_of c.key (back_of c)
 
 abbrev pub undo_from : List Kept → ℕ → Option Rollback → Option Kept
 undo_from cs t None = None
@@ -81,8 +85,8 @@ abbrev pub undo_in : LogState → ℕ → Option Kept
 undo_in s t = undo_of s.changes t (tx_in s t)
 
 -- the record of a change, at the end of the log
-abbrev pub update_in : LogState → TxId → List ℕ → Option (List ℕ) → Option (List ℕ) → LogRecord
-update_in s tx key before after = Update (length s.records + 1) (last_of tx.0 (reverse s.records)) tx key before after
+abbrev pub update_in : LogState → TxId → List ℕ → Option (List ℕ) → Option (Option (List ℕ)) → LogRecord
+update_in s tx key before after = change_record (length s.records + 1) (last_of tx.0 (reverse s.records)) tx key before after
 
 abbrev pub prev_in : Option LogRecord → ℕ
 prev_in None = 0
@@ -90,7 +94,7 @@ prev_in (Some r) = prev_of r
 
 abbrev pub compensations_of : LogState → TxId → Option Kept → List LogRecord
 compensations_of s tx None = []
-compensations_of s tx (Some c) = Compensation (length s.records + 1) (last_of tx.0 (reverse s.records)) tx c.key c.before (prev_in (record_at s.records c.lsn)) ∷ []
+compensations_of s tx (Some c) = back_record (length s.records + 1) (last_of tx.0 (reverse s.records)) tx c.key (back_of c) (prev_in (record_at s.records c.lsn)) ∷ []
 
 -- the record of the taking back of the next change, at the end of the log
 abbrev pub compensations_in : LogState → TxId → List LogRecord
@@ -108,7 +112,7 @@ abbrev pub with_txs : LogState → Transactions → LogState
 with_txs s txs = record s { txs = txs; room = None }
 
 -- with one more change, live, and its record; the room is gone
-abbrev pub with_update : LogState → TxId → List ℕ → Option (List ℕ) → Option (List ℕ) → LogState
+abbrev pub with_update : LogState → TxId → List ℕ → Option (List ℕ) → Option (Option (List ℕ)) → LogState
 with_update s tx key before after = record s {
   records = s.records ++ update_in s tx key before after ∷ [];
   changes = s.changes ++ record { lsn = log_len (history_in s) + 1; tx = tx.0; key = key; before = before; after = after; live = true } ∷ [];

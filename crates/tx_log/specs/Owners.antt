@@ -1,8 +1,9 @@
 -- Who owns a key: the open transaction with a live change at it.
-use Rattle.std.specs.Prelude.{ℕ, Bool, ◌&&◌, ◌==◌, if◌then◌else◌, List, [], ◌∷◌, filter, map, Option, Some, None, is_some}
+use Rattle.std.specs.Prelude.{ℕ, Bool, true, false, ◌&&◌, ◌==◌, if◌then◌else◌, List, [], ◌∷◌, Option, Some, None, is_some, option_map}
 use Rattle.std.specs.FinMap as maps
-use Rattle.rec_types.specs.Contents.{Contents, set_to, same_key}
-use Rattle.rec_types.specs.History.{Change, is_pending, replay}
+use Rattle.rec_types.specs.Contents.{Contents, set_to, write_to, same_key, has}
+use Rattle.rec_types.specs.History.{Change, is_pending}
+use Rattle.rec_types.specs.Kept.{Kept, change_of}
 
 -- the transaction that a change tells of has the key
 abbrev pub claims : (ℕ → Bool) → List ℕ → Change → Bool
@@ -33,10 +34,34 @@ owned is_open h = charged is_open h maps.empty
 abbrev pub keys_owned : (ℕ → Bool) → List Change → ℕ → List (List ℕ)
 keys_owned is_open h t = maps.keys (owned (λ u. (u == t) && is_open u) h)
 
--- where a change puts a record its key isn't absent, and where it takes the key out it is
-abbrev pub absence : Change → Change
-absence c = record c { after = if is_some c.after then None else Some [] }
+-- what a change says of its key: what it writes there, or what a claim has seen there, where nothing was said before
+abbrev pub says : Option (Option (List ℕ)) → Bool → Option (List ℕ) → Option (Option (List ℕ))
+says (Some w) said before = Some w
+says None true before = None
+says None false before = Some before
 
--- the owned keys whose newest live change takes them out
-abbrev pub absent : (ℕ → Bool) → List Change → Contents
-absent is_open h = replay maps.empty (map absence (filter (is_pending is_open) h))
+-- what stands for the absence of a record
+abbrev pub lack : Option (List ℕ) → Option (List ℕ)
+lack w = if is_some w then None else Some []
+
+-- the keys that some changes name, and those of them that have no record, both as contents whose records don't matter
+pub record Standing : Type 0 where
+  pub owned : Contents
+  pub out : Contents
+
+abbrev pub nothing : Standing
+nothing = record { owned = maps.empty; out = maps.empty }
+
+-- after one change more
+abbrev pub standing : Standing → Kept → Standing
+standing s c = record { owned = set_to s.owned c.key (Some []); out = write_to s.out c.key (option_map lack (says c.after (has s.owned c.key) c.before)) }
+
+-- after the live changes of open transactions
+abbrev pub stands_by : (ℕ → Bool) → Standing → List Kept → Standing
+stands_by is_open s [] = s
+stands_by is_open s (c ∷ cs) = stands_by is_open (if is_pending is_open (change_of c) then standing s c else s) cs
+
+-- The owned keys that have no record: the newest live change that writes there takes them out, or all of them are claims,
+-- and the first has seen nothing there.
+abbrev pub absent : (ℕ → Bool) → List Kept → Contents
+absent is_open cs = (stands_by is_open nothing cs).out

@@ -1,5 +1,5 @@
 -- What taking back leaves of a history, and its parts.
-use Rattle.std.specs.Prelude.{◌≡◌, ◌⊎◌, ℕ, true, false, List, [], ◌∷◌, None, IsTrue}
+use Rattle.std.specs.Prelude.{◌≡◌, ◌⊎◌, ℕ, true, false, List, [], ◌∷◌, Some, None, IsTrue}
 use Rattle.rec_types.specs.History.{Change}
 
 -- the same changes, of which none is live that was taken back
@@ -17,7 +17,7 @@ IsPart (d ∷ p) (c ∷ h) = ((d ≡ c) × IsTrue c.live × IsPart p h) ⊎ IsPa
 
 -- a change of transaction t that took key [x] out, live and taken back
 abbrev pub out_of : ℕ → ℕ → Change
-out_of t x = record { tx = t; key = x ∷ []; after = None; live = true }
+out_of t x = record { tx = t; key = x ∷ []; after = Some None; live = true }
 
 abbrev pub back_of : ℕ → ℕ → Change
-back_of t x = record { tx = t; key = x ∷ []; after = None; live = false }
+back_of t x = record { tx = t; key = x ∷ []; after = Some None; live = false }

@@ -1,7 +1,9 @@
 -- Changes that aren't taken back, as they are met along a chain.
-use Rattle.std.specs.Prelude.{ℕ, Bool, false, not, nat_lt, List, [], ◌∷◌, Option, Some, None, is_some}
+use Rattle.std.specs.Prelude.{ℕ, Bool, false, not, nat_lt, if◌then◌else◌, List, [], ◌∷◌, Option, Some, None, is_some}
+use Rattle.std.specs.List.{list_any}
 use Rattle.rec_types.specs.Contents.{same_key}
 use Rattle.tx_log.specs.Log.{lsn_of, prev_of, key_of, old_of, new_of}
+use Rattle.tx_log.specs.Owners.{says}
 use Rattle.tx_log.specs.declared.log_record.LogRecord.{LogRecord}
 use Rattle.tx_log.specs.declared.undo_chain.LiveChange.{LiveChange}
 
@@ -18,7 +20,12 @@ is_at x u = same_key (key_of u) x
 abbrev pub is_after : ℕ → LogRecord → Bool
 is_after s u = nat_lt s (lsn_of u)
 
--- whether a change takes its key out
-abbrev pub takes_out : Option LiveChange → Bool
-takes_out None = false
-takes_out (Some c) = not (is_some c.after)
+-- whether a key is out after a change there, where others there were live or not, and left it out or not
+abbrev pub is_out : Option (Option (List ℕ)) → Bool → Bool
+is_out None was = was
+is_out (Some w) was = not (is_some w)
+
+-- whether the changes, newest first, leave the key without a record
+abbrev pub absent_at : List ℕ → List LogRecord → Bool
+absent_at k [] = false
+absent_at k (u ∷ us) = if is_at k u then is_out (says (new_of u) (list_any (is_at k) us) (old_of u)) (absent_at k us) else absent_at k us

@@ -1,4 +1,4 @@
-ghost use Rattle.std.specs.Prelude.{◌≡◌, ℕ, ◌+◌, ◌^◌, ◌-◌, ◌<◌, ◌≤◌, Bool, List, IsSome, None, Some, length, reverse, OnOk, OnErr, if◌then◌else◌};
+ghost use Rattle.std.specs.Prelude.{◌≡◌, ℕ, ◌+◌, ◌^◌, ◌-◌, ◌<◌, ◌≤◌, Bool, ◌||◌, ◌==◌, List, IsSome, None, Some, length, reverse, OnOk, OnErr, if◌then◌else◌};
 ghost use Rattle.std.specs.List.{list_any};
 ghost use Rattle.indexmap.specs.IndexMap.{index_map_len};
 ghost use Rattle.tx_log.specs.Log.{chain, IsNumbered};
@@ -69,32 +69,67 @@ fn place_of_key(holdings: &Holdings, key: &Key) -> usize
     at
 }
 
-/// Counts one more live change at a key that is there, and answers whether the key was absent.
-pub fn raise(holdings: &mut Holdings, key: &Key, tx: TxId, absent: bool) -> bool
+/// Whether a key is absent after one change more, of `live` there: as a change says that writes there, and as a claim
+/// says where it is the first.
+fn left_out(writes: bool, live: u32, absent: bool, was: bool) -> bool
+    ensures { result ≡ (if writes || (live == 0) then absent else was) }
+{
+    if writes {
+        return absent;
+    }
+    if live == 0 { absent } else { was }
+}
+
+/// What is kept of a key after one change more of the transaction.
+fn grown(holding: &Holding, tx: TxId, writes: bool, absent: bool) -> Holding
+    requires { holding.now.live < 2 ^ 32 - 1 }
+    ensures { result ≡ record {
+      owner = tx;
+      live = holding.now.live + 1;
+      absent = (if writes || (holding.now.live == 0) then absent else holding.now.absent);
+    } }
+{
+    Holding {
+        owner: tx,
+        live: holding.live + 1,
+        absent: left_out(writes, holding.live, absent, holding.absent),
+    }
+}
+
+/// Counts one more live change at a key that is there, and answers whether the key was absent, and whether it is now. A
+/// change that writes there says so, and a claim only where no change was live: `absent` is what it says.
+pub fn raise(
+    holdings: &mut Holdings,
+    key: &Key,
+    tx: TxId,
+    writes: bool,
+    absent: bool,
+) -> (bool, bool)
     requires there { IsSome (held holdings.old key.now) }
     requires most { (h : Holding) → held holdings.old key.now ≡ Some h → h.live < 2 ^ 32 - 1 }
-    ensures { (h : Holding) → held holdings.old key.now ≡ Some h → (result ≡ h.absent)
+    ensures { (h : Holding) → held holdings.old key.now ≡ Some h → (result.0 ≡ h.absent)
+        × (result.1 ≡ (if writes || (h.live == 0) then absent else h.absent))
         × Places (held holdings.old) (held holdings.new) key.now
-        (Some (record { owner = tx; live = h.live + 1; absent = absent })) }
+        (Some (record { owner = tx; live = h.live + 1; absent = result.1 })) }
 {
     let at = place_of_key(holdings, key);
     let holding = &mut holdings[at];
     let was = holding.absent;
-    holding.owner = tx;
-    holding.live += 1;
-    holding.absent = absent;
-    was
+    let next = grown(holding, tx, writes, absent);
+    *holding = next;
+    (was, next.absent)
 }
 
-/// Counts one live change less at a key, and forgets the key with its last one. `absent` is whether the changes that
-/// are left take the key out.
-pub fn lower(holdings: &mut Holdings, key: &Key, absent: bool)
+/// Counts one live change less at a key, forgets the key with its last one, and answers whether the key was absent.
+/// `absent` is whether the changes that are left leave it so.
+pub fn lower(holdings: &mut Holdings, key: &Key, absent: bool) -> bool
     requires there { IsSome (held holdings.old key.now) }
     requires some { (h : Holding) → held holdings.old key.now ≡ Some h → 0 < h.live }
-    ensures { (h : Holding) → held holdings.old key.now ≡ Some h
-        → Places (held holdings.old) (held holdings.new) key.now (lowered h absent) }
+    ensures { (h : Holding) → held holdings.old key.now ≡ Some h → (result ≡ h.absent)
+        × Places (held holdings.old) (held holdings.new) key.now (lowered h absent) }
 {
     let at = place_of_key(holdings, key);
+    let was = holdings[at].absent;
     let last = holdings[at].live == 1;
     if last {
         let _ = holdings.swap_remove_index(at);
@@ -103,6 +138,7 @@ pub fn lower(holdings: &mut Holdings, key: &Key, absent: bool)
         holding.live -= 1;
         holding.absent = absent;
     }
+    was
 }
 
 /// Forgets the keys of the changes that aren't taken back, on the way down from the record with the number `from`.

@@ -11,6 +11,7 @@ use crate::holding::{Holdings, find_holder, free_keys, lower, make_room, raise};
 use crate::mark::{Mark, is_absent_below, newest_number};
 use crate::open_tx::{OpenTx, OpenTxs, find_open, place_of, recount, take_out};
 use crate::phase::Rollback;
+use crate::told::{back_record, change_record, is_lacking, undo_step};
 use crate::undo_chain::{changed_keys, count_changes, newest_above, newest_change};
 use crate::{BeginFault, LogRecord, Phase, UndoStep};
 use rec_types::{Key, Limits, Memory, Record, TxId};
@@ -115,7 +116,7 @@ impl TxLog {
 
     /// How many owned keys have no record now.
     pub fn absent_owned(&self) -> u32
-        ensures value { result ≡ maps.len (absent (open_in self.now) (history_in self.now)) }
+        ensures value { result ≡ maps.len (absent (open_in self.now) self.now.changes) }
         ensures log { IsLog self.now }
     {
         self.gone
@@ -140,10 +141,7 @@ impl TxLog {
             return None;
         };
         match newest_above(&self.records, &self.marks, open_tx.last, rollback.to) {
-            Some(change) => Some(UndoStep {
-                key: change.key,
-                before: change.before,
-            }),
+            Some(change) => Some(undo_step(&change)),
             None => None,
         }
     }
@@ -266,32 +264,57 @@ impl TxLog {
         requires fits { use_in self.old + 2 ≤ self.old.limits.log_records }
         requires room { self.old.room ≡ Some key }
         ensures lsn { result ≡ log_len (history_in self.old) + 1 }
+        ensures after { self.new ≡ with_update self.old tx key before (Some after) }
+    {
+        self.add(tx, key, before, Some(after))
+    }
+
+    /// Adds a claim of an active transaction, live, and answers its LSN; `seen` is what stands at the key. It takes no
+    /// memory.
+    pub fn accept_claim(&mut self, tx: TxId, key: Key, seen: Option<Record>) -> u32
+        requires active { phase_in self.old tx.0 ≡ Some Phase.Active }
+        requires free { holder_of (open_in self.old) (history_in self.old) tx.0 key ≡ None }
+        requires fits { use_in self.old + 2 ≤ self.old.limits.log_records }
+        requires room { self.old.room ≡ Some key }
+        ensures lsn { result ≡ log_len (history_in self.old) + 1 }
+        ensures after { self.new ≡ with_update self.old tx key seen None }
+    {
+        self.add(tx, key, seen, None)
+    }
+
+    /// Adds a change or a claim.
+    fn add(
+        &mut self,
+        tx: TxId,
+        key: Key,
+        before: Option<Record>,
+        after: Option<Option<Record>>,
+    ) -> u32
+        requires active { phase_in self.old tx.0 ≡ Some Phase.Active }
+        requires free { holder_of (open_in self.old) (history_in self.old) tx.0 key ≡ None }
+        requires fits { use_in self.old + 2 ≤ self.old.limits.log_records }
+        requires room { self.old.room ≡ Some key }
+        ensures lsn { result ≡ log_len (history_in self.old) + 1 }
         ensures after { self.new ≡ with_update self.old tx key before after }
     {
         let at = place_of(&self.txs, tx);
         let prev = self.txs[at].last;
-        let will = after.is_none();
-        let was = raise(&mut self.holdings, &key, tx, will);
+        let lacks = is_lacking(&before, &after);
+        let writes = after.is_some();
+        let out = raise(&mut self.holdings, &key, tx, writes, lacks);
         let lsn = self.records.len() as u32 + 1;
-        let _ = self.records.push(LogRecord::Update {
-            lsn,
-            prev,
-            tx,
-            key,
-            before,
-            after,
-        });
+        let _ = self.records.push(change_record(lsn, prev, tx, key, before, after));
         let _ = self.marks.push(Mark {
             newest: lsn,
-            absent: was,
+            absent: out.0,
         });
         self.room = None;
         self.pending += 1;
-        self.gone = recount(self.gone, was, will);
+        self.gone = recount(self.gone, out.0, out.1);
         let open_tx = &mut self.txs[at];
         open_tx.last = lsn;
         open_tx.live += 1;
-        open_tx.absent = recount(open_tx.absent, was, will);
+        open_tx.absent = recount(open_tx.absent, out.0, out.1);
         lsn
     }
 
@@ -324,19 +347,11 @@ impl TxLog {
         let prev = self.txs[at].last;
         let newest = newest_change(&self.records, &self.marks, prev);
         let change = newest.unwrap();
-        let was = change.after.is_none();
         let will = is_absent_below(&self.marks, change.lsn);
-        lower(&mut self.holdings, &change.key, will);
+        let was = lower(&mut self.holdings, &change.key, will);
         let below = newest_number(&self.marks, change.prev);
         let lsn = self.records.len() as u32 + 1;
-        let _ = self.records.push(LogRecord::Compensation {
-            lsn,
-            prev,
-            tx,
-            key: change.key,
-            restored: change.before,
-            undo_next: change.prev,
-        });
+        let _ = self.records.push(back_record(lsn, prev, tx, &change));
         let _ = self.marks.push(Mark {
             newest: below,
             absent: will,

@@ -22,4 +22,20 @@ pub enum LogRecord {
         restored: Option<Record>,
         undo_next: u32,
     },
+    /// A transaction claimed the key, where `seen` stands, and left it there.
+    Claim {
+        lsn: u32,
+        prev: u32,
+        tx: TxId,
+        key: Key,
+        seen: Option<Record>,
+    },
+    /// The claim whose `prev` is `undo_next` was taken back.
+    Unclaim {
+        lsn: u32,
+        prev: u32,
+        tx: TxId,
+        key: Key,
+        undo_next: u32,
+    },
 }

@@ -1,5 +1,5 @@
 ghost use Rattle.std.specs.Prelude.{◌≡◌, ℕ, ◌<◌, ◌≤◌, List, ◌∷◌, length, reverse};
-ghost use Rattle.tx_log.specs.Holdings.{absent_at};
+ghost use Rattle.tx_log.specs.Walks.{absent_at};
 ghost use Rattle.tx_log.specs.Log.{chain, key_of, lsn_of, IsNumbered};
 ghost use Rattle.tx_log.specs.Marks.{first_lsn, AreMarked};
 ghost use Rattle.tx_log.specs.declared.log_record.LogRecord.{LogRecord};

@@ -17,11 +17,13 @@ pub struct Rollback {
     pub ends: bool,
 }
 
-/// The next change that a rollback takes back: its key, and the record that stood there before.
+/// What a rollback does next to take a change back.
 #[derive(Clone, Copy, Debug)]
-pub struct UndoStep {
-    pub key: Key,
-    pub before: Option<Record>,
+pub enum UndoStep {
+    /// `before` is to be put at the key again.
+    Restore { key: Key, before: Option<Record> },
+    /// The key was claimed, and its record stays.
+    Unclaim { key: Key },
 }
 
 /// Why no transaction was begun.

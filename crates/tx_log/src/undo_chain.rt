@@ -16,7 +16,8 @@ pub struct LiveChange {
     pub prev: u32,
     pub key: Key,
     pub before: Option<Record>,
-    pub after: Option<Record>,
+    /// What it wrote there: nothing where it is a claim.
+    pub after: Option<Option<Record>>,
 }
 
 /// The newest change that isn't taken back, on the way down from the record with the number `from`.
@@ -44,10 +45,24 @@ pub fn newest_change(log: &[LogRecord], marks: &[Mark], from: u32) -> Option<Liv
             prev,
             key,
             before,
-            after,
+            after: Some(after),
+        }),
+        LogRecord::Claim {
+            lsn,
+            prev,
+            key,
+            seen,
+            ..
+        } => Some(LiveChange {
+            lsn,
+            prev,
+            key,
+            before: seen,
+            after: None,
         }),
         // No mark leads here.
         LogRecord::Compensation { .. } => None,
+        LogRecord::Unclaim { .. } => None,
     }
 }
 

@@ -2,12 +2,12 @@ ghost use Rattle.std.specs.Prelude.{◌≡◌, ◌≢◌, ℕ, ◌<◌, false, O
 ghost use Rattle.rec_types.specs.Answered.{Answered};
 ghost use Rattle.rec_types.specs.Table.{greatest_count};
 ghost use Rattle.record_file.specs.Abstract.{is_full};
-ghost use Rattle.record_file.specs.Outside.{put_cause, remove_cause, put_by_file, remove_by_file, AsksMemory};
+ghost use Rattle.record_file.specs.Outside.{put_cause, claim_cause, remove_cause, put_by_file, claim_by_file, remove_by_file, AsksMemory};
 ghost use Rattle.record_file.specs.TableCalls.{ChangesTable};
-ghost use Rattle.record_file.specs.Steps.{rose, put_refusal, remove_refusal, Accepts, key_change, PutStep, RemoveStep};
+ghost use Rattle.record_file.specs.Steps.{rose, put_refusal, claim_refusal, remove_refusal, Accepts, key_change, PutStep, ClaimStep, RemoveStep};
 
 use super::RecordFile;
-use crate::fault::{PutFault, RemoveFault};
+use crate::fault::{ClaimFault, PutFault, RemoveFault};
 use rec_types::{Key, Record, Table, TableFault, TxId};
 
 impl<T: Table> RecordFile<T> {
@@ -24,7 +24,7 @@ impl<T: Table> RecordFile<T> {
         ensures refused_only { IfErr result (λ fault.
             IsTrue (put_by_file fault) → put_refusal self.old.file tx.0 key ≡ Some fault) }
         ensures accepted { IfOk result (λ before. Accepts self.old.file self.old.log
-            (key_change tx key before (Some value)) self.new.file self.new.log) }
+            (key_change tx key before (Some (Some value))) self.new.file self.new.log) }
         ensures err { OnErr result ((T.contents self.new.table ≡ T.contents self.old.table)
             × (self.new.file ≡ self.old.file) × (self.new.log ≡ self.old.log)) }
         ensures table { ChangesTable T.TableState self.old (put_cause result) self.new }
@@ -44,6 +44,39 @@ impl<T: Table> RecordFile<T> {
         Ok(before)
     }
 
+    /// Claims the key without changing its record, and answers that. Faults: NoSuchTx, Rolling, Held, LogFull,
+    /// Device or Damaged, Full, Memory. A fault leaves everything unchanged.
+    pub fn claim(&mut self, tx: TxId, key: Key) -> Result<Option<Record>, ClaimFault>
+        ensures step { IsTrue (T.sound self.old.table)
+            → T.device_failures self.old.table < greatest_count
+            → ClaimStep self.old.file tx.0 key
+            (rose (T.device_failures self.old.table) (T.device_failures self.new.table))
+            result self.new.file }
+        ensures refused { IfSome (claim_refusal self.old.file tx.0 key)
+            (λ fault. (result ≡ Err fault) × (self.new ≡ self.old)) }
+        ensures refused_only { IfErr result (λ fault.
+            IsTrue (claim_by_file fault) → claim_refusal self.old.file tx.0 key ≡ Some fault) }
+        ensures accepted { IfOk result (λ seen. Accepts self.old.file self.old.log
+            (key_change tx key seen None) self.new.file self.new.log) }
+        ensures err { OnErr result ((T.contents self.new.table ≡ T.contents self.old.table)
+            × (self.new.file ≡ self.old.file) × (self.new.log ≡ self.old.log)) }
+        ensures table { ChangesTable T.TableState self.old (claim_cause result) self.new }
+        ensures memory { AsksMemory (T.memory_refusals self.old.table) (claim_cause result)
+            (T.memory_refusals self.new.table) }
+    {
+        if let Some(fault) = self.claim_refusal(tx, &key) {
+            return Err(fault);
+        }
+        if self.is_full(&key)? {
+            return Err(ClaimFault::Full);
+        }
+        self.log.reserve(&key)?;
+        let seen = self.table.get(&key)?;
+        let told = seen.as_ref().copied();
+        let _lsn = self.log.accept_claim(tx, key, told);
+        Ok(seen)
+    }
+
     /// Takes the record at the key out, and answers it. Faults: NoSuchTx, Rolling, Held, LogFull, Device or
     /// Damaged, Absent, Memory. A fault leaves everything unchanged.
     pub fn remove(&mut self, tx: TxId, key: Key) -> Result<Record, RemoveFault>
@@ -57,7 +90,7 @@ impl<T: Table> RecordFile<T> {
         ensures refused_only { IfErr result (λ fault.
             IsTrue (remove_by_file fault) → remove_refusal self.old.file tx.0 key ≡ Some fault) }
         ensures accepted { IfOk result (λ before. Accepts self.old.file self.old.log
-            (key_change tx key (Some before) None) self.new.file self.new.log) }
+            (key_change tx key (Some before) (Some None)) self.new.file self.new.log) }
         ensures err { OnErr result ((T.contents self.new.table ≡ T.contents self.old.table)
             × (self.new.file ≡ self.old.file) × (self.new.log ≡ self.old.log)) }
         ensures table { ChangesTable T.TableState self.old (remove_cause result) self.new }

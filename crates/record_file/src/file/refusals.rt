@@ -1,9 +1,9 @@
 ghost use Rattle.std.specs.Prelude.{nat_lt, ◌≡◌, ◌+◌, ◌<◌, Option, Some, None, option_map};
 ghost use Rattle.record_file.specs.Abstract.{use_of, held_by};
-ghost use Rattle.record_file.specs.Steps.{put_refusal, remove_refusal, get_refusal};
+ghost use Rattle.record_file.specs.Steps.{put_refusal, claim_refusal, remove_refusal, get_refusal};
 
 use super::RecordFile;
-use crate::fault::{GetFault, PutFault, RemoveFault};
+use crate::fault::{ClaimFault, GetFault, PutFault, RemoveFault};
 use rec_types::{Key, Table, TxId};
 use tx_log::Phase;
 
@@ -19,6 +19,16 @@ impl<T: Table> RecordFile<T> {
                 Some(owner) => Some(PutFault::Held(owner)),
                 None => self.is_log_full().then_some(PutFault::LogFull),
             },
+        }
+    }
+
+    /// What the file alone refuses a claim for.
+    pub(super) fn claim_refusal(&self, tx: TxId, key: &Key) -> Option<ClaimFault>
+        ensures { result ≡ claim_refusal self.now.file tx.0 key.now }
+    {
+        match self.put_refusal(tx, key) {
+            Some(fault) => Some(ClaimFault::from(fault)),
+            None => None,
         }
     }
 

@@ -2,17 +2,18 @@ ghost use Rattle.std.specs.Prelude.{◌≡◌, ◌≢◌, ℕ, ◌<◌, ◌≤�
 ghost use Rattle.std.specs.FinMap as maps;
 ghost use Rattle.rec_types.specs.History.{undo_last};
 ghost use Rattle.rec_types.specs.Table.{counted, greatest_count};
+ghost use Rattle.rec_types.specs.Answered.{Answered};
 ghost use Rattle.record_file.specs.Abstract.{tx_of, phase_at};
 ghost use Rattle.tx_log.specs.Transactions.{depth_of, left_in};
 ghost use Rattle.tx_log.specs.LogState.{rolling_to, finished, IsRolling};
 ghost use Rattle.record_file.specs.Outside.{stop_cause, rollback_cause, abort_cause, resume_cause, step_cause, by_memory};
-ghost use Rattle.record_file.specs.TableCalls.{ChangesTable};
+ghost use Rattle.record_file.specs.TableCalls.{ChangesTable, undone_by, step_key};
 ghost use Rattle.record_file.specs.Steps.{rose, RollsBackTo, RollbackToStep, Aborts, AbortStep, Resumes, ResumeStep, rollback_refusal, abort_refusal, resume_refusal, RollsBack, RollsFrom, EndsBy, places_at};
 
 use super::RecordFile;
 use crate::fault::{AbortFault, Cause, ResumeFault, RollbackToFault, Stop};
-use rec_types::{Memory, Table, TxId};
-use tx_log::Phase;
+use rec_types::{Memory, Table, TableFault, TxId};
+use tx_log::{Phase, UndoStep};
 
 impl<T: Table> RecordFile<T> {
     /// Takes back the changes made since savepoint n, newest first, and answers how many; 0 is the
@@ -162,7 +163,8 @@ impl<T: Table> RecordFile<T> {
         Ok(total)
     }
 
-    // Takes back the newest change that a rollback under way has left: one `set`, and one compensation.
+    // Takes back the newest change that a rollback under way has left: one `set`, or none for a claim, and one
+    // compensation.
     fn take_one_back(&mut self, tx: TxId) -> Result<(), Cause>
         requires { 0 < left_in self.old.file.history tx.0 (tx_of self.old.file tx.0) }
         ensures ok { OnOk result (self.new.file ≡ record self.old.file {
@@ -179,7 +181,7 @@ impl<T: Table> RecordFile<T> {
             ≡ counted (T.memory_refusals self.old.table) (by_memory (step_cause result)) }
     {
         let step = self.log.next_undo(tx).unwrap();
-        self.table.set(step.key, step.before)?;
+        put_back(&mut self.table, step)?;
         let _lsn = self.log.compensate(tx);
         Ok(())
     }
@@ -202,5 +204,24 @@ impl<T: Table> RecordFile<T> {
         ensures log { self.new.log ≡ self.old.log }
     {
         self.log.finish(tx);
+    }
+}
+
+// Makes an undo step on the table. Of a claim it asks nothing.
+fn put_back<T: Table>(table: &mut T, step: UndoStep) -> Result<(), TableFault>
+    ensures ok { IsTrue (T.sound table.old)
+        → OnOk result (T.contents table.new ≡ undone_by (T.contents table.old) step) }
+    ensures err { OnErr result (T.contents table.new ≡ T.contents table.old) }
+    ensures no_room { IsTrue (T.sound table.old) → result ≡ Err TableFault.NoRoom
+        → (maps.get (T.contents table.old) (step_key step) ≡ None)
+        × (T.record_limit table.old ≤ maps.len (T.contents table.old)) }
+    ensures answered { Answered T.TableState table.old result table.new }
+{
+    match step {
+        UndoStep::Restore { key, before } => match table.set(key, before) {
+            Ok(_) => Ok(()),
+            Err(fault) => Err(fault),
+        },
+        UndoStep::Unclaim { .. } => Ok(()),
     }
 }

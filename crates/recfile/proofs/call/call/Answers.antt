@@ -1,9 +1,9 @@
 use Rattle.std.proofs.Common.{[], ◌∷◌, Ok, false, refl, sym, subst}
 use Rattle.command_text.specs.declared.command.Command.{Command}
 use Rattle.command_text.specs.declared.reply.Reply.TheVariants as replies
-use Rattle.record_file.specs.Outside.{put_cause, remove_cause, get_cause, rollback_cause, abort_cause, resume_cause, by_device, by_memory}
-use Rattle.record_file.specs.Steps.{put_refusal, remove_refusal, get_refusal, rollback_refusal, abort_refusal, resume_refusal}
-use Rattle.record_file.specs.Runs.{seen, Begin, Put, Remove, Get, Savepoint, Release, RollbackTo, Abort, Resume, Commit, LogLen, LogUse}
+use Rattle.record_file.specs.Outside.{put_cause, claim_cause, remove_cause, get_cause, rollback_cause, abort_cause, resume_cause, by_device, by_memory}
+use Rattle.record_file.specs.Steps.{put_refusal, claim_refusal, remove_refusal, get_refusal, rollback_refusal, abort_refusal, resume_refusal}
+use Rattle.record_file.specs.Runs.{seen, Begin, Put, Claim, Remove, Get, Savepoint, Release, RollbackTo, Abort, Resume, Commit, LogLen, LogUse}
 use Rattle.recfile.specs.Run.{HasReply}
 use Rattle.recfile.proofs.CallRunLemmas.{quiet_step, quiet, asks}
 use Rattle.recfile.proofs.call.call.Goals as goal
@@ -63,6 +63,17 @@ returns-in-Put g c =
       events = record { called = Put c.in-Put.tx c.in-Put.key c.in-Put.value c.put.result; failed = by_device (put_cause c.put.result); refused = c.put.ensures.memory.0 } ∷ [];
       told = refl;
       ran = asks old new (Put c.in-Put.tx c.in-Put.key c.in-Put.value c.put.result) (by_device (put_cause c.put.result)) c.put.ensures.memory.0 c.put.ensures.table.device c.put.ensures.memory.1 c.put.ensures.table.soundness (c.put.ensures.table.told) ((refl, c.put.ensures.memory.2), record { step = c.put.ensures.step; refused = refused_seen g.T.TableState c.args.file.now c.put.new.self (put_refusal c.args.file.now.file c.in-Put.tx.0 c.in-Put.key) c.put.result c.put.ensures.refused; refused_only = c.put.ensures.refused_only; accepted = c.put.ensures.accepted; err = c.put.ensures.err; damages = c.put.ensures.table.damages });
+    })
+
+pub returns-in-Claim : goal.returns-in-Claim
+returns-in-Claim g c =
+    let old = seen g.T.TableState c.args.file.now in
+    let new = seen g.T.TableState c.claim.new.self in
+    subst (λ (k : Command). HasReply old (Ok k) (replies.Claim c.claim.result) new) (sym c.in-Claim.is)
+    (record {
+      events = record { called = Claim c.in-Claim.tx c.in-Claim.key c.claim.result; failed = by_device (claim_cause c.claim.result); refused = c.claim.ensures.memory.0 } ∷ [];
+      told = refl;
+      ran = asks old new (Claim c.in-Claim.tx c.in-Claim.key c.claim.result) (by_device (claim_cause c.claim.result)) c.claim.ensures.memory.0 c.claim.ensures.table.device c.claim.ensures.memory.1 c.claim.ensures.table.soundness (c.claim.ensures.table.told) ((refl, c.claim.ensures.memory.2), record { step = c.claim.ensures.step; refused = refused_seen g.T.TableState c.args.file.now c.claim.new.self (claim_refusal c.args.file.now.file c.in-Claim.tx.0 c.in-Claim.key) c.claim.result c.claim.ensures.refused; refused_only = c.claim.ensures.refused_only; accepted = c.claim.ensures.accepted; err = c.claim.ensures.err; damages = c.claim.ensures.table.damages });
     })
 
 pub returns-in-Del : goal.returns-in-Del

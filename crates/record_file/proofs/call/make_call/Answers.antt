@@ -1,7 +1,7 @@
 use Rattle.std.proofs.Common.{false, IsTrue, refl, ap, sym, subst, ◌∙◌}
-use Rattle.record_file.specs.Outside.{put_cause, remove_cause, get_cause, rollback_cause, abort_cause, resume_cause, entries_cause, by_device, by_memory, named_by}
-use Rattle.record_file.specs.Steps.{put_refusal, remove_refusal, get_refusal, rollback_refusal, abort_refusal, resume_refusal, listed}
-use Rattle.record_file.specs.Runs.{seen, Begin, Put, Remove, Get, Savepoint, Release, RollbackTo, Abort, Resume, Commit, Entries, KeysOf, StatusOf, Charged, Begun, LogLen, LogUse, RecordAt}
+use Rattle.record_file.specs.Outside.{put_cause, claim_cause, remove_cause, get_cause, rollback_cause, abort_cause, resume_cause, entries_cause, by_device, by_memory, named_by}
+use Rattle.record_file.specs.Steps.{put_refusal, claim_refusal, remove_refusal, get_refusal, rollback_refusal, abort_refusal, resume_refusal, listed}
+use Rattle.record_file.specs.Runs.{seen, Begin, Put, Claim, Remove, Get, Savepoint, Release, RollbackTo, Abort, Resume, Commit, Entries, KeysOf, StatusOf, Charged, Begun, LogLen, LogUse, RecordAt}
 use Rattle.record_file.specs.declared.call.Call.{Call}
 use Rattle.record_file.specs.declared.call.Call.TheVariants as call
 use Rattle.record_file.specs.declared.call.Answer.TheVariants as answer
@@ -59,6 +59,16 @@ returns-in-Put g c =
     subst (λ (k : Call). Makes old k answered new) (sym c.in-Put.is)
     (asks_makes old new (call.Put c.in-Put.tx c.in-Put.key c.in-Put.value) answered (Put c.in-Put.tx c.in-Put.key c.in-Put.value c.put.result) (by_device (put_cause c.put.result)) told.memory.0 refl told.table.device told.memory.1 told.table.soundness told.table.told
     ((refl, told.memory.2), record { step = told.step; refused = refused_seen g.T.TableState c.args.file.now c.put.new.self (put_refusal c.args.file.now.file c.in-Put.tx.0 c.in-Put.key) c.put.result told.refused; refused_only = told.refused_only; accepted = told.accepted; err = told.err; damages = told.table.damages }))
+
+pub returns-in-Claim : goal.returns-in-Claim
+returns-in-Claim g c =
+    let old = seen g.T.TableState c.args.file.now in
+    let new = seen g.T.TableState c.claim.new.self in
+    let told = c.claim.ensures in
+    let answered = answer.Claim c.claim.result in
+    subst (λ (k : Call). Makes old k answered new) (sym c.in-Claim.is)
+    (asks_makes old new (call.Claim c.in-Claim.tx c.in-Claim.key) answered (Claim c.in-Claim.tx c.in-Claim.key c.claim.result) (by_device (claim_cause c.claim.result)) told.memory.0 refl told.table.device told.memory.1 told.table.soundness told.table.told
+    ((refl, told.memory.2), record { step = told.step; refused = refused_seen g.T.TableState c.args.file.now c.claim.new.self (claim_refusal c.args.file.now.file c.in-Claim.tx.0 c.in-Claim.key) c.claim.result told.refused; refused_only = told.refused_only; accepted = told.accepted; err = told.err; damages = told.table.damages }))
 
 pub returns-in-Remove : goal.returns-in-Remove
 returns-in-Remove g c =

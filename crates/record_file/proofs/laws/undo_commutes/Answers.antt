@@ -5,7 +5,7 @@ use Rattle.rec_types.specs.History.{replay}
 use Rattle.rec_types.proofs.ContentsLemmas.{get-set_to-here, set_to-twice}
 use Rattle.record_file.proofs.RunLemmas.{kept_of_run, run_failures, run_sound}
 use Rattle.record_file.proofs.HistoryLeadLemmas.{run_leads, ended_stays}
-use Rattle.record_file.proofs.UndoLemmas.{kept_answered, kept_put_back}
+use Rattle.record_file.proofs.UndoLemmas.{kept_answered, kept_put_back, kept_claimed}
 use Rattle.record_file.specs.Abstract.{open_of}
 use Rattle.record_file.specs.Undo.{old_records, wrote}
 use Rattle.record_file.proofs.laws.undo_commutes.Goals as goal
@@ -17,6 +17,10 @@ returns-clause-answered c = λ old new events start ran below.
 pub returns-clause-put_back : goal.returns-clause-put_back
 returns-clause-put_back c = λ old new events start ran below.
     kept_put_back old.records (old_records events) new.file (kept_of_run old new events start ran below)
+
+pub returns-clause-claimed : goal.returns-clause-claimed
+returns-clause-claimed c = λ old new events start ran below.
+    kept_claimed old.records (old_records events) new.file (kept_of_run old new events start ran below)
 
 pub returns-clause-example : goal.returns-clause-example
 returns-clause-example c = λ t. refl

@@ -26,9 +26,23 @@ returns-in-Update c =
     let first = first_there c.args.log.now c.args.from c.newest_number-at.result _ _ c.requires.numbered (c.newest_number-at.ensures rs c.requires.numbered c.requires.marked) (omega arith) (sym c.index-log-at.is ∙ c.in-Update.is) in
     sym (ap newest_in first.is)
 
+pub returns-in-Claim : goal.returns-in-Claim
+returns-in-Claim c =
+    let rs = reverse c.args.log.now in
+    let some = c.if-at-eq0.false in
+    let first = first_there c.args.log.now c.args.from c.newest_number-at.result _ _ c.requires.numbered (c.newest_number-at.ensures rs c.requires.numbered c.requires.marked) (omega arith) (sym c.index-log-at.is ∙ c.in-Claim.is) in
+    sym (ap newest_in first.is)
+
 pub returns-in-Compensation : goal.returns-in-Compensation
 returns-in-Compensation c =
     let rs = reverse c.args.log.now in
     let some = c.if-at-eq0.false in
     let first = first_there c.args.log.now c.args.from c.newest_number-at.result _ _ c.requires.numbered (c.newest_number-at.ensures rs c.requires.numbered c.requires.marked) (omega arith) (sym c.index-log-at.is ∙ c.in-Compensation.is) in
+    absurd (let wrong = first.update in cc)
+
+pub returns-in-Unclaim : goal.returns-in-Unclaim
+returns-in-Unclaim c =
+    let rs = reverse c.args.log.now in
+    let some = c.if-at-eq0.false in
+    let first = first_there c.args.log.now c.args.from c.newest_number-at.result _ _ c.requires.numbered (c.newest_number-at.ensures rs c.requires.numbered c.requires.marked) (omega arith) (sym c.index-log-at.is ∙ c.in-Unclaim.is) in
     absurd (let wrong = first.update in cc)

@@ -58,17 +58,17 @@ returns-clause-step g c = λ sound lt.
       not_full g place sound,
       stood ∙ ap (λ m. maps.get m c.args.key) (c.self.invariant.fits here).replayed ∙ ap (λ (f : File). maps.get (records_of f) c.args.key) (link g place),
       change_file _ _ _ c.self.inside.log c.self.invariant c.in_ok-reserve.ensures.kept (g.T.TableState.contents c.set.new.self) c.reserve.new.self c.accept-lsn.new.self c.args.tx c.args.key c.in_ok-before.before c.copied-told.result _ c.in_ok-reserve.ensures.ok (c.in_ok-before.ensures.ok here) stood (c.copied-told.ensures ∙ c.as_ref.ensures.value) c.accept-lsn.ensures.after
-          ∙ ap (λ (f : File). with_change f c.args.tx.0 c.args.key (Some c.args.value)) (link g place),
+          ∙ ap (λ (f : File). with_change f c.args.tx.0 c.args.key (Some (Some c.args.value))) (link g place),
     )
 
 pub returns-clause-accepted : goal.returns-clause-accepted
 returns-clause-accepted g c =
     let F = file_of c.accept-lsn.new.self (g.T.TableState.contents c.set.new.self) in
     let place = (goal.at.returns-clause-accepted g c).After-reserve in
-    subst (λ (o : Option (List ℕ)). Accepts c.args.self.now.file c.args.self.now.log (key_change c.args.tx c.args.key o (Some c.args.value)) F c.accept-lsn.new.self.records) (c.copied-told.ensures ∙ c.as_ref.ensures.value)
-    (subst (λ (l : List LogRecord). Accepts c.args.self.now.file l (key_change c.args.tx c.args.key c.copied-told.result (Some c.args.value)) F c.accept-lsn.new.self.records) (ap (λ (s : OpenFile _). s.log) c.self.view_is ∙ c.is_full.ensures.same.2)
-    (subst (λ (f : File). Accepts f c.self.inside.log.records (key_change c.args.tx c.args.key c.copied-told.result (Some c.args.value)) F c.accept-lsn.new.self.records) (link g place)
-    (change_accepted _ _ _ c.self.inside.log c.self.invariant c.in_ok-reserve.ensures.kept (g.T.TableState.contents c.set.new.self) c.reserve.new.self c.accept-lsn.new.self c.args.tx c.args.key c.copied-told.result (Some c.args.value) c.in_ok-reserve.ensures.ok c.accept-lsn.ensures.after)))
+    subst (λ (o : Option (List ℕ)). Accepts c.args.self.now.file c.args.self.now.log (key_change c.args.tx c.args.key o (Some (Some c.args.value))) F c.accept-lsn.new.self.records) (c.copied-told.ensures ∙ c.as_ref.ensures.value)
+    (subst (λ (l : List LogRecord). Accepts c.args.self.now.file l (key_change c.args.tx c.args.key c.copied-told.result (Some (Some c.args.value))) F c.accept-lsn.new.self.records) (ap (λ (s : OpenFile _). s.log) c.self.view_is ∙ c.is_full.ensures.same.2)
+    (subst (λ (f : File). Accepts f c.self.inside.log.records (key_change c.args.tx c.args.key c.copied-told.result (Some (Some c.args.value))) F c.accept-lsn.new.self.records) (link g place)
+    (change_accepted _ _ _ c.self.inside.log c.self.invariant c.in_ok-reserve.ensures.kept (g.T.TableState.contents c.set.new.self) c.reserve.new.self c.accept-lsn.new.self c.args.tx c.args.key c.copied-told.result (Some (Some c.args.value)) c.in_ok-reserve.ensures.ok c.accept-lsn.ensures.after)))
 
 pub returns-clause-err : goal.returns-clause-err
 returns-clause-err g c = tt
@@ -78,7 +78,7 @@ returns-clause-table g c =
     changes_then g.T.TableState _ c.is_full.new.self _ None
     (changes_asked g.T.TableState _ _ _ c.in_ok-is_full.ensures.answered c.is_full.ensures.same.0 c.is_full.ensures.same.2)
     (changes_set g.T.TableState _ _ _ _ _ c.self.view_is c.in_ok-before.ensures.answered
-    (ap (λ (s : LogState). s.records) c.accept-lsn.ensures.after ∙ ap (λ (s : LogState). s.records ++ update_in s c.args.tx c.args.key c.copied-told.result (Some c.args.value) ∷ []) c.in_ok-reserve.ensures.ok)
+    (ap (λ (s : LogState). s.records) c.accept-lsn.ensures.after ∙ ap (λ (s : LogState). s.records ++ update_in s c.args.tx c.args.key c.copied-told.result (Some (Some c.args.value)) ∷ []) c.in_ok-reserve.ensures.ok)
     c.in_ok-before.ensures.ok)
 
 -- the log has no room

@@ -31,7 +31,7 @@ invariant_of-self-in-Some-2 g c =
     let key = c.args.key in
     let place = (goal.at.invariant_of-self-in-Some-2 g c).After-accept-lsn in
     change_kept _ _ _ c.self.inside.log c.self.invariant c.in_ok-reserve.ensures.kept
-    _ _ _ c.reserve.new.self c.accept-lsn.new.self c.args.tx key c.in_ok-taken.field-0 (Some c.in-Some-2.taken) None
+    _ _ _ c.reserve.new.self c.accept-lsn.new.self c.args.tx key c.in_ok-taken.field-0 (Some c.in-Some-2.taken) (Some None)
     (c.in_ok-taken.ensures.answered.soundness ∙ c.in_ok-get.ensures.answered.soundness) (c.in_ok-taken.ensures.answered.limit ∙ c.in_ok-get.ensures.answered.limit) c.in_ok-reserve.ensures.ok (put g place) (stood g place) (sym c.in-Some-2.is) c.accept-lsn.ensures.after
     (λ sound absent. absurd (present_charged (open_in c.self.inside.log) (history_in c.self.inside.log) (g.T.TableState.contents c.self.inside.table) key c.in_ok-get.field-0 (c.in_ok-get.ensures.value sound) c.if-is_none.ensures absent))
 
@@ -46,19 +46,19 @@ returns-in-Some-2-clause-step g c = λ sound lt.
       none,
       rose_same (g.T.TableState.device_failures c.args.self.now.table) (g.T.TableState.device_failures c.set.new.self) counts,
       sym (sym c.in-Some-2.is ∙ stood g place here ∙ ap (λ m. maps.get m key) (c.self.invariant.fits here).replayed ∙ ap (λ (f : File). maps.get (records_of f) key) link),
-      change_file _ _ _ c.self.inside.log c.self.invariant c.in_ok-reserve.ensures.kept (g.T.TableState.contents c.set.new.self) c.reserve.new.self c.accept-lsn.new.self c.args.tx key c.in_ok-taken.field-0 (Some c.in-Some-2.taken) None c.in_ok-reserve.ensures.ok (put g place here) (stood g place here) (sym c.in-Some-2.is) c.accept-lsn.ensures.after
-          ∙ ap (λ (f : File). with_change f c.args.tx.0 key None) link,
+      change_file _ _ _ c.self.inside.log c.self.invariant c.in_ok-reserve.ensures.kept (g.T.TableState.contents c.set.new.self) c.reserve.new.self c.accept-lsn.new.self c.args.tx key c.in_ok-taken.field-0 (Some c.in-Some-2.taken) (Some None) c.in_ok-reserve.ensures.ok (put g place here) (stood g place here) (sym c.in-Some-2.is) c.accept-lsn.ensures.after
+          ∙ ap (λ (f : File). with_change f c.args.tx.0 key (Some None)) link,
     )
 
 pub returns-in-Some-2-clause-accepted : goal.returns-in-Some-2-clause-accepted
 returns-in-Some-2-clause-accepted g c =
-    subst (λ (s : OpenFile _). Accepts s.file s.log (key_change c.args.tx c.args.key (Some c.in-Some-2.taken) None) (file_of c.accept-lsn.new.self (g.T.TableState.contents c.set.new.self)) c.accept-lsn.new.self.records) c.self.view_is
-    (change_accepted _ _ _ c.self.inside.log c.self.invariant c.in_ok-reserve.ensures.kept (g.T.TableState.contents c.set.new.self) c.reserve.new.self c.accept-lsn.new.self c.args.tx c.args.key (Some c.in-Some-2.taken) None c.in_ok-reserve.ensures.ok c.accept-lsn.ensures.after)
+    subst (λ (s : OpenFile _). Accepts s.file s.log (key_change c.args.tx c.args.key (Some c.in-Some-2.taken) (Some None)) (file_of c.accept-lsn.new.self (g.T.TableState.contents c.set.new.self)) c.accept-lsn.new.self.records) c.self.view_is
+    (change_accepted _ _ _ c.self.inside.log c.self.invariant c.in_ok-reserve.ensures.kept (g.T.TableState.contents c.set.new.self) c.reserve.new.self c.accept-lsn.new.self c.args.tx c.args.key (Some c.in-Some-2.taken) (Some None) c.in_ok-reserve.ensures.ok c.accept-lsn.ensures.after)
 
 pub returns-in-Some-2-clause-table : goal.returns-in-Some-2-clause-table
 returns-in-Some-2-clause-table g c =
     changes_set g.T.TableState _ _ _ _ _ c.self.view_is (answered_then g.T.TableState _ _ _ _ _ c.in_ok-get.ensures.answered c.in_ok-taken.ensures.answered)
-    (ap (λ (s : LogState). s.records) c.accept-lsn.ensures.after ∙ ap (λ (s : LogState). s.records ++ update_in s c.args.tx c.args.key (Some c.in-Some-2.taken) None ∷ []) c.in_ok-reserve.ensures.ok)
+    (ap (λ (s : LogState). s.records) c.accept-lsn.ensures.after ∙ ap (λ (s : LogState). s.records ++ update_in s c.args.tx c.args.key (Some c.in-Some-2.taken) (Some None) ∷ []) c.in_ok-reserve.ensures.ok)
     (put g (goal.at.returns-in-Some-2-clause-table g c).After-accept-lsn)
 
 pub returns-then-is_none-clause-step : goal.returns-then-is_none-clause-step

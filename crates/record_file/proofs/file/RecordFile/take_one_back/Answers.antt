@@ -1,21 +1,21 @@
 use Rattle.std.proofs.Common.{◌≡◌, ◌<◌, ℕ, Some, IsTrue, Err, ap, is_some, sym, subst, ◌∙◌, option_map, arith}
 use Rattle.rec_types.specs.History.{undo_last}
-use Rattle.rec_types.specs.Kept.{Kept, newest_live}
+use Rattle.rec_types.specs.Kept.{Kept, back_of, newest_live}
 use Rattle.tx_log.specs.Transactions.{left_in}
 use Rattle.tx_log.specs.declared.phase.UndoStep.{UndoStep}
 use Rattle.std.proofs.lemmas.Result.{err_from_is_err_and}
 use Rattle.std.specs.FinMap as maps
 use Rattle.tx_log.specs.LogState.{undo_step, undo_in, tx_in, open_in}
-use Rattle.rec_types.specs.Contents.{set_to}
+use Rattle.record_file.specs.TableCalls.{undone_by, step_key}
 use Rattle.record_file.specs.Abstract.{File, OpenFile, file_of, tx_of}
 use Rattle.rec_types.specs.declared.table.TableFault.TheVariants as table_faults
 use Rattle.record_file.proofs.FaultLemmas.{step_is, untold}
 use Rattle.record_file.proofs.FileLemmas.{undo_has_room}
-use Rattle.record_file.proofs.InvariantLemmas.{undo_there, undo_kept, undo_file_is, undo_becomes, undo_record}
+use Rattle.record_file.proofs.InvariantLemmas.{back_written, key_of_step, undone_is, undo_there, undo_kept, undo_file_is, undo_becomes, undo_record}
 use Rattle.record_file.proofs.TableCallLemmas.{changes_set}
 use Rattle.record_file.proofs.file.RecordFile.take_one_back.Given as given
 use Rattle.record_file.proofs.file.RecordFile.take_one_back.Goals as goal
-use Rattle.record_file.proofs.file.RecordFile.take_one_back.Goals.{After-next_undo, After-set-arg-1}
+use Rattle.record_file.proofs.file.RecordFile.take_one_back.Goals.{After-next_undo, After-put_back-arg-1}
 
 -- the change that is taken back
 module _ (g : given.Over) (c : After-next_undo g) where
@@ -23,7 +23,7 @@ module _ (g : given.Over) (c : After-next_undo g) where
   newest = undo_there c.self.inside.log.changes c.args.tx.0 (tx_in c.self.inside.log c.args.tx.0) (subst (λ (s : OpenFile _). 0 < left_in s.file.history c.args.tx.0 (tx_of s.file c.args.tx.0)) (sym c.self.view_is) c.requires)
 
 -- the step that takes it back
-module _ (g : given.Over) (c : After-set-arg-1 g) where
+module _ (g : given.Over) (c : After-put_back-arg-1 g) where
   step_of : (u : Kept) → undo_in c.self.inside.log c.args.tx.0 ≡ Some u → c.unwrap-step.result ≡ undo_step u
   step_of u is = step_is c.unwrap-step.result (undo_step u) (sym c.unwrap-step.ensures ∙ c.next_undo.ensures ∙ ap (option_map undo_step) is)
 
@@ -35,43 +35,43 @@ pub invariant_of-self-2 : goal.invariant_of-self-2
 invariant_of-self-2 g c =
     let places = goal.at.invariant_of-self-2 g c in
     let u = newest g places.After-next_undo in
-    undo_kept _ _ _ c.self.inside.log c.self.invariant c.compensate-lsn.ensures.kept _ _ _ c.compensate-lsn.new.self c.args.tx u.0 c.unwrap-step.result c.in_ok-set.ensures.answered.soundness c.in_ok-set.ensures.answered.limit u.1 u.2 u.3
-    (step_of g places.After-set-arg-1 u.0 u.1) c.in_ok-set.ensures.ok c.compensate-lsn.ensures.after
+    undo_kept _ _ _ c.self.inside.log c.self.invariant c.compensate-lsn.ensures.kept _ _ _ c.compensate-lsn.new.self c.args.tx u.0 c.unwrap-step.result c.in_ok-put_back.ensures.answered.soundness c.in_ok-put_back.ensures.answered.limit u.1 u.2 u.3
+    (step_of g places.After-put_back-arg-1 u.0 u.1) c.in_ok-put_back.ensures.ok c.compensate-lsn.ensures.after
 
 pub returns-clause-ok : goal.returns-clause-ok
 returns-clause-ok g c =
-    undo_becomes _ _ _ c.self.inside.log c.self.invariant c.compensate-lsn.ensures.kept (g.T.TableState.contents c.set.new.self) c.compensate-lsn.new.self c.args.tx c.compensate-lsn.ensures.after
-    ∙ ap (λ (s : OpenFile _). let f : File = record s.file { opening = (file_of c.compensate-lsn.new.self (g.T.TableState.contents c.set.new.self)).opening; history = undo_last c.args.tx.0 s.file.history } in f) c.self.view_is
+    undo_becomes _ _ _ c.self.inside.log c.self.invariant c.compensate-lsn.ensures.kept (g.T.TableState.contents c.put_back.new.table) c.compensate-lsn.new.self c.args.tx c.compensate-lsn.ensures.after
+    ∙ ap (λ (s : OpenFile _). let f : File = record s.file { opening = (file_of c.compensate-lsn.new.self (g.T.TableState.contents c.put_back.new.table)).opening; history = undo_last c.args.tx.0 s.file.history } in f) c.self.view_is
 
 pub returns-clause-opening : goal.returns-clause-opening
 returns-clause-opening g c = λ sound.
     let places = goal.at.returns-clause-opening g c in
     let u = newest g places.After-next_undo in
     let here = ap (λ (s : OpenFile _). g.T.TableState.sound s.table) c.self.view_is ∙ sound in
-    ap (λ (f : File). f.opening) (undo_file_is _ _ _ c.self.inside.log c.self.invariant c.compensate-lsn.ensures.kept (g.T.TableState.contents c.set.new.self) c.compensate-lsn.new.self c.args.tx u.0 c.unwrap-step.result u.2
-    (step_of g places.After-set-arg-1 u.0 u.1) (c.in_ok-set.ensures.ok here) c.compensate-lsn.ensures.after)
+    ap (λ (f : File). f.opening) (undo_file_is _ _ _ c.self.inside.log c.self.invariant c.compensate-lsn.ensures.kept (g.T.TableState.contents c.put_back.new.table) c.compensate-lsn.new.self c.args.tx u.0 c.unwrap-step.result u.2
+    (step_of g places.After-put_back-arg-1 u.0 u.1) (c.in_ok-put_back.ensures.ok here) c.compensate-lsn.ensures.after)
     ∙ ap (λ (s : OpenFile _). s.file.opening) c.self.view_is
 
 -- taking back never wants room that isn't there
-pub returns-in_err-set-clause-damaged : goal.returns-in_err-set-clause-damaged
-returns-in_err-set-clause-damaged g c = λ sound.
-    let places = goal.at.returns-in_err-set-clause-damaged g c in
+pub returns-in_err-put_back-clause-damaged : goal.returns-in_err-put_back-clause-damaged
+returns-in_err-put_back-clause-damaged g c = λ sound.
+    let places = goal.at.returns-in_err-put_back-clause-damaged g c in
     let u = newest g places.After-next_undo in
-    let step = step_of g places.After-set-arg-1 u.0 u.1 in
+    let step = step_of g places.After-put_back-arg-1 u.0 u.1 in
     let here = ap (λ (s : OpenFile _). g.T.TableState.sound s.table) c.self.view_is ∙ sound in
     let told = err_from_is_err_and c.from_residual.result c.from_residual.ensures.1 in
-    rw (told.1, told.2) (untold c.in_err-set.field-0.0
-    (λ (is : c.in_err-set.field-0.0 ≡ table_faults.NoRoom).
-    let full = c.in_err-set.ensures.no_room here (ap Err is) in
+    rw (told.1, told.2) (untold c.in_err-put_back.field-0.0
+    (λ (is : c.in_err-put_back.field-0.0 ≡ table_faults.NoRoom).
+    let full = c.in_err-put_back.ensures.no_room here (ap Err is) in
     undo_has_room (open_in c.self.inside.log) c.self.inside.log.changes (g.T.TableState.contents c.self.inside.table) c.self.inside.log.limits.records c.args.tx.0 u.0 u.3 u.2 (c.self.invariant.within here)
-    (sym (ap (λ (s : UndoStep). maps.get (g.T.TableState.contents c.self.inside.table) s.key) step) ∙ full.1) (omega (arith, full.2, c.self.invariant.limited)))
-    (λ (page : ℕ) (is : c.in_err-set.field-0.0 ≡ table_faults.Damaged page). c.in_err-set.ensures.answered.whole here page (ap Err is)))
+    (sym (ap (λ (s : UndoStep). maps.get (g.T.TableState.contents c.self.inside.table) (step_key s)) step ∙ ap (maps.get (g.T.TableState.contents c.self.inside.table)) (key_of_step u.0.key (back_of u.0))) ∙ full.0) (omega (arith, full.1, c.self.invariant.limited)))
+    (λ (page : ℕ) (is : c.in_err-put_back.field-0.0 ≡ table_faults.Damaged page). c.in_err-put_back.ensures.answered.whole here page (ap Err is)))
 
 -- a stop changes nothing, and a step is told by its compensation
 pub returns-clause-table : goal.returns-clause-table
 returns-clause-table g c =
     let places = goal.at.returns-clause-table g c in
     let u = newest g places.After-next_undo in
-    changes_set g.T.TableState _ _ _ _ _ c.self.view_is c.in_ok-set.ensures.answered
+    changes_set g.T.TableState _ _ _ _ _ c.self.view_is c.in_ok-put_back.ensures.answered
     (undo_record _ _ _ c.self.inside.log c.self.invariant c.compensate-lsn.ensures.kept c.compensate-lsn.new.self c.args.tx u.0 u.1 c.compensate-lsn.ensures.after)
-    (λ sound. c.in_ok-set.ensures.ok sound ∙ ap (λ (s : UndoStep). set_to (g.T.TableState.contents c.self.inside.table) s.key s.before) (step_of g places.After-set-arg-1 u.0 u.1))
+    (λ sound. c.in_ok-put_back.ensures.ok sound ∙ ap (undone_by (g.T.TableState.contents c.self.inside.table)) (step_of g places.After-put_back-arg-1 u.0 u.1) ∙ undone_is (g.T.TableState.contents c.self.inside.table) u.0.key (back_of u.0) ∙ sym (back_written (g.T.TableState.contents c.self.inside.table) _ _ c.args.tx u.0.key (back_of u.0) _))

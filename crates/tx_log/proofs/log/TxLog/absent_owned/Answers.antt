@@ -13,8 +13,8 @@ returns-clause-value c =
     let l = c.self.inside in
     let cs = kept_of (reverse l.records.items) in
     c.self.invariant.log_kept.absent_is
-    ∙ ap (λ (o : ℕ → Bool). maps.len (absent o (history_of cs))) (sym (opens_is cs l.txs.entries))
-    ∙ ap (λ (s : LogState). maps.len (absent (open_in s) (history_in s))) c.self.view_is
+    ∙ ap (λ (o : ℕ → Bool). maps.len (absent o cs)) (sym (opens_is cs l.txs.entries))
+    ∙ ap (λ (s : LogState). maps.len (absent (open_in s) s.changes)) c.self.view_is
 
 pub returns-clause-log : goal.returns-clause-log
 returns-clause-log c = kept_now c.self.inside c.self.invariant _ c.self.view_is

@@ -1,36 +1,35 @@
-use Rattle.std.proofs.Common.{◌≡◌, ◌∷◌, [], ◌++◌, cond, refl, ℕ, ◌+◌, ◌-◌, not, ◌<◌, ◌≤◌, Bool, List, Some, None, length, reverse, is_some, vec_len, sym, ap, subst, ◌∙◌, arith}
+use Rattle.std.proofs.Common.{◌≡◌, ◌∷◌, [], ◌++◌, cond, refl, ℕ, ◌+◌, ◌-◌, not, ◌<◌, ◌≤◌, Bool, true, List, Some, None, option_map, length, reverse, is_some, vec_len, sym, ap, subst, ◌∙◌, arith}
 use Rattle.std.specs.Vec.{vec_capacity}
 use Rattle.std.proofs.lemmas.List.{length-reverse}
 use Rattle.rec_types.specs.History.{log_len}
 use Rattle.rec_types.specs.Kept.{undone}
 use Rattle.rec_types.specs.declared.transaction.TxId.{TxId}
 use Rattle.tx_log.proofs.HoldCalls.{IsKeyOf, key_of_change, compensated_keys}
-use Rattle.tx_log.specs.Holdings.{held, absent_at, IsHeld}
-use Rattle.tx_log.specs.Marks.{first_lsn, AreMarked}
+use Rattle.tx_log.specs.Holdings.{held, IsHeld}
+use Rattle.tx_log.specs.Marks.{first_lsn, IsMarked, AreMarked}
 use Rattle.tx_log.specs.OpenTxs.{opens}
 use Rattle.tx_log.specs.declared.holding.Holding.{Holding}
-use Rattle.tx_log.proofs.KeptLogLemmas.{IsSized, IsCounted, sized, some_of, recounted, none_is, counted_change, kept_now}
+use Rattle.tx_log.proofs.KeptLogLemmas.{IsSized, IsCounted, sized, some_of, recounted, counted_key, counted_change, kept_now}
 use Rattle.tx_log.proofs.LogIndex.{reverse-push, record_of_chain}
 use Rattle.tx_log.proofs.MarkLemmas.{as_many, marked_more}
 use Rattle.tx_log.proofs.PlaceOf.{read_at, write_at}
 use Rattle.indexmap.specs.IndexMap.{with_value_at}
 use Rattle.tx_log.proofs.OpenTxLemmas.{found_fits, txs_stay}
 use Rattle.tx_log.proofs.OpenTxReadLemmas.{open_of_undo, undo_head, undo_told, left_some, undo_above}
-use Rattle.tx_log.proofs.LogStepLemmas.{compensated, IsCompensated}
+use Rattle.tx_log.proofs.LogStepLemmas.{compensated, IsCompensated, IsBackOf, back_told_of}
 use Rattle.tx_log.proofs.LogStateLemmas.{state, compensate_state, told_compensation, kept_turned}
 use Rattle.tx_log.proofs.WalkSteps.{IsStep, walk_step}
 use Rattle.tx_log.specs.Finds.{finding, PutsAt}
-use Rattle.tx_log.specs.Log.{lsn_of, key_of, kept_of, chain}
+use Rattle.tx_log.specs.Log.{lsn_of, key_of, leads_to, led, kept_of, chain}
 use Rattle.tx_log.specs.LogState.{LogState, history_in, undo_in, compensations_in}
-use Rattle.tx_log.specs.Walks.{newest_in}
+use Rattle.tx_log.specs.Walks.{newest_in, absent_at}
 use Rattle.tx_log.specs.declared.log.TxLog.TheInside.{Inside}
 use Rattle.tx_log.specs.declared.log_record.LogRecord.{LogRecord}
-use Rattle.tx_log.specs.declared.log_record.LogRecord.TheVariants.{Compensation}
 use Rattle.tx_log.specs.declared.mark.Mark.{Mark}
 use Rattle.tx_log.specs.declared.open_tx.OpenTx.{OpenTx}
 use Rattle.tx_log.specs.declared.undo_chain.LiveChange.{LiveChange}
 use Rattle.tx_log.proofs.log.TxLog.compensate.Goals as goal
-use Rattle.tx_log.proofs.log.TxLog.compensate.Goals.{After-index, After-deref-3, After-index_mut-open_tx}
+use Rattle.tx_log.proofs.log.TxLog.compensate.Goals.{After-index, After-deref-3, After-lower-was, After-index_mut-open_tx}
 use Rattle.tx_log.proofs.Counts.{log_len_is}
 
 -- the transaction of the change that is taken back
@@ -64,8 +63,16 @@ module _ (c : After-deref-3) where
         at = key_of_change l c.self.invariant c.args.tx.0 e change found step;
       }
 
-  was_none : c.is_none-was.result ≡ not (is_some c.unwrap-change.result.after)
-  was_none = none_is (is_some c.unwrap-change.result.after) c.is_none-was.result c.is_none-was.ensures
+-- whether its key was out
+module _ (c : After-lower-was) (now : IsNext c.self.inside c.args.tx.0 c.index.result.now c.unwrap-change.result) where
+  was_is : c.lower-was.result ≡ absent_at c.unwrap-change.result.key (chain (reverse c.self.inside.records.items) c.index.result.now.last)
+  was_is = (c.lower-was.ensures now.at.hold.hold now.at.there).0 ∙ now.at.lacks ∙ ap (absent_at c.unwrap-change.result.key) (sym now.step.is)
+
+  was_counted : c.lower-was.result ≡ true → 0 < c.index.result.now.absent
+  was_counted was =
+      let l = c.self.inside in
+      let e = c.index.result.now in
+      counted_key (reverse l.records.items) l.txs.entries l.begun l.pending l.gone c.args.tx.0 e.last c.unwrap-change.result.key e c.self.invariant.log_kept now.found refl (sym was_is ∙ was)
 
 -- the transaction's entry is still the one that was read
 module _ (c : After-index_mut-open_tx) where
@@ -110,13 +117,13 @@ newest_number-below-requires c =
     let low : change.prev ≤ length l.marks.items = omega (arith, step.falls, step.within, length-reverse l.records.items, as_many l.records.items l.marks.items c.self.invariant.marked) in
     subst (λ (k : ℕ). change.prev ≤ k) (ap length (sym c.deref-4.ensures.value)) low
 
-pub lower-requires-clause-there : goal.lower-requires-clause-there
-lower-requires-clause-there c =
-    ap is_some (next (goal.at.lower-requires-clause-there c).After-deref-3).at.there
+pub lower-was-requires-clause-there : goal.lower-was-requires-clause-there
+lower-was-requires-clause-there c =
+    ap is_some (next (goal.at.lower-was-requires-clause-there c).After-deref-3).at.there
 
-pub lower-requires-clause-some : goal.lower-requires-clause-some
-lower-requires-clause-some c = λ h there.
-    let at = (next (goal.at.lower-requires-clause-some c).After-deref-3).at in
+pub lower-was-requires-clause-some : goal.lower-was-requires-clause-some
+lower-was-requires-clause-some c = λ h there.
+    let at = (next (goal.at.lower-was-requires-clause-some c).After-deref-3).at in
     let live_is : h.live ≡ at.hold.hold.live = ap (λ (x : Holding). x.live) (some_of h at.hold.hold (sym there ∙ at.there)) in
     omega (arith, live_is, at.hold.live)
 
@@ -127,7 +134,7 @@ overflow_sub-self c =
 pub recount-self-inside-requires-clause-some : goal.recount-self-inside-requires-clause-some
 recount-self-inside-requires-clause-some c = λ was.
     let size = met_sizes (goal.at.recount-self-inside-requires-clause-some c).After-index in
-    let some = (next (goal.at.recount-self-inside-requires-clause-some c).After-deref-3).counted.lacking (sym (was_none (goal.at.recount-self-inside-requires-clause-some c).After-deref-3) ∙ was) in
+    let some = was_counted (goal.at.recount-self-inside-requires-clause-some c).After-lower-was (next (goal.at.recount-self-inside-requires-clause-some c).After-deref-3) was in
     omega (arith, some, size.absent_part)
 
 pub recount-self-inside-requires-clause-most : goal.recount-self-inside-requires-clause-most
@@ -150,7 +157,7 @@ overflow_sub-open_tx c =
 pub recount-open_tx-requires-clause-some : goal.recount-open_tx-requires-clause-some
 recount-open_tx-requires-clause-some c = λ was.
     let now = next (goal.at.recount-open_tx-requires-clause-some c).After-deref-3 in
-    subst (λ (x : OpenTx). 0 < x.absent) (sym (same_entry (goal.at.recount-open_tx-requires-clause-some c).After-index_mut-open_tx now.found)) (now.counted.lacking (sym (was_none (goal.at.recount-open_tx-requires-clause-some c).After-deref-3) ∙ was))
+    subst (λ (x : OpenTx). 0 < x.absent) (sym (same_entry (goal.at.recount-open_tx-requires-clause-some c).After-index_mut-open_tx now.found)) (was_counted (goal.at.recount-open_tx-requires-clause-some c).After-lower-was now was)
 
 pub recount-open_tx-requires-clause-most : goal.recount-open_tx-requires-clause-most
 recount-open_tx-requires-clause-most c =
@@ -160,7 +167,12 @@ recount-open_tx-requires-clause-most c =
 -- the record that was pushed, its mark, and the transaction's new entry, with the table
 module _ (c : goal.After-self-4-1) where
   abbrev record_pushed : LogRecord
-  record_pushed = Compensation (c.len.result + 1) c.index.result.now.last c.args.tx c.unwrap-change.result.key c.unwrap-change.result.before c.unwrap-change.result.prev
+  record_pushed = c.back_record.result
+
+  told_back : let change = c.unwrap-change.result in IsBackOf record_pushed (c.len.result + 1) c.index.result.now.last c.args.tx change.key (option_map (λ _. change.before) change.after) change.prev
+  told_back =
+      let change = c.unwrap-change.result in
+      subst (λ (r : LogRecord). IsBackOf r (c.len.result + 1) c.index.result.now.last c.args.tx change.key (option_map (λ _. change.before) change.after) change.prev) (sym c.back_record.ensures) (back_told_of (c.len.result + 1) c.index.result.now.last c.args.tx change.key (option_map (λ _. change.before) change.after) change.prev)
 
   abbrev entry_left : OpenTx
   entry_left = let n = c.index_mut-open_tx.result.now in record { rollback = n.rollback; last = c.len.result + 1; live = n.live - 1; left = n.left - 1; absent = c.recount-open_tx.result; saves = n.saves }
@@ -194,7 +206,7 @@ module _ (c : goal.After-self-4-1) where
       c.is_absent_below-will.ensures rs step.rest c.index.result.now.last step.update c.self.invariant.log_kept.numbered (subst (λ (ms : List Mark). AreMarked rs (reverse ms)) (sym c.deref-3.ensures.value) c.self.invariant.marked) step.is lsn_is
       ∙ ap (λ k. absent_at k step.rest) key_is
 
-  taken_back : IsNext c.self.inside c.args.tx.0 c.index.result.now c.unwrap-change.result → c.is_none-was.result ≡ not (is_some c.unwrap-change.result.after) → c.index_mut-open_tx.result.now ≡ c.index.result.now
+  taken_back : IsNext c.self.inside c.args.tx.0 c.index.result.now c.unwrap-change.result → c.lower-was.result ≡ absent_at c.unwrap-change.result.key (chain (reverse c.self.inside.records.items) c.index.result.now.last) → c.index_mut-open_tx.result.now ≡ c.index.result.now
       → IsCompensated (c.len.result + 1) c.index.result.now.last c.args.tx c.unwrap-change.result (reverse c.self.inside.records.items) (finding c.self.inside.txs.entries) c.self.inside.pending c.self.inside.gone (c.self.inside.pending - 1) c.recount-self-inside.result c.index.result.now entry_left
   taken_back now was_is same =
       let l = c.self.inside in
@@ -216,10 +228,22 @@ module _ (c : goal.After-self-4-1) where
         live_new = omega (arith, now.counted.live);
         left_new = (let more = left_some rs l.txs.entries l.begun l.pending l.gone c.args.tx.0 e c.self.invariant.log_kept now.found asked in let left_is : n.left ≡ e.left = ap (λ (x : OpenTx). x.left) same in omega arith);
         above = undo_above rs l.txs.entries l.begun l.pending l.gone c.args.tx.0 e change c.self.invariant.log_kept now.found asked now.step;
-        absent_new = recounted c.recount-open_tx.result n.absent e.absent c.is_none-was.result _ c.is_absent_below-will.result _ was_is will (ap (λ (x : OpenTx). x.absent) same) c.recount-open_tx.ensures;
+        absent_new = recounted c.recount-open_tx.result n.absent e.absent c.lower-was.result _ c.is_absent_below-will.result _ was_is will (ap (λ (x : OpenTx). x.absent) same) c.recount-open_tx.ensures;
         pending_one = omega (arith, now.counted.waits);
-        gone_one = recounted c.recount-self-inside.result l.gone l.gone c.is_none-was.result _ c.is_absent_below-will.result _ was_is will refl c.recount-self-inside.ensures;
+        gone_one = recounted c.recount-self-inside.result l.gone l.gone c.lower-was.result _ c.is_absent_below-will.result _ was_is will refl c.recount-self-inside.ensures;
       }
+
+-- its mark
+back_marked : (c : goal.After-self-4-1) → (step : IsStep (reverse c.self.inside.records.items) c.index.result.now.last c.unwrap-change.result) → c.newest_number-below.result ≡ first_lsn (chain (reverse c.self.inside.records.items) c.unwrap-change.result.prev) → c.is_absent_below-will.result ≡ absent_at c.unwrap-change.result.key step.rest → IsMarked (record_pushed c) (reverse c.self.inside.records.items) (record { newest = c.newest_number-below.result; absent = c.is_absent_below-will.result })
+back_marked c step below will =
+    let rs = reverse c.self.inside.records.items in
+    let change = c.unwrap-change.result in
+    let told = told_back c in
+    let leads : chain rs (leads_to (record_pushed c)) ≡ chain rs change.prev = ap (chain rs) told.leads in
+    record {
+      newest = below ∙ (λ i. first_lsn (led (sym told.down i) (record_pushed c) (sym leads i)));
+      absent = will ∙ ap (absent_at change.key) (sym step.tail) ∙ (λ i. absent_at (sym told.key_is i) (sym leads i));
+    }
 
 pub invariant_of-self : goal.invariant_of-self
 invariant_of-self c =
@@ -230,8 +254,8 @@ invariant_of-self c =
     let now = next places.After-deref-3 in
     let change = c.unwrap-change.result in
     let turned : reverse c.push.new.self.items ≡ record_pushed c ∷ rs = ap reverse (pushed c now.counted.waits) ∙ reverse-push l.records.items _ in
-    let back = taken_back c now (was_none places.After-deref-3) (same_entry places.After-index_mut-open_tx now.found) in
-    let kept = compensated (c.len.result + 1) e.last c.args.tx change rs (finding l.txs.entries) (finding (table_left c)) l.begun l.pending l.gone (l.pending - 1) c.recount-self-inside.result e (entry_left c) c.self.invariant.log_kept now.found (puts_entry c) back in
+    let back = taken_back c now (was_is places.After-lower-was now) (same_entry places.After-index_mut-open_tx now.found) in
+    let kept = compensated (record_pushed c) (c.len.result + 1) e.last c.args.tx change rs (finding l.txs.entries) (finding (table_left c)) l.begun l.pending l.gone (l.pending - 1) c.recount-self-inside.result e (entry_left c) (told_back c) c.self.invariant.log_kept now.found (puts_entry c) back in
     let bounded = c.self.invariant.bounded in
     let longer : vec_len c.push.new.self ≤ vec_len l.records + 1 = c.push.ensures.upper_bound in
     let wider : vec_capacity l.records ≤ vec_capacity c.push.new.self = c.push.ensures.capacity in
@@ -240,11 +264,11 @@ invariant_of-self c =
     let below : c.newest_number-below.result ≡ first_lsn (chain rs change.prev) = c.newest_number-below.ensures rs c.self.invariant.log_kept.numbered (subst (λ (ms : List Mark). AreMarked rs (reverse ms)) (sym c.deref-4.ensures.value) c.self.invariant.marked) in
     let more_marks : vec_len c.push-2.new.self ≤ vec_len l.marks + 1 = c.push-2.ensures.upper_bound in
     let marks_wider : vec_capacity l.marks ≤ vec_capacity c.push-2.new.self = c.push-2.ensures.capacity in
-    let keys = compensated_keys l c.self.invariant c.args.tx e (entry_left c) change now.step.update now.step.rest now.at (finding (table_left c)) (held c.lower.new.holdings) (c.len.result + 1) e.last c.is_absent_below-will.result now.found (puts_entry c) will (c.lower.ensures now.at.hold.hold now.at.there) in
+    let keys = compensated_keys (record_pushed c) l c.self.invariant c.args.tx e (entry_left c) change now.step.update now.step.rest now.at (finding (table_left c)) (held c.lower-was.new.holdings) c.is_absent_below-will.result (told_back c).down (told_back c).tx_is now.found (puts_entry c) will (c.lower-was.ensures now.at.hold.hold now.at.there).1 in
     record {
       log_kept = kept_turned _ _ _ _ _ _ turned kept;
-      marked = marked_more l.records.items c.push.new.self.items l.marks.items c.push-2.new.self.items _ _ turned (mark_pushed c now.counted.waits) (record { newest = below; absent = will ∙ ap (absent_at change.key) (sym now.step.tail) }) c.self.invariant.marked;
-      holding = subst (λ (xs : List LogRecord). IsHeld xs (opens (finding (table_left c))) (held c.lower.new.holdings)) (sym turned) keys.holding;
+      marked = marked_more l.records.items c.push.new.self.items l.marks.items c.push-2.new.self.items _ _ turned (mark_pushed c now.counted.waits) (back_marked c now.step below will) c.self.invariant.marked;
+      holding = subst (λ (xs : List LogRecord). IsHeld xs (opens (finding (table_left c))) (held c.lower-was.new.holdings)) (sym turned) keys.holding;
       busy_keys = keys.busy_keys;
       reserved = tt;
       bounded = record {
@@ -275,11 +299,11 @@ returns-clause-after c =
     let kept = c.self.invariant.log_kept in
     let fits = found_fits rs l.begun t (finding l.txs.entries) e kept.fit now.found in
     let step = now.step in
-    let back = taken_back c now (was_none places.After-deref-3) (same_entry places.After-index_mut-open_tx now.found) in
-    let stay = txs_stay (record_pushed c) rs l.begun t l.txs.entries (table_left c) (entry_left c) e back.lsn_is kept.fit (puts_entry c) now.found back.rollback_same back.saves_same in
+    let back = taken_back c now (was_is places.After-lower-was now) (same_entry places.After-index_mut-open_tx now.found) in
+    let stay = txs_stay (record_pushed c) rs l.begun t l.txs.entries (table_left c) (entry_left c) e ((told_back c).lsn_is ∙ back.lsn_is) kept.fit (puts_entry c) now.found back.rollback_same back.saves_same in
     let undo = undo_told rs l.txs.entries l.begun l.pending l.gone t e change kept now.found (ap (λ (s : LogState). is_some (undo_in s t)) c.self.view_is ∙ c.requires) step in
     let told = told_compensation (state l.records.items l.txs.entries l.begun l.limits l.room) c.args.tx (c.len.result + 1) e.last change step.update (back.lsn_is ∙ ap (λ k. k + 1) (length-reverse l.records.items)) (fits.last) undo step.told (record_of_chain l.records.items e.last step.update step.rest kept.numbered step.is) in
-    compensate_state l.records.items c.push.new.self.items l.txs.entries (table_left c) l.begun l.limits l.room (c.len.result + 1) e.last c.args.tx change.key change.before change.prev (pushed c now.counted.waits) told stay
+    compensate_state (record_pushed c) l.records.items c.push.new.self.items l.txs.entries (table_left c) l.begun l.limits l.room (c.len.result + 1) e.last c.args.tx change.key _ change.prev (told_back c) (pushed c now.counted.waits) (ap (λ r. r ∷ []) c.back_record.ensures ∙ told) stay
     ∙ ap (λ (s : LogState). record s { records = s.records ++ compensations_in s c.args.tx; changes = undone t s.changes; room = None }) c.self.view_is
 
 pub returns-clause-kept : goal.returns-clause-kept

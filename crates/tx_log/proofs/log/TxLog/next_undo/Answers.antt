@@ -1,4 +1,4 @@
-use Rattle.std.proofs.Common.{◌≡◌, ℕ, ◌≤◌, List, length, map, reverse, option_map, sym, ap, subst, ◌∙◌}
+use Rattle.std.proofs.Common.{◌≡◌, ℕ, ◌≤◌, List, length, map, reverse, Some, option_map, sym, ap, subst, ◌∙◌}
 use Rattle.std.specs.List.{filter}
 use Rattle.std.proofs.lemmas.List.{length-reverse}
 use Rattle.tx_log.proofs.KeptLogLemmas.{sized}
@@ -55,7 +55,7 @@ returns-in_default-rollback c =
 pub returns-in-Some-newest_above : goal.returns-in-Some-newest_above
 returns-in-Some-newest_above c =
     let place = (goal.at.returns-in-Some-newest_above c).After-deref in
-    undo_case (above place) c.in-Some-newest_above.change (c.in-Some-newest_above.ensures ∙ read_is place) ∙ answer_is place
+    ap Some c.undo_step.ensures ∙ undo_case (above place) c.in-Some-newest_above.change (c.in-Some-newest_above.ensures ∙ read_is place) ∙ answer_is place
 
 pub returns-in-None : goal.returns-in-None
 returns-in-None c =

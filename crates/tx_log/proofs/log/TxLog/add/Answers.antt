@@ -1,34 +1,34 @@
-use Rattle.std.proofs.Common.{◌≡◌, ◌∷◌, [], ◌++◌, cond, not, Option, option_map, IfSome, refl, ℕ, ◌+◌, ◌<◌, ◌≤◌, Bool, true, List, Some, None, length, reverse, is_some, vec_len, sym, ap, subst, ◌∙◌, arith}
+use Rattle.std.proofs.Common.{◌≡◌, ◌∷◌, [], ◌++◌, cond, eqb, ◌||◌, Option, option_map, IfSome, refl, ℕ, ◌+◌, ◌<◌, ◌≤◌, Bool, true, List, Some, None, length, reverse, is_some, vec_len, sym, ap, subst, ◌∙◌, arith}
 use Rattle.std.proofs.lemmas.List.{length-reverse}
-use Rattle.std.specs.List.{find}
+use Rattle.std.specs.List.{list_any}
 use Rattle.std.specs.Vec.{vec_capacity}
 use Rattle.rec_types.specs.History.{log_len}
 use Rattle.rec_types.specs.declared.transaction.TxId.{TxId}
 use Rattle.rec_types.specs.LimitBounds.{most_log_records}
 use Rattle.tx_log.proofs.LogIndex.{reverse-push}
 use Rattle.tx_log.proofs.MarkLemmas.{marked_more}
-use Rattle.tx_log.proofs.HoldCalls.{IsFree, free_key, accepted_keys}
+use Rattle.tx_log.proofs.HoldCalls.{IsFree, free_key, accepted_keys, will_be, will_be_told}
 use Rattle.tx_log.specs.Holdings.{held, IsHeld}
 use Rattle.tx_log.specs.OpenTxs.{opens}
 use Rattle.tx_log.specs.declared.holding.Holding.{Holding}
-use Rattle.tx_log.proofs.KeptLogLemmas.{IsSized, active_open, active_calm, sized, counted_key, held_of_free, some_of, state_use, recounted, none_is}
+use Rattle.tx_log.proofs.KeptLogLemmas.{IsSized, active_open, active_calm, sized, counted_key, held_of_free, some_of, state_use, recounted}
 use Rattle.tx_log.proofs.PlaceOf.{read_at, write_at}
 use Rattle.indexmap.specs.IndexMap.{with_value_at}
 use Rattle.tx_log.proofs.OpenTxLemmas.{found_fits, txs_stay}
-use Rattle.tx_log.proofs.LogStepLemmas.{accepted, IsAccepted}
+use Rattle.tx_log.proofs.LogStepLemmas.{accepted, IsAccepted, IsChangeOf, change_told_of}
 use Rattle.tx_log.proofs.LogStateLemmas.{accept_state, kept_turned}
 use Rattle.tx_log.specs.Finds.{finding, PutsAt}
-use Rattle.tx_log.specs.Log.{kept_of, chain}
+use Rattle.tx_log.specs.Log.{leads_to, led, kept_of, chain}
 use Rattle.tx_log.specs.LogState.{LogState, history_in, open_in, use_in, update_in}
 use Rattle.tx_log.specs.Owners.{holder_of}
-use Rattle.tx_log.specs.Walks.{change_in, is_at, takes_out}
+use Rattle.tx_log.specs.Walks.{is_at, absent_at}
+use Rattle.tx_log.specs.Marks.{first_lsn, IsMarked}
 use Rattle.tx_log.specs.declared.log.TxLog.TheInside.{Inside}
 use Rattle.tx_log.specs.declared.log_record.LogRecord.{LogRecord}
-use Rattle.tx_log.specs.declared.log_record.LogRecord.TheVariants.{Update}
 use Rattle.tx_log.specs.declared.mark.Mark.{Mark}
 use Rattle.tx_log.specs.declared.open_tx.OpenTx.{OpenTx}
-use Rattle.tx_log.proofs.log.TxLog.accept.Goals as goal
-use Rattle.tx_log.proofs.log.TxLog.accept.Goals.{After-index, After-raise-was, After-index_mut-open_tx}
+use Rattle.tx_log.proofs.log.TxLog.add.Goals as goal
+use Rattle.tx_log.proofs.log.TxLog.add.Goals.{After-index, After-raise-out, After-index_mut-open_tx}
 use Rattle.tx_log.proofs.Counts.{log_len_is}
 
 records_len : (l : Inside) → vec_len l.records ≡ length l.records.items
@@ -53,14 +53,14 @@ module _ (c : After-index) where
       }
 
 -- whether the key's record was taken out before
-module _ (c : After-raise-was) (now : IsMet c.self.inside c.args.tx.0 c.args.key c.index.result.now) where
+module _ (c : After-raise-out) (now : IsMet c.self.inside c.args.tx.0 c.args.key c.index.result.now) where
   abbrev was_out : Bool
-  was_out = takes_out (option_map change_in (find (is_at c.args.key) (chain (reverse c.self.inside.records.items) c.index.result.now.last)))
+  was_out = absent_at c.args.key (chain (reverse c.self.inside.records.items) c.index.result.now.last)
 
-  was_is : c.raise-was.result ≡ was_out
-  was_is = (c.raise-was.ensures now.free.hold now.free.there).0 ∙ now.free.lacks
+  was_is : c.raise-out.result.0 ≡ was_out
+  was_is = (c.raise-out.ensures now.free.hold now.free.there).0 ∙ now.free.lacks
 
-  was_counted : c.raise-was.result ≡ true → 0 < c.index.result.now.absent
+  was_counted : c.raise-out.result.0 ≡ true → 0 < c.index.result.now.absent
   was_counted was =
       let l = c.self.inside in
       let e = c.index.result.now in
@@ -74,14 +74,14 @@ module _ (c : After-index_mut-open_tx) where
 pub place_of-at-requires : goal.place_of-at-requires
 place_of-at-requires c = active_open c.self.inside _ c.args.tx.0 c.self.view_is c.requires.active
 
-pub raise-was-requires-clause-there : goal.raise-was-requires-clause-there
-raise-was-requires-clause-there c =
-    ap is_some (met (goal.at.raise-was-requires-clause-there c).After-index).free.there
+pub raise-out-requires-clause-there : goal.raise-out-requires-clause-there
+raise-out-requires-clause-there c =
+    ap is_some (met (goal.at.raise-out-requires-clause-there c).After-index).free.there
 
-pub raise-was-requires-clause-most : goal.raise-was-requires-clause-most
-raise-was-requires-clause-most c = λ h there.
+pub raise-out-requires-clause-most : goal.raise-out-requires-clause-most
+raise-out-requires-clause-most c = λ h there.
     let l = c.self.inside in
-    let free = (met (goal.at.raise-was-requires-clause-most c).After-index).free in
+    let free = (met (goal.at.raise-out-requires-clause-most c).After-index).free in
     let many = records_len l in
     let few : free.hold.live < 4294967295 = omega (arith, free.few, c.self.invariant.bounded.fits, c.self.invariant.bounded.most_records) in
     subst (λ (x : Holding). x.live < 4294967295) (some_of free.hold h (sym free.there ∙ there)) few
@@ -89,7 +89,7 @@ raise-was-requires-clause-most c = λ h there.
 pub recount-self-inside-requires-clause-some : goal.recount-self-inside-requires-clause-some
 recount-self-inside-requires-clause-some c = λ was.
     let now = met (goal.at.recount-self-inside-requires-clause-some c).After-index in
-    let some = was_counted (goal.at.recount-self-inside-requires-clause-some c).After-raise-was now was in
+    let some = was_counted (goal.at.recount-self-inside-requires-clause-some c).After-raise-out now was in
     omega (arith, some, now.size.absent_part)
 
 pub recount-self-inside-requires-clause-most : goal.recount-self-inside-requires-clause-most
@@ -109,7 +109,7 @@ overflow_add-open_tx c =
 pub recount-open_tx-requires-clause-some : goal.recount-open_tx-requires-clause-some
 recount-open_tx-requires-clause-some c = λ was.
     let now = met (goal.at.recount-open_tx-requires-clause-some c).After-index in
-    subst (λ (x : OpenTx). 0 < x.absent) (sym (same_entry (goal.at.recount-open_tx-requires-clause-some c).After-index_mut-open_tx now.found)) (was_counted (goal.at.recount-open_tx-requires-clause-some c).After-raise-was now was)
+    subst (λ (x : OpenTx). 0 < x.absent) (sym (same_entry (goal.at.recount-open_tx-requires-clause-some c).After-index_mut-open_tx now.found)) (was_counted (goal.at.recount-open_tx-requires-clause-some c).After-raise-out now was)
 
 pub recount-open_tx-requires-clause-most : goal.recount-open_tx-requires-clause-most
 recount-open_tx-requires-clause-most c =
@@ -120,7 +120,10 @@ recount-open_tx-requires-clause-most c =
 -- the record that was pushed, its mark, and the transaction's new entry, with the table
 module _ (c : goal.After-self-4-1) where
   abbrev record_pushed : LogRecord
-  record_pushed = Update (c.len.result + 1) c.index.result.now.last c.args.tx c.args.key c.args.before c.args.after
+  record_pushed = c.change_record.result
+
+  told : IsChangeOf record_pushed (c.len.result + 1) c.index.result.now.last c.args.tx c.args.key c.args.before c.args.after
+  told = subst (λ (r : LogRecord). IsChangeOf r (c.len.result + 1) c.index.result.now.last c.args.tx c.args.key c.args.before c.args.after) (sym c.change_record.ensures) (change_told_of (c.len.result + 1) c.index.result.now.last c.args.tx c.args.key c.args.before c.args.after)
 
   abbrev entry_made : OpenTx
   entry_made = let n = c.index_mut-open_tx.result.now in record { rollback = n.rollback; last = c.len.result + 1; live = n.live + 1; left = n.left; absent = c.recount-open_tx.result; saves = n.saves }
@@ -146,24 +149,32 @@ module _ (c : goal.After-self-4-1) where
       let ok = c.push.ensures.succeeds (omega (arith, spare)) in
       c.push.ensures.items ∙ ap (λ (b : Bool). cond b (l.records.items ++ record_pushed ∷ []) l.records.items) ok
 
-  mark_pushed : c.push-2.new.self.items ≡ c.self.inside.marks.items ++ record { newest = c.len.result + 1; absent = c.raise-was.result } ∷ []
+  mark_pushed : c.push-2.new.self.items ≡ c.self.inside.marks.items ++ record { newest = c.len.result + 1; absent = c.raise-out.result.0 } ∷ []
   mark_pushed =
       let l = c.self.inside in
-      let m : Mark = record { newest = c.len.result + 1; absent = c.raise-was.result } in
+      let m : Mark = record { newest = c.len.result + 1; absent = c.raise-out.result.0 } in
       let ok = c.push-2.ensures.succeeds (omega (arith, spare_marks)) in
       c.push-2.ensures.items ∙ ap (λ (b : Bool). cond b (l.marks.items ++ m ∷ []) l.marks.items) ok
 
-  will_is : c.is_none-will.result ≡ not (is_some c.args.after)
-  will_is = none_is (is_some c.args.after) c.is_none-will.result c.is_none-will.ensures
+  abbrev below : List LogRecord
+  below = chain (reverse c.self.inside.records.items) c.index.result.now.last
+
+  will_is : IsMet c.self.inside c.args.tx.0 c.args.key c.index.result.now → c.raise-out.result.1 ≡ absent_at c.args.key (record_pushed ∷ below)
+  will_is now =
+      let h = now.free.hold in
+      (c.raise-out.ensures h now.free.there).1
+      ∙ (λ i. cond (c.is_some-writes.ensures i || eqb h.live 0) (c.is_lacking-lacks.ensures i) (now.free.lacks i))
+      ∙ will_be c.args.after c.args.before h.live (list_any (is_at c.args.key) below) (absent_at c.args.key below) now.free.some
+      ∙ will_be_told record_pushed (c.len.result + 1) c.index.result.now.last c.args.tx c.args.key c.args.before c.args.after below told
 
   step_of : (now : IsMet c.self.inside c.args.tx.0 c.args.key c.index.result.now) → c.index_mut-open_tx.result.now ≡ c.index.result.now
-      → IsAccepted (c.len.result + 1) c.index.result.now.last c.args.tx c.args.key c.args.after (reverse c.self.inside.records.items) (finding c.self.inside.txs.entries) c.self.inside.pending c.self.inside.gone (c.self.inside.pending + 1) c.recount-self-inside.result c.index.result.now entry_made
+      → IsAccepted record_pushed (c.len.result + 1) c.index.result.now.last c.args.tx c.args.key (reverse c.self.inside.records.items) (finding c.self.inside.txs.entries) c.self.inside.pending c.self.inside.gone (c.self.inside.pending + 1) c.recount-self-inside.result c.index.result.now entry_made
   step_of now same =
       let l = c.self.inside in
       let rs = reverse l.records.items in
       let e = c.index.result.now in
       let n = c.index_mut-open_tx.result.now in
-      let was = (c.raise-was.ensures now.free.hold now.free.there).0 ∙ now.free.lacks in
+      let was = (c.raise-out.ensures now.free.hold now.free.there).0 ∙ now.free.lacks in
       record {
         lsn_is = ap (λ k. k + 1) (c.len.ensures ∙ records_len l ∙ sym (length-reverse l.records.items));
         prev_is = refl;
@@ -174,10 +185,21 @@ module _ (c : goal.After-self-4-1) where
         live_new = ap (λ (x : OpenTx). x.live + 1) same;
         calm = active_calm l _ c.args.tx.0 e c.self.view_is c.requires.active now.found;
         left_same = ap (λ (x : OpenTx). x.left) same;
-        absent_new = recounted c.recount-open_tx.result n.absent e.absent c.raise-was.result _ c.is_none-will.result _ was will_is (ap (λ (x : OpenTx). x.absent) same) c.recount-open_tx.ensures;
+        absent_new = recounted c.recount-open_tx.result n.absent e.absent c.raise-out.result.0 _ c.raise-out.result.1 _ was (will_is now) (ap (λ (x : OpenTx). x.absent) same) c.recount-open_tx.ensures;
         pending_one = refl;
-        gone_one = recounted c.recount-self-inside.result l.gone l.gone c.raise-was.result _ c.is_none-will.result _ was will_is refl c.recount-self-inside.ensures;
+        gone_one = recounted c.recount-self-inside.result l.gone l.gone c.raise-out.result.0 _ c.raise-out.result.1 _ was (will_is now) refl c.recount-self-inside.ensures;
       }
+
+-- its mark
+new_marked : (c : goal.After-self-4-1) → IsMet c.self.inside c.args.tx.0 c.args.key c.index.result.now → c.raise-out.result.0 ≡ absent_at c.args.key (below c) → IsMarked (record_pushed c) (reverse c.self.inside.records.items) (record { newest = c.len.result + 1; absent = c.raise-out.result.0 })
+new_marked c now was =
+    let rs = reverse c.self.inside.records.items in
+    let is = told c in
+    let leads : chain rs (leads_to (record_pushed c)) ≡ below c = ap (chain rs) is.leads in
+    record {
+      newest = sym is.lsn_is ∙ ap (λ k. first_lsn (led k (record_pushed c) (chain rs (leads_to (record_pushed c))))) (sym is.up);
+      absent = was ∙ (λ i. absent_at (sym is.key_is i) (sym leads i));
+    }
 
 pub invariant_of-self : goal.invariant_of-self
 invariant_of-self c =
@@ -190,7 +212,7 @@ invariant_of-self c =
     let used : use_in c.args.self.now ≡ length rs + l.pending = ap use_in (sym c.self.view_is) ∙ state_use rs l.txs.entries l.begun l.pending l.gone c.self.invariant.log_kept in
     let limit : l.limits.log_records ≡ c.args.self.now.limits.log_records = ap (λ (s : LogState). s.limits.log_records) c.self.view_is in
     let turned : reverse c.push.new.self.items ≡ record_pushed c ∷ rs = ap reverse (pushed c) ∙ reverse-push l.records.items _ in
-    let kept = accepted (c.len.result + 1) e.last c.args.tx c.args.key c.args.before c.args.after rs (finding l.txs.entries) (finding (table_made c)) l.begun l.pending l.gone (l.pending + 1) c.recount-self-inside.result e (entry_made c) c.self.invariant.log_kept now.found (puts_entry c) (step_of c now (same_entry places.After-index_mut-open_tx now.found)) in
+    let kept = accepted (record_pushed c) (c.len.result + 1) e.last c.args.tx c.args.key c.args.before c.args.after rs (finding l.txs.entries) (finding (table_made c)) l.begun l.pending l.gone (l.pending + 1) c.recount-self-inside.result e (entry_made c) (told c) c.self.invariant.log_kept now.found (puts_entry c) (step_of c now (same_entry places.After-index_mut-open_tx now.found)) in
     let bounded = c.self.invariant.bounded in
     let spare_records = spare c in
     let longer : vec_len c.push.new.self ≤ vec_len l.records + 1 = c.push.ensures.upper_bound in
@@ -200,11 +222,11 @@ invariant_of-self c =
     let more_marks : vec_len c.push-2.new.self ≤ vec_len l.marks + 1 = c.push-2.ensures.upper_bound in
     let marks_wider : vec_capacity l.marks ≤ vec_capacity c.push-2.new.self = c.push-2.ensures.capacity in
     let free = now.free in
-    let keys = accepted_keys l c.self.invariant c.args.tx c.args.key e (entry_made c) free (finding (table_made c)) (held c.raise-was.new.holdings) (c.len.result + 1) e.last c.args.before c.args.after c.is_none-will.result now.found (puts_entry c) (will_is c) (c.raise-was.ensures free.hold free.there).1 in
+    let keys = accepted_keys (record_pushed c) l c.self.invariant c.args.tx c.args.key e (entry_made c) free (finding (table_made c)) (held c.raise-out.new.holdings) (c.len.result + 1) e.last c.args.before c.args.after c.raise-out.result.1 (told c) now.found (puts_entry c) (will_is c now) (c.raise-out.ensures free.hold free.there).2 in
     record {
       log_kept = kept_turned _ _ _ _ _ _ turned kept;
-      marked = marked_more l.records.items c.push.new.self.items l.marks.items c.push-2.new.self.items _ _ turned (mark_pushed c) (record { newest = refl; absent = was_is places.After-raise-was now }) c.self.invariant.marked;
-      holding = subst (λ (xs : List LogRecord). IsHeld xs (opens (finding (table_made c))) (held c.raise-was.new.holdings)) (sym turned) keys.holding;
+      marked = marked_more l.records.items c.push.new.self.items l.marks.items c.push-2.new.self.items _ _ turned (mark_pushed c) (new_marked c now (was_is places.After-raise-out now)) c.self.invariant.marked;
+      holding = subst (λ (xs : List LogRecord). IsHeld xs (opens (finding (table_made c))) (held c.raise-out.new.holdings)) (sym turned) keys.holding;
       busy_keys = keys.busy_keys;
       reserved = tt;
       bounded = record {
@@ -233,6 +255,6 @@ returns-clause-after c =
     let now = met places.After-index in
     let fits = found_fits rs l.begun t (finding l.txs.entries) e kept.fit now.found in
     let step = step_of c now (same_entry places.After-index_mut-open_tx now.found) in
-    let stay = txs_stay (record_pushed c) rs l.begun t l.txs.entries (table_made c) (entry_made c) e step.lsn_is kept.fit (puts_entry c) now.found step.rollback_same step.saves_same in
-    accept_state l.records.items c.push.new.self.items l.txs.entries (table_made c) l.begun l.limits l.room (c.len.result + 1) e.last c.args.tx c.args.key c.args.before c.args.after kept.written (pushed c) (step.lsn_is ∙ ap (λ k. k + 1) (length-reverse l.records.items)) (fits.last) stay
+    let stay = txs_stay (record_pushed c) rs l.begun t l.txs.entries (table_made c) (entry_made c) e ((told c).lsn_is ∙ step.lsn_is) kept.fit (puts_entry c) now.found step.rollback_same step.saves_same in
+    accept_state (record_pushed c) l.records.items c.push.new.self.items l.txs.entries (table_made c) l.begun l.limits l.room (c.len.result + 1) e.last c.args.tx c.args.key c.args.before c.args.after c.change_record.ensures (told c) kept.written (pushed c) (step.lsn_is ∙ ap (λ k. k + 1) (length-reverse l.records.items)) (fits.last) stay
     ∙ ap (λ (s : LogState). record s { records = s.records ++ update_in s c.args.tx c.args.key c.args.before c.args.after ∷ []; changes = s.changes ++ record { lsn = log_len (history_in s) + 1; tx = t; key = c.args.key; before = c.args.before; after = c.args.after; live = true } ∷ []; room = None }) c.self.view_is
