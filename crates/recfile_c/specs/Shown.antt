@@ -34,6 +34,18 @@ log_shown e =
     else (if e.kind == 3 then Some (Claim e.lsn e.prev (tx_shown e.tx) (key_shown e.key) (shown e.before))
     else Some (Unclaim e.lsn e.prev (tx_shown e.tx) (key_shown e.key) e.undo_next))))
 
+-- the number of a kind of record, and 0 where there is none
+abbrev pub kind_of : Option LogRecord → ℕ
+kind_of None = 0
+kind_of (Some (Update lsn prev tx key before after)) = 1
+kind_of (Some (Compensation lsn prev tx key restored undo_next)) = 2
+kind_of (Some (Claim lsn prev tx key seen)) = 3
+kind_of (Some (Unclaim lsn prev tx key undo_next)) = 4
+
+-- the entry shows a record of the log, or that there is none, and its kind is that record's
+abbrev pub ShowsLog : LogEntry → Option LogRecord → Type 0
+ShowsLog e logged = (log_shown e ≡ logged) × (e.kind ≡ kind_of logged)
+
 -- what an open transaction is doing
 abbrev pub status_shown : TxStatus → Status
 status_shown s = if s.is_rolling == 0 then Active s.saves s.live else Rolling s.left (not (s.ends == 0))

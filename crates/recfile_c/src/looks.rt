@@ -1,6 +1,6 @@
 // Looks at a file, from C.
 ghost use Rattle.std.specs.Prelude.{◌≡◌, pos, None};
-ghost use Rattle.recfile_c.specs.Shown.{log_shown, tx_shown, no_status};
+ghost use Rattle.recfile_c.specs.Shown.{log_shown, kind_of, tx_shown, no_status};
 ghost use Rattle.recfile_c.specs.Outcomes.{closed};
 ghost use Rattle.recfile_c.specs.Calls.{OnHandle, OnSession, InFile, StatusOf, Charged, Begun, LogLen, LogUse, RecordAt};
 
@@ -170,8 +170,9 @@ pub extern "C" fn recfile_log_use(alloc: Global, file: &mut RecFile, n: &mut u32
 
 // A record of the log.
 fn log_record(held: &mut Held, lsn: u32, entry: &mut LogEntry) -> i32
-    ensures { OnSession ((result ≡ pos closed) × (log_shown entry.new ≡ None)) held.old held.new
+    ensures step { OnSession ((result ≡ pos closed) × (log_shown entry.new ≡ None)) held.old held.new
         (InFile (RecordAt lsn result (log_shown entry.new))) }
+    ensures kind { entry.new.kind ≡ kind_of (log_shown entry.new) }
 {
     *entry = LogEntry::default();
     match held {
@@ -191,9 +192,10 @@ pub extern "C" fn recfile_log_record(
     lsn: u32,
     entry: &mut LogEntry,
 ) -> i32
-    ensures { OnHandle ((result ≡ pos closed) × (log_shown entry.new ≡ None))
+    ensures step { OnHandle ((result ≡ pos closed) × (log_shown entry.new ≡ None))
         file.old.slot.value file.new.slot.value
         (InFile (RecordAt lsn result (log_shown entry.new))) }
+    ensures kind { entry.new.kind ≡ kind_of (log_shown entry.new) }
 {
     let Some(mut held) = file.take(alloc) else {
         *entry = LogEntry::default();

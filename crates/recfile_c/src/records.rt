@@ -64,7 +64,7 @@ pub extern "C" fn recfile_put(
     detail.status
 }
 
-// Takes a record out.
+// Claims a key, and tells of the record there.
 fn claim(held: &mut Held, tx: TxId, key: &[u8], seen: &mut Found) -> Outcome
     ensures { OnSession ((result ≡ just closed) × (shown seen.new ≡ None)) held.old held.new
         (InFile (ClaimBytes tx (key_of key.now) result (shown seen.new))) }
@@ -84,8 +84,8 @@ fn claim(held: &mut Held, tx: TxId, key: &[u8], seen: &mut Found) -> Outcome
     }
 }
 
-/// Takes the record at a key out. Statuses: OK, CLOSED, EMPTY_KEY, LONG_KEY, NO_SUCH_TX, ROLLING, HELD, LOG_FULL,
-/// DEVICE or DAMAGED, ABSENT, MEMORY.
+/// Claims a key without changing its record, and tells of that. Statuses: OK, CLOSED, EMPTY_KEY, LONG_KEY, NO_SUCH_TX,
+/// ROLLING, HELD, LOG_FULL, DEVICE or DAMAGED, FULL, MEMORY.
 #[unsafe(no_mangle)]
 pub extern "C" fn recfile_claim(
     alloc: Global,

@@ -25,7 +25,7 @@ pub struct Found {
 }
 
 /// A record of the log. `kind` is 0 where there is none, 1 for an update, 2 for a compensation, whose `after` is
-/// what it restored.
+/// what it restored, 3 for a claim, whose `before` is what it has seen, and 4 for the taking back of a claim.
 #[repr(C)]
 #[derive(Clone, Copy)]
 pub struct LogEntry {
@@ -186,10 +186,10 @@ impl<E> From<&Result<Record, E>> for Found {
 }
 
 impl Default for LogEntry {
-    ghost use Rattle.std.specs.Prelude.{◌≡◌, None};
-    ghost use Rattle.recfile_c.specs.Shown.{log_shown};
+    ghost use Rattle.std.specs.Prelude.{None};
+    ghost use Rattle.recfile_c.specs.Shown.{ShowsLog};
 
-    ghost is_default = { λ entry. log_shown entry ≡ None };
+    ghost is_default = { λ entry. ShowsLog entry None };
 
     /// No record of the log.
     fn default() -> LogEntry {
@@ -207,10 +207,10 @@ impl Default for LogEntry {
 }
 
 impl From<&LogRecord> for LogEntry {
-    ghost use Rattle.std.specs.Prelude.{◌≡◌, Some};
-    ghost use Rattle.recfile_c.specs.Shown.{log_shown};
+    ghost use Rattle.std.specs.Prelude.{Some};
+    ghost use Rattle.recfile_c.specs.Shown.{ShowsLog};
 
-    ghost from_gives = { λ logged told. log_shown told ≡ Some logged.now };
+    ghost from_gives = { λ logged told. ShowsLog told (Some logged.now) };
 
     /// A record of the log.
     fn from(logged: &LogRecord) -> LogEntry {
@@ -286,10 +286,9 @@ impl From<&LogRecord> for LogEntry {
 }
 
 impl From<&Option<LogRecord>> for LogEntry {
-    ghost use Rattle.std.specs.Prelude.{◌≡◌};
-    ghost use Rattle.recfile_c.specs.Shown.{log_shown};
+    ghost use Rattle.recfile_c.specs.Shown.{ShowsLog};
 
-    ghost from_gives = { λ found told. log_shown told ≡ found.now };
+    ghost from_gives = { λ found told. ShowsLog told found.now };
 
     /// A record of the log, where there is one.
     fn from(found: &Option<LogRecord>) -> LogEntry {

@@ -41,13 +41,6 @@ pub unmapped : {A B : Type 0} (f : A → B) (o : Option A) → option_map f o �
 unmapped f None is = refl
 unmapped f (Some x) is = absurd (cc)
 
--- a claim that its table refused
-pub claim_err : (f new : File) (t : ℕ) (x : List ℕ) (a b : ℕ) (fault : TableFault) → claim_refusal f t x ≡ None → is_full f x ≡ false → new ≡ f → a < greatest_count → b ≡ counted a (is_device {A = Option (List ℕ)} (Err fault)) → (fault ≡ table_faults.NoRoom → ⊥) → ((page : ℕ) → fault ≡ table_faults.Damaged page → ⊥) → ClaimStep f t x (rose a b) (Err (table_claim_fault fault)) new
-claim_err f new t x a b table_faults.Device none not_full same lt counts room damaged = (none, rose_counted a b lt counts, same)
-claim_err f new t x a b (table_faults.Damaged page) none not_full same lt counts room damaged = absurd (damaged page refl)
-claim_err f new t x a b table_faults.NoRoom none not_full same lt counts room damaged = absurd (room refl)
-claim_err f new t x a b table_faults.Memory none not_full same lt counts room damaged = (none, rose_same a b counts, not_full, same)
-
 -- a removal that its table refused, the look before it included
 pub remove_err : (f new : File) (t : ℕ) (x : List ℕ) (a b : ℕ) (fault : TableFault) → remove_refusal f t x ≡ None → IsSome (maps.get (records_of f) x) → new ≡ f → a < greatest_count → b ≡ counted a (is_device {A = Option (List ℕ)} (Err fault)) → (fault ≡ table_faults.NoRoom → ⊥) → ((page : ℕ) → fault ≡ table_faults.Damaged page → ⊥) → RemoveStep f t x (rose a b) (Err (remove_fault fault)) new
 remove_err f new t x a b table_faults.Device none some same lt counts room damaged = (none, rose_counted a b lt counts, same)

@@ -53,6 +53,23 @@ unowned_full f x n o found counted reached is none stood b answered =
     and_true true = refl
     and_true false = refl
 
+-- the same of a key that may be owned
+pub full_where_absent : (f : File) (x : List ℕ) (n : ℕ) (o : Option TxId) → n ≡ len (charged_of f) → f.limits.records ≤ n → option_map (λ (t : TxId). t.0) o ≡ owner_of (open_of f) f.history x → (b : Bool) → is_some o ≡ not b → is_full f x ≡ b && is_none (get (records_of f) x)
+full_where_absent f x n None counted reached is true unowned = sym (unowned_full f x n None (get (records_of f) x) counted reached is refl refl (is_none (get (records_of f) x)) (some_is (get (records_of f) x)))
+  where
+    some_is : (w : Option (List ℕ)) → is_some w ≡ not (is_none w)
+    some_is None = refl
+    some_is (Some r) = refl
+full_where_absent f x n None counted reached is false unowned = absurd (cc)
+full_where_absent f x n (Some t) counted reached is true unowned = absurd (cc)
+full_where_absent f x n (Some t) counted reached is false unowned = sym (owned_not_full f x (Some t) is refl)
+
+-- a key where a record stands isn't full
+pub stands_not_full : (b full : Bool) (found : Option (List ℕ)) → full ≡ b && is_none found → is_some found ≡ true → full ≡ false
+stands_not_full b full None is stands = absurd (cc)
+stands_not_full true full (Some r) is stands = is
+stands_not_full false full (Some r) is stands = is
+
 -- what isn't full has room
 pub room_of : (f : File) (x : List ℕ) → false ≡ is_full f x → has (charged_of f) x ≡ false → len (charged_of f) < f.limits.records
 room_of f x not_full absent = at (nat_le f.limits.records (len (charged_of f))) refl (not_full ∙ ap (λ b. b && nat_le f.limits.records (len (charged_of f))) (none_of (get (charged_of f) x) ∙ ap not absent))

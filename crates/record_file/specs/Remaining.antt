@@ -4,7 +4,7 @@ use Rattle.rec_types.specs.History.{Change}
 use Rattle.record_file.specs.Runs.{Called, Event, Begin, Commit}
 use Rattle.record_file.specs.Undo.{old_record}
 
--- an accepted put or removal
+-- an accepted put, removal or claim
 abbrev pub is_change : Called → Bool
 is_change called = is_some (old_record called)
 
@@ -31,7 +31,7 @@ front_if true e es = e ∷ es
 front_if false e es = es
 
 -- The remaining calls of a run, where g is what became of its changes in the end: accepted begins,
--- accepted commits, and the accepted puts and removals whose change is live.
+-- accepted commits, and the accepted puts, removals and claims whose change is live.
 abbrev pub remaining : List Event → List Change → List Event
 remaining [] g = []
 remaining (e ∷ es) g =

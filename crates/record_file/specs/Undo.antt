@@ -13,7 +13,7 @@ pub record Starts (s : Seen) : Type 0 where
   pub log : s.log ≡ []
   pub within : maps.len s.records ≤ s.file.limits.records
 
--- the old record that an accepted put or removal answered
+-- the old record that an accepted put, removal or claim answered
 abbrev pub old_record : Called → Option (Option (List ℕ))
 old_record (Put t x r (Ok before)) = Some before
 old_record (Claim t x (Ok seen)) = Some seen
@@ -33,6 +33,10 @@ old_records (e ∷ es) = with_first (old_record e.called) (old_records es)
 -- a live change of transaction t that wrote record [r] at key [x]
 abbrev pub wrote : ℕ → ℕ → ℕ → Change
 wrote t x r = record { tx = t; key = x ∷ []; after = Some (Some (r ∷ [])); live = true }
+
+-- a live claim of transaction t at key [x]
+abbrev pub claimed : ℕ → ℕ → Change
+claimed t x = record { tx = t; key = x ∷ []; after = None; live = true }
 
 -- a call to which nothing came from outside
 abbrev pub quiet : Called → Event

@@ -6,8 +6,8 @@ ghost use Rattle.record_file.specs.declared.call.Answer.{Answer};
 
 use crate::RecordFile;
 use crate::fault::{
-    AbortFault, CommitFault, EntriesFault, GetFault, KeysOfFault, ClaimFault, PutFault, ReleaseFault,
-    RemoveFault, ResumeFault, RollbackToFault, SavepointFault, Status, StatusFault,
+    AbortFault, ClaimFault, CommitFault, EntriesFault, GetFault, KeysOfFault, PutFault,
+    ReleaseFault, RemoveFault, ResumeFault, RollbackToFault, SavepointFault, Status, StatusFault,
 };
 use rec_types::{Entry, Key, Memory, Record, Table, TxId};
 use std::alloc::Global;

@@ -11,16 +11,17 @@ ghost use Rattle.tx_log.specs.Transactions.{fresh, place_in};
 ghost use Rattle.record_file.specs.Abstract.{File, new_file, open_of, records_of, tx_of};
 ghost use Rattle.record_file.specs.Exact.{IsExact, IsExactSeen, CompensatesOnce, one};
 ghost use Rattle.record_file.specs.Remaining.{NothingFails, remaining};
-ghost use Rattle.record_file.specs.Undo.{Starts, old_records, quiet, wrote};
-ghost use Rattle.record_file.specs.Runs.{Seen, Event, Step, Run, Begin, Put, Remove, Savepoint, RollbackTo, Abort, Resume, Commit, Entries};
-ghost use Rattle.tx_log.specs.declared.log_record.LogRecord.TheVariants.{Update, Compensation};
+ghost use Rattle.record_file.specs.Undo.{Starts, old_records, quiet, wrote, claimed};
+ghost use Rattle.record_file.specs.Runs.{Seen, Event, Step, Run, Begin, Put, Claim, Remove, Savepoint, RollbackTo, Abort, Resume, Commit, Entries};
+ghost use Rattle.tx_log.specs.declared.log_record.LogRecord.TheVariants.{Update, Compensation, Unclaim};
+ghost use Rattle.tx_log.specs.declared.log_record.LogRecord.TheVariants as records;
 ghost use Rattle.record_file.specs.Steps.{rose, places_at, rolling_place};
 ghost use Rattle.record_file.specs.declared.fault.PutFault.TheVariants as put_faults;
 ghost use Rattle.record_file.specs.declared.fault.EntriesFault.TheVariants as entries_faults;
 
 /// There are runs, and a run can't be forged: a transaction may be begun on a new file; a put isn't
-/// refused as Full on an empty one, whatever else comes to the table; and a listing that a device ended
-/// leaves its mark on the table's count.
+/// refused as Full on an empty one, whatever else comes to the table; a listing that a device ended
+/// leaves its mark on the table's count; and a key that one has claimed is put by no other.
 pub fn runs()
     ensures begins { (old : Seen) (limits : Bounds) → 1 ≤ limits.begins
         → old.file ≡ new_file maps.empty limits
@@ -45,13 +46,23 @@ pub fn runs()
           failed = failed;
           refused = refused;
         } ∷ []) new → rose old.failures new.failures ≡ false → ⊥ }
+    ensures claim { (old new : Seen) (limits : Bounds) (t u : TxId)
+        → IsTrue old.sound → old.failures < greatest_count
+        → old.file ≡ new_file maps.empty limits
+        → Run old (
+        quiet (Begin (Ok t))
+        ∷ quiet (Begin (Ok u))
+        ∷ quiet (Claim t (97 ∷ []) (Ok None))
+        ∷ quiet (Put u (97 ∷ []) (120 ∷ []) (Ok None))
+        ∷ []
+        ) new → ⊥ }
 {}
 
 /// Undo commutes. After every run from a start the old record that a live change's call answered is
 /// what the live changes before it leave at its key; and for the newest live change of a transaction
 /// that hasn't ended the replay without it is the replay with that old record put back. Of a
 /// transaction that has ended it isn't, since another may have written there; but no run takes back a
-/// change of one.
+/// change of one. A claim, whoever's, is nothing to the replay.
 pub fn undo_commutes()
     ensures answered { (old new : Seen) (events : List Event)
         → Starts old → Run old events new → new.failures < greatest_count
@@ -83,10 +94,11 @@ pub fn undo_commutes()
         quiet (Begin (Ok t))
         ∷ quiet (Put t (97 ∷ []) (120 ∷ []) (Ok None))
         ∷ quiet (Put t (98 ∷ []) (120 ∷ []) (Err put_faults.Full))
+        ∷ quiet (Claim t (97 ∷ []) (Ok (Some (120 ∷ []))))
         ∷ quiet (Remove t (97 ∷ []) (Ok (120 ∷ [])))
         ∷ quiet (Commit t (Ok tt))
         ∷ []
-        ) ≡ None ∷ Some (120 ∷ []) ∷ [] }
+        ) ≡ None ∷ Some (120 ∷ []) ∷ Some (120 ∷ []) ∷ [] }
     ensures of_two { (opening : Contents) → replay opening (wrote 1 97 120 ∷ [])
         ≡ set_to (replay opening (wrote 1 97 120 ∷ wrote 1 97 121 ∷ []))
         (97 ∷ []) (Some (120 ∷ [])) }
@@ -96,7 +108,7 @@ pub fn undo_commutes()
 {}
 
 /// What remains of a run is a run by itself. After every run from a start the accepted begins, the
-/// accepted commits, and the puts and removals whose change is live at the end, each with its answer,
+/// accepted commits, and the puts, removals and claims whose change is live at the end, each with its answer,
 /// are a run from the same start, in which nothing fails from outside. It ends with the same records,
 /// and each transaction that is open at the end owns the same keys. With another answer a remaining
 /// put is no step.
@@ -112,14 +124,18 @@ pub fn remaining_alone()
     ensures example { (t : TxId) → remaining (
         quiet (Begin (Ok t))
         ∷ quiet (Put t (97 ∷ []) (120 ∷ []) (Ok None))
+        ∷ quiet (Claim t (98 ∷ []) (Ok None))
         ∷ quiet (Savepoint t (Ok 1))
         ∷ quiet (Put t (97 ∷ []) (121 ∷ []) (Ok (Some (120 ∷ []))))
-        ∷ quiet (RollbackTo t 1 (Ok 1))
+        ∷ quiet (Claim t (97 ∷ []) (Ok (Some (121 ∷ []))))
+        ∷ quiet (RollbackTo t 1 (Ok 2))
         ∷ quiet (Commit t (Ok tt))
         ∷ []
-        ) (wrote 1 97 120 ∷ taken_back (wrote 1 97 121) ∷ [])
+        ) (wrote 1 97 120 ∷ claimed 1 98 ∷ taken_back (wrote 1 97 121)
+        ∷ taken_back (claimed 1 97) ∷ [])
         ≡ quiet (Begin (Ok t))
         ∷ quiet (Put t (97 ∷ []) (120 ∷ []) (Ok None))
+        ∷ quiet (Claim t (98 ∷ []) (Ok None))
         ∷ quiet (Commit t (Ok tt))
         ∷ [] }
     ensures differs { (old new : Seen) (t : TxId) (key value other : List ℕ)
@@ -159,6 +175,12 @@ pub fn compensated_once()
         Update 1 0 one (97 ∷ []) None (Some (120 ∷ []))
         ∷ Compensation 2 1 one (97 ∷ []) None 0
         ∷ Compensation 3 2 one (97 ∷ []) None 0
+        ∷ []
+        ) → ⊥ }
+    ensures claim_twice { (sound : Bool) (m : Contents) (f : File) → IsExact sound m f (
+        records.Claim 1 0 one (97 ∷ []) None
+        ∷ Unclaim 2 1 one (97 ∷ []) 0
+        ∷ Unclaim 3 2 one (97 ∷ []) 0
         ∷ []
         ) → ⊥ }
 {}

@@ -8,8 +8,8 @@ pub mod laws;
 
 pub use call::{Answer, Call, make_call, run_calls};
 pub use fault::{
-    AbortFault, Cause, ClaimFault, CommitFault, EntriesFault, GetFault, KeysOfFault, PutFault, ReleaseFault,
-    RemoveFault, ResumeFault, RollbackToFault, SavepointFault, Status, StatusFault,
+    AbortFault, Cause, ClaimFault, CommitFault, EntriesFault, GetFault, KeysOfFault, PutFault,
+    ReleaseFault, RemoveFault, ResumeFault, RollbackToFault, SavepointFault, Status, StatusFault,
 };
 pub use file::{RecordFile, StillOpen};
 pub use tx_log::BeginFault;

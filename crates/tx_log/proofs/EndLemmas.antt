@@ -18,7 +18,7 @@ use Rattle.tx_log.proofs.KeptLogLemmas.{tx_of_entry}
 use Rattle.tx_log.proofs.LogStateLemmas.{state}
 use Rattle.tx_log.specs.Finds.{Txs, finding, PutsAt}
 use Rattle.tx_log.specs.Fits.{AllKnown, FitsTx}
-use Rattle.tx_log.specs.Log.{tx_of_record, lsn_of, is_update, kept_of, last_of, stepped, stack, noted}
+use Rattle.tx_log.specs.Log.{tx_of_record, lsn_of, is_change, kept_of, last_of, stepped, stack, noted}
 use Rattle.tx_log.specs.LogFields.{IsKept, state_of}
 use Rattle.tx_log.specs.LogState.{IsRolling, phase_of, places_of, active_with, finished, finished_by, rollback_phase, with_txs}
 use Rattle.tx_log.specs.Owners.{Standing, nothing, standing, stands_by}
@@ -94,7 +94,7 @@ known_last [] n t up known = (refl, refl)
 known_last (r ∷ rs) n t up known =
     let rest = known_last rs n t up known.1 in
     let other : eqb (tx_of_record r) t ≡ false = unequal (tx_of_record r) t (let low = known.0 in omega arith) in
-    (ap (λ (b : Bool). cond b (lsn_of r) (last_of t rs)) other ∙ rest.0, ap (λ (b : Bool). cond b (stepped (is_update r) r (stack t rs)) (stack t rs)) other ∙ rest.1)
+    (ap (λ (b : Bool). cond b (lsn_of r) (last_of t rs)) other ∙ rest.0, ap (λ (b : Bool). cond b (stepped (is_change r) r (stack t rs)) (stack t rs)) other ∙ rest.1)
 
 pending_on : (o p : ℕ → Bool) (n : ℕ) (cs : List Kept) → AllBegun n cs → ((u : ℕ) → u ≤ n → o u ≡ p u) → pending_of o cs ≡ pending_of p cs
 pending_on o p n [] begun h = refl

@@ -12,7 +12,7 @@ use Rattle.tx_log.proofs.OpenTxReadLemmas.{entry_chain}
 use Rattle.tx_log.proofs.WalkSteps.{IsStep}
 use Rattle.tx_log.specs.Finds.{Txs, finding, PutsAt}
 use Rattle.tx_log.specs.Holdings.{HoldsKey, held, Places, lowered, live_of, live_at, IsHeld, AllBusy}
-use Rattle.tx_log.specs.Log.{tx_of_record, key_of, old_of, new_of, is_update, kept_of, stack, chain}
+use Rattle.tx_log.specs.Log.{tx_of_record, key_of, old_of, new_of, is_change, kept_of, stack, chain}
 use Rattle.tx_log.specs.LogFields.{state_of, IsTxLog}
 use Rattle.tx_log.specs.LogState.{LogState, open_in, history_in}
 use Rattle.tx_log.specs.OpenTxs.{opens}
@@ -125,7 +125,7 @@ key_of_change l is t e change found step =
     record { whole = whole; key = key; hold = hold; there = there; lacks = own_absent rs (opens (finding l.txs.entries)) (held l.holdings) change.key hold.hold t is.holding there (λ _. hold.owner) (ap is_some found) ∙ ap (absent_at change.key) whole }
 
 -- what is kept of keys after a change is taken back
-pub compensated_keys : (r : LogRecord) (l : Inside) → IsTxLog l → (tx : TxId) (e new : OpenTx) (change : LiveChange) (u : LogRecord) (us : List LogRecord) (at : IsKeyOf l tx.0 change u us) (txs_new : Txs) (holds_new : HoldsKey) (absent : Bool) → is_update r ≡ false → tx_of_record r ≡ tx.0 → finding l.txs.entries tx.0 ≡ Some e → PutsAt (finding l.txs.entries) txs_new tx.0 (Some new) → absent ≡ absent_at change.key us → Places (held l.holdings) holds_new change.key (lowered at.hold.hold absent) → AreHeld (r ∷ reverse l.records.items) txs_new holds_new l.over
+pub compensated_keys : (r : LogRecord) (l : Inside) → IsTxLog l → (tx : TxId) (e new : OpenTx) (change : LiveChange) (u : LogRecord) (us : List LogRecord) (at : IsKeyOf l tx.0 change u us) (txs_new : Txs) (holds_new : HoldsKey) (absent : Bool) → is_change r ≡ false → tx_of_record r ≡ tx.0 → finding l.txs.entries tx.0 ≡ Some e → PutsAt (finding l.txs.entries) txs_new tx.0 (Some new) → absent ≡ absent_at change.key us → Places (held l.holdings) holds_new change.key (lowered at.hold.hold absent) → AreHeld (r ∷ reverse l.records.items) txs_new holds_new l.over
 compensated_keys r l is tx e new change u us at txs_new holds_new absent down tx_is found puts absent_is places =
     let rs = reverse l.records.items in
     let txs = finding l.txs.entries in

@@ -12,7 +12,7 @@ use Rattle.tx_log.proofs.Lives.{lives, stack_is_lives, eqb_sym}
 use Rattle.tx_log.proofs.OwnerLemmas.{kept_at, unowned, owned_by, none_other, and_left, and_right}
 use Rattle.tx_log.proofs.LogStepLemmas.{find_noted}
 use Rattle.tx_log.specs.Holdings.{HoldsKey, same_bytes, Places, holder, live_of, absent_of, live_at, lowered, busy, or_idle, IsHeld}
-use Rattle.tx_log.specs.Log.{tx_of_record, key_of, old_of, new_of, is_update, kept_of, stepped, stack, noted}
+use Rattle.tx_log.specs.Log.{tx_of_record, key_of, old_of, new_of, is_change, kept_of, stepped, stack, noted}
 use Rattle.tx_log.specs.Owners.{owner_of, other_than, says}
 use Rattle.tx_log.specs.Walks.{is_at, is_out, absent_at}
 use Rattle.tx_log.specs.declared.holding.Holding.{Holding}
@@ -110,10 +110,10 @@ holder_is rs is_open holds k owned is = holder_case (holds k) refl
 -- what the step makes of the transaction's live changes, and of what is kept of its key
 pub record IsHoldStep (r : LogRecord) (rs : List LogRecord) (is_open : ℕ → Bool) (holds : HoldsKey) (t : ℕ) (k : List ℕ) (w : Option Holding) : Type 0 where
   pub mine : tx_of_record r ≡ t
-  pub live_there : live_at k (stepped (is_update r) r (stack t rs)) ≡ live_of t w
-  pub absent_there : absent_at k (stepped (is_update r) r (stack t rs)) ≡ absent_of t w
-  pub live_elsewhere : (q : List ℕ) → same_key k q ≡ false → live_at q (stepped (is_update r) r (stack t rs)) ≡ live_at q (stack t rs)
-  pub absent_elsewhere : (q : List ℕ) → same_key k q ≡ false → absent_at q (stepped (is_update r) r (stack t rs)) ≡ absent_at q (stack t rs)
+  pub live_there : live_at k (stepped (is_change r) r (stack t rs)) ≡ live_of t w
+  pub absent_there : absent_at k (stepped (is_change r) r (stack t rs)) ≡ absent_of t w
+  pub live_elsewhere : (q : List ℕ) → same_key k q ≡ false → live_at q (stepped (is_change r) r (stack t rs)) ≡ live_at q (stack t rs)
+  pub absent_elsewhere : (q : List ℕ) → same_key k q ≡ false → absent_at q (stepped (is_change r) r (stack t rs)) ≡ absent_at q (stack t rs)
   pub others : (u : ℕ) → eqb t u ≡ false → (live_of u w ≡ live_of u (holds k)) × (absent_of u w ≡ absent_of u (holds k))
   pub owned : IfSome w (λ h. 0 < h.live → is_open h.owner.0 ≡ true)
   pub idle_there : IfSome w (λ h. h.live ≡ 0 → h.absent ≡ false)
@@ -125,19 +125,19 @@ module _ (r : LogRecord) (rs : List LogRecord) (is_open : ℕ → Bool) (old new
   old_at : (q : List ℕ) → same_key k q ≡ true → old k ≡ old q
   old_at q same = ap old (same_key-is k q same)
 
-  counted_case : (u : ℕ) (q : List ℕ) → is_open u ≡ true → (a : Bool) → eqb t u ≡ a → (b : Bool) → same_key k q ≡ b → live_at q (cond a (stepped (is_update r) r (stack u rs)) (stack u rs)) ≡ live_of u (cond b w (old q))
+  counted_case : (u : ℕ) (q : List ℕ) → is_open u ≡ true → (a : Bool) → eqb t u ≡ a → (b : Bool) → same_key k q ≡ b → live_at q (cond a (stepped (is_change r) r (stack u rs)) (stack u rs)) ≡ live_of u (cond b w (old q))
   counted_case u q opened true f true g =
-      (λ i. live_at (sym (same_key-is k q g) i) (stepped (is_update r) r (stack (sym (same_number t u f) i) rs))) ∙ step.live_there ∙ ap (λ (n : ℕ). live_of n w) (same_number t u f)
+      (λ i. live_at (sym (same_key-is k q g) i) (stepped (is_change r) r (stack (sym (same_number t u f) i) rs))) ∙ step.live_there ∙ ap (λ (n : ℕ). live_of n w) (same_number t u f)
   counted_case u q opened true f false g =
-      ap (λ (n : ℕ). live_at q (stepped (is_update r) r (stack n rs))) (sym (same_number t u f)) ∙ step.live_elsewhere q g ∙ ap (λ (n : ℕ). live_at q (stack n rs)) (same_number t u f) ∙ is.counted u q opened
+      ap (λ (n : ℕ). live_at q (stepped (is_change r) r (stack n rs))) (sym (same_number t u f)) ∙ step.live_elsewhere q g ∙ ap (λ (n : ℕ). live_at q (stack n rs)) (same_number t u f) ∙ is.counted u q opened
   counted_case u q opened false f true g = is.counted u q opened ∙ ap (live_of u) (sym (old_at q g)) ∙ sym (step.others u f).0
   counted_case u q opened false f false g = is.counted u q opened
 
-  marked_case : (u : ℕ) (q : List ℕ) → is_open u ≡ true → (a : Bool) → eqb t u ≡ a → (b : Bool) → same_key k q ≡ b → absent_at q (cond a (stepped (is_update r) r (stack u rs)) (stack u rs)) ≡ absent_of u (cond b w (old q))
+  marked_case : (u : ℕ) (q : List ℕ) → is_open u ≡ true → (a : Bool) → eqb t u ≡ a → (b : Bool) → same_key k q ≡ b → absent_at q (cond a (stepped (is_change r) r (stack u rs)) (stack u rs)) ≡ absent_of u (cond b w (old q))
   marked_case u q opened true f true g =
-      (λ i. absent_at (sym (same_key-is k q g) i) (stepped (is_update r) r (stack (sym (same_number t u f) i) rs))) ∙ step.absent_there ∙ ap (λ (n : ℕ). absent_of n w) (same_number t u f)
+      (λ i. absent_at (sym (same_key-is k q g) i) (stepped (is_change r) r (stack (sym (same_number t u f) i) rs))) ∙ step.absent_there ∙ ap (λ (n : ℕ). absent_of n w) (same_number t u f)
   marked_case u q opened true f false g =
-      ap (λ (n : ℕ). absent_at q (stepped (is_update r) r (stack n rs))) (sym (same_number t u f)) ∙ step.absent_elsewhere q g ∙ ap (λ (n : ℕ). absent_at q (stack n rs)) (same_number t u f) ∙ is.marked u q opened
+      ap (λ (n : ℕ). absent_at q (stepped (is_change r) r (stack n rs))) (sym (same_number t u f)) ∙ step.absent_elsewhere q g ∙ ap (λ (n : ℕ). absent_at q (stack n rs)) (same_number t u f) ∙ is.marked u q opened
   marked_case u q opened false f true g = is.marked u q opened ∙ ap (absent_of u) (sym (old_at q g)) ∙ sym (step.others u f).1
   marked_case u q opened false f false g = is.marked u q opened
 
@@ -150,8 +150,8 @@ module _ (r : LogRecord) (rs : List LogRecord) (is_open : ℕ → Bool) (old new
 
   pub held_grown : IsHeld (r ∷ rs) is_open new
   held_grown = record {
-    counted = λ u q opened. ap (λ (b : Bool). live_at q (cond b (stepped (is_update r) r (stack u rs)) (stack u rs))) (mine_is u) ∙ counted_case u q opened (eqb t u) refl (same_key k q) refl ∙ ap (live_of u) (sym (here q));
-    marked = λ u q opened. ap (λ (b : Bool). absent_at q (cond b (stepped (is_update r) r (stack u rs)) (stack u rs))) (mine_is u) ∙ marked_case u q opened (eqb t u) refl (same_key k q) refl ∙ ap (absent_of u) (sym (here q));
+    counted = λ u q opened. ap (λ (b : Bool). live_at q (cond b (stepped (is_change r) r (stack u rs)) (stack u rs))) (mine_is u) ∙ counted_case u q opened (eqb t u) refl (same_key k q) refl ∙ ap (live_of u) (sym (here q));
+    marked = λ u q opened. ap (λ (b : Bool). absent_at q (cond b (stepped (is_change r) r (stack u rs)) (stack u rs))) (mine_is u) ∙ marked_case u q opened (eqb t u) refl (same_key k q) refl ∙ ap (absent_of u) (sym (here q));
     owned = λ q. subst (λ (o : Option Holding). IfSome o (λ h. 0 < h.live → is_open h.owner.0 ≡ true)) (sym (here q)) (some_case (λ h. 0 < h.live → is_open h.owner.0 ≡ true) q step.owned (is.owned q) (same_key k q));
     idle_there = λ q. subst (λ (o : Option Holding). IfSome o (λ h. h.live ≡ 0 → h.absent ≡ false)) (sym (here q)) (some_case (λ h. h.live ≡ 0 → h.absent ≡ false) q step.idle_there (is.idle_there q) (same_key k q));
   }
@@ -218,7 +218,7 @@ pub absent_past : (q : List ℕ) (u : LogRecord) (us : List LogRecord) → is_at
 absent_past q u us apart = ap (λ (b : Bool). cond b (is_out (says (new_of u) (list_any (is_at q) us) (old_of u)) (absent_at q us)) (absent_at q us)) apart
 
 -- what is kept of a key after one more change there
-pub accepted_hold : (r : LogRecord) (tx : TxId) (key : List ℕ) (rs : List LogRecord) (is_open : ℕ → Bool) (holds : HoldsKey) (h : Holding) (absent : Bool) → is_update r ≡ true → tx_of_record r ≡ tx.0 → key_of r ≡ key → IsHeld rs is_open holds → holds key ≡ Some h → (0 < h.live → h.owner.0 ≡ tx.0) → is_open tx.0 ≡ true → absent ≡ absent_at key (r ∷ stack tx.0 rs) → IsHoldStep r rs is_open holds tx.0 key (Some (record { owner = tx; live = h.live + 1; absent = absent }))
+pub accepted_hold : (r : LogRecord) (tx : TxId) (key : List ℕ) (rs : List LogRecord) (is_open : ℕ → Bool) (holds : HoldsKey) (h : Holding) (absent : Bool) → is_change r ≡ true → tx_of_record r ≡ tx.0 → key_of r ≡ key → IsHeld rs is_open holds → holds key ≡ Some h → (0 < h.live → h.owner.0 ≡ tx.0) → is_open tx.0 ≡ true → absent ≡ absent_at key (r ∷ stack tx.0 rs) → IsHoldStep r rs is_open holds tx.0 key (Some (record { owner = tx; live = h.live + 1; absent = absent }))
 accepted_hold r tx key rs is_open holds h absent up tx_is key_is is there mine opened absent_is =
     let t = tx.0 in
     let us = stack t rs in
@@ -265,7 +265,7 @@ holding_of rs is_open holds t u us is opened whole = hold_case (holds k) refl
     hold_case (Some h) there = own_case h there (eqb h.owner.0 t) refl (sym (is.counted t k opened ∙ ap (live_of t) there) ∙ many)
 
 -- what is kept of a key after a change there is taken back
-pub compensated_hold : (r : LogRecord) (tx : TxId) (rs : List LogRecord) (is_open : ℕ → Bool) (holds : HoldsKey) (u : LogRecord) (us : List LogRecord) (absent : Bool) (g : IsHolding rs holds tx.0 u us) → is_update r ≡ false → tx_of_record r ≡ tx.0 → IsHeld rs is_open holds → is_open tx.0 ≡ true → stack tx.0 rs ≡ u ∷ us → absent ≡ absent_at (key_of u) us → IsHoldStep r rs is_open holds tx.0 (key_of u) (lowered g.hold absent)
+pub compensated_hold : (r : LogRecord) (tx : TxId) (rs : List LogRecord) (is_open : ℕ → Bool) (holds : HoldsKey) (u : LogRecord) (us : List LogRecord) (absent : Bool) (g : IsHolding rs holds tx.0 u us) → is_change r ≡ false → tx_of_record r ≡ tx.0 → IsHeld rs is_open holds → is_open tx.0 ≡ true → stack tx.0 rs ≡ u ∷ us → absent ≡ absent_at (key_of u) us → IsHoldStep r rs is_open holds tx.0 (key_of u) (lowered g.hold absent)
 compensated_hold r tx rs is_open holds u us absent g down tx_is is opened whole absent_is = record {
   mine = tx_is;
   live_there = ap (live_at k) less ∙ live_case (eqb h.live 1) refl;
@@ -286,7 +286,7 @@ compensated_hold r tx rs is_open holds u us absent g down tx_is is opened whole 
     t : ℕ
     t = tx.0
 
-    less : stepped (is_update r) r (stack t rs) ≡ us
+    less : stepped (is_change r) r (stack t rs) ≡ us
     less = ap (λ b. stepped b r (stack t rs)) down ∙ ap (drop 1) whole
 
     own : eqb h.owner.0 t ≡ true

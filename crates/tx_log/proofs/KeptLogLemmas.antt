@@ -19,7 +19,7 @@ use Rattle.tx_log.proofs.WalkSteps.{IsStep}
 use Rattle.tx_log.specs.declared.undo_chain.LiveChange.{LiveChange}
 use Rattle.tx_log.specs.Finds.{finding}
 use Rattle.tx_log.specs.Fits.{AllFit}
-use Rattle.tx_log.specs.Log.{tx_of_record, is_update, kept_of, stepped, stack, chain, noted}
+use Rattle.tx_log.specs.Log.{tx_of_record, is_change, kept_of, stepped, stack, chain, noted}
 use Rattle.tx_log.specs.LogFields.{state_of, IsKept, IsTxLog}
 use Rattle.tx_log.specs.LogState.{LogState, phase_of, phase_in, open_in, use_in, places_of, IsLog}
 use Rattle.tx_log.specs.Owners.{holder_of, says, lack, Standing, nothing, standing, stands_by}
@@ -85,8 +85,8 @@ stack_step : (k : Bool) (t n : ℕ) (r : LogRecord) (us : List LogRecord) → le
 stack_step true t n r us h = omega arith
 stack_step false t n r us h = let d = drop_le us n h in omega arith
 
-stack_case : (t n : ℕ) (r : LogRecord) (us : List LogRecord) → length us ≤ n → (b : Bool) → length (cond b (stepped (is_update r) r us) us) ≤ suc n
-stack_case t n r us h true = stack_step (is_update r) t n r us h
+stack_case : (t n : ℕ) (r : LogRecord) (us : List LogRecord) → length us ≤ n → (b : Bool) → length (cond b (stepped (is_change r) r us) us) ≤ suc n
+stack_case t n r us h true = stack_step (is_change r) t n r us h
 stack_case t n r us h false = omega arith
 
 -- a transaction has no more live changes than the log has records

@@ -4,7 +4,7 @@ use Rattle.std.proofs.lemmas.List.{reverse-append, reverse-reverse, length-rever
 use Rattle.std.proofs.Math.Seq.{drop-cons}
 use Rattle.tx_log.proofs.Chains.{chain-skip, chain-found, numbered-part}
 use Rattle.std.specs.List.{slice_get}
-use Rattle.tx_log.specs.Log.{lsn_of, prev_of, leads_to, led, is_update, chain, record_at, IsNumbered}
+use Rattle.tx_log.specs.Log.{lsn_of, prev_of, leads_to, led, is_change, chain, record_at, IsNumbered}
 use Rattle.tx_log.specs.Transactions.{place_in}
 use Rattle.tx_log.specs.declared.log_record.LogRecord.{LogRecord}
 
@@ -30,7 +30,7 @@ pub record IsRecordAt (log : List LogRecord) (at : ℕ) (r : LogRecord) : Type 0
   pub lsn : lsn_of r ≡ at
   pub prev : prev_of r < at
   pub leads : leads_to r < at
-  pub chain_is : chain (reverse log) at ≡ led (is_update r) r (chain (reverse log) (leads_to r))
+  pub chain_is : chain (reverse log) at ≡ led (is_change r) r (chain (reverse log) (leads_to r))
 
 -- what is read at a place of a numbered log is the record of that number
 pub record_is_at : (log : List LogRecord) (at : ℕ) (d r : LogRecord) → IsNumbered (reverse log) → 0 < at → at ≤ length log → get_or log (at - 1) d ≡ r → IsRecordAt log at r
@@ -42,7 +42,7 @@ record_is_at log at d r is some within read =
     let there = subst IsNumbered cut is in
     let part = numbered-part newer r older there in
     let many : length older ≡ n = length-reverse (take n log) ∙ length-take-le n log (omega arith) in
-    let P : List LogRecord → Type 0 = λ rs. chain rs at ≡ led (is_update r) r (chain rs (leads_to r)) in
+    let P : List LogRecord → Type 0 = λ rs. chain rs at ≡ led (is_change r) r (chain rs (leads_to r)) in
     record {
       lsn = omega (arith, part.0, many);
       prev = omega (arith, part.1, many);
@@ -83,8 +83,8 @@ found_stands : (k : Bool) (r : LogRecord) (rs : List LogRecord) (u : LogRecord) 
 found_stands true r rs u us step e = record { newer = []; older = rs; is = let same : r ≡ u = cc in ap (λ x. x ∷ rs) same }
 found_stands false r rs u us step e = further r rs u (step (leads_to r) e)
 
-stands_case : (r : LogRecord) (rs : List LogRecord) (n : ℕ) (u : LogRecord) (us : List LogRecord) → ((m : ℕ) → chain rs m ≡ u ∷ us → Stands rs u) → (b : Bool) → cond b (led (is_update r) r (chain rs (leads_to r))) (chain rs n) ≡ u ∷ us → Stands (r ∷ rs) u
-stands_case r rs n u us step true e = found_stands (is_update r) r rs u us step e
+stands_case : (r : LogRecord) (rs : List LogRecord) (n : ℕ) (u : LogRecord) (us : List LogRecord) → ((m : ℕ) → chain rs m ≡ u ∷ us → Stands rs u) → (b : Bool) → cond b (led (is_change r) r (chain rs (leads_to r))) (chain rs n) ≡ u ∷ us → Stands (r ∷ rs) u
+stands_case r rs n u us step true e = found_stands (is_change r) r rs u us step e
 stands_case r rs n u us step false e = further r rs u (step n e)
 
 -- the head of a chain does

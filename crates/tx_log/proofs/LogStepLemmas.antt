@@ -15,7 +15,7 @@ use Rattle.tx_log.proofs.OwnerLemmas.{kept_at, HeldBy, owned-push, owned-undone,
 use Rattle.tx_log.proofs.WalkSteps.{IsStep}
 use Rattle.tx_log.specs.Finds.{Txs, PutsAt}
 use Rattle.tx_log.specs.Fits.{AllUpTo, RollbackUpTo, FitsTx, left_above}
-use Rattle.tx_log.specs.Log.{leads_to, lsn_of, prev_of, tx_of_record, key_of, old_of, new_of, back_in, is_update, change_record, back_record, noted, kept_by, kept_of, last_of, stepped, stack, chain, IsNumbered, Undoes, TellsOf, IsWritten, AllWritten}
+use Rattle.tx_log.specs.Log.{leads_to, lsn_of, prev_of, tx_of_record, key_of, old_of, new_of, back_in, is_change, change_record, back_record, noted, kept_by, kept_of, last_of, stepped, stack, chain, IsNumbered, Undoes, TellsOf, IsWritten, AllWritten}
 use Rattle.tx_log.specs.Owners.{says, Standing, nothing, standing, stands_by}
 use Rattle.tx_log.specs.LogFields.{IsKept}
 use Rattle.tx_log.specs.OpenTxs.{opens}
@@ -45,9 +45,9 @@ grow_other r rs n t u e own other fits =
     let apart : eqb (tx_of_record r) u ≡ false = ap (λ k. eqb k u) own ∙ other in
     record {
       last = fits.last ∙ sym (ap (λ (b : Bool). cond b (lsn_of r) (last_of u rs)) apart);
-      live = fits.live ∙ sym (ap (λ (b : Bool). length (cond b (stepped (is_update r) r (stack u rs)) (stack u rs))) apart);
-      left = fits.left ∙ sym (ap (λ (b : Bool). left_above (cond b (stepped (is_update r) r (stack u rs)) (stack u rs)) e.rollback) apart);
-      absent_keys = fits.absent_keys ∙ sym (ap maps.len (absent_other (is_update r) r rs u apart));
+      live = fits.live ∙ sym (ap (λ (b : Bool). length (cond b (stepped (is_change r) r (stack u rs)) (stack u rs))) apart);
+      left = fits.left ∙ sym (ap (λ (b : Bool). left_above (cond b (stepped (is_change r) r (stack u rs)) (stack u rs)) e.rollback) apart);
+      absent_keys = fits.absent_keys ∙ sym (ap maps.len (absent_other (is_change r) r rs u apart));
       saves = up_to_more (length rs) e.saves.items fits.saves;
       depth = fits.depth;
       rollback = rollback_more (length rs) e.rollback fits.rollback;
@@ -63,8 +63,8 @@ pub record IsOwnStep (r : LogRecord) (rs : List LogRecord) (t : ℕ) (e new : Op
   pub saves : new.saves.items ≡ e.saves.items
   pub mine : tx_of_record r ≡ t
   pub last : new.last ≡ lsn_of r
-  pub live : new.live ≡ length (stepped (is_update r) r (stack t rs))
-  pub left : new.left ≡ left_above (stepped (is_update r) r (stack t rs)) e.rollback
+  pub live : new.live ≡ length (stepped (is_change r) r (stack t rs))
+  pub left : new.left ≡ left_above (stepped (is_change r) r (stack t rs)) e.rollback
   pub absent_keys : new.absent ≡ maps.len (absent_in (only t) (kept_of (r ∷ rs)))
 
 -- what fits the transaction then
@@ -73,8 +73,8 @@ grow_own r rs n t e new fits step =
     let here : eqb (tx_of_record r) t ≡ true = eq-eqb (tx_of_record r) t step.mine in
     record {
       last = step.last ∙ sym (ap (λ (b : Bool). cond b (lsn_of r) (last_of t rs)) here);
-      live = step.live ∙ sym (ap (λ (b : Bool). length (cond b (stepped (is_update r) r (stack t rs)) (stack t rs))) here);
-      left = step.left ∙ (λ i. left_above (sym (ap (λ (b : Bool). cond b (stepped (is_update r) r (stack t rs)) (stack t rs)) here) i) (sym step.rollback i));
+      live = step.live ∙ sym (ap (λ (b : Bool). length (cond b (stepped (is_change r) r (stack t rs)) (stack t rs))) here);
+      left = step.left ∙ (λ i. left_above (sym (ap (λ (b : Bool). cond b (stepped (is_change r) r (stack t rs)) (stack t rs)) here) i) (sym step.rollback i));
       absent_keys = step.absent_keys;
       saves = subst (AllUpTo (suc (length rs))) (sym step.saves) (up_to_more (length rs) e.saves.items fits.saves);
       depth = subst (λ (ss : List ℕ). length ss ≤ most_savepoints) (sym step.saves) fits.depth;
@@ -137,9 +137,9 @@ absent_noted x (u ∷ us) = λ i. cond (is_at x u) (is_out (says (new_of u) (any
 pub len_noted : (r : LogRecord) (us : List LogRecord) (key : List ℕ) → key_of r ≡ key → maps.len (gone (map noted (r ∷ us))).out + cond (absent_at key us) 1 0 ≡ maps.len (gone (map noted us)).out + cond (absent_at key (r ∷ us)) 1 0
 len_noted r us key is =
     subst (λ (k : List ℕ). maps.len (gone (map noted (r ∷ us))).out + cond (absent_at k us) 1 0 ≡ maps.len (gone (map noted us)).out + cond (absent_at k (r ∷ us)) 1 0) is
-        ((λ i. maps.len (gone (map noted (r ∷ us))).out + cond (sym (absent_noted (key_of r) us) i) 1 0)
-        ∙ len-gone (map noted us) (noted r)
-        ∙ ap (λ (b : Bool). maps.len (gone (map noted us)).out + cond b 1 0) (absent_noted (key_of r) (r ∷ us)))
+    ((λ i. maps.len (gone (map noted (r ∷ us))).out + cond (sym (absent_noted (key_of r) us) i) 1 0)
+    ∙ len-gone (map noted us) (noted r)
+    ∙ ap (λ (b : Bool). maps.len (gone (map noted us)).out + cond b 1 0) (absent_noted (key_of r) (r ∷ us)))
 
 -- the chain from a transaction's last record, found by its number
 pub chain_of : (rs : List LogRecord) (t at : ℕ) → IsNumbered rs → AllWritten rs → at ≡ last_of t rs → chain rs at ≡ stack t rs
@@ -163,7 +163,7 @@ one_goes one one_new count count_new was will d e f = omega arith
 
 -- the record tells of the change
 pub record IsChangeOf (r : LogRecord) (lsn prev : ℕ) (tx : TxId) (key : List ℕ) (before : Option (List ℕ)) (after : Option (Option (List ℕ))) : Type 0 where
-  pub up : is_update r ≡ true
+  pub up : is_change r ≡ true
   pub lsn_is : lsn_of r ≡ lsn
   pub prev_is : prev_of r ≡ prev
   pub leads : leads_to r ≡ prev
@@ -223,14 +223,14 @@ accepted r lsn prev tx key before after rs txs txs_new begun pending gone_old pe
     let pending_push : count (is_pending (opens txs)) (cs ++ d ∷ []) ≡ count (is_pending (opens txs)) cs + cond (is_pending (opens txs) (change_of d)) 1 0 = count-push (is_pending (opens txs)) cs d in
     let is_one : ◌≡◌ {A = ℕ} (cond (is_pending (opens txs) (change_of d)) 1 0) 1 = ap (λ (b : Bool). cond b 1 0) (ap (opens txs) is.tx_is ∙ opened) in
     let begun_is = begun_of rs begun t txs kept.fit opened in
-    let stepped_is : stepped (is_update r) r (stack t rs) ≡ r ∷ stack t rs = ap (λ k. stepped k r (stack t rs)) is.up in
+    let stepped_is : stepped (is_change r) r (stack t rs) ≡ r ∷ stack t rs = ap (λ k. stepped k r (stack t rs)) is.up in
     let own : IsOwnStep r rs t e new = record {
       rollback = a.rollback_same;
       saves = a.saves_same;
       mine = is.tx_is;
       last = a.last_new ∙ sym is.lsn_is;
       live = a.live_new ∙ (let n = fits.live in omega arith) ∙ sym (ap length stepped_is);
-      left = a.left_same ∙ fits.left ∙ ap (left_above (stack t rs)) a.calm ∙ sym (ap (left_above (stepped (is_update r) r (stack t rs))) a.calm);
+      left = a.left_same ∙ fits.left ∙ ap (left_above (stack t rs)) a.calm ∙ sym (ap (left_above (stepped (is_change r) r (stack t rs))) a.calm);
       absent_keys = new_absent ∙ ap (λ xs. maps.len (absent_in (only t) xs)) (sym grows);
     } in
     grown r rs txs txs_new begun pending gone_old pending_new gone_new t e new kept found puts record {
@@ -249,7 +249,7 @@ accepted r lsn prev tx key before after rs txs txs_new begun pending gone_old pe
 
 -- the record tells of the taking back
 pub record IsBackOf (r : LogRecord) (lsn prev : ℕ) (tx : TxId) (key : List ℕ) (back : Option (Option (List ℕ))) (undo_next : ℕ) : Type 0 where
-  pub down : is_update r ≡ false
+  pub down : is_change r ≡ false
   pub lsn_is : lsn_of r ≡ lsn
   pub prev_is : prev_of r ≡ prev
   pub leads : leads_to r ≡ undo_next
@@ -319,7 +319,7 @@ compensated r lsn prev tx change rs txs txs_new begun pending gone_old pending_n
     total_goes _ _ _ _ _ _ gone_old gone_new (cond (absent_at change.key (chain rs prev)) 1 0) (cond (absent_at change.key (chain rs change.prev)) 1 0) all all_new others one kept.absent_is a.gone_one in
     let fewer = pending-undone (opens txs) t cs (noted u) opened newest in
     let live_is : e.live ≡ suc (length us) = fits.live ∙ ap length whole in
-    let stepped_is : stepped (is_update r) r (stack t rs) ≡ us = ap (λ k. stepped k r (stack t rs)) is.down ∙ ap (drop 1) whole in
+    let stepped_is : stepped (is_change r) r (stack t rs) ≡ us = ap (λ k. stepped k r (stack t rs)) is.down ∙ ap (drop 1) whole in
     let live_left : new.live ≡ length us = (let n = a.live_new in omega arith) in
     let left_all : e.left ≡ left_above us e.rollback + 1 = fits.left ∙ ap (λ xs. left_above xs e.rollback) whole ∙ a.above in
     let left_left : new.left ≡ left_above us e.rollback = (let n = a.left_new in omega arith) in

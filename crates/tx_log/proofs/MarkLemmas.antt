@@ -3,7 +3,7 @@ use Rattle.std.proofs.Common.{true, ◌≡◌, ℕ, zero, suc, ◌+◌, ◌-◌,
 use Rattle.std.proofs.lemmas.List.{length-reverse, length-take-le, length-append}
 use Rattle.tx_log.proofs.Chains.{chain-skip, chain-head, numbered-part, length-part}
 use Rattle.tx_log.proofs.LogIndex.{chain-zero, chain_stands, cut_at, record_of_chain, reverse-push}
-use Rattle.tx_log.specs.Log.{lsn_of, key_of, leads_to, led, is_update, chain, record_at, IsNumbered}
+use Rattle.tx_log.specs.Log.{lsn_of, key_of, leads_to, led, is_change, chain, record_at, IsNumbered}
 use Rattle.tx_log.specs.Marks.{first_lsn, IsMarked, AreMarked}
 use Rattle.tx_log.specs.Walks.{newest_in, absent_at}
 use Rattle.tx_log.specs.declared.log_record.LogRecord.{LogRecord}
@@ -26,7 +26,7 @@ newest_at : (above : List Mark) (m : Mark) (below : List Mark) (rs : List LogRec
 newest_at [] m below [] is marked = absurd marked
 newest_at [] m below (r ∷ rs) is marked =
     let many = marked_length rs below marked.1 in
-    marked.0.newest ∙ sym (ap (λ (b : Bool). first_lsn (cond b (led (is_update r) r (chain rs (leads_to r))) (chain rs (length below + 1)))) (eq-eqb (lsn_of r) (length below + 1) (omega (arith, is.0, many))))
+    marked.0.newest ∙ sym (ap (λ (b : Bool). first_lsn (cond b (led (is_change r) r (chain rs (leads_to r))) (chain rs (length below + 1)))) (eq-eqb (lsn_of r) (length below + 1) (omega (arith, is.0, many))))
 newest_at (x ∷ above) m below [] is marked = absurd marked
 newest_at (x ∷ above) m below (r ∷ rs) is marked =
     let many = marked_length rs (above ++ m ∷ below) marked.1 in
@@ -115,7 +115,7 @@ got (y ∷ xs) (suc n) d x h = got xs n d x h
 pub record IsFirst (rs : List LogRecord) (from : ℕ) (r : LogRecord) : Type 0 where
   pub rest : List LogRecord
   pub is : chain rs from ≡ r ∷ rest
-  pub update : is_update r ≡ true
+  pub update : is_change r ≡ true
 
 first_case : (log us : List LogRecord) (from at : ℕ) (d r : LogRecord) → IsNumbered (reverse log) → chain (reverse log) from ≡ us → at ≡ first_lsn us → 0 < at → get_or log (at - 1) d ≡ r → IsFirst (reverse log) from r
 first_case log [] from at d r is e first some read = absurd (omega (arith, first))
@@ -124,7 +124,7 @@ first_case log (u ∷ us) from at d r is e first some read =
     let number : lsn_of u ≡ suc (at - 1) = omega (arith, first) in
     let stands = ap (record_at log) (sym number) ∙ record_of_chain log from u us is e in
     let same : u ≡ r = sym (got log (at - 1) d u stands) ∙ read in
-    record { rest = us; is = e ∙ ap (λ x. x ∷ us) same; update = ap is_update (sym same) ∙ head.update }
+    record { rest = us; is = e ∙ ap (λ x. x ∷ us) same; update = ap is_change (sym same) ∙ head.update }
 
 -- what is read at the head's number is the head
 pub first_there : (log : List LogRecord) (from at : ℕ) (d r : LogRecord) → IsNumbered (reverse log) → at ≡ first_lsn (chain (reverse log) from) → 0 < at → get_or log (at - 1) d ≡ r → IsFirst (reverse log) from r

@@ -8,7 +8,7 @@ use Rattle.rec_types.specs.History.{live_from, own_count}
 use Rattle.rec_types.specs.Kept.{Kept, history_of, is_own, newest_or, newest_from, newest_live, undone_or, undone}
 use Rattle.tx_log.proofs.Chains.{last_of-le}
 use Rattle.tx_log.proofs.Lives.{first, single, lives}
-use Rattle.tx_log.specs.Log.{lsn_of, tx_of_record, is_update, noted, kept_by, kept_of, last_of, IsNumbered}
+use Rattle.tx_log.specs.Log.{lsn_of, tx_of_record, is_change, noted, kept_by, kept_of, last_of, IsNumbered}
 use Rattle.tx_log.specs.Places.{place_at}
 use Rattle.tx_log.specs.declared.log_record.LogRecord.{LogRecord}
 
@@ -44,9 +44,9 @@ rises_step false r cs high is rises = rises-more 0 (undone (tx_of_record r) cs) 
 pub kept_rises : (rs : List LogRecord) → IsNumbered rs → Rises 0 (kept_of rs) (length rs)
 kept_rises [] is = omega arith
 kept_rises (r ∷ rs) is =
-    let P : ℕ → Type 0 = λ n. Rises 0 (kept_by (is_update r) r (kept_of rs)) n in
+    let P : ℕ → Type 0 = λ n. Rises 0 (kept_by (is_change r) r (kept_of rs)) n in
     let e : length rs + 1 ≡ suc (length rs) = omega arith in
-    subst P e (rises_step (is_update r) r (kept_of rs) (length rs) is.0 (kept_rises rs is.3))
+    subst P e (rises_step (is_change r) r (kept_of rs) (length rs) is.0 (kept_rises rs is.3))
 
 -- ---- above a place
 
@@ -199,7 +199,7 @@ place_step false t s r cs h = place-undone t s (tx_of_record r) cs
 
 -- and so does a newer record
 pub place-grows : (t s : ℕ) (r : LogRecord) (rs : List LogRecord) → s < lsn_of r → place_at t s (kept_of (r ∷ rs)) ≡ place_at t s (kept_of rs)
-place-grows t s r rs h = place_step (is_update r) t s r (kept_of rs) h
+place-grows t s r rs h = place_step (is_change r) t s r (kept_of rs) h
 
 -- ---- a new savepoint
 
@@ -229,9 +229,9 @@ own_step : (k : Bool) (t s : ℕ) (r : LogRecord) (cs : List Kept) → OwnUpTo t
 own_step true t s r cs is h = own_push t s cs (noted r) is h
 own_step false t s r cs is h = own_undone t s (tx_of_record r) cs is
 
-own_case : (t : ℕ) (r : LogRecord) (rs : List LogRecord) → last_of t rs ≤ lsn_of r → OwnUpTo t (last_of t rs) (kept_of rs) → (b : Bool) → eqb (tx_of_record r) t ≡ b → OwnUpTo t (cond b (lsn_of r) (last_of t rs)) (kept_by (is_update r) r (kept_of rs))
-own_case t r rs low is true own = own_step (is_update r) t (lsn_of r) r (kept_of rs) (own_more t (last_of t rs) (lsn_of r) (kept_of rs) low is) (λ _. omega arith)
-own_case t r rs low is false own = own_step (is_update r) t (last_of t rs) r (kept_of rs) is (λ other. absurd (let no : true ≡ false = sym other ∙ own in cc))
+own_case : (t : ℕ) (r : LogRecord) (rs : List LogRecord) → last_of t rs ≤ lsn_of r → OwnUpTo t (last_of t rs) (kept_of rs) → (b : Bool) → eqb (tx_of_record r) t ≡ b → OwnUpTo t (cond b (lsn_of r) (last_of t rs)) (kept_by (is_change r) r (kept_of rs))
+own_case t r rs low is true own = own_step (is_change r) t (lsn_of r) r (kept_of rs) (own_more t (last_of t rs) (lsn_of r) (kept_of rs) low is) (λ _. omega arith)
+own_case t r rs low is false own = own_step (is_change r) t (last_of t rs) r (kept_of rs) is (λ other. absurd (let no : true ≡ false = sym other ∙ own in cc))
 
 own_up_to : (t : ℕ) (rs : List LogRecord) → IsNumbered rs → OwnUpTo t (last_of t rs) (kept_of rs)
 own_up_to t [] is = tt

@@ -3,7 +3,7 @@ use Rattle.std.proofs.Common.{◌≡◌, ℕ, ◌+◌, ◌<◌, ◌≤◌, Bool,
 use Rattle.std.proofs.lemmas.Bool.Decides.{nat_tests}
 use Rattle.std.specs.List.{filter}
 use Rattle.tx_log.proofs.Chains.{chain-head, leads_is_prev, same_number}
-use Rattle.tx_log.specs.Log.{lsn_of, prev_of, key_of, leads_to, led, is_update, chain, IsNumbered}
+use Rattle.tx_log.specs.Log.{lsn_of, prev_of, key_of, leads_to, led, is_change, chain, IsNumbered}
 use Rattle.tx_log.specs.Walks.{change_in, newest_in, is_after}
 use Rattle.tx_log.specs.declared.log_record.LogRecord.{LogRecord}
 use Rattle.tx_log.specs.declared.undo_chain.LiveChange.{LiveChange}
@@ -18,7 +18,7 @@ pub record IsStep (rs : List LogRecord) (at : ℕ) (change : LiveChange) : Type 
   pub falls : change.prev < change.lsn
   pub low : change.lsn ≤ at
   pub within : change.lsn ≤ length rs
-  pub kind : is_update update ≡ true
+  pub kind : is_change update ≡ true
 
 step_from : (rs us : List LogRecord) (at : ℕ) (change : LiveChange) → IsNumbered rs → chain rs at ≡ us → newest_in us ≡ Some change → IsStep rs at change
 step_from rs [] at change is e some = absurd (cc)
@@ -63,8 +63,8 @@ low_led true r rs n s is step at h =
     ap (λ (b : Bool). cond b (r ∷ us) us) (not_after s (lsn_of r) (omega arith)) ∙ step (leads_to r) (omega (arith, is.0, is.2))
 low_led false r rs n s is step at h = step (leads_to r) (omega (arith, is.0, is.2))
 
-low_case : (r : LogRecord) (rs : List LogRecord) (n s : ℕ) → IsNumbered (r ∷ rs) → ((m : ℕ) → m ≤ s → filter (is_after s) (chain rs m) ≡ []) → n ≤ s → (b : Bool) → eqb (lsn_of r) n ≡ b → filter (is_after s) (cond b (led (is_update r) r (chain rs (leads_to r))) (chain rs n)) ≡ []
-low_case r rs n s is step h true e = low_led (is_update r) r rs n s is step (same_number _ _ e) h
+low_case : (r : LogRecord) (rs : List LogRecord) (n s : ℕ) → IsNumbered (r ∷ rs) → ((m : ℕ) → m ≤ s → filter (is_after s) (chain rs m) ≡ []) → n ≤ s → (b : Bool) → eqb (lsn_of r) n ≡ b → filter (is_after s) (cond b (led (is_change r) r (chain rs (leads_to r))) (chain rs n)) ≡ []
+low_case r rs n s is step h true e = low_led (is_change r) r rs n s is step (same_number _ _ e) h
 low_case r rs n s is step h false e = step n h
 
 -- below a savepoint's number the chain has nothing to take back

@@ -1,9 +1,8 @@
--- A log by example. One transaction writes a, sets a savepoint, writes a and b, goes back to the savepoint, writes c, and
--- goes back to its beginning.
+-- Logs by example.
 use Rattle.std.specs.Prelude.{ℕ, List, [], ◌∷◌, Some, None}
 use Rattle.rec_types.specs.declared.transaction.TxId.{TxId}
 use Rattle.tx_log.specs.declared.log_record.LogRecord.{LogRecord}
-use Rattle.tx_log.specs.declared.log_record.LogRecord.TheVariants.{Update, Compensation}
+use Rattle.tx_log.specs.declared.log_record.LogRecord.TheVariants.{Update, Compensation, Claim, Unclaim}
 
 abbrev pub one : TxId
 one = record { 0 = 1 }
@@ -11,6 +10,8 @@ one = record { 0 = 1 }
 abbrev pub byte : ℕ → List ℕ
 byte b = b ∷ []
 
+-- One transaction writes a, sets a savepoint, writes a and b, goes back to the savepoint, writes c, and goes back to its
+-- beginning.
 abbrev pub eight : List LogRecord
 eight =
     Update 1 0 one (byte 97) None (Some (byte 49))
@@ -21,4 +22,18 @@ eight =
     ∷ Update 6 5 one (byte 99) None (Some (byte 52))
     ∷ Compensation 7 6 one (byte 99) None 5
     ∷ Compensation 8 7 one (byte 97) None 0
+    ∷ []
+
+-- One transaction writes a, claims a, claims b and writes it, claims c, and takes back all but the first change.
+abbrev pub nine : List LogRecord
+nine =
+    Update 1 0 one (byte 97) None (Some (byte 49))
+    ∷ Claim 2 1 one (byte 97) (Some (byte 49))
+    ∷ Claim 3 2 one (byte 98) None
+    ∷ Update 4 3 one (byte 98) None (Some (byte 50))
+    ∷ Claim 5 4 one (byte 99) None
+    ∷ Unclaim 6 5 one (byte 99) 4
+    ∷ Compensation 7 6 one (byte 98) None 3
+    ∷ Unclaim 8 7 one (byte 98) 2
+    ∷ Unclaim 9 8 one (byte 97) 1
     ∷ []

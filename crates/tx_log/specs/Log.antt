@@ -56,11 +56,11 @@ leads_to (Claim lsn prev tx key seen) = prev
 leads_to (Unclaim lsn prev tx key undo_next) = undo_next
 
 -- the record tells of a change, and not of one that is taken back
-abbrev pub is_update : LogRecord → Bool
-is_update (Update lsn prev tx key before after) = true
-is_update (Compensation lsn prev tx key restored undo_next) = false
-is_update (Claim lsn prev tx key seen) = true
-is_update (Unclaim lsn prev tx key undo_next) = false
+abbrev pub is_change : LogRecord → Bool
+is_change (Update lsn prev tx key before after) = true
+is_change (Compensation lsn prev tx key restored undo_next) = false
+is_change (Claim lsn prev tx key seen) = true
+is_change (Unclaim lsn prev tx key undo_next) = false
 
 -- the record of a change, and of one that is taken back
 abbrev pub change_record : ℕ → ℕ → TxId → List ℕ → Option (List ℕ) → Option (Option (List ℕ)) → LogRecord
@@ -93,7 +93,7 @@ kept_by false r cs = undone (tx_of_record r) cs
 -- The changes, oldest first.
 abbrev pub kept_of : List LogRecord → List Kept
 kept_of [] = []
-kept_of (r ∷ rs) = kept_by (is_update r) r (kept_of rs)
+kept_of (r ∷ rs) = kept_by (is_change r) r (kept_of rs)
 
 abbrev pub stepped : Bool → LogRecord → List LogRecord → List LogRecord
 stepped true r us = r ∷ us
@@ -102,7 +102,7 @@ stepped false r us = drop 1 us
 -- the updates and claims of the transaction that aren't taken back, newest first
 abbrev pub stack : ℕ → List LogRecord → List LogRecord
 stack t [] = []
-stack t (r ∷ rs) = if tx_of_record r == t then stepped (is_update r) r (stack t rs) else stack t rs
+stack t (r ∷ rs) = if tx_of_record r == t then stepped (is_change r) r (stack t rs) else stack t rs
 
 abbrev pub led : Bool → LogRecord → List LogRecord → List LogRecord
 led true r us = r ∷ us
@@ -111,7 +111,7 @@ led false r us = us
 -- the updates and claims that are met on the way down from the record with the number
 abbrev pub chain : List LogRecord → ℕ → List LogRecord
 chain [] n = []
-chain (r ∷ rs) n = if lsn_of r == n then led (is_update r) r (chain rs (leads_to r)) else chain rs n
+chain (r ∷ rs) n = if lsn_of r == n then led (is_change r) r (chain rs (leads_to r)) else chain rs n
 
 -- the records are numbered from 1, and point below themselves
 abbrev pub IsNumbered : List LogRecord → Type 0
@@ -129,7 +129,7 @@ TellsOf false r us = Undoes r us
 
 -- what a record tells of those before it
 abbrev pub IsWritten : LogRecord → List LogRecord → Type 0
-IsWritten r rs = (prev_of r ≡ last_of (tx_of_record r) rs) × TellsOf (is_update r) r (stack (tx_of_record r) rs)
+IsWritten r rs = (prev_of r ≡ last_of (tx_of_record r) rs) × TellsOf (is_change r) r (stack (tx_of_record r) rs)
 
 abbrev pub AllWritten : List LogRecord → Type 0
 AllWritten [] = Unit {0}

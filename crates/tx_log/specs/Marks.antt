@@ -1,7 +1,7 @@
 -- What is kept beside each record of a log. Both lists stand newest first.
 use Rattle.std.specs.Prelude.{◌≡◌, ℕ, List, [], ◌∷◌}
 use Rattle.tx_log.specs.Walks.{absent_at}
-use Rattle.tx_log.specs.Log.{lsn_of, key_of, leads_to, led, is_update, chain}
+use Rattle.tx_log.specs.Log.{lsn_of, key_of, leads_to, led, is_change, chain}
 use Rattle.tx_log.specs.declared.log_record.LogRecord.{LogRecord}
 use Rattle.tx_log.specs.declared.mark.Mark.{Mark}
 
@@ -13,7 +13,7 @@ first_lsn (u ∷ us) = lsn_of u
 -- the mark of a record above others: the newest live change on the way down from it, and whether the live changes
 -- below it leave its key absent
 pub record IsMarked (r : LogRecord) (rs : List LogRecord) (m : Mark) : Type 0 where
-  pub newest : m.newest ≡ first_lsn (led (is_update r) r (chain rs (leads_to r)))
+  pub newest : m.newest ≡ first_lsn (led (is_change r) r (chain rs (leads_to r)))
   pub absent : m.absent ≡ absent_at (key_of r) (chain rs (leads_to r))
 
 abbrev pub AreMarked : List LogRecord → List Mark → Type 0

@@ -1,7 +1,9 @@
-ghost use Rattle.std.specs.Prelude.{◌≡◌, ℕ, ◌≤◌, Bool, true, false, List, [], ◌∷◌, map, reverse, take};
+ghost use Rattle.std.specs.Prelude.{◌≡◌, ℕ, ◌≤◌, Bool, true, false, List, [], ◌∷◌, None, map, reverse, take};
 ghost use Rattle.rec_types.specs.History.{Change, undo_last, take_back, take_newest, log_use};
-ghost use Rattle.tx_log.specs.Examples.{eight};
+ghost use Rattle.tx_log.specs.Examples.{eight, nine, one, byte};
 ghost use Rattle.tx_log.specs.Log.{chain, lsn_of, kept_of, IsNumbered, AllWritten};
+ghost use Rattle.tx_log.specs.Walks.{absent_at};
+ghost use Rattle.tx_log.specs.declared.log_record.LogRecord.TheVariants.{Compensation, Unclaim};
 ghost use Rattle.tx_log.specs.Remaining.{LosesLives, IsPart, out_of, back_of};
 
 /// A log of eight records, of a transaction that went back twice: its records are numbered, and lead to those before
@@ -14,6 +16,25 @@ pub fn two_partial_rollbacks()
     ensures after { chain (reverse eight) 8 ≡ [] }
     ensures taken_back { map (λ c. c.live) (kept_of (reverse eight))
         ≡ false ∷ false ∷ false ∷ false ∷ [] }
+{}
+
+/// A log of nine records, of a transaction that claimed a key it had written, wrote at one that it had claimed, claimed
+/// one alone, and took all three back. Of claimed keys alone those are absent where nothing was seen. A compensation
+/// that passes over a claim, an unclaim of an update, and one that doesn't lead to the claim's `prev` aren't written.
+pub fn claims()
+    ensures numbered { IsNumbered (reverse nine) }
+    ensures written { AllWritten (reverse nine) }
+    ensures before { map lsn_of (chain (reverse (take 5 nine)) 5) ≡ 5 ∷ 4 ∷ 3 ∷ 2 ∷ 1 ∷ [] }
+    ensures after { map lsn_of (chain (reverse nine) 9) ≡ 1 ∷ [] }
+    ensures taken_back { map (λ c. c.live) (kept_of (reverse nine))
+        ≡ true ∷ false ∷ false ∷ false ∷ false ∷ [] }
+    ensures claimed { absent_at (byte 98) (chain (reverse (take 3 nine)) 3) ≡ true }
+    ensures put { absent_at (byte 98) (chain (reverse (take 4 nine)) 4) ≡ false }
+    ensures seen { absent_at (byte 97) (chain (reverse (take 5 nine)) 5) ≡ false }
+    ensures passed_over { AllWritten (Compensation 3 2 one (byte 97) None 0 ∷ reverse (take 2 nine))
+        → ⊥ }
+    ensures of_an_update { AllWritten (Unclaim 2 1 one (byte 97) 0 ∷ reverse (take 1 nine)) → ⊥ }
+    ensures leads_elsewhere { AllWritten (Unclaim 3 2 one (byte 97) 0 ∷ reverse (take 2 nine)) → ⊥ }
 {}
 
 /// Taking back makes no change live again, be it the newest change of a transaction, all from a place on, or the

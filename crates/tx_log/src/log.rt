@@ -303,7 +303,9 @@ impl TxLog {
         let writes = after.is_some();
         let out = raise(&mut self.holdings, &key, tx, writes, lacks);
         let lsn = self.records.len() as u32 + 1;
-        let _ = self.records.push(change_record(lsn, prev, tx, key, before, after));
+        let _ = self
+            .records
+            .push(change_record(lsn, prev, tx, key, before, after));
         let _ = self.marks.push(Mark {
             newest: lsn,
             absent: out.0,

@@ -41,6 +41,7 @@ pub fn back_record(lsn: u32, prev: u32, tx: TxId, change: &LiveChange) -> LogRec
     ensures { result ≡ back_record lsn prev tx change.now.key
         (option_map (λ _. change.now.before) change.now.after) change.now.prev }
 {
+    let undo_next = change.prev;
     match change.after {
         Some(_) => LogRecord::Compensation {
             lsn,
@@ -48,14 +49,14 @@ pub fn back_record(lsn: u32, prev: u32, tx: TxId, change: &LiveChange) -> LogRec
             tx,
             key: change.key,
             restored: change.before,
-            undo_next: change.prev,
+            undo_next,
         },
         None => LogRecord::Unclaim {
             lsn,
             prev,
             tx,
             key: change.key,
-            undo_next: change.prev,
+            undo_next,
         },
     }
 }

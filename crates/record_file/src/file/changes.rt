@@ -1,7 +1,8 @@
-ghost use Rattle.std.specs.Prelude.{◌≡◌, ◌≢◌, ℕ, ◌<◌, false, Option, Some, None, Ok, Err, IsTrue, IfOk, IfErr, OnErr, IfSome};
+ghost use Rattle.std.specs.Prelude.{◌≡◌, ◌≢◌, ℕ, ◌<◌, ◌&&◌, false, is_none, Option, Some, None, Ok, Err, IsTrue, IfOk, IfErr, OnErr, IfSome};
 ghost use Rattle.rec_types.specs.Answered.{Answered};
 ghost use Rattle.rec_types.specs.Table.{greatest_count};
-ghost use Rattle.record_file.specs.Abstract.{is_full};
+ghost use Rattle.std.specs.FinMap as maps;
+ghost use Rattle.record_file.specs.Abstract.{is_full, records_of};
 ghost use Rattle.record_file.specs.Outside.{put_cause, claim_cause, remove_cause, put_by_file, claim_by_file, remove_by_file, AsksMemory};
 ghost use Rattle.record_file.specs.TableCalls.{ChangesTable};
 ghost use Rattle.record_file.specs.Steps.{rose, put_refusal, claim_refusal, remove_refusal, Accepts, key_change, PutStep, ClaimStep, RemoveStep};
@@ -67,11 +68,12 @@ impl<T: Table> RecordFile<T> {
         if let Some(fault) = self.claim_refusal(tx, &key) {
             return Err(fault);
         }
-        if self.is_full(&key)? {
+        let full = self.is_full_if_absent(&key);
+        let seen = self.table.get(&key)?;
+        if full && seen.is_none() {
             return Err(ClaimFault::Full);
         }
         self.log.reserve(&key)?;
-        let seen = self.table.get(&key)?;
         let told = seen.as_ref().copied();
         let _lsn = self.log.accept_claim(tx, key, told);
         Ok(seen)
@@ -124,12 +126,17 @@ impl<T: Table> RecordFile<T> {
         ensures no_room { result ≢ Err TableFault.NoRoom }
         ensures answered { Answered T.TableState self.old.table result self.new.table }
     {
-        if self.charged() < u64::from(self.table.limit()) {
-            return Ok(false);
-        }
-        if self.log.owner(key).is_some() {
+        if !self.is_full_if_absent(key) {
             return Ok(false);
         }
         Ok(self.table.get(key)?.is_none())
+    }
+
+    // Whether the key isn't charged and the charged keys have reached the limit, if no record stands there.
+    fn is_full_if_absent(&self, key: &Key) -> bool
+        ensures { IsTrue (T.sound self.now.table) → is_full self.now.file key.now
+            ≡ result && is_none (maps.get (records_of self.now.file) key.now) }
+    {
+        self.charged() >= u64::from(self.table.limit()) && self.log.owner(key).is_none()
     }
 }

@@ -17,3 +17,6 @@ returns-clause-resume c = λ old new failed refused t undone step. ap (λ (f : F
 
 pub returns-clause-twice : goal.returns-clause-twice
 returns-clause-twice c = λ sound m f exact. absurd (omega (arith, exact.compensated [] _ _ refl refl))
+
+pub returns-clause-claim_twice : goal.returns-clause-claim_twice
+returns-clause-claim_twice c = λ sound m f exact. absurd (omega (arith, exact.compensated [] _ _ refl refl))

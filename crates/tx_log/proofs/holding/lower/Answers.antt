@@ -17,11 +17,12 @@ returns-then-last c = λ h there.
     let stands = c.place_of_key-at.ensures.stands in
     let read : e ≡ h = some_of e h (sym (key_read m k at e stands c.index-2.ensures) ∙ there) in
     let read_was : w ≡ h = some_of w h (sym (key_read m k at w stands c.index.ensures) ∙ there) in
-    let one : h.live ≡ 1 = ap (λ (x : Holding). x.live) (sym read) ∙ c.if-last.true in
-    (ap (λ (x : Holding). x.absent) read_was,
-    λ q.
-    taken_there m c.swap_remove_index.new.self k at c.swap_remove_index.result stands c.swap_remove_index.ensures.entry c.swap_remove_index.ensures.updates q
-    ∙ ap (λ (b : Bool). cond (same_bytes k q) (cond b None (Some (record { owner = h.owner; live = h.live - 1; absent = c.args.absent }))) (held m q)) (sym (eq-eqb h.live 1 one)))
+    let one : h.live ≡ 1 = ap (λ (x : Holding). x.live) (sym read) ∙ c.if-last.true in (
+      ap (λ (x : Holding). x.absent) read_was,
+      λ q.
+          taken_there m c.swap_remove_index.new.self k at c.swap_remove_index.result stands c.swap_remove_index.ensures.entry c.swap_remove_index.ensures.updates q
+          ∙ ap (λ (b : Bool). cond (same_bytes k q) (cond b None (Some (record { owner = h.owner; live = h.live - 1; absent = c.args.absent }))) (held m q)) (sym (eq-eqb h.live 1 one)),
+    )
 
 pub returns-else-last : goal.returns-else-last
 returns-else-last c = λ h there.
@@ -36,12 +37,13 @@ returns-else-last c = λ h there.
     let same : d ≡ h = some_of d h (sym (key_read m k at d stands c.index_mut-holding.ensures.value) ∙ there) in
     let read : e ≡ h = some_of e h (sym (key_read m k at e stands c.index-2.ensures) ∙ there) in
     let read_was : w ≡ h = some_of w h (sym (key_read m k at w stands c.index.ensures) ∙ there) in
-    let more : eqb h.live 1 ≡ false = ap (λ (x : Holding). eqb x.live 1) (sym read) ∙ differs_from e.live c.if-last.false in
-    (ap (λ (x : Holding). x.absent) read_was,
-    λ q.
-    key_write m k at (record { owner = d.owner; live = d.live - 1; absent = will }) stands q
-    ∙ ap (λ (x : Holding). cond (same_bytes k q) (Some (record { owner = x.owner; live = x.live - 1; absent = will })) (held m q)) same
-    ∙ ap (λ (b : Bool). cond (same_bytes k q) (cond b None (Some (record { owner = h.owner; live = h.live - 1; absent = will }))) (held m q)) (sym more))
+    let more : eqb h.live 1 ≡ false = ap (λ (x : Holding). eqb x.live 1) (sym read) ∙ differs_from e.live c.if-last.false in (
+      ap (λ (x : Holding). x.absent) read_was,
+      λ q.
+          key_write m k at (record { owner = d.owner; live = d.live - 1; absent = will }) stands q
+          ∙ ap (λ (x : Holding). cond (same_bytes k q) (Some (record { owner = x.owner; live = x.live - 1; absent = will })) (held m q)) same
+          ∙ ap (λ (b : Bool). cond (same_bytes k q) (cond b None (Some (record { owner = h.owner; live = h.live - 1; absent = will }))) (held m q)) (sym more),
+    )
   where
     differs_from : (n : ℕ) → (n ≡ 1 → ⊥) → eqb n 1 ≡ false
     differs_from n other = differs_case (eqb n 1) refl

@@ -14,8 +14,7 @@ returns c = λ h there.
     let d = c.index_mut-holding.result.now in
     let stands = c.place_of_key-at.ensures.stands in
     let same : d ≡ h = some_of d h (sym (key_read m k at d stands c.index_mut-holding.ensures.value) ∙ there) in
-    let next : c.grown-next.result ≡ record { owner = c.args.tx; live = h.live + 1; absent = cond (c.args.writes || eqb h.live 0) c.args.absent h.absent } = c.grown-next.ensures ∙ ap (λ (x : Holding). let y : Holding = record { owner = c.args.tx; live = x.live + 1; absent = cond (c.args.writes || eqb x.live 0) c.args.absent x.absent } in y) same in
-    (
+    let next : c.grown-next.result ≡ record { owner = c.args.tx; live = h.live + 1; absent = cond (c.args.writes || eqb h.live 0) c.args.absent h.absent } = c.grown-next.ensures ∙ ap (λ (x : Holding). let y : Holding = record { owner = c.args.tx; live = x.live + 1; absent = cond (c.args.writes || eqb x.live 0) c.args.absent x.absent } in y) same in (
       ap (λ (x : Holding). x.absent) same,
       ap (λ (x : Holding). x.absent) next,
       λ q. key_write m k at c.grown-next.result stands q ∙ ap (λ (x : Holding). cond (same_bytes k q) (Some x) (held m q)) (next ∙ ap (λ (b : Bool). let y : Holding = record { owner = c.args.tx; live = h.live + 1; absent = b } in y) (sym (ap (λ (x : Holding). x.absent) next))),

@@ -1,4 +1,4 @@
-use Rattle.std.proofs.Common.{ℕ, false, List, Option, Result, Err, ◌≡◌, ◌≤◌, ◌+◌, Some, None, IsTrue, ap, sym, subst, [], ◌∷◌, ◌++◌, ◌∙◌, rules, arith}
+use Rattle.std.proofs.Common.{ℕ, ◌&&◌, not, is_some, is_none, false, List, Option, Result, Err, ◌≡◌, ◌≤◌, ◌+◌, Some, None, IsTrue, ap, sym, subst, [], ◌∷◌, ◌++◌, ◌∙◌, rules, arith}
 use Rattle.std.specs.FinMap as maps
 use Rattle.tx_log.specs.LogState.{LogState, use_in, update_in}
 use Rattle.tx_log.specs.declared.log_record.LogRecord.{LogRecord}
@@ -8,21 +8,21 @@ use Rattle.rec_types.specs.Table.{is_device, counted}
 use Rattle.rec_types.specs.declared.table.TableFault.TheVariants as table_faults
 use Rattle.record_file.specs.declared.fault.ClaimFault.{ClaimFault}
 use Rattle.record_file.specs.Steps.{rose, put_refusal, claim_fault, claim_refusal, ClaimStep, Accepts, key_change}
-use Rattle.record_file.proofs.FaultLemmas.{none_by, unmapped, rose_same, claim_err}
-use Rattle.record_file.proofs.FullnessLemmas.{put_accepts, room_now}
+use Rattle.record_file.proofs.FaultLemmas.{none_by, unmapped, rose_same}
+use Rattle.record_file.proofs.FullnessLemmas.{put_accepts, room_now, stands_not_full}
 use Rattle.record_file.proofs.InvariantLemmas.{change_kept, change_file, change_accepted}
 use Rattle.record_file.proofs.TableCallLemmas.{changes_asked, changes_set, changes_then}
 use Rattle.record_file.proofs.file.RecordFile.claim.Given as given
 use Rattle.record_file.proofs.file.RecordFile.claim.Goals as goal
-use Rattle.record_file.proofs.file.RecordFile.claim.Goals.{After-reserve}
+use Rattle.record_file.proofs.file.RecordFile.claim.Goals.{After-reserve, else-full-via-then-full+else-is_none, else-full-via-else-full}
 
 -- what the calls before the change left, and found
 module _ (g : given.Over) (c : After-reserve g) where
   link : file_of c.self.inside.log (g.T.TableState.contents c.self.inside.table) ≡ c.args.self.now.file
-  link = ap (λ (s : OpenFile _). s.file) c.self.view_is ∙ c.is_full.ensures.same.1
+  link = ap (λ (s : OpenFile _). s.file) c.self.view_is
 
   sound_is : g.T.TableState.sound c.self.inside.table ≡ g.T.TableState.sound c.args.self.now.table
-  sound_is = ap (λ (s : OpenFile _). g.T.TableState.sound s.table) c.self.view_is ∙ c.is_full.ensures.answered.soundness
+  sound_is = ap (λ (s : OpenFile _). g.T.TableState.sound s.table) c.self.view_is
 
   unclaimed : claim_refusal c.args.self.now.file c.args.tx.0 c.args.key ≡ None
   unclaimed = sym c.claim_refusal.ensures ∙ none_by c.claim_refusal.result c.in_default.not-Some
@@ -30,8 +30,19 @@ module _ (g : given.Over) (c : After-reserve g) where
   none : put_refusal c.args.self.now.file c.args.tx.0 c.args.key ≡ None
   none = unmapped claim_fault (put_refusal c.args.self.now.file c.args.tx.0 c.args.key) unclaimed
 
+  stood : IsTrue (g.T.TableState.sound c.args.self.now.table) → c.in_ok-seen.seen ≡ maps.get (records_of c.args.self.now.file) c.args.key
+  stood sound =
+      let here = sound_is ∙ sound in
+      c.in_ok-seen.ensures.value here ∙ ap (λ m. maps.get m c.args.key) (c.self.invariant.fits here).replayed ∙ ap (λ (f : File). maps.get (records_of f) c.args.key) link
+
   not_full : IsTrue (g.T.TableState.sound c.args.self.now.table) → is_full c.args.self.now.file c.args.key ≡ false
-  not_full sound = sym (c.in_ok-is_full.ensures.value sound) ∙ c.if-branch.false
+  not_full sound =
+      let told = c.is_full_if_absent-full.ensures sound in
+      let found = ap (λ o. is_some o) (stood sound) in
+      elim c.else-full.branch [
+        | else-full-via-then-full+else-is_none w ↦ stands_not_full _ _ (maps.get (records_of c.args.self.now.file) c.args.key) told (sym found ∙ w.is_none.ensures ∙ ap not w.if-is_none.false)
+        | else-full-via-else-full w ↦ told ∙ ap (λ b. b && is_none (maps.get (records_of c.args.self.now.file) c.args.key)) w.if-full.false
+      ]
 
 pub accept_claim-lsn-requires-clause-fits : goal.accept_claim-lsn-requires-clause-fits
 accept_claim-lsn-requires-clause-fits g c =
@@ -53,13 +64,12 @@ pub returns-clause-step : goal.returns-clause-step
 returns-clause-step g c = λ sound lt.
     let place = (goal.at.returns-clause-step g c).After-reserve in
     let here = sound_is g place ∙ sound in
-    let counts = c.in_ok-seen.ensures.answered.device ∙ ap (λ (s : OpenFile _). g.T.TableState.device_failures s.table) c.self.view_is ∙ c.in_ok-is_full.ensures.answered.device in
-    let stood = c.in_ok-seen.ensures.value here in (
+    let counts = c.in_ok-seen.ensures.answered.device ∙ ap (λ (s : OpenFile _). g.T.TableState.device_failures s.table) c.self.view_is in (
       unclaimed g place,
       rose_same (g.T.TableState.device_failures c.args.self.now.table) (g.T.TableState.device_failures c.get.new.self) counts,
       not_full g place sound,
-      stood ∙ ap (λ m. maps.get m c.args.key) (c.self.invariant.fits here).replayed ∙ ap (λ (f : File). maps.get (records_of f) c.args.key) (link g place),
-      change_file _ _ _ c.self.inside.log c.self.invariant c.in_ok-reserve.ensures.kept (g.T.TableState.contents c.get.new.self) c.reserve.new.self c.accept_claim-lsn.new.self c.args.tx c.args.key c.in_ok-seen.seen c.copied-told.result _ c.in_ok-reserve.ensures.ok c.in_ok-seen.ensures.same stood (c.copied-told.ensures ∙ c.as_ref.ensures.value) c.accept_claim-lsn.ensures.after
+      stood g place sound,
+      change_file _ _ _ c.self.inside.log c.self.invariant c.in_ok-reserve.ensures.kept (g.T.TableState.contents c.get.new.self) c.reserve.new.self c.accept_claim-lsn.new.self c.args.tx c.args.key c.in_ok-seen.seen c.copied-told.result _ c.in_ok-reserve.ensures.ok c.in_ok-seen.ensures.same (c.in_ok-seen.ensures.value here) (c.copied-told.ensures ∙ c.as_ref.ensures.value) c.accept_claim-lsn.ensures.after
           ∙ ap (λ (f : File). with_change f c.args.tx.0 c.args.key None) (link g place),
     )
 
@@ -68,43 +78,12 @@ returns-clause-accepted g c =
     let F = file_of c.accept_claim-lsn.new.self (g.T.TableState.contents c.get.new.self) in
     let place = (goal.at.returns-clause-accepted g c).After-reserve in
     subst (λ (o : Option (List ℕ)). Accepts c.args.self.now.file c.args.self.now.log (key_change c.args.tx c.args.key o None) F c.accept_claim-lsn.new.self.records) (c.copied-told.ensures ∙ c.as_ref.ensures.value)
-    (subst (λ (l : List LogRecord). Accepts c.args.self.now.file l (key_change c.args.tx c.args.key c.copied-told.result None) F c.accept_claim-lsn.new.self.records) (ap (λ (s : OpenFile _). s.log) c.self.view_is ∙ c.is_full.ensures.same.2)
+    (subst (λ (l : List LogRecord). Accepts c.args.self.now.file l (key_change c.args.tx c.args.key c.copied-told.result None) F c.accept_claim-lsn.new.self.records) (ap (λ (s : OpenFile _). s.log) c.self.view_is)
     (subst (λ (f : File). Accepts f c.self.inside.log.records (key_change c.args.tx c.args.key c.copied-told.result None) F c.accept_claim-lsn.new.self.records) (link g place)
     (change_accepted _ _ _ c.self.inside.log c.self.invariant c.in_ok-reserve.ensures.kept (g.T.TableState.contents c.get.new.self) c.reserve.new.self c.accept_claim-lsn.new.self c.args.tx c.args.key c.copied-told.result None c.in_ok-reserve.ensures.ok c.accept_claim-lsn.ensures.after)))
 
-pub returns-clause-err : goal.returns-clause-err
-returns-clause-err g c = tt
-
 pub returns-clause-table : goal.returns-clause-table
 returns-clause-table g c =
-    changes_then g.T.TableState _ c.is_full.new.self _ None
-    (changes_asked g.T.TableState _ _ _ c.in_ok-is_full.ensures.answered c.is_full.ensures.same.0 c.is_full.ensures.same.2)
     (changes_set g.T.TableState _ _ _ _ _ c.self.view_is c.in_ok-seen.ensures.answered
     (ap (λ (s : LogState). s.records) c.accept_claim-lsn.ensures.after ∙ ap (λ (s : LogState). s.records ++ update_in s c.args.tx c.args.key c.copied-told.result None ∷ []) c.in_ok-reserve.ensures.ok)
     (λ _. c.in_ok-seen.ensures.same))
-
--- the log has no room
-pub returns-in_err-reserve-clause-step : goal.returns-in_err-reserve-clause-step
-returns-in_err-reserve-clause-step g c = search rules
-
-pub returns-in_err-reserve-clause-err : goal.returns-in_err-reserve-clause-err
-returns-in_err-reserve-clause-err g c = search rules
-
-pub returns-in_err-reserve-clause-table : goal.returns-in_err-reserve-clause-table
-returns-in_err-reserve-clause-table g c = search rules
-
-pub returns-in_err-reserve-clause-memory : goal.returns-in_err-reserve-clause-memory
-returns-in_err-reserve-clause-memory g c = search rules
-
--- the table refused the change
-pub returns-in_err-seen-clause-step : goal.returns-in_err-seen-clause-step
-returns-in_err-seen-clause-step g c = λ sound lt.
-    let place = (goal.at.returns-in_err-seen-clause-step g c).After-reserve in
-    let here = sound_is g place ∙ sound in
-    let counts = c.in_err-seen.ensures.answered.device ∙ ap (λ n. counted n (is_device {A = Option (List ℕ)} (Err c.in_err-seen.field-0.0))) (ap (λ (s : OpenFile _). g.T.TableState.device_failures s.table) c.self.view_is ∙ c.in_ok-is_full.ensures.answered.device) in
-    let told = err_from_is_err_and c.from_residual-in_err-seen.result c.from_residual-in_err-seen.ensures.1 in
-    let same = (λ i. file_of (c.in_ok-reserve.ensures.ok i) (c.in_err-seen.ensures.same i)) ∙ link g place in
-    subst (λ (r : Result (Option (List ℕ)) ClaimFault). ClaimStep c.args.self.now.file c.args.tx.0 c.args.key (rose (g.T.TableState.device_failures c.args.self.now.table) (g.T.TableState.device_failures c.get.new.self)) r (file_of c.reserve.new.self (g.T.TableState.contents c.get.new.self))) (sym (told.1 ∙ ap Err told.2))
-    (claim_err c.args.self.now.file _ c.args.tx.0 c.args.key _ _ c.in_err-seen.field-0.0 (unclaimed g place) (not_full g place sound) same lt counts
-    (λ (is : c.in_err-seen.field-0.0 ≡ table_faults.NoRoom). c.in_err-seen.ensures.no_room (ap Err is))
-    (λ (page : ℕ) (is : c.in_err-seen.field-0.0 ≡ table_faults.Damaged page). c.in_err-seen.ensures.answered.whole here page (ap Err is)))
