@@ -126,7 +126,10 @@ fn memory_command<'a>(alloc: Global) -> Result<Command<'a>, AllocError> {
 // The program with none of its commands.
 fn bare_program<'a>(alloc: Global) -> Result<Command<'a>, AllocError> {
     let program = Command::new(alloc, "recfile").bin_name("recfile")?;
-    Ok(program.about("A keyed record file under transactions; with no words, the same as memory"))
+    Ok(program.about(
+        "A keyed record file under transactions; with no words, the same as memory. The lines of a script: \
+begin, put, del, get, claim, save, release, back, resume, abort, commit, list, keys, log",
+    ))
 }
 
 fn with_command<'a>(
