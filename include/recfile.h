@@ -96,7 +96,8 @@ typedef struct {
 } recfile_tx_status;
 
 /* A record of the log: kind is 0 where there is none, 1 for an update, 2 for a compensation, whose after is what it
- * restored. prev is the number of the record of the same transaction before it, and 0 where there is none. */
+ * restored, 3 for a claim, whose before is what it has seen, 4 for a claim that was taken back. prev is the number of
+ * the record of the same transaction before it, and 0 where there is none. */
 typedef struct {
     uint32_t kind;
     uint32_t lsn;
@@ -168,6 +169,11 @@ int32_t recfile_begin(recfile *file, uint32_t *tx);
  * ROLLING, HELD, LOG_FULL, DEVICE or DAMAGED, FULL, MEMORY. */
 int32_t recfile_put(recfile *file, uint32_t tx, const uint8_t *key, size_t key_len, const uint8_t *value,
                     size_t value_len, recfile_record *before, recfile_detail *detail);
+
+/* Claims a key without changing its record; *seen is the one that stands there. OK, CLOSED, EMPTY_KEY, LONG_KEY,
+ * NO_SUCH_TX, ROLLING, HELD, LOG_FULL, DEVICE or DAMAGED, FULL, MEMORY. */
+int32_t recfile_claim(recfile *file, uint32_t tx, const uint8_t *key, size_t key_len, recfile_record *seen,
+                      recfile_detail *detail);
 
 /* Looks a record up: *found. OK, CLOSED, EMPTY_KEY, LONG_KEY, NO_SUCH_TX, ROLLING, HELD, DEVICE or DAMAGED. */
 int32_t recfile_get(recfile *file, uint32_t tx, const uint8_t *key, size_t key_len, recfile_record *found,

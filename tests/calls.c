@@ -1,5 +1,5 @@
-/* The calls of recfile.h, each with its status and a number that it tells: a session over a file in memory, and the
- * same over a page file, which is closed, its steps carried out in memory, and opened again. */
+/* The calls of recfile.h, each with its status and a number that it tells: claims in a small file, a session over a
+ * file in memory, and the same over a page file, which is closed, its steps carried out in memory, and opened again. */
 #include "recfile.h"
 
 #include <inttypes.h>
@@ -48,6 +48,13 @@ static int32_t memory(recfile *file, arguments given, uint64_t *number) {
     return recfile_memory(file, 10, 100, 100);
 }
 
+/* With room for one record and for six records of the log. */
+static int32_t small(recfile *file, arguments given, uint64_t *number) {
+    (void)given;
+    (void)number;
+    return recfile_memory(file, 1, 6, 100);
+}
+
 static int32_t create(recfile *file, arguments given, uint64_t *number) {
     recfile_detail detail;
     (void)number;
@@ -73,6 +80,14 @@ static int32_t put(recfile *file, arguments given, uint64_t *number) {
     int32_t status = recfile_put(file, given.of, bytes(given.key), strlen(given.key), bytes(given.value),
                                  strlen(given.value), &before, &detail);
     *number = status == RECFILE_HELD ? detail.owner : first(&before);
+    return status;
+}
+
+static int32_t claim(recfile *file, arguments given, uint64_t *number) {
+    recfile_record seen = {0};
+    recfile_detail detail;
+    int32_t status = recfile_claim(file, given.of, bytes(given.key), strlen(given.key), &seen, &detail);
+    *number = status == RECFILE_HELD ? detail.owner : first(&seen);
     return status;
 }
 
@@ -169,6 +184,27 @@ static int32_t log_record(recfile *file, arguments given, uint64_t *number) {
     return status;
 }
 
+static int32_t log_before(recfile *file, arguments given, uint64_t *number) {
+    recfile_log_entry entry = {0};
+    int32_t status = recfile_log_record(file, given.of, &entry);
+    *number = first(&entry.before);
+    return status;
+}
+
+static int32_t log_after(recfile *file, arguments given, uint64_t *number) {
+    recfile_log_entry entry = {0};
+    int32_t status = recfile_log_record(file, given.of, &entry);
+    *number = first(&entry.after);
+    return status;
+}
+
+static int32_t log_undo_next(recfile *file, arguments given, uint64_t *number) {
+    recfile_log_entry entry = {0};
+    int32_t status = recfile_log_record(file, given.of, &entry);
+    *number = entry.undo_next;
+    return status;
+}
+
 static int32_t entries(recfile *file, arguments given, uint64_t *number) {
     recfile_detail detail;
     (void)given;
@@ -212,7 +248,50 @@ static int32_t discard(recfile *file, arguments given, uint64_t *number) {
     return recfile_discard(file);
 }
 
-/* Two transactions, a partial rollback, a key that is held. */
+/* Claims, and what the log tells of them and of their taking back. */
+static const row CLAIMS[] = {
+    AT(claim, 1, "a", CLOSED, 0),
+    ASK(small, OK, 0),
+    ASK(begin, OK, 1),
+    ASK(begin, OK, 2),
+    AT(claim, 1, "", EMPTY_KEY, 0),
+    AT(claim, 1, "12345678 12345678", LONG_KEY, 0),
+    AT(claim, 3, "a", NO_SUCH_TX, 0),
+    AT(claim, 1, "a", OK, 0),
+    AT(claim, 2, "a", HELD, 1),
+    AT(claim, 2, "b", FULL, 0),
+    PUT(1, "a", "\1", OK, 0),
+    AT(claim, 1, "a", OK, 1),
+    AT(claim, 1, "a", LOG_FULL, 0),
+    OF(live_changes, 1, OK, 3),
+    OF(keys_of, 1, OK, 1),
+    ASK(charged, OK, 1),
+    SAVE(rollback_to, 1, 0, OK, 3),
+    OF(keys_of, 1, OK, 0),
+    ASK(log_len, OK, 6),
+    OF(log_record, 1, OK, 3),
+    OF(log_before, 1, OK, 0),
+    OF(log_record, 2, OK, 1),
+    OF(log_record, 3, OK, 3),
+    OF(log_before, 3, OK, 1),
+    OF(log_after, 3, OK, 0),
+    OF(log_undo_next, 3, OK, 0),
+    OF(log_record, 4, OK, 4),
+    OF(log_before, 4, OK, 0),
+    OF(log_after, 4, OK, 0),
+    OF(log_undo_next, 4, OK, 2),
+    OF(log_record, 5, OK, 2),
+    OF(log_undo_next, 5, OK, 1),
+    OF(log_record, 6, OK, 4),
+    OF(log_undo_next, 6, OK, 0),
+    OF(log_record, 7, OK, 0),
+    OF(commit, 1, OK, 0),
+    OF(commit, 2, OK, 0),
+    ASK(close, OK, 0),
+    AT(claim, 1, "a", CLOSED, 0),
+};
+
+/* Two transactions, a partial rollback, a key that is held, a key that is claimed. */
 static const row SESSION[] = {
     ASK(begin, OK, 1),
     ASK(begin, OK, 2),
@@ -226,6 +305,8 @@ static const row SESSION[] = {
     PUT(1, "b", "\3", OK, 0),
     PUT(2, "c", "\4", OK, 0),
     PUT(1, "c", "\5", HELD, 2),
+    AT(claim, 1, "c", HELD, 2),
+    AT(claim, 2, "c", OK, 4),
     AT(get, 1, "a", OK, 2),
     OF(live_changes, 1, OK, 3),
     SAVE(rollback_to, 1, 2, NO_SUCH_SAVE, 0),
@@ -244,15 +325,16 @@ static const row SESSION[] = {
     OF(entry, 2, NO_SUCH_ENTRY, 0),
     ASK(charged, OK, 3),
     ASK(begun, OK, 2),
-    ASK(log_len, OK, 8),
-    ASK(log_use, OK, 12),
-    OF(log_record, 5, OK, 2),
-    OF(log_record, 9, OK, 0),
+    ASK(log_len, OK, 9),
+    ASK(log_use, OK, 14),
+    OF(log_record, 5, OK, 3),
+    OF(log_record, 6, OK, 2),
+    OF(log_record, 10, OK, 0),
     ASK(memory, NOT_CLOSED, 0),
     ASK(step_count, NOT_CLOSED, 0),
     ASK(close, STILL_OPEN, 2),
     OF(commit, 1, OK, 0),
-    OF(roll_back, 2, OK, 1),
+    OF(roll_back, 2, OK, 2),
     ASK(close, OK, 0),
     ASK(begin, CLOSED, 0),
 };
@@ -318,6 +400,8 @@ int main(void) {
     uint32_t count;
     recfile *file = NULL;
     expect(recfile_new(&file) == RECFILE_OK, "a handle is made");
+    EXPECT(file, CLAIMS);
+    EXPECT(file, OF_MEMORY);
     EXPECT(file, IN_MEMORY);
     EXPECT(file, SESSION);
     EXPECT(file, OF_MEMORY);

@@ -1,4 +1,5 @@
-/* A session over a page file: two transactions, a partial rollback, a key that is held; then the file is opened again.
+/* A session over a page file: two transactions, a partial rollback, a key that is held, a key that is claimed; then the
+ * file is opened again.
  *
  *     session FILE          makes FILE, and opens it again
  *     session --list FILE   opens FILE, lists its records, and closes it
@@ -36,6 +37,16 @@ static int32_t put(recfile *file, uint32_t tx, const char *key, const char *valu
     return status;
 }
 
+static int32_t claim(recfile *file, uint32_t tx, const char *key, recfile_detail *detail) {
+    recfile_record seen;
+    int32_t status = recfile_claim(file, tx, bytes(key), strlen(key), &seen, detail);
+    if (status == RECFILE_OK && seen.is_there)
+        printf("claim %" PRIu32 " %s: %.*s there\n", tx, key, (int)seen.len, (const char *)seen.bytes);
+    else if (status == RECFILE_OK)
+        printf("claim %" PRIu32 " %s: none there\n", tx, key);
+    return status;
+}
+
 static void list(recfile *file) {
     recfile_detail detail;
     recfile_listed told;
@@ -52,12 +63,20 @@ static void list(recfile *file) {
     printf("%" PRIu64 " records\n", count);
 }
 
+static void list_keys(recfile *file, uint32_t tx) {
+    recfile_key_bytes key;
+    uint64_t count;
+    check(recfile_keys_of(file, tx, &count), RECFILE_OK, "keys_of");
+    for (uint64_t i = 0; i < count; i++) {
+        check(recfile_key(file, i, &key), RECFILE_OK, "key");
+        printf("%" PRIu32 " owns %.*s\n", tx, (int)key.len, (const char *)key.bytes);
+    }
+}
+
 static void work(recfile *file) {
     recfile_detail detail;
-    recfile_key_bytes key;
     recfile_record found;
     uint32_t first, second, save, undone, length, use;
-    uint64_t keys;
     check(recfile_begin(file, &first), RECFILE_OK, "begin");
     check(recfile_begin(file, &second), RECFILE_OK, "begin");
     check(put(file, first, "apple", "red", &detail), RECFILE_OK, "put");
@@ -71,11 +90,11 @@ static void work(recfile *file) {
     printf("%" PRIu32 " changes taken back\n", undone);
     check(recfile_get(file, first, bytes("apple"), 5, &found, &detail), RECFILE_OK, "get");
     printf("apple is %.*s\n", (int)found.len, (const char *)found.bytes);
-    check(recfile_keys_of(file, first, &keys), RECFILE_OK, "keys_of");
-    for (uint64_t i = 0; i < keys; i++) {
-        check(recfile_key(file, i, &key), RECFILE_OK, "key");
-        printf("%" PRIu32 " owns %.*s\n", first, (int)key.len, (const char *)key.bytes);
-    }
+    check(claim(file, second, "plum", &detail), RECFILE_OK, "claim");
+    check(put(file, first, "plum", "blue", &detail), RECFILE_HELD, "put");
+    printf("plum is held by %" PRIu32 "\n", detail.owner);
+    list_keys(file, first);
+    list_keys(file, second);
     list(file);
     check(recfile_log_len(file, &length), RECFILE_OK, "log_len");
     check(recfile_log_use(file, &use), RECFILE_OK, "log_use");

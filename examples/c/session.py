@@ -71,6 +71,13 @@ class File:
         if expected == OK:
             print(f"put {tx} {key}: " + (f"before {text(before)}" if before.is_there else "none before"))
 
+    def claim(self, tx, key):
+        seen = Record()
+        key_bytes = key.encode()
+        self.call("claim", u32(tx), key_bytes, ctypes.c_size_t(len(key_bytes)), ctypes.byref(seen),
+                  ctypes.byref(self.detail))
+        print(f"claim {tx} {key}: " + (f"{text(seen)} there" if seen.is_there else "none there"))
+
     def taken_back(self, name, *words):
         undone = u32()
         self.call(name, *words, ctypes.byref(undone), ctypes.byref(self.detail))
@@ -85,6 +92,12 @@ class File:
             print(f"{text(told.key)} = {text(told.value)}" + (f" (of {told.owner})" if told.is_owned else ""))
         print(f"{count.value} records")
 
+    def list_keys(self, tx):
+        for i in range(self.number("keys_of", u32(tx), kind=u64)):
+            key = KeyBytes()
+            self.call("key", u64(i), ctypes.byref(key))
+            print(f"{tx} owns {text(key)}")
+
     def work(self):
         first, second = self.number("begin"), self.number("begin")
         self.put(first, "apple", "red")
@@ -98,10 +111,11 @@ class File:
         found = Record()
         self.call("get", u32(first), b"apple", ctypes.c_size_t(5), ctypes.byref(found), ctypes.byref(self.detail))
         print(f"apple is {text(found)}")
-        for i in range(self.number("keys_of", u32(first), kind=u64)):
-            key = KeyBytes()
-            self.call("key", u64(i), ctypes.byref(key))
-            print(f"{first} owns {text(key)}")
+        self.claim(second, "plum")
+        self.put(first, "plum", "blue", expected=HELD)
+        print(f"plum is held by {self.detail.owner}")
+        self.list_keys(first)
+        self.list_keys(second)
         self.list()
         print(f"log {self.number('log_len')} {self.number('log_use')}")
         self.call("close", ctypes.byref(self.detail), expected=STILL_OPEN)

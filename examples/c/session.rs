@@ -78,6 +78,7 @@ extern "C" {
         before: *mut Record,
         detail: *mut Detail,
     ) -> i32;
+    fn recfile_claim(file: *mut RecFile, tx: u32, key: *const u8, key_len: usize, seen: *mut Record, detail: *mut Detail) -> i32;
     fn recfile_get(file: *mut RecFile, tx: u32, key: *const u8, key_len: usize, found: *mut Record, detail: *mut Detail) -> i32;
     fn recfile_savepoint(file: *mut RecFile, tx: u32, n: *mut u32) -> i32;
     fn recfile_rollback_to(file: *mut RecFile, tx: u32, n: u32, undone: *mut u32, detail: *mut Detail) -> i32;
@@ -141,6 +142,17 @@ impl Handle {
         }
     }
 
+    fn claim(&mut self, tx: u32, key: &str) {
+        let mut seen = Record::default();
+        let status = unsafe { recfile_claim(self.file, tx, key.as_ptr(), key.len(), &mut seen, &mut self.detail) };
+        check(status, OK, "claim");
+        if seen.is_there != 0 {
+            println!("claim {tx} {key}: {} there", text(&seen.bytes, seen.len));
+        } else {
+            println!("claim {tx} {key}: none there");
+        }
+    }
+
     fn list(&mut self) {
         let mut count = 0;
         check(unsafe { recfile_entries(self.file, &mut count, &mut self.detail) }, OK, "entries");
@@ -184,7 +196,11 @@ impl Handle {
         let status = unsafe { recfile_get(self.file, first, "apple".as_ptr(), 5, &mut found, &mut self.detail) };
         check(status, OK, "get");
         println!("apple is {}", text(&found.bytes, found.len));
+        self.claim(second, "plum");
+        self.put(first, "plum", "blue", HELD);
+        println!("plum is held by {}", self.detail.owner);
         self.keys(first);
+        self.keys(second);
         self.list();
         check(unsafe { recfile_log_len(self.file, &mut length) }, OK, "log_len");
         check(unsafe { recfile_log_use(self.file, &mut log_use) }, OK, "log_use");

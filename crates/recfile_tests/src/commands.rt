@@ -2,8 +2,8 @@ use crate::{expect_named, expect_text};
 use command_text::{Command, EntryList, KeyList, LineFault, Reply, read_line, write_reply};
 use rec_types::{Entry, Key, Record, TxId};
 use record_file::{
-    AbortFault, BeginFault, Cause, CommitFault, EntriesFault, GetFault, KeysOfFault, PutFault,
-    ReleaseFault, RemoveFault, ResumeFault, RollbackToFault, SavepointFault,
+    AbortFault, BeginFault, Cause, ClaimFault, CommitFault, EntriesFault, GetFault, KeysOfFault,
+    PutFault, ReleaseFault, RemoveFault, ResumeFault, RollbackToFault, SavepointFault,
 };
 use std::alloc::{AllocError, Global};
 use std::process::Abort;
@@ -15,6 +15,7 @@ fn push_command(text: &mut String, command: Command) -> Result<(), AllocError> {
         Command::Put(tx, key, record) => {
             write!(text, "put {} {:?} {:?}", tx.0, key.bytes(), record.bytes())
         }
+        Command::Claim(tx, key) => write!(text, "claim {} {:?}", tx.0, key.bytes()),
         Command::Del(tx, key) => write!(text, "del {} {:?}", tx.0, key.bytes()),
         Command::Get(tx, key) => write!(text, "get {} {:?}", tx.0, key.bytes()),
         Command::Save(tx) => write!(text, "save {}", tx.0),
@@ -50,11 +51,11 @@ fn expect(rt: &impl Abort, alloc: Global, lines: &str, wanted: &str) {
 }
 
 /// Lines, and what each of them says.
-const LINES: [(&str, &str, &str); 9] = [
+const LINES: [(&str, &str, &str); 10] = [
     (
         "each command is read",
-        "begin\nput 1 a =x\ndel 2 b\nget 3 c\nsave 4\nrelease 5 6\nback 7 8\nresume 9\nabort 10\ncommit 11\nlist\nkeys 12\nlog",
-        "begin\nput 1 [97] [120]\ndel 2 [98]\nget 3 [99]\nsave 4\nrelease 5 6\nback 7 8\nresume 9\nabort 10\ncommit 11\nlist\nkeys 12\nlog\n",
+        "begin\nput 1 a =x\ndel 2 b\nget 3 c\nsave 4\nrelease 5 6\nback 7 8\nresume 9\nabort 10\ncommit 11\nlist\nkeys 12\nlog\nclaim 13 d",
+        "begin\nput 1 [97] [120]\ndel 2 [98]\nget 3 [99]\nsave 4\nrelease 5 6\nback 7 8\nresume 9\nabort 10\ncommit 11\nlist\nkeys 12\nlog\nclaim 13 [100]\n",
     ),
     (
         "lines without a command",
@@ -86,6 +87,11 @@ const LINES: [(&str, &str, &str); 9] = [
         "the first fault of a line",
         "frob x\nget x\nget x abcdefghijklmnopq\ndel x abcdefghijklmnopq\nrelease x y\nput x abcdefghijklmnopq =x\nput x a x\nput x a =abcdefghijklmnopqrstuvwxyz0123456\nput 1 abcdefghijklmnopq x\nput 1 abcdefghijklmnopq =abcdefghijklmnopqrstuvwxyz0123456\nput 1 a abcdefghijklmnopqrstuvwxyz0123456\nput 1 a x=\nput 1 =a =b\nget 1 =",
         "UnknownCommand\nWordCount\nBadNumber\nBadNumber\nBadNumber\nBadNumber\nBadNumber\nBadNumber\nKeyTooLong\nKeyTooLong\nNoRecordMark\nNoRecordMark\nput 1 [61, 97] [98]\nget 1 [61]\n",
+    ),
+    (
+        "claims and their faults",
+        "claim 1 a\n  claim  01  a  \nclaim 1 a\r\nclaim 1 %00\nclaim 1 =a\nclaim 4294967295 abcdefghijklmnop\nclaims 1 a\nClaim 1 a\nclaim# 1 a\nclai 1 a\n#claim 1 a\nclaim\nclaim 1\nclaim 1 a b\nclaim 1 a =x\nclaim x\nclaim x a\nclaim x abcdefghijklmnopq\nclaim 4294967296 a\nclaim -1 a\nclaim 1 abcdefghijklmnopq",
+        "claim 1 [97]\nclaim 1 [97]\nclaim 1 [97]\nclaim 1 [0]\nclaim 1 [61, 97]\nclaim 4294967295 [97, 98, 99, 100, 101, 102, 103, 104, 105, 106, 107, 108, 109, 110, 111, 112]\nUnknownCommand\nUnknownCommand\nUnknownCommand\nUnknownCommand\n-\nWordCount\nWordCount\nWordCount\nWordCount\nWordCount\nBadNumber\nBadNumber\nBadNumber\nBadNumber\nKeyTooLong\n",
     ),
     (
         "keys and records have a greatest length",
@@ -171,6 +177,9 @@ fn answers_are_written(rt: HostRuntime) {
         (Reply::Begin(Ok(TxId(1))), "ok 1\n"),
         (Reply::Put(Ok(None)), "ok none\n"),
         (Reply::Put(Ok(Some(record))), "ok =x%20y\n"),
+        (Reply::Claim(Ok(None)), "ok none\n"),
+        (Reply::Claim(Ok(Some(record))), "ok =x%20y\n"),
+        (Reply::Claim(Ok(Some(Record::default()))), "ok =\n"),
         (Reply::Del(Ok(record)), "ok =x%20y\n"),
         (Reply::Get(Ok(None)), "ok none\n"),
         (Reply::Get(Ok(Some(Record::default()))), "ok =\n"),
@@ -198,6 +207,14 @@ fn refusals_are_written(rt: HostRuntime) {
         (Reply::Put(Err(PutFault::Held(TxId(2)))), "no Held 2\n"),
         (Reply::Put(Err(PutFault::LogFull)), "no LogFull\n"),
         (Reply::Put(Err(PutFault::Full)), "no Full\n"),
+        (Reply::Claim(Err(ClaimFault::NoSuchTx)), "no NoSuchTx\n"),
+        (Reply::Claim(Err(ClaimFault::Rolling)), "no Rolling\n"),
+        (Reply::Claim(Err(ClaimFault::Held(TxId(2)))), "no Held 2\n"),
+        (Reply::Claim(Err(ClaimFault::LogFull)), "no LogFull\n"),
+        (Reply::Claim(Err(ClaimFault::Device)), "no Device\n"),
+        (Reply::Claim(Err(ClaimFault::Damaged(7))), "no Damaged 7\n"),
+        (Reply::Claim(Err(ClaimFault::Full)), "no Full\n"),
+        (Reply::Claim(Err(ClaimFault::Memory)), "no Memory\n"),
         (Reply::Del(Err(RemoveFault::Absent)), "no Absent\n"),
         (Reply::Del(Err(RemoveFault::Damaged(7))), "no Damaged 7\n"),
         (Reply::Get(Err(GetFault::Device)), "no Device\n"),

@@ -7,8 +7,8 @@ use page_store::{FetchFault, StoreFault, WriteFault};
 use rec_types::{KeyFault, LimitFault, RecordFault, TableFault, TxId};
 use recfile::{EndFault, ScriptFault};
 use record_file::{
-    AbortFault, BeginFault, Cause, CommitFault, EntriesFault, GetFault, KeysOfFault, PutFault,
-    ReleaseFault, RemoveFault, ResumeFault, RollbackToFault, SavepointFault, StatusFault,
+    AbortFault, BeginFault, Cause, ClaimFault, CommitFault, EntriesFault, GetFault, KeysOfFault,
+    PutFault, ReleaseFault, RemoveFault, ResumeFault, RollbackToFault, SavepointFault, StatusFault,
 };
 use std::alloc::Global;
 use std::fmt::Display;
@@ -68,6 +68,20 @@ const PUT_FAULTS: [(PutFault, &str); 8] = [
     (PutFault::Damaged(7), "page 7 is damaged"),
     (PutFault::Full, "the file has as many records as it may"),
     (PutFault::Memory, "out of memory"),
+];
+
+const CLAIM_FAULTS: [(ClaimFault, &str); 8] = [
+    (ClaimFault::NoSuchTx, "no such open transaction"),
+    (ClaimFault::Rolling, "the transaction is being rolled back"),
+    (
+        ClaimFault::Held(TxId(7)),
+        "the key is held by another transaction",
+    ),
+    (ClaimFault::LogFull, "the log is full"),
+    (ClaimFault::Device, "the device failed"),
+    (ClaimFault::Damaged(7), "page 7 is damaged"),
+    (ClaimFault::Full, "the file has as many records as it may"),
+    (ClaimFault::Memory, "out of memory"),
 ];
 
 const REMOVE_FAULTS: [(RemoveFault, &str); 8] = [
@@ -335,6 +349,7 @@ fn texts_of_the_file(rt: HostRuntime) {
     let alloc = rt.alloc();
     expect_texts(&rt, alloc, &BEGIN_FAULTS);
     expect_texts(&rt, alloc, &PUT_FAULTS);
+    expect_texts(&rt, alloc, &CLAIM_FAULTS);
     expect_texts(&rt, alloc, &REMOVE_FAULTS);
     expect_texts(&rt, alloc, &GET_FAULTS);
     expect_texts(&rt, alloc, &SAVEPOINT_FAULTS);

@@ -15,14 +15,14 @@ fn is_free(log: &TxLog, tx: TxId, key: &Key) -> bool
     }
 }
 
-/// Makes room and adds a change, once more where memory was refused.
-fn put(
+/// Makes room, once more where memory was refused, and adds a change: a claim where it writes nothing.
+fn accept(
     rt: &impl Abort,
     log: &mut TxLog,
     tx: TxId,
     key: &Key,
     before: Option<Record>,
-    after: Option<Record>,
+    after: Option<Option<Record>>,
 ) -> Result<u32, Memory> {
     if log.reserve(key).is_err() {
         log.reserve(key)?;
@@ -30,7 +30,10 @@ fn put(
     assert!(rt; log.phase(tx) == Some(Phase::Active));
     assert!(rt; is_free(log, tx, key));
     assert!(rt; log.can_accept());
-    Ok(log.accept(tx, *key, before, after))
+    match after {
+        Some(after) => Ok(log.accept(tx, *key, before, after)),
+        None => Ok(log.accept_claim(tx, *key, before)),
+    }
 }
 
 /// Does so with a key and records of one byte.
@@ -42,8 +45,13 @@ fn put_bytes(
     before: Option<u8>,
     after: Option<u8>,
 ) -> u32 {
-    let (before, after) = (record_of(rt, before), record_of(rt, after));
-    put(rt, log, TxId(tx), &key_of(rt, key), before, after).expect(rt, "no answer")
+    let (before, after) = (record_of(rt, before), Some(record_of(rt, after)));
+    accept(rt, log, TxId(tx), &key_of(rt, key), before, after).expect(rt, "no answer")
+}
+
+fn claim_bytes(rt: &impl Abort, log: &mut TxLog, tx: u32, key: u8, seen: Option<u8>) -> u32 {
+    let seen = record_of(rt, seen);
+    accept(rt, log, TxId(tx), &key_of(rt, key), seen, None).expect(rt, "no answer")
 }
 
 /// Begins a transaction, once more where memory was refused.
@@ -95,6 +103,8 @@ enum Step {
     Begin(Option<u32>),
     /// A change of a transaction: the key, the records before and after, and the number of its record.
     Put(u32, u8, Option<u8>, Option<u8>, u32),
+    /// A claim of a transaction: the key, what it has seen, and the number of its record.
+    Claim(u32, u8, Option<u8>, u32),
     /// The number of the savepoint.
     Save(u32, u32),
     /// From this savepoint on.
@@ -105,7 +115,10 @@ enum Step {
     Start(u32, u32, bool),
     /// One change back: its key, the record before, and the number of the compensation.
     Undo(u32, u8, Option<u8>, u32),
-    Finish(u32),
+    /// One claim back: its key, and the number of the record of that.
+    Unclaim(u32, u8, u32),
+    /// The end of a rollback, and whether the transaction ends with it.
+    Finish(u32, bool),
     End(u32),
     Owner(u8, Option<u32>),
     Keys(u32, &'static [u8]),
@@ -148,20 +161,35 @@ fn start(rt: &impl Abort, log: &mut TxLog, tx: TxId, n: u32, ends: bool) {
     log.start_rollback(tx, n, ends);
 }
 
-/// Expects the change that is taken back next to be this one.
-fn expect_next(rt: &impl Abort, step: Option<UndoStep>, key: u8, before: Option<u8>) {
-    let Some(step) = step else {
-        panic!(rt; "nothing is left to take back");
-    };
-    let (key, before) = (key_of(rt, key), record_of(rt, before));
-    assert_eq!(rt; (step.key, step.before), (key, before));
+/// Expects a change at the key to be taken back next, and that record to be put there: none where it is a claim.
+fn expect_next(
+    rt: &impl Abort,
+    step: Option<UndoStep>,
+    wanted: Key,
+    restored: Option<Option<Record>>,
+) {
+    match step {
+        Some(UndoStep::Restore { key, before }) => {
+            assert_eq!(rt; (key, Some(before)), (wanted, restored));
+        }
+        Some(UndoStep::Unclaim { key }) => assert_eq!(rt; (key, None), (wanted, restored)),
+        None => panic!(rt; "nothing is left to take back"),
+    }
 }
 
-fn expect_undo(rt: &impl Abort, log: &mut TxLog, tx: TxId, key: u8, before: Option<u8>, lsn: u32) {
-    let step = log.next_undo(tx);
+/// Expects that of the next change, and takes it back.
+fn expect_undo(
+    rt: &impl Abort,
+    log: &mut TxLog,
+    tx: u32,
+    key: u8,
+    restored: Option<Option<Record>>,
+    lsn: u32,
+) {
+    let step = log.next_undo(TxId(tx));
     assert!(rt; step.is_some());
-    expect_next(rt, step, key, before);
-    assert_eq!(rt; log.compensate(tx), lsn);
+    expect_next(rt, step, key_of(rt, key), restored);
+    assert_eq!(rt; log.compensate(TxId(tx)), lsn);
 }
 
 fn expect_no_undo(rt: &impl Abort, log: &TxLog, tx: TxId) {
@@ -198,14 +226,20 @@ fn change(rt: &impl Abort, log: &mut TxLog, step: &Step) {
         Step::Put(tx, key, before, after, lsn) => {
             assert_eq!(rt; put_bytes(rt, log, tx, key, before, after), lsn);
         }
+        Step::Claim(tx, key, seen, lsn) => {
+            assert_eq!(rt; claim_bytes(rt, log, tx, key, seen), lsn);
+        }
         Step::Save(tx, number) => assert_eq!(rt; save(rt, log, TxId(tx)), number),
         Step::Release(tx, n) => release(rt, log, TxId(tx), n),
         Step::Back(tx, n, ends, count) => {
             assert_eq!(rt; roll_back(rt, log, TxId(tx), n, ends), count);
         }
         Step::Start(tx, n, ends) => start(rt, log, TxId(tx), n, ends),
-        Step::Undo(tx, key, before, lsn) => expect_undo(rt, log, TxId(tx), key, before, lsn),
-        Step::Finish(tx) => finish(rt, log, TxId(tx), true),
+        Step::Undo(tx, key, before, lsn) => {
+            expect_undo(rt, log, tx, key, Some(record_of(rt, before)), lsn);
+        }
+        Step::Unclaim(tx, key, lsn) => expect_undo(rt, log, tx, key, None, lsn),
+        Step::Finish(tx, ends) => finish(rt, log, TxId(tx), ends),
         Step::End(tx) => end(rt, log, TxId(tx)),
         _ => look(rt, log, step),
     }
@@ -380,7 +414,7 @@ const A_ROLLBACK_BETWEEN: [Step; 16] = [
     Step::Undo(1, b'a', None, 5),
     Step::Counts(1, 0, 0, 0),
     Step::Owner(b'a', None),
-    Step::Finish(1),
+    Step::Finish(1, true),
     Step::Phase(1, None),
     Step::Counts(2, 0, 1, 0),
 ];
@@ -393,6 +427,129 @@ fn a_rollback_between_other_changes(rt: HostRuntime) {
     );
     make_steps(&rt, &mut log, &A_ROLLBACK_BETWEEN);
     expect_no_undo(&rt, &log, TxId(2))
+}
+
+const CLAIMS_ALONE: [Step; 22] = [
+    Step::Begin(Some(1)),
+    Step::Begin(Some(2)),
+    Step::Claim(1, b'b', Some(b'x'), 1),
+    Step::Claim(1, b'a', None, 2),
+    Step::Claim(2, b'c', None, 3),
+    Step::Keys(1, b"ab"),
+    Step::Owner(b'b', Some(1)),
+    Step::Counts(1, 0, 2, 0),
+    Step::Whole(3, 6, 2, 2),
+    Step::Start(1, 0, true),
+    Step::Unclaim(1, b'a', 4),
+    Step::Keys(1, b"b"),
+    Step::Whole(4, 6, 1, 2),
+    Step::Unclaim(1, b'b', 5),
+    Step::Owner(b'b', None),
+    Step::Whole(5, 6, 1, 2),
+    Step::Finish(1, true),
+    Step::Claim(2, b'b', Some(b'x'), 6),
+    Step::Keys(2, b"bc"),
+    Step::Whole(6, 8, 1, 2),
+    Step::End(2),
+    Step::Whole(6, 6, 0, 2),
+];
+
+// A claim over a put, a put over a claim, a removal over a claim, and a claim over that.
+const CLAIMS_BESIDE_PUTS: [Step; 25] = [
+    Step::Begin(Some(1)),
+    Step::Put(1, b'a', None, Some(b'1'), 1),
+    Step::Save(1, 1),
+    Step::Claim(1, b'a', Some(b'1'), 2),
+    Step::Claim(1, b'b', None, 3),
+    Step::Whole(3, 6, 1, 1),
+    Step::Put(1, b'b', None, Some(b'2'), 4),
+    Step::Whole(4, 8, 0, 1),
+    Step::Put(1, b'a', Some(b'1'), None, 5),
+    Step::Claim(1, b'a', None, 6),
+    Step::Keys(1, b"ab"),
+    Step::Whole(6, 12, 1, 1),
+    Step::Start(1, 1, false),
+    Step::Unclaim(1, b'a', 7),
+    Step::Whole(7, 12, 1, 1),
+    Step::Undo(1, b'a', Some(b'1'), 8),
+    Step::Whole(8, 12, 0, 1),
+    Step::Undo(1, b'b', None, 9),
+    Step::Whole(9, 12, 1, 1),
+    Step::Unclaim(1, b'b', 10),
+    Step::Keys(1, b"a"),
+    Step::Whole(10, 12, 0, 1),
+    Step::Unclaim(1, b'a', 11),
+    Step::Owner(b'a', Some(1)),
+    Step::Finish(1, false),
+];
+
+// What a change writes goes before what a claim above it has seen; of claims alone the first one's counts.
+const SEEN_OTHERWISE: [Step; 10] = [
+    Step::Begin(Some(1)),
+    Step::Put(1, b'a', None, Some(b'1'), 1),
+    Step::Claim(1, b'a', None, 2),
+    Step::Whole(2, 4, 0, 1),
+    Step::Claim(1, b'b', None, 3),
+    Step::Claim(1, b'b', Some(b'2'), 4),
+    Step::Claim(1, b'c', Some(b'3'), 5),
+    Step::Claim(1, b'c', None, 6),
+    Step::Whole(6, 12, 1, 1),
+    Step::Back(1, 0, false, 6),
+];
+
+/// A claim of transaction 1.
+fn claim(lsn: u32, prev: u32, key: Key, seen: Option<Record>) -> LogRecord {
+    LogRecord::Claim {
+        lsn,
+        prev,
+        tx: TxId(1),
+        key,
+        seen,
+    }
+}
+
+/// One of its claims taken back.
+fn unclaim(lsn: u32, prev: u32, key: Key, undo_next: u32) -> LogRecord {
+    LogRecord::Unclaim {
+        lsn,
+        prev,
+        tx: TxId(1),
+        key,
+        undo_next,
+    }
+}
+
+/// The log of claims beside puts.
+fn eleven_records(rt: &impl Abort) -> [LogRecord; 11] {
+    let (a, b) = (key_of(rt, b'a'), key_of(rt, b'b'));
+    let (one, two) = (record_of(rt, Some(b'1')), record_of(rt, Some(b'2')));
+    let (put, seen) = (one.as_ref().copied(), one.as_ref().copied());
+    let removed = one.as_ref().copied();
+    [
+        update(1, 0, a, None, put),
+        claim(2, 1, a, seen),
+        claim(3, 2, b, None),
+        update(4, 3, b, None, two),
+        update(5, 4, a, removed, None),
+        claim(6, 5, a, None),
+        unclaim(7, 6, a, 5),
+        compensation(8, 7, a, one, 4),
+        compensation(9, 8, b, None, 3),
+        unclaim(10, 9, b, 2),
+        unclaim(11, 10, a, 1),
+    ]
+}
+
+#[test]
+fn claims_and_their_taking_back(rt: HostRuntime) {
+    let limits = Limits::new(10, 100, 10).expect(&rt, "no limits");
+    let mut alone = TxLog::new(rt.alloc(), limits);
+    make_steps(&rt, &mut alone, &CLAIMS_ALONE);
+    let mut beside = TxLog::new(rt.alloc(), limits);
+    make_steps(&rt, &mut beside, &CLAIMS_BESIDE_PUTS);
+    expect_records(&rt, &beside, &eleven_records(&rt));
+    let mut otherwise = TxLog::new(rt.alloc(), limits);
+    make_steps(&rt, &mut otherwise, &SEEN_OTHERWISE)
 }
 
 const SAVEPOINTS_AND_LIMITS: [Step; 13] = [

@@ -378,6 +378,7 @@ fn files_that_stay_as_they_are(rt: HostRuntime) {
     let bytes = fs::read(&rt, "stays.rec").expect(&rt, "no file");
     let long = long_script(&rt, alloc, 131_073);
     let back = "begin\nput 1 a =w\nback 1 0\nget 1 a\n";
+    let claims = "begin\nbegin\nclaim 1 a\nclaim 2 d\ncommit 1\nclaim 2 a\n";
     for call in [
         bad(
             "recfile run stays.rec",
@@ -386,6 +387,11 @@ fn files_that_stay_as_they_are(rt: HostRuntime) {
             3,
         ),
         good("recfile run stays.rec", back, "ok 1\nok =x\nok 1\nok =x\n"),
+        good(
+            "recfile run stays.rec",
+            claims,
+            "ok 1\nok 2\nok =x\nok none\nok\nok =x\n",
+        ),
         bad(
             "recfile create --order 3 stays.rec",
             "",

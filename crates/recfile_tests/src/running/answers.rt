@@ -15,6 +15,7 @@ fn call_of(command: Command) -> Call {
     match command {
         Command::Begin => Call::Begin,
         Command::Put(tx, key, record) => Call::Put(tx, key, record),
+        Command::Claim(tx, key) => Call::Claim(tx, key),
         Command::Del(tx, key) => Call::Remove(tx, key),
         Command::Get(tx, key) => Call::Get(tx, key),
         Command::Save(tx) => Call::Savepoint(tx),
@@ -92,33 +93,45 @@ fn push_status(rt: &impl Abort, text: &mut String, status: &Status) {
     }
 }
 
-/// Number, the one before, transaction and key; the records before and after, or the restored one and the
-/// change that is next to be taken back.
-fn push_log_record(rt: &impl Abort, text: &mut String, record: &Option<LogRecord>) {
+/// Number, the one before, transaction and key; the records before and after, or the one that a claim has seen.
+fn push_logged_change(rt: &impl Abort, text: &mut String, record: &LogRecord) {
     match record {
-        Some(
-            LogRecord::Update {
-                lsn,
-                prev,
-                tx,
-                key,
-                before,
-                after,
-            },
-        ) => {
+        LogRecord::Update {
+            lsn,
+            prev,
+            tx,
+            key,
+            before,
+            after,
+        } => {
             let (key, before, after) = (shown(rt, key), word(rt, before), word(rt, after));
             write!(text, "{lsn} {prev} {} {key} {before} to {after}", tx.0).expect(rt, "no memory");
         }
-        Some(
-            LogRecord::Compensation {
-                lsn,
-                prev,
-                tx,
-                key,
-                restored,
-                undo_next,
-            },
-        ) => {
+        LogRecord::Claim {
+            lsn,
+            prev,
+            tx,
+            key,
+            seen,
+        } => {
+            let (key, seen) = (shown(rt, key), word(rt, seen));
+            write!(text, "{lsn} {prev} {} {key} claimed at {seen}", tx.0).expect(rt, "no memory");
+        }
+        _ => push_logged_back(rt, text, record),
+    }
+}
+
+/// The same; the restored record, where it wasn't a claim; and the change that is next to be taken back.
+fn push_logged_back(rt: &impl Abort, text: &mut String, record: &LogRecord) {
+    match record {
+        LogRecord::Compensation {
+            lsn,
+            prev,
+            tx,
+            key,
+            restored,
+            undo_next,
+        } => {
             let (key, restored) = (shown(rt, key), word(rt, restored));
             write!(
                 text,
@@ -127,6 +140,28 @@ fn push_log_record(rt: &impl Abort, text: &mut String, record: &Option<LogRecord
             )
             .expect(rt, "no memory");
         }
+        LogRecord::Unclaim {
+            lsn,
+            prev,
+            tx,
+            key,
+            undo_next,
+        } => {
+            let key = shown(rt, key);
+            write!(
+                text,
+                "{lsn} {prev} {} {key} unclaimed, then {undo_next}",
+                tx.0
+            )
+            .expect(rt, "no memory");
+        }
+        _ => (),
+    }
+}
+
+fn push_log_record(rt: &impl Abort, text: &mut String, record: &Option<LogRecord>) {
+    match record {
+        Some(record) => push_logged_change(rt, text, record),
         None => text.push_str("-").expect(rt, "no memory"),
     }
 }
@@ -138,6 +173,8 @@ fn push_change(rt: &impl Abort, text: &mut String, answer: &Answer) {
         Answer::Begin(Err(fault)) => push_fault(rt, text, fault),
         Answer::Put(Ok(old)) => text.push_str(word(rt, old)).expect(rt, "no memory"),
         Answer::Put(Err(fault)) => push_fault(rt, text, fault),
+        Answer::Claim(Ok(seen)) => text.push_str(word(rt, seen)).expect(rt, "no memory"),
+        Answer::Claim(Err(fault)) => push_fault(rt, text, fault),
         Answer::Remove(Ok(old)) => text.push_str(word(rt, &Some(*old))).expect(rt, "no memory"),
         Answer::Remove(Err(fault)) => push_fault(rt, text, fault),
         Answer::Savepoint(answer) => push_fault(rt, text, answer),

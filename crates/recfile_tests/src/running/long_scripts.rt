@@ -94,12 +94,12 @@ fn rolling_is_the_first_refusal(rt: HostRuntime) {
     add(
         &rt,
         &mut script,
-        "put 1 b =x\nput 1 c =x\ndel 1 b\ndel 1 c\nget 1 b\nsave 1\nrelease 1 0\nback 1 99\n",
+        "put 1 b =x\nput 1 c =x\nclaim 1 b\nclaim 1 c\ndel 1 b\ndel 1 c\nget 1 b\nsave 1\nrelease 1 0\nback 1 99\n",
     );
     add(
         &rt,
         &mut replies,
-        "no Rolling\nno Rolling\nno Rolling\nno Rolling\nno Rolling\nno Rolling\nno Rolling\nno Rolling\n",
+        "no Rolling\nno Rolling\nno Rolling\nno Rolling\nno Rolling\nno Rolling\nno Rolling\nno Rolling\nno Rolling\nno Rolling\n",
     );
     add(&rt, &mut script, "resume 1\nsave 1\n");
     add(&rt, &mut replies, "ok 1\nno TooDeep\n");
@@ -112,7 +112,7 @@ fn rolling_is_the_first_refusal(rt: HostRuntime) {
             failing: &[3],
             script: &script,
             replies: &replies,
-            commands: 48,
+            commands: 50,
         },
     )
 }

@@ -71,6 +71,42 @@ pub const BESIDE_A_ROOT: Row<'static> = Row {
     commands: 7,
 };
 
+pub const CLAIMS_FILL: Row<'static> = Row {
+    name: "claimed keys fill a file",
+    limits: (2, 4_000_000, 1_000_000),
+    failing: &[],
+    script: "begin\nbegin\nput 1 a =x\ncommit 1\nbegin\nclaim 2 a\nput 3 a =y\nclaim 2 b\nput 3 c =z\nclaim 3 c\nkeys 2\nback 2 0\nput 3 a =y\nlist\nlog\n",
+    replies: "ok 1\nok 2\nok none\nok\nok 3\nok =x\nno Held 2\nok none\nno Full\nno Full\n- a\n- b\nok 2\nok 2\nok =x\n- a =y @3\nok 1\nok 6 7\n",
+    commands: 15,
+};
+
+pub const CLAIM_IN_A_STOP: Row<'static> = Row {
+    name: "a stopped rollback has taken a claim back",
+    limits: (1_000_000, 4_000_000, 1_000_000),
+    failing: &[4],
+    script: "begin\nbegin\nput 1 a =1\nclaim 1 b\nput 1 b =2\nback 1 0\nput 2 b =9\nput 2 a =9\nresume 1\nlist\nlog\n",
+    replies: "ok 1\nok 2\nok none\nok none\nok none\nstopped 2 1 Device\nok none\nno Held 1\nok 1\n- b =9 @2\nok 1\nok 7 8\n",
+    commands: 11,
+};
+
+pub const CLAIM_OVER_A_PUT: Row<'static> = Row {
+    name: "a claim goes back and the change under it stays",
+    limits: (1_000_000, 4_000_000, 1_000_000),
+    failing: &[],
+    script: "begin\nbegin\nput 1 a =1\nsave 1\nclaim 1 a\nback 1 1\nput 2 a =9\n",
+    replies: "ok 1\nok 2\nok none\nok 1\nok =1\nok 1\nno Held 1\n",
+    commands: 7,
+};
+
+pub const CLAIMS_BESIDE: Row<'static> = Row {
+    name: "claims of two transactions",
+    limits: (1_000_000, 4_000_000, 1_000_000),
+    failing: &[],
+    script: "begin\nbegin\nclaim 1 a\nput 1 a =1\nclaim 1 a\nsave 1\nclaim 1 b\nclaim 2 b\nclaim 2 c\nback 1 1\nclaim 2 b\nput 1 c =2\ncommit 1\nclaim 2 a\nkeys 2\nlist\nlog\n",
+    replies: "ok 1\nok 2\nok none\nok none\nok =1\nok 1\nok none\nno Held 1\nok none\nok 1\nok none\nno Held 2\nok\nok =1\n- a\n- b\n- c\nok 3\n- a =1 @2\nok 1\nok 8 11\n",
+    commands: 17,
+};
+
 const ONE_TRANSACTION: [Row<'static>; 8] = [
     Row {
         name: "an empty file",
@@ -225,6 +261,45 @@ const HELD_KEYS: [Row<'static>; 6] = [
     },
 ];
 
+const CLAIMS: [Row<'static>; 8] = [
+    CLAIMS_FILL,
+    CLAIM_IN_A_STOP,
+    CLAIM_OVER_A_PUT,
+    CLAIMS_BESIDE,
+    Row {
+        name: "a claim is refused as a put is",
+        limits: (1, 4, 3),
+        failing: &[],
+        script: "begin\nbegin\nclaim 1 a\nclaim 2 a\ndel 2 a\nget 2 a\nclaim 2 b\nput 2 b =x\ndel 2 b\nput 1 a =x\nlog\nclaim 1 a\nclaim 1 b\nclaim 2 a\nclaim 2 b\nclaim 3 a\nlog\n",
+        replies: "ok 1\nok 2\nok none\nno Held 1\nno Held 1\nno Held 1\nno Full\nno Full\nno Absent\nok none\nok 2 4\nno LogFull\nno LogFull\nno Held 1\nno LogFull\nno NoSuchTx\nok 2 4\n",
+        commands: 17,
+    },
+    Row {
+        name: "a claim of a key with a record is not full",
+        limits: (1, 4_000_000, 3),
+        failing: &[],
+        script: "begin\nput 1 a =x\ncommit 1\nbegin\nclaim 2 b\nclaim 2 a\nclaim 2 a\ndel 2 a\nclaim 2 a\nclaim 2 b\nlog\nback 2 0\nkeys 2\nlist\n",
+        replies: "ok 1\nok none\nok\nok 2\nno Full\nok =x\nok =x\nok =x\nok none\nno Full\nok 5 9\nok 4\nok 0\n- a =x\nok 1\n",
+        commands: 14,
+    },
+    Row {
+        name: "a claimed key is free once its transaction has ended",
+        limits: (1, 4_000_000, 4),
+        failing: &[],
+        script: "begin\nbegin\nclaim 1 a\nput 2 b =x\ncommit 1\nput 2 b =x\nback 2 0\nbegin\nclaim 3 c\nclaim 2 c\nabort 3\nclaim 2 c\nlist\n",
+        replies: "ok 1\nok 2\nok none\nno Full\nok\nok none\nok 1\nok 3\nok none\nno Held 3\nok 1\nok none\nok 0\n",
+        commands: 13,
+    },
+    Row {
+        name: "claims alone change no record",
+        limits: (1_000_000, 4_000_000, 1_000_000),
+        failing: &[2],
+        script: "begin\nput 1 a =x\ncommit 1\nbegin\nclaim 2 a\nsave 2\nclaim 2 b\nclaim 2 a\nback 2 1\nkeys 2\nabort 2\nlist\nlog\n",
+        replies: "ok 1\nok none\nok\nok 2\nok =x\nok 1\nok none\nok =x\nok 2\n- a\nok 1\nok 1\n- a =x\nok 1\nok 7 7\n",
+        commands: 13,
+    },
+];
+
 const STOPPED_ROLLBACKS: [Row<'static>; 3] = [
     STOPPED,
     Row {
@@ -252,5 +327,6 @@ fn scripts_over_every_table(rt: HostRuntime) {
     expect_rows(&rt, alloc, &LINES);
     expect_rows(&rt, alloc, &SEVERAL_TRANSACTIONS);
     expect_rows(&rt, alloc, &HELD_KEYS);
+    expect_rows(&rt, alloc, &CLAIMS);
     expect_rows(&rt, alloc, &STOPPED_ROLLBACKS)
 }

@@ -276,6 +276,11 @@ fn open_transactions_are_ended(rt: HostRuntime) {
             2,
             "ok 0\nok 6 6\n",
         ),
+        (
+            "begin\nbegin\nput 1 a =1\nclaim 1 b\nclaim 2 c\n",
+            2,
+            "ok 0\nok 6 6\n",
+        ),
     ] {
         expect_ended(&rt, rt.alloc(), &[], script, count, after);
     }

@@ -1,7 +1,7 @@
 use super::{answers_to, calls_of, text_of};
 use crate::expect_named;
 use crate::running::flaky_file;
-use crate::running::rows::TWO_ROLLBACKS;
+use crate::running::rows::{CLAIMS_BESIDE, TWO_ROLLBACKS};
 use rec_types::{Key, Limits, Record, SortedTable, Table, TxId};
 use record_file::{Call, RecordFile};
 use std::alloc::Global;
@@ -51,6 +51,19 @@ fn expect(rt: &impl Abort, alloc: Global, row: &Row<'_>) {
     expect_over(rt, alloc, table, row)
 }
 
+const LOG_RECORDS: [Call; 10] = [
+    Call::LogRecord(0),
+    Call::LogRecord(1),
+    Call::LogRecord(2),
+    Call::LogRecord(3),
+    Call::LogRecord(4),
+    Call::LogRecord(5),
+    Call::LogRecord(6),
+    Call::LogRecord(7),
+    Call::LogRecord(8),
+    Call::LogRecord(9),
+];
+
 #[test]
 fn what_the_log_and_the_status_tell(rt: HostRuntime) {
     let script = TWO_ROLLBACKS.script;
@@ -58,21 +71,18 @@ fn what_the_log_and_the_status_tell(rt: HostRuntime) {
         name: "two partial rollbacks leave their log",
         failing: &[],
         script,
-        calls: &[
-            Call::LogRecord(0),
-            Call::LogRecord(1),
-            Call::LogRecord(2),
-            Call::LogRecord(3),
-            Call::LogRecord(4),
-            Call::LogRecord(5),
-            Call::LogRecord(6),
-            Call::LogRecord(7),
-            Call::LogRecord(8),
-            Call::LogRecord(9),
-        ],
+        calls: &LOG_RECORDS,
         answers: "-\n1 0 1 a - to 1\n2 1 1 a 1 to 2\n3 2 1 b - to 3\n4 3 1 b back to -, then 2\n5 4 1 a back to 1, then 1\n6 5 1 c - to 4\n7 6 1 c back to -, then 5\n8 7 1 a back to -, then 0\n-\n",
     };
     expect(&rt, rt.alloc(), &log);
+    let claims = Row {
+        name: "claims and their taking back leave their log",
+        failing: &[],
+        script: CLAIMS_BESIDE.script,
+        calls: &LOG_RECORDS,
+        answers: "-\n1 0 1 a claimed at -\n2 1 1 a - to 1\n3 2 1 a claimed at 1\n4 3 1 b claimed at -\n5 0 2 c claimed at -\n6 4 1 b unclaimed, then 3\n7 5 2 b claimed at -\n8 7 2 a claimed at 1\n-\n",
+    };
+    expect(&rt, rt.alloc(), &claims);
     let key = Key::new(b"d").expect(&rt, "no key");
     let record = Record::new(b"5").expect(&rt, "no record");
     let status = Row {

@@ -1,6 +1,9 @@
 use super::{answers_to, calls_of, push_answer, text_of};
 use crate::expect_named;
-use crate::running::rows::{CHARGED_KEYS, COMMIT_BESIDE, OWNER_LEFT, STOPPED, TWO_ROLLBACKS};
+use crate::running::rows::{
+    CHARGED_KEYS, CLAIM_IN_A_STOP, CLAIM_OVER_A_PUT, CLAIMS_BESIDE, CLAIMS_FILL, COMMIT_BESIDE,
+    OWNER_LEFT, STOPPED, TWO_ROLLBACKS,
+};
 use crate::running::{Row, flaky_file, tree};
 use rec_types::{FlakyTable, Limits, Table, TxId};
 use record_file::{Answer, Call, RecordFile};
@@ -8,11 +11,14 @@ use std::alloc::Global;
 use std::process::Abort;
 use tx_log::LogRecord;
 
-/// Whether the log takes back the change of this transaction whose update has the record before it with this
-/// number.
+/// Whether the log takes back the change of this transaction whose record has the one before it with this number.
 fn is_compensated<T: Table>(file: &RecordFile<T>, of: TxId, number: u32) -> bool {
     for lsn in 1..=file.log_len() {
-        if let Some(LogRecord::Compensation { tx, undo_next, .. }) = file.log_record(lsn) {
+        if let Some(
+            LogRecord::Compensation { tx, undo_next, .. }
+            | LogRecord::Unclaim { tx, undo_next, .. },
+        ) = file.log_record(lsn)
+        {
             if tx == of && undo_next == number {
                 return true;
             }
@@ -25,7 +31,10 @@ fn is_compensated<T: Table>(file: &RecordFile<T>, of: TxId, number: u32) -> bool
 fn live_changes<T: Table>(rt: &impl Abort, alloc: Global, file: &RecordFile<T>) -> Vec<bool> {
     let mut lives = Vec::new(alloc);
     for lsn in 1..=file.log_len() {
-        if let Some(LogRecord::Update { tx, prev, .. }) = file.log_record(lsn) {
+        if let Some(
+            LogRecord::Update { tx, prev, .. } | LogRecord::Claim { tx, prev, .. },
+        ) = file.log_record(lsn)
+        {
             lives
                 .push(!is_compensated(file, tx, prev))
                 .expect(rt, "no memory");
@@ -34,7 +43,7 @@ fn live_changes<T: Table>(rt: &impl Abort, alloc: Global, file: &RecordFile<T>) 
     lives
 }
 
-/// The accepted begins, the accepted commits, and the puts and removals whose change is live; and what they
+/// The accepted begins, the accepted commits, and the puts, claims and removals whose change is live; and what they
 /// answered, a line each.
 fn remaining_calls(
     rt: &impl Abort,
@@ -48,7 +57,9 @@ fn remaining_calls(
     for (&call, answer) in calls.iter().zip(answers) {
         let stays = match answer {
             Answer::Begin(Ok(_)) | Answer::Commit(Ok(())) => true,
-            Answer::Put(Ok(_)) | Answer::Remove(Ok(_)) => changes.next() == Some(&true),
+            Answer::Put(Ok(_)) | Answer::Claim(Ok(_)) | Answer::Remove(Ok(_)) => {
+                changes.next() == Some(&true)
+            }
             _ => false,
         };
         if stays {
@@ -164,6 +175,10 @@ fn what_remains_stands_alone(rt: HostRuntime) {
         (TWO_ROLLBACKS, 1),
         (CHARGED_KEYS, 9),
         (STOPPED, 5),
+        (CLAIMS_FILL, 6),
+        (CLAIM_IN_A_STOP, 3),
+        (CLAIM_OVER_A_PUT, 3),
+        (CLAIMS_BESIDE, 9),
     ] {
         expect_over_trees(&rt, rt.alloc(), &row, count);
     }

@@ -1,14 +1,17 @@
 use super::{answers_to, calls_of, push_answer, text_of};
 use crate::expect_text;
-use crate::running::rows::{BESIDE_A_ROOT, CHARGED_KEYS, COMMIT_BESIDE, SPLITS, TWO_ROLLBACKS};
+use crate::running::rows::{
+    BESIDE_A_ROOT, CHARGED_KEYS, CLAIM_IN_A_STOP, CLAIMS_BESIDE, CLAIMS_FILL, COMMIT_BESIDE,
+    SPLITS, TWO_ROLLBACKS,
+};
 use crate::running::{Row, flaky_file, open, run, store_of, three_records, tree};
 use btree_delete::{CloseStop, TreeTable};
 use page_store::{FlakyStore, Store, WriteFault};
 use rec_types::{Limits, SortedTable, Table};
 use recfile::run_in;
 use record_file::{
-    AbortFault, Answer, Call, EntriesFault, GetFault, PutFault, RecordFile, RemoveFault,
-    ResumeFault, RollbackToFault, make_call,
+    AbortFault, Answer, Call, ClaimFault, EntriesFault, GetFault, PutFault, RecordFile,
+    RemoveFault, ResumeFault, RollbackToFault, make_call,
 };
 use std::alloc::Global;
 use std::process::Abort;
@@ -18,6 +21,7 @@ fn is_refused(answer: &Answer) -> bool {
     matches!(
         answer,
         Answer::Put(Err(PutFault::Device))
+            | Answer::Claim(Err(ClaimFault::Device))
             | Answer::Remove(Err(RemoveFault::Device))
             | Answer::Get(Err(GetFault::Device))
             | Answer::Entries(Err(EntriesFault::Device))
@@ -156,14 +160,24 @@ fn fail_each_read(
 // Opening makes four reads, and they are good.
 #[test]
 fn each_read_fails_in_turn(rt: HostRuntime) {
-    let script = "begin\nbegin\nput 1 a =1\nput 1 a =2\nput 2 c =3\nback 1 0\nlist\n";
-    let wanted = "1\n2\nx\n1\nz\nOk(2)\na=x b=y c=3@2 \n";
-    let faults =
-        "Device\nDevice\nDevice\nDevice\nDevice\nErr(Stopped { undone: 0, left: 2, cause: Device })\nOk(2)\nErr(Stopped { undone: 1, left: 1, cause: Device })\nOk(1)\nDevice\n";
     let alloc = rt.alloc();
-    let calls = calls_of(&rt, alloc, script);
-    let all = fail_each_read(&rt, alloc, &calls, wanted, 5, 99);
-    expect_text(&rt, all.as_str(), faults);
+    for (script, wanted, faults) in [
+        (
+            "begin\nbegin\nput 1 a =1\nput 1 a =2\nput 2 c =3\nback 1 0\nlist\n",
+            "1\n2\nx\n1\nz\nOk(2)\na=x b=y c=3@2 \n",
+            "Device\nDevice\nDevice\nDevice\nDevice\nErr(Stopped { undone: 0, left: 2, cause: Device })\nOk(2)\nErr(Stopped { undone: 1, left: 1, cause: Device })\nOk(1)\nDevice\n",
+        ),
+        // Taking a claim back reads nothing.
+        (
+            "begin\nbegin\nclaim 1 b\nclaim 1 a\nclaim 2 d\nback 1 0\nkeys 2\nlog\n",
+            "1\n2\ny\nx\n-\nOk(2)\nd \n5\n",
+            "Device\nDevice\nDevice\nDevice\nDevice\n",
+        ),
+    ] {
+        let calls = calls_of(&rt, alloc, script);
+        let all = fail_each_read(&rt, alloc, &calls, wanted, 5, 99);
+        expect_text(&rt, all.as_str(), faults);
+    }
 }
 
 /// What the calls answer over a file in the table, in which no `set` fails.
@@ -259,6 +273,9 @@ fn each_set_fails_in_turn(rt: HostRuntime) {
         (TWO_ROLLBACKS, 8),
         (CHARGED_KEYS, 4),
         (SPLITS, 20),
+        (CLAIMS_FILL, 2),
+        (CLAIM_IN_A_STOP, 6),
+        (CLAIMS_BESIDE, 1),
     ] {
         fail_each_set(&rt, rt.alloc(), &row, sets);
     }
@@ -374,26 +391,42 @@ fn session(
     session_in(rt, alloc, store, script)
 }
 
-// Reads 1 to 4 are those of opening, 5 to 8 those of the script, and the last two those of ending its transaction.
+/// Expects of the session, where the read of each number fails, this text and status.
+fn expect_with_reads(rt: &impl Abort, alloc: Global, script: &str, rows: &[(u64, &str, u8)]) {
+    for row in rows {
+        let (told, end) = session(rt, alloc, &[row.0], &[], script);
+        assert_eq!(rt; (row.0, told.as_str(), end), *row);
+    }
+}
+
+// Reads 1 to 4 are those of opening, and the last two those of ending the transaction.
+const READS_OF_PUTS: [(u64, &str, u8); 11] = [
+    (1, "recfile: Device\n", 1),
+    (2, "recfile: Device\n", 1),
+    (3, "recfile: Device\n", 1),
+    (4, "recfile: Device\n", 1),
+    (5, "ok 1\nno Device\nok =z\n", 0),
+    (6, "ok 1\nno Device\nok =z\n", 0),
+    (7, "ok 1\nok =x\nno Device\n", 0),
+    (8, "ok 1\nok =x\nno Device\n", 0),
+    (9, "ok 1\nok =x\nok =z\nrecfile: Stopped 1 0 2 Device\n", 4),
+    (10, "ok 1\nok =x\nok =z\nrecfile: Stopped 1 1 1 Device\n", 4),
+    (11, "ok 1\nok =x\nok =z\n", 0),
+];
+
+// Ending the transaction reads nothing.
+const READS_OF_A_CLAIM: [(u64, &str, u8); 3] = [
+    (5, "ok 1\nno Device\n", 0),
+    (6, "ok 1\nno Device\n", 0),
+    (7, "ok 1\nok =x\n", 0),
+];
+
 #[test]
 fn each_read_of_a_session_fails_in_turn(rt: HostRuntime) {
-    let script = "begin\nput 1 a =1\nput 1 c =2\n";
-    for (number, text, status) in [
-        (1, "recfile: Device\n", 1),
-        (2, "recfile: Device\n", 1),
-        (3, "recfile: Device\n", 1),
-        (4, "recfile: Device\n", 1),
-        (5, "ok 1\nno Device\nok =z\n", 0),
-        (6, "ok 1\nno Device\nok =z\n", 0),
-        (7, "ok 1\nok =x\nno Device\n", 0),
-        (8, "ok 1\nok =x\nno Device\n", 0),
-        (9, "ok 1\nok =x\nok =z\nrecfile: Stopped 1 0 2 Device\n", 4),
-        (10, "ok 1\nok =x\nok =z\nrecfile: Stopped 1 1 1 Device\n", 4),
-        (11, "ok 1\nok =x\nok =z\n", 0),
-    ] {
-        let (told, end) = session(&rt, rt.alloc(), &[number], &[], script);
-        assert_eq!(rt; (number, told.as_str(), end), (number, text, status));
-    }
+    let alloc = rt.alloc();
+    let puts = "begin\nput 1 a =1\nput 1 c =2\n";
+    expect_with_reads(&rt, alloc, puts, &READS_OF_PUTS);
+    expect_with_reads(&rt, alloc, "begin\nclaim 1 a\n", &READS_OF_A_CLAIM)
 }
 
 #[test]
@@ -408,6 +441,13 @@ fn each_write_of_a_session_fails_in_turn(rt: HostRuntime) {
     }
     let (told, end) = session(&rt, rt.alloc(), &[], &[8], script);
     assert_eq!(rt; (told.as_str(), end), ("ok 1\nok =x\nok\n", 0));
+    // Where nothing but claims was made, nothing is written.
+    let claims = "begin\nbegin\nclaim 1 a\nclaim 2 d\ncommit 1\n";
+    let (told, end) = session(&rt, rt.alloc(), &[], &[1], claims);
+    assert_eq!(rt;
+        (told.as_str(), end),
+        ("ok 1\nok 2\nok =x\nok none\nok\n", 0)
+    );
 }
 
 /// The replies to the script over a new file in the table.

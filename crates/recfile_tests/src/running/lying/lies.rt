@@ -115,6 +115,38 @@ const DAMAGED_PAGES: [Row<'static>; 4] = [
     },
 ];
 
+// A claim only looks, and taking it back asks nothing of the table.
+const CLAIMS: [Row<'static>; 4] = [
+    Row {
+        name: "a claim sees nothing where a record stands",
+        records: 9,
+        lies: &[(2, Lie::Nothing)],
+        script: "begin\nput 1 a =x\nsave 1\nclaim 1 a\nlist\nlog\nback 1 1\nlist\nlog\nclaim 1 a\n",
+        replies: "ok 1\nok none\nok 1\nok none\n- a =x @1\nok 1\nok 2 4\nok 1\n- a =x @1\nok 1\nok 3 4\nok =x\n",
+    },
+    Row {
+        name: "a damaged page where a claim looks",
+        records: 9,
+        lies: &[(1, Lie::Damaged(5)), (3, Lie::Damaged(6))],
+        script: "begin\nclaim 1 a\nkeys 1\nlog\nclaim 1 a\nclaim 1 a\nkeys 1\nlog\n",
+        replies: "ok 1\nno Damaged 5\nok 0\nok 0 0\nok none\nno Damaged 6\n- a\nok 1\nok 1 2\n",
+    },
+    Row {
+        name: "a damaged page where a claim looks whether the file is full",
+        records: 1,
+        lies: &[(2, Lie::Damaged(5))],
+        script: "begin\nput 1 a =x\nclaim 1 b\nkeys 1\nlog\nclaim 1 b\n",
+        replies: "ok 1\nok none\nno Damaged 5\n- a\nok 1\nok 1 2\nno Full\n",
+    },
+    Row {
+        name: "a damaged page above a claim, and one below it",
+        records: 9,
+        lies: &[(4, Lie::Damaged(5)), (6, Lie::Damaged(6))],
+        script: "begin\nput 1 a =1\nclaim 1 b\nput 1 b =2\nabort 1\nkeys 1\nresume 1\nkeys 1\nresume 1\nlog\n",
+        replies: "ok 1\nok none\nok none\nok none\nstopped 0 3 Damaged 5\n- a\n- b\nok 2\nstopped 2 1 Damaged 6\n- a\nok 1\nok 1\nok 6 6\n",
+    },
+];
+
 const STOPPED_ROLLBACKS: [Row<'static>; 3] = [
     Row {
         name: "no room to put a record back",
@@ -134,8 +166,8 @@ const STOPPED_ROLLBACKS: [Row<'static>; 3] = [
         name: "what the file refuses is refused before the table is asked",
         records: 1,
         lies: &[(2, Lie::NoRoom)],
-        script: "begin\nbegin\nput 1 a =1\nback 1 0\nput 1 b =2\ndel 1 a\nget 1 a\nput 2 a =2\ndel 2 a\nget 2 a\nput 3 a =3\nback 2 1\nresume 2\nresume 1\n",
-        replies: "ok 1\nok 2\nok none\nstopped 0 1 Damaged 0\nno Rolling\nno Rolling\nno Rolling\nno Held 1\nno Held 1\nno Held 1\nno NoSuchTx\nno NoSuchSave\nno NotRolling\nok 1\n",
+        script: "begin\nbegin\nput 1 a =1\nback 1 0\nput 1 b =2\nclaim 1 b\ndel 1 a\nget 1 a\nput 2 a =2\nclaim 2 a\ndel 2 a\nget 2 a\nput 3 a =3\nclaim 3 a\nback 2 1\nresume 2\nresume 1\n",
+        replies: "ok 1\nok 2\nok none\nstopped 0 1 Damaged 0\nno Rolling\nno Rolling\nno Rolling\nno Rolling\nno Held 1\nno Held 1\nno Held 1\nno Held 1\nno NoSuchTx\nno NoSuchTx\nno NoSuchSave\nno NotRolling\nok 1\n",
     },
 ];
 
@@ -143,5 +175,6 @@ const STOPPED_ROLLBACKS: [Row<'static>; 3] = [
 fn what_a_lie_leaves(rt: HostRuntime) {
     expect_rows(&rt, rt.alloc(), &CHANGES);
     expect_rows(&rt, rt.alloc(), &DAMAGED_PAGES);
+    expect_rows(&rt, rt.alloc(), &CLAIMS);
     expect_rows(&rt, rt.alloc(), &STOPPED_ROLLBACKS)
 }
