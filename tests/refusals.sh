@@ -256,6 +256,40 @@ commit 2
 put 3 c =z
 END
 
+session "claimed keys" order_1 "--records 2" << 'END'
+begin
+begin
+put 1 a =x
+commit 1
+begin
+claim 2 a
+put 3 a =y
+claim 2 b
+put 3 c =z
+claim 3 c
+keys 2
+back 2 0
+put 3 a =y
+list
+log
+END
+
+session "claims go back with puts" order_1 "" << 'END'
+begin
+begin
+put 1 a =1
+save 1
+claim 1 a
+claim 1 b
+put 1 b =2
+claim 2 c
+back 1 1
+claim 2 b
+commit 1
+claim 2 a
+list
+END
+
 session "pages are split and catenated" order_2 "" << 'END'
 begin
 put 1 a =v
@@ -283,6 +317,17 @@ put 2 b =y
 END
 
 cp new kept_file
+session "claims alone leave the file" kept_file "" << 'END'
+begin
+begin
+claim 1 m
+claim 1 n
+commit 1
+claim 2 m
+list
+END
+cmp new kept_file
+
 session "a second session" kept_file "" << 'END'
 list
 begin

@@ -116,7 +116,7 @@ const DAMAGED_PAGES: [Row<'static>; 4] = [
 ];
 
 // A claim only looks, and taking it back asks nothing of the table.
-const CLAIMS: [Row<'static>; 4] = [
+const CLAIMS: [Row<'static>; 5] = [
     Row {
         name: "a claim sees nothing where a record stands",
         records: 9,
@@ -137,6 +137,13 @@ const CLAIMS: [Row<'static>; 4] = [
         lies: &[(2, Lie::Damaged(5))],
         script: "begin\nput 1 a =x\nclaim 1 b\nkeys 1\nlog\nclaim 1 b\n",
         replies: "ok 1\nok none\nno Damaged 5\n- a\nok 1\nok 1 2\nno Full\n",
+    },
+    Row {
+        name: "a claim looks once, and so does the next",
+        records: 1,
+        lies: &[(3, Lie::Nothing)],
+        script: "begin\nput 1 a =x\ncommit 1\nbegin\nclaim 2 a\nclaim 2 a\nkeys 2\nback 2 0\nlist\n",
+        replies: "ok 1\nok none\nok\nok 2\nok =x\nok none\n- a\nok 1\nok 2\n- a =x\nok 1\n",
     },
     Row {
         name: "a damaged page above a claim, and one below it",
