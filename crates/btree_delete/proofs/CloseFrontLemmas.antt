@@ -1,5 +1,5 @@
 -- The steps of a close, and what a front of them leaves.
-use Rattle.std.proofs.Common.{◌≡◌, ℕ, ◌-◌, ◌≤◌, ◌++◌, ◌⊎◌, inl, inr, Bool, true, false, List, [], ◌∷◌, length, Option, Some, None, slice_get, zero, suc, refl, sym, ap, ◌∙◌, subst, ⊎_elim, arith, append-nil, length-append, unwrap_or, if◌then◌else◌}
+use Rattle.std.proofs.Common.{◌≡◌, ℕ, ◌-◌, ◌≤◌, ◌++◌, ◌⊎◌, inl, inr, Bool, true, false, List, [], ◌∷◌, length, Option, Some, None, slice_get, zero, suc, refl, sym, ap, ◌∙◌, subst, ⊎_elim, arith, append-nil, length-append, if◌then◌else◌}
 use Rattle.std.proofs.lemmas.List.{length-replicate}
 use Rattle.rec_types.specs.Padded.{padded}
 use Rattle.page_store.specs.Blank.{blank, blanks}
@@ -15,6 +15,7 @@ use Rattle.btree_node.specs.HeaderSpelling.{magic, header_bytes, header_spelling
 use Rattle.btree_node.proofs.HeaderLemmas.{header_reads, fields_same}
 use Rattle.btree_delete.specs.Closing.{header_of, closing, IsRefused, IsFile, IsEither}
 use Rattle.btree_delete.specs.TableView.{TableView}
+use Rattle.btree_delete.proofs.ClosedFileLemmas.{one_page}
 
 state_is : (h : Header) (state : ℕ) → state_at (header_spelling h state) ≡ state
 unfolding header_spelling padded header_bytes magic state_at
@@ -23,9 +24,6 @@ state_is h state = refl
 blank_state : state_at blank ≡ 0
 unfolding state_at blank
 blank_state = refl
-
-one_page : (pages : List (List ℕ)) (page other : List ℕ) → slice_get pages 0 ≡ Some page → slice_get pages 0 ≡ Some other → page ≡ other
-one_page pages page other one two = ap (λ (o : Option (List ℕ)). unwrap_or o []) (sym one ∙ two)
 
 -- page 0 isn't in the state of a closed file
 other_state : (pages : List (List ℕ)) (page : List ℕ) (state : ℕ) → slice_get pages 0 ≡ Some page → state_at page ≡ state → (state ≡ clean_state → ⊥) → IsRefused pages
@@ -81,12 +79,12 @@ pub closing_idle : (t : TableView) → t.pages.changed ≡ false → closing t �
 closing_idle t idle = ap (λ (b : Bool). if b then writing_back (memory_pages t.pages) (length t.pages.pages) (header_spelling (header_of t) writing_state) (header_spelling (header_of t) clean_state) else []) idle
 
 -- those that were made of the header that was written
-pub closing_is : (t : TableView) (count : ℕ) (writing clean : List ℕ) → t.pages.changed ≡ true → count ≡ length t.pages.pages → writing ≡ header_spelling (record { order = t.tree.order; pages = count; root = t.tree.root; count = t.tree.count }) writing_state
-    → clean ≡ header_spelling (record { order = t.tree.order; pages = count; root = t.tree.root; count = t.tree.count }) clean_state → writing_back (memory_pages t.pages) (length t.pages.pages) writing clean ≡ closing t
+pub closing_is : (t : TableView) (count : ℕ) (writing clean : List ℕ) → t.pages.changed ≡ true → count ≡ length t.pages.pages → writing ≡ header_spelling (record { version = 2; order = t.tree.order; pages = count; root = t.tree.root; count = t.tree.count }) writing_state
+    → clean ≡ header_spelling (record { version = 2; order = t.tree.order; pages = count; root = t.tree.root; count = t.tree.count }) clean_state → writing_back (memory_pages t.pages) (length t.pages.pages) writing clean ≡ closing t
 closing_is t count writing clean changed is writing_is clean_is =
     ap (λ (w : List ℕ). writing_back (memory_pages t.pages) (length t.pages.pages) w clean) writing_is
-    ∙ ap (λ (x : List ℕ). writing_back (memory_pages t.pages) (length t.pages.pages) (header_spelling (record { order = t.tree.order; pages = count; root = t.tree.root; count = t.tree.count }) writing_state) x) clean_is
-    ∙ ap (λ (n : ℕ). writing_back (memory_pages t.pages) (length t.pages.pages) (header_spelling (record { order = t.tree.order; pages = n; root = t.tree.root; count = t.tree.count }) writing_state) (header_spelling (record { order = t.tree.order; pages = n; root = t.tree.root; count = t.tree.count }) clean_state)) is
+    ∙ ap (λ (x : List ℕ). writing_back (memory_pages t.pages) (length t.pages.pages) (header_spelling (record { version = 2; order = t.tree.order; pages = count; root = t.tree.root; count = t.tree.count }) writing_state) x) clean_is
+    ∙ ap (λ (n : ℕ). writing_back (memory_pages t.pages) (length t.pages.pages) (header_spelling (record { version = 2; order = t.tree.order; pages = n; root = t.tree.root; count = t.tree.count }) writing_state) (header_spelling (record { version = 2; order = t.tree.order; pages = n; root = t.tree.root; count = t.tree.count }) clean_state)) is
     ∙ sym (closing_changed t changed)
 
 -- so its tries leave the old file

@@ -1,5 +1,6 @@
 -- The pages of a closed file.
-use Rattle.std.proofs.Common.{◌≡◌, ℕ, zero, suc, ◌+◌, ◌<◌, ◌≤◌, ◌⊎◌, ⊎_elim, inl, inr, Bool, true, false, cond, ◌||◌, eqb, nat_lt, Option, Some, None, IsSome, IsTrue, Result, Ok, Err, List, length, slice_get, refl, ap, sym, ◌∙◌, subst, arith}
+use Rattle.std.proofs.Common.{◌≡◌, ℕ, zero, suc, ◌+◌, ◌<◌, ◌≤◌, ◌⊎◌, ⊎_elim, inl, inr, Bool, true, false, cond, ◌||◌, eqb, nat_lt, Option, Some, None, IsSome, IsTrue, Result, Ok, Err, List, length, slice_get, unwrap_or, [], refl, ap, sym, ◌∙◌, subst, arith}
+use Rattle.std.proofs.lemmas.Bool.{false≢true}
 use Rattle.std.proofs.lemmas.Bool.Decides.{nat_tests}
 use Rattle.std.proofs.lemmas.List.{get_or_past}
 use Rattle.std.proofs.lemmas.Option.{slice_get_past}
@@ -8,29 +9,33 @@ use Rattle.rec_types.specs.Contents.{Contents}
 use Rattle.rec_types.specs.Table.{Damages, counted}
 use Rattle.page_store.specs.Calls.{counted_times}
 use Rattle.page_store.specs.PageMap.{PageMap, at}
-use Rattle.page_store.specs.PagesView.{PagesView, is_in_memory}
+use Rattle.page_store.specs.PagesView.{PagesView}
 use Rattle.page_store.specs.WritingBack.{AreStored}
 use Rattle.btree_node.specs.declared.header.Header.{Header}
 use Rattle.btree_node.specs.HeaderSpelling.{header_spelling, clean_state}
+use Rattle.btree_node.specs.Layout.{second_layout, IsVersion, layout_of}
+use Rattle.btree_node.specs.declared.layout.Layout.{Layout}
+use Rattle.btree_node.proofs.HeaderLemmas.{header_reads, fields_same}
 use Rattle.btree_node.specs.Lists.{Element}
 use Rattle.btree_insert.specs.Sizes.{IsTree}
 use Rattle.btree_insert.specs.declared.tree.Tree.{Tree}
-use Rattle.btree_insert.specs.PageTrees.{IsIn, RootAt, Holds}
+use Rattle.btree_insert.specs.PageTrees.{IsIn, RootAt, HoldsIn, Holds}
 use Rattle.btree_insert.specs.Contents.{contents_of}
-use Rattle.btree_insert.specs.Elements.{contents_at}
-use Rattle.btree_insert.proofs.TreeElementLemmas.{held_elements}
+use Rattle.btree_insert.specs.Elements.{elements_below, contents_at}
+use Rattle.btree_insert.proofs.TreeElementLemmas.{node_in, held_in, held_elements}
 use Rattle.btree_insert.proofs.ChangedTreeLemmas.{tree_move}
 use Rattle.btree_insert.proofs.Membership.{each_in}
 use Rattle.btree_delete.specs.declared.open_fault.OpenFault.{OpenFault}
 use Rattle.btree_delete.specs.declared.open_fault.OpenFault.TheVariants.{Device, BadLength, BadMagic, BadVersion, BadOrder, NotClean, BadHeader, Damaged, WrongCount, TooManyRecords, Memory}
-use Rattle.btree_delete.specs.Survey.{AreFree, Measured}
-use Rattle.btree_delete.specs.CleanFile.{in_file, Begins, HasTree, IsFirst, FailsTree, Opens}
-use Rattle.btree_insert.proofs.SpeltLemmas.{spelt_none}
+use Rattle.btree_delete.specs.Survey.{IsRespelt, Measured}
+use Rattle.btree_delete.specs.CleanFile.{in_file, Begins, HasHeader, HasTree, IsFirst, FailsTree, Opens}
+use Rattle.btree_insert.specs.Spelt.{AreSpeltIn}
 use Rattle.btree_delete.specs.TableView.{HoldsTree, IsClosed, IsTable}
 use Rattle.btree_delete.proofs.SurveyLemmas.{counted_before}
 use Rattle.btree_delete.proofs.MeasureLemmas.{root_in_use, below_count}
 use Rattle.btree_insert.proofs.InsertionLemmas.{some_not_none}
 use Rattle.btree_delete.proofs.PagesLeftLemmas.{in_or_not}
+use Rattle.btree_delete.proofs.RespeltTreeLemmas.{held_respelt}
 
 -- page n of a file with free numbers
 abbrev pub shown_as : List (List ℕ) → (ℕ → Bool) → ℕ → Option (List ℕ)
@@ -77,52 +82,65 @@ not_true : (b : Bool) → (b ≡ true → ⊥) → b ≡ false
 not_true true never = absurd (never refl)
 not_true false never = refl
 
--- pages opened from a file hold the tree that the file has
-pub moved : (stored : List (List ℕ)) (pages : List (Option (List ℕ))) (count : ℕ) (free : ℕ → Bool) (old : List (Option (List ℕ))) (tree : Tree) (es : List Element) (us : List ℕ) → count ≡ length stored → length pages ≡ count
-    → ((n : ℕ) → n < count → at pages n ≡ shown_as stored free n) → ((n : ℕ) → IsIn n us → free n ≡ true → ⊥) → at old ≡ in_file stored → length old ≡ count → Holds (at old) tree es us → Holds (at pages) tree es us
-moved stored pages count free old tree es us count_is long shown out old_is old_long holds =
-    holds_move (at old) (at pages) tree es us holds (λ q is.
-    let low = below_count old q (root_in_use tree.order (at old) tree.root tree.height es us holds.tree q is) in
-    let no_free = not_true (free q) (out q is) in
-    shown q (omega (arith, low, old_long)) ∙ ap (λ (b : Bool). cond (eqb q 0 || b) None (slice_get stored q)) no_free ∙ ap (λ (b : Bool). cond b None (slice_get stored q)) (or_false (eqb q 0)) ∙ sym (ap (λ (f : PageMap). f q) old_is))
+-- pages that were as they are now, over the same store
+respelt_moved : (layout : Layout) (k : ℕ) (v p : PagesView) (q : ℕ) → p.stored ≡ v.stored → at p.pages q ≡ at v.pages q → IsRespelt layout k v q → IsRespelt layout k p q
+respelt_moved layout k v p q stored_is same respelt = record {
+  node = respelt.node;
+  was = record { page = ap (λ (xs : List (List ℕ)). in_file xs q) stored_is ∙ respelt.was.page; stands = respelt.was.stands };
+  now = record { page = same ∙ respelt.now.page; stands = respelt.now.stands };
+}
 
--- where the other numbers are free, no other page is in use
-alone_in : (stored : List (List ℕ)) (pages : List (Option (List ℕ))) (free : ℕ → Bool) (us : List ℕ) (count : ℕ) → count ≡ length stored → length pages ≡ length stored → ((n : ℕ) → n < length stored → at pages n ≡ shown_as stored free n) → AreFree count us free
-    → (n : ℕ) → IsSome (at pages n) → IsIn n us
-alone_in stored pages free us count count_is long shown others n there =
-    ⊎_elim (λ is. is) (λ (out : IsIn n us → ⊥). absurd (hidden out (eqb n 0) refl)) (in_or_not n us)
-  where
-    low : n < length stored
-    low = let below = below_count pages n (some_not_none (at pages n) there) in omega (arith, below, long)
+positive : (pages : PageMap) (q : ℕ) → pages 0 ≡ None → (pages q ≡ None → ⊥) → 1 ≤ q
+positive pages zero none used = absurd (used none)
+positive pages (suc q) none used = omega arith
 
-    hidden : (IsIn n us → ⊥) → (b : Bool) → eqb n 0 ≡ b → ⊥
-    hidden out true is = some_not_none (at pages n) there (shown n low ∙ ap (λ (b : Bool). cond (b || free n) None (slice_get stored n)) is)
-    hidden out false is =
-        let is_free = (others n).1 (grind (arith, nat_tests), omega (arith, low, count_is), out) in
-        some_not_none (at pages n) there (shown n low ∙ ap (λ (b : Bool). cond (b || free n) None (slice_get stored n)) is ∙ ap (λ (b : Bool). cond b None (slice_get stored n)) is_free)
-
--- a closed file was opened
-pub opened : (stored : List (List ℕ)) (tail limit : ℕ) (h : Header) (old : List (Option (List ℕ))) (pages : PagesView) (tree : Tree) (free : ℕ → Bool) (reads r0 r1 : ℕ) → Begins stored tail h → at old ≡ in_file stored → length old ≡ length stored
-    → Measured h.order old h.root tree free r0 r1 → (tree.count ≡ h.count) × (h.count ≤ limit) → length pages.pages ≡ length stored → ((n : ℕ) → n < length stored → at pages.pages n ≡ shown_as stored free n)
-    → r0 ≡ counted reads true → pages.reads ≡ r1 → Opens stored tail limit reads pages tree
-opened stored tail limit h old pages tree free reads r0 r1 begins old_is old_long m counts long shown first last = record {
+-- a closed file was opened: the pages at first, after the walk, and in the end
+pub opened : (stored : List (List ℕ)) (tail limit : ℕ) (h : Header) (first : List (Option (List ℕ))) (v p : PagesView) (tree : Tree) (free : ℕ → Bool) (reads r0 r1 : ℕ) → Begins stored tail h → at first ≡ in_file stored → length first ≡ length stored → h.order ≤ 16
+    → Measured (layout_of h.version) h.order first h.root tree free r0 r1 → (tree.count ≡ h.count) × (h.count ≤ limit)
+    → v.stored ≡ stored → p.stored ≡ stored → ((q : ℕ) → 1 ≤ q → q < length first → free q ≡ false → IsRespelt (layout_of h.version) h.order v q) → ((q : ℕ) → at p.pages q ≡ cond (free q) None (at v.pages q)) → at v.pages 0 ≡ None
+    → length p.pages ≡ length stored → p.changed ≡ eqb h.version 1 → r0 ≡ counted reads true → p.reads ≡ r1 → Opens stored tail limit reads p tree
+opened stored tail limit h first v p tree free reads r0 r1 begins first_is first_long small m counts v_stored p_stored respelt shown header long changed r0_is r1_is = record {
   h = h;
   es = m.es;
   us = m.us;
   clean = record {
     begins = begins;
-    there = record { order = m.order; root = m.root_is; holds = subst (λ (f : PageMap). Holds f tree m.es m.us) old_is m.holds };
+    there = record { order = m.order; root = m.root_is; holds = in_stored };
     count = counts.0;
   };
   few = counts.1;
-  holds = moved stored pages.pages (length stored) free old tree m.es m.us refl long shown (λ n is yes_is. ((m.others n).0 yes_is).2 is) old_is old_long m.holds;
-  alone = alone_in stored pages.pages free m.us (length old) old_long long shown m.others;
+  holds = held_respelt layout p tree m.es m.us (omega (arith, small, m.order)) (subst (λ (xs : List (List ℕ)). HoldsIn layout (in_file xs) tree m.es m.us) (sym p_stored) in_stored) (λ q is.
+      let used = root_in_use layout tree.order (at first) tree.root tree.height m.es m.us m.holds.tree q is in
+      let low = below_count first q used in
+      let some = positive (at first) q (ap (λ (f : PageMap). f 0) first_is) used in
+      let held = not_true (free q) (λ yes_is. ((m.others q).0 yes_is).2 is) in
+      subst (λ (o : ℕ). IsRespelt layout o p q) (sym m.order)
+      (respelt_moved layout h.order v p q (p_stored ∙ sym v_stored) (shown q ∙ ap (λ (b : Bool). cond b None (at v.pages q)) held) (respelt q some low held)));
+  alone = λ n there. ⊎_elim (λ is. is) (λ (out : IsIn n m.us → ⊥). absurd (hidden n out there)) (in_or_not n m.us);
   count = long;
-  read = last ∙ m.read ∙ ap (λ (r : ℕ). counted_times r tree.used) first ∙ counted_before reads tree.used ∙ ap (counted_times reads) (next tree.used);
+  changed = changed;
+  read = r1_is ∙ m.read ∙ ap (λ (r : ℕ). counted_times r tree.used) r0_is ∙ counted_before reads tree.used ∙ ap (counted_times reads) (next tree.used);
 }
   where
+    layout : Layout
+    layout = layout_of h.version
+
+    in_stored : HoldsIn (layout_of h.version) (in_file stored) tree m.es m.us
+    in_stored = subst (λ (f : PageMap). HoldsIn (layout_of h.version) f tree m.es m.us) first_is m.holds
+
     next : (n : ℕ) → suc n ≡ n + 1
     next n = omega arith
+
+    none_at : (b : Bool) → cond b None (at v.pages 0) ≡ None
+    none_at true = refl
+    none_at false = header
+
+    hidden : (n : ℕ) → (IsIn n m.us → ⊥) → IsSome (at p.pages n) → ⊥
+    hidden n out there =
+        let used = some_not_none (at p.pages n) there in
+        let low = below_count p.pages n used in
+        let some = positive (at p.pages) n (shown 0 ∙ none_at (free 0)) used in
+        used (shown n ∙ ap (λ (b : Bool). cond b None (at v.pages n)) ((m.others n).1 (some, omega (arith, low, long, first_long), out)))
 
 -- the first check that fails behind a header
 pub fails_first : (stored : List (List ℕ)) (tail limit : ℕ) (h : Header) (fault : OpenFault) → Begins stored tail h → FailsTree (in_file stored) h limit fault → IsFirst stored tail limit fault
@@ -164,35 +182,42 @@ pub held_contents : (pages : PageMap) (tree : Tree) (es : List Element) (us : Li
 held_contents pages tree es us small holds = ap contents_of (held_elements pages tree es us small holds)
 
 -- a file that was opened is closed, and has the records of its pages
-pub opened_closed : (stored : List (List ℕ)) (tail limit reads : ℕ) (pages : PagesView) (tree : Tree) → tree.order ≤ 16 → Opens stored tail limit reads pages tree → IsClosed stored tail tree (contents_at tree.order (at pages.pages) tree.height tree.root)
+pub opened_closed : (stored : List (List ℕ)) (tail limit reads : ℕ) (pages : PagesView) (tree : Tree) → tree.order ≤ 16 → (opens : Opens stored tail limit reads pages tree) → IsClosed opens.h.version stored tail tree (contents_at tree.order (at pages.pages) tree.height tree.root)
 opened_closed stored tail limit reads pages tree small opens = record {
   h = opens.h;
   es = opens.es;
   us = opens.us;
+  version_is = refl;
   clean = opens.clean;
   records = sym (held_contents (at pages.pages) tree opens.es opens.us small opens.holds);
 }
 
+-- where nothing is changed it is of the version that is written
+unchanged_version : (version : ℕ) (changed : Bool) → IsVersion version → changed ≡ eqb version 1 → changed ≡ false → version ≡ 2
+unchanged_version version changed (inl first) is idle = absurd (false≢true (sym idle ∙ is ∙ ap (λ (n : ℕ). eqb n 1) first))
+unchanged_version version changed (inr second) is idle = second
+
 -- what was written back is a closed file
 pub written_back : (pages : PagesView) (stored : List (List ℕ)) (tail count : ℕ) (tree : Tree) → HoldsTree pages tree → length stored ≡ length pages.pages → tail ≡ 0 → count ≡ length pages.pages → 1 ≤ count → count ≤ 1000001 → at pages.pages 0 ≡ None
-    → slice_get stored 0 ≡ Some (header_spelling (record { order = tree.order; pages = count; root = tree.root; count = tree.count }) clean_state) → AreStored (at pages.pages) stored
-    → 1 ≤ tree.order → tree.order ≤ 16 → tree.count ≤ 1000000 → IsClosed stored tail tree (contents_at tree.order (at pages.pages) tree.height tree.root)
+    → slice_get stored 0 ≡ Some (header_spelling (record { version = 2; order = tree.order; pages = count; root = tree.root; count = tree.count }) clean_state) → AreStored (at pages.pages) stored
+    → 1 ≤ tree.order → tree.order ≤ 16 → tree.count ≤ 1000000 → IsClosed 2 stored tail tree (contents_at tree.order (at pages.pages) tree.height tree.root)
 written_back pages stored tail count tree held long tail_is count_is some most header first same some_order most_order small =
     let low = root_below tree.order pages.pages tree.height tree.root held.es held.us (omega (arith, some, count_is)) held.fills.holds.tree in
     record {
-      h = record { order = tree.order; pages = count; root = tree.root; count = tree.count };
+      h = record { version = 2; order = tree.order; pages = count; root = tree.root; count = tree.count };
       es = held.es;
       us = held.us;
+      version_is = refl;
       clean = record {
         begins = record {
           long = record { no_tail = tail_is; some = omega (arith, some, count_is, long); most = omega (arith, most, count_is, long) };
           header = record {
-            fits = record { order = (some_order, most_order); pages = omega (arith, most); root = omega (arith, low, most, count_is); count = omega (arith, small) };
+            fits = record { version = inr refl; order = (some_order, most_order); pages = omega (arith, most); root = omega (arith, low, most, count_is); count = omega (arith, small) };
             page = first;
           };
           agrees = record { pages = count_is ∙ sym long; root = omega (arith, low, long) };
         };
-        there = record { order = refl; root = refl; holds = holds_move (at pages.pages) (in_file stored) tree held.es held.us held.fills.holds (λ q is. stored_page q (root_in_use tree.order (at pages.pages) tree.root tree.height held.es held.us held.fills.holds.tree q is)) };
+        there = record { order = refl; root = refl; holds = holds_move (at pages.pages) (in_file stored) tree held.es held.us held.fills.holds (λ q is. stored_page q (root_in_use second_layout tree.order (at pages.pages) tree.root tree.height held.es held.us held.fills.holds.tree q is)) };
         count = refl;
       };
       records = sym (held_contents (at pages.pages) tree held.es held.us most_order held.fills.holds);
@@ -207,23 +232,39 @@ written_back pages stored tail count tree held long tail_is count_is some most h
 
 -- a table whose file was opened
 pub opened_table : (stored : List (List ℕ)) (tail most reads : ℕ) (pages : PagesView) (tree : Tree) (limit refusals : ℕ) (damages : Damages) (steady : Bool) → pages.stored ≡ stored → pages.tail ≡ tail → pages.steady ≡ steady → (IsTrue steady → Opens stored tail most reads pages tree)
-    → IsTree tree → tree.count ≤ most → limit ≡ most → limit ≤ most_records → ((n : ℕ) → is_in_memory pages n ≡ false) → IsTable (record { pages = pages; tree = tree; limit = limit; refusals = refusals; damages = damages })
-opened_table stored tail most reads pages tree limit refusals damages steady stored_is tail_is steady_is found sizes count limit_is limit_most none = record {
+    → IsTree tree → tree.count ≤ most → limit ≡ most → limit ≤ most_records → AreSpeltIn tree.order pages → IsTable (record { pages = pages; tree = tree; limit = limit; refusals = refusals; damages = damages })
+opened_table stored tail most reads pages tree limit refusals damages steady stored_is tail_is steady_is found sizes count limit_is limit_most spelt = record {
   tree = sizes;
   count = λ _. omega (arith, count, limit_is);
   limit = limit_most;
-  spelt = spelt_none tree.order pages none;
+  spelt = spelt;
   holds = λ is. let opens = found (sym steady_is ∙ is) in record { es = opens.es; us = opens.us; fills = record { holds = opens.holds; alone = opens.alone } };
-  closed = λ is _.
+  closed = λ is idle.
       let contents = contents_at tree.order (at pages.pages) tree.height tree.root in
-      subst (λ (t : ℕ). IsClosed pages.stored t tree contents) (sym tail_is) (subst (λ (ps : List (List ℕ)). IsClosed ps tail tree contents) (sym stored_is) (opened_closed stored tail most reads pages tree sizes.order.1 (found (sym steady_is ∙ is))));
+      let opens = found (sym steady_is ∙ is) in
+      let version = unchanged_version opens.h.version pages.changed opens.clean.begins.header.fits.version opens.changed idle in
+      subst (λ (n : ℕ). IsClosed n pages.stored pages.tail tree contents) version (subst (λ (t : ℕ). IsClosed opens.h.version pages.stored t tree contents) (sym tail_is) (subst (λ (ps : List (List ℕ)). IsClosed opens.h.version ps tail tree contents) (sym stored_is) (opened_closed stored tail most reads pages tree sizes.order.1 opens)));
 }
 
+pub one_page : (pages : List (List ℕ)) (page other : List ℕ) → slice_get pages 0 ≡ Some page → slice_get pages 0 ≡ Some other → page ≡ other
+one_page pages page other one two = ap (λ (o : Option (List ℕ)). unwrap_or o []) (sym one ∙ two)
+
+-- a file has one header
+pub one_header : (stored : List (List ℕ)) (h g : Header) → HasHeader stored h → HasHeader stored g → h ≡ g
+one_header stored h g here there =
+    let page = header_spelling h clean_state in
+    let same : page ≡ header_spelling g clean_state = one_page stored page (header_spelling g clean_state) here.page there.page in
+    sym (fields_same page h clean_state (header_reads page h clean_state here.fits refl)) ∙ fields_same page g clean_state (header_reads page g clean_state there.fits same)
+
 -- a closed file that was opened has the records that it was closed with
-pub same_records : (stored : List (List ℕ)) (tail limit reads : ℕ) (pages : PagesView) (tree t : Tree) (contents : Contents) → t.order ≤ 16 → Opens stored tail limit reads pages t → IsClosed stored tail tree contents → t ≡ tree → contents_at t.order (at pages.pages) t.height t.root ≡ contents
-same_records stored tail limit reads pages tree t contents small opens closed same =
+pub same_records : (version : ℕ) (stored : List (List ℕ)) (tail limit reads : ℕ) (pages : PagesView) (tree t : Tree) (contents : Contents) → t.order ≤ 16 → Opens stored tail limit reads pages t → IsClosed version stored tail tree contents → t ≡ tree → contents_at t.order (at pages.pages) t.height t.root ≡ contents
+same_records version stored tail limit reads pages tree t contents small opens closed same =
+    let header = one_header stored opens.h closed.h opens.clean.begins.header closed.clean.begins.header in
+    let nodes = λ (layout : Layout) (x : Tree). elements_below (node_in layout x.order (in_file stored)) x.height x.root in
     held_contents (at pages.pages) t opens.es opens.us small opens.holds
-    ∙ sym (held_contents (in_file stored) t opens.es opens.us small opens.clean.there.holds)
-    ∙ ap (λ (x : Tree). contents_at x.order (in_file stored) x.height x.root) same
-    ∙ held_contents (in_file stored) tree closed.es closed.us (omega (arith, small, ap (λ (x : Tree). x.order) same)) closed.clean.there.holds
+    ∙ ap contents_of
+    (sym (held_in (layout_of opens.h.version) (in_file stored) t opens.es opens.us small opens.clean.there.holds)
+    ∙ ap (λ (x : Tree). nodes (layout_of opens.h.version) x) same
+    ∙ ap (λ (h : Header). nodes (layout_of h.version) tree) header
+    ∙ held_in (layout_of closed.h.version) (in_file stored) tree closed.es closed.us (omega (arith, small, ap (λ (x : Tree). x.order) same)) closed.clean.there.holds)
     ∙ closed.records

@@ -22,3 +22,6 @@ pub mod FileExampleLemmas
 pub mod TableLimitLemmas
 pub mod TableViewLemmas
 pub mod TableAnswerLemmas
+pub mod KeptPageLemmas
+pub mod RespeltTreeLemmas
+pub mod FreedPageLemmas

@@ -7,17 +7,18 @@ use Rattle.page_store.specs.Calls.{counted_times}
 use Rattle.btree_node.specs.Lists.{Element}
 use Rattle.btree_insert.specs.declared.tree.Tree.{Tree}
 use Rattle.btree_insert.specs.Bounds.{unbounded}
-use Rattle.btree_insert.specs.PageTrees.{IsIn, Apart, Fan, TreeAt, RootAt, Holds}
+use Rattle.btree_insert.specs.PageTrees.{IsIn, Apart, Fan, TreeIn, RootIn, HoldsIn}
+use Rattle.btree_node.specs.declared.layout.Layout.{Layout}
 use Rattle.btree_insert.proofs.BoundLemmas.{Between-all}
 use Rattle.btree_insert.proofs.SonsAroundLemmas.{Stands}
-use Rattle.btree_insert.proofs.ChangedTreeLemmas.{in_use}
+use Rattle.btree_insert.proofs.ChangedTreeLemmas.{in_use_in}
 use Rattle.btree_insert.proofs.Membership.{in_each}
 use Rattle.btree_delete.specs.Survey.{SeenSoFar, mark, AreUnvisited, unreached, after, below_page, Sound, Surveyed, none_of, leaf_of, height_of, seen_of, IsRooted, WentThrough, Measured, allowed}
 use Rattle.btree_delete.proofs.SurveyLemmas.{unreached_set}
 use Rattle.btree_delete.proofs.FreeNumberLemmas.{within, one_less}
 
 -- a page that another's mark leaves unreached
-set_unvisited : (bits : List Bool) (u q : ℕ) → get_or (set bits u true) q true ≡ false → (get_or bits q true ≡ false) × (q ≡ u → ⊥)
+pub set_unvisited : (bits : List Bool) (u q : ℕ) → get_or (set bits u true) q true ≡ false → (get_or bits q true ≡ false) × (q ≡ u → ⊥)
 set_unvisited [] u q is = absurd (cc)
 set_unvisited (b ∷ bits) zero zero is = absurd (cc)
 set_unvisited (b ∷ bits) zero (suc q) is = (is, λ same. absurd (omega (arith, same)))
@@ -95,15 +96,15 @@ fan_two m tree at (s ∷ (t ∷ ss)) (e ∷ els) es us some (xs, ys, here, rest,
     let size = ap length us_is ∙ length-append here rest in
     omega arith
 
-tree_two : (k : ℕ) (pages : PageMap) (least h p : ℕ) (es : List Element) (us : List ℕ) → 0 < k → 0 < least → TreeAt k pages least (suc h) p es us → 2 ^ suc h ≤ length us + 1
-tree_two k pages least zero p es us order some (n, below, spells, least_is, body, us_is) =
+tree_two : (layout : Layout) (k : ℕ) (pages : PageMap) (least h p : ℕ) (es : List Element) (us : List ℕ) → 0 < k → 0 < least → TreeIn layout k pages least (suc h) p es us → 2 ^ suc h ≤ length us + 1
+tree_two layout k pages least zero p es us order some (n, below, spells, least_is, body, us_is) =
     let size = ap length us_is in
     let power = pow-succ' 2 0 ∙ ap (λ x. 2 * x) (pow-zero 2) in
     omega (arith, power, size)
-tree_two k pages least (suc h) p es us order some (n, below, spells, least_is, body, us_is) =
+tree_two layout k pages least (suc h) p es us order some (n, below, spells, least_is, body, us_is) =
     let m = 2 ^ suc h in
-    let each : (s : ℕ) (xs : List Element) (vs : List ℕ) → TreeAt k pages k (suc h) s xs vs → m ≤ length vs + 1 = λ s xs vs tree. tree_two k pages k h s xs vs order order tree in
-    let all = fan_two m (TreeAt k pages k (suc h)) each n.sons.items n.elements.items es below (omega (arith, least_is, some)) body.1 in
+    let each : (s : ℕ) (xs : List Element) (vs : List ℕ) → TreeIn layout k pages k (suc h) s xs vs → m ≤ length vs + 1 = λ s xs vs tree. tree_two layout k pages k h s xs vs order order tree in
+    let all = fan_two m (TreeIn layout k pages k (suc h)) each n.sons.items n.elements.items es below (omega (arith, least_is, some)) body.1 in
     let size = ap length us_is in
     omega (arith, all, size, pow-succ' 2 (suc h))
 
@@ -117,15 +118,15 @@ below_count (p ∷ pages) zero used = omega arith
 below_count (p ∷ pages) (suc q) used = let rest = below_count pages q used in omega arith
 
 -- a tree of the class fits a walk that has seen nothing
-pub sound_root : (k : ℕ) (pages : List (Option (List ℕ))) (h root : ℕ) (es : List Element) (us : List ℕ) (start : SeenSoFar) → 0 < k → length pages ≤ 1000001 → start ≡ record { reached = none_of (length pages); leaf = None; keys = 0 }
-    → IsRooted k (at pages) root (suc h) es us → (h ≤ 18) × Sound (below_page k (at pages) 1 root) (allowed 18 unbounded) start h (18 - h) es us
-sound_root k pages h root es us start order most start_is rooted =
-    let used = in_use k (at pages) 1 (suc h) root es us rooted.tree in
+pub sound_root : (layout : Layout) (k : ℕ) (pages : List (Option (List ℕ))) (h root : ℕ) (es : List Element) (us : List ℕ) (start : SeenSoFar) → 0 < k → length pages ≤ 1000001 → start ≡ record { reached = none_of (length pages); leaf = None; keys = 0 }
+    → IsRooted layout k (at pages) root (suc h) es us → (h ≤ 18) × Sound (below_page layout k (at pages) 1 root) (allowed 18 unbounded) start h (18 - h) es us
+sound_root layout k pages h root es us start order most start_is rooted =
+    let used = in_use_in layout k (at pages) 1 (suc h) root es us rooted.tree in
     let low : (q : ℕ) → IsIn q us → get_or (none_of (length pages)) q true ≡ false = λ q is. get_or-replicate (length pages) q false true (below_count pages q (in_each (λ x. at pages x ≡ None → ⊥) us q used is)) in
     let unvisited = apart_unvisited us (none_of (length pages)) rooted.apart low in
     let fit = fewer_left us (none_of (length pages)) unvisited in
     let all = all_unreached (length pages) in
-    let two = tree_two k (at pages) 1 h root es us order (omega arith) rooted.tree in
+    let two = tree_two layout k (at pages) 1 h root es us order (omega arith) rooted.tree in
     let small = few_levels h (length pages) (omega (arith, two, fit, all)) most in (
       small,
       record {
@@ -148,9 +149,9 @@ seen_after count h es us start start_is = ap (after (18 - h) es us) start_is ∙
     from_none n = λ i. record { reached = mark us (none_of count); leaf = Some (18 - h); keys = zero_left n i }
 
 -- what was gone through from the root is a tree of the class
-pub rooted_found : (k : ℕ) (pages : List (Option (List ℕ))) (root : ℕ) (start new : SeenSoFar) (reads reads' : ℕ) → start ≡ record { reached = none_of (length pages); leaf = None; keys = 0 }
-    → Surveyed (below_page k (at pages) 1 root) (allowed 18 unbounded) start new reads reads' → WentThrough k (at pages) (length pages) root new reads reads'
-rooted_found k pages root start new reads reads' start_is sub =
+pub rooted_found : (layout : Layout) (k : ℕ) (pages : List (Option (List ℕ))) (root : ℕ) (start new : SeenSoFar) (reads reads' : ℕ) → start ≡ record { reached = none_of (length pages); leaf = None; keys = 0 }
+    → Surveyed (below_page layout k (at pages) 1 root) (allowed 18 unbounded) start new reads reads' → WentThrough layout k (at pages) (length pages) root new reads reads'
+rooted_found layout k pages root start new reads reads' start_is sub =
     let level_is : sub.level ≡ 18 - sub.h = omega (arith, sub.sound.levels) in
     record {
       height = suc sub.h;
@@ -167,8 +168,8 @@ rooted_found k pages root start new reads reads' start_is sub =
     }
 
 -- an empty tree
-pub nothing_found : (k : ℕ) (pages : PageMap) (count root : ℕ) (new : SeenSoFar) (reads : ℕ) → root ≡ 0 → new ≡ record { reached = none_of count; leaf = None; keys = 0 } → WentThrough k pages count root new reads reads
-nothing_found k pages count root new reads none is = record {
+pub nothing_found : (layout : Layout) (k : ℕ) (pages : PageMap) (count root : ℕ) (new : SeenSoFar) (reads : ℕ) → root ≡ 0 → new ≡ record { reached = none_of count; leaf = None; keys = 0 } → WentThrough layout k pages count root new reads reads
+nothing_found layout k pages count root new reads none is = record {
   height = 0;
   es = [];
   us = [];
@@ -189,40 +190,40 @@ room_start count start is most =
     let all = ap (λ (s : SeenSoFar). unreached s.reached) is ∙ all_unreached count in
     omega arith
 
-root_height : (k : ℕ) (pages : PageMap) (root height : ℕ) (es : List Element) (us : List ℕ) → (root ≡ 0 → ⊥) → IsRooted k pages root height es us → height ≡ suc (height - 1)
-root_height k pages root zero es us some rooted = absurd (some rooted.tree.0)
-root_height k pages root (suc h) es us some rooted = omega arith
+root_height : (layout : Layout) (k : ℕ) (pages : PageMap) (root height : ℕ) (es : List Element) (us : List ℕ) → (root ≡ 0 → ⊥) → IsRooted layout k pages root height es us → height ≡ suc (height - 1)
+root_height layout k pages root zero es us some rooted = absurd (some rooted.tree.0)
+root_height layout k pages root (suc h) es us some rooted = omega arith
 
 -- the tree of a root is sound where the walk begins, and at its end all of it is seen
-abbrev pub SoundRoot : ℕ → List (Option (List ℕ)) → ℕ → ℕ → List Element → List ℕ → SeenSoFar → Type 0
-SoundRoot k pages root height es us start = (h : ℕ) × Sound (below_page k (at pages) 1 root) (allowed 18 unbounded) start h (18 - h) es us × (after (18 - h) es us start ≡ seen_of (length pages) height es us)
+abbrev pub SoundRoot : Layout → ℕ → List (Option (List ℕ)) → ℕ → ℕ → List Element → List ℕ → SeenSoFar → Type 0
+SoundRoot layout k pages root height es us start = (h : ℕ) × Sound (below_page layout k (at pages) 1 root) (allowed 18 unbounded) start h (18 - h) es us × (after (18 - h) es us start ≡ seen_of (length pages) height es us)
 
 -- a tree below a root that is a page
-pub rooted_exact : (k : ℕ) (pages : List (Option (List ℕ))) (root height : ℕ) (es : List Element) (us : List ℕ) (start : SeenSoFar) → (root ≡ 0 → ⊥) → 0 < k → length pages ≤ 1000001 → start ≡ begin_with (none_of (length pages))
-    → IsRooted k (at pages) root height es us → SoundRoot k pages root height es us start
-rooted_exact k pages root zero es us start some order most start_is rooted = absurd (some rooted.tree.0)
-rooted_exact k pages root (suc h) es us start some order most start_is rooted =
-    let sound = sound_root k pages h root es us start order most start_is rooted in
+pub rooted_exact : (layout : Layout) (k : ℕ) (pages : List (Option (List ℕ))) (root height : ℕ) (es : List Element) (us : List ℕ) (start : SeenSoFar) → (root ≡ 0 → ⊥) → 0 < k → length pages ≤ 1000001 → start ≡ begin_with (none_of (length pages))
+    → IsRooted layout k (at pages) root height es us → SoundRoot layout k pages root height es us start
+rooted_exact layout k pages root zero es us start some order most start_is rooted = absurd (some rooted.tree.0)
+rooted_exact layout k pages root (suc h) es us start some order most start_is rooted =
+    let sound = sound_root layout k pages h root es us start order most start_is rooted in
     (h, sound.1, seen_after (length pages) h es us start start_is)
 
 -- each page of a tree is there
-pub root_in_use : (k : ℕ) (pages : PageMap) (root height : ℕ) (es : List Element) (us : List ℕ) → RootAt k pages height root es us → (q : ℕ) → IsIn q us → pages q ≡ None → ⊥
-root_in_use k pages root zero es us tree q is = absurd (subst (IsIn q) tree.2 is)
-root_in_use k pages root (suc h) es us tree q is = in_each (λ x. pages x ≡ None → ⊥) us q (in_use k pages 1 (suc h) root es us tree) is
+pub root_in_use : (layout : Layout) (k : ℕ) (pages : PageMap) (root height : ℕ) (es : List Element) (us : List ℕ) → RootIn layout k pages height root es us → (q : ℕ) → IsIn q us → pages q ≡ None → ⊥
+root_in_use layout k pages root zero es us tree q is = absurd (subst (IsIn q) tree.2 is)
+root_in_use layout k pages root (suc h) es us tree q is = in_each (λ x. pages x ≡ None → ⊥) us q (in_use_in layout k pages 1 (suc h) root es us tree) is
 
-small_root : (k : ℕ) (pages : List (Option (List ℕ))) (root height : ℕ) (es : List Element) (us : List ℕ) → 0 < k → length pages ≤ 1000001 → IsRooted k (at pages) root height es us → height ≤ 19
-small_root k pages root zero es us order most rooted = omega arith
-small_root k pages root (suc h) es us order most rooted =
-    let low = (sound_root k pages h root es us (begin_with (none_of (length pages))) order most refl rooted).0 in
+small_root : (layout : Layout) (k : ℕ) (pages : List (Option (List ℕ))) (root height : ℕ) (es : List Element) (us : List ℕ) → 0 < k → length pages ≤ 1000001 → IsRooted layout k (at pages) root height es us → height ≤ 19
+small_root layout k pages root zero es us order most rooted = omega arith
+small_root layout k pages root (suc h) es us order most rooted =
+    let low = (sound_root layout k pages h root es us (begin_with (none_of (length pages))) order most refl rooted).0 in
     omega (arith, low)
 
 height_back : (height : ℕ) → height ≤ 19 → height_of (leaf_of height) ≡ height
 height_back zero low = refl
 height_back (suc h) low = omega arith
 
-root_unvisited : (k : ℕ) (pages : List (Option (List ℕ))) (root height : ℕ) (es : List Element) (us : List ℕ) → IsRooted k (at pages) root height es us → AreUnvisited us (none_of (length pages))
-root_unvisited k pages root height es us rooted =
-    apart_unvisited us (none_of (length pages)) rooted.apart (λ q is. get_or-replicate (length pages) q false true (below_count pages q (root_in_use k (at pages) root height es us rooted.tree q is)))
+root_unvisited : (layout : Layout) (k : ℕ) (pages : List (Option (List ℕ))) (root height : ℕ) (es : List Element) (us : List ℕ) → IsRooted layout k (at pages) root height es us → AreUnvisited us (none_of (length pages))
+root_unvisited layout k pages root height es us rooted =
+    apart_unvisited us (none_of (length pages)) rooted.apart (λ q is. get_or-replicate (length pages) q false true (below_count pages q (root_in_use layout k (at pages) root height es us rooted.tree q is)))
 
 -- what is told of a tree that was gone through
 pub record Totals (pages : List (Option (List ℕ))) (height : ℕ) (es : List Element) (us : List ℕ) (new : SeenSoFar) (reached : List Bool) (free : ℕ) : Type 0 where
@@ -232,20 +233,20 @@ pub record Totals (pages : List (Option (List ℕ))) (height : ℕ) (es : List E
   pub others : (n : ℕ) (b : Bool) → ((b ≡ true) ↔ ((1 ≤ n) × (get_or reached n true ≡ false))) → (b ≡ true) ↔ ((1 ≤ n) × (n < length pages) × (IsIn n us → ⊥))
 
 -- the sizes of a tree that was gone through
-pub totals : (k : ℕ) (pages : List (Option (List ℕ))) (root height : ℕ) (es : List Element) (us : List ℕ) (new : SeenSoFar) (reached : List Bool) (free : ℕ) → 0 < k → 1 ≤ length pages → length pages ≤ 1000001 → at pages 0 ≡ None
-    → IsRooted k (at pages) root height es us → new ≡ seen_of (length pages) height es us → reached ≡ new.reached → free ≡ unreached (drop 1 reached) → Totals pages height es us new reached free
-totals k pages root height es us new reached free order some most header rooted new_is reached_is free_is =
+pub totals : (layout : Layout) (k : ℕ) (pages : List (Option (List ℕ))) (root height : ℕ) (es : List Element) (us : List ℕ) (new : SeenSoFar) (reached : List Bool) (free : ℕ) → 0 < k → 1 ≤ length pages → length pages ≤ 1000001 → at pages 0 ≡ None
+    → IsRooted layout k (at pages) root height es us → new ≡ seen_of (length pages) height es us → reached ≡ new.reached → free ≡ unreached (drop 1 reached) → Totals pages height es us new reached free
+totals layout k pages root height es us new reached free order some most header rooted new_is reached_is free_is =
     let bits = none_of (length pages) in
     let marked_is : reached ≡ mark us bits = reached_is ∙ ap (λ (s : SeenSoFar). s.reached) new_is in
-    let out : IsIn 0 us → ⊥ = λ is. root_in_use k (at pages) root height es us rooted.tree 0 is header in
+    let out : IsIn 0 us → ⊥ = λ is. root_in_use layout k (at pages) root height es us rooted.tree 0 is header in
     let first : get_or (mark us bits) 0 true ≡ false = stays_unmarked us bits 0 (get_or-replicate (length pages) 0 false true (omega arith)) out in
-    let fit = fewer_left us bits (root_unvisited k pages root height es us rooted) in
+    let fit = fewer_left us bits (root_unvisited layout k pages root height es us rooted) in
     let all = all_unreached (length pages) in
     let one = one_less (mark us bits) first in
     let long = ap length marked_is ∙ long_mark us bits ∙ length-replicate (length pages) false in
     let rest = free_is ∙ ap (λ (xs : List Bool). unreached (drop 1 xs)) marked_is in
     record {
-      levels = ap (λ (s : SeenSoFar). height_of s.leaf) new_is ∙ height_back height (small_root k pages root height es us order most rooted);
+      levels = ap (λ (s : SeenSoFar). height_of s.leaf) new_is ∙ height_back height (small_root layout k pages root height es us order most rooted);
       keys = ap (λ (s : SeenSoFar). s.keys) new_is;
       used = omega (arith, fit, all, one, long, rest);
       others = λ n b is. (
@@ -261,19 +262,19 @@ totals k pages root height es us new reached free order some most header rooted 
     below_none count n is = let low = within (none_of count) n is in let long = length-replicate count false in omega (arith, low, long)
 
 -- the tree of a root was measured
-pub measured : (k : ℕ) (pages : List (Option (List ℕ))) (root : ℕ) (tree : Tree) (new : SeenSoFar) (reached : List Bool) (free : ℕ) (among : ℕ → Bool) (reads reads' : ℕ) → 0 < k → 1 ≤ length pages → length pages ≤ 1000001 → at pages 0 ≡ None
-    → WentThrough k (at pages) (length pages) root new reads reads' → reached ≡ new.reached → free ≡ unreached (drop 1 reached)
+pub measured : (layout : Layout) (k : ℕ) (pages : List (Option (List ℕ))) (root : ℕ) (tree : Tree) (new : SeenSoFar) (reached : List Bool) (free : ℕ) (among : ℕ → Bool) (reads reads' : ℕ) → 0 < k → 1 ≤ length pages → length pages ≤ 1000001 → at pages 0 ≡ None
+    → WentThrough layout k (at pages) (length pages) root new reads reads' → reached ≡ new.reached → free ≡ unreached (drop 1 reached)
     → tree.order ≡ k → tree.root ≡ root → tree.height ≡ height_of new.leaf → tree.count ≡ new.keys → tree.used ≡ length reached - 1 - free → ((n : ℕ) → (among n ≡ true) ↔ ((1 ≤ n) × (get_or reached n true ≡ false)))
-    → Measured k pages root tree among reads reads'
-measured k pages root tree new reached free among reads reads' order some most header went reached_is free_is order_is root_is height_is count_is used_is free_all =
-    let all = totals k pages root went.height went.es went.us new reached free order some most header went.rooted went.is reached_is free_is in
-    let tree1 = subst (λ (h : ℕ). RootAt k (at pages) h root went.es went.us) (sym (height_is ∙ all.levels)) went.rooted.tree in
-    let tree2 = subst (λ (r : ℕ). RootAt k (at pages) tree.height r went.es went.us) (sym root_is) tree1 in
+    → Measured layout k pages root tree among reads reads'
+measured layout k pages root tree new reached free among reads reads' order some most header went reached_is free_is order_is root_is height_is count_is used_is free_all =
+    let all = totals layout k pages root went.height went.es went.us new reached free order some most header went.rooted went.is reached_is free_is in
+    let tree1 = subst (λ (h : ℕ). RootIn layout k (at pages) h root went.es went.us) (sym (height_is ∙ all.levels)) went.rooted.tree in
+    let tree2 = subst (λ (r : ℕ). RootIn layout k (at pages) tree.height r went.es went.us) (sym root_is) tree1 in
     record {
       es = went.es;
       us = went.us;
       holds = record {
-        tree = subst (λ (o : ℕ). RootAt o (at pages) tree.height tree.root went.es went.us) (sym order_is) tree2;
+        tree = subst (λ (o : ℕ). RootIn layout o (at pages) tree.height tree.root went.es went.us) (sym order_is) tree2;
         ascends = went.rooted.ascends;
         apart = went.rooted.apart;
         count = count_is ∙ all.keys;
@@ -287,19 +288,19 @@ measured k pages root tree new reached free among reads reads' order some most h
     }
 
 -- a held tree is one at its root
-pub rooted_holds : (k : ℕ) (pages : PageMap) (root : ℕ) (tree : Tree) (es : List Element) (us : List ℕ) → tree.order ≡ k → tree.root ≡ root → Holds pages tree es us → IsRooted k pages root tree.height es us
-rooted_holds k pages root tree es us order_is root_is holds = record {
-  tree = subst (λ (r : ℕ). RootAt k pages tree.height r es us) root_is (subst (λ (o : ℕ). RootAt o pages tree.height tree.root es us) order_is holds.tree);
+pub rooted_holds : (layout : Layout) (k : ℕ) (pages : PageMap) (root : ℕ) (tree : Tree) (es : List Element) (us : List ℕ) → tree.order ≡ k → tree.root ≡ root → HoldsIn layout pages tree es us → IsRooted layout k pages root tree.height es us
+rooted_holds layout k pages root tree es us order_is root_is holds = record {
+  tree = subst (λ (r : ℕ). RootIn layout k pages tree.height r es us) root_is (subst (λ (o : ℕ). RootIn layout o pages tree.height tree.root es us) order_is holds.tree);
   ascends = holds.ascends;
   apart = holds.apart;
 }
 
 -- and there is no other
-pub same_tree : (k : ℕ) (pages : List (Option (List ℕ))) (root height count used : ℕ) (tree : Tree) (es : List Element) (us : List ℕ) (new : SeenSoFar) (reached : List Bool) (free : ℕ) → 0 < k → 1 ≤ length pages → length pages ≤ 1000001 → at pages 0 ≡ None
-    → tree.order ≡ k → tree.root ≡ root → Holds (at pages) tree es us → new ≡ seen_of (length pages) tree.height es us → reached ≡ new.reached → free ≡ unreached (drop 1 reached)
+pub same_tree : (layout : Layout) (k : ℕ) (pages : List (Option (List ℕ))) (root height count used : ℕ) (tree : Tree) (es : List Element) (us : List ℕ) (new : SeenSoFar) (reached : List Bool) (free : ℕ) → 0 < k → 1 ≤ length pages → length pages ≤ 1000001 → at pages 0 ≡ None
+    → tree.order ≡ k → tree.root ≡ root → HoldsIn layout (at pages) tree es us → new ≡ seen_of (length pages) tree.height es us → reached ≡ new.reached → free ≡ unreached (drop 1 reached)
     → height ≡ height_of new.leaf → count ≡ new.keys → used ≡ length reached - 1 - free → ◌≡◌ {A = Tree} (record { order = k; root = root; height = height; count = count; used = used }) tree
-same_tree k pages root height count used tree es us new reached free order some most header order_is root_is holds new_is reached_is free_is height_is count_is used_is =
-    let all = totals k pages root tree.height es us new reached free order some most header (rooted_holds k (at pages) root tree es us order_is root_is holds) new_is reached_is free_is in
+same_tree layout k pages root height count used tree es us new reached free order some most header order_is root_is holds new_is reached_is free_is height_is count_is used_is =
+    let all = totals layout k pages root tree.height es us new reached free order some most header (rooted_holds layout k (at pages) root tree es us order_is root_is holds) new_is reached_is free_is in
     let levels = height_is ∙ all.levels in
     let keys = count_is ∙ all.keys ∙ sym holds.count in
     let size = used_is ∙ all.used ∙ sym holds.used in

@@ -10,7 +10,8 @@ use Rattle.btree_node.specs.declared.node.NodeKind.TheVariants.{Leaf, Inner}
 use Rattle.btree_node.specs.Lists.{Element}
 use Rattle.btree_insert.specs.declared.bounds.Bounds.{Bounds}
 use Rattle.btree_insert.specs.Bounds.{Over, Under, AreWithin, Between}
-use Rattle.btree_insert.specs.PageTrees.{Spells, Body, TreeAt}
+use Rattle.btree_insert.specs.PageTrees.{SpellsIn, Body, TreeIn}
+use Rattle.btree_node.specs.declared.layout.Layout.{Layout}
 use Rattle.btree_insert.proofs.BoundLemmas.{Between-left, Between-right}
 use Rattle.btree_insert.proofs.ReachLemmas.{Between-join, last_fan, more_fan, head_within}
 use Rattle.btree_insert.proofs.HeadNodeLemmas.{body_each}
@@ -86,11 +87,11 @@ abbrev pub with_leaf : ℕ → ℕ → SeenSoFar → SeenSoFar
 with_leaf level keys s = record { reached = s.reached; leaf = Some level; keys = s.keys + keys }
 
 -- a leaf was gone through
-pub leaf_found : (k : ℕ) (pages : PageMap) (least left p : ℕ) (b : Bounds) (n : Node) (old reached new : SeenSoFar) (reads reads' : ℕ) → Spells k pages p n → n.kind ≡ Leaf → least ≤ length n.elements.items → AreWithin b n.elements.items
+pub leaf_found : (layout : Layout) (k : ℕ) (pages : PageMap) (least left p : ℕ) (b : Bounds) (n : Node) (old reached new : SeenSoFar) (reads reads' : ℕ) → SpellsIn layout k pages p n → n.kind ≡ Leaf → least ≤ length n.elements.items → AreWithin b n.elements.items
     → get_or old.reached p true ≡ false → reached ≡ record old { reached = set old.reached p true } → (reached.leaf ≡ None) ⊎ (reached.leaf ≡ Some left)
     → new ≡ record { reached = reached.reached; leaf = Some left; keys = reached.keys + length n.elements.items } → reads' ≡ counted reads true
-    → Surveyed (below_page k pages least p) (allowed left b) old new reads reads'
-leaf_found k pages least left p b n old reached new reads reads' spelled kind some within unvisited reached_is leaf new_is read = record {
+    → Surveyed (below_page layout k pages least p) (allowed left b) old new reads reads'
+leaf_found layout k pages least left p b n old reached new reads reads' spelled kind some within unvisited reached_is leaf new_is read = record {
   h = 0;
   level = left;
   es = n.elements.items;
@@ -107,10 +108,10 @@ leaf_found k pages least left p b n old reached new reads reads' spelled kind so
 }
 
 -- an inner page was gone through
-pub inner_found : (k : ℕ) (pages : PageMap) (least left p : ℕ) (b : Bounds) (n : Node) (old reached new : SeenSoFar) (reads reads1 reads' : ℕ) → Spells k pages p n → n.kind ≡ Inner → least ≤ length n.elements.items → 0 < left
+pub inner_found : (layout : Layout) (k : ℕ) (pages : PageMap) (least left p : ℕ) (b : Bounds) (n : Node) (old reached new : SeenSoFar) (reads reads1 reads' : ℕ) → SpellsIn layout k pages p n → n.kind ≡ Inner → least ≤ length n.elements.items → 0 < left
     → get_or old.reached p true ≡ false → reached ≡ record old { reached = set old.reached p true } → reads1 ≡ counted reads true
-    → Surveyed (below_sons k pages n.sons.items n.elements.items) (allowed (left - 1) b) reached new reads1 reads' → Surveyed (below_page k pages least p) (allowed left b) old new reads reads'
-inner_found k pages least left p b n old reached new reads reads1 reads' spelled kind some room unvisited reached_is one sub = record {
+    → Surveyed (below_sons layout k pages n.sons.items n.elements.items) (allowed (left - 1) b) reached new reads1 reads' → Surveyed (below_page layout k pages least p) (allowed left b) old new reads reads'
+inner_found layout k pages least left p b n old reached new reads reads1 reads' spelled kind some room unvisited reached_is one sub = record {
   h = suc sub.h;
   level = sub.level;
   es = sub.es;
@@ -127,20 +128,20 @@ inner_found k pages least left p b n old reached new reads reads1 reads' spelled
 }
 
 -- the page at the head of a tree
-pub record Head (k : ℕ) (pages : PageMap) (least left p : ℕ) (b : Bounds) (old : SeenSoFar) (h level : ℕ) (es : List Element) (us : List ℕ) (n : Node) : Type 0 where
+pub record Head (layout : Layout) (k : ℕ) (pages : PageMap) (least left p : ℕ) (b : Bounds) (old : SeenSoFar) (h level : ℕ) (es : List Element) (us : List ℕ) (n : Node) : Type 0 where
   pub below : List ℕ
-  pub spells : Spells k pages p n
+  pub spells : SpellsIn layout k pages p n
   pub some : least ≤ length n.elements.items
   pub within : AreWithin b n.elements.items
-  pub body : Body (TreeAt k pages k h) h n es below
+  pub body : Body (TreeIn layout k pages k h) h n es below
   pub us_is : us ≡ p ∷ below
   pub here : get_or old.reached p true ≡ false
   pub rest : AreUnvisited below (set old.reached p true)
 
 -- the node at the head of a tree that a survey goes through
-pub head : (k : ℕ) (pages : PageMap) (least left p : ℕ) (b : Bounds) (old : SeenSoFar) (h level : ℕ) (es : List Element) (us : List ℕ) → Sound (below_page k pages least p) (allowed left b) old h level es us
-    → (n : Node) × Head k pages least left p b old h level es us n
-head k pages least left p b old h level es us sound =
+pub head : (layout : Layout) (k : ℕ) (pages : PageMap) (least left p : ℕ) (b : Bounds) (old : SeenSoFar) (h level : ℕ) (es : List Element) (us : List ℕ) → Sound (below_page layout k pages least p) (allowed left b) old h level es us
+    → (n : Node) × Head layout k pages least left p b old h level es us n
+head layout k pages least left p b old h level es us sound =
     let (n, below, spells, some, body, us_is) = sound.stands in
     let unvisited = subst (λ (vs : List ℕ). AreUnvisited vs old.reached) us_is sound.unvisited in (
       n,
@@ -149,8 +150,8 @@ head k pages least left p b old h level es us sound =
         spells = spells;
         some = some;
         within = record {
-          over = body_each (λ e. Over b.low e.0) (TreeAt k pages k h) h n es below body sound.between.within.over;
-          under = body_each (λ e. Under b.high e.0) (TreeAt k pages k h) h n es below body sound.between.within.under;
+          over = body_each (λ e. Over b.low e.0) (TreeIn layout k pages k h) h n es below body sound.between.within.over;
+          under = body_each (λ e. Under b.high e.0) (TreeIn layout k pages k h) h n es below body sound.between.within.under;
         };
         body = body;
         us_is = us_is;
@@ -160,10 +161,10 @@ head k pages least left p b old h level es us sound =
     )
 
 -- what a leaf comes to
-pub leaf_exact : (k : ℕ) (pages : PageMap) (least left p : ℕ) (b : Bounds) (n : Node) (old : SeenSoFar) (h level : ℕ) (es : List Element) (us : List ℕ) → n.kind ≡ Leaf → Sound (below_page k pages least p) (allowed left b) old h level es us → Head k pages least left p b old h level es us n
+pub leaf_exact : (layout : Layout) (k : ℕ) (pages : PageMap) (least left p : ℕ) (b : Bounds) (n : Node) (old : SeenSoFar) (h level : ℕ) (es : List Element) (us : List ℕ) → n.kind ≡ Leaf → Sound (below_page layout k pages least p) (allowed left b) old h level es us → Head layout k pages least left p b old h level es us n
     → (level ≡ left) × (es ≡ n.elements.items) × (us ≡ p ∷ [])
-leaf_exact k pages least left p b n old zero level es us kind sound top = (omega (arith, sound.levels), top.body.1, top.us_is ∙ ap (λ vs. p ∷ vs) top.body.2)
-leaf_exact k pages least left p b n old (suc h) level es us kind sound top = absurd (let same = sym kind ∙ top.body.0 in cc)
+leaf_exact layout k pages least left p b n old zero level es us kind sound top = (omega (arith, sound.levels), top.body.1, top.us_is ∙ ap (λ vs. p ∷ vs) top.body.2)
+leaf_exact layout k pages least left p b n old (suc h) level es us kind sound top = absurd (let same = sym kind ∙ top.body.0 in cc)
 
 -- what is seen after a leaf
 pub leaf_after : (level left p : ℕ) (n : Node) (es : List Element) (us : List ℕ) (old reached new : SeenSoFar) → level ≡ left → es ≡ n.elements.items → us ≡ p ∷ [] → reached ≡ record old { reached = set old.reached p true }
@@ -173,18 +174,18 @@ leaf_after level left p n es us old reached new level_is es_is us_is reached_is 
     ∙ ap (λ (l : ℕ). after l n.elements.items (p ∷ []) old) (sym level_is) ∙ ap (λ (xs : List Element). after level xs (p ∷ []) old) (sym es_is) ∙ ap (λ (vs : List ℕ). after level es vs old) (sym us_is)
 
 -- what the sons of an inner page come to
-pub record Down (k : ℕ) (pages : PageMap) (left p : ℕ) (b : Bounds) (n : Node) (old reached : SeenSoFar) (h level : ℕ) (es : List Element) (us : List ℕ) : Type 0 where
+pub record Down (layout : Layout) (k : ℕ) (pages : PageMap) (left p : ℕ) (b : Bounds) (n : Node) (old reached : SeenSoFar) (h level : ℕ) (es : List Element) (us : List ℕ) : Type 0 where
   pub below : List ℕ
   pub h1 : ℕ
   pub some : 0 < left
-  pub sound : Sound (below_sons k pages n.sons.items n.elements.items) (allowed (left - 1) b) reached h1 level es below
+  pub sound : Sound (below_sons layout k pages n.sons.items n.elements.items) (allowed (left - 1) b) reached h1 level es below
   pub back : (new : SeenSoFar) → new ≡ after level es below reached → new ≡ after level es us old
 
 -- an inner page whose sons were gone through
-pub inner_exact : (k : ℕ) (pages : PageMap) (least left p : ℕ) (b : Bounds) (n : Node) (old reached : SeenSoFar) (h level : ℕ) (es : List Element) (us : List ℕ) → n.kind ≡ Inner → reached ≡ record old { reached = set old.reached p true }
-    → Sound (below_page k pages least p) (allowed left b) old h level es us → Head k pages least left p b old h level es us n → Down k pages left p b n old reached h level es us
-inner_exact k pages least left p b n old reached zero level es us kind reached_is sound top = absurd (let same = sym kind ∙ top.body.0 in cc)
-inner_exact k pages least left p b n old reached (suc h) level es us kind reached_is sound top = record {
+pub inner_exact : (layout : Layout) (k : ℕ) (pages : PageMap) (least left p : ℕ) (b : Bounds) (n : Node) (old reached : SeenSoFar) (h level : ℕ) (es : List Element) (us : List ℕ) → n.kind ≡ Inner → reached ≡ record old { reached = set old.reached p true }
+    → Sound (below_page layout k pages least p) (allowed left b) old h level es us → Head layout k pages least left p b old h level es us n → Down layout k pages left p b n old reached h level es us
+inner_exact layout k pages least left p b n old reached zero level es us kind reached_is sound top = absurd (let same = sym kind ∙ top.body.0 in cc)
+inner_exact layout k pages least left p b n old reached (suc h) level es us kind reached_is sound top = record {
   below = top.below;
   h1 = h;
   some = omega (arith, sound.levels);
@@ -203,15 +204,15 @@ pub empty : (els : List Element) (b : Bool) → b ≡ eqb (length els) 0 → b �
 empty els b is none = grind (arith, nat_tests)
 
 -- the last son was gone through
-pub last_found : (k : ℕ) (pages : PageMap) (left : ℕ) (b : Bounds) (sons : List ℕ) (els : List Element) (old new : SeenSoFar) (reads reads' : ℕ) → length els ≡ 0 → length sons ≡ length els + 1
-    → Surveyed (below_page k pages k (get_or sons 0 0)) (allowed left b) old new reads reads' → Surveyed (below_sons k pages sons els) (allowed left b) old new reads reads'
-last_found k pages left b sons els old new reads reads' none size sub = record {
+pub last_found : (layout : Layout) (k : ℕ) (pages : PageMap) (left : ℕ) (b : Bounds) (sons : List ℕ) (els : List Element) (old new : SeenSoFar) (reads reads' : ℕ) → length els ≡ 0 → length sons ≡ length els + 1
+    → Surveyed (below_page layout k pages k (get_or sons 0 0)) (allowed left b) old new reads reads' → Surveyed (below_sons layout k pages sons els) (allowed left b) old new reads reads'
+last_found layout k pages left b sons els old new reads reads' none size sub = record {
   h = sub.h;
   level = sub.level;
   es = sub.es;
   us = sub.us;
   sound = record {
-    stands = last_fan (TreeAt k pages k (suc sub.h)) sons els sub.es sub.us none size sub.sound.stands;
+    stands = last_fan (TreeIn layout k pages k (suc sub.h)) sons els sub.es sub.us none size sub.sound.stands;
     levels = sub.sound.levels;
     between = sub.sound.between;
     unvisited = sub.sound.unvisited;
@@ -222,10 +223,10 @@ last_found k pages left b sons els old new reads reads' none size sub = record {
 }
 
 -- the last son gone through
-pub last_exact : (k : ℕ) (pages : PageMap) (left : ℕ) (b : Bounds) (sons : List ℕ) (els : List Element) (old : SeenSoFar) (h level : ℕ) (es : List Element) (us : List ℕ) → length els ≡ 0
-    → Sound (below_sons k pages sons els) (allowed left b) old h level es us → Sound (below_page k pages k (get_or sons 0 0)) (allowed left b) old h level es us
-last_exact k pages left b sons els old h level es us none sound = record {
-  stands = fan_last (TreeAt k pages k (suc h)) sons els es us none sound.stands;
+pub last_exact : (layout : Layout) (k : ℕ) (pages : PageMap) (left : ℕ) (b : Bounds) (sons : List ℕ) (els : List Element) (old : SeenSoFar) (h level : ℕ) (es : List Element) (us : List ℕ) → length els ≡ 0
+    → Sound (below_sons layout k pages sons els) (allowed left b) old h level es us → Sound (below_page layout k pages k (get_or sons 0 0)) (allowed left b) old h level es us
+last_exact layout k pages left b sons els old h level es us none sound = record {
+  stands = fan_last (TreeIn layout k pages k (suc h)) sons els es us none sound.stands;
   levels = sound.levels;
   between = sound.between;
   unvisited = sound.unvisited;
@@ -233,10 +234,10 @@ last_exact k pages left b sons els old h level es us none sound = record {
 }
 
 -- the first son, the key behind it and the other sons were gone through
-pub more_found : (k : ℕ) (pages : PageMap) (left : ℕ) (b : Bounds) (sons : List ℕ) (els : List Element) (x : Element) (old first second new : SeenSoFar) (r0 r1 r2 : ℕ) → 0 < length els → length sons ≡ length els + 1 → x ≡ get_or els 0 x → Between b els
-    → Surveyed (below_page k pages k (get_or sons 0 0)) (allowed left (record { low = b.low; high = Some x.0 })) old first r0 r1 → second ≡ record first { keys = first.keys + 1 }
-    → Surveyed (below_sons k pages (drop 1 sons) (drop 1 els)) (allowed left (record { low = Some x.0; high = b.high })) second new r1 r2 → Surveyed (below_sons k pages sons els) (allowed left b) old new r0 r2
-more_found k pages left b sons els x old first second new r0 r1 r2 some size x_is between front one back =
+pub more_found : (layout : Layout) (k : ℕ) (pages : PageMap) (left : ℕ) (b : Bounds) (sons : List ℕ) (els : List Element) (x : Element) (old first second new : SeenSoFar) (r0 r1 r2 : ℕ) → 0 < length els → length sons ≡ length els + 1 → x ≡ get_or els 0 x → Between b els
+    → Surveyed (below_page layout k pages k (get_or sons 0 0)) (allowed left (record { low = b.low; high = Some x.0 })) old first r0 r1 → second ≡ record first { keys = first.keys + 1 }
+    → Surveyed (below_sons layout k pages (drop 1 sons) (drop 1 els)) (allowed left (record { low = Some x.0; high = b.high })) second new r1 r2 → Surveyed (below_sons layout k pages sons els) (allowed left b) old new r0 r2
+more_found layout k pages left b sons els x old first second new r0 r1 r2 some size x_is between front one back =
     let bounds = head_within b els x some x_is between in
     let leaf_is : second.leaf ≡ Some front.level = ap (λ (s : SeenSoFar). s.leaf) one ∙ ap (λ (s : SeenSoFar). s.leaf) front.is in
     let level_is : front.level ≡ back.level = leaf_one second.leaf front.level back.level leaf_is back.sound.leaf in
@@ -248,7 +249,7 @@ more_found k pages left b sons els x old first second new r0 r1 r2 some size x_i
       es = front.es ++ x ∷ back.es;
       us = front.us ++ back.us;
       sound = record {
-        stands = more_fan (TreeAt k pages k (suc back.h)) sons els front.es back.es x front.us back.us some size x_is (subst (λ (y : ℕ). TreeAt k pages k (suc y) (get_or sons 0 0) front.es front.us) h_is front.sound.stands) back.sound.stands;
+        stands = more_fan (TreeIn layout k pages k (suc back.h)) sons els front.es back.es x front.us back.us some size x_is (subst (λ (y : ℕ). TreeIn layout k pages k (suc y) (get_or sons 0 0) front.es front.us) h_is front.sound.stands) back.sound.stands;
         levels = back.sound.levels;
         between = Between-join b front.es x back.es bounds.0 bounds.1 front.sound.between back.sound.between;
         unvisited = unvisited-append front.us back.us old.reached front.sound.unvisited (subst (λ (s : SeenSoFar). AreUnvisited back.us s.reached) second_is back.sound.unvisited);
@@ -262,21 +263,21 @@ more_found k pages left b sons els x old first second new r0 r1 r2 some size x_i
     both_long us vs = let size = length-append us vs in omega arith
 
 -- the first son of several, and the others
-pub record Apiece (k : ℕ) (pages : PageMap) (left : ℕ) (b : Bounds) (sons : List ℕ) (els : List Element) (x : Element) (old : SeenSoFar) (h level : ℕ) (es : List Element) (us : List ℕ) : Type 0 where
+pub record Apiece (layout : Layout) (k : ℕ) (pages : PageMap) (left : ℕ) (b : Bounds) (sons : List ℕ) (els : List Element) (x : Element) (old : SeenSoFar) (h level : ℕ) (es : List Element) (us : List ℕ) : Type 0 where
   pub xs : List Element
   pub ys : List Element
   pub here : List ℕ
   pub rest : List ℕ
-  pub first : Sound (below_page k pages k (get_or sons 0 0)) (allowed left (record { low = b.low; high = Some x.0 })) old h level xs here
+  pub first : Sound (below_page layout k pages k (get_or sons 0 0)) (allowed left (record { low = b.low; high = Some x.0 })) old h level xs here
   pub more : (reached second : SeenSoFar) → reached ≡ after level xs here old → second ≡ record reached { keys = reached.keys + 1 }
-      → Sound (below_sons k pages (drop 1 sons) (drop 1 els)) (allowed left (record { low = Some x.0; high = b.high })) second h level ys rest
+      → Sound (below_sons layout k pages (drop 1 sons) (drop 1 els)) (allowed left (record { low = Some x.0; high = b.high })) second h level ys rest
   pub back : (reached second new : SeenSoFar) → reached ≡ after level xs here old → second ≡ record reached { keys = reached.keys + 1 } → new ≡ after level ys rest second → new ≡ after level es us old
 
 -- one more son gone through, and those behind it
-pub more_exact : (k : ℕ) (pages : PageMap) (left : ℕ) (b : Bounds) (sons : List ℕ) (els : List Element) (x : Element) (old : SeenSoFar) (h level : ℕ) (es : List Element) (us : List ℕ) → 0 < length els → x ≡ get_or els 0 x
-    → Sound (below_sons k pages sons els) (allowed left b) old h level es us → Apiece k pages left b sons els x old h level es us
-more_exact k pages left b sons els x old h level es us some x_is sound =
-    let one = fan_first (TreeAt k pages k (suc h)) sons els es us some sound.stands in
+pub more_exact : (layout : Layout) (k : ℕ) (pages : PageMap) (left : ℕ) (b : Bounds) (sons : List ℕ) (els : List Element) (x : Element) (old : SeenSoFar) (h level : ℕ) (es : List Element) (us : List ℕ) → 0 < length els → x ≡ get_or els 0 x
+    → Sound (below_sons layout k pages sons els) (allowed left b) old h level es us → Apiece layout k pages left b sons els x old h level es us
+more_exact layout k pages left b sons els x old h level es us some x_is sound =
+    let one = fan_first (TreeIn layout k pages k (suc h)) sons els es us some sound.stands in
     let es_is = one.es_is x x_is in
     let between = subst (Between b) es_is sound.between in
     let unvisited = subst (λ (vs : List ℕ). AreUnvisited vs old.reached) one.us_is sound.unvisited in
@@ -305,18 +306,18 @@ more_exact k pages left b sons els x old h level es us some x_is sound =
     }
 
 -- what a call says of sons, in the words of the caller
-pub sons_found : (k : ℕ) (pages pages2 : PageMap) (sons sons2 : List ℕ) (els els2 : List Element) (left : ℕ) (b : Bounds) (old new : SeenSoFar) (r r' : ℕ) → pages2 ≡ pages → sons2 ≡ sons → els2 ≡ els
-    → Surveyed (below_sons k pages2 sons2 els2) (allowed left b) old new r r' → Surveyed (below_sons k pages sons els) (allowed left b) old new r r'
-sons_found k pages pages2 sons sons2 els els2 left b old new r r' pages_is sons_is els_is sub =
-    subst (λ (x : PageMap). Surveyed (below_sons k x sons els) (allowed left b) old new r r') pages_is
-    (subst (λ (x : List ℕ). Surveyed (below_sons k pages2 x els) (allowed left b) old new r r') sons_is (subst (λ (x : List Element). Surveyed (below_sons k pages2 sons2 x) (allowed left b) old new r r') els_is sub))
+pub sons_found : (layout : Layout) (k : ℕ) (pages pages2 : PageMap) (sons sons2 : List ℕ) (els els2 : List Element) (left : ℕ) (b : Bounds) (old new : SeenSoFar) (r r' : ℕ) → pages2 ≡ pages → sons2 ≡ sons → els2 ≡ els
+    → Surveyed (below_sons layout k pages2 sons2 els2) (allowed left b) old new r r' → Surveyed (below_sons layout k pages sons els) (allowed left b) old new r r'
+sons_found layout k pages pages2 sons sons2 els els2 left b old new r r' pages_is sons_is els_is sub =
+    subst (λ (x : PageMap). Surveyed (below_sons layout k x sons els) (allowed left b) old new r r') pages_is
+    (subst (λ (x : List ℕ). Surveyed (below_sons layout k pages2 x els) (allowed left b) old new r r') sons_is (subst (λ (x : List Element). Surveyed (below_sons layout k pages2 sons2 x) (allowed left b) old new r r') els_is sub))
 
 -- sons said another way
-pub sons_sound : (k : ℕ) (pages pages2 : PageMap) (sons sons2 : List ℕ) (els els2 : List Element) (left : ℕ) (b : Bounds) (old : SeenSoFar) (h level : ℕ) (es : List Element) (us : List ℕ) → pages2 ≡ pages → sons2 ≡ sons → els2 ≡ els
-    → Sound (below_sons k pages sons els) (allowed left b) old h level es us → Sound (below_sons k pages2 sons2 els2) (allowed left b) old h level es us
-sons_sound k pages pages2 sons sons2 els els2 left b old h level es us pages_is sons_is els_is sub =
-    subst (λ (x : PageMap). Sound (below_sons k x sons2 els2) (allowed left b) old h level es us) (sym pages_is)
-    (subst (λ (x : List ℕ). Sound (below_sons k pages x els2) (allowed left b) old h level es us) (sym sons_is) (subst (λ (x : List Element). Sound (below_sons k pages sons x) (allowed left b) old h level es us) (sym els_is) sub))
+pub sons_sound : (layout : Layout) (k : ℕ) (pages pages2 : PageMap) (sons sons2 : List ℕ) (els els2 : List Element) (left : ℕ) (b : Bounds) (old : SeenSoFar) (h level : ℕ) (es : List Element) (us : List ℕ) → pages2 ≡ pages → sons2 ≡ sons → els2 ≡ els
+    → Sound (below_sons layout k pages sons els) (allowed left b) old h level es us → Sound (below_sons layout k pages2 sons2 els2) (allowed left b) old h level es us
+sons_sound layout k pages pages2 sons sons2 els els2 left b old h level es us pages_is sons_is els_is sub =
+    subst (λ (x : PageMap). Sound (below_sons layout k x sons2 els2) (allowed left b) old h level es us) (sym pages_is)
+    (subst (λ (x : List ℕ). Sound (below_sons layout k pages x els2) (allowed left b) old h level es us) (sym sons_is) (subst (λ (x : List Element). Sound (below_sons layout k pages sons x) (allowed left b) old h level es us) (sym els_is) sub))
 
 -- what follows from an answer
 pub match_ok : {E : Type 0} (r : Result (Unit {0}) E) (A B : Type 0) (F : E → Type 0) → (A → B) → MatchResult r (λ _. A) F → MatchResult r (λ _. B) F

@@ -4,6 +4,7 @@ use Rattle.std.proofs.Math.Nat.{div-le_self, pow-le-pow_left, pow-le-pow_right}
 use Rattle.std.proofs.lemmas.List.{length-replicate, get_or-replicate}
 use Rattle.page_store.specs.PageMap.{PageMap, at}
 use Rattle.page_store.specs.FreeNumbers.{free_from, free_numbers, count_after}
+use Rattle.btree_node.specs.Layout.{second_layout}
 use Rattle.btree_node.specs.Lists.{Element}
 use Rattle.btree_insert.specs.declared.tree.Tree.{Tree}
 use Rattle.btree_insert.specs.Contents.{lookup_in, set_in}
@@ -48,7 +49,7 @@ tail_counted (p ∷ pages) (b ∷ bits) long each = free_counted 1 pages bits (o
 pub all_pages : (pages : List (Option (List ℕ))) (tree : Tree) (es : List Element) (us : List ℕ) → 1 ≤ length pages → at pages 0 ≡ None → Fills pages tree es us → length pages ≡ 1 + length us + length (free_numbers pages)
 all_pages pages tree es us some header fills =
     let bits = none_of (length pages) in
-    let used : (q : ℕ) → IsIn q us → at pages q ≡ None → ⊥ = root_in_use tree.order (at pages) tree.root tree.height es us fills.holds.tree in
+    let used : (q : ℕ) → IsIn q us → at pages q ≡ None → ⊥ = root_in_use second_layout tree.order (at pages) tree.root tree.height es us fills.holds.tree in
     let unset : (q : ℕ) → q < length pages → get_or bits q true ≡ false = λ q low. get_or-replicate (length pages) q false true low in
     let unvisited = apart_unvisited us bits fills.holds.apart (λ q is. unset q (below_count pages q (used q is))) in
     let fit = fewer_left us bits unvisited in

@@ -167,10 +167,10 @@ set_table t pages key to r next before faults is call r_is small order out_none 
           let as_was = idle_of t pages next to before none some (λ puts. put puts ok) idle in
           let closed = is.closed (sym steady_is ∙ steady) (sym as_was.2 ∙ idle) in
           let same : table_contents t ≡ contents_at next.order (at pages.pages) next.height next.root = λ i. contents_at (sym as_was.0 i).order (at (sym as_was.1 i)) (sym as_was.0 i).height (sym as_was.0 i).root in
-          subst (λ (ps : List (List ℕ)). IsClosed ps pages.tail next (contents_at next.order (at pages.pages) next.height next.root)) (sym stored)
-          (subst (λ (n : ℕ). IsClosed t.pages.stored n next (contents_at next.order (at pages.pages) next.height next.root)) (sym tail)
-          (subst (λ (x : Tree). IsClosed t.pages.stored t.pages.tail x (contents_at next.order (at pages.pages) next.height next.root)) (sym as_was.0)
-          (subst (λ (m : Contents). IsClosed t.pages.stored t.pages.tail t.tree m) same closed)));
+          subst (λ (ps : List (List ℕ)). IsClosed 2 ps pages.tail next (contents_at next.order (at pages.pages) next.height next.root)) (sym stored)
+          (subst (λ (n : ℕ). IsClosed 2 t.pages.stored n next (contents_at next.order (at pages.pages) next.height next.root)) (sym tail)
+          (subst (λ (x : Tree). IsClosed 2 t.pages.stored t.pages.tail x (contents_at next.order (at pages.pages) next.height next.root)) (sym as_was.0)
+          (subst (λ (m : Contents). IsClosed 2 t.pages.stored t.pages.tail t.tree m) same closed)));
     }
 
 -- what a look-up answers

@@ -8,7 +8,7 @@ use Rattle.btree_node.specs.declared.node.NodeKind.{NodeKind}
 use Rattle.btree_node.specs.declared.node.NodeKind.TheVariants.{Leaf, Inner}
 use Rattle.btree_node.specs.Cut.{left_of, right_of}
 use Rattle.btree_node.specs.Joined.{joined, keys_of_both, half_of_both, AreBrothers}
-use Rattle.btree_node.specs.Layout.{first_layout}
+use Rattle.btree_node.specs.Layout.{second_layout}
 use Rattle.btree_node.specs.Lists.{Element, Each, Below, Ascends}
 use Rattle.btree_node.specs.Spelling.{spelling, ElementFits, IsSon, SonsFit, CanStand}
 use Rattle.btree_node.proofs.SplitLemmas.{Each-take, Each-drop, Ascends-take, Ascends-drop, around}
@@ -29,7 +29,7 @@ use Rattle.btree_insert.proofs.SettledTreeLemmas.{set_split}
 
 -- an element that could stand at place i in the place of the one there
 pub record Stands (i : ℕ) (els : List Element) (b : Bounds) (e : Element) : Type 0 where
-  pub fits : ElementFits first_layout e
+  pub fits : ElementFits second_layout e
   pub below : Each (λ x. Below x.0 e.0) (take i els)
   pub above : Each (λ x. Below e.0 x.0) (drop (suc i) els)
   pub within : IsWithin b e.0
@@ -46,7 +46,7 @@ each_later P (suc i) [] each = tt
 each_later P (suc i) (x ∷ xs) each = each_later P i xs each
 
 -- an element below son i stands there, and one below the next son
-pub left_stands_at : (i : ℕ) (els : List Element) (b : Bounds) (e : Element) → i < length els → Ascends els → AreWithin b els → ElementFits first_layout e → IsWithin (son_bounds els i b) e.0 → Stands i els b e
+pub left_stands_at : (i : ℕ) (els : List Element) (b : Bounds) (e : Element) → i < length els → Ascends els → AreWithin b els → ElementFits second_layout e → IsWithin (son_bounds els i b) e.0 → Stands i els b e
 left_stands_at i els b e low up within fits is =
     let place = within_place els i b e.0 (omega arith) up is in
     record {
@@ -57,7 +57,7 @@ left_stands_at i els b e low up within fits is =
     }
 
 -- an element of the son on the right may take the place of the key between
-pub right_stands_at : (i : ℕ) (els : List Element) (b : Bounds) (e : Element) → i < length els → Ascends els → AreWithin b els → ElementFits first_layout e → IsWithin (son_bounds els (suc i) b) e.0 → Stands i els b e
+pub right_stands_at : (i : ℕ) (els : List Element) (b : Bounds) (e : Element) → i < length els → Ascends els → AreWithin b els → ElementFits second_layout e → IsWithin (son_bounds els (suc i) b) e.0 → Stands i els b e
 right_stands_at i els b e low up within fits is =
     let place = within_place els (suc i) b e.0 (omega arith) up is in
     record {
@@ -67,12 +67,12 @@ right_stands_at i els b e low up within fits is =
       within = son_within els (suc i) b e.0 up within is;
     }
 
-middle_stands_at : (i : ℕ) (els : List Element) (b : Bounds) (d : Element) → i < length els → Ascends els → AreWithin b els → Each (ElementFits first_layout) els → Stands i els b (get_or els i d)
+middle_stands_at : (i : ℕ) (els : List Element) (b : Bounds) (d : Element) → i < length els → Ascends els → AreWithin b els → Each (ElementFits second_layout) els → Stands i els b (get_or els i d)
 middle_stands_at i els b d low up within fit =
     let x = get_or els i d in
     let split = subst Ascends (around i els d low) up in
     record {
-      fits = Each_at (ElementFits first_layout) els i x fit low (get_or_default els i d x low);
+      fits = Each_at (ElementFits second_layout) els i x fit low (get_or_default els i d x low);
       below = Ascends-before (take i els) x (drop (suc i) els) split;
       above = (Ascends-right (take i els) (x ∷ drop (suc i) els) split).0;
       within = (Each_at (λ (e : Element). Over b.low e.0) els i x within.over low (get_or_default els i d x low), Each_at (λ (e : Element). Under b.high e.0) els i x within.under low (get_or_default els i d x low));
@@ -85,7 +85,7 @@ zip_within b es within = at es within.over within.under
     at [] over under = tt
     at (x ∷ xs) over under = ((over.0, under.0), at xs over.1 under.1)
 
-zip_stands : (i : ℕ) (els : List Element) (b c : Bounds) (es : List Element) → ((e : Element) → ElementFits first_layout e → IsWithin c e.0 → Stands i els b e) → Each (ElementFits first_layout) es → Each (λ e. IsWithin c e.0) es → Each (Stands i els b) es
+zip_stands : (i : ℕ) (els : List Element) (b c : Bounds) (es : List Element) → ((e : Element) → ElementFits second_layout e → IsWithin c e.0 → Stands i els b e) → Each (ElementFits second_layout) es → Each (λ e. IsWithin c e.0) es → Each (Stands i els b) es
 zip_stands i els b c [] step fit within = tt
 zip_stands i els b c (e ∷ es) step fit within = (step e fit.0 within.0, zip_stands i els b c es step fit.1 within.1)
 
@@ -102,9 +102,9 @@ both_stand k level i b F L R low father left right =
 
 -- the elements of two brothers and the key between fit places
 pub both_fit : (k level i : ℕ) (b : Bounds) (F L R : Node) → i < length F.elements.items → MayBeUnderfull k (level + 1) b F → MayBeUnderfull k level (son_bounds F.elements.items i b) L → MayBeUnderfull k level (son_bounds F.elements.items (suc i) b) R
-    → Each (ElementFits first_layout) (both F i L R).elements.items
+    → Each (ElementFits second_layout) (both F i L R).elements.items
 both_fit k level i b F L R low father left right =
-    Each-map (Stands i F.elements.items b) (ElementFits first_layout) (both F i L R).elements.items (λ e is. is.fits) (both_stand k level i b F L R low father left right)
+    Each-map (Stands i F.elements.items b) (ElementFits second_layout) (both F i L R).elements.items (λ e is. is.fits) (both_stand k level i b F L R low father left right)
 
 -- two sons side by side are brothers
 pub are_brothers : (k level i : ℕ) (b : Bounds) (F L R : Node) → i < length F.elements.items → MayBeUnderfull k (level + 1) b F → MayBeUnderfull k level (son_bounds F.elements.items i b) L → MayBeUnderfull k level (son_bounds F.elements.items (suc i) b) R
@@ -133,7 +133,7 @@ set_may_be_underfull k height i b F G y low may_be_underfull is kind_is els_is s
     record {
       kind = kind_is ∙ may_be_underfull.kind;
       most = omega (arith, size, may_be_underfull.most);
-      fit = subst (Each (ElementFits first_layout)) (sym els_is) (Each-set (ElementFits first_layout) F.elements.items i y may_be_underfull.fit is.fits);
+      fit = subst (Each (ElementFits second_layout)) (sym els_is) (Each-set (ElementFits second_layout) F.elements.items i y may_be_underfull.fit is.fits);
       ascends = subst Ascends (sym els_is) (set_up F.elements.items i b y low may_be_underfull.ascends is);
       within = subst (AreWithin b) (sym els_is) (record {
         over = Each-set (λ (e : Element). Over b.low e.0) F.elements.items i y may_be_underfull.within.over is.within.0;
@@ -156,7 +156,7 @@ ascends_remove (e ∷ els) zero up = up.1
 ascends_remove (e ∷ els) (suc i) up = (each_remove (λ later. Below e.0 later.0) els i up.0, ascends_remove els i up.1)
 
 -- a node with an element from the son behind in the place of its own
-pub next_may_be_underfull : (k height i : ℕ) (b : Bounds) (F G : Node) (y : Element) → i < length F.elements.items → MayBeUnderfull k height b F → ElementFits first_layout y → IsWithin (son_bounds F.elements.items (suc i) b) y.0
+pub next_may_be_underfull : (k height i : ℕ) (b : Bounds) (F G : Node) (y : Element) → i < length F.elements.items → MayBeUnderfull k height b F → ElementFits second_layout y → IsWithin (son_bounds F.elements.items (suc i) b) y.0
     → G.kind ≡ F.kind → G.elements.items ≡ set F.elements.items i y → G.sons.items ≡ F.sons.items → MayBeUnderfull k height b G
 next_may_be_underfull k height i b F G y low may_be_underfull fits within kind_is els_is sons_is =
     set_may_be_underfull k height i b F G y low may_be_underfull (right_stands_at i F.elements.items b y low may_be_underfull.ascends may_be_underfull.within fits within) kind_is els_is sons_is
@@ -169,7 +169,7 @@ leaf_without k b n m i leaf low may_be_underfull kind_is els_is sons_is =
     record {
       kind = kind_is ∙ may_be_underfull.kind;
       most = omega (arith, size, count, may_be_underfull.most);
-      fit = subst (Each (ElementFits first_layout)) (sym els_is) (each_remove (ElementFits first_layout) n.elements.items i may_be_underfull.fit);
+      fit = subst (Each (ElementFits second_layout)) (sym els_is) (each_remove (ElementFits second_layout) n.elements.items i may_be_underfull.fit);
       ascends = subst Ascends (sym els_is) (ascends_remove n.elements.items i may_be_underfull.ascends);
       within = subst (AreWithin b) (sym els_is) (record {
         over = each_remove (λ (e : Element). Over b.low e.0) n.elements.items i may_be_underfull.within.over;
@@ -197,7 +197,7 @@ without_may_be_underfull k level i b F G some low may_be_underfull kind_is els_i
     record {
       kind = kind_is ∙ may_be_underfull.kind;
       most = omega (arith, size, count, may_be_underfull.most);
-      fit = subst (Each (ElementFits first_layout)) (sym els_is) (each_remove (ElementFits first_layout) F.elements.items i may_be_underfull.fit);
+      fit = subst (Each (ElementFits second_layout)) (sym els_is) (each_remove (ElementFits second_layout) F.elements.items i may_be_underfull.fit);
       ascends = subst Ascends (sym els_is) (ascends_remove F.elements.items i may_be_underfull.ascends);
       within = subst (AreWithin b) (sym els_is) (record {
         over = each_remove (λ (e : Element). Over b.low e.0) F.elements.items i may_be_underfull.within.over;
@@ -256,10 +256,10 @@ behind_may_be_underfull k height b n e may_be_underfull is = record {
 
 -- a leaf without its first element
 pub leaf_behind : (k : ℕ) (b : Bounds) (n m : Node) (e : Element) → n.kind ≡ Leaf → 0 < length n.elements.items → MayBeUnderfull k 1 b n → e ≡ get_or n.elements.items 0 e → m.kind ≡ n.kind → m.elements.items ≡ remove n.elements.items 0 → m.sons.items ≡ n.sons.items
-    → ElementFits first_layout e × IsWithin b e.0 × MayBeUnderfull k 1 (behind e b) m
+    → ElementFits second_layout e × IsWithin b e.0 × MayBeUnderfull k 1 (behind e b) m
 leaf_behind k b n m e leaf some may_be_underfull is kind_is els_is sons_is =
     let without = leaf_without k b n m 0 leaf some may_be_underfull kind_is els_is sons_is in (
-      Each_at (ElementFits first_layout) n.elements.items 0 e may_be_underfull.fit some is,
+      Each_at (ElementFits second_layout) n.elements.items 0 e may_be_underfull.fit some is,
       (Each_at (λ (x : Element). Over b.low x.0) n.elements.items 0 e may_be_underfull.within.over some is, Each_at (λ (x : Element). Under b.high x.0) n.elements.items 0 e may_be_underfull.within.under some is),
       record {
         kind = without.kind;

@@ -14,7 +14,8 @@ use Rattle.btree_node.specs.Lists.{Element}
 use Rattle.btree_insert.specs.declared.tree.Tree.{Tree}
 use Rattle.btree_insert.specs.declared.tree.TreeFault.{TreeFault}
 use Rattle.btree_insert.specs.declared.tree.TreeFault.TheVariants.{Device as ReadFailed, Damaged as NoTreePage, Memory as NoMemory}
-use Rattle.btree_insert.specs.PageTrees.{IsIn, Holds}
+use Rattle.btree_insert.specs.PageTrees.{IsIn, Holds, HoldsIn}
+use Rattle.btree_node.specs.Layout.{first_version, layout_of}
 use Rattle.btree_delete.specs.declared.open_fault.OpenFault.{OpenFault}
 use Rattle.btree_delete.specs.declared.open_fault.OpenFault.TheVariants.{Device, BadLength, BadMagic, BadVersion, BadOrder, NotClean, BadHeader, Damaged, WrongCount, TooManyRecords, Memory}
 
@@ -47,7 +48,7 @@ pub record Begins (stored : List (List ℕ)) (tail : ℕ) (h : Header) : Type 0 
 pub record HasTree (pages : PageMap) (h : Header) (tree : Tree) (es : List Element) (us : List ℕ) : Type 0 where
   pub order : tree.order ≡ h.order
   pub root : tree.root ≡ h.root
-  pub holds : Holds pages tree es us
+  pub holds : HoldsIn (layout_of h.version) pages tree es us
 
 -- a closed file: its header, and a tree with as many elements as the header says
 pub record IsCleanFile (stored : List (List ℕ)) (tail : ℕ) (h : Header) (tree : Tree) (es : List Element) (us : List ℕ) : Type 0 where
@@ -132,6 +133,7 @@ pub record Opens (stored : List (List ℕ)) (tail limit reads : ℕ) (pages : Pa
   pub holds : Holds (at pages.pages) tree es us
   pub alone : (n : ℕ) → IsSome (at pages.pages n) → IsIn n us
   pub count : length pages.pages ≡ length stored
+  pub changed : pages.changed ≡ (h.version == first_version)
   pub read : pages.reads ≡ counted_times reads (tree.used + 1)
 
 -- whether a call of the store failed

@@ -5,14 +5,15 @@ use Rattle.page_store.specs.Journal.{writing_back}
 use Rattle.page_store.specs.declared.step.Step.{Step}
 use Rattle.btree_node.specs.declared.header.Header.{Header}
 use Rattle.btree_node.specs.HeaderSpelling.{header_spelling, clean_state, writing_state}
+use Rattle.btree_node.specs.Layout.{second_version}
 use Rattle.btree_node.specs.Lists.{Element}
 use Rattle.btree_insert.specs.declared.tree.Tree.{Tree}
 use Rattle.btree_delete.specs.CleanFile.{IsCleanFile}
 use Rattle.btree_delete.specs.TableView.{TableView}
 
--- the header of a table's file
+-- the header of a table's file when it is closed
 abbrev pub header_of : TableView → Header
-header_of t = record { order = t.tree.order; pages = length t.pages.pages; root = t.tree.root; count = t.tree.count }
+header_of t = record { version = second_version; order = t.tree.order; pages = length t.pages.pages; root = t.tree.root; count = t.tree.count }
 
 -- the calls by which a table is closed: none where nothing was changed
 abbrev pub closing : TableView → List Step

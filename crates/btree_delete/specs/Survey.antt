@@ -1,5 +1,5 @@
 -- What a walk that looks at each page of a tree once goes through.
-use Rattle.std.specs.Prelude.{◌≡◌, ℕ, zero, suc, ◌+◌, ◌-◌, ◌<◌, ◌≤◌, ◌↔◌, Bool, true, false, ◌⊎◌, List, [], ◌∷◌, length, replicate, Option, Some, None, slice_index_or, slice_set}
+use Rattle.std.specs.Prelude.{◌≡◌, ℕ, zero, suc, ◌+◌, ◌-◌, ◌<◌, ◌≤◌, ◌↔◌, Bool, true, false, ◌⊎◌, List, [], ◌∷◌, length, replicate, Option, Some, None, slice_index_or, slice_set, IsTrue}
 use Rattle.page_store.specs.PageMap.{PageMap, at}
 use Rattle.page_store.specs.Calls.{counted_times}
 use Rattle.btree_node.specs.Lists.{Element, Ascends}
@@ -7,7 +7,12 @@ use Rattle.btree_insert.specs.Sizes.{greatest_height}
 use Rattle.btree_insert.specs.declared.bounds.Bounds.{Bounds}
 use Rattle.btree_insert.specs.declared.tree.Tree.{Tree}
 use Rattle.btree_insert.specs.Bounds.{Between}
-use Rattle.btree_insert.specs.PageTrees.{IsIn, Apart, Fan, TreeAt, RootAt, Holds}
+use Rattle.btree_insert.specs.PageTrees.{IsIn, Apart, Fan, SpellsIn, Spells, TreeIn, RootIn, HoldsIn}
+use Rattle.btree_insert.specs.Spelt.{AreSpeltIn}
+use Rattle.btree_node.specs.declared.layout.Layout.{Layout}
+use Rattle.btree_node.specs.declared.node.Node.{Node}
+use Rattle.page_store.specs.PagesView.{PagesView, is_in_memory}
+use Rattle.btree_delete.specs.CleanFile.{in_file}
 
 -- which pages were reached, how many levels below the most a tree may have the first leaf stood, and how many keys were met
 pub record SeenSoFar : Type 0 where
@@ -36,11 +41,11 @@ abbrev pub after : ℕ → List Element → List ℕ → SeenSoFar → SeenSoFar
 after level es us old = record { reached = mark us old.reached; leaf = Some level; keys = old.keys + length es }
 
 -- the trees below a page by the levels below it, and below its sons
-abbrev pub below_page : ℕ → PageMap → ℕ → ℕ → ℕ → List Element → List ℕ → Type 0
-below_page k pages least p h es us = TreeAt k pages least (suc h) p es us
+abbrev pub below_page : Layout → ℕ → PageMap → ℕ → ℕ → ℕ → List Element → List ℕ → Type 0
+below_page layout k pages least p h es us = TreeIn layout k pages least (suc h) p es us
 
-abbrev pub below_sons : ℕ → PageMap → List ℕ → List Element → ℕ → List Element → List ℕ → Type 0
-below_sons k pages sons els h es us = Fan (TreeAt k pages k (suc h)) sons els es us
+abbrev pub below_sons : Layout → ℕ → PageMap → List ℕ → List Element → ℕ → List Element → List ℕ → Type 0
+below_sons layout k pages sons els h es us = Fan (TreeIn layout k pages k (suc h)) sons els es us
 
 -- what the levels above allow a tree: so many levels more below its root, and keys between these bounds
 pub record Allowed : Type 0 where
@@ -87,17 +92,17 @@ abbrev pub seen_of : ℕ → ℕ → List Element → List ℕ → SeenSoFar
 seen_of count height es us = record { reached = mark us (none_of count); leaf = leaf_of height; keys = length es }
 
 -- the tree of a root: in so many pages it has a height, elements and pages, none of them twice
-pub record IsRooted (k : ℕ) (pages : PageMap) (root height : ℕ) (es : List Element) (us : List ℕ) : Type 0 where
-  pub tree : RootAt k pages height root es us
+pub record IsRooted (layout : Layout) (k : ℕ) (pages : PageMap) (root height : ℕ) (es : List Element) (us : List ℕ) : Type 0 where
+  pub tree : RootIn layout k pages height root es us
   pub ascends : Ascends es
   pub apart : Apart us
 
 -- such a tree was gone through, with one read a page
-pub record WentThrough (k : ℕ) (pages : PageMap) (count root : ℕ) (new : SeenSoFar) (reads reads' : ℕ) : Type 0 where
+pub record WentThrough (layout : Layout) (k : ℕ) (pages : PageMap) (count root : ℕ) (new : SeenSoFar) (reads reads' : ℕ) : Type 0 where
   pub height : ℕ
   pub es : List Element
   pub us : List ℕ
-  pub rooted : IsRooted k pages root height es us
+  pub rooted : IsRooted layout k pages root height es us
   pub low : height ≤ greatest_height
   pub is : new ≡ seen_of count height es us
   pub read : reads' ≡ counted_times reads (length us)
@@ -107,12 +112,35 @@ abbrev pub AreFree : ℕ → List ℕ → (ℕ → Bool) → Type 0
 AreFree count us free = (n : ℕ) → (free n ≡ true) ↔ ((1 ≤ n) × (n < count) × (IsIn n us → ⊥))
 
 -- the pages hold the tree of a root, the other numbers are free, and each of its pages was read once
-pub record Measured (k : ℕ) (pages : List (Option (List ℕ))) (root : ℕ) (tree : Tree) (free : ℕ → Bool) (reads reads' : ℕ) : Type 0 where
+pub record Measured (layout : Layout) (k : ℕ) (pages : List (Option (List ℕ))) (root : ℕ) (tree : Tree) (free : ℕ → Bool) (reads reads' : ℕ) : Type 0 where
   pub es : List Element
   pub us : List ℕ
-  pub holds : Holds (at pages) tree es us
+  pub holds : HoldsIn layout (at pages) tree es us
   pub order : tree.order ≡ k
   pub root_is : tree.root ≡ root
   pub low : tree.height ≤ greatest_height
   pub others : AreFree (length pages) us free
   pub read : reads' ≡ counted_times reads tree.used
+
+-- the pages of the store by their numbers
+abbrev pub stored_page : PagesView → PageMap
+stored_page v = in_file v.stored
+
+-- pages that are the store's, of which none is in memory
+pub record AreFresh (v : PagesView) : Type 0 where
+  pub whole : length v.pages ≡ length v.stored
+  pub same : (n : ℕ) → at v.pages n ≡ stored_page v n
+  pub none : (n : ℕ) → is_in_memory v n ≡ false
+
+-- the store's page spells a node, and its newest bytes spell that node as it is written
+pub record IsRespelt (layout : Layout) (k : ℕ) (v : PagesView) (q : ℕ) : Type 0 where
+  pub node : Node
+  pub was : SpellsIn layout k (stored_page v) q node
+  pub now : Spells k (at v.pages) q node
+
+-- what a walk keeps of the pages: those that it has not reached are the store's, and each that it has reached spells its node as it is written
+pub record AreKept (layout : Layout) (k : ℕ) (v : PagesView) (reached : List Bool) : Type 0 where
+  pub whole : length v.pages ≡ length v.stored
+  pub unread : (q : ℕ) → slice_index_or reached q true ≡ false → (at v.pages q ≡ stored_page v q) × (is_in_memory v q ≡ false)
+  pub respelt : IsTrue v.steady → (q : ℕ) → slice_index_or reached q false ≡ true → IsRespelt layout k v q
+  pub spelt : AreSpeltIn k v

@@ -3,6 +3,7 @@ use Rattle.std.specs.Prelude.{◌≡◌, ℕ, ◌≤◌, false, IsTrue, List, Op
 use Rattle.page_store.specs.PageMap.{at}
 use Rattle.page_store.specs.PagesView.{PagesView}
 use Rattle.btree_node.specs.declared.header.Header.{Header}
+use Rattle.btree_node.specs.Layout.{second_version}
 use Rattle.btree_node.specs.Lists.{Element}
 use Rattle.btree_insert.specs.declared.tree.Tree.{Tree}
 use Rattle.btree_insert.specs.Sizes.{IsTree}
@@ -43,19 +44,20 @@ pub record HoldsTree (pages : PagesView) (tree : Tree) : Type 0 where
   pub us : List ℕ
   pub fills : Fills pages.pages tree es us
 
--- the store's pages are a closed file with the tree and the records
-pub record IsClosed (stored : List (List ℕ)) (tail : ℕ) (tree : Tree) (contents : Contents) : Type 0 where
+-- the store's pages are a closed file of that version with the tree and the records
+pub record IsClosed (version : ℕ) (stored : List (List ℕ)) (tail : ℕ) (tree : Tree) (contents : Contents) : Type 0 where
   pub h : Header
   pub es : List Element
   pub us : List ℕ
+  pub version_is : h.version ≡ version
   pub clean : IsCleanFile stored tail h tree es us
   pub records : contents_of es ≡ contents
 
--- sizes within the limits; each page in memory spells a node; over a steady store the pages hold the tree, and where nothing was changed the store has them
+-- sizes within the limits; each page in memory spells a node; over a steady store the pages hold the tree, and where nothing was changed the store has them as they are written
 pub record IsTable (t : TableView) : Type 0 where
   pub tree : IsTree t.tree
   pub count : IsTrue t.pages.steady → t.tree.count ≤ t.limit
   pub limit : t.limit ≤ most_records
   pub spelt : AreSpeltIn t.tree.order t.pages
   pub holds : IsTrue t.pages.steady → HoldsTree t.pages t.tree
-  pub closed : IsTrue t.pages.steady → t.pages.changed ≡ false → IsClosed t.pages.stored t.pages.tail t.tree (table_contents t)
+  pub closed : IsTrue t.pages.steady → t.pages.changed ≡ false → IsClosed second_version t.pages.stored t.pages.tail t.tree (table_contents t)

@@ -1,18 +1,19 @@
-ghost use Rattle.std.specs.Prelude.{◌≡◌, ◌-◌, ◌<◌, ◌≤◌, ℕ, false, None, List, length, IsTrue, IfOk, MatchResult};
+ghost use Rattle.std.specs.Prelude.{◌≡◌, ◌≢◌, ◌-◌, ◌<◌, ◌≤◌, ℕ, true, false, None, List, length, IsTrue, IfOk, OnOk, MatchResult};
 ghost use Rattle.std.specs.BTreeSet.{contains};
 ghost use Rattle.std.specs.Ordering.{nat_cmp};
 ghost use Rattle.rec_types.specs.Table.{counted};
 ghost use Rattle.page_store.specs.FreeNumbers.{greatest_page_count};
 ghost use Rattle.page_store.specs.PageMap.{at};
-ghost use Rattle.page_store.specs.PagesView.{OnlyReads};
+ghost use Rattle.page_store.specs.PagesView.{OnlyReads, OnlyStages};
 ghost use Rattle.btree_node.specs.Lists.{Element};
-ghost use Rattle.btree_node.specs.Layout.{IsOrder};
+ghost use Rattle.btree_node.specs.Layout.{first_version, layout_of, IsOrder};
 ghost use Rattle.btree_insert.specs.Sizes.{greatest_height, greatest_count};
 ghost use Rattle.btree_insert.specs.Faults.{is_device};
 ghost use Rattle.btree_insert.specs.Growth.{IsOutside};
-ghost use Rattle.btree_insert.specs.PageTrees.{Holds};
+ghost use Rattle.btree_insert.specs.PageTrees.{HoldsIn};
+ghost use Rattle.btree_insert.specs.Spelt.{AreSpeltIn};
 ghost use Rattle.btree_insert.specs.declared.tree.Tree.{Tree as TreeOf};
-ghost use Rattle.btree_delete.specs.Survey.{height_of, seen_of, IsRooted, WentThrough, Measured};
+ghost use Rattle.btree_delete.specs.Survey.{stored_page, AreFresh, IsRespelt, AreKept, height_of, seen_of, IsRooted, WentThrough, Measured};
 
 use crate::free_numbers::free_numbers;
 use crate::survey::{Above, Survey, survey_page};
@@ -21,31 +22,40 @@ use page_store::{Pages, Store};
 use std::alloc::Global;
 use std::collections::BTreeSet;
 
-/// The tree of a root as the pages hold it, and the numbers that none of its pages has. It reads each
-/// page of the tree once, and takes memory before the first read and after the last. Faults: Device;
-/// Memory; Damaged where the root has no tree of the class.
+/// The tree of a root as the pages of a file of that version hold it, and the numbers that none of its
+/// pages has. It reads each page of the tree once. The pages of the first version are in memory as they
+/// are written then. Faults: Device; Memory; Damaged where the root has no tree of the class.
 pub(crate) fn measure_tree<S: Store>(
     alloc: Global,
     pages: &mut Pages<S>,
+    version: u16,
     order: u16,
     root: u32,
 ) -> Result<(Tree, BTreeSet<u32>), TreeFault>
     requires order { IsOrder order }
-    requires idle { pages.old.changed ≡ false }
+    requires fresh { AreFresh pages.old }
     ensures found { IsTrue pages.old.steady → IfOk result
-        (λ r. Measured order pages.old.pages root r.0
+        (λ r. Measured (layout_of version) order pages.old.pages root r.0
         (contains nat_cmp r.1) pages.old.reads pages.new.reads) }
     ensures exact { IsTrue pages.old.steady → (tree : TreeOf) (es : List Element) (us : List ℕ)
-        → tree.order ≡ order → tree.root ≡ root → Holds (at pages.old.pages) tree es us
+        → tree.order ≡ order → tree.root ≡ root → HoldsIn (layout_of version) (at pages.old.pages) tree es us
         → MatchResult result (λ r. r.0 ≡ tree) IsOutside }
     ensures free_fits { IfOk result (λ r. (n : ℕ) → IsTrue (contains nat_cmp r.1 n)
         → (1 ≤ n) × (n < length pages.old.pages)) }
     ensures small { IfOk result (λ r. (r.0.order ≡ order)
         × (r.0.height ≤ greatest_height) × (r.0.used ≤ greatest_count)) }
+    ensures respelt { IsTrue pages.old.steady → IfOk result (λ r. (q : ℕ) → 1 ≤ q
+        → q < length pages.old.pages → contains nat_cmp r.1 q ≡ false
+        → IsRespelt (layout_of version) order pages.new q) }
+    ensures free_stay { IfOk result (λ r. (q : ℕ) → contains nat_cmp r.1 q ≡ true
+        → at pages.new.pages q ≡ stored_page pages.new q) }
+    ensures whole { OnOk result (length pages.new.pages ≡ length pages.new.stored) }
+    ensures spelt { OnOk result (AreSpeltIn order pages.new) }
     ensures device { pages.new.failures ≡ counted pages.old.failures (is_device result) }
-    ensures unchanged { OnlyReads pages.old pages.new }
+    ensures unchanged { OnlyStages pages.old pages.new }
+    ensures same { version ≢ first_version → OnlyReads pages.old pages.new }
 {
-    let survey = survey_root(alloc, pages, order, root)?;
+    let survey = survey_root(alloc, pages, version, order, root)?;
     let height = height_of(survey.leaf());
     let count = survey.keys();
     let reached = survey.into_reached();
@@ -73,23 +83,27 @@ fn height_of(leaf: Option<u32>) -> u32
 fn survey_root<S: Store>(
     alloc: Global,
     pages: &mut Pages<S>,
+    version: u16,
     order: u16,
     root: u32,
 ) -> Result<Survey, TreeFault>
     requires order { IsOrder order }
-    requires idle { pages.old.changed ≡ false }
-    ensures found { IsTrue pages.old.steady → IfOk result (λ new. WentThrough order
+    requires fresh { AreFresh pages.old }
+    ensures found { IsTrue pages.old.steady → IfOk result (λ new. WentThrough (layout_of version) order
         (at pages.old.pages) (length pages.old.pages) root new pages.old.reads pages.new.reads) }
     ensures exact { IsTrue pages.old.steady → (height : ℕ) (es : List Element) (us : List ℕ)
-        → IsRooted order (at pages.old.pages) root height es us
+        → IsRooted (layout_of version) order (at pages.old.pages) root height es us
         → MatchResult result (λ new. new ≡ seen_of (length pages.old.pages) height es us)
         IsOutside }
     ensures long { IfOk result (λ new. length new.reached ≡ length pages.old.pages) }
+    ensures kept { IfOk result
+        (λ new. AreKept (layout_of version) order pages.new new.reached) }
     ensures some { 1 ≤ length pages.old.pages }
     ensures most { length pages.old.pages ≤ greatest_page_count }
     ensures header { at pages.old.pages 0 ≡ None }
     ensures device { pages.new.failures ≡ counted pages.old.failures (is_device result) }
-    ensures unchanged { OnlyReads pages.old pages.new }
+    ensures unchanged { OnlyStages pages.old pages.new }
+    ensures same { version ≢ first_version → OnlyReads pages.old pages.new }
 {
     let count = pages.page_count() as usize;
     let reached = vec![in alloc; false; count]?;
@@ -105,6 +119,6 @@ fn survey_root<S: Store>(
             high: None,
         },
     };
-    survey_page(pages, &mut survey, order, 1, root, &above)?;
+    survey_page(alloc, pages, &mut survey, version, order, 1, root, &above)?;
     Ok(survey)
 }

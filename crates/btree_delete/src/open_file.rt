@@ -1,24 +1,25 @@
-ghost use Rattle.std.specs.Prelude.{◌≡◌, ◌≢◌, ◌⊎◌, ℕ, ◌<◌, ◌≤◌, List, length, true, false, IsTrue, Ok, Err, IfOk, IfErr, IsOk, MatchResult};
+ghost use Rattle.std.specs.Prelude.{◌≡◌, ◌≢◌, ◌⊎◌, ℕ, ◌<◌, ◌≤◌, ◌==◌, List, length, true, false, if◌then◌else◌, None, IsTrue, Ok, Err, IfOk, IfErr, OnOk, OnErr, IsOk, MatchResult};
 ghost use Rattle.std.specs.BTreeSet.{contains};
 ghost use Rattle.std.specs.Ordering.{nat_cmp};
 ghost use Rattle.rec_types.specs.Table.{counted};
-ghost use Rattle.page_store.specs.PageMap.{at};
-ghost use Rattle.page_store.specs.PagesView.{is_in_memory, OnlyReads};
+ghost use Rattle.page_store.specs.PageMap.{at, is_freed};
+ghost use Rattle.page_store.specs.PagesView.{is_in_memory, OnlyReads, OnlyStages};
 ghost use Rattle.page_store.specs.StoreCalls.{StaysStore};
 ghost use Rattle.btree_node.specs.Lists.{Element};
 ghost use Rattle.btree_node.specs.declared.header.Header.{Header as HeaderValue};
-ghost use Rattle.btree_node.specs.Layout.{IsOrder};
+ghost use Rattle.btree_node.specs.Layout.{first_version, layout_of, IsOrder};
 ghost use Rattle.btree_insert.specs.Sizes.{greatest_height, greatest_count};
+ghost use Rattle.btree_insert.specs.Spelt.{AreSpeltIn};
 ghost use Rattle.btree_insert.specs.declared.tree.Tree.{Tree as TreeValue};
 ghost use Rattle.btree_delete.specs.CleanFile.{HasLength, Begins, HasTree, IsCleanFile, IsFirst, FailsTree, Opens, IsOutside, is_device, is_device_fault, tree_fault};
-ghost use Rattle.btree_delete.specs.Survey.{Measured};
+ghost use Rattle.btree_delete.specs.Survey.{stored_page, AreFresh, IsRespelt, Measured};
 
 use crate::measure::measure_tree;
 use crate::open_fault::{OpenFault, check_header, check_length};
 use btree_insert::{Tree, TreeFault};
-use btree_node::Header;
-use page_store::{Pages, Store};
-use rec_types::Limits;
+use btree_node::{FIRST_VERSION, Header};
+use page_store::{PageEdit, Pages, Store};
+use rec_types::{Limits, Memory};
 use std::alloc::Global;
 use std::collections::BTreeSet;
 
@@ -42,8 +43,9 @@ fn tree_fault(fault: TreeFault) -> OpenFault
     }
 }
 
-/// The tree of a file with that header, of at most `limit` records, and the free page numbers. Faults:
-/// Device, Memory; then in this order Damaged, WrongCount, TooManyRecords.
+/// The tree of a file with that header, of at most `limit` records, and the free page numbers. The pages
+/// of the first version are in memory as they are written then. Faults: Device, Memory; then in this order
+/// Damaged, WrongCount, TooManyRecords.
 fn measure_file<S: Store>(
     alloc: Global,
     pages: &mut Pages<S>,
@@ -51,9 +53,9 @@ fn measure_file<S: Store>(
     limit: u32,
 ) -> Result<(Tree, BTreeSet<u32>), OpenFault>
     requires order { IsOrder header.now.order }
-    requires idle { pages.old.changed ≡ false }
+    requires fresh { AreFresh pages.old }
     ensures found { IsTrue pages.old.steady → IfOk result
-        (λ r. Measured header.now.order pages.old.pages
+        (λ r. Measured (layout_of header.now.version) header.now.order pages.old.pages
         header.now.root r.0 (contains nat_cmp r.1) pages.old.reads pages.new.reads) }
     ensures count { IfOk result (λ r. (r.0.count ≡ header.now.count) × (header.now.count ≤ limit)) }
     ensures exact { IsTrue pages.old.steady → (tree : TreeValue) (es : List Element) (us : List ℕ)
@@ -66,10 +68,24 @@ fn measure_file<S: Store>(
         → (1 ≤ n) × (n < length pages.old.pages)) }
     ensures small { IfOk result (λ r. (r.0.order ≡ header.now.order)
         × (r.0.height ≤ greatest_height) × (r.0.used ≤ greatest_count)) }
+    ensures respelt { IsTrue pages.old.steady → IfOk result (λ r. (q : ℕ) → 1 ≤ q
+        → q < length pages.old.pages → contains nat_cmp r.1 q ≡ false
+        → IsRespelt (layout_of header.now.version) header.now.order pages.new q) }
+    ensures free_stay { IfOk result (λ r. (q : ℕ) → contains nat_cmp r.1 q ≡ true
+        → at pages.new.pages q ≡ stored_page pages.new q) }
+    ensures whole { OnOk result (length pages.new.pages ≡ length pages.new.stored) }
+    ensures spelt { OnOk result (AreSpeltIn header.now.order pages.new) }
     ensures device { pages.new.failures ≡ counted pages.old.failures (is_device result) }
-    ensures unchanged { OnlyReads pages.old pages.new }
+    ensures unchanged { OnlyStages pages.old pages.new }
+    ensures same { header.now.version ≢ first_version → OnlyReads pages.old pages.new }
 {
-    let (tree, free) = measure_tree(alloc, pages, header.order, header.root).map_err(tree_fault)?;
+    let (tree, free) = measure_tree(
+        alloc,
+        pages,
+        header.version,
+        header.order,
+        header.root,
+    ).map_err(tree_fault)?;
     if tree.count != header.count {
         return Err(OpenFault::WrongCount);
     }
@@ -100,10 +116,109 @@ fn check_file<S: Store>(store: &mut S) -> Result<Header, OpenFault>
     check_header(store, pages)
 }
 
-/// Opens a file that was closed: its pages, of which none is changed, and its tree of at most as many
-/// records as the limits say. It reads page 0 and each page of the tree once. The store comes back with
-/// a fault, its pages as they were: Device and Memory where they are met, and else the first check that
-/// fails, in the order of the faults.
+/// The numbers below `count` that are free, as a list. Fault: Memory.
+fn listed(alloc: Global, free: &BTreeSet<u32>, count: u32) -> Result<Vec<u32>, Memory>
+    requires { (n : ℕ) → IsTrue (contains nat_cmp free.now n) → (1 ≤ n) × (n < count) }
+    ensures some { IfOk result (λ list. (n : ℕ) → is_freed list.items n ≡ true
+        → contains nat_cmp free.now n ≡ true) }
+    ensures all { IfOk result (λ list. (n : ℕ) → contains nat_cmp free.now n ≡ true
+        → is_freed list.items n ≡ true) }
+{
+    let mut list = Vec::new(alloc);
+    for n in 1..count {
+        if free.contains(&n) {
+            list.push(n)?;
+        }
+    }
+    Ok(list)
+}
+
+/// Frees those numbers, by an edit that writes no page: the pages count as changed then, also where none
+/// is free. Fault: Memory; the pages are as they were then.
+fn free_old<S: Store>(
+    alloc: Global,
+    pages: &mut Pages<S>,
+    free: &BTreeSet<u32>,
+) -> Result<(), Memory>
+    requires fits { (n : ℕ) → IsTrue (contains nat_cmp free.now n)
+        → (1 ≤ n) × (n < length pages.old.pages) }
+    requires stay { (n : ℕ) → contains nat_cmp free.now n ≡ true
+        → at pages.old.pages n ≡ stored_page pages.old n }
+    requires whole { length pages.old.pages ≡ length pages.old.stored }
+    ensures pages { OnOk result ((n : ℕ) → at pages.new.pages n
+        ≡ (if contains nat_cmp free.now n then None else at pages.old.pages n)) }
+    ensures count { OnOk result (length pages.new.pages ≡ length pages.old.pages) }
+    ensures changed { OnOk result (pages.new.changed ≡ true) }
+    ensures in_memory { OnOk result ((n : ℕ) → is_in_memory pages.new n ≡ true
+        → is_in_memory pages.old n ≡ true) }
+    ensures err { OnErr result (pages.new ≡ pages.old) }
+    ensures rest { pages.new ≡ record pages.old {
+      pages = pages.new.pages;
+      changed = pages.new.changed;
+      in_memory = pages.new.in_memory;
+    } }
+{
+    let count = pages.page_count();
+    let edit = PageEdit {
+        writes: Vec::new(alloc),
+        taken: 0,
+        freed: listed(alloc, free, count)?,
+    };
+    pages.stage(edit)
+}
+
+/// The pages of a file that was measured, without those that are free. Those of a file of the first
+/// version count as changed, and no others. Fault: Memory; the store comes back as it was.
+fn without_free<S: Store>(
+    alloc: Global,
+    pages: Pages<S>,
+    version: u16,
+    free: BTreeSet<u32>,
+) -> Result<Pages<S>, OpenStop<S>>
+    requires fits { (n : ℕ) → IsTrue (contains nat_cmp free n)
+        → (1 ≤ n) × (n < length pages.pages) }
+    requires stay { (n : ℕ) → contains nat_cmp free n ≡ true
+        → at pages.pages n ≡ stored_page pages n }
+    requires whole { length pages.pages ≡ length pages.stored }
+    requires same { version ≢ first_version → (n : ℕ) → at pages.pages n ≡ stored_page pages n }
+    ensures pages { IfOk result (λ new. (n : ℕ) → at new.pages n
+        ≡ (if contains nat_cmp free n then None else at pages.pages n)) }
+    ensures count { IfOk result (λ new. length new.pages ≡ length pages.pages) }
+    ensures changed { IfOk result (λ new. new.changed ≡ (version == first_version)) }
+    ensures in_memory { IfOk result (λ new. (n : ℕ) → is_in_memory new n ≡ true
+        → is_in_memory pages n ≡ true) }
+    ensures rest { IfOk result (λ new. new ≡ record pages {
+      pages = new.pages;
+      changed = new.changed;
+      in_memory = new.in_memory;
+    }) }
+    ensures header { at pages.pages 0 ≡ None }
+    ensures memory { IfErr result (λ stop. stop.fault ≡ OpenFault.Memory) }
+    ensures stays { IfErr result (λ stop. (S.pages stop.store ≡ pages.stored)
+        × (S.tail stop.store ≡ pages.tail) × (S.steady stop.store ≡ pages.steady)
+        × (S.writes stop.store ≡ pages.writes) × (S.failures stop.store ≡ pages.failures)
+        × (S.journal stop.store ≡ pages.journal)) }
+{
+    let mut pages = pages;
+    let count = pages.page_count();
+    if version != FIRST_VERSION {
+        return Ok(Pages::new(alloc, pages.into_store(), count, free));
+    }
+    match free_old(alloc, &mut pages, &free) {
+        Ok(()) => Ok(pages),
+        Err(Memory) => {
+            let fault = OpenFault::Memory;
+            let store = pages.into_store();
+            Err(OpenStop { store, fault })
+        }
+    }
+}
+
+/// Opens a file that was closed: its pages, and its tree of at most as many records as the limits say. No
+/// page of a file of the second version is changed; those of the first are all in memory as they are
+/// written. It reads page 0 and each page of the tree once. The store comes back with a fault, its pages
+/// as they were: Device and Memory where they are met, and else the first check that fails, in the order
+/// of the faults.
 pub(crate) fn open_file<S: Store>(
     alloc: Global,
     store: S,
@@ -120,8 +235,7 @@ pub(crate) fn open_file<S: Store>(
         (λ stop. IsFirst (S.pages store) (S.tail store) limits.records stop.fault) }
     ensures small { IfOk result (λ r. IsOrder r.1.order × (r.1.height ≤ greatest_height)
         × (r.1.used ≤ greatest_count) × (r.1.count ≤ limits.records)) }
-    ensures idle { IfOk result (λ r. r.0.changed ≡ false) }
-    ensures in_memory { IfOk result (λ r. (n : ℕ) → is_in_memory r.0 n ≡ false) }
+    ensures spelt { IfOk result (λ r. AreSpeltIn r.1.order r.0) }
     ensures stored { IfOk result (λ r. (r.0.stored ≡ S.pages store) × (r.0.tail ≡ S.tail store)
         × (r.0.steady ≡ S.steady store) × (r.0.writes ≡ S.writes store)
         × (r.0.failures ≡ S.failures store)) }
@@ -136,10 +250,11 @@ pub(crate) fn open_file<S: Store>(
         Err(fault) => return Err(OpenStop { store, fault }),
     };
     let mut pages = Pages::new(alloc, store, header.pages, BTreeSet::new(alloc));
-    let measured = measure_file(alloc, &mut pages, &header, limits.records());
-    let store = pages.into_store();
-    match measured {
-        Ok((tree, free)) => Ok((Pages::new(alloc, store, header.pages, free), tree)),
-        Err(fault) => Err(OpenStop { store, fault }),
+    match measure_file(alloc, &mut pages, &header, limits.records()) {
+        Ok((tree, free)) => Ok((without_free(alloc, pages, header.version, free)?, tree)),
+        Err(fault) => {
+            let store = pages.into_store();
+            Err(OpenStop { store, fault })
+        }
     }
 }

@@ -1,20 +1,23 @@
-ghost use Rattle.std.specs.Prelude.{◌≡◌, ◌≢◌, ◌+◌, ◌*◌, ◌^◌, ◌<◌, ◌≤◌, ◌⊎◌, ℕ, true, false, List, Some, None, length, IsTrue, IfOk, IfErr, OnOk, MatchResult, slice_index_or, slice_set};
+ghost use Rattle.std.specs.Prelude.{◌≡◌, ◌≢◌, ◌+◌, ◌*◌, ◌^◌, ◌<◌, ◌≤◌, ◌⊎◌, ℕ, true, false, List, Some, None, length, IsTrue, IfOk, IfErr, OnOk, MatchResult, IsSome, slice_index_or, slice_set};
 ghost use Rattle.rec_types.specs.Table.{counted};
 ghost use Rattle.page_store.specs.PageMap.{at};
-ghost use Rattle.page_store.specs.PagesView.{OnlyReads};
+ghost use Rattle.page_store.specs.PagesView.{OnlyReads, OnlyStages, is_in_memory};
 ghost use Rattle.btree_node.specs.Lists.{Element};
-ghost use Rattle.btree_node.specs.Spelling.{CanStand};
+ghost use Rattle.btree_node.specs.Spelling.{CanStandIn, spelling_in};
 ghost use Rattle.btree_node.specs.declared.node.Node.{Node};
-ghost use Rattle.btree_node.specs.Layout.{greatest_order, most_keys};
+ghost use Rattle.btree_node.specs.Layout.{first_version, layout_of, greatest_order, most_keys};
 ghost use Rattle.btree_insert.specs.Bounds.{AreWithin, Between};
 ghost use Rattle.btree_insert.specs.Faults.{is_device};
-ghost use Rattle.btree_insert.specs.PageTrees.{Spells};
-ghost use Rattle.btree_delete.specs.Survey.{SeenSoFar, unreached, after, below_page, below_sons, Sound, Surveyed, allowed};
+ghost use Rattle.btree_insert.specs.PageTrees.{SpellsIn, Spells};
+ghost use Rattle.btree_insert.specs.Growth.{IsOutside};
+ghost use Rattle.btree_insert.specs.Spelt.{AreSpeltIn};
+ghost use Rattle.btree_delete.specs.Survey.{SeenSoFar, unreached, AreKept, stored_page, after, below_page, below_sons, Sound, Surveyed, allowed};
 
 use btree_insert::{Bounds, TreeFault, are_within};
-use btree_node::{Node, NodeKind, decode_into};
-use page_store::{FetchFault, Pages, Store};
+use btree_node::{FIRST_VERSION, Node, NodeKind, decode_version, encode};
+use page_store::{FetchFault, PageEdit, Pages, Store};
 use rec_types::{Key, PAGE_WIDTH, Record};
+use std::alloc::Global;
 use std::marker::Model;
 
 /// What a walk has seen: which pages it reached, where the first leaf stood, how many keys there are.
@@ -136,6 +139,7 @@ pub(crate) struct Above {
 /// No page changes.
 fn read_page<S: Store>(
     pages: &mut Pages<S>,
+    version: u16,
     order: u16,
     least: u16,
     n: u32,
@@ -143,14 +147,15 @@ fn read_page<S: Store>(
     node: &mut Node,
 ) -> Result<(), TreeFault>
     requires order { order ≤ greatest_order }
-    requires idle { pages.old.changed ≡ false }
+    requires unread { is_in_memory pages.old n ≡ false }
     ensures exact { IsTrue pages.old.steady → (m : Node)
-        → Spells order (at pages.old.pages) n m → least ≤ length m.elements.items
+        → SpellsIn (layout_of version) order (at pages.old.pages) n m → least ≤ length m.elements.items
         → AreWithin bounds.now m.elements.items
         → MatchResult result (λ _. node.new ≡ m) (λ fault. fault ≡ TreeFault.Device) }
-    ensures stands { OnOk result (CanStand node.new order) }
+    ensures stands { OnOk result (CanStandIn (layout_of version) node.new order) }
     ensures spells { IsTrue pages.old.steady
-        → OnOk result (Spells order (at pages.old.pages) n node.new) }
+        → OnOk result (SpellsIn (layout_of version) order (at pages.old.pages) n node.new) }
+    ensures in_use { OnOk result (IsSome (at pages.old.pages n)) }
     ensures least { OnOk result (least ≤ length node.new.elements.items) }
     ensures within { OnOk result (AreWithin bounds.now node.new.elements.items) }
     ensures no_memory { IfErr result (λ fault. fault ≢ TreeFault.Memory) }
@@ -164,7 +169,7 @@ fn read_page<S: Store>(
         Err(FetchFault::Device) => return Err(TreeFault::Device),
         Err(FetchFault::OutOfRange) => return Err(TreeFault::Damaged(n)),
     }
-    decode_into(&page, order, node).map_err(|_| TreeFault::Damaged(n))?;
+    decode_version(version, &page, order, node).map_err(|_| TreeFault::Damaged(n))?;
     let elements = node.elements.as_slice();
     if elements.len() < least as usize || !are_within(bounds, elements) {
         return Err(TreeFault::Damaged(n));
@@ -172,42 +177,91 @@ fn read_page<S: Store>(
     Ok(())
 }
 
-/// Goes through the tree below page n, a page of at least so many keys. Faults: Device, and Damaged with
-/// the first page that is not as it should be, or with the page above where page n was reached before or
-/// isn't there.
+/// Puts the node of page n in memory in the spelling that is written, where it was read in another. Fault:
+/// Memory; no page changes then.
+fn keep_page<S: Store>(
+    alloc: Global,
+    pages: &mut Pages<S>,
+    version: u16,
+    order: u16,
+    n: u32,
+    node: &Node,
+) -> Result<(), TreeFault>
+    requires order { order ≤ greatest_order }
+    requires stands { CanStandIn (layout_of version) node.now order }
+    requires in_use { IsSome (at pages.old.pages n) }
+    ensures others { OnOk result ((q : ℕ) → q ≢ n
+        → (at pages.new.pages q ≡ at pages.old.pages q)
+        × (is_in_memory pages.new q ≡ is_in_memory pages.old q)) }
+    ensures here { at pages.old.pages n ≡ Some (spelling_in (layout_of version) node.now order)
+        → OnOk result (Spells order (at pages.new.pages) n node.now) }
+    ensures count { OnOk result (length pages.new.pages ≡ length pages.old.pages) }
+    ensures spelt { AreSpeltIn order pages.old → OnOk result (AreSpeltIn order pages.new) }
+    ensures memory { IfErr result (λ fault. fault ≡ TreeFault.Memory) }
+    ensures stays { pages.new ≡ record pages.old {
+      pages = pages.new.pages;
+      changed = pages.new.changed;
+      in_memory = pages.new.in_memory;
+    } }
+    ensures idle { version ≢ first_version → pages.new ≡ pages.old }
+{
+    if version != FIRST_VERSION {
+        return Ok(());
+    }
+    let mut edit = PageEdit {
+        writes: Vec::new(alloc),
+        taken: 0,
+        freed: Vec::new(alloc),
+    };
+    match edit.writes.push((n, encode(node, order))) {
+        Ok(()) => {}
+        Err(_) => return Err(TreeFault::Memory),
+    }
+    pages.stage(edit)?;
+    Ok(())
+}
+
+/// Goes through the tree below page n, a page of at least so many keys, and keeps each of its pages.
+/// Faults: Device and Memory where they are met, and Damaged with the first page that is not as it should
+/// be, or with the page above where page n was reached before or isn't there.
 #[cycle(surveying)]
 pub(crate) fn survey_page<S: Store>(
+    alloc: Global,
     pages: &mut Pages<S>,
     survey: &mut Survey,
+    version: u16,
     order: u16,
     least: u16,
     n: u32,
     above: &Above,
 ) -> Result<(), TreeFault>
     requires order { order ≤ greatest_order }
-    requires idle { pages.old.changed ≡ false }
+    requires kept { AreKept (layout_of version) order pages.old survey.old.reached }
     requires room { survey.old.keys + most_keys * unreached survey.old.reached < 2 ^ 32 }
     ensures found { IsTrue pages.old.steady → OnOk result
-        (Surveyed (below_page order (at pages.old.pages) least n)
+        (Surveyed (below_page (layout_of version) order (stored_page pages.old) least n)
         (allowed above.now.left above.now.bounds) survey.old survey.new
         pages.old.reads pages.new.reads) }
     ensures exact { IsTrue pages.old.steady → (h level : ℕ) (es : List Element) (us : List ℕ)
-        → Sound (below_page order (at pages.old.pages) least n)
+        → Sound (below_page (layout_of version) order (stored_page pages.old) least n)
         (allowed above.now.left above.now.bounds) survey.old h level es us
         → MatchResult result (λ _. survey.new ≡ after level es us survey.old)
-        (λ fault. fault ≡ TreeFault.Device) }
-    ensures no_memory { IfErr result (λ fault. fault ≢ TreeFault.Memory) }
+        IsOutside }
+    ensures kept { OnOk result
+        (AreKept (layout_of version) order pages.new survey.new.reached) }
     ensures room { OnOk result (survey.new.keys + most_keys * unreached survey.new.reached
         ≤ survey.old.keys + most_keys * unreached survey.old.reached) }
     ensures long { length survey.new.reached ≡ length survey.old.reached }
     ensures device { pages.new.failures ≡ counted pages.old.failures (is_device result) }
-    ensures unchanged { OnlyReads pages.old pages.new }
+    ensures unchanged { OnlyStages pages.old pages.new }
+    ensures idle { version ≢ first_version → OnlyReads pages.old pages.new }
 {
     if !survey.reach(n) {
         return Err(TreeFault::Damaged(above.from));
     }
     let mut node = Node::blank();
-    read_page(pages, order, least, n, &above.bounds, &mut node)?;
+    read_page(pages, version, order, least, n, &above.bounds, &mut node)?;
+    keep_page(alloc, pages, version, order, n, &node)?;
     let elements = node.elements.as_slice();
     match node.kind {
         NodeKind::Leaf => {
@@ -226,7 +280,16 @@ pub(crate) fn survey_page<S: Store>(
                 left: above.left - 1,
                 bounds: above.bounds,
             };
-            survey_sons(pages, survey, order, node.sons.as_slice(), elements, &below)
+            survey_sons(
+                alloc,
+                pages,
+                survey,
+                version,
+                order,
+                node.sons.as_slice(),
+                elements,
+                &below,
+            )
         }
     }
 }
@@ -235,36 +298,40 @@ pub(crate) fn survey_page<S: Store>(
 /// `survey_page`.
 #[cycle(surveying)]
 fn survey_sons<S: Store>(
+    alloc: Global,
     pages: &mut Pages<S>,
     survey: &mut Survey,
+    version: u16,
     order: u16,
     sons: &[u32],
     elements: &[(Key, Record)],
     above: &Above,
 ) -> Result<(), TreeFault>
     requires order { order ≤ greatest_order }
-    requires idle { pages.old.changed ≡ false }
+    requires kept { AreKept (layout_of version) order pages.old survey.old.reached }
     requires sons { length sons.now ≡ length elements.now + 1 }
     requires room { survey.old.keys + length elements.now + most_keys * unreached survey.old.reached
         < 2 ^ 32 }
     ensures found { IsTrue pages.old.steady → Between above.now.bounds elements.now → OnOk result
-        (Surveyed (below_sons order (at pages.old.pages) sons.now elements.now)
+        (Surveyed (below_sons (layout_of version) order (stored_page pages.old) sons.now elements.now)
         (allowed above.now.left above.now.bounds) survey.old survey.new
         pages.old.reads pages.new.reads) }
     ensures exact { IsTrue pages.old.steady → (h level : ℕ) (es : List Element) (us : List ℕ)
-        → Sound (below_sons order (at pages.old.pages) sons.now elements.now)
+        → Sound (below_sons (layout_of version) order (stored_page pages.old) sons.now elements.now)
         (allowed above.now.left above.now.bounds) survey.old h level es us
         → MatchResult result (λ _. survey.new ≡ after level es us survey.old)
-        (λ fault. fault ≡ TreeFault.Device) }
-    ensures no_memory { IfErr result (λ fault. fault ≢ TreeFault.Memory) }
+        IsOutside }
+    ensures kept { OnOk result
+        (AreKept (layout_of version) order pages.new survey.new.reached) }
     ensures room { OnOk result (survey.new.keys + most_keys * unreached survey.new.reached
         ≤ survey.old.keys + length elements.now + most_keys * unreached survey.old.reached) }
     ensures long { length survey.new.reached ≡ length survey.old.reached }
     ensures device { pages.new.failures ≡ counted pages.old.failures (is_device result) }
-    ensures unchanged { OnlyReads pages.old pages.new }
+    ensures unchanged { OnlyStages pages.old pages.new }
+    ensures idle { version ≢ first_version → OnlyReads pages.old pages.new }
 {
     if elements.is_empty() {
-        return survey_page(pages, survey, order, order, sons[0], above);
+        return survey_page(alloc, pages, survey, version, order, order, sons[0], above);
     }
     let middle = elements[0];
     let before = Above {
@@ -275,7 +342,9 @@ fn survey_sons<S: Store>(
             high: Some(middle.0),
         },
     };
-    survey_page(pages, survey, order, order, sons[0], &before)?;
+    survey_page(
+        alloc, pages, survey, version, order, order, sons[0], &before,
+    )?;
     survey.add_key();
     let behind = Above {
         from: above.from,
@@ -285,5 +354,14 @@ fn survey_sons<S: Store>(
             high: above.bounds.high,
         },
     };
-    survey_sons(pages, survey, order, &sons[1..], &elements[1..], &behind)
+    survey_sons(
+        alloc,
+        pages,
+        survey,
+        version,
+        order,
+        &sons[1..],
+        &elements[1..],
+        &behind,
+    )
 }

@@ -13,7 +13,7 @@ ghost use Rattle.page_store.specs.Fronts.{tried};
 ghost use Rattle.page_store.specs.Journal.{noted, NotesFront, carried, untouched};
 ghost use Rattle.page_store.specs.PagesView.{OnlyReads, OnlyStages, with_reads};
 ghost use Rattle.page_store.specs.StoreCalls.{StaysStore};
-ghost use Rattle.btree_node.specs.Layout.{greatest_order};
+ghost use Rattle.btree_node.specs.Layout.{second_version, greatest_order};
 ghost use Rattle.btree_insert.specs.Sizes.{greatest_height};
 ghost use Rattle.btree_delete.specs.Closing.{closing, IsNewOrFile, IsEither};
 ghost use Rattle.btree_delete.specs.TableView.{TableView, HoldsTree, IsClosed, table_contents};
@@ -23,7 +23,7 @@ use crate::change::change;
 use crate::fault_counts::{FaultCounts, NO_FAULTS, told};
 use crate::open_file::{OpenStop, open_file};
 use btree_insert::{Tree, look_up, walk};
-use btree_node::{GREATEST_ORDER, Header, write_header};
+use btree_node::{GREATEST_ORDER, Header, SECOND_VERSION, write_header};
 use page_store::{PageEdit, Pages, Store, WriteFault};
 use rec_types::{Key, Limits, Record, Table, TableFault, TableState};
 use std::alloc::Global;
@@ -156,7 +156,8 @@ impl<S: Store> TreeTable<S> {
     }
 
     /// Opens a file that was closed, of at most as many records as the limits say. It reads page 0 and
-    /// each page of the tree once. The store comes back with a fault, its pages as they were: Device and
+    /// each page of the tree once. The table of a file of the first version counts as changed, with all
+    /// pages of its tree in memory. The store comes back with a fault, its pages as they were: Device and
     /// Memory where they are met, and else the first check that fails, in the order of the faults.
     pub fn open_from(alloc: Global, store: S, limits: Limits) -> Result<TreeTable<S>, OpenStop<S>>
         ensures found { IsTrue (S.steady store) → IfOk result (λ t. Opens (S.pages store)
@@ -166,14 +167,13 @@ impl<S: Store> TreeTable<S> {
             → IsCleanFile (S.pages store) (S.tail store) h tree es us → h.count ≤ limits.records
             → MatchResult result (λ t. t.tree ≡ tree) (λ stop. IsOutside stop.fault) }
         ensures reopened { IsTrue (S.steady store) → (tree : TreeValue) (contents : Contents)
-            → IsClosed (S.pages store) (S.tail store) tree contents
+            → (version : ℕ) → IsClosed version (S.pages store) (S.tail store) tree contents
             → tree.count ≤ limits.records → MatchResult result
             (λ t. (t.tree ≡ tree) × (table_contents t ≡ contents)) (λ stop. IsOutside stop.fault) }
         ensures fault { IsTrue (S.steady store) → IfErr result
             (λ stop. IsFirst (S.pages store) (S.tail store) limits.records stop.fault) }
         ensures limit { IfOk result (λ t. t.limit ≡ limits.records) }
         ensures no_faults { IfOk result (λ t. (t.refusals ≡ 0) × (t.damages ≡ no_damage)) }
-        ensures idle { IfOk result (λ t. t.pages.changed ≡ false) }
         ensures stored { IfOk result (λ t. (t.pages.stored ≡ S.pages store)
             × (t.pages.tail ≡ S.tail store) × (t.pages.steady ≡ S.steady store)
             × (t.pages.writes ≡ S.writes store) × (t.pages.failures ≡ S.failures store)) }
@@ -193,12 +193,12 @@ impl<S: Store> TreeTable<S> {
         })
     }
 
-    /// Writes the changed pages back and hands the store over, which is then a closed file with the
-    /// table's records. Where nothing was changed, the store isn't called. It takes no memory of its
+    /// Writes the changed pages back and hands the store over, which is then a closed file of the second
+    /// version with the table's records. Where nothing was changed, the store isn't called. It takes no memory of its
     /// own. Faults: Device, Memory.
     pub fn close(self) -> Result<S, CloseStop<S>>
         ensures closed { IsTrue self.pages.steady
-            → IfOk result (λ store. IsClosed (S.pages store) (S.tail store) self.tree
+            → IfOk result (λ store. IsClosed second_version (S.pages store) (S.tail store) self.tree
             (table_contents self)) }
         ensures steady { IfOk result (λ store. S.steady store ≡ self.pages.steady) }
         ensures idle { self.pages.changed ≡ false → IfOk result
@@ -239,6 +239,7 @@ impl<S: Store> TreeTable<S> {
             return Ok(pages.into_store());
         }
         let header = Header {
+            version: SECOND_VERSION,
             order: tree.order,
             pages: pages.page_count(),
             root: tree.root,

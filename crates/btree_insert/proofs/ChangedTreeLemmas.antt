@@ -1,34 +1,44 @@
 -- A tree in pages that changed, and a page that is cut in two.
 use Rattle.std.proofs.Common.{◌≡◌, ℕ, zero, suc, ◌+◌, ◌*◌, ◌<◌, ◌≤◌, Some, None, List, [], ◌∷◌, ◌++◌, length, get_or, take, drop, refl, ap, sym, ◌∙◌, subst, arith, append_assoc}
+use Rattle.btree_node.specs.declared.layout.Layout.{Layout}
 use Rattle.btree_node.specs.declared.node.Node.{Node}
 use Rattle.btree_node.specs.Cut.{left_of, right_of}
-use Rattle.btree_node.specs.Layout.{first_layout}
+use Rattle.btree_node.specs.Layout.{second_layout}
 use Rattle.btree_node.specs.Lists.{Element, Each, Below, Ascends}
-use Rattle.btree_node.specs.Spelling.{spelling, CanStand}
-use Rattle.btree_node.proofs.ElementOrderLemmas.{Each-append, Ascends-right}
+use Rattle.btree_node.specs.Spelling.{spelling_in, CanStand}
+use Rattle.btree_node.proofs.ElementOrderLemmas.{Each-append, Each-map, Ascends-right}
 use Rattle.btree_node.proofs.SplitLemmas.{around, left_stands, right_stands}
 use Rattle.page_store.specs.PageMap.{PageMap}
 use Rattle.btree_insert.specs.Growth.{MayBeOverfull}
-use Rattle.btree_insert.specs.PageTrees.{Fan, Body, TreeAt}
+use Rattle.btree_insert.specs.PageTrees.{Spells, Fan, Body, TreeOf, TreeIn, TreeAt}
 use Rattle.btree_insert.proofs.SonsAroundLemmas.{Stands, fan_move}
 use Rattle.btree_insert.proofs.HeadNodeLemmas.{fan_each}
 use Rattle.btree_insert.proofs.PagesAroundLemmas.{InUse}
 
--- a tree whose pages are as they were
-pub tree_move : (k : ℕ) (old new : PageMap) (least h p : ℕ) (es : List Element) (us : List ℕ) → TreeAt k old least h p es us → Each (λ q. new q ≡ old q) us → TreeAt k new least h p es us
-tree_move k old new least zero p es us tree same = absurd tree
-tree_move k old new least (suc zero) p es us (n, below, spells, least_is, body, us_is) same =
-    let here = subst (Each (λ q. new q ≡ old q)) us_is same in
-    (n, below, record { page = here.0 ∙ spells.page; stands = spells.stands }, least_is, body, us_is)
-tree_move k old new least (suc (suc h)) p es us (n, below, spells, least_is, body, us_is) same =
-    let here = subst (Each (λ q. new q ≡ old q)) us_is same in (
+-- what a page spells by one of two it spells by the other
+abbrev pub Respells : (ℕ → Node → Type 0) → (ℕ → Node → Type 0) → ℕ → Type 0
+Respells spells spells2 q = (n : Node) → spells q n → spells2 q n
+
+-- a tree of which each page spells its node otherwise
+pub tree_respelt : (spells spells2 : ℕ → Node → Type 0) (fill least h p : ℕ) (es : List Element) (us : List ℕ) → TreeOf spells fill least h p es us → Each (Respells spells spells2) us → TreeOf spells2 fill least h p es us
+tree_respelt spells spells2 fill least zero p es us tree each = absurd tree
+tree_respelt spells spells2 fill least (suc zero) p es us (n, below, spelled, least_is, body, us_is) each =
+    let here = subst (Each (Respells spells spells2)) us_is each in
+    (n, below, here.0 n spelled, least_is, body, us_is)
+tree_respelt spells spells2 fill least (suc (suc h)) p es us (n, below, spelled, least_is, body, us_is) each =
+    let here = subst (Each (Respells spells spells2)) us_is each in (
       n,
       below,
-      record { page = here.0 ∙ spells.page; stands = spells.stands },
+      here.0 n spelled,
       least_is,
-      (body.0, fan_move (TreeAt k old k (suc h)) (TreeAt k new k (suc h)) (λ q. new q ≡ old q) (λ s xs vs tree same_here. tree_move k old new k (suc h) s xs vs tree same_here) n.sons.items n.elements.items es below body.1 here.1),
+      (body.0, fan_move (TreeOf spells fill fill (suc h)) (TreeOf spells2 fill fill (suc h)) (Respells spells spells2) (λ s xs vs tree there. tree_respelt spells spells2 fill fill (suc h) s xs vs tree there) n.sons.items n.elements.items es below body.1 here.1),
       us_is,
     )
+
+-- a tree whose pages are as they were
+pub tree_move : (k : ℕ) (old new : PageMap) (least h p : ℕ) (es : List Element) (us : List ℕ) → TreeAt k old least h p es us → Each (λ q. new q ≡ old q) us → TreeAt k new least h p es us
+tree_move k old new least h p es us tree same =
+    tree_respelt (Spells k old) (Spells k new) k least h p es us tree (Each-map (λ q. new q ≡ old q) (Respells (Spells k old) (Spells k new)) us (λ q is n spelled. record { page = is ∙ spelled.page; stands = spelled.stands }) same)
 
 -- what stands below a node stands where its pages are the same
 pub body_move : (k : ℕ) (old new : PageMap) (h : ℕ) (n : Node) (es : List Element) (us : List ℕ) → Body (TreeAt k old k h) h n es us → Each (λ q. new q ≡ old q) us → Body (TreeAt k new k h) h n es us
@@ -52,15 +62,18 @@ in_use_here : (pages : PageMap) (p : ℕ) (page : List ℕ) → pages p ≡ Some
 in_use_here pages p page some none = none_or_some page (sym some ∙ none)
 
 -- the pages of a tree are in use
-pub in_use : (k : ℕ) (pages : PageMap) (least h p : ℕ) (es : List Element) (us : List ℕ) → TreeAt k pages least h p es us → InUse pages us
-in_use k pages least zero p es us tree = absurd tree
-in_use k pages least (suc zero) p es us (n, below, spells, least_is, body, us_is) =
-    subst (InUse pages) (sym (us_is ∙ ap (λ vs. p ∷ vs) body.2)) (in_use_here pages p (spelling n k) spells.page, tt)
-in_use k pages least (suc (suc h)) p es us (n, below, spells, least_is, body, us_is) =
+pub in_use_in : (layout : Layout) (k : ℕ) (pages : PageMap) (least h p : ℕ) (es : List Element) (us : List ℕ) → TreeIn layout k pages least h p es us → InUse pages us
+in_use_in layout k pages least zero p es us tree = absurd tree
+in_use_in layout k pages least (suc zero) p es us (n, below, spells, least_is, body, us_is) =
+    subst (InUse pages) (sym (us_is ∙ ap (λ vs. p ∷ vs) body.2)) (in_use_here pages p (spelling_in layout n k) spells.page, tt)
+in_use_in layout k pages least (suc (suc h)) p es us (n, below, spells, least_is, body, us_is) =
     subst (InUse pages) (sym us_is) (
-      in_use_here pages p (spelling n k) spells.page,
-      fan_pages (λ q. pages q ≡ None → ⊥) (TreeAt k pages k (suc h)) (λ s xs vs tree. in_use k pages k (suc h) s xs vs tree) n.sons.items n.elements.items es below body.1,
+      in_use_here pages p (spelling_in layout n k) spells.page,
+      fan_pages (λ q. pages q ≡ None → ⊥) (TreeIn layout k pages k (suc h)) (λ s xs vs tree. in_use_in layout k pages k (suc h) s xs vs tree) n.sons.items n.elements.items es below body.1,
     )
+
+pub in_use : (k : ℕ) (pages : PageMap) (least h p : ℕ) (es : List Element) (us : List ℕ) → TreeAt k pages least h p es us → InUse pages us
+in_use k pages least h p es us tree = in_use_in second_layout k pages least h p es us tree
 
 -- the keys of a page ascend as those of its tree do
 pub fan_ascends : (tree : Stands) (sons : List ℕ) (els es : List Element) (us : List ℕ) → Fan tree sons els es us → Ascends es → Ascends els
@@ -156,8 +169,8 @@ may_be_overfull_stands k n may_be_overfull few = record { some = may_be_overfull
 
 -- the halves of one that is too large by a key
 pub left_half : (k : ℕ) (n : Node) → 1 ≤ k → length n.elements.items ≡ 2 * k + 1 → MayBeOverfull k n → CanStand (left_of k n) k
-left_half k n some full may_be_overfull = left_stands first_layout k k n (omega arith) (omega arith) (omega arith) may_be_overfull.fit may_be_overfull.ascends may_be_overfull.sons
+left_half k n some full may_be_overfull = left_stands second_layout k k n (omega arith) (omega arith) (omega arith) may_be_overfull.fit may_be_overfull.ascends may_be_overfull.sons
 
 -- the right half of a node with a key too many can stand
 pub right_half : (k : ℕ) (n : Node) → 1 ≤ k → length n.elements.items ≡ 2 * k + 1 → MayBeOverfull k n → CanStand (right_of k n) k
-right_half k n some full may_be_overfull = right_stands first_layout k k k n (omega arith) (omega arith) (omega arith) may_be_overfull.fit may_be_overfull.ascends may_be_overfull.sons
+right_half k n some full may_be_overfull = right_stands second_layout k k k n (omega arith) (omega arith) (omega arith) may_be_overfull.fit may_be_overfull.ascends may_be_overfull.sons

@@ -1,8 +1,9 @@
 -- In a tree whose keys ascend no page is reached twice: its first key would stand twice.
 use Rattle.std.proofs.Common.{◌≡◌, ℕ, zero, suc, ◌<◌, ◌≤◌, ⊎_elim, Some, None, List, [], ◌∷◌, ◌++◌, length, get_or, unwrap_or, refl, ap, sym, ◌∙◌, subst, arith}
 use Rattle.std.proofs.lemmas.Cmp.{nat_list_cmp_total, tied_itself}
+use Rattle.btree_node.specs.declared.layout.Layout.{Layout}
 use Rattle.btree_node.specs.declared.node.Node.{Node}
-use Rattle.btree_node.specs.Layout.{first_layout}
+use Rattle.btree_node.specs.Layout.{second_layout}
 use Rattle.btree_node.specs.Lists.{Element, Each, Below, Ascends}
 use Rattle.btree_node.specs.Spelling.{spelling_in}
 use Rattle.btree_node.proofs.DecodeLemmas.{reads, node_reads}
@@ -12,7 +13,7 @@ use Rattle.btree_insert.specs.declared.bounds.Bounds.{Bounds}
 use Rattle.btree_insert.specs.declared.tree.Tree.{Tree}
 use Rattle.btree_insert.specs.Bounds.{Over, Under, Between, unbounded}
 use Rattle.btree_insert.specs.Growth.{IsWithin}
-use Rattle.btree_insert.specs.PageTrees.{IsIn, Apart, Spells, Fan, Body, TreeOf}
+use Rattle.btree_insert.specs.PageTrees.{IsIn, Apart, SpellsIn, Spells, Fan, Body, TreeOf}
 use Rattle.btree_insert.specs.Reached.{Adds, IsThere}
 use Rattle.btree_insert.proofs.BoundLemmas.{Between-all, Between-left, Between-right}
 use Rattle.btree_insert.proofs.SonsAroundLemmas.{Stands}
@@ -24,12 +25,15 @@ use Rattle.btree_insert.proofs.HeadNodeLemmas.{body_each}
 abbrev pub IsOne : (ℕ → Node → Type 0) → Type 0
 IsOne spells = (p : ℕ) (n m : Node) → spells p n → spells p m → n ≡ m
 
--- a page spells at most one node
+-- a page of a layout spells at most one node
+pub one_in : (layout : Layout) (k : ℕ) (pages : PageMap) → k ≤ 16 → IsOne (SpellsIn layout k pages)
+one_in layout k pages small p n m here there =
+    let page = spelling_in layout n k in
+    let same : page ≡ spelling_in layout m k = ap (λ o. unwrap_or o []) (sym here.page ∙ there.page) in
+    sym (node_reads layout k page n (reads layout k page n small here.stands refl)) ∙ node_reads layout k page m (reads layout k page m small there.stands same)
+
 pub spells_one : (k : ℕ) (pages : PageMap) → k ≤ 16 → IsOne (Spells k pages)
-spells_one k pages small p n m here there =
-    let page = spelling_in first_layout n k in
-    let same : page ≡ spelling_in first_layout m k = ap (λ o. unwrap_or o []) (sym here.page ∙ there.page) in
-    sym (node_reads first_layout k page n (reads first_layout k page n small here.stands refl)) ∙ node_reads first_layout k page m (reads first_layout k page m small there.stands same)
+spells_one k pages small = one_in second_layout k pages small
 
 -- no key is below itself
 pub irreflexive : (x : List ℕ) → Below x x → ⊥

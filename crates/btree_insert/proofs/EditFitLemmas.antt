@@ -8,7 +8,7 @@ use Rattle.page_store.specs.PageMap.{at, is_written}
 use Rattle.page_store.specs.FreeNumbers.{candidate}
 use Rattle.page_store.specs.CanStage.{IsTaken}
 use Rattle.btree_node.specs.declared.node.Node.{Node}
-use Rattle.btree_node.specs.Layout.{first_layout}
+use Rattle.btree_node.specs.Layout.{second_layout}
 use Rattle.btree_node.specs.Lists.{Element, Each, Ascends, IsPlace}
 use Rattle.btree_node.specs.Spelling.{ElementFits, IsSon}
 use Rattle.btree_node.proofs.ElementOrderLemmas.{Each_at, Each-append}
@@ -65,9 +65,9 @@ fits_take pages ws taken n page is fits = record {
 
 -- the middle of a cut node can stand in the father
 pub up_fits : (bounds : Bounds) (k : ℕ) (n : Node) (middle : Element) (i right : ℕ) → MayBeOverfull k n → AreWithin bounds n.elements.items → i < length n.elements.items → middle ≡ get_or n.elements.items i middle → 0 < right → right < 2 ^ 32
-    → ElementFits first_layout middle × IsWithin bounds middle.0 × IsSon right
+    → ElementFits second_layout middle × IsWithin bounds middle.0 × IsSon right
 up_fits bounds k n middle i right may_be_overfull within low is some most = (
-  Each_at (ElementFits first_layout) n.elements.items i middle may_be_overfull.fit low is,
+  Each_at (ElementFits second_layout) n.elements.items i middle may_be_overfull.fit low is,
   (Each_at (λ e. Over bounds.low e.0) n.elements.items i middle within.over low is, Each_at (λ e. Under bounds.high e.0) n.elements.items i middle within.under low is),
   record { some = some; most = most },
 )

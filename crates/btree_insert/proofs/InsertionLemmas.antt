@@ -1,7 +1,7 @@
 -- A tree after an insertion at its root.
 use Rattle.std.proofs.Common.{◌≡◌, ℕ, zero, suc, ◌+◌, ◌^◌, ◌<◌, ◌≤◌, Option, None, IsSome, List, [], ◌∷◌, ◌++◌, length, refl, ap, sym, ◌∙◌, subst, arith, Some}
 use Rattle.page_store.specs.PageMap.{PageMap, write_page, overlay, after}
-use Rattle.btree_node.specs.Layout.{first_layout}
+use Rattle.btree_node.specs.Layout.{second_layout}
 use Rattle.btree_node.specs.Lists.{Element}
 use Rattle.btree_node.specs.Spelling.{spelling, ElementFits, IsSon, CanStand}
 use Rattle.btree_insert.specs.declared.tree.Tree.{Tree}
@@ -87,11 +87,11 @@ root_up k old ws ws2 fresh hi (suc h) p n us es middle right some free used part
     })
 
 -- what a leaf of one element and a root of one key can be
-pub leaf_stands : (k : ℕ) (e : Element) → 1 ≤ k → ElementFits first_layout e → CanStand (leaf_of e) k
+pub leaf_stands : (k : ℕ) (e : Element) → 1 ≤ k → ElementFits second_layout e → CanStand (leaf_of e) k
 leaf_stands k e some fits = record { some = omega arith; most = omega arith; fit = (fits, tt); ascends = (tt, tt); sons = refl }
 
 -- a new root can stand
-pub root_stands : (k left right : ℕ) (e : Element) → 1 ≤ k → ElementFits first_layout e → IsSon left → IsSon right → CanStand (root_of left e right) k
+pub root_stands : (k left right : ℕ) (e : Element) → 1 ≤ k → ElementFits second_layout e → IsSon left → IsSon right → CanStand (root_of left e right) k
 root_stands k left right e some fits left_son right_son = record { some = omega arith; most = omega arith; fit = (fits, tt); ascends = (tt, tt); sons = (refl, (left_son, (right_son, tt))) }
 
 pub some_not_none : (o : Option (List ℕ)) → IsSome o → o ≡ None → ⊥

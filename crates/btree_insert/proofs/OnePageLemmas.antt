@@ -5,7 +5,7 @@ use Rattle.std.proofs.lemmas.List.{get_or_at, set_at}
 use Rattle.std.proofs.lemmas.List.Edits.{length-insert}
 use Rattle.btree_node.specs.declared.node.Node.{Node}
 use Rattle.btree_node.specs.declared.node.NodeKind.TheVariants.{Leaf}
-use Rattle.btree_node.specs.Layout.{first_layout}
+use Rattle.btree_node.specs.Layout.{second_layout}
 use Rattle.btree_node.specs.Lists.{Element, IsPlace}
 use Rattle.btree_node.specs.Spelling.{ElementFits, CanStand}
 use Rattle.btree_insert.specs.declared.insert_below.Grown.TheVariants.{Split}
@@ -23,7 +23,7 @@ never_split (Some value) m r is = absurd (cc)
 never_split None m r is = absurd (cc)
 
 -- a leaf with room for one more element
-pub leaf_stands : (k : ℕ) (n m : Node) (i : ℕ) (e : Element) → CanStand n k → n.kind ≡ Leaf → IsPlace n.elements.items e.0 i → length n.elements.items < 2 * k → ElementFits first_layout e → m.kind ≡ n.kind → m.elements.items ≡ insert n.elements.items i e → m.sons.items ≡ n.sons.items → CanStand m k
+pub leaf_stands : (k : ℕ) (n m : Node) (i : ℕ) (e : Element) → CanStand n k → n.kind ≡ Leaf → IsPlace n.elements.items e.0 i → length n.elements.items < 2 * k → ElementFits second_layout e → m.kind ≡ n.kind → m.elements.items ≡ insert n.elements.items i e → m.sons.items ≡ n.sons.items → CanStand m k
 leaf_stands k n m i e stands leaf place room fits kind_is els_is sons_is =
     let over = leaf_may_be_overfull k n m i e stands leaf place fits kind_is els_is sons_is in
     let size = ap length els_is ∙ length-insert n.elements.items i e place.within in

@@ -6,7 +6,7 @@ use Rattle.std.proofs.lemmas.List.Edits.{length-insert}
 use Rattle.btree_node.specs.declared.node.Node.{Node}
 use Rattle.btree_node.specs.declared.node.NodeKind.{NodeKind}
 use Rattle.btree_node.specs.declared.node.NodeKind.TheVariants.{Leaf, Inner}
-use Rattle.btree_node.specs.Layout.{first_layout}
+use Rattle.btree_node.specs.Layout.{second_layout}
 use Rattle.btree_node.specs.Lists.{Element, Each, Below, Ascends, IsAt, IsPlace}
 use Rattle.btree_node.specs.Spelling.{ElementFits, IsSon, SonsFit, CanStand}
 use Rattle.btree_node.proofs.ElementOrderLemmas.{Each-map, Below-trans}
@@ -91,13 +91,13 @@ leaf_sons Leaf count more sons is fit = fit
 leaf_sons Inner count more sons is fit = absurd (cc)
 
 -- a leaf with one more element
-pub leaf_may_be_overfull : (k : ℕ) (n m : Node) (i : ℕ) (e : Element) → CanStand n k → n.kind ≡ Leaf → IsPlace n.elements.items e.0 i → ElementFits first_layout e → m.kind ≡ n.kind → m.elements.items ≡ insert n.elements.items i e → m.sons.items ≡ n.sons.items → MayBeOverfull k m
+pub leaf_may_be_overfull : (k : ℕ) (n m : Node) (i : ℕ) (e : Element) → CanStand n k → n.kind ≡ Leaf → IsPlace n.elements.items e.0 i → ElementFits second_layout e → m.kind ≡ n.kind → m.elements.items ≡ insert n.elements.items i e → m.sons.items ≡ n.sons.items → MayBeOverfull k m
 leaf_may_be_overfull k n m i e stands leaf place fits kind_is els_is sons_is =
     let size = ap length els_is ∙ length-insert n.elements.items i e place.within in
     record {
       some = omega (arith, size);
       most = omega (arith, size, stands.most);
-      fit = subst (Each (ElementFits first_layout)) (sym els_is) (Each-insert (ElementFits first_layout) n.elements.items i e stands.fit fits);
+      fit = subst (Each (ElementFits second_layout)) (sym els_is) (Each-insert (ElementFits second_layout) n.elements.items i e stands.fit fits);
       ascends = subst Ascends (sym els_is) (insert_ascends e n.elements.items i stands.ascends place);
       sons = subst (λ (kind : NodeKind). SonsFit kind (length m.elements.items) m.sons.items) (sym kind_is)
           (subst (λ (sons : List ℕ). SonsFit n.kind (length m.elements.items) sons) (sym sons_is) (leaf_sons n.kind (length n.elements.items) (length m.elements.items) n.sons.items leaf stands.sons));
@@ -110,13 +110,13 @@ inner_sons Inner count more i r sons is one within son fit =
     (omega (arith, size, fit.0), Each-insert IsSon sons (suc i) r fit.1 son)
 
 -- an inner node with one more element and a son behind it
-pub inner_may_be_overfull : (k : ℕ) (n m : Node) (i r : ℕ) (e : Element) → CanStand n k → n.kind ≡ Inner → IsPlace n.elements.items e.0 i → ElementFits first_layout e → IsSon r → m.kind ≡ n.kind → m.elements.items ≡ insert n.elements.items i e → m.sons.items ≡ insert n.sons.items (suc i) r → MayBeOverfull k m
+pub inner_may_be_overfull : (k : ℕ) (n m : Node) (i r : ℕ) (e : Element) → CanStand n k → n.kind ≡ Inner → IsPlace n.elements.items e.0 i → ElementFits second_layout e → IsSon r → m.kind ≡ n.kind → m.elements.items ≡ insert n.elements.items i e → m.sons.items ≡ insert n.sons.items (suc i) r → MayBeOverfull k m
 inner_may_be_overfull k n m i r e stands inner place fits son kind_is els_is sons_is =
     let size = ap length els_is ∙ length-insert n.elements.items i e place.within in
     record {
       some = omega (arith, size);
       most = omega (arith, size, stands.most);
-      fit = subst (Each (ElementFits first_layout)) (sym els_is) (Each-insert (ElementFits first_layout) n.elements.items i e stands.fit fits);
+      fit = subst (Each (ElementFits second_layout)) (sym els_is) (Each-insert (ElementFits second_layout) n.elements.items i e stands.fit fits);
       ascends = subst Ascends (sym els_is) (insert_ascends e n.elements.items i stands.ascends place);
       sons = subst (λ (kind : NodeKind). SonsFit kind (length m.elements.items) m.sons.items) (sym kind_is)
           (subst (λ (sons : List ℕ). SonsFit n.kind (length m.elements.items) sons) (sym sons_is) (inner_sons n.kind (length n.elements.items) (length m.elements.items) i r n.sons.items inner size place.within son stands.sons));
@@ -137,13 +137,13 @@ set_ascends (x ∷ els) zero e d low is up = (same_place_above e x els is up.0, 
 set_ascends (x ∷ els) (suc i) e d low is up = (set_each x.0 els i e d (omega arith) is up.0, set_ascends els i e d (omega arith) is up.1)
 
 -- a node with another record at a key can stand
-pub set_stands : (k : ℕ) (n m : Node) (i : ℕ) (e : Element) → CanStand n k → IsAt n.elements.items e.0 i → ElementFits first_layout e → m.kind ≡ n.kind → m.elements.items ≡ set n.elements.items i e → m.sons.items ≡ n.sons.items → CanStand m k
+pub set_stands : (k : ℕ) (n m : Node) (i : ℕ) (e : Element) → CanStand n k → IsAt n.elements.items e.0 i → ElementFits second_layout e → m.kind ≡ n.kind → m.elements.items ≡ set n.elements.items i e → m.sons.items ≡ n.sons.items → CanStand m k
 set_stands k n m i e stands place fits kind_is els_is sons_is =
     let size = ap length els_is ∙ length-set n.elements.items i e in
     record {
       some = omega (arith, size, stands.some);
       most = omega (arith, size, stands.most);
-      fit = subst (Each (ElementFits first_layout)) (sym els_is) (Each-set (ElementFits first_layout) n.elements.items i e stands.fit fits);
+      fit = subst (Each (ElementFits second_layout)) (sym els_is) (Each-set (ElementFits second_layout) n.elements.items i e stands.fit fits);
       ascends = subst Ascends (sym els_is) (set_ascends n.elements.items i e e place.within (sym (place.here e)) stands.ascends);
       sons = subst (λ (kind : NodeKind). SonsFit kind (length m.elements.items) m.sons.items) (sym kind_is)
           (subst (λ (sons : List ℕ). SonsFit n.kind (length m.elements.items) sons) (sym sons_is) (subst (λ (c : ℕ). SonsFit n.kind c n.sons.items) (sym size) stands.sons));

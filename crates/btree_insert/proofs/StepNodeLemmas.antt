@@ -3,7 +3,7 @@ use Rattle.std.proofs.Common.{◌≡◌, ℕ, ◌-◌, ◌<◌, ◌≤◌, Bool,
 use Rattle.page_store.specs.PageMap.{PageMap, at}
 use Rattle.page_store.specs.PagesView.{PagesView, OnlyReads}
 use Rattle.btree_node.specs.declared.node.Node.{Node}
-use Rattle.btree_node.specs.Layout.{first_layout}
+use Rattle.btree_node.specs.Layout.{second_layout}
 use Rattle.btree_node.specs.Lists.{Element}
 use Rattle.btree_node.specs.Reading.{node_at}
 use Rattle.btree_node.specs.Spelling.{spelling}
@@ -26,7 +26,7 @@ spells_one : (k : ℕ) (pages : PageMap) (p : ℕ) (n m : Node) → k ≤ 16 →
 spells_one k pages p n m small here there =
     let page = spelling n k in
     let same : page ≡ spelling m k = ap bytes_of (sym here.page ∙ there.page) in
-    sym (same_node first_layout k page n (node_at first_layout k page) small here.stands refl refl) ∙ same_node first_layout k page m (node_at first_layout k page) small there.stands same refl
+    sym (same_node second_layout k page n (node_at second_layout k page) small here.stands refl refl) ∙ same_node second_layout k page m (node_at second_layout k page) small there.stands same refl
 
 -- a node that the page spells is the head of the tree
 pub spelt_top : (k : ℕ) (pages : PageMap) (least : ℕ) (spot : Spot) (es : List Element) (us : List ℕ) (n : Node) → k ≤ 16 → 0 < spot.level → Spells k pages spot.page n → TreeAt k pages least spot.level spot.page es us → Between spot.bounds es

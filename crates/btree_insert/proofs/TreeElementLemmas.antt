@@ -1,10 +1,11 @@
 -- The elements of a tree as a function of the pages.
 use Rattle.std.proofs.Common.{◌≡◌, ℕ, zero, suc, ◌≤◌, Option, List, [], ◌∷◌, ◌++◌, unwrap_or, refl, ap, sym, ◌∙◌, arith}
+use Rattle.btree_node.specs.declared.layout.Layout.{Layout}
 use Rattle.btree_node.specs.declared.node.Node.{Node}
-use Rattle.btree_node.specs.Layout.{first_layout}
+use Rattle.btree_node.specs.Layout.{second_layout}
 use Rattle.btree_node.specs.Lists.{Element}
 use Rattle.btree_node.specs.Reading.{node_at}
-use Rattle.btree_node.specs.Spelling.{spelling}
+use Rattle.btree_node.specs.Spelling.{spelling_in}
 use Rattle.btree_node.proofs.DecodeLemmas.{reads, node_reads}
 use Rattle.page_store.specs.PageMap.{PageMap}
 use Rattle.btree_insert.specs.declared.tree.Tree.{Tree}
@@ -12,9 +13,9 @@ use Rattle.btree_insert.specs.Classes.{between_trees}
 use Rattle.std.specs.FinMap.{get}
 use Rattle.rec_types.specs.Contents.{set_to}
 use Rattle.btree_insert.specs.Contents.{lookup_in, set_in, contents_of}
-use Rattle.btree_insert.specs.Elements.{elements_below, node_of, elements_of, contents_at}
+use Rattle.btree_insert.specs.Elements.{elements_below, elements_of, contents_at}
 use Rattle.btree_insert.proofs.ContentsLemmas.{contents_of-set, get-contents_of}
-use Rattle.btree_insert.specs.PageTrees.{Spells, Fan, TreeOf, RootOf, Holds}
+use Rattle.btree_insert.specs.PageTrees.{SpellsIn, Fan, TreeOf, RootOf, HoldsIn, Holds}
 use Rattle.btree_insert.proofs.SonsAroundLemmas.{Stands}
 
 fan_elements : (tree : Stands) (elements : ℕ → List Element) → ((s : ℕ) (xs : List Element) (us : List ℕ) → tree s xs us → elements s ≡ xs) → (sons : List ℕ) (els es : List Element) (us : List ℕ) → Fan tree sons els es us → between_trees elements els sons ≡ es
@@ -37,14 +38,22 @@ root_elements : (spells : ℕ → Node → Type 0) (nodes : ℕ → Node) → ((
 root_elements spells nodes read fill zero p es us (root_is, es_is, us_is) = sym es_is
 root_elements spells nodes read fill (suc h) p es us tree = tree_elements spells nodes read fill 1 (suc h) p es us tree
 
-spelled_node : (k : ℕ) (pages : PageMap) → k ≤ 16 → (p : ℕ) (n : Node) → Spells k pages p n → node_of k pages p ≡ n
-spelled_node k pages small p n is =
-    ap (λ o. node_at first_layout k (unwrap_or o [])) is.page ∙ node_reads first_layout k (spelling n k) n (reads first_layout k (spelling n k) n small is.stands refl)
+-- the node at the fixed places of page p in a layout
+abbrev pub node_in : Layout → ℕ → PageMap → ℕ → Node
+node_in layout k pages p = node_at layout k (unwrap_or (pages p) [])
+
+spelled_node : (layout : Layout) (k : ℕ) (pages : PageMap) → k ≤ 16 → (p : ℕ) (n : Node) → SpellsIn layout k pages p n → node_in layout k pages p ≡ n
+spelled_node layout k pages small p n is =
+    let page = spelling_in layout n k in
+    ap (λ o. node_at layout k (unwrap_or o [])) is.page ∙ node_reads layout k page n (reads layout k page n small is.stands refl)
 
 -- the elements that a held tree's pages give are the tree's
+pub held_in : (layout : Layout) (pages : PageMap) (t : Tree) (es : List Element) (us : List ℕ) → t.order ≤ 16 → HoldsIn layout pages t es us → elements_below (node_in layout t.order pages) t.height t.root ≡ es
+held_in layout pages t es us small holds =
+    root_elements (SpellsIn layout t.order pages) (node_in layout t.order pages) (spelled_node layout t.order pages small) t.order t.height t.root es us holds.tree
+
 pub held_elements : (pages : PageMap) (t : Tree) (es : List Element) (us : List ℕ) → t.order ≤ 16 → Holds pages t es us → elements_of t.order pages t.height t.root ≡ es
-held_elements pages t es us small holds =
-    root_elements (Spells t.order pages) (node_of t.order pages) (spelled_node t.order pages small) t.order t.height t.root es us holds.tree
+held_elements pages t es us small holds = held_in second_layout pages t es us small holds
 
 -- the contents of pages after a change at one key
 pub contents_set : (old new : PageMap) (tree next : Tree) (es : List Element) (us vs key : List ℕ) (w : Option (List ℕ)) → tree.order ≤ 16 → next.order ≡ tree.order → Holds old tree es us → Holds new next (set_in key w es) vs

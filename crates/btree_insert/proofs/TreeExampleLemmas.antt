@@ -1,26 +1,33 @@
 -- Pages that hold a tree, and pages that hold none.
-use Rattle.std.proofs.Common.{◌≡◌, ℕ, zero, suc, ◌^◌, ◌<◌, ⊎_elim, inl, Option, List, [], ◌∷◌, ◌++◌, refl, ap, sym, ◌∙◌, subst, arith}
+use Rattle.std.proofs.Common.{◌≡◌, ℕ, zero, suc, ◌^◌, ◌<◌, ◌≤◌, ⊎_elim, inl, Option, Some, List, [], ◌∷◌, ◌++◌, refl, ap, sym, ◌∙◌, subst, arith}
+use Rattle.btree_node.specs.declared.layout.Layout.{Layout}
 use Rattle.btree_node.specs.declared.node.Node.{Node}
 use Rattle.btree_node.specs.declared.node.NodeKind.TheVariants.{Leaf, Inner}
-use Rattle.btree_node.specs.Layout.{first_layout}
+use Rattle.btree_node.specs.Layout.{second_layout}
 use Rattle.btree_node.specs.Lists.{Element, Below, Ascends}
-use Rattle.btree_node.specs.Spelling.{CanStand, ElementFits, IsSon}
+use Rattle.btree_node.specs.Spelling.{spelling_in, CanStandIn, CanStand, ElementFits, IsSon}
 use Rattle.btree_node.proofs.ElementOrderLemmas.{Ascends-right}
-use Rattle.page_store.specs.PageMap.{at}
+use Rattle.page_store.specs.PageMap.{PageMap, at}
 use Rattle.btree_insert.specs.Examples.{ax, by, cz, dv, ew, page_of, tree_of, three_pages, uneven_pages, shared_pages, equal_pages}
 use Rattle.btree_insert.specs.Inserted.{leaf_of, root_of}
-use Rattle.btree_insert.specs.PageTrees.{IsIn, Apart, Spells, Fan, TreeAt, Holds}
+use Rattle.btree_insert.specs.PageTrees.{IsIn, Apart, Spells, Fan, TreeIn, TreeAt, HoldsIn, Holds}
 use Rattle.btree_insert.proofs.DistinctPageLemmas.{spells_one, irreflexive}
 use Rattle.btree_insert.proofs.Membership.{Apart-across}
 
-fits : (x y : ℕ) → ElementFits first_layout (x ∷ [], y ∷ [])
-fits x y = record { key_some = omega arith; key_most = omega arith; record_most = omega arith }
+fits : (layout : Layout) (x y : ℕ) → 1 ≤ layout.record_width → ElementFits layout (x ∷ [], y ∷ [])
+fits layout x y wide = record { key_some = omega arith; key_most = omega arith; record_most = omega (arith, wide) }
+
+leaf_in : (layout : Layout) (x y : ℕ) → 1 ≤ layout.record_width → CanStandIn layout (leaf_of (x ∷ [], y ∷ [])) 1
+leaf_in layout x y wide = record { some = omega arith; most = omega arith; fit = (fits layout x y wide, tt); ascends = (tt, tt); sons = refl }
+
+root_in : (layout : Layout) (l x y r : ℕ) → 1 ≤ layout.record_width → IsSon l → IsSon r → CanStandIn layout (root_of l (x ∷ [], y ∷ []) r) 1
+root_in layout l x y r wide left right = record { some = omega arith; most = omega arith; fit = (fits layout x y wide, tt); ascends = (tt, tt); sons = (refl, (left, (right, tt))) }
 
 leaf_stands : (x y : ℕ) → CanStand (leaf_of (x ∷ [], y ∷ [])) 1
-leaf_stands x y = record { some = omega arith; most = omega arith; fit = (fits x y, tt); ascends = (tt, tt); sons = refl }
+leaf_stands x y = leaf_in second_layout x y (omega arith)
 
 root_stands : (l x y r : ℕ) → IsSon l → IsSon r → CanStand (root_of l (x ∷ [], y ∷ []) r) 1
-root_stands l x y r left right = record { some = omega arith; most = omega arith; fit = (fits x y, tt); ascends = (tt, tt); sons = (refl, (left, (right, tt))) }
+root_stands l x y r left right = root_in second_layout l x y r (omega arith) left right
 
 is_son : (s : ℕ) → 0 < s → s < 2 ^ 32 → IsSon s
 is_son s some most = record { some = some; most = most }
@@ -28,8 +35,8 @@ is_son s some most = record { some = some; most = most }
 abbrev PageList : Type 0
 PageList = List (Option (List ℕ))
 
-leaf_tree : (ps : PageList) (p x y : ℕ) → at ps p ≡ page_of (leaf_of (x ∷ [], y ∷ [])) → TreeAt 1 (at ps) 1 1 p ((x ∷ [], y ∷ []) ∷ []) (p ∷ [])
-leaf_tree ps p x y is = (leaf_of (x ∷ [], y ∷ []), [], record { page = is; stands = leaf_stands x y }, omega arith, (refl, refl, refl), refl)
+leaf_tree : (layout : Layout) (pages : PageMap) (p x y : ℕ) → 1 ≤ layout.record_width → pages p ≡ Some (spelling_in layout (leaf_of (x ∷ [], y ∷ [])) 1) → TreeIn layout 1 pages 1 1 p ((x ∷ [], y ∷ []) ∷ []) (p ∷ [])
+leaf_tree layout pages p x y wide is = (leaf_of (x ∷ [], y ∷ []), [], record { page = is; stands = leaf_in layout x y wide }, omega arith, (refl, refl, refl), refl)
 
 a_below_b : Below (97 ∷ []) (98 ∷ [])
 unfolding Below
@@ -49,15 +56,16 @@ three_apart = (
   (λ is. ⊎_elim (λ (e : 1 ≡ 2). absurd (omega (arith, e))) (λ none. none) is, (λ none. none, tt)),
 )
 
--- three pages hold a tree
-pub three_hold : Holds (at three_pages) (tree_of 3 2 3 3) (ax ∷ by ∷ cz ∷ []) (3 ∷ 1 ∷ 2 ∷ [])
-three_hold = record {
+-- three pages of a layout hold a tree
+pub three_hold_in : (layout : Layout) (pages : PageMap) → 1 ≤ layout.record_width → pages 1 ≡ Some (spelling_in layout (leaf_of ax) 1) → pages 2 ≡ Some (spelling_in layout (leaf_of cz) 1) → pages 3 ≡ Some (spelling_in layout (root_of 1 by 2) 1)
+    → HoldsIn layout pages (tree_of 3 2 3 3) (ax ∷ by ∷ cz ∷ []) (3 ∷ 1 ∷ 2 ∷ [])
+three_hold_in layout pages wide left right root = record {
   tree = (
     root_of 1 by 2,
     1 ∷ 2 ∷ [],
-    record { page = refl; stands = root_stands 1 98 121 2 (is_son 1 (omega arith) (omega arith)) (is_son 2 (omega arith) (omega arith)) },
+    record { page = root; stands = root_in layout 1 98 121 2 wide (is_son 1 (omega arith) (omega arith)) (is_son 2 (omega arith) (omega arith)) },
     omega arith,
-    (refl, (ax ∷ [], cz ∷ [], 1 ∷ [], 2 ∷ [], leaf_tree three_pages 1 97 120 refl, leaf_tree three_pages 2 99 122 refl, refl, refl)),
+    (refl, (ax ∷ [], cz ∷ [], 1 ∷ [], 2 ∷ [], leaf_tree layout pages 1 97 120 wide left, leaf_tree layout pages 2 99 122 wide right, refl, refl)),
     refl,
   );
   ascends = ((a_below_b, (a_below_c, tt)), ((b_below_c, tt), (tt, tt)));
@@ -65,6 +73,9 @@ three_hold = record {
   count = refl;
   used = refl;
 }
+
+pub three_hold : Holds (at three_pages) (tree_of 3 2 3 3) (ax ∷ by ∷ cz ∷ []) (3 ∷ 1 ∷ 2 ∷ [])
+three_hold = three_hold_in second_layout (at three_pages) (omega arith) refl refl refl
 
 spelled : (ps : PageList) (p : ℕ) (n m : Node) → at ps p ≡ page_of m → CanStand m 1 → Spells 1 (at ps) p n → n ≡ m
 spelled ps p n m is stands here = spells_one 1 (at ps) (omega arith) p n m here (record { page = is; stands = stands })

@@ -2,7 +2,7 @@
 use Rattle.std.specs.Prelude.{ℕ, zero, suc, List, []}
 use Rattle.std.specs.Option.{unwrap_or}
 use Rattle.btree_node.specs.declared.node.Node.{Node}
-use Rattle.btree_node.specs.Layout.{first_layout}
+use Rattle.btree_node.specs.Layout.{second_layout}
 use Rattle.btree_node.specs.Lists.{Element}
 use Rattle.btree_node.specs.Reading.{node_at}
 use Rattle.page_store.specs.PageMap.{PageMap}
@@ -16,9 +16,9 @@ elements_below nodes zero p = []
 elements_below nodes (suc zero) p = (nodes p).elements.items
 elements_below nodes (suc (suc h)) p = between_trees (elements_below nodes (suc h)) (nodes p).elements.items (nodes p).sons.items
 
--- the node at the fixed places of page p in the first layout; a page that is not in use reads as an empty one
+-- the node at the fixed places of page p in the second layout; a page that is not in use reads as an empty one
 abbrev pub node_of : ℕ → PageMap → ℕ → Node
-node_of k pages p = node_at first_layout k (unwrap_or (pages p) [])
+node_of k pages p = node_at second_layout k (unwrap_or (pages p) [])
 
 -- the elements of the tree of order k with this height and root
 abbrev pub elements_of : ℕ → PageMap → ℕ → ℕ → List Element

@@ -5,7 +5,7 @@ use Rattle.btree_node.specs.declared.node.NodeKind.{NodeKind}
 use Rattle.btree_node.specs.declared.node.NodeKind.TheVariants.{Leaf, Inner}
 use Rattle.btree_node.specs.Lists.{Element, Ascends}
 use Rattle.btree_node.specs.declared.layout.Layout.{Layout}
-use Rattle.btree_node.specs.Layout.{first_layout}
+use Rattle.btree_node.specs.Layout.{second_layout}
 use Rattle.btree_node.specs.Spelling.{spelling_in, CanStandIn}
 use Rattle.page_store.specs.PageMap.{PageMap}
 use Rattle.btree_insert.specs.declared.tree.Tree.{Tree}
@@ -25,9 +25,9 @@ pub record SpellsIn (layout : Layout) (k : ℕ) (pages : PageMap) (p : ℕ) (n :
   pub page : pages p ≡ Some (spelling_in layout n k)
   pub stands : CanStandIn layout n k
 
--- the same in the layout of the first file version
+-- the same in the layout of the second file version
 abbrev pub Spells : ℕ → PageMap → ℕ → Node → Type 0
-Spells k pages = SpellsIn first_layout k pages
+Spells k pages = SpellsIn second_layout k pages
 
 -- sons with the elements between them: all elements in order, and the page numbers of all sons. What a son stands for is said by «tree».
 abbrev pub Fan : (ℕ → List Element → List ℕ → Type 0) → List ℕ → List Element → List Element → List ℕ → Type 0
@@ -76,7 +76,17 @@ pub record HoldsOf (spells : ℕ → Node → Type 0) (t : Tree) (es : List Elem
   pub count : t.count ≡ length es
   pub used : t.used ≡ length us
 
--- the three in the layout of the first file version, of order k
+-- the three in a layout, of order k
+abbrev pub TreeIn : Layout → ℕ → PageMap → ℕ → ℕ → ℕ → List Element → List ℕ → Type 0
+TreeIn layout k pages = TreeOf (SpellsIn layout k pages) k
+
+abbrev pub RootIn : Layout → ℕ → PageMap → ℕ → ℕ → List Element → List ℕ → Type 0
+RootIn layout k pages = RootOf (SpellsIn layout k pages) k
+
+abbrev pub HoldsIn : Layout → PageMap → Tree → List Element → List ℕ → Type 0
+HoldsIn layout pages t = HoldsOf (SpellsIn layout t.order pages) t
+
+-- the three in the layout of the second file version
 abbrev pub TreeAt : ℕ → PageMap → ℕ → ℕ → ℕ → List Element → List ℕ → Type 0
 TreeAt k pages = TreeOf (Spells k pages) k
 

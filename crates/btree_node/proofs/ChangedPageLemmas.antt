@@ -11,7 +11,7 @@ use Rattle.byteorder.specs.Endian.{big_bytes}
 use Rattle.rec_types.specs.Padded.{padded}
 use Rattle.btree_node.specs.declared.node.Node.{Node}
 use Rattle.btree_node.specs.declared.node.NodeKind.{NodeKind}
-use Rattle.btree_node.specs.Layout.{first_layout, sons_start}
+use Rattle.btree_node.specs.Layout.{second_layout, sons_start}
 use Rattle.btree_node.specs.Lists.{Element, Each}
 use Rattle.btree_node.specs.Reading.{part}
 use Rattle.btree_node.specs.Spelling.{field, head, place, sons_bytes, spelling, spelling_in, IsElement, CanStand}
@@ -77,14 +77,14 @@ field_put at width bytes page p q r within fits p_is q_is r_is =
     ∙ put_next at (length bytes ∷ bytes) (replicate (width - length bytes) 0) page (omega arith)
 
 -- a place over a part of the page
-pub place_put : (at : ℕ) (e : Element) (page p q : List ℕ) → at + 50 ≤ length page → IsElement e → p ≡ put_at at (field 16 e.0) page → q ≡ put_at (at + 17) (field 32 e.1) p → q ≡ put_at at (place first_layout e) page
+pub place_put : (at : ℕ) (e : Element) (page p q : List ℕ) → at + 118 ≤ length page → IsElement e → p ≡ put_at at (field 16 e.0) page → q ≡ put_at (at + 17) (field 100 e.1) p → q ≡ put_at at (place second_layout e) page
 unfolding place
 place_put at e page p q within fits p_is q_is =
     let size = length-field 16 e.0 fits.key_most in
     q_is
-    ∙ ap (put_at (at + 17) (field 32 e.1)) p_is
-    ∙ ap (λ n. put_at n (field 32 e.1) (put_at at (field 16 e.0) page)) (omega (arith, size))
-    ∙ put_next at (field 16 e.0) (field 32 e.1) page (omega (arith, size))
+    ∙ ap (put_at (at + 17) (field 100 e.1)) p_is
+    ∙ ap (λ n. put_at n (field 100 e.1) (put_at at (field 16 e.0) page)) (omega (arith, size))
+    ∙ put_next at (field 16 e.0) (field 100 e.1) page (omega (arith, size))
 
 -- the first blocks of one width
 length-first_blocks : {X : Type 0} (f : X → List ℕ) (width i : ℕ) (xs : List X) → Each (λ x. length (f x) ≡ width) xs → i ≤ length xs → length (flat_map f (take i xs)) ≡ width * i
@@ -94,19 +94,19 @@ length-first_blocks f width (suc i) (x ∷ xs) each low = omega (arith, length-a
 
 -- the head and the places of a page
 front : NodeKind → List Element → List ℕ
-front kind els = head kind (length els) ++ flat_map (place first_layout) els
+front kind els = head kind (length els) ++ flat_map (place second_layout) els
 
 -- what stands behind them, up to the place of the sons and from there on
 behind : ℕ → ℕ → List ℕ → List ℕ
 behind start len sons = replicate (start - len) 0 ++ (sons ++ replicate (4096 - (start + length sons)) 0)
 
 -- a page is its front and what stands behind
-spelled_in_two : (k : ℕ) (n : Node) → length (front n.kind n.elements.items) ≤ sons_start first_layout k
-    → spelling n k ≡ front n.kind n.elements.items ++ behind (sons_start first_layout k) (length (front n.kind n.elements.items)) (sons_bytes n.sons.items)
+spelled_in_two : (k : ℕ) (n : Node) → length (front n.kind n.elements.items) ≤ sons_start second_layout k
+    → spelling n k ≡ front n.kind n.elements.items ++ behind (sons_start second_layout k) (length (front n.kind n.elements.items)) (sons_bytes n.sons.items)
 unfolding spelling_in padded front behind
 spelled_in_two k n few =
     let f = front n.kind n.elements.items in
-    let start = sons_start first_layout k in
+    let start = sons_start second_layout k in
     let gap : List ℕ = replicate (start - length f) 0 in
     let sons = sons_bytes n.sons.items in
     let size : length ((f ++ gap) ++ sons) ≡ start + length sons = omega (arith, length-append (f ++ gap) sons, length-append f gap, length-replicate {A = ℕ} (start - length f) 0) in
@@ -116,57 +116,57 @@ regrouped : (a x b rest : List ℕ) → (a ++ (x ++ b)) ++ rest ≡ a ++ (x ++ (
 regrouped a x b rest = simp append_assoc
 
 -- blocks of which one is another
-blocks_split : (els : List Element) (i : ℕ) (d : Element) → i < length els → flat_map (place first_layout) els ≡ flat_map (place first_layout) (take i els) ++ (place first_layout (get_or els i d) ++ flat_map (place first_layout) (drop (suc i) els))
+blocks_split : (els : List Element) (i : ℕ) (d : Element) → i < length els → flat_map (place second_layout) els ≡ flat_map (place second_layout) (take i els) ++ (place second_layout (get_or els i d) ++ flat_map (place second_layout) (drop (suc i) els))
 blocks_split els i d low =
-    ap (flat_map (place first_layout)) (sym (take-append-drop i els) ∙ ap (λ xs. take i els ++ xs) (drop-cons els i d low))
-    ∙ flat_map-append (place first_layout) (take i els) (get_or els i d ∷ drop (suc i) els)
+    ap (flat_map (place second_layout)) (sym (take-append-drop i els) ∙ ap (λ xs. take i els ++ xs) (drop-cons els i d low))
+    ∙ flat_map-append (place second_layout) (take i els) (get_or els i d ∷ drop (suc i) els)
 
-blocks_set : (els : List Element) (i : ℕ) (e : Element) → i < length els → flat_map (place first_layout) (set els i e) ≡ flat_map (place first_layout) (take i els) ++ (place first_layout e ++ flat_map (place first_layout) (drop (suc i) els))
+blocks_set : (els : List Element) (i : ℕ) (e : Element) → i < length els → flat_map (place second_layout) (set els i e) ≡ flat_map (place second_layout) (take i els) ++ (place second_layout e ++ flat_map (place second_layout) (drop (suc i) els))
 blocks_set els i e low =
-    ap (flat_map (place first_layout)) (set_split els i e low)
-    ∙ flat_map-append (place first_layout) (take i els) (e ∷ drop (suc i) els)
+    ap (flat_map (place second_layout)) (set_split els i e low)
+    ∙ flat_map-append (place second_layout) (take i els) (e ∷ drop (suc i) els)
 
 -- the length of the front of a page
-length-front : (k : ℕ) (n : Node) → CanStand n k → length (front n.kind n.elements.items) ≡ 8 + 50 * length n.elements.items
+length-front : (k : ℕ) (n : Node) → CanStand n k → length (front n.kind n.elements.items) ≡ 8 + 118 * length n.elements.items
 unfolding front
 length-front k n can =
-    omega (arith, length-append (head n.kind (length n.elements.items)) (flat_map (place first_layout) n.elements.items), length-head n.kind (length n.elements.items), length-blocks (place first_layout) 50 n.elements.items (widths first_layout n.elements.items can.fit))
+    omega (arith, length-append (head n.kind (length n.elements.items)) (flat_map (place second_layout) n.elements.items), length-head n.kind (length n.elements.items), length-blocks (place second_layout) 118 n.elements.items (widths second_layout n.elements.items can.fit))
 
 -- the front up to place i
 up_to : NodeKind → ℕ → ℕ → List Element → List ℕ
-up_to kind count i els = head kind count ++ flat_map (place first_layout) (take i els)
+up_to kind count i els = head kind count ++ flat_map (place second_layout) (take i els)
 
-length-up_to : (k : ℕ) (n : Node) (count i : ℕ) → CanStand n k → i ≤ length n.elements.items → length (up_to n.kind count i n.elements.items) ≡ 8 + 50 * i
+length-up_to : (k : ℕ) (n : Node) (count i : ℕ) → CanStand n k → i ≤ length n.elements.items → length (up_to n.kind count i n.elements.items) ≡ 8 + 118 * i
 unfolding up_to
 length-up_to k n count i can low =
-    omega (arith, length-append (head n.kind count) (flat_map (place first_layout) (take i n.elements.items)), length-head n.kind count, length-first_blocks (place first_layout) 50 i n.elements.items (widths first_layout n.elements.items can.fit) low)
+    omega (arith, length-append (head n.kind count) (flat_map (place second_layout) (take i n.elements.items)), length-head n.kind count, length-first_blocks (place second_layout) 118 i n.elements.items (widths second_layout n.elements.items can.fit) low)
 
 -- a page with a place written over spells the node with the element there
 pub replaced_spelt : (k i : ℕ) (n : Node) (e : Element) (page : List ℕ) → CanStand n k → IsElement e → page ≡ spelling n k → i < length n.elements.items
-    → put_at (8 + 50 * i) (place first_layout e) page ≡ spelling (with_elements n (set n.elements.items i e)) k
+    → put_at (8 + 118 * i) (place second_layout e) page ≡ spelling (with_elements n (set n.elements.items i e)) k
 unfolding front up_to
 replaced_spelt k i n e page can fits is low =
     let els = n.elements.items in
     let m = with_elements n (set els i e) in
-    let start = sons_start first_layout k in
+    let start = sons_start second_layout k in
     let sons = sons_bytes n.sons.items in
-    let old = place first_layout (get_or els i e) in
-    let new = place first_layout e in
+    let old = place second_layout (get_or els i e) in
+    let new = place second_layout e in
     let a = up_to n.kind (length els) i els in
-    let b = flat_map (place first_layout) (drop (suc i) els) in
-    let same : length old ≡ length new = length-place first_layout (get_or els i e) (fits_at first_layout k n can i e low) ∙ sym (length-place first_layout e fits) in
+    let b = flat_map (place second_layout) (drop (suc i) els) in
+    let same : length old ≡ length new = length-place second_layout (get_or els i e) (fits_at second_layout k n can i e low) ∙ sym (length-place second_layout e fits) in
     let was : front n.kind els ≡ a ++ (old ++ b) = ap (λ x. head n.kind (length els) ++ x) (blocks_split els i e low) ∙ sym (append_assoc (head n.kind (length els)) _ _) in
     let now : front n.kind (set els i e) ≡ a ++ (new ++ b) =
-    ap (λ c. head n.kind c ++ flat_map (place first_layout) (set els i e)) (length-set els i e)
+    ap (λ c. head n.kind c ++ flat_map (place second_layout) (set els i e)) (length-set els i e)
     ∙ ap (λ x. head n.kind (length els) ++ x) (blocks_set els i e low) ∙ sym (append_assoc (head n.kind (length els)) _ _) in
     let len : length (front n.kind (set els i e)) ≡ length (front n.kind els) = omega (arith, ap length was, ap length now, length-append a (old ++ b), length-append a (new ++ b), length-append old b, length-append new b, same) in
-    let few : length (front n.kind els) ≤ start = omega (arith, length-front k n can, mul-le-mul_left 50 can.most) in
+    let few : length (front n.kind els) ≤ start = omega (arith, length-front k n can, mul-le-mul_left 118 can.most) in
     let rest = behind start (length (front n.kind els)) sons in
     let was_whole : spelling n k ≡ a ++ (old ++ (b ++ rest)) = spelled_in_two k n few ∙ ap (λ x. x ++ rest) was ∙ regrouped a old b rest in
     let now_whole : spelling m k ≡ a ++ (new ++ (b ++ rest)) =
     spelled_in_two k m (omega (arith, len, few)) ∙ ap (λ c. front n.kind (set els i e) ++ behind start c sons) len ∙ ap (λ x. x ++ rest) now ∙ regrouped a new b rest in
-    ap (put_at (8 + 50 * i) new) (is ∙ was_whole)
-    ∙ put_middle (8 + 50 * i) a old new (b ++ rest) (length-up_to k n (length els) i can (omega arith)) same
+    ap (put_at (8 + 118 * i) new) (is ∙ was_whole)
+    ∙ put_middle (8 + 118 * i) a old new (b ++ rest) (length-up_to k n (length els) i can (omega arith)) same
     ∙ sym now_whole
 
 -- another number of keys
@@ -175,41 +175,41 @@ unfolding put_at head
 count_put kind count more rest = refl
 
 -- the gap behind the places gives room for one more
-gap_split : (start len : ℕ) (sons : List ℕ) → len + 50 ≤ start → behind start len sons ≡ replicate 50 0 ++ behind start (len + 50) sons
+gap_split : (start len : ℕ) (sons : List ℕ) → len + 118 ≤ start → behind start len sons ≡ replicate 118 0 ++ behind start (len + 118) sons
 unfolding behind
 gap_split start len sons room =
     ap (λ m. replicate m 0 ++ (sons ++ replicate (4096 - (start + length sons)) 0)) (omega arith)
-    ∙ ap (λ zs. zs ++ (sons ++ replicate (4096 - (start + length sons)) 0)) (sym (replicate-append-replicate 50 (start - (len + 50)) 0))
-    ∙ append_assoc (replicate 50 0) (replicate (start - (len + 50)) 0) _
+    ∙ ap (λ zs. zs ++ (sons ++ replicate (4096 - (start + length sons)) 0)) (sym (replicate-append-replicate 118 (start - (len + 118)) 0))
+    ∙ append_assoc (replicate 118 0) (replicate (start - (len + 118)) 0) _
 
 -- what an insertion starts from: the page around the place, and the places from there on
 record Opened (k i : ℕ) (n : Node) (page : List ℕ) : Type 0 where
   rest : List ℕ
-  whole : page ≡ up_to n.kind (length n.elements.items) i n.elements.items ++ ((flat_map (place first_layout) (drop i n.elements.items) ++ replicate 50 0) ++ rest)
-  rest_is : rest ≡ behind (sons_start first_layout k) (length (front n.kind n.elements.items) + 50) (sons_bytes n.sons.items)
-  front_is : front n.kind n.elements.items ≡ up_to n.kind (length n.elements.items) i n.elements.items ++ flat_map (place first_layout) (drop i n.elements.items)
-  before : length (up_to n.kind (length n.elements.items) i n.elements.items) ≡ 8 + 50 * i
-  moved : length (flat_map (place first_layout) (drop i n.elements.items)) + 50 * i ≡ 50 * length n.elements.items
-  room : length (front n.kind n.elements.items) + 50 ≤ sons_start first_layout k
+  whole : page ≡ up_to n.kind (length n.elements.items) i n.elements.items ++ ((flat_map (place second_layout) (drop i n.elements.items) ++ replicate 118 0) ++ rest)
+  rest_is : rest ≡ behind (sons_start second_layout k) (length (front n.kind n.elements.items) + 118) (sons_bytes n.sons.items)
+  front_is : front n.kind n.elements.items ≡ up_to n.kind (length n.elements.items) i n.elements.items ++ flat_map (place second_layout) (drop i n.elements.items)
+  before : length (up_to n.kind (length n.elements.items) i n.elements.items) ≡ 8 + 118 * i
+  moved : length (flat_map (place second_layout) (drop i n.elements.items)) + 118 * i ≡ 118 * length n.elements.items
+  room : length (front n.kind n.elements.items) + 118 ≤ sons_start second_layout k
 
 opened : (k i : ℕ) (n : Node) (page : List ℕ) → CanStand n k → page ≡ spelling n k → i ≤ length n.elements.items → length n.elements.items < 2 * k → Opened k i n page
 unfolding front up_to
 opened k i n page can is low less =
     let els = n.elements.items in
-    let start = sons_start first_layout k in
+    let start = sons_start second_layout k in
     let sons = sons_bytes n.sons.items in
     let a = up_to n.kind (length els) i els in
-    let b = flat_map (place first_layout) (drop i els) in
+    let b = flat_map (place second_layout) (drop i els) in
     let f = front n.kind els in
     let split : f ≡ a ++ b =
-    ap (λ xs. head n.kind (length els) ++ xs) (ap (flat_map (place first_layout)) (sym (take-append-drop i els)) ∙ flat_map-append (place first_layout) (take i els) (drop i els))
+    ap (λ xs. head n.kind (length els) ++ xs) (ap (flat_map (place second_layout)) (sym (take-append-drop i els)) ∙ flat_map-append (place second_layout) (take i els) (drop i els))
     ∙ sym (append_assoc (head n.kind (length els)) _ _) in
     let size = length-front k n can in
-    let room : length f + 50 ≤ start = omega (arith, size, mul-le-mul_left {m = length els + 1} {n = 2 * k} 50 (omega (arith, less))) in
+    let room : length f + 118 ≤ start = omega (arith, size, mul-le-mul_left {m = length els + 1} {n = 2 * k} 118 (omega (arith, less))) in
     let before = length-up_to k n (length els) i can low in
     record {
-      rest = behind start (length f + 50) sons;
-      whole = is ∙ spelled_in_two k n (omega (arith, room)) ∙ ap (λ x. f ++ x) (gap_split start (length f) sons room) ∙ ap (λ x. x ++ (replicate 50 0 ++ behind start (length f + 50) sons)) split ∙ simp append_assoc;
+      rest = behind start (length f + 118) sons;
+      whole = is ∙ spelled_in_two k n (omega (arith, room)) ∙ ap (λ x. f ++ x) (gap_split start (length f) sons room) ∙ ap (λ x. x ++ (replicate 118 0 ++ behind start (length f + 118) sons)) split ∙ simp append_assoc;
       rest_is = refl;
       front_is = split;
       before = before;
@@ -220,9 +220,9 @@ opened k i n page can is low less =
 -- a page with one element more: its place is written, then the places behind it, then the number of keys
 pub inserted_spelt : (k i : ℕ) (n : Node) (e : Element) (page moved p q r : List ℕ) → CanStand n k → IsElement e → page ≡ spelling n k → length page ≡ 4096 → k ≤ 16
     → i ≤ length n.elements.items → length n.elements.items < 2 * k
-    → moved ≡ part (8 + 50 * i) (8 + 50 * length n.elements.items - (8 + 50 * i)) page
-    → p ≡ put_at (8 + 50 * i) (place first_layout e) page
-    → q ≡ put_at (8 + 50 * (i + 1)) moved p
+    → moved ≡ part (8 + 118 * i) (8 + 118 * length n.elements.items - (8 + 118 * i)) page
+    → p ≡ put_at (8 + 118 * i) (place second_layout e) page
+    → q ≡ put_at (8 + 118 * (i + 1)) moved p
     → r ≡ put_at 2 (big_bytes 2 (length n.elements.items + 1)) q
     → r ≡ spelling (with_elements n (insert n.elements.items i e)) k
 unfolding front up_to
@@ -230,35 +230,35 @@ inserted_spelt k i n e page moved p q r can fits is size small low less moved_is
     let els = n.elements.items in
     let count = length els in
     let o = opened k i n page can is low less in
-    let new = place first_layout e in
-    let f = flat_map (place first_layout) (take i els) in
+    let new = place second_layout e in
+    let f = flat_map (place second_layout) (take i els) in
     let a = up_to n.kind count i els in
-    let b = flat_map (place first_layout) (drop i els) in
+    let b = flat_map (place second_layout) (drop i els) in
     let m = with_elements n (insert els i e) in
-    let wide : length new ≡ 50 = length-place first_layout e fits in
-    let gap : List ℕ = replicate 50 0 in
+    let wide : length new ≡ 118 = length-place second_layout e fits in
+    let gap : List ℕ = replicate 118 0 in
     let tail : moved ≡ b =
-    moved_is ∙ ap (part (8 + 50 * i) (8 + 50 * count - (8 + 50 * i))) (o.whole ∙ ap (λ x. a ++ x) (append_assoc b gap o.rest))
-    ∙ part_middle (8 + 50 * i) (8 + 50 * count - (8 + 50 * i)) a b (gap ++ o.rest) o.before (omega (arith, o.moved)) in
-    let both : q ≡ put_at (8 + 50 * i) (new ++ b) page =
-    q_is ∙ ap (put_at (8 + 50 * (i + 1)) moved) p_is ∙ ap (λ x. put_at (8 + 50 * (i + 1)) x (put_at (8 + 50 * i) new page)) tail
-    ∙ ap (λ at. put_at at b (put_at (8 + 50 * i) new page)) (omega (arith, wide))
-    ∙ put_next (8 + 50 * i) new b page (omega (arith, wide, size, small, low, less)) in
+    moved_is ∙ ap (part (8 + 118 * i) (8 + 118 * count - (8 + 118 * i))) (o.whole ∙ ap (λ x. a ++ x) (append_assoc b gap o.rest))
+    ∙ part_middle (8 + 118 * i) (8 + 118 * count - (8 + 118 * i)) a b (gap ++ o.rest) o.before (omega (arith, o.moved)) in
+    let both : q ≡ put_at (8 + 118 * i) (new ++ b) page =
+    q_is ∙ ap (put_at (8 + 118 * (i + 1)) moved) p_is ∙ ap (λ x. put_at (8 + 118 * (i + 1)) x (put_at (8 + 118 * i) new page)) tail
+    ∙ ap (λ at. put_at at b (put_at (8 + 118 * i) new page)) (omega (arith, wide))
+    ∙ put_next (8 + 118 * i) new b page (omega (arith, wide, size, small, low, less)) in
     let laid : q ≡ a ++ ((new ++ b) ++ o.rest) =
-    both ∙ ap (put_at (8 + 50 * i) (new ++ b)) o.whole
-    ∙ put_middle (8 + 50 * i) a (b ++ gap) (new ++ b) o.rest o.before (omega (arith, length-append b gap, length-append new b, wide)) in
+    both ∙ ap (put_at (8 + 118 * i) (new ++ b)) o.whole
+    ∙ put_middle (8 + 118 * i) a (b ++ gap) (new ++ b) o.rest o.before (omega (arith, length-append b gap, length-append new b, wide)) in
     let counted : r ≡ head n.kind (count + 1) ++ (f ++ ((new ++ b) ++ o.rest)) =
     r_is ∙ ap (put_at 2 (big_bytes 2 (count + 1))) (laid ∙ append_assoc (head n.kind count) f _)
     ∙ count_put n.kind count (count + 1) (f ++ ((new ++ b) ++ o.rest)) in
     let more : length (insert els i e) ≡ count + 1 = length-insert els i e low in
     let now : front n.kind (insert els i e) ≡ head n.kind (count + 1) ++ (f ++ (new ++ b)) =
-    ap (λ c. head n.kind c ++ flat_map (place first_layout) (insert els i e)) more
-    ∙ ap (λ x. head n.kind (count + 1) ++ x) (flat_map-append (place first_layout) (take i els) (e ∷ drop i els)) in
-    let len : length (front n.kind (insert els i e)) ≡ length (front n.kind els) + 50 =
+    ap (λ c. head n.kind c ++ flat_map (place second_layout) (insert els i e)) more
+    ∙ ap (λ x. head n.kind (count + 1) ++ x) (flat_map-append (place second_layout) (take i els) (e ∷ drop i els)) in
+    let len : length (front n.kind (insert els i e)) ≡ length (front n.kind els) + 118 =
     omega (arith, ap length now, ap length o.front_is, length-append a b, length-append (head n.kind count) f, length-append (head n.kind (count + 1)) (f ++ (new ++ b)), length-append f (new ++ b), length-append new b, wide, length-head n.kind count, length-head n.kind (count + 1)) in
     let spelt : spelling m k ≡ (head n.kind (count + 1) ++ (f ++ (new ++ b))) ++ o.rest =
     spelled_in_two k m (omega (arith, len, o.room))
-    ∙ ap (λ c. front n.kind (insert els i e) ++ behind (sons_start first_layout k) c (sons_bytes n.sons.items)) len
+    ∙ ap (λ c. front n.kind (insert els i e) ++ behind (sons_start second_layout k) c (sons_bytes n.sons.items)) len
     ∙ ap (λ x. front n.kind (insert els i e) ++ x) (sym o.rest_is)
     ∙ ap (λ x. x ++ o.rest) now in
     counted ∙ sym (spelt ∙ regrouped (head n.kind (count + 1)) f (new ++ b) o.rest)

@@ -7,7 +7,7 @@ use Rattle.btree_node.specs.declared.node.NodeKind.{NodeKind}
 use Rattle.btree_node.specs.declared.node.NodeKind.TheVariants.{Leaf, Inner}
 use Rattle.btree_node.specs.Cut.{left_of, right_of}
 use Rattle.btree_node.specs.Joined.{joined, keys_of_both, half_of_both, AreBrothers}
-use Rattle.btree_node.specs.Layout.{first_layout}
+use Rattle.btree_node.specs.Layout.{second_layout}
 use Rattle.btree_node.specs.Lists.{Element, Each}
 use Rattle.btree_node.specs.Spelling.{ElementFits, IsSon, SonsFit, CanStand}
 use Rattle.btree_node.proofs.SplitLemmas.{around, left_stands, right_stands}
@@ -82,12 +82,12 @@ joined_sons left middle right brothers =
 pub distributed_stand : (k : ℕ) (left : Node) (middle : Element) (right a b : Node) → 1 ≤ k → AreBrothers left middle right
     → length left.elements.items ≤ 2 * k → length right.elements.items ≤ 2 * k → 2 * k ≤ keys_of_both left right
     → a ≡ left_of (half_of_both left right) (joined left middle right) → b ≡ right_of (half_of_both left right) (joined left middle right)
-    → Each (ElementFits first_layout) (joined left middle right).elements.items → CanStand a k × CanStand b k
+    → Each (ElementFits second_layout) (joined left middle right).elements.items → CanStand a k × CanStand b k
 distributed_stand k left middle right a b some brothers left_most right_most many is_left is_right fit =
     let size = length-append left.elements.items (middle ∷ right.elements.items) in
     let sons = joined_sons left middle right brothers in
     let half = half_of_both left right in (
-      subst (λ n. CanStand n k) (sym is_left) (left_stands first_layout half k (joined left middle right) (omega arith) (omega arith) (omega (arith, size)) fit brothers.ascends sons),
+      subst (λ n. CanStand n k) (sym is_left) (left_stands second_layout half k (joined left middle right) (omega arith) (omega arith) (omega (arith, size)) fit brothers.ascends sons),
       subst (λ n. CanStand n k) (sym is_right)
-          (right_stands first_layout half (keys_of_both left right - half) k (joined left middle right) (omega (arith, size)) (omega arith) (omega arith) fit brothers.ascends sons),
+          (right_stands second_layout half (keys_of_both left right - half) k (joined left middle right) (omega (arith, size)) (omega arith) (omega arith) fit brothers.ascends sons),
     )

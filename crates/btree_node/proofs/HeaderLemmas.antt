@@ -2,11 +2,12 @@
 use Rattle.byteorder.specs.Endian.{big_bytes}
 use Rattle.btree_node.proofs.PaddingLemmas.{zeros, all_zero, part-drop, two_bytes, four_bytes, one_byte}
 use Rattle.std.proofs.lemmas.List.{drop_at, length-drop}
-use Rattle.std.proofs.Common.{◌≡◌, ℕ, ◌-◌, ◌<◌, List, [], ◌∷◌, ◌++◌, length, replicate, slice_index, refl, ap, sym, ◌∙◌, subst, arith, inl, inr, drop, append_assoc}
+use Rattle.std.proofs.Common.{◌≡◌, ℕ, ◌-◌, ◌<◌, ◌^◌, List, [], ◌∷◌, ◌++◌, length, replicate, slice_index, refl, ap, sym, ◌∙◌, subst, arith, inl, inr, drop, append_assoc}
 use Rattle.rec_types.specs.Padded.{padded}
 use Rattle.btree_node.specs.declared.header.Header.{Header}
 use Rattle.btree_node.specs.declared.header.HeaderFault.{HeaderFault}
 use Rattle.btree_node.specs.declared.header.HeaderFault.TheVariants.{BadMagic, BadVersion, BadOrder, NotClean, BadHeader}
+use Rattle.btree_node.specs.Layout.{IsVersion}
 use Rattle.btree_node.specs.Reading.{part, number_at, IsZero}
 use Rattle.btree_node.specs.HeaderSpelling.{magic, header_bytes, header_spelling, HeaderFits, header_at, state_at, version_at, HeaderPasses, HeaderPassesBefore, FirstHeaderFault, clean_state}
 use Rattle.btree_node.proofs.PagePartLemmas.{number_reads, number_fits}
@@ -14,18 +15,24 @@ use Rattle.btree_node.proofs.PagePartLemmas.{number_reads, number_fits}
 -- what a page that spells h reads as
 pub record HeaderReads (page : List ℕ) (h : Header) (byte : ℕ) : Type 0 where
   pub text : part 0 8 page ≡ magic
-  pub version : version_at page ≡ 1
+  pub version : version_at page ≡ h.version
   pub order : number_at 2 10 page ≡ h.order
   pub pages : number_at 4 12 page ≡ h.pages
   pub root : number_at 4 16 page ≡ h.root
   pub count : number_at 4 20 page ≡ h.count
   pub state : state_at page ≡ byte
 
+small_version : (version : ℕ) → IsVersion version → version < 2 ^ 16
+small_version version is = elim is [
+  | inl first ↦ omega (arith, first)
+  | inr second ↦ omega (arith, second)
+]
+
 fields_read : (h : Header) (state : ℕ) (rest : List ℕ) → HeaderFits h → HeaderReads (header_bytes h state ++ rest) h state
 unfolding header_bytes magic part state_at
 fields_read h state rest fits = record {
   text = refl;
-  version = number_reads 2 8 1 (header_bytes h state ++ rest) refl (omega arith);
+  version = number_reads 2 8 h.version (header_bytes h state ++ rest) refl (small_version h.version fits.version);
   order = number_reads 2 10 h.order (header_bytes h state ++ rest) refl (omega (arith, fits.order.1));
   pages = number_reads 4 12 h.pages (header_bytes h state ++ rest) refl fits.pages;
   root = number_reads 4 16 h.root (header_bytes h state ++ rest) refl fits.root;
@@ -46,7 +53,7 @@ header_reads page h state fits is =
 -- its fields are the header's
 pub fields_same : (page : List ℕ) (h : Header) (state : ℕ) → HeaderReads page h state → header_at page ≡ h
 unfolding header_at
-fields_same page h state r = λ i. record { order = r.order i; pages = r.pages i; root = r.root i; count = r.count i }
+fields_same page h state r = λ i. record { version = r.version i; order = r.order i; pages = r.pages i; root = r.root i; count = r.count i }
 
 length-header_bytes : (h : Header) (state : ℕ) → length (header_bytes h state) ≡ 25
 unfolding header_bytes magic
@@ -79,23 +86,23 @@ same_fields : (a b c d e f g y a' b' c' d' e' f' g' : List ℕ) → a ≡ a' →
 same_fields a b c d e f g y a' b' c' d' e' f' g' ea eb ec ed ee ef eg =
     regrouped a b c d e f g y ∙ cc
 
-fields_are : (page : List ℕ) → length page ≡ 4096 → ((i : ℕ) → slice_index page i < 256) → part 0 8 page ≡ magic → version_at page ≡ 1 → state_at page ≡ clean_state → page ≡ header_bytes (header_at page) clean_state ++ drop 25 page
+fields_are : (page : List ℕ) → length page ≡ 4096 → ((i : ℕ) → slice_index page i < 256) → part 0 8 page ≡ magic → state_at page ≡ clean_state → page ≡ header_bytes (header_at page) clean_state ++ drop 25 page
 unfolding header_bytes header_at state_at
-fields_are page size bytes text version state =
+fields_are page size bytes text state =
     in_fields page
-    ∙ same_fields _ _ _ _ _ _ _ (drop 25 page) magic (big_bytes 2 1) (big_bytes 2 (number_at 2 10 page)) (big_bytes 4 (number_at 4 12 page)) (big_bytes 4 (number_at 4 16 page)) (big_bytes 4 (number_at 4 20 page)) (clean_state ∷ [])
+    ∙ same_fields _ _ _ _ _ _ _ (drop 25 page) magic (big_bytes 2 (version_at page)) (big_bytes 2 (number_at 2 10 page)) (big_bytes 4 (number_at 4 12 page)) (big_bytes 4 (number_at 4 16 page)) (big_bytes 4 (number_at 4 20 page)) (clean_state ∷ [])
     text
-    (two_bytes 8 page bytes (omega arith) ∙ ap (big_bytes 2) version)
+    (two_bytes 8 page bytes (omega arith))
     (two_bytes 10 page bytes (omega arith))
     (four_bytes 12 page bytes (omega arith))
     (four_bytes 16 page bytes (omega arith))
     (four_bytes 20 page bytes (omega arith))
     (one_byte 24 page (omega arith) ∙ ap (λ n. n ∷ []) state)
 
-header_is : (page : List ℕ) → length page ≡ 4096 → ((i : ℕ) → slice_index page i < 256) → part 0 8 page ≡ magic → version_at page ≡ 1 → state_at page ≡ clean_state → IsZero (drop 25 page) → page ≡ header_spelling (header_at page) clean_state
+header_is : (page : List ℕ) → length page ≡ 4096 → ((i : ℕ) → slice_index page i < 256) → part 0 8 page ≡ magic → state_at page ≡ clean_state → IsZero (drop 25 page) → page ≡ header_spelling (header_at page) clean_state
 unfolding header_spelling
-header_is page size bytes text version state none =
-    fields_are page size bytes text version state
+header_is page size bytes text state none =
+    fields_are page size bytes text state
     ∙ ap (λ y. header_bytes (header_at page) clean_state ++ y)
     (zeros (drop 25 page) none ∙ ap (λ n. replicate n 0) (omega (arith, size, length-drop 25 page, length-header_bytes (header_at page) clean_state)))
     ∙ sym (padded_is 4096 (header_bytes (header_at page) clean_state))
@@ -105,14 +112,14 @@ pub header_spelled : (page : List ℕ) → length page ≡ 4096 → ((i : ℕ) �
 unfolding HeaderPasses
 header_spelled page size bytes before last =
     elim last.0 [
-      | inl clean ↦ header_is page size bytes before.0 before.1 clean last.1
+      | inl clean ↦ header_is page size bytes before.0 clean last.1
       | inr writing ↦ absurd (before.3 writing)
     ]
 
 header_passes : (page : List ℕ) (h : Header) → HeaderFits h → page ≡ header_spelling h clean_state → HeaderReads page h clean_state → (fault : HeaderFault) → HeaderPasses page fault
 unfolding HeaderPasses
 header_passes page h fits is r BadMagic = r.text
-header_passes page h fits is r (BadVersion version) = r.version
+header_passes page h fits is r (BadVersion version) = subst IsVersion (sym r.version) fits.version
 header_passes page h fits is r BadOrder = (omega (arith, r.order, fits.order.0), omega (arith, r.order, fits.order.1))
 header_passes page h fits is r NotClean = λ writing. absurd (omega (arith, r.state, writing))
 header_passes page h fits is r BadHeader = (inl r.state, rest_zero page h clean_state is)
@@ -129,6 +136,7 @@ same_header page h g fits is read = read ∙ fields_same page h clean_state (hea
 pub read_fits : (page : List ℕ) (g : Header) → ((i : ℕ) → slice_index page i < 256) → HeaderPassesBefore page BadHeader → g ≡ header_at page → HeaderFits g
 unfolding header_at HeaderPasses
 read_fits page g bytes before read = subst HeaderFits (sym read) record {
+  version = before.1;
   order = before.2;
   pages = number_fits 4 12 page bytes;
   root = number_fits 4 16 page bytes;

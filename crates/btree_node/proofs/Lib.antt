@@ -12,3 +12,4 @@ pub mod SpeltPageLemmas
 pub mod WriterLemmas
 pub mod PaddingLemmas
 pub mod ChangedPageLemmas
+pub mod VersionLemmas

@@ -1,15 +1,34 @@
 -- Where the parts of a node page stand.
-use Rattle.std.specs.Prelude.{ℕ, ◌+◌, ◌*◌, ◌≤◌}
+use Rattle.std.specs.Prelude.{◌≡◌, ◌⊎◌, ℕ, ◌+◌, ◌*◌, ◌≤◌, ◌==◌, if◌then◌else◌}
 use Rattle.rec_types.specs.Widths.{key_width, widest_record}
 use Rattle.btree_node.specs.declared.layout.Layout.{Layout}
 
--- the layout of the first file version: records of up to 32 bytes
-abbrev pub first_layout : Layout
-first_layout = record { record_width = widest_record }
+-- the bytes that a record may take in the first file version
+abbrev pub first_record_width : ℕ
+first_record_width = 32
 
--- the number of the first file version
+-- the layout of the first file version
+abbrev pub first_layout : Layout
+first_layout = record { record_width = first_record_width }
+
+-- the layout of the second file version, which is the one that is written
+abbrev pub second_layout : Layout
+second_layout = record { record_width = widest_record }
+
+-- the numbers of the file versions
 abbrev pub first_version : ℕ
 first_version = 1
+
+abbrev pub second_version : ℕ
+second_version = 2
+
+-- a version whose files are opened
+abbrev pub IsVersion : ℕ → Type 0
+IsVersion version = (version ≡ first_version) ⊎ (version ≡ second_version)
+
+-- the layout of the node pages of a file of that version
+abbrev pub layout_of : ℕ → Layout
+layout_of version = if version == first_version then first_layout else second_layout
 
 -- the greatest order of a tree: a page of it has room for its places and sons
 abbrev pub greatest_order : ℕ

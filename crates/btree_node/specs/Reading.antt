@@ -9,7 +9,7 @@ use Rattle.btree_node.specs.declared.node.NodeKind.{NodeKind}
 use Rattle.btree_node.specs.declared.node.NodeKind.TheVariants.{Leaf, Inner}
 use Rattle.btree_node.specs.declared.node.NodeFault.{NodeFault}
 use Rattle.btree_node.specs.declared.node.NodeFault.TheVariants.{Kind, Count, KeyLength, RecordLength, Order, Son, NotZero}
-use Rattle.btree_node.specs.Layout.{first_layout, record_at, place_width, place_start, sons_start}
+use Rattle.btree_node.specs.Layout.{second_layout, record_at, place_width, place_start, sons_start}
 use Rattle.btree_node.specs.Lists.{Element, Each, Ascends}
 
 -- some bytes of a page
@@ -90,13 +90,13 @@ pub record PaddingIsZero (layout : Layout) (k : ℕ) (page : List ℕ) (count so
   pub places : IsZero (part (place_start layout count) (place_width layout * (2 * k - count)) page)
   pub rest : IsZero (drop (sons_start layout k + 4 * sons) page)
 
--- a place of the first layout that passes all tests of its own: its lengths, and the zeros past its key and its record
+-- a place of the second layout that passes all tests of its own: its lengths, and the zeros past its key and its record
 pub record IsGoodPlace (place : List ℕ) : Type 0 where
   pub some : 0 < key_length place
   pub most : key_length place ≤ key_width
-  pub fits : record_length place ≤ first_layout.record_width
+  pub fits : record_length place ≤ second_layout.record_width
   pub behind_key : IsZero (part (1 + key_length place) (key_width - key_length place) place)
-  pub behind_record : IsZero (part (record_at + 1 + record_length place) (first_layout.record_width - record_length place) place)
+  pub behind_record : IsZero (part (record_at + 1 + record_length place) (second_layout.record_width - record_length place) place)
 
 -- the page passes the test for a fault
 unfoldable pub Passes : Layout → ℕ → List ℕ → NodeFault → Type 0
@@ -125,4 +125,4 @@ pub record FirstFaultIn (layout : Layout) (k : ℕ) (page : List ℕ) (fault : N
 
 -- the first fault of a page of order k
 abbrev pub FirstFault : List ℕ → ℕ → NodeFault → Type 0
-FirstFault page k fault = FirstFaultIn first_layout k page fault
+FirstFault page k fault = FirstFaultIn second_layout k page fault

@@ -8,7 +8,7 @@ use Rattle.btree_node.specs.declared.layout.Layout.{Layout}
 use Rattle.btree_node.specs.declared.node.Node.{Node}
 use Rattle.btree_node.specs.declared.node.NodeKind.{NodeKind}
 use Rattle.btree_node.specs.declared.node.NodeKind.TheVariants.{Leaf, Inner}
-use Rattle.btree_node.specs.Layout.{first_layout, sons_start}
+use Rattle.btree_node.specs.Layout.{second_layout, sons_start}
 use Rattle.btree_node.specs.Lists.{Element, Each, Ascends}
 
 -- the bytes behind their number, padded to a width
@@ -38,7 +38,7 @@ spelling_in layout n k =
 
 -- the one page that spells a node of order k
 abbrev pub spelling : Node → ℕ → List ℕ
-spelling n k = spelling_in first_layout n k
+spelling n k = spelling_in second_layout n k
 
 -- a key of 1 byte to the bytes that it may take, and a record that the layout has room for
 pub record ElementFits (layout : Layout) (e : Element) : Type 0 where
@@ -46,9 +46,9 @@ pub record ElementFits (layout : Layout) (e : Element) : Type 0 where
   pub key_most : length e.0 ≤ key_width
   pub record_most : length e.1 ≤ layout.record_width
 
--- the same for the first file version
+-- the same in a page that is written
 abbrev pub IsElement : Element → Type 0
-IsElement = ElementFits first_layout
+IsElement = ElementFits second_layout
 
 -- a page number of four bytes that is not 0
 pub record IsSon (s : ℕ) : Type 0 where
@@ -70,7 +70,7 @@ pub record CanStandIn (layout : Layout) (n : Node) (k : ℕ) : Type 0 where
 
 -- a node that a page of order k can hold: 1 to 2k ascending keys, with sons if it is an inner one
 abbrev pub CanStand : Node → ℕ → Type 0
-CanStand n k = CanStandIn first_layout n k
+CanStand n k = CanStandIn second_layout n k
 
 -- the page spells some node of the order
 abbrev pub IsSpelt : ℕ → List ℕ → Type 0

@@ -1,6 +1,6 @@
 ghost use Rattle.std.specs.Prelude.{◌≡◌, ◌+◌, ◌*◌, ◌<◌, ◌≤◌, length, replicate, slice_set};
 ghost use Rattle.std.specs.List.{insert};
-ghost use Rattle.btree_node.specs.Layout.{first_layout, place_width, greatest_order};
+ghost use Rattle.btree_node.specs.Layout.{second_layout, place_width, greatest_order};
 ghost use Rattle.btree_node.specs.Reading.{count_at};
 ghost use Rattle.btree_node.specs.Spelling.{field, place, spelling, CanStand, IsElement, IsSpelt};
 ghost use Rattle.btree_node.specs.Written.{put_at, with_elements};
@@ -9,7 +9,7 @@ ghost use Rattle.rec_types.specs.Widths.{page_width};
 ghost use Rattle.btree_node.specs.declared.node.Node.{Node};
 
 use crate::decoding::count_of;
-use crate::layout::{FIRST_LAYOUT, RECORD_AT};
+use crate::layout::{RECORD_AT, SECOND_LAYOUT};
 use crate::part::part_of;
 use byteorder::{BigEndian, ByteOrder};
 use rec_types::{KEY_WIDTH, Key, PAGE_WIDTH, RECORD_WIDTH, Record};
@@ -28,7 +28,7 @@ pub fn replace_in(page: &mut [u8; PAGE_WIDTH], k: u16, i: usize, element: &(Key,
         → page.new
         ≡ spelling (with_elements node (slice_set node.elements.items i element.now)) k }
 {
-    put_place(page, FIRST_LAYOUT.place_start(i), element);
+    put_place(page, SECOND_LAYOUT.place_start(i), element);
 }
 
 /// Puts an element before element i of the node that the page spells, in a tree of order `k`. The page
@@ -50,12 +50,12 @@ pub fn insert_in(
         → page.new ≡ spelling (with_elements node (insert node.elements.items i element.now)) k }
 {
     let count = count_of(page);
-    let start = FIRST_LAYOUT.place_start(i);
-    let end = FIRST_LAYOUT.place_start(count);
+    let start = SECOND_LAYOUT.place_start(i);
+    let end = SECOND_LAYOUT.place_start(count);
     put_place(page, start, element);
     put_bytes(
         page,
-        FIRST_LAYOUT.place_start(i + 1),
+        SECOND_LAYOUT.place_start(i + 1),
         part_of(was, start, end - start),
     );
     put_count(page, count + 1);
@@ -75,8 +75,8 @@ fn put_count(page: &mut [u8; PAGE_WIDTH], count: usize)
 #[tactic(auto, unfolding(crate::specs::Spelling::place))]
 fn put_place(page: &mut [u8; PAGE_WIDTH], at: usize, element: &(Key, Record))
     requires element { IsElement element.now }
-    requires room { at + place_width first_layout ≤ page_width }
-    ensures { page.new ≡ put_at at (place first_layout element.now) page.old }
+    requires room { at + place_width second_layout ≤ page_width }
+    ensures { page.new ≡ put_at at (place second_layout element.now) page.old }
 {
     put_field(page, at, element.0.bytes(), KEY_WIDTH);
     put_field(page, at + RECORD_AT, element.1.bytes(), RECORD_WIDTH);

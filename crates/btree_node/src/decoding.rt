@@ -1,6 +1,6 @@
 ghost use Rattle.std.specs.Prelude.{◌≡◌, ℕ, ◌+◌, ◌*◌, ◌^◌, ◌<◌, ◌≤◌, ◌↔◌, [], Ok, IfOk, IfErr, OnOk, IsOk, MatchResult, length, All, IsTrue};
 ghost use Rattle.rec_types.specs.Widths.{key_width, widest_record};
-ghost use Rattle.btree_node.specs.Layout.{record_at, place_width, sons_start, greatest_order, most_keys};
+ghost use Rattle.btree_node.specs.Layout.{first_layout, layout_of, record_at, place_width, sons_start, greatest_order, most_keys};
 ghost use Rattle.btree_node.specs.Lists.{Below, Ascends};
 ghost use Rattle.btree_node.specs.Spelling.{spelling, spelling_in, CanStand, CanStandIn};
 ghost use Rattle.btree_node.specs.Reading.{kind_at, count_at, place_at, element_in, elements_at, son_at, sons_at, sons_of_kind, kind_read, node_at, key_length, record_length, KeyLengths, RecordLengths, PassesBefore, FirstFault, FirstFaultIn};
@@ -8,7 +8,7 @@ ghost use Rattle.btree_node.specs.declared.node.Node.{Node};
 ghost use Rattle.btree_node.specs.declared.node.NodeFault.TheVariants.{NotZero};
 
 use crate::encoding::spell;
-use crate::layout::{FIRST_LAYOUT, Layout, RECORD_AT, SON_WIDTH};
+use crate::layout::{FIRST_LAYOUT, FIRST_VERSION, Layout, RECORD_AT, SECOND_LAYOUT, SON_WIDTH};
 use crate::node::{ELEMENT_ROOM, Node, NodeFault, NodeKind, SON_ROOM};
 use crate::part::{part_of, u16_of, u32_of};
 use crate::read_first::read_first;
@@ -60,7 +60,42 @@ fn decode_by_tests(page: &[u8; PAGE_WIDTH], k: u16, node: &mut Node) -> Result<(
         → IsOk result × (node.new ≡ n) }
     ensures fault { IfErr result (λ e. FirstFault page.now k e) }
 {
-    *node = decode_in(FIRST_LAYOUT, page, k)?;
+    *node = decode_in(SECOND_LAYOUT, page, k)?;
+    Ok(())
+}
+
+/// The node that the page spells in a file of the first version, in a tree of order `k`. Faults: those of
+/// `decode`, with RecordLength above 32.
+pub fn decode_old(page: &[u8; PAGE_WIDTH], k: u16) -> Result<Node, NodeFault>
+    requires { k ≤ greatest_order }
+    ensures found { IfOk result (λ n. CanStandIn first_layout n k
+        × (page.now ≡ spelling_in first_layout n k)) }
+    ensures only { (n : Node) → CanStandIn first_layout n k → page.now ≡ spelling_in first_layout n k
+        → result ≡ Ok n }
+    ensures fault { IfErr result (λ e. FirstFaultIn first_layout k page.now e) }
+{
+    decode_in(FIRST_LAYOUT, page, k)
+}
+
+/// The node that the page spells in a file of that version, into a node that there is: by `decode_old` for
+/// the first version, else by `decode_into`. After a fault the node may be any.
+pub fn decode_version(
+    version: u16,
+    page: &[u8; PAGE_WIDTH],
+    k: u16,
+    node: &mut Node,
+) -> Result<(), NodeFault>
+    requires { k ≤ greatest_order }
+    ensures found { OnOk result (CanStandIn (layout_of version) node.new k
+        × (page.now ≡ spelling_in (layout_of version) node.new k)) }
+    ensures only { (n : Node) → CanStandIn (layout_of version) n k
+        → page.now ≡ spelling_in (layout_of version) n k → IsOk result × (node.new ≡ n) }
+    ensures fault { IfErr result (λ e. FirstFaultIn (layout_of version) k page.now e) }
+{
+    if version != FIRST_VERSION {
+        return decode_into(page, k, node);
+    }
+    *node = decode_old(page, k)?;
     Ok(())
 }
 

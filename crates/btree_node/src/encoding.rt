@@ -6,7 +6,7 @@ ghost use Rattle.btree_node.specs.Layout.{place_width, greatest_order};
 ghost use Rattle.btree_node.specs.Lists.{Each};
 ghost use Rattle.btree_node.specs.Spelling.{head, place, sons_bytes, spelling, spelling_in, ElementFits, CanStand, CanStandIn};
 
-use crate::layout::{FIRST_LAYOUT, Layout};
+use crate::layout::{Layout, SECOND_LAYOUT};
 use crate::node::{Node, NodeKind};
 use crate::page_writer::PageWriter;
 use rec_types::{KEY_WIDTH, Key, PAGE_WIDTH, Record};
@@ -17,7 +17,7 @@ pub fn encode(node: &Node, k: u16) -> [u8; PAGE_WIDTH]
     requires stands { CanStand node.now k }
     ensures { result ≡ spelling node.now k }
 {
-    spell(FIRST_LAYOUT, node, k).finish()
+    spell(SECOND_LAYOUT, node, k).finish()
 }
 
 /// Writes the page that spells the node in a layout.

@@ -3,6 +3,8 @@ use thiserror::Error;
 /// What page 0 says of its file.
 #[derive(Clone, Copy, Debug, PartialEq, Eq)]
 pub struct Header {
+    /// The file version, 1 or 2.
+    pub version: u16,
     /// The order of the tree, 1 to 16.
     pub order: u16,
     /// How many pages the file has, page 0 included.

@@ -3,19 +3,16 @@ ghost use Rattle.btree_node.specs.Reading.{part};
 ghost use Rattle.btree_node.specs.HeaderSpelling.{magic, header_spelling, HeaderFits, header_at, state_at, HeaderPassesBefore, FirstHeaderFault, clean_state, writing_state};
 ghost use Rattle.btree_node.specs.declared.header.Header.{Header};
 ghost use Rattle.btree_node.specs.declared.header.HeaderFault.TheVariants.{BadHeader};
-ghost use Rattle.btree_node.specs.Layout.{IsOrder};
+ghost use Rattle.btree_node.specs.Layout.{second_version, IsVersion, IsOrder};
 
 use crate::header::{Header, HeaderFault};
-use crate::layout::GREATEST_ORDER;
+use crate::layout::{FIRST_VERSION, GREATEST_ORDER, SECOND_VERSION};
 use crate::page_writer::PageWriter;
 use crate::part::{part_of, u16_of, u32_of};
 use rec_types::PAGE_WIDTH;
 
 /// The text that a record file begins with.
 const MAGIC: [u8; 8] = *b"BMKRFILE";
-
-/// The file version.
-const VERSION: u16 = 1;
 
 /// The state of a file that was closed.
 const CLEAN: u8 = 1;
@@ -50,7 +47,7 @@ pub fn read_header(page: &[u8; PAGE_WIDTH]) -> Result<Header, HeaderFault>
     ensures fault { IfErr result (λ e. FirstHeaderFault page.now e) }
 {
     let header = header_of(page)?;
-    if write_header(&header, true) == *page {
+    if spell_header(&header, true) == *page {
         Ok(header)
     } else {
         Err(HeaderFault::BadHeader)
@@ -58,14 +55,22 @@ pub fn read_header(page: &[u8; PAGE_WIDTH]) -> Result<Header, HeaderFault>
 }
 
 /// The one page that spells the header, of a file that is closed or being written.
-#[tactic(auto, unfolding(crate::specs::HeaderSpelling::header_spelling, crate::specs::HeaderSpelling::header_bytes, crate::specs::HeaderSpelling::magic))]
 pub fn write_header(header: &Header, clean: bool) -> [u8; PAGE_WIDTH]
-    requires { IsOrder header.now.order }
+    requires order { IsOrder header.now.order }
+    requires version { header.now.version ≡ second_version }
+    ensures { result ≡ header_spelling header.now (if clean then clean_state else writing_state) }
+{
+    spell_header(header, clean)
+}
+
+/// The same of a header of any version.
+#[tactic(auto, unfolding(crate::specs::HeaderSpelling::header_spelling, crate::specs::HeaderSpelling::header_bytes, crate::specs::HeaderSpelling::magic))]
+fn spell_header(header: &Header, clean: bool) -> [u8; PAGE_WIDTH]
     ensures { result ≡ header_spelling header.now (if clean then clean_state else writing_state) }
 {
     let mut page = PageWriter::new();
     page.put(&MAGIC);
-    page.put_u16(VERSION);
+    page.put_u16(header.version);
     page.put_u16(header.order);
     page.put_u32(header.pages);
     page.put_u32(header.root);
@@ -105,7 +110,7 @@ fn header_of(page: &[u8; PAGE_WIDTH]) -> Result<Header, HeaderFault>
         return Err(HeaderFault::BadMagic);
     }
     let version = u16_of(page, VERSION_AT);
-    if version != VERSION {
+    if !is_version(version) {
         return Err(HeaderFault::BadVersion(version));
     }
     if !is_order(u16_of(page, ORDER_AT)) {
@@ -115,6 +120,13 @@ fn header_of(page: &[u8; PAGE_WIDTH]) -> Result<Header, HeaderFault>
         return Err(HeaderFault::NotClean);
     }
     Ok(fields_of(page))
+}
+
+/// Whether a file of that version is opened.
+fn is_version(version: u16) -> bool
+    ensures { IsTrue result ↔ IsVersion version }
+{
+    version == FIRST_VERSION || version == SECOND_VERSION
 }
 
 fn is_order(k: u16) -> bool
@@ -128,6 +140,7 @@ fn fields_of(page: &[u8; PAGE_WIDTH]) -> Header
     ensures { result ≡ header_at page.now }
 {
     Header {
+        version: u16_of(page, VERSION_AT),
         order: u16_of(page, ORDER_AT),
         pages: u32_of(page, PAGES_AT),
         root: u32_of(page, ROOT_AT),

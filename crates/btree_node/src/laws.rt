@@ -5,16 +5,18 @@ ghost use Rattle.btree_node.specs.Examples.{element, leaf, inner, leaves, inner_
 ghost use Rattle.btree_node.specs.Layout.{greatest_order};
 ghost use Rattle.btree_node.specs.Joined.{joined, half_of_both};
 ghost use Rattle.btree_node.specs.Lists.{Element};
-ghost use Rattle.btree_node.specs.Spelling.{spelling, CanStand};
+ghost use Rattle.btree_node.specs.Spelling.{spelling_in, CanStandIn};
 ghost use Rattle.btree_node.specs.HeaderSpelling.{header_spelling, HeaderFits};
 ghost use Rattle.btree_node.specs.declared.header.Header.{Header};
+ghost use Rattle.btree_node.specs.declared.layout.Layout.{Layout};
 ghost use Rattle.btree_node.specs.declared.node.Node.{Node};
 
-/// A page spells at most one node of an order: nodes that can stand in a page and have one spelling are
-/// equal.
+/// A page of a layout spells at most one node of an order: nodes that can stand in a page and have one
+/// spelling are equal.
 pub fn one_spelling()
-    ensures { (k : ℕ) (n m : Node) → k ≤ greatest_order → CanStand n k → CanStand m k
-        → spelling n k ≡ spelling m k → n ≡ m }
+    ensures { (layout : Layout) (k : ℕ) (n m : Node) → k ≤ greatest_order
+        → CanStandIn layout n k → CanStandIn layout m k
+        → spelling_in layout n k ≡ spelling_in layout m k → n ≡ m }
 {}
 
 /// A page spells at most one header, in one state.

@@ -23,8 +23,17 @@ pub struct Layout {
     pub record_width: usize,
 }
 
-/// The node pages of the first file version.
-pub const FIRST_LAYOUT: Layout = Layout {
+/// The number of the first file version, which is read.
+pub const FIRST_VERSION: u16 = 1;
+
+/// The number of the second file version, which is read and written.
+pub const SECOND_VERSION: u16 = 2;
+
+/// The node pages of the first file version, with records of up to 32 bytes.
+pub const FIRST_LAYOUT: Layout = Layout { record_width: 32 };
+
+/// The node pages of the second file version.
+pub const SECOND_LAYOUT: Layout = Layout {
     record_width: RECORD_WIDTH,
 };
 

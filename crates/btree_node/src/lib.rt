@@ -19,11 +19,11 @@ mod splitting;
 
 pub use brothers::{catenate, distribute};
 pub use changing::{insert_in, replace_in};
-pub use decoding::{decode, decode_into};
+pub use decoding::{decode, decode_into, decode_old, decode_version};
 pub use encoding::encode;
 pub use header::{Header, HeaderFault};
 pub use header_page::{read_header, write_header};
-pub use layout::GREATEST_ORDER;
+pub use layout::{FIRST_VERSION, GREATEST_ORDER, SECOND_VERSION};
 pub use node::{ELEMENT_ROOM, Node, NodeFault, NodeKind, SON_ROOM};
 pub use searching::place_of;
 pub use spelt::{count_in, key_in, kind_in, place_in, record_in, son_in};

@@ -1,5 +1,5 @@
 ghost use Rattle.std.specs.Prelude.{◌≡◌, ℕ, ◌+◌, ◌-◌, ◌*◌, ◌<◌, ◌≤◌, List, [], ◌∷◌, ◌++◌, IsTrue, length, drop};
-ghost use Rattle.btree_node.specs.Layout.{first_layout, place_width, place_start, sons_start, greatest_order, most_keys};
+ghost use Rattle.btree_node.specs.Layout.{second_layout, place_width, place_start, sons_start, greatest_order, most_keys};
 ghost use Rattle.btree_node.specs.Lists.{Ascends};
 ghost use Rattle.btree_node.specs.Reading.{part, place_at, elements_at, sons_of_kind, node_at, IsZero, IsGoodPlace, Passes, PassesBefore};
 ghost use Rattle.btree_node.specs.declared.node.NodeFault.TheVariants.{NotZero};
@@ -7,21 +7,21 @@ ghost use Rattle.btree_node.specs.declared.node.NodeFault.TheVariants.{NotZero};
 use crate::decoding::{
     count_fits, count_of, is_below, kind_of, place_of_page, push_sons, sons_stand,
 };
-use crate::layout::{FIRST_LAYOUT, RECORD_AT, SON_WIDTH};
+use crate::layout::{RECORD_AT, SECOND_LAYOUT, SON_WIDTH};
 use crate::node::{ELEMENT_ROOM, Node, NodeKind, SON_ROOM};
 use crate::part::part_of;
 use arrayvec::ArrayVec;
 use rec_types::{Key, PAGE_WIDTH, Record};
 
-/// Whether the page of the first file version passes every test; the node is then what it spells. It
+/// Whether the page of the second file version passes every test; the node is then what it spells. It
 /// looks at each byte once, and tells no fault: where it answers false, the tests one by one tell which.
 /// Its widths are constants, so that fields are copied by moves.
 #[tactic(auto, unfolding(crate::specs::Reading::node_at))]
 pub(crate) fn read_first(page: &[u8; PAGE_WIDTH], k: u16, node: &mut Node) -> bool
     requires order { k ≤ greatest_order }
-    ensures before { IsTrue result → PassesBefore first_layout k page.now NotZero }
-    ensures padding { IsTrue result → Passes first_layout k page.now NotZero }
-    ensures value { IsTrue result → node.new ≡ node_at first_layout k page.now }
+    ensures before { IsTrue result → PassesBefore second_layout k page.now NotZero }
+    ensures padding { IsTrue result → Passes second_layout k page.now NotZero }
+    ensures value { IsTrue result → node.new ≡ node_at second_layout k page.now }
 {
     let Some(kind) = kind_of(page) else {
         return false;
@@ -50,18 +50,18 @@ fn fill_elements(
     elements: &mut ArrayVec<(Key, Record), ELEMENT_ROOM>,
 ) -> bool
     requires { count ≤ most_keys }
-    ensures items { IsTrue result → elements.new.items ≡ elements_at first_layout page.now count }
+    ensures items { IsTrue result → elements.new.items ≡ elements_at second_layout page.now count }
     ensures ascends { IsTrue result → Ascends elements.new.items }
     ensures good { IsTrue result
-        → (i : ℕ) → i < count → IsGoodPlace (place_at first_layout page.now i) }
+        → (i : ℕ) → i < count → IsGoodPlace (place_at second_layout page.now i) }
 {
     elements.clear();
     for i in 0..count {
-        let place = place_of_page(FIRST_LAYOUT, page, i);
+        let place = place_of_page(SECOND_LAYOUT, page, i);
         let Some(key) = Key::in_field(&sixteen(place, 1), place[0]) else {
             return false;
         };
-        let Some(value) = Record::in_field(&thirty_two(place, RECORD_AT + 1), place[RECORD_AT])
+        let Some(value) = Record::in_field(&a_hundred(place, RECORD_AT + 1), place[RECORD_AT])
         else {
             return false;
         };
@@ -94,13 +94,13 @@ pub(crate) fn sixteen(bytes: &[u8], at: usize) -> [u8; 16]
     copy
 }
 
-/// A copy of the thirty-two bytes from a place on.
-pub(crate) fn thirty_two(bytes: &[u8], at: usize) -> [u8; 32]
-    requires { at + 32 ≤ length bytes.now }
-    ensures { result ≡ part at 32 bytes.now }
+/// A copy of the hundred bytes from a place on.
+pub(crate) fn a_hundred(bytes: &[u8], at: usize) -> [u8; 100]
+    requires { at + 100 ≤ length bytes.now }
+    ensures { result ≡ part at 100 bytes.now }
 {
-    let mut copy = [0; 32];
-    copy.copy_from_slice(part_of(bytes, at, 32));
+    let mut copy = [0; 100];
+    copy.copy_from_slice(part_of(bytes, at, 100));
     copy
 }
 
@@ -113,12 +113,12 @@ fn fill_sons(
 )
     requires order { k ≤ greatest_order }
     requires count { count ≤ most_keys }
-    ensures { sons.new.items ≡ sons_of_kind kind first_layout k page.now count }
+    ensures { sons.new.items ≡ sons_of_kind kind second_layout k page.now count }
 {
     sons.clear();
     match kind {
         NodeKind::Leaf => {}
-        NodeKind::Inner => push_sons(FIRST_LAYOUT, page, k, count + 1, sons),
+        NodeKind::Inner => push_sons(SECOND_LAYOUT, page, k, count + 1, sons),
     }
 }
 
@@ -135,13 +135,13 @@ fn rest_is_zero(page: &[u8; PAGE_WIDTH], k: u16, count: usize, sons: usize) -> b
     requires order { k ≤ greatest_order }
     requires count { count ≤ 2 * k }
     requires sons { sons ≤ most_keys + 1 }
-    ensures places { IsTrue result → IsZero (part (place_start first_layout count)
-        (place_width first_layout * (2 * k - count)) page.now) }
+    ensures places { IsTrue result → IsZero (part (place_start second_layout count)
+        (place_width second_layout * (2 * k - count)) page.now) }
     ensures rest { IsTrue result
-        → IsZero (drop (sons_start first_layout k + 4 * sons) page.now) }
+        → IsZero (drop (sons_start second_layout k + 4 * sons) page.now) }
 {
-    let places = FIRST_LAYOUT.place_start(count);
-    let start = FIRST_LAYOUT.sons_start(k);
+    let places = SECOND_LAYOUT.place_start(count);
+    let start = SECOND_LAYOUT.sons_start(k);
     let end = start + SON_WIDTH * sons;
     is_zero(part_of(page, places, start - places)) && is_zero(part_of(page, end, PAGE_WIDTH - end))
 }

@@ -6,10 +6,10 @@ ghost use Rattle.btree_node.specs.declared.node.Node.{Node};
 ghost use Rattle.btree_node.specs.Layout.{greatest_order, most_keys};
 
 use crate::decoding::{count_of, is_below, kind_of, place_of_page};
-use crate::layout::{FIRST_LAYOUT, RECORD_AT, SON_WIDTH};
+use crate::layout::{RECORD_AT, SECOND_LAYOUT, SON_WIDTH};
 use crate::node::NodeKind;
 use crate::part::u32_of;
-use crate::read_first::{sixteen, thirty_two};
+use crate::read_first::{a_hundred, sixteen};
 use rec_types::{Key, PAGE_WIDTH, Record};
 use std::cmp::Ordering;
 
@@ -38,7 +38,7 @@ pub fn key_in(page: &[u8; PAGE_WIDTH], k: u16, i: usize) -> Key
     ensures { (node : Node) (other : Element) → CanStand node k → page.now ≡ spelling node k
         → result ≡ (slice_index_or node.elements.items i other).0 }
 {
-    let place = place_of_page(FIRST_LAYOUT, page, i);
+    let place = place_of_page(SECOND_LAYOUT, page, i);
     Key::in_field(&sixteen(place, 1), place[0]).unwrap()
 }
 
@@ -50,8 +50,8 @@ pub fn record_in(page: &[u8; PAGE_WIDTH], k: u16, i: usize) -> Record
     ensures { (node : Node) (other : Element) → CanStand node k → page.now ≡ spelling node k
         → result ≡ (slice_index_or node.elements.items i other).1 }
 {
-    let place = place_of_page(FIRST_LAYOUT, page, i);
-    Record::in_field(&thirty_two(place, RECORD_AT + 1), place[RECORD_AT]).unwrap()
+    let place = place_of_page(SECOND_LAYOUT, page, i);
+    Record::in_field(&a_hundred(place, RECORD_AT + 1), place[RECORD_AT]).unwrap()
 }
 
 /// Son j of the node that the page spells, in a tree of order `k`, where j is at most its number of
@@ -62,7 +62,7 @@ pub fn son_in(page: &[u8; PAGE_WIDTH], k: u16, j: usize) -> u32
     ensures { (node : Node) (other : ℕ) → CanStand node k → page.now ≡ spelling node k
         → j < length node.sons.items → result ≡ slice_index_or node.sons.items j other }
 {
-    u32_of(page, FIRST_LAYOUT.sons_start(k) + SON_WIDTH * j)
+    u32_of(page, SECOND_LAYOUT.sons_start(k) + SON_WIDTH * j)
 }
 
 /// The place of the key among the keys of the node that the page spells, in a tree of order `k`, and

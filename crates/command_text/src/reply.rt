@@ -35,8 +35,8 @@ pub enum Reply {
 
 const ESCAPED: AsciiSet = ascii_set!(CONTROLS.add(b' ').add(b'%'));
 
-// A reply of one line has at most 101 bytes: `ok =`, 32 bytes in escapes, and the end.
-const LINE_ROOM: usize = 101;
+// A reply of one line has at most 305 bytes: `ok =`, 100 bytes in escapes, and the end.
+const LINE_ROOM: usize = 305;
 
 // Appends bytes, escaped.
 fn push_escaped(text: &mut String, bytes: &[u8]) -> Result<(), AllocError>

@@ -10,8 +10,8 @@ key_written bytes front is some most =
     let cells = written 16 bytes front is most in
     record { some = some; most = most; whole = ap length cells ∙ length-padded 16 bytes most; zeros = padded-front 16 bytes _ cells }
 
--- bytes copied to the front of thirty-two zeros are a record's fields
-pub record_written : (bytes front : List ℕ) → front ≡ bytes → length bytes ≤ 32 → IsRecord record { bytes = front ++ drop (length bytes) (replicate 32 0); len = length bytes }
+-- bytes copied to the front of a hundred zeros are a record's fields
+pub record_written : (bytes front : List ℕ) → front ≡ bytes → length bytes ≤ 100 → IsRecord record { bytes = front ++ drop (length bytes) (replicate 100 0); len = length bytes }
 record_written bytes front is most =
-    let cells = written 32 bytes front is most in
-    record { most = most; whole = ap length cells ∙ length-padded 32 bytes most; zeros = padded-front 32 bytes _ cells }
+    let cells = written 100 bytes front is most in
+    record { most = most; whole = ap length cells ∙ length-padded 100 bytes most; zeros = padded-front 100 bytes _ cells }

@@ -1,4 +1,4 @@
--- Zeros behind a place: by a number, in two halves, and as padding.
+-- Zeros behind a place: by a number, sixteen at a time, and as padding.
 use Rattle.std.proofs.Common.{◌≡◌, ℕ, zero, suc, ◌+◌, ◌-◌, ◌*◌, ◌/◌, ◌^◌, ◌<◌, ◌≤◌, ◌↔◌, eqb, IsTrue, List, [], ◌∷◌, ◌++◌, length, take, drop, replicate, slice_index, refl, ap, sym, ◌∙◌, inl, inr, arith}
 use Rattle.std.proofs.lemmas.Bool.{cases_lt, eqb-true}
 use Rattle.std.proofs.lemmas.List.{get_or-drop, get_or-take, get_or_past, length-drop, length-take, take-append-drop}
@@ -68,48 +68,24 @@ zero_from_test len number xs is bytes size few =
       λ zeros. ap (λ (n : ℕ). eqb n 0) (same ∙ both.1 zeros),
     )
 
--- a byte of one half
-byte_of_half : (at i : ℕ) (xs : List ℕ) → i < 16 → slice_index (take 16 (drop at xs)) i ≡ slice_index xs (at + i)
-byte_of_half at i xs low = get_or-take 16 (drop at xs) i 0 low ∙ get_or-drop at xs i 0
+-- a byte among sixteen
+byte_among : (at i : ℕ) (xs : List ℕ) → i < 16 → slice_index (take 16 (drop at xs)) i ≡ slice_index xs (at + i)
+byte_among at i xs low = get_or-take 16 (drop at xs) i 0 low ∙ get_or-drop at xs i 0
 
-byte_of_front : (i : ℕ) (xs : List ℕ) → i < 16 → slice_index (take 16 (drop 0 xs)) i ≡ slice_index xs i
-byte_of_front i xs low = let same : 0 + i ≡ i = omega arith in byte_of_half 0 i xs low ∙ ap (slice_index xs) same
+past_sixteen : (at i : ℕ) (xs : List ℕ) → 16 ≤ i → slice_index (take 16 (drop at xs)) i ≡ 0
+past_sixteen at i xs past = get_or_past (take 16 (drop at xs)) i 0 (omega (arith, past, length-take {A = ℕ}))
 
-past_half : (at i : ℕ) (xs : List ℕ) → 16 ≤ i → slice_index (take 16 (drop at xs)) i ≡ 0
-past_half at i xs past = get_or_past (take 16 (drop at xs)) i 0 (omega (arith, past, length-take {A = ℕ}))
-
--- zeros behind a place of the second half
-pub zero_in_back : (len : ℕ) (xs : List ℕ) → length xs ≡ 32 → 16 ≤ len → IsZeroFrom (len - 16) (take 16 (drop 16 xs)) ↔ IsZeroFrom len xs
-zero_in_back len xs size far = (
-  λ zeros i low. elim (cases_lt i 32) [
-    | inl within ↦
-        let moved : 16 + (i - 16) ≡ i = omega (arith, far, low) in
-        sym (byte_of_half 16 (i - 16) xs (omega (arith, within, far, low)) ∙ ap (slice_index xs) moved) ∙ zeros (i - 16) (omega (arith, far, low))
-    | inr past ↦ get_or_past xs i 0 (omega (arith, past, size))
-  ],
-  λ zeros i low. elim (cases_lt i 16) [
-    | inl within ↦ byte_of_half 16 i xs within ∙ zeros (16 + i) (omega (arith, low, far))
-    | inr past ↦ past_half 16 i xs past
+-- zeros behind a place, among sixteen of the bytes
+pub zero_in_sixteen : (len at rest : ℕ) (xs some : List ℕ) → rest ≡ len - at → some ≡ take 16 (drop at xs) → IsZeroFrom rest some ↔ ((i : ℕ) → at ≤ i → i < at + 16 → len ≤ i → slice_index xs i ≡ 0)
+zero_in_sixteen len at rest xs some rest_is some_is = (
+  λ zeros i from to low.
+      let moved : at + (i - at) ≡ i = omega (arith, from) in
+      sym (ap (λ (bytes : List ℕ). slice_index bytes (i - at)) some_is ∙ byte_among at (i - at) xs (omega (arith, from, to)) ∙ ap (slice_index xs) moved) ∙ zeros (i - at) (omega (arith, from, low, rest_is)),
+  λ zeros i low. ap (λ (bytes : List ℕ). slice_index bytes i) some_is ∙ elim (cases_lt i 16) [
+    | inl within ↦ byte_among at i xs within ∙ zeros (at + i) (omega arith) (omega (arith, within)) (omega (arith, low, rest_is))
+    | inr past ↦ past_sixteen at i xs past
   ],
 )
-
--- zeros behind a place of the first half
-pub zero_in_halves : (len : ℕ) (xs : List ℕ) → length xs ≡ 32 → len ≤ 16
-    → (IsZeroFrom len (take 16 (drop 0 xs)) × IsZeroFrom 0 (take 16 (drop 16 xs))) ↔ IsZeroFrom len xs
-zero_in_halves len xs size near =
-    let back = zero_in_back 16 xs size (omega arith) in (
-      λ both i low. elim (cases_lt i 16) [
-        | inl within ↦ sym (byte_of_front i xs within) ∙ both.0 i low
-        | inr past ↦ back.0 both.1 i past
-      ],
-      λ zeros. (
-        λ i low. elim (cases_lt i 16) [
-          | inl within ↦ byte_of_front i xs within ∙ zeros i low
-          | inr past ↦ past_half 0 i xs past
-        ],
-        back.1 (λ i low. zeros i (omega (arith, low, near))),
-      ),
-    )
 
 -- a list of zeros
 zeros_are : (xs : List ℕ) → IsZeroFrom 0 xs → xs ≡ replicate (length xs) 0

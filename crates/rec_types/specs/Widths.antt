@@ -7,7 +7,7 @@ key_width = 16
 
 -- the bytes that a record may take
 abbrev pub widest_record : ℕ
-widest_record = 32
+widest_record = 100
 
 -- the bytes of a page
 abbrev pub page_width : ℕ

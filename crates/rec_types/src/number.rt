@@ -2,6 +2,7 @@ ghost use Rattle.std.specs.Prelude.{◌≡◌, ℕ, ◌+◌, ◌<◌, ◌≤◌,
 ghost use Rattle.byteorder.specs.Endian.{big_number};
 ghost use Rattle.rec_types.specs.Padded.{IsZeroFrom};
 
+use crate::widths::RECORD_WIDTH;
 use byteorder::{BigEndian, ByteOrder, LittleEndian};
 
 /// The bytes as one number, the first byte the highest: two keys are compared by one comparison of
@@ -23,22 +24,26 @@ pub(crate) fn is_zero_from(bytes: &[u8; 16], len: u8) -> bool
     LittleEndian::read_u128(bytes) >> (8 * len as u32) == 0
 }
 
-/// Whether the bytes are zero from place `len` on.
-pub(crate) fn is_zero_behind(bytes: &[u8; 32], len: u8) -> bool
+/// Whether the bytes are zero from place `len` on. Sixteen are looked at at a time, and the last sixteen
+/// begin within those before them.
+pub(crate) fn is_zero_behind(bytes: &[u8; RECORD_WIDTH], len: u8) -> bool
     ensures { IsTrue result ↔ IsZeroFrom len bytes.now }
 {
-    let back = half(bytes, 16);
-    if len >= 16 {
-        return is_zero_from(&back, len - 16);
+    for i in 0..6 {
+        let at = 16 * i;
+        if !is_zero_from(&sixteen(bytes, at as usize), len.saturating_sub(at)) {
+            return false;
+        }
     }
-    is_zero_from(&half(bytes, 0), len) && is_zero_from(&back, 0)
+    is_zero_from(&sixteen(bytes, 84), len.saturating_sub(84))
 }
 
-fn half(bytes: &[u8; 32], at: usize) -> [u8; 16]
-    requires { at ≤ 16 }
+/// A copy of the sixteen bytes from a place on.
+fn sixteen(bytes: &[u8; RECORD_WIDTH], at: usize) -> [u8; 16]
+    requires { at ≤ 84 }
     ensures { result ≡ take 16 (drop at bytes.now) }
 {
-    let mut half = [0; 16];
-    half.copy_from_slice(&bytes[at..at + 16]);
-    half
+    let mut copy = [0; 16];
+    copy.copy_from_slice(&bytes[at..at + 16]);
+    copy
 }

@@ -11,11 +11,11 @@ use thiserror::Error;
 /// Why bytes are no record.
 #[derive(Clone, Copy, Debug, PartialEq, Eq, Error)]
 pub enum RecordFault {
-    #[error("a record has at most 32 bytes")]
+    #[error("a record has at most 100 bytes")]
     TooLong,
 }
 
-/// A record of 0 to 32 bytes. Contracts see its bytes.
+/// A record of 0 to 100 bytes. Contracts see its bytes.
 #[derive(Clone, Copy, Debug)]
 pub struct Record {
     bytes: [u8; RECORD_WIDTH],

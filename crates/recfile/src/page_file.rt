@@ -1,7 +1,8 @@
-ghost use Rattle.std.specs.Prelude.{◌≡◌, ◌≤◌, None, IsTrue, IfErr, IfOk, IfSome, OnOk, MatchOption, if◌then◌else◌};
+ghost use Rattle.std.specs.Prelude.{◌≡◌, ◌≤◌, ℕ, None, IsTrue, IfErr, IfOk, IfSome, OnOk, MatchOption, if◌then◌else◌};
 ghost use Rattle.std.specs.FinMap as maps;
 ghost use Rattle.rec_types.specs.Contents.{Contents};
 ghost use Rattle.rec_types.specs.Table.{counted, no_damage};
+ghost use Rattle.btree_node.specs.Layout.{second_version};
 ghost use Rattle.btree_insert.specs.declared.tree.Tree.{Tree as TreeValue};
 ghost use Rattle.btree_delete.specs.CleanFile.{IsFirst, IsOutside, is_device_fault};
 ghost use Rattle.btree_delete.specs.TableView.{IsClosed, table_contents};
@@ -27,7 +28,8 @@ pub fn create_in<S: Store>(
     limits: Limits,
 ) -> Result<S, FileFault>
     ensures made { IsTrue (S.steady store) → IfOk result (λ s. (tree : TreeValue)
-        × (tree.order ≡ order) × IsClosed (S.pages s) (S.tail s) tree maps.empty) }
+        × (tree.order ≡ order)
+        × IsClosed second_version (S.pages s) (S.tail s) tree maps.empty) }
     ensures fault { IfErr result (IsMakingFault (S.pages store) (S.tail store) order) }
 {
     let table = match TreeTable::create(alloc, store, order, limits) {
@@ -49,12 +51,14 @@ pub fn check_in<S: Store, W: Write>(
     out: &mut W,
 ) -> Result<(), OpenFault>
     ensures closed { IsTrue (S.steady store) → OnOk result ((tree : TreeValue)
-        × (contents : Contents) × IsClosed (S.pages store) (S.tail store) tree contents
+        × (contents : Contents) × (version : ℕ)
+        × IsClosed version (S.pages store) (S.tail store) tree contents
         × (tree.count ≤ limits.records)) }
     ensures first { IsTrue (S.steady store)
         → IfErr result (IsFirst (S.pages store) (S.tail store) limits.records) }
     ensures opens { IsTrue (S.steady store) → (tree : TreeValue) → (contents : Contents)
-        → IsClosed (S.pages store) (S.tail store) tree contents → tree.count ≤ limits.records
+        → (version : ℕ) → IsClosed version (S.pages store) (S.tail store) tree contents
+        → tree.count ≤ limits.records
         → IfErr result IsOutside }
 {
     let table = match TreeTable::open_from(alloc, store, limits) {
@@ -88,7 +92,8 @@ fn close_file<S: Store, E: Write>(
     requires ended { maps.len file.file.txs ≡ 0 }
     ensures opened { result.unopened ≡ None }
     ensures closed { IsTrue file.table.pages.steady → MatchOption result.store (result.status ≡ 1)
-        (λ s. IsClosed (S.pages s) (S.tail s) file.table.tree (table_contents file.table)
+        (λ s. IsClosed second_version (S.pages s) (S.tail s) file.table.tree
+        (table_contents file.table)
         × (result.status ≡ (if script_fault then 3 else 0))) }
 {
     let table = file.into_table().unwrap();
@@ -125,7 +130,8 @@ fn run_opened<S: Store, R: Read, W: Write, E: Write>(
         (W.contents out.old) (W.contents out.new)
         (opened_file (table_contents table) limits table.pages.failures)
         (λ records good. MatchOption result.store (result.status ≡ 1)
-        (λ s. ((tree : TreeValue) × IsClosed (S.pages s) (S.tail s) tree records)
+        (λ s. ((tree : TreeValue)
+        × IsClosed second_version (S.pages s) (S.tail s) tree records)
         × (result.status ≡ good))) result.status }
 {
     let mut file = RecordFile::new(alloc, table, limits);
@@ -161,12 +167,14 @@ pub fn run_in<S: Store, R: Read, W: Write, E: Write>(
     ensures first { IsTrue (S.steady store) → IfSome result.unopened
         (IsFirst (S.pages store) (S.tail store) limits.records) }
     ensures session { IsTrue (S.steady store) → (tree : TreeValue) → (contents : Contents)
-        → IsClosed (S.pages store) (S.tail store) tree contents → tree.count ≤ limits.records
+        → (version : ℕ) → IsClosed version (S.pages store) (S.tail store) tree contents
+        → tree.count ≤ limits.records
         → MatchOption result.unopened (EndsFile (R.remaining reader.old) (R.remaining reader.new)
         (W.contents out.old) (W.contents out.new)
         (opened_file contents limits (S.failures store))
         (λ records good. MatchOption result.store (result.status ≡ 1)
-        (λ s. ((tree : TreeValue) × IsClosed (S.pages s) (S.tail s) tree records)
+        (λ s. ((tree : TreeValue)
+        × IsClosed second_version (S.pages s) (S.tail s) tree records)
         × (result.status ≡ good))) result.status) IsOutside }
 {
     match TreeTable::open_from(alloc, store, limits) {

@@ -1,4 +1,4 @@
-use Rattle.std.proofs.Common.{◌≡◌, ℕ, ◌≤◌, List, IsTrue, ap, sym, ◌∙◌, subst, arith, refl}
+use Rattle.std.proofs.Common.{◌≡◌, ℕ, ◌≤◌, List, length, IsTrue, ap, sym, ◌∙◌, subst, arith, refl}
 use Rattle.std.specs.BTreeSet.{contains}
 use Rattle.std.specs.BTreeMap.{is_at}
 use Rattle.std.specs.List.{list_any}
@@ -9,7 +9,10 @@ use Rattle.btree_node.specs.Lists.{Element}
 use Rattle.btree_node.specs.declared.header.Header.{Header}
 use Rattle.btree_insert.specs.declared.tree.Tree.{Tree}
 use Rattle.btree_delete.specs.CleanFile.{in_file, HasTree, IsCleanFile, FailsTree}
-use Rattle.btree_delete.proofs.ClosedFileLemmas.{shown_as, file_map, opened, fails_first, the_header, tree_there}
+use Rattle.btree_delete.proofs.ClosedFileLemmas.{file_map, opened, fails_first, the_header, tree_there}
+use Rattle.btree_insert.specs.Spelt.{AreSpeltIn}
+use Rattle.btree_delete.specs.Survey.{stored_page, AreFresh}
+use Rattle.btree_delete.proofs.FreedPageLemmas.{spelt_left}
 use Rattle.btree_delete.proofs.open_file.open_file.Given as given
 use Rattle.btree_delete.proofs.open_file.open_file.Goals as goal
 use Rattle.btree_delete.proofs.open_file.open_file.Goals.{After-records}
@@ -22,6 +25,16 @@ module _ (g : given.Over) (c : After-records g) where
   map_is : at c.new-pages.result.pages ≡ in_file stored
   map_is = file_map stored (g.S.StoreState.pages c.check_file.new.store) c.new-pages.result.pages c.in-Ok.header.pages (contains nat_cmp c.new.result) c.check_file.ensures.stays.pages c.in-Ok.ensures.long.0 c.new-pages.ensures.count c.new-pages.ensures.pages
       (λ n. ap (λ (keys : List ℕ). list_any (is_at (nat_cmp n)) keys) c.new.ensures.empty)
+
+  stored_is : c.new-pages.result.stored ≡ stored
+  stored_is = ap (λ (v : PagesView). v.stored) c.new-pages.ensures.store ∙ c.check_file.ensures.stays.pages
+
+  fresh : AreFresh c.new-pages.result
+  fresh = record {
+    whole = c.new-pages.ensures.count ∙ c.in-Ok.ensures.long.0 ∙ ap (λ (xs : List (List ℕ)). length xs) (sym stored_is);
+    same = λ n. ap (λ (f : PageMap). f n) map_is ∙ ap (λ (xs : List (List ℕ)). in_file xs n) (sym stored_is);
+    none = c.new-pages.ensures.in_memory;
+  }
 
   stays_steady : IsTrue (g.S.StoreState.steady c.args.store) → IsTrue c.new-pages.result.steady
   stays_steady steady = ap (λ (v : PagesView). v.steady) c.new-pages.ensures.store ∙ c.check_file.ensures.stays.steady ∙ steady
@@ -37,31 +50,46 @@ module _ (g : given.Over) (c : After-records g) where
 pub returns-in-Err-clause-fault : goal.returns-in-Err-clause-fault
 returns-in-Err-clause-fault g c = λ steady. c.in-Err.ensures.fault steady c.args.limits.records
 
-pub returns-in-Ok-measured-clause-found : goal.returns-in-Ok-measured-clause-found
-returns-in-Ok-measured-clause-found g c = λ steady.
-    let place = (goal.at.returns-in-Ok-measured-clause-found g c).After-records in
-    let kept = c.into_store-store.ensures.pages ∙ ap (λ (v : PagesView). v.stored) c.measure_file-measured.ensures.unchanged ∙ ap (λ (v : PagesView). v.stored) c.new-pages.ensures.store ∙ c.check_file.ensures.stays.pages in
-    opened (stored g place) (g.S.StoreState.tail c.args.store) c.args.limits.records c.in-Ok.header c.new-pages.result.pages c.new-in-Ok-measured.result c.in-Ok-measured.tree (contains nat_cmp c.in-Ok-measured.free) (g.S.StoreState.reads c.args.store) c.new-pages.result.reads c.measure_file-measured.new.pages.reads
-    (c.in-Ok.ensures.found steady) (map_is g place) (c.new-pages.ensures.count ∙ c.in-Ok.ensures.long.0) (c.in-Ok-measured.ensures.found (stays_steady g place steady)) (c.in-Ok-measured.ensures.count.0, omega (arith, c.in-Ok-measured.ensures.count.1, c.records.ensures.value))
-    (c.new-in-Ok-measured.ensures.count ∙ c.in-Ok.ensures.long.0)
-    (λ n low. c.new-in-Ok-measured.ensures.pages n (omega (arith, low, c.in-Ok.ensures.long.0)) ∙ ap (λ (xs : List (List ℕ)). shown_as xs (contains nat_cmp c.in-Ok-measured.free) n) kept)
-    (ap (λ (v : PagesView). v.reads) c.new-pages.ensures.store ∙ c.in-Ok.ensures.reads refl) (ap (λ (v : PagesView). v.reads) c.new-in-Ok-measured.ensures.store ∙ c.into_store-store.ensures.reads)
+pub measure_file-requires-clause-fresh : goal.measure_file-requires-clause-fresh
+measure_file-requires-clause-fresh g c = fresh g (goal.at.measure_file-requires-clause-fresh g c).After-records
 
-pub returns-in-Ok-measured-clause-exact : goal.returns-in-Ok-measured-clause-exact
-returns-in-Ok-measured-clause-exact g c = λ steady h tree es us clean few.
-    let place = (goal.at.returns-in-Ok-measured-clause-exact g c).After-records in
+pub without_free-requires-clause-same : goal.without_free-requires-clause-same
+without_free-requires-clause-same g c = λ other n.
+    let reads = c.measure_file.ensures.same other in
+    ap (λ (v : PagesView). at v.pages n) reads ∙ (fresh g (goal.at.without_free-requires-clause-same g c).After-records).same n ∙ sym (ap (λ (v : PagesView). stored_page v n) reads)
+
+pub returns-in_ok-without_free-in-Ok-measure_file-clause-found : goal.returns-in_ok-without_free-in-Ok-measure_file-clause-found
+returns-in_ok-without_free-in-Ok-measure_file-clause-found g c = λ steady.
+    let place = (goal.at.returns-in_ok-without_free-in-Ok-measure_file-clause-found g c).After-records in
+    let rest = c.in_ok-without_free-in-Ok-measure_file.ensures in
+    let kept = ap (λ (v : PagesView). v.stored) c.measure_file.ensures.unchanged ∙ stored_is g place in
+    opened (stored g place) (g.S.StoreState.tail c.args.store) c.args.limits.records c.in-Ok.header c.new-pages.result.pages c.measure_file.new.pages c.in_ok-without_free-in-Ok-measure_file.field-0 c.in-Ok-measure_file.tree (contains nat_cmp c.in-Ok-measure_file.free) (g.S.StoreState.reads c.args.store) c.new-pages.result.reads c.measure_file.new.pages.reads
+    (c.in-Ok.ensures.found steady) (map_is g place) (c.new-pages.ensures.count ∙ c.in-Ok.ensures.long.0) c.in-Ok.ensures.order.1 (c.in-Ok-measure_file.ensures.found (stays_steady g place steady)) (c.in-Ok-measure_file.ensures.count.0, omega (arith, c.in-Ok-measure_file.ensures.count.1, c.records.ensures.value))
+    kept (ap (λ (v : PagesView). v.stored) rest.rest ∙ kept) (c.in-Ok-measure_file.ensures.respelt (stays_steady g place steady)) rest.pages c.without_free.ensures.header
+    (rest.count ∙ c.in-Ok-measure_file.ensures.whole ∙ ap (λ (xs : List (List ℕ)). length xs) kept) rest.changed
+    (ap (λ (v : PagesView). v.reads) c.new-pages.ensures.store ∙ c.in-Ok.ensures.reads refl) (ap (λ (v : PagesView). v.reads) rest.rest)
+
+pub returns-in_ok-without_free-in-Ok-measure_file-clause-exact : goal.returns-in_ok-without_free-in-Ok-measure_file-clause-exact
+returns-in_ok-without_free-in-Ok-measure_file-clause-exact g c = λ steady h tree es us clean few.
+    let place = (goal.at.returns-in_ok-without_free-in-Ok-measure_file-clause-exact g c).After-records in
     let (there, count, low) = clean_tree g place steady h tree es us clean few in
-    c.in-Ok-measured.ensures.exact (stays_steady g place steady) tree es us there count low
+    c.in-Ok-measure_file.ensures.exact (stays_steady g place steady) tree es us there count low
 
-pub returns-in-Err-measured-clause-exact : goal.returns-in-Err-measured-clause-exact
-returns-in-Err-measured-clause-exact g c = λ steady h tree es us clean few.
-    let place = (goal.at.returns-in-Err-measured-clause-exact g c).After-records in
+pub returns-in_ok-without_free-in-Ok-measure_file-clause-spelt : goal.returns-in_ok-without_free-in-Ok-measure_file-clause-spelt
+returns-in_ok-without_free-in-Ok-measure_file-clause-spelt g c =
+    let rest = c.in_ok-without_free-in-Ok-measure_file.ensures in
+    subst (λ (k : ℕ). AreSpeltIn k c.in_ok-without_free-in-Ok-measure_file.field-0) (sym c.in-Ok-measure_file.ensures.small.0)
+    (spelt_left c.in-Ok.header.order c.measure_file.new.pages c.in_ok-without_free-in-Ok-measure_file.field-0 (contains nat_cmp c.in-Ok-measure_file.free) rest.in_memory rest.pages c.in-Ok-measure_file.ensures.spelt)
+
+pub returns-in-Err-measure_file-clause-exact : goal.returns-in-Err-measure_file-clause-exact
+returns-in-Err-measure_file-clause-exact g c = λ steady h tree es us clean few.
+    let place = (goal.at.returns-in-Err-measure_file-clause-exact g c).After-records in
     let (there, count, low) = clean_tree g place steady h tree es us clean few in
-    c.in-Err-measured.ensures.exact (stays_steady g place steady) tree es us there count low
+    c.in-Err-measure_file.ensures.exact (stays_steady g place steady) tree es us there count low
 
-pub returns-in-Err-measured-clause-fault : goal.returns-in-Err-measured-clause-fault
-returns-in-Err-measured-clause-fault g c = λ steady.
-    let place = (goal.at.returns-in-Err-measured-clause-fault g c).After-records in
-    let fails = c.in-Err-measured.ensures.fault (stays_steady g place steady) in
-    fails_first (stored g place) (g.S.StoreState.tail c.args.store) c.args.limits.records c.in-Ok.header c.in-Err-measured.fault (c.in-Ok.ensures.found steady)
-    (subst (λ (limit : ℕ). FailsTree (in_file (stored g place)) c.in-Ok.header limit c.in-Err-measured.fault) c.records.ensures.value (subst (λ (f : PageMap). FailsTree f c.in-Ok.header c.records.result c.in-Err-measured.fault) (map_is g place) fails))
+pub returns-in-Err-measure_file-clause-fault : goal.returns-in-Err-measure_file-clause-fault
+returns-in-Err-measure_file-clause-fault g c = λ steady.
+    let place = (goal.at.returns-in-Err-measure_file-clause-fault g c).After-records in
+    let fails = c.in-Err-measure_file.ensures.fault (stays_steady g place steady) in
+    fails_first (stored g place) (g.S.StoreState.tail c.args.store) c.args.limits.records c.in-Ok.header c.in-Err-measure_file.fault (c.in-Ok.ensures.found steady)
+    (subst (λ (limit : ℕ). FailsTree (in_file (stored g place)) c.in-Ok.header limit c.in-Err-measure_file.fault) c.records.ensures.value (subst (λ (f : PageMap). FailsTree f c.in-Ok.header c.records.result c.in-Err-measure_file.fault) (map_is g place) fails))

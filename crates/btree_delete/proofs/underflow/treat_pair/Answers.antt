@@ -1,7 +1,7 @@
 use Rattle.std.proofs.Common.{◌≡◌, ◌+◌, ℕ, suc, inr, List, [], ◌∷◌, ◌++◌, get_or, ap, sym, ◌∙◌, subst, arith}
 use Rattle.std.proofs.lemmas.Grind.{common_steps, elements}
 use Rattle.std.proofs.lemmas.List.{get_or_default}
-use Rattle.btree_node.specs.Layout.{first_layout}
+use Rattle.btree_node.specs.Layout.{second_layout}
 use Rattle.btree_node.specs.Lists.{Element, Each}
 use Rattle.btree_node.specs.Spelling.{ElementFits}
 use Rattle.btree_delete.specs.Treatment.{element_at}
@@ -14,7 +14,7 @@ returns-clause-treats c =
     let middle_is : x ≡ element_at c.args.father.now c.args.i =
     c.index-deref-i.is ∙ ap (λ (xs : List Element). get_or xs c.args.i x) c.deref.ensures.0 ∙ get_or_default c.args.father.now.elements.items c.args.i x ([], []) c.requires.place in
     let next : c.args.i + 1 ≡ suc c.args.i = omega arith in
-    let fit = subst (λ (m : Element). Each (ElementFits first_layout) (c.args.left.elements.items ++ m ∷ c.args.right.elements.items)) (sym middle_is) c.requires.fit in
+    let fit = subst (λ (m : Element). Each (ElementFits second_layout) (c.args.left.elements.items ++ m ∷ c.args.right.elements.items)) (sym middle_is) c.requires.fit in
     let stand = c.distribute-left.ensures.stand fit in
     inr (distributed c.args.order c.args.i c.args.father.now c.set_element.new.node c.args.left c.args.right x c.distribute-left.result.1 c.distribute-left.result.0 c.distribute-left.result.2 (get_or c.deref-2.result.now c.args.i 0) (get_or c.deref-3.result.now (c.args.i + 1) 0) c.args.edit.now.writes.items c.write_node-2.new.edit.writes.items c.write_node-3.new.edit.writes.items c.args.edit.now.freed.items c.write_node-3.new.edit.freed.items
     middle_is (omega arith) c.set_element.ensures.kind c.set_element.ensures.elements (ap (λ s. s.items) c.set_element.ensures.sons) c.distribute-left.ensures.left (c.distribute-left.ensures.middle ([], [])) c.distribute-left.ensures.right stand.0 stand.1

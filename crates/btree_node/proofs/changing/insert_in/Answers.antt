@@ -1,6 +1,6 @@
 use Rattle.std.proofs.Common.{◌+◌, ◌-◌, ◌*◌, arith, ap, ◌∙◌}
 use Rattle.byteorder.specs.Endian.{big_bytes}
-use Rattle.btree_node.specs.Layout.{first_layout}
+use Rattle.btree_node.specs.Layout.{second_layout}
 use Rattle.btree_node.specs.Reading.{part}
 use Rattle.btree_node.specs.Spelling.{place}
 use Rattle.btree_node.specs.Written.{put_at}
@@ -15,10 +15,10 @@ returns c = λ n can is.
     let count = count_spelt c.args.k page n c.requires.order can is in
     let told = c.count_of-count.ensures ∙ count in
     let start = c.place_start-start.ensures.value in
-    let end = c.place_start-end.ensures.value ∙ ap (λ m. 8 + 50 * m) told in
+    let end = c.place_start-end.ensures.value ∙ ap (λ m. 8 + 118 * m) told in
     inserted_spelt c.args.k i n c.args.element.now page c.part_of.result.now c.put_place.new.page c.put_bytes.new.page c.put_count.new.page can c.requires.element is c.told-page c.requires.order
     (omega (arith, count, c.requires.index)) (omega (arith, count, c.requires.room))
-    (c.part_of.ensures.value ∙ ap (part c.place_start-start.result (c.place_start-end.result - c.place_start-start.result)) c.requires.copy ∙ ap (λ at. part at (c.place_start-end.result - at) page) start ∙ ap (λ to. part (8 + 50 * i) (to - (8 + 50 * i)) page) end)
-    (c.put_place.ensures ∙ ap (λ at. put_at at (place first_layout c.args.element.now) page) start)
+    (c.part_of.ensures.value ∙ ap (part c.place_start-start.result (c.place_start-end.result - c.place_start-start.result)) c.requires.copy ∙ ap (λ at. part at (c.place_start-end.result - at) page) start ∙ ap (λ to. part (8 + 118 * i) (to - (8 + 118 * i)) page) end)
+    (c.put_place.ensures ∙ ap (λ at. put_at at (place second_layout c.args.element.now) page) start)
     (c.put_bytes.ensures ∙ ap (λ at. put_at at c.part_of.result.now c.put_place.new.page) c.place_start.ensures.value)
     (c.put_count.ensures ∙ ap (λ m. put_at 2 (big_bytes 2 (m + 1)) c.put_bytes.new.page) told)

@@ -1,5 +1,5 @@
 use Rattle.std.proofs.Common.{arith, ap, ◌∙◌}
-use Rattle.btree_node.specs.Layout.{first_layout}
+use Rattle.btree_node.specs.Layout.{second_layout}
 use Rattle.btree_node.specs.Spelling.{place}
 use Rattle.btree_node.specs.Written.{put_at}
 use Rattle.btree_node.proofs.ChangedPageLemmas.{replaced_spelt}
@@ -12,5 +12,5 @@ place_start-requires-clause-index c = omega (arith, few_places c.args.k c.args.p
 pub returns : goal.returns
 returns c = λ n can is.
     c.put_place.ensures
-    ∙ ap (λ at. put_at at (place first_layout c.args.element.now) c.args.page.now) c.place_start.ensures.value
+    ∙ ap (λ at. put_at at (place second_layout c.args.element.now) c.args.page.now) c.place_start.ensures.value
     ∙ replaced_spelt c.args.k c.args.i n c.args.element.now c.args.page.now can c.requires.element is (omega (arith, count_spelt c.args.k c.args.page.now n c.requires.order can is, c.requires.index))

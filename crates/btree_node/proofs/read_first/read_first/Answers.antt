@@ -1,6 +1,6 @@
 use Rattle.std.proofs.Common.{◌<◌, ap, sym, subst, ◌∙◌, length, arith}
 use Rattle.std.specs.List.{All}
-use Rattle.btree_node.specs.Layout.{first_layout}
+use Rattle.btree_node.specs.Layout.{second_layout}
 use Rattle.btree_node.specs.Lists.{Ascends}
 use Rattle.btree_node.proofs.QuickPassLemmas.{Accepted, passes_before, passes_last}
 use Rattle.btree_node.proofs.SpellingLemmas.{length-sons}
@@ -9,7 +9,7 @@ use Rattle.btree_node.proofs.read_first.read_first.Goals as goal
 pub rest_is_zero-requires-clause-sons : goal.rest_is_zero-requires-clause-sons
 rest_is_zero-requires-clause-sons c =
     let fits = c.count_fits.ensures.0 c.if-not-count_fits.false in
-    omega (arith, c.requires.order, fits.1, c.len.ensures.value, ap length c.fill_sons.ensures, length-sons c.in-Some.kind first_layout c.args.k c.args.page.now c.count_of-count.result)
+    omega (arith, c.requires.order, fits.1, c.len.ensures.value, ap length c.fill_sons.ensures, length-sons c.in-Some.kind second_layout c.args.k c.args.page.now c.count_of-count.result)
 
 -- what was found on the way
 module _ (c : goal.After-rest_is_zero) where

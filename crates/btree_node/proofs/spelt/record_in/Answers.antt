@@ -8,10 +8,10 @@ place_of_page-place-requires-clause-index c = omega (arith, c.requires.index, fe
 pub unwrap-requires : goal.unwrap-requires
 unwrap-requires c =
     let spelt = c.requires.spelt in
-    let value = record_spelt c.args.k c.args.page.now c.place_of_page-place.result.now c.thirty_two.result spelt.0 c.args.i ([], []) c.requires.order spelt.1 spelt.2 c.requires.index c.place_of_page-place.ensures.value c.thirty_two.ensures in
+    let value = record_spelt c.args.k c.args.page.now c.place_of_page-place.result.now c.a_hundred.result spelt.0 c.args.i ([], []) c.requires.order spelt.1 spelt.2 c.requires.index c.place_of_page-place.ensures.value c.a_hundred.ensures in
     c.in_field.ensures.some.1 (value.fits, value.zeros)
 
 pub returns : goal.returns
 returns c = λ node other can is.
-    let value = record_spelt c.args.k c.args.page.now c.place_of_page-place.result.now c.thirty_two.result node c.args.i other c.requires.order can is c.requires.index c.place_of_page-place.ensures.value c.thirty_two.ensures in
+    let value = record_spelt c.args.k c.args.page.now c.place_of_page-place.result.now c.a_hundred.result node c.args.i other c.requires.order can is c.requires.index c.place_of_page-place.ensures.value c.a_hundred.ensures in
     grind (arith, c.unwrap.ensures, c.in_field.ensures.value, value.front)

@@ -7,7 +7,8 @@ returns-clause-closed g c steady =
     let opened = c.in-Ok.ensures.found steady in (
       c.in-Ok.table.tree,
       contents_of opened.es,
-      record { h = opened.h; es = opened.es; us = opened.us; clean = opened.clean; records = refl },
+      opened.h.version,
+      record { h = opened.h; es = opened.es; us = opened.us; version_is = refl; clean = opened.clean; records = refl },
       subst (λ (n : ℕ). n ≤ c.args.limits.records) (sym opened.clean.count) opened.few,
     )
 

@@ -73,7 +73,7 @@ returns-in-Ok-clause-session g c steady refusals damages =
       session = subst (λ e. IsSession (g.R.Read.remaining c.args.reader.now) (g.R.Read.remaining c.run_session-end.new.reader) (g.W.Write.contents c.args.out.now) (g.W.Write.contents c.run_session-end.new.out) old mid c.run_session-end.result.script e new) c.in-Ok.is known;
       whole = whole_script c.run_session-end.result.script _ _ _ _ old mid known.script whole_empty;
       sound = sound;
-      ending = closes c.close_file.result.store (c.close_file.result.status ≡ 1) (λ (t : Tree) s. IsClosed (g.S.StoreState.pages s) (g.S.StoreState.tail s) t (table_contents c.run_session-end.new.file.table)) c.close_file.result.status c.run_session-end.new.file.table.tree c.is_err-script_fault.result (is_err c.run_session-end.result.script) c.is_err-script_fault.ensures.value (c.close_file.ensures.closed (known.asks.sound ∙ sound));
+      ending = closes c.close_file.result.store (c.close_file.result.status ≡ 1) (λ (t : Tree) s. IsClosed 2 (g.S.StoreState.pages s) (g.S.StoreState.tail s) t (table_contents c.run_session-end.new.file.table)) c.close_file.result.status c.run_session-end.new.file.table.tree c.is_err-script_fault.result (is_err c.run_session-end.result.script) c.is_err-script_fault.ensures.value (c.close_file.ensures.closed (known.asks.sound ∙ sound));
     }
 
 pub returns-in-Err-clause-session : goal.returns-in-Err-clause-session

@@ -45,9 +45,9 @@ returns-in-Ok-clause-closed g c = λ steady.
     let t = here g (goal.at.returns-in-Ok-clause-closed g c).After-write_back-arg-2-1 in
     let closed = written_back c.self.inside.pages c.write_back.new.self.stored c.write_back.new.self.tail c.page_count.result c.self.inside.tree (inv.holds steady2) c.in-Ok.ensures.count c.in-Ok.ensures.tail c.page_count.ensures.value c.page_count.ensures.some c.page_count.ensures.most c.page_count.ensures.header
     (c.in-Ok.ensures.header steady2 ∙ ap Some c.write_header-2.ensures) (c.in-Ok.ensures.stored steady2) inv.tree.order.0 inv.tree.order.1 inv.tree.count in
-    subst (λ (t : TableView). IsClosed (g.S.StoreState.pages c.into_store-in-Ok.result) (g.S.StoreState.tail c.into_store-in-Ok.result) t.tree (table_contents t)) c.self.view_is
-    (subst (λ (pages : List (List ℕ)). IsClosed pages (g.S.StoreState.tail c.into_store-in-Ok.result) c.self.inside.tree (table_contents t)) (sym c.into_store-in-Ok.ensures.pages)
-    (subst (λ (tail : ℕ). IsClosed c.write_back.new.self.stored tail c.self.inside.tree (table_contents t)) (sym c.into_store-in-Ok.ensures.tail) closed))
+    subst (λ (t : TableView). IsClosed 2 (g.S.StoreState.pages c.into_store-in-Ok.result) (g.S.StoreState.tail c.into_store-in-Ok.result) t.tree (table_contents t)) c.self.view_is
+    (subst (λ (pages : List (List ℕ)). IsClosed 2 pages (g.S.StoreState.tail c.into_store-in-Ok.result) c.self.inside.tree (table_contents t)) (sym c.into_store-in-Ok.ensures.pages)
+    (subst (λ (tail : ℕ). IsClosed 2 c.write_back.new.self.stored tail c.self.inside.tree (table_contents t)) (sym c.into_store-in-Ok.ensures.tail) closed))
 
 pub returns-in-Ok-clause-journal : goal.returns-in-Ok-clause-journal
 returns-in-Ok-clause-journal g c =
