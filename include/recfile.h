@@ -10,7 +10,10 @@
  * The caller owes: pointers that are valid and not null, also where a length is 0; one call at a time on a handle;
  * a handle that recfile_new made and that was not yet freed. Different handles have nothing to do with one another.
  *
- * Limits: a key has 1 to 16 bytes, a record 0 to 32.
+ * Limits: a key has 1 to 16 bytes, a record 0 to 100.
+ *
+ * Versions. Before its first call a program compares the major number of recfile_version with the one that it was
+ * compiled with: where they differ, a struct or a call is another one, and nothing may be called.
  */
 #ifndef RECFILE_H
 #define RECFILE_H
@@ -22,13 +25,18 @@
 extern "C" {
 #endif
 
+/* The version of this header. The major number changes where a struct, a call or a status becomes another one, the minor
+ * one where there is a call, a status or a kind more. */
+#define RECFILE_VERSION_MAJOR 1
+#define RECFILE_VERSION_MINOR 0
+
 /* The statuses. */
 enum recfile_status_code {
     RECFILE_OK = 0,
     RECFILE_CLOSED = 1,            /* the handle has no open file */
     RECFILE_EMPTY_KEY = 2,         /* a key has at least one byte */
     RECFILE_LONG_KEY = 3,          /* a key has at most 16 bytes */
-    RECFILE_LONG_RECORD = 4,       /* a record has at most 32 bytes */
+    RECFILE_LONG_RECORD = 4,       /* a record has at most 100 bytes */
     RECFILE_BEGINS_SPENT = 5,      /* as many transactions were begun as may be */
     RECFILE_NO_SUCH_TX = 6,        /* no such open transaction */
     RECFILE_ROLLING = 7,           /* the transaction is being rolled back */
@@ -80,7 +88,7 @@ typedef struct {
 
 /* A record, where is_there isn't 0: its first len bytes. */
 typedef struct {
-    uint8_t bytes[32];
+    uint8_t bytes[100];
     uint8_t len;
     uint8_t is_there;
 } recfile_record;
@@ -128,6 +136,9 @@ typedef struct {
     uint32_t kind;
     uint32_t number;
 } recfile_step_shown;
+
+/* The version of the library that runs: 65536 times its major number, and its minor one. */
+uint32_t recfile_version(void);
 
 /* Handles */
 
@@ -237,8 +248,8 @@ int32_t recfile_key(recfile *file, uint64_t i, recfile_key_bytes *told);
  * discarded. After MEMORY the file can only be closed again. OK, CLOSED, STILL_OPEN, MEMORY. */
 int32_t recfile_close(recfile *file, recfile_detail *detail);
 
-/* How many steps there are: *n. None for a file in memory, and for a page file in which nothing was changed. OK, CLOSED,
- * NOT_CLOSED. */
+/* How many steps there are: *n. None for a file in memory, and for a page file of the second file version in which nothing
+ * was changed; one of the first version is written anew. OK, CLOSED, NOT_CLOSED. */
 int32_t recfile_step_count(recfile *file, uint64_t *n);
 
 /* Step i, from 0, and the page that it writes where it writes one. OK, CLOSED, NOT_CLOSED, NO_SUCH_ENTRY. */

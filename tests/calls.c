@@ -35,7 +35,10 @@ typedef struct {
 #define PUT(of, key, value, status, number) ROW(put, of, 0, key, value, status, number)
 #define SAVE(call, of, save, status, number) ROW(call, of, save, "", "", status, number)
 
-static const char LONG_RECORD[] = "123456789 123456789 123456789 123";
+#define FIFTY "123456789 123456789 123456789 123456789 123456789 "
+
+static const char WIDEST_RECORD[] = FIFTY FIFTY;
+static const char LONG_RECORD[] = FIFTY FIFTY "1";
 
 static const uint8_t *bytes(const char *text) { return (const uint8_t *)text; }
 
@@ -96,6 +99,14 @@ static int32_t get(recfile *file, arguments given, uint64_t *number) {
     recfile_detail detail;
     int32_t status = recfile_get(file, given.of, bytes(given.key), strlen(given.key), &found, &detail);
     *number = first(&found);
+    return status;
+}
+
+static int32_t record_length(recfile *file, arguments given, uint64_t *number) {
+    recfile_record found = {0};
+    recfile_detail detail;
+    int32_t status = recfile_get(file, given.of, bytes(given.key), strlen(given.key), &found, &detail);
+    *number = found.len;
     return status;
 }
 
@@ -346,6 +357,23 @@ static const row REOPENED[] = {
     ASK(entries, OK, 1), OF(entry, 0, OK, 1), ASK(close, OK, 0), ASK(step_count, OK, 0), ASK(discard, OK, 0),
 };
 
+
+/* A record of the greatest length. */
+static const row WIDE[] = {
+    ASK(memory, OK, 0),
+    ASK(begin, OK, 1),
+    PUT(1, "a", WIDEST_RECORD, OK, 0),
+    PUT(1, "a", LONG_RECORD, LONG_RECORD, 0),
+    AT(record_length, 1, "a", OK, 100),
+    ASK(discard, OK, 0),
+};
+
+/* The three records of a file of the first version: 9 steps write its four pages. */
+static const row OLD[] = {ASK(entries, OK, 3), OF(entry, 2, OK, 'z'), ASK(close, OK, 0), ASK(step_count, OK, 9)};
+static const row RENEWED[] = {
+    ASK(entries, OK, 3), OF(entry, 0, OK, 'x'), ASK(close, OK, 0), ASK(step_count, OK, 0), ASK(discard, OK, 0),
+};
+
 static void expect(int is_so, const char *what) {
     if (!is_so) {
         fprintf(stderr, "calls: not so: %s\n", what);
@@ -388,6 +416,25 @@ static uint32_t carry_out(recfile *file, uint8_t pages[MOST_PAGES][4096]) {
     return count;
 }
 
+/* Writes the bytes of a page from a place on. */
+static void set(uint8_t *page, size_t from, const char *text, size_t len) { memcpy(page + from, text, len); }
+
+#define SET(page, from, text) set(page, from, text, sizeof(text) - 1)
+
+/* The file of order 1 with the records x, y and z at the keys a, b and c, in a version: the sons stand behind its places. */
+static void three_records(uint8_t pages[MOST_PAGES][4096], uint8_t version) {
+    memset(pages, 0, 4 * sizeof pages[0]);
+    SET(pages[0], 0, "BMKRFILE\0\0\0\1\0\0\0\4\0\0\0\3\0\0\0\3\1");
+    pages[0][9] = version;
+    SET(pages[1], 0, "\1\0\0\1\0\0\0\0\1a");
+    SET(pages[1], 25, "\1x");
+    SET(pages[2], 0, "\1\0\0\1\0\0\0\0\1c");
+    SET(pages[2], 25, "\1z");
+    SET(pages[3], 0, "\2\0\0\1\0\0\0\0\1b");
+    SET(pages[3], 25, "\1y");
+    SET(pages[3], version == 1 ? 108 : 244, "\0\0\0\1\0\0\0\2");
+}
+
 static void reopen(recfile *file, uint8_t pages[MOST_PAGES][4096], uint32_t count) {
     recfile_detail detail;
     for (uint32_t n = 0; n < count; n++)
@@ -395,16 +442,32 @@ static void reopen(recfile *file, uint8_t pages[MOST_PAGES][4096], uint32_t coun
     expect(recfile_open(file, 10, 100, 100, &detail) == RECFILE_OK, "the file is opened again");
 }
 
+/* A file of the first version becomes one of the second when it is closed, and that one is left as it is. */
+static void renew(recfile *file, uint8_t pages[MOST_PAGES][4096]) {
+    static uint8_t wanted[MOST_PAGES][4096];
+    three_records(pages, 1);
+    three_records(wanted, 2);
+    reopen(file, pages, 4);
+    EXPECT(file, OLD);
+    expect(carry_out(file, pages) == 4, "the file keeps its pages");
+    expect(memcmp(pages, wanted, 4 * sizeof pages[0]) == 0, "the file is of the second version");
+    expect(recfile_discard(file) == RECFILE_OK, "the steps are given up");
+    reopen(file, pages, 4);
+    EXPECT(file, RENEWED);
+}
+
 int main(void) {
     static uint8_t pages[MOST_PAGES][4096];
     uint32_t count;
     recfile *file = NULL;
+    expect(recfile_version() == RECFILE_VERSION_MAJOR * 65536 + RECFILE_VERSION_MINOR, "the header is the library's");
     expect(recfile_new(&file) == RECFILE_OK, "a handle is made");
     EXPECT(file, CLAIMS);
     EXPECT(file, OF_MEMORY);
     EXPECT(file, IN_MEMORY);
     EXPECT(file, SESSION);
     EXPECT(file, OF_MEMORY);
+    EXPECT(file, WIDE);
     EXPECT(file, IN_PAGES);
     EXPECT(file, SESSION);
     count = carry_out(file, pages);
@@ -412,6 +475,7 @@ int main(void) {
     expect(recfile_discard(file) == RECFILE_OK, "the steps are given up");
     reopen(file, pages, count);
     EXPECT(file, REOPENED);
+    renew(file, pages);
     recfile_free(file);
     return 0;
 }

@@ -156,6 +156,10 @@ int main(int count, char **words) {
         fprintf(stderr, "usage: session [--list] FILE\n");
         return 2;
     }
+    if (recfile_version() >> 16 != RECFILE_VERSION_MAJOR) {
+        fprintf(stderr, "session: the library has another version\n");
+        return 1;
+    }
     check(recfile_new(&file), RECFILE_OK, "new");
     if (!only_list)
         make(file, words[1]);

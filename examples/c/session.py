@@ -11,6 +11,7 @@ import sys
 OK, CLOSED, HELD, STILL_OPEN = 0, 1, 9, 24
 SET_PAGES, WRITE, SYNC = 1, 2, 3
 PAGE = 4096
+MAJOR = 1  # of the header that the structs below are taken from
 
 u8, u32, u64 = ctypes.c_uint8, ctypes.c_uint32, ctypes.c_uint64
 
@@ -25,7 +26,7 @@ class KeyBytes(ctypes.Structure):
 
 
 class Record(ctypes.Structure):
-    _fields_ = [("bytes", u8 * 32), ("len", u8), ("is_there", u8)]
+    _fields_ = [("bytes", u8 * 100), ("len", u8), ("is_there", u8)]
 
 
 class Listed(ctypes.Structure):
@@ -165,7 +166,11 @@ def main(words):
     if len(words) != 3 and not only_list:
         print("usage: session.py LIBRARY [--list] FILE", file=sys.stderr)
         return 2
-    file = File(ctypes.CDLL(words[1]))
+    library = ctypes.CDLL(words[1])
+    library.recfile_version.restype = u32
+    if library.recfile_version() >> 16 != MAJOR:
+        raise RuntimeError("the library has another version")
+    file = File(library)
     if not only_list:
         file.make(words[-1])
     file.list_file(words[-1])

@@ -13,6 +13,9 @@ const HELD: i32 = 9;
 const STILL_OPEN: i32 = 24;
 const PAGE: u64 = 4096;
 
+/// The major number of the header that the structs and calls below are taken from.
+const MAJOR: u32 = 1;
+
 #[repr(C)]
 pub struct RecFile {
     _private: [u8; 0],
@@ -37,9 +40,8 @@ pub struct KeyBytes {
 }
 
 #[repr(C)]
-#[derive(Default)]
 pub struct Record {
-    bytes: [u8; 32],
+    bytes: [u8; 100],
     len: u8,
     is_there: u8,
 }
@@ -60,7 +62,14 @@ pub struct Step {
     number: u32,
 }
 
+impl Default for Record {
+    fn default() -> Record {
+        Record { bytes: [0; 100], len: 0, is_there: 0 }
+    }
+}
+
 extern "C" {
+    fn recfile_version() -> u32;
     fn recfile_new(out: *mut *mut RecFile) -> i32;
     fn recfile_free(file: *mut RecFile);
     fn recfile_discard(file: *mut RecFile) -> i32;
@@ -262,6 +271,7 @@ fn main() -> std::io::Result<()> {
             std::process::exit(2);
         }
     };
+    assert_eq!(unsafe { recfile_version() } >> 16, MAJOR, "the library has another version");
     let mut handle = Handle::new();
     if !only_list {
         handle.make(path)?;

@@ -10,3 +10,4 @@ pub mod Shown
 pub mod Slots
 pub mod Steps
 pub mod Tried
+pub mod Version

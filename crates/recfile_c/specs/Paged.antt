@@ -6,6 +6,7 @@ use Rattle.rec_types.specs.LimitBounds.{Bounds}
 use Rattle.page_store.specs.Fronts.{tried}
 use Rattle.page_store.specs.Journal.{carried, noted, untouched, NotesFront}
 use Rattle.rec_types.specs.declared.limits.LimitFault.{LimitFault}
+use Rattle.btree_node.specs.Layout.{second_version}
 use Rattle.btree_delete.specs.declared.open_fault.OpenFault.{OpenFault}
 use Rattle.btree_delete.specs.declared.tree_table.CreateFault.{CreateFault}
 use Rattle.btree_delete.specs.CleanFile.{IsFirst, Opens}
@@ -42,7 +43,6 @@ HasTried t opened ks = t.pages.journal ≡ Some (record { opened = opened; steps
 pub record OpensPages (pages : List (List ℕ)) (limits : Bounds) (t : TableView) : Type 0 where
   pub opens : Opens pages 0 limits.records 0 t.pages t.tree
   pub stored : t.pages.stored ≡ pages
-  pub idle : t.pages.changed ≡ false
   pub steady : t.pages.steady ≡ true
   pub failures : t.pages.failures ≡ 0
   pub refusals : t.refusals ≡ 0
@@ -122,12 +122,12 @@ TakesImage None None = Unit {0}
 
 -- closing
 
--- The steps lead from the old pages to a closed file with the table's tree and records; where nothing was changed they lead to
+-- The steps lead from the old pages to a closed file of the second version with the table's tree and records; where nothing was changed they lead to
 -- the pages that the table had been opened with. They are those of a close, after the ones that were there. Where these were
 -- none, or those of tries to close the same table, the steps are to be carried out on the pages that were handed in; and over a
 -- new file or a closed one each front of them leads to the old file, or to one that opening refuses, or to the new one.
 pub record Settles (t : TableView) (j : JournalView) : Type 0 where
-  pub closed : IsTrue t.pages.steady → IsClosed (pages_of j) 0 t.tree (table_contents t)
+  pub closed : IsTrue t.pages.steady → IsClosed second_version (pages_of j) 0 t.tree (table_contents t)
   pub idle : t.pages.changed ≡ false → pages_of j ≡ t.pages.stored
   pub steps : journal_of j ≡ noted t.pages.journal (closing t)
   pub opened : (opened : List (List ℕ)) (ks : List ℕ) → HasTried t opened ks → j.opened ≡ opened

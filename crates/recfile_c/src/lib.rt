@@ -15,3 +15,4 @@ mod paged;
 mod records;
 mod shown;
 mod transactions;
+mod version;

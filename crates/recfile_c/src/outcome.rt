@@ -16,7 +16,7 @@ pub const CLOSED: i32 = 1;
 pub const EMPTY_KEY: i32 = 2;
 /// A key has at most 16 bytes.
 pub const LONG_KEY: i32 = 3;
-/// A record has at most 32 bytes.
+/// A record has at most 100 bytes.
 pub const LONG_RECORD: i32 = 4;
 /// As many transactions were begun as may be.
 pub const BEGINS_SPENT: i32 = 5;

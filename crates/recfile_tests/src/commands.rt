@@ -85,7 +85,7 @@ const LINES: [(&str, &str, &str); 10] = [
     // A line with two faults has the first one of the order.
     (
         "the first fault of a line",
-        "frob x\nget x\nget x abcdefghijklmnopq\ndel x abcdefghijklmnopq\nrelease x y\nput x abcdefghijklmnopq =x\nput x a x\nput x a =abcdefghijklmnopqrstuvwxyz0123456\nput 1 abcdefghijklmnopq x\nput 1 abcdefghijklmnopq =abcdefghijklmnopqrstuvwxyz0123456\nput 1 a abcdefghijklmnopqrstuvwxyz0123456\nput 1 a x=\nput 1 =a =b\nget 1 =",
+        "frob x\nget x\nget x abcdefghijklmnopq\ndel x abcdefghijklmnopq\nrelease x y\nput x abcdefghijklmnopq =x\nput x a x\nput x a =zzzzzzzzzzzzzzzzzzzzzzzzzzzzzzzzzzzzzzzzzzzzzzzzzzzzzzzzzzzzzzzzzzzzzzzzzzzzzzzzzzzzzzzzzzzzzzzzzzzzz\nput 1 abcdefghijklmnopq x\nput 1 abcdefghijklmnopq =zzzzzzzzzzzzzzzzzzzzzzzzzzzzzzzzzzzzzzzzzzzzzzzzzzzzzzzzzzzzzzzzzzzzzzzzzzzzzzzzzzzzzzzzzzzzzzzzzzzzz\nput 1 a zzzzzzzzzzzzzzzzzzzzzzzzzzzzzzzzzzzzzzzzzzzzzzzzzzzzzzzzzzzzzzzzzzzzzzzzzzzzzzzzzzzzzzzzzzzzzzzzzzzzz\nput 1 a x=\nput 1 =a =b\nget 1 =",
         "UnknownCommand\nWordCount\nBadNumber\nBadNumber\nBadNumber\nBadNumber\nBadNumber\nBadNumber\nKeyTooLong\nKeyTooLong\nNoRecordMark\nNoRecordMark\nput 1 [61, 97] [98]\nget 1 [61]\n",
     ),
     (
@@ -95,8 +95,8 @@ const LINES: [(&str, &str, &str); 10] = [
     ),
     (
         "keys and records have a greatest length",
-        "get 1 abcdefghijklmnop\nget 1 abcdefghijklmnopq\nget 1 abcdefghijklmno%70\nget 1 abcdefghijklmnop%\nget 1 abcdefghijklmno%7\nget 1 abcdefghijklm%70\nput 1 a =abcdefghijklmnopqrstuvwxyz012345\nput 1 a =abcdefghijklmnopqrstuvwxyz0123456\nput 1 a =abcdefghijklmnopqrstuvwxyz01234%35\nput 1 a =",
-        "get 1 [97, 98, 99, 100, 101, 102, 103, 104, 105, 106, 107, 108, 109, 110, 111, 112]\nKeyTooLong\nget 1 [97, 98, 99, 100, 101, 102, 103, 104, 105, 106, 107, 108, 109, 110, 111, 112]\nKeyTooLong\nKeyTooLong\nget 1 [97, 98, 99, 100, 101, 102, 103, 104, 105, 106, 107, 108, 109, 112]\nput 1 [97] [97, 98, 99, 100, 101, 102, 103, 104, 105, 106, 107, 108, 109, 110, 111, 112, 113, 114, 115, 116, 117, 118, 119, 120, 121, 122, 48, 49, 50, 51, 52, 53]\nRecordTooLong\nput 1 [97] [97, 98, 99, 100, 101, 102, 103, 104, 105, 106, 107, 108, 109, 110, 111, 112, 113, 114, 115, 116, 117, 118, 119, 120, 121, 122, 48, 49, 50, 51, 52, 53]\nput 1 [97] []\n",
+        "get 1 abcdefghijklmnop\nget 1 abcdefghijklmnopq\nget 1 abcdefghijklmno%70\nget 1 abcdefghijklmnop%\nget 1 abcdefghijklmno%7\nget 1 abcdefghijklm%70\nput 1 a =abcdefghijklmnopqrstuvwxyz0123456\nput 1 a =zzzzzzzzzzzzzzzzzzzzzzzzzzzzzzzzzzzzzzzzzzzzzzzzzzzzzzzzzzzzzzzzzzzzzzzzzzzzzzzzzzzzzzzzzzzzzzzzzzzzz\nput 1 a =zzzzzzzzzzzzzzzzzzzzzzzzzzzzzzzzzzzzzzzzzzzzzzzzzzzzzzzzzzzzzzzzzzzzzzzzzzzzzzzzzzzzzzzzzzzzzzzzzzz%7a\nput 1 a =",
+        "get 1 [97, 98, 99, 100, 101, 102, 103, 104, 105, 106, 107, 108, 109, 110, 111, 112]\nKeyTooLong\nget 1 [97, 98, 99, 100, 101, 102, 103, 104, 105, 106, 107, 108, 109, 110, 111, 112]\nKeyTooLong\nKeyTooLong\nget 1 [97, 98, 99, 100, 101, 102, 103, 104, 105, 106, 107, 108, 109, 112]\nput 1 [97] [97, 98, 99, 100, 101, 102, 103, 104, 105, 106, 107, 108, 109, 110, 111, 112, 113, 114, 115, 116, 117, 118, 119, 120, 121, 122, 48, 49, 50, 51, 52, 53, 54]\nRecordTooLong\nput 1 [97] [122, 122, 122, 122, 122, 122, 122, 122, 122, 122, 122, 122, 122, 122, 122, 122, 122, 122, 122, 122, 122, 122, 122, 122, 122, 122, 122, 122, 122, 122, 122, 122, 122, 122, 122, 122, 122, 122, 122, 122, 122, 122, 122, 122, 122, 122, 122, 122, 122, 122, 122, 122, 122, 122, 122, 122, 122, 122, 122, 122, 122, 122, 122, 122, 122, 122, 122, 122, 122, 122, 122, 122, 122, 122, 122, 122, 122, 122, 122, 122, 122, 122, 122, 122, 122, 122, 122, 122, 122, 122, 122, 122, 122, 122, 122, 122, 122, 122, 122, 122]\nput 1 [97] []\n",
     ),
     (
         "escapes are read",
@@ -284,7 +284,7 @@ fn two_keys(rt: &impl Abort) -> [Key; 2] {
 /// Their entries, the first of which has an owner.
 fn two_entries(rt: &impl Abort) -> [Entry; 2] {
     let [first, second] = two_keys(rt);
-    let longest = Record::new(b"abcdefghijklmnopqrstuvwxyz012345");
+    let longest = Record::new(&[b'z'; 100]);
     [
         Entry {
             key: first,
@@ -318,7 +318,7 @@ fn lists_are_written(rt: HostRuntime) {
     expect_text(
         &rt,
         list_text(&rt, rt.alloc(), &two_entries(&rt)).as_str(),
-        "- %00 =abcdefghijklmnopqrstuvwxyz012345 @1\n- %25zz =%C3%A9%25\nok 2\n",
+        "- %00 =zzzzzzzzzzzzzzzzzzzzzzzzzzzzzzzzzzzzzzzzzzzzzzzzzzzzzzzzzzzzzzzzzzzzzzzzzzzzzzzzzzzzzzzzzzzzzzzzzzzz @1\n- %25zz =%C3%A9%25\nok 2\n",
     );
     expect_text(
         &rt,

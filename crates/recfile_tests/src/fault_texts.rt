@@ -35,7 +35,7 @@ const LIMIT_FAULTS: [(LimitFault, &str); 3] = [
 
 const RECORD_FAULTS: [(RecordFault, &str); 1] = [(
     RecordFault::TooLong,
-    "a record has at most 32 bytes",
+    "a record has at most 100 bytes",
 )];
 
 const TABLE_FAULTS: [(TableFault, &str); 4] = [

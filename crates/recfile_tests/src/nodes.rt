@@ -6,7 +6,8 @@ ghost use Rattle.btree_node.specs.Spelling.{SonsFit, CanStand, IsSpelt};
 use arrayvec::ArrayVec;
 use btree_node::{
     Header, HeaderFault, Node, NodeFault, NodeKind, catenate, count_in, decode, decode_into,
-    distribute, encode, insert_in, place_of, read_header, replace_in, split, write_header,
+    decode_old, decode_version, distribute, encode, insert_in, place_of, read_header, replace_in,
+    split, write_header,
 };
 use rec_types::{KEY_WIDTH, Key, RECORD_WIDTH, Record};
 use std::process::Abort;
@@ -20,10 +21,21 @@ fn with(page: [u8; 4096], at: usize, bytes: &[u8]) -> [u8; 4096]
     page
 }
 
-/// The header page of the file with three records.
-fn header_page() -> [u8; 4096] {
-    let bytes = b"BMKRFILE\x00\x01\x00\x01\x00\x00\x00\x04\x00\x00\x00\x03\x00\x00\x00\x03\x01";
-    with([0; 4096], 0, bytes)
+/// The header page of the file with three records, of a version.
+fn header_page(version: u8) -> [u8; 4096] {
+    let bytes = b"BMKRFILE\x00\x00\x00\x01\x00\x00\x00\x04\x00\x00\x00\x03\x00\x00\x00\x03\x01";
+    with(with([0; 4096], 0, bytes), 9, &[version])
+}
+
+/// What it says.
+fn header_of(version: u16) -> Header {
+    Header {
+        version,
+        order: 1,
+        pages: 4,
+        root: 3,
+        count: 3,
+    }
 }
 
 /// A page with one key and its record.
@@ -35,14 +47,21 @@ fn page_of(kind: u8, key: &[u8; 2], value: &[u8; 2]) -> [u8; 4096] {
     )
 }
 
+/// Where the second place and the sons begin in a page of order 1, of a version.
+fn starts(version: u8) -> (usize, usize)
+    ensures { (result.0 ≤ 126) × (result.1 ≤ 244) }
+{
+    if version == 1 { (58, 108) } else { (126, 244) }
+}
+
 /// The pages of the file with three records, of order 1: a, b and c with x, y and z.
-fn three_record_file() -> [[u8; 4096]; 4] {
+fn three_record_file(version: u8) -> [[u8; 4096]; 4] {
     let sons = b"\x00\x00\x00\x01\x00\x00\x00\x02";
     [
-        header_page(),
+        header_page(version),
         page_of(1, b"\x01a", b"\x01x"),
         page_of(1, b"\x01c", b"\x01z"),
-        with(page_of(2, b"\x01b", b"\x01y"), 108, sons),
+        with(page_of(2, b"\x01b", b"\x01y"), starts(version).1, sons),
     ]
 }
 
@@ -176,41 +195,47 @@ fn expect_brothers(rt: &impl Abort, left: &Node, middle: &(Key, Record), right: 
 
 #[test]
 fn the_three_record_file_is_written(rt: HostRuntime) {
-    let pages = three_record_file();
-    let header = Header {
-        order: 1,
-        pages: 4,
-        root: 3,
-        count: 3,
-    };
-    assert!(rt; write_header(&header, true) == pages[0]);
+    let pages = three_record_file(2);
+    assert!(rt; write_header(&header_of(2), true) == pages[0]);
     assert!(rt; encode(&leaf(element(&rt, b"a", b"x")), 1) == pages[1]);
     assert!(rt; encode(&leaf(element(&rt, b"c", b"z")), 1) == pages[2]);
     assert!(rt; encode(&inner(element(&rt, b"b", b"y"), 1, 2), 1) == pages[3]);
 }
 
-/// Expects a page of order 1 to be read as this node.
-fn expect_read(rt: &impl Abort, page: &[u8; 4096], wanted: &Node) {
-    assert_eq!(rt; decode(page, 1).expect(rt, "no node"), *wanted);
+/// Reads a page of order 1 of a version.
+fn read(version: u8, page: &[u8; 4096]) -> Result<Node, NodeFault> {
+    match version {
+        1 => decode_old(page, 1),
+        _ => decode(page, 1),
+    }
+}
+
+/// Expects a page of order 1 to be read as this node, also by the number of its version.
+fn expect_read(rt: &impl Abort, version: u8, page: &[u8; 4096], wanted: &Node) {
+    assert_eq!(rt; read(version, page).expect(rt, "no node"), *wanted);
+    let mut node = Node::blank();
+    decode_version(u16::from(version), page, 1, &mut node).expect(rt, "no node");
+    assert_eq!(rt; node, *wanted);
 }
 
 #[test]
 fn the_three_record_file_is_read(rt: HostRuntime) {
-    let pages = three_record_file();
-    let header = Header {
-        order: 1,
-        pages: 4,
-        root: 3,
-        count: 3,
-    };
-    assert_eq!(rt; read_header(&pages[0]), Ok(header));
-    expect_read(&rt, &pages[1], &leaf(element(&rt, b"a", b"x")));
-    expect_read(&rt, &pages[3], &inner(element(&rt, b"b", b"y"), 1, 2));
+    for version in [1, 2] {
+        let pages = three_record_file(version);
+        assert_eq!(rt; read_header(&pages[0]), Ok(header_of(u16::from(version))));
+        expect_read(&rt, version, &pages[1], &leaf(element(&rt, b"a", b"x")));
+        expect_read(
+            &rt,
+            version,
+            &pages[3],
+            &inner(element(&rt, b"b", b"y"), 1, 2),
+        );
+    }
 }
 
 #[test]
 fn a_node_is_read_into_again(rt: HostRuntime) {
-    let pages = three_record_file();
+    let pages = three_record_file(2);
     let mut node = Node::blank();
     decode_into(&pages[3], 1, &mut node).expect(&rt, "no node");
     assert_eq!(rt; node, inner(element(&rt, b"b", b"y"), 1, 2));
@@ -276,61 +301,71 @@ fn keys_and_records_in_their_fields(rt: HostRuntime) {
     let (key, empty) = element(&rt, b"ab", b"");
     assert!(rt; Key::in_field(field, 2) == Some(key));
     assert!(rt; Key::in_field(field, 1).is_none());
-    let mut field = [0; 32];
+    let mut field = [0; 100];
     assert!(rt; Record::in_field(&field, 0) == Some(empty));
-    field[31] = b'z';
+    field[99] = b'z';
     let (_, longest) = element(&rt, b"ab", &field);
-    assert!(rt; Record::in_field(&field, 32) == Some(longest));
-    assert!(rt; Record::in_field(&field, 31).is_none());
+    assert!(rt; Record::in_field(&field, 100) == Some(longest));
+    assert!(rt; Record::in_field(&field, 99).is_none());
 }
 
 #[test]
 fn a_new_file_of_order_two(rt: HostRuntime) {
     let header = Header {
+        version: 2,
         order: 2,
         pages: 1,
         root: 0,
         count: 0,
     };
-    let bytes = b"BMKRFILE\x00\x01\x00\x02\x00\x00\x00\x01\x00\x00\x00\x00\x00\x00\x00\x00\x01";
+    let bytes = b"BMKRFILE\x00\x02\x00\x02\x00\x00\x00\x01\x00\x00\x00\x00\x00\x00\x00\x00\x01";
     assert!(rt; write_header(&header, true) == with([0; 4096], 0, bytes));
     let writing = with(with([0; 4096], 0, bytes), 24, &[2]);
     assert!(rt; write_header(&header, false) == writing);
 }
 
-/// Expects a page of order 1 to be refused for this fault.
-fn expect_fault(rt: &impl Abort, page: &[u8; 4096], fault: NodeFault) {
-    assert_eq!(rt; decode(page, 1), Err(fault));
+/// Expects a page of order 1 of a version to be refused for this fault.
+fn expect_fault(rt: &impl Abort, version: u8, page: &[u8; 4096], fault: NodeFault) {
+    assert_eq!(rt; read(version, page), Err(fault));
 }
 
-#[test]
-fn the_first_fault_of_a_node_page(rt: HostRuntime) {
-    let pages = three_record_file();
+/// Changes pages of a version, in which a record may have so many bytes.
+fn expect_faults(rt: &impl Abort, version: u8, record_width: u8) {
+    let pages = three_record_file(version);
+    let (second, sons) = starts(version);
     for (at, byte, fault) in [
         (0, 0x00, NodeFault::Kind),
         (3, 0x03, NodeFault::Count),
         (3, 0x00, NodeFault::Count),
         (8, 0x11, NodeFault::KeyLength),
-        (25, 0x21, NodeFault::RecordLength),
+        (25, record_width.saturating_add(1), NodeFault::RecordLength),
     ] {
-        expect_fault(&rt, &with(pages[1], at, &[byte]), fault);
+        expect_fault(rt, version, &with(pages[1], at, &[byte]), fault);
     }
     let padded = with(pages[2], 2000, &[1]);
-    expect_fault(&rt, &padded, NodeFault::NotZero);
-    let twice = with(with(pages[1], 3, &[2]), 58, b"\x01a");
-    expect_fault(&rt, &twice, NodeFault::Order);
-    let no_son = with(pages[3], 111, &[0]);
-    expect_fault(&rt, &no_son, NodeFault::Son);
+    expect_fault(rt, version, &padded, NodeFault::NotZero);
+    let twice = with(with(pages[1], 3, &[2]), second, b"\x01a");
+    expect_fault(rt, version, &twice, NodeFault::Order);
+    let no_son = with(pages[3], sons + 3, &[0]);
+    expect_fault(rt, version, &no_son, NodeFault::Son);
     let leaf_with_sons = with(pages[3], 0, &[1]);
-    expect_fault(&rt, &leaf_with_sons, NodeFault::NotZero);
+    expect_fault(rt, version, &leaf_with_sons, NodeFault::NotZero);
+}
+
+#[test]
+fn the_first_fault_of_a_node_page(rt: HostRuntime) {
+    expect_faults(&rt, 1, 32);
+    expect_faults(&rt, 2, 100);
 }
 
 #[test]
 fn the_first_fault_of_a_header_page(rt: HostRuntime) {
-    let page = header_page();
+    let page = header_page(2);
     for (at, byte, fault) in [
         (0, 0x00, HeaderFault::BadMagic),
         (9, 0x09, HeaderFault::BadVersion(9)),
+        (9, 0x03, HeaderFault::BadVersion(3)),
+        (9, 0x00, HeaderFault::BadVersion(0)),
         (11, 0x00, HeaderFault::BadOrder),
         (11, 0x11, HeaderFault::BadOrder),
         (24, 0x02, HeaderFault::NotClean),

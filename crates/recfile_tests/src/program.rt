@@ -282,9 +282,10 @@ const THREE_REPLIES: &str = "ok 1\nok none\nok none\nok none\nok\n";
 const THREE_CHECKED: &str = "order 1 height 2 records 3 pages 4 free 0\n";
 
 /// Bytes that are put at a place in the file of three records, and the fault that the program names then.
-const DAMAGES: [(usize, u8, &str); 13] = [
+const DAMAGES: [(usize, u8, &str); 14] = [
     (0, 0, "recfile: BadMagic\n"),
     (9, 9, "recfile: BadVersion 9\n"),
+    (9, 1, "recfile: Damaged 3\n"),
     (11, 0, "recfile: BadOrder\n"),
     (11, 17, "recfile: BadOrder\n"),
     (24, 2, "recfile: NotClean\n"),
@@ -294,8 +295,8 @@ const DAMAGES: [(usize, u8, &str); 13] = [
     (4105, 100, "recfile: Damaged 1\n"),
     (4099, 0, "recfile: Damaged 1\n"),
     (10192, 1, "recfile: Damaged 2\n"),
-    (12403, 3, "recfile: Damaged 3\n"),
-    (12403, 4, "recfile: Damaged 3\n"),
+    (12539, 3, "recfile: Damaged 3\n"),
+    (12539, 4, "recfile: Damaged 3\n"),
 ];
 
 /// Expects that of the call, and that the file at the path has these bytes after it.
@@ -349,6 +350,42 @@ fn damaged_files_are_named(rt: HostRuntime) {
     );
     fs::remove_file(&rt, "damaged.rec").expect(&rt, "no file");
     fs::remove_file(&rt, "three.rec").expect(&rt, "no file");
+}
+
+/// The file of three records in the first version, from that in the second: byte 9 of page 0 is the version, and the
+/// sons of page 3 begin at its byte 108, and not at 244.
+fn old_file(rt: &impl Abort, alloc: Global, bytes: &[u8]) -> Vec<u8> {
+    let mut old = Vec::from_slice(alloc, bytes).expect(rt, "no memory");
+    for (place, value) in [(9, 1), (12399, 1), (12403, 2), (12535, 0), (12539, 0)] {
+        if let Some(byte) = old.get_mut(place) {
+            *byte = value;
+        }
+    }
+    old
+}
+
+// A check leaves a file of the first version as it is, and a session makes it one of the second.
+#[test]
+fn a_file_of_the_first_version(rt: HostRuntime) {
+    let alloc = rt.alloc();
+    let _ = fs::remove_file(&rt, "new.rec");
+    expect_calls(
+        &rt,
+        alloc,
+        &[
+            good("recfile create --order 1 new.rec", "", ""),
+            good("recfile run new.rec", THREE_RECORDS, THREE_REPLIES),
+        ],
+    );
+    let new = fs::read(&rt, "new.rec").expect(&rt, "no file");
+    let old = old_file(&rt, alloc, &new);
+    fs::write(&rt, "old.rec", &old).expect(&rt, "no file");
+    let check = good("recfile check old.rec", "", THREE_CHECKED);
+    expect_kept(&rt, alloc, &check, "old.rec", &old);
+    let session = good("recfile run old.rec", "", "");
+    expect_kept(&rt, alloc, &session, "old.rec", &new);
+    fs::remove_file(&rt, "new.rec").expect(&rt, "no file");
+    fs::remove_file(&rt, "old.rec").expect(&rt, "no file");
 }
 
 /// A script of more than 1,048,576 bytes.

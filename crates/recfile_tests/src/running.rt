@@ -6,6 +6,8 @@ mod rows;
 mod sessions;
 mod table_files;
 
+ghost use Rattle.std.specs.Prelude.{◌<◌, ◌≤◌};
+
 use crate::expect_named;
 use btree_delete::TreeTable;
 use page_store::{MemStore, Store};
@@ -112,8 +114,8 @@ fn page_with(bytes: &[u8; 25]) -> [u8; 4096] {
     page
 }
 
-/// A page of order 1 with one key and its record, and these sons.
-fn page_of(kind: u8, key: u8, record: u8, left: u8, right: u8) -> [u8; 4096] {
+/// A page of order 1 with one key and its record.
+fn page_of(kind: u8, key: u8, record: u8) -> [u8; 4096] {
     let mut page = [0; 4096];
     page[0] = kind;
     page[3] = 1;
@@ -121,19 +123,28 @@ fn page_of(kind: u8, key: u8, record: u8, left: u8, right: u8) -> [u8; 4096] {
     page[9] = key;
     page[25] = 1;
     page[26] = record;
-    page[111] = left;
-    page[115] = right;
     page
 }
 
-/// The file of order 1 with the records x, y and z at the keys a, b and c.
-fn three_records() -> [[u8; 4096]; 4] {
-    [
-        page_with(b"BMKRFILE\x00\x01\x00\x01\x00\x00\x00\x04\x00\x00\x00\x03\x00\x00\x00\x03\x01"),
-        page_of(1, b'a', b'x', 0, 0),
-        page_of(1, b'c', b'z', 0, 0),
-        page_of(2, b'b', b'y', 1, 2),
-    ]
+/// Where the number of the second son ends in a page of order 1, in a file of that version.
+fn second_son(version: u8) -> usize
+    ensures some { 4 ≤ result }
+    ensures most { result < 4096 }
+{
+    if version == 1 { 115 } else { 251 }
+}
+
+/// The file of order 1 with the records x, y and z at the keys a, b and c, of that version.
+fn three_records(version: u8) -> [[u8; 4096]; 4] {
+    let mut header = page_with(
+        b"BMKRFILE\x00\x00\x00\x01\x00\x00\x00\x04\x00\x00\x00\x03\x00\x00\x00\x03\x01",
+    );
+    header[9] = version;
+    let mut root = page_of(2, b'b', b'y');
+    let second = second_son(version);
+    root[second - 4] = 1;
+    root[second] = 2;
+    [header, page_of(1, b'a', b'x'), page_of(1, b'c', b'z'), root]
 }
 
 /// A store with these pages, and a tail.

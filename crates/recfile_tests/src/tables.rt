@@ -169,8 +169,8 @@ fn page_of(kind: u8, key: u8, record: u8, left: u8, right: u8) -> [u8; 4096] {
     page[9] = key;
     page[25] = 1;
     page[26] = record;
-    page[111] = left;
-    page[115] = right;
+    page[247] = left;
+    page[251] = right;
     page
 }
 
@@ -178,7 +178,7 @@ fn page_of(kind: u8, key: u8, record: u8, left: u8, right: u8) -> [u8; 4096] {
 fn header_of_three() -> [u8; 4096] {
     let mut page = [0; 4096];
     page[..25].copy_from_slice(
-        b"BMKRFILE\x00\x01\x00\x01\x00\x00\x00\x04\x00\x00\x00\x03\x00\x00\x00\x03\x01",
+        b"BMKRFILE\x00\x02\x00\x01\x00\x00\x00\x04\x00\x00\x00\x03\x00\x00\x00\x03\x01",
     );
     page
 }

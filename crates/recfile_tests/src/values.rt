@@ -56,11 +56,9 @@ fn record_length(bytes: &[u8]) -> Result<usize, RecordFault> {
 fn records_have_their_lengths(rt: HostRuntime) {
     for (bytes, wanted) in [
         (b"".as_slice(), Ok(0)),
-        (b"abcdefghijklmnopqrstuvwxyz012345", Ok(32)),
-        (
-            b"abcdefghijklmnopqrstuvwxyz0123456",
-            Err(RecordFault::TooLong),
-        ),
+        (b"abcdefghijklmnopqrstuvwxyz0123456", Ok(33)),
+        (&[b'z'; 100], Ok(100)),
+        (&[b'z'; 101], Err(RecordFault::TooLong)),
     ] {
         assert_eq!(rt; record_length(bytes), wanted);
     }

@@ -181,9 +181,9 @@ const LINES: [Row<'static>; 3] = [
         name: "keys and records in escapes",
         limits: (1_000_000, 4_000_000, 1_000_000),
         failing: &[],
-        script: "begin\nput 1 abcdefghijklmnop =\nput 1 abcdefghijklmnopq =\nput 1 %00 =abcdefghijklmnopqrstuvwxyz012345\nput 1 %00 =abcdefghijklmnopqrstuvwxyz0123456\nput 1 %zz =%c3%A9%\nlist\n",
-        replies: "ok 1\nok none\nbad KeyTooLong\nok none\nbad RecordTooLong\nok none\n- %00 =abcdefghijklmnopqrstuvwxyz012345 @1\n- %25zz =%C3%A9%25 @1\n- abcdefghijklmnop = @1\nok 3\n",
-        commands: 5,
+        script: "begin\nput 1 abcdefghijklmnop =\nput 1 abcdefghijklmnopq =\nput 1 %00 =abcdefghijklmnopqrstuvwxyz012345\nput 1 %00 =abcdefghijklmnopqrstuvwxyz0123456\nput 1 %zz =%c3%A9%\nlist\nput 1 z =zzzzzzzzzzzzzzzzzzzzzzzzzzzzzzzzzzzzzzzzzzzzzzzzzzzzzzzzzzzzzzzzzzzzzzzzzzzzzzzzzzzzzzzzzzzzzzzzzzzz\nput 1 z =zzzzzzzzzzzzzzzzzzzzzzzzzzzzzzzzzzzzzzzzzzzzzzzzzzzzzzzzzzzzzzzzzzzzzzzzzzzzzzzzzzzzzzzzzzzzzzzzzzzzz\n",
+        replies: "ok 1\nok none\nbad KeyTooLong\nok none\nok =abcdefghijklmnopqrstuvwxyz012345\nok none\n- %00 =abcdefghijklmnopqrstuvwxyz0123456 @1\n- %25zz =%C3%A9%25 @1\n- abcdefghijklmnop = @1\nok 3\nok none\nbad RecordTooLong\n",
+        commands: 7,
     },
 ];
 

@@ -264,8 +264,8 @@ fn bytes_of(page: Page) -> [u8; 4096] {
     bytes[9] = page.key;
     bytes[25] = 1;
     bytes[26] = page.key;
-    bytes[111] = page.left;
-    bytes[115] = page.right;
+    bytes[247] = page.left;
+    bytes[251] = page.right;
     bytes
 }
 

@@ -128,7 +128,7 @@ fn with_read_failing(
     calls: &[Call],
     faults: &mut String,
 ) -> String {
-    let store = store_of(rt, alloc, &three_records(), 0);
+    let store = store_of(rt, alloc, &three_records(2), 0);
     let reads = Vec::from_slice(alloc, &[number]).expect(rt, "no memory");
     let table = open(rt, alloc, FlakyStore::new(store, reads, Vec::new(alloc)));
     persist_over(rt, alloc, table, calls, faults)
@@ -387,7 +387,7 @@ fn session(
 ) -> (String, u8) {
     let reads = Vec::from_slice(alloc, reads).expect(rt, "no memory");
     let writes = Vec::from_slice(alloc, writes).expect(rt, "no memory");
-    let store = FlakyStore::new(store_of(rt, alloc, &three_records(), 0), reads, writes);
+    let store = FlakyStore::new(store_of(rt, alloc, &three_records(2), 0), reads, writes);
     session_in(rt, alloc, store, script)
 }
 
