@@ -161,35 +161,37 @@ fn start(rt: &impl Abort, log: &mut TxLog, tx: TxId, n: u32, ends: bool) {
     log.start_rollback(tx, n, ends);
 }
 
-/// Expects a change at the key to be taken back next, and that record to be put there: none where it is a claim.
-fn expect_next(
-    rt: &impl Abort,
-    step: Option<UndoStep>,
-    wanted: Key,
-    restored: Option<Option<Record>>,
-) {
+/// Expects the change that is taken back next to be this one.
+fn expect_restore(rt: &impl Abort, step: &Option<UndoStep>, wanted: u8, record: Option<u8>) {
     match step {
         Some(UndoStep::Restore { key, before }) => {
-            assert_eq!(rt; (key, Some(before)), (wanted, restored));
+            assert!(rt; key.bytes() == [wanted].as_slice());
+            assert!(rt; *before == record_of(rt, record));
         }
-        Some(UndoStep::Unclaim { key }) => assert_eq!(rt; (key, None), (wanted, restored)),
-        None => panic!(rt; "nothing is left to take back"),
+        _ => panic!(rt; "no change is taken back next"),
     }
 }
 
-/// Expects that of the next change, and takes it back.
-fn expect_undo(
-    rt: &impl Abort,
-    log: &mut TxLog,
-    tx: u32,
-    key: u8,
-    restored: Option<Option<Record>>,
-    lsn: u32,
-) {
-    let step = log.next_undo(TxId(tx));
+/// Expects the claim that is taken back next to be of this key.
+fn expect_unclaim(rt: &impl Abort, step: &Option<UndoStep>, wanted: u8) {
+    match step {
+        Some(UndoStep::Unclaim { key }) => assert!(rt; key.bytes() == [wanted].as_slice()),
+        _ => panic!(rt; "no claim is taken back next"),
+    }
+}
+
+fn undo(rt: &impl Abort, log: &mut TxLog, tx: TxId, key: u8, before: Option<u8>) -> u32 {
+    let step = log.next_undo(tx);
     assert!(rt; step.is_some());
-    expect_next(rt, step, key_of(rt, key), restored);
-    assert_eq!(rt; log.compensate(TxId(tx)), lsn);
+    expect_restore(rt, &step, key, before);
+    log.compensate(tx)
+}
+
+fn unclaim(rt: &impl Abort, log: &mut TxLog, tx: TxId, key: u8) -> u32 {
+    let step = log.next_undo(tx);
+    assert!(rt; step.is_some());
+    expect_unclaim(rt, &step, key);
+    log.compensate(tx)
 }
 
 fn expect_no_undo(rt: &impl Abort, log: &TxLog, tx: TxId) {
@@ -236,9 +238,9 @@ fn change(rt: &impl Abort, log: &mut TxLog, step: &Step) {
         }
         Step::Start(tx, n, ends) => start(rt, log, TxId(tx), n, ends),
         Step::Undo(tx, key, before, lsn) => {
-            expect_undo(rt, log, tx, key, Some(record_of(rt, before)), lsn);
+            assert_eq!(rt; undo(rt, log, TxId(tx), key, before), lsn);
         }
-        Step::Unclaim(tx, key, lsn) => expect_undo(rt, log, tx, key, None, lsn),
+        Step::Unclaim(tx, key, lsn) => assert_eq!(rt; unclaim(rt, log, TxId(tx), key), lsn),
         Step::Finish(tx, ends) => finish(rt, log, TxId(tx), ends),
         Step::End(tx) => end(rt, log, TxId(tx)),
         _ => look(rt, log, step),
@@ -498,7 +500,7 @@ const SEEN_OTHERWISE: [Step; 10] = [
 ];
 
 /// A claim of transaction 1.
-fn claim(lsn: u32, prev: u32, key: Key, seen: Option<Record>) -> LogRecord {
+fn claimed(lsn: u32, prev: u32, key: Key, seen: Option<Record>) -> LogRecord {
     LogRecord::Claim {
         lsn,
         prev,
@@ -509,7 +511,7 @@ fn claim(lsn: u32, prev: u32, key: Key, seen: Option<Record>) -> LogRecord {
 }
 
 /// One of its claims taken back.
-fn unclaim(lsn: u32, prev: u32, key: Key, undo_next: u32) -> LogRecord {
+fn unclaimed(lsn: u32, prev: u32, key: Key, undo_next: u32) -> LogRecord {
     LogRecord::Unclaim {
         lsn,
         prev,
@@ -527,16 +529,16 @@ fn eleven_records(rt: &impl Abort) -> [LogRecord; 11] {
     let removed = one.as_ref().copied();
     [
         update(1, 0, a, None, put),
-        claim(2, 1, a, seen),
-        claim(3, 2, b, None),
+        claimed(2, 1, a, seen),
+        claimed(3, 2, b, None),
         update(4, 3, b, None, two),
         update(5, 4, a, removed, None),
-        claim(6, 5, a, None),
-        unclaim(7, 6, a, 5),
+        claimed(6, 5, a, None),
+        unclaimed(7, 6, a, 5),
         compensation(8, 7, a, one, 4),
         compensation(9, 8, b, None, 3),
-        unclaim(10, 9, b, 2),
-        unclaim(11, 10, a, 1),
+        unclaimed(10, 9, b, 2),
+        unclaimed(11, 10, a, 1),
     ]
 }
 
