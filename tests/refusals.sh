@@ -337,5 +337,28 @@ commit 1
 keys 1
 END
 
+# Writes bytes over those of a file from a place on.
+put_bytes() {
+    printf "$3" | dd of="$1" bs=1 seek="$2" conv=notrunc status=none
+}
+
+# The records x, y and z at a, b and c in a file of the first version: the sons of page 3 begin at its byte 108, and not
+# at 244.
+cp order_1 old_file
+printf 'begin\nput 1 a =x\nput 1 b =y\nput 1 c =z\ncommit 1\n' | "$program" run old_file > replies
+put_bytes old_file 9 '\001'
+put_bytes old_file 12396 '\000\000\000\001\000\000\000\002'
+put_bytes old_file 12532 '\000\000\000\000\000\000\000\000'
+
+session "a file of the first version" old_file "" << 'END'
+list
+begin
+put 1 b =1
+put 1 d =2
+back 1 0
+put 1 a =3
+commit 1
+END
+
 sed -E 's/(Memory|Stopped)( [0-9]+)+/\1 N/g' outcomes | sort | uniq -c
 echo "refusals: $runs passed, 0 failed"

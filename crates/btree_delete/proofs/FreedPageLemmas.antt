@@ -7,19 +7,6 @@ use Rattle.page_store.specs.CanStage.{CanStage}
 use Rattle.page_store.specs.PagesView.{PagesView, is_in_memory}
 use Rattle.btree_insert.specs.Spelt.{AreSpeltIn}
 
--- one number more
-pub freed_push : (xs : List ℕ) (n q : ℕ) → is_freed (xs ++ n ∷ []) q ≡ (is_freed xs q || eqb q n)
-freed_push [] n q = at (eqb q n)
-  where
-    at : (b : Bool) → (b || false) ≡ (false || b)
-    at true = refl
-    at false = refl
-freed_push (x ∷ xs) n q = at (eqb q x) (freed_push xs n q)
-  where
-    at : (b : Bool) → is_freed (xs ++ n ∷ []) q ≡ (is_freed xs q || eqb q n) → (b || is_freed (xs ++ n ∷ []) q) ≡ ((b || is_freed xs q) || eqb q n)
-    at true is = refl
-    at false is = is
-
 -- what holds of each number in a list holds of all
 pub each_freed : (P : ℕ → Type 0) (xs : List ℕ) → ((n : ℕ) → is_freed xs n ≡ true → P n) → AllByRecursion P xs
 each_freed P [] all = tt
