@@ -8,10 +8,12 @@ mod log_record;
 mod mark;
 mod open_tx;
 mod phase;
+mod records;
 mod told;
 mod undo_chain;
 
 pub use log::TxLog;
+pub use records::Records;
 pub use log_record::LogRecord;
 pub use open_tx::MOST_SAVEPOINTS;
 pub use phase::{BeginFault, Phase, UndoStep};
