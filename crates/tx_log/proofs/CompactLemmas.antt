@@ -1,10 +1,15 @@
 -- The records of a log in little memory: what stays as bytes and entries are added.
-use Rattle.std.proofs.Common.{◌≡◌, ℕ, ◌+◌, ◌≤◌, Bool, true, false, if◌then◌else◌, zero, suc, List, [], ◌∷◌, ◌++◌, length, take, drop, map, Option, Some, None, option_map, slice_get, refl, sym, ap, subst, ◌∙◌, arith}
+use Rattle.std.proofs.Common.{◌≡◌, ℕ, ◌+◌, ◌≤◌, ◌<◌, ◌-◌, Bool, true, false, if◌then◌else◌, zero, suc, List, [], ◌∷◌, ◌++◌, length, take, drop, map, Option, Some, None, option_map, slice_get, get_or, reverse, refl, sym, ap, subst, ◌∙◌, arith}
 use Rattle.std.proofs.lemmas.List.{take-append-le, drop-append-le, length-drop}
+use Rattle.std.proofs.lemmas.Option.{slice_get-get_or}
 use Rattle.rec_types.specs.declared.transaction.TxId.{TxId}
 use Rattle.tx_log.specs.Compact.{read, IsWithin, told_as, back_kind, record_in}
-use Rattle.tx_log.specs.Log.{back_record, back_in, key_of, prev_of}
+use Rattle.tx_log.specs.Log.{back_record, back_in, key_of, prev_of, chain, IsNumbered}
+use Rattle.tx_log.specs.Marks.{first_lsn}
+use Rattle.tx_log.specs.Walks.{change_in, newest_in}
+use Rattle.tx_log.proofs.MarkLemmas.{first_there}
 use Rattle.tx_log.specs.declared.log_record.LogRecord.{LogRecord}
+use Rattle.tx_log.specs.declared.log_record.LogRecord.TheVariants as logged
 use Rattle.tx_log.specs.declared.records.Span.{Span}
 use Rattle.tx_log.specs.declared.records.Kind.{Kind}
 use Rattle.tx_log.specs.declared.records.Kind.TheVariants.{Update, Compensation, Claim, Unclaim}
@@ -58,3 +63,11 @@ back-told Update lsn prev tx ulsn uprev utx key before after other undo_next = r
 back-told Compensation lsn prev tx ulsn uprev utx key before after other undo_next = refl
 back-told Claim lsn prev tx ulsn uprev utx key before after other undo_next = refl
 back-told Unclaim lsn prev tx ulsn uprev utx key before after other undo_next = refl
+
+-- the number leads to the first of the chain
+pub newest-there : (log : List LogRecord) (from at : ℕ) → IsNumbered (reverse log) → at ≡ first_lsn (chain (reverse log) from) → 0 < at → at ≤ length log → option_map change_in (slice_get log (at - 1)) ≡ newest_in (chain (reverse log) from)
+newest-there log from at numbered is some within =
+    let nothing : LogRecord = logged.Unclaim 0 0 (record { 0 = 0 }) [] 0 in
+    let found = slice_get-get_or log (at - 1) nothing (omega (arith, some, within)) in
+    let first = first_there log from at nothing (get_or log (at - 1) nothing) numbered is some refl in
+    ap (option_map change_in) found ∙ sym (ap newest_in first.is)

@@ -13,7 +13,6 @@ mod told;
 mod undo_chain;
 
 pub use log::TxLog;
-pub use records::Records;
 pub use log_record::LogRecord;
 pub use open_tx::MOST_SAVEPOINTS;
 pub use phase::{BeginFault, Phase, UndoStep};

@@ -1,13 +1,15 @@
-ghost use Rattle.std.specs.Prelude.{◌≡◌, ℕ, ◌+◌, ◌*◌, ◌<◌, ◌≤◌, ◌++◌, ◌^◌, [], ◌∷◌, Option, Some, None, List, length, slice_get, vec_len, OnOk, OnErr, IfOk};
+ghost use Rattle.std.specs.Prelude.{◌≡◌, ℕ, ◌+◌, ◌*◌, ◌<◌, ◌≤◌, ◌++◌, ◌^◌, [], ◌∷◌, Option, Some, None, List, length, slice_get, option_map, vec_len, OnOk, OnErr, IfOk};
 ghost use Rattle.std.specs.Vec.{vec_capacity};
 ghost use Rattle.rec_types.specs.LimitBounds.{most_log_records};
 ghost use Rattle.rec_types.specs.Widths.{widest_record};
 ghost use Rattle.tx_log.specs.Compact.{read, IsWithin, back_kind, told_as};
 ghost use Rattle.tx_log.specs.Log.{change_record, back_record, back_in, key_of, prev_of};
 ghost use Rattle.rec_types.specs.declared.transaction.TxId.{TxId};
+ghost use Rattle.tx_log.specs.Walks.{change_in};
 ghost use Rattle.tx_log.specs.declared.log_record.LogRecord.{LogRecord};
 
 use crate::LogRecord;
+use crate::undo_chain::LiveChange;
 use rec_types::{Key, Memory, RECORD_WIDTH, Record, TxId};
 use std::alloc::Global;
 use std::marker::Model;
@@ -196,6 +198,27 @@ impl Records {
                 key,
                 undo_next,
             },
+        })
+    }
+
+    /// The same as a change; a compensation as one that wrote what it restored.
+    pub fn change(&self, i: usize) -> Option<LiveChange>
+        ensures { result ≡ option_map change_in (slice_get self.now.items i) }
+    {
+        let entry = self.entries.get(i)?;
+        let before = record_at(&self.bytes, entry.before);
+        let (seen, after) = match entry.kind {
+            Kind::Update => (before, Some(record_at(&self.bytes, entry.after))),
+            Kind::Compensation => (before, Some(record_at(&self.bytes, entry.before))),
+            Kind::Claim => (before, None),
+            Kind::Unclaim => (None, None),
+        };
+        Some(LiveChange {
+            lsn: entry.lsn,
+            prev: entry.prev,
+            key: entry.key,
+            before: seen,
+            after,
         })
     }
 

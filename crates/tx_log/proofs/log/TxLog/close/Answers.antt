@@ -40,7 +40,6 @@ freed c =
     let t = c.args.tx.0 in
     let out = c.take_out-closed.ensures t c.place_of-at.ensures.stands in
     λ q. c.free_keys.ensures q
-    ∙ ap (λ (log : List LogRecord). cond (list_any (is_at q) (chain (reverse log) c.take_out-closed.result.last)) None (held l.holdings q)) c.deref.ensures.value
     ∙ ap (λ (us : List LogRecord). cond (list_any (is_at q) us) None (held l.holdings q)) (entry_chain (reverse l.records.items) l.txs.entries l.begun l.pending l.gone t c.take_out-closed.result c.self.invariant.log_kept out.0)
 
 pub free_keys-requires-clause-within : goal.free_keys-requires-clause-within
@@ -50,7 +49,7 @@ free_keys-requires-clause-within c =
     let e = c.take_out-closed.result in
     let out = c.take_out-closed.ensures t c.place_of-at.ensures.stands in
     let size = sized (reverse l.records.items) l.txs.entries l.begun l.pending l.gone t e c.self.invariant.log_kept out.0 in
-    subst (λ (n : ℕ). e.last ≤ n) (length-reverse l.records.items ∙ ap length (sym c.deref.ensures.value)) size.last
+    subst (λ (n : ℕ). e.last ≤ n) (length-reverse l.records.items) size.last
 
 pub invariant_of-self : goal.invariant_of-self
 invariant_of-self c =
@@ -73,6 +72,7 @@ invariant_of-self c =
         most_begins = bounded.most_begins;
       };
       records_room = record { held = omega (arith, c.self.invariant.records_room.held); spare = tt };
+      bytes_room = tt;
       marks_room = record { held = omega (arith, c.self.invariant.marks_room.held); spare = tt };
     }
 

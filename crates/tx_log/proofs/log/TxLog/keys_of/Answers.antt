@@ -23,7 +23,7 @@ changed_keys-requires-clause-within c =
     let e = c.in-Some.open_tx.now in
     let found = sym c.in-Some.ensures in
     let size = sized (reverse l.records.items) l.txs.entries l.begun l.pending l.gone t e c.self.invariant.log_kept found in
-    subst (λ (n : ℕ). e.last ≤ n) (length-reverse l.records.items ∙ ap length (sym c.deref.ensures.value)) size.last
+    subst (λ (n : ℕ). e.last ≤ n) (length-reverse l.records.items) size.last
 
 pub returns : goal.returns
 returns c =
@@ -31,6 +31,6 @@ returns c =
     let t = c.args.tx.0 in
     let e = c.in-Some.open_tx.now in
     let found = sym c.in-Some.ensures in
-    let are = c.in_ok-keys.ensures ∙ ap (λ (log : List LogRecord). map key_of (chain (reverse log) e.last)) c.deref.ensures.value in
+    let are = c.in_ok-keys.ensures in
     owned_keys (reverse l.records.items) l.txs.entries l.begun l.pending l.gone t e c.in_ok-keys.keys.items c.sort_unstable.new.self.items c.dedup.new.self.items c.self.invariant.log_kept found are c.sort_unstable.ensures.permutation c.sort_unstable.ensures.sorted (dedup_is _ _ _ c.dedup.ensures.filtered)
     ∙ ap (λ (s : LogState). keys_owned (open_in s) (history_in s) t) c.self.view_is

@@ -34,7 +34,7 @@ count_changes-left-requires-clause-within c =
     let e = c.index-2.result.now in
     let found = read_at l.txs t c.place_of-at.result e c.place_of-at.ensures.stands c.index-2.ensures in
     let size = sized (reverse l.records.items) l.txs.entries l.begun l.pending l.gone t e c.self.invariant.log_kept found in
-    subst (λ (n : ℕ). e.last ≤ n) (length-reverse l.records.items ∙ ap length (sym c.deref.ensures.value)) size.last
+    subst (λ (n : ℕ). e.last ≤ n) (length-reverse l.records.items) size.last
 
 -- the transaction's entry, where the rollback goes back to, and what it is to take back
 module _ (c : goal.After-self-2-1) where
@@ -57,7 +57,6 @@ module _ (c : goal.After-self-2-1) where
       let e = c.index-2.result.now in
       let found = read_at l.txs t c.place_of-at.result e c.place_of-at.ensures.stands c.index-2.ensures in
       c.count_changes-left.ensures
-      ∙ ap (λ (log : List LogRecord). length (filter (is_after c.save_at-to.result) (chain (reverse log) e.last))) c.deref.ensures.value
       ∙ ap (λ us. length (filter (is_after c.save_at-to.result) us)) (entry_chain (reverse l.records.items) l.txs.entries l.begun l.pending l.gone t e c.self.invariant.log_kept found)
 
 pub invariant_of-self : goal.invariant_of-self
