@@ -1,5 +1,5 @@
 -- The records of a log in little memory: numbers, keys, and spans of one list of bytes.
-use Rattle.std.specs.Prelude.{◌≡◌, ℕ, ◌+◌, ◌-◌, ◌*◌, ◌≤◌, Bool, true, false, if◌then◌else◌, List, length, take, drop, map, Option, Some, None, slice_get, vec_len}
+use Rattle.std.specs.Prelude.{◌≡◌, ℕ, ◌+◌, ◌-◌, ◌*◌, ◌≤◌, if◌then◌else◌, List, take, drop, map, Option, Some, None, slice_get, vec_len}
 use Rattle.std.specs.Vec.{vec_capacity}
 use Rattle.rec_types.specs.Widths.{widest_record}
 use Rattle.rec_types.specs.declared.transaction.TxId.{TxId}

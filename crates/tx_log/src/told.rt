@@ -1,8 +1,8 @@
 ghost use Rattle.std.specs.Prelude.{◌≡◌, not, is_some, option_map, unwrap_or};
 ghost use Rattle.tx_log.specs.LogState.{step_of};
 
-use crate::undo_chain::LiveChange;
 use crate::UndoStep;
+use crate::undo_chain::LiveChange;
 use rec_types::Record;
 
 /// What a rollback does to take a change back.

@@ -1,5 +1,5 @@
 -- The number leads to the first of the chain.
-use Rattle.std.proofs.Common.{reverse, sym, ap, ◌∙◌, arith}
+use Rattle.std.proofs.Common.{reverse, ◌∙◌, arith}
 use Rattle.tx_log.proofs.MarkLemmas.{as_many, nothing_there, within_log}
 use Rattle.tx_log.proofs.CompactLemmas.{newest-there}
 use Rattle.tx_log.proofs.undo_chain.newest_change.Goals as goal

@@ -1,4 +1,4 @@
-use Rattle.std.proofs.Common.{ℕ, ◌≤◌, List, length, cond, None, reverse, sym, ap, subst, ◌∙◌, arith}
+use Rattle.std.proofs.Common.{ℕ, ◌≤◌, List, cond, None, reverse, ap, subst, ◌∙◌, arith}
 use Rattle.std.specs.FinMap as maps
 use Rattle.tx_log.proofs.EndLemmas.{closed, closed_state, live_part}
 use Rattle.std.specs.List.{list_any}
@@ -11,7 +11,7 @@ use Rattle.tx_log.specs.Walks.{is_at}
 use Rattle.tx_log.specs.declared.log_record.LogRecord.{LogRecord}
 use Rattle.tx_log.proofs.KeptLogLemmas.{open_of_tx, sized, kept_now}
 use Rattle.tx_log.specs.Finds.{finding}
-use Rattle.tx_log.specs.Log.{kept_of, stack, chain}
+use Rattle.tx_log.specs.Log.{kept_of, stack}
 use Rattle.tx_log.specs.LogState.{LogState, with_txs, open_in}
 use Rattle.tx_log.proofs.log.TxLog.close.Goals as goal
 

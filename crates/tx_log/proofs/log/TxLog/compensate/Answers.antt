@@ -1,4 +1,4 @@
-use Rattle.std.proofs.Common.{◌≡◌, ◌∷◌, [], ◌++◌, cond, refl, ℕ, zero, suc, slice_get, ◌+◌, ◌-◌, not, ◌<◌, ◌≤◌, Bool, true, List, Some, None, option_map, length, reverse, is_some, vec_len, sym, ap, subst, ◌∙◌, arith}
+use Rattle.std.proofs.Common.{◌≡◌, ◌∷◌, [], ◌++◌, cond, refl, ℕ, zero, suc, slice_get, ◌+◌, ◌-◌, ◌<◌, ◌≤◌, Bool, true, List, Some, None, option_map, length, reverse, is_some, vec_len, sym, ap, subst, ◌∙◌, arith}
 use Rattle.std.specs.Vec.{vec_capacity}
 use Rattle.std.proofs.lemmas.List.{length-reverse, length-append}
 use Rattle.rec_types.specs.History.{log_len}
@@ -22,7 +22,7 @@ use Rattle.tx_log.proofs.WalkSteps.{IsStep, walk_step}
 use Rattle.tx_log.specs.Finds.{finding, PutsAt}
 use Rattle.tx_log.specs.Log.{back_record, record_at, lsn_of, key_of, leads_to, led, kept_of, chain}
 use Rattle.tx_log.specs.LogState.{LogState, history_in, undo_in, compensations_in}
-use Rattle.tx_log.specs.Walks.{newest_in, absent_at}
+use Rattle.tx_log.specs.Walks.{absent_at}
 use Rattle.tx_log.specs.declared.log.TxLog.TheInside.{Inside}
 use Rattle.tx_log.specs.declared.log_record.LogRecord.{LogRecord}
 use Rattle.tx_log.specs.declared.mark.Mark.{Mark}

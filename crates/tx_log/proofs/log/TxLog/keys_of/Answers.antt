@@ -1,12 +1,11 @@
-use Rattle.std.proofs.Common.{ℕ, ◌≤◌, List, length, reverse, map, sym, ap, subst, ◌∙◌}
+use Rattle.std.proofs.Common.{ℕ, ◌≤◌, reverse, sym, ap, subst, ◌∙◌}
 use Rattle.std.proofs.lemmas.List.{length-reverse}
 use Rattle.std.proofs.lemmas.List.Filters.{dedup_is}
 use Rattle.tx_log.proofs.KeptLogLemmas.{sized}
 use Rattle.tx_log.proofs.OwnedKeys.{owned_keys, unowned_keys}
-use Rattle.tx_log.specs.Log.{kept_of, key_of, chain}
+use Rattle.tx_log.specs.Log.{kept_of}
 use Rattle.tx_log.specs.LogState.{LogState, open_in, history_in}
 use Rattle.tx_log.specs.Owners.{keys_owned}
-use Rattle.tx_log.specs.declared.log_record.LogRecord.{LogRecord}
 use Rattle.tx_log.proofs.log.TxLog.keys_of.Goals as goal
 
 pub returns-in_default : goal.returns-in_default

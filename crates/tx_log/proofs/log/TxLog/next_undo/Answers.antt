@@ -1,4 +1,4 @@
-use Rattle.std.proofs.Common.{◌≡◌, ℕ, ◌≤◌, List, length, map, reverse, Some, option_map, sym, ap, subst, ◌∙◌}
+use Rattle.std.proofs.Common.{◌≡◌, ℕ, ◌≤◌, List, map, reverse, Some, option_map, sym, ap, subst, ◌∙◌}
 use Rattle.std.specs.List.{filter}
 use Rattle.std.proofs.lemmas.List.{length-reverse}
 use Rattle.tx_log.proofs.KeptLogLemmas.{sized}
@@ -6,7 +6,7 @@ use Rattle.tx_log.proofs.OpenTxReadLemmas.{entry_chain, undo_is, undo_none, undo
 use Rattle.tx_log.proofs.Lives.{first}
 use Rattle.tx_log.specs.Log.{kept_of, chain, noted}
 use Rattle.tx_log.specs.LogState.{LogState, undo_in, undo_of, undo_step}
-use Rattle.tx_log.specs.Walks.{newest_in, is_after}
+use Rattle.tx_log.specs.Walks.{is_after}
 use Rattle.tx_log.specs.declared.log_record.LogRecord.{LogRecord}
 use Rattle.tx_log.proofs.log.TxLog.next_undo.Goals as goal
 use Rattle.tx_log.proofs.log.TxLog.next_undo.Goals.{After-deref}

@@ -1,17 +1,16 @@
-use Rattle.std.proofs.Common.{◌≡◌, Option, Some, ℕ, ◌≤◌, List, length, take, reverse, sym, ap, subst, ◌∙◌}
+use Rattle.std.proofs.Common.{◌≡◌, Option, Some, ℕ, ◌≤◌, length, take, reverse, sym, ap, subst, ◌∙◌}
 use Rattle.tx_log.proofs.KeptLogLemmas.{active_open, kept_now, sized, some_of}
 use Rattle.tx_log.proofs.StageLemmas.{IsMove, moved_tx, moved_log, moved_view, up_to_take, up_to_place, rolling_is, short_take}
 use Rattle.tx_log.proofs.PlaceOf.{read_at}
 use Rattle.tx_log.proofs.OpenTxLemmas.{found_fits}
 use Rattle.tx_log.proofs.OpenTxReadLemmas.{depth_is, entry_chain}
 use Rattle.tx_log.specs.Finds.{finding}
-use Rattle.tx_log.specs.Log.{kept_of, stack, chain}
+use Rattle.tx_log.specs.Log.{kept_of, stack}
 use Rattle.tx_log.specs.LogState.{LogState, tx_in, rolling_to}
 use Rattle.tx_log.specs.Transactions.{depth_of, place_in}
 use Rattle.std.specs.List.{filter}
 use Rattle.std.proofs.lemmas.List.{length-reverse}
 use Rattle.tx_log.specs.Walks.{is_after}
-use Rattle.tx_log.specs.declared.log_record.LogRecord.{LogRecord}
 use Rattle.tx_log.specs.declared.phase.Rollback.{Rollback}
 use Rattle.tx_log.specs.declared.open_tx.OpenTx.{OpenTx}
 use Rattle.tx_log.proofs.log.TxLog.start_rollback.Goals as goal

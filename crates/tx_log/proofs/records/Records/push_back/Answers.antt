@@ -1,4 +1,4 @@
-use Rattle.std.proofs.Common.{◌≡◌, ℕ, ◌+◌, ◌*◌, ◌≤◌, ◌<◌, List, [], ◌∷◌, ◌++◌, cond, length, map, Option, Some, None, option_map, unwrap_or, slice_get, vec_len, Bool, refl, sym, ap, subst, ◌∙◌, arith}
+use Rattle.std.proofs.Common.{◌≡◌, ℕ, List, [], ◌∷◌, ◌++◌, cond, length, map, Some, option_map, unwrap_or, slice_get, vec_len, Bool, refl, sym, ap, subst, ◌∙◌, arith}
 use Rattle.std.proofs.lemmas.List.{map-append, length-map}
 use Rattle.std.proofs.lemmas.Option.{slice_get-map, slice_get_read}
 use Rattle.tx_log.specs.Compact.{RecordsView, read, IsWithin, told_as, record_in}
@@ -51,6 +51,6 @@ returns-clause-items c = λ u found.
     let is : told c (taken c) ≡ u = ap (λ o. unwrap_or o u) (sym (ap (option_map (told c)) (there c)) ∙ sym (slice_get-map (told c) l.entries.items c.args.of) ∙ ap (λ (rs : List LogRecord). slice_get rs c.args.of) items ∙ found) in
     let t = taken c in
     let back = ap (λ (k : Kind). told_as k c.args.lsn c.args.prev c.args.tx t.key (read l.bytes.items t.before) (read l.bytes.items c.none.result) t.prev) c.back.ensures
-        ∙ back-told t.kind c.args.lsn c.args.prev c.args.tx t.lsn t.prev t.tx t.key (read l.bytes.items t.before) (read l.bytes.items t.after) (read l.bytes.items c.none.result) t.undo_next in
+    ∙ back-told t.kind c.args.lsn c.args.prev c.args.tx t.lsn t.prev t.tx t.key (read l.bytes.items t.before) (read l.bytes.items t.after) (read l.bytes.items c.none.result) t.undo_next in
     subst (λ (v : LogRecord). map (told c) c.push.new.self.items ≡ c.args.self.now.items ++ back_record c.args.lsn c.args.prev c.args.tx (key_of v) (back_in v) (prev_of v) ∷ []) is
     (ap (map (told c)) (entries_are c) ∙ map-append (told c) l.entries.items (pushed c ∷ []) ∙ (λ i. items i ++ back i ∷ []))

@@ -1,7 +1,6 @@
-use Rattle.std.proofs.Common.{◌≡◌, ℕ, ◌+◌, ◌*◌, ◌≤◌, ◌<◌, ◌-◌, List, [], ◌∷◌, ◌++◌, cond, length, map, Option, Some, slice_get, vec_len, Bool, refl, sym, ap, subst, ◌∙◌, arith}
+use Rattle.std.proofs.Common.{◌≡◌, ℕ, ◌+◌, ◌≤◌, List, [], ◌∷◌, ◌++◌, cond, length, map, Some, slice_get, vec_len, Bool, sym, ap, subst, ◌∙◌, arith}
 use Rattle.std.proofs.lemmas.List.{map-append, length-map, length-append, append_assoc}
 use Rattle.tx_log.specs.Compact.{RecordsView, read, IsWithin, told_as, record_in}
-use Rattle.tx_log.specs.declared.log_record.LogRecord.{LogRecord}
 use Rattle.tx_log.specs.declared.records.Span.{Span}
 use Rattle.tx_log.specs.declared.records.Entry.{Entry}
 use Rattle.tx_log.proofs.CompactLemmas.{read-more, records-more, within-more, within-push}
