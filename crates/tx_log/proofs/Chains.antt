@@ -1,5 +1,5 @@
 -- The chain of a transaction passes exactly its updates that aren't taken back.
-use Rattle.std.proofs.Common.{◌≡◌, ℕ, ◌+◌, ◌<◌, ◌≤◌, Bool, true, false, cond, eqb, List, [], ◌∷◌, ◌++◌, length, drop, Option, refl, sym, ap, subst, ◌∙◌, arith, eq-eqb}
+use Rattle.std.proofs.Common.{◌≡◌, ℕ, ◌+◌, ◌<◌, ◌≤◌, Bool, true, false, cond, eqb, List, [], ◌∷◌, ◌++◌, length, drop, refl, sym, ap, subst, ◌∙◌, arith, eq-eqb}
 use Rattle.std.proofs.lemmas.Bool.Decides.{nat_tests}
 use Rattle.tx_log.specs.Log.{lsn_of, prev_of, tx_of_record, leads_to, is_change, last_of, stepped, stack, led, chain, IsNumbered, Undoes, TellsOf, IsWritten, AllWritten}
 use Rattle.tx_log.specs.declared.log_record.LogRecord.{LogRecord}

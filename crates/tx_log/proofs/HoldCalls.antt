@@ -1,5 +1,5 @@
 -- What is kept of the key that a change is made at, or taken back at.
-use Rattle.std.proofs.Common.{◌≡◌, ℕ, ◌+◌, ◌<◌, ◌≤◌, Bool, true, false, suc, cond, not, eqb, ◌||◌, List, [], ◌∷◌, length, reverse, Option, Some, None, IfSome, option_map, is_some, refl, sym, ap, subst, ◌∙◌, arith}
+use Rattle.std.proofs.Common.{◌≡◌, ℕ, ◌+◌, ◌<◌, ◌≤◌, Bool, true, false, suc, cond, not, eqb, ◌||◌, List, [], ◌∷◌, length, reverse, Option, Some, None, IfSome, is_some, refl, sym, ap, subst, ◌∙◌, arith}
 use Rattle.std.specs.List.{filter, list_any}
 use Rattle.std.proofs.lemmas.List.{length-reverse}
 use Rattle.rec_types.specs.Kept.{history_of}

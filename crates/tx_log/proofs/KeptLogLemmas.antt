@@ -200,7 +200,7 @@ is_log s rs es pending gone_keys kept fits within cs_is txs_is =
 -- what the fields of a log say of it
 pub kept_now : (l : Inside) → IsTxLog l → (s : LogState) → state_of l ≡ s → IsLog s
 kept_now l is s view =
-    subst IsLog view (is_log _ (reverse l.records.items) l.txs.entries l.pending l.gone is.log_kept (omega (arith, is.bounded.fits, length-reverse l.records.items, l.records.ok.0)) is.bounded.within refl refl)
+    subst IsLog view (is_log _ (reverse l.records.items) l.txs.entries l.pending l.gone is.log_kept (omega (arith, is.bounded.fits, length-reverse l.records.items)) is.bounded.within refl refl)
 
 -- ---- a count that was made again
 

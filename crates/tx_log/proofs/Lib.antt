@@ -1,5 +1,6 @@
 pub mod AbsentOwnedLemmas
 pub mod Chains
+pub mod CompactLemmas
 pub mod Counts
 pub mod KeyLemmas
 pub mod EndLemmas

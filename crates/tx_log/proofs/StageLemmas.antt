@@ -86,6 +86,7 @@ moved_log l t at e d s left ss is there stands new_is move =
       reserved = tt;
       bounded = is.bounded;
       records_room = unroomed _ _ _ _ is.records_room;
+      bytes_room = tt;
       marks_room = unroomed _ _ _ _ is.marks_room;
     }
 

@@ -1,3 +1,4 @@
+pub mod Compact
 pub mod Examples
 pub mod Finds
 pub mod Fits

@@ -1,10 +1,11 @@
 -- How a log lies in its fields.
-use Rattle.std.specs.Prelude.{◌≡◌, ℕ, ◌+◌, ◌≤◌, List, length, filter, reverse, true, Option, IfSome, is_some, vec_len}
+use Rattle.std.specs.Prelude.{◌≡◌, ℕ, ◌+◌, ◌*◌, ◌≤◌, List, length, filter, reverse, true, Option, IfSome, is_some, vec_len}
 use Rattle.std.specs.Vec.{vec_capacity}
 use Rattle.std.specs.FinMap as maps
 use Rattle.rec_types.specs.History.{is_pending}
 use Rattle.rec_types.specs.Kept.{history_of, IsOwned, AllBegun}
 use Rattle.rec_types.specs.LimitBounds.{Bounds, most_log_records, most_begins}
+use Rattle.rec_types.specs.Widths.{widest_record}
 use Rattle.tx_log.specs.Finds.{Txs, found}
 use Rattle.tx_log.specs.Fits.{AllFit, AllKnown}
 use Rattle.tx_log.specs.Log.{kept_of, IsNumbered, AllWritten}
@@ -54,6 +55,8 @@ pub record IsTxLog (l : Inside) : Type 0 where
   pub holding : IsHeld (reverse l.records.items) (opens (found l.txs)) (held l.holdings)
   pub busy_keys : AllBusy (held l.holdings) l.over
   pub reserved : IfSome l.room (λ k. is_some (held l.holdings k) ≡ true)
-  pub bounded : IsBounded (vec_len l.records) l.pending l.begun l.limits
-  pub records_room : HasRoom (vec_len l.records) l.pending (vec_capacity l.records) l.room
+  pub bounded : IsBounded (length l.records.items) l.pending l.begun l.limits
+  pub records_room : HasRoom (length l.records.items) l.pending l.records.room l.room
+  -- the bytes of a change's records have room where a key has
+  pub bytes_room : IfSome l.room (λ _. 2 * widest_record ≤ l.records.free)
   pub marks_room : HasRoom (vec_len l.marks) l.pending (vec_capacity l.marks) l.room

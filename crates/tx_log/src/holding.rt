@@ -8,8 +8,8 @@ ghost use Rattle.tx_log.specs.Holdings.{held, Places, HeldAt, holder, lowered, b
 ghost use Rattle.tx_log.specs.declared.holding.Holding.{Holding};
 ghost use Rattle.tx_log.specs.declared.log_record.LogRecord.{LogRecord};
 
-use crate::LogRecord;
 use crate::mark::Mark;
+use crate::records::Records;
 use crate::undo_chain::newest_change;
 use indexmap::IndexMap;
 use rec_types::{Key, Memory, TxId};
@@ -142,12 +142,12 @@ pub fn lower(holdings: &mut Holdings, key: &Key, absent: bool) -> bool
 }
 
 /// Forgets the keys of the changes that aren't taken back, on the way down from the record with the number `from`.
-pub fn free_keys(holdings: &mut Holdings, log: &[LogRecord], marks: &[Mark], from: u32)
-    requires numbered { IsNumbered (reverse log.now) }
-    requires marked { AreMarked (reverse log.now) (reverse marks.now) }
-    requires within { from ≤ length log.now }
+pub fn free_keys(holdings: &mut Holdings, log: &Records, marks: &[Mark], from: u32)
+    requires numbered { IsNumbered (reverse log.now.items) }
+    requires marked { AreMarked (reverse log.now.items) (reverse marks.now) }
+    requires within { from ≤ length log.now.items }
     ensures { (q : List ℕ) → held holdings.new q
-        ≡ (if list_any (is_at q) (chain (reverse log.now) from) then None
+        ≡ (if list_any (is_at q) (chain (reverse log.now.items) from) then None
         else held holdings.old q) }
 {
     let mut at = from;

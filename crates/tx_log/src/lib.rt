@@ -8,6 +8,7 @@ mod log_record;
 mod mark;
 mod open_tx;
 mod phase;
+mod records;
 mod told;
 mod undo_chain;
 

@@ -11,7 +11,8 @@ use crate::holding::{Holdings, find_holder, free_keys, lower, make_room, raise};
 use crate::mark::{Mark, is_absent_below, newest_number};
 use crate::open_tx::{OpenTx, OpenTxs, find_open, place_of, recount, take_out};
 use crate::phase::Rollback;
-use crate::told::{back_record, change_record, is_lacking, undo_step};
+use crate::records::Records;
+use crate::told::{is_lacking, undo_step};
 use crate::undo_chain::{changed_keys, count_changes, newest_above, newest_change};
 use crate::{BeginFault, LogRecord, Phase, UndoStep};
 use rec_types::{Key, Limits, Memory, Record, TxId};
@@ -23,7 +24,7 @@ use std::marker::Model;
 pub struct TxLog {
     alloc: Global,
     /// Has room for the compensation of each pending change, and for two records more where a key has room.
-    records: Vec<LogRecord>,
+    records: Records,
     /// One for each record, and the same room.
     marks: Vec<Mark>,
     txs: OpenTxs,
@@ -64,7 +65,7 @@ impl TxLog {
         let _begins = limits.begins();
         TxLog {
             alloc,
-            records: Vec::new(alloc),
+            records: Records::new(alloc),
             marks: Vec::new(alloc),
             txs: OpenTxs::new(alloc),
             holdings: Holdings::new(alloc),
@@ -153,7 +154,7 @@ impl TxLog {
         if lsn == 0 {
             return None;
         }
-        self.records.get((lsn - 1) as usize).copied()
+        self.records.get((lsn - 1) as usize)
     }
 
     /// The length of the log.
@@ -303,9 +304,7 @@ impl TxLog {
         let writes = after.is_some();
         let out = raise(&mut self.holdings, &key, tx, writes, lacks);
         let lsn = self.records.len() as u32 + 1;
-        let _ = self
-            .records
-            .push(change_record(lsn, prev, tx, key, before, after));
+        self.records.push_change(lsn, prev, tx, key, before, after);
         let _ = self.marks.push(Mark {
             newest: lsn,
             absent: out.0,
@@ -353,7 +352,8 @@ impl TxLog {
         let was = lower(&mut self.holdings, &change.key, will);
         let below = newest_number(&self.marks, change.prev);
         let lsn = self.records.len() as u32 + 1;
-        let _ = self.records.push(back_record(lsn, prev, tx, &change));
+        self.records
+            .push_back((change.lsn - 1) as usize, lsn, prev, tx);
         let _ = self.marks.push(Mark {
             newest: below,
             absent: will,

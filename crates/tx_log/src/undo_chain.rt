@@ -4,8 +4,8 @@ ghost use Rattle.tx_log.specs.Log.{chain, key_of, IsNumbered};
 ghost use Rattle.tx_log.specs.Marks.{AreMarked};
 ghost use Rattle.tx_log.specs.Walks.{newest_in, is_after};
 
-use crate::LogRecord;
 use crate::mark::{Mark, newest_number};
+use crate::records::Records;
 use rec_types::{Key, Memory, Record};
 use std::alloc::Global;
 
@@ -21,58 +21,26 @@ pub struct LiveChange {
 }
 
 /// The newest change that isn't taken back, on the way down from the record with the number `from`.
-pub fn newest_change(log: &[LogRecord], marks: &[Mark], from: u32) -> Option<LiveChange>
-    requires numbered { IsNumbered (reverse log.now) }
-    requires marked { AreMarked (reverse log.now) (reverse marks.now) }
-    requires within { from ≤ length log.now }
-    ensures { result ≡ newest_in (chain (reverse log.now) from) }
+pub fn newest_change(log: &Records, marks: &[Mark], from: u32) -> Option<LiveChange>
+    requires numbered { IsNumbered (reverse log.now.items) }
+    requires marked { AreMarked (reverse log.now.items) (reverse marks.now) }
+    requires within { from ≤ length log.now.items }
+    ensures { result ≡ newest_in (chain (reverse log.now.items) from) }
 {
     let at = newest_number(marks, from);
     if at == 0 {
         return None;
     }
-    let record = log[(at - 1) as usize];
-    match record {
-        LogRecord::Update {
-            lsn,
-            prev,
-            key,
-            before,
-            after,
-            ..
-        } => Some(LiveChange {
-            lsn,
-            prev,
-            key,
-            before,
-            after: Some(after),
-        }),
-        LogRecord::Claim {
-            lsn,
-            prev,
-            key,
-            seen,
-            ..
-        } => Some(LiveChange {
-            lsn,
-            prev,
-            key,
-            before: seen,
-            after: None,
-        }),
-        // No mark leads here.
-        LogRecord::Compensation { .. } => None,
-        LogRecord::Unclaim { .. } => None,
-    }
+    log.change((at - 1) as usize)
 }
 
 /// The newest change that isn't taken back, on the way down from the record with the number `from`, if its own number
 /// is above `to`.
-pub fn newest_above(log: &[LogRecord], marks: &[Mark], from: u32, to: u32) -> Option<LiveChange>
-    requires numbered { IsNumbered (reverse log.now) }
-    requires marked { AreMarked (reverse log.now) (reverse marks.now) }
-    requires within { from ≤ length log.now }
-    ensures { result ≡ newest_in (filter (is_after to) (chain (reverse log.now) from)) }
+pub fn newest_above(log: &Records, marks: &[Mark], from: u32, to: u32) -> Option<LiveChange>
+    requires numbered { IsNumbered (reverse log.now.items) }
+    requires marked { AreMarked (reverse log.now.items) (reverse marks.now) }
+    requires within { from ≤ length log.now.items }
+    ensures { result ≡ newest_in (filter (is_after to) (chain (reverse log.now.items) from)) }
 {
     match newest_change(log, marks, from) {
         Some(change) => { if change.lsn > to { Some(change) } else { None } }
@@ -82,11 +50,11 @@ pub fn newest_above(log: &[LogRecord], marks: &[Mark], from: u32, to: u32) -> Op
 
 /// How many changes with numbers above `to` aren't taken back, on the way down from the record with the number
 /// `from`.
-pub fn count_changes(log: &[LogRecord], marks: &[Mark], from: u32, to: u32) -> u32
-    requires numbered { IsNumbered (reverse log.now) }
-    requires marked { AreMarked (reverse log.now) (reverse marks.now) }
-    requires within { from ≤ length log.now }
-    ensures { result ≡ length (filter (is_after to) (chain (reverse log.now) from)) }
+pub fn count_changes(log: &Records, marks: &[Mark], from: u32, to: u32) -> u32
+    requires numbered { IsNumbered (reverse log.now.items) }
+    requires marked { AreMarked (reverse log.now.items) (reverse marks.now) }
+    requires within { from ≤ length log.now.items }
+    ensures { result ≡ length (filter (is_after to) (chain (reverse log.now.items) from)) }
 {
     let mut count = 0;
     let mut at = from;
@@ -109,15 +77,15 @@ pub fn count_changes(log: &[LogRecord], marks: &[Mark], from: u32, to: u32) -> u
 /// `from`. `count` is how many are expected. Fault: Memory.
 pub fn changed_keys(
     alloc: Global,
-    log: &[LogRecord],
+    log: &Records,
     marks: &[Mark],
     from: u32,
     count: u32,
 ) -> Result<Vec<Key>, Memory>
-    requires numbered { IsNumbered (reverse log.now) }
-    requires marked { AreMarked (reverse log.now) (reverse marks.now) }
-    requires within { from ≤ length log.now }
-    ensures { IfOk result (λ keys. keys.items ≡ map key_of (chain (reverse log.now) from)) }
+    requires numbered { IsNumbered (reverse log.now.items) }
+    requires marked { AreMarked (reverse log.now.items) (reverse marks.now) }
+    requires within { from ≤ length log.now.items }
+    ensures { IfOk result (λ keys. keys.items ≡ map key_of (chain (reverse log.now.items) from)) }
 {
     let mut keys = Vec::with_capacity(alloc, count as usize)?;
     let mut at = from;

@@ -10,12 +10,12 @@ use Rattle.tx_log.proofs.holding.free_keys.Goals as goal
 
 pub loop-change-smaller : goal.loop-change-smaller
 loop-change-smaller c =
-    let step = walk_step (reverse c.args.log.now) c.loop-change.at c.in-Some.change c.requires.numbered (sym c.in-Some.ensures) in
+    let step = walk_step (reverse c.args.log.now.items) c.loop-change.at c.in-Some.change c.requires.numbered (sym c.in-Some.ensures) in
     omega (arith, step.falls, step.low)
 
 pub loop-change-preserved : goal.loop-change-preserved
 loop-change-preserved c =
-    let step = walk_step (reverse c.args.log.now) c.loop-change.at c.in-Some.change c.requires.numbered (sym c.in-Some.ensures) in (
+    let step = walk_step (reverse c.args.log.now.items) c.loop-change.at c.in-Some.change c.requires.numbered (sym c.in-Some.ensures) in (
       omega (arith, step.falls, step.low, c.loop-change.invariant.0),
       λ q. ap (λ (us : List LogRecord). cond (list_any (is_at q) us) None (held c.swap_remove.new.self q)) step.tail
           ∙ ap (cond (list_any (is_at q) step.rest) None) (c.swap_remove.ensures.updates.0 q)
@@ -26,7 +26,7 @@ loop-change-preserved c =
 
 pub returns : goal.returns
 returns c = λ q.
-    ap (λ (us : List LogRecord). cond (list_any (is_at q) us) None (held c.loop-change.holdings q)) (sym (walk_end (reverse c.args.log.now) c.loop-change.at (sym c.in_default.ensures)))
+    ap (λ (us : List LogRecord). cond (list_any (is_at q) us) None (held c.loop-change.holdings q)) (sym (walk_end (reverse c.args.log.now.items) c.loop-change.at (sym c.in_default.ensures)))
     ∙ c.loop-change.invariant.1 q
 
 pub loop-change-init : goal.loop-change-init

@@ -6,7 +6,7 @@ use Rattle.tx_log.specs.Walks.{is_at}
 use Rattle.tx_log.proofs.holding.free_keys.Given as goal
 
 abbrev pub invariant-loop-change : goal.invariant-loop-change
-invariant-loop-change l = (l.at ≤ length l.log) × ((q : List ℕ) → cond (list_any (is_at q) (chain (reverse l.log) l.at)) None (held l.holdings q) ≡ cond (list_any (is_at q) (chain (reverse l.log) l.fn.from)) None (held l.fn.holdings q))
+invariant-loop-change l = (l.at ≤ length l.log.items) × ((q : List ℕ) → cond (list_any (is_at q) (chain (reverse l.log.items) l.at)) None (held l.holdings q) ≡ cond (list_any (is_at q) (chain (reverse l.log.items) l.fn.from)) None (held l.fn.holdings q))
 
 abbrev pub decreases-loop-change : goal.decreases-loop-change
 decreases-loop-change l = l.at

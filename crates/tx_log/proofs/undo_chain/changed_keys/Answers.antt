@@ -5,13 +5,13 @@ use Rattle.tx_log.proofs.undo_chain.changed_keys.Goals as goal
 
 pub loop-change-smaller : goal.loop-change-smaller
 loop-change-smaller c =
-    let rs = reverse c.args.log.now in
+    let rs = reverse c.args.log.now.items in
     let step = walk_step rs c.loop-change.at c.in-Some.change c.requires.numbered (sym c.in-Some.ensures) in
     omega (arith, step.falls, step.low)
 
 pub loop-change-preserved : goal.loop-change-preserved
 loop-change-preserved c =
-    let rs = reverse c.args.log.now in
+    let rs = reverse c.args.log.now.items in
     let step = walk_step rs c.loop-change.at c.in-Some.change c.requires.numbered (sym c.in-Some.ensures) in
     let rest = map key_of (chain rs c.in-Some.change.prev) in
     let keys = keys_on rs c.loop-change.at c.in-Some.change step in (

@@ -1,9 +1,8 @@
 use Rattle.std.proofs.Common.{ℕ, Bool, reverse, sym, ap, ◌∙◌}
 use Rattle.std.specs.FinMap as maps
-use Rattle.rec_types.specs.Kept.{history_of}
 use Rattle.tx_log.proofs.OpenTxLemmas.{opens_is}
 use Rattle.tx_log.specs.Log.{kept_of}
-use Rattle.tx_log.specs.LogState.{LogState, open_in, history_in}
+use Rattle.tx_log.specs.LogState.{LogState, open_in}
 use Rattle.tx_log.specs.Owners.{absent}
 use Rattle.tx_log.proofs.KeptLogLemmas.{kept_now}
 use Rattle.tx_log.proofs.log.TxLog.absent_owned.Goals as goal

@@ -1,5 +1,5 @@
-use Rattle.std.proofs.Common.{◌≡◌, ◌∷◌, [], ◌++◌, cond, eqb, ◌||◌, Option, option_map, IfSome, refl, ℕ, ◌+◌, ◌<◌, ◌≤◌, Bool, true, List, Some, None, length, reverse, is_some, vec_len, sym, ap, subst, ◌∙◌, arith}
-use Rattle.std.proofs.lemmas.List.{length-reverse}
+use Rattle.std.proofs.Common.{◌≡◌, ◌∷◌, [], ◌++◌, cond, eqb, ◌||◌, Option, IfSome, refl, ℕ, ◌+◌, ◌*◌, ◌<◌, ◌≤◌, Bool, true, List, Some, None, length, reverse, is_some, vec_len, sym, ap, subst, ◌∙◌, arith}
+use Rattle.std.proofs.lemmas.List.{length-reverse, length-append}
 use Rattle.std.specs.List.{list_any}
 use Rattle.std.specs.Vec.{vec_capacity}
 use Rattle.rec_types.specs.History.{log_len}
@@ -18,7 +18,9 @@ use Rattle.tx_log.proofs.OpenTxLemmas.{found_fits, txs_stay}
 use Rattle.tx_log.proofs.LogStepLemmas.{accepted, IsAccepted, IsChangeOf, change_told_of}
 use Rattle.tx_log.proofs.LogStateLemmas.{accept_state, kept_turned}
 use Rattle.tx_log.specs.Finds.{finding, PutsAt}
-use Rattle.tx_log.specs.Log.{leads_to, led, kept_of, chain}
+use Rattle.tx_log.specs.Log.{change_record, leads_to, led, kept_of, chain}
+use Rattle.rec_types.specs.Widths.{widest_record}
+use Rattle.tx_log.specs.LogFields.{IsTxLog, state_of}
 use Rattle.tx_log.specs.LogState.{LogState, history_in, open_in, use_in, update_in}
 use Rattle.tx_log.specs.Owners.{holder_of}
 use Rattle.tx_log.specs.Walks.{is_at, absent_at}
@@ -30,9 +32,6 @@ use Rattle.tx_log.specs.declared.open_tx.OpenTx.{OpenTx}
 use Rattle.tx_log.proofs.log.TxLog.add.Goals as goal
 use Rattle.tx_log.proofs.log.TxLog.add.Goals.{After-index, After-raise-out, After-index_mut-open_tx}
 use Rattle.tx_log.proofs.Counts.{log_len_is}
-
-records_len : (l : Inside) → vec_len l.records ≡ length l.records.items
-records_len l = omega (arith, l.records.ok.0)
 
 -- what is known of the transaction and of the key
 record IsMet (l : Inside) (t : ℕ) (key : List ℕ) (e : OpenTx) : Type 0 where
@@ -82,7 +81,6 @@ pub raise-out-requires-clause-most : goal.raise-out-requires-clause-most
 raise-out-requires-clause-most c = λ h there.
     let l = c.self.inside in
     let free = (met (goal.at.raise-out-requires-clause-most c).After-index).free in
-    let many = records_len l in
     let few : free.hold.live < 4294967295 = omega (arith, free.few, c.self.invariant.bounded.fits, c.self.invariant.bounded.most_records) in
     subst (λ (x : Holding). x.live < 4294967295) (some_of free.hold h (sym free.there ∙ there)) few
 
@@ -102,7 +100,6 @@ overflow_add-open_tx c =
     let l = c.self.inside in
     let now = met (goal.at.overflow_add-open_tx c).After-index in
     let live_is = ap (λ (x : OpenTx). x.live) (same_entry (goal.at.overflow_add-open_tx c).After-index_mut-open_tx now.found) in
-    let many = records_len l in
     let low : c.index.result.now.live ≤ most_log_records = omega (arith, now.size.live, length-reverse l.records.items, c.self.invariant.bounded.fits, c.self.invariant.bounded.most_records) in
     omega (arith, low, live_is)
 
@@ -120,10 +117,10 @@ recount-open_tx-requires-clause-most c =
 -- the record that was pushed, its mark, and the transaction's new entry, with the table
 module _ (c : goal.After-self-4-1) where
   abbrev record_pushed : LogRecord
-  record_pushed = c.change_record.result
+  record_pushed = change_record (c.len.result + 1) c.index.result.now.last c.args.tx c.args.key c.args.before c.args.after
 
   told : IsChangeOf record_pushed (c.len.result + 1) c.index.result.now.last c.args.tx c.args.key c.args.before c.args.after
-  told = subst (λ (r : LogRecord). IsChangeOf r (c.len.result + 1) c.index.result.now.last c.args.tx c.args.key c.args.before c.args.after) (sym c.change_record.ensures) (change_told_of (c.len.result + 1) c.index.result.now.last c.args.tx c.args.key c.args.before c.args.after)
+  told = change_told_of (c.len.result + 1) c.index.result.now.last c.args.tx c.args.key c.args.before c.args.after
 
   abbrev entry_made : OpenTx
   entry_made = let n = c.index_mut-open_tx.result.now in record { rollback = n.rollback; last = c.len.result + 1; live = n.live + 1; left = n.left; absent = c.recount-open_tx.result; saves = n.saves }
@@ -137,24 +134,21 @@ module _ (c : goal.After-self-4-1) where
   room_is : c.self.inside.room ≡ Some c.args.key
   room_is = ap (λ (s : LogState). s.room) c.self.view_is ∙ c.requires.room
 
-  spare : vec_len c.self.inside.records + c.self.inside.pending + 2 ≤ vec_capacity c.self.inside.records
-  spare = let l = c.self.inside in subst (λ (o : Option (List ℕ)). IfSome o (λ _. vec_len l.records + l.pending + 2 ≤ vec_capacity l.records)) room_is c.self.invariant.records_room.spare
+  spare : length c.self.inside.records.items + c.self.inside.pending + 2 ≤ c.self.inside.records.room
+  spare = let l = c.self.inside in subst (λ (o : Option (List ℕ)). IfSome o (λ _. length l.records.items + l.pending + 2 ≤ l.records.room)) room_is c.self.invariant.records_room.spare
 
   spare_marks : vec_len c.self.inside.marks + c.self.inside.pending + 2 ≤ vec_capacity c.self.inside.marks
   spare_marks = let l = c.self.inside in subst (λ (o : Option (List ℕ)). IfSome o (λ _. vec_len l.marks + l.pending + 2 ≤ vec_capacity l.marks)) room_is c.self.invariant.marks_room.spare
 
-  pushed : c.push.new.self.items ≡ c.self.inside.records.items ++ record_pushed ∷ []
-  pushed =
-      let l = c.self.inside in
-      let ok = c.push.ensures.succeeds (omega (arith, spare)) in
-      c.push.ensures.items ∙ ap (λ (b : Bool). cond b (l.records.items ++ record_pushed ∷ []) l.records.items) ok
+  pushed : c.push_change.new.self.items ≡ c.self.inside.records.items ++ record_pushed ∷ []
+  pushed = c.push_change.ensures.items
 
-  mark_pushed : c.push-2.new.self.items ≡ c.self.inside.marks.items ++ record { newest = c.len.result + 1; absent = c.raise-out.result.0 } ∷ []
+  mark_pushed : c.push.new.self.items ≡ c.self.inside.marks.items ++ record { newest = c.len.result + 1; absent = c.raise-out.result.0 } ∷ []
   mark_pushed =
       let l = c.self.inside in
       let m : Mark = record { newest = c.len.result + 1; absent = c.raise-out.result.0 } in
-      let ok = c.push-2.ensures.succeeds (omega (arith, spare_marks)) in
-      c.push-2.ensures.items ∙ ap (λ (b : Bool). cond b (l.marks.items ++ m ∷ []) l.marks.items) ok
+      let ok = c.push.ensures.succeeds (omega (arith, spare_marks)) in
+      c.push.ensures.items ∙ ap (λ (b : Bool). cond b (l.marks.items ++ m ∷ []) l.marks.items) ok
 
   abbrev below : List LogRecord
   below = chain (reverse c.self.inside.records.items) c.index.result.now.last
@@ -176,7 +170,7 @@ module _ (c : goal.After-self-4-1) where
       let n = c.index_mut-open_tx.result.now in
       let was = (c.raise-out.ensures now.free.hold now.free.there).0 ∙ now.free.lacks in
       record {
-        lsn_is = ap (λ k. k + 1) (c.len.ensures ∙ records_len l ∙ sym (length-reverse l.records.items));
+        lsn_is = ap (λ k. k + 1) (c.len.ensures ∙ sym (length-reverse l.records.items));
         prev_is = refl;
         held = held_of_free (kept_of rs) l.txs.entries c.args.tx.0 c.args.key c.self.invariant.log_kept.owned (ap (λ (s : LogState). holder_of (open_in s) (history_in s) c.args.tx.0 c.args.key) c.self.view_is ∙ c.requires.free);
         rollback_same = ap (λ (x : OpenTx). x.rollback) same;
@@ -201,6 +195,28 @@ new_marked c now was =
       absent = was ∙ (λ i. absent_at (sym is.key_is i) (sym leads i));
     }
 
+-- the two requirements that a change's room gives
+room_of : (l : Inside) (s : LogState) (key : List ℕ) → IsTxLog l → state_of l ≡ s → s.room ≡ Some key → (length l.records.items + l.pending + 2 ≤ l.records.room) × (2 * widest_record ≤ l.records.free)
+room_of l s key is view room =
+    let room_is = ap (λ (v : LogState). v.room) view ∙ room in (
+      subst (λ (o : Option (List ℕ)). IfSome o (λ _. length l.records.items + l.pending + 2 ≤ l.records.room)) room_is is.records_room.spare,
+      subst (λ (o : Option (List ℕ)). IfSome o (λ _. 2 * widest_record ≤ l.records.free)) room_is is.bytes_room,
+    )
+
+pub push_change-requires-clause-few : goal.push_change-requires-clause-few
+push_change-requires-clause-few c =
+    let l = c.self.inside in
+    let used : use_in c.args.self.now ≡ length (reverse l.records.items) + l.pending = ap use_in (sym c.self.view_is) ∙ state_use (reverse l.records.items) l.txs.entries l.begun l.pending l.gone c.self.invariant.log_kept in
+    omega (arith, used, length-reverse l.records.items, c.requires.fits, ap (λ (s : LogState). s.limits.log_records) c.self.view_is, c.self.invariant.bounded.most_records)
+
+pub push_change-requires-clause-room : goal.push_change-requires-clause-room
+push_change-requires-clause-room c =
+    omega (arith, (room_of c.self.inside c.args.self.now c.args.key c.self.invariant c.self.view_is c.requires.room).0)
+
+pub push_change-requires-clause-free : goal.push_change-requires-clause-free
+push_change-requires-clause-free c =
+    (room_of c.self.inside c.args.self.now c.args.key c.self.invariant c.self.view_is c.requires.room).1
+
 pub invariant_of-self : goal.invariant_of-self
 invariant_of-self c =
     let l = c.self.inside in
@@ -208,24 +224,23 @@ invariant_of-self c =
     let e = c.index.result.now in
     let places = goal.at.invariant_of-self c in
     let now = met places.After-index in
-    let many = records_len l in
     let used : use_in c.args.self.now ≡ length rs + l.pending = ap use_in (sym c.self.view_is) ∙ state_use rs l.txs.entries l.begun l.pending l.gone c.self.invariant.log_kept in
     let limit : l.limits.log_records ≡ c.args.self.now.limits.log_records = ap (λ (s : LogState). s.limits.log_records) c.self.view_is in
-    let turned : reverse c.push.new.self.items ≡ record_pushed c ∷ rs = ap reverse (pushed c) ∙ reverse-push l.records.items _ in
+    let turned : reverse c.push_change.new.self.items ≡ record_pushed c ∷ rs = ap reverse (pushed c) ∙ reverse-push l.records.items _ in
     let kept = accepted (record_pushed c) (c.len.result + 1) e.last c.args.tx c.args.key c.args.before c.args.after rs (finding l.txs.entries) (finding (table_made c)) l.begun l.pending l.gone (l.pending + 1) c.recount-self-inside.result e (entry_made c) (told c) c.self.invariant.log_kept now.found (puts_entry c) (step_of c now (same_entry places.After-index_mut-open_tx now.found)) in
     let bounded = c.self.invariant.bounded in
     let spare_records = spare c in
-    let longer : vec_len c.push.new.self ≤ vec_len l.records + 1 = c.push.ensures.upper_bound in
-    let wider : vec_capacity l.records ≤ vec_capacity c.push.new.self = c.push.ensures.capacity in
+    let longer : length c.push_change.new.self.items ≡ length l.records.items + 1 = ap length (pushed c) ∙ length-append l.records.items (record_pushed c ∷ []) in
+    let wider : l.records.room ≤ c.push_change.new.self.room = c.push_change.ensures.room in
     let wanted = c.requires.fits in
     let room_marks = spare_marks c in
-    let more_marks : vec_len c.push-2.new.self ≤ vec_len l.marks + 1 = c.push-2.ensures.upper_bound in
-    let marks_wider : vec_capacity l.marks ≤ vec_capacity c.push-2.new.self = c.push-2.ensures.capacity in
+    let more_marks : vec_len c.push.new.self ≤ vec_len l.marks + 1 = c.push.ensures.upper_bound in
+    let marks_wider : vec_capacity l.marks ≤ vec_capacity c.push.new.self = c.push.ensures.capacity in
     let free = now.free in
     let keys = accepted_keys (record_pushed c) l c.self.invariant c.args.tx c.args.key e (entry_made c) free (finding (table_made c)) (held c.raise-out.new.holdings) (c.len.result + 1) e.last c.args.before c.args.after c.raise-out.result.1 (told c) now.found (puts_entry c) (will_is c now) (c.raise-out.ensures free.hold free.there).2 in
     record {
       log_kept = kept_turned _ _ _ _ _ _ turned kept;
-      marked = marked_more l.records.items c.push.new.self.items l.marks.items c.push-2.new.self.items _ _ turned (mark_pushed c) (new_marked c now (was_is places.After-raise-out now)) c.self.invariant.marked;
+      marked = marked_more l.records.items c.push_change.new.self.items l.marks.items c.push.new.self.items _ _ turned (mark_pushed c) (new_marked c now (was_is places.After-raise-out now)) c.self.invariant.marked;
       holding = subst (λ (xs : List LogRecord). IsHeld xs (opens (finding (table_made c))) (held c.raise-out.new.holdings)) (sym turned) keys.holding;
       busy_keys = keys.busy_keys;
       reserved = tt;
@@ -236,13 +251,14 @@ invariant_of-self c =
         most_begins = bounded.most_begins;
       };
       records_room = record { held = omega arith; spare = tt };
+      bytes_room = tt;
       marks_room = record { held = omega arith; spare = tt };
     }
 
 pub returns-clause-lsn : goal.returns-clause-lsn
 returns-clause-lsn c =
     let l = c.self.inside in
-    ap (λ k. k + 1) (c.len.ensures ∙ records_len l ∙ sym (length-reverse l.records.items) ∙ sym (log_len_is (reverse l.records.items) c.self.invariant.log_kept.written) ∙ ap (λ (s : LogState). log_len (history_in s)) c.self.view_is)
+    ap (λ k. k + 1) (c.len.ensures ∙ sym (length-reverse l.records.items) ∙ sym (log_len_is (reverse l.records.items) c.self.invariant.log_kept.written) ∙ ap (λ (s : LogState). log_len (history_in s)) c.self.view_is)
 
 pub returns-clause-after : goal.returns-clause-after
 returns-clause-after c =
@@ -256,5 +272,5 @@ returns-clause-after c =
     let fits = found_fits rs l.begun t (finding l.txs.entries) e kept.fit now.found in
     let step = step_of c now (same_entry places.After-index_mut-open_tx now.found) in
     let stay = txs_stay (record_pushed c) rs l.begun t l.txs.entries (table_made c) (entry_made c) e ((told c).lsn_is ∙ step.lsn_is) kept.fit (puts_entry c) now.found step.rollback_same step.saves_same in
-    accept_state (record_pushed c) l.records.items c.push.new.self.items l.txs.entries (table_made c) l.begun l.limits l.room (c.len.result + 1) e.last c.args.tx c.args.key c.args.before c.args.after c.change_record.ensures (told c) kept.written (pushed c) (step.lsn_is ∙ ap (λ k. k + 1) (length-reverse l.records.items)) (fits.last) stay
+    accept_state (record_pushed c) l.records.items c.push_change.new.self.items l.txs.entries (table_made c) l.begun l.limits l.room (c.len.result + 1) e.last c.args.tx c.args.key c.args.before c.args.after refl (told c) kept.written (pushed c) (step.lsn_is ∙ ap (λ k. k + 1) (length-reverse l.records.items)) (fits.last) stay
     ∙ ap (λ (s : LogState). record s { records = s.records ++ update_in s c.args.tx c.args.key c.args.before c.args.after ∷ []; changes = s.changes ++ record { lsn = log_len (history_in s) + 1; tx = t; key = c.args.key; before = c.args.before; after = c.args.after; live = true } ∷ []; room = None }) c.self.view_is

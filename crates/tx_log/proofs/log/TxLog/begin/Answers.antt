@@ -33,6 +33,7 @@ invariant_of-self-2 c =
         most_begins = bounded.most_begins;
       };
       records_room = record { held = c.self.invariant.records_room.held; spare = tt };
+      bytes_room = tt;
       marks_room = record { held = c.self.invariant.marks_room.held; spare = tt };
     }
 

@@ -1,4 +1,4 @@
-use Rattle.std.proofs.Common.{ℕ, ◌≤◌, List, length, cond, None, reverse, sym, ap, subst, ◌∙◌, arith}
+use Rattle.std.proofs.Common.{ℕ, ◌≤◌, List, cond, None, reverse, ap, subst, ◌∙◌, arith}
 use Rattle.std.specs.FinMap as maps
 use Rattle.tx_log.proofs.EndLemmas.{closed, closed_state, live_part}
 use Rattle.std.specs.List.{list_any}
@@ -11,7 +11,7 @@ use Rattle.tx_log.specs.Walks.{is_at}
 use Rattle.tx_log.specs.declared.log_record.LogRecord.{LogRecord}
 use Rattle.tx_log.proofs.KeptLogLemmas.{open_of_tx, sized, kept_now}
 use Rattle.tx_log.specs.Finds.{finding}
-use Rattle.tx_log.specs.Log.{kept_of, stack, chain}
+use Rattle.tx_log.specs.Log.{kept_of, stack}
 use Rattle.tx_log.specs.LogState.{LogState, with_txs, open_in}
 use Rattle.tx_log.proofs.log.TxLog.close.Goals as goal
 
@@ -40,7 +40,6 @@ freed c =
     let t = c.args.tx.0 in
     let out = c.take_out-closed.ensures t c.place_of-at.ensures.stands in
     λ q. c.free_keys.ensures q
-    ∙ ap (λ (log : List LogRecord). cond (list_any (is_at q) (chain (reverse log) c.take_out-closed.result.last)) None (held l.holdings q)) c.deref.ensures.value
     ∙ ap (λ (us : List LogRecord). cond (list_any (is_at q) us) None (held l.holdings q)) (entry_chain (reverse l.records.items) l.txs.entries l.begun l.pending l.gone t c.take_out-closed.result c.self.invariant.log_kept out.0)
 
 pub free_keys-requires-clause-within : goal.free_keys-requires-clause-within
@@ -50,7 +49,7 @@ free_keys-requires-clause-within c =
     let e = c.take_out-closed.result in
     let out = c.take_out-closed.ensures t c.place_of-at.ensures.stands in
     let size = sized (reverse l.records.items) l.txs.entries l.begun l.pending l.gone t e c.self.invariant.log_kept out.0 in
-    subst (λ (n : ℕ). e.last ≤ n) (length-reverse l.records.items ∙ ap length (sym c.deref.ensures.value)) size.last
+    subst (λ (n : ℕ). e.last ≤ n) (length-reverse l.records.items) size.last
 
 pub invariant_of-self : goal.invariant_of-self
 invariant_of-self c =
@@ -73,6 +72,7 @@ invariant_of-self c =
         most_begins = bounded.most_begins;
       };
       records_room = record { held = omega (arith, c.self.invariant.records_room.held); spare = tt };
+      bytes_room = tt;
       marks_room = record { held = omega (arith, c.self.invariant.marks_room.held); spare = tt };
     }
 

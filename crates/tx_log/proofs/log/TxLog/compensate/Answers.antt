@@ -1,6 +1,6 @@
-use Rattle.std.proofs.Common.{◌≡◌, ◌∷◌, [], ◌++◌, cond, refl, ℕ, ◌+◌, ◌-◌, not, ◌<◌, ◌≤◌, Bool, true, List, Some, None, option_map, length, reverse, is_some, vec_len, sym, ap, subst, ◌∙◌, arith}
+use Rattle.std.proofs.Common.{◌≡◌, ◌∷◌, [], ◌++◌, cond, refl, ℕ, zero, suc, slice_get, ◌+◌, ◌-◌, ◌<◌, ◌≤◌, Bool, true, List, Some, None, option_map, length, reverse, is_some, vec_len, sym, ap, subst, ◌∙◌, arith}
 use Rattle.std.specs.Vec.{vec_capacity}
-use Rattle.std.proofs.lemmas.List.{length-reverse}
+use Rattle.std.proofs.lemmas.List.{length-reverse, length-append}
 use Rattle.rec_types.specs.History.{log_len}
 use Rattle.rec_types.specs.Kept.{undone}
 use Rattle.rec_types.specs.declared.transaction.TxId.{TxId}
@@ -20,17 +20,24 @@ use Rattle.tx_log.proofs.LogStepLemmas.{compensated, IsCompensated, IsBackOf, ba
 use Rattle.tx_log.proofs.LogStateLemmas.{state, compensate_state, told_compensation, kept_turned}
 use Rattle.tx_log.proofs.WalkSteps.{IsStep, walk_step}
 use Rattle.tx_log.specs.Finds.{finding, PutsAt}
-use Rattle.tx_log.specs.Log.{lsn_of, key_of, leads_to, led, kept_of, chain}
+use Rattle.tx_log.specs.Log.{back_record, record_at, lsn_of, key_of, leads_to, led, kept_of, chain}
 use Rattle.tx_log.specs.LogState.{LogState, history_in, undo_in, compensations_in}
-use Rattle.tx_log.specs.Walks.{newest_in, absent_at}
+use Rattle.tx_log.specs.Walks.{absent_at}
 use Rattle.tx_log.specs.declared.log.TxLog.TheInside.{Inside}
 use Rattle.tx_log.specs.declared.log_record.LogRecord.{LogRecord}
 use Rattle.tx_log.specs.declared.mark.Mark.{Mark}
 use Rattle.tx_log.specs.declared.open_tx.OpenTx.{OpenTx}
 use Rattle.tx_log.specs.declared.undo_chain.LiveChange.{LiveChange}
 use Rattle.tx_log.proofs.log.TxLog.compensate.Goals as goal
-use Rattle.tx_log.proofs.log.TxLog.compensate.Goals.{After-index, After-deref-3, After-lower-was, After-index_mut-open_tx}
+use Rattle.tx_log.proofs.log.TxLog.compensate.Goals.{After-index, After-deref-2, After-lower-was, After-index_mut-open_tx}
 use Rattle.tx_log.proofs.Counts.{log_len_is}
+
+-- a record stands one place below its number
+place_below : (rs : List LogRecord) (n m : ℕ) (u : LogRecord) → n ≡ m → record_at rs n ≡ Some u → slice_get rs (m - 1) ≡ Some u
+place_below rs zero m u is there = absurd (cc there)
+place_below rs (suc n) m u is there =
+    let less : suc n - 1 ≡ n = omega arith in
+    subst (λ k. slice_get rs (k - 1) ≡ Some u) is (ap (λ k. slice_get rs k) less ∙ there)
 
 -- the transaction of the change that is taken back
 module _ (c : After-index) where
@@ -47,7 +54,7 @@ record IsNext (l : Inside) (t : ℕ) (e : OpenTx) (change : LiveChange) : Type 0
   pub counted : IsCounted l.pending change e
   pub at : IsKeyOf l t change step.update step.rest
 
-module _ (c : After-deref-3) where
+module _ (c : After-deref-2) where
   next : IsNext c.self.inside c.args.tx.0 c.index.result.now c.unwrap-change.result
   next =
       let l = c.self.inside in
@@ -55,7 +62,7 @@ module _ (c : After-deref-3) where
       let e = c.index.result.now in
       let change = c.unwrap-change.result in
       let found = read_at l.txs c.args.tx.0 c.place_of-at.result e c.place_of-at.ensures.stands c.index.ensures in
-      let step = walk_step rs e.last change c.self.invariant.log_kept.numbered (ap (λ (log : List LogRecord). newest_in (chain (reverse log) e.last)) (sym c.deref.ensures.value) ∙ sym c.newest_change-newest.ensures ∙ c.unwrap-change.ensures) in
+      let step = walk_step rs e.last change c.self.invariant.log_kept.numbered (sym c.newest_change-newest.ensures ∙ c.unwrap-change.ensures) in
       record {
         found = found;
         step = step;
@@ -89,52 +96,70 @@ place_of-at-requires c =
 pub newest_change-newest-requires-clause-within : goal.newest_change-newest-requires-clause-within
 newest_change-newest-requires-clause-within c =
     let size = met_sizes (goal.at.newest_change-newest-requires-clause-within c).After-index in
-    subst (λ (k : ℕ). c.index.result.now.last ≤ k) (length-reverse c.self.inside.records.items ∙ ap length (sym c.deref.ensures.value)) size.last
+    subst (λ (k : ℕ). c.index.result.now.last ≤ k) (length-reverse c.self.inside.records.items) size.last
 
 pub unwrap-change-requires : goal.unwrap-change-requires
 unwrap-change-requires c =
     let l = c.self.inside in
     let e = c.index.result.now in
     let head = undo_head (reverse l.records.items) l.txs.entries l.begun l.pending l.gone c.args.tx.0 e c.self.invariant.log_kept (met (goal.at.unwrap-change-requires c).After-index) (ap (λ (s : LogState). is_some (undo_in s c.args.tx.0)) c.self.view_is ∙ c.requires) in
-    ap is_some (c.newest_change-newest.ensures ∙ ap (λ (log : List LogRecord). newest_in (chain (reverse log) e.last)) c.deref.ensures.value) ∙ head
+    ap is_some c.newest_change-newest.ensures ∙ head
+
+pub overflow_sub-change : goal.overflow_sub-change
+overflow_sub-change c =
+    omega (arith, (next (goal.at.overflow_sub-change c).After-deref-2).step.falls)
+
+pub push_back-requires-clause-there : goal.push_back-requires-clause-there
+push_back-requires-clause-there c =
+    let step = (next (goal.at.push_back-requires-clause-there c).After-deref-2).step in
+    omega (arith, step.falls, step.within, length-reverse c.self.inside.records.items)
+
+pub push_back-requires-clause-few : goal.push_back-requires-clause-few
+push_back-requires-clause-few c =
+    let bounded = c.self.invariant.bounded in
+    omega (arith, (next (goal.at.push_back-requires-clause-few c).After-deref-2).counted.waits, bounded.fits, bounded.most_records)
+
+pub push_back-requires-clause-room : goal.push_back-requires-clause-room
+push_back-requires-clause-room c =
+    omega (arith, (next (goal.at.push_back-requires-clause-room c).After-deref-2).counted.waits, c.self.invariant.records_room.held)
 
 pub is_absent_below-will-requires-clause-some : goal.is_absent_below-will-requires-clause-some
 is_absent_below-will-requires-clause-some c =
-    omega (arith, (next (goal.at.is_absent_below-will-requires-clause-some c).After-deref-3).step.falls)
+    omega (arith, (next (goal.at.is_absent_below-will-requires-clause-some c).After-deref-2).step.falls)
 
 pub is_absent_below-will-requires-clause-within : goal.is_absent_below-will-requires-clause-within
 is_absent_below-will-requires-clause-within c =
     let l = c.self.inside in
     let change = c.unwrap-change.result in
-    let low : change.lsn ≤ length l.marks.items = omega (arith, (next (goal.at.is_absent_below-will-requires-clause-within c).After-deref-3).step.within, length-reverse l.records.items, as_many l.records.items l.marks.items c.self.invariant.marked) in
-    subst (λ (k : ℕ). change.lsn ≤ k) (ap length (sym c.deref-3.ensures.value)) low
+    let low : change.lsn ≤ length l.marks.items = omega (arith, (next (goal.at.is_absent_below-will-requires-clause-within c).After-deref-2).step.within, length-reverse l.records.items, as_many l.records.items l.marks.items c.self.invariant.marked) in
+    subst (λ (k : ℕ). change.lsn ≤ k) (ap length (sym c.deref-2.ensures.value)) low
 
 pub newest_number-below-requires : goal.newest_number-below-requires
 newest_number-below-requires c =
     let l = c.self.inside in
     let change = c.unwrap-change.result in
-    let step = (next (goal.at.newest_number-below-requires c).After-deref-3).step in
+    let step = (next (goal.at.newest_number-below-requires c).After-deref-2).step in
     let low : change.prev ≤ length l.marks.items = omega (arith, step.falls, step.within, length-reverse l.records.items, as_many l.records.items l.marks.items c.self.invariant.marked) in
-    subst (λ (k : ℕ). change.prev ≤ k) (ap length (sym c.deref-4.ensures.value)) low
+    subst (λ (k : ℕ). change.prev ≤ k) (ap length (sym c.deref-3.ensures.value)) low
 
 pub lower-was-requires-clause-there : goal.lower-was-requires-clause-there
 lower-was-requires-clause-there c =
-    ap is_some (next (goal.at.lower-was-requires-clause-there c).After-deref-3).at.there
+    ap is_some (next (goal.at.lower-was-requires-clause-there c).After-deref-2).at.there
 
 pub lower-was-requires-clause-some : goal.lower-was-requires-clause-some
 lower-was-requires-clause-some c = λ h there.
-    let at = (next (goal.at.lower-was-requires-clause-some c).After-deref-3).at in
+    let at = (next (goal.at.lower-was-requires-clause-some c).After-deref-2).at in
     let live_is : h.live ≡ at.hold.hold.live = ap (λ (x : Holding). x.live) (some_of h at.hold.hold (sym there ∙ at.there)) in
     omega (arith, live_is, at.hold.live)
 
 pub overflow_sub-self : goal.overflow_sub-self
 overflow_sub-self c =
-    omega (arith, (next (goal.at.overflow_sub-self c).After-deref-3).counted.waits)
+    omega (arith, (next (goal.at.overflow_sub-self c).After-deref-2).counted.waits)
 
 pub recount-self-inside-requires-clause-some : goal.recount-self-inside-requires-clause-some
 recount-self-inside-requires-clause-some c = λ was.
     let size = met_sizes (goal.at.recount-self-inside-requires-clause-some c).After-index in
-    let some = was_counted (goal.at.recount-self-inside-requires-clause-some c).After-lower-was (next (goal.at.recount-self-inside-requires-clause-some c).After-deref-3) was in
+    let some = was_counted (goal.at.recount-self-inside-requires-clause-some c).After-lower-was (next (goal.at.recount-self-inside-requires-clause-some c).After-deref-2) was in
     omega (arith, some, size.absent_part)
 
 pub recount-self-inside-requires-clause-most : goal.recount-self-inside-requires-clause-most
@@ -151,12 +176,12 @@ overflow_sub-open_tx-2 c =
 
 pub overflow_sub-open_tx : goal.overflow_sub-open_tx
 overflow_sub-open_tx c =
-    let now = next (goal.at.overflow_sub-open_tx c).After-deref-3 in
+    let now = next (goal.at.overflow_sub-open_tx c).After-deref-2 in
     subst (λ (x : OpenTx). 0 < x.live) (sym (same_entry (goal.at.overflow_sub-open_tx c).After-index_mut-open_tx now.found)) now.counted.live
 
 pub recount-open_tx-requires-clause-some : goal.recount-open_tx-requires-clause-some
 recount-open_tx-requires-clause-some c = λ was.
-    let now = next (goal.at.recount-open_tx-requires-clause-some c).After-deref-3 in
+    let now = next (goal.at.recount-open_tx-requires-clause-some c).After-deref-2 in
     subst (λ (x : OpenTx). 0 < x.absent) (sym (same_entry (goal.at.recount-open_tx-requires-clause-some c).After-index_mut-open_tx now.found)) (was_counted (goal.at.recount-open_tx-requires-clause-some c).After-lower-was now was)
 
 pub recount-open_tx-requires-clause-most : goal.recount-open_tx-requires-clause-most
@@ -167,12 +192,12 @@ recount-open_tx-requires-clause-most c =
 -- the record that was pushed, its mark, and the transaction's new entry, with the table
 module _ (c : goal.After-self-4-1) where
   abbrev record_pushed : LogRecord
-  record_pushed = c.back_record.result
+  record_pushed = let change = c.unwrap-change.result in back_record (c.len.result + 1) c.index.result.now.last c.args.tx change.key (option_map (λ _. change.before) change.after) change.prev
 
   told_back : let change = c.unwrap-change.result in IsBackOf record_pushed (c.len.result + 1) c.index.result.now.last c.args.tx change.key (option_map (λ _. change.before) change.after) change.prev
   told_back =
       let change = c.unwrap-change.result in
-      subst (λ (r : LogRecord). IsBackOf r (c.len.result + 1) c.index.result.now.last c.args.tx change.key (option_map (λ _. change.before) change.after) change.prev) (sym c.back_record.ensures) (back_told_of (c.len.result + 1) c.index.result.now.last c.args.tx change.key (option_map (λ _. change.before) change.after) change.prev)
+      back_told_of (c.len.result + 1) c.index.result.now.last c.args.tx change.key (option_map (λ _. change.before) change.after) change.prev
 
   abbrev entry_left : OpenTx
   entry_left = let n = c.index_mut-open_tx.result.now in record { rollback = n.rollback; last = c.len.result + 1; live = n.live - 1; left = n.left - 1; absent = c.recount-open_tx.result; saves = n.saves }
@@ -183,18 +208,21 @@ module _ (c : goal.After-self-4-1) where
   puts_entry : PutsAt (finding c.self.inside.txs.entries) (finding table_left) c.args.tx.0 (Some entry_left)
   puts_entry = write_at c.self.inside.txs c.args.tx.0 c.place_of-at.result entry_left c.place_of-at.ensures.stands
 
-  pushed : 0 < c.self.inside.pending → c.push.new.self.items ≡ c.self.inside.records.items ++ record_pushed ∷ []
-  pushed waits =
+  pushed : IsNext c.self.inside c.args.tx.0 c.index.result.now c.unwrap-change.result → c.push_back.new.self.items ≡ c.self.inside.records.items ++ record_pushed ∷ []
+  pushed now =
       let l = c.self.inside in
-      let ok = c.push.ensures.succeeds (omega (arith, waits, c.self.invariant.records_room.held)) in
-      c.push.ensures.items ∙ ap (λ (b : Bool). cond b (l.records.items ++ record_pushed ∷ []) l.records.items) ok
+      let u = now.step.update in
+      let lsn_is : lsn_of u ≡ c.unwrap-change.result.lsn = ap (λ (x : LiveChange). x.lsn) now.step.told in
+      let there = record_of_chain l.records.items c.index.result.now.last u now.step.rest c.self.invariant.log_kept.numbered now.step.is in
+      c.push_back.ensures.items u (place_below l.records.items (lsn_of u) c.unwrap-change.result.lsn u lsn_is there)
+      ∙ ap (λ (x : LiveChange). l.records.items ++ back_record (c.len.result + 1) c.index.result.now.last c.args.tx x.key (option_map (λ _. x.before) x.after) x.prev ∷ []) now.step.told
 
-  mark_pushed : 0 < c.self.inside.pending → c.push-2.new.self.items ≡ c.self.inside.marks.items ++ record { newest = c.newest_number-below.result; absent = c.is_absent_below-will.result } ∷ []
+  mark_pushed : 0 < c.self.inside.pending → c.push.new.self.items ≡ c.self.inside.marks.items ++ record { newest = c.newest_number-below.result; absent = c.is_absent_below-will.result } ∷ []
   mark_pushed waits =
       let l = c.self.inside in
       let m : Mark = record { newest = c.newest_number-below.result; absent = c.is_absent_below-will.result } in
-      let ok = c.push-2.ensures.succeeds (omega (arith, waits, c.self.invariant.marks_room.held)) in
-      c.push-2.ensures.items ∙ ap (λ (b : Bool). cond b (l.marks.items ++ m ∷ []) l.marks.items) ok
+      let ok = c.push.ensures.succeeds (omega (arith, waits, c.self.invariant.marks_room.held)) in
+      c.push.ensures.items ∙ ap (λ (b : Bool). cond b (l.marks.items ++ m ∷ []) l.marks.items) ok
 
   -- whether the changes that are left take its key out
   will_is : (step : IsStep (reverse c.self.inside.records.items) c.index.result.now.last c.unwrap-change.result) → c.is_absent_below-will.result ≡ absent_at c.unwrap-change.result.key step.rest
@@ -203,7 +231,7 @@ module _ (c : goal.After-self-4-1) where
       let rs = reverse l.records.items in
       let lsn_is : lsn_of step.update ≡ c.unwrap-change.result.lsn = ap (λ (x : LiveChange). x.lsn) step.told in
       let key_is : key_of step.update ≡ c.unwrap-change.result.key = ap (λ (x : LiveChange). x.key) step.told in
-      c.is_absent_below-will.ensures rs step.rest c.index.result.now.last step.update c.self.invariant.log_kept.numbered (subst (λ (ms : List Mark). AreMarked rs (reverse ms)) (sym c.deref-3.ensures.value) c.self.invariant.marked) step.is lsn_is
+      c.is_absent_below-will.ensures rs step.rest c.index.result.now.last step.update c.self.invariant.log_kept.numbered (subst (λ (ms : List Mark). AreMarked rs (reverse ms)) (sym c.deref-2.ensures.value) c.self.invariant.marked) step.is lsn_is
       ∙ ap (λ k. absent_at k step.rest) key_is
 
   taken_back : IsNext c.self.inside c.args.tx.0 c.index.result.now c.unwrap-change.result → c.lower-was.result ≡ absent_at c.unwrap-change.result.key (chain (reverse c.self.inside.records.items) c.index.result.now.last) → c.index_mut-open_tx.result.now ≡ c.index.result.now
@@ -215,11 +243,10 @@ module _ (c : goal.After-self-4-1) where
       let change = c.unwrap-change.result in
       let n = c.index_mut-open_tx.result.now in
       let will : c.is_absent_below-will.result ≡ absent_at change.key (chain rs change.prev) = will_is now.step ∙ ap (absent_at change.key) (sym now.step.tail) in
-      let many : vec_len l.records ≡ length l.records.items = omega (arith, l.records.ok.0) in
       let live_is : n.live ≡ e.live = ap (λ (x : OpenTx). x.live) same in
       let asked = ap (λ (s : LogState). is_some (undo_in s c.args.tx.0)) c.self.view_is ∙ c.requires in
       record {
-        lsn_is = ap (λ k. k + 1) (c.len.ensures ∙ many ∙ sym (length-reverse l.records.items));
+        lsn_is = ap (λ k. k + 1) (c.len.ensures ∙ sym (length-reverse l.records.items));
         prev_is = refl;
         step = now.step;
         rollback_same = ap (λ (x : OpenTx). x.rollback) same;
@@ -251,23 +278,23 @@ invariant_of-self c =
     let rs = reverse l.records.items in
     let e = c.index.result.now in
     let places = goal.at.invariant_of-self c in
-    let now = next places.After-deref-3 in
+    let now = next places.After-deref-2 in
     let change = c.unwrap-change.result in
-    let turned : reverse c.push.new.self.items ≡ record_pushed c ∷ rs = ap reverse (pushed c now.counted.waits) ∙ reverse-push l.records.items _ in
+    let turned : reverse c.push_back.new.self.items ≡ record_pushed c ∷ rs = ap reverse (pushed c now) ∙ reverse-push l.records.items _ in
     let back = taken_back c now (was_is places.After-lower-was now) (same_entry places.After-index_mut-open_tx now.found) in
     let kept = compensated (record_pushed c) (c.len.result + 1) e.last c.args.tx change rs (finding l.txs.entries) (finding (table_left c)) l.begun l.pending l.gone (l.pending - 1) c.recount-self-inside.result e (entry_left c) (told_back c) c.self.invariant.log_kept now.found (puts_entry c) back in
     let bounded = c.self.invariant.bounded in
-    let longer : vec_len c.push.new.self ≤ vec_len l.records + 1 = c.push.ensures.upper_bound in
-    let wider : vec_capacity l.records ≤ vec_capacity c.push.new.self = c.push.ensures.capacity in
+    let longer : length c.push_back.new.self.items ≡ length l.records.items + 1 = ap length (pushed c now) ∙ length-append l.records.items (record_pushed c ∷ []) in
+    let wider : l.records.room ≤ c.push_back.new.self.room = c.push_back.ensures.room in
     let one = back.pending_one in
     let will = will_is c now.step in
-    let below : c.newest_number-below.result ≡ first_lsn (chain rs change.prev) = c.newest_number-below.ensures rs c.self.invariant.log_kept.numbered (subst (λ (ms : List Mark). AreMarked rs (reverse ms)) (sym c.deref-4.ensures.value) c.self.invariant.marked) in
-    let more_marks : vec_len c.push-2.new.self ≤ vec_len l.marks + 1 = c.push-2.ensures.upper_bound in
-    let marks_wider : vec_capacity l.marks ≤ vec_capacity c.push-2.new.self = c.push-2.ensures.capacity in
+    let below : c.newest_number-below.result ≡ first_lsn (chain rs change.prev) = c.newest_number-below.ensures rs c.self.invariant.log_kept.numbered (subst (λ (ms : List Mark). AreMarked rs (reverse ms)) (sym c.deref-3.ensures.value) c.self.invariant.marked) in
+    let more_marks : vec_len c.push.new.self ≤ vec_len l.marks + 1 = c.push.ensures.upper_bound in
+    let marks_wider : vec_capacity l.marks ≤ vec_capacity c.push.new.self = c.push.ensures.capacity in
     let keys = compensated_keys (record_pushed c) l c.self.invariant c.args.tx e (entry_left c) change now.step.update now.step.rest now.at (finding (table_left c)) (held c.lower-was.new.holdings) c.is_absent_below-will.result (told_back c).down (told_back c).tx_is now.found (puts_entry c) will (c.lower-was.ensures now.at.hold.hold now.at.there).1 in
     record {
       log_kept = kept_turned _ _ _ _ _ _ turned kept;
-      marked = marked_more l.records.items c.push.new.self.items l.marks.items c.push-2.new.self.items _ _ turned (mark_pushed c now.counted.waits) (back_marked c now.step below will) c.self.invariant.marked;
+      marked = marked_more l.records.items c.push_back.new.self.items l.marks.items c.push.new.self.items _ _ turned (mark_pushed c now.counted.waits) (back_marked c now.step below will) c.self.invariant.marked;
       holding = subst (λ (xs : List LogRecord). IsHeld xs (opens (finding (table_left c))) (held c.lower-was.new.holdings)) (sym turned) keys.holding;
       busy_keys = keys.busy_keys;
       reserved = tt;
@@ -278,14 +305,14 @@ invariant_of-self c =
         most_begins = bounded.most_begins;
       };
       records_room = record { held = omega (arith, c.self.invariant.records_room.held); spare = tt };
+      bytes_room = tt;
       marks_room = record { held = omega (arith, c.self.invariant.marks_room.held); spare = tt };
     }
 
 pub returns-clause-lsn : goal.returns-clause-lsn
 returns-clause-lsn c =
     let l = c.self.inside in
-    let many : vec_len l.records ≡ length l.records.items = omega (arith, l.records.ok.0) in
-    ap (λ k. k + 1) (c.len.ensures ∙ many ∙ sym (length-reverse l.records.items) ∙ sym (log_len_is (reverse l.records.items) c.self.invariant.log_kept.written) ∙ ap (λ (s : LogState). log_len (history_in s)) c.self.view_is)
+    ap (λ k. k + 1) (c.len.ensures ∙ sym (length-reverse l.records.items) ∙ sym (log_len_is (reverse l.records.items) c.self.invariant.log_kept.written) ∙ ap (λ (s : LogState). log_len (history_in s)) c.self.view_is)
 
 pub returns-clause-after : goal.returns-clause-after
 returns-clause-after c =
@@ -293,7 +320,7 @@ returns-clause-after c =
     let rs = reverse l.records.items in
     let e = c.index.result.now in
     let places = goal.at.returns-clause-after c in
-    let now = next places.After-deref-3 in
+    let now = next places.After-deref-2 in
     let change = c.unwrap-change.result in
     let t = c.args.tx.0 in
     let kept = c.self.invariant.log_kept in
@@ -303,7 +330,7 @@ returns-clause-after c =
     let stay = txs_stay (record_pushed c) rs l.begun t l.txs.entries (table_left c) (entry_left c) e ((told_back c).lsn_is ∙ back.lsn_is) kept.fit (puts_entry c) now.found back.rollback_same back.saves_same in
     let undo = undo_told rs l.txs.entries l.begun l.pending l.gone t e change kept now.found (ap (λ (s : LogState). is_some (undo_in s t)) c.self.view_is ∙ c.requires) step in
     let told = told_compensation (state l.records.items l.txs.entries l.begun l.limits l.room) c.args.tx (c.len.result + 1) e.last change step.update (back.lsn_is ∙ ap (λ k. k + 1) (length-reverse l.records.items)) (fits.last) undo step.told (record_of_chain l.records.items e.last step.update step.rest kept.numbered step.is) in
-    compensate_state (record_pushed c) l.records.items c.push.new.self.items l.txs.entries (table_left c) l.begun l.limits l.room (c.len.result + 1) e.last c.args.tx change.key _ change.prev (told_back c) (pushed c now.counted.waits) (ap (λ r. r ∷ []) c.back_record.ensures ∙ told) stay
+    compensate_state (record_pushed c) l.records.items c.push_back.new.self.items l.txs.entries (table_left c) l.begun l.limits l.room (c.len.result + 1) e.last c.args.tx change.key _ change.prev (told_back c) (pushed c now) told stay
     ∙ ap (λ (s : LogState). record s { records = s.records ++ compensations_in s c.args.tx; changes = undone t s.changes; room = None }) c.self.view_is
 
 pub returns-clause-kept : goal.returns-clause-kept

@@ -1,12 +1,11 @@
-use Rattle.std.proofs.Common.{ℕ, ◌≤◌, List, length, reverse, map, sym, ap, subst, ◌∙◌}
+use Rattle.std.proofs.Common.{ℕ, ◌≤◌, reverse, sym, ap, subst, ◌∙◌}
 use Rattle.std.proofs.lemmas.List.{length-reverse}
 use Rattle.std.proofs.lemmas.List.Filters.{dedup_is}
 use Rattle.tx_log.proofs.KeptLogLemmas.{sized}
 use Rattle.tx_log.proofs.OwnedKeys.{owned_keys, unowned_keys}
-use Rattle.tx_log.specs.Log.{kept_of, key_of, chain}
+use Rattle.tx_log.specs.Log.{kept_of}
 use Rattle.tx_log.specs.LogState.{LogState, open_in, history_in}
 use Rattle.tx_log.specs.Owners.{keys_owned}
-use Rattle.tx_log.specs.declared.log_record.LogRecord.{LogRecord}
 use Rattle.tx_log.proofs.log.TxLog.keys_of.Goals as goal
 
 pub returns-in_default : goal.returns-in_default
@@ -23,7 +22,7 @@ changed_keys-requires-clause-within c =
     let e = c.in-Some.open_tx.now in
     let found = sym c.in-Some.ensures in
     let size = sized (reverse l.records.items) l.txs.entries l.begun l.pending l.gone t e c.self.invariant.log_kept found in
-    subst (λ (n : ℕ). e.last ≤ n) (length-reverse l.records.items ∙ ap length (sym c.deref.ensures.value)) size.last
+    subst (λ (n : ℕ). e.last ≤ n) (length-reverse l.records.items) size.last
 
 pub returns : goal.returns
 returns c =
@@ -31,6 +30,6 @@ returns c =
     let t = c.args.tx.0 in
     let e = c.in-Some.open_tx.now in
     let found = sym c.in-Some.ensures in
-    let are = c.in_ok-keys.ensures ∙ ap (λ (log : List LogRecord). map key_of (chain (reverse log) e.last)) c.deref.ensures.value in
+    let are = c.in_ok-keys.ensures in
     owned_keys (reverse l.records.items) l.txs.entries l.begun l.pending l.gone t e c.in_ok-keys.keys.items c.sort_unstable.new.self.items c.dedup.new.self.items c.self.invariant.log_kept found are c.sort_unstable.ensures.permutation c.sort_unstable.ensures.sorted (dedup_is _ _ _ c.dedup.ensures.filtered)
     ∙ ap (λ (s : LogState). keys_owned (open_in s) (history_in s) t) c.self.view_is

@@ -1,4 +1,4 @@
-use Rattle.std.proofs.Common.{◌≡◌, length, reverse, vec_len, sym, ap, ◌∙◌, arith}
+use Rattle.std.proofs.Common.{reverse, sym, ap, ◌∙◌}
 use Rattle.std.proofs.lemmas.List.{length-reverse}
 use Rattle.rec_types.specs.History.{log_len}
 use Rattle.tx_log.specs.LogState.{LogState, history_in}
@@ -8,5 +8,4 @@ use Rattle.tx_log.proofs.Counts.{log_len_is}
 pub returns : goal.returns
 returns c =
     let l = c.self.inside in
-    let many : vec_len l.records ≡ length l.records.items = omega (arith, l.records.ok.0) in
-    c.len.ensures ∙ many ∙ sym (length-reverse l.records.items) ∙ sym (log_len_is (reverse l.records.items) c.self.invariant.log_kept.written) ∙ ap (λ (s : LogState). log_len (history_in s)) c.self.view_is
+    c.len.ensures ∙ sym (length-reverse l.records.items) ∙ sym (log_len_is (reverse l.records.items) c.self.invariant.log_kept.written) ∙ ap (λ (s : LogState). log_len (history_in s)) c.self.view_is

@@ -1,4 +1,4 @@
-use Rattle.std.proofs.Common.{◌≡◌, ℕ, ◌≤◌, List, length, map, reverse, Some, option_map, sym, ap, subst, ◌∙◌}
+use Rattle.std.proofs.Common.{◌≡◌, ℕ, ◌≤◌, List, map, reverse, Some, option_map, sym, ap, subst, ◌∙◌}
 use Rattle.std.specs.List.{filter}
 use Rattle.std.proofs.lemmas.List.{length-reverse}
 use Rattle.tx_log.proofs.KeptLogLemmas.{sized}
@@ -6,7 +6,7 @@ use Rattle.tx_log.proofs.OpenTxReadLemmas.{entry_chain, undo_is, undo_none, undo
 use Rattle.tx_log.proofs.Lives.{first}
 use Rattle.tx_log.specs.Log.{kept_of, chain, noted}
 use Rattle.tx_log.specs.LogState.{LogState, undo_in, undo_of, undo_step}
-use Rattle.tx_log.specs.Walks.{newest_in, is_after}
+use Rattle.tx_log.specs.Walks.{is_after}
 use Rattle.tx_log.specs.declared.log_record.LogRecord.{LogRecord}
 use Rattle.tx_log.proofs.log.TxLog.next_undo.Goals as goal
 use Rattle.tx_log.proofs.log.TxLog.next_undo.Goals.{After-deref}
@@ -15,9 +15,6 @@ use Rattle.tx_log.proofs.log.TxLog.next_undo.Goals.{After-deref}
 module _ (c : After-deref) where
   abbrev above : List LogRecord
   above = filter (is_after c.in-Some-rollback.rollback.to) (chain (reverse c.self.inside.records.items) c.in-Some.open_tx.now.last)
-
-  read_is : newest_in (filter (is_after c.in-Some-rollback.rollback.to) (chain (reverse c.deref.result.now) c.in-Some.open_tx.now.last)) ≡ newest_in above
-  read_is = ap (λ (log : List LogRecord). newest_in (filter (is_after c.in-Some-rollback.rollback.to) (chain (reverse log) c.in-Some.open_tx.now.last))) c.deref.ensures.value
 
   answer_is : option_map undo_step (first (map noted above)) ≡ option_map undo_step (undo_in c.args.self.now c.args.tx.0)
   answer_is =
@@ -43,7 +40,7 @@ newest_above-requires-clause-within c =
     let t = c.args.tx.0 in
     let found = sym c.in-Some.ensures in
     let size = sized (reverse l.records.items) l.txs.entries l.begun l.pending l.gone t c.in-Some.open_tx.now c.self.invariant.log_kept found in
-    subst (λ (n : ℕ). c.in-Some.open_tx.now.last ≤ n) (length-reverse l.records.items ∙ ap length (sym c.deref.ensures.value)) size.last
+    subst (λ (n : ℕ). c.in-Some.open_tx.now.last ≤ n) (length-reverse l.records.items) size.last
 
 pub returns-in_default-rollback : goal.returns-in_default-rollback
 returns-in_default-rollback c =
@@ -55,9 +52,9 @@ returns-in_default-rollback c =
 pub returns-in-Some-newest_above : goal.returns-in-Some-newest_above
 returns-in-Some-newest_above c =
     let place = (goal.at.returns-in-Some-newest_above c).After-deref in
-    ap Some c.undo_step.ensures ∙ undo_case (above place) c.in-Some-newest_above.change (c.in-Some-newest_above.ensures ∙ read_is place) ∙ answer_is place
+    ap Some c.undo_step.ensures ∙ undo_case (above place) c.in-Some-newest_above.change c.in-Some-newest_above.ensures ∙ answer_is place
 
 pub returns-in-None : goal.returns-in-None
 returns-in-None c =
     let place = (goal.at.returns-in-None c).After-deref in
-    no_undo_case (above place) (c.in-None.ensures ∙ read_is place) ∙ answer_is place
+    no_undo_case (above place) c.in-None.ensures ∙ answer_is place

@@ -1,17 +1,16 @@
-use Rattle.std.proofs.Common.{◌≡◌, Option, Some, ℕ, ◌≤◌, List, length, take, reverse, sym, ap, subst, ◌∙◌}
+use Rattle.std.proofs.Common.{◌≡◌, Option, Some, ℕ, ◌≤◌, length, take, reverse, sym, ap, subst, ◌∙◌}
 use Rattle.tx_log.proofs.KeptLogLemmas.{active_open, kept_now, sized, some_of}
 use Rattle.tx_log.proofs.StageLemmas.{IsMove, moved_tx, moved_log, moved_view, up_to_take, up_to_place, rolling_is, short_take}
 use Rattle.tx_log.proofs.PlaceOf.{read_at}
 use Rattle.tx_log.proofs.OpenTxLemmas.{found_fits}
 use Rattle.tx_log.proofs.OpenTxReadLemmas.{depth_is, entry_chain}
 use Rattle.tx_log.specs.Finds.{finding}
-use Rattle.tx_log.specs.Log.{kept_of, stack, chain}
+use Rattle.tx_log.specs.Log.{kept_of, stack}
 use Rattle.tx_log.specs.LogState.{LogState, tx_in, rolling_to}
 use Rattle.tx_log.specs.Transactions.{depth_of, place_in}
 use Rattle.std.specs.List.{filter}
 use Rattle.std.proofs.lemmas.List.{length-reverse}
 use Rattle.tx_log.specs.Walks.{is_after}
-use Rattle.tx_log.specs.declared.log_record.LogRecord.{LogRecord}
 use Rattle.tx_log.specs.declared.phase.Rollback.{Rollback}
 use Rattle.tx_log.specs.declared.open_tx.OpenTx.{OpenTx}
 use Rattle.tx_log.proofs.log.TxLog.start_rollback.Goals as goal
@@ -34,7 +33,7 @@ count_changes-left-requires-clause-within c =
     let e = c.index-2.result.now in
     let found = read_at l.txs t c.place_of-at.result e c.place_of-at.ensures.stands c.index-2.ensures in
     let size = sized (reverse l.records.items) l.txs.entries l.begun l.pending l.gone t e c.self.invariant.log_kept found in
-    subst (λ (n : ℕ). e.last ≤ n) (length-reverse l.records.items ∙ ap length (sym c.deref.ensures.value)) size.last
+    subst (λ (n : ℕ). e.last ≤ n) (length-reverse l.records.items) size.last
 
 -- the transaction's entry, where the rollback goes back to, and what it is to take back
 module _ (c : goal.After-self-2-1) where
@@ -57,7 +56,6 @@ module _ (c : goal.After-self-2-1) where
       let e = c.index-2.result.now in
       let found = read_at l.txs t c.place_of-at.result e c.place_of-at.ensures.stands c.index-2.ensures in
       c.count_changes-left.ensures
-      ∙ ap (λ (log : List LogRecord). length (filter (is_after c.save_at-to.result) (chain (reverse log) e.last))) c.deref.ensures.value
       ∙ ap (λ us. length (filter (is_after c.save_at-to.result) us)) (entry_chain (reverse l.records.items) l.txs.entries l.begun l.pending l.gone t e c.self.invariant.log_kept found)
 
 pub invariant_of-self : goal.invariant_of-self

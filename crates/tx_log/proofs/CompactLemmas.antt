@@ -1,0 +1,73 @@
+-- The records of a log in little memory: what stays as bytes and entries are added.
+use Rattle.std.proofs.Common.{◌≡◌, ℕ, ◌≤◌, ◌<◌, ◌-◌, Bool, true, false, if◌then◌else◌, zero, suc, List, [], ◌∷◌, ◌++◌, length, take, drop, map, Option, Some, None, option_map, slice_get, get_or, reverse, refl, sym, ap, subst, ◌∙◌, arith}
+use Rattle.std.proofs.lemmas.List.{take-append-le, drop-append-le, length-drop}
+use Rattle.std.proofs.lemmas.Option.{slice_get-get_or}
+use Rattle.rec_types.specs.declared.transaction.TxId.{TxId}
+use Rattle.tx_log.specs.Compact.{read, IsWithin, told_as, back_kind, record_in}
+use Rattle.tx_log.specs.Log.{back_record, back_in, key_of, prev_of, chain, IsNumbered}
+use Rattle.tx_log.specs.Marks.{first_lsn}
+use Rattle.tx_log.specs.Walks.{change_in, newest_in}
+use Rattle.tx_log.proofs.MarkLemmas.{first_there}
+use Rattle.tx_log.specs.declared.log_record.LogRecord.{LogRecord}
+use Rattle.tx_log.specs.declared.log_record.LogRecord.TheVariants as logged
+use Rattle.tx_log.specs.declared.records.Span.{Span}
+use Rattle.tx_log.specs.declared.records.Kind.{Kind}
+use Rattle.tx_log.specs.declared.records.Kind.TheVariants.{Update, Compensation, Claim, Unclaim}
+use Rattle.tx_log.specs.declared.records.Entry.{Entry}
+
+-- a span reads the same once there are more bytes
+pub read-more : (xs ys : List ℕ) (s : Span) → IsWithin (length xs) s → read (xs ++ ys) s ≡ read xs s
+read-more xs ys s within = at s.is_there
+  where
+    same : take s.len (drop s.at (xs ++ ys)) ≡ take s.len (drop s.at xs)
+    same =
+        let starts : s.at ≤ length xs = omega (arith, within.fits) in
+        let ends : s.len ≤ length (drop s.at xs) = omega (arith, within.fits, length-drop s.at xs) in
+        ap (take s.len) (drop-append-le s.at xs ys starts) ∙ take-append-le s.len (drop s.at xs) ys ends
+
+    at : (there : Bool) → (if there then Some (take s.len (drop s.at (xs ++ ys))) else None) ≡ (if there then Some (take s.len (drop s.at xs)) else None)
+    at true = ap Some same
+    at false = refl
+
+-- the same of all entries
+pub records-more : (xs ys : List ℕ) (es : List Entry)
+    → ((i : ℕ) (e : Entry) → slice_get es i ≡ Some e → IsWithin (length xs) e.before)
+    → ((i : ℕ) (e : Entry) → slice_get es i ≡ Some e → IsWithin (length xs) e.after)
+    → map (record_in (xs ++ ys)) es ≡ map (record_in xs) es
+records-more xs ys [] before after = refl
+records-more xs ys (e ∷ es) before after =
+    (λ i. told_as e.kind e.lsn e.prev e.tx e.key (read-more xs ys e.before (before 0 e refl) i) (read-more xs ys e.after (after 0 e refl) i) e.undo_next
+    ∷ records-more xs ys es (λ j. before (suc j)) (λ j. after (suc j)) i)
+
+-- spans that lie in some bytes lie in more
+pub within-more : (n m : ℕ) (s : Span) → n ≤ m → IsWithin n s → IsWithin m s
+within-more n m s more within = record { fits = omega (arith, within.fits, more); short = within.short }
+
+-- after one entry more each of them has a span in the bytes
+pub within-push : (n : ℕ) (span : Entry → Span) (es : List Entry) (new : Entry)
+    → ((i : ℕ) (e : Entry) → slice_get es i ≡ Some e → IsWithin n (span e)) → IsWithin n (span new)
+    → (i : ℕ) (e : Entry) → slice_get (es ++ new ∷ []) i ≡ Some e → IsWithin n (span e)
+within-push n span [] new each last zero e is = subst (λ (o : Option Entry). IsWithin n (span (pick o))) is last
+  where
+    pick : Option Entry → Entry
+    pick (Some x) = x
+    pick None = new
+within-push n span [] new each last (suc i) e is = absurd (cc is)
+within-push n span (d ∷ es) new each last zero e is = each 0 e is
+within-push n span (d ∷ es) new each last (suc i) e is = within-push n span es new (λ j. each (suc j)) last i e is
+
+-- what stands for the taking back of a record shares the span of what stood before
+pub back-told : (k : Kind) (lsn prev : ℕ) (tx : TxId) (ulsn uprev : ℕ) (utx : TxId) (key : List ℕ) (before after other : Option (List ℕ)) (undo_next : ℕ)
+    → told_as (back_kind k) lsn prev tx key before other uprev ≡ back_record lsn prev tx (key_of (told_as k ulsn uprev utx key before after undo_next)) (back_in (told_as k ulsn uprev utx key before after undo_next)) (prev_of (told_as k ulsn uprev utx key before after undo_next))
+back-told Update lsn prev tx ulsn uprev utx key before after other undo_next = refl
+back-told Compensation lsn prev tx ulsn uprev utx key before after other undo_next = refl
+back-told Claim lsn prev tx ulsn uprev utx key before after other undo_next = refl
+back-told Unclaim lsn prev tx ulsn uprev utx key before after other undo_next = refl
+
+-- the number leads to the first of the chain
+pub newest-there : (log : List LogRecord) (from at : ℕ) → IsNumbered (reverse log) → at ≡ first_lsn (chain (reverse log) from) → 0 < at → at ≤ length log → option_map change_in (slice_get log (at - 1)) ≡ newest_in (chain (reverse log) from)
+newest-there log from at numbered is some within =
+    let nothing : LogRecord = logged.Unclaim 0 0 (record { 0 = 0 }) [] 0 in
+    let found = slice_get-get_or log (at - 1) nothing (omega (arith, some, within)) in
+    let first = first_there log from at nothing (get_or log (at - 1) nothing) numbered is some refl in
+    ap (option_map change_in) found ∙ sym (ap newest_in first.is)

@@ -1,0 +1,57 @@
+-- The records of a log in little memory: numbers, keys, and spans of one list of bytes.
+use Rattle.std.specs.Prelude.{◌≡◌, ℕ, ◌+◌, ◌-◌, ◌*◌, ◌≤◌, if◌then◌else◌, List, take, drop, map, Option, Some, None, slice_get, vec_len}
+use Rattle.std.specs.Vec.{vec_capacity}
+use Rattle.rec_types.specs.Widths.{widest_record}
+use Rattle.rec_types.specs.declared.transaction.TxId.{TxId}
+use Rattle.tx_log.specs.declared.log_record.LogRecord.{LogRecord}
+use Rattle.tx_log.specs.declared.log_record.LogRecord.TheVariants as logged
+use Rattle.tx_log.specs.declared.records.Span.{Span}
+use Rattle.tx_log.specs.declared.records.Kind.{Kind}
+use Rattle.tx_log.specs.declared.records.Kind.TheVariants.{Update, Compensation, Claim, Unclaim}
+use Rattle.tx_log.specs.declared.records.Entry.{Entry}
+use Rattle.tx_log.specs.declared.records.Records.TheInside.{Inside}
+
+-- the records, for how many there is room, and how many bytes of theirs have room
+pub record RecordsView : Type 0 where
+  pub items : List LogRecord
+  pub room : ℕ
+  pub free : ℕ
+
+-- the record whose bytes stand there
+abbrev pub read : List ℕ → Span → Option (List ℕ)
+read bytes s = if s.is_there then Some (take s.len (drop s.at bytes)) else None
+
+-- the span lies in so many bytes, and is no longer than a record
+pub record IsWithin (many : ℕ) (s : Span) : Type 0 where
+  pub fits : s.at + s.len ≤ many
+  pub short : s.len ≤ widest_record
+
+abbrev pub told_as : Kind → ℕ → ℕ → TxId → List ℕ → Option (List ℕ) → Option (List ℕ) → ℕ → LogRecord
+told_as Update lsn prev tx key before after undo_next = logged.Update lsn prev tx key before after
+told_as Compensation lsn prev tx key before after undo_next = logged.Compensation lsn prev tx key before undo_next
+told_as Claim lsn prev tx key before after undo_next = logged.Claim lsn prev tx key before
+told_as Unclaim lsn prev tx key before after undo_next = logged.Unclaim lsn prev tx key undo_next
+
+-- the kind of the record by which a change of a kind is taken back
+abbrev pub back_kind : Kind → Kind
+back_kind Update = Compensation
+back_kind Compensation = Compensation
+back_kind Claim = Unclaim
+back_kind Unclaim = Unclaim
+
+-- the record that an entry stands for
+abbrev pub record_in : List ℕ → Entry → LogRecord
+record_in bytes e = told_as e.kind e.lsn e.prev e.tx e.key (read bytes e.before) (read bytes e.after) e.undo_next
+
+abbrev pub view_of : Inside → RecordsView
+view_of l = record {
+  items = map (record_in l.bytes.items) l.entries.items;
+  room = vec_capacity l.entries;
+  free = vec_capacity l.bytes - vec_len l.bytes;
+}
+
+-- the spans of each entry lie in the bytes, of which there are no more than two records have for each entry
+pub record IsCompact (l : Inside) : Type 0 where
+  pub before : (i : ℕ) (e : Entry) → slice_get l.entries.items i ≡ Some e → IsWithin (vec_len l.bytes) e.before
+  pub after : (i : ℕ) (e : Entry) → slice_get l.entries.items i ≡ Some e → IsWithin (vec_len l.bytes) e.after
+  pub few : vec_len l.bytes ≤ 2 * widest_record * vec_len l.entries

@@ -1,0 +1,292 @@
+ghost use Rattle.std.specs.Prelude.{◌≡◌, ℕ, ◌+◌, ◌*◌, ◌<◌, ◌≤◌, ◌++◌, ◌^◌, [], ◌∷◌, Option, Some, None, List, length, slice_get, option_map, vec_len, OnOk, OnErr, IfOk};
+ghost use Rattle.std.specs.Vec.{vec_capacity};
+ghost use Rattle.rec_types.specs.LimitBounds.{most_log_records};
+ghost use Rattle.rec_types.specs.Widths.{widest_record};
+ghost use Rattle.tx_log.specs.Compact.{read, IsWithin, back_kind, told_as};
+ghost use Rattle.tx_log.specs.Log.{change_record, back_record, back_in, key_of, prev_of};
+ghost use Rattle.rec_types.specs.declared.transaction.TxId.{TxId};
+ghost use Rattle.tx_log.specs.Walks.{change_in};
+ghost use Rattle.tx_log.specs.declared.log_record.LogRecord.{LogRecord};
+
+use crate::LogRecord;
+use crate::undo_chain::LiveChange;
+use rec_types::{Key, Memory, RECORD_WIDTH, Record, TxId};
+use std::alloc::Global;
+use std::marker::Model;
+
+/// Where the bytes of a record stand, if there is one.
+#[derive(Clone, Copy, Debug)]
+pub struct Span {
+    at: u32,
+    len: u8,
+    is_there: bool,
+}
+
+/// What a log record tells of.
+#[derive(Clone, Copy, Debug)]
+pub enum Kind {
+    Update,
+    Compensation,
+    Claim,
+    Unclaim,
+}
+
+/// A log record in little memory. `before` is what stood at the key, was restored there, or was seen.
+#[derive(Clone, Copy, Debug)]
+pub struct Entry {
+    kind: Kind,
+    lsn: u32,
+    prev: u32,
+    tx: TxId,
+    undo_next: u32,
+    key: Key,
+    before: Span,
+    after: Span,
+}
+
+/// The records of a log, oldest first: each in some fifty bytes, and the bytes of all keys' records behind each other.
+/// A compensation shares those of the change that it takes back.
+#[derive(Drop)]
+pub struct Records {
+    entries: Vec<Entry>,
+    bytes: Vec<u8>,
+}
+
+impl Model for Records {
+    ghost use Rattle.tx_log.specs.Compact.{RecordsView, view_of, IsCompact};
+
+    ghost Value = { RecordsView };
+
+    ghost view = { view_of };
+
+    ghost invariant = { IsCompact };
+}
+
+impl Kind {
+    // The kind of the record by which a change is taken back.
+    fn back(self) -> Kind
+        ensures { result ≡ back_kind self }
+    {
+        match self {
+            Kind::Update | Kind::Compensation => Kind::Compensation,
+            Kind::Claim | Kind::Unclaim => Kind::Unclaim,
+        }
+    }
+}
+
+impl Span {
+    // No record.
+    fn none() -> Span
+        ensures { (bytes : List ℕ) → (read bytes result ≡ None) × IsWithin (length bytes) result }
+    {
+        Span {
+            at: 0,
+            len: 0,
+            is_there: false,
+        }
+    }
+}
+
+// What the entry of a change tells of, and what it says was written: of a claim nothing.
+fn told_by(after: Option<Option<Record>>) -> (Kind, Option<Record>)
+    ensures { (lsn prev : ℕ) (tx : TxId) (key : List ℕ) (before : Option (List ℕ))
+        → told_as result.0 lsn prev tx key before result.1 0
+        ≡ change_record lsn prev tx key before after }
+{
+    match after {
+        Some(wrote) => (Kind::Update, wrote),
+        None => (Kind::Claim, None),
+    }
+}
+
+// Adds the bytes of a record, where there is one, and tells where they stand. It takes no memory.
+fn note(bytes: &mut Vec<u8>, noted: &Option<Record>) -> Span
+    requires room { vec_len bytes.old + widest_record ≤ vec_capacity bytes.old }
+    requires few { vec_len bytes.old < 2 ^ 32 }
+    ensures read { read bytes.new.items result ≡ noted.now }
+    ensures within { IsWithin (length bytes.new.items) result }
+    ensures grown { (more : List ℕ) × (bytes.new.items ≡ bytes.old.items ++ more)
+        × (length more ≤ widest_record) }
+    ensures capacity { vec_capacity bytes.old ≤ vec_capacity bytes.new }
+{
+    let Some(noted) = noted else {
+        return Span::none();
+    };
+    let at = bytes.len() as u32;
+    let text = noted.bytes();
+    let _ = bytes.extend_from_slice(text);
+    Span {
+        at,
+        len: text.len() as u8,
+        is_there: true,
+    }
+}
+
+// The record whose bytes stand there, if there is one.
+fn record_at(bytes: &[u8], span: Span) -> Option<Record>
+    requires { IsWithin (length bytes.now) span }
+    ensures { result ≡ read bytes.now span }
+{
+    if !span.is_there {
+        return None;
+    }
+    let at = span.at as usize;
+    Record::new(&bytes[at..at + span.len as usize]).ok()
+}
+
+impl Records {
+    /// No records. It takes no memory.
+    pub fn new(alloc: Global) -> Records
+        ensures { result.items ≡ [] }
+    {
+        Records {
+            entries: Vec::new(alloc),
+            bytes: Vec::new(alloc),
+        }
+    }
+
+    /// How many there are.
+    pub fn len(&self) -> usize
+        ensures { result ≡ length self.now.items }
+    {
+        self.entries.len()
+    }
+
+    /// The record in that place, from 0.
+    pub fn get(&self, i: usize) -> Option<LogRecord>
+        ensures { result ≡ slice_get self.now.items i }
+    {
+        let entry = self.entries.get(i)?;
+        let Entry {
+            kind,
+            lsn,
+            prev,
+            tx,
+            undo_next,
+            key,
+            ..
+        } = *entry;
+        let before = record_at(&self.bytes, entry.before);
+        Some(match kind {
+            Kind::Update => LogRecord::Update {
+                lsn,
+                prev,
+                tx,
+                key,
+                before,
+                after: record_at(&self.bytes, entry.after),
+            },
+            Kind::Compensation => LogRecord::Compensation {
+                lsn,
+                prev,
+                tx,
+                key,
+                restored: before,
+                undo_next,
+            },
+            Kind::Claim => LogRecord::Claim {
+                lsn,
+                prev,
+                tx,
+                key,
+                seen: before,
+            },
+            Kind::Unclaim => LogRecord::Unclaim {
+                lsn,
+                prev,
+                tx,
+                key,
+                undo_next,
+            },
+        })
+    }
+
+    /// The same as a change; a compensation as one that wrote what it restored.
+    pub fn change(&self, i: usize) -> Option<LiveChange>
+        ensures { result ≡ option_map change_in (slice_get self.now.items i) }
+    {
+        let entry = self.entries.get(i)?;
+        let before = record_at(&self.bytes, entry.before);
+        let (seen, after) = match entry.kind {
+            Kind::Update => (before, Some(record_at(&self.bytes, entry.after))),
+            Kind::Compensation => (before, Some(record_at(&self.bytes, entry.before))),
+            Kind::Claim => (before, None),
+            Kind::Unclaim => (None, None),
+        };
+        Some(LiveChange {
+            lsn: entry.lsn,
+            prev: entry.prev,
+            key: entry.key,
+            before: seen,
+            after,
+        })
+    }
+
+    /// Makes room for so many records more, and for the bytes of one change. Fault: Memory; the records stay, and so
+    /// does what room there was.
+    pub fn reserve(&mut self, count: usize) -> Result<(), Memory>
+        ensures items { self.new.items ≡ self.old.items }
+        ensures room { self.old.room ≤ self.new.room }
+        ensures ok { OnOk result ((length self.new.items + count ≤ self.new.room)
+            × (2 * widest_record ≤ self.new.free)) }
+    {
+        self.entries.reserve(count)?;
+        self.bytes.reserve(2 * RECORD_WIDTH)?;
+        Ok(())
+    }
+
+    /// Adds the record of a change: of a claim where `after` is none. It takes no memory.
+    pub fn push_change(
+        &mut self,
+        lsn: u32,
+        prev: u32,
+        tx: TxId,
+        key: Key,
+        before: Option<Record>,
+        after: Option<Option<Record>>,
+    )
+        requires few { length self.old.items < most_log_records }
+        requires room { length self.old.items < self.old.room }
+        requires free { 2 * widest_record ≤ self.old.free }
+        ensures items { self.new.items
+            ≡ self.old.items ++ change_record lsn prev tx key before after ∷ [] }
+        ensures room { self.old.room ≤ self.new.room }
+    {
+        let (kind, wrote) = told_by(after);
+        let before = note(&mut self.bytes, &before);
+        let after = note(&mut self.bytes, &wrote);
+        let _ = self.entries.push(Entry {
+            kind,
+            lsn,
+            prev,
+            tx,
+            undo_next: 0,
+            key,
+            before,
+            after,
+        });
+    }
+
+    /// Adds the record of taking back the change whose record is in that place. It takes no memory.
+    pub fn push_back(&mut self, of: usize, lsn: u32, prev: u32, tx: TxId)
+        requires there { of < length self.old.items }
+        requires few { length self.old.items < most_log_records }
+        requires room { length self.old.items < self.old.room }
+        ensures items { (u : LogRecord) → slice_get self.old.items of ≡ Some u
+            → self.new.items
+            ≡ self.old.items ++ back_record lsn prev tx (key_of u) (back_in u) (prev_of u) ∷ [] }
+        ensures room { self.old.room ≤ self.new.room }
+    {
+        let taken = self.entries[of];
+        let _ = self.entries.push(Entry {
+            kind: taken.kind.back(),
+            lsn,
+            prev,
+            tx,
+            undo_next: taken.prev,
+            key: taken.key,
+            before: taken.before,
+            after: Span::none(),
+        });
+    }
+}
