@@ -28,7 +28,10 @@ fn header_page(version: u8) -> [u8; 4096] {
 }
 
 /// What it says.
-fn header_of(version: u16) -> Header {
+fn header_of(version: u16) -> Header
+    ensures version { result.version ≡ version }
+    ensures order { result.order ≡ 1 }
+{
     Header {
         version,
         order: 1,
