@@ -1,0 +1,4 @@
+pub mod Crash
+pub mod Files
+pub mod History
+pub mod Steps

@@ -1,0 +1,16 @@
+//! A page file that is changed in place: its old pages stand beside it in a side file until the change is whole, so
+//! that a crash at any moment leaves the old file or the new one.
+#![tactic(auto)]
+
+mod disk;
+mod disk_call;
+mod disk_state;
+mod mem_disk;
+mod mem_files;
+mod side_shape;
+
+pub use disk::Disk;
+pub use disk_call::DiskCall;
+pub use disk_state::DiskState;
+pub use mem_disk::{Beginning, MemDisk};
+pub use side_shape::SideShape;
