@@ -1,1 +1,6 @@
-mod MemDisks
+mod MemDiskLemmas
+mod MomentLemmas
+mod PuttingLemmas
+mod RestoreLemmas
+mod RunLemmas
+mod SealedLemmas

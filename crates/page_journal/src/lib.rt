@@ -2,15 +2,22 @@
 //! that a crash at any moment leaves the old file or the new one.
 #![tactic(auto)]
 
+mod blank;
 mod disk;
 mod disk_call;
 mod disk_state;
 mod mem_disk;
 mod mem_files;
+mod recovering;
+mod recovery_fault;
+mod sealing;
 mod side_shape;
 
 pub use disk::Disk;
 pub use disk_call::DiskCall;
 pub use disk_state::DiskState;
 pub use mem_disk::{Beginning, MemDisk};
+pub use recovering::{commit, recover};
+pub use recovery_fault::RecoveryFault;
+pub use sealing::seal;
 pub use side_shape::SideShape;

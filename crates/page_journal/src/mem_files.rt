@@ -1,22 +1,15 @@
 ghost use Rattle.std.specs.Prelude.{◌≡◌, ◌<◌, OnOk, OnErr};
 ghost use Rattle.rec_types.specs.Widths.{page_width};
 ghost use Rattle.page_journal.specs.Steps.{nothing_kept, kept_more};
-ghost use Rattle.page_store.specs.Blank.{blank};
 ghost use Rattle.page_journal.specs.History.{done};
 ghost use Rattle.page_journal.specs.declared.disk_call.DiskCall.{DiskCall};
 
+use crate::blank::blank_page;
 use crate::disk_call::DiskCall;
 use rec_types::{Memory, PAGE_WIDTH};
 use std::alloc::Global;
 use std::marker::Model;
 use std::mem;
-
-/// A page of zeros.
-fn blank_page() -> [u8; PAGE_WIDTH]
-    ensures { result ≡ blank }
-{
-    [0; PAGE_WIDTH]
-}
 
 /// Old pages of a file with their numbers, and how long the file was.
 #[derive(Drop)]

@@ -1,4 +1,4 @@
-use Rattle.page_journal.proofs.MemDisks.{cuts}
+use Rattle.page_journal.proofs.MemDiskLemmas.{cuts}
 use Rattle.page_journal.proofs.mem_disk.MemDiskDisk.cut.Goals as goal
 
 pub returns-clause-does : goal.returns-clause-does

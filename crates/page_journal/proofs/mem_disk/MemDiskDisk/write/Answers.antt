@@ -1,4 +1,4 @@
-use Rattle.page_journal.proofs.MemDisks.{writes}
+use Rattle.page_journal.proofs.MemDiskLemmas.{writes}
 use Rattle.page_journal.proofs.mem_disk.MemDiskDisk.write.Goals as goal
 
 pub returns-clause-does : goal.returns-clause-does

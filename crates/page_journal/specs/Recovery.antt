@@ -1,0 +1,17 @@
+-- Which faults a recovery answers.
+use Rattle.std.specs.Prelude.{◌≡◌, ℕ, ◌<◌, Bool, true, false, Option, Some, Result, Ok, Err, length}
+use Rattle.page_journal.specs.Files.{PageFile, Kept, Files}
+use Rattle.page_journal.specs.declared.recovery_fault.RecoveryFault.{RecoveryFault}
+use Rattle.page_journal.specs.declared.recovery_fault.RecoveryFault.TheVariants.{Device, BadJournal}
+
+-- whether a call of the disk failed
+abbrev pub is_device : {X : Type 0} → Result X RecoveryFault → Bool
+is_device (Ok x) = false
+is_device (Err Device) = true
+is_device (Err BadJournal) = false
+
+-- the file is shorter than its side file says that it was
+pub record IsTooShort (f : Files) : Type 0 where
+  pub kept : Kept
+  pub side : f.side ≡ Some kept
+  pub short : length f.main.pages < kept.long
