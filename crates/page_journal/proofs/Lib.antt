@@ -1,3 +1,5 @@
+mod ExampleLemmas
+mod FateLemmas
 mod MemDiskLemmas
 mod MomentLemmas
 mod PuttingLemmas

@@ -1,9 +1,9 @@
 -- What a call of a disk in memory does, where it is kept and where it fails.
-use Rattle.std.proofs.Common.{◌≡◌, ⊎_elim, inl, inr, ℕ, ◌+◌, ◌≤◌, true, List, [], ◌∷◌, length, Result, Ok, Err, OnOk, OnErr, refl, sym, subst, arith}
+use Rattle.std.proofs.Common.{◌≡◌, ⊎_elim, inl, inr, ℕ, ◌+◌, true, List, [], length, Result, Ok, Err, OnOk, OnErr, refl, sym, subst, arith}
 use Rattle.std.proofs.lemmas.List.{set-get_or, take_all}
 use Rattle.std.specs.Prelude.{slice_index_or}
 use Rattle.page_store.specs.declared.store_fault.StoreFault.{StoreFault}
-use Rattle.page_journal.specs.Files.{PageFile, Files}
+use Rattle.page_journal.specs.Files.{Files}
 use Rattle.page_journal.specs.Steps.{Does, TornAt, CutsTo}
 use Rattle.page_journal.specs.History.{History, done, leads, all_done, MayLeave, LeftSince, with_call, failed_more}
 use Rattle.page_journal.specs.declared.disk_state.DiskState.{Ghosts}
@@ -48,7 +48,7 @@ does_either began step call (Ok _) old new ok err kept failed = subst (λ h. Doe
 does_either began step call (Err _) old new ok err kept failed = subst (λ h. Does (ghosts_of began) step old h) (sym err) failed
 
 -- a page that has the bytes that it had
-torn_none : (n : ℕ) (d : Files) → TornAt n d d
+pub torn_none : (n : ℕ) (d : Files) → TornAt n d d
 torn_none n d = record {
   page = slice_index_or d.main.pages n [];
   main = λ i. record { pages = sym (set-get_or d.main.pages n []) i; tail = d.main.tail };
@@ -56,7 +56,7 @@ torn_none n d = record {
   side = refl;
 }
 
-cut_none : (n : ℕ) (d : Files) → CutsTo n d d
+pub cut_none : (n : ℕ) (d : Files) → CutsTo n d d
 cut_none n d = record {
   to = n + length d.main.pages;
   least = omega arith;

@@ -1,5 +1,5 @@
 -- How a run of calls goes on.
-use Rattle.std.proofs.Common.{◌≡◌, ◌⊎◌, inl, inr, ⊎_elim, ℕ, arith}
+use Rattle.std.proofs.Common.{inl, inr, ⊎_elim, arith}
 use Rattle.page_journal.specs.Files.{Files}
 use Rattle.page_journal.specs.Steps.{Does}
 use Rattle.page_journal.specs.Crash.{LeavesOnly}

@@ -1,12 +1,12 @@
 -- Old pages put back one after another, and gathered one after another.
-use Rattle.std.proofs.Common.{◌≡◌, ◌≢◌, ◌⊎◌, inl, inr, ⊎_elim, ℕ, zero, suc, ◌+◌, ◌<◌, ◌≤◌, Bool, true, false, ◌||◌, eqb, List, [], ◌∷◌, ◌++◌, length, take, Option, Some, None, All, slice_get, set, get_or, unwrap_or, refl, sym, ◌∙◌, ap, subst, arith, length-set}
+use Rattle.std.proofs.Common.{◌≡◌, ◌≢◌, inl, inr, ⊎_elim, ℕ, zero, suc, ◌+◌, ◌<◌, ◌≤◌, Bool, true, false, ◌||◌, eqb, List, [], ◌∷◌, ◌++◌, length, take, Option, Some, None, slice_get, set, get_or, unwrap_or, refl, sym, ◌∙◌, ap, subst, arith, length-set}
 use Rattle.std.proofs.Math.Numerals.{add-one}
 use Rattle.std.proofs.lemmas.Bool.{cases_eq, eq-eqb}
 use Rattle.std.proofs.lemmas.List.Elements.{All-push}
 use Rattle.std.proofs.lemmas.Option.{slice_get-get_or}
-use Rattle.page_journal.specs.Files.{PageFile, Kept, Files, is_kept, put_back, restored, Agree}
+use Rattle.page_journal.specs.Files.{PageFile, Kept, Files, is_kept, put_back, restored}
 use Rattle.page_journal.specs.Steps.{Does, Stays, Fresh, TornAt, kept_at, kept_more, side_shape}
-use Rattle.page_journal.specs.Crash.{IsSettled, IsSealed, LeavesOnly, StandsFor, MayWrite, Gathered}
+use Rattle.page_journal.specs.Crash.{IsSealed, LeavesOnly, StandsFor, MayWrite, Gathered}
 use Rattle.page_journal.specs.declared.disk_state.DiskState.{Ghosts}
 use Rattle.page_journal.specs.declared.side_shape.SideShape.{SideShape}
 use Rattle.page_journal.proofs.RestoreLemmas.{set_past}

@@ -1,9 +1,9 @@
 -- Old pages put back: what they leave depends on no page that is kept, and on nothing past the old end.
-use Rattle.std.proofs.Common.{◌≡◌, ◌≢◌, ◌⊎◌, inl, inr, ⊎_elim, ℕ, zero, suc, ◌+◌, ◌<◌, ◌≤◌, Bool, true, false, ◌||◌, eqb, List, [], ◌∷◌, ◌++◌, length, take, Option, Some, None, All, slice_get, set, unwrap_or, refl, sym, ◌∙◌, ap, subst, arith, length-set, length-append, get_or-set_same, get_or-set_other, get_or-take}
+use Rattle.std.proofs.Common.{◌≡◌, ◌≢◌, ◌⊎◌, inl, inr, ⊎_elim, ℕ, zero, suc, ◌<◌, ◌≤◌, Bool, true, false, ◌||◌, eqb, List, [], ◌∷◌, ◌++◌, length, take, Option, Some, All, slice_get, set, unwrap_or, refl, sym, ◌∙◌, ap, subst, arith, length-set, length-append, get_or-set_same, get_or-set_other, get_or-take}
 use Rattle.std.proofs.lemmas.List.{length-take-le, take-take, take_all, get_or_append_left}
 use Rattle.std.proofs.lemmas.Option.{slice_get-get_or, slice_get_past}
-use Rattle.std.proofs.lemmas.Bool.{cases_lt, cases_eq, false≢true, eq-eqb, ne_eqb}
-use Rattle.page_journal.specs.Files.{PageFile, Kept, Files, is_kept, put_back, restored, recovered, Agree}
+use Rattle.std.proofs.lemmas.Bool.{cases_lt, cases_eq, false≢true, ne_eqb}
+use Rattle.page_journal.specs.Files.{PageFile, Kept, is_kept, put_back, restored, Agree}
 
 pub kept_beside : (old : List (List ℕ)) (n k : ℕ) (page : List ℕ) → k ≢ n → slice_get (set old n page) k ≡ slice_get old k
 kept_beside old n k page other =

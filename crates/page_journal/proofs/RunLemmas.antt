@@ -1,11 +1,11 @@
 -- Runs of calls over a settled file, and over a sealed one.
-use Rattle.std.proofs.Common.{◌≡◌, ◌⊎◌, inl, inr, ⊎_elim, ℕ, ◌≤◌, List, length, Option, Some, None, is_some, refl, sym, ◌∙◌, ap, subst, arith}
-use Rattle.page_journal.specs.Files.{PageFile, Kept, Files, restored, recovered, recovered_by, Agree}
+use Rattle.std.proofs.Common.{◌≡◌, inl, ⊎_elim, ℕ, ◌≤◌, List, Some, None, is_some, sym, ◌∙◌, ap, subst}
+use Rattle.page_journal.specs.Files.{PageFile, Kept, Files, restored}
 use Rattle.page_journal.specs.Steps.{Does, Stays, TornAt, GrowsUpTo, CutsTo, Fresh, Names, Removes}
-use Rattle.page_journal.specs.Crash.{LeavesOnly, IsSettled, IsSealed, IsAtRest, StandsFor, IsEither, MayWrite, Gathered}
+use Rattle.page_journal.specs.Crash.{LeavesOnly, IsSettled, IsSealed, StandsFor, IsEither, MayWrite, Gathered}
 use Rattle.page_journal.specs.declared.disk_state.DiskState.{Ghosts}
 use Rattle.page_journal.proofs.MomentLemmas.{started, goes_on, then_runs, weaker}
-use Rattle.page_journal.proofs.SealedLemmas.{settled_stays, settled_fresh, settled_stands, sealed_stays, sealed_write, sealed_grow, sealed_cut, sealed_stands, sealed_at_rest, still, naming, named_stands, named_sealed, removed, removed_stands, removed_settled}
+use Rattle.page_journal.proofs.SealedLemmas.{settled_stays, settled_fresh, settled_stands, sealed_stays, sealed_write, sealed_grow, sealed_cut, sealed_stands, still, naming, named_stands, named_sealed, removed, removed_stands, removed_settled}
 
 module _ {D : Type 0} (g : Ghosts D) where
   -- the file stayed as it was, with no side file, and each crash left it

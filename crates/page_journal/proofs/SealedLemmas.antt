@@ -1,14 +1,14 @@
 -- Which calls leave a file that is settled or sealed so, and what its outcomes stand for.
-use Rattle.std.proofs.Common.{◌≡◌, ◌⊎◌, inl, inr, ⊎_elim, ℕ, ◌<◌, ◌≤◌, true, false, List, length, Option, Some, None, is_some, refl, sym, ◌∙◌, ap, subst, arith}
+use Rattle.std.proofs.Common.{◌≡◌, ◌⊎◌, inl, inr, ⊎_elim, ℕ, ◌≤◌, true, false, List, length, Option, Some, None, is_some, refl, sym, ◌∙◌, ap, subst, arith}
 use Rattle.std.proofs.lemmas.Bool.{false≢true}
-use Rattle.page_journal.specs.Files.{PageFile, Kept, Files, is_kept, put_back, restored, recovered, recovered_by, Agree}
-use Rattle.page_journal.specs.Steps.{Does, Stays, Nothing, TornAt, GrowsUpTo, CutsTo, Fresh, Names, Removes}
+use Rattle.page_journal.specs.Files.{PageFile, Kept, Files, restored, recovered, recovered_by, Agree}
+use Rattle.page_journal.specs.Steps.{Does, Stays, TornAt, GrowsUpTo, CutsTo, Fresh, Names, Removes}
 use Rattle.page_journal.specs.Crash.{IsSettled, IsSealed, IsAtRest, StandsFor, IsEither, MayWrite, Gathered}
 use Rattle.page_journal.specs.declared.disk_state.DiskState.{Ghosts}
 use Rattle.page_journal.proofs.RestoreLemmas.{restores_same, restored_itself, agree_itself, agree_put, agree_more, agree_cut}
 
 -- where a name was there or wasn't, and the device kept that it is, it is
-named_so : (side : Option Kept) (kept : Kept) → (side ≡ None) ⊎ (side ≡ Some kept) → is_some side ≡ true → side ≡ Some kept
+pub named_so : (side : Option Kept) (kept : Kept) → (side ≡ None) ⊎ (side ≡ Some kept) → is_some side ≡ true → side ≡ Some kept
 named_so side kept (inl none) there = absurd (false≢true (sym (ap is_some none) ∙ there))
 named_so side kept (inr some) there = some
 

@@ -1,5 +1,5 @@
 -- What a crash at any moment leaves.
-use Rattle.std.specs.Prelude.{◌≡◌, ◌⊎◌, ℕ, ◌≤◌, Bool, true, List, Option, Some, None, Result, OnOk, length, All, slice_get}
+use Rattle.std.specs.Prelude.{◌≡◌, ◌⊎◌, ℕ, ◌≤◌, true, List, Some, None, Result, OnOk, length, All, slice_get}
 use Rattle.page_journal.specs.Files.{PageFile, Kept, Files, Agree, is_kept, recovered, restored, put_back}
 use Rattle.page_journal.specs.declared.disk_state.DiskState.{Ghosts}
 

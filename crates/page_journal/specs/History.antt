@@ -1,10 +1,10 @@
 -- What a disk in memory keeps: what was there at first, and each changing call since then. What a crash leaves follows from that.
-use Rattle.std.specs.Prelude.{◌≡◌, ◌<◌, ◌⊎◌, ℕ, ◌-◌, ◌≤◌, List, [], ◌∷◌, ◌++◌, true, Option, Some, None, is_some, length, take, slice_set}
+use Rattle.std.specs.Prelude.{◌≡◌, ◌⊎◌, ℕ, ◌-◌, ◌≤◌, List, [], ◌∷◌, ◌++◌, true, Some, None, is_some, length, take, slice_set}
 use mathlib.Core.Logic.{inl, inr}
 use Rattle.std.proofs.Math.Nat.{not-suc-le_self}
 use Rattle.rec_types.specs.Table.{counted}
 use Rattle.page_store.specs.Blank.{blanks}
-use Rattle.page_journal.specs.Files.{PageFile, Kept, Files}
+use Rattle.page_journal.specs.Files.{Files}
 use Rattle.page_journal.specs.Steps.{nothing_kept, kept_more, TornAt, GrowsUpTo, CutsTo, Fresh, Names, Removes}
 use Rattle.page_journal.specs.declared.disk_call.DiskCall.{DiskCall}
 use Rattle.page_journal.specs.declared.disk_call.DiskCall.TheVariants.{Write, Grow, Cut, Sync, Start, Keep, SyncFresh, Name, Remove, SyncNames}

@@ -1,4 +1,6 @@
 pub mod Crash
+pub mod Examples
+pub mod Fates
 pub mod Files
 pub mod History
 pub mod Recovery

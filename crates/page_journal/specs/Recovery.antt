@@ -1,6 +1,6 @@
 -- Which faults a recovery answers.
-use Rattle.std.specs.Prelude.{◌≡◌, ℕ, ◌<◌, Bool, true, false, Option, Some, Result, Ok, Err, length}
-use Rattle.page_journal.specs.Files.{PageFile, Kept, Files}
+use Rattle.std.specs.Prelude.{◌≡◌, ◌<◌, Bool, true, false, Some, Result, Ok, Err, length}
+use Rattle.page_journal.specs.Files.{Kept, Files}
 use Rattle.page_journal.specs.declared.recovery_fault.RecoveryFault.{RecoveryFault}
 use Rattle.page_journal.specs.declared.recovery_fault.RecoveryFault.TheVariants.{Device, BadJournal}
 

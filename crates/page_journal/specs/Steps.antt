@@ -4,7 +4,7 @@ use Rattle.rec_types.specs.Table.{counted}
 use Rattle.page_store.specs.StoreFaults.{is_failed}
 use Rattle.page_store.specs.declared.store_fault.StoreFault.{StoreFault}
 use Rattle.page_store.specs.declared.store_fault.StoreFault.TheVariants.{Memory}
-use Rattle.page_journal.specs.Files.{PageFile, Kept, Files}
+use Rattle.page_journal.specs.Files.{Kept, Files}
 use Rattle.page_journal.specs.declared.disk_state.DiskState.{Ghosts}
 use Rattle.page_journal.specs.declared.side_shape.SideShape.{SideShape}
 

@@ -1,15 +1,18 @@
-ghost use Rattle.std.specs.Prelude.{◌≡◌, ◌≢◌, ◌<◌, [], None, Err, OnOk, OnErr, IfOk};
+ghost use Rattle.std.specs.Prelude.{◌≡◌, ◌≢◌, ◌<◌, ◌≤◌, [], Some, None, Err, length, take, reverse, All, IsTrue, IsSome, IfSome, OnOk, OnErr, IfOk};
 ghost use Rattle.rec_types.specs.Table.{counted};
 ghost use Rattle.rec_types.specs.Widths.{page_width};
 ghost use Rattle.page_journal.specs.Files.{Files};
 ghost use Rattle.page_journal.specs.Steps.{nothing_kept};
-ghost use Rattle.page_journal.specs.History.{with_call, failed_more};
+ghost use Rattle.page_journal.specs.History.{MayLeave, all_done, with_call, failed_more};
+ghost use Rattle.page_journal.specs.Fates.{first_calls};
+ghost use Rattle.page_journal.specs.declared.fate.Fate.{Fate};
 ghost use Rattle.page_journal.specs.declared.disk_call.DiskCall.{DiskCall};
 
 use crate::disk::Disk;
 use crate::disk_call::DiskCall;
 use crate::disk_state::DiskState;
-use crate::mem_files::{MemFiles, OldPages};
+use crate::fate::Fate;
+use crate::mem_files::{MemFiles, OldPages, copy_of_pages};
 use crate::side_shape::SideShape;
 use page_store::{Shape, StoreFault};
 use rec_types::{Memory, PAGE_WIDTH};
@@ -29,7 +32,7 @@ pub trait Beginning {
 pub struct MemDisk<B> {
     first: MemFiles,
     calls: Vec<DiskCall>,
-    now: MemFiles,
+    seen: MemFiles,
     failures: u64,
     beginning: PhantomData<B>,
 }
@@ -46,7 +49,7 @@ impl<B> Model for MemDisk<B> {
       failures = d.failures;
     } };
 
-    ghost invariant = { λ d. d.now ≡ all_done d.first (reverse d.calls.items) };
+    ghost invariant = { λ d. d.seen ≡ all_done d.first (reverse d.calls.items) };
 }
 
 impl<B> MemDisk<B> {
@@ -67,10 +70,43 @@ impl<B> MemDisk<B> {
         Ok(MemDisk {
             first: mem_files(alloc, pages, tail)?,
             calls: Vec::new(alloc),
-            now: mem_files(alloc, pages, tail)?,
+            seen: mem_files(alloc, pages, tail)?,
             failures: 0,
             beginning: PhantomData,
         })
+    }
+
+    /// The pages of the file, as reads see them.
+    pub fn pages(&self) -> &[[u8; PAGE_WIDTH]]
+        ensures { result.now ≡ (all_done self.now.first self.now.calls).main.pages }
+    {
+        self.seen.pages.as_slice()
+    }
+
+    /// The changing calls since the beginning, the oldest first.
+    pub fn calls(&self) -> &[DiskCall]
+        ensures { reverse result.now ≡ self.now.calls }
+    {
+        self.calls.as_slice()
+    }
+
+    /// The disk after a crash and a restart, which came after as many of the calls as there are fates, and where each of
+    /// these calls had its fate, unless it was synced. None where the device kept the names and the fates would have
+    /// it lose one. Fault: Memory.
+    pub fn crash<C>(&self, fates: &[Fate]) -> Result<Option<MemDisk<C>>, Memory>
+        requires { length fates.now ≤ length self.now.calls }
+        ensures left { IfOk result (λ found. IfSome found (λ d. (d.calls ≡ []) × (d.failures ≡ 0)
+            × MayLeave self.now.first (first_calls (length fates.now) self.now.calls) d.first)) }
+        ensures whole { All (λ fate. fate ≡ Fate.Done) fates.now → IfOk result (λ found.
+            IsSome found × IfSome found (λ d. d.first
+            ≡ all_done self.now.first (first_calls (length fates.now) self.now.calls))) }
+    {
+        let mut left = self.first.copy()?;
+        let mut seen = self.first.copy()?;
+        if !suffer_all(&self.calls, fates, &mut left, &mut seen)? {
+            return Ok(None);
+        }
+        restarted(left)
     }
 
     // Carries a call out and keeps it. Fault: Failed, where there is no memory; nothing has changed then.
@@ -91,7 +127,7 @@ impl<B> MemDisk<B> {
         ensures err { OnErr result (self.new ≡ self.old) }
     {
         self.calls.reserve(1)?;
-        self.now.carry_out(&call)?;
+        self.seen.carry_out(&call)?;
         self.calls.push(call)?;
         Ok(())
     }
@@ -134,13 +170,13 @@ impl<B: Beginning> Disk for MemDisk<B> {
 
     fn shape(&mut self) -> Result<Shape, StoreFault> {
         Ok(Shape {
-            pages: self.now.pages.len() as u64,
-            tail: self.now.tail,
+            pages: self.seen.pages.len() as u64,
+            tail: self.seen.tail,
         })
     }
 
     fn read(&mut self, n: u32, to: &mut [u8; PAGE_WIDTH]) -> Result<(), StoreFault> {
-        *to = self.now.pages[n as usize];
+        *to = self.seen.pages[n as usize];
         Ok(())
     }
 
@@ -185,7 +221,7 @@ impl<B: Beginning> Disk for MemDisk<B> {
     }
 
     fn side(&mut self) -> Result<Option<SideShape>, StoreFault> {
-        let Some(kept) = &self.now.side else {
+        let Some(kept) = &self.seen.side else {
             return Ok(None);
         };
         let long = kept.long;
@@ -196,7 +232,7 @@ impl<B: Beginning> Disk for MemDisk<B> {
     }
 
     fn kept(&mut self, i: u32, to: &mut [u8; PAGE_WIDTH]) -> Result<u32, StoreFault> {
-        match &self.now.side {
+        match &self.seen.side {
             Some(kept) if (i as usize) < kept.pages.len() => {
                 let (n, page) = kept.pages[i as usize];
                 *to = page;
@@ -205,6 +241,48 @@ impl<B: Beginning> Disk for MemDisk<B> {
             _ => Err(self.fail()),
         }
     }
+}
+
+// Makes of files what a crash leaves behind as many of these calls as there are fates, and of the same files what reads
+// see then. Answers whether there is such a crash. Fault: Memory.
+fn suffer_all(
+    calls: &[DiskCall],
+    fates: &[Fate],
+    left: &mut MemFiles,
+    seen: &mut MemFiles,
+) -> Result<bool, Memory>
+    requires fits { length fates.now ≤ length calls.now }
+    requires same { left.old ≡ seen.old }
+    ensures left { IfOk result (λ there. IsTrue there
+        → MayLeave seen.old (reverse (take (length fates.now) calls.now)) left.new) }
+    ensures whole { All (λ fate. fate ≡ Fate.Done) fates.now → IfOk result (λ there. IsTrue there
+        × (left.new ≡ all_done seen.old (reverse (take (length fates.now) calls.now)))) }
+{
+    for i in 0..fates.len() {
+        let call = &calls[i];
+        seen.carry_out(call)?;
+        if !left.names_agree(call, seen) {
+            return Ok(false);
+        }
+        left.suffer(call, fates[i], seen)?;
+    }
+    Ok(true)
+}
+
+// A disk that has these files.
+fn restarted<B>(files: MemFiles) -> Result<Option<MemDisk<B>>, Memory>
+    ensures { IfOk result (λ found. found
+        ≡ Some (record { first = files; calls = []; failures = 0 })) }
+{
+    let seen = files.copy()?;
+    let alloc = files.alloc;
+    Ok(Some(MemDisk {
+        first: files,
+        calls: Vec::new(alloc),
+        seen,
+        failures: 0,
+        beginning: PhantomData,
+    }))
 }
 
 // Files with these pages and that tail, and no side file. Fault: Memory.
@@ -217,7 +295,7 @@ fn mem_files(alloc: Global, pages: &[[u8; PAGE_WIDTH]], tail: u16) -> Result<Mem
     }) }
 {
     Ok(MemFiles {
-        pages: pages.to_vec(alloc)?,
+        pages: copy_of_pages(alloc, pages)?,
         tail,
         fresh: OldPages::new(alloc, 0),
         side: None,

@@ -1,6 +1,6 @@
-use Rattle.std.proofs.Common.{◌≡◌, ◌+◌, ◌∙◌, ap, sym, subst, refl, rules, arith, ℕ, List, length, take, Some, slice_get, length-set}
+use Rattle.std.proofs.Common.{◌≡◌, ◌+◌, ◌∙◌, ap, sym, subst, refl, rules, arith, length, Some, slice_get}
 use Rattle.std.proofs.lemmas.List.{take_all}
-use Rattle.page_journal.specs.Files.{Kept, Files, put_back}
+use Rattle.page_journal.specs.Files.{Files, put_back}
 use Rattle.page_journal.specs.Steps.{kept_at}
 use Rattle.page_journal.proofs.RunLemmas.{holds_begin, holds_then}
 use Rattle.page_journal.proofs.PuttingLemmas.{Puts, puts_read, puts_change, puts_skip, may_of, long_torn, tail_torn}

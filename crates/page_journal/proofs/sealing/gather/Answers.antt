@@ -1,4 +1,4 @@
-use Rattle.std.proofs.Common.{◌≡◌, ◌+◌, ◌∙◌, ap, sym, subst, arith, get_or, ℕ, List, Some, slice_get}
+use Rattle.std.proofs.Common.{◌+◌, ◌∙◌, ap, sym, subst, arith, get_or, slice_get}
 use Rattle.page_journal.specs.Files.{PageFile, Files}
 use Rattle.page_journal.proofs.PuttingLemmas.{Gathers, gathers_read, gathers_skip, gathers_keep}
 use Rattle.page_journal.proofs.sealing.gather.Goals as goal

@@ -1,5 +1,5 @@
-use Rattle.std.proofs.Common.{◌≡◌, ◌∙◌, ap, sym, subst, ℕ, List}
-use Rattle.page_journal.specs.Files.{PageFile, Kept, Files}
+use Rattle.std.proofs.Common.{◌≡◌, ◌∙◌, ap, sym, subst}
+use Rattle.page_journal.specs.Files.{Kept, Files}
 use Rattle.page_journal.specs.Crash.{AreKept}
 use Rattle.page_journal.proofs.RestoreLemmas.{restored_itself}
 use Rattle.page_journal.proofs.RunLemmas.{Ready, quiet_begin, quiet_stays, quiet_fresh, quiet_then, ready, name_time, names_time, now_sealed}
