@@ -1,5 +1,6 @@
 mod ExampleLemmas
 mod FateLemmas
+mod KeptStoreLemmas
 mod MemDiskLemmas
 mod MomentLemmas
 mod PuttingLemmas
