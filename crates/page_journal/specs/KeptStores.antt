@@ -1,6 +1,7 @@
 -- A store over a disk, which may be changed in any way that its calls allow and stands for the old file all the while.
-use Rattle.std.specs.Prelude.{◌≡◌, ℕ, Bool, true, false, cond, List, slice_index_or, refl, ⊤}
+use Rattle.std.specs.Prelude.{◌≡◌, ℕ, ◌≤◌, Bool, true, false, cond, List, length, slice_index_or, refl, ⊤}
 use Rattle.std.specs.Coded.{Coded, code_by, coded×, coded_ℕ, coded_bool, coded_list}
+use Rattle.page_store.specs.FreeNumbers.{greatest_page_count}
 use Rattle.page_journal.specs.Files.{PageFile, Kept, Files, restored, recovered}
 use Rattle.page_journal.specs.Crash.{IsSettled, IsSealed, StandsFor, MayWrite}
 use Rattle.page_journal.specs.declared.disk_state.DiskState.{Ghosts}
@@ -44,6 +45,11 @@ abbrev pub may_write_in : SealState → List Bool → ℕ → Bool
 may_write_in Unsealed kept n = false
 may_write_in Sealed kept n = is_open kept n
 may_write_in Stopped kept n = false
+
+-- a file that is whole pages, and no more than there can be
+pub record CanBeSealed (main : PageFile) : Type 0 where
+  pub no_tail : main.tail ≡ 0
+  pub most : length main.pages ≤ greatest_page_count
 
 -- it is sealed, and stands for what it was when the disk was opened
 pub record IsHeld {D : Type 0} (g : Ghosts D) (flags : List Bool) (disk : D) : Type 0 where

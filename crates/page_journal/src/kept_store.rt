@@ -3,14 +3,13 @@ ghost use Rattle.std.specs.List.{list_any};
 ghost use Rattle.rec_types.specs.Table.{counted};
 ghost use Rattle.rec_types.specs.Widths.{page_width};
 ghost use Rattle.page_store.specs.Blank.{blanks};
-ghost use Rattle.page_store.specs.FreeNumbers.{greatest_page_count};
 ghost use Rattle.page_store.specs.Growth.{GrowsTo};
 ghost use Rattle.page_store.specs.StoreCalls.{LeavesStore, ChangesStore};
 ghost use Rattle.page_store.specs.StoreFaults.{is_failed};
 ghost use Rattle.page_store.specs.declared.step.Step.{Step};
 ghost use Rattle.page_journal.specs.Files.{Files, recovered};
 ghost use Rattle.page_journal.specs.Crash.{IsSettled, StandsFor, IsEither};
-ghost use Rattle.page_journal.specs.KeptStores.{KeptStored, is_open, may_write_in};
+ghost use Rattle.page_journal.specs.KeptStores.{KeptStored, CanBeSealed, is_open, may_write_in};
 
 use crate::disk::Disk;
 use crate::recovering::commit;
@@ -20,6 +19,9 @@ use page_store::{SealStore, Shape, Store, StoreFault, StoreState};
 use rec_types::{Memory, PAGE_WIDTH};
 use std::alloc::Global;
 use std::marker::Model;
+
+/// The most pages that a store has that pages are kept of.
+const MOST_PAGES: u64 = 1_000_001;
 
 /// A store over a disk. It refuses to write over a page that wasn't kept aside, so that a crash at any moment leaves the
 /// file that there was when the disk was opened, whatever its callers do, until `finish` gives that up. Contracts see
@@ -131,8 +133,6 @@ impl<D: Disk + Drop> KeptStore<D> {
 
     // Keeps the pages of these numbers aside, where none were. Faults: Failed, Memory.
     fn keep_aside(&mut self, numbers: &[u32]) -> Result<(), StoreFault>
-        requires most { length (D.seen self.old.disk).main.pages ≤ greatest_page_count }
-        requires no_tail { (D.seen self.old.disk).main.tail ≡ 0 }
         ensures same { (D.seen self.new.disk).main ≡ (D.seen self.old.disk).main }
         ensures steady { D.steady self.new.disk ≡ D.steady self.old.disk }
         ensures sealed { OnOk result ((self.new.state ≡ SealState.Sealed) × ((n : ℕ)
@@ -140,8 +140,10 @@ impl<D: Disk + Drop> KeptStore<D> {
             → is_open self.new.kept n ≡ list_any (λ m. n == m) numbers.now)) }
         ensures again { self.old.state ≢ SealState.Unsealed
             → (result ≡ Err StoreFault.Failed) × (self.new ≡ self.old) }
-        ensures passes { self.old.state ≡ SealState.Unsealed → D.failures self.new.disk
+        ensures passes { self.old.state ≡ SealState.Unsealed
+            → CanBeSealed (D.seen self.old.disk).main → D.failures self.new.disk
             ≡ counted (D.failures self.old.disk) (is_failed result) }
+        ensures refused { OnOk result (CanBeSealed (D.seen self.old.disk).main) }
         ensures rest { self.new ≡ record self.old {
           disk = self.new.disk;
           kept = self.new.kept;
@@ -151,7 +153,11 @@ impl<D: Disk + Drop> KeptStore<D> {
         let SealState::Unsealed = self.state else {
             return Err(StoreFault::Failed);
         };
-        let long = self.disk.shape()?.pages as u32;
+        let shape = self.disk.shape()?;
+        if shape.tail > 0 || shape.pages > MOST_PAGES {
+            return Err(StoreFault::Failed);
+        }
+        let long = shape.pages as u32;
         let Ok(kept) = flags_of(self.alloc, long, numbers) else {
             return Err(StoreFault::Memory);
         };
@@ -280,11 +286,9 @@ impl<D: Disk + Drop> Store for KeptStore<D> {
 }
 
 impl<D: Disk + Drop> SealStore for KeptStore<D> {
-    /// Keeps the pages of these numbers aside, once. Faults: Failed, as where pages were kept or a call of the disk
-    /// failed before, Memory.
+    /// Keeps the pages of these numbers aside, once. Faults: Failed, where pages were kept or a sealing failed before,
+    /// the store has a tail or more than 1,000,001 pages, or the disk failed; Memory.
     fn seal(&mut self, numbers: &[u32]) -> Result<(), StoreFault>
-        requires most { length (D.seen self.old.disk).main.pages ≤ greatest_page_count }
-        requires no_tail { (D.seen self.old.disk).main.tail ≡ 0 }
         ensures leaves { LeavesStore ⟦<KeptStore<D> as StoreState>⟧ false
             self.old result self.new }
         ensures sealed { OnOk result ((self.new.state ≡ SealState.Sealed) × ((n : ℕ)
@@ -292,8 +296,10 @@ impl<D: Disk + Drop> SealStore for KeptStore<D> {
             → is_open self.new.kept n ≡ list_any (λ m. n == m) numbers.now)) }
         ensures again { self.old.state ≢ SealState.Unsealed
             → (result ≡ Err StoreFault.Failed) × (self.new.disk ≡ self.old.disk) }
-        ensures passes { self.old.state ≡ SealState.Unsealed → D.failures self.new.disk
+        ensures passes { self.old.state ≡ SealState.Unsealed
+            → CanBeSealed (D.seen self.old.disk).main → D.failures self.new.disk
             ≡ counted (D.failures self.old.disk) (is_failed result) }
+        ensures refused { OnOk result (CanBeSealed (D.seen self.old.disk).main) }
     {
         let answer = self.keep_aside(numbers);
         noted(&mut self.failures, answer)

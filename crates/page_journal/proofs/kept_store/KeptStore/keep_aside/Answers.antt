@@ -15,13 +15,13 @@ invariant_of-self-2 g c = λ after.
     let unsealed : IsGuarded d Unsealed c.self.inside.kept.items c.self.inside.disk = subst (λ (s : SealState). IsGuarded d s c.self.inside.kept.items c.self.inside.disk) c.in-Unsealed.is before in
     let asked = guarded_stays d (g.met.D.Disk.counts_now) Unsealed c.self.inside.kept.items c.self.inside.disk c.shape.new.self unsealed c.shape.ensures.does in
     let sealed = c.in_ok-seal.ensures.sealed mid in
-    let kept_long : sealed.0.long ≡ c.in_ok-long.field-0.pages = sealed.3 ∙ ap (λ (f : Files). length f.main.pages) c.shape.ensures.does.seen ∙ sym c.in_ok-long.ensures.pages in
+    let kept_long : sealed.0.long ≡ c.in_ok-shape.shape.pages = sealed.3 ∙ ap (λ (f : Files). length f.main.pages) c.shape.ensures.does.seen ∙ sym c.in_ok-shape.ensures.pages in
     record {
       so = record {
         kept = sealed.0;
         base = main.pages;
         sealed = sealed.1;
-        flags_kept = flags_may sealed.0 c.args.numbers.now c.in-Ok.kept.items c.in_ok-long.field-0.pages sealed.4 c.in-Ok.ensures.long kept_long c.in-Ok.ensures.flags;
+        flags_kept = flags_may sealed.0 c.args.numbers.now c.in-Ok.kept.items c.in_ok-shape.shape.pages sealed.4 c.in-Ok.ensures.long kept_long c.in-Ok.ensures.flags;
         began = sealed.2 ∙ asked.so.seen;
       };
       time = run_time d main c.shape.new.self c.seal.new.disk asked.time asked.so.seen (c.seal.ensures.any_moment mid);
