@@ -33,8 +33,8 @@ module _ {D : Type 0} (g : Ghosts D) where
       record {
         so = tt;
         time = time_more _ old new guarded.time does (λ c left.
-        let from = does.crash c left in
-        subst (StandsFor (recovered g.began)) (sym from.2) (guarded.time from.0 (counts old 0 from.0 (omega arith) from.1)));
+            let from = does.crash c left in
+            subst (StandsFor (recovered g.began)) (sym from.2) (guarded.time from.0 (counts old 0 from.0 (omega arith) from.1)));
       }
 
   pub guarded_write : (state : SealState) (flags : List Bool) (n : ℕ) (old new : D) → IsGuarded g state flags old → may_write_in state flags n ≡ true → Does g (TornAt n) old new → IsGuarded g state flags new

@@ -1,4 +1,4 @@
-ghost use Rattle.std.specs.Prelude.{◌≡◌, ◌≢◌, ◌<◌, ◌≤◌, ◌-◌, ◌==◌, ◌++◌, ℕ, Bool, List, [], true, false, Some, None, Err, length, IsTrue, IfOk, OnOk, OnErr, slice_get, slice_set};
+ghost use Rattle.std.specs.Prelude.{◌≡◌, ◌≢◌, ◌<◌, ◌≤◌, ◌-◌, ◌==◌, ◌++◌, ℕ, Bool, List, [], true, false, Some, None, Err, length, IsTrue, IfOk, IfErr, OnOk, OnErr, slice_get, slice_set};
 ghost use Rattle.std.specs.List.{list_any};
 ghost use Rattle.rec_types.specs.Table.{counted};
 ghost use Rattle.rec_types.specs.Widths.{page_width};
@@ -8,11 +8,13 @@ ghost use Rattle.page_store.specs.StoreCalls.{LeavesStore, ChangesStore};
 ghost use Rattle.page_store.specs.StoreFaults.{is_failed};
 ghost use Rattle.page_store.specs.declared.step.Step.{Step};
 ghost use Rattle.page_journal.specs.Files.{Files, recovered};
-ghost use Rattle.page_journal.specs.Crash.{IsSettled, StandsFor, IsEither};
+ghost use Rattle.page_journal.specs.Crash.{IsSettled, IsAtRest, StandsFor, IsEither};
+ghost use Rattle.page_journal.specs.Recovery.{IsTooShort, is_device_fault};
 ghost use Rattle.page_journal.specs.KeptStores.{KeptStored, CanBeSealed, is_open, may_write_in};
 
 use crate::disk::Disk;
-use crate::recovering::commit;
+use crate::recovering::{commit, recover};
+use crate::recovery_fault::RecoveryFault;
 use crate::seal_state::SealState;
 use crate::sealing::seal;
 use page_store::{SealStore, Shape, Store, StoreFault, StoreState};
@@ -121,6 +123,38 @@ impl<D: Disk + Drop> KeptStore<D> {
         }
     }
 
+    /// A store over a disk that was just opened, after a restart: finds the file that its files stand for, and puts old
+    /// pages back where a side file has them. Until `finish` a crash at any moment leaves files that stand for that
+    /// file, also during this call. Faults: Device, where a call of the disk failed; BadJournal. The disk comes back.
+    pub fn open(alloc: Global, disk: D) -> Result<KeptStore<D>, (D, RecoveryFault)>
+        requires rest { IsAtRest D.DiskState disk }
+        requires began { IsTrue (D.steady disk) → D.seen disk ≡ D.began }
+        requires moment { D.moment disk ≡ 0 }
+        ensures opened { IfOk result (λ s. s ≡ record {
+          disk = s.disk;
+          kept = [];
+          state = SealState.Unsealed;
+          reads = 0;
+          writes = 0;
+          failures = 0;
+        }) }
+        ensures steady { IfOk result (λ s. D.steady s.disk ≡ D.steady disk) }
+        ensures file { IsTrue (D.steady disk)
+            → IfOk result (λ s. (D.seen s.disk).main ≡ recovered D.began) }
+        ensures stopped { IsTrue (D.steady disk) → IfErr result (λ stop. (c : Files)
+            → D.left_since stop.0 0 c → StandsFor (recovered D.began) c) }
+        ensures bad_journal { IsTrue (D.steady disk) → IfErr result (λ stop.
+            stop.1 ≡ RecoveryFault.BadJournal → IsTooShort D.began) }
+        ensures device { IfErr result (λ stop. D.failures stop.0
+            ≡ counted (D.failures disk) (is_device_fault stop.1)) }
+    {
+        let mut disk = disk;
+        match recover(&mut disk) {
+            Ok(()) => Ok(KeptStore::new(alloc, disk)),
+            Err(fault) => Err((disk, fault)),
+        }
+    }
+
     // Whether page n may be written over.
     fn may_write(&self, n: u32) -> bool
         ensures { result ≡ may_write_in self.now.state self.now.kept n }
@@ -183,7 +217,9 @@ impl<D: Disk + Drop> KeptStore<D> {
             ≡ counted (D.failures self.disk) (is_failed result.1) }
     {
         let KeptStore {
-            mut disk, state, ..
+            mut disk,
+            state,
+            ..
         } = self;
         let done = match state {
             SealState::Unsealed => Ok(()),
