@@ -4,6 +4,7 @@ ghost use Rattle.std.specs.Prelude.{◌≡◌, []};
 ghost use Rattle.recfile_tests.specs.TwoPages.{filled_page, two_pages};
 
 use crate::expect_text;
+use crate::stores::{pages_of, write_page};
 use page_journal::{Beginning, DiskCall, Fate, KeptStore, MemDisk, recover};
 use page_store::{SealStore, Store, StoreFault};
 use rec_types::PAGE_WIDTH;
@@ -59,17 +60,42 @@ fn close<S: SealStore>(store: &mut S) -> Result<(), StoreFault> {
     store.sync()
 }
 
-/// The disk behind such a closing.
-fn closed(rt: &impl Abort, alloc: Global) -> MemDisk<TwoPages> {
+/// The same calls where page 1 alone was changed, made by `Pages`, which tells the store what it writes over.
+fn close_pages<S: SealStore>(rt: &impl Abort, alloc: Global, store: S) -> S {
+    let mut pages = pages_of(rt, alloc, store, false).expect(rt, "no pages");
+    write_page(rt, alloc, &mut pages, 1, 8).expect(rt, "not staged");
+    pages.seal().expect(rt, "not sealed");
+    pages
+        .write_back(&filled(5), &filled(7))
+        .expect(rt, "not written back");
+    pages.into_store()
+}
+
+/// A store of two pages, filled with 1 and 2.
+fn opened(rt: &impl Abort, alloc: Global) -> KeptStore<MemDisk<TwoPages>> {
     let disk = MemDisk::new(alloc, &[filled(1), filled(2)], 0).expect(rt, "no memory");
-    let mut store = match KeptStore::open(alloc, disk) {
+    match KeptStore::open(alloc, disk) {
         Ok(store) => store,
         Err(_) => panic!(rt; "not opened"),
-    };
-    close(&mut store).expect(rt, "not closed");
-    let (disk, ended) = store.finish();
-    ended.expect(rt, "not given up");
+    }
+}
+
+/// The disk of a store, whose old pages are given up.
+fn ended(rt: &impl Abort, store: KeptStore<MemDisk<TwoPages>>) -> MemDisk<TwoPages> {
+    let (disk, answer) = store.finish();
+    answer.expect(rt, "not given up");
     disk
+}
+
+/// The disk behind the first closing, and behind the second.
+fn closed(rt: &impl Abort, alloc: Global) -> MemDisk<TwoPages> {
+    let mut store = opened(rt, alloc);
+    close(&mut store).expect(rt, "not closed");
+    ended(rt, store)
+}
+
+fn closed_pages(rt: &impl Abort, alloc: Global) -> MemDisk<TwoPages> {
+    ended(rt, close_pages(rt, alloc, opened(rt, alloc)))
 }
 
 /// The parts that the device keeps one by one.
@@ -218,11 +244,11 @@ enum Found {
     Neither,
 }
 
-fn found_on<B>(disk: &MemDisk<B>) -> Found {
+fn found_on<B>(disk: &MemDisk<B>, new: &[u8]) -> Found {
     if is_filled(disk.pages(), &[1, 2]) {
         return Found::Old;
     }
-    if is_filled(disk.pages(), &[7, 8, 9]) {
+    if is_filled(disk.pages(), new) {
         return Found::New;
     }
     Found::Neither
@@ -264,51 +290,70 @@ impl Tally {
 }
 
 /// Stops the recovery of a disk, after which it has to have the same file.
-fn stop_once(rt: &impl Abort, alloc: Global, disk: &MemDisk<Restarted>, tally: &mut Tally) {
+fn stop_once(
+    rt: &impl Abort,
+    alloc: Global,
+    disk: &MemDisk<Restarted>,
+    new: &[u8],
+    tally: &mut Tally,
+) {
     for again in &crashes(rt, alloc, disk) {
-        tally.note_again(found_on(again), found_on(disk));
+        tally.note_again(found_on(again, new), found_on(disk, new));
     }
 }
 
 /// Stops the recovery of each of these disks, and the one behind that.
-fn stop_twice(rt: &impl Abort, alloc: Global, disks: &[MemDisk<Restarted>], tally: &mut Tally) {
-    for disk in disks {
-        for again in &crashes(rt, alloc, disk) {
-            tally.note_again(found_on(again), found_on(disk));
-            stop_once(rt, alloc, again, tally);
-        }
+fn stop_twice(
+    rt: &impl Abort,
+    alloc: Global,
+    disk: &MemDisk<Restarted>,
+    new: &[u8],
+    tally: &mut Tally,
+) {
+    for again in &crashes(rt, alloc, disk) {
+        tally.note_again(found_on(again, new), found_on(disk, new));
+        stop_once(rt, alloc, again, new, tally);
     }
 }
 
-fn expect_tally(rt: &impl Abort, alloc: Global, tally: &Tally, wanted: &str) {
+fn push_tally(text: &mut String, tally: &Tally) -> Result<(), AllocError> {
     let Tally {
         old,
         new,
         neither,
         changed,
     } = tally;
-    let text = format!(in alloc;
-        "{old} old, {new} new, {neither} neither, {changed} changed"
-    ).expect(rt, "no memory");
+    write!(
+        text,
+        "{old} old, {new} new, {neither} neither, {changed} changed; "
+    )
+}
+
+/// What is found where a closing is stopped, and then where the recovery behind that is, once and twice.
+fn expect_found(
+    rt: &impl Abort,
+    alloc: Global,
+    closed: &MemDisk<TwoPages>,
+    new: &[u8],
+    wanted: &str,
+) {
+    let mut stopped = Tally::new();
+    let mut again = Tally::new();
+    for disk in &crashes(rt, alloc, closed) {
+        stopped.note(found_on(disk, new));
+        stop_twice(rt, alloc, disk, new, &mut again);
+    }
+    let mut text = String::new(alloc);
+    push_tally(&mut text, &stopped).expect(rt, "no text");
+    push_tally(&mut text, &again).expect(rt, "no text");
     expect_text(rt, &text, wanted);
 }
 
 #[test]
 fn closing_is_stopped(rt: HostRuntime) {
     let alloc = rt.alloc();
-    let disks = crashes(&rt, alloc, &closed(&rt, alloc));
-    let mut tally = Tally::new();
-    for disk in &disks {
-        tally.note(found_on(disk));
-    }
-    expect_tally(&rt, alloc, &tally, "78 old, 2 new, 0 neither, 0 changed");
-}
-
-#[test]
-fn recovery_is_stopped(rt: HostRuntime) {
-    let alloc = rt.alloc();
-    let disks = crashes(&rt, alloc, &closed(&rt, alloc));
-    let mut tally = Tally::new();
-    stop_twice(&rt, alloc, &disks, &mut tally);
-    expect_tally(&rt, alloc, &tally, "69456 old, 4 new, 0 neither, 0 changed");
+    let wanted = "78 old, 2 new, 0 neither, 0 changed; 69456 old, 4 new, 0 neither, 0 changed; ";
+    expect_found(&rt, alloc, &closed(&rt, alloc), &[7, 8, 9], wanted);
+    let wanted = "69 old, 2 new, 0 neither, 0 changed; 51618 old, 4 new, 0 neither, 0 changed; ";
+    expect_found(&rt, alloc, &closed_pages(&rt, alloc), &[7, 8], wanted);
 }
