@@ -19,6 +19,8 @@ ghost use Rattle.btree_delete.specs.Closing.{closing, IsNewOrFile, IsEither};
 ghost use Rattle.btree_delete.specs.TableView.{TableView, HoldsTree, IsClosed, table_contents};
 ghost use Rattle.btree_delete.specs.Created.{IsEmpty, IsCreated, IsCreateFault, is_create_device, is_create_device_fault};
 
+mod sealing;
+
 use crate::change::change;
 use crate::fault_counts::{FaultCounts, NO_FAULTS, told};
 use crate::open_file::{OpenStop, open_file};

@@ -14,6 +14,8 @@ ghost use Rattle.page_store.specs.Growth.{GrowsTo};
 ghost use Rattle.page_store.specs.WriteFaults.{by_device};
 ghost use Rattle.page_store.specs.WritingBack.{AreStored, KeepsOthers, Stopped};
 
+mod sealing;
+
 use crate::free_numbers::{add_all, nth_number};
 use crate::page_edit::{FetchFault, PageEdit, WriteFault};
 use crate::slot::{

@@ -29,7 +29,7 @@ pub(crate) fn told(fault: StoreFault) -> WriteFault
 }
 
 /// The changed page of that number, where the page is in use.
-fn page_to_write<'a>(
+pub(crate) fn page_to_write<'a>(
     changed: &'a [Slot],
     free: &BTreeSet<u32>,
     count: u32,

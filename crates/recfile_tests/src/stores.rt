@@ -16,7 +16,7 @@ use thiserror::Error;
 
 /// Why a row has no text: memory was refused, or a file.
 #[derive(Debug, Drop, Error)]
-enum Stop {
+pub(crate) enum Stop {
     #[error("out of memory")]
     Alloc(#[from(alloc)] AllocError),
     #[error("out of memory")]
@@ -384,7 +384,7 @@ fn free_page<S: Store>(
 }
 
 /// Writes a page that is in use.
-fn write_page<S: Store>(
+pub(crate) fn write_page<S: Store>(
     rt: &impl Abort,
     alloc: Global,
     pages: &mut Pages<S>,
@@ -465,7 +465,7 @@ fn push_step<S: Store>(
 }
 
 /// The pages of a store, all in use or the last one free.
-fn pages_of<S: Store>(
+pub(crate) fn pages_of<S: Store>(
     rt: &impl Abort,
     alloc: Global,
     mut store: S,

@@ -1,0 +1,67 @@
+-- Which calls leave a store that stands for the old file so.
+use Rattle.std.proofs.Common.{◌≡◌, ◌≢◌, ◌||◌, ◌⊎◌, ⊎_elim, inl, inr, ℕ, ◌<◌, ◌≤◌, Bool, true, false, eqb, List, [], ◌∷◌, length, All, zero, suc, refl, sym, ◌∙◌, ap, subst, arith}
+use Rattle.std.specs.List.{list_any}
+use Rattle.std.proofs.lemmas.Bool.{cases_lt, cases_eq, false≢true, ne_eqb}
+use Rattle.page_journal.specs.Files.{PageFile, Kept, Files, restored, recovered}
+use Rattle.page_journal.specs.Steps.{Does, Stays, TornAt, GrowsUpTo}
+use Rattle.page_journal.specs.Crash.{LeavesOnly, IsSettled, IsSealed, StandsFor, MayWrite, AreKept}
+use Rattle.page_journal.specs.KeptStores.{is_open, may_write_in, IsHeld, IsSo, IsGuarded}
+use Rattle.page_journal.specs.declared.disk_state.DiskState.{Ghosts}
+use Rattle.page_journal.specs.declared.seal_state.SealState.{SealState}
+use Rattle.page_journal.specs.declared.seal_state.SealState.TheVariants.{Unsealed, Sealed, Stopped}
+use Rattle.page_journal.proofs.SealedLemmas.{settled_stays, settled_stands, sealed_stays, sealed_stands, sealed_write, sealed_grow}
+
+module _ {D : Type 0} (g : Ghosts D) where
+  -- one call more, after which a crash leaves the old file
+  time_more : (step : Files → Files → Type 0) (old new : D) → ((c : Files) → g.left_since old 0 c → StandsFor (recovered g.began) c) → Does g step old new → ((c : Files) → g.may_leave new c → StandsFor (recovered g.began) c) → (c : Files) → g.left_since new 0 c → StandsFor (recovered g.began) c
+  time_more step old new time does now c left = ⊎_elim (time c) (now c) (does.nothing_else 0 c (omega arith) left)
+
+  held_stands : (flags : List Bool) (disk : D) → IsHeld g flags disk → (c : Files) → g.may_leave disk c → StandsFor (recovered g.began) c
+  held_stands flags disk held c left = sealed_stands g held.kept held.base disk held.sealed c left ∙ held.began
+
+  held_more : (flags : List Bool) (old new : D) → (held : IsHeld g flags old) → IsSealed g held.kept held.base new → IsHeld g flags new
+  held_more flags old new held sealed = record { kept = held.kept; base = held.base; sealed = sealed; flags_kept = held.flags_kept; began = held.began }
+
+  pub guarded_stays : ((disk : D) (t : ℕ) (c : Files) → t ≤ g.moment disk → g.may_leave disk c → g.left_since disk t c) → (state : SealState) (flags : List Bool) (old new : D) → IsGuarded g state flags old → Stays g old new → IsGuarded g state flags new
+  guarded_stays counts Unsealed flags old new guarded does =
+      let settled = settled_stays g (recovered g.began) old new guarded.so does in
+      record { so = settled; time = time_more _ old new guarded.time does (settled_stands g (recovered g.began) new settled) }
+  guarded_stays counts Sealed flags old new guarded does =
+      let held = held_more flags old new guarded.so (sealed_stays g guarded.so.kept guarded.so.base old new guarded.so.sealed does) in
+      record { so = held; time = time_more _ old new guarded.time does (held_stands flags new held) }
+  guarded_stays counts Stopped flags old new guarded does =
+      record {
+        so = tt;
+        time = time_more _ old new guarded.time does (λ c left.
+            let from = does.crash c left in
+            subst (StandsFor (recovered g.began)) (sym from.2) (guarded.time from.0 (counts old 0 from.0 (omega arith) from.1)));
+      }
+
+  pub guarded_write : (state : SealState) (flags : List Bool) (n : ℕ) (old new : D) → IsGuarded g state flags old → may_write_in state flags n ≡ true → Does g (TornAt n) old new → IsGuarded g state flags new
+  guarded_write Unsealed flags n old new guarded may does = absurd (false≢true may)
+  guarded_write Sealed flags n old new guarded may does =
+      let held = held_more flags old new guarded.so (sealed_write g guarded.so.kept guarded.so.base n old new guarded.so.sealed (guarded.so.flags_kept n may) does) in
+      record { so = held; time = time_more _ old new guarded.time does (held_stands flags new held) }
+  guarded_write Stopped flags n old new guarded may does = absurd (false≢true may)
+
+  pub guarded_grow : (state : SealState) (flags : List Bool) (n : ℕ) (old new : D) → IsGuarded g state flags old → state ≡ Sealed → Does g (GrowsUpTo n) old new → IsGuarded g state flags new
+  guarded_grow state flags n old new guarded is does =
+      let now : IsGuarded g Sealed flags old = subst (λ s. IsGuarded g s flags old) is guarded in
+      let held = held_more flags old new now.so (sealed_grow g now.so.kept now.so.base n old new now.so.sealed does) in
+      subst (λ s. IsGuarded g s flags new) (sym is) (record { so = held; time = time_more _ old new guarded.time does (held_stands flags new held) })
+
+  -- a run of calls over a file that stands for what there was
+  pub run_time : (main : PageFile) (old new : D) → ((c : Files) → g.left_since old 0 c → StandsFor (recovered g.began) c) → main ≡ recovered g.began → LeavesOnly g (StandsFor main) old new → (c : Files) → g.left_since new 0 c → StandsFor (recovered g.began) c
+  run_time main old new time is run c left = ⊎_elim (time c) (λ stands. stands ∙ is) (run.before 0 c (omega arith) left)
+
+-- flags of pages that were kept
+pub flags_may : (kept : Kept) (numbers : List ℕ) (flags : List Bool) (long : ℕ) → AreKept numbers kept → length flags ≡ long → kept.long ≡ long → ((n : ℕ) → n < long → is_open flags n ≡ list_any (λ m. eqb n m) numbers) → (n : ℕ) → is_open flags n ≡ true → MayWrite kept n
+flags_may kept numbers flags long all flags_long kept_long so n here =
+    ⊎_elim (λ (inside : n < long). among numbers all (sym (so n inside) ∙ here)) (λ (past : long ≤ n). inr (omega (arith, past, kept_long))) (cases_lt n long)
+  where
+    among : (ns : List ℕ) → All (λ m. MayWrite kept m) ns → list_any (λ m. eqb n m) ns ≡ true → MayWrite kept n
+    among [] all is = absurd (false≢true is)
+    among (m ∷ ns) all is =
+        ⊎_elim (λ (here : n ≡ m). subst (λ k. MayWrite kept k) (sym here) (all zero 0 (omega arith)))
+        (λ (other : n ≢ m). among ns (λ k d below. all (suc k) d (omega (arith, below))) (sym (ap (λ (b : Bool). b || list_any (λ m. eqb n m) ns) (ne_eqb n m other)) ∙ is))
+        (cases_eq n m)

@@ -1,0 +1,9 @@
+mod ExampleLemmas
+mod FateLemmas
+mod KeptStoreLemmas
+mod MemDiskLemmas
+mod MomentLemmas
+mod PuttingLemmas
+mod RestoreLemmas
+mod RunLemmas
+mod SealedLemmas

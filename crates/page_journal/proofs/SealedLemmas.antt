@@ -1,0 +1,163 @@
+-- Which calls leave a file that is settled or sealed so, and what its outcomes stand for.
+use Rattle.std.proofs.Common.{◌≡◌, ◌⊎◌, inl, inr, ⊎_elim, ℕ, ◌≤◌, true, false, List, length, Option, Some, None, is_some, refl, sym, ◌∙◌, ap, subst, arith}
+use Rattle.std.proofs.lemmas.Bool.{false≢true}
+use Rattle.page_journal.specs.Files.{PageFile, Kept, Files, restored, recovered, recovered_by, Agree}
+use Rattle.page_journal.specs.Steps.{Does, Stays, TornAt, GrowsUpTo, CutsTo, Fresh, Names, Removes}
+use Rattle.page_journal.specs.Crash.{IsSettled, IsSealed, IsAtRest, StandsFor, IsEither, MayWrite, Gathered}
+use Rattle.page_journal.specs.declared.disk_state.DiskState.{Ghosts}
+use Rattle.page_journal.proofs.RestoreLemmas.{restores_same, restored_itself, agree_itself, agree_put, agree_more, agree_cut}
+
+-- where a name was there or wasn't, and the device kept that it is, it is
+pub named_so : (side : Option Kept) (kept : Kept) → (side ≡ None) ⊎ (side ≡ Some kept) → is_some side ≡ true → side ≡ Some kept
+named_so side kept (inl none) there = absurd (false≢true (sym (ap is_some none) ∙ there))
+named_so side kept (inr some) there = some
+
+pub unnamed : (side : Option Kept) → is_some side ≡ false → side ≡ None
+unnamed None gone = refl
+unnamed (Some kept) gone = absurd (false≢true (sym gone))
+
+module _ {D : Type 0} (g : Ghosts D) where
+  pub sealed_stands : (kept : Kept) (base : List (List ℕ)) (disk : D) → IsSealed g kept base disk → (c : Files) → g.may_leave disk c → StandsFor (restored kept base) c
+  sealed_stands kept base disk sealed c left =
+      let was = sealed.crash c left in
+      ap (λ side. recovered_by side c.main) was.0 ∙ restores_same kept base c.main.pages was.1
+
+  pub settled_stands : (main : PageFile) (disk : D) → IsSettled g main disk → (c : Files) → g.may_leave disk c → StandsFor main c
+  settled_stands main disk settled c left =
+      let was = settled.crash c left in
+      ap (λ side. recovered_by side c.main) was.1 ∙ was.0
+
+  pub settled_stays : (main : PageFile) (old new : D) → IsSettled g main old → Stays g old new → IsSettled g main new
+  settled_stays main old new settled does = record {
+    seen = ap (λ (f : Files). f.main) does.seen ∙ settled.seen;
+    no_side = ap (λ (f : Files). f.side) does.seen ∙ settled.no_side;
+    crash = λ c left.
+        let from = does.crash c left in
+        let was = settled.crash from.0 from.1 in
+        (ap (λ (f : Files). f.main) from.2 ∙ was.0, ap (λ (f : Files). f.side) from.2 ∙ was.1);
+  }
+
+  pub settled_fresh : (main : PageFile) (old new : D) → IsSettled g main old → Does g Fresh old new → IsSettled g main new
+  settled_fresh main old new settled does = record {
+    seen = does.seen.main ∙ settled.seen;
+    no_side = does.seen.side ∙ settled.no_side;
+    crash = λ c left.
+        let from = does.crash c left in
+        let was = settled.crash from.0 from.1 in
+        (from.2.main ∙ was.0, from.2.side ∙ was.1);
+  }
+
+  pub sealed_stays : (kept : Kept) (base : List (List ℕ)) (old new : D) → IsSealed g kept base old → Stays g old new → IsSealed g kept base new
+  sealed_stays kept base old new sealed does = record {
+    side = ap (λ (f : Files). f.side) does.seen ∙ sealed.side;
+    main = subst (λ (f : Files). Agree kept base f.main.pages) (sym does.seen) sealed.main;
+    crash = λ c left.
+        let from = does.crash c left in
+        let was = sealed.crash from.0 from.1 in
+        (ap (λ (f : Files). f.side) from.2 ∙ was.0, subst (λ (f : Files). Agree kept base f.main.pages) (sym from.2) was.1);
+  }
+
+  pub sealed_write : (kept : Kept) (base : List (List ℕ)) (n : ℕ) (old new : D) → IsSealed g kept base old → MayWrite kept n → Does g (TornAt n) old new → IsSealed g kept base new
+  sealed_write kept base n old new sealed may does = record {
+    side = does.seen.side ∙ sealed.side;
+    main = agree_put kept base _ _ n does.seen.page sealed.main (ap (λ (m : PageFile). m.pages) does.seen.main) may;
+    crash = λ c left.
+        let from = does.crash c left in
+        let was = sealed.crash from.0 from.1 in
+        (from.2.side ∙ was.0, agree_put kept base _ _ n from.2.page was.1 (ap (λ (m : PageFile). m.pages) from.2.main) may);
+  }
+
+  pub sealed_grow : (kept : Kept) (base : List (List ℕ)) (n : ℕ) (old new : D) → IsSealed g kept base old → Does g (GrowsUpTo n) old new → IsSealed g kept base new
+  sealed_grow kept base n old new sealed does = record {
+    side = does.seen.side ∙ sealed.side;
+    main = agree_more kept base _ _ does.seen.more sealed.main does.seen.pages;
+    crash = λ c left.
+        let from = does.crash c left in
+        let was = sealed.crash from.0 from.1 in
+        (from.2.side ∙ was.0, agree_more kept base _ _ from.2.more was.1 from.2.pages);
+  }
+
+  pub sealed_cut : (kept : Kept) (base : List (List ℕ)) (n : ℕ) (old new : D) → IsSealed g kept base old → kept.long ≤ n → Does g (CutsTo n) old new → IsSealed g kept base new
+  sealed_cut kept base n old new sealed fits does = record {
+    side = does.seen.side ∙ sealed.side;
+    main = agree_cut kept base _ _ does.seen.to sealed.main (omega (arith, fits, does.seen.least)) does.seen.pages;
+    crash = λ c left.
+        let from = does.crash c left in
+        let was = sealed.crash from.0 from.1 in
+        (from.2.side ∙ was.0, agree_cut kept base _ _ from.2.to was.1 (omega (arith, fits, from.2.least)) from.2.pages);
+  }
+
+  -- what held of every outcome holds of fewer
+  pub still : (P : Files → Type 0) (old new : D) → ((c : Files) → g.may_leave old c → P c) → Stays g old new → (c : Files) → g.may_leave new c → P c
+  still P old new had does c left =
+      let from = does.crash c left in
+      subst P (sym from.2) (had from.0 from.1)
+
+  -- after a restart that finds a side file for a file that isn't shorter
+  pub sealed_at_rest : (kept : Kept) (disk : D) → IsAtRest g disk → (g.seen disk).side ≡ Some kept → kept.long ≤ length (g.seen disk).main.pages → IsSealed g kept (g.seen disk).main.pages disk
+  sealed_at_rest kept disk rest side long = record {
+    side = side;
+    main = agree_itself kept (g.seen disk).main.pages long;
+    crash = λ c left.
+        let was = rest c left in
+        (was.1 ∙ side, subst (λ (m : PageFile). Agree kept (g.seen disk).main.pages m.pages) (sym was.0) (agree_itself kept (g.seen disk).main.pages long));
+  }
+
+  pub rest_stands : (disk : D) → IsAtRest g disk → (c : Files) → g.may_leave disk c → StandsFor (recovered (g.seen disk)) c
+  rest_stands disk rest c left =
+      let was = rest c left in
+      ap (λ side. recovered_by side c.main) was.1 ∙ ap (recovered_by (g.seen disk).side) was.0
+
+  pub rest_stays : (old new : D) → IsAtRest g old → Stays g old new → IsAtRest g new
+  rest_stays old new rest does c left =
+      let from = does.crash c left in
+      let was = rest from.0 from.1 in
+      (ap (λ (f : Files). f.main) from.2 ∙ was.0 ∙ ap (λ (f : Files). f.main) (sym does.seen), ap (λ (f : Files). f.side) from.2 ∙ was.1 ∙ ap (λ (f : Files). f.side) (sym does.seen))
+
+  -- a side file that the device keeps gets the name, or doesn't yet: where the file is the same, its side file is this or none
+  pub naming : (main : PageFile) (mid new : D) → IsSettled g main mid → ((c : Files) → g.may_leave mid c → c.fresh ≡ (g.seen mid).fresh) → Does g Names mid new → (c : Files) → g.may_leave new c → (c.main ≡ main) × ((c.side ≡ None) ⊎ (c.side ≡ Some (g.seen mid).fresh))
+  naming main mid new settled durable does c left =
+      let from = does.crash c left in
+      let was = settled.crash from.0 from.1 in
+      (from.2.main ∙ was.0, ⊎_elim (λ stays. inl (stays ∙ was.1)) (λ named. inr (named ∙ ap (λ (k : Kept). Some k) (durable from.0 from.1))) from.2.side)
+
+  -- it stands for the file either way
+  pub named_stands : (main : PageFile) (kept : Kept) → main.tail ≡ 0 → Gathered main.pages kept → (c : Files) → (c.main ≡ main) × ((c.side ≡ None) ⊎ (c.side ≡ Some kept)) → StandsFor main c
+  named_stands main kept no_tail gathered c was =
+      ⊎_elim (λ none. ap (λ side. recovered_by side c.main) none ∙ was.0)
+      (λ named. ap (λ side. recovered_by side c.main) named ∙ ap (λ (m : PageFile). restored kept m.pages) was.0 ∙ restored_itself main kept no_tail gathered.long gathered.pages_there)
+      was.1
+
+  -- and where the device keeps the name, too, the file is sealed
+  pub named_sealed : (main : PageFile) (kept : Kept) (mid new : D) → ((c : Files) → g.may_leave mid c → (c.main ≡ main) × ((c.side ≡ None) ⊎ (c.side ≡ Some kept))) → (g.seen mid).main ≡ main → (g.seen mid).side ≡ Some kept → kept.long ≡ length main.pages → ((c : Files) → g.may_leave new c → is_some c.side ≡ is_some (g.seen mid).side) → Stays g mid new → IsSealed g kept main.pages new
+  named_sealed main kept mid new was seen side long durable does = record {
+    side = ap (λ (f : Files). f.side) does.seen ∙ side;
+    main = subst (λ (m : PageFile). Agree kept main.pages m.pages) (sym (ap (λ (f : Files). f.main) does.seen ∙ seen)) itself;
+    crash = λ c left.
+        let now = still (λ f. (f.main ≡ main) × ((f.side ≡ None) ⊎ (f.side ≡ Some kept))) mid new was does c left in
+        (named_so c.side kept now.1 (durable c left ∙ ap is_some side), subst (λ (m : PageFile). Agree kept main.pages m.pages) (sym now.0) itself);
+  }
+    where
+      itself : Agree kept main.pages main.pages
+      itself = agree_itself kept main.pages (omega (arith, long))
+
+  -- the side file is taken away, once the device keeps the file
+  pub removed : (kept : Kept) (base : List (List ℕ)) (main : PageFile) (mid new : D) → IsSealed g kept base mid → ((c : Files) → g.may_leave mid c → c.main ≡ main) → Does g Removes mid new → (c : Files) → g.may_leave new c → (c.main ≡ main) × ((c.side ≡ Some kept) ⊎ (c.side ≡ None)) × Agree kept base c.main.pages
+  removed kept base main mid new sealed durable does c left =
+      let from = does.crash c left in
+      let was = sealed.crash from.0 from.1 in
+      (from.2.main ∙ durable from.0 from.1, ⊎_elim (λ stays. inl (stays ∙ was.0)) (λ gone. inr gone) from.2.side, subst (λ (m : PageFile). Agree kept base m.pages) (sym from.2.main) was.1)
+
+  pub removed_stands : (kept : Kept) (base : List (List ℕ)) (main : PageFile) (c : Files) → (c.main ≡ main) × ((c.side ≡ Some kept) ⊎ (c.side ≡ None)) × Agree kept base c.main.pages → IsEither (restored kept base) main c
+  removed_stands kept base main c was =
+      ⊎_elim (λ stays. inl (ap (λ side. recovered_by side c.main) stays ∙ restores_same kept base c.main.pages was.2))
+      (λ gone. inr (ap (λ side. recovered_by side c.main) gone ∙ was.0))
+      was.1
+
+  -- and where the device keeps that it is gone, the file is settled
+  pub removed_settled : (main : PageFile) (mid new : D) → ((c : Files) → g.may_leave mid c → c.main ≡ main) → (g.seen mid).main ≡ main → (g.seen mid).side ≡ None → ((c : Files) → g.may_leave new c → is_some c.side ≡ is_some (g.seen mid).side) → Stays g mid new → IsSettled g main new
+  removed_settled main mid new was seen gone durable does = record {
+    seen = ap (λ (f : Files). f.main) does.seen ∙ seen;
+    no_side = ap (λ (f : Files). f.side) does.seen ∙ gone;
+    crash = λ c left. (still (λ f. f.main ≡ main) mid new was does c left, unnamed c.side (durable c left ∙ ap is_some gone));
+  }

@@ -1,0 +1,28 @@
+use Rattle.std.proofs.Common.{◌≡◌, ◌∙◌, sym, ap, subst, length}
+use Rattle.page_journal.specs.Files.{Files}
+use Rattle.page_journal.specs.KeptStores.{IsGuarded}
+use Rattle.page_journal.specs.declared.seal_state.SealState.{SealState}
+use Rattle.page_journal.specs.declared.seal_state.SealState.TheVariants.{Unsealed}
+use Rattle.page_journal.proofs.KeptStoreLemmas.{guarded_stays, flags_may, run_time}
+use Rattle.page_journal.proofs.kept_store.KeptStore.keep_aside.Goals as goal
+
+pub invariant_of-self-2 : goal.invariant_of-self-2
+invariant_of-self-2 g c = λ after.
+    let d = g.D.DiskState in
+    let main = (d.seen c.shape.new.self).main in
+    let mid = sym c.seal.ensures.steady ∙ after in
+    let before = c.self.invariant (sym c.shape.ensures.does.steady ∙ mid) in
+    let unsealed : IsGuarded d Unsealed c.self.inside.kept.items c.self.inside.disk = subst (λ (s : SealState). IsGuarded d s c.self.inside.kept.items c.self.inside.disk) c.in-Unsealed.is before in
+    let asked = guarded_stays d (g.met.D.Disk.counts_now) Unsealed c.self.inside.kept.items c.self.inside.disk c.shape.new.self unsealed c.shape.ensures.does in
+    let sealed = c.in_ok-seal.ensures.sealed mid in
+    let kept_long : sealed.0.long ≡ c.in_ok-shape.shape.pages = sealed.3 ∙ ap (λ (f : Files). length f.main.pages) c.shape.ensures.does.seen ∙ sym c.in_ok-shape.ensures.pages in
+    record {
+      so = record {
+        kept = sealed.0;
+        base = main.pages;
+        sealed = sealed.1;
+        flags_kept = flags_may sealed.0 c.args.numbers.now c.in-Ok.kept.items c.in_ok-shape.shape.pages sealed.4 c.in-Ok.ensures.long kept_long c.in-Ok.ensures.flags;
+        began = sealed.2 ∙ asked.so.seen;
+      };
+      time = run_time d main c.shape.new.self c.seal.new.disk asked.time asked.so.seen (c.seal.ensures.any_moment mid);
+    }

@@ -1,0 +1,11 @@
+use Rattle.std.proofs.Common.{◌≡◌, IsTrue}
+use Rattle.page_journal.proofs.PuttingLemmas.{Gathers}
+use Rattle.page_journal.proofs.sealing.gather.Given as goal
+
+abbrev pub invariant-loop-n : goal.invariant-loop-n
+invariant-loop-n g l = record {
+  steady : g.D.DiskState.steady l.disk ≡ g.D.DiskState.steady l.fn.disk;
+  same : (g.D.DiskState.seen l.disk).main ≡ (g.D.DiskState.seen l.fn.disk).main;
+  failures : g.D.DiskState.failures l.disk ≡ g.D.DiskState.failures l.fn.disk;
+  had : IsTrue (g.D.DiskState.steady l.fn.disk) → Gathers g.D.DiskState (g.D.DiskState.seen l.fn.disk).main l.numbers l.n-index l.fn.disk l.disk;
+}

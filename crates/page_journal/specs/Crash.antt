@@ -1,0 +1,54 @@
+-- What a crash at any moment leaves.
+use Rattle.std.specs.Prelude.{◌≡◌, ◌⊎◌, ℕ, ◌≤◌, true, List, Some, None, Result, OnOk, length, All, slice_get}
+use Rattle.page_journal.specs.Files.{PageFile, Kept, Files, Agree, is_kept, recovered, restored, put_back}
+use Rattle.page_journal.specs.declared.disk_state.DiskState.{Ghosts}
+
+-- A crash at any moment since old leaves files that have P.
+pub record LeavesOnly {D : Type 0} (g : Ghosts D) (P : Files → Type 0) (old new : D) : Type 0 where
+  pub later : g.moment old ≤ g.moment new
+  pub each : (c : Files) → g.left_since new (g.moment old) c → P c
+  -- for a run that began earlier
+  pub before : (t : ℕ) (c : Files) → t ≤ g.moment old → g.left_since new t c → g.left_since old t c ⊎ P c
+
+-- this is the file, and no side file has the name, as reads see it and in each outcome of a crash
+pub record IsSettled {D : Type 0} (g : Ghosts D) (main : PageFile) (disk : D) : Type 0 where
+  pub seen : (g.seen disk).main ≡ main
+  pub no_side : (g.seen disk).side ≡ None
+  pub crash : (c : Files) → g.may_leave disk c → (c.main ≡ main) × (c.side ≡ None)
+
+-- this side file has the name, and the file is the base but for pages that it keeps, as reads see it and in each outcome of a crash
+pub record IsSealed {D : Type 0} (g : Ghosts D) (kept : Kept) (base : List (List ℕ)) (disk : D) : Type 0 where
+  pub side : (g.seen disk).side ≡ Some kept
+  pub main : Agree kept base (g.seen disk).main.pages
+  pub crash : (c : Files) → g.may_leave disk c → (c.side ≡ Some kept) × Agree kept base c.main.pages
+
+-- after a restart, what reads see is what the device keeps
+abbrev pub IsAtRest : {D : Type 0} → Ghosts D → D → Type 0
+IsAtRest g disk = (c : Files) → g.may_leave disk c → (c.main ≡ (g.seen disk).main) × (c.side ≡ (g.seen disk).side)
+
+-- the files stand for this file
+abbrev pub StandsFor : PageFile → Files → Type 0
+StandsFor main c = recovered c ≡ main
+
+-- the files stand for the one or the other
+abbrev pub IsEither : PageFile → PageFile → Files → Type 0
+IsEither old new c = (recovered c ≡ old) ⊎ (recovered c ≡ new)
+
+-- a page that may be written over: it is kept, or past the old end
+abbrev pub MayWrite : Kept → ℕ → Type 0
+MayWrite kept n = (is_kept kept.pages n ≡ true) ⊎ (kept.long ≤ n)
+
+-- each of these pages may be written over
+abbrev pub AreKept : List ℕ → Kept → Type 0
+AreKept numbers kept = All (λ n. MayWrite kept n) numbers
+
+-- the old length, and pages as they are in the file
+pub record Gathered (pages : List (List ℕ)) (fresh : Kept) : Type 0 where
+  pub long : fresh.long ≡ length pages
+  pub pages_there : All (λ (p : ℕ × List ℕ). slice_get pages p.0 ≡ Some p.1) fresh.pages
+
+-- the old pages are put back over what was there, and the side file stays
+pub record PutsBack {D E : Type 0} (g : Ghosts D) (kept : Kept) (base : List (List ℕ)) (result : Result (Unit {0}) E) (old new : D) : Type 0 where
+  pub sealed : IsSealed g kept base new
+  pub time : LeavesOnly g (StandsFor (restored kept base)) old new
+  pub put : OnOk result ((g.seen new).main.pages ≡ put_back kept.pages (g.seen old).main.pages)

@@ -1,0 +1,49 @@
+-- Files and calls that the laws show things by.
+use Rattle.std.specs.Prelude.{ℕ, List, [], ◌∷◌, None, Some}
+use Rattle.page_journal.specs.Files.{PageFile, Kept, Files}
+use Rattle.page_journal.specs.Steps.{nothing_kept}
+use Rattle.page_journal.specs.declared.disk_call.DiskCall.{DiskCall}
+use Rattle.page_journal.specs.declared.disk_call.DiskCall.TheVariants.{Write, Start, Keep, SyncFresh, Name, SyncNames}
+
+-- a file of two pages, whose bytes are not spelt
+abbrev pub pages_of_two : ℕ → ℕ → PageFile
+pages_of_two a b = record { pages = (a ∷ []) ∷ (b ∷ []) ∷ []; tail = 0 }
+
+-- it, with no side file
+abbrev pub alone : PageFile → Files
+alone main = record { main = main; fresh = nothing_kept 0; side = None }
+
+abbrev pub old_file : PageFile
+old_file = pages_of_two 1 2
+
+-- page 1 as it was
+abbrev pub page_1_kept : Kept
+page_1_kept = record { long = 2; pages = (1, 2 ∷ []) ∷ [] }
+
+-- page 1 written over, and a page added
+abbrev pub page_1_written : List (List ℕ)
+page_1_written = (1 ∷ []) ∷ (9 ∷ []) ∷ (8 ∷ []) ∷ []
+
+-- page 0 written over, too
+abbrev pub both_written : List (List ℕ)
+both_written = (7 ∷ []) ∷ (9 ∷ []) ∷ []
+
+-- page 0 written and then page 1: the newest call stands first
+abbrev pub both_writes : List DiskCall
+both_writes = Write 1 (9 ∷ []) ∷ Write 0 (7 ∷ []) ∷ []
+
+-- both pages kept in a side file that the device keeps
+abbrev pub side_made : List DiskCall
+side_made = SyncFresh ∷ Keep 1 (2 ∷ []) ∷ Keep 0 (1 ∷ []) ∷ Start 2 ∷ []
+
+-- which then gets the name, and the device keeps that
+abbrev pub side_named : List DiskCall
+side_named = SyncNames ∷ Name ∷ side_made
+
+-- the same with a side file that the device doesn't keep
+abbrev pub named_early : List DiskCall
+named_early = SyncNames ∷ Name ∷ Keep 1 (2 ∷ []) ∷ Keep 0 (1 ∷ []) ∷ Start 2 ∷ []
+
+-- a side file that has another page 0
+abbrev pub bad_side : Files
+bad_side = record { main = old_file; fresh = nothing_kept 0; side = Some (record { long = 2; pages = (0, 5 ∷ []) ∷ [] }) }

@@ -1,0 +1,66 @@
+-- What a crash makes of the calls of a disk in memory.
+use Rattle.std.specs.Prelude.{◌≡◌, ℕ, ◌-◌, List, ◌++◌, length, drop, replicate, is_some, ⊤}
+use Rattle.rec_types.specs.Widths.{page_width}
+use Rattle.page_journal.specs.Files.{Files}
+use Rattle.page_journal.specs.History.{done}
+use Rattle.page_journal.specs.declared.disk_call.DiskCall.{DiskCall}
+use Rattle.page_journal.specs.declared.disk_call.DiskCall.TheVariants.{Write, Grow, Cut, Sync, Start, Keep, SyncFresh, Name, Remove, SyncNames}
+use Rattle.page_journal.specs.declared.fate.Fate.{Fate}
+use Rattle.page_journal.specs.declared.fate.Fate.TheVariants.{Done, Lost, Torn}
+
+-- a page that nobody wrote
+unfoldable pub noise : List ℕ
+noise = replicate page_width 255
+
+-- the files made longer by such pages
+abbrev pub grown : ℕ → List ℕ → Files → Files
+grown n page f = record f { main = record { pages = f.main.pages ++ replicate (n - length f.main.pages) page; tail = 0 } }
+
+-- the files after a call that is torn: pages are noise, a side file is begun for no pages, and what is done at once or not at all isn't done
+abbrev pub torn : DiskCall → Files → Files
+torn (Write n page) f = done (Write n noise) f
+torn (Grow n) f = grown n noise f
+torn (Cut n) f = f
+torn Sync f = f
+torn (Start long) f = done (Start 0) f
+torn (Keep n page) f = done (Keep n noise) f
+torn SyncFresh f = f
+torn Name f = f
+torn Remove f = f
+torn SyncNames f = f
+
+-- a sync makes its part what is seen; that of the names doesn't say what a side file has
+abbrev pub kept_by : DiskCall → Files → Files → Files
+kept_by (Write n page) seen f = f
+kept_by (Grow n) seen f = f
+kept_by (Cut n) seen f = f
+kept_by Sync seen f = record f { main = seen.main }
+kept_by (Start long) seen f = f
+kept_by (Keep n page) seen f = f
+kept_by SyncFresh seen f = record f { fresh = seen.fresh }
+kept_by Name seen f = f
+kept_by Remove seen f = f
+kept_by SyncNames seen f = f
+
+-- what a crash leaves behind a call of that fate, where it would have left these files before it
+abbrev pub fated : DiskCall → Fate → Files → Files → Files
+fated call Done seen f = kept_by call seen (done call f)
+fated call Lost seen f = kept_by call seen f
+fated call Torn seen f = kept_by call seen (torn call f)
+
+-- where the device keeps whether a side file has the name, there is one after a crash where one is seen
+abbrev pub NamesAgree : DiskCall → Files → Files → Type 0
+NamesAgree (Write n page) seen f = ⊤
+NamesAgree (Grow n) seen f = ⊤
+NamesAgree (Cut n) seen f = ⊤
+NamesAgree Sync seen f = ⊤
+NamesAgree (Start long) seen f = ⊤
+NamesAgree (Keep n page) seen f = ⊤
+NamesAgree SyncFresh seen f = ⊤
+NamesAgree Name seen f = ⊤
+NamesAgree Remove seen f = ⊤
+NamesAgree SyncNames seen f = is_some f.side ≡ is_some seen.side
+
+-- the first k of these calls, the newest of which stands first
+abbrev pub first_calls : ℕ → List DiskCall → List DiskCall
+first_calls k calls = drop (length calls - k) calls

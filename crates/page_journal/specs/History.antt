@@ -1,0 +1,75 @@
+-- What a disk in memory keeps: what was there at first, and each changing call since then. What a crash leaves follows from that.
+use Rattle.std.specs.Prelude.{◌≡◌, ◌⊎◌, ℕ, ◌-◌, ◌≤◌, List, [], ◌∷◌, ◌++◌, true, Some, None, is_some, length, take, slice_set}
+use mathlib.Core.Logic.{inl, inr}
+use Rattle.std.proofs.Math.Nat.{not-suc-le_self}
+use Rattle.rec_types.specs.Table.{counted}
+use Rattle.page_store.specs.Blank.{blanks}
+use Rattle.page_journal.specs.Files.{Files}
+use Rattle.page_journal.specs.Steps.{nothing_kept, kept_more, TornAt, GrowsUpTo, CutsTo, Fresh, Names, Removes}
+use Rattle.page_journal.specs.declared.disk_call.DiskCall.{DiskCall}
+use Rattle.page_journal.specs.declared.disk_call.DiskCall.TheVariants.{Write, Grow, Cut, Sync, Start, Keep, SyncFresh, Name, Remove, SyncNames}
+
+-- the files after a call that is done
+abbrev pub done : DiskCall → Files → Files
+done (Write n page) f = record f { main = record { pages = slice_set f.main.pages n page; tail = f.main.tail } }
+done (Grow n) f = record f { main = record { pages = f.main.pages ++ blanks (n - length f.main.pages); tail = 0 } }
+done (Cut n) f = record f { main = record { pages = take n f.main.pages; tail = 0 } }
+done Sync f = f
+done (Start long) f = record f { fresh = nothing_kept long }
+done (Keep n page) f = record f { fresh = kept_more f.fresh n page }
+done SyncFresh f = f
+done Name f = record f { fresh = nothing_kept 0; side = Some f.fresh }
+done Remove f = record f { side = None }
+done SyncNames f = f
+
+-- what a call may lead to where a crash may leave d and reads see the files seen: the call is done, not done or torn, and a sync leaves out what isn't seen
+abbrev pub leads : DiskCall → Files → Files → Files → Type 0
+leads (Write n page) seen d c = TornAt n d c
+leads (Grow n) seen d c = GrowsUpTo n d c
+leads (Cut n) seen d c = CutsTo n d c
+leads Sync seen d c = (c ≡ d) × (c.main ≡ seen.main)
+leads (Start long) seen d c = Fresh d c
+leads (Keep n page) seen d c = Fresh d c
+leads SyncFresh seen d c = (c ≡ d) × (c.fresh ≡ seen.fresh)
+leads Name seen d c = Names d c
+leads Remove seen d c = Removes d c
+leads SyncNames seen d c = (c ≡ d) × (is_some c.side ≡ is_some seen.side)
+
+-- the files after these calls, the newest of which stands first
+abbrev pub all_done : Files → List DiskCall → Files
+all_done first [] = first
+all_done first (call ∷ earlier) = done call (all_done first earlier)
+
+-- what a crash after these calls may leave
+abbrev pub MayLeave : Files → List DiskCall → Files → Type 0
+MayLeave first [] c = c ≡ first
+MayLeave first (call ∷ earlier) c = (d : Files) × MayLeave first earlier d × leads call (all_done first earlier) d c
+
+-- what a crash after the first t of these calls or later might have left
+abbrev pub LeftSince : Files → List DiskCall → ℕ → Files → Type 0
+LeftSince first [] t c = MayLeave first [] c
+LeftSince first (call ∷ earlier) t c = MayLeave first (call ∷ earlier) c ⊎ ((t ≤ length earlier) × LeftSince first earlier t c)
+
+-- the files at first, the calls, the newest of which stands first, and how many calls failed
+pub record History : Type 0 where
+  pub first : Files
+  pub calls : List DiskCall
+  pub failures : ℕ
+
+-- one changing call more
+abbrev pub with_call : History → DiskCall → History
+with_call h call = record { first = h.first; calls = call ∷ h.calls; failures = h.failures }
+
+-- what holds of outcomes of a disk in memory, for its laws
+pub left_now : (first : Files) (calls : List DiskCall) (t : ℕ) (c : Files) → MayLeave first calls c → LeftSince first calls t c
+left_now first [] t c left = left
+left_now first (call ∷ earlier) t c left = inl left
+
+pub only_left_now : (first : Files) (calls : List DiskCall) (c : Files) → LeftSince first calls (length calls) c → MayLeave first calls c
+only_left_now first [] c left = left
+only_left_now first (call ∷ earlier) c (inl left) = left
+only_left_now first (call ∷ earlier) c (inr was) = absurd (not-suc-le_self (length earlier) was.0)
+
+-- one failure more
+abbrev pub failed_more : History → History
+failed_more h = record { first = h.first; calls = h.calls; failures = counted h.failures true }

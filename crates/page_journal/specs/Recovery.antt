@@ -1,0 +1,21 @@
+-- Which faults a recovery answers.
+use Rattle.std.specs.Prelude.{◌≡◌, ◌<◌, Bool, true, false, Some, Result, Ok, Err, length}
+use Rattle.page_journal.specs.Files.{Kept, Files}
+use Rattle.page_journal.specs.declared.recovery_fault.RecoveryFault.{RecoveryFault}
+use Rattle.page_journal.specs.declared.recovery_fault.RecoveryFault.TheVariants.{Device, BadJournal}
+
+-- whether the fault is that a call of the disk failed
+abbrev pub is_device_fault : RecoveryFault → Bool
+is_device_fault Device = true
+is_device_fault BadJournal = false
+
+-- whether a call of the disk failed
+abbrev pub is_device : {X : Type 0} → Result X RecoveryFault → Bool
+is_device (Ok x) = false
+is_device (Err fault) = is_device_fault fault
+
+-- the file is shorter than its side file says that it was
+pub record IsTooShort (f : Files) : Type 0 where
+  pub kept : Kept
+  pub side : f.side ≡ Some kept
+  pub short : length f.main.pages < kept.long

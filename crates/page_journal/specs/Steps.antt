@@ -1,0 +1,87 @@
+-- What a call may do to the files, and what a crash may leave of it.
+use Rattle.std.specs.Prelude.{◌≡◌, ◌≢◌, ◌⊎◌, ℕ, ◌≤◌, List, [], ◌∷◌, ◌++◌, Option, Some, None, Result, Err, length, take, slice_get, slice_set}
+use Rattle.rec_types.specs.Table.{counted}
+use Rattle.page_store.specs.StoreFaults.{is_failed}
+use Rattle.page_store.specs.declared.store_fault.StoreFault.{StoreFault}
+use Rattle.page_store.specs.declared.store_fault.StoreFault.TheVariants.{Memory}
+use Rattle.page_journal.specs.Files.{Kept, Files}
+use Rattle.page_journal.specs.declared.disk_state.DiskState.{Ghosts}
+use Rattle.page_journal.specs.declared.side_shape.SideShape.{SideShape}
+
+-- a side file with no page yet
+abbrev pub nothing_kept : ℕ → Kept
+nothing_kept long = record { long = long; pages = [] }
+
+-- a side file with one page more
+abbrev pub kept_more : Kept → ℕ → List ℕ → Kept
+kept_more kept n page = record { long = kept.long; pages = kept.pages ++ (n, page) ∷ [] }
+
+-- how many pages the file had, and how many of them a side file has
+abbrev pub side_shape : Option Kept → Option SideShape
+side_shape None = None
+side_shape (Some kept) = Some (record { long = kept.long; kept = length kept.pages })
+
+-- the i-th old page of a side file with its number
+abbrev pub kept_at : Option Kept → ℕ → Option (ℕ × List ℕ)
+kept_at None i = None
+kept_at (Some kept) i = slice_get kept.pages i
+
+-- nothing happens
+abbrev pub Nothing : Files → Files → Type 0
+Nothing d c = c ≡ d
+
+-- page n has any bytes: the write is done, not done or torn
+pub record TornAt (n : ℕ) (d c : Files) : Type 0 where
+  pub page : List ℕ
+  pub main : c.main ≡ record { pages = slice_set d.main.pages n page; tail = d.main.tail }
+  pub fresh : c.fresh ≡ d.fresh
+  pub side : c.side ≡ d.side
+
+-- the file is longer, at most by so much; what is added is anything
+pub record GrowsUpTo (n : ℕ) (d c : Files) : Type 0 where
+  pub more : List (List ℕ)
+  pub pages : c.main.pages ≡ d.main.pages ++ more
+  pub fits : length d.main.pages ≤ n → length c.main.pages ≤ n
+  pub fresh : c.fresh ≡ d.fresh
+  pub side : c.side ≡ d.side
+
+-- the file is shorter, and no shorter than so much
+pub record CutsTo (n : ℕ) (d c : Files) : Type 0 where
+  pub to : ℕ
+  pub least : n ≤ to
+  pub pages : c.main.pages ≡ take to d.main.pages
+  pub fresh : c.fresh ≡ d.fresh
+  pub side : c.side ≡ d.side
+
+-- the side file that is being made is anything
+pub record Fresh (d c : Files) : Type 0 where
+  pub main : c.main ≡ d.main
+  pub side : c.side ≡ d.side
+
+-- the side file that was made has the name, with whatever it has then, or it doesn't
+pub record Names (d c : Files) : Type 0 where
+  pub main : c.main ≡ d.main
+  pub side : (c.side ≡ d.side) ⊎ (c.side ≡ Some d.fresh)
+
+-- no side file has the name any more, or it stays as it was
+pub record Removes (d c : Files) : Type 0 where
+  pub main : c.main ≡ d.main
+  pub side : (c.side ≡ d.side) ⊎ (c.side ≡ None)
+
+-- What a call does is a step, as reads see it; each outcome of a crash is an earlier one after that step, and time goes on.
+pub record Does {D : Type 0} (g : Ghosts D) (step : Files → Files → Type 0) (old new : D) : Type 0 where
+  pub seen : step (g.seen old) (g.seen new)
+  pub steady : g.steady new ≡ g.steady old
+  pub crash : (c : Files) → g.may_leave new c → (d : Files) × g.may_leave old d × step d c
+  pub later : g.moment old ≤ g.moment new
+  pub nothing_else : (t : ℕ) (c : Files) → t ≤ g.moment old → g.left_since new t c → g.left_since old t c ⊎ g.may_leave new c
+  pub keeps : (t : ℕ) (c : Files) → t ≤ g.moment old → g.left_since old t c → g.left_since new t c
+
+-- a call that changes nothing, and takes outcomes of a crash away at most
+abbrev pub Stays : {D : Type 0} → Ghosts D → D → D → Type 0
+Stays g old new = Does g Nothing old new
+
+-- the one fault is Failed, and it is counted
+pub record CountsFault {D A : Type 0} (g : Ghosts D) (old : D) (answer : Result A StoreFault) (new : D) : Type 0 where
+  pub failures : g.failures new ≡ counted (g.failures old) (is_failed answer)
+  pub no_memory : answer ≢ Err Memory

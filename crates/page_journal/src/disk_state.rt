@@ -1,0 +1,27 @@
+ghost use Rattle.std.specs.Prelude.{ℕ, Bool};
+ghost use Rattle.page_journal.specs.Files.{Files};
+
+/// What contracts know of a page file with a side file on a device. It has no code.
+pub trait DiskState {
+    /// What the files were when the disk was opened. It belongs to the type and not to a value, so that
+    /// it is known behind calls that say nothing of crashes.
+    ghost began: { Files };
+
+    /// Whether reads give what was written. No call changes it.
+    ghost steady: { Self → Bool };
+
+    /// What reads see.
+    ghost seen: { Self → Files };
+
+    /// What a crash at this moment may leave.
+    ghost may_leave: { Self → Files → Type 0 };
+
+    /// A number that doesn't fall.
+    ghost moment: { Self → ℕ };
+
+    /// What a crash at that moment or later might have left.
+    ghost left_since: { Self → ℕ → Files → Type 0 };
+
+    /// How many calls failed.
+    ghost failures: { Self → ℕ };
+}

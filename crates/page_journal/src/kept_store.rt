@@ -1,0 +1,343 @@
+ghost use Rattle.std.specs.Prelude.{◌≡◌, ◌≢◌, ◌<◌, ◌≤◌, ◌-◌, ◌==◌, ◌++◌, ℕ, Bool, List, [], true, false, Some, None, Err, length, IsTrue, IfOk, IfErr, OnOk, OnErr, slice_get, slice_set};
+ghost use Rattle.std.specs.List.{list_any};
+ghost use Rattle.rec_types.specs.Table.{counted};
+ghost use Rattle.rec_types.specs.Widths.{page_width};
+ghost use Rattle.page_store.specs.Blank.{blanks};
+ghost use Rattle.page_store.specs.Growth.{GrowsTo};
+ghost use Rattle.page_store.specs.StoreCalls.{LeavesStore, ChangesStore};
+ghost use Rattle.page_store.specs.StoreFaults.{is_failed};
+ghost use Rattle.page_store.specs.declared.step.Step.{Step};
+ghost use Rattle.page_journal.specs.Files.{Files, recovered};
+ghost use Rattle.page_journal.specs.Crash.{IsSettled, IsAtRest, StandsFor, IsEither};
+ghost use Rattle.page_journal.specs.Recovery.{IsTooShort, is_device_fault};
+ghost use Rattle.page_journal.specs.KeptStores.{KeptStored, CanBeSealed, is_open, may_write_in};
+
+use crate::disk::Disk;
+use crate::recovering::{commit, recover};
+use crate::recovery_fault::RecoveryFault;
+use crate::seal_state::SealState;
+use crate::sealing::seal;
+use page_store::{SealStore, Shape, Store, StoreFault, StoreState};
+use rec_types::{Memory, PAGE_WIDTH};
+use std::alloc::Global;
+use std::marker::Model;
+
+/// The most pages that a store has that pages are kept of.
+const MOST_PAGES: u64 = 1_000_001;
+
+/// A store over a disk. It refuses to write over a page that wasn't kept aside, so that a crash at any moment leaves the
+/// file that there was when the disk was opened, whatever its callers do, until `finish` gives that up. Contracts see
+/// the disk, which pages were kept, and how many reads, changing calls and failures there were; a refused call is
+/// a failure.
+#[derive(Drop)]
+pub struct KeptStore<D: Disk + Drop> {
+    disk: D,
+    kept: Vec<bool>,
+    state: SealState,
+    alloc: Global,
+    reads: u64,
+    writes: u64,
+    failures: u64,
+}
+
+impl<D: Disk + Drop> Model for KeptStore<D> {
+    ghost use Rattle.std.specs.Prelude.{IsTrue};
+    ghost use Rattle.page_journal.specs.KeptStores.{KeptStored, IsGuarded, coded_kept_stored};
+
+    ghost Value = { KeptStored D };
+
+    ghost coded = { coded_kept_stored D.code };
+
+    ghost view = { λ s. record {
+      disk = s.disk;
+      kept = s.kept.items;
+      state = s.state;
+      reads = s.reads;
+      writes = s.writes;
+      failures = s.failures;
+    } };
+
+    ghost invariant = { λ s. IsTrue (D.steady s.disk)
+        → IsGuarded D.DiskState s.state s.kept.items s.disk };
+}
+
+// Counts a call that failed, and hands its answer on.
+fn noted<T: Drop>(failures: &mut u64, answer: Result<T, StoreFault>) -> Result<T, StoreFault>
+    ensures same { result ≡ answer }
+    ensures failures { failures.new ≡ counted failures.old (is_failed result) }
+{
+    if let Err(StoreFault::Failed) = &answer {
+        *failures = failures.saturating_add(1);
+    }
+    answer
+}
+
+// Whether page n was kept or is past the old end.
+fn is_open(kept: &[bool], n: u32) -> bool
+    ensures { result ≡ is_open kept.now n }
+{
+    let at = n as usize;
+    at >= kept.len() || kept[at]
+}
+
+// Of each page of a file that is so many pages long whether its number is one of these. Fault: Memory.
+fn flags_of(alloc: Global, long: u32, numbers: &[u32]) -> Result<Vec<bool>, Memory>
+    ensures long { IfOk result (λ flags. length flags.items ≡ long) }
+    ensures flags { IfOk result (λ flags. (n : ℕ) → n < long
+        → is_open flags.items n ≡ list_any (λ m. n == m) numbers.now) }
+{
+    let mut flags = vec![in alloc; false; long as usize]?;
+    for n in numbers {
+        if *n < long {
+            flags[*n as usize] = true;
+        }
+    }
+    Ok(flags)
+}
+
+impl<D: Disk + Drop> KeptStore<D> {
+    /// A store over a disk that stands for the file that there was when it was opened, with no side file. It takes no
+    /// memory.
+    pub fn new(alloc: Global, disk: D) -> KeptStore<D>
+        requires settled { IsTrue (D.steady disk)
+            → IsSettled D.DiskState (recovered D.began) disk }
+        requires time { IsTrue (D.steady disk) → (c : Files) → D.left_since disk 0 c
+            → StandsFor (recovered D.began) c }
+        ensures { result ≡ record {
+          disk = disk;
+          kept = [];
+          state = SealState.Unsealed;
+          reads = 0;
+          writes = 0;
+          failures = 0;
+        } }
+    {
+        KeptStore {
+            disk,
+            kept: Vec::new(alloc),
+            state: SealState::Unsealed,
+            alloc,
+            reads: 0,
+            writes: 0,
+            failures: 0,
+        }
+    }
+
+    /// A store over a disk that was just opened, after a restart: finds the file that its files stand for, and puts old
+    /// pages back where a side file has them. Until `finish` a crash at any moment leaves files that stand for that
+    /// file, also during this call. Faults: Device, where a call of the disk failed; BadJournal. The disk comes back.
+    pub fn open(alloc: Global, disk: D) -> Result<KeptStore<D>, (D, RecoveryFault)>
+        requires rest { IsAtRest D.DiskState disk }
+        requires began { IsTrue (D.steady disk) → D.seen disk ≡ D.began }
+        requires moment { D.moment disk ≡ 0 }
+        ensures opened { IfOk result (λ s. s ≡ record {
+          disk = s.disk;
+          kept = [];
+          state = SealState.Unsealed;
+          reads = 0;
+          writes = 0;
+          failures = 0;
+        }) }
+        ensures steady { IfOk result (λ s. D.steady s.disk ≡ D.steady disk) }
+        ensures file { IsTrue (D.steady disk)
+            → IfOk result (λ s. (D.seen s.disk).main ≡ recovered D.began) }
+        ensures stopped { IsTrue (D.steady disk) → IfErr result (λ stop. (c : Files)
+            → D.left_since stop.0 0 c → StandsFor (recovered D.began) c) }
+        ensures bad_journal { IsTrue (D.steady disk) → IfErr result (λ stop.
+            stop.1 ≡ RecoveryFault.BadJournal → IsTooShort D.began) }
+        ensures device { IfErr result (λ stop. D.failures stop.0
+            ≡ counted (D.failures disk) (is_device_fault stop.1)) }
+    {
+        let mut disk = disk;
+        match recover(&mut disk) {
+            Ok(()) => Ok(KeptStore::new(alloc, disk)),
+            Err(fault) => Err((disk, fault)),
+        }
+    }
+
+    // Whether page n may be written over.
+    fn may_write(&self, n: u32) -> bool
+        ensures { result ≡ may_write_in self.now.state self.now.kept n }
+    {
+        match self.state {
+            SealState::Sealed => is_open(&self.kept, n),
+            SealState::Unsealed | SealState::Stopped => false,
+        }
+    }
+
+    // Keeps the pages of these numbers aside, where none were. Faults: Failed, Memory.
+    fn keep_aside(&mut self, numbers: &[u32]) -> Result<(), StoreFault>
+        ensures same { (D.seen self.new.disk).main ≡ (D.seen self.old.disk).main }
+        ensures steady { D.steady self.new.disk ≡ D.steady self.old.disk }
+        ensures sealed { OnOk result ((self.new.state ≡ SealState.Sealed) × ((n : ℕ)
+            → n < length (D.seen self.old.disk).main.pages
+            → is_open self.new.kept n ≡ list_any (λ m. n == m) numbers.now)) }
+        ensures again { self.old.state ≢ SealState.Unsealed
+            → (result ≡ Err StoreFault.Failed) × (self.new ≡ self.old) }
+        ensures passes { self.old.state ≡ SealState.Unsealed
+            → CanBeSealed (D.seen self.old.disk).main → D.failures self.new.disk
+            ≡ counted (D.failures self.old.disk) (is_failed result) }
+        ensures refused { OnOk result (CanBeSealed (D.seen self.old.disk).main) }
+        ensures rest { self.new ≡ record self.old {
+          disk = self.new.disk;
+          kept = self.new.kept;
+          state = self.new.state;
+        } }
+    {
+        let SealState::Unsealed = self.state else {
+            return Err(StoreFault::Failed);
+        };
+        let shape = self.disk.shape()?;
+        if shape.tail > 0 || shape.pages > MOST_PAGES {
+            return Err(StoreFault::Failed);
+        }
+        let long = shape.pages as u32;
+        let Ok(kept) = flags_of(self.alloc, long, numbers) else {
+            return Err(StoreFault::Memory);
+        };
+        self.state = SealState::Stopped;
+        seal(&mut self.disk, numbers)?;
+        self.kept = kept;
+        self.state = SealState::Sealed;
+        Ok(())
+    }
+
+    /// The disk, and how it ended: where pages were kept aside, the file is synced and the old pages are given up, so
+    /// that at Ok the file is the new one whatever happens. A crash at any moment since the disk was opened leaves
+    /// the old file or the new one. Fault: Failed, where a call of the disk failed now or when pages were to be kept;
+    /// the file is the old one or the new one then.
+    pub fn finish(self) -> (D, Result<(), StoreFault>)
+        ensures settled { IsTrue (D.steady self.disk) → OnOk result.1
+            (IsSettled D.DiskState (D.seen self.disk).main result.0) }
+        ensures any_moment { IsTrue (D.steady self.disk) → (c : Files) → D.left_since result.0 0 c
+            → IsEither (recovered D.began) (D.seen self.disk).main c }
+        ensures same { (D.seen result.0).main ≡ (D.seen self.disk).main }
+        ensures steady { D.steady result.0 ≡ D.steady self.disk }
+        ensures failures { self.state ≢ SealState.Stopped → D.failures result.0
+            ≡ counted (D.failures self.disk) (is_failed result.1) }
+    {
+        let KeptStore {
+            mut disk,
+            state,
+            ..
+        } = self;
+        let done = match state {
+            SealState::Unsealed => Ok(()),
+            SealState::Sealed => commit(&mut disk),
+            SealState::Stopped => Err(StoreFault::Failed),
+        };
+        (disk, done)
+    }
+}
+
+impl<D: Disk + Drop> StoreState for KeptStore<D> {
+    ghost use Rattle.std.specs.Prelude.{None};
+
+    ghost pages = { λ s. (D.seen s.disk).main.pages };
+
+    ghost tail = { λ s. (D.seen s.disk).main.tail };
+
+    ghost steady = { λ s. D.steady s.disk };
+
+    ghost reads = { λ s. s.reads };
+
+    ghost writes = { λ s. s.writes };
+
+    ghost failures = { λ s. s.failures };
+
+    ghost journal = { λ _. None };
+}
+
+// A method's clauses stand in place of its trait's, so these are written again before those that tell
+// of the calls that are refused.
+impl<D: Disk + Drop> Store for KeptStore<D> {
+    fn shape(&mut self) -> Result<Shape, StoreFault> {
+        let answer = self.disk.shape();
+        noted(&mut self.failures, answer)
+    }
+
+    fn read(&mut self, n: u32, to: &mut [u8; PAGE_WIDTH]) -> Result<(), StoreFault> {
+        self.reads = self.reads.saturating_add(1);
+        let answer = self.disk.read(n, to);
+        noted(&mut self.failures, answer)
+    }
+
+    /// Writes page n, which is there. Fault: Failed, where page n mustn't be written over, and nothing has changed then,
+    /// and where the disk failed; the page then has any bytes, and the other pages are unchanged.
+    fn write(&mut self, n: u32, from: &[u8; PAGE_WIDTH]) -> Result<(), StoreFault>
+        requires { n < length (D.seen self.old.disk).main.pages }
+        ensures page { IsTrue (D.steady self.old.disk) → OnOk result ((D.seen self.new.disk).main.pages
+            ≡ slice_set (D.seen self.old.disk).main.pages n from.now) }
+        ensures other_pages { (page : List ℕ) × ((D.seen self.new.disk).main.pages
+            ≡ slice_set (D.seen self.old.disk).main.pages n page) }
+        ensures no_memory { result ≢ Err StoreFault.Memory }
+        ensures same_tail { (D.seen self.new.disk).main.tail ≡ (D.seen self.old.disk).main.tail }
+        ensures changes { ChangesStore ⟦<KeptStore<D> as StoreState>⟧ (Step.Write n from.now)
+            self.old result self.new }
+        ensures refused { may_write_in self.old.state self.old.kept n ≡ false
+            → (result ≡ Err StoreFault.Failed) × (self.new.disk ≡ self.old.disk) }
+        ensures passes { may_write_in self.old.state self.old.kept n ≡ true
+            → D.failures self.new.disk ≡ counted (D.failures self.old.disk) (is_failed result) }
+        ensures stays { (self.new.state ≡ self.old.state) × (self.new.kept ≡ self.old.kept) }
+    {
+        self.writes = self.writes.saturating_add(1);
+        if !self.may_write(n) {
+            return noted(&mut self.failures, Err(StoreFault::Failed));
+        }
+        let answer = self.disk.write(n, from);
+        noted(&mut self.failures, answer)
+    }
+
+    /// Makes the store n pages long, which is no fewer than it has. New pages are zero, and the tail is gone. Fault:
+    /// Failed, where no page may be written over, and nothing has changed then, and where the disk failed; the old
+    /// pages are then unchanged, and there are at most n.
+    fn set_pages(&mut self, n: u32) -> Result<(), StoreFault>
+        requires { length (D.seen self.old.disk).main.pages ≤ n }
+        ensures pages { OnOk result ((D.seen self.new.disk).main.pages ≡ (D.seen self.old.disk).main.pages
+            ++ blanks (n - length (D.seen self.old.disk).main.pages)) }
+        ensures tail { OnOk result ((D.seen self.new.disk).main.tail ≡ 0) }
+        ensures old_pages { OnErr result (GrowsTo n (D.seen self.old.disk).main.pages
+            (D.seen self.new.disk).main.pages) }
+        ensures changes { ChangesStore ⟦<KeptStore<D> as StoreState>⟧ (Step.SetPages n)
+            self.old result self.new }
+        ensures refused { self.old.state ≢ SealState.Sealed
+            → (result ≡ Err StoreFault.Failed) × (self.new.disk ≡ self.old.disk) }
+        ensures passes { self.old.state ≡ SealState.Sealed
+            → D.failures self.new.disk ≡ counted (D.failures self.old.disk) (is_failed result) }
+        ensures stays { (self.new.state ≡ self.old.state) × (self.new.kept ≡ self.old.kept) }
+    {
+        self.writes = self.writes.saturating_add(1);
+        let SealState::Sealed = self.state else {
+            return noted(&mut self.failures, Err(StoreFault::Failed));
+        };
+        let answer = self.disk.grow(n);
+        noted(&mut self.failures, answer)
+    }
+
+    fn sync(&mut self) -> Result<(), StoreFault> {
+        self.writes = self.writes.saturating_add(1);
+        let answer = self.disk.sync();
+        noted(&mut self.failures, answer)
+    }
+}
+
+impl<D: Disk + Drop> SealStore for KeptStore<D> {
+    /// Keeps the pages of these numbers aside, once. Faults: Failed, where pages were kept or a sealing failed before,
+    /// the store has a tail or more than 1,000,001 pages, or the disk failed; Memory.
+    fn seal(&mut self, numbers: &[u32]) -> Result<(), StoreFault>
+        ensures leaves { LeavesStore ⟦<KeptStore<D> as StoreState>⟧ false
+            self.old result self.new }
+        ensures sealed { OnOk result ((self.new.state ≡ SealState.Sealed) × ((n : ℕ)
+            → n < length (D.seen self.old.disk).main.pages
+            → is_open self.new.kept n ≡ list_any (λ m. n == m) numbers.now)) }
+        ensures again { self.old.state ≢ SealState.Unsealed
+            → (result ≡ Err StoreFault.Failed) × (self.new.disk ≡ self.old.disk) }
+        ensures passes { self.old.state ≡ SealState.Unsealed
+            → CanBeSealed (D.seen self.old.disk).main → D.failures self.new.disk
+            ≡ counted (D.failures self.old.disk) (is_failed result) }
+        ensures refused { OnOk result (CanBeSealed (D.seen self.old.disk).main) }
+    {
+        let answer = self.keep_aside(numbers);
+        noted(&mut self.failures, answer)
+    }
+}

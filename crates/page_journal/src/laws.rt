@@ -1,0 +1,61 @@
+//! Facts of the definitions that contracts of this crate cite.
+ghost use Rattle.std.specs.Prelude.{◌≡◌, ◌≢◌, ℕ, List, [], ◌∷◌, ◌++◌};
+ghost use Rattle.page_journal.specs.Files.{PageFile, Kept, Files, Agree, restored, recovered};
+ghost use Rattle.page_journal.specs.Crash.{StandsFor, IsEither};
+ghost use Rattle.page_journal.specs.History.{all_done, MayLeave, LeftSince};
+ghost use Rattle.page_journal.specs.Examples.{pages_of_two, alone, old_file, page_1_kept, page_1_written, both_written, both_writes, side_made, side_named, named_early};
+ghost use Rattle.page_journal.specs.declared.disk_call.DiskCall.{DiskCall};
+
+/// What old pages leave that are put back depends on no page that was kept, and on nothing past the old end. In the
+/// example page 1 of two was kept, then it was written over and a page was added. It fails where a page was written
+/// over that wasn't kept.
+pub fn old_pages_put_back()
+    ensures same { (kept : Kept) (a b : List (List ℕ)) → Agree kept a b
+        → restored kept b ≡ restored kept a }
+    ensures agree { Agree page_1_kept old_file.pages page_1_written }
+    ensures example { restored page_1_kept page_1_written ≡ old_file }
+    ensures disagree { Agree page_1_kept old_file.pages both_written → ⊥ }
+    ensures not_kept { restored page_1_kept both_written ≢ old_file }
+{}
+
+/// What a crash of a disk in memory leaves: what reads see is always among it, and so is what fewer calls may have
+/// left.
+pub fn outcomes_in_memory()
+    ensures seen { (first : Files) (calls : List DiskCall)
+        → MayLeave first calls (all_done first calls) }
+    ensures earlier { (first : Files) (late calls : List DiskCall) (c : Files)
+        → MayLeave first calls c → LeftSince first (late ++ calls) 0 c }
+{}
+
+/// Two pages are written, and not synced: the second may be done where the first is lost or torn, and a sync of the
+/// names changes none of that. A sync leaves both done. A page that wasn't written is never another.
+pub fn writes_by_example()
+    ensures lost { MayLeave (alone old_file) both_writes (alone (pages_of_two 1 9)) }
+    ensures torn { MayLeave (alone old_file) both_writes (alone (pages_of_two 5 9)) }
+    ensures other_sync { MayLeave (alone old_file) (DiskCall.SyncNames ∷ both_writes)
+        (alone (pages_of_two 1 9)) }
+    ensures synced { (c : Files) → MayLeave (alone old_file) (DiskCall.Sync ∷ both_writes) c
+        → c.main ≡ pages_of_two 7 9 }
+    ensures not_durable { ((c : Files) → MayLeave (alone old_file) both_writes c
+        → c.main ≡ pages_of_two 7 9) → ⊥ }
+    ensures other_page { MayLeave (alone old_file) (DiskCall.Write 0 (7 ∷ []) ∷ [])
+        (alone (pages_of_two 7 9)) → ⊥ }
+{}
+
+/// Both pages are kept beside the file. Where the side file was synced before it got the name, a crash leaves files that
+/// stand for the old file, and once the names are synced, whatever is written over it. It fails where the side file
+/// wasn't synced, also once the names are, and where pages are written over before the names are synced; and one
+/// of the old and the new file it doesn't leave where the side file is taken away before the last sync.
+pub fn naming_by_example()
+    ensures named { (c : Files) → MayLeave (alone old_file) (DiskCall.Name ∷ side_made) c
+        → StandsFor old_file c }
+    ensures sealed { (c : Files) → MayLeave (alone old_file) (both_writes ++ side_named) c
+        → StandsFor old_file c }
+    ensures named_early { ((c : Files) → MayLeave (alone old_file) named_early c
+        → StandsFor old_file c) → ⊥ }
+    ensures written_early { ((c : Files) → MayLeave (alone old_file)
+        (both_writes ++ DiskCall.Name ∷ side_made) c → StandsFor old_file c) → ⊥ }
+    ensures removed_early { ((c : Files) → MayLeave (alone old_file)
+        (DiskCall.SyncNames ∷ DiskCall.Remove ∷ both_writes ++ side_named) c
+        → IsEither old_file (pages_of_two 7 9) c) → ⊥ }
+{}

@@ -1,0 +1,30 @@
+//! A page file that is changed in place: its old pages stand beside it in a side file until the change is whole, so
+//! that a crash at any moment leaves the old file or the new one.
+#![tactic(auto)]
+
+mod blank;
+mod disk;
+mod disk_call;
+mod disk_state;
+mod fate;
+mod kept_store;
+pub mod laws;
+mod mem_disk;
+mod mem_files;
+mod recovering;
+mod recovery_fault;
+mod seal_state;
+mod sealing;
+mod side_shape;
+
+pub use disk::Disk;
+pub use disk_call::DiskCall;
+pub use disk_state::DiskState;
+pub use fate::Fate;
+pub use kept_store::KeptStore;
+pub use mem_disk::{Beginning, MemDisk};
+pub use recovering::{commit, recover};
+pub use recovery_fault::RecoveryFault;
+pub use seal_state::SealState;
+pub use sealing::seal;
+pub use side_shape::SideShape;

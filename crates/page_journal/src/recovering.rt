@@ -1,0 +1,105 @@
+ghost use Rattle.std.specs.Prelude.{◌≡◌, ◌<◌, ℕ, List, Err, length, IsErr, IsTrue, OnOk, slice_set};
+ghost use Rattle.rec_types.specs.Table.{counted};
+ghost use Rattle.page_journal.specs.Files.{Kept, recovered, restored};
+ghost use Rattle.page_journal.specs.Steps.{CountsFault, TornAt};
+ghost use Rattle.page_journal.specs.Crash.{LeavesOnly, IsSettled, IsSealed, IsAtRest, StandsFor, IsEither, MayWrite, PutsBack};
+ghost use Rattle.page_journal.specs.Recovery.{is_device, IsTooShort};
+
+use crate::blank::blank_page;
+use crate::disk::Disk;
+use crate::recovery_fault::RecoveryFault;
+use page_store::StoreFault;
+use rec_types::PAGE_WIDTH;
+
+/// Writes page n, which is there. Where it is kept or past the old end, a crash leaves the old file still. Fault:
+/// Failed; the page then has any bytes.
+pub(crate) fn overwrite<D: Disk>(
+    disk: &mut D,
+    n: u32,
+    page: &[u8; PAGE_WIDTH],
+) -> Result<(), StoreFault>
+    requires { n < length (D.seen disk.old).main.pages }
+    ensures steady { D.steady disk.new ≡ D.steady disk.old }
+    ensures page { IsTrue (D.steady disk.old) → OnOk result ((D.seen disk.new).main.pages
+        ≡ slice_set (D.seen disk.old).main.pages n page.now) }
+    ensures torn { TornAt n (D.seen disk.old) (D.seen disk.new) }
+    ensures sealed { (kept : Kept) (base : List (List ℕ)) → IsSealed D.DiskState kept base disk.old
+        → MayWrite kept n → IsSealed D.DiskState kept base disk.new
+        × LeavesOnly D.DiskState (StandsFor (restored kept base)) disk.old disk.new }
+    ensures fault { CountsFault D.DiskState disk.old result disk.new }
+{
+    disk.write(n, page)
+}
+
+/// Has the device keep the file, and then gives the old pages up: from the moment on at which the side file is gone, a
+/// crash leaves the new file. Until then it leaves the old one. Fault: Failed; no page has changed then, and the
+/// side file may be there or not.
+pub fn commit<D: Disk>(disk: &mut D) -> Result<(), StoreFault>
+    ensures steady { D.steady disk.new ≡ D.steady disk.old }
+    ensures same { (D.seen disk.new).main ≡ (D.seen disk.old).main }
+    ensures committed { (kept : Kept) (base : List (List ℕ))
+        → IsSealed D.DiskState kept base disk.old
+        → OnOk result (IsSettled D.DiskState (D.seen disk.old).main disk.new) }
+    ensures any_moment { (kept : Kept) (base : List (List ℕ))
+        → IsSealed D.DiskState kept base disk.old → LeavesOnly D.DiskState
+        (IsEither (restored kept base) (D.seen disk.old).main) disk.old disk.new }
+    ensures fault { CountsFault D.DiskState disk.old result disk.new }
+{
+    disk.sync()?;
+    disk.remove()?;
+    disk.sync_names()?;
+    Ok(())
+}
+
+// Puts the old pages of the side file back, of which there are so many. The file has as many pages as it had then.
+fn put_pages<D: Disk>(disk: &mut D, long: u32, count: u32) -> Result<(), StoreFault>
+    requires long { long ≡ length (D.seen disk.old).main.pages }
+    ensures steady { D.steady disk.new ≡ D.steady disk.old }
+    ensures tail { (D.seen disk.new).main.tail ≡ (D.seen disk.old).main.tail }
+    ensures put { IsTrue (D.steady disk.old) → (kept : Kept) (base : List (List ℕ))
+        → kept.long ≡ long → length kept.pages ≡ count → IsSealed D.DiskState kept base disk.old
+        → PutsBack D.DiskState kept base result disk.old disk.new }
+    ensures fault { CountsFault D.DiskState disk.old result disk.new }
+{
+    let mut page = blank_page();
+    for i in 0..count {
+        let n = disk.kept(i, &mut page)?;
+        if n < long {
+            overwrite(disk, n, &page)?;
+        }
+    }
+    Ok(())
+}
+
+/// Makes the file that the two files stand for: where a side file has the name, cuts the file to its old length, puts
+/// the old pages back and takes the side file away. A crash at any moment of it leaves files that stand for the
+/// same file, so it may be stopped and called again, any number of times.
+///
+/// The condition is that what is read is what the device keeps, as after a restart. Faults: Device, where a call of
+/// the disk failed; BadJournal, where the file has fewer pages than the side file says that it had, which no closing
+/// leaves: nothing has changed then.
+pub fn recover<D: Disk>(disk: &mut D) -> Result<(), RecoveryFault>
+    requires { IsAtRest D.DiskState disk.old }
+    ensures steady { D.steady disk.new ≡ D.steady disk.old }
+    ensures recovered { IsTrue (D.steady disk.old) → OnOk result
+        (IsSettled D.DiskState (recovered (D.seen disk.old)) disk.new) }
+    ensures any_moment { IsTrue (D.steady disk.old) → LeavesOnly D.DiskState
+        (StandsFor (recovered (D.seen disk.old))) disk.old disk.new }
+    ensures device { D.failures disk.new ≡ counted (D.failures disk.old) (is_device result) }
+    ensures bad_journal { IsTrue (D.steady disk.old) → result ≡ Err RecoveryFault.BadJournal
+        → IsTooShort (D.seen disk.old) }
+    ensures too_short { IsTrue (D.steady disk.old) → IsTooShort (D.seen disk.old) → IsErr result }
+    ensures untouched { result ≡ Err RecoveryFault.BadJournal
+        → D.seen disk.new ≡ D.seen disk.old }
+{
+    let Some(side) = disk.side()? else {
+        return Ok(());
+    };
+    if disk.shape()?.pages < u64::from(side.long) {
+        return Err(RecoveryFault::BadJournal);
+    }
+    disk.cut(side.long)?;
+    put_pages(disk, side.long, side.kept)?;
+    commit(disk)?;
+    Ok(())
+}

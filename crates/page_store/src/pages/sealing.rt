@@ -1,0 +1,54 @@
+ghost use Rattle.std.specs.Prelude.{◌≡◌, ℕ, ◌==◌, ◌||◌, ◌≤◌, is_some, IfOk};
+ghost use Rattle.std.specs.List.{list_any};
+ghost use Rattle.rec_types.specs.Table.{counted};
+ghost use Rattle.page_store.specs.Overlaid.{slots_of};
+ghost use Rattle.page_store.specs.WriteFaults.{by_device};
+ghost use Rattle.page_store.specs.WritingBack.{to_write};
+
+use super::Pages;
+use crate::page_edit::WriteFault;
+use crate::seal_store::SealStore;
+use crate::slot::Slot;
+use crate::write_back::{page_to_write, told};
+use rec_types::Memory;
+use std::alloc::Global;
+use std::collections::BTreeSet;
+
+// The numbers of the pages that a writing back writes: page 0 and each changed page in use. Fault: Memory.
+fn numbers_written(
+    alloc: Global,
+    changed: &[Slot],
+    free: &BTreeSet<u32>,
+    count: u32,
+) -> Result<Vec<u32>, Memory>
+    requires { 1 ≤ count }
+    ensures { IfOk result (λ numbers. (n : ℕ) → list_any (λ m. n == m) numbers.items
+        ≡ (n == 0 || is_some (to_write (slots_of changed.now) free.now.keys count n))) }
+{
+    let mut numbers = Vec::new(alloc);
+    numbers.push(0)?;
+    for n in 1..count {
+        if page_to_write(changed, free, count, n).is_some() {
+            numbers.push(n)?;
+        }
+    }
+    Ok(numbers)
+}
+
+impl<S: SealStore> Pages<S> {
+    /// Has the store keep aside the pages that a writing back would write over, which it allows only then: page 0 and
+    /// each changed page in use. No page changes, here or in the store. Faults: Device, where the store failed, as
+    /// where it has a tail, Memory; the store may then not be written over any more.
+    pub fn seal(&mut self) -> Result<(), WriteFault>
+        ensures same { self.new ≡ record self.old { failures = self.new.failures } }
+        ensures device { self.new.failures ≡ counted self.old.failures (by_device result) }
+    {
+        let Ok(numbers) = numbers_written(self.alloc, &self.changed, &self.free, self.count) else {
+            return Err(WriteFault::Memory);
+        };
+        match self.store.seal(&numbers) {
+            Ok(()) => Ok(()),
+            Err(fault) => Err(told(fault)),
+        }
+    }
+}

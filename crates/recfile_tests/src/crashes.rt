@@ -1,0 +1,359 @@
+// A closing over a disk in memory and the recovery behind it, each stopped after each of its calls, with each of the calls
+// that weren't synced done, lost or torn.
+ghost use Rattle.std.specs.Prelude.{◌≡◌, []};
+ghost use Rattle.recfile_tests.specs.TwoPages.{filled_page, two_pages};
+
+use crate::expect_text;
+use crate::stores::{pages_of, write_page};
+use page_journal::{Beginning, DiskCall, Fate, KeptStore, MemDisk, recover};
+use page_store::{SealStore, Store, StoreFault};
+use rec_types::PAGE_WIDTH;
+use std::alloc::{AllocError, Global};
+use std::process::Abort;
+
+/// The disk whose file has two pages, filled with 1 and 2.
+struct TwoPages;
+
+impl Beginning for TwoPages {
+    ghost files = { two_pages };
+}
+
+/// Any other disk.
+struct Restarted;
+
+impl Beginning for Restarted {
+    ghost files = { two_pages };
+}
+
+fn filled(with: u8) -> [u8; PAGE_WIDTH]
+    ensures { result ≡ filled_page with }
+{
+    [with; PAGE_WIDTH]
+}
+
+/// Writes page n where there is one.
+fn put<S: Store>(store: &mut S, n: u32, with: u8) -> Result<(), StoreFault> {
+    if store.shape()?.pages <= u64::from(n) {
+        return Err(StoreFault::Failed);
+    }
+    store.write(n, &filled(with))
+}
+
+/// Makes the store so many pages long where it isn't longer.
+fn grow<S: Store>(store: &mut S, n: u32) -> Result<(), StoreFault> {
+    if store.shape()?.pages > u64::from(n) {
+        return Err(StoreFault::Failed);
+    }
+    store.set_pages(n)
+}
+
+/// The calls of a closing that writes two old pages over and adds one.
+fn close<S: SealStore>(store: &mut S) -> Result<(), StoreFault> {
+    store.seal(&[0, 1])?;
+    grow(store, 3)?;
+    put(store, 0, 5)?;
+    store.sync()?;
+    put(store, 1, 8)?;
+    put(store, 2, 9)?;
+    store.sync()?;
+    put(store, 0, 7)?;
+    store.sync()
+}
+
+/// The same calls where page 1 alone was changed, made by `Pages`, which tells the store what it writes over.
+fn close_pages<S: SealStore>(rt: &impl Abort, alloc: Global, store: S) -> S {
+    let mut pages = pages_of(rt, alloc, store, false).expect(rt, "no pages");
+    write_page(rt, alloc, &mut pages, 1, 8).expect(rt, "not staged");
+    pages.seal().expect(rt, "not sealed");
+    pages
+        .write_back(&filled(5), &filled(7))
+        .expect(rt, "not written back");
+    pages.into_store()
+}
+
+/// A store of two pages, filled with 1 and 2.
+fn opened(rt: &impl Abort, alloc: Global) -> KeptStore<MemDisk<TwoPages>> {
+    let disk = MemDisk::new(alloc, &[filled(1), filled(2)], 0).expect(rt, "no memory");
+    match KeptStore::open(alloc, disk) {
+        Ok(store) => store,
+        Err(_) => panic!(rt; "not opened"),
+    }
+}
+
+/// The disk of a store, whose old pages are given up.
+fn ended(rt: &impl Abort, store: KeptStore<MemDisk<TwoPages>>) -> MemDisk<TwoPages> {
+    let (disk, answer) = store.finish();
+    answer.expect(rt, "not given up");
+    disk
+}
+
+/// The disk behind the first closing, and behind the second.
+fn closed(rt: &impl Abort, alloc: Global) -> MemDisk<TwoPages> {
+    let mut store = opened(rt, alloc);
+    close(&mut store).expect(rt, "not closed");
+    ended(rt, store)
+}
+
+fn closed_pages(rt: &impl Abort, alloc: Global) -> MemDisk<TwoPages> {
+    ended(rt, close_pages(rt, alloc, opened(rt, alloc)))
+}
+
+/// The parts that the device keeps one by one.
+#[derive(Clone, Copy, PartialEq, Eq)]
+enum Part {
+    File,
+    Fresh,
+    Names,
+}
+
+fn part_of(call: &DiskCall) -> Part {
+    match *call {
+        DiskCall::Write(..) | DiskCall::Grow(_) | DiskCall::Cut(_) | DiskCall::Sync => Part::File,
+        DiskCall::Start(_) | DiskCall::Keep(..) | DiskCall::SyncFresh => Part::Fresh,
+        DiskCall::Name | DiskCall::Remove | DiskCall::SyncNames => Part::Names,
+    }
+}
+
+fn is_sync(call: &DiskCall) -> bool {
+    matches!(
+        *call,
+        DiskCall::Sync | DiskCall::SyncFresh | DiskCall::SyncNames
+    )
+}
+
+/// Whether one of the later calls syncs what the call changed.
+fn is_synced(call: &DiskCall, later: &[DiskCall]) -> bool {
+    for other in later {
+        if is_sync(other) && part_of(other) == part_of(call) {
+            return true;
+        }
+    }
+    false
+}
+
+/// Whether a crash may lose the call of that number.
+fn is_pending(calls: &[DiskCall], i: usize) -> bool {
+    let (Some(call), Some(later)) = (calls.get(i), calls.get(i.saturating_add(1)..)) else {
+        return false;
+    };
+    !is_sync(call) && !is_synced(call, later)
+}
+
+/// How many ways there are for the calls that weren't synced.
+fn how_many(calls: &[DiskCall]) -> u32 {
+    let mut ways: u32 = 1;
+    for i in 0..calls.len() {
+        if is_pending(calls, i) {
+            ways = ways.saturating_mul(3);
+        }
+    }
+    ways
+}
+
+fn fate_of(digit: u32) -> Fate {
+    match digit {
+        0 => Fate::Done,
+        1 => Fate::Lost,
+        _ => Fate::Torn,
+    }
+}
+
+/// The way of that number.
+fn fates_of(alloc: Global, calls: &[DiskCall], way: u32) -> Result<Vec<Fate>, AllocError> {
+    let mut fates = Vec::new(alloc);
+    let mut rest = way;
+    for i in 0..calls.len() {
+        if is_pending(calls, i) {
+            fates.push(fate_of(rest % 3))?;
+            rest /= 3;
+        } else {
+            fates.push(Fate::Done)?;
+        }
+    }
+    Ok(fates)
+}
+
+/// Recovers the file of a disk that was just started again.
+fn recovered(rt: &impl Abort, disk: MemDisk<Restarted>) -> MemDisk<Restarted>
+    requires { disk.calls ≡ [] }
+{
+    let mut disk = disk;
+    recover(&mut disk).expect(rt, "not recovered");
+    disk
+}
+
+/// The disk behind that crash and a recovery, where there is such a crash.
+fn after_crash<B>(
+    rt: &impl Abort,
+    disk: &MemDisk<B>,
+    fates: &[Fate],
+) -> Option<MemDisk<Restarted>> {
+    if fates.len() > disk.calls().len() {
+        return None;
+    }
+    match disk.crash(fates).expect(rt, "no memory") {
+        Some(left) => Some(recovered(rt, left)),
+        None => None,
+    }
+}
+
+/// Adds the disks behind each crash after so many calls, and a recovery.
+fn add_crashes<B>(
+    rt: &impl Abort,
+    alloc: Global,
+    disk: &MemDisk<B>,
+    calls: &[DiskCall],
+    disks: &mut Vec<MemDisk<Restarted>>,
+) {
+    for way in 0..how_many(calls) {
+        let fates = fates_of(alloc, calls, way).expect(rt, "no memory");
+        if let Some(left) = after_crash(rt, disk, &fates) {
+            disks.push(left).expect(rt, "no memory");
+        }
+    }
+}
+
+/// The disks behind each crash and a recovery.
+fn crashes<B>(rt: &impl Abort, alloc: Global, disk: &MemDisk<B>) -> Vec<MemDisk<Restarted>> {
+    let mut disks = Vec::new(alloc);
+    for after in 0..=disk.calls().len() {
+        if let Some(calls) = disk.calls().get(..after) {
+            add_crashes(rt, alloc, disk, calls, &mut disks);
+        }
+    }
+    disks
+}
+
+fn is_filled(pages: &[[u8; PAGE_WIDTH]], bytes: &[u8]) -> bool {
+    if pages.len() != bytes.len() {
+        return false;
+    }
+    for i in 0..pages.len() {
+        if pages[i] != filled(bytes[i]) {
+            return false;
+        }
+    }
+    true
+}
+
+/// Which file a disk has.
+#[derive(Clone, Copy, PartialEq, Eq)]
+enum Found {
+    Old,
+    New,
+    Neither,
+}
+
+fn found_on<B>(disk: &MemDisk<B>, new: &[u8]) -> Found {
+    if is_filled(disk.pages(), &[1, 2]) {
+        return Found::Old;
+    }
+    if is_filled(disk.pages(), new) {
+        return Found::New;
+    }
+    Found::Neither
+}
+
+/// How many disks have the old file, the new one, neither, and another than they had.
+#[derive(Clone, Copy)]
+struct Tally {
+    old: u32,
+    new: u32,
+    neither: u32,
+    changed: u32,
+}
+
+impl Tally {
+    fn new() -> Tally {
+        Tally {
+            old: 0,
+            new: 0,
+            neither: 0,
+            changed: 0,
+        }
+    }
+
+    fn note(&mut self, found: Found) {
+        match found {
+            Found::Old => self.old = self.old.saturating_add(1),
+            Found::New => self.new = self.new.saturating_add(1),
+            Found::Neither => self.neither = self.neither.saturating_add(1),
+        }
+    }
+
+    fn note_again(&mut self, found: Found, before: Found) {
+        self.note(found);
+        if found != before {
+            self.changed = self.changed.saturating_add(1);
+        }
+    }
+}
+
+/// Stops the recovery of a disk, after which it has to have the same file.
+fn stop_once(
+    rt: &impl Abort,
+    alloc: Global,
+    disk: &MemDisk<Restarted>,
+    new: &[u8],
+    tally: &mut Tally,
+) {
+    for again in &crashes(rt, alloc, disk) {
+        tally.note_again(found_on(again, new), found_on(disk, new));
+    }
+}
+
+/// Stops the recovery of each of these disks, and the one behind that.
+fn stop_twice(
+    rt: &impl Abort,
+    alloc: Global,
+    disk: &MemDisk<Restarted>,
+    new: &[u8],
+    tally: &mut Tally,
+) {
+    for again in &crashes(rt, alloc, disk) {
+        tally.note_again(found_on(again, new), found_on(disk, new));
+        stop_once(rt, alloc, again, new, tally);
+    }
+}
+
+fn push_tally(text: &mut String, tally: &Tally) -> Result<(), AllocError> {
+    let Tally {
+        old,
+        new,
+        neither,
+        changed,
+    } = tally;
+    write!(
+        text,
+        "{old} old, {new} new, {neither} neither, {changed} changed; "
+    )
+}
+
+/// What is found where a closing is stopped, and then where the recovery behind that is, once and twice.
+fn expect_found(
+    rt: &impl Abort,
+    alloc: Global,
+    closed: &MemDisk<TwoPages>,
+    new: &[u8],
+    wanted: &str,
+) {
+    let mut stopped = Tally::new();
+    let mut again = Tally::new();
+    for disk in &crashes(rt, alloc, closed) {
+        stopped.note(found_on(disk, new));
+        stop_twice(rt, alloc, disk, new, &mut again);
+    }
+    let mut text = String::new(alloc);
+    push_tally(&mut text, &stopped).expect(rt, "no text");
+    push_tally(&mut text, &again).expect(rt, "no text");
+    expect_text(rt, &text, wanted);
+}
+
+#[test]
+fn closing_is_stopped(rt: HostRuntime) {
+    let alloc = rt.alloc();
+    let wanted = "78 old, 2 new, 0 neither, 0 changed; 69456 old, 4 new, 0 neither, 0 changed; ";
+    expect_found(&rt, alloc, &closed(&rt, alloc), &[7, 8, 9], wanted);
+    let wanted = "69 old, 2 new, 0 neither, 0 changed; 51618 old, 4 new, 0 neither, 0 changed; ";
+    expect_found(&rt, alloc, &closed_pages(&rt, alloc), &[7, 8], wanted);
+}
