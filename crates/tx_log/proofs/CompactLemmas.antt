@@ -6,7 +6,7 @@ use Rattle.rec_types.specs.declared.transaction.TxId.{TxId}
 use Rattle.tx_log.specs.Compact.{read, IsWithin, told_as, back_kind, record_in}
 use Rattle.tx_log.specs.Log.{back_record, back_in, key_of, prev_of, chain, IsNumbered}
 use Rattle.tx_log.specs.Marks.{first_lsn}
-use Rattle.tx_log.specs.Walks.{change_in, newest_in}
+use Rattle.tx_log.specs.Walks.{change_in, link_of, newest_in}
 use Rattle.tx_log.proofs.MarkLemmas.{first_there}
 use Rattle.tx_log.specs.declared.log_record.LogRecord.{LogRecord}
 use Rattle.tx_log.specs.declared.log_record.LogRecord.TheVariants as logged
@@ -71,3 +71,10 @@ newest-there log from at numbered is some within =
     let found = slice_get-get_or log (at - 1) nothing (omega (arith, some, within)) in
     let first = first_there log from at nothing (get_or log (at - 1) nothing) numbered is some refl in
     ap (option_map change_in) found ∙ sym (ap newest_in first.is)
+
+pub link-there : (log : List LogRecord) (from at : ℕ) → IsNumbered (reverse log) → at ≡ first_lsn (chain (reverse log) from) → 0 < at → at ≤ length log → option_map (λ u. link_of (change_in u)) (slice_get log (at - 1)) ≡ option_map link_of (newest_in (chain (reverse log) from))
+link-there log from at numbered is some within = twice (slice_get log (at - 1)) ∙ ap (option_map link_of) (newest-there log from at numbered is some within)
+  where
+    twice : (o : Option LogRecord) → option_map (λ u. link_of (change_in u)) o ≡ option_map link_of (option_map change_in o)
+    twice None = refl
+    twice (Some u) = refl

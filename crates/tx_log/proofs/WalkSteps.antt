@@ -1,12 +1,13 @@
 -- One step of a walk along a chain.
-use Rattle.std.proofs.Common.{◌≡◌, ℕ, ◌+◌, ◌<◌, ◌≤◌, Bool, true, false, cond, eqb, ltb, List, [], ◌∷◌, length, map, Some, None, refl, sym, ap, ◌∙◌, arith}
+use Rattle.std.proofs.Common.{◌≡◌, ℕ, ◌+◌, ◌<◌, ◌≤◌, Bool, true, false, cond, eqb, ltb, List, [], ◌∷◌, length, map, Option, Some, None, option_map, refl, sym, ap, ◌∙◌, arith}
 use Rattle.std.proofs.lemmas.Bool.Decides.{nat_tests}
 use Rattle.std.specs.List.{filter}
 use Rattle.tx_log.proofs.Chains.{chain-head, leads_is_prev, same_number}
 use Rattle.tx_log.specs.Log.{lsn_of, prev_of, key_of, leads_to, led, is_change, chain, IsNumbered}
-use Rattle.tx_log.specs.Walks.{change_in, newest_in, is_after}
+use Rattle.tx_log.specs.Walks.{change_in, link_of, newest_in, is_after}
 use Rattle.tx_log.specs.declared.log_record.LogRecord.{LogRecord}
 use Rattle.tx_log.specs.declared.undo_chain.LiveChange.{LiveChange}
+use Rattle.tx_log.specs.declared.undo_chain.Link.{Link}
 
 -- a step of the walk down a chain: the update there, and what is below
 pub record IsStep (rs : List LogRecord) (at : ℕ) (change : LiveChange) : Type 0 where
@@ -43,6 +44,37 @@ step_from rs (u ∷ us) at change is e some =
 -- where a newest live change is read, the walk makes that step
 pub walk_step : (rs : List LogRecord) (at : ℕ) (change : LiveChange) → IsNumbered rs → newest_in (chain rs at) ≡ Some change → IsStep rs at change
 walk_step rs at change is some = step_from rs (chain rs at) at change is refl some
+
+-- the same where the change was read without its records
+pub record IsLinked (rs : List LogRecord) (at : ℕ) (link : Link) : Type 0 where
+  pub change : LiveChange
+  pub step : IsStep rs at change
+  pub lsn : change.lsn ≡ link.lsn
+  pub prev : change.prev ≡ link.prev
+  pub key : change.key ≡ link.key
+
+pub walk_link : (rs : List LogRecord) (at : ℕ) (link : Link) → IsNumbered rs → option_map link_of (newest_in (chain rs at)) ≡ Some link → IsLinked rs at link
+walk_link rs at link is some = from (newest_in (chain rs at)) refl
+  where
+    from : (o : Option LiveChange) → newest_in (chain rs at) ≡ o → IsLinked rs at link
+    from None e = absurd (cc (ap (option_map link_of) (sym e) ∙ some))
+    from (Some change) e =
+        let same : link_of change ≡ link = cc (ap (option_map link_of) (sym e) ∙ some) in
+        record {
+          change = change;
+          step = walk_step rs at change is e;
+          lsn = ap (λ (l : Link). l.lsn) same;
+          prev = ap (λ (l : Link). l.prev) same;
+          key = ap (λ (l : Link). l.key) same;
+        }
+
+-- where none is read so, the chain has ended
+pub link_end : (rs : List LogRecord) (at : ℕ) → option_map link_of (newest_in (chain rs at)) ≡ None → chain rs at ≡ []
+link_end rs at e = from (chain rs at) e
+  where
+    from : (us : List LogRecord) → option_map link_of (newest_in us) ≡ None → us ≡ []
+    from [] e = refl
+    from (u ∷ us) e = absurd (cc)
 
 none_left : (us : List LogRecord) → newest_in us ≡ None → us ≡ []
 none_left [] e = refl

@@ -6,6 +6,7 @@ use Rattle.tx_log.specs.Log.{lsn_of, prev_of, key_of, old_of, new_of}
 use Rattle.tx_log.specs.Owners.{says}
 use Rattle.tx_log.specs.declared.log_record.LogRecord.{LogRecord}
 use Rattle.tx_log.specs.declared.undo_chain.LiveChange.{LiveChange}
+use Rattle.tx_log.specs.declared.undo_chain.Link.{Link}
 
 abbrev pub change_in : LogRecord → LiveChange
 change_in u = record { lsn = lsn_of u; prev = prev_of u; key = key_of u; before = old_of u; after = new_of u }
@@ -13,6 +14,10 @@ change_in u = record { lsn = lsn_of u; prev = prev_of u; key = key_of u; before 
 abbrev pub newest_in : List LogRecord → Option LiveChange
 newest_in [] = None
 newest_in (u ∷ us) = Some (change_in u)
+
+-- a change without its records
+abbrev pub link_of : LiveChange → Link
+link_of c = record { lsn = c.lsn; prev = c.prev; key = c.key }
 
 abbrev pub is_at : List ℕ → LogRecord → Bool
 is_at x u = same_key (key_of u) x

@@ -10,7 +10,7 @@ ghost use Rattle.tx_log.specs.declared.log_record.LogRecord.{LogRecord};
 
 use crate::mark::Mark;
 use crate::records::Records;
-use crate::undo_chain::newest_change;
+use crate::undo_chain::newest_link;
 use indexmap::IndexMap;
 use rec_types::{Key, Memory, TxId};
 
@@ -151,9 +151,9 @@ pub fn free_keys(holdings: &mut Holdings, log: &Records, marks: &[Mark], from: u
         else held holdings.old q) }
 {
     let mut at = from;
-    while let Some(change) = newest_change(log, marks, at) {
-        let _ = holdings.swap_remove(&change.key);
-        at = change.prev;
+    while let Some(link) = newest_link(log, marks, at) {
+        let _ = holdings.swap_remove(&link.key);
+        at = link.prev;
     }
 }
 

@@ -5,11 +5,11 @@ ghost use Rattle.rec_types.specs.Widths.{widest_record};
 ghost use Rattle.tx_log.specs.Compact.{read, IsWithin, back_kind, told_as};
 ghost use Rattle.tx_log.specs.Log.{change_record, back_record, back_in, key_of, prev_of};
 ghost use Rattle.rec_types.specs.declared.transaction.TxId.{TxId};
-ghost use Rattle.tx_log.specs.Walks.{change_in};
+ghost use Rattle.tx_log.specs.Walks.{change_in, link_of};
 ghost use Rattle.tx_log.specs.declared.log_record.LogRecord.{LogRecord};
 
 use crate::LogRecord;
-use crate::undo_chain::LiveChange;
+use crate::undo_chain::{Link, LiveChange};
 use rec_types::{Key, Memory, RECORD_WIDTH, Record, TxId};
 use std::alloc::Global;
 use std::marker::Model;
@@ -219,6 +219,18 @@ impl Records {
             key: entry.key,
             before: seen,
             after,
+        })
+    }
+
+    /// What a walk needs of it.
+    pub fn link(&self, i: usize) -> Option<Link>
+        ensures { result ≡ option_map (λ u. link_of (change_in u)) (slice_get self.now.items i) }
+    {
+        let entry = self.entries.get(i)?;
+        Some(Link {
+            lsn: entry.lsn,
+            prev: entry.prev,
+            key: entry.key,
         })
     }
 

@@ -1,8 +1,8 @@
-ghost use Rattle.std.specs.Prelude.{◌≡◌, ℕ, ◌+◌, ◌<◌, ◌≤◌, length, reverse, map, cond, IfOk};
+ghost use Rattle.std.specs.Prelude.{◌≡◌, ℕ, ◌+◌, ◌<◌, ◌≤◌, length, reverse, map, option_map, cond, IfOk};
 ghost use Rattle.std.specs.List.{filter};
 ghost use Rattle.tx_log.specs.Log.{chain, key_of, IsNumbered};
 ghost use Rattle.tx_log.specs.Marks.{AreMarked};
-ghost use Rattle.tx_log.specs.Walks.{newest_in, is_after};
+ghost use Rattle.tx_log.specs.Walks.{link_of, newest_in, is_after};
 
 use crate::mark::{Mark, newest_number};
 use crate::records::Records;
@@ -20,6 +20,14 @@ pub struct LiveChange {
     pub after: Option<Option<Record>>,
 }
 
+/// What a walk needs of such a change.
+#[derive(Clone, Copy, Debug)]
+pub struct Link {
+    pub lsn: u32,
+    pub prev: u32,
+    pub key: Key,
+}
+
 /// The newest change that isn't taken back, on the way down from the record with the number `from`.
 pub fn newest_change(log: &Records, marks: &[Mark], from: u32) -> Option<LiveChange>
     requires numbered { IsNumbered (reverse log.now.items) }
@@ -32,6 +40,20 @@ pub fn newest_change(log: &Records, marks: &[Mark], from: u32) -> Option<LiveCha
         return None;
     }
     log.change((at - 1) as usize)
+}
+
+/// The same change, without its records.
+pub fn newest_link(log: &Records, marks: &[Mark], from: u32) -> Option<Link>
+    requires numbered { IsNumbered (reverse log.now.items) }
+    requires marked { AreMarked (reverse log.now.items) (reverse marks.now) }
+    requires within { from ≤ length log.now.items }
+    ensures { result ≡ option_map link_of (newest_in (chain (reverse log.now.items) from)) }
+{
+    let at = newest_number(marks, from);
+    if at == 0 {
+        return None;
+    }
+    log.link((at - 1) as usize)
 }
 
 /// The newest change that isn't taken back, on the way down from the record with the number `from`, if its own number
@@ -59,13 +81,13 @@ pub fn count_changes(log: &Records, marks: &[Mark], from: u32, to: u32) -> u32
     let mut count = 0;
     let mut at = from;
     while at > to {
-        match newest_change(log, marks, at) {
-            Some(change) => {
-                if change.lsn <= to {
+        match newest_link(log, marks, at) {
+            Some(link) => {
+                if link.lsn <= to {
                     return count;
                 }
                 count += 1;
-                at = change.prev;
+                at = link.prev;
             }
             None => return count,
         }
@@ -89,9 +111,9 @@ pub fn changed_keys(
 {
     let mut keys = Vec::with_capacity(alloc, count as usize)?;
     let mut at = from;
-    while let Some(change) = newest_change(log, marks, at) {
-        keys.push(change.key)?;
-        at = change.prev;
+    while let Some(link) = newest_link(log, marks, at) {
+        keys.push(link.key)?;
+        at = link.prev;
     }
     Ok(keys)
 }

@@ -5,8 +5,8 @@ use Rattle.tx_log.specs.Log.{chain}
 use Rattle.tx_log.specs.Walks.{is_at}
 use Rattle.tx_log.proofs.holding.free_keys.Given as goal
 
-abbrev pub invariant-loop-change : goal.invariant-loop-change
-invariant-loop-change l = (l.at ≤ length l.log.items) × ((q : List ℕ) → cond (list_any (is_at q) (chain (reverse l.log.items) l.at)) None (held l.holdings q) ≡ cond (list_any (is_at q) (chain (reverse l.log.items) l.fn.from)) None (held l.fn.holdings q))
+abbrev pub invariant-loop-link : goal.invariant-loop-link
+invariant-loop-link l = (l.at ≤ length l.log.items) × ((q : List ℕ) → cond (list_any (is_at q) (chain (reverse l.log.items) l.at)) None (held l.holdings q) ≡ cond (list_any (is_at q) (chain (reverse l.log.items) l.fn.from)) None (held l.fn.holdings q))
 
-abbrev pub decreases-loop-change : goal.decreases-loop-change
-decreases-loop-change l = l.at
+abbrev pub decreases-loop-link : goal.decreases-loop-link
+decreases-loop-link l = l.at

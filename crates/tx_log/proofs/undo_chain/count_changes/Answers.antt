@@ -1,39 +1,44 @@
-use Rattle.std.proofs.Common.{◌≤◌, length, reverse, sym, ap, arith}
-use Rattle.tx_log.proofs.WalkSteps.{walk_step, walk_end, chain-low, stops_at, goes_on}
+use Rattle.std.proofs.Common.{◌+◌, ◌≤◌, length, reverse, sym, ap, ◌∙◌, arith}
+use Rattle.tx_log.proofs.WalkSteps.{walk_link, link_end, chain-low, stops_at, goes_on}
 use Rattle.std.specs.List.{filter}
+use Rattle.tx_log.specs.Log.{chain}
 use Rattle.tx_log.specs.Walks.{is_after}
 use Rattle.tx_log.proofs.undo_chain.count_changes.Goals as goal
 
-pub returns-then-change-to : goal.returns-then-change-to
-returns-then-change-to c =
+pub returns-then-link-to : goal.returns-then-link-to
+returns-then-link-to c =
     let rs = reverse c.args.log.now.items in
-    let step = walk_step rs c.loop-at.at c.in-Some.change c.requires.numbered (sym c.in-Some.ensures) in
-    let none = ap length (stops_at rs c.loop-at.at c.in-Some.change c.args.to c.requires.numbered step c.if-change-to.true) in
+    let met = walk_link rs c.loop-at.at c.in-Some.link c.requires.numbered (sym c.in-Some.ensures) in
+    let step = met.step in
+    let none = ap length (stops_at rs c.loop-at.at met.change c.args.to c.requires.numbered step (omega (arith, met.lsn, c.if-link-to.true))) in
     omega (arith, none, c.loop-at.invariant.2)
 
 pub overflow_add-count : goal.overflow_add-count
 overflow_add-count c =
     let rs = reverse c.args.log.now.items in
-    let step = walk_step rs c.loop-at.at c.in-Some.change c.requires.numbered (sym c.in-Some.ensures) in
-    omega (arith, step.falls, step.low, c.loop-at.invariant.1, c.ranges.from)
+    let met = walk_link rs c.loop-at.at c.in-Some.link c.requires.numbered (sym c.in-Some.ensures) in
+    let step = met.step in
+    omega (arith, step.falls, step.low, met.lsn, met.prev, c.loop-at.invariant.1, c.ranges.from)
 
 pub loop-at-smaller : goal.loop-at-smaller
 loop-at-smaller c =
     let rs = reverse c.args.log.now.items in
-    let step = walk_step rs c.loop-at.at c.in-Some.change c.requires.numbered (sym c.in-Some.ensures) in
-    omega (arith, step.falls, step.low)
+    let met = walk_link rs c.loop-at.at c.in-Some.link c.requires.numbered (sym c.in-Some.ensures) in
+    let step = met.step in
+    omega (arith, step.falls, step.low, met.lsn, met.prev)
 
 pub loop-at-preserved : goal.loop-at-preserved
 loop-at-preserved c =
     let rs = reverse c.args.log.now.items in
-    let step = walk_step rs c.loop-at.at c.in-Some.change c.requires.numbered (sym c.in-Some.ensures) in
-    let more = goes_on rs c.loop-at.at c.in-Some.change c.args.to step c.if-change-to.false in
-    (omega (arith, step.falls, step.low, c.loop-at.invariant.0), omega (arith, step.falls, step.low, c.loop-at.invariant.1), omega (arith, more, c.loop-at.invariant.2))
+    let met = walk_link rs c.loop-at.at c.in-Some.link c.requires.numbered (sym c.in-Some.ensures) in
+    let step = met.step in
+    let more = goes_on rs c.loop-at.at met.change c.args.to step (omega (arith, met.lsn, c.if-link-to.false)) ∙ ap (λ k. 1 + length (filter (is_after c.args.to) (chain rs k))) met.prev in
+    (omega (arith, step.falls, step.low, met.lsn, met.prev, c.loop-at.invariant.0), omega (arith, step.falls, step.low, met.lsn, met.prev, c.loop-at.invariant.1), omega (arith, more, c.loop-at.invariant.2))
 
 pub returns-in-None : goal.returns-in-None
 returns-in-None c =
     let rs = reverse c.args.log.now.items in
-    let none = ap (λ us. length (filter (is_after c.args.to) us)) (walk_end rs c.loop-at.at (sym c.in-None.ensures)) in
+    let none = ap (λ us. length (filter (is_after c.args.to) us)) (link_end rs c.loop-at.at (sym c.in-None.ensures)) in
     omega (arith, none, c.loop-at.invariant.2)
 
 pub returns : goal.returns
