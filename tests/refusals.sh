@@ -3,8 +3,9 @@
 # and stopped before each of its changes of the file in turn. A number is counted upwards until a run doesn't meet it.
 #
 # Where memory is refused: the status and the fault are among those that the README names; every command that was run has
-# its reply, but the one whose reply found no memory; the file is as it was, byte for byte, where the session wasn't run
-# or couldn't be ended, and else it opens and has the records that the accepted commands leave by themselves.
+# its reply, but the one whose reply found no memory; the file is as it was, byte for byte, where it wasn't opened or the
+# session couldn't be ended, it is what a session without commands leaves where no script was read, and else it opens and
+# has the records that the accepted commands leave by themselves.
 #
 # Where the program is stopped: every command has its reply; the file is as it was, or is refused as one that wasn't
 # closed, or is what a run that nobody stops leaves, byte for byte.
@@ -101,7 +102,7 @@ expect_refused_run() {
         ;;
     3:'recfile: Memory 0;')
         expect_replies 0
-        expect_old
+        cmp -s file unchanged || fail "the file isn't what a session without commands leaves"
         ;;
     3:'recfile: Memory '[0-9]*';')
         done=$(sed 's/[^0-9]//g' err)
@@ -178,6 +179,8 @@ session() {
     cp "$2" old
     options=$3
     cat > script
+    cp old unchanged
+    "$program" run $options unchanged < /dev/null || fail "a session without commands failed"
     refuse_in_turn REFUSE_GROWTH
     refuse_in_turn REFUSE_FROM
     stop_in_turn
