@@ -1,5 +1,5 @@
-use Rattle.std.proofs.Common.{◌≡◌, ◌∙◌, ap, sym, subst, arith, ℕ, List, length, take, Some, IsTrue}
-use Rattle.page_journal.specs.Files.{PageFile, Kept, Files, restored, put_back}
+use Rattle.std.proofs.Common.{◌≡◌, ◌∙◌, ap, sym, subst, arith, ℕ, List, take, Some, IsTrue}
+use Rattle.page_journal.specs.Files.{PageFile, Kept, restored, put_back}
 use Rattle.page_journal.specs.Steps.{side_shape}
 use Rattle.page_journal.specs.Crash.{IsSettled, IsSealed}
 use Rattle.page_journal.proofs.RestoreLemmas.{cut_is, restores_same}
