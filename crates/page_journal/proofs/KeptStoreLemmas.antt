@@ -1,11 +1,11 @@
 -- Which calls leave a store that stands for the old file so.
-use Rattle.std.proofs.Common.{◌≡◌, ◌≢◌, ◌||◌, ◌⊎◌, ⊎_elim, inl, inr, ℕ, ◌<◌, ◌≤◌, Bool, true, false, eqb, List, [], ◌∷◌, length, All, zero, suc, refl, sym, ◌∙◌, ap, subst, arith}
+use Rattle.std.proofs.Common.{◌≡◌, ◌≢◌, ◌||◌, ⊎_elim, inr, ℕ, ◌<◌, ◌≤◌, Bool, true, eqb, List, [], ◌∷◌, length, All, Result, Ok, Err, OnOk, zero, suc, refl, sym, ◌∙◌, ap, subst, arith}
 use Rattle.std.specs.List.{list_any}
 use Rattle.std.proofs.lemmas.Bool.{cases_lt, cases_eq, false≢true, ne_eqb}
 use Rattle.page_journal.specs.Files.{PageFile, Kept, Files, restored, recovered}
 use Rattle.page_journal.specs.Steps.{Does, Stays, TornAt, GrowsUpTo}
 use Rattle.page_journal.specs.Crash.{LeavesOnly, IsSettled, IsSealed, StandsFor, MayWrite, AreKept}
-use Rattle.page_journal.specs.KeptStores.{is_open, may_write_in, IsHeld, IsSo, IsGuarded}
+use Rattle.page_journal.specs.KeptStores.{is_open, may_write_in, IsHeld, IsGuarded}
 use Rattle.page_journal.specs.declared.disk_state.DiskState.{Ghosts}
 use Rattle.page_journal.specs.declared.seal_state.SealState.{SealState}
 use Rattle.page_journal.specs.declared.seal_state.SealState.TheVariants.{Unsealed, Sealed, Stopped}
@@ -31,7 +31,7 @@ module _ {D : Type 0} (g : Ghosts D) where
       record { so = held; time = time_more _ old new guarded.time does (held_stands flags new held) }
   guarded_stays counts Stopped flags old new guarded does =
       record {
-        so = tt;
+        so = ap (λ (f : Files). f.main) does.seen ∙ guarded.so;
         time = time_more _ old new guarded.time does (λ c left.
             let from = does.crash c left in
             subst (StandsFor (recovered g.began)) (sym from.2) (guarded.time from.0 (counts old 0 from.0 (omega arith) from.1)));
@@ -49,6 +49,24 @@ module _ {D : Type 0} (g : Ghosts D) where
       let now : IsGuarded g Sealed flags old = subst (λ s. IsGuarded g s flags old) is guarded in
       let held = held_more flags old new now.so (sealed_grow g now.so.kept now.so.base n old new now.so.sealed does) in
       subst (λ s. IsGuarded g s flags new) (sym is) (record { so = held; time = time_more _ old new guarded.time does (held_stands flags new held) })
+
+  -- where nothing was written over, the file is what there was
+  pub unsealed_main : (state : SealState) (flags : List Bool) (disk : D) → IsGuarded g state flags disk → (state ≡ Sealed → ⊥) → (g.seen disk).main ≡ recovered g.began
+  unsealed_main Unsealed flags disk guarded other = guarded.so.seen
+  unsealed_main Sealed flags disk guarded other = absurd (other refl)
+  unsealed_main Stopped flags disk guarded other = guarded.so
+
+  -- what a recovery of a sealed one leaves
+  pub taken_old : {E : Type 0} (state : SealState) (flags : List Bool) (old new : D) (result : Result (Unit {0}) E) → IsGuarded g state flags old → state ≡ Sealed → ((kept : Kept) (base : List (List ℕ)) → IsSealed g kept base old → OnOk result (IsSettled g (restored kept base) new)) → OnOk result ((g.seen new).main ≡ recovered g.began)
+  taken_old state flags old new (Err fault) guarded is taken = tt
+  taken_old state flags old new (Ok _) guarded is taken =
+      let held : IsHeld g flags old = (subst (λ s. IsGuarded g s flags old) is guarded).so in
+      (taken held.kept held.base held.sealed).seen ∙ held.began
+
+  pub taken_time : (state : SealState) (flags : List Bool) (old new : D) → IsGuarded g state flags old → state ≡ Sealed → ((kept : Kept) (base : List (List ℕ)) → IsSealed g kept base old → LeavesOnly g (StandsFor (restored kept base)) old new) → (c : Files) → g.left_since new 0 c → StandsFor (recovered g.began) c
+  taken_time state flags old new guarded is taken c left =
+      let held : IsHeld g flags old = (subst (λ s. IsGuarded g s flags old) is guarded).so in
+      ⊎_elim (guarded.time c) (λ stands. stands ∙ held.began) ((taken held.kept held.base held.sealed).before 0 c (omega arith) left)
 
   -- a run of calls over a file that stands for what there was
   pub run_time : (main : PageFile) (old new : D) → ((c : Files) → g.left_since old 0 c → StandsFor (recovered g.began) c) → main ≡ recovered g.began → LeavesOnly g (StandsFor main) old new → (c : Files) → g.left_since new 0 c → StandsFor (recovered g.began) c

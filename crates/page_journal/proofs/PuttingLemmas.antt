@@ -65,6 +65,11 @@ side_cases (Some kept) found is =
     let same : found ≡ record { long = kept.long; kept = length kept.pages } = ap (λ (o : Option SideShape). unwrap_or o found) is in
     (kept, refl, sym (ap (λ (p : SideShape). p.long) same), sym (ap (λ (p : SideShape). p.kept) same))
 
+pub shape_parts : (kept : Kept) (side : SideShape) → side_shape (Some kept) ≡ Some side → (kept.long ≡ side.long) × (length kept.pages ≡ side.kept)
+shape_parts kept side is =
+    let same : record { long = kept.long; kept = length kept.pages } ≡ side = ap (λ (o : Option SideShape). unwrap_or o side) is in
+    (ap (λ (p : SideShape). p.long) same, ap (λ (p : SideShape). p.kept) same)
+
 same_default : (xs : List ℕ) (k d : ℕ) → k < length xs → get_or xs k d ≡ get_or xs k 0
 same_default xs k d below = ap (λ (o : Option ℕ). unwrap_or o 0) (sym (slice_get-get_or xs k d below) ∙ slice_get-get_or xs k 0 below)
 

@@ -103,5 +103,5 @@ module _ {D : Type 0} (g : Ghosts D) where
   now_settled kept base main old mid new last holds durable seen does gone stays kept_gone = removed_settled g main new last (λ c left. (removed g kept base main mid new holds.sealed durable does c left).0) (does.seen.main ∙ seen) gone kept_gone stays
 
   -- a commitment behind a run that put the old file back: it is the old one either way
-  pub commit_time : (kept : Kept) (base : List (List ℕ)) (main seen : PageFile) (old mid new : D) → restored kept base ≡ main → seen ≡ main → LeavesOnly g (StandsFor main) old mid → LeavesOnly g (IsEither (restored kept base) seen) mid new → LeavesOnly g (StandsFor main) old new
-  commit_time kept base main seen old mid new old_is new_is before after = then_runs g (StandsFor main) old mid new before (weaker g (IsEither (restored kept base) seen) (StandsFor main) mid new (λ c either. ⊎_elim (λ is. is ∙ old_is) (λ is. is ∙ new_is) either) after)
+  pub back_time : (kept : Kept) (base : List (List ℕ)) (seen : PageFile) (old mid new : D) → seen ≡ restored kept base → LeavesOnly g (StandsFor (restored kept base)) old mid → LeavesOnly g (IsEither (restored kept base) seen) mid new → LeavesOnly g (StandsFor (restored kept base)) old new
+  back_time kept base seen old mid new same before after = then_runs g (StandsFor (restored kept base)) old mid new before (weaker g (IsEither (restored kept base) seen) (StandsFor (restored kept base)) mid new (λ c either. ⊎_elim (λ is. is) (λ is. is ∙ same) either) after)

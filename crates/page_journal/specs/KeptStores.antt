@@ -1,5 +1,5 @@
 -- A store over a disk, which may be changed in any way that its calls allow and stands for the old file all the while.
-use Rattle.std.specs.Prelude.{◌≡◌, ℕ, ◌≤◌, Bool, true, false, cond, List, length, slice_index_or, refl, ⊤}
+use Rattle.std.specs.Prelude.{◌≡◌, ℕ, ◌≤◌, Bool, true, false, cond, List, length, slice_index_or, refl}
 use Rattle.std.specs.Coded.{Coded, code_by, coded×, coded_ℕ, coded_bool, coded_list}
 use Rattle.page_store.specs.FreeNumbers.{greatest_page_count}
 use Rattle.page_journal.specs.Files.{PageFile, Kept, Files, restored, recovered}
@@ -63,7 +63,7 @@ pub record IsHeld {D : Type 0} (g : Ghosts D) (flags : List Bool) (disk : D) : T
 abbrev pub IsSo : {D : Type 0} → Ghosts D → SealState → List Bool → D → Type 0
 IsSo g Unsealed flags disk = IsSettled g (recovered g.began) disk
 IsSo g Sealed flags disk = IsHeld g flags disk
-IsSo g Stopped flags disk = ⊤
+IsSo g Stopped flags disk = (g.seen disk).main ≡ recovered g.began
 
 -- and each crash since the disk was opened leaves the file that there was then
 pub record IsGuarded {D : Type 0} (g : Ghosts D) (state : SealState) (flags : List Bool) (disk : D) : Type 0 where

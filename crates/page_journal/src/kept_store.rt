@@ -9,7 +9,7 @@ ghost use Rattle.page_store.specs.StoreFaults.{is_failed};
 ghost use Rattle.page_store.specs.declared.step.Step.{Step};
 ghost use Rattle.page_journal.specs.Files.{Files, recovered};
 ghost use Rattle.page_journal.specs.Crash.{IsSettled, IsAtRest, StandsFor, IsEither};
-ghost use Rattle.page_journal.specs.Recovery.{IsTooShort, is_device_fault};
+ghost use Rattle.page_journal.specs.Recovery.{IsTooShort, is_device, is_device_fault};
 ghost use Rattle.page_journal.specs.KeptStores.{KeptStored, CanBeSealed, is_open, may_write_in};
 
 use crate::disk::Disk;
@@ -225,6 +225,30 @@ impl<D: Disk + Drop> KeptStore<D> {
             SealState::Unsealed => Ok(()),
             SealState::Sealed => commit(&mut disk),
             SealState::Stopped => Err(StoreFault::Failed),
+        };
+        (disk, done)
+    }
+
+    /// The disk, with the file put back that there was when it was opened, as after calls that failed. A crash at any
+    /// moment since the disk was opened leaves files that stand for that file. Fault: Device, where a call of the disk
+    /// failed; an opening finds the file then.
+    pub fn take_back(self) -> (D, Result<(), RecoveryFault>)
+        ensures old { IsTrue (D.steady self.disk)
+            → OnOk result.1 ((D.seen result.0).main ≡ recovered D.began) }
+        ensures any_moment { IsTrue (D.steady self.disk) → (c : Files) → D.left_since result.0 0 c
+            → StandsFor (recovered D.began) c }
+        ensures steady { D.steady result.0 ≡ D.steady self.disk }
+        ensures device { D.failures result.0
+            ≡ counted (D.failures self.disk) (is_device result.1) }
+    {
+        let KeptStore {
+            mut disk,
+            state,
+            ..
+        } = self;
+        let done = match state {
+            SealState::Sealed => recover(&mut disk),
+            _ => Ok(()),
         };
         (disk, done)
     }

@@ -1,13 +1,14 @@
-ghost use Rattle.std.specs.Prelude.{◌≡◌, ◌<◌, ℕ, List, Err, length, IsErr, IsTrue, OnOk, slice_set};
+ghost use Rattle.std.specs.Prelude.{◌≡◌, ◌<◌, ◌≤◌, ℕ, List, Some, Err, length, IsErr, IsTrue, OnOk, slice_set};
 ghost use Rattle.rec_types.specs.Table.{counted};
 ghost use Rattle.page_journal.specs.Files.{Kept, recovered, restored};
-ghost use Rattle.page_journal.specs.Steps.{CountsFault, TornAt};
+ghost use Rattle.page_journal.specs.Steps.{CountsFault, TornAt, side_shape};
 ghost use Rattle.page_journal.specs.Crash.{LeavesOnly, IsSettled, IsSealed, IsAtRest, StandsFor, IsEither, MayWrite, PutsBack};
 ghost use Rattle.page_journal.specs.Recovery.{is_device, IsTooShort};
 
 use crate::blank::blank_page;
 use crate::disk::Disk;
 use crate::recovery_fault::RecoveryFault;
+use crate::side_shape::SideShape;
 use page_store::StoreFault;
 use rec_types::PAGE_WIDTH;
 
@@ -71,20 +72,44 @@ fn put_pages<D: Disk>(disk: &mut D, long: u32, count: u32) -> Result<(), StoreFa
     Ok(())
 }
 
+// Cuts the file to its old length, puts the old pages back and takes the side file away. The file is no shorter than it
+// was.
+fn put_back<D: Disk>(disk: &mut D, side: SideShape) -> Result<(), StoreFault>
+    requires long { side.long ≤ length (D.seen disk.old).main.pages }
+    ensures steady { D.steady disk.new ≡ D.steady disk.old }
+    ensures restored { IsTrue (D.steady disk.old) → (kept : Kept) (base : List (List ℕ))
+        → side_shape (Some kept) ≡ Some side → IsSealed D.DiskState kept base disk.old
+        → OnOk result (IsSettled D.DiskState (restored kept base) disk.new) }
+    ensures any_moment { IsTrue (D.steady disk.old) → (kept : Kept) (base : List (List ℕ))
+        → side_shape (Some kept) ≡ Some side → IsSealed D.DiskState kept base disk.old
+        → LeavesOnly D.DiskState (StandsFor (restored kept base)) disk.old disk.new }
+    ensures fault { CountsFault D.DiskState disk.old result disk.new }
+{
+    disk.cut(side.long)?;
+    put_pages(disk, side.long, side.kept)?;
+    commit(disk)?;
+    Ok(())
+}
+
 /// Makes the file that the two files stand for: where a side file has the name, cuts the file to its old length, puts
 /// the old pages back and takes the side file away. A crash at any moment of it leaves files that stand for the
 /// same file, so it may be stopped and called again, any number of times.
 ///
-/// The condition is that what is read is what the device keeps, as after a restart. Faults: Device, where a call of
-/// the disk failed; BadJournal, where the file has fewer pages than the side file says that it had, which no closing
-/// leaves: nothing has changed then.
+/// It may be called after a restart, when what is read is what the device keeps, and at once after calls that failed
+/// over a file whose old pages are kept aside. Faults: Device, where a call of the disk failed; BadJournal, where the
+/// file has fewer pages than the side file says that it had, which no closing leaves: nothing has changed then.
 pub fn recover<D: Disk>(disk: &mut D) -> Result<(), RecoveryFault>
-    requires { IsAtRest D.DiskState disk.old }
     ensures steady { D.steady disk.new ≡ D.steady disk.old }
-    ensures recovered { IsTrue (D.steady disk.old) → OnOk result
+    ensures recovered { IsTrue (D.steady disk.old) → IsAtRest D.DiskState disk.old → OnOk result
         (IsSettled D.DiskState (recovered (D.seen disk.old)) disk.new) }
-    ensures any_moment { IsTrue (D.steady disk.old) → LeavesOnly D.DiskState
-        (StandsFor (recovered (D.seen disk.old))) disk.old disk.new }
+    ensures any_moment { IsTrue (D.steady disk.old) → IsAtRest D.DiskState disk.old
+        → LeavesOnly D.DiskState (StandsFor (recovered (D.seen disk.old))) disk.old disk.new }
+    ensures taken_back { IsTrue (D.steady disk.old) → (kept : Kept) (base : List (List ℕ))
+        → IsSealed D.DiskState kept base disk.old
+        → OnOk result (IsSettled D.DiskState (restored kept base) disk.new) }
+    ensures taken_back_at_any_moment { IsTrue (D.steady disk.old) → (kept : Kept)
+        (base : List (List ℕ)) → IsSealed D.DiskState kept base disk.old
+        → LeavesOnly D.DiskState (StandsFor (restored kept base)) disk.old disk.new }
     ensures device { D.failures disk.new ≡ counted (D.failures disk.old) (is_device result) }
     ensures bad_journal { IsTrue (D.steady disk.old) → result ≡ Err RecoveryFault.BadJournal
         → IsTooShort (D.seen disk.old) }
@@ -98,8 +123,6 @@ pub fn recover<D: Disk>(disk: &mut D) -> Result<(), RecoveryFault>
     if disk.shape()?.pages < u64::from(side.long) {
         return Err(RecoveryFault::BadJournal);
     }
-    disk.cut(side.long)?;
-    put_pages(disk, side.long, side.kept)?;
-    commit(disk)?;
+    put_back(disk, side)?;
     Ok(())
 }
