@@ -304,7 +304,8 @@ impl TxLog {
         let writes = after.is_some();
         let out = raise(&mut self.holdings, &key, tx, writes, lacks);
         let lsn = self.records.len() as u32 + 1;
-        self.records.push_change(lsn, prev, tx, key, before, after);
+        self.records
+            .push_change(lsn, prev, tx, key, &before, &after);
         let _ = self.marks.push(Mark {
             newest: lsn,
             absent: out.0,

@@ -87,18 +87,6 @@ impl Span {
     }
 }
 
-// What the entry of a change tells of, and what it says was written: of a claim nothing.
-fn told_by(after: Option<Option<Record>>) -> (Kind, Option<Record>)
-    ensures { (lsn prev : ℕ) (tx : TxId) (key : List ℕ) (before : Option (List ℕ))
-        → told_as result.0 lsn prev tx key before result.1 0
-        ≡ change_record lsn prev tx key before after }
-{
-    match after {
-        Some(wrote) => (Kind::Update, wrote),
-        None => (Kind::Claim, None),
-    }
-}
-
 // Adds the bytes of a record, where there is one, and tells where they stand. It takes no memory.
 fn note(bytes: &mut Vec<u8>, noted: &Option<Record>) -> Span
     requires room { vec_len bytes.old + widest_record ≤ vec_capacity bytes.old }
@@ -119,6 +107,24 @@ fn note(bytes: &mut Vec<u8>, noted: &Option<Record>) -> Span
         at,
         len: text.len() as u8,
         is_there: true,
+    }
+}
+
+// Adds the bytes of what a change wrote, and tells where they stand, and what its entry tells of: of a claim nothing is
+// added. It takes no memory.
+fn note_written(bytes: &mut Vec<u8>, after: &Option<Option<Record>>) -> (Kind, Span)
+    requires room { vec_len bytes.old + widest_record ≤ vec_capacity bytes.old }
+    requires few { vec_len bytes.old < 2 ^ 32 }
+    ensures told { (lsn prev : ℕ) (tx : TxId) (key : List ℕ) (before : Option (List ℕ))
+        → told_as result.0 lsn prev tx key before (read bytes.new.items result.1) 0
+        ≡ change_record lsn prev tx key before after.now }
+    ensures within { IsWithin (length bytes.new.items) result.1 }
+    ensures grown { (more : List ℕ) × (bytes.new.items ≡ bytes.old.items ++ more)
+        × (length more ≤ widest_record) }
+{
+    match after {
+        Some(wrote) => (Kind::Update, note(bytes, wrote)),
+        None => (Kind::Claim, Span::none()),
     }
 }
 
@@ -254,19 +260,18 @@ impl Records {
         prev: u32,
         tx: TxId,
         key: Key,
-        before: Option<Record>,
-        after: Option<Option<Record>>,
+        before: &Option<Record>,
+        after: &Option<Option<Record>>,
     )
         requires few { length self.old.items < most_log_records }
         requires room { length self.old.items < self.old.room }
         requires free { 2 * widest_record ≤ self.old.free }
         ensures items { self.new.items
-            ≡ self.old.items ++ change_record lsn prev tx key before after ∷ [] }
+            ≡ self.old.items ++ change_record lsn prev tx key before.now after.now ∷ [] }
         ensures room { self.old.room ≤ self.new.room }
     {
-        let (kind, wrote) = told_by(after);
-        let before = note(&mut self.bytes, &before);
-        let after = note(&mut self.bytes, &wrote);
+        let before = note(&mut self.bytes, before);
+        let (kind, after) = note_written(&mut self.bytes, after);
         let _ = self.entries.push(Entry {
             kind,
             lsn,

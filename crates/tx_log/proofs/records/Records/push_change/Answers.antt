@@ -15,16 +15,16 @@ module _ (c : goal.After-push) where
   more = c.note-before.ensures.grown.0
 
   abbrev second : List ℕ
-  second = c.note-after.ensures.grown.0
+  second = c.note_written-kind.ensures.grown.0
 
   mid_is : c.note-before.new.bytes.items ≡ first ++ more
   mid_is = c.note-before.ensures.grown.1
 
-  last_is : c.note-after.new.bytes.items ≡ c.note-before.new.bytes.items ++ second
-  last_is = c.note-after.ensures.grown.1
+  last_is : c.note_written-kind.new.bytes.items ≡ c.note-before.new.bytes.items ++ second
+  last_is = c.note_written-kind.ensures.grown.1
 
   abbrev pushed : Entry
-  pushed = record { kind = c.told_by-kind.result.0; lsn = c.args.lsn; prev = c.args.prev; tx = c.args.tx; undo_next = 0; key = c.args.key; before = c.note-before.result; after = c.note-after.result }
+  pushed = record { kind = c.note_written-kind.result.0; lsn = c.args.lsn; prev = c.args.prev; tx = c.args.tx; undo_next = 0; key = c.args.key; before = c.note-before.result; after = c.note_written-kind.result.1 }
 
   many : length c.args.self.now.items ≡ vec_len c.self.inside.entries
   many = omega (arith, ap (λ (v : RecordsView). length v.items) c.self.view_is, length-map c.self.inside.entries.items (record_in first), c.self.inside.entries.ok.0)
@@ -36,37 +36,37 @@ module _ (c : goal.After-push) where
       let ok = c.push.ensures.succeeds (omega (arith, many, c.requires.room, room)) in
       c.push.ensures.items ∙ ap (λ (b : Bool). cond b (es ++ pushed ∷ []) es) ok
 
-  longer : length c.note-after.new.bytes.items ≡ length first + length more + length second
+  longer : length c.note_written-kind.new.bytes.items ≡ length first + length more + length second
   longer = ap length (last_is ∙ ap (λ xs. xs ++ second) mid_is) ∙ length-append (first ++ more) second ∙ ap (λ n. n + length second) (length-append first more)
 
-  within : (span : Entry → Span) → ((i : ℕ) (e : Entry) → slice_get c.self.inside.entries.items i ≡ Some e → IsWithin (vec_len c.self.inside.bytes) (span e)) → IsWithin (vec_len c.note-after.new.bytes) (span pushed)
-      → (i : ℕ) (e : Entry) → slice_get c.push.new.self.items i ≡ Some e → IsWithin (vec_len c.note-after.new.bytes) (span e)
+  within : (span : Entry → Span) → ((i : ℕ) (e : Entry) → slice_get c.self.inside.entries.items i ≡ Some e → IsWithin (vec_len c.self.inside.bytes) (span e)) → IsWithin (vec_len c.note_written-kind.new.bytes) (span pushed)
+      → (i : ℕ) (e : Entry) → slice_get c.push.new.self.items i ≡ Some e → IsWithin (vec_len c.note_written-kind.new.bytes) (span e)
   within span each last =
-      let grown : vec_len c.self.inside.bytes ≤ vec_len c.note-after.new.bytes = omega (arith, longer, c.self.inside.bytes.ok.0, c.note-after.new.bytes.ok.0) in
-      subst (λ (es : List Entry). (i : ℕ) (e : Entry) → slice_get es i ≡ Some e → IsWithin (vec_len c.note-after.new.bytes) (span e)) (sym entries_are)
-      (within-push (vec_len c.note-after.new.bytes) span c.self.inside.entries.items pushed (λ i e is. within-more (vec_len c.self.inside.bytes) (vec_len c.note-after.new.bytes) (span e) grown (each i e is)) last)
+      let grown : vec_len c.self.inside.bytes ≤ vec_len c.note_written-kind.new.bytes = omega (arith, longer, c.self.inside.bytes.ok.0, c.note_written-kind.new.bytes.ok.0) in
+      subst (λ (es : List Entry). (i : ℕ) (e : Entry) → slice_get es i ≡ Some e → IsWithin (vec_len c.note_written-kind.new.bytes) (span e)) (sym entries_are)
+      (within-push (vec_len c.note_written-kind.new.bytes) span c.self.inside.entries.items pushed (λ i e is. within-more (vec_len c.self.inside.bytes) (vec_len c.note_written-kind.new.bytes) (span e) grown (each i e is)) last)
 
 pub invariant_of-self : goal.invariant_of-self
 invariant_of-self c =
-    let last = length c.note-after.new.bytes.items in
-    let whole : length c.note-after.new.bytes.items ≡ vec_len c.note-after.new.bytes = omega (arith, c.note-after.new.bytes.ok.0) in
-    let before_in = within-more (length c.note-before.new.bytes.items) (vec_len c.note-after.new.bytes) c.note-before.result (omega (arith, ap length (last_is c), length-append c.note-before.new.bytes.items (second c), c.note-after.new.bytes.ok.0)) c.note-before.ensures.within in
-    let after_in = within-more last (vec_len c.note-after.new.bytes) c.note-after.result (omega (arith, whole)) c.note-after.ensures.within in
+    let last = length c.note_written-kind.new.bytes.items in
+    let whole : length c.note_written-kind.new.bytes.items ≡ vec_len c.note_written-kind.new.bytes = omega (arith, c.note_written-kind.new.bytes.ok.0) in
+    let before_in = within-more (length c.note-before.new.bytes.items) (vec_len c.note_written-kind.new.bytes) c.note-before.result (omega (arith, ap length (last_is c), length-append c.note-before.new.bytes.items (second c), c.note_written-kind.new.bytes.ok.0)) c.note-before.ensures.within in
+    let after_in = within-more last (vec_len c.note_written-kind.new.bytes) c.note_written-kind.result.1 (omega (arith, whole)) c.note_written-kind.ensures.within in
     record {
       before = within c (λ e. e.before) c.self.invariant.before before_in;
       after = within c (λ e. e.after) c.self.invariant.after after_in;
-      few = omega (arith, c.self.invariant.few, longer c, whole, c.self.inside.bytes.ok.0, c.note-before.ensures.grown.2, c.note-after.ensures.grown.2, ap length (entries_are c), length-append c.self.inside.entries.items (pushed c ∷ []), c.self.inside.entries.ok.0, c.push.new.self.ok.0);
+      few = omega (arith, c.self.invariant.few, longer c, whole, c.self.inside.bytes.ok.0, c.note-before.ensures.grown.2, c.note_written-kind.ensures.grown.2, ap length (entries_are c), length-append c.self.inside.entries.items (pushed c ∷ []), c.self.inside.entries.ok.0, c.push.new.self.ok.0);
     }
 
 pub returns-clause-items : goal.returns-clause-items
 returns-clause-items c =
     let l = c.self.inside in
     let xs = first c in
-    let all = c.note-after.new.bytes.items in
+    let all = c.note_written-kind.new.bytes.items in
     let rest = more c ++ second c in
     let all_is : all ≡ xs ++ rest = last_is c ∙ ap (λ ys. ys ++ second c) (mid_is c) ∙ append_assoc xs (more c) (second c) in
     let few : length xs ≡ vec_len l.bytes = omega (arith, l.bytes.ok.0) in
     let stay = ap (λ ys. map (record_in ys) l.entries.items) all_is ∙ records-more xs rest l.entries.items (subst (λ n. (i : ℕ) (e : Entry) → slice_get l.entries.items i ≡ Some e → IsWithin n e.before) (sym few) c.self.invariant.before) (subst (λ n. (i : ℕ) (e : Entry) → slice_get l.entries.items i ≡ Some e → IsWithin n e.after) (sym few) c.self.invariant.after) ∙ ap (λ (v : RecordsView). v.items) c.self.view_is in
     let before_read = ap (λ ys. read ys c.note-before.result) (last_is c) ∙ read-more c.note-before.new.bytes.items (second c) c.note-before.result c.note-before.ensures.within ∙ c.note-before.ensures.read in
-    let told = (λ i. told_as c.told_by-kind.result.0 c.args.lsn c.args.prev c.args.tx c.args.key (before_read i) (c.note-after.ensures.read i) 0) ∙ c.told_by-kind.ensures c.args.lsn c.args.prev c.args.tx c.args.key c.args.before in
+    let told = ap (λ o. told_as c.note_written-kind.result.0 c.args.lsn c.args.prev c.args.tx c.args.key o (read all c.note_written-kind.result.1) 0) before_read ∙ c.note_written-kind.ensures.told c.args.lsn c.args.prev c.args.tx c.args.key c.args.before.now in
     ap (map (record_in all)) (entries_are c) ∙ map-append (record_in all) l.entries.items (pushed c ∷ []) ∙ (λ i. stay i ++ told i ∷ [])
