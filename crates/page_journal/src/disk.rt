@@ -46,8 +46,9 @@ pub trait Disk: DiskState {
     /// Failed; there are at most n pages then.
     fn grow(&mut self, n: u32) -> Result<(), StoreFault>
         requires { length (Self.seen self.old).main.pages ≤ n }
-        ensures pages { OnOk result ((Self.seen self.new).main.pages ≡ (Self.seen self.old).main.pages
-            ++ blanks (n - length (Self.seen self.old).main.pages)) }
+        ensures pages { OnOk result ((Self.seen self.new).main.pages
+            ≡ (Self.seen self.old).main.pages ++ blanks
+            (n - length (Self.seen self.old).main.pages)) }
         ensures tail { OnOk result ((Self.seen self.new).main.tail ≡ 0) }
         ensures does { Does Self.DiskState (GrowsUpTo n) self.old self.new }
         ensures fault { CountsFault Self.DiskState self.old result self.new };

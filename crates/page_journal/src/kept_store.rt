@@ -290,7 +290,8 @@ impl<D: Disk + Drop> Store for KeptStore<D> {
     /// and where the disk failed; the page then has any bytes, and the other pages are unchanged.
     fn write(&mut self, n: u32, from: &[u8; PAGE_WIDTH]) -> Result<(), StoreFault>
         requires { n < length (D.seen self.old.disk).main.pages }
-        ensures page { IsTrue (D.steady self.old.disk) → OnOk result ((D.seen self.new.disk).main.pages
+        ensures page { IsTrue (D.steady self.old.disk) → OnOk result
+            ((D.seen self.new.disk).main.pages
             ≡ slice_set (D.seen self.old.disk).main.pages n from.now) }
         ensures other_pages { (page : List ℕ) × ((D.seen self.new.disk).main.pages
             ≡ slice_set (D.seen self.old.disk).main.pages n page) }
@@ -317,7 +318,8 @@ impl<D: Disk + Drop> Store for KeptStore<D> {
     /// pages are then unchanged, and there are at most n.
     fn set_pages(&mut self, n: u32) -> Result<(), StoreFault>
         requires { length (D.seen self.old.disk).main.pages ≤ n }
-        ensures pages { OnOk result ((D.seen self.new.disk).main.pages ≡ (D.seen self.old.disk).main.pages
+        ensures pages { OnOk result ((D.seen self.new.disk).main.pages
+            ≡ (D.seen self.old.disk).main.pages
             ++ blanks (n - length (D.seen self.old.disk).main.pages)) }
         ensures tail { OnOk result ((D.seen self.new.disk).main.tail ≡ 0) }
         ensures old_pages { OnErr result (GrowsTo n (D.seen self.old.disk).main.pages

@@ -98,6 +98,16 @@ fn closed_pages(rt: &impl Abort, alloc: Global) -> MemDisk<TwoPages> {
     ended(rt, close_pages(rt, alloc, opened(rt, alloc)))
 }
 
+/// The disk behind a closing that stopped after its first write, whose old file was put back at once.
+fn taken_back(rt: &impl Abort, alloc: Global) -> MemDisk<TwoPages> {
+    let mut store = opened(rt, alloc);
+    store.seal(&[0, 1]).expect(rt, "not sealed");
+    put(&mut store, 0, 5).expect(rt, "not written");
+    let (disk, answer) = store.take_back();
+    answer.expect(rt, "not taken back");
+    disk
+}
+
 /// The parts that the device keeps one by one.
 #[derive(Clone, Copy, PartialEq, Eq)]
 enum Part {
@@ -356,4 +366,6 @@ fn closing_is_stopped(rt: HostRuntime) {
     expect_found(&rt, alloc, &closed(&rt, alloc), &[7, 8, 9], wanted);
     let wanted = "69 old, 2 new, 0 neither, 0 changed; 51618 old, 4 new, 0 neither, 0 changed; ";
     expect_found(&rt, alloc, &closed_pages(&rt, alloc), &[7, 8], wanted);
+    let wanted = "170 old, 0 new, 0 neither, 0 changed; 247840 old, 0 new, 0 neither, 0 changed; ";
+    expect_found(&rt, alloc, &taken_back(&rt, alloc), &[], wanted);
 }
