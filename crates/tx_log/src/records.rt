@@ -74,6 +74,56 @@ impl Kind {
     }
 }
 
+impl Entry {
+    // The log record that it stands for, with these records.
+    fn told(&self, before: Option<Record>, after: Option<Record>) -> LogRecord
+        ensures { result ≡ told_as self.now.kind self.now.lsn self.now.prev self.now.tx
+            self.now.key before after self.now.undo_next }
+    {
+        let Entry {
+            kind,
+            lsn,
+            prev,
+            tx,
+            undo_next,
+            key,
+            ..
+        } = *self;
+        match kind {
+            Kind::Update => LogRecord::Update {
+                lsn,
+                prev,
+                tx,
+                key,
+                before,
+                after,
+            },
+            Kind::Compensation => LogRecord::Compensation {
+                lsn,
+                prev,
+                tx,
+                key,
+                restored: before,
+                undo_next,
+            },
+            Kind::Claim => LogRecord::Claim {
+                lsn,
+                prev,
+                tx,
+                key,
+                seen: before,
+            },
+            Kind::Unclaim => LogRecord::Unclaim {
+                lsn,
+                prev,
+                tx,
+                key,
+                undo_next,
+            },
+        }
+    }
+}
+
 impl Span {
     // No record.
     fn none() -> Span
@@ -163,48 +213,9 @@ impl Records {
         ensures { result ≡ slice_get self.now.items i }
     {
         let entry = self.entries.get(i)?;
-        let Entry {
-            kind,
-            lsn,
-            prev,
-            tx,
-            undo_next,
-            key,
-            ..
-        } = *entry;
         let before = record_at(&self.bytes, entry.before);
-        Some(match kind {
-            Kind::Update => LogRecord::Update {
-                lsn,
-                prev,
-                tx,
-                key,
-                before,
-                after: record_at(&self.bytes, entry.after),
-            },
-            Kind::Compensation => LogRecord::Compensation {
-                lsn,
-                prev,
-                tx,
-                key,
-                restored: before,
-                undo_next,
-            },
-            Kind::Claim => LogRecord::Claim {
-                lsn,
-                prev,
-                tx,
-                key,
-                seen: before,
-            },
-            Kind::Unclaim => LogRecord::Unclaim {
-                lsn,
-                prev,
-                tx,
-                key,
-                undo_next,
-            },
-        })
+        let after = record_at(&self.bytes, entry.after);
+        Some(entry.told(before, after))
     }
 
     /// The same as a change; a compensation as one that wrote what it restored.
