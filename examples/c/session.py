@@ -41,6 +41,24 @@ def text(shown):
     return bytes(shown.bytes[:shown.len]).decode()
 
 
+def read_page(descriptor, n):
+    """Page n, whole."""
+    page = b""
+    while len(page) < PAGE:
+        part = os.pread(descriptor, PAGE - len(page), n * PAGE + len(page))
+        if not part:
+            raise OSError(f"page {n} ends early")
+        page += part
+    return page
+
+
+def write_page(descriptor, n, page):
+    """Page n, whole."""
+    done = 0
+    while done < PAGE:
+        done += os.pwrite(descriptor, page[done:], n * PAGE + done)
+
+
 class File:
     """A handle. A call that does not answer as it should raises."""
 
@@ -136,7 +154,7 @@ class File:
             if step.kind == SET_PAGES:
                 os.ftruncate(descriptor, step.number * PAGE)
             elif step.kind == WRITE:
-                assert os.pwrite(descriptor, bytes(page), step.number * PAGE) == PAGE
+                write_page(descriptor, step.number, bytes(page))
             elif step.kind == SYNC:
                 os.fsync(descriptor)
         self.call("discard")
@@ -150,8 +168,11 @@ class File:
 
     def list_file(self, path):
         descriptor = os.open(path, os.O_RDWR)
-        for n in range(os.fstat(descriptor).st_size // PAGE):
-            self.call("page", os.pread(descriptor, PAGE, n * PAGE))
+        size = os.fstat(descriptor).st_size
+        if size % PAGE != 0:
+            raise ValueError(f"{path} has no whole number of pages")
+        for n in range(size // PAGE):
+            self.call("page", read_page(descriptor, n))
         self.call("open", u32(1000), u32(1000), u32(1000), ctypes.byref(self.detail))
         self.list()
         self.finish(descriptor)

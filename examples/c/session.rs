@@ -4,6 +4,7 @@
 //!     session --list FILE   opens FILE, lists its records, and closes it
 
 use std::fs::{File, OpenOptions};
+use std::io::{Error, ErrorKind};
 use std::os::unix::fs::FileExt;
 use std::ptr::null_mut;
 
@@ -251,7 +252,11 @@ impl Handle {
     fn list_file(&mut self, path: &str) -> std::io::Result<()> {
         let under = OpenOptions::new().read(true).write(true).open(path)?;
         let mut page = [0; 4096];
-        for n in 0..under.metadata()?.len() / PAGE {
+        let size = under.metadata()?.len();
+        if size % PAGE != 0 {
+            return Err(Error::new(ErrorKind::InvalidData, "the file has no whole number of pages"));
+        }
+        for n in 0..size / PAGE {
             under.read_exact_at(&mut page, n * PAGE)?;
             check(unsafe { recfile_page(self.file, &page) }, OK, "page");
         }
