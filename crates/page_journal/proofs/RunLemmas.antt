@@ -1,11 +1,11 @@
 -- Runs of calls over a settled file, and over a sealed one.
 use Rattle.std.proofs.Common.{◌≡◌, inl, ⊎_elim, ℕ, ◌≤◌, List, Some, None, is_some, sym, ◌∙◌, ap, subst}
 use Rattle.page_journal.specs.Files.{PageFile, Kept, Files, restored}
-use Rattle.page_journal.specs.Steps.{Does, Stays, TornAt, GrowsUpTo, CutsTo, Fresh, Names, Removes}
+use Rattle.page_journal.specs.Steps.{Does, Stays, TornAt, CutsTo, Fresh, Names, Removes}
 use Rattle.page_journal.specs.Crash.{LeavesOnly, IsSettled, IsSealed, StandsFor, IsEither, MayWrite, Gathered}
 use Rattle.page_journal.specs.declared.disk_state.DiskState.{Ghosts}
 use Rattle.page_journal.proofs.MomentLemmas.{started, goes_on, then_runs, weaker}
-use Rattle.page_journal.proofs.SealedLemmas.{settled_stays, settled_fresh, settled_stands, sealed_stays, sealed_write, sealed_grow, sealed_cut, sealed_stands, still, naming, named_stands, named_sealed, removed, removed_stands, removed_settled}
+use Rattle.page_journal.proofs.SealedLemmas.{settled_stays, settled_fresh, settled_stands, sealed_stays, sealed_write, sealed_cut, sealed_stands, still, naming, named_stands, named_sealed, removed, removed_stands, removed_settled}
 
 module _ {D : Type 0} (g : Ghosts D) where
   -- the file stayed as it was, with no side file, and each crash left it
@@ -76,9 +76,6 @@ module _ {D : Type 0} (g : Ghosts D) where
 
   pub holds_write : (kept : Kept) (base : List (List ℕ)) (n : ℕ) (old mid new : D) → Holds kept base old mid → MayWrite kept n → Does g (TornAt n) mid new → Holds kept base old new
   holds_write kept base n old mid new holds may does = holds_more _ kept base old mid new holds does (sealed_write g kept base n mid new holds.sealed may does)
-
-  pub holds_grow : (kept : Kept) (base : List (List ℕ)) (n : ℕ) (old mid new : D) → Holds kept base old mid → Does g (GrowsUpTo n) mid new → Holds kept base old new
-  holds_grow kept base n old mid new holds does = holds_more _ kept base old mid new holds does (sealed_grow g kept base n mid new holds.sealed does)
 
   pub holds_cut : (kept : Kept) (base : List (List ℕ)) (n : ℕ) (old mid new : D) → Holds kept base old mid → kept.long ≤ n → Does g (CutsTo n) mid new → Holds kept base old new
   holds_cut kept base n old mid new holds fits does = holds_more _ kept base old mid new holds does (sealed_cut g kept base n mid new holds.sealed fits does)

@@ -1,7 +1,7 @@
 -- Which calls leave a file that is settled or sealed so, and what its outcomes stand for.
 use Rattle.std.proofs.Common.{◌≡◌, ◌⊎◌, inl, inr, ⊎_elim, ℕ, ◌≤◌, true, false, List, length, Option, Some, None, is_some, refl, sym, ◌∙◌, ap, subst, arith}
 use Rattle.std.proofs.lemmas.Bool.{false≢true}
-use Rattle.page_journal.specs.Files.{PageFile, Kept, Files, restored, recovered, recovered_by, Agree}
+use Rattle.page_journal.specs.Files.{PageFile, Kept, Files, restored, recovered_by, Agree}
 use Rattle.page_journal.specs.Steps.{Does, Stays, TornAt, GrowsUpTo, CutsTo, Fresh, Names, Removes}
 use Rattle.page_journal.specs.Crash.{IsSettled, IsSealed, IsAtRest, StandsFor, IsEither, MayWrite, Gathered}
 use Rattle.page_journal.specs.declared.disk_state.DiskState.{Ghosts}
@@ -102,17 +102,6 @@ module _ {D : Type 0} (g : Ghosts D) where
         let was = rest c left in
         (was.1 ∙ side, subst (λ (m : PageFile). Agree kept (g.seen disk).main.pages m.pages) (sym was.0) (agree_itself kept (g.seen disk).main.pages long));
   }
-
-  pub rest_stands : (disk : D) → IsAtRest g disk → (c : Files) → g.may_leave disk c → StandsFor (recovered (g.seen disk)) c
-  rest_stands disk rest c left =
-      let was = rest c left in
-      ap (λ side. recovered_by side c.main) was.1 ∙ ap (recovered_by (g.seen disk).side) was.0
-
-  pub rest_stays : (old new : D) → IsAtRest g old → Stays g old new → IsAtRest g new
-  rest_stays old new rest does c left =
-      let from = does.crash c left in
-      let was = rest from.0 from.1 in
-      (ap (λ (f : Files). f.main) from.2 ∙ was.0 ∙ ap (λ (f : Files). f.main) (sym does.seen), ap (λ (f : Files). f.side) from.2 ∙ was.1 ∙ ap (λ (f : Files). f.side) (sym does.seen))
 
   -- a side file that the device keeps gets the name, or doesn't yet: where the file is the same, its side file is this or none
   pub naming : (main : PageFile) (mid new : D) → IsSettled g main mid → ((c : Files) → g.may_leave mid c → c.fresh ≡ (g.seen mid).fresh) → Does g Names mid new → (c : Files) → g.may_leave new c → (c.main ≡ main) × ((c.side ≡ None) ⊎ (c.side ≡ Some (g.seen mid).fresh))

@@ -351,7 +351,7 @@ impl<D: Disk + Drop> SealStore for KeptStore<D> {
     /// Keeps the pages of these numbers aside, once. Faults: Failed, where pages were kept or a sealing failed before,
     /// the store has a tail or more than 1,000,001 pages, or the disk failed; Memory.
     fn seal(&mut self, numbers: &[u32]) -> Result<(), StoreFault>
-        ensures leaves { LeavesStore ⟦<KeptStore<D> as StoreState>⟧ false
+        ensures leaves { LeavesStore ⟦<KeptStore<D> as StoreState>⟧ true
             self.old result self.new }
         ensures sealed { OnOk result ((self.new.state ≡ SealState.Sealed) × ((n : ℕ)
             → n < length (D.seen self.old.disk).main.pages
@@ -363,6 +363,7 @@ impl<D: Disk + Drop> SealStore for KeptStore<D> {
             ≡ counted (D.failures self.old.disk) (is_failed result) }
         ensures refused { OnOk result (CanBeSealed (D.seen self.old.disk).main) }
     {
+        self.reads = self.reads.saturating_add(1);
         let answer = self.keep_aside(numbers);
         noted(&mut self.failures, answer)
     }

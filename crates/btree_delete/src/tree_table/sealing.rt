@@ -1,4 +1,4 @@
-ghost use Rattle.std.specs.Prelude.{◌≡◌, false, IsOk};
+ghost use Rattle.std.specs.Prelude.{◌≡◌, false, IsOk, OnOk};
 ghost use Rattle.rec_types.specs.Table.{counted};
 ghost use Rattle.page_store.specs.WriteFaults.{by_device};
 
@@ -11,8 +11,13 @@ impl<S: SealStore> TreeTable<S> {
     /// be written over any more, and closing answers Device.
     pub fn seal(&mut self) -> Result<(), WriteFault>
         ensures same { self.new ≡ record self.old {
-          pages = record self.old.pages { failures = self.new.pages.failures };
+          pages = record self.old.pages {
+            reads = self.new.pages.reads;
+            failures = self.new.pages.failures;
+          };
         } }
+        ensures asked { OnOk result (self.new.pages.reads
+            ≡ counted self.old.pages.reads self.old.pages.changed) }
         ensures device { self.new.pages.failures
             ≡ counted self.old.pages.failures (by_device result) }
         ensures idle { self.old.pages.changed ≡ false → IsOk result }

@@ -1,4 +1,4 @@
-ghost use Rattle.std.specs.Prelude.{◌≡◌, ℕ, ◌==◌, ◌||◌, ◌≤◌, is_some, IfOk};
+ghost use Rattle.std.specs.Prelude.{◌≡◌, ℕ, ◌==◌, ◌||◌, ◌≤◌, true, is_some, IfOk, OnOk};
 ghost use Rattle.std.specs.List.{list_any};
 ghost use Rattle.rec_types.specs.Table.{counted};
 ghost use Rattle.page_store.specs.Overlaid.{slots_of};
@@ -40,7 +40,11 @@ impl<S: SealStore> Pages<S> {
     /// each changed page in use. No page changes, here or in the store. Faults: Device, where the store failed, as
     /// where it has a tail, Memory; the store may then not be written over any more.
     pub fn seal(&mut self) -> Result<(), WriteFault>
-        ensures same { self.new ≡ record self.old { failures = self.new.failures } }
+        ensures same { self.new ≡ record self.old {
+          reads = self.new.reads;
+          failures = self.new.failures;
+        } }
+        ensures asked { OnOk result (self.new.reads ≡ counted self.old.reads true) }
         ensures device { self.new.failures ≡ counted self.old.failures (by_device result) }
     {
         let Ok(numbers) = numbers_written(self.alloc, &self.changed, &self.free, self.count) else {
