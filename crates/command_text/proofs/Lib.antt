@@ -4,3 +4,4 @@ pub mod NumberLemmas
 pub mod EscapeLemmas
 pub mod EscapeLaws
 pub mod PlainLemmas
+pub mod RefusalLaws

@@ -1,4 +1,6 @@
--- Which refusal, or which stop, each fault of a call is.
+-- Which refusal, or which stop, each fault of a call is, and which replies are refusals.
+use Rattle.std.specs.Prelude.{ℕ, Bool, true, false, ◌||◌, ◌==◌, List, [], ◌∷◌}
+use Rattle.std.specs.Result.{is_err}
 use Rattle.tx_log.specs.declared.phase.BeginFault.{BeginFault}
 use Rattle.tx_log.specs.declared.phase.BeginFault.TheVariants as begin_faults
 use Rattle.record_file.specs.declared.fault.Cause.TheVariants as causes
@@ -28,6 +30,8 @@ use Rattle.record_file.specs.declared.fault.KeysOfFault.{KeysOfFault}
 use Rattle.record_file.specs.declared.fault.KeysOfFault.TheVariants as keys_faults
 use Rattle.command_text.specs.declared.refusal.Refusal.{Refusal}
 use Rattle.command_text.specs.declared.refusal.Refusal.TheVariants as refusals
+use Rattle.command_text.specs.declared.reply.Reply.{Reply}
+use Rattle.command_text.specs.declared.reply.Reply.TheVariants as reply
 
 abbrev pub begin_refusal : BeginFault → Refusal
 begin_refusal begin_faults.BeginsSpent = refusals.BeginsSpent
@@ -108,3 +112,26 @@ entries_refusal entries_faults.Memory = refusals.Failed causes.Memory
 abbrev pub keys_refusal : KeysOfFault → Refusal
 keys_refusal keys_faults.NoSuchTx = refusals.NoSuchTx
 keys_refusal keys_faults.Memory = refusals.Failed causes.Memory
+
+-- whether a reply says that a call was refused or stopped, or that a line can't be read
+abbrev pub is_refusal : Reply → Bool
+is_refusal (reply.Begin answer) = is_err answer
+is_refusal (reply.Put answer) = is_err answer
+is_refusal (reply.Claim answer) = is_err answer
+is_refusal (reply.Del answer) = is_err answer
+is_refusal (reply.Get answer) = is_err answer
+is_refusal (reply.Save answer) = is_err answer
+is_refusal (reply.Release answer) = is_err answer
+is_refusal (reply.Back answer) = is_err answer
+is_refusal (reply.Resume answer) = is_err answer
+is_refusal (reply.Abort answer) = is_err answer
+is_refusal (reply.Commit answer) = is_err answer
+is_refusal (reply.List answer) = is_err answer
+is_refusal (reply.Keys answer) = is_err answer
+is_refusal (reply.Log len used) = false
+is_refusal (reply.Bad fault) = true
+
+-- whether a text begins as `no`, `bad` and `stopped` do, and not as `ok` and the `-` of a list
+abbrev pub begins_refused : List ℕ → Bool
+begins_refused [] = false
+begins_refused (b ∷ bs) = b == 110 || b == 98 || b == 115

@@ -1,5 +1,5 @@
 //! What holds of lines and texts. The functions do nothing: their contracts are the laws.
-ghost use Rattle.std.specs.Prelude.{◌≡◌, ◌≢◌, ℕ, ◌<◌, true, List, [], ◌∷◌, ◌++◌, length, nat_lt, if◌then◌else◌, Some, None, Ok, Err, codes};
+ghost use Rattle.std.specs.Prelude.{◌≡◌, ◌≢◌, ℕ, ◌<◌, true, false, List, [], ◌∷◌, ◌++◌, length, nat_lt, if◌then◌else◌, Some, None, Ok, Err, codes};
 ghost use Rattle.std.specs.List.{All, list_all};
 ghost use Rattle.rec_types.specs.Widths.{key_width};
 ghost use Rattle.percent_encoding.specs.Percent.{percent_decode};
@@ -7,11 +7,13 @@ ghost use Rattle.record_file.specs.declared.fault.Cause.TheVariants as causes;
 ghost use Rattle.record_file.specs.declared.fault.PutFault.TheVariants as put_faults;
 ghost use Rattle.record_file.specs.declared.fault.RollbackToFault.TheVariants as rollback_faults;
 ghost use Rattle.command_text.specs.Examples.{tx, owned, free};
+ghost use Rattle.command_text.specs.Refusals.{begins_refused, is_refusal};
 ghost use Rattle.command_text.specs.Grammar.{is_word, words_of, key_at, line_of};
 ghost use Rattle.command_text.specs.Script.{lines_of, entries_of};
 ghost use Rattle.command_text.specs.Texts.{escaped, is_plain, text_of, texts_of};
 ghost use Rattle.command_text.specs.declared.command.Command.TheVariants as command;
 ghost use Rattle.command_text.specs.declared.command.LineFault.TheVariants as faults;
+ghost use Rattle.command_text.specs.declared.reply.Reply.{Reply};
 ghost use Rattle.command_text.specs.declared.reply.Reply.TheVariants as reply;
 
 /// The lines of a script by example: cut at each LF, and nothing after the last one is no line.
@@ -75,4 +77,13 @@ pub fn replies_by_example()
         ≡ codes "ok 4 8" ++ 10 ∷ codes "bad WordCount" ++ 10 ∷ [] }
     ensures run_in_order { texts_of (reply.Log 4 8 ∷ reply.Bad faults.WordCount ∷ [])
         ≢ texts_of (reply.Bad faults.WordCount ∷ reply.Log 4 8 ∷ []) }
+{}
+
+/// A reply is a refusal exactly where its text begins as `no`, `bad` or `stopped` does. By example: a key without a
+/// record is no refusal, and a line that can't be read is one.
+pub fn refusals_by_text()
+    ensures begins { (r : Reply) → begins_refused (text_of r) ≡ is_refusal r }
+    ensures absent { is_refusal (reply.Get (Ok None)) ≡ false }
+    ensures held { is_refusal (reply.Put (Err (put_faults.Held (tx 3)))) ≡ true }
+    ensures unread { is_refusal (reply.Bad faults.WordCount) ≡ true }
 {}

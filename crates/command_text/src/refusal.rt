@@ -3,8 +3,8 @@ ghost use Rattle.command_text.specs.Refusals.{begin_refusal, put_refusal, claim_
 
 use rec_types::TxId;
 use record_file::{
-    AbortFault, BeginFault, Cause, ClaimFault, CommitFault, EntriesFault, GetFault, KeysOfFault, PutFault,
-    ReleaseFault, RemoveFault, ResumeFault, RollbackToFault, SavepointFault,
+    AbortFault, BeginFault, Cause, ClaimFault, CommitFault, EntriesFault, GetFault, KeysOfFault,
+    PutFault, ReleaseFault, RemoveFault, ResumeFault, RollbackToFault, SavepointFault,
 };
 
 /// Why a call did nothing, or how far a rollback came that was stopped.

@@ -1,6 +1,7 @@
 ghost use Rattle.std.specs.Prelude.{◌≡◌, ◌++◌, IfOk, OnOk};
 ghost use Rattle.std.specs.List.{flat_map};
 ghost use Rattle.std.specs.String.{string_bytes};
+ghost use Rattle.command_text.specs.Refusals.{is_refusal};
 ghost use Rattle.command_text.specs.Texts.{escaped, cause_text, refusal_text, fault_text, number_text, record_text, old_text, owner_text, entry_line, key_line, entries_text, keys_text, reply_text, text_of};
 
 use crate::refusal::Refusal;
@@ -8,8 +9,8 @@ use crate::{EntryList, KeyList, LineFault};
 use percent_encoding::{AsciiSet, CONTROLS, ascii_set, percent_encode};
 use rec_types::{Entry, Key, Memory, Record, TxId};
 use record_file::{
-    AbortFault, BeginFault, Cause, ClaimFault, CommitFault, EntriesFault, GetFault, KeysOfFault, PutFault,
-    ReleaseFault, RemoveFault, ResumeFault, RollbackToFault, SavepointFault,
+    AbortFault, BeginFault, Cause, ClaimFault, CommitFault, EntriesFault, GetFault, KeysOfFault,
+    PutFault, ReleaseFault, RemoveFault, ResumeFault, RollbackToFault, SavepointFault,
 };
 use std::alloc::{AllocError, Global};
 
@@ -31,6 +32,31 @@ pub enum Reply {
     Keys(Result<KeyList, KeysOfFault>),
     Log(u32, u32),
     Bad(LineFault),
+}
+
+impl Reply {
+    /// Whether the call was refused or stopped, or the line can't be read.
+    pub fn is_refusal(&self) -> bool
+        ensures { result ≡ is_refusal self.now }
+    {
+        match self {
+            Reply::Begin(answer) => answer.is_err(),
+            Reply::Put(answer) => answer.is_err(),
+            Reply::Claim(answer) => answer.is_err(),
+            Reply::Del(answer) => answer.is_err(),
+            Reply::Get(answer) => answer.is_err(),
+            Reply::Save(answer) => answer.is_err(),
+            Reply::Release(answer) => answer.is_err(),
+            Reply::Back(answer) => answer.is_err(),
+            Reply::Resume(answer) => answer.is_err(),
+            Reply::Abort(answer) => answer.is_err(),
+            Reply::Commit(answer) => answer.is_err(),
+            Reply::List(answer) => answer.is_err(),
+            Reply::Keys(answer) => answer.is_err(),
+            Reply::Log(..) => false,
+            Reply::Bad(_) => true,
+        }
+    }
 }
 
 const ESCAPED: AsciiSet = ascii_set!(CONTROLS.add(b' ').add(b'%'));

@@ -5,3 +5,4 @@ pub mod OneEndingLemmas
 pub mod ScriptRunLemmas
 pub mod CallRunLemmas
 pub mod WholeAbortLemmas
+pub mod ScriptAnswerLemmas

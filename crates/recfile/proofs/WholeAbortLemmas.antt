@@ -1,5 +1,5 @@
 -- Each rollback that ends its transaction goes back to the beginning, from call to call.
-use Rattle.std.proofs.Common.{◌≡◌, ℕ, ◌+◌, zero, Bool, true, false, cond, if◌then◌else◌, List, [], ◌∷◌, Option, Some, None, Result, Ok, Err, MatchResult, inl, inr, refl, sym, ap, subst, ◌∙◌}
+use Rattle.std.proofs.Common.{◌≡◌, ℕ, ◌+◌, zero, Bool, true, false, cond, if◌then◌else◌, List, [], ◌∷◌, Option, Some, None, Result, Ok, Err, inl, inr, refl, sym, ap, subst, ◌∙◌}
 use Rattle.std.specs.FinMap as maps
 use Rattle.std.specs.FinMap.{get, get-empty}
 use Rattle.std.specs.Ordering.{nat_cmp}
@@ -16,10 +16,11 @@ use Rattle.record_file.specs.declared.fault.ResumeFault.TheVariants as resume_fa
 use Rattle.record_file.proofs.OpenTxLemmas.{same_tx, get-insert_tx, get-remove_tx}
 use Rattle.command_text.specs.declared.command.Command.{Command}
 use Rattle.command_text.specs.declared.reply.Reply.{Reply}
-use Rattle.command_text.specs.Grammar.{Read}
-use Rattle.command_text.specs.Script.{entries_of}
-use Rattle.recfile.specs.declared.script.ScriptFault.{ScriptFault}
-use Rattle.recfile.specs.Run.{Session, Finished, Faulted}
+use Rattle.command_text.specs.Grammar.{Read, line_of}
+use Rattle.command_text.specs.Script.{entries_in, entries_of}
+use Rattle.recfile.specs.declared.script.RunFault.{RunFault}
+use Rattle.recfile.specs.declared.script.RunFault.TheVariants.{Script, Refused}
+use Rattle.recfile.specs.Run.{LineHasReply, Session, Ran}
 use Rattle.recfile.specs.Ending.{EndsAtBeginning, IsWholeTx, AbortsWhole}
 
 -- where no transaction is open each aborts whole
@@ -113,11 +114,20 @@ whole_session old new [] (answer ∷ replies) ran whole = absurd ran
 whole_session old new (entry ∷ entries) [] ran whole = absurd ran
 whole_session old new (entry ∷ entries) (answer ∷ replies) ran whole = whole_session ran.0 new entries replies ran.2 (whole_run old ran.0 ran.1.events ran.1.ran whole)
 
--- so it is after a script
-pub whole_script : (answer : Result ℕ ScriptFault) (left leaves held holds : Option (List ℕ)) (old new : Seen) → MatchResult answer (Finished left leaves held holds old new) (Faulted left leaves held holds old new) → AbortsWhole old.file.txs → AbortsWhole new.file.txs
-whole_script (Ok done) left leaves held holds old new finished whole = whole_session old new (entries_of finished.0) finished.1 finished.3 whole
-whole_script (Err fault) left leaves held holds old new (inl unread) whole = same_seen old new unread.1 whole
-whole_script (Err fault) left leaves held holds old new (inr stopped) whole = whole_session old new stopped.2.served.front _ stopped.2.served.ran whole
+-- so it is after a line
+whole_line : (old new : Seen) (line : Read (Option Command)) (answer : Reply) → LineHasReply old line answer new → AbortsWhole old.file.txs → AbortsWhole new.file.txs
+whole_line old new (Ok None) answer step whole = absurd step
+whole_line old new (Ok (Some c)) answer step whole = whole_run old new step.events step.ran whole
+whole_line old new (Err fault) answer step whole = whole_run old new step.events step.ran whole
+
+-- and after a script
+pub whole_script : (strict : Bool) (answer : Result ℕ RunFault) (left leaves held holds : Option (List ℕ)) (old new : Seen) → Ran strict left leaves held holds old new answer → AbortsWhole old.file.txs → AbortsWhole new.file.txs
+whole_script strict (Ok done) left leaves held holds old new ran whole = whole_session old new (entries_of ran.0.0) ran.0.1 ran.0.3 whole
+whole_script strict (Err fault) left leaves held holds old new (inl unread) whole = same_seen old new unread.1 whole
+whole_script strict (Err (Script fault)) left leaves held holds old new (inr stopped) whole = whole_session old new stopped.2.0.served.front _ stopped.2.0.served.ran whole
+whole_script strict (Err (Refused line)) left leaves held holds old new (inr stopped) whole =
+    let refused = stopped.2.1 in
+    whole_line refused.mid new (line_of refused.line) refused.last refused.reply (whole_session old refused.mid (entries_in refused.before) refused.replies refused.ran whole)
 
 -- a table stays sound
 sound_run : (old new : Seen) (events : List Event) → Run old events new → new.sound ≡ old.sound
@@ -130,8 +140,16 @@ sound_session old new [] (answer ∷ replies) ran = absurd ran
 sound_session old new (entry ∷ entries) [] ran = absurd ran
 sound_session old new (entry ∷ entries) (answer ∷ replies) ran = sound_session ran.0 new entries replies ran.2 ∙ sound_run old ran.0 ran.1.events ran.1.ran
 
+sound_line : (old new : Seen) (line : Read (Option Command)) (answer : Reply) → LineHasReply old line answer new → new.sound ≡ old.sound
+sound_line old new (Ok None) answer step = absurd step
+sound_line old new (Ok (Some c)) answer step = sound_run old new step.events step.ran
+sound_line old new (Err fault) answer step = sound_run old new step.events step.ran
+
 -- so it is over a script
-pub sound_script : (answer : Result ℕ ScriptFault) (left leaves held holds : Option (List ℕ)) (old new : Seen) → MatchResult answer (Finished left leaves held holds old new) (Faulted left leaves held holds old new) → new.sound ≡ old.sound
-sound_script (Ok done) left leaves held holds old new finished = sound_session old new (entries_of finished.0) finished.1 finished.3
-sound_script (Err fault) left leaves held holds old new (inl unread) = ap (λ (s : Seen). s.sound) unread.1
-sound_script (Err fault) left leaves held holds old new (inr stopped) = sound_session old new stopped.2.served.front _ stopped.2.served.ran
+pub sound_script : (strict : Bool) (answer : Result ℕ RunFault) (left leaves held holds : Option (List ℕ)) (old new : Seen) → Ran strict left leaves held holds old new answer → new.sound ≡ old.sound
+sound_script strict (Ok done) left leaves held holds old new ran = sound_session old new (entries_of ran.0.0) ran.0.1 ran.0.3
+sound_script strict (Err fault) left leaves held holds old new (inl unread) = ap (λ (s : Seen). s.sound) unread.1
+sound_script strict (Err (Script fault)) left leaves held holds old new (inr stopped) = sound_session old new stopped.2.0.served.front _ stopped.2.0.served.ran
+sound_script strict (Err (Refused line)) left leaves held holds old new (inr stopped) =
+    let refused = stopped.2.1 in
+    sound_line refused.mid new (line_of refused.line) refused.last refused.reply ∙ sound_session old refused.mid (entries_in refused.before) refused.replies refused.ran

@@ -1,17 +1,20 @@
 -- The run of a script over a file: each line that says something has one reply.
-use Rattle.std.specs.Prelude.{◌≡◌, ℕ, ◌<◌, Bool, true, false, List, [], ◌∷◌, ◌++◌, length, filter, map, take, Option, Some, None, Ok, Err, ◌⊎◌}
-use Rattle.std.specs.List.{flat_map}
+use Rattle.std.specs.Prelude.{◌≡◌, ℕ, ◌+◌, ◌<◌, Bool, true, false, List, [], ◌∷◌, ◌++◌, length, filter, map, take, Option, Some, None, Result, Ok, Err, ◌⊎◌, IsTrue}
+use Rattle.std.specs.List.{All, flat_map}
 use Rattle.std.specs.Io.KnownBytes.{Appends}
 use Rattle.record_file.specs.Runs.{Called, Event, Seen, Run, Begin, Put, Claim, Remove, Get, Savepoint, Release, RollbackTo, Abort, Resume, Commit, Entries, KeysOf, LogLen, LogUse}
 use Rattle.command_text.specs.declared.command.Command.{Command}
 use Rattle.command_text.specs.declared.command.Command.TheVariants as command
 use Rattle.command_text.specs.declared.reply.Reply.{Reply}
 use Rattle.command_text.specs.declared.reply.Reply.TheVariants as reply
-use Rattle.command_text.specs.Grammar.{Read}
-use Rattle.command_text.specs.Script.{entries_of}
+use Rattle.command_text.specs.Grammar.{Read, line_of}
+use Rattle.command_text.specs.Refusals.{is_refusal}
+use Rattle.command_text.specs.Script.{lines_of, entries_in, entries_of}
 use Rattle.command_text.specs.Texts.{text_of}
 use Rattle.recfile.specs.declared.script.ScriptFault.{ScriptFault}
 use Rattle.recfile.specs.declared.script.ScriptFault.TheVariants as faults
+use Rattle.recfile.specs.declared.script.RunFault.{RunFault}
+use Rattle.recfile.specs.declared.script.RunFault.TheVariants.{Script, Refused}
 use Rattle.recfile.specs.Whole.{IsWhole, IsTooLong, TakesAtMost, longest_script}
 
 -- The calls that the reply to a command tells of. A line that can't be read makes no call, and no other reply is given.
@@ -120,3 +123,54 @@ ReadStops left leaves (faults.Memory done) = done ≡ 0
 abbrev pub Faulted : Option (List ℕ) → Option (List ℕ) → Option (List ℕ) → Option (List ℕ) → Seen → Seen → ScriptFault → Type 0
 Faulted left leaves held holds old new fault =
     (ReadStops left leaves fault × (new ≡ old) × (holds ≡ held)) ⊎ ((script : List ℕ) × IsWhole left leaves script × ScriptStopsAt held holds old new script fault)
+
+-- where a refusal ends the script, none of these replies is one
+abbrev pub AcceptedIf : Bool → List Reply → Type 0
+AcceptedIf strict replies = IsTrue strict → All (λ r. is_refusal r ≡ false) replies
+
+-- The lines before a line were run, without a refusal, and then that line, whose reply is one: it is written, with those
+-- before it, and no line after it was run. Lines are counted from 1, with those that say nothing.
+pub record RefusedAt (held holds : Option (List ℕ)) (old new : Seen) (script : List ℕ) (number : ℕ) : Type 0 where
+  pub before : List (List ℕ)
+  pub line : List ℕ
+  pub after : List (List ℕ)
+  pub split : lines_of script ≡ before ++ line ∷ after
+  pub place : number ≡ length before + 1
+  pub replies : List Reply
+  pub mid : Seen
+  pub ran : Session old (entries_in before) replies mid
+  pub accepted : All (λ r. is_refusal r ≡ false) replies
+  pub last : Reply
+  pub reply : LineHasReply mid (line_of line) last new
+  pub refused : is_refusal last ≡ true
+  pub written : Appends held holds (flat_map text_of (replies ++ last ∷ []))
+
+-- Why the lines of a script weren't run to their end: a reply couldn't be made or written, or a refusal ended the script.
+abbrev pub LinesStop : Bool → Option (List ℕ) → Option (List ℕ) → Seen → Seen → List ℕ → RunFault → Type 0
+LinesStop strict held holds old new script (Script fault) =
+    (stop : ScriptStopsAt held holds old new script fault) × AcceptedIf strict stop.replies
+LinesStop strict held holds old new script (Refused line) = IsTrue strict × RefusedAt held holds old new script line
+
+-- the fault of a script that wasn't read
+abbrev pub RunReadStops : Option (List ℕ) → Option (List ℕ) → RunFault → Type 0
+RunReadStops left leaves (Script fault) = ReadStops left leaves fault
+RunReadStops left leaves (Refused line) = ⊥
+
+-- What became of a script, where refusals end it, or don't: it was run to its end; it wasn't read, and nothing was run;
+-- or its lines were run up to one.
+abbrev pub Ran : Bool → Option (List ℕ) → Option (List ℕ) → Option (List ℕ) → Option (List ℕ) → Seen → Seen → Result ℕ RunFault → Type 0
+Ran strict left leaves held holds old new (Ok done) =
+    (run : Finished left leaves held holds old new done) × AcceptedIf strict run.1
+Ran strict left leaves held holds old new (Err fault) =
+    (RunReadStops left leaves fault × (new ≡ old) × (holds ≡ held)) ⊎ ((script : List ℕ) × IsWhole left leaves script × LinesStop strict held holds old new script fault)
+
+-- no refusal ended the script
+abbrev pub NotRefused : Result ℕ RunFault → Type 0
+NotRefused (Ok done) = Unit {0}
+NotRefused (Err (Script fault)) = Unit {0}
+NotRefused (Err (Refused line)) = ⊥
+
+-- the answer of a script that no refusal ends, among those of a script that one may end
+abbrev pub run_of : Result ℕ ScriptFault → Result ℕ RunFault
+run_of (Ok done) = Ok done
+run_of (Err fault) = Err (Script fault)

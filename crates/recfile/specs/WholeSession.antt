@@ -1,5 +1,5 @@
 -- A script over a file, and the end of what it leaves open.
-use Rattle.std.specs.Prelude.{◌≡◌, ℕ, true, List, [], Option, Result, MatchResult, OnOk, IsTrue, if◌then◌else◌}
+use Rattle.std.specs.Prelude.{◌≡◌, ℕ, Bool, true, List, [], Option, Result, MatchResult, OnOk, IsTrue, if◌then◌else◌}
 use Rattle.std.specs.Result.{is_err}
 use Rattle.rec_types.specs.Contents.{Contents}
 use Rattle.rec_types.specs.History.{replay}
@@ -8,16 +8,15 @@ use Rattle.rec_types.specs.Table.{no_damage}
 use Rattle.record_file.specs.Abstract.{new_file, open_of}
 use Rattle.record_file.specs.Runs.{Seen}
 use Rattle.recfile.specs.Ending.{AbortsWhole, Asks, EndsAll, StopsEnding, end_cause, rest_of}
-use Rattle.recfile.specs.Run.{Finished, Faulted}
+use Rattle.recfile.specs.Run.{Ran}
 use Rattle.recfile.specs.declared.endings.EndFault.{EndFault}
-use Rattle.recfile.specs.declared.script.ScriptFault.{ScriptFault}
+use Rattle.recfile.specs.declared.script.RunFault.{RunFault}
 
--- The script leads from a file to mid, with its answer; then every open transaction is ended, or one
+-- The script, which a refusal ends or doesn't, leads from a file to mid, with its answer; then every open transaction is ended, or one
 -- was stopped. Where all are, the records are what the changes of the others leave.
-pub record IsSession (left leaves held holds : Option (List ℕ)) (old mid : Seen)
-    (answer : Result ℕ ScriptFault) (ended : Result ℕ EndFault) (new : Seen) : Type 0 where
-  pub script : MatchResult answer (Finished left leaves held holds old mid)
-      (Faulted left leaves held holds old mid)
+pub record IsSession (strict : Bool) (left leaves held holds : Option (List ℕ)) (old mid : Seen)
+    (answer : Result ℕ RunFault) (ended : Result ℕ EndFault) (new : Seen) : Type 0 where
+  pub script : Ran strict left leaves held holds old mid answer
   pub ending : MatchResult ended (λ count. EndsAll mid.file count new.file)
       (λ fault. StopsEnding mid.file fault new.file)
   pub asks : Asks mid (end_cause ended) new
@@ -37,14 +36,14 @@ opened_file contents limits failures = record {
 }
 
 -- A session that began with a file of sound records. Where a transaction couldn't be ended the status is 4; else the
--- file closes, by what that means, with the records that are left, and a status of 3 where the script had a fault.
-pub record EndsFile (left leaves held holds : Option (List ℕ)) (old : Seen)
+-- file closes, by what that means, with the records that are left, and a status of 3 where the script had a fault or a refusal ended it.
+pub record EndsFile (strict : Bool) (left leaves held holds : Option (List ℕ)) (old : Seen)
     (Closes : Contents → ℕ → Type 0) (status : ℕ) : Type 0 where
-  pub answer : Result ℕ ScriptFault
+  pub answer : Result ℕ RunFault
   pub ended : Result ℕ EndFault
   pub mid : Seen
   pub new : Seen
-  pub session : IsSession left leaves held holds old mid answer ended new
+  pub session : IsSession strict left leaves held holds old mid answer ended new
   pub whole : AbortsWhole mid.file.txs
   pub sound : IsTrue mid.sound
   pub ending : MatchResult ended (λ _. Closes new.records (if is_err answer then 3 else 0)) (λ _. status ≡ 4)

@@ -1,5 +1,5 @@
 //! Facts of the definitions that contracts of this crate cite.
-ghost use Rattle.std.specs.Prelude.{◌≡◌, ℕ, List, [], ◌∷◌, Option, Some, None, Result, Ok, IsTrue, true, false};
+ghost use Rattle.std.specs.Prelude.{◌≡◌, ℕ, Bool, List, [], ◌∷◌, Option, Some, None, Result, Ok, IsTrue, true, false};
 ghost use Rattle.std.specs.FinMap as maps;
 ghost use Rattle.rec_types.specs.Contents.{Contents};
 ghost use Rattle.rec_types.specs.LimitBounds.{Bounds};
@@ -9,7 +9,7 @@ ghost use Rattle.recfile.specs.Ending.{AbortsWhole, EndsAll, without};
 ghost use Rattle.recfile.specs.Examples.{four_changes, two_taken_back};
 ghost use Rattle.recfile.specs.WholeSession.{EndsFile, IsSession};
 ghost use Rattle.recfile.specs.declared.endings.EndFault.{EndFault};
-ghost use Rattle.recfile.specs.declared.script.ScriptFault.{ScriptFault};
+ghost use Rattle.recfile.specs.declared.script.RunFault.{RunFault};
 
 /// Ending takes back the live changes of open transactions and no others; it is no commit.
 pub fn endings_by_example()
@@ -31,18 +31,18 @@ pub fn aborts_are_whole()
 /// After a session no transaction is open; the records have the changes of those that had ended before, and none of
 /// those that were open. Where nothing would close the file, a transaction wasn't ended, and the status says so.
 pub fn sessions_by_example()
-    ensures open { (left leaves held holds : Option (List ℕ)) (old mid new : Seen)
-        (answer : Result ℕ ScriptFault) (ended t : ℕ)
-        → IsSession left leaves held holds old mid answer (Ok ended) new
+    ensures open { (strict : Bool) (left leaves held holds : Option (List ℕ)) (old mid new : Seen)
+        (answer : Result ℕ RunFault) (ended t : ℕ)
+        → IsSession strict left leaves held holds old mid answer (Ok ended) new
         → open_of new.file t ≡ false }
-    ensures gone { (left leaves held holds : Option (List ℕ)) (old mid new : Seen)
-        (answer : Result ℕ ScriptFault) (ended : ℕ)
-        → IsSession left leaves held holds old mid answer (Ok ended) new → IsTrue mid.sound
+    ensures gone { (strict : Bool) (left leaves held holds : Option (List ℕ)) (old mid new : Seen)
+        (answer : Result ℕ RunFault) (ended : ℕ)
+        → IsSession strict left leaves held holds old mid answer (Ok ended) new → IsTrue mid.sound
         → AbortsWhole mid.file.txs → mid.file.opening ≡ maps.empty
         → mid.file.history ≡ four_changes → open_of mid.file 1 ≡ true
         → open_of mid.file 2 ≡ false → open_of mid.file 3 ≡ true
         → (maps.get new.records (97 ∷ []) ≡ None)
         × (maps.get new.records (98 ∷ []) ≡ Some (121 ∷ [])) }
-    ensures unclosed { (left leaves held holds : Option (List ℕ)) (old : Seen) (status : ℕ)
-        → EndsFile left leaves held holds old (λ _ _. ⊥) status → status ≡ 4 }
+    ensures unclosed { (strict : Bool) (left leaves held holds : Option (List ℕ)) (old : Seen) (status : ℕ)
+        → EndsFile strict left leaves held holds old (λ _ _. ⊥) status → status ≡ 4 }
 {}

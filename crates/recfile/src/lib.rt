@@ -21,6 +21,6 @@ pub use file_fault::FileFault;
 pub use page_file::{FileEnd, check_in, create_in, run_in};
 pub use program::run_words;
 pub use reads::Reads;
-pub use script::{ScriptFault, run_script, run_script_counted};
+pub use script::{RunFault, ScriptFault, run_script, run_script_as, run_script_counted};
 pub use session::{SessionEnd, run_memory, run_session};
 pub use statuses::exit_status;

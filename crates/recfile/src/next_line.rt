@@ -1,6 +1,5 @@
-ghost use Rattle.std.specs.Prelude.{◌≡◌, ◌<◌, length, position};
-ghost use Rattle.command_text.specs.Grammar.{line_of};
-ghost use Rattle.command_text.specs.Script.{is_lf, keep, entries_of};
+ghost use Rattle.std.specs.Prelude.{◌≡◌, ◌∷◌, ◌<◌, length, position};
+ghost use Rattle.command_text.specs.Script.{is_lf, lines_of};
 
 // The first LF.
 fn first_lf(text: &[u8]) -> Option<usize>
@@ -12,7 +11,7 @@ fn first_lf(text: &[u8]) -> Option<usize>
 /// The first line of a text, without the LF that ends it, and the text after it.
 pub fn next_line(text: &[u8]) -> (&[u8], &[u8])
     requires { 0 < length text.now }
-    ensures cut { entries_of text.now ≡ keep (line_of result.0.now) (entries_of result.1.now) }
+    ensures cut { lines_of text.now ≡ result.0.now ∷ lines_of result.1.now }
     ensures shorter { length result.1.now < length text.now }
 {
     match first_lf(text) {

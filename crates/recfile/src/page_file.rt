@@ -119,6 +119,7 @@ fn run_opened<S: Store, R: Read, W: Write, E: Write>(
     alloc: Global,
     table: TreeTable<S>,
     limits: Limits,
+    strict: bool,
     reader: &mut R,
     out: &mut W,
     err: &mut E,
@@ -126,7 +127,7 @@ fn run_opened<S: Store, R: Read, W: Write, E: Write>(
     requires limit { table.limit ≡ limits.records }
     ensures opened { result.unopened ≡ None }
     ensures session { IsTrue table.pages.steady → table.refusals ≡ 0 → table.damages ≡ no_damage
-        → EndsFile (R.remaining reader.old) (R.remaining reader.new)
+        → EndsFile strict (R.remaining reader.old) (R.remaining reader.new)
         (W.contents out.old) (W.contents out.new)
         (opened_file (table_contents table) limits table.pages.failures)
         (λ records good. MatchOption result.store (result.status ≡ 1)
@@ -135,7 +136,7 @@ fn run_opened<S: Store, R: Read, W: Write, E: Write>(
         × (result.status ≡ good))) result.status }
 {
     let mut file = RecordFile::new(alloc, table, limits);
-    let end = run_session(alloc, &mut file, reader, out, err);
+    let end = run_session(alloc, strict, &mut file, reader, out, err);
     let script_fault = end.script.is_err();
     match end.ended {
         Ok(_) => close_file(file, script_fault, err),
@@ -147,13 +148,14 @@ fn run_opened<S: Store, R: Read, W: Write, E: Write>(
     }
 }
 
-/// Runs a session over a page file, and closes the file. A fault of the file has a line on `err` when it is met. The
+/// Runs a session over a page file, and closes the file; where the script is `strict`, a refusal ends it. A fault of the file has a line on `err` when it is met. The
 /// status is that of `exit_status`. Where the file can't be opened no script is read, and the store comes back with its
 /// pages as they were and the fault of opening. Nothing is written to the store where a transaction can't be ended.
 pub fn run_in<S: Store, R: Read, W: Write, E: Write>(
     alloc: Global,
     store: S,
     limits: Limits,
+    strict: bool,
     reader: &mut R,
     out: &mut W,
     err: &mut E,
@@ -169,7 +171,7 @@ pub fn run_in<S: Store, R: Read, W: Write, E: Write>(
     ensures session { IsTrue (S.steady store) → (tree : TreeValue) → (contents : Contents)
         → (version : ℕ) → IsClosed version (S.pages store) (S.tail store) tree contents
         → tree.count ≤ limits.records
-        → MatchOption result.unopened (EndsFile (R.remaining reader.old) (R.remaining reader.new)
+        → MatchOption result.unopened (EndsFile strict (R.remaining reader.old) (R.remaining reader.new)
         (W.contents out.old) (W.contents out.new)
         (opened_file contents limits (S.failures store))
         (λ records good. MatchOption result.store (result.status ≡ 1)
@@ -178,7 +180,7 @@ pub fn run_in<S: Store, R: Read, W: Write, E: Write>(
         × (result.status ≡ good))) result.status) IsOutside }
 {
     match TreeTable::open_from(alloc, store, limits) {
-        Ok(table) => run_opened(alloc, table, limits, reader, out, err),
+        Ok(table) => run_opened(alloc, table, limits, strict, reader, out, err),
         Err(stop) => {
             tell(err, &FileFault::from(stop.fault));
             FileEnd {

@@ -90,9 +90,13 @@ fn run_task<F: OpenFile + FileExt + Drop, H: Files<File = F>, R: Read, W: Write,
     match task {
         Task::Create { order, path } => file_status(err, create(rt, alloc, order, path)),
         Task::Check { path } => file_status(err, check(rt, alloc, path, out)),
-        Task::Memory { limits } => run_memory(alloc, limits, reader, out, err),
-        Task::Run { limits, path } => match FileStore::open_path(rt, path) {
-            Ok(store) => run_in(alloc, store, limits, reader, out, err).status,
+        Task::Memory { limits, strict } => run_memory(alloc, limits, strict, reader, out, err),
+        Task::Run {
+            limits,
+            strict,
+            path,
+        } => match FileStore::open_path(rt, path) {
+            Ok(store) => run_in(alloc, store, limits, strict, reader, out, err).status,
             Err(fault) => file_status(err, Err(fault.into())),
         },
     }
@@ -102,9 +106,9 @@ fn run_task<F: OpenFile + FileExt + Drop, H: Files<File = F>, R: Read, W: Write,
 /// `exit_status`, or 2 where the words can't be read. Faults have their lines on `err`.
 ///
 /// - `create --order K FILE` makes a page file; one that is there is left alone.
-/// - `run [--records N] [--log N] [--begins N] FILE` runs the script that the reader has over a page file.
+/// - `run [--records N] [--log N] [--begins N] [--strict] FILE` runs the script that the reader has over a page file.
 /// - `check FILE` checks a page file, tells of its tree in one line, and writes nothing to it.
-/// - `memory [--records N] [--log N] [--begins N]` runs the script over an empty file in memory, as no word does.
+/// - `memory [--records N] [--log N] [--begins N] [--strict]` runs the script over an empty file in memory, as no word does.
 pub fn run_words<F: OpenFile + FileExt + Drop, H: Files<File = F>, R: Read, W: Write, E: Write>(
     rt: &H,
     alloc: Global,

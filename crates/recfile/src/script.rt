@@ -4,7 +4,7 @@ ghost use Rattle.std.specs.Io.KnownBytes.{Appends};
 ghost use Rattle.recfile.specs.Whole.{IsWhole, longest_script};
 ghost use Rattle.command_text.specs.Script.{entries_of};
 ghost use Rattle.command_text.specs.Texts.{text_of};
-ghost use Rattle.recfile.specs.Run.{Session, Finished, Faulted, ReadStops, ScriptStopsAt, IsUnsent, commands};
+ghost use Rattle.recfile.specs.Run.{Session, Finished, Faulted, ReadStops, IsUnsent, AcceptedIf, LinesStop, NotRefused, Ran, run_of, commands};
 ghost use Rattle.record_file.specs.Runs.{seen};
 ghost use Rattle.command_text.specs.declared.reply.Reply.{Reply};
 
@@ -32,6 +32,27 @@ pub enum ScriptFault {
     WriteFault { done: u32 },
     #[error("Memory {done}")]
     Memory { done: u32 },
+}
+
+/// Why a script that refusals may end wasn't run to its end: a fault, or the reply to the line of this number is a
+/// refusal. Lines are counted from 1, with those that say nothing.
+#[derive(Clone, Copy, Debug, PartialEq, Eq, Error)]
+pub enum RunFault {
+    #[error("{0}")]
+    Script(ScriptFault),
+    #[error("Refused {line}")]
+    Refused { line: u32 },
+}
+
+impl From<ScriptFault> for RunFault {
+    ghost use Rattle.std.specs.Prelude.{◌≡◌};
+    ghost use Rattle.recfile.specs.declared.script.RunFault.TheVariants.{Script};
+
+    ghost from_gives = { λ fault named. named ≡ Script fault };
+
+    fn from(fault: ScriptFault) -> RunFault {
+        RunFault::Script(fault)
+    }
 }
 
 // The greatest length of a script.
@@ -88,29 +109,43 @@ pub fn run_script<T: Table, R: Read, W: Write>(
         (W.contents writer.old) (W.contents writer.new)
         (seen T.TableState file.old) (seen T.TableState file.new)) }
 {
-    run_from::<Brand, T, R, W>(alloc, reader, writer, file, Blank::new(1))
+    unrefused(run_script_as(alloc, false, reader, writer, file))
+}
+
+/// Runs the whole script that a reader has, as `run_script` does; where it is `strict`, the first reply that is a
+/// refusal ends it, once it is written. Faults: those of `run_script`; Refused.
+pub fn run_script_as<T: Table, R: Read, W: Write>(
+    alloc: Global,
+    strict: bool,
+    reader: &mut R,
+    writer: &mut W,
+    file: &mut RecordFile<T>,
+) -> Result<u32, RunFault>
+    ensures { Ran strict (R.remaining reader.old) (R.remaining reader.new)
+        (W.contents writer.old) (W.contents writer.new)
+        (seen T.TableState file.old) (seen T.TableState file.new) result }
+{
+    run_from::<Brand, T, R, W>(alloc, strict, reader, writer, file, Blank::new(1))
 }
 
 // The same, with a count of its own.
 fn run_from<L: Ledger, T: Table, R: Read, W: Write>(
     alloc: Global,
+    strict: bool,
     reader: &mut R,
     writer: &mut W,
     file: &mut RecordFile<T>,
     blank: Blank,
-) -> Result<u32, ScriptFault>
+) -> Result<u32, RunFault>
     requires name { blank.name ≡ L.name }
     requires parts { blank.parts ≡ L.parts }
     requires some { 0 < L.parts }
-    ensures finished { IfOk result (Finished (R.remaining reader.old) (R.remaining reader.new)
+    ensures { Ran strict (R.remaining reader.old) (R.remaining reader.new)
         (W.contents writer.old) (W.contents writer.new)
-        (seen T.TableState file.old) (seen T.TableState file.new)) }
-    ensures faulted { IfErr result (Faulted (R.remaining reader.old) (R.remaining reader.new)
-        (W.contents writer.old) (W.contents writer.new)
-        (seen T.TableState file.old) (seen T.TableState file.new)) }
+        (seen T.TableState file.old) (seen T.TableState file.new) result }
 {
     let mut reads = Reads::<L>::new(blank);
-    run_script_counted(alloc, reader, writer, file, &mut reads)
+    run_counted(alloc, strict, reader, writer, file, &mut reads)
 }
 
 /// Runs the whole script that a reader has, and counts its reads; the rest is as `run_script` says.
@@ -129,38 +164,74 @@ pub fn run_script_counted<L: Ledger, T: Table, R: Read, W: Write>(
         (seen T.TableState file.old) (seen T.TableState file.new)) }
     ensures reads { reads.new ≤ reads.old + (longest_script + 2) }
 {
-    let script = read_script(alloc, reader, reads)?;
-    run_lines(alloc, &script, writer, file)
+    unrefused(run_counted(alloc, false, reader, writer, file, reads))
 }
 
-// Runs the lines of a script, one after another.
+// The answer where no refusal ends a script.
+fn unrefused(ran: Result<u32, RunFault>) -> Result<u32, ScriptFault>
+    requires { NotRefused ran }
+    ensures { ran ≡ run_of result }
+{
+    match ran {
+        Ok(done) => Ok(done),
+        Err(RunFault::Script(fault)) => Err(fault),
+        Err(RunFault::Refused { .. }) => unreachable!(),
+    }
+}
+
+// Reads a script, and runs it.
+fn run_counted<L: Ledger, T: Table, R: Read, W: Write>(
+    alloc: Global,
+    strict: bool,
+    reader: &mut R,
+    writer: &mut W,
+    file: &mut RecordFile<T>,
+    reads: &mut Reads<L>,
+) -> Result<u32, RunFault>
+    ensures ran { Ran strict (R.remaining reader.old) (R.remaining reader.new)
+        (W.contents writer.old) (W.contents writer.new)
+        (seen T.TableState file.old) (seen T.TableState file.new) result }
+    ensures reads { reads.new ≤ reads.old + (longest_script + 2) }
+{
+    let script = read_script(alloc, reader, reads)?;
+    run_lines(alloc, &script, strict, writer, file)
+}
+
+// Runs the lines of a script, one after another; where it is strict, up to the first reply that is a refusal.
 fn run_lines<T: Table, W: Write>(
     alloc: Global,
     script: &[u8],
+    strict: bool,
     writer: &mut W,
     file: &mut RecordFile<T>,
-) -> Result<u32, ScriptFault>
+) -> Result<u32, RunFault>
     requires { length script.now ≤ longest_script }
     ensures finished { IfOk result (λ done. (replies : List Reply)
         × Session (seen T.TableState file.old) (entries_of script.now) replies
         (seen T.TableState file.new)
         × Appends (W.contents writer.old) (W.contents writer.new) (flat_map text_of replies)
-        × (done ≡ commands (entries_of script.now))) }
-    ensures stops { IfErr result (ScriptStopsAt (W.contents writer.old) (W.contents writer.new)
+        × (done ≡ commands (entries_of script.now)) × AcceptedIf strict replies) }
+    ensures stops { IfErr result (LinesStop strict (W.contents writer.old) (W.contents writer.new)
         (seen T.TableState file.old) (seen T.TableState file.new) script.now) }
 {
     let mut rest = script;
     let mut done = 0;
+    let mut lines = 0;
     while !rest.is_empty() {
         let (line, after) = next_line(rest);
         rest = after;
+        lines += 1;
         let said = read_line(line);
         let count = command_count(&said);
         let Some(reply) = reply_to(file, said) else {
             continue;
         };
         done += count;
+        let refused = reply.is_refusal();
         send(alloc, writer, reply, done)?;
+        if strict && refused {
+            return Err(RunFault::Refused { line: lines });
+        }
     }
     Ok(done)
 }

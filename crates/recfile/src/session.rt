@@ -5,10 +5,10 @@ ghost use Rattle.recfile.specs.Ending.{AbortsWhole};
 ghost use Rattle.recfile.specs.Whole.{empty_file};
 ghost use Rattle.recfile.specs.WholeSession.{IsSession};
 ghost use Rattle.recfile.specs.declared.endings.EndFault.{EndFault};
-ghost use Rattle.recfile.specs.declared.script.ScriptFault.{ScriptFault};
+ghost use Rattle.recfile.specs.declared.script.RunFault.{RunFault};
 
 use crate::endings::{EndFault, end_all};
-use crate::script::{ScriptFault, run_script};
+use crate::script::{RunFault, run_script_as};
 use crate::statuses::exit_status;
 use crate::tell::tell_fault_of;
 use rec_types::{Limits, SortedTable, Table};
@@ -20,25 +20,26 @@ use std::io::{Read, Write};
 /// ended; or why not.
 #[derive(Clone, Copy, Debug)]
 pub struct SessionEnd {
-    pub script: Result<u32, ScriptFault>,
+    pub script: Result<u32, RunFault>,
     pub ended: Result<u32, EndFault>,
 }
 
 /// Runs the script that the reader has over a file, writes its replies to `out`, and then ends every transaction that
-/// is open. Where the script isn't run to its end, and where a transaction can't be ended, `err` gets a line that names
+/// is open; where the script is `strict`, a refusal ends it. Where the script isn't run to its end, and where a transaction can't be ended, `err` gets a line that names
 /// the fault.
 pub fn run_session<T: Table, R: Read, W: Write, E: Write>(
     alloc: Global,
+    strict: bool,
     file: &mut RecordFile<T>,
     reader: &mut R,
     out: &mut W,
     err: &mut E,
 ) -> SessionEnd
-    ensures { (mid : Seen) × IsSession (R.remaining reader.old) (R.remaining reader.new)
+    ensures { (mid : Seen) × IsSession strict (R.remaining reader.old) (R.remaining reader.new)
         (W.contents out.old) (W.contents out.new) (seen T.TableState file.old) mid
         result.script result.ended (seen T.TableState file.new) }
 {
-    let script = run_script(alloc, reader, out, file);
+    let script = run_script_as(alloc, strict, reader, out, file);
     tell_fault_of(err, &script);
     let ended = end_all(file);
     tell_fault_of(err, &ended);
@@ -49,17 +50,18 @@ pub fn run_session<T: Table, R: Read, W: Write, E: Write>(
 pub fn run_memory<R: Read, W: Write, E: Write>(
     alloc: Global,
     limits: Limits,
+    strict: bool,
     reader: &mut R,
     out: &mut W,
     err: &mut E,
 ) -> u8
-    ensures { (answer : Result ℕ ScriptFault) × (ended : Result ℕ EndFault) × (mid new : Seen)
-        × IsSession (R.remaining reader.old) (R.remaining reader.new)
+    ensures { (answer : Result ℕ RunFault) × (ended : Result ℕ EndFault) × (mid new : Seen)
+        × IsSession strict (R.remaining reader.old) (R.remaining reader.new)
         (W.contents out.old) (W.contents out.new) (empty_file limits) mid answer ended new
         × AbortsWhole mid.file.txs
         × (result ≡ (if is_err ended then 4 else (if is_err answer then 3 else 0))) }
 {
     let mut file = RecordFile::new(alloc, SortedTable::new(alloc, limits), limits);
-    let end = run_session(alloc, &mut file, reader, out, err);
+    let end = run_session(alloc, strict, &mut file, reader, out, err);
     exit_status(end.ended.is_err(), false, end.script.is_err())
 }

@@ -33,13 +33,25 @@ impl From<LimitFault> for UsageFault {
 #[derive(Clone, Copy)]
 pub enum Task<'a> {
     /// To make a page file with an empty tree.
-    Create { order: u16, path: &'a str },
-    /// To run a script over a page file.
-    Run { limits: Limits, path: &'a str },
+    Create {
+        order: u16,
+        path: &'a str,
+    },
+    /// To run a script over a page file; a `strict` one ends at the first refusal.
+    Run {
+        limits: Limits,
+        strict: bool,
+        path: &'a str,
+    },
     /// To open a page file, and tell of its tree.
-    Check { path: &'a str },
+    Check {
+        path: &'a str,
+    },
     /// To run a script over an empty file in memory.
-    Memory { limits: Limits },
+    Memory {
+        limits: Limits,
+        strict: bool,
+    },
 }
 
 fn order_option<'a>(alloc: Global) -> Arg<'a> {
@@ -86,11 +98,19 @@ fn begins_option<'a>(alloc: Global) -> Arg<'a> {
         .value_parser(value_parser!(u32).range(1..=i64::from(MOST_BEGINS)))
 }
 
-fn with_limits<'a>(alloc: Global, command: Command<'a>) -> Result<Command<'a>, AllocError> {
+fn strict_option<'a>(alloc: Global) -> Arg<'a> {
+    Arg::new(alloc, "strict")
+        .long("strict")
+        .help("End the script at the first `no`, `bad` or `stopped`, with status 3")
+        .action(ArgAction::SetTrue)
+}
+
+fn with_session<'a>(alloc: Global, command: Command<'a>) -> Result<Command<'a>, AllocError> {
     command
         .arg(records_option(alloc))?
         .arg(log_option(alloc))?
-        .arg(begins_option(alloc))
+        .arg(begins_option(alloc))?
+        .arg(strict_option(alloc))
 }
 
 fn create_command<'a>(alloc: Global) -> Result<Command<'a>, AllocError> {
@@ -107,7 +127,7 @@ fn run_command<'a>(alloc: Global) -> Result<Command<'a>, AllocError> {
     let run = Command::new(alloc, "run").about(
         "Runs the script of standard input over a page file, and writes its replies",
     );
-    with_limits(alloc, run)?.arg(file_word(alloc, "The path of the page file"))
+    with_session(alloc, run)?.arg(file_word(alloc, "The path of the page file"))
 }
 
 fn check_command<'a>(alloc: Global) -> Result<Command<'a>, AllocError> {
@@ -120,7 +140,7 @@ fn memory_command<'a>(alloc: Global) -> Result<Command<'a>, AllocError> {
     let memory = Command::new(alloc, "memory").about(
         "Runs the script of standard input over an empty file in memory",
     );
-    with_limits(alloc, memory)
+    with_session(alloc, memory)
 }
 
 // The program with none of its commands.
@@ -169,6 +189,7 @@ fn task_of<'a>(matches: &ArgMatches<'a>) -> Result<Task<'a>, UsageFault> {
         }),
         Some(("run", found)) => Ok(Task::Run {
             limits: limits_of(found)?,
+            strict: found.get_flag("strict"),
             path: path_of(found),
         }),
         Some(("check", found)) => Ok(Task::Check {
@@ -176,9 +197,11 @@ fn task_of<'a>(matches: &ArgMatches<'a>) -> Result<Task<'a>, UsageFault> {
         }),
         Some((_, found)) => Ok(Task::Memory {
             limits: limits_of(found)?,
+            strict: found.get_flag("strict"),
         }),
         None => Ok(Task::Memory {
             limits: greatest_limits(),
+            strict: false,
         }),
     }
 }

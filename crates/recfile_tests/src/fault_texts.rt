@@ -5,7 +5,7 @@ use btree_node::{HeaderFault, NodeFault};
 use command_text::LineFault;
 use page_store::{FetchFault, StoreFault, WriteFault};
 use rec_types::{KeyFault, LimitFault, RecordFault, TableFault, TxId};
-use recfile::{EndFault, ScriptFault};
+use recfile::{EndFault, RunFault, ScriptFault};
 use record_file::{
     AbortFault, BeginFault, Cause, ClaimFault, CommitFault, EntriesFault, GetFault, KeysOfFault,
     PutFault, ReleaseFault, RemoveFault, ResumeFault, RollbackToFault, SavepointFault, StatusFault,
@@ -210,6 +210,14 @@ const SCRIPT_FAULTS: [(ScriptFault, &str); 4] = [
     (ScriptFault::Memory { done: 1 }, "Memory 1"),
 ];
 
+const RUN_FAULTS: [(RunFault, &str); 2] = [
+    (
+        RunFault::Script(ScriptFault::WriteFault { done: 1 }),
+        "WriteFault 1",
+    ),
+    (RunFault::Refused { line: 2 }, "Refused 2"),
+];
+
 const END_FAULTS: [(EndFault, &str); 3] = [
     (
         EndFault::Stopped {
@@ -368,6 +376,7 @@ fn texts_of_scripts(rt: HostRuntime) {
     let alloc = rt.alloc();
     expect_texts(&rt, alloc, &LINE_FAULTS);
     expect_texts(&rt, alloc, &SCRIPT_FAULTS);
+    expect_texts(&rt, alloc, &RUN_FAULTS);
     expect_texts(&rt, alloc, &END_FAULTS)
 }
 

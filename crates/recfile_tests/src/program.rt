@@ -40,6 +40,17 @@ fn bad<'a>(words: &'a str, script: &'a str, err: &'a str, status: u8) -> Call<'a
     }
 }
 
+/// A call of a strict script that the reply to the line of the name ends.
+fn refused<'a>(words: &'a str, script: &'a str, out: &'a str, err: &'a str) -> Call<'a> {
+    Call {
+        words,
+        script,
+        out,
+        err: Some(err),
+        status: 3,
+    }
+}
+
 /// Makes the call: its status, and what it wrote to standard output and to standard error.
 fn run<F: OpenFile + FileExt + Drop, H: Files<File = F> + Abort>(
     rt: &H,
@@ -202,6 +213,8 @@ fn words_that_ask_for_nothing(rt: HostRuntime) {
         ("recfile check", 2),
         ("recfile check --records 1 no.rec", 2),
         ("recfile memory no.rec", 2),
+        ("recfile check --strict no.rec", 2),
+        ("recfile run --strict --strict no.rec", 2),
         ("recfile --help", 0),
         ("recfile run --help", 0),
     ] {
@@ -248,6 +261,17 @@ fn numbers_at_the_ends_of_their_ranges(rt: HostRuntime) {
             "ok 1\nok none\nno Full\n",
         ),
         good("recfile", "begin\nlist\n", "ok 1\nok 0\n"),
+        good(
+            "recfile memory --strict",
+            "#\nbegin\nget 1 a\ncommit 1",
+            "ok 1\nok none\nok\n",
+        ),
+        refused(
+            "recfile memory --strict",
+            "begin\ncommit 1\ncommit 1",
+            "ok 1\nok\nno NoSuchTx\n",
+            "recfile: Refused 3\n",
+        ),
     ] {
         expect_call(&rt, rt.alloc(), &call);
     }
@@ -434,6 +458,18 @@ fn files_that_stay_as_they_are(rt: HostRuntime) {
             "",
             "recfile: Device\n",
             1,
+        ),
+        refused(
+            "recfile run --strict stays.rec",
+            "# a batch\n\nbegin\nput 1 a =w\nput 2 b =w\ncommit 1\n",
+            "ok 1\nok =x\nno NoSuchTx\n",
+            "recfile: Refused 5\n",
+        ),
+        refused(
+            "recfile run --strict stays.rec",
+            "begin\nput 1 a =w\nput 1 b w\ncommit 1\n",
+            "ok 1\nok =x\nbad NoRecordMark\n",
+            "recfile: Refused 3\n",
         ),
         good("recfile run stays.rec", "", ""),
     ] {

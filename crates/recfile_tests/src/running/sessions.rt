@@ -152,6 +152,7 @@ fn expect_session<R: Read, W: Write>(
         run_memory(
             alloc,
             greatest().expect(rt, "no limits"),
+            false,
             reader,
             out,
             &mut err

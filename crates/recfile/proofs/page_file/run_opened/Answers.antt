@@ -47,9 +47,9 @@ closes (Some s) P R status tree b b' is known = ((tree, known.0), known.1 ∙ ap
 -- what the session was, over the file that was opened
 module _ (g : given.Over) (c : After-is_err-script_fault g) where
   session : IsTrue c.args.table.pages.steady → c.args.table.refusals ≡ 0 → c.args.table.damages ≡ no_damage
-      → IsSession (g.R.Read.remaining c.args.reader.now) (g.R.Read.remaining c.run_session-end.new.reader) (g.W.Write.contents c.args.out.now) (g.W.Write.contents c.run_session-end.new.out) (opened_file (table_contents c.args.table) c.args.limits c.args.table.pages.failures) c.run_session-end.ensures.0 c.run_session-end.result.script c.run_session-end.result.ended (seen treed c.run_session-end.new.file)
+      → IsSession c.args.strict (g.R.Read.remaining c.args.reader.now) (g.R.Read.remaining c.run_session-end.new.reader) (g.W.Write.contents c.args.out.now) (g.W.Write.contents c.run_session-end.new.out) (opened_file (table_contents c.args.table) c.args.limits c.args.table.pages.failures) c.run_session-end.ensures.0 c.run_session-end.result.script c.run_session-end.result.ended (seen treed c.run_session-end.new.file)
   session steady refusals damages =
-      subst (λ (s : Seen). IsSession (g.R.Read.remaining c.args.reader.now) (g.R.Read.remaining c.run_session-end.new.reader) (g.W.Write.contents c.args.out.now) (g.W.Write.contents c.run_session-end.new.out) s c.run_session-end.ensures.0 c.run_session-end.result.script c.run_session-end.result.ended (seen treed c.run_session-end.new.file)) (fresh c.new-file.result c.args.table c.args.limits c.new-file.ensures steady refusals damages) c.run_session-end.ensures.1
+      subst (λ (s : Seen). IsSession c.args.strict (g.R.Read.remaining c.args.reader.now) (g.R.Read.remaining c.run_session-end.new.reader) (g.W.Write.contents c.args.out.now) (g.W.Write.contents c.run_session-end.new.out) s c.run_session-end.ensures.0 c.run_session-end.result.script c.run_session-end.result.ended (seen treed c.run_session-end.new.file)) (fresh c.new-file.result c.args.table c.args.limits c.new-file.ensures steady refusals damages) c.run_session-end.ensures.1
 
 pub close_file-requires : goal.close_file-requires
 close_file-requires g c = record {
@@ -64,14 +64,14 @@ returns-in-Ok-clause-session g c steady refusals damages =
     let mid = c.run_session-end.ensures.0 in
     let new = seen treed c.run_session-end.new.file in
     let known = session g (goal.at.returns-in-Ok-clause-session g c).After-is_err-script_fault steady refusals damages in
-    let sound = sound_script c.run_session-end.result.script _ _ _ _ old mid known.script in
+    let sound = sound_script c.args.strict c.run_session-end.result.script _ _ _ _ old mid known.script in
     record {
       answer = c.run_session-end.result.script;
       ended = Ok c.in-Ok.field-0;
       mid = mid;
       new = new;
-      session = subst (λ e. IsSession (g.R.Read.remaining c.args.reader.now) (g.R.Read.remaining c.run_session-end.new.reader) (g.W.Write.contents c.args.out.now) (g.W.Write.contents c.run_session-end.new.out) old mid c.run_session-end.result.script e new) c.in-Ok.is known;
-      whole = whole_script c.run_session-end.result.script _ _ _ _ old mid known.script whole_empty;
+      session = subst (λ e. IsSession c.args.strict (g.R.Read.remaining c.args.reader.now) (g.R.Read.remaining c.run_session-end.new.reader) (g.W.Write.contents c.args.out.now) (g.W.Write.contents c.run_session-end.new.out) old mid c.run_session-end.result.script e new) c.in-Ok.is known;
+      whole = whole_script c.args.strict c.run_session-end.result.script _ _ _ _ old mid known.script whole_empty;
       sound = sound;
       ending = closes c.close_file.result.store (c.close_file.result.status ≡ 1) (λ (t : Tree) s. IsClosed 2 (g.S.StoreState.pages s) (g.S.StoreState.tail s) t (table_contents c.run_session-end.new.file.table)) c.close_file.result.status c.run_session-end.new.file.table.tree c.is_err-script_fault.result (is_err c.run_session-end.result.script) c.is_err-script_fault.ensures.value (c.close_file.ensures.closed (known.asks.sound ∙ sound));
     }
@@ -87,8 +87,8 @@ returns-in-Err-clause-session g c steady refusals damages =
       ended = Err c.in-Err.field-0;
       mid = mid;
       new = new;
-      session = subst (λ e. IsSession (g.R.Read.remaining c.args.reader.now) (g.R.Read.remaining c.run_session-end.new.reader) (g.W.Write.contents c.args.out.now) (g.W.Write.contents c.run_session-end.new.out) old mid c.run_session-end.result.script e new) c.in-Err.is known;
-      whole = whole_script c.run_session-end.result.script _ _ _ _ old mid known.script whole_empty;
-      sound = sound_script c.run_session-end.result.script _ _ _ _ old mid known.script;
+      session = subst (λ e. IsSession c.args.strict (g.R.Read.remaining c.args.reader.now) (g.R.Read.remaining c.run_session-end.new.reader) (g.W.Write.contents c.args.out.now) (g.W.Write.contents c.run_session-end.new.out) old mid c.run_session-end.result.script e new) c.in-Err.is known;
+      whole = whole_script c.args.strict c.run_session-end.result.script _ _ _ _ old mid known.script whole_empty;
+      sound = sound_script c.args.strict c.run_session-end.result.script _ _ _ _ old mid known.script;
       ending = c.exit_status.ensures;
     }

@@ -4,7 +4,8 @@ use Rattle.std.specs.Io.KnownBytes.{Appends}
 use Rattle.command_text.specs.declared.reply.Reply.{Reply}
 use Rattle.command_text.specs.Texts.{text_of}
 use Rattle.record_file.specs.Runs.{seen}
-use Rattle.recfile.specs.Run.{Served}
+use Rattle.recfile.specs.Run.{AcceptedIf}
+use Rattle.recfile.proofs.ScriptRunLemmas.{Walked}
 use Rattle.recfile.proofs.script.run_lines.Given as goal
 
 abbrev pub decreases-loop-rest : goal.decreases-loop-rest
@@ -14,6 +15,8 @@ decreases-loop-rest g l = length l.rest
 abbrev pub invariant-loop-rest : goal.invariant-loop-rest
 invariant-loop-rest g l =
     (replies : List Reply)
-    × Served l.fn.script l.rest (seen g.T.TableState l.fn.file) replies (seen g.T.TableState l.file) l.done
+    × Walked l.fn.script l.rest (seen g.T.TableState l.fn.file) replies (seen g.T.TableState l.file) l.done l.lines
     × Appends (g.W.Write.contents l.fn.writer) (g.W.Write.contents l.writer) (flat_map text_of replies)
     × (l.done + length l.rest ≤ 1048576)
+    × (l.lines + length l.rest ≤ 1048576)
+    × AcceptedIf l.fn.strict replies

@@ -366,11 +366,25 @@ fn each_write_of_a_close_fails_in_turn(rt: HostRuntime) {
 }
 
 /// A session over the store's file: its replies and the line of its fault, and its status.
-fn session_in<S: Store>(rt: &impl Abort, alloc: Global, store: S, script: &str) -> (String, u8) {
+fn session_in<S: Store>(
+    rt: &impl Abort,
+    alloc: Global,
+    store: S,
+    strict: bool,
+    script: &str,
+) -> (String, u8) {
     let mut reader = script.as_bytes();
     let (mut out, mut err) = (Vec::new(alloc), Vec::new(alloc));
     let limits = Limits::new(9, 99, 9).expect(rt, "no limits");
-    let end = run_in(alloc, store, limits, &mut reader, &mut out, &mut err);
+    let end = run_in(
+        alloc,
+        store,
+        limits,
+        strict,
+        &mut reader,
+        &mut out,
+        &mut err,
+    );
     let mut text = String::from_utf8(out).expect(rt, "no text");
     text.push_str(&String::from_utf8(err).expect(rt, "no text"))
         .expect(rt, "no memory");
@@ -383,18 +397,25 @@ fn session(
     alloc: Global,
     reads: &[u64],
     writes: &[u64],
+    strict: bool,
     script: &str,
 ) -> (String, u8) {
     let reads = Vec::from_slice(alloc, reads).expect(rt, "no memory");
     let writes = Vec::from_slice(alloc, writes).expect(rt, "no memory");
     let store = FlakyStore::new(store_of(rt, alloc, &three_records(2), 0), reads, writes);
-    session_in(rt, alloc, store, script)
+    session_in(rt, alloc, store, strict, script)
 }
 
 /// Expects of the session, where the read of each number fails, this text and status.
-fn expect_with_reads(rt: &impl Abort, alloc: Global, script: &str, rows: &[(u64, &str, u8)]) {
+fn expect_with_reads(
+    rt: &impl Abort,
+    alloc: Global,
+    strict: bool,
+    script: &str,
+    rows: &[(u64, &str, u8)],
+) {
     for row in rows {
-        let (told, end) = session(rt, alloc, &[row.0], &[], script);
+        let (told, end) = session(rt, alloc, &[row.0], &[], strict, script);
         assert_eq!(rt; (row.0, told.as_str(), end), *row);
     }
 }
@@ -421,29 +442,43 @@ const READS_OF_A_CLAIM: [(u64, &str, u8); 3] = [
     (7, "ok 1\nok =x\n", 0),
 ];
 
+// A strict script ends at a put that is refused and at a rollback that is stopped.
+const STRICT_READS_OF_A_ROLLBACK: [(u64, &str, u8); 4] = [
+    (6, "ok 1\nno Device\nrecfile: Refused 2\n", 3),
+    (7, "ok 1\nok =x\nno Device\nrecfile: Refused 3\n", 3),
+    (
+        9,
+        "ok 1\nok =x\nok =z\nstopped 0 2 Device\nrecfile: Refused 4\n",
+        3,
+    ),
+    (11, "ok 1\nok =x\nok =z\nok 2\nok\n", 0),
+];
+
 #[test]
 fn each_read_of_a_session_fails_in_turn(rt: HostRuntime) {
     let alloc = rt.alloc();
     let puts = "begin\nput 1 a =1\nput 1 c =2\n";
-    expect_with_reads(&rt, alloc, puts, &READS_OF_PUTS);
-    expect_with_reads(&rt, alloc, "begin\nclaim 1 a\n", &READS_OF_A_CLAIM)
+    expect_with_reads(&rt, alloc, false, puts, &READS_OF_PUTS);
+    expect_with_reads(&rt, alloc, false, "begin\nclaim 1 a\n", &READS_OF_A_CLAIM);
+    let back = "begin\nput 1 a =1\nput 1 c =2\nback 1 0\ncommit 1\n";
+    expect_with_reads(&rt, alloc, true, back, &STRICT_READS_OF_A_ROLLBACK)
 }
 
 #[test]
 fn each_write_of_a_session_fails_in_turn(rt: HostRuntime) {
     let script = "begin\nput 1 a =1\ncommit 1\n";
     for number in 1..=7 {
-        let (told, end) = session(&rt, rt.alloc(), &[], &[number], script);
+        let (told, end) = session(&rt, rt.alloc(), &[], &[number], false, script);
         assert_eq!(rt;
             (number, told.as_str(), end),
             (number, "ok 1\nok =x\nok\nrecfile: Device\n", 1)
         );
     }
-    let (told, end) = session(&rt, rt.alloc(), &[], &[8], script);
+    let (told, end) = session(&rt, rt.alloc(), &[], &[8], false, script);
     assert_eq!(rt; (told.as_str(), end), ("ok 1\nok =x\nok\n", 0));
     // Where nothing but claims was made, nothing is written.
     let claims = "begin\nbegin\nclaim 1 a\nclaim 2 d\ncommit 1\n";
-    let (told, end) = session(&rt, rt.alloc(), &[], &[1], claims);
+    let (told, end) = session(&rt, rt.alloc(), &[], &[1], false, claims);
     assert_eq!(rt;
         (told.as_str(), end),
         ("ok 1\nok 2\nok =x\nok none\nok\n", 0)
