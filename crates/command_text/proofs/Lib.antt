@@ -5,3 +5,4 @@ pub mod EscapeLemmas
 pub mod EscapeLaws
 pub mod PlainLemmas
 pub mod RefusalLaws
+pub mod DumpLemmas

@@ -4,3 +4,4 @@ pub mod Script
 pub mod Refusals
 pub mod Texts
 pub mod Examples
+pub mod Dump

@@ -6,6 +6,7 @@ ghost use Rattle.percent_encoding.specs.Percent.{percent_decode};
 ghost use Rattle.record_file.specs.declared.fault.Cause.TheVariants as causes;
 ghost use Rattle.record_file.specs.declared.fault.PutFault.TheVariants as put_faults;
 ghost use Rattle.record_file.specs.declared.fault.RollbackToFault.TheVariants as rollback_faults;
+ghost use Rattle.command_text.specs.Dump.{dump_text, dump_commands, CanBePut};
 ghost use Rattle.command_text.specs.Examples.{tx, owned, free};
 ghost use Rattle.command_text.specs.Refusals.{begins_refused, is_refusal};
 ghost use Rattle.command_text.specs.Grammar.{is_word, words_of, key_at, line_of};
@@ -86,4 +87,13 @@ pub fn refusals_by_text()
     ensures absent { is_refusal (reply.Get (Ok None)) ≡ false }
     ensures held { is_refusal (reply.Put (Err (put_faults.Held (tx 3)))) ≡ true }
     ensures unread { is_refusal (reply.Bad faults.WordCount) ≡ true }
+{}
+
+/// The lines of a dump, whatever bytes its keys and records have: a transaction begins, puts each record, and commits.
+pub fn dumps()
+    ensures said { (records : List (List ℕ × List ℕ)) → All CanBePut records
+        → entries_of (dump_text records) ≡ dump_commands records }
+    ensures empty { dump_text [] ≡ codes "begin" ++ 10 ∷ codes "commit 1" ++ 10 ∷ [] }
+    ensures one { dump_text ((10 ∷ 37 ∷ [], codes "a =") ∷ []) ≡ codes "begin" ++ 10
+        ∷ codes "put 1 %0A%25 =a%20=" ++ 10 ∷ codes "commit 1" ++ 10 ∷ [] }
 {}

@@ -3,6 +3,7 @@
 
 mod argument;
 mod command;
+mod dump;
 pub mod laws;
 mod list;
 mod reading;
@@ -11,6 +12,7 @@ mod reply;
 mod word;
 
 pub use command::{Command, LineFault};
+pub use dump::write_dump;
 pub use list::{EntryList, KeyList};
 pub use reading::read_line;
 pub use reply::{Reply, write_reply};

@@ -64,8 +64,8 @@ const ESCAPED: AsciiSet = ascii_set!(CONTROLS.add(b' ').add(b'%'));
 // A reply of one line has at most 305 bytes: `ok =`, 100 bytes in escapes, and the end.
 const LINE_ROOM: usize = 305;
 
-// Appends bytes, escaped.
-fn push_escaped(text: &mut String, bytes: &[u8]) -> Result<(), AllocError>
+/// Appends bytes, escaped.
+pub(crate) fn push_escaped(text: &mut String, bytes: &[u8]) -> Result<(), AllocError>
     ensures { OnOk result (string_bytes text.new ≡ string_bytes text.old ++ escaped bytes.now) }
 {
     percent_encode(bytes, ESCAPED).append_to(text)

@@ -2,6 +2,8 @@
 use Rattle.std.specs.Prelude.{ℕ, List}
 use Rattle.page_store.specs.declared.page_edit.WriteFault.{WriteFault}
 use Rattle.page_store.specs.declared.page_edit.WriteFault.TheVariants as closing
+use Rattle.rec_types.specs.declared.table.TableFault.{TableFault}
+use Rattle.rec_types.specs.declared.table.TableFault.TheVariants as listing
 use Rattle.btree_delete.specs.Created.{IsEmpty, IsOrder}
 use Rattle.btree_delete.specs.declared.open_fault.OpenFault.{OpenFault}
 use Rattle.btree_delete.specs.declared.open_fault.OpenFault.TheVariants as opening
@@ -31,6 +33,13 @@ fault_of_opening opening.Memory = Memory
 abbrev pub fault_of_closing : WriteFault → FileFault
 fault_of_closing closing.Device = Device
 fault_of_closing closing.Memory = Memory
+
+-- a list never wants room
+abbrev pub fault_of_listing : TableFault → FileFault
+fault_of_listing listing.Device = Device
+fault_of_listing (listing.Damaged page) = Damaged page
+fault_of_listing listing.NoRoom = Damaged 0
+fault_of_listing listing.Memory = Memory
 
 -- Why no page file was made: the first check that fails has that name. Device and Memory come from outside, Memory
 -- once the file is being written.

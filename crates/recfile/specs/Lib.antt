@@ -4,3 +4,4 @@ pub mod Run
 pub mod Ending
 pub mod Examples
 pub mod FileFaults
+pub mod Dumped

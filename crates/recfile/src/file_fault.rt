@@ -1,5 +1,6 @@
 use btree_delete::{CreateFault, OpenFault};
 use page_store::WriteFault;
+use rec_types::TableFault;
 use thiserror::Error;
 
 /// Why a page file was not made, opened or closed, by its name.
@@ -79,6 +80,23 @@ impl From<WriteFault> for FileFault {
         match fault {
             WriteFault::Device => FileFault::Device,
             WriteFault::Memory => FileFault::Memory,
+        }
+    }
+}
+
+impl From<TableFault> for FileFault {
+    ghost use Rattle.std.specs.Prelude.{◌≡◌};
+    ghost use Rattle.recfile.specs.FileFaults.{fault_of_listing};
+
+    ghost from_gives = { λ fault named. named ≡ fault_of_listing fault };
+
+    // A list never wants room.
+    fn from(fault: TableFault) -> FileFault {
+        match fault {
+            TableFault::Device => FileFault::Device,
+            TableFault::Damaged(page) => FileFault::Damaged(page),
+            TableFault::NoRoom => FileFault::Damaged(0),
+            TableFault::Memory => FileFault::Memory,
         }
     }
 }

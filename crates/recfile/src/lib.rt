@@ -2,6 +2,7 @@
 #![tactic(auto)]
 
 mod call;
+mod dump;
 mod endings;
 mod file_fault;
 pub mod laws;
@@ -16,6 +17,7 @@ mod statuses;
 mod tell;
 mod words;
 
+pub use dump::{DumpFault, dump_in};
 pub use endings::{EndFault, end_all};
 pub use file_fault::FileFault;
 pub use page_file::{FileEnd, check_in, create_in, run_in};

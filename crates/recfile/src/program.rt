@@ -1,3 +1,4 @@
+use crate::dump::{DumpFault, dump_in};
 use crate::file_fault::FileFault;
 use crate::limits::greatest_limits;
 use crate::page_file::{check_in, create_in, run_in};
@@ -50,6 +51,28 @@ fn check<F: OpenFile + FileExt + Drop, H: Files<File = F>, W: Write>(
     Ok(check_in(alloc, store, greatest_limits(), out)?)
 }
 
+// Writes the records of the page file at a path as a script.
+fn dump<F: OpenFile + FileExt + Drop, H: Files<File = F>, W: Write>(
+    rt: &H,
+    alloc: Global,
+    path: &str,
+    out: &mut W,
+) -> Result<(), DumpFault> {
+    let store = FileStore::open_path(rt, path).map_err(FileFault::from)?;
+    dump_in(alloc, store, greatest_limits(), out)
+}
+
+// The status of a dump; its fault is named.
+fn dump_status<E: Write>(err: &mut E, done: Result<(), DumpFault>) -> u8 {
+    match done {
+        Ok(()) => exit_status(false, false, false),
+        Err(fault) => {
+            tell(err, &fault);
+            exit_status(false, fault != DumpFault::Write, fault == DumpFault::Write)
+        }
+    }
+}
+
 // The status where only a file was asked for; its fault is named.
 fn file_status<E: Write>(err: &mut E, done: Result<(), FileFault>) -> u8 {
     match done {
@@ -90,6 +113,7 @@ fn run_task<F: OpenFile + FileExt + Drop, H: Files<File = F>, R: Read, W: Write,
     match task {
         Task::Create { order, path } => file_status(err, create(rt, alloc, order, path)),
         Task::Check { path } => file_status(err, check(rt, alloc, path, out)),
+        Task::Dump { path } => dump_status(err, dump(rt, alloc, path, out)),
         Task::Memory { limits, strict } => run_memory(alloc, limits, strict, reader, out, err),
         Task::Run {
             limits,
@@ -108,6 +132,7 @@ fn run_task<F: OpenFile + FileExt + Drop, H: Files<File = F>, R: Read, W: Write,
 /// - `create --order K FILE` makes a page file; one that is there is left alone.
 /// - `run [--records N] [--log N] [--begins N] [--strict] FILE` runs the script that the reader has over a page file.
 /// - `check FILE` checks a page file, tells of its tree in one line, and writes nothing to it.
+/// - `dump FILE` writes the records of a page file as a script that puts them, and writes nothing to it.
 /// - `memory [--records N] [--log N] [--begins N] [--strict]` runs the script over an empty file in memory, as no word does.
 pub fn run_words<F: OpenFile + FileExt + Drop, H: Files<File = F>, R: Read, W: Write, E: Write>(
     rt: &H,

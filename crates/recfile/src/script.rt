@@ -247,8 +247,8 @@ fn send<W: Write>(alloc: Global, writer: &mut W, reply: Reply, done: u32) -> Res
     write_text(writer, &text).map_err(|_| ScriptFault::WriteFault { done })
 }
 
-// Writes a text whole. At a write that fails, or takes nothing, it answers how many bytes are written.
-fn write_text<W: Write>(writer: &mut W, text: &[u8]) -> Result<(), usize>
+/// Writes a text whole. At a write that fails, or takes nothing, it answers how many bytes are written.
+pub fn write_text<W: Write>(writer: &mut W, text: &[u8]) -> Result<(), usize>
     ensures ok { OnOk result (Appends (W.contents writer.old) (W.contents writer.new) text.now) }
     ensures err { IfErr result (λ sent. (sent < length text.now)
         × Appends (W.contents writer.old) (W.contents writer.new) (take sent text.now)) }

@@ -47,6 +47,10 @@ pub enum Task<'a> {
     Check {
         path: &'a str,
     },
+    /// To write the records of a page file as a script.
+    Dump {
+        path: &'a str,
+    },
     /// To run a script over an empty file in memory.
     Memory {
         limits: Limits,
@@ -136,6 +140,12 @@ fn check_command<'a>(alloc: Global) -> Result<Command<'a>, AllocError> {
         .arg(file_word(alloc, "The path of the page file"))
 }
 
+fn dump_command<'a>(alloc: Global) -> Result<Command<'a>, AllocError> {
+    Command::new(alloc, "dump")
+        .about("Writes the records of a page file as a script that puts them in one transaction")
+        .arg(file_word(alloc, "The path of the page file"))
+}
+
 fn memory_command<'a>(alloc: Global) -> Result<Command<'a>, AllocError> {
     let memory = Command::new(alloc, "memory").about(
         "Runs the script of standard input over an empty file in memory",
@@ -164,6 +174,7 @@ fn program<'a>(alloc: Global) -> Result<Command<'a>, AllocError> {
     let program = with_command(program, create_command(alloc))?;
     let program = with_command(program, run_command(alloc))?;
     let program = with_command(program, check_command(alloc))?;
+    let program = with_command(program, dump_command(alloc))?;
     with_command(program, memory_command(alloc))
 }
 
@@ -193,6 +204,9 @@ fn task_of<'a>(matches: &ArgMatches<'a>) -> Result<Task<'a>, UsageFault> {
             path: path_of(found),
         }),
         Some(("check", found)) => Ok(Task::Check {
+            path: path_of(found),
+        }),
+        Some(("dump", found)) => Ok(Task::Dump {
             path: path_of(found),
         }),
         Some((_, found)) => Ok(Task::Memory {

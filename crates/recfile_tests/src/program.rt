@@ -145,9 +145,10 @@ fn two_sessions_over_a_file(rt: HostRuntime) {
 const FRUIT: &str = "begin\nbegin\nput 1 apple =red\nput 2 pear =yellow\ncommit 1\n";
 
 // The session over a page file that the README shows.
-fn fruit_session() -> [Call<'static>; 5] {
+fn fruit_session() -> [Call<'static>; 7] {
     [
         good("recfile create --order 2 fruit.rec", "", ""),
+        good("recfile dump fruit.rec", "", "begin\ncommit 1\n"),
         good(
             "recfile check fruit.rec",
             "",
@@ -159,6 +160,11 @@ fn fruit_session() -> [Call<'static>; 5] {
             "ok 1\nok 2\nok none\nok none\nok\n",
         ),
         good("recfile run fruit.rec", "list\n", "- apple =red\nok 1\n"),
+        good(
+            "recfile dump fruit.rec",
+            "",
+            "begin\nput 1 apple =red\ncommit 1\n",
+        ),
         good(
             "recfile check fruit.rec",
             "",
@@ -195,7 +201,77 @@ fn fruit_in_a_file(rt: HostRuntime) {
         alloc,
         &bad("recfile check fruit.rec", "", "recfile: Damaged 1\n", 1),
     );
+    let dump = bad("recfile dump fruit.rec", "", "recfile: Damaged 1\n", 1);
+    expect_call(&rt, alloc, &dump);
     fs::remove_file(&rt, "fruit.rec").expect(&rt, "no file");
+}
+
+/// A script that puts a record for each of so many bytes, which stand in its key and in the record.
+fn script_of_bytes(rt: &impl Abort, alloc: Global, bytes: u32) -> String {
+    let mut script = String::new(alloc);
+    script.push_str("begin\n").expect(rt, "no memory");
+    for byte in 0..bytes {
+        write!(script, "put 1 %{byte:02x}k =a%{byte:02x}\n").expect(rt, "no memory");
+    }
+    script.push_str("commit 1\n").expect(rt, "no memory");
+    script
+}
+
+/// The dump of a file, which has no fault.
+fn dump<F: OpenFile + FileExt + Drop, H: Files<File = F> + Abort>(
+    rt: &H,
+    alloc: Global,
+    words: &str,
+) -> String {
+    let (status, out, err) = run(rt, alloc, words, "");
+    assert_eq!(rt; (status, err.as_str()), (0, ""));
+    out
+}
+
+/// Expects the script to be one whose file has a dump from which a file of another order is made, with that dump.
+fn expect_copied<F: OpenFile + FileExt + Drop, H: Files<File = F> + Abort>(
+    rt: &H,
+    alloc: Global,
+    script: &str,
+) {
+    let (status, _, err) = run(rt, alloc, "recfile run --strict bytes.rec", script);
+    assert_eq!(rt; (status, err.as_str()), (0, ""));
+    let text = dump(rt, alloc, "recfile dump bytes.rec");
+    assert!(rt; text.len() > 256);
+    let (status, _, err) = run(rt, alloc, "recfile run --strict copy.rec", &text);
+    assert_eq!(rt; (status, err.as_str()), (0, ""));
+    let again = dump(rt, alloc, "recfile dump copy.rec");
+    expect_named(rt, "copy.rec", again.as_str(), text.as_str());
+}
+
+// Every byte stands in a key and in a record. Keys that ascend leave 16 in each leaf and one above it: 14 times 17, and
+// 18 in the last leaf, are 256 records in 15 leaves.
+#[test]
+fn a_dump_copies_a_file(rt: HostRuntime) {
+    let alloc = rt.alloc();
+    let _ = fs::remove_file(&rt, "bytes.rec");
+    let _ = fs::remove_file(&rt, "copy.rec");
+    let makes = [
+        good("recfile create --order 1 bytes.rec", "", ""),
+        good("recfile create --order 16 copy.rec", "", ""),
+    ];
+    expect_calls(&rt, alloc, &makes);
+    expect_copied(&rt, alloc, &script_of_bytes(&rt, alloc, 256));
+    let checks = [
+        good(
+            "recfile check copy.rec",
+            "",
+            "order 16 height 2 records 256 pages 17 free 0\n",
+        ),
+        good(
+            "recfile run copy.rec",
+            "begin\nget 1 %0ak\nget 1 %25k\nget 1 %ffk\n",
+            "ok 1\nok =a%0A\nok =a%25\nok =a%FF\n",
+        ),
+    ];
+    expect_calls(&rt, alloc, &checks);
+    fs::remove_file(&rt, "bytes.rec").expect(&rt, "no file");
+    fs::remove_file(&rt, "copy.rec").expect(&rt, "no file");
 }
 
 // The text is the words' own fault, or their help.
@@ -213,6 +289,8 @@ fn words_that_ask_for_nothing(rt: HostRuntime) {
         ("recfile check", 2),
         ("recfile check --records 1 no.rec", 2),
         ("recfile memory no.rec", 2),
+        ("recfile dump", 2),
+        ("recfile dump --strict no.rec", 2),
         ("recfile check --strict no.rec", 2),
         ("recfile run --strict --strict no.rec", 2),
         ("recfile --help", 0),
@@ -289,6 +367,8 @@ fn files_that_are_not_opened(rt: HostRuntime) {
         ("recfile check .", "recfile: Device\n"),
         ("recfile run empty.rec", "recfile: BadLength\n"),
         ("recfile check empty.rec", "recfile: BadLength\n"),
+        ("recfile dump none.rec", "recfile: Device\n"),
+        ("recfile dump empty.rec", "recfile: BadLength\n"),
         ("recfile run short.rec", "recfile: BadLength\n"),
         ("recfile check short.rec", "recfile: BadLength\n"),
     ] {

@@ -1,8 +1,12 @@
 use super::{flaky_file, greatest, run};
 use crate::expect_text;
+use page_store::MemStore;
 use rec_types::{Limits, SortedTable, Table, TxId};
 use recfile::laws::{aborts_are_whole, endings_by_example};
-use recfile::{EndFault, ScriptFault, end_all, exit_status, run_memory, run_script};
+use recfile::{
+    DumpFault, EndFault, ScriptFault, create_in, dump_in, end_all, exit_status, run_memory,
+    run_script,
+};
 use record_file::{Cause, RecordFile};
 use std::alloc::Global;
 use std::io;
@@ -343,6 +347,24 @@ fn ending_goes_on_after_a_stop(rt: HostRuntime) {
     let mut file = flaky_file(&rt, alloc, table, limits, &[4, 5]);
     let script = "begin\nbegin\nput 1 a =1\nput 1 b =2\nput 2 c =3\n";
     end_thrice(&rt, alloc, &mut file, script, 5, 2, "ok 0\nok 6 6\n")
+}
+
+/// The dump of a new file, and how it ended.
+fn dump_of_new<W: Write>(rt: &impl Abort, alloc: Global, out: &mut W) -> Result<(), DumpFault> {
+    let limits = greatest().expect(rt, "no limits");
+    match create_in(alloc, MemStore::new(Vec::new(alloc), 0), 2, limits) {
+        Ok(store) => dump_in(alloc, store, limits, out),
+        Err(_) => panic!(rt; "the file isn't made"),
+    }
+}
+
+#[test]
+fn a_dump_that_is_not_written(rt: HostRuntime) {
+    let mut out = Vec::new(rt.alloc());
+    assert_eq!(rt; dump_of_new(&rt, rt.alloc(), &mut out), Ok(()));
+    assert!(rt; out.as_slice() == b"begin\ncommit 1\n".as_slice());
+    let ended = dump_of_new(&rt, rt.alloc(), &mut Closing { writes: 0 });
+    assert_eq!(rt; ended, Err(DumpFault::Write));
 }
 
 #[test]

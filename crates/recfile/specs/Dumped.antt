@@ -1,0 +1,48 @@
+-- What a dump of a page file writes, and why there is none.
+use Rattle.std.specs.Prelude.{◌≡◌, ℕ, ◌<◌, ◌≤◌, ◌⊎◌, List, length, take, Option}
+use Rattle.std.specs.List.{All}
+use Rattle.std.specs.Io.KnownBytes.{Appends}
+use Rattle.rec_types.specs.Contents.{Contents}
+use Rattle.btree_insert.specs.declared.tree.Tree.{Tree}
+use Rattle.btree_delete.specs.CleanFile.{IsFirst}
+use Rattle.btree_delete.specs.TableView.{IsClosed}
+use Rattle.btree_delete.specs.declared.open_fault.OpenFault.{OpenFault}
+use Rattle.command_text.specs.Dump.{dump_text, CanBePut}
+use Rattle.recfile.specs.FileFaults.{fault_of_opening}
+use Rattle.recfile.specs.declared.dump.DumpFault.{DumpFault}
+use Rattle.recfile.specs.declared.dump.DumpFault.TheVariants.{File, Write}
+use Rattle.recfile.specs.declared.file_fault.FileFault.{FileFault}
+use Rattle.recfile.specs.declared.file_fault.FileFault.TheVariants.{Device, Memory}
+
+-- the pages are a closed file of at most so many records
+abbrev pub CanBeOpened : List (List ℕ) → ℕ → ℕ → Type 0
+CanBeOpened stored tail limit =
+    (tree : Tree) × (contents : Contents) × (version : ℕ) × IsClosed version stored tail tree contents × (tree.count ≤ limit)
+
+-- a fault from outside
+abbrev pub IsOutsideFile : FileFault → Type 0
+IsOutsideFile fault = (fault ≡ Device) ⊎ (fault ≡ Memory)
+
+-- a fault from outside, or the first check of the file that fails
+abbrev pub IsFirstOrOutside : List (List ℕ) → ℕ → ℕ → FileFault → Type 0
+IsFirstOrOutside stored tail limit fault =
+    IsOutsideFile fault ⊎ ((first : OpenFault) × IsFirst stored tail limit first × (fault ≡ fault_of_opening first))
+
+-- the text isn't written where the file has a fault, and not whole where the writer has one
+abbrev pub IsDumpFault : List (List ℕ) → ℕ → ℕ → DumpFault → Type 0
+IsDumpFault stored tail limit (File fault) = IsFirstOrOutside stored tail limit fault
+IsDumpFault stored tail limit Write = CanBeOpened stored tail limit
+
+-- nothing is written where the file has a fault
+abbrev pub IsSilent : Option (List ℕ) → Option (List ℕ) → DumpFault → Type 0
+IsSilent held holds (File fault) = holds ≡ held
+IsSilent held holds Write = Unit {0}
+
+-- the records are written as a script, and are such as its lines can say
+abbrev pub Dumps : Option (List ℕ) → Option (List ℕ) → List (List ℕ × List ℕ) → Type 0
+Dumps held holds records = Appends held holds (dump_text records) × All CanBePut records
+
+-- the fault is from outside, or the writer's, and then a front of the text is written
+abbrev pub DumpStops : Option (List ℕ) → Option (List ℕ) → List ℕ → DumpFault → Type 0
+DumpStops held holds text (File fault) = IsOutsideFile fault
+DumpStops held holds text Write = (sent : ℕ) × (sent < length text) × Appends held holds (take sent text)
