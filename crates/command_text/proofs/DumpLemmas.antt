@@ -1,5 +1,5 @@
 -- What the lines of a dump say.
-use Rattle.std.proofs.Common.{◌≡◌, ℕ, ◌+◌, ◌-◌, ◌*◌, ◌^◌, ◌<◌, zero, suc, Bool, true, false, cond, ◌&&◌, nat_le, nat_lt, ◌==◌, List, [], ◌∷◌, ◌++◌, length, map, filter, take, get_or, Ok, Err, Option, Some, None, codes, refl, sym, ap, subst, ◌∙◌, arith}
+use Rattle.std.proofs.Common.{◌≡◌, ℕ, ◌-◌, ◌<◌, Bool, true, false, cond, ◌&&◌, nat_le, nat_lt, ◌==◌, List, [], ◌∷◌, ◌++◌, length, map, filter, take, get_or, Ok, Option, Some, codes, refl, ap, ◌∙◌, arith}
 use Rattle.std.specs.List.{All, list_all, slice_split, flat_map}
 use Rattle.std.specs.Io.BufRead.{strip_last}
 use Rattle.std.proofs.lemmas.Bool.Decides.{nat_tests}
@@ -7,7 +7,7 @@ use Rattle.std.proofs.lemmas.List.{append_assoc}
 use Rattle.std.proofs.lemmas.List.Folds.{list_all-append}
 use Rattle.std.proofs.lemmas.List.Elements.{All-nil, All-cons, All-head, All-tail, All-get_or}
 use Rattle.std.proofs.lemmas.List.Splits.{slice_split_at, slice_split_none, length-slice_split}
-use Rattle.percent_encoding.specs.Percent.{percent_decode, percent_encode_byte}
+use Rattle.percent_encoding.specs.Percent.{percent_encode_byte}
 use Rattle.rec_types.specs.Key.{key_of}
 use Rattle.rec_types.specs.Record.{record_of}
 use Rattle.rec_types.specs.declared.transaction.TxId.{TxId}
@@ -16,7 +16,7 @@ use Rattle.command_text.specs.declared.command.Command.TheVariants as command
 use Rattle.command_text.specs.declared.command.LineFault.TheVariants.{KeyTooLong, RecordTooLong}
 use Rattle.command_text.specs.Dump.{put_text, put_line, dump_text, put_of, dump_commands, CanBePut}
 use Rattle.command_text.specs.Examples.{tx}
-use Rattle.command_text.specs.Grammar.{Read, ◌>>=◌, read_as, or_fault, is_space, is_word, words_of, key_at, record_at, tx_key_record_of, command_of, value_of, tx_command_of, line_of_words, line_of}
+use Rattle.command_text.specs.Grammar.{Read, ◌>>=◌, read_as, or_fault, is_space, is_word, words_of, key_at, record_at, command_of, value_of, tx_command_of, line_of_words, line_of}
 use Rattle.command_text.specs.Script.{is_lf, without_empty_last, lines_of, keep, entries_in, entries_of}
 use Rattle.command_text.specs.Texts.{is_escaped, is_plain, escaped_byte, escaped, line}
 use Rattle.command_text.proofs.EscapeLaws.{read_back, plain}

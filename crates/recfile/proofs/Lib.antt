@@ -6,3 +6,4 @@ pub mod ScriptRunLemmas
 pub mod CallRunLemmas
 pub mod WholeAbortLemmas
 pub mod ScriptAnswerLemmas
+pub mod DumpRunLemmas

@@ -1,12 +1,18 @@
 //! Facts of the definitions that contracts of this crate cite.
 ghost use Rattle.std.specs.Prelude.{◌≡◌, ℕ, Bool, List, [], ◌∷◌, Option, Some, None, Result, Ok, IsTrue, true, false};
 ghost use Rattle.std.specs.FinMap as maps;
+ghost use Rattle.std.specs.List.{All};
 ghost use Rattle.rec_types.specs.Contents.{Contents};
 ghost use Rattle.rec_types.specs.LimitBounds.{Bounds};
 ghost use Rattle.record_file.specs.Abstract.{File, new_file, open_of};
 ghost use Rattle.record_file.specs.Runs.{Event, Run, Seen};
+ghost use Rattle.command_text.specs.Dump.{dump_text, CanBePut};
+ghost use Rattle.command_text.specs.Refusals.{is_refusal};
+ghost use Rattle.command_text.specs.Script.{entries_of};
+ghost use Rattle.command_text.specs.declared.reply.Reply.{Reply};
 ghost use Rattle.recfile.specs.Ending.{AbortsWhole, EndsAll, without};
 ghost use Rattle.recfile.specs.Examples.{four_changes, two_taken_back};
+ghost use Rattle.recfile.specs.Run.{Session};
 ghost use Rattle.recfile.specs.WholeSession.{EndsFile, IsSession};
 ghost use Rattle.recfile.specs.declared.endings.EndFault.{EndFault};
 ghost use Rattle.recfile.specs.declared.script.RunFault.{RunFault};
@@ -45,4 +51,12 @@ pub fn sessions_by_example()
         × (maps.get new.records (98 ∷ []) ≡ Some (121 ∷ [])) }
     ensures unclosed { (strict : Bool) (left leaves held holds : Option (List ℕ)) (old : Seen) (status : ℕ)
         → EndsFile strict left leaves held holds old (λ _ _. ⊥) status → status ≡ 4 }
+{}
+
+/// A dump that is run over a file without records, with no refusal, gives exactly its records.
+pub fn dumps_are_loaded()
+    ensures { (old new : Seen) (records : Contents) (replies : List Reply)
+        → IsTrue old.sound → old.records ≡ maps.empty → All CanBePut (maps.entries records)
+        → Session old (entries_of (dump_text (maps.entries records))) replies new
+        → All (λ r. is_refusal r ≡ false) replies → new.records ≡ records }
 {}

@@ -2,7 +2,7 @@ use super::{flaky_file, greatest, run};
 use crate::expect_text;
 use page_store::MemStore;
 use rec_types::{Limits, SortedTable, Table, TxId};
-use recfile::laws::{aborts_are_whole, endings_by_example};
+use recfile::laws::{aborts_are_whole, dumps_are_loaded, endings_by_example};
 use recfile::{
     DumpFault, EndFault, ScriptFault, create_in, dump_in, end_all, exit_status, run_memory,
     run_script,
@@ -371,4 +371,5 @@ fn a_dump_that_is_not_written(rt: HostRuntime) {
 fn laws_hold(_rt: HostRuntime) {
     endings_by_example();
     aborts_are_whole();
+    dumps_are_loaded();
 }
