@@ -339,6 +339,7 @@ fn numbers_at_the_ends_of_their_ranges(rt: HostRuntime) {
             "ok 1\nok none\nno Full\n",
         ),
         good("recfile", "begin\nlist\n", "ok 1\nok 0\n"),
+        good("recfile --version", "begin\n", "recfile 1.0\n"),
         good(
             "recfile memory --strict",
             "#\nbegin\nget 1 a\ncommit 1",
