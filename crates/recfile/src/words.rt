@@ -119,7 +119,7 @@ fn with_session<'a>(alloc: Global, command: Command<'a>) -> Result<Command<'a>, 
 
 fn create_command<'a>(alloc: Global) -> Result<Command<'a>, AllocError> {
     Command::new(alloc, "create")
-        .about("Makes a page file with no records")
+        .about("Makes a page file with no records, as: recfile create --order 8 a.rec")
         .arg(order_option(alloc))?
         .arg(file_word(
             alloc,
@@ -129,37 +129,44 @@ fn create_command<'a>(alloc: Global) -> Result<Command<'a>, AllocError> {
 
 fn run_command<'a>(alloc: Global) -> Result<Command<'a>, AllocError> {
     let run = Command::new(alloc, "run").about(
-        "Runs the script of standard input over a page file, and writes its replies",
+        "Runs the script of standard input over a page file, and writes its replies, as: recfile run a.rec < script.txt",
     );
     with_session(alloc, run)?.arg(file_word(alloc, "The path of the page file"))
 }
 
 fn check_command<'a>(alloc: Global) -> Result<Command<'a>, AllocError> {
     Command::new(alloc, "check")
-        .about("Checks a whole page file, and tells of its tree")
+        .about("Checks a whole page file, and tells of its tree, as: recfile check a.rec")
         .arg(file_word(alloc, "The path of the page file"))
 }
 
 fn dump_command<'a>(alloc: Global) -> Result<Command<'a>, AllocError> {
     Command::new(alloc, "dump")
-        .about("Writes the records of a page file as a script that puts them in one transaction")
+        .about(
+            "Writes the records of a page file as a script that puts them in one transaction, as: recfile dump a.rec | recfile run --strict b.rec",
+        )
         .arg(file_word(alloc, "The path of the page file"))
 }
 
 fn memory_command<'a>(alloc: Global) -> Result<Command<'a>, AllocError> {
     let memory = Command::new(alloc, "memory").about(
-        "Runs the script of standard input over an empty file in memory",
+        "Runs the script of standard input over an empty file in memory, as: recfile memory < script.txt",
     );
     with_session(alloc, memory)
 }
 
+// The version of the program, which is that of the library.
+const VERSION: &str = "1.0";
+
 // The program with none of its commands.
 fn bare_program<'a>(alloc: Global) -> Result<Command<'a>, AllocError> {
     let program = Command::new(alloc, "recfile").bin_name("recfile")?;
-    Ok(program.about(
-        "A keyed record file under transactions; with no words, the same as memory. The lines of a script: \
+    Ok(
+        program.version(VERSION).about(
+            "A keyed record file under transactions; with no words, the same as memory. The lines of a script: \
 begin, put, del, get, claim, save, release, back, resume, abort, commit, list, keys, log",
-    ))
+        ),
+    )
 }
 
 fn with_command<'a>(

@@ -339,6 +339,7 @@ fn numbers_at_the_ends_of_their_ranges(rt: HostRuntime) {
             "ok 1\nok none\nno Full\n",
         ),
         good("recfile", "begin\nlist\n", "ok 1\nok 0\n"),
+        good("recfile --version", "begin\n", "recfile 1.0\n"),
         good(
             "recfile memory --strict",
             "#\nbegin\nget 1 a\ncommit 1",
@@ -501,32 +502,12 @@ fn long_script(rt: &impl Abort, alloc: Global, lines: u32) -> String {
     script
 }
 
-// A script that is too long is not run, a session that changes nothing writes nothing, and a new file is not made over
-// one that is there: the file stays as it is.
-#[test]
-fn files_that_stay_as_they_are(rt: HostRuntime) {
-    let alloc = rt.alloc();
-    let _ = fs::remove_file(&rt, "stays.rec");
-    expect_calls(
-        &rt,
-        alloc,
-        &[
-            good("recfile create --order 1 stays.rec", "", ""),
-            good("recfile run stays.rec", THREE_RECORDS, THREE_REPLIES),
-            good("recfile check stays.rec", "", THREE_CHECKED),
-        ],
-    );
-    let bytes = fs::read(&rt, "stays.rec").expect(&rt, "no file");
-    let long = long_script(&rt, alloc, 131_073);
+/// Calls that leave the file of three records as it is; the script is a long one.
+fn calls_that_change_nothing<'a>(long: &'a str) -> [Call<'a>; 7] {
     let back = "begin\nput 1 a =w\nback 1 0\nget 1 a\n";
     let claims = "begin\nbegin\nclaim 1 a\nclaim 2 d\ncommit 1\nclaim 2 a\n";
-    for call in [
-        bad(
-            "recfile run stays.rec",
-            &long,
-            "recfile: ScriptTooLong\n",
-            3,
-        ),
+    [
+        bad("recfile run stays.rec", long, "recfile: ScriptTooLong\n", 3),
         good("recfile run stays.rec", back, "ok 1\nok =x\nok 1\nok =x\n"),
         good(
             "recfile run stays.rec",
@@ -552,7 +533,27 @@ fn files_that_stay_as_they_are(rt: HostRuntime) {
             "recfile: Refused 3\n",
         ),
         good("recfile run stays.rec", "", ""),
-    ] {
+    ]
+}
+
+// A script that is too long is not run, a session that changes nothing writes nothing, and a new file is not made over
+// one that is there: the file stays as it is.
+#[test]
+fn files_that_stay_as_they_are(rt: HostRuntime) {
+    let alloc = rt.alloc();
+    let _ = fs::remove_file(&rt, "stays.rec");
+    expect_calls(
+        &rt,
+        alloc,
+        &[
+            good("recfile create --order 1 stays.rec", "", ""),
+            good("recfile run stays.rec", THREE_RECORDS, THREE_REPLIES),
+            good("recfile check stays.rec", "", THREE_CHECKED),
+        ],
+    );
+    let bytes = fs::read(&rt, "stays.rec").expect(&rt, "no file");
+    let long = long_script(&rt, alloc, 131_073);
+    for call in calls_that_change_nothing(&long) {
         expect_kept(&rt, alloc, &call, "stays.rec", &bytes);
     }
     fs::remove_file(&rt, "stays.rec").expect(&rt, "no file");
