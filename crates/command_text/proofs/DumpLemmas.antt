@@ -102,14 +102,14 @@ put_words : (key value : List ℕ) → list_all is_plain key ≡ true → list_a
 put_words key value key_plain value_plain word =
     ap words_of (put_text_is key value)
     ∙ ap (filter is_word) (
-      slice_split_at is_space (codes "put") 32 (codes "1" ++ 32 ∷ key ++ 32 ∷ 61 ∷ value) (each is_plain (λ b. is_space b ≡ false) no_space (codes "put") refl) refl
-      ∙ ap (λ (ws : List (List ℕ)). codes "put" ∷ ws) (
-        slice_split_at is_space (codes "1") 32 (key ++ 32 ∷ 61 ∷ value) (each is_plain (λ b. is_space b ≡ false) no_space (codes "1") refl) refl
-        ∙ ap (λ (ws : List (List ℕ)). codes "1" ∷ ws) (
-          slice_split_at is_space key 32 (61 ∷ value) (each is_plain (λ b. is_space b ≡ false) no_space key key_plain) refl
-          ∙ ap (λ (ws : List (List ℕ)). key ∷ ws) (slice_split_none is_space (61 ∷ value) (All-cons (λ b. is_space b ≡ false) 61 value refl (each is_plain (λ b. is_space b ≡ false) no_space value value_plain)))
-        )
-      )
+    slice_split_at is_space (codes "put") 32 (codes "1" ++ 32 ∷ key ++ 32 ∷ 61 ∷ value) (each is_plain (λ b. is_space b ≡ false) no_space (codes "put") refl) refl
+    ∙ ap (λ (ws : List (List ℕ)). codes "put" ∷ ws) (
+    slice_split_at is_space (codes "1") 32 (key ++ 32 ∷ 61 ∷ value) (each is_plain (λ b. is_space b ≡ false) no_space (codes "1") refl) refl
+    ∙ ap (λ (ws : List (List ℕ)). codes "1" ∷ ws) (
+    slice_split_at is_space key 32 (61 ∷ value) (each is_plain (λ b. is_space b ≡ false) no_space key key_plain) refl
+    ∙ ap (λ (ws : List (List ℕ)). key ∷ ws) (slice_split_none is_space (61 ∷ value) (All-cons (λ b. is_space b ≡ false) 61 value refl (each is_plain (λ b. is_space b ≡ false) no_space value value_plain)))
+    )
+    )
     )
     ∙ ap (λ (t : Bool). codes "put" ∷ codes "1" ∷ cond t (key ∷ (61 ∷ value) ∷ []) ((61 ∷ value) ∷ [])) word
 
