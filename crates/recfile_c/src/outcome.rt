@@ -4,8 +4,8 @@ ghost use Rattle.recfile_c.specs.Outcomes as outcomes;
 use btree_delete::{CreateFault, OpenFault};
 use rec_types::{KeyFault, LimitFault, TxId};
 use record_file::{
-    AbortFault, BeginFault, Cause, ClaimFault, CommitFault, EntriesFault, GetFault, KeysOfFault, PutFault,
-    ReleaseFault, RemoveFault, ResumeFault, RollbackToFault, SavepointFault, StatusFault,
+    AbortFault, BeginFault, Cause, ClaimFault, CommitFault, EntriesFault, GetFault, KeysOfFault,
+    PutFault, ReleaseFault, RemoveFault, ResumeFault, RollbackToFault, SavepointFault, StatusFault,
 };
 
 /// The call did what it was asked.
