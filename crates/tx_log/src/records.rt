@@ -80,16 +80,8 @@ impl Entry {
         ensures { result ≡ told_as self.now.kind self.now.lsn self.now.prev self.now.tx
             self.now.key before after self.now.undo_next }
     {
-        let Entry {
-            kind,
-            lsn,
-            prev,
-            tx,
-            undo_next,
-            key,
-            ..
-        } = *self;
-        match kind {
+        let (lsn, prev, tx, key) = (self.lsn, self.prev, self.tx, self.key);
+        match self.kind {
             Kind::Update => LogRecord::Update {
                 lsn,
                 prev,
@@ -104,7 +96,7 @@ impl Entry {
                 tx,
                 key,
                 restored: before,
-                undo_next,
+                undo_next: self.undo_next,
             },
             Kind::Claim => LogRecord::Claim {
                 lsn,
@@ -118,7 +110,7 @@ impl Entry {
                 prev,
                 tx,
                 key,
-                undo_next,
+                undo_next: self.undo_next,
             },
         }
     }
