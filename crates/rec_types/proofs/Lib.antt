@@ -1,5 +1,6 @@
 pub mod ContentsLemmas
 pub mod Fields
+pub mod HashedLemmas
 pub mod HistoryLemmas
 pub mod TakeBackLemmas
 pub mod MapLemmas

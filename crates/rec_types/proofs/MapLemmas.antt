@@ -1,21 +1,14 @@
--- The contents that an ordered map holds.
-use Rattle.std.proofs.Common.{◌≡◌, ℕ, ◌+◌, ◌≤◌, Bool, true, false, cond, if◌then◌else◌, ◌&&◌, T, List, [], ◌∷◌, length, Option, Some, None, is_some, is_none, nat_le, refl, sym, ap, subst, ◌∙◌, arith}
+-- Sorted pairs, and the room of a table.
+use Rattle.std.proofs.Common.{◌≡◌, ℕ, ◌+◌, ◌≤◌, Bool, true, false, if◌then◌else◌, ◌&&◌, T, List, [], ◌∷◌, Option, Some, None, is_some, is_none, nat_le, refl, sym, ap, subst, ◌∙◌, arith}
 use Rattle.std.proofs.lemmas.Bool.Decides.{nat_tests}
-use Rattle.std.specs.BTreeMap.{BTreeMap, get_by, is_at, Updates}
-use Rattle.std.specs.Map.{keys_of, lookup}
+use Rattle.std.specs.Map.{keys_of}
 use Rattle.std.specs.List.Sorted.{IsStrictlySortedBy}
 use Rattle.std.specs.List.{AllByRecursion}
-use Rattle.std.specs.Ordering.{nat_cmp, is_eq, is_lt}
+use Rattle.std.specs.Ordering.{nat_cmp, is_lt}
 use Rattle.std.specs.declared.cmp.Ordering.TheVariants.{Less}
 use Rattle.std.specs.Cmp.Lexicographic.{slice_cmp}
-use Rattle.std.specs.FinMap.{get, from_sorted, entries, entries-from_sorted, get-from_sorted, len, len-entries, empty, empty_of_len}
-use Rattle.std.specs.FinMap.Entries.{find, below_all}
-use Rattle.rec_types.specs.Contents.{Contents, set_to, same_key}
-use Rattle.rec_types.specs.Sorted.{SortedState, Pairs, is_sorted}
-use Rattle.rec_types.proofs.ContentsLemmas.{get-set_to, same_contents, same_key-sym}
-
-abbrev Map : Type 0
-Map = BTreeMap (List ℕ) (List ℕ)
+use Rattle.std.specs.FinMap.Entries.{below_all}
+use Rattle.rec_types.specs.Sorted.{Pairs, is_sorted}
 
 both : (a b : Bool) → T a → T b → T (a && b)
 both true b p q = q
@@ -30,32 +23,6 @@ pub sorted_of : (es : Pairs) → IsStrictlySortedBy (slice_cmp nat_cmp) (keys_of
 unfolding IsStrictlySortedBy
 sorted_of [] rises = tt
 sorted_of (e ∷ es) rises = both (below_all (slice_cmp nat_cmp) e.0 es) _ (below e.0 es rises.0) (sorted_of es rises.1)
-
-found : (es : Pairs) (q : List ℕ) → find (slice_cmp nat_cmp) q es ≡ lookup (is_at (slice_cmp nat_cmp q)) es
-found [] q = refl
-found (e ∷ es) q = ap (cond (is_eq (slice_cmp nat_cmp q e.0)) (Some e.1)) (found es q)
-
--- what the contents have at a key is what the map has there
-pub got : (m : Map) (q : List ℕ) → is_sorted m.entries → get (from_sorted {R = slice_cmp nat_cmp} m.entries) q ≡ get_by (slice_cmp nat_cmp q) m
-got m q sorted = get-from_sorted (slice_cmp nat_cmp) m.entries q sorted ∙ found m.entries q
-
--- the contents after a change of the map
-pub contents_updated : (m n : Map) (k : List ℕ) (w : Option (List ℕ)) → is_sorted m.entries → is_sorted n.entries → Updates (slice_cmp nat_cmp) m n k w → ◌≡◌ {A = Contents} (from_sorted n.entries) (set_to (from_sorted m.entries) k w)
-contents_updated m n k w old new updates = same_contents _ _ (λ q.
-    got n q new ∙ updates.0 q ∙ ap (cond (same_key k q) w) (sym (got m q old)) ∙ ap (λ b. cond b w (get (from_sorted {R = slice_cmp nat_cmp} m.entries) q)) (same_key-sym k q)
-    ∙ sym (get-set_to (from_sorted m.entries) k w q))
-
--- a map of sorted pairs has as many keys as there are pairs
-pub len-map : (es : Pairs) → is_sorted es → ◌≡◌ {A = ℕ} (len (from_sorted {R = slice_cmp nat_cmp} es)) (length es)
-len-map es sorted = len-entries (from_sorted {R = slice_cmp nat_cmp} es) ∙ ap length (entries-from_sorted (slice_cmp nat_cmp) es sorted)
-
--- the entries of a map of sorted pairs are the pairs
-pub entries-map : (es : Pairs) → is_sorted es → entries (from_sorted {R = slice_cmp nat_cmp} es) ≡ es
-entries-map es sorted = entries-from_sorted (slice_cmp nat_cmp) es sorted
-
--- no entries make empty contents
-pub new_state : (es : Pairs) (n m : ℕ) → es ≡ [] → n ≡ m → (let s : SortedState = record { contents = from_sorted es; limit = n; refusals = 0 } in s) ≡ record { contents = empty; limit = m; refusals = 0 }
-new_state es n m none same = (λ i. record { contents = from_sorted (none i); limit = same i; refusals = 0 }) ∙ ap (λ (c : Contents). let s : SortedState = record { contents = c; limit = m; refusals = 0 } in s) (empty_of_len (from_sorted []) (len-map [] tt))
 
 -- nothing isn't something
 pub none_not_some : (o : Option (List ℕ)) → o ≡ None → is_some o ≡ true → false ≡ true

@@ -1,9 +1,9 @@
--- A table in an ordered map.
-use Rattle.std.specs.Prelude.{ℕ, T, List, refl}
+-- A table in a hashed map.
+use Rattle.std.specs.Prelude.{ℕ, ◌==◌, Bool, T, List, refl}
 use Rattle.std.specs.Coded.{Coded, code_by, coded×, coded_ℕ}
 use Rattle.std.specs.FinMap as maps
 use Rattle.std.specs.Ordering.{nat_cmp}
-use Rattle.std.specs.Cmp.Lexicographic.{slice_cmp}
+use Rattle.std.specs.Cmp.Lexicographic.{slice_cmp, pointwise}
 use Rattle.rec_types.specs.Contents.{Contents, coded_contents}
 
 -- the records, how many there are at most, and how many growths were refused
@@ -20,3 +20,7 @@ Pairs = List (List ℕ × List ℕ)
 
 abbrev pub is_sorted : Pairs → Type 0
 is_sorted es = T (maps.is_sorted (slice_cmp nat_cmp) es)
+
+-- the test of keys that a hashed map goes by
+abbrev pub same_bytes : List ℕ → List ℕ → Bool
+same_bytes a b = pointwise ◌==◌ a b

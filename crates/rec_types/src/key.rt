@@ -23,7 +23,8 @@ pub enum KeyFault {
 #[derive(Clone, Copy, Debug)]
 pub struct Key {
     bytes: [u8; KEY_WIDTH],
-    len: u8,
+    // Four bytes, so that a copy of a key falls on words.
+    len: u32,
 }
 
 impl Model for Key {
@@ -60,7 +61,7 @@ impl Key {
         padded[..bytes.len()].copy_from_slice(bytes);
         Ok(Key {
             bytes: padded,
-            len: bytes.len() as u8,
+            len: bytes.len() as u32,
         })
     }
 
@@ -73,7 +74,10 @@ impl Key {
         if len == 0 || len as usize > KEY_WIDTH || !is_zero_from(field, len) {
             return None;
         }
-        Some(Key { bytes: *field, len })
+        Some(Key {
+            bytes: *field,
+            len: len as u32,
+        })
     }
 
     /// The bytes of the key.
@@ -161,15 +165,17 @@ impl PartialOrd for Key {
 }
 
 impl Hash for Key {
-    ghost use Rattle.std.specs.Hash as fed;
+    ghost use Rattle.std.specs.Prelude.{[], ◌∷◌};
+    ghost use Rattle.rec_types.specs.Padded.{padded};
+    ghost use Rattle.rec_types.specs.Widths.{key_width};
     ghost use Rattle.std.specs.Cmp.Rules.{hashing};
     ghost use Rattle.std.proofs.Common.{rules};
 
-    ghost hash_input = { λ k. fed.slice fed.u8 k };
+    ghost hash_input = { λ k. padded key_width k ∷ [] };
 
     ghost respects_eq = { Prim.search (hashing, rules) };
 
     fn hash<H: Hasher>(&self, state: &mut H) {
-        self.bytes().hash(state)
+        state.write(&self.bytes);
     }
 }

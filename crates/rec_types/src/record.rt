@@ -19,7 +19,8 @@ pub enum RecordFault {
 #[derive(Clone, Copy, Debug)]
 pub struct Record {
     bytes: [u8; RECORD_WIDTH],
-    len: u8,
+    // Four bytes, so that a copy of a record falls on words.
+    len: u32,
 }
 
 impl Model for Record {
@@ -53,7 +54,7 @@ impl Record {
         padded[..bytes.len()].copy_from_slice(bytes);
         Ok(Record {
             bytes: padded,
-            len: bytes.len() as u8,
+            len: bytes.len() as u32,
         })
     }
 
@@ -66,7 +67,10 @@ impl Record {
         if len as usize > RECORD_WIDTH || !is_zero_behind(field, len) {
             return None;
         }
-        Some(Record { bytes: *field, len })
+        Some(Record {
+            bytes: *field,
+            len: len as u32,
+        })
     }
 
     /// The bytes of the record.

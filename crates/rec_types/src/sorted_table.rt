@@ -1,18 +1,22 @@
-ghost use Rattle.std.specs.Prelude.{◌≡◌, ◌≢◌, ℕ, ◌≤◌, None, Ok, Err, false, IsOk, IsSome, IfOk, OnOk, OnErr, nat_le, ◌&&◌, is_none};
+ghost use Rattle.std.specs.Prelude.{List, IsTrue, IsSorted, ◌≡◌, ◌≢◌, ℕ, ◌≤◌, None, Ok, Err, false, IsOk, IsSome, IfOk, OnOk, OnErr, nat_le, ◌&&◌, is_none};
 ghost use Rattle.std.specs.FinMap as maps;
+ghost use Rattle.std.specs.Ordering.{nat_cmp};
+ghost use Rattle.std.specs.Cmp.Lexicographic.{slice_cmp};
 ghost use Rattle.rec_types.specs.Contents.{set_to};
 ghost use Rattle.rec_types.specs.Answered.{Answered};
 ghost use Rattle.rec_types.specs.Table.{is_device};
+ghost use Rattle.rec_types.specs.Sorted.{is_sorted, same_bytes};
+ghost use Rattle.indexmap.specs.IndexMap.{get, keys, index_map_len, IsUnique};
 
 use crate::{Key, Limits, Record, Table, TableFault, TableState};
+use indexmap::IndexMap;
 use std::alloc::{AllocError, Global};
-use std::collections::BTreeMap;
 use std::marker::Model;
 
-/// A table in an ordered map. It is always sound, and never answers Device or Damaged.
+/// A table in a hashed map, whose records are put in order where they are asked for in order. It is always sound, and never answers Device or Damaged.
 #[derive(Debug, Drop)]
 pub struct SortedTable {
-    records: BTreeMap<Key, Record>,
+    records: IndexMap<Key, Record>,
     alloc: Global,
     limit: u32,
     refusals: u64,
@@ -39,7 +43,7 @@ impl SortedTable {
         ensures { result ≡ record { contents = maps.empty; limit = limits.records; refusals = 0 } }
     {
         SortedTable {
-            records: BTreeMap::new(alloc),
+            records: IndexMap::new(alloc),
             alloc,
             limit: limits.records(),
             refusals: 0,
@@ -99,7 +103,7 @@ impl Table for SortedTable {
         ensures taken { to ≡ None → IsOk result }
     {
         let Some(record) = to else {
-            return Ok(self.records.remove(&key));
+            return Ok(self.records.swap_remove(&key));
         };
         if self.is_full_for(&key) {
             return Err(TableFault::NoRoom);
@@ -114,6 +118,10 @@ impl Table for SortedTable {
     }
 
     fn entries(&mut self) -> Result<Vec<(Key, Record)>, TableFault> {
+        if let Err(_) = put_in_order(&mut self.records) {
+            self.refusals = self.refusals.saturating_add(1);
+            return Err(TableFault::Memory);
+        }
         match copied(self.alloc, &self.records) {
             Ok(records) => Ok(records),
             Err(_) => {
@@ -132,8 +140,30 @@ impl Table for SortedTable {
     }
 }
 
+// Whether the records stand in the order of their keys.
+fn is_in_order(records: &IndexMap<Key, Record>) -> bool
+    ensures { IsTrue result → IsSorted (slice_cmp nat_cmp) (keys records.now) }
+{
+    records.is_sorted()
+}
+
+// Puts the records in the order of their keys. A fault leaves them as they are.
+fn put_in_order(records: &mut IndexMap<Key, Record>) -> Result<(), AllocError>
+    ensures sorted { OnOk result (is_sorted records.new.entries) }
+    ensures same { (q : List ℕ) → get same_bytes records.new q ≡ get same_bytes records.old q }
+    ensures unique { IsUnique same_bytes records.new }
+    ensures len { index_map_len records.new ≡ index_map_len records.old }
+{
+    // What this says is that no key stands twice.
+    let _count = records.len();
+    if is_in_order(records) {
+        return Ok(());
+    }
+    records.sort_keys()
+}
+
 // The records in order.
-fn copied(alloc: Global, records: &BTreeMap<Key, Record>) -> Result<Vec<(Key, Record)>, AllocError>
+fn copied(alloc: Global, records: &IndexMap<Key, Record>) -> Result<Vec<(Key, Record)>, AllocError>
     ensures { IfOk result (λ list. list.items ≡ records.now.entries) }
 {
     let mut list = Vec::with_capacity(alloc, records.len())?;

@@ -78,6 +78,15 @@ impl<T: Table> RecordFile<T> {
         }
     }
 
+    /// The table as it is, with the changes of transactions that are open still: the log, by which they could be taken
+    /// back, is given up. It takes no memory.
+    pub fn abandon(self) -> T
+        ensures { result ≡ self.table }
+    {
+        let RecordFile { table, .. } = self;
+        table
+    }
+
     /// Begins a transaction; its number is the count of those begun. Faults: BeginsSpent, Memory.
     pub fn begin(&mut self) -> Result<TxId, BeginFault>
         ensures step { BeginStep self.old.file result self.new.file }

@@ -19,8 +19,23 @@ pub held_put : (rs : List LogRecord) (old new : Txs) (holds : HoldsKey) (t : ℕ
 held_put rs old new holds t e d puts there is = subst (λ (o : ℕ → Bool). IsHeld rs o holds) (sym (opens-put t old new d e puts there)) is
 
 -- it ends, and its keys are freed
-pub held_closed : (rs : List LogRecord) (old new : Txs) (holds holds_new : HoldsKey) (t : ℕ) (e : OpenTx) → PutsAt old new t None → old t ≡ Some e → Freed holds holds_new (stack t rs) → IsHeld rs (opens old) holds → IsHeld rs (opens new) holds_new
+held_closed : (rs : List LogRecord) (old new : Txs) (holds holds_new : HoldsKey) (t : ℕ) (e : OpenTx) → PutsAt old new t None → old t ≡ Some e → Freed holds holds_new (stack t rs) → IsHeld rs (opens old) holds → IsHeld rs (opens new) holds_new
 held_closed rs old new holds holds_new t e puts there freed is = subst (λ (o : ℕ → Bool). IsHeld rs o holds_new) (sym (opens-remove t old new puts)) (held_ended rs (opens old) holds holds_new t is (ap is_some there) freed)
+
+-- with the last one all keys are forgotten
+
+nothing_held : (rs : List LogRecord) (is_open : ℕ → Bool) (holds : HoldsKey) → ((t : ℕ) → is_open t ≡ false) → ((q : List ℕ) → holds q ≡ None) → IsHeld rs is_open holds
+nothing_held rs is_open holds closed none = record {
+  counted = λ t k opened. absurd (let no : false ≡ true = sym (closed t) ∙ opened in cc);
+  marked = λ t k opened. absurd (let no : false ≡ true = sym (closed t) ∙ opened in cc);
+  owned = λ k. subst (λ (o : Option Holding). IfSome o (λ h. 0 < h.live → is_open h.owner.0 ≡ true)) (sym (none k)) tt;
+  idle_there = λ k. subst (λ (o : Option Holding). IfSome o (λ h. h.live ≡ 0 → h.absent ≡ false)) (sym (none k)) tt;
+}
+
+-- a transaction ends, whether or not it is the last that is open
+pub held_after : (b : Bool) (rs : List LogRecord) (old new : Txs) (holds holds_new : HoldsKey) (t : ℕ) (e : OpenTx) → PutsAt old new t None → old t ≡ Some e → (b ≡ true → (u : ℕ) → opens new u ≡ false) → (b ≡ true → (q : List ℕ) → holds_new q ≡ None) → (b ≡ false → Freed holds holds_new (stack t rs)) → IsHeld rs (opens old) holds → IsHeld rs (opens new) holds_new
+held_after true rs old new holds holds_new t e puts there closed none freed is = nothing_held rs (opens new) holds_new (closed refl) (none refl)
+held_after false rs old new holds holds_new t e puts there closed none freed is = held_closed rs old new holds holds_new t e puts there (freed refl) is
 
 -- a new one has no key
 pub held_more : (rs : List LogRecord) (old new : Txs) (holds : HoldsKey) (n : ℕ) (e : OpenTx) → AllFit rs n old → PutsAt old new (n + 1) (Some e) → stack (n + 1) rs ≡ [] → IsHeld rs (opens old) holds → IsHeld rs (opens new) holds
@@ -41,8 +56,13 @@ busy_placed old new k w over places some is = λ q. subst (λ (o : Option Holdin
     never (Some x) h q = λ none. absurd (omega (arith, h, none))
 
 -- keys are taken out: still only the key left over has no live change
-pub busy_freed : (old new : HoldsKey) (us : List LogRecord) (over : Option (List ℕ)) → Freed old new us → AllBusy old over → AllBusy new over
+busy_freed : (old new : HoldsKey) (us : List LogRecord) (over : Option (List ℕ)) → Freed old new us → AllBusy old over → AllBusy new over
 busy_freed old new us over freed is = λ q. subst (λ (o : Option Holding). IfSome o (λ h. h.live ≡ 0 → over ≡ Some q)) (sym (freed q)) (busy_case (list_any (is_at q) us) None (old q) (λ h. h.live ≡ 0 → over ≡ Some q) tt (is q))
+
+-- the same where a transaction ends
+pub busy_after : (b : Bool) (old new : HoldsKey) (us : List LogRecord) (over : Option (List ℕ)) → (b ≡ true → (q : List ℕ) → new q ≡ None) → (b ≡ false → Freed old new us) → AllBusy old over → AllBusy new over
+busy_after true old new us over none freed is = λ q. subst (λ (o : Option Holding). IfSome o (λ h. h.live ≡ 0 → over ≡ Some q)) (sym (none refl q)) tt
+busy_after false old new us over none freed is = busy_freed old new us over (freed refl) is
 
 -- a key that keeps a live change stays
 pub lowered_busy : (h : Holding) (n : ℕ) (absent : Bool) → h.live ≡ n + 1 → IfSome (lowered h absent) (λ x. 0 < x.live)

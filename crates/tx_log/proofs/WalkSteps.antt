@@ -130,6 +130,20 @@ goes_on rs at change s step h =
     let rest : length (filter (is_after s) (chain rs change.prev)) ≡ length us = ap (λ xs. length (filter (is_after s) xs)) step.tail in
     omega arith
 
+-- every number is above none
+
+all_led : (k : Bool) (r : LogRecord) (us : List LogRecord) → 0 < lsn_of r → filter (is_after 0) us ≡ us → filter (is_after 0) (led k r us) ≡ led k r us
+all_led true r us some rest = ap (λ (b : Bool). cond b (r ∷ filter (is_after 0) us) (filter (is_after 0) us)) (is_above 0 (lsn_of r) some) ∙ ap (λ xs. r ∷ xs) rest
+all_led false r us some rest = rest
+
+pub chain-all : (rs : List LogRecord) (n : ℕ) → IsNumbered rs → filter (is_after 0) (chain rs n) ≡ chain rs n
+chain-all [] n is = refl
+chain-all (r ∷ rs) n is = at (eqb (lsn_of r) n) (chain-all rs (leads_to r) is.3) (chain-all rs n is.3)
+  where
+    at : (b : Bool) → filter (is_after 0) (chain rs (leads_to r)) ≡ chain rs (leads_to r) → filter (is_after 0) (chain rs n) ≡ chain rs n → filter (is_after 0) (cond b (led (is_change r) r (chain rs (leads_to r))) (chain rs n)) ≡ cond b (led (is_change r) r (chain rs (leads_to r))) (chain rs n)
+    at true below rest = all_led (is_change r) r (chain rs (leads_to r)) (omega (arith, is.0)) below
+    at false below rest = rest
+
 -- the key of a step is the first of the chain's
 pub keys_on : (rs : List LogRecord) (at : ℕ) (change : LiveChange) → IsStep rs at change → map key_of (chain rs at) ≡ change.key ∷ map key_of (chain rs change.prev)
 keys_on rs at change step =

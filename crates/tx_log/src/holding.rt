@@ -1,4 +1,4 @@
-ghost use Rattle.std.specs.Prelude.{◌≡◌, ℕ, ◌+◌, ◌^◌, ◌-◌, ◌<◌, ◌≤◌, Bool, ◌||◌, ◌==◌, List, IsSome, None, Some, length, reverse, OnOk, OnErr, if◌then◌else◌};
+ghost use Rattle.std.specs.Prelude.{◌≡◌, ℕ, ◌+◌, ◌^◌, ◌-◌, ◌<◌, ◌≤◌, Bool, ◌||◌, ◌==◌, List, IsSome, IsTrue, None, Some, false, length, reverse, OnOk, OnErr, if◌then◌else◌};
 ghost use Rattle.std.specs.List.{list_any};
 ghost use Rattle.indexmap.specs.IndexMap.{index_map_len};
 ghost use Rattle.tx_log.specs.Log.{chain, IsNumbered};
@@ -45,6 +45,9 @@ impl Holding {
 pub fn find_holder(holdings: &Holdings, key: &Key) -> Option<TxId>
     ensures { result ≡ holder (held holdings.now key.now) }
 {
+    if holdings.is_empty() {
+        return None;
+    }
     match holdings.get(key) {
         Some(holding) => {
             if holding.live > 0 {
@@ -154,6 +157,25 @@ pub fn free_keys(holdings: &mut Holdings, log: &Records, marks: &[Mark], from: u
     while let Some(link) = newest_link(log, marks, at) {
         let _ = holdings.swap_remove(&link.key);
         at = link.prev;
+    }
+}
+
+/// Forgets the keys of a transaction that ends: all keys where it is the last that is open, and else those of its
+/// changes that aren't taken back, on the way down from the record with the number `from`.
+pub fn free_held(holdings: &mut Holdings, log: &Records, marks: &[Mark], from: u32, is_last: bool)
+    requires numbered { IsNumbered (reverse log.now.items) }
+    requires marked { AreMarked (reverse log.now.items) (reverse marks.now) }
+    requires within { from ≤ length log.now.items }
+    ensures last { IsTrue is_last → (q : List ℕ) → held holdings.new q ≡ None }
+    ensures others { is_last ≡ false → (q : List ℕ) → held holdings.new q
+        ≡ (if list_any (is_at q) (chain (reverse log.now.items) from) then None
+        else held holdings.old q) }
+{
+    if is_last {
+        // Takes as long as there are keys; a clear would take as long as there is room.
+        holdings.truncate(0);
+    } else {
+        free_keys(holdings, log, marks, from);
     }
 }
 

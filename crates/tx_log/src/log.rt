@@ -7,7 +7,7 @@ ghost use Rattle.tx_log.specs.Transactions.{depth_of, live_in, left_in, fresh, m
 ghost use Rattle.tx_log.specs.Owners.{owner_of, holder_of, keys_owned, absent};
 ghost use Rattle.tx_log.specs.LogState.{new_log, history_in, open_in, tx_in, use_in, phase_in, undo_in, undo_step, places_in, active_with, rolling_to, finished, with_txs, with_update, with_compensation, IsRolling, IsLog};
 
-use crate::holding::{Holdings, find_holder, free_keys, lower, make_room, raise};
+use crate::holding::{Holdings, find_holder, free_held, lower, make_room, raise};
 use crate::mark::{Mark, is_absent_below, newest_number};
 use crate::open_tx::{OpenTx, OpenTxs, find_open, place_of, recount, take_out};
 use crate::phase::Rollback;
@@ -331,7 +331,8 @@ impl TxLog {
     {
         let at = place_of(&self.txs, tx);
         let to = self.txs[at].save_at(n);
-        let left = count_changes(&self.records, &self.marks, self.txs[at].last, to);
+        let open_tx = &self.txs[at];
+        let left = count_changes(&self.records, &self.marks, open_tx.last, open_tx.live, to);
         self.room = None;
         let open_tx = &mut self.txs[at];
         open_tx.turn_back(n, Rollback { to, ends }, left);
@@ -438,7 +439,14 @@ impl TxLog {
         let at = place_of(&self.txs, tx);
         self.room = None;
         let closed = take_out(&mut self.txs, at);
-        free_keys(&mut self.holdings, &self.records, &self.marks, closed.last);
+        let is_last = self.txs.is_empty();
+        free_held(
+            &mut self.holdings,
+            &self.records,
+            &self.marks,
+            closed.last,
+            is_last,
+        );
         self.pending -= closed.live;
         self.gone -= closed.absent;
     }

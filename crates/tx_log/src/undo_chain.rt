@@ -71,13 +71,17 @@ pub fn newest_above(log: &Records, marks: &[Mark], from: u32, to: u32) -> Option
 }
 
 /// How many changes with numbers above `to` aren't taken back, on the way down from the record with the number
-/// `from`.
-pub fn count_changes(log: &Records, marks: &[Mark], from: u32, to: u32) -> u32
+/// `from`. `live` is how many there are with any number.
+pub fn count_changes(log: &Records, marks: &[Mark], from: u32, live: u32, to: u32) -> u32
     requires numbered { IsNumbered (reverse log.now.items) }
     requires marked { AreMarked (reverse log.now.items) (reverse marks.now) }
     requires within { from ≤ length log.now.items }
+    requires live { live ≡ length (chain (reverse log.now.items) from) }
     ensures { result ≡ length (filter (is_after to) (chain (reverse log.now.items) from)) }
 {
+    if to == 0 {
+        return live;
+    }
     let mut count = 0;
     let mut at = from;
     while at > to {

@@ -1,9 +1,15 @@
 use Rattle.std.proofs.Common.{◌+◌, ◌≤◌, length, reverse, sym, ap, ◌∙◌, arith}
-use Rattle.tx_log.proofs.WalkSteps.{walk_link, link_end, chain-low, stops_at, goes_on}
+use Rattle.tx_log.proofs.WalkSteps.{chain-all, walk_link, link_end, chain-low, stops_at, goes_on}
 use Rattle.std.specs.List.{filter}
 use Rattle.tx_log.specs.Log.{chain}
 use Rattle.tx_log.specs.Walks.{is_after}
 use Rattle.tx_log.proofs.undo_chain.count_changes.Goals as goal
+
+-- all of them are above 0
+pub returns-then-to-eq0 : goal.returns-then-to-eq0
+returns-then-to-eq0 c =
+    let rs = reverse c.args.log.now.items in
+    c.requires.live ∙ ap length (sym (chain-all rs c.args.from c.requires.numbered)) ∙ ap (λ n. length (filter (is_after n) (chain rs c.args.from))) (sym c.if-to-eq0.true)
 
 pub returns-then-link-to : goal.returns-then-link-to
 returns-then-link-to c =

@@ -2,23 +2,24 @@ use Rattle.std.proofs.Common.{ℕ, length, List, Option, Some, None, is_some, is
 use Rattle.std.specs.FinMap as maps
 use Rattle.rec_types.specs.Contents.{set_to}
 use Rattle.rec_types.specs.Sorted.{SortedState}
-use Rattle.rec_types.proofs.MapLemmas.{got, sorted_of, contents_updated, len-map, fewer, fits, not_full, is_full, none_not_some}
+use Rattle.rec_types.proofs.HashedLemmas.{at_hash, updated, len_hashed}
+use Rattle.rec_types.proofs.MapLemmas.{fewer, fits, not_full, is_full, none_not_some}
 use Rattle.rec_types.proofs.sorted_table.SortedTableTable.set.Goals as goal
 
 -- the key is taken out
 pub invariant_of-self : goal.invariant_of-self
 invariant_of-self c = record {
-  sorted = sorted_of c.remove.new.self.entries c.remove.ensures.ordered;
-  within = fewer (is_some c.remove.result) _ _ _ c.remove.ensures.len c.self.invariant.within;
+  unique = c.swap_remove.ensures.unique;
+  within = fewer (is_some c.swap_remove.result) _ _ _ c.swap_remove.ensures.len c.self.invariant.within;
   limited = c.self.invariant.limited;
 }
 
 pub returns-in_default-clause-value : goal.returns-in_default-clause-value
-returns-in_default-clause-value c = c.remove.ensures.value ∙ sym (got c.self.inside.records c.args.key c.self.invariant.sorted) ∙ ap (λ (s : SortedState). maps.get s.contents c.args.key) c.self.view_is
+returns-in_default-clause-value c = c.swap_remove.ensures.value ∙ sym (at_hash c.self.inside.records.entries c.args.key) ∙ ap (λ (s : SortedState). maps.get s.contents c.args.key) c.self.view_is
 
 pub returns-in_default-clause-ok : goal.returns-in_default-clause-ok
 returns-in_default-clause-ok c =
-    contents_updated c.self.inside.records c.remove.new.self c.args.key None c.self.invariant.sorted (sorted_of c.remove.new.self.entries c.remove.ensures.ordered) c.remove.ensures.updates
+    updated c.self.inside.records.entries c.swap_remove.new.self.entries c.args.key None c.swap_remove.ensures.updates.0
     ∙ ap (λ (s : SortedState). set_to s.contents c.args.key None) c.self.view_is
     ∙ ap (λ (w : Option (List ℕ)). set_to c.args.self.now.contents c.args.key w) (sym c.in_default.is)
 
@@ -35,12 +36,11 @@ returns-then-is_full_for-clause-present c = λ some.
 -- a record is put
 pub invariant_of-self-in-Ok : goal.invariant_of-self-in-Ok
 invariant_of-self-in-Ok c = record {
-  sorted = sorted_of c.insert.new.self.entries c.in-Ok.ensures.ordered;
+  unique = c.insert.ensures.unique;
   within =
-      let sorted = c.self.invariant.sorted in
       let limits = ap (λ (s : SortedState). s.limit) c.self.view_is in
-      let counts = sym (len-map c.self.inside.records.entries sorted) ∙ ap (λ (s : SortedState). maps.len s.contents) c.self.view_is in
-      let stood = c.in-Ok.ensures.old ∙ sym (got c.self.inside.records c.args.key sorted) ∙ ap (λ (s : SortedState). maps.get s.contents c.args.key) c.self.view_is in
+      let counts = sym (len_hashed c.self.inside.records.entries c.self.invariant.unique) ∙ ap (λ (s : SortedState). maps.len s.contents) c.self.view_is in
+      let stood = c.in-Ok.ensures.old ∙ sym (at_hash c.self.inside.records.entries c.args.key) ∙ ap (λ (s : SortedState). maps.get s.contents c.args.key) c.self.view_is in
       fits c.self.inside.limit (length c.self.inside.records.entries) (length c.insert.new.self.entries) c.in-Ok.before c.in-Ok.ensures.len
       ((λ i. nat_le (limits i) (counts i) && is_none (stood i)) ∙ sym c.if-is_full_for.ensures)
       c.self.invariant.within;
@@ -48,11 +48,11 @@ invariant_of-self-in-Ok c = record {
 }
 
 pub returns-in-Ok-clause-value : goal.returns-in-Ok-clause-value
-returns-in-Ok-clause-value c = c.in-Ok.ensures.old ∙ sym (got c.self.inside.records c.args.key c.self.invariant.sorted) ∙ ap (λ (s : SortedState). maps.get s.contents c.args.key) c.self.view_is
+returns-in-Ok-clause-value c = c.in-Ok.ensures.old ∙ sym (at_hash c.self.inside.records.entries c.args.key) ∙ ap (λ (s : SortedState). maps.get s.contents c.args.key) c.self.view_is
 
 pub returns-in-Ok-clause-ok : goal.returns-in-Ok-clause-ok
 returns-in-Ok-clause-ok c =
-    contents_updated c.self.inside.records c.insert.new.self c.args.key (Some c.in-Some.«record») c.self.invariant.sorted (sorted_of c.insert.new.self.entries c.in-Ok.ensures.ordered) c.in-Ok.ensures.updates
+    updated c.self.inside.records.entries c.insert.new.self.entries c.args.key (Some c.in-Some.«record») c.in-Ok.ensures.updates.0
     ∙ ap (λ (s : SortedState). set_to s.contents c.args.key (Some c.in-Some.«record»)) c.self.view_is
     ∙ ap (λ (w : Option (List ℕ)). set_to c.args.self.now.contents c.args.key w) (sym c.in-Some.is)
 
@@ -65,4 +65,4 @@ returns-in-Err-clause-full c = λ _ absent reached _. absurd (cc (not_full c.arg
 
 pub returns-in-Err-clause-present : goal.returns-in-Err-clause-present
 returns-in-Err-clause-present c = λ some.
-    none_not_some (maps.get c.args.self.now.contents c.args.key) (sym (ap (λ (s : SortedState). maps.get s.contents c.args.key) c.self.view_is) ∙ got c.self.inside.records c.args.key c.self.invariant.sorted ∙ c.in-Err.ensures.absent) some
+    none_not_some (maps.get c.args.self.now.contents c.args.key) (sym (ap (λ (s : SortedState). maps.get s.contents c.args.key) c.self.view_is) ∙ at_hash c.self.inside.records.entries c.args.key ∙ c.in-Err.ensures.absent) some

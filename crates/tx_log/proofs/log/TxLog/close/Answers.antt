@@ -1,10 +1,10 @@
-use Rattle.std.proofs.Common.{ℕ, ◌≤◌, List, cond, None, reverse, ap, subst, ◌∙◌, arith}
+use Rattle.std.proofs.Common.{◌≡◌, ℕ, ◌≤◌, true, false, List, [], ◌∷◌, length, cond, None, reverse, refl, ap, subst, ◌∙◌, arith}
 use Rattle.std.specs.FinMap as maps
 use Rattle.tx_log.proofs.EndLemmas.{closed, closed_state, live_part}
 use Rattle.std.specs.List.{list_any}
 use Rattle.std.proofs.lemmas.List.{length-reverse}
 use Rattle.tx_log.proofs.HoldingLemmas.{Freed}
-use Rattle.tx_log.proofs.HoldSteps.{held_closed, busy_freed}
+use Rattle.tx_log.proofs.HoldSteps.{held_after, busy_after}
 use Rattle.tx_log.proofs.OpenTxReadLemmas.{entry_chain}
 use Rattle.tx_log.specs.Holdings.{held}
 use Rattle.tx_log.specs.Walks.{is_at}
@@ -13,7 +13,14 @@ use Rattle.tx_log.proofs.KeptLogLemmas.{open_of_tx, sized, kept_now}
 use Rattle.tx_log.specs.Finds.{finding}
 use Rattle.tx_log.specs.Log.{kept_of, stack}
 use Rattle.tx_log.specs.LogState.{LogState, with_txs, open_in}
+use Rattle.tx_log.specs.OpenTxs.{opens}
+use Rattle.tx_log.specs.declared.open_tx.OpenTx.{OpenTx}
+use Rattle.rec_types.specs.declared.transaction.TxId.{TxId}
 use Rattle.tx_log.proofs.log.TxLog.close.Goals as goal
+
+no_entries : (es : List (TxId × OpenTx)) → length es ≡ 0 → es ≡ []
+no_entries [] none = refl
+no_entries (e ∷ es) none = absurd (omega (arith, none))
 
 pub place_of-at-requires : goal.place_of-at-requires
 place_of-at-requires c =
@@ -33,17 +40,24 @@ overflow_sub-self-2 c =
     let t = c.args.tx.0 in
     (sized (reverse l.records.items) l.txs.entries l.begun l.pending l.gone t c.take_out-closed.result c.self.invariant.log_kept (c.take_out-closed.ensures t c.place_of-at.ensures.stands).0).absent_part
 
--- the walk down from the newest record frees the transaction's keys
-freed : (c : goal.After-self-3-1) → Freed (held c.self.inside.holdings) (held c.free_keys.new.holdings) (stack c.args.tx.0 (reverse c.self.inside.records.items))
-freed c =
-    let l = c.self.inside in
-    let t = c.args.tx.0 in
-    let out = c.take_out-closed.ensures t c.place_of-at.ensures.stands in
-    λ q. c.free_keys.ensures q
-    ∙ ap (λ (us : List LogRecord). cond (list_any (is_at q) us) None (held l.holdings q)) (entry_chain (reverse l.records.items) l.txs.entries l.begun l.pending l.gone t c.take_out-closed.result c.self.invariant.log_kept out.0)
+-- what is left of the keys: none where no other transaction is open, and else those of the others
+module _ (c : goal.After-self-3-1) where
+  none : c.is_empty-is_last.result ≡ true → (q : List ℕ) → held c.free_held.new.holdings q ≡ None
+  none = c.free_held.ensures.last
 
-pub free_keys-requires-clause-within : goal.free_keys-requires-clause-within
-free_keys-requires-clause-within c =
+  freed : c.is_empty-is_last.result ≡ false → Freed (held c.self.inside.holdings) (held c.free_held.new.holdings) (stack c.args.tx.0 (reverse c.self.inside.records.items))
+  freed others =
+      let l = c.self.inside in
+      let t = c.args.tx.0 in
+      let out = c.take_out-closed.ensures t c.place_of-at.ensures.stands in
+      λ q. c.free_held.ensures.others others q
+      ∙ ap (λ (us : List LogRecord). cond (list_any (is_at q) us) None (held l.holdings q)) (entry_chain (reverse l.records.items) l.txs.entries l.begun l.pending l.gone t c.take_out-closed.result c.self.invariant.log_kept out.0)
+
+  closed_all : c.is_empty-is_last.result ≡ true → (u : ℕ) → opens (finding c.take_out-closed.new.txs.entries) u ≡ false
+  closed_all last u = ap (λ es. opens (finding es) u) (no_entries c.take_out-closed.new.txs.entries (c.is_empty-is_last.ensures.0 last))
+
+pub free_held-requires-clause-within : goal.free_held-requires-clause-within
+free_held-requires-clause-within c =
     let l = c.self.inside in
     let t = c.args.tx.0 in
     let e = c.take_out-closed.result in
@@ -62,8 +76,8 @@ invariant_of-self c =
     record {
       log_kept = closed (reverse l.records.items) (finding l.txs.entries) (finding c.take_out-closed.new.txs.entries) l.begun l.pending l.gone t e c.self.invariant.log_kept out.0 out.1;
       marked = c.self.invariant.marked;
-      holding = held_closed rs (finding l.txs.entries) (finding c.take_out-closed.new.txs.entries) (held l.holdings) (held c.free_keys.new.holdings) t e out.1 out.0 (freed c) c.self.invariant.holding;
-      busy_keys = busy_freed (held l.holdings) (held c.free_keys.new.holdings) (stack t rs) l.over (freed c) c.self.invariant.busy_keys;
+      holding = held_after c.is_empty-is_last.result rs (finding l.txs.entries) (finding c.take_out-closed.new.txs.entries) (held l.holdings) (held c.free_held.new.holdings) t e out.1 out.0 (closed_all c) (none c) (freed c) c.self.invariant.holding;
+      busy_keys = busy_after c.is_empty-is_last.result (held l.holdings) (held c.free_held.new.holdings) (stack t rs) l.over (none c) (freed c) c.self.invariant.busy_keys;
       reserved = tt;
       bounded = record {
         fits = omega (arith, bounded.fits);

@@ -30,10 +30,19 @@ pub count_changes-left-requires-clause-within : goal.count_changes-left-requires
 count_changes-left-requires-clause-within c =
     let l = c.self.inside in
     let t = c.args.tx.0 in
-    let e = c.index-2.result.now in
-    let found = read_at l.txs t c.place_of-at.result e c.place_of-at.ensures.stands c.index-2.ensures in
+    let e = c.index-open_tx.result.now in
+    let found = read_at l.txs t c.place_of-at.result e c.place_of-at.ensures.stands c.index-open_tx.ensures in
     let size = sized (reverse l.records.items) l.txs.entries l.begun l.pending l.gone t e c.self.invariant.log_kept found in
     subst (λ (n : ℕ). e.last ≤ n) (length-reverse l.records.items) size.last
+
+pub count_changes-left-requires-clause-live : goal.count_changes-left-requires-clause-live
+count_changes-left-requires-clause-live c =
+    let l = c.self.inside in
+    let t = c.args.tx.0 in
+    let e = c.index-open_tx.result.now in
+    let found = read_at l.txs t c.place_of-at.result e c.place_of-at.ensures.stands c.index-open_tx.ensures in
+    (found_fits (reverse l.records.items) l.begun t (finding l.txs.entries) e c.self.invariant.log_kept.fit found).live
+    ∙ ap length (sym (entry_chain (reverse l.records.items) l.txs.entries l.begun l.pending l.gone t e c.self.invariant.log_kept found))
 
 -- the transaction's entry, where the rollback goes back to, and what it is to take back
 module _ (c : goal.After-self-2-1) where
@@ -53,8 +62,8 @@ module _ (c : goal.After-self-2-1) where
   left_is =
       let l = c.self.inside in
       let t = c.args.tx.0 in
-      let e = c.index-2.result.now in
-      let found = read_at l.txs t c.place_of-at.result e c.place_of-at.ensures.stands c.index-2.ensures in
+      let e = c.index-open_tx.result.now in
+      let found = read_at l.txs t c.place_of-at.result e c.place_of-at.ensures.stands c.index-open_tx.ensures in
       c.count_changes-left.ensures
       ∙ ap (λ us. length (filter (is_after c.save_at-to.result) us)) (entry_chain (reverse l.records.items) l.txs.entries l.begun l.pending l.gone t e c.self.invariant.log_kept found)
 
