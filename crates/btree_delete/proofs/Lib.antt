@@ -25,3 +25,4 @@ pub mod TableAnswerLemmas
 pub mod KeptPageLemmas
 pub mod RespeltTreeLemmas
 pub mod FreedPageLemmas
+pub mod OneDeletionLemmas

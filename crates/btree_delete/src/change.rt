@@ -12,7 +12,7 @@ ghost use Rattle.btree_insert.specs.Spelt.{AreSpeltIn};
 ghost use Rattle.btree_delete.specs.TableView.{Fills};
 ghost use Rattle.btree_delete.specs.TableAnswers.{IsSet, MayRefuse};
 
-use crate::deleting::delete;
+use crate::deleting::delete_in_place;
 use crate::fault_counts::told;
 use btree_insert::{Tree, insert_in_place, look_up};
 use page_store::{Pages, Store};
@@ -119,6 +119,6 @@ pub(crate) fn change<S: Store>(
 {
     match to {
         Some(value) => put(alloc, pages, tree, limit, key, value),
-        None => told(delete(alloc, pages, tree, &key)),
+        None => told(delete_in_place(alloc, pages, tree, &key)),
     }
 }

@@ -1,4 +1,4 @@
-ghost use Rattle.std.specs.Prelude.{◌≡◌, ◌+◌, ◌-◌, ◌*◌, ◌<◌, ◌≤◌, ◌⊎◌, ℕ, List, Option, Some, None, true, false, IsTrue, IsSome, IfOk, IfErr, OnErr, OnOk, MatchResult, length};
+ghost use Rattle.std.specs.Prelude.{[], ◌≡◌, ◌+◌, ◌-◌, ◌*◌, ◌<◌, ◌≤◌, ◌⊎◌, ℕ, List, Option, Some, None, true, false, IsTrue, IsSome, IfOk, IfSome, IfErr, OnErr, OnOk, MatchResult, length};
 ghost use Rattle.rec_types.specs.Table.{counted};
 ghost use Rattle.page_store.specs.PageMap.{PageMap, at, after};
 ghost use Rattle.btree_node.specs.Lists.{Element};
@@ -21,10 +21,11 @@ ghost use Rattle.btree_node.specs.Layout.{IsOrder};
 ghost use Rattle.btree_insert.specs.Sizes.{IsTree};
 
 use crate::delete_below::{Shrunk, delete_below};
+use crate::delete_in_one::delete_in_one;
 use crate::subtree::Subtree;
 use crate::underflow::free_page;
 use arrayvec::ArrayVec;
-use btree_insert::{Bounds, Tree, TreeFault, write_node};
+use btree_insert::{Bounds, Spot, Tree, TreeFault, write_node};
 use btree_node::Node;
 use page_store::{PageEdit, Pages, Store};
 use rec_types::{Key, Memory, Record};
@@ -191,4 +192,93 @@ pub fn delete<S: Store>(
     let shrunk = shrink_tree(&mut edit, tree, shrunk)?;
     pages.stage(edit)?;
     Ok(shrunk)
+}
+
+/// Takes the key out of a tree where one page changes alone and all pages on the way are in memory, and answers the
+/// new tree and the record that stood there. None where it is not so: the edit is as it was then. Faults: Memory;
+/// Damaged with the root where the tree says that it has no key.
+fn shrink_in_one<S: Store>(
+    pages: &Pages<S>,
+    edit: &mut PageEdit,
+    tree: &Tree,
+    key: &Key,
+) -> Result<Option<(Tree, Record)>, TreeFault>
+    requires tree { IsTree tree.now }
+    requires unwritten { edit.old.writes.items ≡ [] }
+    requires unfreed { edit.old.freed.items ≡ [] }
+    requires none_taken { edit.old.taken ≡ 0 }
+    requires spelt { AreSpeltIn tree.now.order pages.now }
+    ensures deleted { (es : List Element) (us : List ℕ) → Holds (at pages.now.pages) tree.now es us
+        → MatchResult result
+        (λ r. IfSome r (λ shrunk. Deleted (at pages.now.pages)
+        (after (at pages.now.pages) edit.new.writes.items edit.new.freed.items)
+        tree.now es us key.now (shrunk.0, Some shrunk.1)))
+        IsOutside }
+    ensures fits { OnOk result
+        (CanStage pages.now.pages edit.new.writes.items edit.new.taken edit.new.freed.items) }
+    ensures spelt { OnOk result (AreSpelt tree.now.order edit.new.writes.items) }
+    ensures none_taken { edit.new.taken ≡ 0 }
+    ensures height { IfOk result (λ r. IfSome r (λ shrunk. shrunk.0.height ≤ tree.now.height)) }
+    ensures count { IfOk result (λ r. IfSome r (λ shrunk. shrunk.0.count ≤ tree.now.count)) }
+    ensures used { IfOk result (λ r. IfSome r (λ shrunk. shrunk.0.used ≤ tree.now.used)) }
+    ensures order { IfOk result (λ r. IfSome r (λ shrunk. shrunk.0.order ≡ tree.now.order)) }
+    ensures no_device { is_device result ≡ false }
+{
+    if tree.height == 0 {
+        return Ok(None);
+    }
+    let root = Spot {
+        page: tree.root,
+        level: tree.height,
+        bounds: Bounds {
+            low: None,
+            high: None,
+        },
+    };
+    let Some(old) = delete_in_one(pages, edit, tree.order, &root, key)? else {
+        return Ok(None);
+    };
+    let next = fewer(tree, tree.root, 0)?;
+    Ok(Some((next, old)))
+}
+
+/// The same as `delete`, where each page in memory is known to spell a node of the order: where the key stands in a
+/// leaf with a key to spare, that leaf is changed where it lies.
+pub fn delete_in_place<S: Store>(
+    alloc: Global,
+    pages: &mut Pages<S>,
+    tree: &Tree,
+    key: &Key,
+) -> Result<(Tree, Option<Record>), TreeFault>
+    requires tree { IsTree tree.now }
+    requires spelt { AreSpeltIn tree.now.order pages.old }
+    ensures deleted { IsTrue pages.old.steady → (es : List Element) (us : List ℕ)
+        → Holds (at pages.old.pages) tree.now es us
+        → MatchResult result
+        (λ r. Deleted (at pages.old.pages) (at pages.new.pages) tree.now es us key.now r)
+        IsOutside }
+    ensures height { IfOk result (λ r. r.0.height ≤ tree.now.height) }
+    ensures count { IfOk result (λ r. r.0.count ≤ tree.now.count) }
+    ensures used { IfOk result (λ r. r.0.used ≤ tree.now.used) }
+    ensures order { IfOk result (λ r. r.0.order ≡ tree.now.order) }
+    ensures spelt { AreSpeltIn tree.now.order pages.new }
+    ensures absent { IfOk result (λ r. r.1 ≡ None → (r.0 ≡ tree.now)
+        × (pages.new.pages ≡ pages.old.pages) × (pages.new.changed ≡ pages.old.changed)) }
+    ensures changed { IfOk result (λ r. IsSome r.1 → pages.new.changed ≡ true) }
+    ensures page_count { length pages.new.pages ≡ length pages.old.pages }
+    ensures device { pages.new.failures ≡ counted pages.old.failures (is_device result) }
+    ensures err { OnErr result (OnlyReads pages.old pages.new) }
+    ensures store { OnlyStages pages.old pages.new }
+    ensures reads { pages.new.reads ≤ pages.old.reads + (2 * tree.now.height - 1) }
+{
+    let mut edit = PageEdit {
+        writes: Vec::new(alloc),
+        taken: 0,
+        freed: Vec::new(alloc),
+    };
+    let Some(shrunk) = shrink_in_one(pages, &mut edit, tree, key)? else {
+        return delete(alloc, pages, tree, key);
+    };
+    pages.stage(edit)?;
+    Ok((shrunk.0, Some(shrunk.1)))
 }

@@ -3,6 +3,7 @@
 
 mod change;
 mod delete_below;
+mod delete_in_one;
 mod deleting;
 mod fault_counts;
 pub mod file_laws;
@@ -17,7 +18,7 @@ mod tree_table;
 mod underflow;
 mod visit;
 
-pub use deleting::delete;
+pub use deleting::{delete, delete_in_place};
 pub use open_fault::OpenFault;
 pub use open_file::OpenStop;
 pub use tree_table::{CloseStop, CreateFault, CreateStop, TreeTable};

@@ -262,6 +262,21 @@ impl<S: Store> TreeTable<S> {
         }
     }
 
+    /// The store, with its pages as they are: what was changed since they were opened isn't in it. It calls nothing of
+    /// the store, and takes no memory.
+    pub fn abandon(self) -> S
+        ensures pages { S.pages result ≡ self.pages.stored }
+        ensures tail { S.tail result ≡ self.pages.tail }
+        ensures steady { S.steady result ≡ self.pages.steady }
+        ensures reads { S.reads result ≡ self.pages.reads }
+        ensures writes { S.writes result ≡ self.pages.writes }
+        ensures failures { S.failures result ≡ self.pages.failures }
+        ensures journal { S.journal result ≡ self.pages.journal }
+    {
+        let TreeTable { pages, .. } = self;
+        pages.into_store()
+    }
+
     /// The order of the tree, 1 to 16.
     pub fn order(&self) -> u16
         ensures value { result ≡ self.now.tree.order }

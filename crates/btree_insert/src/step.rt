@@ -22,7 +22,7 @@ use rec_types::{Key, PAGE_WIDTH, Record};
 
 /// A page on the way down from a root.
 #[derive(Clone, Copy)]
-pub(crate) struct Spot {
+pub struct Spot {
     /// Its number.
     pub page: u32,
     /// Its level, where level 1 is the lowest.
@@ -33,7 +33,7 @@ pub(crate) struct Spot {
 
 /// Where the search for a key goes from a page.
 #[derive(Clone, Copy)]
-pub(crate) enum Step {
+pub enum Step {
     /// The key stands at this place of the page, with this record.
     Found(usize, Record),
     /// The page is a leaf, and the key would stand at this place.
@@ -102,7 +102,7 @@ fn step_in_node(node: &Node, spot: &Spot, key: &Key) -> Step
 
 /// The step from a page that spells a node. Fault: Damaged with the page where the node does not belong at
 /// the spot.
-pub(crate) fn step_in_page(
+pub fn step_in_page(
     page: &[u8; PAGE_WIDTH],
     order: u16,
     spot: &Spot,

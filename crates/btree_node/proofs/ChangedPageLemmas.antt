@@ -1,8 +1,8 @@
 -- What a page spells after some of its bytes are written over.
 use Rattle.std.proofs.Common.{◌≡◌, ℕ, zero, suc, ◌+◌, ◌-◌, ◌*◌, ◌<◌, ◌≤◌, List, [], ◌∷◌, ◌++◌, length, take, drop, replicate, get_or, set, refl, ap, sym, ◌∙◌, append_assoc, arith, length-append, length-drop}
-use Rattle.std.specs.List.{flat_map, insert}
+use Rattle.std.specs.List.{flat_map, insert, remove}
 use Rattle.std.proofs.lemmas.List.{take_at, drop_at, drop-drop, length-take-le, length-replicate, length-set, take-append-drop, replicate-append-replicate}
-use Rattle.std.proofs.lemmas.List.Edits.{length-insert}
+use Rattle.std.proofs.lemmas.List.Edits.{length-insert, length-remove}
 use Rattle.std.proofs.lemmas.List.Concat.{flat_map-append}
 use Rattle.std.proofs.Math.Seq.{set_split, drop-cons}
 use Rattle.std.proofs.Math.Nat.{mul-suc, mul-le-mul_left}
@@ -262,3 +262,68 @@ inserted_spelt k i n e page moved p q r can fits is size small low less moved_is
     ∙ ap (λ x. front n.kind (insert els i e) ++ x) (sym o.rest_is)
     ∙ ap (λ x. x ++ o.rest) now in
     counted ∙ sym (spelt ∙ regrouped (head n.kind (count + 1)) f (new ++ b) o.rest)
+
+-- blocks without one of them
+blocks_without : (els : List Element) (i : ℕ) → flat_map (place second_layout) (remove els i) ≡ flat_map (place second_layout) (take i els) ++ flat_map (place second_layout) (drop (suc i) els)
+blocks_without els i = flat_map-append (place second_layout) (take i els) (drop (suc i) els)
+
+-- bytes of which the first go and zeros come behind
+grouped : (a old b rest : List ℕ) → a ++ (old ++ (b ++ rest)) ≡ a ++ ((old ++ b) ++ rest)
+grouped a old b rest = ap (λ x. a ++ x) (sym (append_assoc old b rest))
+
+-- a page with one element less: the places behind it are moved, then the last is cleared, then the number of keys is written
+pub removed_spelt : (k i : ℕ) (n : Node) (d : Element) (page moved p q r : List ℕ) → CanStand n k → page ≡ spelling n k → length page ≡ 4096 → k ≤ 16
+    → i < length n.elements.items
+    → moved ≡ part (8 + 118 * (i + 1)) (8 + 118 * length n.elements.items - (8 + 118 * (i + 1))) page
+    → p ≡ put_at (8 + 118 * i) moved page
+    → q ≡ put_at (8 + 118 * (length n.elements.items - 1)) (replicate 118 0) p
+    → r ≡ put_at 2 (big_bytes 2 (length n.elements.items - 1)) q
+    → r ≡ spelling (with_elements n (remove n.elements.items i)) k
+unfolding front up_to
+removed_spelt k i n d page moved p q r can is size small low moved_is p_is q_is r_is =
+    let els = n.elements.items in
+    let count = length els in
+    let start = sons_start second_layout k in
+    let sons = sons_bytes n.sons.items in
+    let m = with_elements n (remove els i) in
+    let old = place second_layout (get_or els i d) in
+    let f = flat_map (place second_layout) (take i els) in
+    let a = up_to n.kind count i els in
+    let b = flat_map (place second_layout) (drop (suc i) els) in
+    let gap : List ℕ = replicate 118 0 in
+    let wide : length old ≡ 118 = length-place second_layout (get_or els i d) (fits_at second_layout k n can i d low) in
+    let zeros : length gap ≡ 118 = length-replicate {A = ℕ} 118 0 in
+    let before : length a ≡ 8 + 118 * i = length-up_to k n count i can (omega (arith, low)) in
+    let front_size = length-front k n can in
+    let few : length (front n.kind els) ≤ start = omega (arith, front_size, mul-le-mul_left 118 can.most) in
+    let rest = behind start (length (front n.kind els)) sons in
+    let was : front n.kind els ≡ a ++ (old ++ b) = ap (λ x. head n.kind count ++ x) (blocks_split els i d low) ∙ sym (append_assoc (head n.kind count) _ _) in
+    let long : length b + (8 + 118 * i) + 118 ≡ 8 + 118 * count = omega (arith, ap length was, front_size, length-append a (old ++ b), length-append old b, before, wide) in
+    let whole : page ≡ a ++ (old ++ (b ++ rest)) = is ∙ spelled_in_two k n few ∙ ap (λ x. x ++ rest) was ∙ regrouped a old b rest in
+    let tail : moved ≡ b =
+    moved_is ∙ ap (part (8 + 118 * (i + 1)) (8 + 118 * count - (8 + 118 * (i + 1)))) (whole ∙ sym (append_assoc a old (b ++ rest)))
+    ∙ part_middle (8 + 118 * (i + 1)) (8 + 118 * count - (8 + 118 * (i + 1))) (a ++ old) b rest (omega (arith, length-append a old, before, wide)) (omega (arith, long)) in
+    let both : q ≡ put_at (8 + 118 * i) (b ++ gap) page =
+    q_is ∙ ap (put_at (8 + 118 * (count - 1)) gap) (p_is ∙ ap (λ x. put_at (8 + 118 * i) x page) tail)
+    ∙ ap (λ at. put_at at gap (put_at (8 + 118 * i) b page)) (omega (arith, long, low))
+    ∙ put_next (8 + 118 * i) b gap page (omega (arith, long, front_size, few, ap length whole, size, length-append a (old ++ (b ++ rest)), length-append old (b ++ rest), length-append b rest, before, wide)) in
+    let laid : q ≡ a ++ ((b ++ gap) ++ rest) =
+    both ∙ ap (put_at (8 + 118 * i) (b ++ gap)) (whole ∙ grouped a old b rest)
+    ∙ put_middle (8 + 118 * i) a (old ++ b) (b ++ gap) rest before (omega (arith, length-append old b, length-append b gap, wide, zeros)) in
+    let counted : r ≡ head n.kind (count - 1) ++ (f ++ ((b ++ gap) ++ rest)) =
+    r_is ∙ ap (put_at 2 (big_bytes 2 (count - 1))) (laid ∙ append_assoc (head n.kind count) f _)
+    ∙ count_put n.kind count (count - 1) (f ++ ((b ++ gap) ++ rest)) in
+    let less : length (remove els i) ≡ count - 1 = omega (arith, length-remove els i low) in
+    let now : front n.kind (remove els i) ≡ head n.kind (count - 1) ++ (f ++ b) =
+    ap (λ c. head n.kind c ++ flat_map (place second_layout) (remove els i)) less
+    ∙ ap (λ x. head n.kind (count - 1) ++ x) (blocks_without els i) in
+    let len : length (front n.kind (remove els i)) + 118 ≡ length (front n.kind els) =
+    omega (arith, ap length now, ap length was, length-append a (old ++ b), length-append old b, length-append (head n.kind count) f, length-append (head n.kind (count - 1)) (f ++ b), length-append f b, wide, length-head n.kind count, length-head n.kind (count - 1)) in
+    let spelt : spelling m k ≡ (head n.kind (count - 1) ++ (f ++ b)) ++ (gap ++ rest) =
+    spelled_in_two k m (omega (arith, len, few))
+    ∙ ap (λ x. front n.kind (remove els i) ++ x) (gap_split start (length (front n.kind (remove els i))) sons (omega (arith, len, few)) ∙ ap (λ c. gap ++ behind start c sons) len)
+    ∙ ap (λ x. x ++ (gap ++ rest)) now in
+    counted ∙ ap (λ x. head n.kind (count - 1) ++ (f ++ x)) (append_assoc b gap rest) ∙ sym (spelt ∙ last_grouped (head n.kind (count - 1)) f b (gap ++ rest))
+  where
+    last_grouped : (h f b rest : List ℕ) → (h ++ (f ++ b)) ++ rest ≡ h ++ (f ++ (b ++ rest))
+    last_grouped h f b rest = simp append_assoc

@@ -1,5 +1,5 @@
 ghost use Rattle.std.specs.Prelude.{◌≡◌, ◌+◌, ◌*◌, ◌<◌, ◌≤◌, length, replicate, slice_set};
-ghost use Rattle.std.specs.List.{insert};
+ghost use Rattle.std.specs.List.{insert, remove};
 ghost use Rattle.btree_node.specs.Layout.{second_layout, place_width, greatest_order};
 ghost use Rattle.btree_node.specs.Reading.{count_at};
 ghost use Rattle.btree_node.specs.Spelling.{field, place, spelling, CanStand, IsElement, IsSpelt};
@@ -59,6 +59,32 @@ pub fn insert_in(
         part_of(was, start, end - start),
     );
     put_count(page, count + 1);
+}
+
+/// Takes element i out of the node that the page spells, in a tree of order `k`; `was` is a copy of the
+/// page, to move places from.
+pub fn remove_in(page: &mut [u8; PAGE_WIDTH], was: &[u8; PAGE_WIDTH], k: u16, i: usize)
+    requires order { k ≤ greatest_order }
+    requires copy { was.now ≡ page.old }
+    requires spelt { IsSpelt k page.old }
+    requires index { i < count_at page.old }
+    ensures { (node : Node) → CanStand node k → page.old ≡ spelling node k
+        → page.new ≡ spelling (with_elements node (remove node.elements.items i)) k }
+{
+    let left = count_of(page) - 1;
+    let start = SECOND_LAYOUT.place_start(i + 1);
+    let end = SECOND_LAYOUT.place_start(left + 1);
+    put_bytes(
+        page,
+        SECOND_LAYOUT.place_start(i),
+        part_of(was, start, end - start),
+    );
+    put_zeros(
+        page,
+        SECOND_LAYOUT.place_start(left),
+        SECOND_LAYOUT.place_width(),
+    );
+    put_count(page, left);
 }
 
 /// Writes the number of keys.
