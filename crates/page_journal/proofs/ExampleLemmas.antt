@@ -1,10 +1,13 @@
 -- Outcomes of the examples, and why there are no others.
-use Rattle.std.proofs.Common.{◌≡◌, ◌≢◌, ◌⊎◌, ⊎_elim, inl, inr, ℕ, zero, suc, ◌<◌, false, List, [], ◌∷◌, ◌++◌, get_or, set, slice_get, Option, Some, None, unwrap_or, All, is_some, refl, sym, ◌∙◌, ap, arith}
+use Rattle.std.proofs.Common.{◌≡◌, ◌≢◌, ◌⊎◌, ⊎_elim, inl, inr, ℕ, zero, suc, ◌<◌, true, false, List, [], ◌∷◌, ◌++◌, get_or, set, slice_get, Option, Some, None, unwrap_or, All, is_some, refl, sym, ◌∙◌, ap, arith}
 use Rattle.page_journal.specs.Files.{PageFile, Kept, Files, Agree, is_kept, restored, recovered, recovered_by}
 use Rattle.page_journal.specs.Crash.{StandsFor, IsEither, Gathered}
 use Rattle.page_journal.specs.History.{MayLeave}
-use Rattle.page_journal.specs.Examples.{pages_of_two, alone, old_file, page_1_kept, page_1_written, both_written, both_writes, side_made, side_named, named_early, bad_side}
+use Rattle.page_journal.specs.Examples.{pages_of_two, alone, old_file, page_1_kept, page_1_written, both_written, both_writes, side_made, side_named, named_early, bad_side, page_1_steps, both_steps}
 use Rattle.page_journal.specs.declared.disk_call.DiskCall.TheVariants.{Write, Name, Remove, SyncNames}
+use Rattle.page_store.specs.Journal.{carried}
+use Rattle.page_store.specs.declared.step.Step.TheVariants as steps
+use Rattle.page_journal.specs.Carrying.{WritesKept}
 use Rattle.page_journal.proofs.MemDiskLemmas.{ghosts_of}
 use Rattle.page_journal.proofs.RestoreLemmas.{restores_same, agree_itself, agree_put}
 use Rattle.page_journal.proofs.SealedLemmas.{named_so, named_stands}
@@ -22,6 +25,18 @@ both_disagree agree = omega (arith, ap (λ (o : Option (List ℕ)). get_or (unwr
 
 pub both_not_restored : restored page_1_kept both_written ≢ old_file
 both_not_restored is = omega (arith, ap (λ (m : PageFile). get_or (get_or m.pages 0 []) 0 0) is)
+
+pub steps_kept : All (WritesKept page_1_kept) page_1_steps
+steps_kept zero d below = tt
+steps_kept (suc zero) d below = inl refl
+steps_kept (suc (suc zero)) d below = tt
+steps_kept (suc (suc (suc n))) d below = absurd (omega (arith, below))
+
+pub steps_not_kept : All (WritesKept page_1_kept) both_steps → ⊥
+steps_not_kept all = ⊎_elim (λ (is_in : is_kept page_1_kept.pages 0 ≡ true). absurd (cc)) (λ past. omega (arith, past)) (all zero (steps.Write 0 (7 ∷ [])) (omega arith))
+
+pub steps_not_restored : restored page_1_kept (carried old_file.pages both_steps) ≢ old_file
+steps_not_restored is = omega (arith, ap (λ (m : PageFile). get_or (get_or m.pages 0 []) 0 0) is)
 
 pub one_lost : MayLeave (alone old_file) both_writes (alone (pages_of_two 1 9))
 one_lost = (alone old_file, (alone old_file, refl, record { page = 1 ∷ []; main = refl; fresh = refl; side = refl }), record { page = 9 ∷ []; main = refl; fresh = refl; side = refl })

@@ -1,5 +1,7 @@
+pub mod CarryingLemmas
 mod ExampleLemmas
 mod FateLemmas
+mod FileDiskLemmas
 mod KeptStoreLemmas
 mod MemDiskLemmas
 mod MomentLemmas
@@ -7,3 +9,4 @@ mod PuttingLemmas
 mod RestoreLemmas
 mod RunLemmas
 mod SealedLemmas
+mod SideLemmas

@@ -2,6 +2,8 @@
 use Rattle.std.specs.Prelude.{ℕ, List, [], ◌∷◌, None, Some}
 use Rattle.page_journal.specs.Files.{PageFile, Kept, Files}
 use Rattle.page_journal.specs.Steps.{nothing_kept}
+use Rattle.page_store.specs.declared.step.Step.{Step}
+use Rattle.page_store.specs.declared.step.Step.TheVariants as steps
 use Rattle.page_journal.specs.declared.disk_call.DiskCall.{DiskCall}
 use Rattle.page_journal.specs.declared.disk_call.DiskCall.TheVariants.{Write, Start, Keep, SyncFresh, Name, SyncNames}
 
@@ -47,3 +49,11 @@ named_early = SyncNames ∷ Name ∷ Keep 1 (2 ∷ []) ∷ Keep 0 (1 ∷ []) ∷
 -- a side file that has another page 0
 abbrev pub bad_side : Files
 bad_side = record { main = old_file; fresh = nothing_kept 0; side = Some (record { long = 2; pages = (0, 5 ∷ []) ∷ [] }) }
+
+-- the page that is kept is written, and one is added
+abbrev pub page_1_steps : List Step
+page_1_steps = steps.SetPages 3 ∷ steps.Write 1 (9 ∷ []) ∷ steps.Sync ∷ []
+
+-- and the other page, too
+abbrev pub both_steps : List Step
+both_steps = steps.Write 0 (7 ∷ []) ∷ page_1_steps

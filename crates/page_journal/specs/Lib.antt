@@ -1,8 +1,11 @@
 pub mod Crash
+pub mod Carrying
 pub mod Examples
 pub mod Fates
+pub mod FileDisks
 pub mod Files
 pub mod History
 pub mod KeptStores
 pub mod Recovery
+pub mod SideBytes
 pub mod Steps

@@ -13,6 +13,7 @@ ghost use Rattle.page_journal.specs.Recovery.{IsTooShort, is_device, is_device_f
 ghost use Rattle.page_journal.specs.KeptStores.{KeptStored, CanBeSealed, is_open, may_write_in};
 
 use crate::disk::Disk;
+use crate::noted::noted;
 use crate::recovering::{commit, recover};
 use crate::recovery_fault::RecoveryFault;
 use crate::seal_state::SealState;
@@ -22,8 +23,8 @@ use rec_types::{Memory, PAGE_WIDTH};
 use std::alloc::Global;
 use std::marker::Model;
 
-/// The most pages that a store has that pages are kept of.
-const MOST_PAGES: u64 = 1_000_001;
+/// The most pages that a file has whose old pages are kept.
+pub(crate) const MOST_PAGES: u64 = 1_000_001;
 
 /// A store over a disk. It refuses to write over a page that wasn't kept aside, so that a crash at any moment leaves the
 /// file that there was when the disk was opened, whatever its callers do, until `finish` gives that up. Contracts see
@@ -59,17 +60,6 @@ impl<D: Disk + Drop> Model for KeptStore<D> {
 
     ghost invariant = { λ s. IsTrue (D.steady s.disk)
         → IsGuarded D.DiskState s.state s.kept.items s.disk };
-}
-
-// Counts a call that failed, and hands its answer on.
-fn noted<T: Drop>(failures: &mut u64, answer: Result<T, StoreFault>) -> Result<T, StoreFault>
-    ensures same { result ≡ answer }
-    ensures failures { failures.new ≡ counted failures.old (is_failed result) }
-{
-    if let Err(StoreFault::Failed) = &answer {
-        *failures = failures.saturating_add(1);
-    }
-    answer
 }
 
 // Whether page n was kept or is past the old end.

@@ -1,9 +1,14 @@
 //! Facts of the definitions that contracts of this crate cite.
-ghost use Rattle.std.specs.Prelude.{◌≡◌, ◌≢◌, ℕ, List, [], ◌∷◌, ◌++◌};
+ghost use Rattle.std.specs.Prelude.{◌≡◌, ◌≢◌, ℕ, List, [], ◌∷◌, ◌++◌, All, take};
+ghost use Rattle.page_store.specs.Journal.{carried};
+ghost use Rattle.page_store.specs.declared.step.Step.{Step};
+ghost use Rattle.page_journal.specs.Carrying.{LeavesOf, WritesKept};
 ghost use Rattle.page_journal.specs.Files.{PageFile, Kept, Files, Agree, restored, recovered};
-ghost use Rattle.page_journal.specs.Crash.{StandsFor, IsEither};
+ghost use Rattle.page_journal.specs.Crash.{StandsFor, IsEither, Gathered};
 ghost use Rattle.page_journal.specs.History.{all_done, MayLeave, LeftSince};
-ghost use Rattle.page_journal.specs.Examples.{pages_of_two, alone, old_file, page_1_kept, page_1_written, both_written, both_writes, side_made, side_named, named_early};
+ghost use Rattle.page_journal.specs.Examples.{pages_of_two, alone, old_file, page_1_kept, page_1_written, both_written, both_writes, side_made, side_named, named_early, page_1_steps, both_steps};
+ghost use Rattle.page_store.specs.Blank.{blank};
+ghost use Rattle.page_journal.specs.SideBytes.{sum_start, sum_on, side_header, entry_bytes, side_bytes, read_side, IsSideFile, IsTaken};
 ghost use Rattle.page_journal.specs.declared.disk_call.DiskCall.{DiskCall};
 
 /// What old pages leave that are put back depends on no page that was kept, and on nothing past the old end. In the
@@ -16,6 +21,20 @@ pub fn old_pages_put_back()
     ensures example { restored page_1_kept page_1_written ≡ old_file }
     ensures disagree { Agree page_1_kept old_file.pages both_written → ⊥ }
     ensures not_kept { restored page_1_kept both_written ≢ old_file }
+{}
+
+/// Steps that write over no page but those that were kept, and past the old end: however many of them are carried out,
+/// and whatever a crash makes of each, the old pages put back make the old file. In the example page 1 of two was
+/// kept. It fails where a step writes a page that wasn't.
+pub fn steps_put_back()
+    ensures each { (kept : Kept) (old now : List (List ℕ)) (done : List Step)
+        → Gathered old kept → All (WritesKept kept) done → LeavesOf done old now
+        → restored kept now ≡ record { pages = old; tail = 0 } }
+    ensures front { (old : List (List ℕ)) (all : List Step) (k : ℕ)
+        → LeavesOf all old (carried old (take k all)) }
+    ensures example { All (WritesKept page_1_kept) page_1_steps }
+    ensures not_kept { All (WritesKept page_1_kept) both_steps → ⊥ }
+    ensures not_restored { restored page_1_kept (carried old_file.pages both_steps) ≢ old_file }
 {}
 
 /// What a crash of a disk in memory leaves: what reads see is always among it, and so is what fewer calls may have
@@ -58,4 +77,24 @@ pub fn naming_by_example()
     ensures removed_early { ((c : Files) → MayLeave (alone old_file)
         (DiskCall.SyncNames ∷ DiskCall.Remove ∷ both_writes ++ side_named) c
         → IsEither old_file (pages_of_two 7 9) c) → ⊥ }
+{}
+
+/// What the bytes of a side file say is what they were made of, and bytes are taken where they are those of a side file and
+/// nowhere else. In the examples four bytes have a sum, which others than they don't have; a header is of a file of three pages of
+/// which two are kept, with the sum 7. Pages that don't ascend, and pages without page 0, are no side file's.
+pub fn side_file_by_bytes()
+    ensures read { (kept : Kept) → IsSideFile kept → read_side (side_bytes kept) ≡ kept }
+    ensures taken { (kept : Kept) → IsSideFile kept → IsTaken kept (side_bytes kept) }
+    ensures only { (kept : Kept) (bytes : List ℕ) → IsTaken kept bytes
+        → IsSideFile kept × (bytes ≡ side_bytes kept) }
+    ensures sum { sum_on sum_start (0x61 ∷ 0x62 ∷ 0x63 ∷ 0x64 ∷ []) ≡ 0xcd80d9f18c2d2e73 }
+    ensures other_order { sum_on sum_start (0x64 ∷ 0x63 ∷ 0x62 ∷ 0x61 ∷ []) ≢ 0xcd80d9f18c2d2e73 }
+    ensures header { side_header 3 2 7 ≡ 0x42 ∷ 0x4d ∷ 0x4b ∷ 0x52 ∷ 0x4a ∷ 0x52 ∷ 0x4e ∷ 0x4c
+        ∷ 0 ∷ 1 ∷ 0 ∷ 0 ∷ 0 ∷ 0 ∷ 0 ∷ 3 ∷ 0 ∷ 0 ∷ 0 ∷ 2 ∷ 0 ∷ 0 ∷ 0 ∷ 0
+        ∷ 0 ∷ 0 ∷ 0 ∷ 0 ∷ 0 ∷ 0 ∷ 0 ∷ 7 ∷ [] }
+    ensures entry { entry_bytes 258 (9 ∷ 8 ∷ []) ≡ 0 ∷ 0 ∷ 1 ∷ 2 ∷ 9 ∷ 8 ∷ [] }
+    ensures order { IsSideFile (record { long = 2; pages = (0, blank) ∷ (0, blank) ∷ [] }) → ⊥ }
+    ensures no_page_0 { IsSideFile (record { long = 2; pages = (1, blank) ∷ [] }) → ⊥ }
+    ensures past_the_end { IsSideFile (record { long = 1; pages = (0, blank) ∷ (1, blank) ∷ [] })
+        → ⊥ }
 {}

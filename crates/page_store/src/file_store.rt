@@ -4,6 +4,7 @@ ghost use Rattle.rec_types.specs.Widths.{page_width};
 ghost use Rattle.page_store.specs.StoreFaults.{is_failed};
 
 use crate::count::count_up;
+use crate::lock::Lock;
 use crate::store::Store;
 use crate::store_fault::{Shape, StoreFault};
 use crate::store_state::StoreState;
@@ -51,8 +52,9 @@ impl<F> Model for FileStore<F> {
     ghost invariant = { λ s. s.tail < page_width };
 }
 
-impl<F: OpenFile + FileExt + Drop> FileStore<F> {
-    /// Opens the file of that path to read and write it. Fault: Failed, as where there is no file.
+impl<F: OpenFile + FileExt + Lock + Drop> FileStore<F> {
+    /// Opens the file of that path to read and write it, and takes the lock that no other opening shares. Fault: Failed,
+    /// as where there is no file or another opening has a lock.
     pub fn open_path<R: Files<File = F>>(rt: &R, path: &str) -> Result<FileStore<F>, StoreFault>
         ensures counts { IfOk result
             (λ store. (store.reads ≡ 0) × (store.writes ≡ 0) × (store.failures ≡ 0)) }
@@ -60,18 +62,25 @@ impl<F: OpenFile + FileExt + Drop> FileStore<F> {
         ensures fault { IfErr result (λ fault. fault ≡ StoreFault.Failed) }
     {
         let file = OpenOptions::new().read(true).write(true).open(rt, path)?;
-        let len = file.metadata()?.len();
-        Ok(FileStore {
-            file,
-            pages: len / PAGE_BYTES,
-            tail: (len % PAGE_BYTES) as u16,
-            reads: 0,
-            writes: 0,
-            failures: 0,
-        })
+        file.try_lock()?;
+        FileStore::over(file)
     }
 
-    /// Makes a new file at that path, of no pages. Fault: Failed, as where there is a file.
+    /// Opens the file of that path to read it, and takes the lock that other readers share; writes to the store fail.
+    /// Fault: Failed, as where there is no file or a writer has a lock.
+    pub fn open_to_read<R: Files<File = F>>(rt: &R, path: &str) -> Result<FileStore<F>, StoreFault>
+        ensures counts { IfOk result
+            (λ store. (store.reads ≡ 0) × (store.writes ≡ 0) × (store.failures ≡ 0)) }
+        ensures tail { IfOk result (λ store. store.tail < page_width) }
+        ensures fault { IfErr result (λ fault. fault ≡ StoreFault.Failed) }
+    {
+        let file = OpenOptions::new().read(true).open(rt, path)?;
+        file.try_lock_shared()?;
+        FileStore::over(file)
+    }
+
+    /// Makes a new file at that path, of no pages, and takes the lock that no other opening shares. Fault: Failed, as
+    /// where there is a file.
     pub fn create_new<R: Files<File = F>>(rt: &R, path: &str) -> Result<FileStore<F>, StoreFault>
         ensures created { IfOk result (λ store. store ≡ record {
           pages = [];
@@ -88,10 +97,29 @@ impl<F: OpenFile + FileExt + Drop> FileStore<F> {
             .write(true)
             .create_new(true)
             .open(rt, path)?;
+        file.try_lock()?;
         Ok(FileStore {
             file,
             pages: 0,
             tail: 0,
+            reads: 0,
+            writes: 0,
+            failures: 0,
+        })
+    }
+
+    // A store over a file that was opened. Fault: Failed.
+    fn over(file: F) -> Result<FileStore<F>, StoreFault>
+        ensures counts { IfOk result
+            (λ store. (store.reads ≡ 0) × (store.writes ≡ 0) × (store.failures ≡ 0)) }
+        ensures tail { IfOk result (λ store. store.tail < page_width) }
+        ensures fault { IfErr result (λ fault. fault ≡ StoreFault.Failed) }
+    {
+        let len = file.metadata()?.len();
+        Ok(FileStore {
+            file,
+            pages: len / PAGE_BYTES,
+            tail: (len % PAGE_BYTES) as u16,
             reads: 0,
             writes: 0,
             failures: 0,

@@ -1,5 +1,5 @@
 use Rattle.std.proofs.Common.{rules}
-use Rattle.page_store.proofs.file_store.FileStore.open_path.Goals as goal
+use Rattle.page_store.proofs.file_store.FileStore.over.Goals as goal
 
 pub invariant_of-result : goal.invariant_of-result
 invariant_of-result g c = search rules

@@ -1,0 +1,237 @@
+ghost use Rattle.std.specs.Prelude.{◌≡◌, ◌*◌, ◌^◌, ◌<◌, IsTrue, IfOk};
+ghost use Rattle.rec_types.specs.Widths.{page_width};
+ghost use Rattle.page_journal.specs.Crash.{IsAtRest};
+ghost use Rattle.page_journal.specs.FileDisks.{SetsLength};
+
+use crate::disk::Disk;
+use crate::disk_state::DiskState;
+use crate::noted::{count_up, noted_call};
+use crate::opening_fault::OpeningFault;
+use crate::side_files::SideFiles;
+use crate::side_names::SideNames;
+use crate::side_shape::SideShape;
+use page_store::{Lock, Shape, StoreFault};
+use rec_types::PAGE_WIDTH;
+use std::alloc::Global;
+use std::fs::{OpenFile, OpenOptions};
+use std::io;
+use std::marker::Model;
+use std::os::unix::fs::{FileExt, MetadataExt};
+use std::rt::Files;
+
+/// The bytes of a page, counted as a file's are.
+const PAGE_BYTES: u64 = PAGE_WIDTH as u64;
+
+/// A page file on a file system, with its side file beside it: for a file FILE that is `FILE-journal`, and
+/// `FILE-journal-new` while it is made. The file is locked against other openings. Its length is taken once, at opening,
+/// and kept. Each method makes the call of the system that it stands for; contracts tell no more of what is read and of
+/// what a crash leaves than `Disk` does.
+#[derive(Drop)]
+pub struct FileDisk<H, F> {
+    file: F,
+    beside: SideFiles<H, F>,
+    pages: u64,
+    tail: u16,
+    calls: u64,
+    failures: u64,
+}
+
+impl<H, F> Model for FileDisk<H, F> {
+    ghost use Rattle.std.specs.Prelude.{◌<◌};
+    ghost use Rattle.rec_types.specs.Widths.{page_width};
+    ghost use Rattle.page_journal.specs.FileDisks.{OpenedDisk};
+
+    ghost Value = { OpenedDisk };
+
+    ghost view = { λ d. record {
+      pages = d.pages;
+      tail = d.tail;
+      calls = d.calls;
+      failures = d.failures;
+    } };
+
+    ghost invariant = { λ d. d.tail < page_width };
+}
+
+/// Where page n begins in the file.
+fn page_start(n: u32) -> u64
+    ensures { result ≡ n * page_width }
+{
+    u64::from(n) * PAGE_BYTES
+}
+
+impl<H: Files<File = F> + Drop, F: OpenFile + FileExt + Lock + Drop> FileDisk<H, F> {
+    /// Opens the file of that path to read and write it, and takes the lock that no other opening shares. What a stop
+    /// left beside it is looked at: a side file that was being made is removed, and one that has the name stays, for
+    /// `KeptStore::open`. The device then keeps all that is read. Faults: Device, as where there is no file, it may not be
+    /// written, or another opening has a lock; BadJournal, where a side file isn't one of this file, and nothing has changed
+    /// then; Memory.
+    pub fn open(rt: H, alloc: Global, path: &str) -> Result<FileDisk<H, F>, OpeningFault>
+        ensures rest { IfOk result (λ d. IsAtRest ⟦<FileDisk<H, F> as DiskState>⟧ d) }
+        ensures began { IfOk result (λ d. IsTrue (⟦<FileDisk<H, F> as DiskState>⟧.steady d)
+            → ⟦<FileDisk<H, F> as DiskState>⟧.seen d ≡ ⟦<FileDisk<H, F> as DiskState>⟧.began) }
+        ensures moment { IfOk result (λ d. d.calls ≡ 0) }
+        ensures failures { IfOk result (λ d. d.failures ≡ 0) }
+    {
+        let names = SideNames::of(&rt, alloc, path)?;
+        let file = OpenOptions::new()
+            .read(true)
+            .write(true)
+            .open(&rt, names.main.as_str())?;
+        file.try_lock()?;
+        let metadata = file.metadata()?;
+        let pages = metadata.len() / PAGE_BYTES;
+        let beside = SideFiles::open(rt, names, metadata.mode() & 0o777, pages)?;
+        file.sync_all()?;
+        beside.sync_names()?;
+        Ok(FileDisk {
+            file,
+            beside,
+            pages,
+            tail: (metadata.len() % PAGE_BYTES) as u16,
+            calls: 0,
+            failures: 0,
+        })
+    }
+
+    // Makes the file n pages long, with no tail. Fault: Failed; it is as long as it was then.
+    fn set_pages(&mut self, n: u64) -> Result<(), StoreFault>
+        requires { n < 2 ^ 52 }
+        ensures { SetsLength n self.old result self.new }
+    {
+        count_up(&mut self.calls);
+        let answer = self.file.set_len(n * PAGE_BYTES);
+        noted_call(&mut self.failures, answer)?;
+        self.pages = n;
+        self.tail = 0;
+        Ok(())
+    }
+
+    // Cuts the tail off, where there is one. Fault: Failed.
+    fn cut_tail(&mut self) -> Result<(), StoreFault>
+        requires { self.old.pages < 2 ^ 52 }
+        ensures { SetsLength self.old.pages self.old result self.new }
+    {
+        if self.tail == 0 {
+            return Ok(());
+        }
+        self.set_pages(self.pages)
+    }
+}
+
+/// Whether a side file stands beside the file of that path, by the name that an opening looks for. Faults: Device, as where
+/// there is no file; Memory.
+pub fn has_side_file<H: Files>(rt: &H, alloc: Global, path: &str) -> Result<bool, OpeningFault> {
+    let names = SideNames::of(rt, alloc, path)?;
+    match rt.symlink_metadata(names.side.as_str()) {
+        Ok(_) => Ok(true),
+        Err(error) if error.kind() == io::ErrorKind::NotFound => Ok(false),
+        Err(_) => Err(OpeningFault::Device),
+    }
+}
+
+impl<H: Files<File = F> + Drop, F: OpenFile + FileExt + Lock + Drop> DiskState for FileDisk<H, F> {
+    ghost use Rattle.page_store.specs.FileValues.{gives_back};
+    ghost use Rattle.page_journal.specs.FileDisks.{files_seen, files_at_opening, may_be_left, left_since_in_files};
+
+    ghost began = { files_at_opening };
+
+    ghost steady = { λ _. gives_back };
+
+    ghost seen = { λ d. files_seen d.calls d.pages d.tail };
+
+    ghost may_leave = { λ d c. may_be_left d.calls c };
+
+    ghost moment = { λ d. d.calls };
+
+    ghost left_since = { λ d t c. left_since_in_files d.calls t c };
+
+    ghost failures = { λ d. d.failures };
+}
+
+impl<H: Files<File = F> + Drop, F: OpenFile + FileExt + Lock + Drop> Disk for FileDisk<H, F> {
+    ghost use Rattle.page_journal.specs.FileDisks.{only_left_at_once, left_at_once};
+
+    ghost only_now = { λ d c left. only_left_at_once d.calls c left };
+
+    ghost counts_now = { λ d t c fits left. left_at_once d.calls t c left };
+
+    fn shape(&mut self) -> Result<Shape, StoreFault> {
+        Ok(Shape {
+            pages: self.pages,
+            tail: self.tail,
+        })
+    }
+
+    fn read(&mut self, n: u32, to: &mut [u8; PAGE_WIDTH]) -> Result<(), StoreFault> {
+        let answer = self.file.read_exact_at(to, page_start(n));
+        noted_call(&mut self.failures, answer)
+    }
+
+    fn write(&mut self, n: u32, from: &[u8; PAGE_WIDTH]) -> Result<(), StoreFault> {
+        count_up(&mut self.calls);
+        let answer = self.file.write_all_at(from, page_start(n));
+        noted_call(&mut self.failures, answer)
+    }
+
+    /// Cuts the tail off first, so that the pages added are zero.
+    fn grow(&mut self, n: u32) -> Result<(), StoreFault> {
+        self.cut_tail()?;
+        self.set_pages(u64::from(n))
+    }
+
+    fn cut(&mut self, n: u32) -> Result<(), StoreFault> {
+        self.set_pages(u64::from(n))
+    }
+
+    fn sync(&mut self) -> Result<(), StoreFault> {
+        count_up(&mut self.calls);
+        let answer = self.file.sync_all();
+        noted_call(&mut self.failures, answer)
+    }
+
+    fn start(&mut self, long: u32) -> Result<(), StoreFault> {
+        count_up(&mut self.calls);
+        let answer = self.beside.start(long);
+        noted_call(&mut self.failures, answer)
+    }
+
+    fn keep(&mut self, n: u32, page: &[u8; PAGE_WIDTH]) -> Result<(), StoreFault> {
+        count_up(&mut self.calls);
+        let answer = self.beside.keep(n, page);
+        noted_call(&mut self.failures, answer)
+    }
+
+    fn sync_fresh(&mut self) -> Result<(), StoreFault> {
+        count_up(&mut self.calls);
+        let answer = self.beside.finish();
+        noted_call(&mut self.failures, answer)
+    }
+
+    fn name(&mut self) -> Result<(), StoreFault> {
+        count_up(&mut self.calls);
+        let answer = self.beside.name();
+        noted_call(&mut self.failures, answer)
+    }
+
+    fn remove(&mut self) -> Result<(), StoreFault> {
+        count_up(&mut self.calls);
+        let answer = self.beside.remove();
+        noted_call(&mut self.failures, answer)
+    }
+
+    fn sync_names(&mut self) -> Result<(), StoreFault> {
+        count_up(&mut self.calls);
+        let answer = self.beside.sync_names();
+        noted_call(&mut self.failures, answer)
+    }
+
+    fn side(&mut self) -> Result<Option<SideShape>, StoreFault> {
+        Ok(self.beside.shape())
+    }
+
+    fn kept(&mut self, i: u32, to: &mut [u8; PAGE_WIDTH]) -> Result<u32, StoreFault> {
+        let answer = self.beside.read(i, to);
+        noted_call(&mut self.failures, answer)
+    }
+}
