@@ -1,6 +1,6 @@
 -- The set of escaped bytes, byte by byte.
-use Rattle.std.proofs.Common.{◌≡◌, ℕ, ◌<◌, zero, suc, Bool, true, false, cond, not, ◌&&◌, List, [], ◌∷◌, ◌++◌, get_or, inl, inr, refl, sym, subst, arith}
-use Rattle.std.specs.List.{flat_map}
+use Rattle.std.proofs.Common.{◌≡◌, ℕ, ◌<◌, zero, suc, Bool, true, false, cond, not, ◌&&◌, ◌||◌, List, [], ◌∷◌, ◌++◌, get_or, Result, Ok, Err, OnOk, is_ok, inl, inr, refl, sym, subst, arith}
+use Rattle.std.specs.List.{flat_map, list_any}
 use Rattle.std.proofs.lemmas.Bool.{cases_lt}
 use Rattle.percent_encoding.specs.declared.ascii_set.AsciiSet.{AsciiSet}
 use Rattle.percent_encoding.specs.AsciiSet.{should_percent_encode}
@@ -46,3 +46,25 @@ encoded set all (b ∷ bs) small = λ i. cond (agrees set 256 all b (small 0) i)
 pub percent_encode-escaped : (set : AsciiSet) → agree_below set 256 ≡ true → (bytes : List ℕ) → ((i : ℕ) → get_or bytes i 0 < 256) → percent_encode set bytes ≡ escaped bytes
 unfolding percent_encode escaped
 percent_encode-escaped set all bytes small = encoded set all bytes small
+
+-- bytes none of which needs an escape stand for themselves
+
+neither : (a b : Bool) → (a || b) ≡ false → (a ≡ false) × (b ≡ false)
+neither true b is = absurd (cc)
+neither false b is = (refl, is)
+
+pub unescaped : (bytes : List ℕ) → list_any is_escaped bytes ≡ false → escaped bytes ≡ bytes
+unfolding escaped
+unescaped [] none = refl
+unescaped (b ∷ bs) none =
+    let parts = neither (is_escaped b) (list_any is_escaped bs) none in
+    λ i. cond (parts.0 i) (percent_encode_byte b) (b ∷ []) ++ unescaped bs parts.1 i
+
+pub none_escaped : (b any : Bool) → b ≡ not any → b ≡ true → any ≡ false
+none_escaped b true is holds = absurd (cc)
+none_escaped b false is holds = refl
+
+-- what a text is where bytes were added
+pub where_ok : {A E : Type 0} (r : Result A E) (text more old : List ℕ) → text ≡ cond (is_ok r) more old → OnOk r (text ≡ more)
+where_ok (Ok a) text more old is = is
+where_ok (Err e) text more old is = tt

@@ -32,6 +32,7 @@ bad line_faults.BadNumber = refl
 bad line_faults.KeyTooLong = refl
 bad line_faults.NoRecordMark = refl
 bad line_faults.RecordTooLong = refl
+bad line_faults.LineTooLong = refl
 
 old : (before : Option (List ℕ)) → begins_refused (line (old_text before)) ≡ false
 old None = refl

@@ -55,6 +55,7 @@ refusal_text (refusals.Stopped undone left cause) =
     codes "stopped " ++ decimal undone ++ codes " " ++ decimal left ++ codes " " ++ cause_text cause
 
 abbrev pub fault_text : LineFault → List ℕ
+fault_text line_faults.LineTooLong = codes "bad LineTooLong"
 fault_text line_faults.UnknownCommand = codes "bad UnknownCommand"
 fault_text line_faults.WordCount = codes "bad WordCount"
 fault_text line_faults.BadNumber = codes "bad BadNumber"

@@ -20,10 +20,12 @@ pub enum Command {
     Log,
 }
 
-/// Why a script line says no command, in the order of the checks: its first word, the number of its words, and
-/// then its arguments from left to right.
+/// Why a line says no command, in the order of the checks: its length, where lines have a bound; its first word, the
+/// number of its words, and then its arguments from left to right.
 #[derive(Clone, Copy, Debug, PartialEq, Eq, Error)]
 pub enum LineFault {
+    #[error("LineTooLong")]
+    LineTooLong,
     #[error("UnknownCommand")]
     UnknownCommand,
     #[error("WordCount")]

@@ -1,5 +1,5 @@
 //! What holds of lines and texts. The functions do nothing: their contracts are the laws.
-ghost use Rattle.std.specs.Prelude.{◌≡◌, ◌≢◌, ℕ, ◌<◌, true, false, List, [], ◌∷◌, ◌++◌, length, nat_lt, if◌then◌else◌, Some, None, Ok, Err, codes};
+ghost use Rattle.std.specs.Prelude.{◌≡◌, ◌≢◌, ℕ, ◌<◌, ◌≤◌, true, false, List, [], ◌∷◌, ◌++◌, length, nat_lt, if◌then◌else◌, Some, None, Ok, Err, codes};
 ghost use Rattle.std.specs.List.{All, list_all};
 ghost use Rattle.rec_types.specs.Widths.{key_width};
 ghost use Rattle.percent_encoding.specs.Percent.{percent_decode};
@@ -10,7 +10,7 @@ ghost use Rattle.command_text.specs.Dump.{dump_text, dump_commands, CanBePut};
 ghost use Rattle.command_text.specs.Examples.{tx, owned, free};
 ghost use Rattle.command_text.specs.Refusals.{begins_refused, is_refusal};
 ghost use Rattle.command_text.specs.Grammar.{is_word, words_of, key_at, line_of};
-ghost use Rattle.command_text.specs.Script.{lines_of, entries_of};
+ghost use Rattle.command_text.specs.Script.{bounded_entries_in, bounded_line_of, ended_lines, entries_of, lines_of, longest_line};
 ghost use Rattle.command_text.specs.Texts.{escaped, is_plain, text_of, texts_of};
 ghost use Rattle.command_text.specs.declared.command.Command.TheVariants as command;
 ghost use Rattle.command_text.specs.declared.command.LineFault.TheVariants as faults;
@@ -28,6 +28,20 @@ pub fn lines_by_example()
     ensures entries { entries_of
         (codes "log" ++ 10 ∷ codes "# log" ++ 10 ∷ 10 ∷ codes "lag" ++ 10 ∷ codes "list")
         ≡ Ok command.Log ∷ Err faults.UnknownCommand ∷ Ok command.List ∷ [] }
+{}
+
+/// A line that may have 65,536 bytes is read as any line is; a longer one is refused, whatever it says. By example: the
+/// lines of a text that have their LF.
+pub fn bounded_lines()
+    ensures read { (line : List ℕ) → length line ≤ longest_line
+        → bounded_line_of line ≡ line_of line }
+    ensures refused { (line : List ℕ) → longest_line < length line
+        → bounded_line_of line ≡ Err faults.LineTooLong }
+    ensures ended { ended_lines (codes "ab" ++ 10 ∷ codes "c" ++ 10 ∷ [])
+        ≡ codes "ab" ∷ codes "c" ∷ [] }
+    ensures unended { ended_lines (codes "ab" ++ 10 ∷ codes "c") ≡ codes "ab" ∷ [] }
+    ensures entries { bounded_entries_in (codes "log" ∷ codes "# log" ∷ codes "lag" ∷ [])
+        ≡ Ok command.Log ∷ Err faults.UnknownCommand ∷ [] }
 {}
 
 /// Lines by example: what each says, and the first fault where there are two.

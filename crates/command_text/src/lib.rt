@@ -14,5 +14,5 @@ mod word;
 pub use command::{Command, LineFault};
 pub use dump::write_dump;
 pub use list::{EntryList, KeyList};
-pub use reading::read_line;
+pub use reading::{LONGEST_LINE, read_bounded_line, read_line};
 pub use reply::{Reply, write_reply};

@@ -1,5 +1,6 @@
 ghost use Rattle.std.specs.Prelude.{◌≡◌, Some};
 ghost use Rattle.command_text.specs.Grammar.{words_of, tx_of_word, tx_number_of, tx_key_of, tx_key_record_of, file_command_of, tx_command_of, command_of, line_of, read_as};
+ghost use Rattle.command_text.specs.Script.{bounded_line_of};
 ghost use Rattle.command_text.specs.declared.command.Command.TheVariants as commands;
 
 use crate::argument::{key_at, number_at, record_at, tx_at};
@@ -206,4 +207,17 @@ pub fn read_line(line: &[u8]) -> Result<Option<Command>, LineFault>
         return Ok(None);
     }
     command(name, rest)
+}
+
+/// The bytes of the longest line that `read_bounded_line` reads.
+pub const LONGEST_LINE: usize = 65_536;
+
+/// What `read_line` answers to a line of at most 65,536 bytes. Faults: LineTooLong; then those of `read_line`.
+pub fn read_bounded_line(line: &[u8]) -> Result<Option<Command>, LineFault>
+    ensures { result ≡ bounded_line_of line.now }
+{
+    if line.len() > LONGEST_LINE {
+        return Err(LineFault::LineTooLong);
+    }
+    read_line(line)
 }

@@ -1,12 +1,12 @@
-ghost use Rattle.std.specs.Prelude.{◌≡◌, ◌++◌, IfOk, OnOk};
-ghost use Rattle.std.specs.List.{flat_map};
+ghost use Rattle.std.specs.Prelude.{◌≡◌, ◌++◌, not, IfOk, OnOk};
+ghost use Rattle.std.specs.List.{flat_map, list_any};
 ghost use Rattle.std.specs.String.{string_bytes};
 ghost use Rattle.command_text.specs.Refusals.{is_refusal};
-ghost use Rattle.command_text.specs.Texts.{escaped, cause_text, refusal_text, fault_text, number_text, record_text, old_text, owner_text, entry_line, key_line, entries_text, keys_text, reply_text, text_of};
+ghost use Rattle.command_text.specs.Texts.{is_escaped, escaped, cause_text, refusal_text, fault_text, number_text, record_text, old_text, owner_text, entry_line, key_line, entries_text, keys_text, reply_text, text_of};
 
 use crate::refusal::Refusal;
 use crate::{EntryList, KeyList, LineFault};
-use percent_encoding::{AsciiSet, CONTROLS, ascii_set, percent_encode};
+use percent_encoding::{AsciiSet, CONTROLS, ascii_set, ascii_str, percent_encode};
 use rec_types::{Entry, Key, Memory, Record, TxId};
 use record_file::{
     AbortFault, BeginFault, Cause, ClaimFault, CommitFault, EntriesFault, GetFault, KeysOfFault,
@@ -64,10 +64,24 @@ const ESCAPED: AsciiSet = ascii_set!(CONTROLS.add(b' ').add(b'%'));
 // A reply of one line has at most 305 bytes: `ok =`, 100 bytes in escapes, and the end.
 const LINE_ROOM: usize = 305;
 
+// Whether no byte needs an escape. It looks at all of them, and so at many at a time.
+fn needs_no_escape(bytes: &[u8]) -> bool
+    ensures { result ≡ not (list_any is_escaped bytes.now) }
+{
+    let mut plain = true;
+    for byte in bytes {
+        plain = plain & (*byte > 32) & (*byte < 127) & (*byte != b'%');
+    }
+    plain
+}
+
 /// Appends bytes, escaped.
 pub(crate) fn push_escaped(text: &mut String, bytes: &[u8]) -> Result<(), AllocError>
     ensures { OnOk result (string_bytes text.new ≡ string_bytes text.old ++ escaped bytes.now) }
 {
+    if needs_no_escape(bytes) {
+        return text.push_str(ascii_str(bytes));
+    }
     percent_encode(bytes, ESCAPED).append_to(text)
 }
 
@@ -117,6 +131,7 @@ fn push_fault(text: &mut String, fault: LineFault) -> Result<(), AllocError>
     ensures { OnOk result (string_bytes text.new ≡ string_bytes text.old ++ fault_text fault) }
 {
     match fault {
+        LineFault::LineTooLong => text.push_str("bad LineTooLong"),
         LineFault::UnknownCommand => text.push_str("bad UnknownCommand"),
         LineFault::WordCount => text.push_str("bad WordCount"),
         LineFault::BadNumber => text.push_str("bad BadNumber"),

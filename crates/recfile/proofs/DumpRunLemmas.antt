@@ -83,7 +83,7 @@ inserted_all m = same_contents (inserted maps.empty (maps.entries m)) m (λ q.
     ∙ sym (get-entries m q))
 
 -- a run of one call is one step
-one_step : (old new : Seen) (events : List Event) (called : Called) → map (λ e. e.called) events ≡ called ∷ [] → Run old events new → (e : Event) × (e.called ≡ called) × Step old e new
+pub one_step : (old new : Seen) (events : List Event) (called : Called) → map (λ e. e.called) events ≡ called ∷ [] → Run old events new → (e : Event) × (e.called ≡ called) × Step old e new
 one_step old new [] called is ran = absurd (cc)
 one_step old new (e ∷ []) called is ran = (e, cc, subst (λ (s : Seen). Step old e s) (sym ran.2) ran.1)
 one_step old new (e ∷ f ∷ es) called is ran = absurd (cc)

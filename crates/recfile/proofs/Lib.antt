@@ -7,3 +7,8 @@ pub mod CallRunLemmas
 pub mod WholeAbortLemmas
 pub mod ScriptAnswerLemmas
 pub mod DumpRunLemmas
+pub mod FedLemmas
+pub mod ShellLemmas
+pub mod OpenedLemmas
+pub mod KeptLemmas
+pub mod RoomLemmas

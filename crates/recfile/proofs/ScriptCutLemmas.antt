@@ -1,9 +1,12 @@
 -- Where a script is cut at its first LF.
-use Rattle.std.proofs.Common.{◌≡◌, ℕ, ◌+◌, ◌-◌, ◌<◌, List, [], ◌∷◌, length, take, drop, Some, None, refl, sym, ap, ◌∙◌, arith}
-use Rattle.std.specs.List.{slice_split, position}
+use Rattle.std.proofs.Common.{◌≡◌, ℕ, ◌+◌, ◌-◌, ◌<◌, Bool, true, false, cond, nat_lt, List, [], ◌∷◌, ◌++◌, length, take, drop, Some, None, refl, sym, ap, subst, ◌∙◌, arith}
+use Rattle.std.proofs.lemmas.Grind.{common_steps}
+use Rattle.std.proofs.lemmas.Bool.Decides.{nat_tests}
+use Rattle.std.specs.List.{slice_split, position, position_or_len}
+use Rattle.std.proofs.lemmas.List.Sums.{split_at_first, fails_before_first, passes_at_first}
 use Rattle.std.proofs.lemmas.List.{drop_all}
 use Rattle.std.proofs.lemmas.List.Splits.{length-slice_split}
-use Rattle.command_text.specs.Script.{is_lf, without_empty_last, lines_of}
+use Rattle.command_text.specs.Script.{HasNoLf, is_lf, without_empty_last, lines_of}
 use Rattle.command_text.proofs.TextCutLemmas.{cut_some, cut_none, rest_cut}
 
 -- a line is no last one where more pieces follow
@@ -30,3 +33,33 @@ lines_whole text some is =
     ap without_empty_last (cut_none is_lf text is)
     ∙ whole_stays text some
     ∙ ap (λ (after : List ℕ). text ∷ lines_of after) (sym (rest_cut text (length text) ∙ drop_all (length text) text (omega arith)))
+
+found_is : (b : Bool) (n i : ℕ) → cond b (Some n) None ≡ Some i → (b ≡ true) × (n ≡ i)
+found_is true n i is = (refl, cc)
+found_is false n i is = absurd (cc)
+
+none_is : (b : Bool) (n : ℕ) → cond b (Some n) None ≡ None → b ≡ false
+none_is true n is = absurd (cc)
+none_is false n is = refl
+
+lf_is : (b : ℕ) → is_lf b ≡ true → b ≡ 10
+lf_is b is = grind (arith, nat_tests)
+
+-- A text is what stands before its first LF, the LF, and the rest.
+pub cut_at : (text : List ℕ) (i : ℕ) → position is_lf text ≡ Some i → (text ≡ take i text ++ 10 ∷ take (length text - (i + 1)) (drop (i + 1) text)) × HasNoLf (take i text)
+cut_at text i is =
+    let found = found_is (nat_lt (position_or_len is_lf text) (length text)) (position_or_len is_lf text) i is in
+    let lt : position_or_len is_lf text < length text = grind (arith, nat_tests, found.0) in
+    let front : HasNoLf (take (position_or_len is_lf text) text) = λ k d m. let fails = fails_before_first is_lf text k d (grind (arith, common_steps)) in grind (arith, common_steps) in
+    subst (λ n. (text ≡ take n text ++ 10 ∷ take (length text - (n + 1)) (drop (n + 1) text)) × HasNoLf (take n text)) found.1 (
+      split_at_first is_lf text 0 lt
+          ∙ ap (λ b. take (position_or_len is_lf text) text ++ b ∷ drop (position_or_len is_lf text + 1) text) (lf_is _ (passes_at_first is_lf text 0 lt))
+          ∙ ap (λ r. take (position_or_len is_lf text) text ++ 10 ∷ r) (sym (rest_cut text (position_or_len is_lf text + 1))),
+      front,
+    )
+
+-- A text without LF has none.
+pub no_cut : (text : List ℕ) → position is_lf text ≡ None → HasNoLf text
+no_cut text is k d lt =
+    let none = none_is (nat_lt (position_or_len is_lf text) (length text)) (position_or_len is_lf text) is in
+    fails_before_first is_lf text k d (grind (arith, nat_tests, none))

@@ -25,7 +25,7 @@ session-more old mid new [] (first ∷ replies) said answer ran step = absurd ra
 session-more old mid new (entry ∷ front) [] said answer ran step = absurd ran
 session-more old mid new (entry ∷ front) (first ∷ replies) said answer ran step = (ran.0, ran.1, session-more ran.0 mid new front replies said answer ran.2 step)
 
-commands-more : (front : List (Read Command)) (line : Read Command) → commands (front ++ line ∷ []) ≡ commands front + cond (is_command line) 1 0
+pub commands-more : (front : List (Read Command)) (line : Read Command) → commands (front ++ line ∷ []) ≡ commands front + cond (is_command line) 1 0
 commands-more [] line = at (is_command line)
   where
     at : (b : Bool) → length (cond b (line ∷ []) []) ≡ 0 + cond b 1 0
@@ -38,13 +38,13 @@ commands-more (entry ∷ front) line = at (is_command entry) (commands-more fron
     at false is = is
 
 -- a line that has a reply says something: one entry of the script
-record Entry (mid : Seen) (line : Read (Option Command)) (answer : Reply) (new : Seen) : Type 0 where
-  said : Read Command
-  kept : (rest : List (Read Command)) → keep line rest ≡ said ∷ rest
-  counted : is_command said ≡ says_command line
-  step : HasReply mid said answer new
+pub record Entry (mid : Seen) (line : Read (Option Command)) (answer : Reply) (new : Seen) : Type 0 where
+  pub said : Read Command
+  pub kept : (rest : List (Read Command)) → keep line rest ≡ said ∷ rest
+  pub counted : is_command said ≡ says_command line
+  pub step : HasReply mid said answer new
 
-entry_of : (mid new : Seen) (line : Read (Option Command)) (answer : Reply) → LineHasReply mid line answer new → Entry mid line answer new
+pub entry_of : (mid new : Seen) (line : Read (Option Command)) (answer : Reply) → LineHasReply mid line answer new → Entry mid line answer new
 entry_of mid new (Ok None) answer step = absurd step
 entry_of mid new (Ok (Some c)) answer step = record { said = Ok c; kept = λ rest. refl; counted = refl; step = step }
 entry_of mid new (Err fault) answer step = record { said = Err fault; kept = λ rest. refl; counted = refl; step = step }
@@ -61,7 +61,7 @@ pub record Walked (script rest : List ℕ) (old : Seen) (replies : List Reply) (
 pub walked_none : (script : List ℕ) (old : Seen) → Walked script script old [] old 0 0
 walked_none script old = record { passed = []; split = refl; ran = refl; count = refl; place = refl }
 
-keep-append : (line : Read (Option Command)) (xs ys : List (Read Command)) → keep line (xs ++ ys) ≡ keep line xs ++ ys
+pub keep-append : (line : Read (Option Command)) (xs ys : List (Read Command)) → keep line (xs ++ ys) ≡ keep line xs ++ ys
 keep-append (Ok None) xs ys = refl
 keep-append (Ok (Some c)) xs ys = refl
 keep-append (Err fault) xs ys = refl
@@ -70,7 +70,7 @@ entries-append : (xs ys : List (List ℕ)) → entries_in (xs ++ ys) ≡ entries
 entries-append [] ys = refl
 entries-append (x ∷ xs) ys = ap (keep (line_of x)) (entries-append xs ys) ∙ keep-append (line_of x) (entries_in xs) (entries_in ys)
 
-length-more : (xs : List (List ℕ)) (x : List ℕ) → length xs + 1 ≡ length (xs ++ x ∷ [])
+pub length-more : (xs : List (List ℕ)) (x : List ℕ) → length xs + 1 ≡ length (xs ++ x ∷ [])
 length-more xs x = omega (arith, length-append xs (x ∷ []))
 
 -- one more line of the script that has a reply

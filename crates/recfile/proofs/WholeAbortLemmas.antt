@@ -17,11 +17,17 @@ use Rattle.record_file.proofs.OpenTxLemmas.{same_tx, get-insert_tx, get-remove_t
 use Rattle.command_text.specs.declared.command.Command.{Command}
 use Rattle.command_text.specs.declared.reply.Reply.{Reply}
 use Rattle.command_text.specs.Grammar.{Read, line_of}
-use Rattle.command_text.specs.Script.{entries_in, entries_of}
+use Rattle.command_text.specs.Script.{bounded_entries_in, bounded_line_of, entries_in, entries_of}
 use Rattle.recfile.specs.declared.script.RunFault.{RunFault}
 use Rattle.recfile.specs.declared.script.RunFault.TheVariants.{Script, Refused}
+use Rattle.recfile.specs.declared.script.ScriptFault.TheVariants as script_faults
 use Rattle.recfile.specs.Run.{LineHasReply, Session, Ran}
 use Rattle.recfile.specs.Ending.{EndsAtBeginning, IsWholeTx, AbortsWhole}
+use Rattle.recfile.specs.Shell.{Answered, LineStops, RanLines, ReadsEnd}
+use Rattle.recfile.specs.WholeSession.{RanBy, RanAs}
+use Rattle.recfile.specs.declared.manner.Feed.{Feed}
+use Rattle.recfile.specs.declared.manner.Feed.TheVariants as feeds
+use Rattle.recfile.specs.declared.manner.Manner.{Manner}
 
 -- where no transaction is open each aborts whole
 pub whole_empty : AbortsWhole maps.empty
@@ -121,13 +127,43 @@ whole_line old new (Ok (Some c)) answer step whole = whole_run old new step.even
 whole_line old new (Err fault) answer step whole = whole_run old new step.events step.ran whole
 
 -- and after a script
-pub whole_script : (strict : Bool) (answer : Result ℕ RunFault) (left leaves held holds : Option (List ℕ)) (old new : Seen) → Ran strict left leaves held holds old new answer → AbortsWhole old.file.txs → AbortsWhole new.file.txs
+whole_script : (strict : Bool) (answer : Result ℕ RunFault) (left leaves held holds : Option (List ℕ)) (old new : Seen) → Ran strict left leaves held holds old new answer → AbortsWhole old.file.txs → AbortsWhole new.file.txs
 whole_script strict (Ok done) left leaves held holds old new ran whole = whole_session old new (entries_of ran.0.0) ran.0.1 ran.0.3 whole
 whole_script strict (Err fault) left leaves held holds old new (inl unread) whole = same_seen old new unread.1 whole
 whole_script strict (Err (Script fault)) left leaves held holds old new (inr stopped) whole = whole_session old new stopped.2.0.served.front _ stopped.2.0.served.ran whole
 whole_script strict (Err (Refused line)) left leaves held holds old new (inr stopped) whole =
     let refused = stopped.2.1 in
     whole_line refused.mid new (line_of refused.line) refused.last refused.reply (whole_session old refused.mid (entries_in refused.before) refused.replies refused.ran whole)
+
+-- and after lines that were answered as they came
+whole_answered : (strict : Bool) (held holds : Option (List ℕ)) (old new : Seen) (lines : List (List ℕ)) → Answered strict held holds old lines new → AbortsWhole old.file.txs → AbortsWhole new.file.txs
+whole_answered strict held holds old new lines answered whole = whole_session old new (bounded_entries_in lines) answered.replies answered.ran whole
+
+whole_stop : (strict : Bool) (held holds : Option (List ℕ)) (old new : Seen) (said : Read (Option Command)) (done number : ℕ) (fault : RunFault) → LineStops strict held holds old said new done number fault → AbortsWhole old.file.txs → AbortsWhole new.file.txs
+whole_stop strict held holds old new said done number (Script fault) stops whole = whole_line old new said stops.0 stops.1 whole
+whole_stop strict held holds old new said done number (Refused line) stops whole = whole_line old new said stops.0 stops.1 whole
+
+whole_end : (strict : Bool) (fault : RunFault) (left leaves held holds : Option (List ℕ)) (old new : Seen) → ReadsEnd strict left leaves held holds old new fault → AbortsWhole old.file.txs → AbortsWhole new.file.txs
+whole_end strict (Script script_faults.ReadFault) left leaves held holds old new ends whole = whole_answered strict held holds old new ends.0 ends.2 whole
+whole_end strict (Script script_faults.ScriptTooLong) left leaves held holds old new ends whole = whole_answered strict held holds old new ends.0 ends.2 whole
+whole_end strict (Script (script_faults.Memory done)) left leaves held holds old new ends whole = same_seen old new ends.3 whole
+whole_end strict (Script (script_faults.WriteFault done)) left leaves held holds old new ends whole = absurd ends
+whole_end strict (Refused line) left leaves held holds old new ends whole = absurd ends
+
+whole_lines : (strict : Bool) (answer : Result ℕ RunFault) (left leaves held holds : Option (List ℕ)) (old new : Seen) → RanLines strict left leaves held holds old new answer → AbortsWhole old.file.txs → AbortsWhole new.file.txs
+whole_lines strict (Ok done) left leaves held holds old new ran whole = whole_answered strict held holds old new ran.0 ran.2 whole
+whole_lines strict (Err fault) left leaves held holds old new (inl ends) whole = whole_end strict fault left leaves held holds old new ends whole
+whole_lines strict (Err fault) left leaves held holds old new (inr stopped) whole =
+    let stop = stopped.3 in
+    whole_stop strict stop.between holds stop.mid new (bounded_line_of stop.line) _ _ fault stop.stops (whole_answered strict held stop.between old stop.mid stop.before stop.answered whole)
+
+whole_by : (feed : Feed) (strict : Bool) (answer : Result ℕ RunFault) (left leaves held holds : Option (List ℕ)) (old new : Seen) → RanBy feed strict left leaves held holds old new answer → AbortsWhole old.file.txs → AbortsWhole new.file.txs
+whole_by feeds.Script strict answer left leaves held holds old new ran whole = whole_script strict answer left leaves held holds old new ran whole
+whole_by feeds.Lines strict answer left leaves held holds old new ran whole = whole_lines strict answer left leaves held holds old new ran whole
+
+-- and after the lines of a session, whatever its manner
+pub whole_ran : (manner : Manner) (answer : Result ℕ RunFault) (left leaves held holds : Option (List ℕ)) (old new : Seen) → RanAs manner left leaves held holds old new answer → AbortsWhole old.file.txs → AbortsWhole new.file.txs
+whole_ran manner answer left leaves held holds old new ran whole = whole_by manner.feed manner.strict answer left leaves held holds old new ran whole
 
 -- a table stays sound
 sound_run : (old new : Seen) (events : List Event) → Run old events new → new.sound ≡ old.sound
@@ -146,10 +182,39 @@ sound_line old new (Ok (Some c)) answer step = sound_run old new step.events ste
 sound_line old new (Err fault) answer step = sound_run old new step.events step.ran
 
 -- so it is over a script
-pub sound_script : (strict : Bool) (answer : Result ℕ RunFault) (left leaves held holds : Option (List ℕ)) (old new : Seen) → Ran strict left leaves held holds old new answer → new.sound ≡ old.sound
+sound_script : (strict : Bool) (answer : Result ℕ RunFault) (left leaves held holds : Option (List ℕ)) (old new : Seen) → Ran strict left leaves held holds old new answer → new.sound ≡ old.sound
 sound_script strict (Ok done) left leaves held holds old new ran = sound_session old new (entries_of ran.0.0) ran.0.1 ran.0.3
 sound_script strict (Err fault) left leaves held holds old new (inl unread) = ap (λ (s : Seen). s.sound) unread.1
 sound_script strict (Err (Script fault)) left leaves held holds old new (inr stopped) = sound_session old new stopped.2.0.served.front _ stopped.2.0.served.ran
 sound_script strict (Err (Refused line)) left leaves held holds old new (inr stopped) =
     let refused = stopped.2.1 in
     sound_line refused.mid new (line_of refused.line) refused.last refused.reply ∙ sound_session old refused.mid (entries_in refused.before) refused.replies refused.ran
+
+sound_answered : (strict : Bool) (held holds : Option (List ℕ)) (old new : Seen) (lines : List (List ℕ)) → Answered strict held holds old lines new → new.sound ≡ old.sound
+sound_answered strict held holds old new lines answered = sound_session old new (bounded_entries_in lines) answered.replies answered.ran
+
+sound_stop : (strict : Bool) (held holds : Option (List ℕ)) (old new : Seen) (said : Read (Option Command)) (done number : ℕ) (fault : RunFault) → LineStops strict held holds old said new done number fault → new.sound ≡ old.sound
+sound_stop strict held holds old new said done number (Script fault) stops = sound_line old new said stops.0 stops.1
+sound_stop strict held holds old new said done number (Refused line) stops = sound_line old new said stops.0 stops.1
+
+sound_end : (strict : Bool) (fault : RunFault) (left leaves held holds : Option (List ℕ)) (old new : Seen) → ReadsEnd strict left leaves held holds old new fault → new.sound ≡ old.sound
+sound_end strict (Script script_faults.ReadFault) left leaves held holds old new ends = sound_answered strict held holds old new ends.0 ends.2
+sound_end strict (Script script_faults.ScriptTooLong) left leaves held holds old new ends = sound_answered strict held holds old new ends.0 ends.2
+sound_end strict (Script (script_faults.Memory done)) left leaves held holds old new ends = ap (λ (s : Seen). s.sound) ends.3
+sound_end strict (Script (script_faults.WriteFault done)) left leaves held holds old new ends = absurd ends
+sound_end strict (Refused line) left leaves held holds old new ends = absurd ends
+
+sound_lines : (strict : Bool) (answer : Result ℕ RunFault) (left leaves held holds : Option (List ℕ)) (old new : Seen) → RanLines strict left leaves held holds old new answer → new.sound ≡ old.sound
+sound_lines strict (Ok done) left leaves held holds old new ran = sound_answered strict held holds old new ran.0 ran.2
+sound_lines strict (Err fault) left leaves held holds old new (inl ends) = sound_end strict fault left leaves held holds old new ends
+sound_lines strict (Err fault) left leaves held holds old new (inr stopped) =
+    let stop = stopped.3 in
+    sound_stop strict stop.between holds stop.mid new (bounded_line_of stop.line) _ _ fault stop.stops ∙ sound_answered strict held stop.between old stop.mid stop.before stop.answered
+
+sound_by : (feed : Feed) (strict : Bool) (answer : Result ℕ RunFault) (left leaves held holds : Option (List ℕ)) (old new : Seen) → RanBy feed strict left leaves held holds old new answer → new.sound ≡ old.sound
+sound_by feeds.Script strict answer left leaves held holds old new ran = sound_script strict answer left leaves held holds old new ran
+sound_by feeds.Lines strict answer left leaves held holds old new ran = sound_lines strict answer left leaves held holds old new ran
+
+-- and over the lines of a session, whatever its manner
+pub sound_ran : (manner : Manner) (answer : Result ℕ RunFault) (left leaves held holds : Option (List ℕ)) (old new : Seen) → RanAs manner left leaves held holds old new answer → new.sound ≡ old.sound
+sound_ran manner answer left leaves held holds old new ran = sound_by manner.feed manner.strict answer left leaves held holds old new ran

@@ -1,5 +1,11 @@
 -- The names of what goes wrong with a page file.
 use Rattle.std.specs.Prelude.{ℕ, List}
+use Rattle.page_journal.specs.declared.opening_fault.OpeningFault.{OpeningFault}
+use Rattle.page_journal.specs.declared.opening_fault.OpeningFault.TheVariants as files
+use Rattle.page_journal.specs.declared.recovery_fault.RecoveryFault.{RecoveryFault}
+use Rattle.page_journal.specs.declared.recovery_fault.RecoveryFault.TheVariants as recovering
+use Rattle.page_store.specs.declared.store_fault.StoreFault.{StoreFault}
+use Rattle.page_store.specs.declared.store_fault.StoreFault.TheVariants as storing
 use Rattle.page_store.specs.declared.page_edit.WriteFault.{WriteFault}
 use Rattle.page_store.specs.declared.page_edit.WriteFault.TheVariants as closing
 use Rattle.rec_types.specs.declared.table.TableFault.{TableFault}
@@ -10,7 +16,20 @@ use Rattle.btree_delete.specs.declared.open_fault.OpenFault.TheVariants as openi
 use Rattle.btree_delete.specs.declared.tree_table.CreateFault.{CreateFault}
 use Rattle.btree_delete.specs.declared.tree_table.CreateFault.TheVariants as making
 use Rattle.recfile.specs.declared.file_fault.FileFault.{FileFault}
-use Rattle.recfile.specs.declared.file_fault.FileFault.TheVariants.{Device, NotEmpty, BadLength, BadMagic, BadVersion, BadOrder, NotClean, BadHeader, Damaged, WrongCount, TooManyRecords, Memory}
+use Rattle.recfile.specs.declared.file_fault.FileFault.TheVariants.{Device, NotEmpty, BadLength, BadMagic, BadVersion, BadOrder, NotClean, BadHeader, Damaged, WrongCount, TooManyRecords, Memory, BadJournal}
+
+abbrev pub fault_of_store : StoreFault → FileFault
+fault_of_store storing.Failed = Device
+fault_of_store storing.Memory = Memory
+
+abbrev pub fault_of_recovery : RecoveryFault → FileFault
+fault_of_recovery recovering.Device = Device
+fault_of_recovery recovering.BadJournal = BadJournal
+
+abbrev pub fault_of_files : OpeningFault → FileFault
+fault_of_files files.Device = Device
+fault_of_files files.BadJournal = BadJournal
+fault_of_files files.Memory = Memory
 
 abbrev pub fault_of_making : CreateFault → FileFault
 fault_of_making making.BadOrder = BadOrder

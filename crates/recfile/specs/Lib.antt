@@ -5,3 +5,7 @@ pub mod Ending
 pub mod Examples
 pub mod FileFaults
 pub mod Dumped
+pub mod Kept
+pub mod PartLine
+pub mod Shell
+pub mod Room

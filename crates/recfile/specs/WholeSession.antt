@@ -9,14 +9,27 @@ use Rattle.record_file.specs.Abstract.{new_file, open_of}
 use Rattle.record_file.specs.Runs.{Seen}
 use Rattle.recfile.specs.Ending.{AbortsWhole, Asks, EndsAll, StopsEnding, end_cause, rest_of}
 use Rattle.recfile.specs.Run.{Ran}
+use Rattle.recfile.specs.Shell.{RanLines}
 use Rattle.recfile.specs.declared.endings.EndFault.{EndFault}
+use Rattle.recfile.specs.declared.manner.Feed.{Feed}
+use Rattle.recfile.specs.declared.manner.Feed.TheVariants.{Lines, Script}
+use Rattle.recfile.specs.declared.manner.Manner.{Manner}
 use Rattle.recfile.specs.declared.script.RunFault.{RunFault}
 
--- The script, which a refusal ends or doesn't, leads from a file to mid, with its answer; then every open transaction is ended, or one
+-- what became of the lines that a reader has, by how they come
+abbrev pub RanBy : Feed → Bool → Option (List ℕ) → Option (List ℕ) → Option (List ℕ) → Option (List ℕ) → Seen → Seen → Result ℕ RunFault → Type 0
+RanBy Script strict left leaves held holds old new answer = Ran strict left leaves held holds old new answer
+RanBy Lines strict left leaves held holds old new answer = RanLines strict left leaves held holds old new answer
+
+-- and by the manner of a session
+abbrev pub RanAs : Manner → Option (List ℕ) → Option (List ℕ) → Option (List ℕ) → Option (List ℕ) → Seen → Seen → Result ℕ RunFault → Type 0
+RanAs manner left leaves held holds old new answer = RanBy manner.feed manner.strict left leaves held holds old new answer
+
+-- The lines, run in a manner, lead from a file to mid, with their answer; then every open transaction is ended, or one
 -- was stopped. Where all are, the records are what the changes of the others leave.
-pub record IsSession (strict : Bool) (left leaves held holds : Option (List ℕ)) (old mid : Seen)
+pub record IsSession (manner : Manner) (left leaves held holds : Option (List ℕ)) (old mid : Seen)
     (answer : Result ℕ RunFault) (ended : Result ℕ EndFault) (new : Seen) : Type 0 where
-  pub script : Ran strict left leaves held holds old mid answer
+  pub script : RanAs manner left leaves held holds old mid answer
   pub ending : MatchResult ended (λ count. EndsAll mid.file count new.file)
       (λ fault. StopsEnding mid.file fault new.file)
   pub asks : Asks mid (end_cause ended) new
@@ -37,13 +50,13 @@ opened_file contents limits failures = record {
 
 -- A session that began with a file of sound records. Where a transaction couldn't be ended the status is 4; else the
 -- file closes, by what that means, with the records that are left, and a status of 3 where the script had a fault or a refusal ended it.
-pub record EndsFile (strict : Bool) (left leaves held holds : Option (List ℕ)) (old : Seen)
+pub record EndsFile (manner : Manner) (left leaves held holds : Option (List ℕ)) (old : Seen)
     (Closes : Contents → ℕ → Type 0) (status : ℕ) : Type 0 where
   pub answer : Result ℕ RunFault
   pub ended : Result ℕ EndFault
   pub mid : Seen
   pub new : Seen
-  pub session : IsSession strict left leaves held holds old mid answer ended new
+  pub session : IsSession manner left leaves held holds old mid answer ended new
   pub whole : AbortsWhole mid.file.txs
   pub sound : IsTrue mid.sound
   pub ending : MatchResult ended (λ _. Closes new.records (if is_err answer then 3 else 0)) (λ _. status ≡ 4)

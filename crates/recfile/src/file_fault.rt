@@ -1,6 +1,8 @@
 use btree_delete::{CreateFault, OpenFault};
-use page_store::WriteFault;
+use page_journal::{OpeningFault, RecoveryFault};
+use page_store::{StoreFault, WriteFault};
 use rec_types::TableFault;
+use std::io;
 use thiserror::Error;
 
 /// Why a page file was not made, opened or closed, by its name.
@@ -30,6 +32,63 @@ pub enum FileFault {
     TooManyRecords,
     #[error("Memory")]
     Memory,
+    #[error("BadJournal")]
+    BadJournal,
+}
+
+impl From<StoreFault> for FileFault {
+    ghost use Rattle.std.specs.Prelude.{◌≡◌};
+    ghost use Rattle.recfile.specs.FileFaults.{fault_of_store};
+
+    ghost from_gives = { λ fault named. named ≡ fault_of_store fault };
+
+    fn from(fault: StoreFault) -> FileFault {
+        match fault {
+            StoreFault::Failed => FileFault::Device,
+            StoreFault::Memory => FileFault::Memory,
+        }
+    }
+}
+
+impl From<RecoveryFault> for FileFault {
+    ghost use Rattle.std.specs.Prelude.{◌≡◌};
+    ghost use Rattle.recfile.specs.FileFaults.{fault_of_recovery};
+
+    ghost from_gives = { λ fault named. named ≡ fault_of_recovery fault };
+
+    fn from(fault: RecoveryFault) -> FileFault {
+        match fault {
+            RecoveryFault::Device => FileFault::Device,
+            RecoveryFault::BadJournal => FileFault::BadJournal,
+        }
+    }
+}
+
+impl From<OpeningFault> for FileFault {
+    ghost use Rattle.std.specs.Prelude.{◌≡◌};
+    ghost use Rattle.recfile.specs.FileFaults.{fault_of_files};
+
+    ghost from_gives = { λ fault named. named ≡ fault_of_files fault };
+
+    fn from(fault: OpeningFault) -> FileFault {
+        match fault {
+            OpeningFault::Device => FileFault::Device,
+            OpeningFault::BadJournal => FileFault::BadJournal,
+            OpeningFault::Memory => FileFault::Memory,
+        }
+    }
+}
+
+// A call of the system that fails.
+impl From<io::Error> for FileFault {
+    ghost use Rattle.std.specs.Prelude.{◌≡◌};
+    ghost use Rattle.recfile.specs.declared.file_fault.FileFault.TheVariants.{Device};
+
+    ghost from_gives = { λ _ fault. fault ≡ Device };
+
+    fn from(_: io::Error) -> FileFault {
+        FileFault::Device
+    }
 }
 
 impl From<CreateFault> for FileFault {

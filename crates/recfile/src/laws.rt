@@ -1,9 +1,10 @@
 //! Facts of the definitions that contracts of this crate cite.
-ghost use Rattle.std.specs.Prelude.{◌≡◌, ℕ, Bool, List, [], ◌∷◌, Option, Some, None, Result, Ok, IsTrue, true, false};
+ghost use Rattle.std.specs.Prelude.{◌≡◌, ◌<◌, ℕ, length, List, [], ◌∷◌, Option, Some, None, Result, Ok, IsTrue, true, false};
 ghost use Rattle.std.specs.FinMap as maps;
 ghost use Rattle.std.specs.List.{All};
 ghost use Rattle.rec_types.specs.Contents.{Contents};
 ghost use Rattle.rec_types.specs.LimitBounds.{Bounds};
+ghost use Rattle.rec_types.specs.Table.{greatest_count};
 ghost use Rattle.record_file.specs.Abstract.{File, new_file, open_of};
 ghost use Rattle.record_file.specs.Runs.{Event, Run, Seen};
 ghost use Rattle.command_text.specs.Dump.{dump_text, CanBePut};
@@ -12,9 +13,11 @@ ghost use Rattle.command_text.specs.Script.{entries_of};
 ghost use Rattle.command_text.specs.declared.reply.Reply.{Reply};
 ghost use Rattle.recfile.specs.Ending.{AbortsWhole, EndsAll, without};
 ghost use Rattle.recfile.specs.Examples.{four_changes, two_taken_back};
+ghost use Rattle.recfile.specs.Room.{HasRoomFor, was_kept};
 ghost use Rattle.recfile.specs.Run.{Session};
 ghost use Rattle.recfile.specs.WholeSession.{EndsFile, IsSession};
 ghost use Rattle.recfile.specs.declared.endings.EndFault.{EndFault};
+ghost use Rattle.recfile.specs.declared.manner.Manner.{Manner};
 ghost use Rattle.recfile.specs.declared.script.RunFault.{RunFault};
 
 /// Ending takes back the live changes of open transactions and no others; it is no commit.
@@ -37,20 +40,20 @@ pub fn aborts_are_whole()
 /// After a session no transaction is open; the records have the changes of those that had ended before, and none of
 /// those that were open. Where nothing would close the file, a transaction wasn't ended, and the status says so.
 pub fn sessions_by_example()
-    ensures open { (strict : Bool) (left leaves held holds : Option (List ℕ)) (old mid new : Seen)
+    ensures open { (manner : Manner) (left leaves held holds : Option (List ℕ)) (old mid new : Seen)
         (answer : Result ℕ RunFault) (ended t : ℕ)
-        → IsSession strict left leaves held holds old mid answer (Ok ended) new
+        → IsSession manner left leaves held holds old mid answer (Ok ended) new
         → open_of new.file t ≡ false }
-    ensures gone { (strict : Bool) (left leaves held holds : Option (List ℕ)) (old mid new : Seen)
+    ensures gone { (manner : Manner) (left leaves held holds : Option (List ℕ)) (old mid new : Seen)
         (answer : Result ℕ RunFault) (ended : ℕ)
-        → IsSession strict left leaves held holds old mid answer (Ok ended) new → IsTrue mid.sound
+        → IsSession manner left leaves held holds old mid answer (Ok ended) new → IsTrue mid.sound
         → AbortsWhole mid.file.txs → mid.file.opening ≡ maps.empty
         → mid.file.history ≡ four_changes → open_of mid.file 1 ≡ true
         → open_of mid.file 2 ≡ false → open_of mid.file 3 ≡ true
         → (maps.get new.records (97 ∷ []) ≡ None)
         × (maps.get new.records (98 ∷ []) ≡ Some (121 ∷ [])) }
-    ensures unclosed { (strict : Bool) (left leaves held holds : Option (List ℕ)) (old : Seen) (status : ℕ)
-        → EndsFile strict left leaves held holds old (λ _ _. ⊥) status → status ≡ 4 }
+    ensures unclosed { (manner : Manner) (left leaves held holds : Option (List ℕ)) (old : Seen) (status : ℕ)
+        → EndsFile manner left leaves held holds old (λ _ _. ⊥) status → status ≡ 4 }
 {}
 
 /// A dump that is run over a file without records, with no refusal, gives exactly its records.
@@ -59,4 +62,16 @@ pub fn dumps_are_loaded()
         → IsTrue old.sound → old.records ≡ maps.empty → All CanBePut (maps.entries records)
         → Session old (entries_of (dump_text (maps.entries records))) replies new
         → All (λ r. is_refusal r ≡ false) replies → new.records ≡ records }
+{}
+
+/// A dump that is run over a new file with room for its records has no refusal, but where the device, a damaged page or
+/// memory keeps a begin or a put from being done. Limits of one record less leave no room.
+pub fn dumps_have_room()
+    ensures accepted { (limits : Bounds) (old new : Seen) (records : Contents) (replies : List Reply)
+        → old.file ≡ new_file maps.empty limits → IsTrue old.sound
+        → old.failures < greatest_count → All CanBePut (maps.entries records)
+        → HasRoomFor (length (maps.entries records)) limits
+        → Session old (entries_of (dump_text (maps.entries records))) replies new
+        → All (λ r. was_kept r ≡ false) replies → All (λ r. is_refusal r ≡ false) replies }
+    ensures fewer { (limits : Bounds) → limits.records ≡ 1 → HasRoomFor 2 limits → ⊥ }
 {}

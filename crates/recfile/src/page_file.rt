@@ -10,6 +10,7 @@ ghost use Rattle.recfile.specs.FileFaults.{IsMakingFault};
 ghost use Rattle.recfile.specs.WholeSession.{EndsFile, opened_file};
 
 use crate::file_fault::FileFault;
+use crate::manner::Manner;
 use crate::session::run_session;
 use crate::statuses::exit_status;
 use crate::tell::tell;
@@ -119,7 +120,7 @@ fn run_opened<S: Store, R: Read, W: Write, E: Write>(
     alloc: Global,
     table: TreeTable<S>,
     limits: Limits,
-    strict: bool,
+    manner: Manner,
     reader: &mut R,
     out: &mut W,
     err: &mut E,
@@ -127,7 +128,7 @@ fn run_opened<S: Store, R: Read, W: Write, E: Write>(
     requires limit { table.limit ≡ limits.records }
     ensures opened { result.unopened ≡ None }
     ensures session { IsTrue table.pages.steady → table.refusals ≡ 0 → table.damages ≡ no_damage
-        → EndsFile strict (R.remaining reader.old) (R.remaining reader.new)
+        → EndsFile manner (R.remaining reader.old) (R.remaining reader.new)
         (W.contents out.old) (W.contents out.new)
         (opened_file (table_contents table) limits table.pages.failures)
         (λ records good. MatchOption result.store (result.status ≡ 1)
@@ -136,7 +137,7 @@ fn run_opened<S: Store, R: Read, W: Write, E: Write>(
         × (result.status ≡ good))) result.status }
 {
     let mut file = RecordFile::new(alloc, table, limits);
-    let end = run_session(alloc, strict, &mut file, reader, out, err);
+    let end = run_session(alloc, manner, &mut file, reader, out, err);
     let script_fault = end.script.is_err();
     match end.ended {
         Ok(_) => close_file(file, script_fault, err),
@@ -148,14 +149,15 @@ fn run_opened<S: Store, R: Read, W: Write, E: Write>(
     }
 }
 
-/// Runs a session over a page file, and closes the file; where the script is `strict`, a refusal ends it. A fault of the file has a line on `err` when it is met. The
-/// status is that of `exit_status`. Where the file can't be opened no script is read, and the store comes back with its
-/// pages as they were and the fault of opening. Nothing is written to the store where a transaction can't be ended.
+/// Runs a session over a page file, in that manner, and closes the file. A fault of the file has a line on `err` when
+/// it is met. The status is that of `exit_status`. Where the file can't be opened nothing is read, and the store comes
+/// back with its pages as they were and the fault of opening. Nothing is written to the store where a transaction can't
+/// be ended.
 pub fn run_in<S: Store, R: Read, W: Write, E: Write>(
     alloc: Global,
     store: S,
     limits: Limits,
-    strict: bool,
+    manner: Manner,
     reader: &mut R,
     out: &mut W,
     err: &mut E,
@@ -171,7 +173,7 @@ pub fn run_in<S: Store, R: Read, W: Write, E: Write>(
     ensures session { IsTrue (S.steady store) → (tree : TreeValue) → (contents : Contents)
         → (version : ℕ) → IsClosed version (S.pages store) (S.tail store) tree contents
         → tree.count ≤ limits.records
-        → MatchOption result.unopened (EndsFile strict (R.remaining reader.old) (R.remaining reader.new)
+        → MatchOption result.unopened (EndsFile manner (R.remaining reader.old) (R.remaining reader.new)
         (W.contents out.old) (W.contents out.new)
         (opened_file contents limits (S.failures store))
         (λ records good. MatchOption result.store (result.status ≡ 1)
@@ -180,7 +182,7 @@ pub fn run_in<S: Store, R: Read, W: Write, E: Write>(
         × (result.status ≡ good))) result.status) IsOutside }
 {
     match TreeTable::open_from(alloc, store, limits) {
-        Ok(table) => run_opened(alloc, table, limits, strict, reader, out, err),
+        Ok(table) => run_opened(alloc, table, limits, manner, reader, out, err),
         Err(stop) => {
             tell(err, &FileFault::from(stop.fault));
             FileEnd {

@@ -1,12 +1,15 @@
 use crate::dump::{DumpFault, dump_in};
+use crate::explain::explain_file;
 use crate::file_fault::FileFault;
+use crate::kept_file::run_kept;
 use crate::limits::greatest_limits;
-use crate::page_file::{check_in, create_in, run_in};
+use crate::page_file::{check_in, create_in};
 use crate::session::run_memory;
 use crate::statuses::exit_status;
 use crate::tell::tell;
 use crate::words::{Task, UsageFault, read_words};
-use page_store::{FileStore, StoreFault};
+use page_journal::{FileDisk, has_side_file};
+use page_store::{FileStore, Lock};
 use std::alloc::Global;
 use std::fs::OpenFile;
 use std::io::{Read, Write};
@@ -16,49 +19,56 @@ use std::rt::Files;
 // The status where the words ask for nothing.
 const USAGE: u8 = 2;
 
-// A file that the system doesn't open or make.
-impl From<StoreFault> for FileFault {
-    ghost use Rattle.std.specs.Prelude.{◌≡◌};
-    ghost use Rattle.recfile.specs.declared.file_fault.FileFault.TheVariants.{Device};
-
-    ghost from_gives = { λ _ named. named ≡ Device };
-
-    fn from(_: StoreFault) -> FileFault {
-        FileFault::Device
-    }
-}
-
-// Makes a page file at a path where there is none.
-fn create<F: OpenFile + FileExt + Drop, H: Files<File = F>>(
+// Makes a page file at a path where there is none. A side file of that name is of another file, and stays; then no file is
+// made.
+fn create<F: OpenFile + FileExt + Lock + Drop, H: Files<File = F>>(
     rt: &H,
     alloc: Global,
     order: u16,
     path: &str,
 ) -> Result<(), FileFault> {
     let store = FileStore::create_new(rt, path)?;
+    if has_side_file(rt, alloc, path)? {
+        rt.remove_file(path)?;
+        return Err(FileFault::BadJournal);
+    }
     create_in(alloc, store, order, greatest_limits())?;
     Ok(())
 }
 
+// Opens the page file at a path to read it. Where a side file stands beside it a closing was stopped, and it isn't
+// clean: putting the old pages back would write.
+fn open_clean<F: OpenFile + FileExt + Lock + Drop, H: Files<File = F>>(
+    rt: &H,
+    alloc: Global,
+    path: &str,
+) -> Result<FileStore<F>, FileFault> {
+    let store = FileStore::open_to_read(rt, path)?;
+    if has_side_file(rt, alloc, path)? {
+        return Err(FileFault::NotClean);
+    }
+    Ok(store)
+}
+
 // Tells of the tree of the page file at a path.
-fn check<F: OpenFile + FileExt + Drop, H: Files<File = F>, W: Write>(
+fn check<F: OpenFile + FileExt + Lock + Drop, H: Files<File = F>, W: Write>(
     rt: &H,
     alloc: Global,
     path: &str,
     out: &mut W,
 ) -> Result<(), FileFault> {
-    let store = FileStore::open_path(rt, path)?;
+    let store = open_clean(rt, alloc, path)?;
     Ok(check_in(alloc, store, greatest_limits(), out)?)
 }
 
 // Writes the records of the page file at a path as a script.
-fn dump<F: OpenFile + FileExt + Drop, H: Files<File = F>, W: Write>(
+fn dump<F: OpenFile + FileExt + Lock + Drop, H: Files<File = F>, W: Write>(
     rt: &H,
     alloc: Global,
     path: &str,
     out: &mut W,
 ) -> Result<(), DumpFault> {
-    let store = FileStore::open_path(rt, path).map_err(FileFault::from)?;
+    let store = open_clean(rt, alloc, path)?;
     dump_in(alloc, store, greatest_limits(), out)
 }
 
@@ -102,7 +112,7 @@ fn show<W: Write, E: Write>(fault: UsageFault, out: &mut W, err: &mut E) -> u8 {
     }
 }
 
-fn run_task<F: OpenFile + FileExt + Drop, H: Files<File = F>, R: Read, W: Write, E: Write>(
+fn run_task<F: OpenFile + FileExt + Lock + Drop, H: Files<File = F>, R: Read, W: Write, E: Write>(
     rt: &H,
     alloc: Global,
     task: Task<'_>,
@@ -114,13 +124,17 @@ fn run_task<F: OpenFile + FileExt + Drop, H: Files<File = F>, R: Read, W: Write,
         Task::Create { order, path } => file_status(err, create(rt, alloc, order, path)),
         Task::Check { path } => file_status(err, check(rt, alloc, path, out)),
         Task::Dump { path } => dump_status(err, dump(rt, alloc, path, out)),
-        Task::Memory { limits, strict } => run_memory(alloc, limits, strict, reader, out, err),
+        Task::Explain { path } => {
+            let whole = explain_file(rt, alloc, path, out);
+            exit_status(false, !whole, false)
+        }
+        Task::Memory { limits, manner } => run_memory(alloc, limits, manner, reader, out, err),
         Task::Run {
             limits,
-            strict,
+            manner,
             path,
-        } => match FileStore::open_path(rt, path) {
-            Ok(store) => run_in(alloc, store, limits, strict, reader, out, err).status,
+        } => match FileDisk::open(rt, alloc, path) {
+            Ok(disk) => run_kept(alloc, disk, limits, manner, reader, out, err).status,
             Err(fault) => file_status(err, Err(fault.into())),
         },
     }
@@ -130,18 +144,21 @@ fn run_task<F: OpenFile + FileExt + Drop, H: Files<File = F>, R: Read, W: Write,
 /// `exit_status`, or 2 where the words can't be read. Faults have their lines on `err`.
 ///
 /// - `create --order K FILE` makes a page file; one that is there is left alone.
-/// - `run [--records N] [--log N] [--begins N] [--strict] FILE` runs the script that the reader has over a page file.
+/// - `run [--records N] [--log N] [--begins N] [--strict] FILE` runs the script that the reader has over a page file, which
+///   no other program may open meanwhile, and closes it so that no stop loses it.
+/// - `shell [--records N] [--log N] [--begins N] [--strict] [FILE]` runs the lines that the reader has over a page file
+///   or in memory, and answers each before it reads on.
 /// - `check FILE` checks a page file, tells of its tree in one line, and writes nothing to it.
 /// - `dump FILE` writes the records of a page file as a script that puts them, and writes nothing to it.
+/// - `explain FILE` tells what a file is, and what is wrong with it; it only reads the file. Its status is that of `check`.
 /// - `memory [--records N] [--log N] [--begins N] [--strict]` runs the script over an empty file in memory, as no word does.
-pub fn run_words<F: OpenFile + FileExt + Drop, H: Files<File = F>, R: Read, W: Write, E: Write>(
-    rt: &H,
-    alloc: Global,
-    words: &[&str],
-    reader: &mut R,
-    out: &mut W,
-    err: &mut E,
-) -> u8 {
+pub fn run_words<
+    F: OpenFile + FileExt + Lock + Drop,
+    H: Files<File = F>,
+    R: Read,
+    W: Write,
+    E: Write,
+>(rt: &H, alloc: Global, words: &[&str], reader: &mut R, out: &mut W, err: &mut E) -> u8 {
     match read_words(alloc, words) {
         Ok(task) => run_task(rt, alloc, task, reader, out, err),
         Err(fault) => show(fault, out, err),

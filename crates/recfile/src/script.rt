@@ -236,8 +236,13 @@ fn run_lines<T: Table, W: Write>(
     Ok(done)
 }
 
-// Writes a reply, after `done` commands. Faults: Memory, WriteFault.
-fn send<W: Write>(alloc: Global, writer: &mut W, reply: Reply, done: u32) -> Result<(), ScriptFault>
+/// Writes a reply, after `done` commands. Faults: Memory, WriteFault.
+pub fn send<W: Write>(
+    alloc: Global,
+    writer: &mut W,
+    reply: Reply,
+    done: u32,
+) -> Result<(), ScriptFault>
     ensures ok { OnOk result
         (Appends (W.contents writer.old) (W.contents writer.new) (text_of reply)) }
     ensures err { IfErr result

@@ -3,12 +3,14 @@ ghost use Rattle.std.specs.Result.{is_err};
 ghost use Rattle.record_file.specs.Runs.{Seen, seen};
 ghost use Rattle.recfile.specs.Ending.{AbortsWhole};
 ghost use Rattle.recfile.specs.Whole.{empty_file};
-ghost use Rattle.recfile.specs.WholeSession.{IsSession};
+ghost use Rattle.recfile.specs.WholeSession.{IsSession, RanAs};
 ghost use Rattle.recfile.specs.declared.endings.EndFault.{EndFault};
 ghost use Rattle.recfile.specs.declared.script.RunFault.{RunFault};
 
 use crate::endings::{EndFault, end_all};
+use crate::manner::{Feed, Manner};
 use crate::script::{RunFault, run_script_as};
+use crate::shell::run_shell;
 use crate::statuses::exit_status;
 use crate::tell::tell_fault_of;
 use rec_types::{Limits, SortedTable, Table};
@@ -24,22 +26,40 @@ pub struct SessionEnd {
     pub ended: Result<u32, EndFault>,
 }
 
-/// Runs the script that the reader has over a file, writes its replies to `out`, and then ends every transaction that
-/// is open; where the script is `strict`, a refusal ends it. Where the script isn't run to its end, and where a transaction can't be ended, `err` gets a line that names
-/// the fault.
+// Runs the lines that a reader has, in that manner.
+fn run_feed<T: Table, R: Read, W: Write>(
+    alloc: Global,
+    manner: Manner,
+    reader: &mut R,
+    writer: &mut W,
+    file: &mut RecordFile<T>,
+) -> Result<u32, RunFault>
+    ensures { RanAs manner (R.remaining reader.old) (R.remaining reader.new)
+        (W.contents writer.old) (W.contents writer.new)
+        (seen T.TableState file.old) (seen T.TableState file.new) result }
+{
+    match manner.feed {
+        Feed::Script => run_script_as(alloc, manner.strict, reader, writer, file),
+        Feed::Lines => run_shell(alloc, manner.strict, reader, writer, file),
+    }
+}
+
+/// Runs the lines that the reader has over a file, writes their replies to `out`, and then ends every transaction that
+/// is open. The manner says how the lines come and whether a refusal ends them. Where they aren't run to their end, and
+/// where a transaction can't be ended, `err` gets a line that names the fault.
 pub fn run_session<T: Table, R: Read, W: Write, E: Write>(
     alloc: Global,
-    strict: bool,
+    manner: Manner,
     file: &mut RecordFile<T>,
     reader: &mut R,
     out: &mut W,
     err: &mut E,
 ) -> SessionEnd
-    ensures { (mid : Seen) × IsSession strict (R.remaining reader.old) (R.remaining reader.new)
+    ensures { (mid : Seen) × IsSession manner (R.remaining reader.old) (R.remaining reader.new)
         (W.contents out.old) (W.contents out.new) (seen T.TableState file.old) mid
         result.script result.ended (seen T.TableState file.new) }
 {
-    let script = run_script_as(alloc, strict, reader, out, file);
+    let script = run_feed(alloc, manner, reader, out, file);
     tell_fault_of(err, &script);
     let ended = end_all(file);
     tell_fault_of(err, &ended);
@@ -50,18 +70,18 @@ pub fn run_session<T: Table, R: Read, W: Write, E: Write>(
 pub fn run_memory<R: Read, W: Write, E: Write>(
     alloc: Global,
     limits: Limits,
-    strict: bool,
+    manner: Manner,
     reader: &mut R,
     out: &mut W,
     err: &mut E,
 ) -> u8
     ensures { (answer : Result ℕ RunFault) × (ended : Result ℕ EndFault) × (mid new : Seen)
-        × IsSession strict (R.remaining reader.old) (R.remaining reader.new)
+        × IsSession manner (R.remaining reader.old) (R.remaining reader.new)
         (W.contents out.old) (W.contents out.new) (empty_file limits) mid answer ended new
         × AbortsWhole mid.file.txs
         × (result ≡ (if is_err ended then 4 else (if is_err answer then 3 else 0))) }
 {
     let mut file = RecordFile::new(alloc, SortedTable::new(alloc, limits), limits);
-    let end = run_session(alloc, strict, &mut file, reader, out, err);
+    let end = run_session(alloc, manner, &mut file, reader, out, err);
     exit_status(end.ended.is_err(), false, end.script.is_err())
 }

@@ -1,4 +1,5 @@
 use crate::limits::greatest_limits;
+use crate::manner::{Feed, Manner};
 use clap::{Arg, ArgAction, ArgMatches, Command, Error, value_parser};
 use rec_types::{LimitFault, Limits, MOST_BEGINS, MOST_LOG_RECORDS, MOST_RECORDS};
 use std::alloc::{AllocError, Global};
@@ -37,10 +38,10 @@ pub enum Task<'a> {
         order: u16,
         path: &'a str,
     },
-    /// To run a script over a page file; a `strict` one ends at the first refusal.
+    /// To run a session over a page file.
     Run {
         limits: Limits,
-        strict: bool,
+        manner: Manner,
         path: &'a str,
     },
     /// To open a page file, and tell of its tree.
@@ -51,10 +52,14 @@ pub enum Task<'a> {
     Dump {
         path: &'a str,
     },
-    /// To run a script over an empty file in memory.
+    /// To tell what a file is.
+    Explain {
+        path: &'a str,
+    },
+    /// To run a session over an empty file in memory.
     Memory {
         limits: Limits,
-        strict: bool,
+        manner: Manner,
     },
 }
 
@@ -134,6 +139,15 @@ fn run_command<'a>(alloc: Global) -> Result<Command<'a>, AllocError> {
     with_session(alloc, run)?.arg(file_word(alloc, "The path of the page file"))
 }
 
+fn shell_command<'a>(alloc: Global) -> Result<Command<'a>, AllocError> {
+    let shell = Command::new(alloc, "shell").about(
+        "Runs lines as they come, and answers each before it waits for more, over a page file or in memory, as: recfile shell a.rec",
+    );
+    with_session(alloc, shell)?.arg(Arg::new(alloc, "FILE").help(
+        "The path of the page file; without it, an empty file in memory",
+    ))
+}
+
 fn check_command<'a>(alloc: Global) -> Result<Command<'a>, AllocError> {
     Command::new(alloc, "check")
         .about("Checks a whole page file, and tells of its tree, as: recfile check a.rec")
@@ -143,9 +157,17 @@ fn check_command<'a>(alloc: Global) -> Result<Command<'a>, AllocError> {
 fn dump_command<'a>(alloc: Global) -> Result<Command<'a>, AllocError> {
     Command::new(alloc, "dump")
         .about(
-            "Writes the records of a page file as a script that puts them in one transaction, as: recfile dump a.rec | recfile run --strict b.rec",
+            "Writes the records of a page file as a script that puts them in one transaction, as: recfile dump a.rec | recfile shell --strict b.rec",
         )
         .arg(file_word(alloc, "The path of the page file"))
+}
+
+fn explain_command<'a>(alloc: Global) -> Result<Command<'a>, AllocError> {
+    Command::new(alloc, "explain")
+        .about(
+            "Tells what a file is, field by field, and what is wrong with it, as: recfile explain a.rec",
+        )
+        .arg(file_word(alloc, "The path of the file; it is only read"))
 }
 
 fn memory_command<'a>(alloc: Global) -> Result<Command<'a>, AllocError> {
@@ -180,8 +202,10 @@ fn program<'a>(alloc: Global) -> Result<Command<'a>, AllocError> {
     let program = bare_program(alloc)?;
     let program = with_command(program, create_command(alloc))?;
     let program = with_command(program, run_command(alloc))?;
+    let program = with_command(program, shell_command(alloc))?;
     let program = with_command(program, check_command(alloc))?;
     let program = with_command(program, dump_command(alloc))?;
+    let program = with_command(program, explain_command(alloc))?;
     with_command(program, memory_command(alloc))
 }
 
@@ -192,6 +216,28 @@ fn limits_of(found: &ArgMatches<'_>) -> Result<Limits, LimitFault> {
         found.get_one::<u32>("log").unwrap_or(MOST_LOG_RECORDS),
         found.get_one::<u32>("begins").unwrap_or(MOST_BEGINS),
     )
+}
+
+// The manner of a session that was asked for, whose lines come so.
+fn manner_of(found: &ArgMatches<'_>, feed: Feed) -> Manner {
+    Manner {
+        strict: found.get_flag("strict"),
+        feed,
+    }
+}
+
+// A session whose lines come as they are read.
+fn shell_of<'a>(found: &ArgMatches<'a>) -> Result<Task<'a>, UsageFault> {
+    let limits = limits_of(found)?;
+    let manner = manner_of(found, Feed::Lines);
+    match found.get_str("FILE") {
+        Some(path) => Ok(Task::Run {
+            limits,
+            manner,
+            path,
+        }),
+        None => Ok(Task::Memory { limits, manner }),
+    }
 }
 
 fn path_of<'a>(found: &ArgMatches<'a>) -> &'a str {
@@ -207,22 +253,29 @@ fn task_of<'a>(matches: &ArgMatches<'a>) -> Result<Task<'a>, UsageFault> {
         }),
         Some(("run", found)) => Ok(Task::Run {
             limits: limits_of(found)?,
-            strict: found.get_flag("strict"),
+            manner: manner_of(found, Feed::Script),
             path: path_of(found),
         }),
+        Some(("shell", found)) => shell_of(found),
         Some(("check", found)) => Ok(Task::Check {
             path: path_of(found),
         }),
         Some(("dump", found)) => Ok(Task::Dump {
             path: path_of(found),
         }),
+        Some(("explain", found)) => Ok(Task::Explain {
+            path: path_of(found),
+        }),
         Some((_, found)) => Ok(Task::Memory {
             limits: limits_of(found)?,
-            strict: found.get_flag("strict"),
+            manner: manner_of(found, Feed::Script),
         }),
         None => Ok(Task::Memory {
             limits: greatest_limits(),
-            strict: false,
+            manner: Manner {
+                strict: false,
+                feed: Feed::Script,
+            },
         }),
     }
 }

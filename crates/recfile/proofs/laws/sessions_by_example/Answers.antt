@@ -28,10 +28,10 @@ at_key : (k : List ℕ) → maps.get one_record k ≡ cond (same_key k (98 ∷ [
 at_key k = get-insert nat_list_cmp_total maps.empty (98 ∷ []) (121 ∷ []) k ∙ ap (cond (same_key k (98 ∷ [])) (Some (121 ∷ []))) (get-empty _ k)
 
 pub returns-clause-open : goal.returns-clause-open
-returns-clause-open c = λ strict left leaves held holds old mid new answer ended t session.
+returns-clause-open c = λ manner left leaves held holds old mid new answer ended t session.
     ap (λ (f : File). open_of f t) session.ending.rest ∙ ap is_some (get-empty _ t)
 
 pub returns-clause-gone : goal.returns-clause-gone
-returns-clause-gone c = λ strict left leaves held holds old mid new answer ended session sound whole none four first second third.
+returns-clause-gone c = λ manner left leaves held holds old mid new answer ended session sound whole none four first second third.
     let are = session.records sound whole ∙ left_records (open_of mid.file) mid.file.opening mid.file.history none four first second third in
     (ap (λ (m : Contents). maps.get m (97 ∷ [])) are ∙ at_key (97 ∷ []), ap (λ (m : Contents). maps.get m (98 ∷ [])) are ∙ at_key (98 ∷ []))

@@ -23,7 +23,7 @@ pub returns-in-Ok-clause-session : goal.returns-in-Ok-clause-session
 returns-in-Ok-clause-session g c steady tree contents version closed few =
     let opened = c.in-Ok.ensures.reopened steady tree contents version closed few in
     let same = c.in-Ok.ensures.stored in
-    let ends = λ (s : Seen). EndsFile c.args.strict (g.R.Read.remaining c.args.reader.now) (g.R.Read.remaining c.run_opened.new.reader) (g.W.Write.contents c.args.out.now) (g.W.Write.contents c.run_opened.new.out) s (λ records good. MatchOption c.run_opened.result.store (c.run_opened.result.status ≡ 1) (λ x. ((t : Tree) × IsClosed 2 (g.S.StoreState.pages x) (g.S.StoreState.tail x) t records) × (c.run_opened.result.status ≡ good))) c.run_opened.result.status in
+    let ends = λ (s : Seen). EndsFile c.args.manner (g.R.Read.remaining c.args.reader.now) (g.R.Read.remaining c.run_opened.new.reader) (g.W.Write.contents c.args.out.now) (g.W.Write.contents c.run_opened.new.out) s (λ records good. MatchOption c.run_opened.result.store (c.run_opened.result.status ≡ 1) (λ x. ((t : Tree) × IsClosed 2 (g.S.StoreState.pages x) (g.S.StoreState.tail x) t records) × (c.run_opened.result.status ≡ good))) c.run_opened.result.status in
     subst (λ (o : Option OpenFault). MatchOption o (ends (opened_file contents c.args.limits (g.S.StoreState.failures c.args.store))) IsOutside) (sym c.run_opened.ensures.opened) (subst ends (λ i. opened_file (opened.1 i) c.args.limits (same.4 i)) (c.run_opened.ensures.session (same.2 ∙ steady) c.in-Ok.ensures.no_faults.0 c.in-Ok.ensures.no_faults.1))
 
 pub returns-in-Err-clause-unread : goal.returns-in-Err-clause-unread

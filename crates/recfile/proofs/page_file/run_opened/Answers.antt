@@ -12,32 +12,11 @@ use Rattle.btree_delete.specs.TableView.{TableView, IsClosed, table_contents}
 use Rattle.record_file.specs.Abstract.{File, OpenFile, new_file}
 use Rattle.record_file.specs.Runs.{Seen, seen}
 use Rattle.recfile.specs.WholeSession.{IsSession, opened_file}
-use Rattle.recfile.proofs.WholeAbortLemmas.{whole_empty, whole_script, sound_script}
+use Rattle.recfile.proofs.WholeAbortLemmas.{whole_empty, whole_ran, sound_ran}
+use Rattle.recfile.proofs.OpenedLemmas.{treed, fresh, at_ok}
 use Rattle.recfile.proofs.page_file.run_opened.Given as given
 use Rattle.recfile.proofs.page_file.run_opened.Goals as goal
 use Rattle.recfile.proofs.page_file.run_opened.Goals.{After-is_err-script_fault}
-
--- what a table in a tree shows
-abbrev treed : Ghosts TableView
-treed = record { contents = table_contents; record_limit = λ t. t.limit; sound = λ t. t.pages.steady; device_failures = λ t. t.pages.failures; memory_refusals = λ t. t.refusals; damages = λ t. t.damages; origin = λ t. untouched t.pages.journal }
-
--- what a run sees of a new file over the table of a page file
-fresh : (f : OpenFile TableView) (table : TableView) (limits : Bounds) → f ≡ record { table = table; file = new_file (table_contents table) limits; log = [] }
-    → IsTrue table.pages.steady → table.refusals ≡ 0 → table.damages ≡ no_damage → seen treed f ≡ opened_file (table_contents table) limits table.pages.failures
-fresh f table limits is steady refusals damages =
-    ap (seen treed) is
-    ∙ (λ i. record {
-      file = new_file (table_contents table) limits;
-      log = [];
-      records = table_contents table;
-      sound = steady i;
-      failures = table.pages.failures;
-      refusals = refusals i;
-      damages = damages i;
-    })
-
-at_ok : {A F : Type 0} (answer : Result A F) (x : A) (P : A → Type 0) (Q : F → Type 0) → answer ≡ Ok x → MatchResult answer P Q → P x
-at_ok answer x P Q is known = subst (λ a. MatchResult a P Q) is known
 
 closes : {X : Type 0} (o : Option X) (P : Type 0) (R : Tree → X → Type 0) (status : ℕ) (tree : Tree) (b b' : Bool) → b ≡ b'
     → MatchOption o P (λ s. R tree s × (status ≡ (if b then 3 else 0))) → MatchOption o P (λ s. ((t : Tree) × R t s) × (status ≡ (if b' then 3 else 0)))
@@ -47,9 +26,9 @@ closes (Some s) P R status tree b b' is known = ((tree, known.0), known.1 ∙ ap
 -- what the session was, over the file that was opened
 module _ (g : given.Over) (c : After-is_err-script_fault g) where
   session : IsTrue c.args.table.pages.steady → c.args.table.refusals ≡ 0 → c.args.table.damages ≡ no_damage
-      → IsSession c.args.strict (g.R.Read.remaining c.args.reader.now) (g.R.Read.remaining c.run_session-end.new.reader) (g.W.Write.contents c.args.out.now) (g.W.Write.contents c.run_session-end.new.out) (opened_file (table_contents c.args.table) c.args.limits c.args.table.pages.failures) c.run_session-end.ensures.0 c.run_session-end.result.script c.run_session-end.result.ended (seen treed c.run_session-end.new.file)
+      → IsSession c.args.manner (g.R.Read.remaining c.args.reader.now) (g.R.Read.remaining c.run_session-end.new.reader) (g.W.Write.contents c.args.out.now) (g.W.Write.contents c.run_session-end.new.out) (opened_file (table_contents c.args.table) c.args.limits c.args.table.pages.failures) c.run_session-end.ensures.0 c.run_session-end.result.script c.run_session-end.result.ended (seen treed c.run_session-end.new.file)
   session steady refusals damages =
-      subst (λ (s : Seen). IsSession c.args.strict (g.R.Read.remaining c.args.reader.now) (g.R.Read.remaining c.run_session-end.new.reader) (g.W.Write.contents c.args.out.now) (g.W.Write.contents c.run_session-end.new.out) s c.run_session-end.ensures.0 c.run_session-end.result.script c.run_session-end.result.ended (seen treed c.run_session-end.new.file)) (fresh c.new-file.result c.args.table c.args.limits c.new-file.ensures steady refusals damages) c.run_session-end.ensures.1
+      subst (λ (s : Seen). IsSession c.args.manner (g.R.Read.remaining c.args.reader.now) (g.R.Read.remaining c.run_session-end.new.reader) (g.W.Write.contents c.args.out.now) (g.W.Write.contents c.run_session-end.new.out) s c.run_session-end.ensures.0 c.run_session-end.result.script c.run_session-end.result.ended (seen treed c.run_session-end.new.file)) (fresh c.new-file.result c.args.table c.args.limits c.new-file.ensures steady refusals damages) c.run_session-end.ensures.1
 
 pub close_file-requires : goal.close_file-requires
 close_file-requires g c = record {
@@ -64,14 +43,14 @@ returns-in-Ok-clause-session g c steady refusals damages =
     let mid = c.run_session-end.ensures.0 in
     let new = seen treed c.run_session-end.new.file in
     let known = session g (goal.at.returns-in-Ok-clause-session g c).After-is_err-script_fault steady refusals damages in
-    let sound = sound_script c.args.strict c.run_session-end.result.script _ _ _ _ old mid known.script in
+    let sound = sound_ran c.args.manner c.run_session-end.result.script _ _ _ _ old mid known.script in
     record {
       answer = c.run_session-end.result.script;
       ended = Ok c.in-Ok.field-0;
       mid = mid;
       new = new;
-      session = subst (λ e. IsSession c.args.strict (g.R.Read.remaining c.args.reader.now) (g.R.Read.remaining c.run_session-end.new.reader) (g.W.Write.contents c.args.out.now) (g.W.Write.contents c.run_session-end.new.out) old mid c.run_session-end.result.script e new) c.in-Ok.is known;
-      whole = whole_script c.args.strict c.run_session-end.result.script _ _ _ _ old mid known.script whole_empty;
+      session = subst (λ e. IsSession c.args.manner (g.R.Read.remaining c.args.reader.now) (g.R.Read.remaining c.run_session-end.new.reader) (g.W.Write.contents c.args.out.now) (g.W.Write.contents c.run_session-end.new.out) old mid c.run_session-end.result.script e new) c.in-Ok.is known;
+      whole = whole_ran c.args.manner c.run_session-end.result.script _ _ _ _ old mid known.script whole_empty;
       sound = sound;
       ending = closes c.close_file.result.store (c.close_file.result.status ≡ 1) (λ (t : Tree) s. IsClosed 2 (g.S.StoreState.pages s) (g.S.StoreState.tail s) t (table_contents c.run_session-end.new.file.table)) c.close_file.result.status c.run_session-end.new.file.table.tree c.is_err-script_fault.result (is_err c.run_session-end.result.script) c.is_err-script_fault.ensures.value (c.close_file.ensures.closed (known.asks.sound ∙ sound));
     }
@@ -87,8 +66,8 @@ returns-in-Err-clause-session g c steady refusals damages =
       ended = Err c.in-Err.field-0;
       mid = mid;
       new = new;
-      session = subst (λ e. IsSession c.args.strict (g.R.Read.remaining c.args.reader.now) (g.R.Read.remaining c.run_session-end.new.reader) (g.W.Write.contents c.args.out.now) (g.W.Write.contents c.run_session-end.new.out) old mid c.run_session-end.result.script e new) c.in-Err.is known;
-      whole = whole_script c.args.strict c.run_session-end.result.script _ _ _ _ old mid known.script whole_empty;
-      sound = sound_script c.args.strict c.run_session-end.result.script _ _ _ _ old mid known.script;
+      session = subst (λ e. IsSession c.args.manner (g.R.Read.remaining c.args.reader.now) (g.R.Read.remaining c.run_session-end.new.reader) (g.W.Write.contents c.args.out.now) (g.W.Write.contents c.run_session-end.new.out) old mid c.run_session-end.result.script e new) c.in-Err.is known;
+      whole = whole_ran c.args.manner c.run_session-end.result.script _ _ _ _ old mid known.script whole_empty;
+      sound = sound_ran c.args.manner c.run_session-end.result.script _ _ _ _ old mid known.script;
       ending = c.exit_status.ensures;
     }

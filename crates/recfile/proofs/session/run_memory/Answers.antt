@@ -8,7 +8,7 @@ use Rattle.record_file.specs.Abstract.{OpenFile, new_file}
 use Rattle.record_file.specs.Runs.{Seen, seen}
 use Rattle.recfile.specs.WholeSession.{IsSession}
 use Rattle.recfile.specs.Whole.{empty_file}
-use Rattle.recfile.proofs.WholeAbortLemmas.{whole_empty, whole_script}
+use Rattle.recfile.proofs.WholeAbortLemmas.{whole_empty, whole_ran}
 use Rattle.recfile.proofs.session.run_memory.Goals as goal
 
 -- what a sorted table shows
@@ -33,12 +33,12 @@ fresh t f table limits is contents sound failures refusals damages =
 pub returns : goal.returns
 returns g c =
     let start : seen sorted c.new-file.result ≡ empty_file c.args.limits = fresh sorted c.new-file.result c.new.result c.args.limits c.new-file.ensures (ap (λ (s : SortedState). s.contents) c.new.ensures) refl refl (ap (λ (s : SortedState). s.refusals) c.new.ensures) refl in
-    let known = subst (λ (s : Seen). IsSession c.args.strict (g.R.Read.remaining c.args.reader.now) (g.R.Read.remaining c.run_session-end.new.reader) (g.W.Write.contents c.args.out.now) (g.W.Write.contents c.run_session-end.new.out) s c.run_session-end.ensures.0 c.run_session-end.result.script c.run_session-end.result.ended (seen sorted c.run_session-end.new.file)) start c.run_session-end.ensures.1 in (
+    let known = subst (λ (s : Seen). IsSession c.args.manner (g.R.Read.remaining c.args.reader.now) (g.R.Read.remaining c.run_session-end.new.reader) (g.W.Write.contents c.args.out.now) (g.W.Write.contents c.run_session-end.new.out) s c.run_session-end.ensures.0 c.run_session-end.result.script c.run_session-end.result.ended (seen sorted c.run_session-end.new.file)) start c.run_session-end.ensures.1 in (
       c.run_session-end.result.script,
       c.run_session-end.result.ended,
       c.run_session-end.ensures.0,
       seen sorted c.run_session-end.new.file,
       known,
-      whole_script c.args.strict c.run_session-end.result.script _ _ _ _ (empty_file c.args.limits) c.run_session-end.ensures.0 known.script whole_empty,
+      whole_ran c.args.manner c.run_session-end.result.script _ _ _ _ (empty_file c.args.limits) c.run_session-end.ensures.0 known.script whole_empty,
       c.exit_status.ensures ∙ (λ i. if c.is_err.ensures.value i then 4 else (if c.is_err-2.ensures.value i then 3 else 0)),
     )

@@ -8,9 +8,9 @@ matched (Err x) P Q ok err = err
 
 pub returns : goal.returns
 returns g c = (
-  seen g.T.TableState c.run_script_as-script.new.file,
+  seen g.T.TableState c.run_feed-script.new.file,
   record {
-    script = c.run_script_as-script.ensures;
+    script = c.run_feed-script.ensures;
     ending = matched c.end_all-ended.result _ _ c.end_all-ended.ensures.ended c.end_all-ended.ensures.stopped;
     asks = c.end_all-ended.ensures.asks;
     records = c.end_all-ended.ensures.records;

@@ -1,0 +1,17 @@
+use Rattle.std.proofs.Common.{◌≡◌, ⊎_elim, inl, inr, IsTrue, ap, ◌∙◌, refl}
+use Rattle.btree_delete.specs.TableView.{TableView, table_contents}
+use Rattle.recfile.proofs.KeptLemmas.{has_records, ok_mapped, kept_so}
+use Rattle.recfile.proofs.kept_file.close_table.Goals as goal
+
+pub returns-in-Ok-clause-any_moment : goal.returns-in-Ok-clause-any_moment
+returns-in-Ok-clause-any_moment g c steady left since =
+    let sealed : IsTrue c.seal.new.self.pages.steady = ap (λ (t : TableView). t.pages.steady) c.seal.ensures.same ∙ steady in
+    ⊎_elim (λ old. inl old)
+    (λ new. inr (has_records c.seal.new.self c.args.table (g.D.DiskState.seen c.in-Ok.store.disk).main _ (ap table_contents c.seal.ensures.same) new (c.in-Ok.ensures.closed sealed)))
+    (c.finish-disk.ensures.any_moment (c.in-Ok.ensures.steady ∙ sealed) left since)
+
+pub returns-in-Ok-clause-closed : goal.returns-in-Ok-clause-closed
+returns-in-Ok-clause-closed g c steady =
+    let sealed : IsTrue c.seal.new.self.pages.steady = ap (λ (t : TableView). t.pages.steady) c.seal.ensures.same ∙ steady in
+    ok_mapped c.finish-disk.result.1 c.map_err.result _ c.map_err.ensures.variant
+    (kept_so g.D.DiskState c.finish-disk.result.1 c.seal.new.self c.args.table (g.D.DiskState.seen c.in-Ok.store.disk).main c.finish-disk.result.0 (ap table_contents c.seal.ensures.same) c.finish-disk.ensures.same (c.in-Ok.ensures.closed sealed) (c.finish-disk.ensures.settled (c.in-Ok.ensures.steady ∙ sealed)))

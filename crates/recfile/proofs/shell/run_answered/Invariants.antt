@@ -1,0 +1,16 @@
+use Rattle.std.proofs.Common.{◌≤◌, ℕ, List, length}
+use Rattle.std.specs.Io.KnownBytes.{Consumes}
+use Rattle.record_file.specs.Runs.{seen}
+use Rattle.recfile.specs.Shell.{AnsweredSoFar}
+use Rattle.recfile.proofs.shell.run_answered.Given as goal
+
+abbrev pub ghost-read_answered : goal.ghost-read_answered
+ghost-read_answered g a = g.start
+
+-- of what was read each line that has its LF is answered, and each read took a byte
+abbrev pub invariant-loop-turn : goal.invariant-loop-turn
+invariant-loop-turn g l =
+    (taken : List ℕ)
+    × Consumes (g.R.Read.remaining l.fn.reader) (g.R.Read.remaining l.reader) taken
+    × AnsweredSoFar l.fn.strict (g.W.Write.contents l.fn.writer) (g.W.Write.contents l.writer) (seen g.T.TableState l.fn.file) (seen g.T.TableState l.file) taken l.part l.counts
+    × (l.turn ≤ length taken)

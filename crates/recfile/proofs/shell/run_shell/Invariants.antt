@@ -1,0 +1,10 @@
+use Rattle.record_file.specs.Runs.{seen}
+use Rattle.recfile.proofs.shell.run_shell.Given as goal
+
+abbrev pub ghost-run_answered : goal.ghost-run_answered
+ghost-run_answered g a = record {
+  strict = a.strict;
+  left = g.R.Read.remaining a.reader.now;
+  held = g.W.Write.contents a.writer.now;
+  old = seen g.T.TableState a.file.now;
+}

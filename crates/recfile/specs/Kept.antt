@@ -1,0 +1,44 @@
+-- What a session over a page file that closes safely leaves, and what a crash of it leaves.
+use Rattle.std.specs.Prelude.{◌≡◌, ◌⊎◌, ℕ}
+use Rattle.rec_types.specs.Contents.{Contents}
+use Rattle.btree_node.specs.Layout.{second_version}
+use Rattle.btree_insert.specs.declared.tree.Tree.{Tree}
+use Rattle.btree_delete.specs.TableView.{IsClosed}
+use Rattle.page_journal.specs.Files.{PageFile, Files, recovered}
+use Rattle.page_journal.specs.Crash.{IsSettled, StandsFor}
+use Rattle.page_journal.specs.Recovery.{IsTooShort}
+use Rattle.page_journal.specs.declared.disk_state.DiskState.{Ghosts}
+use Rattle.recfile.specs.Dumped.{IsFirstOrOutside, IsOutsideFile}
+use Rattle.recfile.specs.declared.file_fault.FileFault.{FileFault}
+use Rattle.recfile.specs.declared.file_fault.FileFault.TheVariants.{BadJournal}
+
+-- the file is closed and has these records
+abbrev pub HasRecords : Contents → PageFile → Type 0
+HasRecords records file = (tree : Tree) × IsClosed second_version file.pages file.tail tree records
+
+-- a crash at any moment since the disk was opened leaves files that stand for this file
+abbrev pub LeavesOld : {D : Type 0} → Ghosts D → PageFile → D → Type 0
+LeavesOld g old disk = (c : Files) → g.left_since disk 0 c → StandsFor old c
+
+-- or for one that is closed and has these records
+abbrev pub LeavesEither : {D : Type 0} → Ghosts D → PageFile → Contents → D → Type 0
+LeavesEither g old records disk = (c : Files) → g.left_since disk 0 c → StandsFor old c ⊎ HasRecords records (recovered c)
+
+-- the file is closed, has these records, and the device keeps it with no side file
+pub record IsKept {D : Type 0} (g : Ghosts D) (records : Contents) (disk : D) : Type 0 where
+  pub has : HasRecords records (g.seen disk).main
+  pub settled : IsSettled g (g.seen disk).main disk
+
+-- The file is closed with these records, or a fault of it stopped that. A crash at any moment leaves the old file or that one.
+pub record ClosesSafely {D : Type 0} (g : Ghosts D) (old : PageFile) (disk : D) (status : ℕ) (records : Contents) (good : ℕ) : Type 0 where
+  pub any_moment : LeavesEither g old records disk
+  pub ending : ((status ≡ good) × IsKept g records disk) ⊎ (status ≡ 1)
+
+-- a fault from outside, or a side file of a longer file
+abbrev pub IsOutsideDisk : Files → FileFault → Type 0
+IsOutsideDisk files fault = IsOutsideFile fault ⊎ ((fault ≡ BadJournal) × IsTooShort files)
+
+-- why a file wasn't opened: its side file is of a longer file, or the file that the two stand for has a fault
+abbrev pub IsUnopened : Files → ℕ → FileFault → Type 0
+IsUnopened files limit fault =
+    ((fault ≡ BadJournal) × IsTooShort files) ⊎ IsFirstOrOutside (recovered files).pages (recovered files).tail limit fault

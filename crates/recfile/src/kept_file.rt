@@ -1,0 +1,206 @@
+ghost use Rattle.std.specs.Prelude.{◌≡◌, ◌≢◌, ◌≤◌, ℕ, IsTrue, IfSome, OnOk, MatchOption, None, Some, if◌then◌else◌};
+ghost use Rattle.rec_types.specs.Contents.{Contents};
+ghost use Rattle.rec_types.specs.Table.{no_damage};
+ghost use Rattle.btree_insert.specs.declared.tree.Tree.{Tree as TreeValue};
+ghost use Rattle.btree_delete.specs.TableView.{IsClosed, table_contents};
+ghost use Rattle.page_journal.specs.Files.{recovered};
+ghost use Rattle.page_journal.specs.Crash.{IsAtRest};
+ghost use Rattle.recfile.specs.Dumped.{IsFirstOrOutside, IsOutsideFile};
+ghost use Rattle.recfile.specs.Kept.{LeavesOld, LeavesEither, IsKept, ClosesSafely, IsOutsideDisk, IsUnopened};
+ghost use Rattle.recfile.specs.WholeSession.{EndsFile, opened_file};
+
+use crate::file_fault::FileFault;
+use crate::manner::Manner;
+use crate::session::run_session;
+use crate::statuses::exit_status;
+use crate::tell::{tell, tell_fault_of};
+use btree_delete::TreeTable;
+use page_journal::{Disk, KeptStore};
+use rec_types::Limits;
+use record_file::RecordFile;
+use std::alloc::Global;
+use std::io::{Read, Write};
+
+/// How a session over a page file on a disk ended: its status, the disk, and why the file wasn't opened.
+#[derive(Drop)]
+pub struct DiskEnd<D: Disk + Drop> {
+    pub status: u8,
+    pub disk: D,
+    pub unopened: Option<FileFault>,
+}
+
+// The disk of a table that isn't closed, with the old file put back. Where that fails the side file stays, and the next
+// opening puts it back.
+fn give_back<D: Disk + Drop>(table: TreeTable<KeptStore<D>>) -> D
+    ensures { IsTrue table.pages.steady → LeavesOld D.DiskState (recovered D.began) result }
+{
+    let (disk, _put_back) = table.abandon().take_back();
+    disk
+}
+
+// Closes the file of a table: the pages that it writes over are kept aside, then it writes, then they are given up.
+fn close_table<D: Disk + Drop>(table: TreeTable<KeptStore<D>>) -> (D, Result<(), FileFault>)
+    ensures any_moment { IsTrue table.pages.steady
+        → LeavesEither D.DiskState (recovered D.began) (table_contents table) result.0 }
+    ensures closed { IsTrue table.pages.steady
+        → OnOk result.1 (IsKept D.DiskState (table_contents table) result.0) }
+{
+    let mut table = table;
+    if let Err(fault) = table.seal() {
+        return (give_back(table), Err(FileFault::from(fault)));
+    }
+    match table.close() {
+        Ok(store) => {
+            let (disk, done) = store.finish();
+            (disk, done.map_err(FileFault::from))
+        }
+        Err(stop) => (give_back(stop.table), Err(FileFault::from(stop.fault))),
+    }
+}
+
+// Closes the file of a table, and answers the end of the session. A fault has its line.
+fn close_kept<D: Disk + Drop, E: Write>(
+    table: TreeTable<KeptStore<D>>,
+    script_fault: bool,
+    err: &mut E,
+) -> DiskEnd<D>
+    ensures opened { result.unopened ≡ None }
+    ensures closed { IsTrue table.pages.steady → ClosesSafely D.DiskState (recovered D.began)
+        result.disk result.status (table_contents table) (if script_fault then 3 else 0) }
+    ensures ended { result.status ≢ 4 }
+{
+    let (disk, done) = close_table(table);
+    tell_fault_of(err, &done);
+    DiskEnd {
+        status: exit_status(false, done.is_err(), script_fault),
+        disk,
+        unopened: None,
+    }
+}
+
+// Runs a session over the table of a page file, and closes the file.
+fn run_table<D: Disk + Drop, R: Read, W: Write, E: Write>(
+    alloc: Global,
+    table: TreeTable<KeptStore<D>>,
+    limits: Limits,
+    manner: Manner,
+    reader: &mut R,
+    out: &mut W,
+    err: &mut E,
+) -> DiskEnd<D>
+    requires limit { table.limit ≡ limits.records }
+    ensures opened { result.unopened ≡ None }
+    ensures session { IsTrue table.pages.steady → table.refusals ≡ 0 → table.damages ≡ no_damage
+        → EndsFile manner (R.remaining reader.old) (R.remaining reader.new)
+        (W.contents out.old) (W.contents out.new)
+        (opened_file (table_contents table) limits table.pages.failures)
+        (ClosesSafely D.DiskState (recovered D.began) result.disk result.status) result.status }
+    ensures stopped { IsTrue table.pages.steady → table.refusals ≡ 0 → table.damages ≡ no_damage
+        → result.status ≡ 4 → LeavesOld D.DiskState (recovered D.began) result.disk }
+{
+    let mut file = RecordFile::new(alloc, table, limits);
+    let end = run_session(alloc, manner, &mut file, reader, out, err);
+    let script_fault = end.script.is_err();
+    let table = file.abandon();
+    match end.ended {
+        Ok(_) => close_kept(table, script_fault, err),
+        Err(_) => DiskEnd {
+            status: exit_status(true, false, script_fault),
+            disk: give_back(table),
+            unopened: None,
+        },
+    }
+}
+
+// The end of a session whose file isn't opened. The fault has its line.
+fn unopened<D: Disk + Drop, E: Write>(disk: D, fault: FileFault, err: &mut E) -> DiskEnd<D>
+    ensures { result ≡ record { status = 1; disk = disk; unopened = Some fault } }
+{
+    tell(err, &fault);
+    DiskEnd {
+        status: exit_status(false, true, false),
+        disk,
+        unopened: Some(fault),
+    }
+}
+
+// Opens the page file of a store that stands for the file that there was when the disk was opened, and runs a session.
+fn run_stored<D: Disk + Drop, R: Read, W: Write, E: Write>(
+    alloc: Global,
+    store: KeptStore<D>,
+    limits: Limits,
+    manner: Manner,
+    reader: &mut R,
+    out: &mut W,
+    err: &mut E,
+) -> DiskEnd<D>
+    requires file { IsTrue (D.steady store.disk)
+        → (D.seen store.disk).main ≡ recovered D.began }
+    requires failures { store.failures ≡ 0 }
+    ensures unread { IfSome result.unopened (λ _. (result.status ≡ 1)
+        × (reader.new ≡ reader.old) × (out.new ≡ out.old)) }
+    ensures first { IsTrue (D.steady store.disk) → IfSome result.unopened
+        (IsFirstOrOutside (recovered D.began).pages (recovered D.began).tail limits.records) }
+    ensures untouched { IsTrue (D.steady store.disk) → IfSome result.unopened
+        (λ _. LeavesOld D.DiskState (recovered D.began) result.disk) }
+    ensures stopped { IsTrue (D.steady store.disk) → result.status ≡ 4
+        → LeavesOld D.DiskState (recovered D.began) result.disk }
+    ensures session { IsTrue (D.steady store.disk) → (tree : TreeValue) → (contents : Contents)
+        → (version : ℕ) → IsClosed version (recovered D.began).pages (recovered D.began).tail
+        tree contents → tree.count ≤ limits.records
+        → MatchOption result.unopened (EndsFile manner (R.remaining reader.old)
+        (R.remaining reader.new) (W.contents out.old) (W.contents out.new)
+        (opened_file contents limits 0)
+        (ClosesSafely D.DiskState (recovered D.began) result.disk result.status) result.status)
+        IsOutsideFile }
+{
+    match TreeTable::open_from(alloc, store, limits) {
+        Ok(table) => run_table(alloc, table, limits, manner, reader, out, err),
+        Err(stop) => {
+            let (disk, _put_back) = stop.store.take_back();
+            unopened(disk, FileFault::from(stop.fault), err)
+        }
+    }
+}
+
+/// Runs a session over the page file on a disk that was just opened, and closes the file so that no crash loses it: where
+/// a closing was stopped, the old pages are put back first. The status
+/// is that of `exit_status`; a fault of the file has a line on `err` when it is met. The disk comes back.
+///
+/// A crash at any moment of it leaves files that stand for the file that there was when the disk was opened or for the
+/// file that the session closes, whole. Where the file can't be opened no script is read. Where a call of the closing
+/// fails, and where a transaction can't be ended, the old file is put back at once.
+pub fn run_kept<D: Disk + Drop, R: Read, W: Write, E: Write>(
+    alloc: Global,
+    disk: D,
+    limits: Limits,
+    manner: Manner,
+    reader: &mut R,
+    out: &mut W,
+    err: &mut E,
+) -> DiskEnd<D>
+    requires rest { IsAtRest D.DiskState disk }
+    requires began { IsTrue (D.steady disk) → D.seen disk ≡ D.began }
+    requires moment { D.moment disk ≡ 0 }
+    ensures unread { IfSome result.unopened (λ _. (result.status ≡ 1)
+        × (reader.new ≡ reader.old) × (out.new ≡ out.old)) }
+    ensures first { IsTrue (D.steady disk)
+        → IfSome result.unopened (IsUnopened D.began limits.records) }
+    ensures untouched { IsTrue (D.steady disk) → IfSome result.unopened
+        (λ _. LeavesOld D.DiskState (recovered D.began) result.disk) }
+    ensures stopped { IsTrue (D.steady disk) → result.status ≡ 4
+        → LeavesOld D.DiskState (recovered D.began) result.disk }
+    ensures session { IsTrue (D.steady disk) → (tree : TreeValue) → (contents : Contents)
+        → (version : ℕ) → IsClosed version (recovered D.began).pages (recovered D.began).tail
+        tree contents → tree.count ≤ limits.records
+        → MatchOption result.unopened (EndsFile manner (R.remaining reader.old)
+        (R.remaining reader.new) (W.contents out.old) (W.contents out.new)
+        (opened_file contents limits 0)
+        (ClosesSafely D.DiskState (recovered D.began) result.disk result.status) result.status)
+        (IsOutsideDisk D.began) }
+{
+    match KeptStore::open(alloc, disk) {
+        Ok(store) => run_stored(alloc, store, limits, manner, reader, out, err),
+        Err((disk, fault)) => unopened(disk, FileFault::from(fault), err),
+    }
+}

@@ -1,0 +1,204 @@
+ghost use Rattle.std.specs.Prelude.{◌≡◌, ◌+◌, ◌++◌, ℕ, List, Option, OnOk, IfErr, MatchResult, if◌then◌else◌};
+ghost use Rattle.std.specs.Io.{ReadsAtMost};
+ghost use Rattle.std.specs.Io.KnownBytes.{ReadConsumes};
+ghost use Rattle.record_file.specs.Runs.{Seen, seen};
+ghost use Rattle.command_text.specs.Script.{bounded_entries_in, ended_lines, lines_of};
+ghost use Rattle.recfile.specs.Run.{commands, says_command};
+ghost use Rattle.recfile.specs.Shell.{Answered, AnsweredSoFar, IsAnswered, LineAnswered, LineStops, RanLines, Start, StopsAt, counted_to};
+
+use crate::call::{command_count, reply_to};
+use crate::next_line::cut_line;
+use crate::part_line::PartLine;
+use crate::script::{RunFault, ScriptFault, send};
+use command_text::{Command, LineFault};
+use rec_types::Table;
+use record_file::RecordFile;
+use std::alloc::Global;
+use std::io;
+use std::io::{Read, Write};
+
+// How many bytes are read at a time.
+const CHUNK: usize = 4096;
+
+/// How many commands and how many lines were run; a count stays at its greatest number.
+#[derive(Clone, Copy)]
+pub struct Counts {
+    done: u32,
+    lines: u32,
+}
+
+impl Counts {
+    // Counts a line that says this.
+    fn add(&mut self, said: &Result<Option<Command>, LineFault>)
+        ensures done { self.new.done
+            ≡ counted_to (self.old.done + (if says_command said.now then 1 else 0)) }
+        ensures lines { self.new.lines ≡ counted_to (self.old.lines + 1) }
+    {
+        self.done = self.done.saturating_add(command_count(said));
+        self.lines = self.lines.saturating_add(1);
+    }
+}
+
+/// Runs the lines that a reader has, each as soon as it is read: its reply is written before more is read. What follows
+/// the last LF is a line, where it has a byte. A line has at most 65,536 bytes; of a longer one nothing is kept. It
+/// answers how many commands there were, or 4,294,967,295 where there were more; where it is `strict`, the first reply
+/// that is a refusal ends it, once it is written. It takes 65,536 bytes of memory, and what the calls and replies take.
+/// Faults: Memory { done: 0 }, where nothing is read; ReadFault, WriteFault, Memory and Refused where they are met;
+/// ScriptTooLong after 2^64 - 1 reads.
+pub fn run_shell<T: Table, R: Read, W: Write>(
+    alloc: Global,
+    strict: bool,
+    reader: &mut R,
+    writer: &mut W,
+    file: &mut RecordFile<T>,
+) -> Result<u32, RunFault>
+    ensures { RanLines strict (R.remaining reader.old) (R.remaining reader.new)
+        (W.contents writer.old) (W.contents writer.new)
+        (seen T.TableState file.old) (seen T.TableState file.new) result }
+{
+    run_answered(alloc, strict, reader, writer, file)
+}
+
+// The same, with what the reader had and the writer held at the start, and the file.
+fn run_answered<T: Table, R: Read, W: Write>(
+    alloc: Global,
+    strict: bool,
+    reader: &mut R,
+    writer: &mut W,
+    file: &mut RecordFile<T>,
+) -> Result<u32, RunFault>
+    ghost start: { Start }
+    requires { start ≡ record {
+      strict = strict;
+      left = R.remaining reader.old;
+      held = W.contents writer.old;
+      old = seen T.TableState file.old;
+    } }
+    ensures { RanLines strict (R.remaining reader.old) (R.remaining reader.new)
+        (W.contents writer.old) (W.contents writer.new)
+        (seen T.TableState file.old) (seen T.TableState file.new) result }
+{
+    let mut part = PartLine::new(alloc).map_err(|_| ScriptFault::Memory { done: 0 })?;
+    let mut counts = Counts { done: 0, lines: 0 };
+    let mut chunk = [0; CHUNK];
+    for turn in 0..u64::MAX {
+        match read_answered(reader, writer, &mut chunk) {
+            Err(_) => return Err(RunFault::Script(ScriptFault::ReadFault)),
+            Ok(0) => return answer_last(alloc, strict, &mut part, counts, writer, file),
+            Ok(n) => answer_lines(
+                alloc,
+                strict,
+                &chunk[..n],
+                &mut part,
+                &mut counts,
+                writer,
+                file,
+            )?,
+        }
+    }
+    Err(RunFault::Script(ScriptFault::ScriptTooLong))
+}
+
+/// Makes one read for a run of lines. Of what the run has read, each line that has its LF is answered by then: the
+/// writer, which is only looked at, holds the replies.
+pub fn read_answered<R: Read, W: Write>(
+    reader: &mut R,
+    _writer: &W,
+    to: &mut [u8],
+) -> io::Result<usize>
+    ghost start: { Start }
+    requires { IsAnswered start (R.remaining reader.old) (W.contents _writer.now) }
+    ensures bound { ReadsAtMost result to.new }
+    ensures bytes { ReadConsumes (R.remaining reader.old) (R.remaining reader.new) result to.new }
+{
+    reader.read(to)
+}
+
+// Runs each line that ends in these bytes, which come after what was read before. What follows the last LF begins a
+// line, or goes on with one. Faults: those of `answer_line`.
+fn answer_lines<T: Table, W: Write>(
+    alloc: Global,
+    strict: bool,
+    bytes: &[u8],
+    part: &mut PartLine,
+    counts: &mut Counts,
+    writer: &mut W,
+    file: &mut RecordFile<T>,
+) -> Result<(), RunFault>
+    ensures { (held : Option (List ℕ)) (old : Seen) (taken : List ℕ)
+        → AnsweredSoFar strict held (W.contents writer.old) old (seen T.TableState file.old)
+        taken part.old counts.old
+        → MatchResult result
+        (λ _. AnsweredSoFar strict held (W.contents writer.new) old (seen T.TableState file.new)
+        (taken ++ bytes.now) part.new counts.new)
+        (λ fault. StopsAt strict held (W.contents writer.new) old (seen T.TableState file.new)
+        (ended_lines (taken ++ bytes.now)) fault) }
+{
+    let mut rest = bytes;
+    while let Some((last, after)) = cut_line(rest) {
+        rest = after;
+        let said = part.end(last);
+        answer_line(alloc, strict, said, counts, writer, file)?;
+    }
+    part.push(rest);
+    Ok(())
+}
+
+// Runs the last line, which has no LF, where it has a byte; answers how many commands there were. Faults: those of
+// `answer_line`.
+fn answer_last<T: Table, W: Write>(
+    alloc: Global,
+    strict: bool,
+    part: &mut PartLine,
+    counts: Counts,
+    writer: &mut W,
+    file: &mut RecordFile<T>,
+) -> Result<u32, RunFault>
+    ensures { (held : Option (List ℕ)) (old : Seen) (taken : List ℕ)
+        → AnsweredSoFar strict held (W.contents writer.old) old (seen T.TableState file.old)
+        taken part.old counts
+        → MatchResult result
+        (λ done. Answered strict held (W.contents writer.new) old (lines_of taken)
+        (seen T.TableState file.new)
+        × (done ≡ counted_to (commands (bounded_entries_in (lines_of taken)))))
+        (λ fault. StopsAt strict held (W.contents writer.new) old (seen T.TableState file.new)
+        (lines_of taken) fault) }
+{
+    if part.is_new() {
+        return Ok(counts.done);
+    }
+    let mut counts = counts;
+    let said = part.end(&[]);
+    answer_line(alloc, strict, said, &mut counts, writer, file)?;
+    Ok(counts.done)
+}
+
+// Runs a line that says this, and writes its reply. Faults: Memory, WriteFault; Refused, where it is strict.
+fn answer_line<T: Table, W: Write>(
+    alloc: Global,
+    strict: bool,
+    said: Result<Option<Command>, LineFault>,
+    counts: &mut Counts,
+    writer: &mut W,
+    file: &mut RecordFile<T>,
+) -> Result<(), RunFault>
+    ensures done { counts.new.done
+        ≡ counted_to (counts.old.done + (if says_command said then 1 else 0)) }
+    ensures lines { counts.new.lines ≡ counted_to (counts.old.lines + 1) }
+    ensures answered { OnOk result (LineAnswered strict (W.contents writer.old)
+        (W.contents writer.new) (seen T.TableState file.old) said (seen T.TableState file.new)) }
+    ensures stops { IfErr result (LineStops strict (W.contents writer.old) (W.contents writer.new)
+        (seen T.TableState file.old) said (seen T.TableState file.new)
+        counts.new.done counts.new.lines) }
+{
+    counts.add(&said);
+    let Some(reply) = reply_to(file, said) else {
+        return Ok(());
+    };
+    let refused = reply.is_refusal();
+    send(alloc, writer, reply, counts.done)?;
+    if strict && refused {
+        return Err(RunFault::Refused { line: counts.lines });
+    }
+    Ok(())
+}
