@@ -161,9 +161,9 @@ int32_t recfile_memory(recfile *file, uint32_t records, uint32_t log_records, ui
 int32_t recfile_page(recfile *file, const uint8_t page[4096]);
 
 /* Opens the page file whose pages were all handed in. A file whose length isn't a multiple of 4,096 is none, and is not
- * handed in. A fault leaves the handle with no page. OK, NOT_CLOSED, BAD_RECORDS, BAD_LOG, BAD_BEGINS, BAD_LENGTH,
- * BAD_MAGIC, BAD_VERSION, BAD_ORDER, NOT_CLEAN, BAD_HEADER, DAMAGED, WRONG_COUNT, TOO_MANY_RECORDS; and MEMORY where it is
- * met. */
+ * handed in. A fault leaves the handle closed and with no page, as recfile_new made it. OK, NOT_CLOSED, BAD_RECORDS,
+ * BAD_LOG, BAD_BEGINS, BAD_LENGTH, BAD_MAGIC, BAD_VERSION, BAD_ORDER, NOT_CLEAN, BAD_HEADER, DAMAGED, WRONG_COUNT,
+ * TOO_MANY_RECORDS; and MEMORY where it is met. */
 int32_t recfile_open(recfile *file, uint32_t records, uint32_t log_records, uint32_t begins, recfile_detail *detail);
 
 /* Makes a page file of an order from 1 to 16. OK, NOT_CLOSED, BAD_LENGTH where a page was handed in, BAD_RECORDS,

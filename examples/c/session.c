@@ -7,6 +7,7 @@
 #include "recfile_file.h"
 
 #include <inttypes.h>
+#include <stdio.h>
 #include <stdlib.h>
 #include <string.h>
 
@@ -18,11 +19,15 @@ static void check(int32_t status, int32_t expected, const char *what) {
     }
 }
 
-static void check_file(int result, recfile_failure failure) {
-    if (result != 0) {
-        fprintf(stderr, "%s: %s\n", failure.call, strerror(failure.error));
-        exit(1);
-    }
+/* The same of a call that works on the file. */
+static void check_file(int32_t status, recfile_failure failure, const char *path) {
+    if (status == RECFILE_OK)
+        return;
+    fprintf(stderr, "%s: %s", path, recfile_status_text(status));
+    if (failure.call != NULL)
+        fprintf(stderr, ": %s: %s", failure.call, strerror(failure.error));
+    fprintf(stderr, "\n");
+    exit(1);
 }
 
 static const uint8_t *bytes(const char *text) { return (const uint8_t *)text; }
@@ -106,47 +111,30 @@ static void work(recfile *file) {
     printf("%" PRIu32 " changes taken back\n", undone);
 }
 
-/* Closes the file, and carries its steps out. */
-static void finish(recfile *file, int descriptor) {
+/* Closes the file, so that it is the old one or the new one wherever this is stopped. */
+static void finish(recfile *file, const char *path, int descriptor) {
     recfile_detail detail;
     recfile_failure failure;
-    uint64_t steps;
-    check(recfile_close(file, &detail), RECFILE_OK, "close");
+    check_file(recfile_close_path(file, path, descriptor, &detail, &failure), failure, path);
     check(recfile_begin(file, &(uint32_t){0}), RECFILE_CLOSED, "begin");
-    check(recfile_step_count(file, &steps), RECFILE_OK, "step_count");
-    printf("%" PRIu64 " steps\n", steps);
-    check_file(recfile_carry_out(file, descriptor, &failure), failure);
-    check(recfile_discard(file), RECFILE_OK, "discard");
 }
 
 static void make(recfile *file, const char *path) {
     recfile_detail detail;
-    int descriptor = open(path, O_RDWR | O_CREAT | O_EXCL, 0666);
-    if (descriptor < 0) {
-        perror(path);
-        exit(1);
-    }
-    check(recfile_create(file, 2, 1000, 1000, 1000, &detail), RECFILE_OK, "create");
+    recfile_failure failure;
+    int descriptor;
+    check_file(recfile_create_path(file, path, 2, 1000, 1000, 1000, &descriptor, &detail, &failure), failure, path);
     work(file);
-    finish(file, descriptor);
-    close(descriptor);
+    finish(file, path, descriptor);
 }
 
 static void list_file(recfile *file, const char *path) {
     recfile_detail detail;
     recfile_failure failure;
-    int32_t status;
-    int descriptor = open(path, O_RDWR);
-    if (descriptor < 0) {
-        perror(path);
-        exit(1);
-    }
-    check_file(recfile_read_file(file, descriptor, &status, &failure), failure);
-    check(status, RECFILE_OK, "page");
-    check(recfile_open(file, 1000, 1000, 1000, &detail), RECFILE_OK, "open");
+    int descriptor;
+    check_file(recfile_open_path(file, path, 1000, 1000, 1000, &descriptor, &detail, &failure), failure, path);
     list(file);
-    finish(file, descriptor);
-    close(descriptor);
+    finish(file, path, descriptor);
 }
 
 int main(int count, char **words) {

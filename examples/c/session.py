@@ -9,8 +9,6 @@ import os
 import sys
 
 OK, CLOSED, HELD, STILL_OPEN = 0, 1, 9, 24
-SET_PAGES, WRITE, SYNC = 1, 2, 3
-PAGE = 4096
 MAJOR = 1  # of the header that the structs below are taken from
 
 u8, u32, u64 = ctypes.c_uint8, ctypes.c_uint32, ctypes.c_uint64
@@ -33,30 +31,12 @@ class Listed(ctypes.Structure):
     _fields_ = [("owner", u32), ("is_owned", u8), ("key", KeyBytes), ("value", Record)]
 
 
-class Step(ctypes.Structure):
-    _fields_ = [("kind", u32), ("number", u32)]
+class Failure(ctypes.Structure):
+    _fields_ = [("call", ctypes.c_char_p), ("error", ctypes.c_int)]
 
 
 def text(shown):
     return bytes(shown.bytes[:shown.len]).decode()
-
-
-def read_page(descriptor, n):
-    """Page n, whole."""
-    page = b""
-    while len(page) < PAGE:
-        part = os.pread(descriptor, PAGE - len(page), n * PAGE + len(page))
-        if not part:
-            raise OSError(f"page {n} ends early")
-        page += part
-    return page
-
-
-def write_page(descriptor, n, page):
-    """Page n, whole."""
-    done = 0
-    while done < PAGE:
-        done += os.pwrite(descriptor, page[done:], n * PAGE + done)
 
 
 class File:
@@ -66,7 +46,9 @@ class File:
         self.library = library
         self.handle = ctypes.c_void_p()
         self.detail = Detail()
+        self.descriptor = ctypes.c_int(-1)
         library.recfile_free.restype = None
+        library.recfile_status_text.restype = ctypes.c_char_p
         self.check(library.recfile_new(ctypes.byref(self.handle)), OK, "new")
 
     @staticmethod
@@ -76,6 +58,15 @@ class File:
 
     def call(self, name, *words, expected=OK):
         self.check(getattr(self.library, "recfile_" + name)(self.handle, *words), expected, name)
+
+    def call_file(self, name, *words):
+        """A call that works on the file."""
+        failure = Failure()
+        status = getattr(self.library, f"recfile_{name}_path")(self.handle, *words, ctypes.byref(self.detail),
+                                                               ctypes.byref(failure))
+        if status != OK:
+            why = f": {failure.call.decode()}: {os.strerror(failure.error)}" if failure.call else ""
+            raise OSError(f"{name}: {self.library.recfile_status_text(status).decode()}{why}")
 
     def number(self, name, *words, kind=u32):
         n = kind()
@@ -142,41 +133,21 @@ class File:
         self.call("commit", u32(first))
         self.taken_back("abort", u32(second))
 
-    def finish(self, descriptor):
-        """Closes the file, and carries its steps out."""
-        self.call("close", ctypes.byref(self.detail))
+    def finish(self, path):
+        """Closes the file, so that it is the old one or the new one wherever this is stopped."""
+        self.call_file("close", path, self.descriptor)
         self.call("begin", ctypes.byref(u32()), expected=CLOSED)
-        count = self.number("step_count", kind=u64)
-        print(f"{count} steps")
-        for i in range(count):
-            step, page = Step(), (u8 * PAGE)()
-            self.call("step", u64(i), ctypes.byref(step), page)
-            if step.kind == SET_PAGES:
-                os.ftruncate(descriptor, step.number * PAGE)
-            elif step.kind == WRITE:
-                write_page(descriptor, step.number, bytes(page))
-            elif step.kind == SYNC:
-                os.fsync(descriptor)
-        self.call("discard")
 
     def make(self, path):
-        descriptor = os.open(path, os.O_RDWR | os.O_CREAT | os.O_EXCL, 0o666)
-        self.call("create", ctypes.c_uint16(2), u32(1000), u32(1000), u32(1000), ctypes.byref(self.detail))
+        self.call_file("create", path, ctypes.c_uint16(2), u32(1000), u32(1000), u32(1000),
+                       ctypes.byref(self.descriptor))
         self.work()
-        self.finish(descriptor)
-        os.close(descriptor)
+        self.finish(path)
 
     def list_file(self, path):
-        descriptor = os.open(path, os.O_RDWR)
-        size = os.fstat(descriptor).st_size
-        if size % PAGE != 0:
-            raise ValueError(f"{path} has no whole number of pages")
-        for n in range(size // PAGE):
-            self.call("page", read_page(descriptor, n))
-        self.call("open", u32(1000), u32(1000), u32(1000), ctypes.byref(self.detail))
+        self.call_file("open", path, u32(1000), u32(1000), u32(1000), ctypes.byref(self.descriptor))
         self.list()
-        self.finish(descriptor)
-        os.close(descriptor)
+        self.finish(path)
 
     def free(self):
         self.library.recfile_free(self.handle)
@@ -192,9 +163,10 @@ def main(words):
     if library.recfile_version() >> 16 != MAJOR:
         raise RuntimeError("the library has another version")
     file = File(library)
+    path = os.fsencode(words[-1])
     if not only_list:
-        file.make(words[-1])
-    file.list_file(words[-1])
+        file.make(path)
+    file.list_file(path)
     file.free()
     return 0
 

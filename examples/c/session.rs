@@ -3,16 +3,15 @@
 //!     session FILE          makes FILE, and opens it again
 //!     session --list FILE   opens FILE, lists its records, and closes it
 
-use std::fs::{File, OpenOptions};
-use std::io::{Error, ErrorKind};
-use std::os::unix::fs::FileExt;
-use std::ptr::null_mut;
+use std::ffi::{CStr, CString};
+use std::io::Error;
+use std::os::raw::{c_char, c_int};
+use std::ptr::{null, null_mut};
 
 const OK: i32 = 0;
 const CLOSED: i32 = 1;
 const HELD: i32 = 9;
 const STILL_OPEN: i32 = 24;
-const PAGE: u64 = 4096;
 
 /// The major number of the header that the structs and calls below are taken from.
 const MAJOR: u32 = 1;
@@ -56,11 +55,11 @@ pub struct Listed {
     value: Record,
 }
 
+/// What failed: a call of the system's, with its errno, or null.
 #[repr(C)]
-#[derive(Default)]
-pub struct Step {
-    kind: u32,
-    number: u32,
+pub struct Failure {
+    call: *const c_char,
+    error: c_int,
 }
 
 impl Default for Record {
@@ -73,10 +72,35 @@ extern "C" {
     fn recfile_version() -> u32;
     fn recfile_new(out: *mut *mut RecFile) -> i32;
     fn recfile_free(file: *mut RecFile);
-    fn recfile_discard(file: *mut RecFile) -> i32;
-    fn recfile_page(file: *mut RecFile, page: *const [u8; 4096]) -> i32;
-    fn recfile_open(file: *mut RecFile, records: u32, log: u32, begins: u32, detail: *mut Detail) -> i32;
-    fn recfile_create(file: *mut RecFile, order: u16, records: u32, log: u32, begins: u32, detail: *mut Detail) -> i32;
+    fn recfile_status_text(status: i32) -> *const c_char;
+    fn recfile_open_path(
+        file: *mut RecFile,
+        path: *const c_char,
+        records: u32,
+        log: u32,
+        begins: u32,
+        descriptor: *mut c_int,
+        detail: *mut Detail,
+        failure: *mut Failure,
+    ) -> i32;
+    fn recfile_create_path(
+        file: *mut RecFile,
+        path: *const c_char,
+        order: u16,
+        records: u32,
+        log: u32,
+        begins: u32,
+        descriptor: *mut c_int,
+        detail: *mut Detail,
+        failure: *mut Failure,
+    ) -> i32;
+    fn recfile_close_path(
+        file: *mut RecFile,
+        path: *const c_char,
+        descriptor: c_int,
+        detail: *mut Detail,
+        failure: *mut Failure,
+    ) -> i32;
     fn recfile_begin(file: *mut RecFile, tx: *mut u32) -> i32;
     fn recfile_put(
         file: *mut RecFile,
@@ -101,13 +125,24 @@ extern "C" {
     fn recfile_log_len(file: *mut RecFile, n: *mut u32) -> i32;
     fn recfile_log_use(file: *mut RecFile, n: *mut u32) -> i32;
     fn recfile_close(file: *mut RecFile, detail: *mut Detail) -> i32;
-    fn recfile_step_count(file: *mut RecFile, n: *mut u64) -> i32;
-    fn recfile_step(file: *mut RecFile, i: u64, told: *mut Step, page: *mut [u8; 4096]) -> i32;
 }
 
 /// Ends the program where a call did not answer as it should.
 fn check(status: i32, expected: i32, what: &str) {
     assert_eq!(status, expected, "{what}");
+}
+
+/// The same of a call that works on the file.
+fn check_file(status: i32, failure: &Failure) -> Result<(), String> {
+    if status == OK {
+        return Ok(());
+    }
+    let text = unsafe { CStr::from_ptr(recfile_status_text(status)) }.to_string_lossy();
+    if failure.call.is_null() {
+        return Err(text.into_owned());
+    }
+    let call = unsafe { CStr::from_ptr(failure.call) }.to_string_lossy();
+    Err(format!("{text}: {call}: {}", Error::from_raw_os_error(failure.error)))
 }
 
 fn text(bytes: &[u8], len: u8) -> String {
@@ -222,51 +257,41 @@ impl Handle {
         println!("{undone} changes taken back");
     }
 
-    /// Closes the file, and carries its steps out.
-    fn finish(&mut self, under: &File) -> std::io::Result<()> {
-        let mut count = 0;
-        check(unsafe { recfile_close(self.file, &mut self.detail) }, OK, "close");
+    /// Closes the file, so that it is the old one or the new one wherever this is stopped.
+    fn finish(&mut self, path: &CStr, descriptor: c_int) -> Result<(), String> {
+        let mut failure = Failure { call: null(), error: 0 };
+        let status = unsafe { recfile_close_path(self.file, path.as_ptr(), descriptor, &mut self.detail, &mut failure) };
+        check_file(status, &failure)?;
         check(unsafe { recfile_begin(self.file, &mut 0) }, CLOSED, "begin");
-        check(unsafe { recfile_step_count(self.file, &mut count) }, OK, "step_count");
-        println!("{count} steps");
-        for i in 0..count {
-            let (mut step, mut page) = (Step::default(), [0; 4096]);
-            check(unsafe { recfile_step(self.file, i, &mut step, &mut page) }, OK, "step");
-            match step.kind {
-                1 => under.set_len(u64::from(step.number) * PAGE)?,
-                2 => under.write_all_at(&page, u64::from(step.number) * PAGE)?,
-                _ => under.sync_all()?,
-            }
-        }
-        check(unsafe { recfile_discard(self.file) }, OK, "discard");
         Ok(())
     }
 
-    fn make(&mut self, path: &str) -> std::io::Result<()> {
-        let under = OpenOptions::new().read(true).write(true).create_new(true).open(path)?;
-        check(unsafe { recfile_create(self.file, 2, 1000, 1000, 1000, &mut self.detail) }, OK, "create");
+    fn make(&mut self, path: &CStr) -> Result<(), String> {
+        let (mut descriptor, mut failure) = (-1, Failure { call: null(), error: 0 });
+        let status = unsafe {
+            recfile_create_path(
+                self.file, path.as_ptr(), 2, 1000, 1000, 1000, &mut descriptor, &mut self.detail, &mut failure,
+            )
+        };
+        check_file(status, &failure)?;
         self.work();
-        self.finish(&under)
+        self.finish(path, descriptor)
     }
 
-    fn list_file(&mut self, path: &str) -> std::io::Result<()> {
-        let under = OpenOptions::new().read(true).write(true).open(path)?;
-        let mut page = [0; 4096];
-        let size = under.metadata()?.len();
-        if size % PAGE != 0 {
-            return Err(Error::new(ErrorKind::InvalidData, "the file has no whole number of pages"));
-        }
-        for n in 0..size / PAGE {
-            under.read_exact_at(&mut page, n * PAGE)?;
-            check(unsafe { recfile_page(self.file, &page) }, OK, "page");
-        }
-        check(unsafe { recfile_open(self.file, 1000, 1000, 1000, &mut self.detail) }, OK, "open");
+    fn list_file(&mut self, path: &CStr) -> Result<(), String> {
+        let (mut descriptor, mut failure) = (-1, Failure { call: null(), error: 0 });
+        let status = unsafe {
+            recfile_open_path(
+                self.file, path.as_ptr(), 1000, 1000, 1000, &mut descriptor, &mut self.detail, &mut failure,
+            )
+        };
+        check_file(status, &failure)?;
         self.list();
-        self.finish(&under)
+        self.finish(path, descriptor)
     }
 }
 
-fn main() -> std::io::Result<()> {
+fn main() -> Result<(), String> {
     let words: Vec<String> = std::env::args().skip(1).collect();
     let (only_list, path) = match words.as_slice() {
         [path] => (false, path),
@@ -277,9 +302,10 @@ fn main() -> std::io::Result<()> {
         }
     };
     assert_eq!(unsafe { recfile_version() } >> 16, MAJOR, "the library has another version");
+    let path = CString::new(path.as_str()).map_err(|error| error.to_string())?;
     let mut handle = Handle::new();
     if !only_list {
-        handle.make(path)?;
+        handle.make(&path)?;
     }
-    handle.list_file(path)
+    handle.list_file(&path)
 }

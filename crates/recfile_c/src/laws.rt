@@ -1,8 +1,11 @@
 //! Facts of the definitions that contracts of this crate cite. The functions do nothing: their contracts
 //! are the laws.
-ghost use Rattle.std.specs.Prelude.{◌≡◌, ◌≢◌, ℕ, List, [], ◌∷◌, take};
+ghost use Rattle.std.specs.Prelude.{◌≡◌, ◌≢◌, ℕ, List, [], ◌∷◌, All, take};
 ghost use Rattle.btree_delete.specs.Closing.{IsEither};
 ghost use Rattle.btree_delete.specs.TableView.{TableView};
+ghost use Rattle.page_journal.specs.Carrying.{LeavesOf, WritesKept};
+ghost use Rattle.page_journal.specs.Crash.{Gathered};
+ghost use Rattle.page_journal.specs.Files.{Kept, restored};
 ghost use Rattle.page_store.specs.Fronts.{two_pages, page_1_written};
 ghost use Rattle.page_store.specs.Journal.{carried};
 ghost use Rattle.page_store.specs.declared.step.Step.{Step};
@@ -32,7 +35,18 @@ pub fn steps_are_for_the_pages_handed_in()
         × ((k : ℕ) → IsEither pages (pages_of j) (carried pages (take k j.steps))) }
 {}
 
-/// The same holds of a file that was made: its steps are for no page, and each front of them leaves no
+/// The pages that the steps write were kept beside the file first, as they were handed in. Then, whatever a crash makes of
+/// each step, the old pages put back make the pages that were handed in.
+pub fn pages_handed_in_are_put_back()
+    ensures { (pages : List (List ℕ)) (limits : Bounds) (made now last : TableView) (n : ℕ)
+        → (j : JournalView) → OpensPages pages limits made
+        → origin_of (Paged now) ≡ origin_of (Paged made) → IsTriedAgain n now last → Settles last j
+        → (kept : Kept) (left : List (List ℕ)) → Gathered pages kept
+        → All (WritesKept kept) j.steps → LeavesOf j.steps j.opened left
+        → restored kept left ≡ record { pages = pages; tail = 0 } }
+{}
+
+/// Of a file that was made the same holds as of one that was opened: its steps are for no page, and each front of them leaves no
 /// page, or pages that opening refuses, or the new file.
 pub fn steps_of_a_new_file_are_for_no_page()
     ensures { (order : ℕ) (limits : Bounds) (made now last : TableView) (n : ℕ)
