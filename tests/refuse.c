@@ -2,7 +2,6 @@
 //
 //   REFUSE_GROWTH=N   the Nth growth (malloc, calloc, realloc) finds no memory
 //   REFUSE_FROM=N     that one and all later ones find none
-//   STOP_AT=N         the program ends before the Nth call that changes a file (pwrite, ftruncate, fsync)
 //
 // Where the call is met, the file of the path MET is made. Only calls after the program's start count.
 
@@ -11,21 +10,15 @@
 #include <fcntl.h>
 #include <stdlib.h>
 #include <sys/syscall.h>
-#include <sys/types.h>
 #include <unistd.h>
 
 extern void *__libc_malloc(size_t size);
 extern void *__libc_calloc(size_t count, size_t size);
 extern void *__libc_realloc(void *block, size_t size);
 
-// The status of a program that was stopped.
-enum { STOPPED = 99 };
-
 static long refused;
 static long refused_from;
-static long stopped_at;
 static long growths;
-static long changes;
 
 static long number_of(const char *name)
 {
@@ -37,7 +30,6 @@ __attribute__((constructor)) static void start(void)
 {
     refused = number_of("REFUSE_GROWTH");
     refused_from = number_of("REFUSE_FROM");
-    stopped_at = number_of("STOP_AT");
     growths = 0;
 }
 
@@ -58,15 +50,6 @@ static int is_refused(void)
     return 1;
 }
 
-static void change(void)
-{
-    changes++;
-    if (changes == stopped_at) {
-        mark();
-        _exit(STOPPED);
-    }
-}
-
 void *malloc(size_t size)
 {
     return is_refused() ? NULL : __libc_malloc(size);
@@ -80,40 +63,4 @@ void *calloc(size_t count, size_t size)
 void *realloc(void *block, size_t size)
 {
     return is_refused() ? NULL : __libc_realloc(block, size);
-}
-
-ssize_t pwrite(int file, const void *bytes, size_t count, off_t place)
-{
-    change();
-    return syscall(SYS_pwrite64, file, bytes, count, place);
-}
-
-ssize_t pwrite64(int file, const void *bytes, size_t count, off64_t place)
-{
-    change();
-    return syscall(SYS_pwrite64, file, bytes, count, place);
-}
-
-int ftruncate(int file, off_t length)
-{
-    change();
-    return (int)syscall(SYS_ftruncate, file, length);
-}
-
-int ftruncate64(int file, off64_t length)
-{
-    change();
-    return (int)syscall(SYS_ftruncate, file, length);
-}
-
-int fsync(int file)
-{
-    change();
-    return (int)syscall(SYS_fsync, file);
-}
-
-int fdatasync(int file)
-{
-    change();
-    return (int)syscall(SYS_fdatasync, file);
 }

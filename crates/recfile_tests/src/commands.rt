@@ -262,6 +262,7 @@ fn stops_and_faults_are_written(rt: HostRuntime) {
             })),
             "stopped 1 20 Memory\n",
         ),
+        (Reply::Bad(LineFault::LineTooLong), "bad LineTooLong\n"),
         (
             Reply::Bad(LineFault::UnknownCommand),
             "bad UnknownCommand\n",

@@ -194,7 +194,8 @@ const STATUS_FAULTS: [(StatusFault, &str); 1] = [(
     "no such open transaction",
 )];
 
-const LINE_FAULTS: [(LineFault, &str); 6] = [
+const LINE_FAULTS: [(LineFault, &str); 7] = [
+    (LineFault::LineTooLong, "LineTooLong"),
     (LineFault::UnknownCommand, "UnknownCommand"),
     (LineFault::WordCount, "WordCount"),
     (LineFault::BadNumber, "BadNumber"),

@@ -8,6 +8,8 @@ mod crashes;
 #[cfg(test)]
 mod fault_texts;
 #[cfg(test)]
+mod file_disks;
+#[cfg(test)]
 mod logs;
 #[cfg(test)]
 mod nodes;

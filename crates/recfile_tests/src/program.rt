@@ -1,4 +1,5 @@
 use crate::expect_named;
+use page_store::Lock;
 use recfile::run_words;
 use std::alloc::{Alloc, Global};
 use std::fs;
@@ -52,7 +53,7 @@ fn refused<'a>(words: &'a str, script: &'a str, out: &'a str, err: &'a str) -> C
 }
 
 /// Makes the call: its status, and what it wrote to standard output and to standard error.
-fn run<F: OpenFile + FileExt + Drop, H: Files<File = F> + Abort>(
+fn run<F: OpenFile + FileExt + Lock + Drop, H: Files<File = F> + Abort>(
     rt: &H,
     alloc: Global,
     words: &str,
@@ -73,7 +74,7 @@ fn run<F: OpenFile + FileExt + Drop, H: Files<File = F> + Abort>(
 }
 
 /// Expects that of the call.
-fn expect_call<F: OpenFile + FileExt + Drop, H: Files<File = F> + Abort>(
+fn expect_call<F: OpenFile + FileExt + Lock + Drop, H: Files<File = F> + Abort>(
     rt: &H,
     alloc: Global,
     call: &Call<'_>,
@@ -93,7 +94,7 @@ fn expect_call<F: OpenFile + FileExt + Drop, H: Files<File = F> + Abort>(
 }
 
 /// Does so for each call.
-fn expect_calls<F: OpenFile + FileExt + Drop, H: Files<File = F> + Abort>(
+fn expect_calls<F: OpenFile + FileExt + Lock + Drop, H: Files<File = F> + Abort>(
     rt: &H,
     alloc: Global,
     calls: &[Call<'_>],
@@ -131,7 +132,7 @@ fn two_sessions() -> [Call<'static>; 7] {
             "recfile: Device\n",
             1,
         ),
-        good("recfile run two.rec", "list\n", "- m =keep\nok 1\n"),
+        good("recfile shell two.rec", "list", "- m =keep\nok 1\n"),
     ]
 }
 
@@ -218,7 +219,7 @@ fn script_of_bytes(rt: &impl Abort, alloc: Global, bytes: u32) -> String {
 }
 
 /// The dump of a file, which has no fault.
-fn dump<F: OpenFile + FileExt + Drop, H: Files<File = F> + Abort>(
+fn dump<F: OpenFile + FileExt + Lock + Drop, H: Files<File = F> + Abort>(
     rt: &H,
     alloc: Global,
     words: &str,
@@ -229,7 +230,7 @@ fn dump<F: OpenFile + FileExt + Drop, H: Files<File = F> + Abort>(
 }
 
 /// Expects the script to be one whose file has a dump from which a file of another order is made, with that dump.
-fn expect_copied<F: OpenFile + FileExt + Drop, H: Files<File = F> + Abort>(
+fn expect_copied<F: OpenFile + FileExt + Lock + Drop, H: Files<File = F> + Abort>(
     rt: &H,
     alloc: Global,
     script: &str,
@@ -295,6 +296,10 @@ fn words_that_ask_for_nothing(rt: HostRuntime) {
         ("recfile run --strict --strict no.rec", 2),
         ("recfile --help", 0),
         ("recfile run --help", 0),
+        ("recfile shell --order 2", 2),
+        ("recfile shell --strict --strict", 2),
+        ("recfile shell no.rec no.rec", 2),
+        ("recfile shell --help", 0),
     ] {
         let call = Call {
             words,
@@ -345,6 +350,17 @@ fn numbers_at_the_ends_of_their_ranges(rt: HostRuntime) {
             "#\nbegin\nget 1 a\ncommit 1",
             "ok 1\nok none\nok\n",
         ),
+        good(
+            "recfile shell --records 1",
+            "begin\nput 1 a =x\nput 1 b =x",
+            "ok 1\nok none\nno Full\n",
+        ),
+        refused(
+            "recfile shell --strict",
+            "#\nbegin\nget 2 a\nbegin",
+            "ok 1\nno NoSuchTx\n",
+            "recfile: Refused 3\n",
+        ),
         refused(
             "recfile memory --strict",
             "begin\ncommit 1\ncommit 1",
@@ -363,10 +379,12 @@ fn files_that_are_not_opened(rt: HostRuntime) {
     fs::write(&rt, "short.rec", "BMKRFILE").expect(&rt, "no file");
     for (words, err) in [
         ("recfile run none.rec", "recfile: Device\n"),
+        ("recfile shell none.rec", "recfile: Device\n"),
         ("recfile check none.rec", "recfile: Device\n"),
         ("recfile run .", "recfile: Device\n"),
         ("recfile check .", "recfile: Device\n"),
         ("recfile run empty.rec", "recfile: BadLength\n"),
+        ("recfile shell empty.rec", "recfile: BadLength\n"),
         ("recfile check empty.rec", "recfile: BadLength\n"),
         ("recfile dump none.rec", "recfile: Device\n"),
         ("recfile dump empty.rec", "recfile: BadLength\n"),
@@ -405,7 +423,7 @@ const DAMAGES: [(usize, u8, &str); 14] = [
 ];
 
 /// Expects that of the call, and that the file at the path has these bytes after it.
-fn expect_kept<F: OpenFile + FileExt + Drop, H: Files<File = F> + Abort + Alloc>(
+fn expect_kept<F: OpenFile + FileExt + Lock + Drop, H: Files<File = F> + Abort + Alloc>(
     rt: &H,
     alloc: Global,
     call: &Call<'_>,
@@ -417,7 +435,7 @@ fn expect_kept<F: OpenFile + FileExt + Drop, H: Files<File = F> + Abort + Alloc>
 }
 
 /// Expects a check and a session to name the fault, and to leave the file as it is.
-fn expect_damaged<F: OpenFile + FileExt + Drop, H: Files<File = F> + Abort + Alloc>(
+fn expect_damaged<F: OpenFile + FileExt + Lock + Drop, H: Files<File = F> + Abort + Alloc>(
     rt: &H,
     alloc: Global,
     fault: &str,

@@ -12,10 +12,31 @@ use crate::expect_named;
 use btree_delete::TreeTable;
 use page_store::{MemStore, Store};
 use rec_types::{FlakyTable, LimitFault, Limits, SortedTable, Table};
-use recfile::{ScriptFault, run_script};
+use recfile::{ScriptFault, run_script, run_shell};
 use record_file::RecordFile;
 use std::alloc::Global;
+use std::io;
+use std::io::Read;
 use std::process::Abort;
+
+/// A reader that gives one byte at a time.
+#[derive(Drop)]
+struct Bytewise<'a> {
+    left: &'a [u8],
+}
+
+impl<'a> Read for Bytewise<'a> {
+    fn read(&mut self, bytes: &mut [u8]) -> io::Result<usize> {
+        match self.left.split_first() {
+            Some((first, rest)) if !bytes.is_empty() => {
+                bytes[0] = *first;
+                self.left = rest;
+                Ok(1)
+            }
+            _ => Ok(0),
+        }
+    }
+}
 
 /// A script over an empty file: the limits of records, log records and transactions, the calls of `set` at which
 /// the device fails, the replies, and how many commands there are.
@@ -92,11 +113,42 @@ fn expect_over<T: Table>(rt: &impl Abort, alloc: Global, table: T, row: &Row<'_>
     expect_replies(rt, alloc, &mut file, row)
 }
 
-/// Expects it over a sorted table, and over trees of the orders 1, 2 and 16.
+/// Expects the row's replies of a shell whose lines the reader has, over a new file in the table.
+fn expect_shell<T: Table, R: Read>(
+    rt: &impl Abort,
+    alloc: Global,
+    table: T,
+    reader: &mut R,
+    row: &Row<'_>,
+) {
+    let (records, log_records, begins) = row.limits;
+    let limits = Limits::new(records, log_records, begins).expect(rt, "no limits");
+    let mut file = flaky_file(rt, alloc, table, limits, row.failing);
+    let mut out = Vec::new(alloc);
+    let end = run_shell(alloc, false, reader, &mut out, &mut file);
+    let text = String::from_utf8(out).expect(rt, "no text");
+    expect_named(rt, row.name, text.as_str(), row.replies);
+    assert_eq!(rt; (row.name, end), (row.name, Ok(row.commands)));
+}
+
+/// Does so with all lines in one piece, and byte by byte.
+fn expect_shells(rt: &impl Abort, alloc: Global, limits: Limits, row: &Row<'_>) {
+    let mut whole = row.script.as_bytes();
+    let table = SortedTable::new(alloc, limits);
+    expect_shell(rt, alloc, table, &mut whole, row);
+    let mut bytewise = Bytewise {
+        left: row.script.as_bytes(),
+    };
+    let table = SortedTable::new(alloc, limits);
+    expect_shell(rt, alloc, table, &mut bytewise, row);
+}
+
+/// Expects it over a sorted table, and over trees of the orders 1, 2 and 16; and of shells.
 fn expect_row(rt: &impl Abort, alloc: Global, row: &Row<'_>) {
     let (records, log_records, begins) = row.limits;
     let limits = Limits::new(records, log_records, begins).expect(rt, "no limits");
     expect_over(rt, alloc, SortedTable::new(alloc, limits), row);
+    expect_shells(rt, alloc, limits, row);
     for k in [1, 2, 16] {
         expect_over(rt, alloc, tree(rt, alloc, k, limits), row);
     }

@@ -217,7 +217,7 @@ struct StoreRow {
 }
 
 /// Whether this is the text.
-fn is_text(found: &Result<String, Stop>, wanted: &str) -> bool {
+pub(crate) fn is_text(found: &Result<String, Stop>, wanted: &str) -> bool {
     matches!(found, Ok(text) if text.as_str() == wanted)
 }
 
@@ -702,7 +702,7 @@ fn a_writing_back_stops_where_a_call_fails(rt: HostRuntime) {
 }
 
 /// A path of this test's own for files.
-fn path_of(rt: &HostRuntime, name: &str) -> Result<PathBuf, Stop> {
+pub(crate) fn path_of(rt: &HostRuntime, name: &str) -> Result<PathBuf, Stop> {
     let name = format!(in rt.alloc(); "page_store_{}_{name}", process::id(rt.process()))?;
     Ok(env::temp_dir(rt)?.join(rt.alloc(), name.as_str())?)
 }

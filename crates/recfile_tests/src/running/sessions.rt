@@ -4,8 +4,8 @@ use page_store::MemStore;
 use rec_types::{Limits, SortedTable, Table, TxId};
 use recfile::laws::{aborts_are_whole, dumps_are_loaded, endings_by_example};
 use recfile::{
-    DumpFault, EndFault, ScriptFault, create_in, dump_in, end_all, exit_status, run_memory,
-    run_script,
+    DumpFault, EndFault, Feed, Manner, ScriptFault, create_in, dump_in, end_all, exit_status,
+    run_memory, run_script,
 };
 use record_file::{Cause, RecordFile};
 use std::alloc::Global;
@@ -156,7 +156,10 @@ fn expect_session<R: Read, W: Write>(
         run_memory(
             alloc,
             greatest().expect(rt, "no limits"),
-            false,
+            Manner {
+                strict: false,
+                feed: Feed::Script,
+            },
             reader,
             out,
             &mut err

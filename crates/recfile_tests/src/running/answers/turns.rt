@@ -8,7 +8,7 @@ use crate::running::{Row, flaky_file, open, run, store_of, three_records, tree};
 use btree_delete::{CloseStop, TreeTable};
 use page_store::{FlakyStore, Store, WriteFault};
 use rec_types::{Limits, SortedTable, Table};
-use recfile::run_in;
+use recfile::{Feed, Manner, run_in};
 use record_file::{
     AbortFault, Answer, Call, ClaimFault, EntriesFault, GetFault, PutFault, RecordFile,
     RemoveFault, ResumeFault, RollbackToFault, make_call,
@@ -380,7 +380,10 @@ fn session_in<S: Store>(
         alloc,
         store,
         limits,
-        strict,
+        Manner {
+            strict,
+            feed: Feed::Script,
+        },
         &mut reader,
         &mut out,
         &mut err,

@@ -1,0 +1,356 @@
+// Preloaded into the program by crashes.sh: the program ends before one of the calls that change a file or a name, and
+// the device then loses what it wasn't asked to keep.
+//
+//   STOP_AT=N   before which of these calls, from 1: pwrite, a write to a file, ftruncate, fsync, rename, unlink
+//   FATE=killed   what was done stays: the program ended, and not the machine
+//   FATE=lost     nothing that wasn't synced is done
+//   FATE=noise    each write that wasn't synced leaves any bytes, and names are changed
+//   FATE=halves   each write that wasn't synced is done half, and names aren't changed
+//   FATE=N        each such call has one of these fates, or is done, by the seed N
+//
+// A sync of a file keeps its bytes and its length, a sync of a folder the names in it.
+//
+//   FAIL_AT=N     that call fails, and the program goes on; nothing is lost
+//   FAIL_FROM=N   that call and all later ones fail
+//
+// Where the call is met, the file of the path MET is made.
+
+#define _GNU_SOURCE
+#include <errno.h>
+#include <fcntl.h>
+#include <stdio.h>
+#include <stdlib.h>
+#include <string.h>
+#include <sys/stat.h>
+#include <sys/syscall.h>
+#include <unistd.h>
+
+enum { STOPPED = 99, MOST_CALLS = 512, MOST_BYTES = 32768, MOST_FILES = 16, MOST_PATH = 600 };
+
+enum kind { WRITE, LENGTH, RENAME, UNLINK };
+
+// A call that the device wasn't asked to keep.
+struct call {
+    enum kind kind;
+    int file;
+    off_t place, old_length, new_length;
+    size_t count, old_count;
+    char old_bytes[MOST_BYTES], new_bytes[MOST_BYTES];
+    char from[MOST_PATH], to[MOST_PATH], spare[MOST_PATH];
+};
+
+static struct call calls[MOST_CALLS];
+static int call_count;
+static struct { dev_t device; ino_t inode; int descriptor; } files[MOST_FILES];
+static int file_count;
+static long changes, stopped_at, failed_at, failed_from;
+static int spares;
+
+static void give_up(const char *why)
+{
+    dprintf(2, "crash: %s\n", why);
+    _exit(98);
+}
+
+static long number_of(const char *name)
+{
+    const char *text = getenv(name);
+    return text ? atol(text) : 0;
+}
+
+__attribute__((constructor)) static void start(void)
+{
+    stopped_at = number_of("STOP_AT");
+    failed_at = number_of("FAIL_AT");
+    failed_from = number_of("FAIL_FROM");
+}
+
+static void mark(void)
+{
+    const char *path = getenv("MET");
+    if (path)
+        close((int)syscall(SYS_openat, AT_FDCWD, path, O_CREAT | O_WRONLY, 0600));
+}
+
+static off_t length_of(int file)
+{
+    struct stat about;
+    if (fstat(file, &about) != 0)
+        give_up("fstat");
+    return about.st_size;
+}
+
+static int is_folder(int file)
+{
+    struct stat about;
+    return fstat(file, &about) == 0 && S_ISDIR(about.st_mode);
+}
+
+// A descriptor of our own for an open file, which stays when the program closes its own.
+static int file_of(int descriptor)
+{
+    struct stat about;
+    char path[64];
+    if (fstat(descriptor, &about) != 0)
+        give_up("fstat");
+    for (int i = 0; i < file_count; i++)
+        if (files[i].device == about.st_dev && files[i].inode == about.st_ino)
+            return files[i].descriptor;
+    snprintf(path, sizeof path, "/proc/self/fd/%d", descriptor);
+    int own = (int)syscall(SYS_openat, AT_FDCWD, path, O_RDWR | O_CLOEXEC, 0);
+    if (own < 0 || file_count == MOST_FILES)
+        give_up("a file can't be opened again");
+    files[file_count].device = about.st_dev;
+    files[file_count].inode = about.st_ino;
+    files[file_count++].descriptor = own;
+    return own;
+}
+
+static struct call *another(enum kind kind)
+{
+    if (call_count == MOST_CALLS)
+        give_up("too many calls");
+    struct call *call = &calls[call_count++];
+    call->kind = kind;
+    return call;
+}
+
+static void put(int file, const char *bytes, size_t count, off_t place)
+{
+    if (syscall(SYS_pwrite64, file, bytes, count, place) != (ssize_t)count)
+        give_up("pwrite");
+}
+
+static void name(const char *from, const char *to)
+{
+    if (syscall(SYS_rename, from, to) != 0)
+        give_up("rename");
+}
+
+// The files as the device has them when none of these calls is done.
+static void undo(struct call *call)
+{
+    switch (call->kind) {
+    case WRITE:
+        put(call->file, call->old_bytes, call->old_count, call->place);
+        syscall(SYS_ftruncate, call->file, call->old_length);
+        break;
+    case LENGTH:
+        syscall(SYS_ftruncate, call->file, call->old_length);
+        put(call->file, call->old_bytes, call->old_count, call->place);
+        break;
+    case RENAME:
+        name(call->to, call->from);
+        if (call->spare[0])
+            name(call->spare, call->to);
+        break;
+    case UNLINK:
+        name(call->spare, call->from);
+        break;
+    }
+}
+
+enum fate { DONE, LOST, HALF, NOISE };
+
+static enum fate fate_of(unsigned *seed)
+{
+    const char *fate = getenv("FATE");
+    if (!fate || !strcmp(fate, "killed"))
+        return DONE;
+    if (!strcmp(fate, "lost"))
+        return LOST;
+    if (!strcmp(fate, "noise"))
+        return NOISE;
+    if (!strcmp(fate, "halves"))
+        return HALF;
+    *seed = *seed * 1103515245 + 12345;
+    return (enum fate)(*seed >> 16 & 3);
+}
+
+static void redo(struct call *call, enum fate fate)
+{
+    char noise[MOST_BYTES];
+    if (fate == LOST)
+        return;
+    switch (call->kind) {
+    case WRITE:
+        for (size_t i = 0; i < call->count; i++)
+            noise[i] = (char)(rand() >> 7);
+        put(call->file, fate == NOISE ? noise : call->new_bytes, fate == HALF ? call->count / 2 : call->count, call->place);
+        break;
+    case LENGTH:
+        syscall(SYS_ftruncate, call->file, call->new_length);
+        break;
+    case RENAME:
+        if (fate != HALF)
+            name(call->from, call->to);
+        break;
+    case UNLINK:
+        if (fate != HALF)
+            syscall(SYS_unlink, call->from);
+        break;
+    }
+}
+
+static void crash(void)
+{
+    const char *fate = getenv("FATE");
+    unsigned seed = fate ? (unsigned)atol(fate) : 0;
+    mark();
+    srand(seed + (unsigned)stopped_at);
+    for (int i = call_count - 1; i >= 0; i--)
+        undo(&calls[i]);
+    for (int i = 0; i < call_count; i++)
+        redo(&calls[i], fate_of(&seed));
+    for (int i = 0; i < call_count; i++)
+        if (calls[i].spare[0])
+            syscall(SYS_unlink, calls[i].spare);
+    _exit(STOPPED);
+}
+
+// Counts a call. Whether it fails.
+static int fails(void)
+{
+    if (++changes == stopped_at)
+        crash();
+    if (changes != failed_at && !(failed_from && changes >= failed_from))
+        return 0;
+    mark();
+    errno = ENOSPC;
+    return 1;
+}
+
+// Forgets the calls that a sync keeps: of this file, or of names where it is a folder.
+static void keep(int descriptor)
+{
+    int names = is_folder(descriptor), file = names ? -1 : file_of(descriptor), kept = 0;
+    for (int i = 0; i < call_count; i++) {
+        struct call *call = &calls[i];
+        int is_name = call->kind == RENAME || call->kind == UNLINK;
+        if (is_name ? names : !names && call->file == file) {
+            if (is_name && call->spare[0])
+                syscall(SYS_unlink, call->spare);
+            continue;
+        }
+        if (kept != i)
+            calls[kept] = *call;
+        kept++;
+    }
+    memset(&calls[kept], 0, (size_t)(call_count - kept) * sizeof calls[0]);
+    call_count = kept;
+}
+
+static ssize_t written(int descriptor, const void *bytes, size_t count, off_t place)
+{
+    if (fails())
+        return -1;
+    if (count > MOST_BYTES)
+        give_up("a long write");
+    struct call *call = another(WRITE);
+    call->file = file_of(descriptor);
+    call->place = place;
+    call->count = count;
+    call->old_length = length_of(call->file);
+    ssize_t old = syscall(SYS_pread64, call->file, call->old_bytes, count, place);
+    call->old_count = old < 0 ? 0 : (size_t)old;
+    memcpy(call->new_bytes, bytes, count);
+    return syscall(SYS_pwrite64, descriptor, bytes, count, place);
+}
+
+ssize_t pwrite(int file, const void *bytes, size_t count, off_t place)
+{
+    return written(file, bytes, count, place);
+}
+
+ssize_t pwrite64(int file, const void *bytes, size_t count, off64_t place)
+{
+    return written(file, bytes, count, place);
+}
+
+ssize_t write(int file, const void *bytes, size_t count)
+{
+    if (file <= 2)
+        return syscall(SYS_write, file, bytes, count);
+    off_t place = lseek(file, 0, SEEK_CUR);
+    ssize_t done = written(file, bytes, count, place);
+    if (done > 0)
+        lseek(file, place + done, SEEK_SET);
+    return done;
+}
+
+static int set_length(int descriptor, off_t length)
+{
+    if (fails())
+        return -1;
+    struct call *call = another(LENGTH);
+    call->file = file_of(descriptor);
+    call->old_length = length_of(call->file);
+    call->new_length = length;
+    call->place = length;
+    if (call->old_length - length > MOST_BYTES)
+        give_up("a long cut");
+    ssize_t old = length < call->old_length
+                      ? syscall(SYS_pread64, call->file, call->old_bytes, (size_t)(call->old_length - length), length)
+                      : 0;
+    call->old_count = old < 0 ? 0 : (size_t)old;
+    return (int)syscall(SYS_ftruncate, descriptor, length);
+}
+
+int ftruncate(int file, off_t length)
+{
+    return set_length(file, length);
+}
+
+int ftruncate64(int file, off64_t length)
+{
+    return set_length(file, length);
+}
+
+int fsync(int file)
+{
+    if (fails())
+        return -1;
+    int done = (int)syscall(SYS_fsync, file);
+    keep(file);
+    return done;
+}
+
+int fdatasync(int file)
+{
+    return fsync(file);
+}
+
+// Another name for a file that is going to lose this one.
+static void spare(struct call *call, const char *path)
+{
+    snprintf(call->spare, sizeof call->spare, "%.500s.spare%d.%d", path, (int)getpid(), spares++);
+    if (syscall(SYS_link, path, call->spare) != 0)
+        call->spare[0] = 0;
+}
+
+int rename(const char *from, const char *to)
+{
+    if (fails())
+        return -1;
+    struct call *call = another(RENAME);
+    snprintf(call->from, sizeof call->from, "%s", from);
+    snprintf(call->to, sizeof call->to, "%s", to);
+    spare(call, to);
+    int done = (int)syscall(SYS_rename, from, to);
+    if (done != 0)
+        call_count--;
+    return done;
+}
+
+int unlink(const char *path)
+{
+    if (fails())
+        return -1;
+    struct call *call = another(UNLINK);
+    snprintf(call->from, sizeof call->from, "%s", path);
+    spare(call, path);
+    int done = (int)syscall(SYS_unlink, path);
+    if (done != 0)
+        call_count--;
+    return done;
+}

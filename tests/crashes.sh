@@ -1,0 +1,340 @@
+#!/bin/sh
+# Closings that are cut short. The built program is ended before each call by which it changes a file or a name, in a
+# closing and in the opening after it, and the device then loses, tears or keeps what wasn't synced: the next session
+# finds the records of the old file or those of the new one, and nothing stands beside it. Each such call fails, alone and
+# with all later ones: the file is the old one, or was closed. And what else may stand in the way of a closing: a folder
+# that may not be written, a full file system, a link, a file that is held, a side file that was changed.
+set -eu
+cd "$(dirname "$0")/.."
+program=${PROGRAM:-$PWD/crates/recfile_program/out/recfile_program}
+room=$(mktemp -d)
+trap 'rm -rf "$room"' EXIT
+[ -x "$program" ] || {
+    echo "crashes: there is no $program: rt ci makes it, and so does rt run in crates/recfile_program"
+    exit 1
+}
+cc -O2 -shared -fPIC -o "$room/crash.so" tests/crash.c
+cd "$room"
+runs=0
+
+fail() {
+    echo "crashes: FAILED: $row: $*"
+    ls -l
+    cat err
+    exit 1
+}
+
+# Runs a session over the file, with one of its calls met by a stop or a failure. Whether the call was met.
+met() { # SCRIPT VARIABLE=VALUE..
+    script=$1
+    shift
+    rm -f met
+    runs=$((runs + 1))
+    status=0
+    env "$@" MET="$room/met" LD_PRELOAD="$room/crash.so" "$program" run file < "$script" > out 2> err || status=$?
+    [ -e met ]
+}
+
+list_of() {
+    printf 'list\n' | "$program" run "$1"
+}
+
+# Expects the next session to find the old records or the new ones, and to leave nothing beside the file.
+expect_either() {
+    runs=$((runs + 1))
+    "$program" run file < /dev/null > out 2> err || fail "$*: the next session fails"
+    [ ! -e file-journal ] && [ ! -e file-journal-new ] || fail "$*: something stands beside the file"
+    list_of file > listed
+    cmp -s listed old_list || cmp -s listed new_list || fail "$*: the file has other records"
+}
+
+# Keeps the file and what stands beside it, or puts them back.
+save() { rm -rf saved; mkdir saved; cp -p file* saved; }
+put_back() { rm -f file*; cp -p saved/* .; }
+
+# Stops the session that puts the old pages back, at each call, and the one after it, too.
+stop_the_next() {
+    save
+    for fate in killed lost noise 7; do
+        number=0
+        while number=$((number + 1)); do
+            put_back
+            met empty STOP_AT=$number FATE=$fate || break
+            met empty STOP_AT=$number FATE=halves || true
+            expect_either "opening stopped at $number, $fate"
+        done
+    done
+}
+
+# Where a side file stands beside the file, a check says so, and changes nothing.
+expect_unclean() {
+    save
+    status=0
+    "$program" check file > out 2> err || status=$?
+    [ $status = 1 ] && [ "$(cat err)" = "recfile: NotClean" ] || fail "check answers $status $(cat out err)"
+    for kept in saved/*; do cmp -s "$kept" "${kept#saved/}" || fail "check changed $kept"; done
+}
+
+# Stops the row's session before each of its calls.
+stop_in_turn() {
+    for fate in killed lost noise halves 1 2 3; do
+        number=0
+        while number=$((number + 1)); do
+            rm -f file*
+            cp old file
+            met session STOP_AT=$number FATE=$fate || break
+            [ "$status" = 99 ] || fail "the program wasn't stopped"
+            if [ -e file-journal ]; then
+                case $fate in
+                killed) expect_unclean ;;
+                lost | noise) stop_the_next; put_back ;;
+                esac
+            fi
+            expect_either "stopped at $number, $fate"
+        done
+        [ "$status" = 0 ] || fail "the last run failed"
+    done
+    echo "crashes: $row: $((number - 1)) calls stopped"
+}
+
+# Lets each call of the row's session fail.
+fail_in_turn() {
+    for variable in FAIL_AT FAIL_FROM; do
+        number=0
+        while number=$((number + 1)); do
+            rm -f file*
+            cp old file
+            met session $variable=$number || break
+            [ "$status:$(cat err)" = "1:recfile: Device" ] || fail "$variable $number: status $status: $(cat err)"
+            [ $variable = FAIL_FROM ] || [ -e file-journal ] || cmp -s file old || cmp -s file new \
+                || fail "$variable $number: the file is neither the old one nor the new one"
+            expect_either "$variable $number"
+        done
+    done
+    echo "crashes: $row: $((number - 1)) calls failed"
+}
+
+# Runs a row: its name, the file that it begins with, and its script on standard input.
+session() {
+    row=$1
+    cp "$2" old
+    cat > session
+    cp old new
+    "$program" run new < session > whole
+    list_of old > old_list
+    list_of new > new_list
+    stop_in_turn
+    fail_in_turn
+}
+
+: > empty
+"$program" create --order 1 order_1
+printf 'begin\nput 1 b =2\nput 1 d =4\nput 1 f =6\nput 1 h =8\ncommit 1\n' > filled
+printf 'begin\nput 1 b =other\nput 1 k =more\ncommit 1\n' > filled_more
+cp order_1 four
+"$program" run four < filled > out
+
+# A new file that isn't made whole is refused by its name, or is the new one; it has no records to lose.
+row="a new file"
+for fate in killed lost noise halves 1 2 3; do
+    number=0
+    while number=$((number + 1)); do
+        rm -f file* met
+        runs=$((runs + 1))
+        status=0
+        env STOP_AT=$number FATE=$fate MET="$room/met" LD_PRELOAD="$room/crash.so" \
+            "$program" create --order 1 file > out 2> err || status=$?
+        [ -e met ] || break
+        "$program" check file > out 2> err && continue
+        case $(cat err) in
+        'recfile: BadLength' | 'recfile: BadMagic' | 'recfile: NotClean') ;;
+        *) fail "stopped at $number, $fate" ;;
+        esac
+    done
+    [ "$status" = 0 ] && cmp file order_1 || fail "the last run failed"
+done
+
+session "a first fill" order_1 << 'END'
+begin
+put 1 a =1
+put 1 c =3
+put 1 e =5
+commit 1
+END
+
+session "two pages written over and one added" four << 'END'
+begin
+put 1 a =1
+put 1 c =3
+del 1 h
+commit 1
+begin
+put 2 z =0
+END
+
+session "records are changed" four << 'END'
+begin
+put 1 b =x
+put 1 f =y
+commit 1
+END
+
+row="nothing is changed"
+rm -f file*
+cp four file
+met empty STOP_AT=0 || true
+[ $status = 0 ] && cmp file four
+
+row="a link"
+rm -f file*
+mkdir deep
+cp four deep/real
+ln -s deep/real file
+number=0
+until [ -e deep/real-journal ]; do
+    number=$((number + 1))
+    met filled_more STOP_AT=$number FATE=killed || fail "no side file is made"
+done
+[ ! -e file-journal ] || fail "the side file doesn't stand beside the file itself"
+"$program" run deep/real < empty 2> err || fail "the file isn't opened by its own name"
+[ ! -e deep/real-journal ] && cmp deep/real four
+
+row="a file that is held"
+rm -f file*
+cp four file
+if command -v flock > /dev/null; then
+    for word in run check dump; do
+        status=0
+        flock file "$program" "$word" file < filled > out 2> err || status=$?
+        [ "$status:$(cat err)" = "1:recfile: Device" ] && cmp file four || fail "$word: status $status"
+    done
+    flock --shared file "$program" check file > out || fail "a check beside a reader"
+    status=0
+    flock --shared file "$program" run file < filled > out 2> err || status=$?
+    [ "$status:$(cat err)" = "1:recfile: Device" ] && cmp file four || fail "run beside a reader"
+else
+    echo "crashes: $row: left out, since there is no flock"
+fi
+
+row="two programs at once"
+for pause in 0 1 2 3 4 5 6 7 8 9 10 11 12 13 14 15 16 17 18 19; do
+    rm -f file*
+    cp order_1 file
+    (printf 'begin\nput 1 first =1\ncommit 1\n'; sleep "0.00$pause") | "$program" run file > first_out 2> first_err &
+    first=$!
+    sleep "0.00$((19 - pause))"
+    second_status=0
+    printf 'begin\nput 1 second =1\ncommit 1\n' | "$program" run file > second_out 2> second_err || second_status=$?
+    first_status=0
+    wait $first || first_status=$?
+    list_of file > listed 2> err || fail "the file isn't opened"
+    for one in first second; do
+        eval "status=\$${one}_status"
+        case $status:$(cat ${one}_err) in
+        0:) grep -q "^- $one =1\$" listed || fail "a commit is lost" ;;
+        1:'recfile: Device') ! grep -q "^- $one" listed || fail "a program that answers Device has changed the file" ;;
+        *) fail "$one: status $status" ;;
+        esac
+    done
+done
+
+# Leaves a side file beside the file.
+leave_side_file() {
+    rm -f file*
+    cp four file
+    number=0
+    while number=$((number + 1)); do
+        met filled_more STOP_AT=$number FATE=killed || fail "no side file is made"
+        [ ! -e file-journal ] || break
+        rm -f file*
+        cp four file
+    done
+}
+# Expects the file not to be opened for its side file, and both to stay.
+expect_bad() {
+    save
+    status=0
+    "$program" run file < empty > out 2> err || status=$?
+    [ "$status:$(cat err)" = "1:recfile: BadJournal" ] || fail "$1: status $status: $(cat err)"
+    cmp file saved/file && cmp file-journal saved/file-journal || fail "$1: something has changed"
+}
+
+# Writes bytes over those of the side file from a place on.
+put_bytes() {
+    printf "$2" | dd of=file-journal bs=1 seek="$1" conv=notrunc status=none
+}
+
+row="a side file that was changed"
+leave_side_file
+cp file-journal whole_journal
+again() { cp whole_journal file-journal; }
+put_bytes 0 X; expect_bad "another text"; again
+put_bytes 9 '\002'; expect_bad "another version"; again
+put_bytes 15 '\377'; expect_bad "another length"; again
+put_bytes 19 '\377'; expect_bad "another count"; again
+put_bytes 24 '\252\125\252'; expect_bad "another sum"; again
+put_bytes 35 '\200'; expect_bad "another number"; again
+put_bytes 40 '\252\125\252'; expect_bad "another page"; again
+head -c 31 whole_journal > file-journal; expect_bad "less than a header"
+head -c 4000 whole_journal > file-journal; expect_bad "cut in a page"
+: > file-journal; expect_bad "empty"
+again; printf x >> file-journal; expect_bad "a byte more"; again
+head -c 4096 four > file; expect_bad "a file that is shorter"; cp saved/file file
+"$program" run file < empty 2> err || status=$?
+
+row="a side file beside no file"
+leave_side_file
+rm file
+cp file-journal kept_journal
+status=0
+"$program" create --order 1 file 2> err || status=$?
+[ "$status:$(cat err)" = "1:recfile: BadJournal" ] && [ ! -e file ] && cmp file-journal kept_journal || fail "create: status $status: $(cat err)"
+
+# Runs the program as a user who has no rights.
+if [ "$(id -u)" = 0 ]; then
+    as="setpriv --reuid 65534 --regid 65534 --clear-groups"
+    command -v setpriv > /dev/null || as=none
+else
+    as=
+fi
+row="a folder that may not be written"
+if [ "$as" = none ]; then
+    echo "crashes: $row: left out, since root has no setpriv"
+else
+    chmod 755 "$room"
+    cp "$program" recfile
+    leave_side_file
+    mkdir closed
+    cp four closed/file
+    cp file closed/stopped
+    cp file-journal closed/stopped-journal
+    chmod 666 closed/*
+    cp closed/stopped stopped
+    chmod 555 closed
+    status=0
+    printf 'list\n' | $as ./recfile run closed/file > out 2> err || status=$?
+    [ $status = 0 ] && cmp out old_list || fail "a session that changes nothing: status $status"
+    status=0
+    $as ./recfile run closed/file < filled_more > out 2> err || status=$?
+    [ "$status:$(cat err)" = "1:recfile: Device" ] && cmp closed/file four || fail "a session: status $status"
+    status=0
+    $as ./recfile run closed/stopped < empty > out 2> err || status=$?
+    [ "$status:$(cat err)" = "1:recfile: Device" ] && [ -e closed/stopped-journal ] || fail "a stopped file: status $status"
+    chmod 755 closed
+    "$program" run closed/stopped < empty 2> err && cmp closed/stopped four || fail "the stopped file isn't put back"
+fi
+
+row="a full file system"
+mkdir small
+if mount -t tmpfs -o size=48k none small 2> /dev/null; then
+    cp four small/file
+    awk 'BEGIN { print "begin"; for (i = 0; i < 400; i++) printf "put 1 k%d =%0100d\n", i, i; print "commit 1" }' > much
+    status=0
+    "$program" run small/file < much > out 2> err || status=$?
+    [ "$status:$(cat err)" = "1:recfile: Device" ] && cmp small/file four && [ ! -e small/file-journal ] || fail "status $status"
+    umount small
+else
+    echo "crashes: $row: left out, since nothing can be mounted"
+fi
+
+echo "crashes: $runs sessions passed, 0 failed"
