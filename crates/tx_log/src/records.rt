@@ -171,6 +171,7 @@ fn note_written(bytes: &mut Vec<u8>, after: &Option<Option<Record>>) -> (Kind, S
 }
 
 // The record whose bytes stand there, if there is one.
+#[inline(always)]
 fn record_at(bytes: &[u8], span: Span) -> Option<Record>
     requires { IsWithin (length bytes.now) span }
     ensures { result ≡ read bytes.now span }
@@ -210,7 +211,9 @@ impl Records {
         Some(entry.told(before, after))
     }
 
-    /// The same as a change; a compensation as one that wrote what it restored.
+    /// The same as a change; a compensation as one that wrote what it restored. It goes into its callers, so that records
+    /// that they don't ask for aren't made.
+    #[inline(always)]
     pub fn change(&self, i: usize) -> Option<LiveChange>
         ensures { result ≡ option_map change_in (slice_get self.now.items i) }
     {

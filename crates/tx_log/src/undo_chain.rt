@@ -29,6 +29,7 @@ pub struct Link {
 }
 
 /// The newest change that isn't taken back, on the way down from the record with the number `from`.
+#[inline(always)]
 pub fn newest_change(log: &Records, marks: &[Mark], from: u32) -> Option<LiveChange>
     requires numbered { IsNumbered (reverse log.now.items) }
     requires marked { AreMarked (reverse log.now.items) (reverse marks.now) }
