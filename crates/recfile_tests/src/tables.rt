@@ -160,6 +160,66 @@ fn pages_are_split_levelled_and_catenated(rt: HostRuntime) {
     }
 }
 
+/// A key and its record, of two bytes.
+fn numbered(rt: &impl Abort, n: u16) -> (Key, Record) {
+    let bytes = n.to_be_bytes();
+    (
+        Key::new(&bytes).expect(rt, "no key"),
+        Record::new(&bytes).expect(rt, "no record"),
+    )
+}
+
+/// Puts 200 records, in an order of their own.
+fn put_all<T: Table>(rt: &impl Abort, table: &mut T) {
+    for n in 0..200u16 {
+        let (key, record) = numbered(rt, n * 7 % 200);
+        set(table, key, Some(record)).expect(rt, "no answer");
+    }
+}
+
+/// Takes a hundred of them out, in steps of a width from a step on, and looks at what is left.
+fn take_half<T: Table>(rt: &impl Abort, table: &mut T, from: u16, step: u16) {
+    assert!(rt; from <= 100 && step < 200);
+    for n in from..from + 100 {
+        let (key, record) = numbered(rt, n * step % 200);
+        let taken = set(table, key, None).expect(rt, "no answer");
+        assert!(rt; taken == Some(record));
+    }
+    let left = table.entries().expect(rt, "no entries");
+    assert!(rt; left.len() == 100 - from as usize && table.count() == 100 - u32::from(from));
+    let left = left.as_slice();
+    for i in 1..left.len() {
+        assert!(rt; left[i - 1].0 < left[i].0 && left[i].0.bytes() == left[i].1.bytes());
+    }
+}
+
+/// Does so with pages in memory, and then with pages in the store.
+fn take_all(rt: &impl Abort, alloc: Global, order: u16, step: u16) {
+    let mut table = make(rt, alloc, no_pages(alloc), order, 200);
+    put_all(rt, &mut table);
+    take_half(rt, &mut table, 0, step);
+    let mut table = open(rt, alloc, close(rt, table), 200);
+    take_half(rt, &mut table, 100, step);
+    open(rt, alloc, close(rt, table), 200);
+}
+
+// In ascending, in descending and in a shuffled order.
+#[test]
+fn all_keys_go_from_a_table(rt: HostRuntime) {
+    for (order, step) in [
+        (1, 1),
+        (1, 199),
+        (1, 77),
+        (2, 1),
+        (2, 199),
+        (2, 77),
+        (3, 77),
+        (16, 77),
+    ] {
+        take_all(&rt, rt.alloc(), order, step);
+    }
+}
+
 /// A page of order 1 with one key and its record, and these sons.
 fn page_of(kind: u8, key: u8, record: u8, left: u8, right: u8) -> [u8; 4096] {
     let mut page = [0; 4096];
