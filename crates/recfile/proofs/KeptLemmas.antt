@@ -1,8 +1,7 @@
 -- What a session over a disk leaves.
-use Rattle.std.proofs.Common.{◌≡◌, ◌⊎◌, inl, inr, ℕ, Bool, true, false, Option, Some, None, MatchOption, Result, Ok, Err, OnOk, if◌then◌else◌, refl, sym, ap, subst, ◌∙◌}
+use Rattle.std.proofs.Common.{◌≡◌, inl, inr, ℕ, Bool, Option, Some, None, MatchOption, Result, Ok, Err, OnOk, if◌then◌else◌, refl, sym, ap, subst}
 use Rattle.std.specs.Result.{is_ok}
 use Rattle.rec_types.specs.Contents.{Contents}
-use Rattle.btree_insert.specs.declared.tree.Tree.{Tree}
 use Rattle.btree_delete.specs.TableView.{TableView, IsClosed, table_contents}
 use Rattle.page_journal.specs.Files.{PageFile, Files}
 use Rattle.page_journal.specs.Crash.{IsSettled}
@@ -10,7 +9,6 @@ use Rattle.page_journal.specs.Recovery.{IsTooShort}
 use Rattle.page_journal.specs.declared.disk_state.DiskState.{Ghosts}
 use Rattle.page_journal.specs.declared.recovery_fault.RecoveryFault.{RecoveryFault}
 use Rattle.page_journal.specs.declared.recovery_fault.RecoveryFault.TheVariants as recovering
-use Rattle.recfile.specs.Dumped.{IsOutsideFile}
 use Rattle.recfile.specs.FileFaults.{fault_of_recovery}
 use Rattle.recfile.specs.Kept.{HasRecords, IsKept, ClosesSafely, IsOutsideDisk}
 use Rattle.recfile.specs.declared.file_fault.FileFault.{FileFault}

@@ -1,12 +1,12 @@
 -- A session over the table of a page file.
-use Rattle.std.proofs.Common.{◌≡◌, ℕ, Bool, [], Result, Ok, MatchResult, IsTrue, ap, subst, ◌∙◌}
+use Rattle.std.proofs.Common.{◌≡◌, [], Result, Ok, MatchResult, IsTrue, ap, subst, ◌∙◌}
 use Rattle.rec_types.specs.LimitBounds.{Bounds}
 use Rattle.rec_types.specs.Table.{no_damage}
 use Rattle.rec_types.specs.declared.table_state.TableState.{Ghosts}
 use Rattle.page_store.specs.Journal.{untouched}
 use Rattle.btree_delete.specs.TableView.{TableView, table_contents}
 use Rattle.record_file.specs.Abstract.{OpenFile, new_file}
-use Rattle.record_file.specs.Runs.{Seen, seen}
+use Rattle.record_file.specs.Runs.{seen}
 use Rattle.recfile.specs.WholeSession.{opened_file}
 
 -- what a table in a tree shows

@@ -1,4 +1,4 @@
-use Rattle.std.proofs.Common.{◌≡◌, ⊎_elim, inl, inr, IsTrue, ap, ◌∙◌, refl}
+use Rattle.std.proofs.Common.{⊎_elim, inl, inr, IsTrue, ap, ◌∙◌}
 use Rattle.btree_delete.specs.TableView.{TableView, table_contents}
 use Rattle.recfile.proofs.KeptLemmas.{has_records, ok_mapped, kept_so}
 use Rattle.recfile.proofs.kept_file.close_table.Goals as goal

@@ -1,9 +1,6 @@
-use Rattle.std.proofs.Common.{◌≡◌, Option, Some, MatchOption, inl, sym, subst, ap, ◌∙◌}
-use Rattle.page_journal.specs.Files.{recovered}
+use Rattle.std.proofs.Common.{inl, ap, ◌∙◌}
 use Rattle.recfile.specs.Dumped.{IsOutsideFile}
-use Rattle.recfile.specs.Kept.{ClosesSafely, IsOutsideDisk}
-use Rattle.recfile.specs.WholeSession.{EndsFile, opened_file}
-use Rattle.recfile.specs.declared.file_fault.FileFault.{FileFault}
+use Rattle.recfile.specs.Kept.{IsOutsideDisk}
 use Rattle.recfile.proofs.KeptLemmas.{wider, not_recovered, at_some}
 use Rattle.recfile.proofs.kept_file.run_kept.Goals as goal
 

@@ -1,4 +1,4 @@
-use Rattle.std.proofs.Common.{◌≡◌, Option, MatchOption, sym, subst, ◌∙◌}
+use Rattle.std.proofs.Common.{Option, MatchOption, sym, subst, ◌∙◌}
 use Rattle.btree_delete.specs.TableView.{IsClosed}
 use Rattle.page_journal.specs.Files.{PageFile, recovered}
 use Rattle.record_file.specs.Runs.{Seen}

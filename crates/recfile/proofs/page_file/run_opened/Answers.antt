@@ -1,15 +1,12 @@
-use Rattle.std.proofs.Common.{◌≡◌, ℕ, Bool, [], Option, Some, None, Result, Ok, Err, MatchOption, MatchResult, IsTrue, if◌then◌else◌, ap, subst, ◌∙◌}
+use Rattle.std.proofs.Common.{◌≡◌, ℕ, Bool, Option, Some, None, Ok, Err, MatchOption, IsTrue, if◌then◌else◌, ap, subst, ◌∙◌}
 use Rattle.std.specs.FinMap as maps
 use Rattle.std.specs.Ordering.{nat_cmp}
 use Rattle.std.specs.Result.{is_err}
-use Rattle.rec_types.specs.LimitBounds.{Bounds}
 use Rattle.rec_types.specs.Table.{no_damage}
-use Rattle.rec_types.specs.declared.table_state.TableState.{Ghosts}
-use Rattle.page_store.specs.Journal.{untouched}
 use Rattle.tx_log.specs.Transactions.{Tx}
 use Rattle.btree_insert.specs.declared.tree.Tree.{Tree}
-use Rattle.btree_delete.specs.TableView.{TableView, IsClosed, table_contents}
-use Rattle.record_file.specs.Abstract.{File, OpenFile, new_file}
+use Rattle.btree_delete.specs.TableView.{IsClosed, table_contents}
+use Rattle.record_file.specs.Abstract.{File}
 use Rattle.record_file.specs.Runs.{Seen, seen}
 use Rattle.recfile.specs.WholeSession.{IsSession, opened_file}
 use Rattle.recfile.proofs.WholeAbortLemmas.{whole_empty, whole_ran, sound_ran}
