@@ -145,7 +145,7 @@ uint32_t recfile_version(void);
 /* Makes a closed handle. OK; MEMORY, and *out is as it was. */
 int32_t recfile_new(recfile **out);
 
-/* Gives a handle's memory back, with all that lies behind it. */
+/* Gives a handle's memory back, with all that lies behind it. NULL is no handle, and nothing is done. */
 void recfile_free(recfile *file);
 
 /* Gives up whatever lies behind a handle, which is closed then: an open file with its changes, pages handed in, steps.

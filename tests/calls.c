@@ -435,6 +435,64 @@ static void three_records(uint8_t pages[MOST_PAGES][4096], uint8_t version) {
     SET(pages[3], version == 1 ? 108 : 244, "\0\0\0\1\0\0\0\2");
 }
 
+/* The steps of a close, in their order: the length, the mark, the pages between 1 and the count, the header, and each time
+ * that the device keeps them. */
+static void expect_order(recfile *file, uint32_t written) {
+    uint64_t steps = 0;
+    uint8_t page[4096];
+    expect(recfile_step_count(file, &steps) == RECFILE_OK && steps == written + 6, "so many steps");
+    for (uint64_t i = 0; i < steps; i++) {
+        uint32_t kind = RECFILE_WRITE;
+        recfile_step_shown step;
+        if (i == 0)
+            kind = RECFILE_SET_PAGES;
+        else if (i == 2 || i == steps - 3 || i == steps - 1)
+            kind = RECFILE_SYNC;
+        expect(recfile_step(file, i, &step, page) == RECFILE_OK && step.kind == kind, "each step's kind");
+        if (kind == RECFILE_WRITE)
+            expect((step.number == 0) == (i == 1 || i == steps - 2), "the header comes first and last");
+    }
+}
+
+static int is_key(const recfile_key_bytes *key, const char *text) {
+    return key->len == strlen(text) && memcmp(key->bytes, text, key->len) == 0;
+}
+
+static int is_record(const recfile_record *record, const char *text) {
+    return record->is_there && record->len == strlen(text) && memcmp(record->bytes, text, record->len) == 0;
+}
+
+/* Keys and records of the greatest length are shown as they are, wherever a call shows one. */
+static void expect_widest(recfile *file) {
+    static const char KEY[] = "123456789 123456", OTHER[] = "another record";
+    const size_t len = strlen(WIDEST_RECORD);
+    uint32_t tx = 0;
+    uint64_t count = 0;
+    recfile_record shown;
+    recfile_detail detail;
+    recfile_listed listed;
+    recfile_key_bytes key;
+    recfile_log_entry entry;
+    expect(recfile_memory(file, 10, 100, 100) == RECFILE_OK && recfile_begin(file, &tx) == RECFILE_OK, "a file is made");
+    expect(recfile_put(file, tx, bytes(KEY), 16, bytes(WIDEST_RECORD), len, &shown, &detail) == RECFILE_OK, "put");
+    expect(!shown.is_there && shown.len == 0, "none before");
+    expect(recfile_put(file, tx, bytes(KEY), 16, bytes(OTHER), strlen(OTHER), &shown, &detail) == RECFILE_OK, "put again");
+    expect(is_record(&shown, WIDEST_RECORD), "the record before");
+    expect(recfile_log_record(file, 2, &entry) == RECFILE_OK, "a log record");
+    expect(is_key(&entry.key, KEY) && is_record(&entry.before, WIDEST_RECORD) && is_record(&entry.after, OTHER), "its parts");
+    expect(entry.kind == 1 && entry.lsn == 2 && entry.prev == 1 && entry.tx == tx && entry.undo_next == 0, "its numbers");
+    expect(recfile_put(file, tx, bytes(KEY), 16, bytes(WIDEST_RECORD), len, &shown, &detail) == RECFILE_OK, "put back");
+    expect(recfile_get(file, tx, bytes(KEY), 16, &shown, &detail) == RECFILE_OK && is_record(&shown, WIDEST_RECORD), "get");
+    expect(recfile_claim(file, tx, bytes(KEY), 16, &shown, &detail) == RECFILE_OK && is_record(&shown, WIDEST_RECORD), "claim");
+    expect(recfile_entries(file, &count, &detail) == RECFILE_OK && count == 1, "a list of one");
+    expect(recfile_entry(file, 0, &listed) == RECFILE_OK && listed.is_owned && listed.owner == tx, "its owner");
+    expect(is_key(&listed.key, KEY) && is_record(&listed.value, WIDEST_RECORD), "its key and record");
+    expect(recfile_keys_of(file, tx, &count) == RECFILE_OK && count == 1, "one key");
+    expect(recfile_key(file, 0, &key) == RECFILE_OK && is_key(&key, KEY), "the key");
+    expect(recfile_remove(file, tx, bytes(KEY), 16, &shown, &detail) == RECFILE_OK && is_record(&shown, WIDEST_RECORD), "remove");
+    expect(recfile_discard(file) == RECFILE_OK, "the file is given up");
+}
+
 static void reopen(recfile *file, uint8_t pages[MOST_PAGES][4096], uint32_t count) {
     recfile_detail detail;
     for (uint32_t n = 0; n < count; n++)
@@ -449,6 +507,7 @@ static void renew(recfile *file, uint8_t pages[MOST_PAGES][4096]) {
     three_records(wanted, 2);
     reopen(file, pages, 4);
     EXPECT(file, OLD);
+    expect_order(file, 3);
     expect(carry_out(file, pages) == 4, "the file keeps its pages");
     expect(memcmp(pages, wanted, 4 * sizeof pages[0]) == 0, "the file is of the second version");
     expect(recfile_discard(file) == RECFILE_OK, "the steps are given up");
@@ -468,14 +527,18 @@ int main(void) {
     EXPECT(file, SESSION);
     EXPECT(file, OF_MEMORY);
     EXPECT(file, WIDE);
+    expect_widest(file);
     EXPECT(file, IN_PAGES);
     EXPECT(file, SESSION);
+    expect_order(file, 1);
     count = carry_out(file, pages);
     expect(count == 2, "the file has two pages");
+    expect(pages[0][10] == 0 && pages[0][11] == 2, "the file has the order that it was made with");
     expect(recfile_discard(file) == RECFILE_OK, "the steps are given up");
     reopen(file, pages, count);
     EXPECT(file, REOPENED);
     renew(file, pages);
     recfile_free(file);
+    recfile_free(NULL);
     return 0;
 }

@@ -1,9 +1,9 @@
 -- The machine values of a `Loose` and of a `Slot`. Assumes `Logic`.
 use Rattle.std.proofs.Common.{◌≡◌, ℕ, List, [], ◌∷◌, ◌++◌, refl, subst}
 use mathlib.Core.Bool.{Bool, true, false, ◌&&◌}
-use lib.Dec.{T}
+use lib.Dec.{T, lit<}
 use seplogic.Ra.Ura.{Ura}
-use mir.Syntax.{impl, tnil, dnil}
+use mir.Syntax.{impl, tnil, dnil, ty_ptr}
 use mir.Raw.{raw as bare}
 use mir.Val.{Val, vptr, vstruct, vcons, vnil, of_list, has_ty, WT}
 use base.Logic.{never, fst∗}
@@ -93,16 +93,15 @@ module _ {M : Type 1} {𝓤 : Ura M} {𝓛 : Logic 𝓤} {K : Type 0} {Γ : List
       fsplit t $ fpick t (λ vss. fsplit t $ feq_l t (λ ev. fsplit t $ feq_l t (λ ep. drop t $ k
       (subst (λ (ps : List Val). vs ≡ vstruct (of_list (ps ++ [])) ∷ []) ep ev))))
 
--- the file of a slot that has one
-pub file_of : (x : Option HeldFile) → IsSome x → HeldFile
-file_of (Some file) some = file
-file_of None some = absurd (cc)
+-- what an option has that has something
+pub some_of : {A : Type 0} (x : Option A) → IsSome x → A
+some_of (Some value) some = value
+some_of None some = absurd (cc)
 
--- what lies behind a handle that has something is that
-pub file_is : (x : Option HeldFile) (some : IsSome x) → x ≡ Some (file_of x some)
-unfolding file_of
-file_is (Some file) some = refl
-file_is None some = absurd (cc)
+pub some_is : {A : Type 0} (x : Option A) (some : IsSome x) → x ≡ Some (some_of x some)
+unfolding some_of
+some_is (Some value) some = refl
+some_is None some = absurd (cc)
 
 -- a box of a handle, as its pointer
 abbrev pub HandleLoose : RattleType
@@ -115,3 +114,24 @@ module _ {M : Type 1} {𝓤 : Ura M} {𝓛 : Logic 𝓤} {K : Type 0} {Γ : List
   root_out t d vs k =
       fsplit t $ fpick t (λ vss. fsplit t $ feq_l t (λ ev. fsplit t $ feq_l t (λ ep. drop t $ k
       (subst (λ (ps : List Val). vs ≡ vstruct (of_list (ps ++ [])) ∷ []) ep ev))))
+
+  pub root_in : K → (d : root.the_row.Denot)
+      → Step K 𝓛 (‵ (root.the_row.own_val d (alone (ptr_val d.at) ∷ [])) ∷ Γ) G (‵ (root_owns d.at d.value) ∷ Γ) G
+  root_in t d = step (λ s. let v : Val = alone (ptr_val d.at) in
+      nothing t $ feq_i t (List Val) (ptr_val d.at ∷ []) (ptr_val d.at ∷ []) refl $ fjoin t $ feq_i t (List Val) (v ∷ []) (v ∷ []) refl $ fjoin t $
+      fpack t (Valss (RawPtr ∷ [])) (within (shape root.the_type) (d.at, tt) (v ∷ [])) (ptr_val d.at ∷ [], tt) $ fjoin t $ s)
+
+-- a pointer has its type's layout
+pub pointer_good : (p : Ptr) → T (has_ty ty_ptr (ptr_val p)) × WT (ptr_val p)
+pointer_good (block_ptr b o) = (tt, tt)
+pointer_good null_ptr = (tt, record { fits = lit< tt })
+
+-- so has one alone
+pub alone_good : (p : Ptr) → T (has_ty ty_ptr (ptr_val p) && true) × WT (alone (ptr_val p))
+alone_good p = let good = pointer_good p in (and_tt (has_ty ty_ptr (ptr_val p)) good.0, (good.1, tt))
+
+-- and so has a pointer beside itself
+pub told_good : (p : Ptr) → T (has_ty ty_ptr (ptr_val p) && ((has_ty ty_ptr (ptr_val p) && true) && true)) × WT (both (ptr_val p) (alone (ptr_val p)))
+told_good p = let good = pointer_good p in
+    let once = and_tt (has_ty ty_ptr (ptr_val p)) good.0 in
+    (both_tt (has_ty ty_ptr (ptr_val p)) (has_ty ty_ptr (ptr_val p) && true) good.0 once, (good.1, ((good.1, tt), tt)))

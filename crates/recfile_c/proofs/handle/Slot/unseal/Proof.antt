@@ -34,7 +34,7 @@ use Rattle.recfile_c.specs.Slots.{slot_owns}
 use Rattle.recfile_c.specs.declared.held.Held.{Held as HeldFile}
 use Rattle.recfile_c.specs.contracts.held.Held as held
 use Rattle.recfile_c.specs.contracts.handle.Slot as slot
-use Rattle.recfile_c.proofs.Values.{both, alone, HeldLoose, loose_good, loose_in, slot_out, al, file_of, file_is}
+use Rattle.recfile_c.proofs.Values.{both, alone, HeldLoose, loose_good, loose_in, slot_out, al, some_of, some_is}
 use Rattle.recfile_c.specs.contracts.handle.Slot.unseal as F
 use Rattle.recfile_c.specs.contracts.handle.Slot.unseal.Key.{name as #self}
 use Rattle.recfile_c.proofs.handle.Slot.unseal.Statement as stated
@@ -53,8 +53,8 @@ module _ {M : Type 1} {𝓤 : Ura M} (𝓛 : Logic 𝓤) (at_mem : Memory → SP
       let v = z.0.3.0 in let a = z.0.3.1.0 in let vs = z.0.4.0 in let gs = z.0.4.1.0 in let R = held.the_row in let Z = heap.the_row in let LZ = heap_laws.the_row_laws in
       qed 𝓛 ((‵ ftrue ⊛ ‵ (fsep (slot.the_row.own_val v vs) (fsep (Z.own_val a gs) ftrue))) ∷ raw (fact 𝓤 (IsSome v.value)) ∷ []) ∵ split ! $ drop ! $ fsplit ! $
       move ! (2 ∷ []) $ heard ! (IsSome v.value) (λ some. slot_out ! v vs (λ ev.
-      rewrite ! 0 (λ (x : Option HeldFile). ‵ (slot_owns v.at x)) (file_is v.value some) refl $
-      let x : HeldFile = file_of v.value some in
+      rewrite ! 0 (λ (x : Option HeldFile). ‵ (slot_owns v.at x)) (some_is v.value some) refl $
+      let x : HeldFile = some_of v.value some in
       in_a_block ! v.at (λ p. slot_owns p (Some x)) (fst∗ 𝓤 (never 𝓤) (sem 𝓛 (ghosts.dealloc_token (record { memory = record { seal = tt } }) (bare (lone R.mir)) null_ptr))) (λ b o e.
       move ! (1 ∷ []) $ fsplit ! $ handle_tells (al R Z LZ ghosts) ! a gs (λ h eh fits.
       keep ! (2 ∷ 0 ∷ []) $ loose_in R Z LZ ghosts ! b o h a x $
@@ -66,7 +66,7 @@ module _ {M : Type 1} {𝓤 : Ura M} (𝓛 : Logic 𝓤) (at_mem : Memory → SP
       (qed 𝓛 Γ ∵ enter ! 𝓣.C 𝓣.Λ code.function (w ∷ h ∷ []) _ $ alloc_all ! (λ ls. pass_all ! refl ((tt, (tt, tt)), (fits, tt)) $
       sets ! (of_opd ! (get_in ! (fld ! refl (stop !)) (sub ! 0 refl (whole !)))) refl (tt, tt) $
       sets ! (agg ! (and_then ! (get ! refl) (and_then ! (get ! refl) (no_more !)))) refl (loose_good R Z LZ ghosts b o h fits) $ returns ! (look_at ! 0 refl) $ free_all ! refl $
-      suffices ! _ (ends_at 𝓛 F.ended stayed (F.clauses 𝓛 at_mem run) z (both (vptr b o) h) made (tt, (tt, tt)) (tt, (tt, tt))) $ says ! (file_is v.value some) $
+      suffices ! _ (ends_at 𝓛 F.ended stayed (F.clauses 𝓛 at_mem run) z (both (vptr b o) h) made (tt, (tt, tt)) (tt, (tt, tt))) $ says ! (some_is v.value some) $
       nothing ! $ nothing ! $ fjoin ! $ nothing ! $ fjoin ! $ join ! $ nothing ! $ join ! $ done !))))))))
 
 pub unseal_spec : {M : Type 1} → stated.statement M
