@@ -1,5 +1,5 @@
 -- The contents that a hashed map holds.
-use Rattle.std.proofs.Common.{◌≡◌, ℕ, suc, ◌+◌, Bool, true, false, cond, List, [], ◌∷◌, length, Option, Some, None, Result, Ok, Err, OnOk, is_some, get_or, refl, sym, ap, subst, ◌∙◌, arith}
+use Rattle.std.proofs.Common.{◌≡◌, ℕ, suc, ◌+◌, Bool, true, false, cond, List, [], ◌∷◌, length, Option, Some, None, Result, Ok, Err, OnOk, IsTrue, ◌&&◌, is_some, get_or, refl, sym, ap, subst, ◌∙◌, arith}
 use Rattle.std.specs.Cmp.Lexicographic.{slice_cmp, texts_ties, nat_list_cmp_total}
 use Rattle.std.specs.Map.{keys_of, lookup}
 use Rattle.std.specs.List.{IsDistinct, AllByRecursion, IsAllAdjacentAnswer, dedup, dedup_from}
@@ -11,7 +11,7 @@ use Rattle.std.specs.FinMap.Entries.{find}
 use Rattle.std.proofs.lemmas.List.Kept.{IsStrictlySortedBy-dedup}
 use Rattle.rec_types.specs.Contents.{Contents, set_to, same_key}
 use Rattle.std.specs.declared.cmp.Ordering.TheVariants.{Less, Equal, Greater}
-use Rattle.rec_types.specs.Sorted.{Pairs, is_sorted, same_bytes}
+use Rattle.rec_types.specs.Sorted.{Pairs, same_bytes}
 use Rattle.rec_types.proofs.ContentsLemmas.{get-set_to, same_contents, same_key-sym}
 use Rattle.rec_types.proofs.MapLemmas.{sorted_of}
 
@@ -63,12 +63,12 @@ unfolding IsDistinct
 no_repeats [] d = refl
 no_repeats (k ∷ ks) d = kept_all k ks d.0 d.1
 
-pub strictly : (es : Pairs) → IsSorted (slice_cmp nat_cmp) (keys_of es) → IsDistinct same_bytes (keys_of es) → is_sorted es
-strictly es up d = sorted_of es (subst (IsStrictlySortedBy (slice_cmp nat_cmp)) (no_repeats (keys_of es) d) (IsStrictlySortedBy-dedup nat_list_cmp_total texts_ties (keys_of es) up))
+pub strictly : (es : Pairs) → IsSorted (slice_cmp nat_cmp) (keys_of es) → IsDistinct same_bytes (keys_of es) → IsStrictlySortedBy (slice_cmp nat_cmp) (keys_of es)
+strictly es up d = subst (IsStrictlySortedBy (slice_cmp nat_cmp)) (no_repeats (keys_of es) d) (IsStrictlySortedBy-dedup nat_list_cmp_total texts_ties (keys_of es) up)
 
 -- the entries of a map whose pairs are sorted are the pairs
-pub entries_hashed : (es : Pairs) → is_sorted es → entries (from_entries {R = slice_cmp nat_cmp} es) ≡ es
-entries_hashed es sorted =
+pub entries_hashed : (es : Pairs) → IsStrictlySortedBy (slice_cmp nat_cmp) (keys_of es) → entries (from_entries {R = slice_cmp nat_cmp} es) ≡ es
+entries_hashed es rises = let sorted = sorted_of es rises in
     ap (λ (m : Contents). entries m) (same_contents (from_entries es) (from_sorted es) (λ q. get-from_entries nat_list_cmp_total es q ∙ sym (get-from_sorted (slice_cmp nat_cmp) es q sorted)))
     ∙ entries-from_sorted (slice_cmp nat_cmp) es sorted
 
@@ -90,3 +90,8 @@ ascending ks false is up = absurd (cc)
 pub on_ok : {A E : Type 0} {P Q : Type 0} (r : Result A E) → (P → Q) → OnOk r P → OnOk r Q
 on_ok (Ok a) f p = f p
 on_ok (Err e) f p = p
+
+-- what holds where two tests hold
+pub and_parts : (a b : Bool) → IsTrue (a && b) → IsTrue a × IsTrue b
+and_parts true b is = (refl, is)
+and_parts false b is = absurd (cc)

@@ -1,4 +1,5 @@
 pub mod Answered
+pub mod Calls
 pub mod Contents
 pub mod Flaky
 pub mod History

@@ -4,16 +4,19 @@ use Rattle.std.specs.Coded.{Coded, code_by, coded×, coded_ℕ}
 use Rattle.std.specs.FinMap as maps
 use Rattle.std.specs.Ordering.{nat_cmp}
 use Rattle.std.specs.Cmp.Lexicographic.{slice_cmp, pointwise}
+use Rattle.rec_types.specs.Calls.{coded_calls}
 use Rattle.rec_types.specs.Contents.{Contents, coded_contents}
+use Rattle.rec_types.specs.declared.table_calls.TableCalls.{TableCalls}
 
--- the records, how many there are at most, and how many growths were refused
+-- the records, how many there are at most, how many growths were refused, and how often the table was called
 pub record SortedState : Type 0 where
   pub contents : Contents
   pub limit : ℕ
   pub refusals : ℕ
+  pub calls : TableCalls
 
 abbrev pub coded_sorted_state : Coded SortedState
-coded_sorted_state = code_by (Contents × (ℕ × ℕ)) (coded× coded_contents (coded× coded_ℕ coded_ℕ)) (λ s. (s.contents, (s.limit, s.refusals))) (λ p. record { contents = p.0; limit = p.1.0; refusals = p.1.1 }) (λ _. refl)
+coded_sorted_state = code_by (Contents × (ℕ × (ℕ × TableCalls))) (coded× coded_contents (coded× coded_ℕ (coded× coded_ℕ coded_calls))) (λ s. (s.contents, (s.limit, (s.refusals, s.calls)))) (λ p. record { contents = p.0; limit = p.1.0; refusals = p.1.1.0; calls = p.1.1.1 }) (λ _. refl)
 
 abbrev pub Pairs : Type 0
 Pairs = List (List ℕ × List ℕ)

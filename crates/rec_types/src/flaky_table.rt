@@ -1,11 +1,12 @@
-ghost use Rattle.std.specs.Prelude.{◌≡◌, ◌≢◌, ℕ, ◌≤◌, IsTrue, true, false, IsSome, IfOk, OnOk, OnErr};
+ghost use Rattle.std.specs.Prelude.{◌≡◌, ◌≢◌, ℕ, ◌≤◌, IsTrue, true, false, IsSome, is_none, IfOk, OnOk, OnErr, Ok, Err, None};
 ghost use Rattle.std.specs.FinMap as maps;
 ghost use Rattle.rec_types.specs.Contents.{set_to};
-ghost use Rattle.rec_types.specs.Flaky.{fails_next, with_set, failures_of};
+ghost use Rattle.rec_types.specs.Flaky.{fails_next, called, failures_of};
 ghost use Rattle.rec_types.specs.Answered.{Answered};
+ghost use Rattle.rec_types.specs.Calls.{no_calls, with_get, with_set, with_list};
 ghost use Rattle.rec_types.specs.Table.{is_device, counted};
 
-use crate::{Key, Record, Table, TableFault, TableState};
+use crate::{Key, NO_CALLS, Record, Table, TableCalls, TableFault, TableState};
 use std::marker::Model;
 
 /// A table whose device fails at chosen calls of `set`. Everything else it hands on to the table below it. The
@@ -15,7 +16,7 @@ use std::marker::Model;
 pub struct FlakyTable<T: Table> {
     inner: T,
     failing: Vec<u64>,
-    sets: u64,
+    calls: TableCalls,
     failures: u64,
 }
 
@@ -29,7 +30,7 @@ impl<T: Table> Model for FlakyTable<T> {
     ghost view = { λ t. record {
       inner = t.inner;
       failing = t.failing.items;
-      sets = t.sets;
+      calls = t.calls;
       failures = t.failures;
     } };
 }
@@ -37,27 +38,24 @@ impl<T: Table> Model for FlakyTable<T> {
 impl<T: Table> FlakyTable<T> {
     /// This table, of which the calls of `set` with these numbers fail. It takes no memory.
     pub fn new(inner: T, sets: Vec<u64>) -> FlakyTable<T>
-        ensures { result ≡ record { inner = inner; failing = sets.items; sets = 0; failures = 0 } }
+        ensures value { result
+            ≡ record { inner = inner; failing = sets.items; calls = no_calls; failures = 0 } }
+        ensures sound { ⟦<FlakyTable<T> as TableState>⟧.sound result ≡ T.sound inner }
     {
         FlakyTable {
             inner,
             failing: sets,
-            sets: 0,
+            calls: NO_CALLS,
             failures: 0,
         }
     }
 
-    // Counts one more call of `set`, and answers whether it fails.
-    fn fails_now(&mut self) -> bool
-        ensures value { result ≡ fails_next self.old }
-        ensures after { self.new ≡ with_set self.old result }
+    // Whether the next call of `set` fails.
+    fn fails_next(&self) -> bool
+        ensures { result ≡ fails_next self.now }
     {
-        self.sets = self.sets.saturating_add(1);
-        let fails = self.failing.contains(&self.sets);
-        if fails {
-            self.failures = self.failures.saturating_add(1);
-        }
-        fails
+        let number = self.calls.sets.saturating_add(1);
+        self.failing.contains(&number)
     }
 }
 
@@ -74,6 +72,8 @@ impl<T: Table> TableState for FlakyTable<T> {
 
     ghost damages = { λ t. T.damages t.inner };
 
+    ghost calls = { λ t. t.calls };
+
     ghost origin = { λ t. T.origin t.inner };
 }
 
@@ -88,10 +88,13 @@ impl<T: Table> Table for FlakyTable<T> {
         ensures no_memory { result ≢ Err TableFault.Memory }
         ensures no_room { result ≢ Err TableFault.NoRoom }
         ensures answered { Answered ⟦<FlakyTable<T> as TableState>⟧ self.old result self.new }
-        ensures inner { T.device_failures self.new.inner
-            ≡ counted (T.device_failures self.old.inner) (is_device result) }
-        ensures rest { self.new ≡ record self.old { inner = self.new.inner } }
+        ensures calls { self.new.calls ≡ with_get self.old.calls }
+        ensures inner { (T.calls self.new.inner ≡ with_get (T.calls self.old.inner))
+            × (T.device_failures self.new.inner
+            ≡ counted (T.device_failures self.old.inner) (is_device result)) }
+        ensures rest { self.new ≡ called self.old self.new.inner self.new.calls false }
     {
+        self.calls.note_get();
         self.inner.get(key)
     }
 
@@ -113,18 +116,30 @@ impl<T: Table> Table for FlakyTable<T> {
             → is_device result ≡ false → result ≡ Err TableFault.NoRoom }
         ensures taken_out_none { to ≡ None → result ≡ Ok None
             → T.contents self.new.inner ≡ T.contents self.old.inner }
+        ensures absent { IsTrue (T.sound self.old.inner) → to ≡ None
+            → maps.get (T.contents self.old.inner) key ≡ None
+            → is_device result ≡ false → result ≡ Ok None }
         ensures answered { Answered ⟦<FlakyTable<T> as TableState>⟧ self.old result self.new }
+        ensures calls { self.new.calls ≡ with_set self.old.calls (is_none to) result }
         ensures fails { IsTrue (fails_next self.old)
             → (result ≡ Err TableFault.Device) × (self.new.inner ≡ self.old.inner) }
-        ensures passes { fails_next self.old ≡ false → T.device_failures self.new.inner
-            ≡ counted (T.device_failures self.old.inner) (is_device result) }
+        ensures passes { fails_next self.old ≡ false
+            → (T.calls self.new.inner ≡ with_set (T.calls self.old.inner) (is_none to) result)
+            × (T.device_failures self.new.inner
+            ≡ counted (T.device_failures self.old.inner) (is_device result)) }
         ensures rest { self.new
-            ≡ record (with_set self.old (fails_next self.old)) { inner = self.new.inner } }
+            ≡ called self.old self.new.inner self.new.calls (fails_next self.old) }
     {
-        if self.fails_now() {
-            return Err(TableFault::Device);
+        let takes_out = to.is_none();
+        if self.fails_next() {
+            let failed = Err(TableFault::Device);
+            self.failures = self.failures.saturating_add(1);
+            self.calls.note_set(takes_out, &failed);
+            return failed;
         }
-        self.inner.set(key, to)
+        let answer = self.inner.set(key, to);
+        self.calls.note_set(takes_out, &answer);
+        answer
     }
 
     /// The records in key order. Faults: those of the table below.
@@ -134,10 +149,13 @@ impl<T: Table> Table for FlakyTable<T> {
         ensures same { T.contents self.new.inner ≡ T.contents self.old.inner }
         ensures no_room { result ≢ Err TableFault.NoRoom }
         ensures answered { Answered ⟦<FlakyTable<T> as TableState>⟧ self.old result self.new }
-        ensures inner { T.device_failures self.new.inner
-            ≡ counted (T.device_failures self.old.inner) (is_device result) }
-        ensures rest { self.new ≡ record self.old { inner = self.new.inner } }
+        ensures calls { self.new.calls ≡ with_list self.old.calls }
+        ensures inner { (T.calls self.new.inner ≡ with_list (T.calls self.old.inner))
+            × (T.device_failures self.new.inner
+            ≡ counted (T.device_failures self.old.inner) (is_device result)) }
+        ensures rest { self.new ≡ called self.old self.new.inner self.new.calls false }
     {
+        self.calls.note_list();
         self.inner.entries()
     }
 

@@ -2,24 +2,30 @@ ghost use Rattle.std.specs.Prelude.{List, IsTrue, IsSorted, ◌≡◌, ◌≢◌
 ghost use Rattle.std.specs.FinMap as maps;
 ghost use Rattle.std.specs.Ordering.{nat_cmp};
 ghost use Rattle.std.specs.Cmp.Lexicographic.{slice_cmp};
+ghost use Rattle.std.specs.List.Sorted.{IsStrictlySortedBy};
 ghost use Rattle.rec_types.specs.Contents.{set_to};
 ghost use Rattle.rec_types.specs.Answered.{Answered};
+ghost use Rattle.rec_types.specs.Calls.{no_calls, with_set};
 ghost use Rattle.rec_types.specs.Table.{is_device};
-ghost use Rattle.rec_types.specs.Sorted.{is_sorted, same_bytes};
+ghost use Rattle.rec_types.specs.Sorted.{same_bytes};
 ghost use Rattle.indexmap.specs.IndexMap.{get, keys, index_map_len, IsUnique};
 
-use crate::{Key, Limits, Record, Table, TableFault, TableState};
+use crate::{Key, Limits, NO_CALLS, Record, Table, TableCalls, TableFault, TableState};
 use indexmap::IndexMap;
 use std::alloc::{AllocError, Global};
 use std::marker::Model;
 
-/// A table in a hashed map, whose records are put in order where they are asked for in order. It is always sound, and never answers Device or Damaged.
+/// A table in a hashed map, whose records are put in order where they are asked for in order. It is
+/// always sound, and never answers Device or Damaged.
 #[derive(Debug, Drop)]
 pub struct SortedTable {
     records: IndexMap<Key, Record>,
+    /// Whether they are known to stand in the order of their keys.
+    in_order: bool,
     alloc: Global,
     limit: u32,
     refusals: u64,
+    calls: TableCalls,
 }
 
 impl Model for SortedTable {
@@ -40,13 +46,20 @@ impl Model for SortedTable {
 impl SortedTable {
     /// An empty table for as many records as the limits say. It takes no memory.
     pub fn new(alloc: Global, limits: Limits) -> SortedTable
-        ensures { result ≡ record { contents = maps.empty; limit = limits.records; refusals = 0 } }
+        ensures { result ≡ record {
+          contents = maps.empty;
+          limit = limits.records;
+          refusals = 0;
+          calls = no_calls;
+        } }
     {
         SortedTable {
             records: IndexMap::new(alloc),
+            in_order: false,
             alloc,
             limit: limits.records(),
             refusals: 0,
+            calls: NO_CALLS,
         }
     }
 
@@ -75,11 +88,14 @@ impl TableState for SortedTable {
 
     ghost damages = { λ _. no_damage };
 
+    ghost calls = { λ t. t.calls };
+
     ghost origin = { λ _. None };
 }
 
 impl Table for SortedTable {
     fn get(&mut self, key: &Key) -> Result<Option<Record>, TableFault> {
+        self.calls.note_get();
         Ok(self.records.get(key).copied())
     }
 
@@ -97,31 +113,50 @@ impl Table for SortedTable {
             → is_device result ≡ false → result ≡ Err TableFault.NoRoom }
         ensures taken_out_none { to ≡ None → result ≡ Ok None
             → self.new.contents ≡ self.old.contents }
+        ensures absent { to ≡ None → maps.get self.old.contents key ≡ None
+            → is_device result ≡ false → result ≡ Ok None }
         ensures answered { Answered ⟦<SortedTable as TableState>⟧ self.old result self.new }
+        ensures calls { self.new.calls ≡ with_set self.old.calls (is_none to) result }
         ensures device { is_device result ≡ false }
         ensures present { IsSome (maps.get self.old.contents key) → IsOk result }
         ensures taken { to ≡ None → IsOk result }
     {
         let Some(record) = to else {
-            return Ok(self.records.swap_remove(&key));
+            self.in_order = false;
+            let taken = Ok(self.records.swap_remove(&key));
+            self.calls.note_set(true, &taken);
+            return taken;
         };
         if self.is_full_for(&key) {
-            return Err(TableFault::NoRoom);
+            let full = Err(TableFault::NoRoom);
+            self.calls.note_set(false, &full);
+            return full;
         }
         match self.records.insert(key, record) {
-            Ok(before) => Ok(before),
+            Ok(before) => {
+                self.in_order = self.in_order & before.is_some();
+                let put = Ok(before);
+                self.calls.note_set(false, &put);
+                put
+            }
             Err(_) => {
+                self.in_order = false;
                 self.refusals = self.refusals.saturating_add(1);
-                Err(TableFault::Memory)
+                let refused = Err(TableFault::Memory);
+                self.calls.note_set(false, &refused);
+                refused
             }
         }
     }
 
     fn entries(&mut self) -> Result<Vec<(Key, Record)>, TableFault> {
-        if let Err(_) = put_in_order(&mut self.records) {
+        self.calls.note_list();
+        if let Err(_) = put_in_order(&mut self.records, self.in_order) {
+            self.in_order = false;
             self.refusals = self.refusals.saturating_add(1);
             return Err(TableFault::Memory);
         }
+        self.in_order = true;
         match copied(self.alloc, &self.records) {
             Ok(records) => Ok(records),
             Err(_) => {
@@ -147,15 +182,19 @@ fn is_in_order(records: &IndexMap<Key, Record>) -> bool
     records.is_sorted()
 }
 
-// Puts the records in the order of their keys. A fault leaves them as they are.
-fn put_in_order(records: &mut IndexMap<Key, Record>) -> Result<(), AllocError>
-    ensures sorted { OnOk result (is_sorted records.new.entries) }
+// Puts the records in the order of their keys, where they aren't known to be. A fault leaves them as they are.
+fn put_in_order(records: &mut IndexMap<Key, Record>, in_order: bool) -> Result<(), AllocError>
+    requires known { IsTrue in_order → IsStrictlySortedBy (slice_cmp nat_cmp) (keys records.old) }
+    ensures sorted { OnOk result (IsStrictlySortedBy (slice_cmp nat_cmp) (keys records.new)) }
     ensures same { (q : List ℕ) → get same_bytes records.new q ≡ get same_bytes records.old q }
     ensures unique { IsUnique same_bytes records.new }
     ensures len { index_map_len records.new ≡ index_map_len records.old }
 {
     // What this says is that no key stands twice.
     let _count = records.len();
+    if in_order {
+        return Ok(());
+    }
     if is_in_order(records) {
         return Ok(());
     }

@@ -1,7 +1,8 @@
-ghost use Rattle.std.specs.Prelude.{◌≡◌, ◌≢◌, ℕ, ◌<◌, ◌≤◌, Bool, false, Option, Some, None, IsTrue, IsSome, IfOk, OnOk, OnErr, Ok, Err};
+ghost use Rattle.std.specs.Prelude.{◌≡◌, ◌≢◌, ℕ, ◌<◌, ◌≤◌, Bool, false, Option, Some, None, IsTrue, IsSome, is_none, IfOk, OnOk, OnErr, Ok, Err};
 ghost use Rattle.std.specs.FinMap as maps;
 ghost use Rattle.rec_types.specs.Contents.{set_to};
 ghost use Rattle.rec_types.specs.Answered.{Answered};
+ghost use Rattle.rec_types.specs.Calls.{with_get, with_set, with_list};
 ghost use Rattle.rec_types.specs.Table.{is_device};
 
 use crate::{Key, Record, TableState};
@@ -29,13 +30,15 @@ pub trait Table: TableState + Drop {
         ensures same { Self.contents self.new ≡ Self.contents self.old }
         ensures no_memory { result ≢ Err TableFault.Memory }
         ensures no_room { result ≢ Err TableFault.NoRoom }
-        ensures answered { Answered Self.TableState self.old result self.new };
+        ensures answered { Answered Self.TableState self.old result self.new }
+        ensures calls { Self.calls self.new ≡ with_get (Self.calls self.old) };
 
     /// Puts a record at the key, or takes the key out, and answers what stood there before. Faults:
     /// Device, Damaged, NoRoom, Memory. NoRoom comes exactly where all reads succeeded, a record is
     /// put at an absent key and the table has as many records as it may; it is decided before memory
-    /// is asked for. Where the table isn't sound, an answer tells nothing of the records after it but
-    /// that a fault, and a taking out that finds nothing, leaves them.
+    /// is asked for. For a taking out that finds nothing memory isn't asked for. Where the table isn't
+    /// sound, an answer tells nothing of the records after it but that a fault, and a taking out that
+    /// finds nothing, leaves them.
     fn set(&mut self, key: Key, to: Option<Record>) -> Result<Option<Record>, TableFault>
         ensures value { IsTrue (Self.sound self.old)
             → IfOk result (λ before. before ≡ maps.get (Self.contents self.old) key) }
@@ -51,7 +54,11 @@ pub trait Table: TableState + Drop {
             → is_device result ≡ false → result ≡ Err TableFault.NoRoom }
         ensures taken_out_none { to ≡ None → result ≡ Ok None
             → Self.contents self.new ≡ Self.contents self.old }
-        ensures answered { Answered Self.TableState self.old result self.new };
+        ensures absent { IsTrue (Self.sound self.old) → to ≡ None
+            → maps.get (Self.contents self.old) key ≡ None
+            → is_device result ≡ false → result ≡ Ok None }
+        ensures answered { Answered Self.TableState self.old result self.new }
+        ensures calls { Self.calls self.new ≡ with_set (Self.calls self.old) (is_none to) result };
 
     /// The records in key order. Faults: Device, Damaged, Memory.
     fn entries(&mut self) -> Result<Vec<(Key, Record)>, TableFault>
@@ -59,7 +66,8 @@ pub trait Table: TableState + Drop {
             → IfOk result (λ records. records.items ≡ maps.entries (Self.contents self.old)) }
         ensures same { Self.contents self.new ≡ Self.contents self.old }
         ensures no_room { result ≢ Err TableFault.NoRoom }
-        ensures answered { Answered Self.TableState self.old result self.new };
+        ensures answered { Answered Self.TableState self.old result self.new }
+        ensures calls { Self.calls self.new ≡ with_list (Self.calls self.old) };
 
     /// How many records there are.
     fn count(&self) -> u32

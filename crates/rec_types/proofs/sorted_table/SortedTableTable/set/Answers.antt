@@ -1,8 +1,14 @@
-use Rattle.std.proofs.Common.{ℕ, length, List, Option, Some, None, is_some, is_none, nat_le, ◌&&◌, sym, ap, ◌∙◌}
+use Rattle.std.proofs.Common.{ℕ, length, List, Option, Some, None, Ok, is_some, is_none, nat_le, ◌&&◌, sym, ap, subst, ◌∙◌}
+use Rattle.std.proofs.lemmas.Bool.{false≢true}
 use Rattle.std.specs.FinMap as maps
 use Rattle.rec_types.specs.Contents.{set_to}
-use Rattle.rec_types.specs.Sorted.{SortedState}
-use Rattle.rec_types.proofs.HashedLemmas.{at_hash, updated, len_hashed}
+use Rattle.std.specs.Ordering.{nat_cmp}
+use Rattle.std.specs.Cmp.Lexicographic.{slice_cmp}
+use Rattle.std.specs.List.Sorted.{IsStrictlySortedBy}
+use Rattle.std.specs.Map.{keys_of}
+use Rattle.indexmap.proofs.CallerLemmas.{keys-insert_entry-present}
+use Rattle.rec_types.specs.Sorted.{SortedState, Pairs, same_bytes}
+use Rattle.rec_types.proofs.HashedLemmas.{at_hash, updated, len_hashed, and_parts}
 use Rattle.rec_types.proofs.MapLemmas.{fewer, fits, not_full, is_full, none_not_some}
 use Rattle.rec_types.proofs.sorted_table.SortedTableTable.set.Goals as goal
 
@@ -12,6 +18,7 @@ invariant_of-self c = record {
   unique = c.swap_remove.ensures.unique;
   within = fewer (is_some c.swap_remove.result) _ _ _ c.swap_remove.ensures.len c.self.invariant.within;
   limited = c.self.invariant.limited;
+  ordered = λ wrong. absurd (false≢true wrong);
 }
 
 pub returns-in_default-clause-value : goal.returns-in_default-clause-value
@@ -22,6 +29,9 @@ returns-in_default-clause-ok c =
     updated c.self.inside.records.entries c.swap_remove.new.self.entries c.args.key None c.swap_remove.ensures.updates.0
     ∙ ap (λ (s : SortedState). set_to s.contents c.args.key None) c.self.view_is
     ∙ ap (λ (w : Option (List ℕ)). set_to c.args.self.now.contents c.args.key w) (sym c.in_default.is)
+
+pub returns-in_default-clause-absent : goal.returns-in_default-clause-absent
+returns-in_default-clause-absent c = λ _ absent _. ap Ok (c.swap_remove.ensures.value ∙ sym (at_hash c.self.inside.records.entries c.args.key) ∙ ap (λ (s : SortedState). maps.get s.contents c.args.key) c.self.view_is ∙ absent)
 
 -- the table is full, and the key isn't there
 pub returns-then-is_full_for-clause-no_room : goal.returns-then-is_full_for-clause-no_room
@@ -45,6 +55,10 @@ invariant_of-self-in-Ok c = record {
       ((λ i. nat_le (limits i) (counts i) && is_none (stood i)) ∙ sym c.if-is_full_for.ensures)
       c.self.invariant.within;
   limited = c.self.invariant.limited;
+  ordered = λ on.
+      let both = and_parts c.self.inside.in_order c.is_some.result on in
+      let there = ap (λ (o : Option (List ℕ)). is_some o) (sym c.in-Ok.ensures.old) ∙ sym c.is_some.ensures ∙ both.1 in
+      subst (IsStrictlySortedBy (slice_cmp nat_cmp)) (sym (ap (λ (es : Pairs). keys_of es) c.in-Ok.ensures.entries ∙ keys-insert_entry-present same_bytes c.self.inside.records c.args.key c.in-Some.«record» there)) (c.self.invariant.ordered both.0);
 }
 
 pub returns-in-Ok-clause-value : goal.returns-in-Ok-clause-value
