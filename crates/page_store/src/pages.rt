@@ -272,6 +272,8 @@ impl<S: Store> Pages<S> {
             (Stopped (at self.old.pages) writing.now self.old.stored self.new.stored) }
         ensures memory { result ≡ Err WriteFault.Memory
             → GrowsTo (length self.old.pages) self.old.stored self.new.stored }
+        ensures memory_unnoted { result ≡ Err WriteFault.Memory
+            → self.new.journal ≡ self.old.journal }
         ensures device { self.new.failures ≡ counted self.old.failures (by_device result) }
         ensures journal { OnOk result (self.new.journal ≡ noted self.old.journal (writing_back
             (memory_pages self.old) (length self.old.pages) writing.now clean.now)) }

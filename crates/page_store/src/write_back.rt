@@ -133,6 +133,8 @@ pub(crate) fn write_out<S: Store>(
         (S.pages store.old) (S.pages store.new)) }
     ensures memory { result ≡ Err StoreFault.Memory
         → GrowsTo count (S.pages store.old) (S.pages store.new) }
+    ensures memory_unnoted { result ≡ Err StoreFault.Memory
+        → S.journal store.new ≡ S.journal store.old }
     ensures steady { S.steady store.new ≡ S.steady store.old }
     ensures reads { S.reads store.new ≡ S.reads store.old }
     ensures writes { OnOk result (S.writes store.new ≡ counted_times (S.writes store.old)
