@@ -129,6 +129,7 @@ impl<D: Disk + Drop> KeptStore<D> {
           failures = 0;
         }) }
         ensures steady { IfOk result (λ s. D.steady s.disk ≡ D.steady disk) }
+        ensures failures { IfOk result (λ s. D.failures s.disk ≡ D.failures disk) }
         ensures file { IsTrue (D.steady disk)
             → IfOk result (λ s. (D.seen s.disk).main ≡ recovered D.began) }
         ensures stopped { IsTrue (D.steady disk) → IfErr result (λ stop. (c : Files)
