@@ -6,6 +6,7 @@ use Rattle.std.proofs.lemmas.List.{get_or_past}
 use Rattle.std.proofs.lemmas.Option.{slice_get_past}
 use Rattle.rec_types.specs.LimitBounds.{most_records}
 use Rattle.rec_types.specs.Contents.{Contents}
+use Rattle.rec_types.specs.declared.table_calls.TableCalls.{TableCalls}
 use Rattle.rec_types.specs.Table.{Damages, counted}
 use Rattle.page_store.specs.Calls.{counted_times}
 use Rattle.page_store.specs.PageMap.{PageMap, at}
@@ -231,9 +232,9 @@ written_back pages stored tail count tree held long tail_is count_is some most h
     stored_page q used = ap (λ (b : Bool). cond b None (slice_get stored q)) (nonzero q used) ∙ same q (some_of (at pages.pages q) used)
 
 -- a table whose file was opened
-pub opened_table : (stored : List (List ℕ)) (tail most reads : ℕ) (pages : PagesView) (tree : Tree) (limit refusals : ℕ) (damages : Damages) (steady : Bool) → pages.stored ≡ stored → pages.tail ≡ tail → pages.steady ≡ steady → (IsTrue steady → Opens stored tail most reads pages tree)
-    → IsTree tree → tree.count ≤ most → limit ≡ most → limit ≤ most_records → AreSpeltIn tree.order pages → IsTable (record { pages = pages; tree = tree; limit = limit; refusals = refusals; damages = damages })
-opened_table stored tail most reads pages tree limit refusals damages steady stored_is tail_is steady_is found sizes count limit_is limit_most spelt = record {
+pub opened_table : (stored : List (List ℕ)) (tail most reads : ℕ) (pages : PagesView) (tree : Tree) (limit refusals : ℕ) (damages : Damages) (calls : TableCalls) (steady : Bool) → pages.stored ≡ stored → pages.tail ≡ tail → pages.steady ≡ steady → (IsTrue steady → Opens stored tail most reads pages tree)
+    → IsTree tree → tree.count ≤ most → limit ≡ most → limit ≤ most_records → AreSpeltIn tree.order pages → IsTable (record { pages = pages; tree = tree; limit = limit; refusals = refusals; damages = damages; calls = calls })
+opened_table stored tail most reads pages tree limit refusals damages calls steady stored_is tail_is steady_is found sizes count limit_is limit_most spelt = record {
   tree = sizes;
   count = λ _. omega (arith, count, limit_is);
   limit = limit_most;

@@ -1,5 +1,5 @@
 -- What taking a key out below a page comes to.
-use Rattle.std.proofs.Common.{◌≡◌, ℕ, zero, suc, ◌<◌, ◌≤◌, inl, Option, Some, None, List, [], ◌∷◌, ◌++◌, length, get_or, set, take, drop, refl, ap, sym, ◌∙◌, subst, arith, false}
+use Rattle.std.proofs.Common.{◌≡◌, ℕ, zero, suc, ◌<◌, ◌≤◌, inl, Option, Some, None, List, [], ◌∷◌, ◌++◌, length, get_or, set, take, drop, refl, ap, sym, ◌∙◌, subst, arith, false, IsSome, is_some, Result, Ok, Err, MatchResult}
 use Rattle.std.specs.List.{remove}
 use Rattle.std.proofs.lemmas.List.{get_or_default}
 use Rattle.page_store.specs.PageMap.{PageMap, at, after}
@@ -11,6 +11,10 @@ use Rattle.btree_node.proofs.ElementOrderLemmas.{Ascends-right}
 use Rattle.btree_insert.specs.declared.bounds.Bounds.{Bounds}
 use Rattle.btree_insert.specs.Bounds.{Between}
 use Rattle.btree_insert.specs.Contents.{lookup_in, set_in}
+use Rattle.btree_insert.specs.Growth.{IsOutside}
+use Rattle.btree_insert.specs.declared.tree.TreeFault.{TreeFault}
+use Rattle.btree_insert.specs.declared.tree.TreeFault.TheVariants.{Device, Damaged, Memory}
+use Rattle.btree_delete.specs.Deleted.{MayStop}
 use Rattle.btree_insert.specs.PageTrees.{IsIn, Apart, Fan, Body, TreeAt, kind_of_level}
 use Rattle.btree_insert.proofs.BoundLemmas.{Ascends-before}
 use Rattle.btree_insert.proofs.SonsAroundLemmas.{Focus}
@@ -32,6 +36,36 @@ use Rattle.btree_delete.proofs.SettledPageLemmas.{around_son, settled_leaves, se
 use Rattle.btree_delete.proofs.DeletionStepLemmas.{Broken, SettledSon, son_unvisited, below_in}
 use Rattle.btree_delete.proofs.FirstElementLemmas.{Takes, more_visited}
 use Rattle.btree_delete.proofs.EditLemmas.{untouched_empty, unvisited_push}
+
+-- what stops a deletion from outside may stop it where the key is there
+pub outside_stops : (stood : Option (List ℕ)) (fault : TreeFault) → IsSome stood → IsOutside fault → MayStop stood fault
+outside_stops stood Device some out = tt
+outside_stops stood (Damaged page) some out = out
+outside_stops stood Memory some out = some
+
+-- what may stop a deletion comes from outside
+pub stops_outside : (stood : Option (List ℕ)) (fault : TreeFault) → MayStop stood fault → IsOutside fault
+stops_outside stood Device stops = tt
+stops_outside stood (Damaged page) stops = stops
+stops_outside stood Memory stops = tt
+
+-- a failed device may always stop it
+pub device_stops : (stood : Option (List ℕ)) (fault : TreeFault) → fault ≡ Device → MayStop stood fault
+device_stops stood fault is = subst (MayStop stood) (sym is) tt
+
+-- what stands at a key that is found in a page
+pub found_some : (k : ℕ) (pages : PageMap) (h : ℕ) (n : Node) (es : List Element) (us : List ℕ) (key : List ℕ) (i : ℕ) → Body (TreeAt k pages k h) h n es us → Ascends es → IsAt n.elements.items key i → IsSome (lookup_in key es)
+found_some k pages h n es us key i body up place =
+    ap is_some (sym (find_here (TreeAt k pages k h) h n es us key i (element_at n i) body up place (get_or_default n.elements.items i ([], []) (element_at n i) place.within)))
+
+-- what stands at a key below a son stands there below the page
+pub some_below : (key : List ℕ) (es pre xs post : List Element) → es ≡ pre ++ (xs ++ post) → Each (λ e. Below e.0 key) pre → Each (λ e. Below key e.0) post → lookup_in key es ≡ lookup_in key xs
+some_below key es pre xs post es_is below above = ap (lookup_in key) es_is ∙ lookup-between key pre xs post below above
+
+-- both sides of an answer, each by what is known of it
+pub either : {A E : Type 0} (r : Result A E) (P Q : A → Type 0) (F G : E → Type 0) → ((x : A) → P x → Q x) → ((e : E) → F e → G e) → MatchResult r P F → MatchResult r Q G
+either (Ok x) P Q F G ok err is = ok x is
+either (Err e) P Q F G ok err is = err e is
 
 -- an element of a page stands at its place
 pub is_at : (els : List Element) (i : ℕ) → Ascends els → i < length els → IsAt els (get_or els i ([], [])).0 i

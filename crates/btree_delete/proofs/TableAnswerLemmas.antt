@@ -13,10 +13,9 @@ use Rattle.btree_insert.specs.declared.tree.TreeFault.{TreeFault}
 use Rattle.btree_insert.specs.declared.tree.TreeFault.TheVariants.{Device as ReadFailed, Damaged as NoTreePage, Memory as NoMemory}
 use Rattle.btree_insert.specs.Contents.{by_order, lookup_in, set_in}
 use Rattle.btree_insert.specs.Faults.{is_device as is_read_fault}
-use Rattle.btree_insert.specs.Growth.{IsOutside}
 use Rattle.btree_insert.specs.Inserted.{Inserted, IsRefused}
 use Rattle.btree_insert.specs.PagesGrown.{taking}
-use Rattle.btree_delete.specs.Deleted.{Deleted}
+use Rattle.btree_delete.specs.Deleted.{Deleted, MayStop}
 use Rattle.btree_delete.specs.TableView.{Fills}
 use Rattle.btree_delete.specs.TableAnswers.{table_fault, table_answer, IsSet, MayRefuse}
 use Rattle.btree_delete.proofs.TableLimitLemmas.{grown_alone, left_alone, grown_small, grown_count}
@@ -44,7 +43,10 @@ pub put_refused : (old : List (Option (List ℕ))) (tree : Tree) (es : List Elem
 put_refused old tree es us key value limit ReadFailed order some most header small fills few room refused = tt
 put_refused old tree es us key value limit (NoTreePage page) order some most header small fills few room (new, taken, (next, before), done, fails) =
     absurd (fails (grown_small old new taken tree next es us key value before limit order some most header fills done (grown_count (at old) new (candidate old) taken tree next es us key value before limit fills.holds done few room) small))
-put_refused old tree es us key value limit NoMemory order some most header small fills few room refused = λ full. let low = room full.absent in let high = full.full in absurd (omega (arith, low, high))
+put_refused old tree es us key value limit NoMemory order some most header small fills few room refused = (
+  λ full. let low = room full.absent in let high = full.full in absurd (omega (arith, low, high)),
+  λ none. cc,
+)
 
 -- the answer to a put where there is room for a new key
 pub put_answer : (old new : List (Option (List ℕ))) (tree : Tree) (es : List Element) (us key value : List ℕ) (limit : ℕ) (r : Result (Tree × Option (List ℕ)) TreeFault) → 1 ≤ tree.order → 1 ≤ length old → length old ≤ 1000001 → at old 0 ≡ None → limit ≤ 1000000
@@ -67,18 +69,18 @@ pub fewer : (key : List ℕ) (es : List Element) → length (set_in key None es)
 fewer key [] = omega arith
 fewer key (e ∷ es) = fewer_by key e es (fewer key es) (slice_cmp nat_cmp key e.0)
 
-outside_refused : (limit count : ℕ) (es : List Element) (key : List ℕ) (fault : TreeFault) → IsOutside fault → MayRefuse limit count es key None (table_fault fault)
-outside_refused limit count es key ReadFailed out = tt
-outside_refused limit count es key (NoTreePage page) out = absurd out
-outside_refused limit count es key NoMemory out = λ full. absurd (let never = full.puts in cc)
+stop_refused : (limit count : ℕ) (es : List Element) (key : List ℕ) (fault : TreeFault) → MayStop (lookup_in key es) fault → MayRefuse limit count es key None (table_fault fault)
+stop_refused limit count es key ReadFailed stops = tt
+stop_refused limit count es key (NoTreePage page) stops = absurd stops
+stop_refused limit count es key NoMemory stops = (λ full. absurd (let never = full.puts in cc), λ _. stops)
 
 -- the answer to a taking out
 pub take_answer : (old new : List (Option (List ℕ))) (tree : Tree) (es : List Element) (us key : List ℕ) (limit : ℕ) (r : Result (Tree × Option (List ℕ)) TreeFault) → Fills old tree es us → tree.count ≤ limit
-    → MatchResult r (λ x. Deleted (at old) (at new) tree es us key x) IsOutside → MatchResult (table_answer r) (λ x. IsSet new x.0 limit es key None x.1) (MayRefuse limit tree.count es key None)
+    → MatchResult r (λ x. Deleted (at old) (at new) tree es us key x) (MayStop (lookup_in key es)) → MatchResult (table_answer r) (λ x. IsSet new x.0 limit es key None x.1) (MayRefuse limit tree.count es key None)
 take_answer old new tree es us key limit (Ok (next, before)) fills few done = record {
   vs = done.vs;
   fills = record { holds = done.holds; alone = left_alone (at old) (at new) us done.vs done.left fills.alone };
   answer = done.answer;
   few = let low = fewer key es in omega (arith, low, few, done.holds.count, fills.holds.count);
 }
-take_answer old new tree es us key limit (Err fault) fills few out = outside_refused limit tree.count es key fault out
+take_answer old new tree es us key limit (Err fault) fills few stops = stop_refused limit tree.count es key fault stops

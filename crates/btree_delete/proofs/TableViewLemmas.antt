@@ -5,6 +5,7 @@ use Rattle.std.specs.FinMap.{empty_of_len}
 use Rattle.rec_types.specs.Contents.{Contents, set_to}
 use Rattle.rec_types.specs.Table.{is_device}
 use Rattle.rec_types.specs.declared.table.TableFault.{TableFault}
+use Rattle.rec_types.specs.declared.table_calls.TableCalls.{TableCalls}
 use Rattle.rec_types.specs.declared.table.TableFault.TheVariants.{Device, Damaged, NoRoom, Memory}
 use Rattle.page_store.specs.PageMap.{at}
 use Rattle.page_store.specs.PagesView.{PagesView}
@@ -79,7 +80,14 @@ only_room : (X : Type 0) (limit count : ℕ) (es : List Element) (key : List ℕ
 only_room X limit count es key to Device refused full device = absurd (cc)
 only_room X limit count es key to (Damaged page) refused full device = absurd refused
 only_room X limit count es key to NoRoom refused full device = refl
-only_room X limit count es key to Memory refused full device = absurd (refused full)
+only_room X limit count es key to Memory refused full device = absurd (refused.0 full)
+
+-- only a device refuses to take out an absent key
+only_device : (X : Type 0) (limit count : ℕ) (es : List Element) (key : List ℕ) (fault : TableFault) → MayRefuse limit count es key None fault → lookup_in key es ≡ None → is_device {A = X} (Err fault) ≡ true
+only_device X limit count es key Device refused none = refl
+only_device X limit count es key (Damaged page) refused none = absurd refused
+only_device X limit count es key NoRoom refused none = absurd (let never = refused.puts in cc)
+only_device X limit count es key Memory refused none = absurd (let some = refused.1 refl in cc)
 
 -- a change over the pages of a table
 module _ (here now : TableView) (new : List (Option (List ℕ))) (key : List ℕ) (to : Option (List ℕ)) (r : Result (Tree × Option (List ℕ)) TableFault) (same : here ≡ now) (is : IsTable here) (call : Changes here new key to r) (steady : IsTrue now.pages.steady) where
@@ -132,6 +140,11 @@ module _ (here now : TableView) (new : List (Option (List ℕ))) (key : List ℕ
   pub full_refused : (X : Type 0) (fault : TableFault) → r ≡ Err fault → IsSome to → maps.get (table_contents now) key ≡ None → now.limit ≤ maps.len (table_contents now) → is_device {A = X} (Err fault) ≡ false → fault ≡ NoRoom
   full_refused X fault r_is puts absent full device = only_room X here.limit here.tree.count (is.holds steady2).es key to fault (refused fault r_is) (full_of puts absent full) device
 
+  -- no other fault than the device's comes of taking out an absent key
+  pub absent_refused : (X : Type 0) (fault : TableFault) → r ≡ Err fault → to ≡ None → maps.get (table_contents now) key ≡ None → is_device {A = X} (Err fault) ≡ true
+  absent_refused X fault r_is none absent =
+      only_device X here.limit here.tree.count (is.holds steady2).es key fault (subst (λ (w : Option (List ℕ)). MayRefuse here.limit here.tree.count (is.holds steady2).es key w fault) none (refused fault r_is)) (looked_up here now key same is steady2 ∙ absent)
+
 -- where no edit was staged, the tree and the pages are as they were
 abbrev pub IsIdle : TableView → PagesView → Tree → Type 0
 IsIdle t pages next = (next ≡ t.tree) × (pages.pages ≡ t.pages.pages) × (pages.changed ≡ t.pages.changed)
@@ -142,10 +155,10 @@ idle_of t pages next None (Some value) out_none out put idle = absurd (let never
 idle_of t pages next None None out_none out put idle = out_none refl refl
 
 -- the table after it
-pub set_table : (t : TableView) (pages : PagesView) (key : List ℕ) (to : Option (List ℕ)) (r : Result (Tree × Option (List ℕ)) TableFault) (next : Tree) (before : Option (List ℕ)) (faults : FaultCounts) → IsTable t → Changes t pages.pages key to r → r ≡ Ok (next, before)
+pub set_table : (t : TableView) (pages : PagesView) (key : List ℕ) (to : Option (List ℕ)) (r : Result (Tree × Option (List ℕ)) TableFault) (next : Tree) (before : Option (List ℕ)) (faults : FaultCounts) (calls : TableCalls) → IsTable t → Changes t pages.pages key to r → r ≡ Ok (next, before)
     → IfOk r (λ x. (x.0.height ≤ greatest_height) × (x.0.count ≤ greatest_count) × (x.0.used ≤ greatest_count)) → IfOk r (λ x. x.0.order ≡ t.tree.order) → (to ≡ None → IfOk r (λ x. x.1 ≡ None → IsIdle t pages x.0)) → (to ≡ None → IfOk r (λ x. IsSome x.1 → pages.changed ≡ true)) → (IsSome to → IsOk r → pages.changed ≡ true)
-    → pages.stored ≡ t.pages.stored → pages.tail ≡ t.pages.tail → pages.steady ≡ t.pages.steady → AreSpeltIn t.tree.order pages → IsTable (table_of pages next t.limit faults)
-set_table t pages key to r next before faults is call r_is small order out_none out put stored tail steady_is spelt =
+    → pages.stored ≡ t.pages.stored → pages.tail ≡ t.pages.tail → pages.steady ≡ t.pages.steady → AreSpeltIn t.tree.order pages → IsTable (table_of pages next t.limit faults calls)
+set_table t pages key to r next before faults calls is call r_is small order out_none out put stored tail steady_is spelt =
     let small2 = subst (λ (r : Result (Tree × Option (List ℕ)) TableFault). IfOk r (λ x. (x.0.height ≤ greatest_height) × (x.0.count ≤ greatest_count) × (x.0.used ≤ greatest_count))) r_is small in
     let order2 = subst (λ (r : Result (Tree × Option (List ℕ)) TableFault). IfOk r (λ x. x.0.order ≡ t.tree.order)) r_is order in
     let ok = subst (λ (r : Result (Tree × Option (List ℕ)) TableFault). IsOk r) (sym r_is) refl in

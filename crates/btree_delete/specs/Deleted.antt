@@ -1,8 +1,10 @@
 -- What a deletion from a tree comes to.
-use Rattle.std.specs.Prelude.{◌≡◌, ℕ, List, Option, None}
+use Rattle.std.specs.Prelude.{◌≡◌, ℕ, List, Option, None, IsSome}
 use Rattle.page_store.specs.PageMap.{PageMap}
 use Rattle.btree_node.specs.Lists.{Element}
 use Rattle.btree_insert.specs.declared.tree.Tree.{Tree}
+use Rattle.btree_insert.specs.declared.tree.TreeFault.{TreeFault}
+use Rattle.btree_insert.specs.declared.tree.TreeFault.TheVariants.{Device, Damaged, Memory}
 use Rattle.btree_insert.specs.Contents.{lookup_in, set_in}
 use Rattle.btree_insert.specs.PageTrees.{Holds}
 use Rattle.btree_delete.specs.PagesLeft.{PagesLeft}
@@ -14,3 +16,9 @@ pub record Deleted (old new : PageMap) (tree : Tree) (es : List Element) (us : L
   pub answer : answered.1 ≡ lookup_in key es
   pub order : answered.0.order ≡ tree.order
   pub left : PagesLeft old new us vs
+
+-- why a key wasn't taken out, given what stands at it: the device failed, or memory was refused; for an absent key none is asked for
+abbrev pub MayStop : Option (List ℕ) → TreeFault → Type 0
+MayStop stood Device = Unit {0}
+MayStop stood (Damaged page) = ⊥
+MayStop stood Memory = IsSome stood

@@ -32,9 +32,9 @@ pub record IsFull (limit count : ℕ) (es : List Element) (key : List ℕ) (to :
   pub absent : lookup_in key es ≡ None
   pub full : limit ≤ count
 
--- why it is not put: NoRoom before memory is asked for
+-- why it is not put, or the key not taken out: NoRoom before memory is asked for, and none is asked for to take out an absent key
 abbrev pub MayRefuse : ℕ → ℕ → List Element → List ℕ → Option (List ℕ) → TableFault → Type 0
 MayRefuse limit count es key to Device = Unit {0}
 MayRefuse limit count es key to (Damaged page) = ⊥
 MayRefuse limit count es key to NoRoom = IsFull limit count es key to
-MayRefuse limit count es key to Memory = IsFull limit count es key to → ⊥
+MayRefuse limit count es key to Memory = (IsFull limit count es key to → ⊥) × (to ≡ None → IsSome (lookup_in key es))

@@ -14,20 +14,22 @@ use Rattle.btree_insert.specs.Elements.{contents_at}
 use Rattle.rec_types.specs.Contents.{Contents}
 use Rattle.rec_types.specs.LimitBounds.{most_records}
 use Rattle.rec_types.specs.Table.{Damages}
+use Rattle.rec_types.specs.declared.table_calls.TableCalls.{TableCalls}
 use Rattle.btree_delete.specs.declared.fault_counts.FaultCounts.{FaultCounts}
 use Rattle.btree_delete.specs.CleanFile.{IsCleanFile}
 
--- the pages, the tree in them, how many records there may be, how many calls a refused growth ended, and what was told of damaged pages
+-- the pages, the tree in them, how many records there may be, how many calls a refused growth ended, what was told of damaged pages, and how often the table was called
 pub record TableView : Type 0 where
   pub pages : PagesView
   pub tree : Tree
   pub limit : ℕ
   pub refusals : ℕ
   pub damages : Damages
+  pub calls : TableCalls
 
 -- the table of these parts
-abbrev pub table_of : PagesView → Tree → ℕ → FaultCounts → TableView
-table_of pages tree limit faults = record { pages = pages; tree = tree; limit = limit; refusals = faults.refusals; damages = record { count = faults.damaged; page = faults.page } }
+abbrev pub table_of : PagesView → Tree → ℕ → FaultCounts → TableCalls → TableView
+table_of pages tree limit faults calls = record { pages = pages; tree = tree; limit = limit; refusals = faults.refusals; damages = record { count = faults.damaged; page = faults.page }; calls = calls }
 
 -- the records, as a function of the pages and the tree: total, whatever the pages hold
 abbrev pub table_contents : TableView → Contents

@@ -115,6 +115,8 @@ pub(crate) fn change<S: Store>(
     ensures store { OnlyStages pages.old pages.new }
     ensures one_descent { IsSome to → tree.now.count < limit
         → pages.new.reads ≤ pages.old.reads + tree.now.height }
+    ensures taking_reads { to ≡ None
+        → pages.new.reads ≤ pages.old.reads + (2 * tree.now.height - 1) }
     ensures reads { pages.new.reads ≤ pages.old.reads + 2 * tree.now.height }
 {
     match to {

@@ -6,9 +6,11 @@ ghost use Rattle.btree_node.specs.Lists.{Element, Each, Ascends, IsAt, IsPlace};
 ghost use Rattle.btree_node.specs.Spelling.{AreSpelt};
 ghost use Rattle.btree_insert.specs.Bounds.{AreWithin, Between, son_bounds};
 ghost use Rattle.btree_insert.specs.declared.bounds.Bounds.{Bounds};
+ghost use Rattle.btree_insert.specs.Contents.{lookup_in};
 ghost use Rattle.btree_insert.specs.Faults.{is_device};
 ghost use Rattle.btree_insert.specs.Growth.{IsOutside};
 ghost use Rattle.btree_insert.specs.PageTrees.{TreeAt, Apart, Body, Spells, kind_of_level};
+ghost use Rattle.btree_delete.specs.Deleted.{MayStop};
 ghost use Rattle.btree_delete.specs.Subtrees.{behind, head_of};
 ghost use Rattle.btree_delete.specs.Shrinking.{MayBeUnderfull, WritesOrHandsUp, UnderfullGoesUp, MayGoUp, TreatsAndSettles, RemovesBelow, gone, sought};
 ghost use Rattle.btree_delete.specs.Tidy.{is_visited, Untouched, IsTidy, IsVisit, most_visited, visits, so_far};
@@ -228,8 +230,8 @@ fn delete_here<S: Store>(
 }
 
 /// Takes the key out of a tree, where it is there; with no key given, the first element. It collects
-/// the pages to write and to free. `visited` gains the pages that were read. Faults: Device, Memory, and
-/// Damaged as `visit` answers it.
+/// the pages to write and to free. `visited` gains the pages that were read. Faults: Device; Memory, where the
+/// key is there; and Damaged as `visit` answers it.
 #[cycle(shrinking)]
 pub(crate) fn delete_below<S: Store>(
     pages: &mut Pages<S>,
@@ -251,7 +253,7 @@ pub(crate) fn delete_below<S: Store>(
         → MatchResult result
         (RemovesBelow (head_of tree.now least) (with_edit (at pages.old.pages) edit.new) es us
         (visits visited.old.items visited.new.items) (sought key.now es))
-        IsOutside }
+        (MayStop (lookup_in (sought key.now es) es)) }
     ensures up { IfOk result (MayGoUp tree.now key.now (so_far edit.new)) }
     ensures tidy { OnOk result
         (IsTidy pages.old.pages visited.new.items edit.new.writes.items edit.new.freed.items) }

@@ -1,4 +1,4 @@
-ghost use Rattle.std.specs.Prelude.{◌≡◌, ◌<◌, ◌≤◌, ◌-◌, ◌∷◌, ◌++◌, [], ℕ, List, Some, None, Ok, length, IsSome, IfOk, IfSome, OnOk};
+ghost use Rattle.std.specs.Prelude.{◌≡◌, ◌<◌, ◌≤◌, ◌-◌, ◌∷◌, ◌++◌, [], ℕ, List, Some, None, Ok, length, IsSome, IfOk, IfSome, OnOk, MatchResult};
 ghost use Rattle.std.specs.List.{remove};
 ghost use Rattle.page_store.specs.CanStage.{CanStage};
 ghost use Rattle.page_store.specs.PageMap.{at};
@@ -8,6 +8,7 @@ ghost use Rattle.btree_node.specs.Spelling.{spelling, CanStand, IsSpelt, AreSpel
 ghost use Rattle.btree_node.specs.declared.node.Node.{Node};
 ghost use Rattle.btree_node.specs.declared.node.NodeKind.TheVariants.{Leaf};
 ghost use Rattle.btree_insert.specs.Bounds.{Between};
+ghost use Rattle.btree_insert.specs.Contents.{lookup_in};
 ghost use Rattle.btree_insert.specs.Growth.{WritesAs};
 ghost use Rattle.btree_insert.specs.PageTrees.{TreeAt, Apart};
 ghost use Rattle.btree_insert.specs.Spelt.{AreSpeltIn};
@@ -23,7 +24,7 @@ use rec_types::{Key, Memory, PAGE_WIDTH, Record};
 
 /// Takes the key out of the tree below the page at a spot, where it stands in a leaf with a key to spare and all
 /// pages on the way are in memory, and answers the record that stood there: one page changes. None where it is not
-/// so, or a page does not belong on the way: the edit is as it was then. Fault: Memory.
+/// so, or a page does not belong on the way: the edit is as it was then. Fault: Memory, where the key is there.
 pub(crate) fn delete_in_one<S: Store>(
     pages: &Pages<S>,
     edit: &mut PageEdit,
@@ -40,9 +41,11 @@ pub(crate) fn delete_in_one<S: Store>(
     ensures drops { (least : ℕ) (es : List Element) (us : List ℕ) → least ≤ order
         → TreeAt order (at pages.now.pages) least spot.now.level spot.now.page es us
         → Between spot.now.bounds es → Apart us
-        → IfOk result (λ r. IfSome r (λ old.
+        → MatchResult result
+        (λ r. IfSome r (λ old.
         Drops (head_page order least (spot.now.level - 1) spot.now.page)
-        (with_edit (at pages.now.pages) edit.new) es us key.now (Some (Whole (key.now, old))))) }
+        (with_edit (at pages.now.pages) edit.new) es us key.now (Some (Whole (key.now, old)))))
+        (λ _. IsSome (lookup_in key.now es)) }
     ensures none { result ≡ Ok None → edit.new ≡ edit.old }
     ensures fits { OnOk result
         (CanStage pages.now.pages edit.new.writes.items edit.new.taken edit.new.freed.items) }

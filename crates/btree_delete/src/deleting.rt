@@ -10,7 +10,7 @@ ghost use Rattle.btree_insert.specs.Spelt.{AreSpeltIn};
 ghost use Rattle.btree_insert.specs.Contents.{lookup_in, set_in};
 ghost use Rattle.page_store.specs.CanStage.{CanStage};
 ghost use Rattle.page_store.specs.PagesView.{OnlyReads, OnlyStages};
-ghost use Rattle.btree_delete.specs.Deleted.{Deleted};
+ghost use Rattle.btree_delete.specs.Deleted.{Deleted, MayStop};
 ghost use Rattle.btree_delete.specs.Treatment.{son_at};
 ghost use Rattle.btree_delete.specs.Shrinking.{MayBeUnderfull, UnderfullGoesUp, LeavesTree, ShrinksRoot, gone};
 ghost use Rattle.btree_insert.specs.declared.bounds.Bounds.{Bounds};
@@ -140,7 +140,7 @@ fn shrink_tree(
 /// one brother at most of each page below the root. Faults: Device; Damaged with the page that is not
 /// in use, spells no node of the order, is of a kind that does not fit its level, has a key that is not
 /// strictly between the bounds from all levels above, or is visited twice; Damaged with the root where
-/// `count` or `used` would pass 0; Memory. After a fault no page has changed.
+/// `count` or `used` would pass 0; Memory, where the key is there. After a fault no page has changed.
 pub fn delete<S: Store>(
     alloc: Global,
     pages: &mut Pages<S>,
@@ -152,7 +152,7 @@ pub fn delete<S: Store>(
         → Holds (at pages.old.pages) tree.now es us
         → MatchResult result
         (λ r. Deleted (at pages.old.pages) (at pages.new.pages) tree.now es us key.now r)
-        IsOutside }
+        (MayStop (lookup_in key.now es)) }
     ensures height { IfOk result (λ r. r.0.height ≤ tree.now.height) }
     ensures count { IfOk result (λ r. r.0.count ≤ tree.now.count) }
     ensures used { IfOk result (λ r. r.0.used ≤ tree.now.used) }
@@ -213,7 +213,7 @@ fn shrink_in_one<S: Store>(
         (λ r. IfSome r (λ shrunk. Deleted (at pages.now.pages)
         (after (at pages.now.pages) edit.new.writes.items edit.new.freed.items)
         tree.now es us key.now (shrunk.0, Some shrunk.1)))
-        IsOutside }
+        (MayStop (lookup_in key.now es)) }
     ensures fits { OnOk result
         (CanStage pages.now.pages edit.new.writes.items edit.new.taken edit.new.freed.items) }
     ensures spelt { OnOk result (AreSpelt tree.now.order edit.new.writes.items) }
@@ -256,7 +256,7 @@ pub fn delete_in_place<S: Store>(
         → Holds (at pages.old.pages) tree.now es us
         → MatchResult result
         (λ r. Deleted (at pages.old.pages) (at pages.new.pages) tree.now es us key.now r)
-        IsOutside }
+        (MayStop (lookup_in key.now es)) }
     ensures height { IfOk result (λ r. r.0.height ≤ tree.now.height) }
     ensures count { IfOk result (λ r. r.0.count ≤ tree.now.count) }
     ensures used { IfOk result (λ r. r.0.used ≤ tree.now.used) }

@@ -1,7 +1,8 @@
-ghost use Rattle.std.specs.Prelude.{◌≡◌, ◌≢◌, ◌⊎◌, ℕ, ◌<◌, ◌≤◌, List, length, true, false, IsTrue, Ok, Err, IsOk, ◌+◌, ◌-◌, ◌*◌, Some, None, IsSome, OnErr, IfOk, IfErr, OnOk, MatchResult};
+ghost use Rattle.std.specs.Prelude.{◌≡◌, ◌≢◌, ◌⊎◌, ℕ, ◌<◌, ◌≤◌, List, length, true, false, IsTrue, Ok, Err, IsOk, ◌+◌, ◌-◌, ◌*◌, Some, None, IsSome, is_none, OnErr, IfOk, IfErr, OnOk, MatchResult};
 ghost use Rattle.std.specs.FinMap as maps;
 ghost use Rattle.rec_types.specs.Contents.{Contents, set_to};
 ghost use Rattle.rec_types.specs.Answered.{Answered};
+ghost use Rattle.rec_types.specs.Calls.{no_calls, with_get, with_set, with_list};
 ghost use Rattle.rec_types.specs.Table.{no_damage, counted, is_device as is_device_answer};
 ghost use Rattle.page_store.specs.PageMap.{at};
 ghost use Rattle.page_store.specs.FreeNumbers.{free_numbers};
@@ -27,21 +28,22 @@ use crate::open_file::{OpenStop, open_file};
 use btree_insert::{Tree, look_up, walk};
 use btree_node::{GREATEST_ORDER, Header, SECOND_VERSION, write_header};
 use page_store::{PageEdit, Pages, Store, WriteFault};
-use rec_types::{Key, Limits, Record, Table, TableFault, TableState};
+use rec_types::{Key, Limits, NO_CALLS, Record, Table, TableCalls, TableFault, TableState};
 use std::alloc::Global;
 use std::collections::BTreeSet;
 use std::marker::Model;
 use thiserror::Error;
 
 /// A finite map from keys to records, in the pages of a store. Contracts see its pages, its tree, its
-/// limit, and how many of its answers were refused growths and damaged pages. It is sound where its
-/// store is steady.
+/// limit, how many of its answers were refused growths and damaged pages, and how often it was called.
+/// It is sound where its store is steady.
 #[derive(Drop)]
 pub struct TreeTable<S: Store> {
     pages: Pages<S>,
     tree: Tree,
     limit: u32,
     faults: FaultCounts,
+    calls: TableCalls,
     alloc: Global,
 }
 
@@ -50,9 +52,9 @@ impl<S: Store> Model for TreeTable<S> {
 
     ghost Value = { TableView };
 
-    ghost view = { λ t. table_of t.pages t.tree t.limit t.faults };
+    ghost view = { λ t. table_of t.pages t.tree t.limit t.faults t.calls };
 
-    ghost invariant = { λ t. IsTable (table_of t.pages t.tree t.limit t.faults) };
+    ghost invariant = { λ t. IsTable (table_of t.pages t.tree t.limit t.faults t.calls) };
 }
 
 /// Why no table was made.
@@ -118,7 +120,9 @@ impl<S: Store> TreeTable<S> {
         ensures journal { IfOk result (λ t. t.pages.journal ≡ S.journal store) }
         ensures limit { IfOk result (λ t. t.limit ≡ limits.records) }
         ensures empty { IfOk result (λ t. table_contents t ≡ maps.empty) }
+        ensures in_class { IfOk result (λ t. IsTrue t.pages.steady → HoldsTree t.pages t.tree) }
         ensures no_faults { IfOk result (λ t. (t.refusals ≡ 0) × (t.damages ≡ no_damage)) }
+        ensures no_calls { IfOk result (λ t. t.calls ≡ no_calls) }
         ensures fault { IfErr result
             (λ stop. IsCreateFault (S.pages store) (S.tail store) k stop.fault) }
         ensures stays { IfErr result (λ stop. StaysStore S.StoreState store stop.store) }
@@ -153,6 +157,7 @@ impl<S: Store> TreeTable<S> {
             tree,
             limit: limits.records(),
             faults: NO_FAULTS,
+            calls: NO_CALLS,
             alloc,
         })
     }
@@ -176,6 +181,7 @@ impl<S: Store> TreeTable<S> {
             (λ stop. IsFirst (S.pages store) (S.tail store) limits.records stop.fault) }
         ensures limit { IfOk result (λ t. t.limit ≡ limits.records) }
         ensures no_faults { IfOk result (λ t. (t.refusals ≡ 0) × (t.damages ≡ no_damage)) }
+        ensures no_calls { IfOk result (λ t. t.calls ≡ no_calls) }
         ensures stored { IfOk result (λ t. (t.pages.stored ≡ S.pages store)
             × (t.pages.tail ≡ S.tail store) × (t.pages.steady ≡ S.steady store)
             × (t.pages.writes ≡ S.writes store) × (t.pages.failures ≡ S.failures store)) }
@@ -191,6 +197,7 @@ impl<S: Store> TreeTable<S> {
             tree,
             limit,
             faults: NO_FAULTS,
+            calls: NO_CALLS,
             alloc,
         })
     }
@@ -220,6 +227,8 @@ impl<S: Store> TreeTable<S> {
             ≡ carried old (closing self) }
         ensures device { IfErr result (λ stop. stop.table.pages.failures
             ≡ counted self.pages.failures (is_close_device_fault stop.fault)) }
+        ensures memory { IfErr result (λ stop. stop.fault ≡ WriteFault.Memory
+            → stop.table.pages.journal ≡ self.pages.journal) }
         ensures table { IfErr result (λ stop. stop.table ≡ record self {
           pages = record self.pages {
             stored = stop.table.pages.stored;
@@ -235,6 +244,7 @@ impl<S: Store> TreeTable<S> {
             tree,
             limit,
             faults,
+            calls,
             alloc,
         } = self;
         if !pages.changed() {
@@ -255,6 +265,7 @@ impl<S: Store> TreeTable<S> {
                     tree,
                     limit,
                     faults,
+                    calls,
                     alloc,
                 };
                 Err(CloseStop { table, fault })
@@ -296,7 +307,8 @@ impl<S: Store> TreeTable<S> {
 
     /// How many pages the tree has.
     pub fn pages_used(&self) -> u32
-        ensures { result ≡ self.now.tree.used }
+        ensures value { result ≡ self.now.tree.used }
+        ensures in_class { IsTrue self.now.pages.steady → HoldsTree self.now.pages self.now.tree }
     {
         self.tree.used
     }
@@ -329,6 +341,8 @@ impl<S: Store> TableState for TreeTable<S> {
 
     ghost damages = { λ t. t.damages };
 
+    ghost calls = { λ t. t.calls };
+
     ghost origin = { λ t. untouched t.pages.journal };
 }
 
@@ -344,22 +358,26 @@ impl<S: Store> Table for TreeTable<S> {
         ensures no_memory { result ≢ Err TableFault.Memory }
         ensures no_room { result ≢ Err TableFault.NoRoom }
         ensures answered { Answered ⟦<TreeTable<S> as TableState>⟧ self.old result self.new }
+        ensures calls { self.new.calls ≡ with_get self.old.calls }
         ensures rest { self.new ≡ record self.old {
           pages = with_reads self.old.pages self.new.pages;
           damages = self.new.damages;
+          calls = self.new.calls;
         } }
         ensures reads { self.new.pages.reads ≤ self.old.pages.reads + self.old.tree.height }
     {
         let found = told(look_up(&mut self.pages, &self.tree, key));
         self.faults.note(&found);
+        self.calls.note_get();
         found
     }
 
     /// Puts a record at the key, or takes the key out, and answers what stood there before. Faults:
     /// Device, Damaged, NoRoom, Memory. NoRoom comes exactly where all reads succeeded, a record is
     /// put at an absent key and the table has as many records as it may; the key is looked up for that
-    /// alone, before memory is asked for. Where the table has fewer records, a put makes one descent.
-    /// The store isn't written. After a fault no page and no record has changed.
+    /// alone, before memory is asked for. A taking out that finds nothing asks for none. Where the table
+    /// has fewer records, a put makes one descent. The store isn't written. After a fault no page and
+    /// no record has changed.
     fn set(&mut self, key: Key, to: Option<Record>) -> Result<Option<Record>, TableFault>
         ensures value { IsTrue self.old.pages.steady
             → IfOk result (λ before. before ≡ maps.get (table_contents self.old) key) }
@@ -375,7 +393,11 @@ impl<S: Store> Table for TreeTable<S> {
             → is_device_answer result ≡ false → result ≡ Err TableFault.NoRoom }
         ensures taken_out_none { to ≡ None → result ≡ Ok None
             → table_contents self.new ≡ table_contents self.old }
+        ensures absent { IsTrue self.old.pages.steady → to ≡ None
+            → maps.get (table_contents self.old) key ≡ None
+            → is_device_answer result ≡ false → result ≡ Ok None }
         ensures answered { Answered ⟦<TreeTable<S> as TableState>⟧ self.old result self.new }
+        ensures calls { self.new.calls ≡ with_set self.old.calls (is_none to) result }
         ensures in_class { IsTrue self.old.pages.steady → HoldsTree self.new.pages self.new.tree }
         ensures order { self.new.tree.order ≡ self.old.tree.order }
         ensures staged { IsOk result → (IsSome to ⊎ (result ≢ Ok None))
@@ -389,13 +411,26 @@ impl<S: Store> Table for TreeTable<S> {
         ensures store { OnlyStages self.old.pages self.new.pages }
         ensures one_descent { IsSome to → self.old.tree.count < self.old.limit
             → self.new.pages.reads ≤ self.old.pages.reads + self.old.tree.height }
+        ensures taking_reads { to ≡ None → self.new.pages.reads
+            ≤ self.old.pages.reads + (2 * self.old.tree.height - 1) }
         ensures reads { self.new.pages.reads ≤ self.old.pages.reads + 2 * self.old.tree.height }
     {
+        let takes_out = to.is_none();
         let changed = change(self.alloc, &mut self.pages, &self.tree, self.limit, key, to);
         self.faults.note(&changed);
-        let (tree, before) = changed?;
-        self.tree = tree;
-        Ok(before)
+        match changed {
+            Ok((tree, before)) => {
+                let answer = Ok(before);
+                self.tree = tree;
+                self.calls.note_set(takes_out, &answer);
+                answer
+            }
+            Err(fault) => {
+                let answer = Err(fault);
+                self.calls.note_set(takes_out, &answer);
+                answer
+            }
+        }
     }
 
     /// The records in key order. It makes at most as many reads of the store as the tree has pages.
@@ -406,15 +441,18 @@ impl<S: Store> Table for TreeTable<S> {
         ensures same { table_contents self.new ≡ table_contents self.old }
         ensures no_room { result ≢ Err TableFault.NoRoom }
         ensures answered { Answered ⟦<TreeTable<S> as TableState>⟧ self.old result self.new }
+        ensures calls { self.new.calls ≡ with_list self.old.calls }
         ensures rest { self.new ≡ record self.old {
           pages = with_reads self.old.pages self.new.pages;
           refusals = self.new.refusals;
           damages = self.new.damages;
+          calls = self.new.calls;
         } }
         ensures reads { self.new.pages.reads ≤ self.old.pages.reads + self.old.tree.used }
     {
         let records = told(walk(self.alloc, &mut self.pages, &self.tree));
         self.faults.note(&records);
+        self.calls.note_list();
         records
     }
 

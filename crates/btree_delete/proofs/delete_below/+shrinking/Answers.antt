@@ -1,4 +1,4 @@
-use Rattle.std.proofs.Common.{length-append, set, ◌≡◌, ◌+◌, ◌-◌, ◌≤◌, IsTrue, ℕ, suc, List, Option, Some, None, [], ◌∷◌, ◌++◌, true, false, length, get_or, refl, ap, sym, ◌∙◌, subst, arith, inr}
+use Rattle.std.proofs.Common.{length-append, set, ◌≡◌, ◌+◌, ◌-◌, ◌≤◌, IsTrue, ℕ, suc, List, Option, Some, None, [], ◌∷◌, ◌++◌, true, false, length, get_or, refl, ap, sym, ◌∙◌, subst, arith, inr, IsSome, is_some}
 use Rattle.std.specs.List.{remove}
 use Rattle.std.proofs.lemmas.List.{get_or_default, length-set}
 use Rattle.std.proofs.lemmas.Grind.{common_steps}
@@ -13,6 +13,7 @@ use Rattle.btree_insert.specs.declared.bounds.Bounds.{Bounds}
 use Rattle.btree_insert.specs.Bounds.{Between, Over, Under, son_bounds}
 use Rattle.btree_insert.specs.Contents.{lookup_in, set_in}
 use Rattle.btree_insert.specs.Growth.{IsOutside, IsWithin}
+use Rattle.btree_insert.specs.declared.tree.TreeFault.{TreeFault}
 use Rattle.btree_insert.specs.PageTrees.{Apart, TreeAt, Body, Spells, kind_of_level}
 use Rattle.btree_insert.proofs.SonsAroundLemmas.{Stands}
 use Rattle.btree_insert.proofs.ChangedTreeLemmas.{tree_move}
@@ -27,8 +28,9 @@ use Rattle.btree_delete.specs.Shrinking.{WritesOrHandsUp, MayBeUnderfull, StaysU
 use Rattle.btree_delete.specs.Subtrees.{head_of, son_tree, behind, left_bounds, head_page}
 use Rattle.btree_delete.specs.Tidy.{is_visited, Untouched, IsTidy, IsVisit, visits, done_so_far, so_far}
 use Rattle.btree_delete.specs.PagesLeft.{pages_freed, with_edit}
+use Rattle.btree_delete.specs.Deleted.{MayStop}
 use Rattle.btree_delete.proofs.SonCallLemmas.{called_next, CalledNext, BehindShort, BelowShort, Removing, RemovingHere, CalledSon, answered, called_removed, called_son, asked_right, asked_left}
-use Rattle.btree_delete.proofs.DeletionLemmas.{drop_leaf, drop_whole, drop_none, drop_broken, drop_treated, next_whole, next_broken, removed_top, none_here, on_unvisited}
+use Rattle.btree_delete.proofs.DeletionLemmas.{drop_leaf, drop_whole, drop_none, drop_broken, drop_treated, next_whole, next_broken, removed_top, none_here, on_unvisited, is_at, outside_stops, stops_outside, device_stops, found_some, some_below}
 use Rattle.btree_delete.proofs.SonsLemmas.{IsBeside, Kin, kin_move}
 use Rattle.btree_delete.proofs.ElementRemovalLemmas.{remove-between_bounds}
 use Rattle.btree_delete.proofs.SettledPageLemmas.{settled_gone, settled_up, settled_tidy, settled_others, here_visit, treated_visit, whole_visit, page_visited}
@@ -47,7 +49,7 @@ delete_below-returns-in_err-visit-clause-removes g t c = λ steady least es us l
     let p = err_from_is_err_and c.from_residual.result c.from_residual.ensures.1 in
     let new = head_each (λ u. is_visited c.args.visited.now.items u ≡ false) T.order P least T.height T.page es us tree unvisited in
     let head = top T.order P least T.height (T.height - 1) T.page es us T.bounds (omega arith) tree between in
-    rw (p.1, p.2) (subst IsOutside (sym (c.in_err-visit.ensures.exact steady head.0 head.1.spells head.1.kind head.1.within new)) tt)
+    rw (p.1, p.2) (device_stops (lookup_in (sought c.args.key.now es) es) c.in_err-visit.field-0.0 (c.in_err-visit.ensures.exact steady head.0 head.1.spells head.1.kind head.1.within new))
 
 -- the node that was visited is the one at the head of the tree
 module _ (g : given.Over) (t : ℕ) (c : delete_below-After-place_to_take g t) where
@@ -84,7 +86,12 @@ delete_below-returns-in_err-shrunk-in-Ok-clause-removes g t c = λ steady least 
     let p = err_from_is_err_and c.from_residual-in_err-shrunk-in-Ok.result c.from_residual-in_err-shrunk-in-Ok.ensures.1 in
     let at_goal = goal.at.delete_below-returns-in_err-shrunk-in-Ok-clause-removes g t c in
     let first = first_of g t at_goal.After-place_to_take steady least es us tree between unvisited in
-    rw (p.1, p.2) (asked_here g t at_goal.After-delete_here (λ _ _ _. IsOutside c.in_err-shrunk-in-Ok.field-0.0) steady least es us c.in_ok-visit.ensures.visited first low between apart unvisited c.in_err-shrunk-in-Ok.ensures.removes)
+    let n = c.visit.new.node in
+    let i = c.in-Ok.i in
+    let key_is = sought_here c.args.tree.now.order (at c.args.pages.now.pages) (c.args.tree.now.height - 1) n es first.below c.args.key.now i first.body (λ given is. (c.in-Ok.ensures.found given is c.in_ok-visit.ensures.stands.ascends).here ([], [])) (λ none. (c.in-Ok.ensures.first none).0) (λ none. omega (arith, (c.in-Ok.ensures.first none).1)) in
+    let some = found_some c.args.tree.now.order (at c.args.pages.now.pages) (c.args.tree.now.height - 1) n es first.below (element_at n i).0 i first.body between.ascends (is_at n.elements.items i c.in_ok-visit.ensures.stands.ascends c.in-Ok.ensures.within) in
+    rw (p.1, p.2) (outside_stops (lookup_in (sought c.args.key.now es) es) c.in_err-shrunk-in-Ok.field-0.0 (subst (λ (key : List ℕ). IsSome (lookup_in key es)) key_is some)
+    (asked_here g t at_goal.After-delete_here (λ _ _ _. IsOutside c.in_err-shrunk-in-Ok.field-0.0) steady least es us c.in_ok-visit.ensures.visited first low between apart unvisited c.in_err-shrunk-in-Ok.ensures.removes))
 
 pub delete_below-returns-in_ok-shrunk-in-Ok-clause-removes : goal.delete_below-returns-in_ok-shrunk-in-Ok-clause-removes
 delete_below-returns-in_ok-shrunk-in-Ok-clause-removes g t c = λ steady least es us low tree between apart unvisited.
@@ -185,10 +192,13 @@ module _ (g : given.Over) (t : ℕ) (c : delete_below-After-delete_below g t) wh
     lifted : (r : Option Shrunk) → RemovesBelow (head_page c.args.tree.now.order least (suc levels) c.args.tree.now.page) (with_edit (at c.args.pages.now.pages) c.delete_below.new.edit) es us (visits c.args.visited.now.items c.delete_below.new.visited.items) (sought c.args.key.now es) r → Removed r
     lifted r = subst (λ (h : ℕ). RemovesBelow (head_page c.args.tree.now.order least h c.args.tree.now.page) (with_edit (at c.args.pages.now.pages) c.delete_below.new.edit) es us (visits c.args.visited.now.items c.delete_below.new.visited.items) (sought c.args.key.now es) r) (sym two)
 
-    refused : (X : Type 0) → Removing c.tree_of_son-below.result c.visit.new.pages c.visit.new.visited.items (λ _ _ _. X) → X
-    refused X removing =
+    stopped : (fault : TreeFault) → Removing c.tree_of_son-below.result c.visit.new.pages c.visit.new.visited.items (λ _ es _. MayStop (lookup_in (sought c.args.key.now es) es) fault) → MayStop (lookup_in (sought c.args.key.now es) es) fault
+    stopped fault removing =
         let s = son_of Old (λ (q : ℕ). Unit {0}) (λ s xs vs is _. is) in
-        answered (son_tree c.args.tree.now c.visit.new.node c.in-Err.i) c.tree_of_son-below.result c.args.pages.now c.visit.new.pages (c.args.visited.now.items ++ c.args.tree.now.page ∷ []) c.visit.new.visited.items levels s.son.xs s.son.mine (λ _ _ _. X) s.called removing
+        let key = c.args.key.now in
+        let below = answered (son_tree c.args.tree.now c.visit.new.node c.in-Err.i) c.tree_of_son-below.result c.args.pages.now c.visit.new.pages (c.args.visited.now.items ++ c.args.tree.now.page ∷ []) c.visit.new.visited.items levels s.son.xs s.son.mine (λ _ xs _. MayStop (lookup_in (sought key xs) xs) fault) s.called removing in
+        subst (λ (stood : Option (List ℕ)). MayStop stood fault) (sym (some_below (sought key es) es s.son.pre s.son.xs s.son.post s.son.es_is s.son.below s.son.above))
+        (subst (λ (k : List ℕ). MayStop (lookup_in k s.son.xs) fault) s.key_is below)
 
     none_below : (r : Option Shrunk) → r ≡ None → Answers r → Removed None
     none_below r is removing =
@@ -236,7 +246,7 @@ delete_below-returns-in_err-removed-in-Err-clause-removes g t c = λ steady leas
     let p = err_from_is_err_and c.from_residual-in_err-removed-in-Err.result c.from_residual-in_err-removed-in-Err.ensures.1 in
     let at_goal = goal.at.delete_below-returns-in_err-removed-in-Err-clause-removes g t c in
     let first = first_of g t at_goal.After-place_to_take steady least es us tree between unvisited in
-    rw (p.1, p.2) (refused g t at_goal.After-delete_below steady least es us c.in_ok-visit.ensures.visited c.in_ok-visit.ensures.stands.ascends first between apart unvisited (IsOutside c.in_err-removed-in-Err.field-0.0) c.in_err-removed-in-Err.ensures.removes)
+    rw (p.1, p.2) (stopped g t at_goal.After-delete_below steady least es us c.in_ok-visit.ensures.visited c.in_ok-visit.ensures.stands.ascends first between apart unvisited c.in_err-removed-in-Err.field-0.0 c.in_err-removed-in-Err.ensures.removes)
 
 -- what went up from a son that is underfull, and the visit of it
 module _ (g : given.Over) (t : ℕ) (c : delete_below-In-Some-Underfull g t) where
@@ -350,7 +360,8 @@ delete_below-returns-in_err-shrunk-in-Some-Underfull-clause-removes g t c = λ s
     let first = first_of g t at_goal.After-place_to_take steady least es us tree between unvisited in
     let short = short_below g t at_goal.After-delete_below steady least es us c.in_ok-visit.ensures.visited c.in_ok-visit.ensures.stands.ascends first between apart unvisited c.in_ok-removed-in-Err.field-0 c.in-Some-Underfull.removed c.in-Some-Underfull.son (c.in-Some-Underfull.is ∙ ap Some c.in-Some-Underfull.field-0-is) c.in_ok-removed-in-Err.ensures.removes in
     let refused = c.in_err-shrunk-in-Some-Underfull in
-    rw (p.1, p.2) (ask_below g t at_goal.After-tree_left-left es us steady (two g t at_goal.After-delete_below) short (IsOutside refused.field-0.0) refused.ensures.right refused.ensures.left)
+    rw (p.1, p.2) (outside_stops (lookup_in (sought c.args.key.now es) es) refused.field-0.0 (ap is_some short.value)
+    (ask_below g t at_goal.After-tree_left-left es us steady (two g t at_goal.After-delete_below) short (IsOutside refused.field-0.0) refused.ensures.right refused.ensures.left))
 
 pub delete_below-returns-in_ok-shrunk-in-Some-Underfull-clause-removes : goal.delete_below-returns-in_ok-shrunk-in-Some-Underfull-clause-removes
 delete_below-returns-in_ok-shrunk-in-Some-Underfull-clause-removes g t c = λ steady least es us low tree between apart unvisited.
@@ -575,7 +586,8 @@ pub delete_here-returns-in_err-delete_below-clause-removes : goal.delete_here-re
 delete_here-returns-in_err-delete_below-clause-removes g t c = λ steady least es us below low spells least_is body us_is between apart unvisited.
     let p = err_from_is_err_and c.from_residual-in_err-delete_below.result c.from_residual-in_err-delete_below.ensures.1 in
     let called = (goal.at.delete_here-returns-in_err-delete_below-clause-removes g t c).After-delete_below in
-    rw (p.1, p.2) (refused_behind g t called steady least es us below spells least_is body us_is between apart unvisited (IsOutside c.in_err-delete_below.field-0.0) c.in_err-delete_below.ensures.removes)
+    rw (p.1, p.2) (refused_behind g t called steady least es us below spells least_is body us_is between apart unvisited (IsOutside c.in_err-delete_below.field-0.0)
+    (λ steady2 least2 xs vs low2 tree2 between2 apart2 unvisited2. stops_outside (lookup_in (sought None xs) xs) c.in_err-delete_below.field-0.0 (c.in_err-delete_below.ensures.removes steady2 least2 xs vs low2 tree2 between2 apart2 unvisited2)))
 
 -- the next greater element stands in the node, and its son stayed whole
 module _ (g : given.Over) (t : ℕ) (c : delete_here-After-set_element g t) where

@@ -1,8 +1,10 @@
-use Rattle.std.proofs.Common.{◌≡◌, ◌-◌, ◌<◌, ℕ, suc, List, Some, IfSome, [], ◌∷◌, length, ap, sym, ◌∙◌, subst, arith}
+use Rattle.std.proofs.Common.{◌≡◌, ◌-◌, ◌<◌, ℕ, suc, List, Option, Some, IsSome, IfSome, [], ◌∷◌, length, ap, sym, ◌∙◌, subst, arith}
+use Rattle.std.proofs.lemmas.Result.{err_from_is_err_and}
 use Rattle.page_store.specs.PageMap.{at, after}
 use Rattle.btree_node.specs.Lists.{Element}
 use Rattle.btree_node.specs.Spelling.{IsSpelt}
 use Rattle.btree_insert.specs.Bounds.{Between}
+use Rattle.btree_insert.specs.Contents.{lookup_in}
 use Rattle.btree_insert.specs.PageTrees.{TreeAt}
 use Rattle.btree_insert.specs.Steps.{Steps}
 use Rattle.btree_insert.proofs.VisitedLemmas.{apart_below}
@@ -10,11 +12,11 @@ use Rattle.btree_insert.proofs.SettledTreeLemmas.{focus_of}
 use Rattle.btree_insert.proofs.HeadNodeLemmas.{Top}
 use Rattle.btree_insert.proofs.StepNodeLemmas.{spelt_top}
 use Rattle.btree_insert.proofs.OnePageLemmas.{if_some}
-use Rattle.btree_insert.proofs.ReachLemmas.{if_ok}
 use Rattle.btree_delete.specs.declared.delete_below.Shrunk.TheVariants.{Whole}
 use Rattle.btree_delete.specs.Shrinking.{Drops}
 use Rattle.btree_delete.specs.Subtrees.{head_page}
 use Rattle.btree_delete.specs.PagesLeft.{pages_freed, with_edit}
+use Rattle.btree_delete.proofs.DeletionLemmas.{found_some, some_below, either}
 use Rattle.btree_delete.proofs.OneDeletionLemmas.{drop_one, drop_son}
 use Rattle.btree_delete.proofs.delete_in_one.+delete_in_one.Given as given
 use Rattle.btree_delete.proofs.delete_in_one.+delete_in_one.Goals as goal
@@ -49,6 +51,19 @@ returns-in_ok-write_removed-in-Found-clause-drops g t c = λ least es us low tre
     c.requires.unwritten c.requires.unfreed apart between head met.1 steps.0 spare (wrote.writes n met.1 met.2) (steps.1 ([], [])) in
     subst (λ (fs : List ℕ). Drops (head_page k least (spot.level - 1) spot.page) (pages_freed P (after P ws2 fs) 0 (length fs)) es us c.args.key.now (Some (Whole (c.args.key.now, c.in-Found.old)))) (sym (ap (λ v. v.items) wrote.freed)) done
 
+pub returns-in_err-write_removed-in-Found-clause-drops : goal.returns-in_err-write_removed-in-Found-clause-drops
+returns-in_err-write_removed-in-Found-clause-drops g t c = λ least es us low tree between apart.
+    let p = err_from_is_err_and c.from_residual.result c.from_residual.ensures.1 in
+    let k = c.args.order in
+    let spot = c.args.spot.now in
+    let P = at c.args.pages.now.pages in
+    let place = (goal.at.returns-in_err-write_removed-in-Found-clause-drops g t c).After-step_in_page in
+    let met = spelt g t place in
+    let told = c.in-Ok.ensures.steps met.0 met.1 met.2 in
+    let steps = subst (Steps spot.level met.0 spot.bounds c.args.key.now) c.in-Found.is told.1 in
+    let head = head_of g t place least es us tree between in
+    rw p.1 (found_some k P (spot.level - 1) met.0 es head.below c.args.key.now c.in-Found.i head.body between.ascends steps.0)
+
 pub returns-in-Goes-clause-drops : goal.returns-in-Goes-clause-drops
 returns-in-Goes-clause-drops g t c = λ least es us low tree between apart.
     let k = c.args.order in
@@ -73,8 +88,9 @@ returns-in-Goes-clause-drops g t c = λ least es us low tree between apart.
     let call = c.delete_in_one.ensures.drops k son.xs son.mine (omega arith) here (subst (λ b. Between b son.xs) (sym steps.3) son.between) (apart_below spot.page us son.upre son.mine son.upost us_is apart) in
     let Below : List ℕ → Type 0 = λ x. Drops (head_page k k levels c.in-Goes.son) (with_edit P edit) son.xs son.mine key (Some (Whole (key, x))) in
     let Here : List ℕ → Type 0 = λ x. Drops (head_page k least (spot.level - 1) spot.page) (with_edit P edit) es us key (Some (Whole (key, x))) in
-    if_ok c.delete_in_one.result (λ r. IfSome r Below) (λ r. IfSome r Here)
+    either c.delete_in_one.result (λ r. IfSome r Below) (λ r. IfSome r Here) (λ _. IsSome (lookup_in key son.xs)) (λ _. IsSome (lookup_in key es))
     (λ r. if_some r Below Here (λ x drops.
     subst (λ (h : ℕ). Drops (head_page k least h spot.page) (with_edit P edit) es us key (Some (Whole (key, x)))) (sym two)
     (drop_son k P ws fs least spot.level levels spot.page es us spot.bounds n i (key, x) key apart head son
-    (subst (λ (q : ℕ). Drops (head_page k k levels q) (with_edit P edit) son.xs son.mine key (Some (Whole (key, x)))) steps.2 drops)))) call
+    (subst (λ (q : ℕ). Drops (head_page k k levels q) (with_edit P edit) son.xs son.mine key (Some (Whole (key, x)))) steps.2 drops))))
+    (λ _ some. subst (λ (stood : Option (List ℕ)). IsSome stood) (sym (some_below key es son.pre son.xs son.post son.es_is son.below son.above)) some) call

@@ -1,4 +1,4 @@
-use Rattle.std.proofs.Common.{◌≡◌, ◌-◌, IsTrue, ℕ, List, Option, Some, length, refl, ap, sym, subst, arith, None}
+use Rattle.std.proofs.Common.{◌≡◌, ◌-◌, IsTrue, ℕ, List, Option, Some, length, refl, ap, sym, subst, arith, None, is_some}
 use Rattle.std.proofs.lemmas.Result.{err_from_is_err_and}
 use Rattle.page_store.specs.CanStage.{CanStage}
 use Rattle.page_store.specs.PageMap.{at, after}
@@ -12,12 +12,13 @@ use Rattle.btree_insert.proofs.HeadNodeLemmas.{root_tree}
 use Rattle.btree_delete.specs.declared.delete_below.Shrunk.{Shrunk}
 use Rattle.btree_delete.specs.declared.subtree.Subtree.{Subtree}
 use Rattle.btree_insert.specs.Bounds.{unbounded}
-use Rattle.btree_insert.specs.Growth.{IsOutside}
-use Rattle.btree_insert.specs.Contents.{set_in}
+use Rattle.btree_insert.specs.Contents.{lookup_in, set_in}
+use Rattle.btree_delete.specs.Deleted.{MayStop}
 use Rattle.btree_delete.specs.Shrinking.{LeavesTree, RemovesBelow}
 use Rattle.btree_delete.specs.Subtrees.{head_page, head_of}
 use Rattle.btree_delete.specs.PagesLeft.{pages_freed, with_edit}
 use Rattle.btree_delete.specs.Tidy.{visits}
+use Rattle.btree_delete.proofs.DeletionLemmas.{outside_stops}
 use Rattle.btree_delete.proofs.SonCallLemmas.{Removing}
 use Rattle.btree_delete.proofs.RootLemmas.{deleted_at, deleted_none}
 use Rattle.btree_delete.proofs.FirstElementLemmas.{went_up}
@@ -45,7 +46,7 @@ module _ (g : given.Over) (c : After-delete_below g) where
 pub returns-in_err-shrunk-clause-deleted : goal.returns-in_err-shrunk-clause-deleted
 returns-in_err-shrunk-clause-deleted g c = λ steady es us holds.
     let p = err_from_is_err_and c.from_residual.result c.from_residual.ensures.1 in
-    rw (p.1, p.2) (asked g (goal.at.returns-in_err-shrunk-clause-deleted g c).After-delete_below steady es us holds (λ _ _ _. IsOutside c.in_err-shrunk.field-0.0) c.in_err-shrunk.ensures.removes)
+    rw (p.1, p.2) (asked g (goal.at.returns-in_err-shrunk-clause-deleted g c).After-delete_below steady es us holds (λ _ xs _. MayStop (lookup_in c.args.key.now xs) c.in_err-shrunk.field-0.0) c.in_err-shrunk.ensures.removes)
 
 pub returns-in_default-clause-deleted : goal.returns-in_default-clause-deleted
 returns-in_default-clause-deleted g c = λ steady es us holds.
@@ -67,7 +68,13 @@ pub returns-in_err-shrunk-2-clause-deleted : goal.returns-in_err-shrunk-2-clause
 returns-in_err-shrunk-2-clause-deleted g c = λ steady es us holds.
     let p = err_from_is_err_and c.from_residual-in_err-shrunk-2.result c.from_residual-in_err-shrunk-2.ensures.1 in
     let some = removed g (goal.at.returns-in_err-shrunk-2-clause-deleted g c).After-delete_below steady es us holds c.in_ok-shrunk.shrunk (Some c.in-Some.shrunk) c.in-Some.is c.in_ok-shrunk.ensures.removes in
-    rw (p.1, p.2) (c.in_err-shrunk-2.ensures.deleted (at c.args.pages.now.pages) es us c.args.key.now holds some.drops.1 some.drops.2)
+    rw (p.1, p.2) (outside_stops (lookup_in c.args.key.now es) c.in_err-shrunk-2.field-0.0 (ap is_some some.drops.1) (c.in_err-shrunk-2.ensures.deleted (at c.args.pages.now.pages) es us c.args.key.now holds some.drops.1 some.drops.2))
+
+pub returns-in_err-stage-clause-deleted : goal.returns-in_err-stage-clause-deleted
+returns-in_err-stage-clause-deleted g c = λ steady es us holds.
+    let p = err_from_is_err_and c.from_residual-in_err-stage.result c.from_residual-in_err-stage.ensures.1 in
+    let some = removed g (goal.at.returns-in_err-stage-clause-deleted g c).After-delete_below steady es us holds c.in_ok-shrunk.shrunk (Some c.in-Some.shrunk) c.in-Some.is c.in_ok-shrunk.ensures.removes in
+    rw (p.1, p.2) (ap is_some some.drops.1)
 
 pub returns-clause-deleted : goal.returns-clause-deleted
 returns-clause-deleted g c = λ steady es us holds.

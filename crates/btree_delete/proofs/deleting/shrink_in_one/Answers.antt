@@ -35,6 +35,12 @@ module _ (g : given.Over) (c : After-fewer g) (es : List Element) (us : List ℕ
       subst (λ (n : ℕ). Shrank P (after P ws fs) T T n (set_in c.args.key.now None es) us) none
       (shrank_whole P T ws fs us (set_in c.args.key.now None es) (c.args.key.now, c.in-Some.old) (omega (arith, c.if-tree-eq0.false)) dropped.2)
 
+pub returns-in_err-old-clause-deleted : goal.returns-in_err-old-clause-deleted
+returns-in_err-old-clause-deleted g c = λ es us holds.
+    let p = err_from_is_err_and c.from_residual.result c.from_residual.ensures.1 in
+    let T = c.args.tree.now in
+    rw (p.1, p.2) (c.in_err-old.ensures.drops 1 es us c.requires.tree.order.0 (root_tree T.order (at c.args.pages.now.pages) T.height T.root es us (omega (arith, c.if-tree-eq0.false)) holds.tree) (Between-all es holds.ascends) holds.apart)
+
 pub returns-in_err-next-clause-deleted : goal.returns-in_err-next-clause-deleted
 returns-in_err-next-clause-deleted g c = λ es us holds.
     let p = err_from_is_err_and c.from_residual-in_err-next.result c.from_residual-in_err-next.ensures.1 in

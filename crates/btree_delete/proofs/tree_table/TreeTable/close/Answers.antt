@@ -14,7 +14,7 @@ use Rattle.btree_delete.proofs.tree_table.TreeTable.close.Goals.{After-write_bac
 -- the calls that write the table back, and what a front of them leaves
 module _ (g : given.Over) (c : After-write_back-arg-2-1 g) where
   abbrev here : TableView
-  here = table_of c.self.inside.pages c.self.inside.tree c.self.inside.limit c.self.inside.faults
+  here = table_of c.self.inside.pages c.self.inside.tree c.self.inside.limit c.self.inside.faults c.self.inside.calls
 
   changed : here.pages.changed ≡ true
   changed = sym c.changed.ensures.value ∙ c.if-not-changed.false
@@ -33,7 +33,7 @@ module _ (g : given.Over) (c : After-write_back-arg-2-1 g) where
 -- nothing was changed
 module _ (g : given.Over) (c : Then-not-changed g) where
   abbrev unchanged : TableView
-  unchanged = table_of c.self.inside.pages c.self.inside.tree c.self.inside.limit c.self.inside.faults
+  unchanged = table_of c.self.inside.pages c.self.inside.tree c.self.inside.limit c.self.inside.faults c.self.inside.calls
 
   idle : unchanged.pages.changed ≡ false
   idle = sym c.changed.ensures.value ∙ c.if-not-changed.true

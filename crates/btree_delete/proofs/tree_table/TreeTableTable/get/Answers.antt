@@ -7,5 +7,5 @@ use Rattle.btree_delete.proofs.tree_table.TreeTableTable.get.Goals as goal
 
 pub returns-clause-value : goal.returns-clause-value
 returns-clause-value g c = λ steady.
-    let here = table_of c.self.inside.pages c.self.inside.tree c.self.inside.limit c.self.inside.faults in
+    let here = table_of c.self.inside.pages c.self.inside.tree c.self.inside.limit c.self.inside.faults c.self.inside.calls in
     subst (λ (r : Result (Option (List ℕ)) TableFault). IfOk r (λ found. found ≡ maps.get (table_contents c.args.self.now) c.args.key.now)) (sym c.told-found.ensures) (got here c.args.self.now c.args.key.now c.look_up.result c.self.view_is c.self.invariant c.look_up.ensures.found steady)
