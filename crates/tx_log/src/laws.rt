@@ -1,9 +1,11 @@
-ghost use Rattle.std.specs.Prelude.{◌≡◌, ℕ, ◌≤◌, Bool, true, false, List, [], ◌∷◌, None, map, reverse, take};
+ghost use Rattle.std.specs.Prelude.{◌≡◌, ℕ, ◌≤◌, Bool, true, false, List, [], ◌∷◌, Some, None, map, reverse, take};
 ghost use Rattle.rec_types.specs.History.{Change, undo_last, take_back, take_newest, log_use};
 ghost use Rattle.tx_log.specs.Examples.{eight, nine, one, byte};
 ghost use Rattle.tx_log.specs.Log.{chain, lsn_of, kept_of, IsNumbered, AllWritten};
+ghost use Rattle.rec_types.specs.Kept.{Kept};
+ghost use Rattle.tx_log.specs.LogLaws.{IsChained};
 ghost use Rattle.tx_log.specs.Walks.{absent_at};
-ghost use Rattle.tx_log.specs.declared.log_record.LogRecord.TheVariants.{Compensation, Unclaim};
+ghost use Rattle.tx_log.specs.declared.log_record.LogRecord.TheVariants.{Update, Compensation, Unclaim};
 ghost use Rattle.tx_log.specs.Remaining.{LosesLives, IsPart, out_of, back_of};
 
 /// A log of eight records, of a transaction that went back twice: its records are numbered, and lead to those before
@@ -35,6 +37,36 @@ pub fn claims()
         → ⊥ }
     ensures of_an_update { AllWritten (Unclaim 2 1 one (byte 97) 0 ∷ reverse (take 1 nine)) → ⊥ }
     ensures leads_elsewhere { AllWritten (Unclaim 3 2 one (byte 97) 0 ∷ reverse (take 2 nine)) → ⊥ }
+{}
+
+/// The log of eight records has the laws of a log. A record whose number isn't its place, one that doesn't lead to the
+/// newest before it, a compensation that names no update, one that puts back another record, a change that is compensated
+/// twice, and one that is told as live though it is compensated are in no log.
+pub fn chained()
+    ensures whole { IsChained eight (kept_of (reverse eight)) }
+    ensures number { (cs : List Kept) → IsChained (Update 2 0 one (byte 97) None (Some (byte 49)) ∷ []) cs → ⊥ }
+    ensures prev { (cs : List Kept) → IsChained (
+        Update 1 0 one (byte 97) None (Some (byte 49))
+        ∷ Update 2 0 one (byte 98) None (Some (byte 49))
+        ∷ []
+        ) cs → ⊥ }
+    ensures unnamed { (cs : List Kept) → IsChained (Compensation 1 0 one (byte 97) None 0 ∷ []) cs → ⊥ }
+    ensures another { (cs : List Kept) → IsChained (
+        Update 1 0 one (byte 97) None (Some (byte 49))
+        ∷ Compensation 2 1 one (byte 97) (Some (byte 50)) 0
+        ∷ []
+        ) cs → ⊥ }
+    ensures twice { (cs : List Kept) → IsChained (
+        Update 1 0 one (byte 97) None (Some (byte 49))
+        ∷ Compensation 2 1 one (byte 97) None 0
+        ∷ Compensation 3 2 one (byte 97) None 0
+        ∷ []
+        ) cs → ⊥ }
+    ensures live { (c : Kept) → c.live ≡ true → IsChained (
+        Update 1 0 one (byte 97) None (Some (byte 49))
+        ∷ Compensation 2 1 one (byte 97) None 0
+        ∷ []
+        ) (c ∷ []) → ⊥ }
 {}
 
 /// Taking back makes no change live again, be it the newest change of a transaction, all from a place on, or the
