@@ -1,16 +1,16 @@
 -- The step of one call, from what its contract says.
-use Rattle.std.proofs.Common.{◌≡◌, Bool, false, Option, Some, None, Result, Ok, Err, refl, ap, IfSome}
+use Rattle.std.proofs.Common.{◌≡◌, Bool, false, Option, Some, None, Result, Ok, Err, refl, sym, ap, subst, IfSome}
 use Rattle.std.specs.Global.{Vec}
 use Rattle.rec_types.specs.Table.{counted}
 use Rattle.rec_types.specs.declared.table_state.TableState.{Ghosts}
 use Rattle.record_file.specs.declared.fault.GetFault.{GetFault}
 use Rattle.record_file.specs.declared.fault.GetFault.TheVariants as get_faults
-use Rattle.record_file.specs.Abstract.{OpenFile, Tells}
+use Rattle.record_file.specs.Abstract.{OpenFile, IsKeptFile, Tells}
 use Rattle.record_file.specs.declared.fault.EntriesFault.{EntriesFault}
 use Rattle.record_file.specs.declared.fault.EntriesFault.TheVariants as entries_faults
-use Rattle.record_file.specs.Outside.{get_cause, entries_cause, by_memory}
+use Rattle.record_file.specs.Outside.{get_cause, entries_cause, by_memory, NeverDamaged}
 use Rattle.record_file.specs.Steps.{listed}
-use Rattle.record_file.specs.Runs.{Called, Seen, Answers, seen}
+use Rattle.record_file.specs.Runs.{Called, Seen, Answers, IsKeptSeen, cause_in, seen}
 use Rattle.record_file.specs.declared.call.Call.{Call}
 use Rattle.record_file.specs.declared.call.Answer.{Answer}
 use Rattle.record_file.specs.Calls.{TellsOf, Makes}
@@ -28,12 +28,35 @@ same_but_file t old new table log i = record {
   damages = t.damages (table i);
 }
 
+-- what stays true of a file is what a run sees of it
+pub kept_seen : {T : Type 0} (t : Ghosts T) (f : OpenFile T) → IsKeptFile (t.sound f.table) (t.contents f.table) (t.record_limit f.table) f.file f.log → IsKeptSeen (seen t f)
+kept_seen t f kept = record {
+  limited = refl;
+  replayed = kept.replayed;
+  within = kept.within;
+  owned = kept.owned;
+  written = kept.written;
+  chained = kept.chained;
+  used = kept.used;
+  begun = kept.begun;
+  opens = kept.opens;
+  depths = kept.depths;
+  whole = kept.whole;
+}
+
+-- what has no cause names no page
+pub names_none : (sound : Bool) → NeverDamaged sound None
+names_none sound here page is = absurd (cc is)
+
 -- a call that asks the table nothing
-pub quiet_makes : (old new : Seen) (asked : Call) (told : Answer) (called : Called) → TellsOf asked told called → new ≡ record old { file = new.file } → Answers old called false false new → Makes old asked told new
-quiet_makes old new asked told called tells same answer = record {
+pub quiet_makes : (old new : Seen) (asked : Call) (told : Answer) (called : Called) → TellsOf asked told called → new ≡ record old { file = new.file } → cause_in called ≡ None → IsKeptSeen old → IsKeptSeen new → Answers old called false false new → Makes old asked told new
+quiet_makes old new asked told called tells same no_cause was is answer = record {
   event = record { called = called; failed = false; refused = false };
   tells = tells;
   step = record {
+    kept = was;
+    keeps = is;
+    undamaged = subst (NeverDamaged old.sound) (sym no_cause) (names_none old.sound);
     failures = ap (λ (s : Seen). s.failures) same;
     refusals = ap (λ (s : Seen). s.refusals) same;
     sound = ap (λ (s : Seen). s.sound) same;
@@ -43,11 +66,11 @@ quiet_makes old new asked told called tells same answer = record {
 }
 
 -- a call that asks the table
-pub asks_makes : (old new : Seen) (asked : Call) (told : Answer) (called : Called) (failed refused : Bool) → TellsOf asked told called → new.failures ≡ counted old.failures failed → new.refusals ≡ counted old.refusals refused → new.sound ≡ old.sound → Tells old.sound old.records old.log new.records new.log → Answers old called failed refused new → Makes old asked told new
-asks_makes old new asked told called failed refused tells failures refusals sound log answer = record {
+pub asks_makes : (old new : Seen) (asked : Call) (told : Answer) (called : Called) (failed refused : Bool) → TellsOf asked told called → new.failures ≡ counted old.failures failed → new.refusals ≡ counted old.refusals refused → new.sound ≡ old.sound → Tells old.sound old.records old.log new.records new.log → NeverDamaged old.sound (cause_in called) → IsKeptSeen old → IsKeptSeen new → Answers old called failed refused new → Makes old asked told new
+asks_makes old new asked told called failed refused tells failures refusals sound log undamaged was is answer = record {
   event = record { called = called; failed = failed; refused = refused };
   tells = tells;
-  step = record { failures = failures; refusals = refusals; sound = sound; told = log; answer = answer };
+  step = record { kept = was; keeps = is; undamaged = undamaged; failures = failures; refusals = refusals; sound = sound; told = log; answer = answer };
 }
 
 -- a refusal leaves all that a run sees

@@ -1,12 +1,14 @@
 -- Between two exact files the log grows by a compensation of each change that was taken back.
-use Rattle.std.proofs.Common.{◌≡◌, ℕ, ◌+◌, zero, suc, Bool, true, false, cond, if◌then◌else◌, not, ◌&&◌, List, [], ◌∷◌, ◌++◌, length, map, filter, slice_get, Some, refl, sym, ap, ◌∙◌, arith}
-use Rattle.std.proofs.lemmas.List.{append_assoc}
+use Rattle.std.proofs.Common.{◌≡◌, ℕ, ◌+◌, zero, suc, Bool, true, false, cond, if◌then◌else◌, not, ◌&&◌, List, [], ◌∷◌, ◌++◌, length, map, filter, slice_get, Some, refl, sym, ap, subst, ◌∙◌, arith}
+use Rattle.std.proofs.lemmas.List.{append-nil, append_assoc}
 use Rattle.rec_types.specs.History.{Change}
 use Rattle.rec_types.specs.Kept.{change_of}
 use Rattle.tx_log.specs.Log.{is_change}
 use Rattle.tx_log.specs.LogLaws.{undoes, change_told}
 use Rattle.tx_log.specs.declared.log_record.LogRecord.{LogRecord}
-use Rattle.record_file.specs.Runs.{Seen, Event, Step}
+use Rattle.record_file.specs.Resumed.{TakesWhole, CompensatesTake}
+use Rattle.record_file.specs.Runs.{Seen, Event, Step, Run, IsKeptSeen}
+use Rattle.record_file.proofs.ExactLemmas.{kept_exact}
 use Rattle.record_file.specs.Exact.{IsExactSeen, CompensatesOnce}
 
 -- where a record that passes a test stands
@@ -62,17 +64,47 @@ counts false true old more all sum was is = absurd (omega (arith, sum, was, is))
 counts false false old more all sum was is = omega (arith, sum, was, is)
 
 -- between two exact files each change that was taken back is compensated once
-pub compensates_once : (old new : Seen) (e : Event) → IsExactSeen old → IsExactSeen new → Step old e new → CompensatesOnce old new
-compensates_once old new e was is step = (
-  step.told.0,
-  step.told.1,
+compensates : (old new : Seen) (more : List LogRecord) → new.log ≡ old.log ++ more → IsExactSeen old → IsExactSeen new → CompensatesOnce old new
+compensates old new more longer was is = (
+  more,
+  longer,
   λ i u past now at before after.
-      let more = step.told.0 in
       let there = stands is_change old.log i u at in
-      let grown : new.log ≡ there.0 ++ u ∷ (there.1 ++ more) = step.told.1 ∙ ap (λ (rs : List LogRecord). rs ++ more) there.2 ∙ append_assoc there.0 (u ∷ there.1) more in
-      let at_new : slice_get (filter is_change new.log) i ≡ Some u = ap (λ (rs : List LogRecord). slice_get (filter is_change rs) i) step.told.1 ∙ ap (λ (rs : List LogRecord). slice_get rs i) (filter-append is_change old.log more) ∙ get-append (filter is_change old.log) (filter is_change more) i u at in
+      let grown : new.log ≡ there.0 ++ u ∷ (there.1 ++ more) = longer ∙ ap (λ (rs : List LogRecord). rs ++ more) there.2 ∙ append_assoc there.0 (u ∷ there.1) more in
+      let at_new : slice_get (filter is_change new.log) i ≡ Some u = ap (λ (rs : List LogRecord). slice_get (filter is_change rs) i) longer ∙ ap (λ (rs : List LogRecord). slice_get rs i) (filter-append is_change old.log more) ∙ get-append (filter is_change old.log) (filter is_change more) i u at in
       counts past.live now.live (length (filter (undoes u) old.log)) (length (filter (undoes u) more)) (length (filter (undoes u) new.log))
-      (ap (λ (rs : List LogRecord). length (filter (undoes u) rs)) step.told.1 ∙ ap length (filter-append (undoes u) old.log more) ∙ length-both (filter (undoes u) old.log) (filter (undoes u) more))
+      (ap (λ (rs : List LogRecord). length (filter (undoes u) rs)) longer ∙ ap length (filter-append (undoes u) old.log more) ∙ length-both (filter (undoes u) old.log) (filter (undoes u) more))
       (was.compensated there.0 there.1 u there.2 there.3 ∙ ap (λ b. if b then 0 else 1) (sym (told_live old was i u past at before)))
       (is.compensated there.0 (there.1 ++ more) u grown there.3 ∙ ap (λ b. if b then 0 else 1) (sym (told_live new is i u now at_new after))),
 )
+
+exact_of : (s : Seen) → IsKeptSeen s → IsExactSeen s
+exact_of s kept = kept_exact _ _ _ _ _ kept
+
+-- so it is in a step
+pub compensates_once : (old new : Seen) (e : Event) → Step old e new → CompensatesOnce old new
+compensates_once old new e step = compensates old new step.told.0 step.told.1 (exact_of old step.kept) (exact_of new step.keeps)
+
+run_grows : (old new : Seen) (es : List Event) → Run old es new → (more : List LogRecord) × (new.log ≡ old.log ++ more)
+run_grows old new [] ran = ([], ap (λ (s : Seen). s.log) ran ∙ sym (append-nil old.log))
+run_grows old new (e ∷ es) ran =
+    let later = run_grows ran.0 new es ran.2 in
+    let first = ran.1.told in
+    (first.0 ++ later.0, later.1 ∙ ap (λ (rs : List LogRecord). rs ++ later.0) first.1 ∙ append_assoc old.log first.0 later.0)
+
+-- what stays true of a file is true of it after a run
+pub run_keeps : (old new : Seen) (es : List Event) → IsKeptSeen old → Run old es new → IsKeptSeen new
+run_keeps old new [] kept ran = subst IsKeptSeen (sym ran) kept
+run_keeps old new (e ∷ es) kept ran = run_keeps ran.0 new es ran.1.keeps ran.2
+
+-- and in a run
+pub run_compensates : (old new : Seen) (es : List Event) → IsKeptSeen old → Run old es new → CompensatesOnce old new
+run_compensates old new es kept ran =
+    let grown = run_grows old new es ran in
+    compensates old new grown.0 grown.1 (exact_of old kept) (exact_of new (run_keeps old new es kept ran))
+
+-- of the changes of a whole take
+pub compensates_take : (old new : Seen) (es : List Event) (t p : ℕ) → IsKeptSeen old → Run old es new → TakesWhole old t p new → CompensatesTake old t p new
+compensates_take old new es t p kept ran whole =
+    let all = run_compensates old new es kept ran in
+    (all.0, all.1, λ i u past taken at before mine after. all.2 i u past taken at before (whole i past before mine ∙ after))

@@ -3,14 +3,14 @@ use Rattle.std.proofs.Common.{◌≡◌, ℕ, ◌+◌, ◌<◌, Bool, true, fals
 use Rattle.std.proofs.lemmas.Bool.Decides.{nat_tests}
 use Rattle.std.specs.FinMap as maps
 use Rattle.rec_types.specs.Table.{is_device, counted, greatest_count, Damages}
-use Rattle.record_file.specs.Outside.{TellsDamage}
+use Rattle.record_file.specs.Outside.{put_cause, TellsDamage}
 use Rattle.rec_types.specs.declared.table.TableFault.{TableFault}
 use Rattle.rec_types.specs.declared.table.TableFault.TheVariants as table_faults
 use Rattle.tx_log.specs.declared.phase.UndoStep.{UndoStep}
 use Rattle.record_file.specs.Abstract.{File, records_of, is_full}
-use Rattle.record_file.specs.Faults.{cause_of, put_fault, table_claim_fault, remove_fault}
+use Rattle.record_file.specs.Faults.{cause_of, put_fault, remove_fault}
 use Rattle.record_file.specs.declared.fault.Cause.TheVariants as causes
-use Rattle.record_file.specs.Steps.{rose, put_refusal, claim_refusal, remove_refusal, PutStep, ClaimStep, RemoveStep}
+use Rattle.record_file.specs.Steps.{rose, put_refusal, remove_refusal, PutStep, RemoveStep}
 
 -- an option that can't be something is nothing
 pub none_by : {A : Type 0} (o : Option A) → ((x : A) → o ≡ Some x → ⊥) → o ≡ None
@@ -54,6 +54,13 @@ untold table_faults.Device room damaged page is = cc
 untold (table_faults.Damaged named) room damaged page is = absurd (damaged named refl)
 untold table_faults.NoRoom room damaged page is = absurd (room refl)
 untold table_faults.Memory room damaged page is = cc
+
+-- nor does a put that its table refused so
+pub put_untold : (fault : TableFault) → (fault ≡ table_faults.NoRoom → ⊥) → ((page : ℕ) → fault ≡ table_faults.Damaged page → ⊥) → (page : ℕ) → put_cause {A = Option (List ℕ)} (Err (put_fault fault)) ≡ Some (causes.Damaged page) → ⊥
+put_untold table_faults.Device room damaged page is = cc
+put_untold (table_faults.Damaged named) room damaged page is = absurd (damaged named refl)
+put_untold table_faults.NoRoom room damaged page is = absurd (room refl)
+put_untold table_faults.Memory room damaged page is = cc
 
 -- the step of one answer
 pub step_is : (a b : UndoStep) → Some a ≡ Some b → a ≡ b

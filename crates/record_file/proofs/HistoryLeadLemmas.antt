@@ -1,10 +1,9 @@
 -- Each call's history leads to the next one's, and so to the last one's.
-use Rattle.std.proofs.Common.{◌≡◌, ℕ, ◌<◌, ◌≤◌, zero, suc, Bool, true, false, cond, if◌then◌else◌, ◌&&◌, eqb, nat_lt, List, [], ◌∷◌, ◌++◌, Option, Some, slice_get, refl, sym, ap, subst, ◌∙◌, IsTrue, arith}
+use Rattle.std.proofs.Common.{◌≡◌, ℕ, ◌≤◌, zero, suc, Bool, true, false, cond, if◌then◌else◌, ◌&&◌, eqb, nat_lt, List, [], ◌∷◌, ◌++◌, Option, Some, slice_get, refl, sym, ap, subst, ◌∙◌, IsTrue, arith}
 use Rattle.std.proofs.lemmas.Bool.Decides.{nat_tests}
 use Rattle.rec_types.specs.Contents.{Contents}
 use Rattle.rec_types.specs.History.{Change, live_of, taken_back, live_from, take_newest, undo_last}
 use Rattle.rec_types.specs.Kept.{Kept, history_of, AllBegun}
-use Rattle.rec_types.specs.Table.{greatest_count}
 use Rattle.rec_types.proofs.HistoryLemmas.{take_newest-none, take_newest-more}
 use Rattle.tx_log.specs.Transactions.{fresh}
 use Rattle.record_file.specs.Abstract.{File, open_of}
@@ -13,7 +12,7 @@ use Rattle.record_file.specs.Undo.{old_record}
 use Rattle.record_file.specs.Leads.{NoneLeft, LeadsTo}
 use Rattle.record_file.proofs.InvariantLemmas.{OpensNone, none_by_new, none_by_end}
 use Rattle.record_file.proofs.CallKindLemmas.{Move, Still, Began, PutIn, ClaimIn, TookOut, Committed, WentBack, Ended, move_of, taken_all}
-use Rattle.record_file.proofs.RunLemmas.{KeptRun, step_kept, counted_least, run_failures, added}
+use Rattle.record_file.proofs.RunLemmas.{KeptRun, step_kept, added}
 
 -- each change is of one of the first n transactions
 abbrev pub BegunAll : ℕ → List Change → Type 0
@@ -145,13 +144,12 @@ pub begun_of : (m : Contents) (answered : List (Option (List ℕ))) (f : File) �
 begun_of m answered f kept = subst (BegunAll f.begun) kept.history (begun_all f.begun kept.cs kept.holds.all)
 
 -- the history of each point of a run leads to the last one
-pub run_leads : (m : Contents) (answered : List (Option (List ℕ))) (old new : Seen) (es : List Event) → IsTrue old.sound → new.failures < greatest_count → KeptRun m answered old.file → Run old es new → LeadsTo (open_of old.file) old.file.history new.file.history
-run_leads m answered old new [] sound below kept ran = subst (λ (f : File). LeadsTo (open_of old.file) old.file.history f.history) (sym (ap (λ (s : Seen). s.file) ran)) (leads-refl (open_of old.file) old.file.history)
-run_leads m answered old new (e ∷ es) sound below kept ran =
-    let few : old.failures < greatest_count = omega (arith, below, run_failures ran.0 new es ran.2, ran.1.failures, counted_least old.failures e.failed) in
-    let first = move_leads old.file e.called ran.0.file (begun_of m answered old.file kept) (move_of old ran.0 e sound few kept.ends ran.1) in
+pub run_leads : (m : Contents) (answered : List (Option (List ℕ))) (old new : Seen) (es : List Event) → IsTrue old.sound → KeptRun m answered old.file → Run old es new → LeadsTo (open_of old.file) old.file.history new.file.history
+run_leads m answered old new [] sound kept ran = subst (λ (f : File). LeadsTo (open_of old.file) old.file.history f.history) (sym (ap (λ (s : Seen). s.file) ran)) (leads-refl (open_of old.file) old.file.history)
+run_leads m answered old new (e ∷ es) sound kept ran =
+    let first = move_leads old.file e.called ran.0.file (begun_of m answered old.file kept) (move_of old ran.0 e sound ran.1) in
     leads-trans (open_of old.file) (open_of ran.0.file) old.file.begun old.file.history ran.0.file.history new.file.history (begun_of m answered old.file kept) first.1 first.0
-    (run_leads m (added answered (old_record e.called)) ran.0 new es (ran.1.sound ∙ sound) below (step_kept m answered old ran.0 e sound few kept ran.1) ran.2)
+    (run_leads m (added answered (old_record e.called)) ran.0 new es (ran.1.sound ∙ sound) (step_kept m answered old ran.0 e sound kept ran.1) ran.2)
 
 -- a live change of a transaction that has ended stays live
 pub ended_stays : (opened : ℕ → Bool) (h g : List Change) (n : ℕ) (c d : Change) → LeadsTo opened h g → slice_get h n ≡ Some c → IsTrue c.live → opened c.tx ≡ false → slice_get g n ≡ Some d → d.live ≡ false → ⊥

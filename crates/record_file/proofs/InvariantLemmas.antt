@@ -3,6 +3,7 @@ use Rattle.std.proofs.Common.{◌≡◌, ℕ, ◌+◌, ◌≤◌, ◌<◌, Bool,
 use Rattle.std.specs.FinMap as maps
 use Rattle.std.specs.FinMap.{get, len}
 use Rattle.rec_types.specs.Contents.{Contents, write_to, has}
+use Rattle.rec_types.specs.LimitBounds.{Bounds}
 use Rattle.rec_types.specs.History.{Change, log_len, live_from, undo_last}
 use Rattle.rec_types.proofs.HistoryLemmas.{newest_from-some, newest_from-live, history-undone}
 use Rattle.std.proofs.lemmas.Bool.Decides.{nat_tests}
@@ -12,15 +13,16 @@ use Rattle.tx_log.specs.declared.phase.Rollback.{Rollback}
 use Rattle.tx_log.specs.declared.phase.BeginFault.{BeginFault}
 use Rattle.rec_types.specs.declared.transaction.TxId.{TxId}
 use Rattle.tx_log.specs.Owners.{charged}
-use Rattle.tx_log.specs.LogState.{LogState, IsLog, open_in, history_in, phase_in, phase_of, update_in, tx_in, undo_in, undo_of, undo_from, step_of, undo_step, compensations_in, compensations_of, prev_in, finished, finished_by, active_with}
+use Rattle.tx_log.specs.LogState.{LogState, IsLog, new_log, open_in, history_in, phase_in, phase_of, update_in, tx_in, undo_in, undo_of, undo_from, step_of, undo_step, compensations_in, compensations_of, prev_in, finished, finished_by, active_with}
 use Rattle.tx_log.specs.declared.phase.Phase.{Phase}
 use Rattle.tx_log.specs.Log.{key_of, new_of, change_record, back_record, last_of, record_at}
 use Rattle.tx_log.specs.declared.phase.UndoStep.{UndoStep}
 use Rattle.tx_log.specs.declared.log_record.LogRecord.{LogRecord}
-use Rattle.record_file.specs.Abstract.{File, Fits, IsRecordFile, written, Told, AllTold, file_of, with_change}
+use Rattle.record_file.specs.Abstract.{EndsAtBeginning, AbortsWhole, File, Fits, IsRecordFile, written, Told, AllTold, file_of, with_change}
 use Rattle.record_file.specs.Steps.{Accepts, key_change}
 use Rattle.record_file.specs.TableCalls.{undone_by, step_key}
 use Rattle.record_file.proofs.OpenTxLemmas.{same_tx, same_tx-is, open-insert, open-remove}
+use Rattle.record_file.proofs.WholeTxLemmas.{whole_empty, whole_insert, whole_remove, whole_finished}
 use Rattle.record_file.proofs.FileLemmas.{change, history-push, put_file, undo_file, opening_put, opening_undo, fits_put, fits_undo, charged_put, charged_undo, charged_within}
 
 -- of the transactions 1 to n none opens
@@ -73,7 +75,7 @@ all_told_push [] r m told tells = (tells, tt)
 all_told_push (s ∷ rs) r m told tells = (told.0, all_told_push rs r (write_to m (key_of s) (new_of s)) told.1 tells)
 
 -- one more record, which tells what stands at its key
-told_push : (rs : List LogRecord) (r : LogRecord) (b c now : Contents) (x : List ℕ) (w : Option (Option (List ℕ))) → b ≡ c → key_of r ≡ x → new_of r ≡ w → Told now r → (now ≡ written b rs) × AllTold b rs → (write_to now x w ≡ written c (rs ++ r ∷ [])) × AllTold c (rs ++ r ∷ [])
+pub told_push : (rs : List LogRecord) (r : LogRecord) (b c now : Contents) (x : List ℕ) (w : Option (Option (List ℕ))) → b ≡ c → key_of r ≡ x → new_of r ≡ w → Told now r → (now ≡ written b rs) × AllTold b rs → (write_to now x w ≡ written c (rs ++ r ∷ [])) × AllTold c (rs ++ r ∷ [])
 told_push rs r b c now x w same key new tells told =
     subst (λ (n : Contents). (write_to now x w ≡ written n (rs ++ r ∷ [])) × AllTold n (rs ++ r ∷ [])) same (
       (λ i. write_to (told.0 i) (sym key i) (sym new i)) ∙ sym (written-push rs r b),
@@ -81,15 +83,15 @@ told_push rs r b c now x w same key new tells told =
     )
 
 -- the record of a change tells of it
-key_made : (lsn prev : ℕ) (t : TxId) (x : List ℕ) (before : Option (List ℕ)) (w : Option (Option (List ℕ))) → key_of (change_record lsn prev t x before w) ≡ x
+pub key_made : (lsn prev : ℕ) (t : TxId) (x : List ℕ) (before : Option (List ℕ)) (w : Option (Option (List ℕ))) → key_of (change_record lsn prev t x before w) ≡ x
 key_made lsn prev t x before None = refl
 key_made lsn prev t x before (Some w) = refl
 
-new_made : (lsn prev : ℕ) (t : TxId) (x : List ℕ) (before : Option (List ℕ)) (w : Option (Option (List ℕ))) → new_of (change_record lsn prev t x before w) ≡ w
+pub new_made : (lsn prev : ℕ) (t : TxId) (x : List ℕ) (before : Option (List ℕ)) (w : Option (Option (List ℕ))) → new_of (change_record lsn prev t x before w) ≡ w
 new_made lsn prev t x before None = refl
 new_made lsn prev t x before (Some w) = refl
 
-told_made : (lsn prev : ℕ) (t : TxId) (x : List ℕ) (before : Option (List ℕ)) (w : Option (Option (List ℕ))) (now : Contents) → before ≡ get now x → Told now (change_record lsn prev t x before w)
+pub told_made : (lsn prev : ℕ) (t : TxId) (x : List ℕ) (before : Option (List ℕ)) (w : Option (Option (List ℕ))) (now : Contents) → before ≡ get now x → Told now (change_record lsn prev t x before w)
 told_made lsn prev t x before None now is = is
 told_made lsn prev t x before (Some w) now is = is
 
@@ -159,16 +161,28 @@ undo_there cs t (Some tx) some = at tx.rollback some
 record_over : (sound : Bool) (now now2 : Contents) (limit : ℕ) (log : LogState) → (IsTrue sound → now2 ≡ now) → IsRecordFile sound now limit log → IsRecordFile sound now2 limit log
 record_over sound now now2 limit log same old = record {
   limited = old.limited;
+  whole = old.whole;
   fits = λ is. subst (λ (m : Contents). Fits log.changes m) (sym (same is)) (old.fits is);
   told = λ is. subst (λ (m : Contents). (m ≡ written (opening_of log.changes m) log.records) × AllTold (opening_of log.changes m) log.records) (sym (same is)) (old.told is);
   within = λ is. subst (λ (m : Contents). len (charged (open_in log) (history_in log) m) ≤ log.limits.records) (sym (same is)) (old.within is);
 }
 
+-- nothing has happened
+pub file_new : (sound : Bool) (now : Contents) (limit : ℕ) (limits : Bounds) (log : LogState) → log ≡ new_log limits → limit ≡ limits.records → (IsTrue sound → len now ≤ limit) → IsRecordFile sound now limit log
+file_new sound now limit limits log new is few = subst (IsRecordFile sound now limit) (sym new) (record {
+  limited = is;
+  whole = whole_empty;
+  fits = λ here. record { replayed = refl; befores = tt };
+  told = λ here. (refl, tt);
+  within = λ here. omega (arith, few here, is);
+})
+
 module _ (sound : Bool) (now : Contents) (limit : ℕ) (log : LogState) (old : IsRecordFile sound now limit log) (kept : IsLog log) where
   -- other transactions are open, and none of those begun before opens
-  pub file_txs : (txs : Transactions) (begun : ℕ) (room : Option (List ℕ)) → OpensNone log.txs txs log.begun → IsRecordFile sound now limit (record log { txs = txs; begun = begun; room = room })
-  file_txs txs begun room none = record {
+  pub file_txs : (txs : Transactions) (begun : ℕ) (room : Option (List ℕ)) → OpensNone log.txs txs log.begun → AbortsWhole txs → IsRecordFile sound now limit (record log { txs = txs; begun = begun; room = room })
+  file_txs txs begun room none whole = record {
     limited = old.limited;
+    whole = whole;
     fits = old.fits;
     told = old.told;
     within = λ is. charged_within (open_in log) (is_open txs) log.begun log.changes now log.limits.records none kept.begun (old.within is);
@@ -176,13 +190,14 @@ module _ (sound : Bool) (now : Contents) (limit : ℕ) (log : LogState) (old : I
 
   -- the room for a change
   pub file_room : (room : Option (List ℕ)) → IsRecordFile sound now limit (record log { room = room })
-  file_room room = record { limited = old.limited; fits = old.fits; told = old.told; within = old.within }
+  file_room room = record { limited = old.limited; whole = old.whole; fits = old.fits; told = old.told; within = old.within }
 
   -- one more live change, put into the table
   pub file_put : (room : Option (List ℕ)) (r : LogRecord) (lsn t : ℕ) (x : List ℕ) (before : Option (List ℕ)) (w : Option (Option (List ℕ))) → key_of r ≡ x → new_of r ≡ w → (IsTrue sound → Told now r) → (IsTrue sound → before ≡ get now x) → (IsTrue sound → has (charged (open_in log) (history_in log) now) x ≡ false → len (charged (open_in log) (history_in log) now) < log.limits.records)
       → IsRecordFile sound (write_to now x w) limit (record log { records = log.records ++ r ∷ []; changes = log.changes ++ change lsn t x before w ∷ []; room = room })
   file_put room r lsn t x before w key new tells stood room_for = record {
     limited = old.limited;
+    whole = old.whole;
     fits = λ is. fits_put log.changes now lsn t x before w (old.fits is) (stood is);
     told = λ is. told_push log.records r (opening_of log.changes now) (opening_of (log.changes ++ change lsn t x before w ∷ []) (write_to now x w)) now x w (sym (opening_put log.changes now lsn t x before w (stood is))) key new (tells is) (old.told is);
     within = λ is. charged_put (open_in log) log.changes now log.limits.records lsn t x before w (old.within is) (room_for is);
@@ -192,6 +207,7 @@ module _ (sound : Bool) (now : Contents) (limit : ℕ) (log : LogState) (old : I
   pub file_undo : (room : Option (List ℕ)) (r : LogRecord) (t : ℕ) (u : Kept) → key_of r ≡ u.key → new_of r ≡ back_of u → Told now r → IsTrue (open_in log t) → newest_live t log.changes ≡ Some u → IsRecordFile sound (write_to now u.key (back_of u)) limit (record log { records = log.records ++ r ∷ []; changes = undone t log.changes; room = room })
   file_undo room r t u key new tells open_t newest = record {
     limited = old.limited;
+    whole = old.whole;
     fits = λ is. fits_undo (open_in log) log.changes now t u kept.owned open_t newest (old.fits is);
     told = λ is. told_push log.records r (opening_of log.changes now) (opening_of (undone t log.changes) (write_to now u.key (back_of u))) now u.key (back_of u) (sym (opening_undo t log.changes u now newest)) key new tells (old.told is);
     within = λ is. charged_undo (open_in log) log.changes now log.limits.records t u open_t newest (old.within is);
@@ -199,16 +215,16 @@ module _ (sound : Bool) (now : Contents) (limit : ℕ) (log : LogState) (old : I
 
   -- a transaction is begun, or none is
   pub file_begun : (answer : Result TxId BeginFault) (new : LogState) → OnOk answer (new ≡ record log { begun = log.begun + 1; txs = maps.insert log.txs (log.begun + 1) fresh; room = None }) → OnErr answer (new ≡ record log { room = None }) → IsRecordFile sound now limit new
-  file_begun (Ok tx) new ok err = subst (λ (s : LogState). IsRecordFile sound now limit s) (sym ok) (file_txs (maps.insert log.txs (log.begun + 1) fresh) (log.begun + 1) None (none_by_new log.txs log.begun fresh))
+  file_begun (Ok tx) new ok err = subst (λ (s : LogState). IsRecordFile sound now limit s) (sym ok) (file_txs (maps.insert log.txs (log.begun + 1) fresh) (log.begun + 1) None (none_by_new log.txs log.begun fresh) (whole_insert log.txs (log.begun + 1) fresh tt old.whole))
   file_begun (Err fault) new ok err = subst (λ (s : LogState). IsRecordFile sound now limit s) (sym err) (file_room None)
 
   -- what is known of an open transaction changed
-  pub file_known : (t : ℕ) (p : Phase) (answer : Option Phase) (tx : Tx) (new : LogState) → answer ≡ phase_in log t → answer ≡ Some p → new ≡ record log { txs = maps.insert log.txs t tx; room = None } → IsRecordFile sound now limit new
-  file_known t p answer tx new told is after = subst (λ (s : LogState). IsRecordFile sound now limit s) (sym after) (file_txs (maps.insert log.txs t tx) log.begun None (none_by_known log.txs log.begun t tx (open_by_phase (maps.get log.txs t) p (sym told ∙ is))))
+  pub file_known : (t : ℕ) (p : Phase) (answer : Option Phase) (tx : Tx) (new : LogState) → EndsAtBeginning tx.rollback → answer ≡ phase_in log t → answer ≡ Some p → new ≡ record log { txs = maps.insert log.txs t tx; room = None } → IsRecordFile sound now limit new
+  file_known t p answer tx new here told is after = subst (λ (s : LogState). IsRecordFile sound now limit s) (sym after) (file_txs (maps.insert log.txs t tx) log.begun None (none_by_known log.txs log.begun t tx (open_by_phase (maps.get log.txs t) p (sym told ∙ is))) (whole_insert log.txs t tx here old.whole))
 
   -- a transaction ended
   pub file_ended : (t : ℕ) (new : LogState) → new ≡ record log { txs = maps.remove log.txs t; room = None } → IsRecordFile sound now limit new
-  file_ended t new after = subst (λ (s : LogState). IsRecordFile sound now limit s) (sym after) (file_txs (maps.remove log.txs t) log.begun None (none_by_end log.txs log.begun t))
+  file_ended t new after = subst (λ (s : LogState). IsRecordFile sound now limit s) (sym after) (file_txs (maps.remove log.txs t) log.begun None (none_by_end log.txs log.begun t) (whole_remove log.txs t old.whole))
 
   -- the log after room was made at the key and a change was accepted there
   pub change_kept : (sound2 : Bool) (limit2 : ℕ) (now2 : Contents) (log1 log2 : LogState) (t : TxId) (x : List ℕ) (before told : Option (List ℕ)) (w : Option (Option (List ℕ))) → sound2 ≡ sound → limit2 ≡ limit → log1 ≡ record log { room = Some x } → (IsTrue sound → now2 ≡ write_to now x w) → (IsTrue sound → before ≡ get now x) → told ≡ before → log2 ≡ accepted log1 t x told w
@@ -236,7 +252,7 @@ module _ (sound : Bool) (now : Contents) (limit : ℕ) (log : LogState) (old : I
             ap (λ (s : LogState). file_of s now2) after
             ∙ ap (λ (h : List Change). let f : File = record { opening = opening_of (log.changes ++ c ∷ []) now2; history = h; begun = log.begun; txs = log.txs; limits = log.limits } in f) (history-push log.changes c)
             ∙ ap (λ (m : Contents). let f : File = record { opening = m; history = history_in log ++ record { tx = t.0; key = x; after = w; live = true } ∷ []; begun = log.begun; txs = log.txs; limits = log.limits } in f) (sym (ap (λ (s : LogState). opening_of s.changes now2) after));
-        logged = (length log.records + 1, last_of t.0 (reverse log.records), ap (λ (s : LogState). s.records) after);
+        logged = ap (λ (s : LogState). s.records) after;
       }
 
   pub undo_becomes : (now2 : Contents) (log2 : LogState) (t : TxId) → log2 ≡ compensated log t → file_of log2 now2 ≡ record (file_of log now) { opening = (file_of log2 now2).opening; history = undo_last t.0 (history_in log) }
@@ -251,7 +267,7 @@ module _ (sound : Bool) (now : Contents) (limit : ℕ) (log : LogState) (old : I
 
   -- a rollback is over
   pub file_finished : (t : ℕ) (new : LogState) → new ≡ record log { txs = finished log.txs t (tx_in log t); room = None } → IsRecordFile sound now limit new
-  file_finished t new after = subst (λ (s : LogState). IsRecordFile sound now limit s) (sym after) (file_txs (finished log.txs t (tx_in log t)) log.begun None (none_by_finish log.txs log.begun t (tx_in log t) refl))
+  file_finished t new after = subst (λ (s : LogState). IsRecordFile sound now limit s) (sym after) (file_txs (finished log.txs t (tx_in log t)) log.begun None (none_by_finish log.txs log.begun t (tx_in log t) refl) (whole_finished log.txs t (tx_in log t) old.whole))
 
   -- the log after a change was taken back
   pub undo_kept : (sound2 : Bool) (limit2 : ℕ) (now2 : Contents) (log2 : LogState) (t : TxId) (u : Kept) (step : UndoStep) → sound2 ≡ sound → limit2 ≡ limit → undo_in log t.0 ≡ Some u → newest_live t.0 log.changes ≡ Some u → IsTrue (open_in log t.0) → step ≡ undo_step u → (IsTrue sound → now2 ≡ undone_by now step) → log2 ≡ compensated log t → IsRecordFile sound2 now2 limit2 log2

@@ -2,6 +2,7 @@ pub mod ChargedCountLemmas
 pub mod ChargedLemmas
 pub mod FileLemmas
 pub mod OpenTxLemmas
+pub mod WholeTxLemmas
 pub mod InvariantLemmas
 pub mod FullnessLemmas
 pub mod FaultLemmas
@@ -14,7 +15,14 @@ pub mod RunLemmas
 pub mod UndoLemmas
 pub mod HistoryLeadLemmas
 pub mod LivePartLemmas
+pub mod TidyLogLemmas
+pub mod StepLemmas
+pub mod FirstStepLemmas
 pub mod RemainingRunLemmas
 pub mod CallStepLemmas
 pub mod ExactLemmas
 pub mod CompensatedOnceLemmas
+pub mod AskedLemmas
+pub mod TakenLemmas
+pub mod ResumedLemmas
+pub mod AcceptedLemmas

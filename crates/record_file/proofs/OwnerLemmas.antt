@@ -49,4 +49,5 @@ kept_file sound now limit log is kept chained = record {
   begun = kept.bounded;
   opens = kept.opens;
   depths = kept.depths;
+  whole = is.whole;
 }

@@ -1,5 +1,5 @@
 -- What stays true of the abstract file over every run.
-use Rattle.std.proofs.Common.{◌≡◌, ℕ, ◌+◌, ◌<◌, ◌≤◌, zero, suc, Bool, true, false, cond, ◌&&◌, List, [], ◌∷◌, ◌++◌, map, Option, Some, None, is_some, nat_lt, refl, sym, ap, subst, ◌∙◌, IsTrue, arith}
+use Rattle.std.proofs.Common.{◌≡◌, ℕ, ◌+◌, ◌<◌, ◌≤◌, zero, suc, Bool, true, false, cond, List, [], ◌∷◌, ◌++◌, map, Option, Some, None, is_some, nat_lt, refl, sym, ap, subst, ◌∙◌, IsTrue, arith}
 use Rattle.std.proofs.lemmas.Bool.Decides.{nat_tests}
 use Rattle.std.specs.FinMap as maps
 use Rattle.std.specs.FinMap.{get, get-empty, len}
@@ -7,7 +7,6 @@ use Rattle.std.specs.Ordering.{nat_cmp}
 use Rattle.rec_types.specs.Contents.{Contents, has}
 use Rattle.rec_types.specs.History.{Change, replay, live_from, take_back, take_newest, undo_last}
 use Rattle.rec_types.specs.Kept.{Kept, change_of, history_of, newest_live, newest_from, is_own, undone, undone_or, BeforesFit, IsOwned, AllBegun}
-use Rattle.rec_types.specs.Table.{counted, greatest_count}
 use Rattle.rec_types.proofs.TakeBackLemmas.{replay-back, befores-undone, owned-undone, begun-undone, befores-push, begun-push, begun-more, owned-within}
 use Rattle.rec_types.proofs.HistoryLemmas.{take_newest-none, take_newest-more, live_from-take_newest, newest_from-some, newest_from-live, history-undone}
 use Rattle.tx_log.specs.Transactions.{Transactions, is_open, fresh}
@@ -15,7 +14,7 @@ use Rattle.tx_log.specs.Owners.{charged, holder_of}
 use Rattle.tx_log.specs.declared.phase.Phase.{Phase}
 use Rattle.tx_log.specs.declared.phase.Phase.TheVariants as phases
 use Rattle.tx_log.proofs.OwnerLemmas.{held-free, owned-push}
-use Rattle.record_file.specs.Abstract.{File, open_of, tx_of, phase_at, held_by, records_of, charged_of, with_change}
+use Rattle.record_file.specs.Abstract.{AbortsWhole, File, open_of, tx_of, phase_at, held_by, records_of, charged_of, with_change}
 use Rattle.record_file.specs.Steps.{put_refusal, put_in, put_held, remove_refusal, remove_in, remove_held}
 use Rattle.record_file.specs.Runs.{Called, Event, Seen, Step, Run}
 use Rattle.record_file.specs.Undo.{Starts, old_record, with_first, old_records}
@@ -23,7 +22,8 @@ use Rattle.record_file.proofs.OpenTxLemmas.{same_tx, same_tx-is, open-insert, op
 use Rattle.record_file.proofs.FileLemmas.{change, history-push, replay-push, charged_put, charged_undo, charged_within}
 use Rattle.record_file.proofs.FullnessLemmas.{room_of, present_charged}
 use Rattle.record_file.proofs.InvariantLemmas.{open_by_phase, none_by_new, none_by_end}
-use Rattle.record_file.proofs.CallKindLemmas.{AllEnd, end_empty, end_insert, end_remove, SameOpen, Move, Still, Began, PutIn, ClaimIn, TookOut, Committed, WentBack, Ended, move_of, taken_all}
+use Rattle.record_file.proofs.WholeTxLemmas.{whole_empty, whole_insert, whole_remove}
+use Rattle.record_file.proofs.CallKindLemmas.{SameOpen, Move, Still, Began, PutIn, ClaimIn, TookOut, Committed, WentBack, Ended, move_of, taken_all}
 
 -- The changes know what stood before each, keys have one owner, and the charged keys don't exceed the limit.
 pub record Holds (opened : ℕ → Bool) (m : Contents) (begun limit : ℕ) (cs : List Kept) : Type 0 where
@@ -110,7 +110,7 @@ pub record KeptRun (m : Contents) (answered : List (Option (List ℕ))) (f : Fil
   pub answers : map (λ (c : Kept). c.before) cs ≡ answered
   pub holds : Holds (open_of f) m f.begun f.limits.records cs
   pub opens : (t : ℕ) → IsTrue (open_of f t) → t ≤ f.begun
-  pub ends : AllEnd f.txs
+  pub ends : AbortsWhole f.txs
 
 -- the old records that answers tell, with those of one more call
 abbrev pub added : List (Option (List ℕ)) → Option (Option (List ℕ)) → List (Option (List ℕ))
@@ -146,7 +146,7 @@ module _ (m : Contents) (answered : List (Option (List ℕ))) (old : File) (kept
     answers = kept.answers;
     holds = holds_within (open_of old) m old.begun old.limits.records kept.cs (is_open (maps.insert old.txs (old.begun + 1) fresh)) (old.begun + 1) (omega arith) (none_by_new old.txs old.begun fresh) kept.holds;
     opens = λ t there. at t (same_tx t (old.begun + 1)) refl (sym (open-insert old.txs (old.begun + 1) fresh t) ∙ there);
-    ends = end_insert old.txs (old.begun + 1) fresh tt kept.ends;
+    ends = whole_insert old.txs (old.begun + 1) fresh tt kept.ends;
   }
     where
       at : (t : ℕ) (b : Bool) → same_tx t (old.begun + 1) ≡ b → cond b true (is_open old.txs t) ≡ true → t ≤ old.begun + 1
@@ -161,14 +161,14 @@ module _ (m : Contents) (answered : List (Option (List ℕ))) (old : File) (kept
     answers = same;
     holds = holds_within (open_of old) m old.begun old.limits.records ds (is_open (maps.remove old.txs t)) old.begun (omega arith) (none_by_end old.txs old.begun t) held;
     opens = λ q there. at q (same_tx q t) (sym (open-remove old.txs t q) ∙ there);
-    ends = end_remove old.txs t kept.ends;
+    ends = whole_remove old.txs t kept.ends;
   }
     where
       at : (q : ℕ) (b : Bool) → cond b false (is_open old.txs q) ≡ true → q ≤ old.begun
       at q true there = absurd (cc)
       at q false there = kept.opens q there
 
-  back_kept : (t p n : ℕ) (txs : Transactions) → open_of old t ≡ true → n ≤ live_from old.history t p → SameOpen old.txs txs → AllEnd txs → KeptRun m answered (record old { history = take_newest old.history t p n; txs = txs })
+  back_kept : (t p n : ℕ) (txs : Transactions) → open_of old t ≡ true → n ≤ live_from old.history t p → SameOpen old.txs txs → AbortsWhole txs → KeptRun m answered (record old { history = take_newest old.history t p n; txs = txs })
   back_kept t p n txs there le same ends =
       let back = holds_back (open_of old) m old.begun old.limits.records kept.cs t p n there (subst (λ (h : List Change). n ≤ live_from h t p) (sym kept.history) le) kept.holds in
       record {
@@ -226,20 +226,6 @@ move_kept m answered old called new kept move = at move
     at (WentBack t p n txs there le is same ends no_record no_begin) = over None _ no_record is (back_kept m answered old kept t p n txs there le same ends)
     at (Ended t there is no_record no_begin) = over None _ no_record is (ended_kept m answered old kept t there)
 
--- counts never fall
-pub counted_least : (n : ℕ) (b : Bool) → n ≤ counted n b
-counted_least n b = at (b && nat_lt n greatest_count)
-  where
-    at : (b : Bool) → n ≤ cond b (n + 1) n
-    at true = omega arith
-    at false = omega arith
-
--- failures are never fewer after a run
-pub run_failures : (old new : Seen) (es : List Event) → Run old es new → old.failures ≤ new.failures
-run_failures old new [] ran = omega (arith, ap (λ (s : Seen). s.failures) ran)
-run_failures old new (e ∷ es) ran =
-    omega (arith, ran.1.failures, counted_least old.failures e.failed, run_failures ran.0 new es ran.2)
-
 -- a sound table is sound after a run
 pub run_sound : (old new : Seen) (es : List Event) → IsTrue old.sound → Run old es new → IsTrue new.sound
 run_sound old new [] sound ran = ap (λ (s : Seen). s.sound) ran ∙ sound
@@ -255,17 +241,16 @@ append_none [] = refl
 append_none (b ∷ bs) = ap (λ rest. b ∷ rest) (append_none bs)
 
 -- an event keeps what a run keeps
-pub step_kept : (m : Contents) (answered : List (Option (List ℕ))) (old new : Seen) (e : Event) → IsTrue old.sound → old.failures < greatest_count → KeptRun m answered old.file → Step old e new → KeptRun m (added answered (old_record e.called)) new.file
-step_kept m answered old new e sound below kept step = move_kept m answered old.file e.called new.file kept (move_of old new e sound below kept.ends step)
+pub step_kept : (m : Contents) (answered : List (Option (List ℕ))) (old new : Seen) (e : Event) → IsTrue old.sound → KeptRun m answered old.file → Step old e new → KeptRun m (added answered (old_record e.called)) new.file
+step_kept m answered old new e sound kept step = move_kept m answered old.file e.called new.file kept (move_of old new e sound step)
 
 -- so do all events of a run
-pub run_kept : (m : Contents) (answered : List (Option (List ℕ))) (old new : Seen) (es : List Event) → IsTrue old.sound → new.failures < greatest_count → KeptRun m answered old.file → Run old es new → KeptRun m (answered ++ old_records es) new.file
-run_kept m answered old new [] sound below kept ran =
+pub run_kept : (m : Contents) (answered : List (Option (List ℕ))) (old new : Seen) (es : List Event) → IsTrue old.sound → KeptRun m answered old.file → Run old es new → KeptRun m (answered ++ old_records es) new.file
+run_kept m answered old new [] sound kept ran =
     subst (λ (bs : List (Option (List ℕ))). KeptRun m bs new.file) (sym (append_none answered)) (subst (λ (f : File). KeptRun m answered f) (sym (ap (λ (s : Seen). s.file) ran)) kept)
-run_kept m answered old new (e ∷ es) sound below kept ran =
+run_kept m answered old new (e ∷ es) sound kept ran =
     subst (λ (bs : List (Option (List ℕ))). KeptRun m bs new.file) (with_added answered (old_record e.called) (old_records es))
-    (run_kept m (added answered (old_record e.called)) ran.0 new es (ran.1.sound ∙ sound) below
-    (step_kept m answered old ran.0 e sound (omega (arith, below, run_failures ran.0 new es ran.2, ran.1.failures, counted_least old.failures e.failed)) kept ran.1) ran.2)
+    (run_kept m (added answered (old_record e.called)) ran.0 new es (ran.1.sound ∙ sound) (step_kept m answered old ran.0 e sound kept ran.1) ran.2)
 
 -- it holds at a start
 pub start_kept : (old : Seen) → Starts old → KeptRun old.records [] old.file
@@ -276,9 +261,9 @@ start_kept old start = subst (λ (f : File). KeptRun old.records [] f) (sym star
   answers = refl;
   holds = record { befores = tt; owned = tt; all = tt; within = start.within };
   opens = λ t there. absurd (cc (sym (ap is_some (get-empty nat_cmp t)) ∙ there));
-  ends = end_empty;
+  ends = whole_empty;
 })
 
 -- what is kept of a run from a start
-pub kept_of_run : (old new : Seen) (es : List Event) → Starts old → Run old es new → new.failures < greatest_count → KeptRun old.records (old_records es) new.file
-kept_of_run old new es start ran below = run_kept old.records [] old new es start.sound below (start_kept old start) ran
+pub kept_of_run : (old new : Seen) (es : List Event) → Starts old → Run old es new → KeptRun old.records (old_records es) new.file
+kept_of_run old new es start ran = run_kept old.records [] old new es start.sound (start_kept old start) ran

@@ -1,5 +1,5 @@
 -- The abstract file.
-use Rattle.std.specs.Prelude.{◌≡◌, ℕ, ◌≤◌, ◌<◌, ◌==◌, Bool, true, ◌&&◌, nat_le, is_none, List, [], ◌∷◌, ◌++◌, length, Option, Some, option_map, refl, IsTrue}
+use Rattle.std.specs.Prelude.{◌≡◌, ℕ, ◌≤◌, ◌<◌, ◌==◌, Bool, true, ◌&&◌, nat_le, is_none, List, [], ◌∷◌, ◌++◌, length, Option, Some, None, option_map, refl, IsTrue}
 use Rattle.std.specs.Coded.{Coded, code_by, coded×, coded_ℕ, coded_bool, coded_list, coded_option}
 use Rattle.std.specs.FinMap as maps
 use Rattle.rec_types.specs.LimitBounds.{Bounds, coded_bounds}
@@ -12,6 +12,7 @@ use Rattle.tx_log.specs.LogLaws.{IsChained}
 use Rattle.std.specs.List.{list_any}
 use Rattle.tx_log.specs.LogState.{LogState, phase_of, open_in, history_in, places_of}
 use Rattle.tx_log.specs.declared.phase.Phase.{Phase}
+use Rattle.tx_log.specs.declared.phase.Rollback.{Rollback}
 use Rattle.tx_log.specs.declared.log_record.LogRecord.{LogRecord}
 use Rattle.tx_log.specs.declared.log_record.LogRecord.TheVariants.{Update, Compensation, Claim, Unclaim}
 use Rattle.tx_log.specs.Log.{key_of, new_of}
@@ -109,10 +110,23 @@ pub record Fits (cs : List Kept) (now : Contents) : Type 0 where
   pub replayed : now ≡ replay (opening_of cs now) (history_of cs)
   pub befores : BeforesFit (opening_of cs now) cs
 
--- what is true of every file over a table: its limit is the log's, and over a sound table the contents are the replay
--- and the charged keys don't exceed the limit
+abbrev pub EndsAtBeginning : Option Rollback → Type 0
+EndsAtBeginning None = Unit {0}
+EndsAtBeginning (Some r) = IsTrue r.ends → r.to ≡ 0
+
+abbrev pub IsWholeTx : Option Tx → Type 0
+IsWholeTx None = Unit {0}
+IsWholeTx (Some tx) = EndsAtBeginning tx.rollback
+
+-- each rollback under way that ends its transaction goes back to the beginning, as every abort does
+abbrev pub AbortsWhole : Transactions → Type 0
+AbortsWhole txs = (t : ℕ) → IsWholeTx (maps.get txs t)
+
+-- what is true of every file over a table: its limit is the log's, aborts go back to the beginning, and over a sound
+-- table the contents are the replay and the charged keys don't exceed the limit
 pub record IsRecordFile (sound : Bool) (now : Contents) (limit : ℕ) (log : LogState) : Type 0 where
   pub limited : limit ≡ log.limits.records
+  pub whole : AbortsWhole log.txs
   pub fits : IsTrue sound → Fits log.changes now
   pub told : IsTrue sound → (now ≡ written (opening_of log.changes now) log.records) × AllTold (opening_of log.changes now) log.records
   pub within : IsTrue sound → maps.len (charged (open_in log) (history_in log) now) ≤ log.limits.records
@@ -123,8 +137,8 @@ owns f t x = list_any (λ c. claims (open_of f) x c && (c.tx == t)) f.history
 
 -- What stays true of a file from call to call: over a sound table the records are the replay, which the log leaves
 -- too, each change tells what stood at its key before it, and the charged keys don't exceed the limit; a transaction
--- that owns a key is the one that does; no transaction has more savepoints than it may; and the log tells the history by
--- its laws.
+-- that owns a key is the one that does; no transaction has more savepoints than it may; a rollback under way that ends
+-- its transaction goes back to the beginning; and the log tells the history by its laws.
 pub record IsKeptFile (sound : Bool) (now : Contents) (limit : ℕ) (f : File) (log : List LogRecord) : Type 0 where
   pub limited : limit ≡ f.limits.records
   pub replayed : IsTrue sound → now ≡ records_of f
@@ -136,3 +150,4 @@ pub record IsKeptFile (sound : Bool) (now : Contents) (limit : ℕ) (f : File) (
   pub begun : f.begun ≤ f.limits.begins
   pub opens : (t : ℕ) → IsTrue (open_of f t) → (0 < t) × (t ≤ f.begun)
   pub depths : (t : ℕ) → length (places_of (tx_of f t)) ≤ most_savepoints
+  pub whole : AbortsWhole f.txs

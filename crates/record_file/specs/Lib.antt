@@ -9,3 +9,5 @@ pub mod Remaining
 pub mod Leads
 pub mod Calls
 pub mod Exact
+pub mod Asked
+pub mod Resumed

@@ -1,6 +1,6 @@
 -- What comes to a call from outside: a failed device, a damaged page, or a want of memory; and what the table, whose
 -- counts tell of them, has then counted.
-use Rattle.std.specs.Prelude.{◌≡◌, ◌⊎◌, ℕ, Bool, true, false, Option, Some, None, Result, Ok, Err, IsTrue}
+use Rattle.std.specs.Prelude.{◌≡◌, ◌≢◌, ◌⊎◌, ℕ, Bool, true, false, Option, Some, None, Result, Ok, Err, IsTrue}
 use Rattle.rec_types.specs.Table.{counted, Damages, damaged_at}
 use Rattle.record_file.specs.declared.fault.Cause.{Cause}
 use Rattle.record_file.specs.declared.fault.Cause.TheVariants.{Device, Damaged, Memory}
@@ -124,6 +124,10 @@ AsksMemory old cause new = (refused : Bool) × (new ≡ counted old refused) × 
 abbrev pub named_by : Damages → Option Cause → Damages
 named_by old (Some (Damaged page)) = damaged_at old page
 named_by old cause = old
+
+-- over a sound table no page is damaged, and no answer is one that no such table gives
+abbrev pub NeverDamaged : Bool → Option Cause → Type 0
+NeverDamaged sound cause = IsTrue sound → (page : ℕ) → cause ≢ Some (Damaged page)
 
 -- A call that changes the table: page 0 also stands for an answer that no sound table gives.
 abbrev pub TellsDamage : Damages → Option Cause → Damages → Type 0

@@ -24,8 +24,8 @@ use Rattle.record_file.specs.declared.fault.EntriesFault.{EntriesFault}
 use Rattle.record_file.specs.declared.fault.KeysOfFault.{KeysOfFault}
 use Rattle.record_file.specs.declared.fault.StatusFault.{StatusFault}
 use Rattle.record_file.specs.declared.fault.Status.{Status}
-use Rattle.record_file.specs.Abstract.{File, OpenFile, Tells, charged_of, use_of}
-use Rattle.record_file.specs.Outside.{put_cause, claim_cause, remove_cause, get_cause, entries_cause, rollback_cause, abort_cause, resume_cause, put_by_file, claim_by_file, remove_by_file, get_by_file, by_device, by_memory, named_by, TellsDamage}
+use Rattle.record_file.specs.Abstract.{File, OpenFile, IsKeptFile, Tells, charged_of, use_of}
+use Rattle.record_file.specs.Outside.{put_cause, claim_cause, remove_cause, get_cause, entries_cause, rollback_cause, abort_cause, resume_cause, put_by_file, claim_by_file, remove_by_file, get_by_file, by_device, by_memory, named_by, TellsDamage, NeverDamaged}
 use Rattle.record_file.specs.declared.fault.Cause.{Cause}
 use Rattle.record_file.specs.Steps.{rose, put_refusal, claim_refusal, remove_refusal, get_refusal, rollback_refusal, abort_refusal, resume_refusal, Accepts, key_change, BeginStep, PutStep, ClaimStep, RemoveStep, GetStep, SavepointStep, ReleaseStep, CommitStep, RollsBackTo, RollbackToStep, Aborts, AbortStep, Resumes, ResumeStep, EntriesStep, KeysOfStep, status_of}
 
@@ -72,6 +72,22 @@ pub record Seen : Type 0 where
 abbrev pub seen : {T : Type 0} → Ghosts T → OpenFile T → Seen
 seen t f = record { file = f.file; log = f.log; records = t.contents f.table; sound = t.sound f.table; failures = t.device_failures f.table; refusals = t.memory_refusals f.table; damages = t.damages f.table }
 
+-- What stays true of a file, of what a run sees of it.
+abbrev pub IsKeptSeen : Seen → Type 0
+IsKeptSeen s = IsKeptFile s.sound s.records s.file.limits.records s.file s.log
+
+-- what came from outside and ended the call
+abbrev pub cause_in : Called → Option Cause
+cause_in (Put t x r answer) = put_cause answer
+cause_in (Claim t x answer) = claim_cause answer
+cause_in (Remove t x answer) = remove_cause answer
+cause_in (Get t x answer) = get_cause answer
+cause_in (RollbackTo t n answer) = rollback_cause answer
+cause_in (Abort t answer) = abort_cause answer
+cause_in (Resume t answer) = resume_cause answer
+cause_in (Entries answer) = entries_cause answer
+cause_in called = None
+
 -- The call asks the table nothing, and leaves all but the abstract file.
 abbrev pub AsksNothing : Seen → Bool → Bool → Seen → Type 0
 AsksNothing old failed refused new = (failed ≡ false) × (refused ≡ false) × (new ≡ record old { file = new.file })
@@ -97,6 +113,7 @@ pub record Puts (old : Seen) (t : TxId) (x r : List ℕ) (answer : Result (Optio
   pub refused : IfSome (put_refusal old.file t.0 x) (λ fault. (answer ≡ Err fault) × (new ≡ old))
   pub refused_only : IfErr answer (λ fault. IsTrue (put_by_file fault) → put_refusal old.file t.0 x ≡ Some fault)
   pub accepted : IfOk answer (λ before. Accepts old.file old.log (key_change t x before (Some (Some r))) new.file new.log)
+  pub opening : IsTrue old.sound → new.file.opening ≡ old.file.opening
   pub err : OnErr answer (Leaves old new)
   pub damages : TellsDamage old.damages (put_cause answer) new.damages
 
@@ -105,6 +122,7 @@ pub record Claims (old : Seen) (t : TxId) (x : List ℕ) (answer : Result (Optio
   pub refused : IfSome (claim_refusal old.file t.0 x) (λ fault. (answer ≡ Err fault) × (new ≡ old))
   pub refused_only : IfErr answer (λ fault. IsTrue (claim_by_file fault) → claim_refusal old.file t.0 x ≡ Some fault)
   pub accepted : IfOk answer (λ seen. Accepts old.file old.log (key_change t x seen None) new.file new.log)
+  pub opening : IsTrue old.sound → new.file.opening ≡ old.file.opening
   pub err : OnErr answer (Leaves old new)
   pub damages : TellsDamage old.damages (claim_cause answer) new.damages
 
@@ -113,6 +131,7 @@ pub record Removes (old : Seen) (t : TxId) (x : List ℕ) (answer : Result (List
   pub refused : IfSome (remove_refusal old.file t.0 x) (λ fault. (answer ≡ Err fault) × (new ≡ old))
   pub refused_only : IfErr answer (λ fault. IsTrue (remove_by_file fault) → remove_refusal old.file t.0 x ≡ Some fault)
   pub accepted : IfOk answer (λ before. Accepts old.file old.log (key_change t x (Some before) (Some None)) new.file new.log)
+  pub opening : IsTrue old.sound → new.file.opening ≡ old.file.opening
   pub err : OnErr answer (Leaves old new)
   pub damages : TellsDamage old.damages (remove_cause answer) new.damages
 
@@ -177,8 +196,12 @@ Answers old (LogUse count) failed refused new = Looks old failed refused new × 
 Answers old (RecordAt lsn answer) failed refused new = Looks old failed refused new × (answer ≡ record_at old.log lsn)
 Answers old (IntoTable answer) failed refused new = Looks old failed refused new × GivesTable old.file answer
 
--- The table's counts rise by what came from outside, and by nothing else; the log tells what became of the records.
+-- What stays true of a file is true of it before and after. The table's counts rise by what came from outside, and by
+-- nothing else, and over a sound table no page is damaged; the log tells what became of the records.
 pub record Step (old : Seen) (e : Event) (new : Seen) : Type 0 where
+  pub kept : IsKeptSeen old
+  pub keeps : IsKeptSeen new
+  pub undamaged : NeverDamaged old.sound (cause_in e.called)
   pub failures : new.failures ≡ counted old.failures e.failed
   pub refusals : new.refusals ≡ counted old.refusals e.refused
   pub sound : new.sound ≡ old.sound

@@ -1,6 +1,6 @@
 -- The steps of the abstract file: from an old file a call may give this answer and go on to a new one. Where the
 -- table's device failed during the call it says so by `failed`, where it refused memory by `refused`.
-use Rattle.std.specs.Prelude.{◌≡◌, ℕ, ◌+◌, ◌-◌, ◌<◌, ◌≤◌, zero, Bool, true, false, nat_lt, nat_le, ◌&&◌, if◌then◌else◌, List, [], ◌∷◌, ◌++◌, map, length, take, Option, Some, None, option_map, Result, Ok, Err, IsSome}
+use Rattle.std.specs.Prelude.{◌≡◌, ℕ, ◌+◌, ◌-◌, ◌<◌, ◌≤◌, zero, Bool, true, false, nat_lt, nat_le, ◌&&◌, if◌then◌else◌, List, [], ◌∷◌, ◌++◌, map, length, reverse, take, Option, Some, None, option_map, Result, Ok, Err, IsSome}
 use Rattle.std.specs.Global.{Vec}
 use Rattle.std.specs.FinMap as maps
 use Rattle.rec_types.specs.History.{Change, live_from, take_back, take_newest, own_count}
@@ -46,7 +46,7 @@ use Rattle.record_file.specs.declared.fault.StatusFault.TheVariants as status_fa
 use Rattle.record_file.specs.declared.fault.Status.{Status}
 use Rattle.record_file.specs.declared.fault.Status.TheVariants as statuses
 use Rattle.tx_log.specs.declared.log_record.LogRecord.{LogRecord}
-use Rattle.tx_log.specs.Log.{change_record}
+use Rattle.tx_log.specs.Log.{change_record, last_of}
 use Rattle.record_file.specs.Outside.{rollback_cause, abort_cause, resume_cause}
 use Rattle.record_file.specs.Abstract.{File, records_of, open_of, tx_of, phase_at, use_of, held_by, is_full, with_change}
 
@@ -102,10 +102,11 @@ pub record KeyChange : Type 0 where
 abbrev pub key_change : TxId → List ℕ → Option (List ℕ) → Option (Option (List ℕ)) → KeyChange
 key_change tx key before after = record { tx = tx; key = key; before = before; after = after }
 
--- An accepted change is live at the end of the history, and its record at the end of the log; so it is over any table.
+-- An accepted change is live at the end of the history, and its record at the end of the log, with the next number, from
+-- which it leads to the newest record of its transaction; so it is over any table.
 pub record Accepts (old : File) (log : List LogRecord) (change : KeyChange) (new : File) (grown : List LogRecord) : Type 0 where
   pub history : Becomes old (old.history ++ record { tx = change.tx.0; key = change.key; after = change.after; live = true } ∷ []) old.txs new
-  pub logged : (lsn prev : ℕ) × (grown ≡ log ++ change_record lsn prev change.tx change.key change.before change.after ∷ [])
+  pub logged : grown ≡ log ++ change_record (length log + 1) (last_of change.tx.0 (reverse log)) change.tx change.key change.before change.after ∷ []
 
 -- A put answers the record that stood there, and its change is live at the end of the history. The device's
 -- failure comes before a want of room, and that before a want of memory.

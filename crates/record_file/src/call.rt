@@ -1,5 +1,6 @@
-ghost use Rattle.std.specs.Prelude.{◌≡◌, ◌++◌, ◌∷◌, [], ℕ, List, take, IfOk, IfErr, OnOk};
-ghost use Rattle.record_file.specs.Runs.{seen};
+ghost use Rattle.std.specs.Prelude.{◌≡◌, ◌<◌, ◌≤◌, ◌++◌, ◌∷◌, [], List, length, take, IfOk, IfErr, OnOk};
+ghost use Rattle.record_file.specs.Abstract.{IsKeptFile};
+ghost use Rattle.record_file.specs.Runs.{IsKeptSeen, seen};
 ghost use Rattle.record_file.specs.Calls.{Makes, MakesAll};
 ghost use Rattle.record_file.specs.Exact.{IsExact};
 ghost use Rattle.record_file.specs.declared.call.Answer.{Answer};
@@ -61,9 +62,28 @@ pub enum Answer {
     LogRecord(Option<LogRecord>),
 }
 
+// What stays true of a file.
+fn stays_true<T: Table>(file: &RecordFile<T>)
+    ensures { IsKeptFile (T.sound file.now.table) (T.contents file.now.table)
+        (T.record_limit file.now.table) file.now.file file.now.log }
+{
+    let _begun = file.begun();
+}
+
 /// Makes a call.
 pub fn make_call<T: Table>(file: &mut RecordFile<T>, call: Call) -> Answer
     ensures { Makes (seen T.TableState file.old) call result (seen T.TableState file.new) }
+{
+    stays_true(file);
+    let answer = ask(file, call);
+    stays_true(file);
+    answer
+}
+
+// Makes a call on a file of which what stays true is true.
+fn ask<T: Table>(file: &mut RecordFile<T>, call: Call) -> Answer
+    ensures { IsKeptSeen (seen T.TableState file.old) → IsKeptSeen (seen T.TableState file.new)
+        → Makes (seen T.TableState file.old) call result (seen T.TableState file.new) }
 {
     match call {
         Call::Begin => Answer::Begin(file.begin()),
@@ -88,14 +108,6 @@ pub fn make_call<T: Table>(file: &mut RecordFile<T>, call: Call) -> Answer
     }
 }
 
-// What stays true of a file.
-fn exact<T: Table>(file: &RecordFile<T>)
-    ensures { IsExact (T.sound file.now.table) (T.contents file.now.table)
-        file.now.file file.now.log }
-{
-    let _begun = file.begun();
-}
-
 // One more answer at the end. Fault: Memory.
 fn keep(answers: &mut Vec<Answer>, answer: Answer) -> Result<(), Memory>
     ensures { OnOk result (answers.new.items ≡ answers.old.items ++ answer ∷ []) }
@@ -103,33 +115,44 @@ fn keep(answers: &mut Vec<Answer>, answer: Answer) -> Result<(), Memory>
     answers.push(answer).map_err(|_| Memory)
 }
 
-/// Makes any calls one after another, and answers what each answered. They are a run, and the file is
-/// then exact: over a sound table its records are the replay of the live changes; an open transaction
-/// owns a key exactly where one of its live changes is; and exactly the changes that were taken back
-/// are compensated, each once. Fault: Memory, where an answer can't be kept; the calls up to that one
-/// are made.
+/// An answer couldn't be kept, for want of memory: that of the last of the calls that were made.
+#[derive(Clone, Copy, Debug)]
+pub struct AnswerLost {
+    pub made: usize,
+}
+
+/// Makes any calls one after another, and answers what each answered. They are a run, and what stays true
+/// of a file is true of it then. So the file is exact: over a sound table its records are the replay of
+/// the live changes; an open transaction owns a key exactly where one of its live changes is; and exactly
+/// the changes that were taken back are compensated, each once. Fault: AnswerLost; the calls up to that
+/// one are made, and no other.
 pub fn run_calls<T: Table>(
     alloc: Global,
     file: &mut RecordFile<T>,
     calls: &[Call],
-) -> Result<Vec<Answer>, Memory>
+) -> Result<Vec<Answer>, AnswerLost>
     ensures ran { IfOk result (λ answers.
         MakesAll (seen T.TableState file.old) calls.now answers.items
         (seen T.TableState file.new)) }
-    ensures stopped { IfErr result (λ _. (n : ℕ) × (answers : List Answer)
-        × MakesAll (seen T.TableState file.old) (take n calls.now) answers
+    ensures stopped { IfErr result (λ lost. (answers : List Answer)
+        × MakesAll (seen T.TableState file.old) (take lost.made calls.now) answers
         (seen T.TableState file.new)) }
+    ensures made { IfErr result (λ lost. (0 < lost.made) × (lost.made ≤ length calls.now)) }
     ensures exact { IsExact (T.sound file.new.table) (T.contents file.new.table)
         file.new.file file.new.log }
+    ensures kept { IsKeptFile (T.sound file.new.table) (T.contents file.new.table)
+        (T.record_limit file.new.table) file.new.file file.new.log }
 {
     let mut answers = Vec::new(alloc);
+    let mut made = 0;
     for &call in calls {
         let answer = make_call(file, call);
+        made += 1;
         if keep(&mut answers, answer).is_err() {
-            exact(file);
-            return Err(Memory);
+            stays_true(file);
+            return Err(AnswerLost { made });
         }
     }
-    exact(file);
+    stays_true(file);
     Ok(answers)
 }

@@ -1,6 +1,7 @@
-ghost use Rattle.std.specs.Prelude.{[], ◌≡◌, ◌≢◌, ◌<◌, Some, None, Ok, Err};
+ghost use Rattle.std.specs.Prelude.{[], ◌≡◌, ◌≢◌, ◌<◌, Some, None, Ok, Err, MatchResult};
 ghost use Rattle.std.specs.FinMap as maps;
 ghost use Rattle.record_file.specs.Abstract.{new_file};
+ghost use Rattle.record_file.specs.Runs.{GivesTable};
 ghost use Rattle.record_file.specs.Steps.{BeginStep, SavepointStep, ReleaseStep, CommitStep};
 
 mod changes;
@@ -68,6 +69,8 @@ impl<T: Table> RecordFile<T> {
         ensures ended { maps.len self.file.txs ≡ 0 → result ≡ Ok self.table }
         ensures still_open { maps.len self.file.txs ≢ 0
             → result ≡ Err (record { file = self; count = maps.len self.file.txs }) }
+        ensures step { MatchResult result (λ _. GivesTable self.file None)
+            (λ still. GivesTable self.file (Some still.count)) }
     {
         let count = self.log.open_count();
         if count == 0 {

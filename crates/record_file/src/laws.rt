@@ -1,29 +1,36 @@
 //! Facts of the definitions that contracts of this crate cite.
-ghost use Rattle.std.specs.Prelude.{◌≡◌, ℕ, ◌+◌, ◌<◌, ◌≤◌, zero, Bool, true, false, List, [], ◌∷◌, ◌++◌, length, Option, Some, None, Ok, Err, IsTrue, slice_get};
+ghost use Rattle.std.specs.Prelude.{◌≡◌, ℕ, ◌+◌, ◌<◌, ◌≤◌, zero, Bool, true, false, List, [], ◌∷◌, ◌++◌, length, reverse, Option, Some, None, Ok, Err, IsTrue, slice_get};
 ghost use Rattle.std.specs.FinMap as maps;
+ghost use Rattle.std.specs.List.{All};
 ghost use Rattle.rec_types.specs.Contents.{Contents, set_to};
 ghost use Rattle.rec_types.specs.History.{Change, replay, live_of, live_from, take_back, taken_back};
 ghost use Rattle.rec_types.specs.LimitBounds.{Bounds};
 ghost use Rattle.rec_types.specs.Table.{greatest_count};
 ghost use Rattle.rec_types.specs.declared.transaction.TxId.{TxId};
+ghost use Rattle.tx_log.specs.Log.{last_of};
 ghost use Rattle.tx_log.specs.Owners.{keys_owned};
 ghost use Rattle.tx_log.specs.Transactions.{fresh, place_in};
 ghost use Rattle.record_file.specs.Abstract.{File, new_file, open_of, records_of, tx_of};
-ghost use Rattle.record_file.specs.Exact.{IsExact, IsExactSeen, CompensatesOnce, one};
+ghost use Rattle.record_file.specs.Exact.{IsExact, CompensatesOnce, one};
+ghost use Rattle.record_file.specs.Resumed.{StopsFirst, Finishes, TakesWhole, CompensatesTake};
 ghost use Rattle.record_file.specs.Remaining.{NothingFails, remaining};
 ghost use Rattle.record_file.specs.Undo.{Starts, old_records, quiet, wrote, claimed};
-ghost use Rattle.record_file.specs.Runs.{Seen, Event, Step, Run, Begin, Put, Claim, Remove, Savepoint, RollbackTo, Abort, Resume, Commit, Entries};
+ghost use Rattle.record_file.specs.Runs.{Seen, Event, Step, Run, IsKeptSeen, Begin, Put, Claim, Remove, Savepoint, RollbackTo, Abort, Resume, Commit, Entries};
 ghost use Rattle.tx_log.specs.declared.log_record.LogRecord.TheVariants.{Update, Compensation, Unclaim};
 ghost use Rattle.tx_log.specs.declared.log_record.LogRecord.TheVariants as records;
 ghost use Rattle.record_file.specs.Steps.{rose, places_at, rolling_place};
+ghost use Rattle.record_file.specs.declared.fault.Cause.TheVariants as causes;
 ghost use Rattle.record_file.specs.declared.fault.PutFault.TheVariants as put_faults;
+ghost use Rattle.record_file.specs.declared.fault.RollbackToFault.TheVariants as rollback_faults;
 ghost use Rattle.record_file.specs.declared.fault.EntriesFault.TheVariants as entries_faults;
 
-/// There are runs, and a run can't be forged: a transaction may be begun on a new file; a put isn't
+/// There are runs, and a run can't be forged: what stays true of a file is true of each start; a
+/// transaction may be begun on a new file; a put isn't
 /// refused as Full on an empty one, whatever else comes to the table; a listing that a device ended
 /// leaves its mark on the table's count; and a key that one has claimed is put by no other.
 pub fn runs()
-    ensures begins { (old : Seen) (limits : Bounds) → 1 ≤ limits.begins
+    ensures starts { (s : Seen) → Starts s → IsKeptSeen s }
+    ensures begins { (old : Seen) (limits : Bounds) → IsKeptSeen old → 1 ≤ limits.begins
         → old.file ≡ new_file maps.empty limits
         → (tx : TxId) → tx.0 ≡ 1
         → Run old (record { called = Begin (Ok tx); failed = false; refused = false } ∷ [])
@@ -47,8 +54,7 @@ pub fn runs()
           refused = refused;
         } ∷ []) new → rose old.failures new.failures ≡ false → ⊥ }
     ensures claim { (old new : Seen) (limits : Bounds) (t u : TxId)
-        → IsTrue old.sound → old.failures < greatest_count
-        → old.file ≡ new_file maps.empty limits
+        → IsTrue old.sound → old.file ≡ new_file maps.empty limits
         → Run old (
         quiet (Begin (Ok t))
         ∷ quiet (Begin (Ok u))
@@ -58,6 +64,40 @@ pub fn runs()
         ) new → ⊥ }
 {}
 
+/// Nor can a step. A finished rollback that took something back has logged it, and over a sound table the
+/// records are the replay of what is left; the record of an accepted put has the log's next number, and
+/// leads to the newest one of its transaction; and over a sound table no rollback is stopped by a damaged
+/// page.
+pub fn steps()
+    ensures unlogged { (old new : Seen) (failed refused : Bool) (t : TxId) (n undone : ℕ)
+        → Step old (record {
+          called = RollbackTo t n (Ok undone);
+          failed = failed;
+          refused = refused;
+        }) new → 0 < undone → new.log ≡ old.log → ⊥ }
+    ensures records { (old new : Seen) (failed refused : Bool) (t : TxId) (n undone : ℕ)
+        → IsTrue old.sound → Step old (record {
+          called = RollbackTo t n (Ok undone);
+          failed = failed;
+          refused = refused;
+        }) new → new.records ≡ replay old.file.opening
+        (take_back old.file.history t.0 (place_in (places_at old.file t.0) n)) }
+    ensures numbers { (old new : Seen) (failed refused : Bool) (t : TxId)
+        → (key value : List ℕ) (before : Option (List ℕ)) (lsn prev : ℕ)
+        → Step old (record {
+          called = Put t key value (Ok before);
+          failed = failed;
+          refused = refused;
+        }) new → new.log ≡ old.log ++ Update lsn prev t key before (Some value) ∷ []
+        → (lsn ≡ length old.log + 1) × (prev ≡ last_of t.0 (reverse old.log)) }
+    ensures damaged { (old new : Seen) (failed refused : Bool) (t : TxId) (n undone left page : ℕ)
+        → IsTrue old.sound → Step old (record {
+          called = RollbackTo t n (Err (rollback_faults.Stopped undone left (causes.Damaged page)));
+          failed = failed;
+          refused = refused;
+        }) new → ⊥ }
+{}
+
 /// Undo commutes. After every run from a start the old record that a live change's call answered is
 /// what the live changes before it leave at its key; and for the newest live change of a transaction
 /// that hasn't ended the replay without it is the replay with that old record put back. Of a
@@ -65,13 +105,13 @@ pub fn runs()
 /// change of one. A claim, whoever's, is nothing to the replay.
 pub fn undo_commutes()
     ensures answered { (old new : Seen) (events : List Event)
-        → Starts old → Run old events new → new.failures < greatest_count
+        → Starts old → Run old events new
         → (earlier later : List Change) (change : Change)
         → new.file.history ≡ earlier ++ change ∷ later → IsTrue change.live
         → slice_get (old_records events) (length earlier)
         ≡ Some (maps.get (replay old.records earlier) change.key) }
     ensures put_back { (old new : Seen) (events : List Event)
-        → Starts old → Run old events new → new.failures < greatest_count
+        → Starts old → Run old events new
         → (t : ℕ) → IsTrue (open_of new.file t)
         → (earlier later : List Change) (change : Change)
         → new.file.history ≡ earlier ++ change ∷ later
@@ -81,12 +121,12 @@ pub fn undo_commutes()
         → replay old.records (earlier ++ later)
         ≡ set_to (records_of new.file) change.key before }
     ensures claimed { (old new : Seen) (events : List Event)
-        → Starts old → Run old events new → new.failures < greatest_count
+        → Starts old → Run old events new
         → (earlier later : List Change) (change : Change)
         → new.file.history ≡ earlier ++ change ∷ later → change.after ≡ None
         → replay old.records (earlier ++ later) ≡ records_of new.file }
     ensures never_ended { (old mid new : Seen) (events more : List Event)
-        → Starts old → Run old events mid → Run mid more new → new.failures < greatest_count
+        → Starts old → Run old events mid → Run mid more new
         → (n : ℕ) (past now : Change) → slice_get mid.file.history n ≡ Some past
         → IsTrue past.live → open_of mid.file past.tx ≡ false
         → slice_get new.file.history n ≡ Some now → now.live ≡ false → ⊥ }
@@ -114,7 +154,7 @@ pub fn undo_commutes()
 /// put is no step.
 pub fn remaining_alone()
     ensures alone { (old new : Seen) (events : List Event)
-        → Starts old → Run old events new → new.failures < greatest_count
+        → Starts old → Run old events new
         → (end : Seen) × Run old (remaining events new.file.history) end
         × NothingFails (remaining events new.file.history)
         × (records_of end.file ≡ records_of new.file)
@@ -139,7 +179,7 @@ pub fn remaining_alone()
         ∷ quiet (Commit t (Ok tt))
         ∷ [] }
     ensures differs { (old new : Seen) (t : TxId) (key value other : List ℕ)
-        → Starts old → old.records ≡ maps.empty → old.failures < greatest_count
+        → Starts old → old.records ≡ maps.empty
         → Run old (
         quiet (Begin (Ok t)) ∷ quiet (Put t key value (Ok (Some other))) ∷ []
         ) new → ⊥ }
@@ -149,8 +189,9 @@ pub fn remaining_alone()
 /// is with every step between exact files: the log grows by one compensation of each change that was live
 /// and is no longer, and of no other. A file is not exact whose log compensates a change twice.
 pub fn compensated_once()
-    ensures step { (old new : Seen) (event : Event) → IsExactSeen old → IsExactSeen new
-        → Step old event new → CompensatesOnce old new }
+    ensures step { (old new : Seen) (event : Event) → Step old event new → CompensatesOnce old new }
+    ensures run { (old new : Seen) (events : List Event) → IsKeptSeen old → Run old events new
+        → CompensatesOnce old new }
     ensures rollback_to { (old new : Seen) (failed refused : Bool) (t : TxId) (n undone : ℕ)
         → Step old (record {
           called = RollbackTo t n (Ok undone);
@@ -171,6 +212,10 @@ pub fn compensated_once()
           refused = refused;
         }) new → new.file.history
         ≡ take_back old.file.history t.0 (rolling_place (tx_of old.file t.0)) }
+    ensures unlogged { (old new : Seen)
+        → old.log ≡ Update 1 0 one (97 ∷ []) None (Some (120 ∷ [])) ∷ [] → new.log ≡ old.log
+        → old.file.history ≡ wrote 1 97 120 ∷ []
+        → new.file.history ≡ taken_back (wrote 1 97 120) ∷ [] → CompensatesOnce old new → ⊥ }
     ensures twice { (sound : Bool) (m : Contents) (f : File) → IsExact sound m f (
         Update 1 0 one (97 ∷ []) None (Some (120 ∷ []))
         ∷ Compensation 2 1 one (97 ∷ []) None 0
@@ -183,4 +228,20 @@ pub fn compensated_once()
         ∷ Unclaim 3 2 one (97 ∷ []) 0
         ∷ []
         ) → ⊥ }
+{}
+
+/// A rollback that stops and is resumed until it is finished, with any calls of others between, has taken
+/// back its whole take, and nothing else of its transaction; and it has compensated each change of it once.
+pub fn resumed_whole()
+    ensures taken { (old new : Seen) (first last : Event) (between : List Event) (t p : ℕ)
+        → StopsFirst old.file t p first.called → All (λ e. Finishes t e.called → ⊥) between
+        → Finishes t last.called → Run old (first ∷ (between ++ last ∷ [])) new
+        → TakesWhole old t p new }
+    ensures compensated { (old new : Seen) (first last : Event) (between : List Event) (t p : ℕ)
+        → StopsFirst old.file t p first.called → All (λ e. Finishes t e.called → ⊥) between
+        → Finishes t last.called → Run old (first ∷ (between ++ last ∷ [])) new
+        → CompensatesTake old t p new }
+    ensures half { (old new : Seen) → old.file.history ≡ wrote 1 97 120 ∷ wrote 1 98 120 ∷ []
+        → new.file.history ≡ wrote 1 97 120 ∷ taken_back (wrote 1 98 120) ∷ []
+        → TakesWhole old 1 0 new → ⊥ }
 {}

@@ -6,7 +6,7 @@ mod fault;
 mod file;
 pub mod laws;
 
-pub use call::{Answer, Call, make_call, run_calls};
+pub use call::{Answer, AnswerLost, Call, make_call, run_calls};
 pub use fault::{
     AbortFault, Cause, ClaimFault, CommitFault, EntriesFault, GetFault, KeysOfFault, PutFault,
     ReleaseFault, RemoveFault, ResumeFault, RollbackToFault, SavepointFault, Status, StatusFault,

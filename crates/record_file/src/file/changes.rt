@@ -1,9 +1,10 @@
-ghost use Rattle.std.specs.Prelude.{◌≡◌, ◌≢◌, ℕ, ◌<◌, ◌&&◌, false, is_none, Option, Some, None, Ok, Err, IsTrue, IfOk, IfErr, OnErr, IfSome};
+ghost use Rattle.std.specs.Prelude.{◌≡◌, ◌≢◌, ℕ, ◌<◌, ◌&&◌, Bool, false, not, is_none, is_some, Option, Some, None, Ok, Err, IsTrue, IfOk, IfErr, OnErr, IfSome};
 ghost use Rattle.rec_types.specs.Answered.{Answered};
 ghost use Rattle.rec_types.specs.Table.{greatest_count};
 ghost use Rattle.std.specs.FinMap as maps;
 ghost use Rattle.record_file.specs.Abstract.{is_full, records_of};
-ghost use Rattle.record_file.specs.Outside.{put_cause, claim_cause, remove_cause, put_by_file, claim_by_file, remove_by_file, AsksMemory};
+ghost use Rattle.record_file.specs.Asked.{Asks, MayPut, MayRemove, looked_unless, may_be_full};
+ghost use Rattle.record_file.specs.Outside.{put_cause, claim_cause, remove_cause, put_by_file, claim_by_file, remove_by_file, AsksMemory, NeverDamaged, named_by};
 ghost use Rattle.record_file.specs.TableCalls.{ChangesTable};
 ghost use Rattle.record_file.specs.Steps.{rose, put_refusal, claim_refusal, remove_refusal, Accepts, key_change, PutStep, ClaimStep, RemoveStep};
 
@@ -28,9 +29,14 @@ impl<T: Table> RecordFile<T> {
             (key_change tx key before (Some (Some value))) self.new.file self.new.log) }
         ensures err { OnErr result ((T.contents self.new.table ≡ T.contents self.old.table)
             × (self.new.file ≡ self.old.file) × (self.new.log ≡ self.old.log)) }
+        ensures opening { IsTrue (T.sound self.old.table)
+            → self.new.file.opening ≡ self.old.file.opening }
         ensures table { ChangesTable T.TableState self.old (put_cause result) self.new }
         ensures memory { AsksMemory (T.memory_refusals self.old.table) (put_cause result)
             (T.memory_refusals self.new.table) }
+        ensures damaged { NeverDamaged (T.sound self.old.table) (put_cause result) }
+        ensures asks { Asks T.TableState (MayPut (T.sound self.old.table) self.old.file key result)
+            self.old (put_cause result) self.new }
     {
         if let Some(fault) = self.put_refusal(tx, &key) {
             return Err(fault);
@@ -61,9 +67,16 @@ impl<T: Table> RecordFile<T> {
             (key_change tx key seen None) self.new.file self.new.log) }
         ensures err { OnErr result ((T.contents self.new.table ≡ T.contents self.old.table)
             × (self.new.file ≡ self.old.file) × (self.new.log ≡ self.old.log)) }
+        ensures opening { IsTrue (T.sound self.old.table)
+            → self.new.file.opening ≡ self.old.file.opening }
         ensures table { ChangesTable T.TableState self.old (claim_cause result) self.new }
         ensures memory { AsksMemory (T.memory_refusals self.old.table) (claim_cause result)
             (T.memory_refusals self.new.table) }
+        ensures damaged { NeverDamaged (T.sound self.old.table) (claim_cause result) }
+        ensures asks { T.calls self.new.table
+            ≡ looked_unless (is_some (claim_refusal self.old.file tx.0 key)) (T.calls self.old.table) }
+        ensures named { T.damages self.new.table
+            ≡ named_by (T.damages self.old.table) (claim_cause result) }
     {
         if let Some(fault) = self.claim_refusal(tx, &key) {
             return Err(fault);
@@ -95,9 +108,15 @@ impl<T: Table> RecordFile<T> {
             (key_change tx key (Some before) (Some None)) self.new.file self.new.log) }
         ensures err { OnErr result ((T.contents self.new.table ≡ T.contents self.old.table)
             × (self.new.file ≡ self.old.file) × (self.new.log ≡ self.old.log)) }
+        ensures opening { IsTrue (T.sound self.old.table)
+            → self.new.file.opening ≡ self.old.file.opening }
         ensures table { ChangesTable T.TableState self.old (remove_cause result) self.new }
         ensures memory { AsksMemory (T.memory_refusals self.old.table) (remove_cause result)
             (T.memory_refusals self.new.table) }
+        ensures damaged { NeverDamaged (T.sound self.old.table) (remove_cause result) }
+        ensures asks { Asks T.TableState
+            (MayRemove (is_some (remove_refusal self.old.file tx.0 key)) result)
+            self.old (remove_cause result) self.new }
     {
         if let Some(fault) = self.remove_refusal(tx, &key) {
             return Err(fault);
@@ -125,6 +144,9 @@ impl<T: Table> RecordFile<T> {
         ensures no_memory { result ≢ Err TableFault.Memory }
         ensures no_room { result ≢ Err TableFault.NoRoom }
         ensures answered { Answered T.TableState self.old.table result self.new.table }
+        ensures looks { (looks : Bool)
+            × (T.calls self.new.table ≡ looked_unless (not looks) (T.calls self.old.table))
+            × (IsTrue (T.sound self.old.table) → looks ≡ may_be_full self.old.file key.now) }
     {
         if !self.is_full_if_absent(key) {
             return Ok(false);
@@ -134,7 +156,9 @@ impl<T: Table> RecordFile<T> {
 
     // Whether the key isn't charged and the charged keys have reached the limit, if no record stands there.
     fn is_full_if_absent(&self, key: &Key) -> bool
-        ensures { IsTrue (T.sound self.now.table) → is_full self.now.file key.now
+        ensures value { IsTrue (T.sound self.now.table)
+            → result ≡ may_be_full self.now.file key.now }
+        ensures full { IsTrue (T.sound self.now.table) → is_full self.now.file key.now
             ≡ result && is_none (maps.get (records_of self.now.file) key.now) }
     {
         self.charged() >= u64::from(self.table.limit()) && self.log.owner(key).is_none()

@@ -1,12 +1,14 @@
-ghost use Rattle.std.specs.Prelude.{◌≡◌, ◌+◌, ◌<◌, true, Option, Some, None, Ok, Err, IsTrue, IfOk, IfErr, IfSome, map};
+ghost use Rattle.std.specs.Prelude.{◌≡◌, ◌+◌, ◌<◌, true, is_some, Option, Some, None, Ok, Err, IsTrue, IfOk, IfErr, IfSome, map};
 ghost use Rattle.std.specs.FinMap as maps;
 ghost use Rattle.rec_types.specs.History.{log_len};
 ghost use Rattle.tx_log.specs.Log.{record_at};
 ghost use Rattle.rec_types.specs.Table.{greatest_count};
 ghost use Rattle.record_file.specs.Abstract.{charged_of, use_of, IsKeptFile};
 ghost use Rattle.tx_log.specs.LogState.{open_in, history_in};
-ghost use Rattle.record_file.specs.Outside.{get_cause, entries_cause, get_by_file, AsksMemory};
+ghost use Rattle.record_file.specs.Outside.{get_cause, entries_cause, get_by_file, AsksMemory, NeverDamaged};
 ghost use Rattle.record_file.specs.TableCalls.{LeavesTable};
+ghost use Rattle.record_file.specs.Asked.{looked_unless};
+ghost use Rattle.rec_types.specs.Calls.{with_list};
 ghost use Rattle.record_file.specs.Steps.{rose, get_refusal, GetStep, EntriesStep, KeysOfStep, entry_with, listed, status_of};
 
 use super::RecordFile;
@@ -29,6 +31,9 @@ impl<T: Table> RecordFile<T> {
             IsTrue (get_by_file fault) → get_refusal self.old.file tx.0 key.now ≡ Some fault) }
         ensures table { LeavesTable T.TableState self.old (get_cause result) self.new }
         ensures memory { T.memory_refusals self.new.table ≡ T.memory_refusals self.old.table }
+        ensures damaged { NeverDamaged (T.sound self.old.table) (get_cause result) }
+        ensures asks { T.calls self.new.table
+            ≡ looked_unless (is_some (get_refusal self.old.file tx.0 key.now)) (T.calls self.old.table) }
     {
         if let Some(fault) = self.get_refusal(tx, key) {
             return Err(fault);
@@ -47,6 +52,8 @@ impl<T: Table> RecordFile<T> {
         ensures table { LeavesTable T.TableState self.old (entries_cause result) self.new }
         ensures memory { AsksMemory (T.memory_refusals self.old.table) (entries_cause result)
             (T.memory_refusals self.new.table) }
+        ensures damaged { NeverDamaged (T.sound self.old.table) (entries_cause result) }
+        ensures asks { T.calls self.new.table ≡ with_list (T.calls self.old.table) }
     {
         let records = self.table.entries()?;
         let entries = with_owners(*records.allocator(), &self.log, &records)?;
@@ -124,7 +131,8 @@ fn with_owners(alloc: Global, log: &TxLog, records: &[(Key, Record)]) -> Result<
     ensures { IfOk result (λ entries. entries.items
         ≡ map (entry_with (open_in log.now) (history_in log.now)) records.now) }
 {
-    let mut entries = Vec::with_capacity(alloc, records.len())?;
+    // Half of this room is never touched: with it the C library keeps the memory of a list for the next one.
+    let mut entries = Vec::with_capacity(alloc, records.len().saturating_mul(2))?;
     for &(key, value) in records {
         let owner = log.owner(&key);
         entries.push(Entry { key, value, owner })?;

@@ -1,4 +1,4 @@
-ghost use Rattle.std.specs.Prelude.{◌≡◌, ◌≢◌, ℕ, ◌<◌, ◌≤◌, true, false, Some, None, Ok, Err, IsTrue, OnOk, OnErr, IfSome};
+ghost use Rattle.std.specs.Prelude.{◌≡◌, ◌<◌, ◌≤◌, true, false, Some, None, Ok, Err, IsTrue, OnOk, OnErr, IfSome};
 ghost use Rattle.std.specs.FinMap as maps;
 ghost use Rattle.rec_types.specs.History.{undo_last};
 ghost use Rattle.rec_types.specs.Table.{counted, greatest_count};
@@ -6,8 +6,9 @@ ghost use Rattle.rec_types.specs.Answered.{Answered};
 ghost use Rattle.record_file.specs.Abstract.{tx_of, phase_at};
 ghost use Rattle.tx_log.specs.Transactions.{depth_of, left_in};
 ghost use Rattle.tx_log.specs.LogState.{rolling_to, finished, IsRolling};
-ghost use Rattle.record_file.specs.Outside.{stop_cause, rollback_cause, abort_cause, resume_cause, step_cause, by_memory};
+ghost use Rattle.record_file.specs.Outside.{stop_cause, rollback_cause, abort_cause, resume_cause, step_cause, by_memory, NeverDamaged};
 ghost use Rattle.record_file.specs.TableCalls.{ChangesTable, undone_by, step_key};
+ghost use Rattle.record_file.specs.Asked.{UndoAsks, StepAsks, restores};
 ghost use Rattle.record_file.specs.Steps.{rose, RollsBackTo, RollbackToStep, Aborts, AbortStep, Resumes, ResumeStep, rollback_refusal, abort_refusal, resume_refusal, RollsBack, RollsFrom, EndsBy, places_at};
 
 use super::RecordFile;
@@ -35,6 +36,8 @@ impl<T: Table> RecordFile<T> {
         ensures table { ChangesTable T.TableState self.old (rollback_cause result) self.new }
         ensures memory { T.memory_refusals self.new.table
             ≡ counted (T.memory_refusals self.old.table) (by_memory (rollback_cause result)) }
+        ensures damaged { NeverDamaged (T.sound self.old.table) (rollback_cause result) }
+        ensures asks { UndoAsks T.TableState self.old (rollback_cause result) self.new }
     {
         match self.log.phase(tx) {
             None => Err(RollbackToFault::NoSuchTx),
@@ -66,6 +69,8 @@ impl<T: Table> RecordFile<T> {
         ensures table { ChangesTable T.TableState self.old (abort_cause result) self.new }
         ensures memory { T.memory_refusals self.new.table
             ≡ counted (T.memory_refusals self.old.table) (by_memory (abort_cause result)) }
+        ensures damaged { NeverDamaged (T.sound self.old.table) (abort_cause result) }
+        ensures asks { UndoAsks T.TableState self.old (abort_cause result) self.new }
     {
         match self.log.phase(tx) {
             None => Err(AbortFault::NoSuchTx),
@@ -92,6 +97,8 @@ impl<T: Table> RecordFile<T> {
         ensures table { ChangesTable T.TableState self.old (resume_cause result) self.new }
         ensures memory { T.memory_refusals self.new.table
             ≡ counted (T.memory_refusals self.old.table) (by_memory (resume_cause result)) }
+        ensures damaged { NeverDamaged (T.sound self.old.table) (resume_cause result) }
+        ensures asks { UndoAsks T.TableState self.old (resume_cause result) self.new }
     {
         match self.log.phase(tx) {
             None => Err(ResumeFault::NoSuchTx),
@@ -117,6 +124,8 @@ impl<T: Table> RecordFile<T> {
         ensures table { ChangesTable T.TableState self.old (stop_cause result) self.new }
         ensures memory { T.memory_refusals self.new.table
             ≡ counted (T.memory_refusals self.old.table) (by_memory (stop_cause result)) }
+        ensures damaged { NeverDamaged (T.sound self.old.table) (stop_cause result) }
+        ensures asks { UndoAsks T.TableState self.old (stop_cause result) self.new }
     {
         self.start_rollback(tx, n, ends);
         self.take_back(tx)
@@ -143,8 +152,8 @@ impl<T: Table> RecordFile<T> {
         ensures rolled { RollsBack self.old.file tx.0 result self.new.file }
         ensures opening { IsTrue (T.sound self.old.table)
             → self.new.file.opening ≡ self.old.file.opening }
-        ensures damaged { IsTrue (T.sound self.old.table)
-            → (page : ℕ) → stop_cause result ≢ Some (Cause.Damaged page) }
+        ensures damaged { NeverDamaged (T.sound self.old.table) (stop_cause result) }
+        ensures asks { UndoAsks T.TableState self.old (stop_cause result) self.new }
         ensures table { ChangesTable T.TableState self.old (stop_cause result) self.new }
         ensures memory { T.memory_refusals self.new.table
             ≡ counted (T.memory_refusals self.old.table) (by_memory (stop_cause result)) }
@@ -174,8 +183,8 @@ impl<T: Table> RecordFile<T> {
         ensures opening { IsTrue (T.sound self.old.table)
             → self.new.file.opening ≡ self.old.file.opening }
         ensures err { OnErr result (self.new.file ≡ self.old.file) }
-        ensures damaged { IsTrue (T.sound self.old.table)
-            → (page : ℕ) → step_cause result ≢ Some (Cause.Damaged page) }
+        ensures damaged { NeverDamaged (T.sound self.old.table) (step_cause result) }
+        ensures asks { UndoAsks T.TableState self.old (step_cause result) self.new }
         ensures table { ChangesTable T.TableState self.old (step_cause result) self.new }
         ensures memory { T.memory_refusals self.new.table
             ≡ counted (T.memory_refusals self.old.table) (by_memory (step_cause result)) }
@@ -216,6 +225,8 @@ fn put_back<T: Table>(table: &mut T, step: UndoStep) -> Result<(), TableFault>
         → (maps.get (T.contents table.old) (step_key step) ≡ None)
         × (T.record_limit table.old ≤ maps.len (T.contents table.old)) }
     ensures answered { Answered T.TableState table.old result table.new }
+    ensures claim { restores step ≡ false → result ≡ Ok tt }
+    ensures asks { StepAsks (T.calls table.old) step result (T.calls table.new) }
 {
     match step {
         UndoStep::Restore { key, before } => match table.set(key, before) {

@@ -9,10 +9,14 @@ use Rattle.tx_log.specs.Transactions.{Transactions, fresh}
 use Rattle.record_file.specs.Abstract.{File, new_file, is_full, charged_of}
 use Rattle.record_file.specs.Runs.{Seen}
 use Rattle.record_file.proofs.LogGrowthLemmas.{tells_none}
+use Rattle.record_file.proofs.FirstStepLemmas.{start_kept_seen, first_kept}
 use Rattle.record_file.proofs.laws.runs.Goals as goal
 
+pub returns-clause-starts : goal.returns-clause-starts
+returns-clause-starts c = start_kept_seen
+
 pub returns-clause-begins : goal.returns-clause-begins
-returns-clause-begins c = λ old limits some is tx one.
+returns-clause-begins c = λ old limits kept some is tx one.
     let none = ap (λ (f : File). f.begun) is in
     let begun : old.file.begun + 1 ≡ 1 = ap (λ n. n + 1) none in
     let txs : maps.insert old.file.txs (old.file.begun + 1) fresh ≡ maps.insert maps.empty 1 fresh = λ i. maps.insert (ap (λ (f : File). f.txs) is i) (begun i) fresh in
@@ -20,6 +24,9 @@ returns-clause-begins c = λ old limits some is tx one.
     let limit = ap (λ (f : File). f.limits.begins) is in (
       new,
       record {
+        kept = kept;
+        keeps = first_kept old limits kept some is;
+        undamaged = λ sound page named. absurd (cc named);
         failures = refl;
         refusals = refl;
         sound = refl;

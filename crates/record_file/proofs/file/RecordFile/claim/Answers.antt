@@ -1,17 +1,13 @@
-use Rattle.std.proofs.Common.{ℕ, ◌&&◌, not, is_some, is_none, false, List, Option, Result, Err, ◌≡◌, ◌≤◌, ◌+◌, Some, None, IsTrue, ap, sym, subst, [], ◌∷◌, ◌++◌, ◌∙◌, rules, arith}
+use Rattle.std.proofs.Common.{ℕ, ◌&&◌, not, is_some, is_none, false, List, Option, ◌≡◌, ◌≤◌, ◌+◌, None, IsTrue, ap, sym, subst, [], ◌∷◌, ◌++◌, ◌∙◌}
 use Rattle.std.specs.FinMap as maps
 use Rattle.tx_log.specs.LogState.{LogState, use_in, update_in}
 use Rattle.tx_log.specs.declared.log_record.LogRecord.{LogRecord}
 use Rattle.record_file.specs.Abstract.{File, OpenFile, file_of, is_full, records_of, with_change}
-use Rattle.std.proofs.lemmas.Result.{err_from_is_err_and}
-use Rattle.rec_types.specs.Table.{is_device, counted}
-use Rattle.rec_types.specs.declared.table.TableFault.TheVariants as table_faults
-use Rattle.record_file.specs.declared.fault.ClaimFault.{ClaimFault}
-use Rattle.record_file.specs.Steps.{rose, put_refusal, claim_fault, claim_refusal, ClaimStep, Accepts, key_change}
+use Rattle.record_file.specs.Steps.{put_refusal, claim_fault, claim_refusal, Accepts, key_change}
 use Rattle.record_file.proofs.FaultLemmas.{none_by, unmapped, rose_same}
 use Rattle.record_file.proofs.FullnessLemmas.{put_accepts, room_now, stands_not_full}
 use Rattle.record_file.proofs.InvariantLemmas.{change_kept, change_file, change_accepted}
-use Rattle.record_file.proofs.TableCallLemmas.{changes_asked, changes_set, changes_then}
+use Rattle.record_file.proofs.TableCallLemmas.{changes_set}
 use Rattle.record_file.proofs.file.RecordFile.claim.Given as given
 use Rattle.record_file.proofs.file.RecordFile.claim.Goals as goal
 use Rattle.record_file.proofs.file.RecordFile.claim.Goals.{After-reserve, else-full-via-then-full+else-is_none, else-full-via-else-full}
@@ -37,7 +33,7 @@ module _ (g : given.Over) (c : After-reserve g) where
 
   not_full : IsTrue (g.T.TableState.sound c.args.self.now.table) → is_full c.args.self.now.file c.args.key ≡ false
   not_full sound =
-      let told = c.is_full_if_absent-full.ensures sound in
+      let told = c.is_full_if_absent-full.ensures.full sound in
       let found = ap (λ o. is_some o) (stood sound) in
       elim c.else-full.branch [
         | else-full-via-then-full+else-is_none w ↦ stands_not_full _ _ (maps.get (records_of c.args.self.now.file) c.args.key) told (sym found ∙ w.is_none.ensures ∙ ap not w.if-is_none.false)
@@ -81,6 +77,11 @@ returns-clause-accepted g c =
     (subst (λ (l : List LogRecord). Accepts c.args.self.now.file l (key_change c.args.tx c.args.key c.copied-told.result None) F c.accept_claim-lsn.new.self.records) (ap (λ (s : OpenFile _). s.log) c.self.view_is)
     (subst (λ (f : File). Accepts f c.self.inside.log.records (key_change c.args.tx c.args.key c.copied-told.result None) F c.accept_claim-lsn.new.self.records) (link g place)
     (change_accepted _ _ _ c.self.inside.log c.self.invariant c.in_ok-reserve.ensures.kept (g.T.TableState.contents c.get.new.self) c.reserve.new.self c.accept_claim-lsn.new.self c.args.tx c.args.key c.copied-told.result None c.in_ok-reserve.ensures.ok c.accept_claim-lsn.ensures.after)))
+
+pub returns-clause-opening : goal.returns-clause-opening
+returns-clause-opening g c = λ sound.
+    let place = (goal.at.returns-clause-opening g c).After-reserve in
+    ap (λ (f : File). f.opening) (change_file _ _ _ c.self.inside.log c.self.invariant c.in_ok-reserve.ensures.kept (g.T.TableState.contents c.get.new.self) c.reserve.new.self c.accept_claim-lsn.new.self c.args.tx c.args.key c.in_ok-seen.seen c.copied-told.result _ c.in_ok-reserve.ensures.ok c.in_ok-seen.ensures.same (c.in_ok-seen.ensures.value (sound_is g place ∙ sound)) (c.copied-told.ensures ∙ c.as_ref.ensures.value) c.accept_claim-lsn.ensures.after ∙ ap (λ (f : File). with_change f c.args.tx.0 c.args.key None) (link g place))
 
 pub returns-clause-table : goal.returns-clause-table
 returns-clause-table g c =

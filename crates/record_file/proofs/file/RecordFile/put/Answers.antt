@@ -1,14 +1,19 @@
-use Rattle.std.proofs.Common.{ℕ, false, List, Option, Result, Err, ◌≡◌, ◌≤◌, ◌+◌, Some, None, IsTrue, ap, sym, subst, [], ◌∷◌, ◌++◌, ◌∙◌, rules, arith}
+use Rattle.std.proofs.Common.{ℕ, Bool, false, List, Option, not, true, refl, Result, Ok, Err, ◌≡◌, ◌≤◌, ◌+◌, Some, None, IsTrue, ap, sym, subst, [], ◌∷◌, ◌++◌, ◌∙◌, rules, arith}
 use Rattle.std.specs.FinMap as maps
 use Rattle.tx_log.specs.LogState.{LogState, use_in, update_in}
 use Rattle.tx_log.specs.declared.log_record.LogRecord.{LogRecord}
+use Rattle.record_file.specs.Asked.{looked_unless, TellsLost}
+use Rattle.record_file.specs.Outside.{named_by}
+use Rattle.record_file.specs.declared.fault.Cause.{Cause}
+use Rattle.rec_types.specs.Calls.{is_no_room, is_miss}
 use Rattle.record_file.specs.Abstract.{File, OpenFile, file_of, is_full, records_of, with_change}
 use Rattle.std.proofs.lemmas.Result.{err_from_is_err_and}
-use Rattle.rec_types.specs.Table.{is_device, counted}
+use Rattle.rec_types.specs.Table.{is_device, counted, damaged_by}
 use Rattle.rec_types.specs.declared.table.TableFault.TheVariants as table_faults
 use Rattle.record_file.specs.declared.fault.PutFault.{PutFault}
 use Rattle.record_file.specs.Steps.{rose, put_refusal, PutStep, Accepts, key_change}
-use Rattle.record_file.proofs.FaultLemmas.{none_by, rose_same, put_err}
+use Rattle.record_file.proofs.AskedLemmas.{looking, looked_is, set_after, told_named, told_lost, put_loses_none, put_cause_is, never_full, put_refused}
+use Rattle.record_file.proofs.FaultLemmas.{none_by, rose_same, put_err, untold}
 use Rattle.record_file.proofs.FileLemmas.{put_has_room}
 use Rattle.record_file.proofs.FullnessLemmas.{put_accepts, room_now}
 use Rattle.record_file.proofs.InvariantLemmas.{change_kept, change_file, change_accepted}
@@ -30,6 +35,20 @@ module _ (g : given.Over) (c : After-reserve g) where
 
   not_full : IsTrue (g.T.TableState.sound c.args.self.now.table) → is_full c.args.self.now.file c.args.key ≡ false
   not_full sound = sym (c.in_ok-is_full.ensures.value sound) ∙ c.if-branch.false
+
+  -- so a sound table has room
+  has_room : IsTrue (g.T.TableState.sound c.args.self.now.table) → maps.get (g.T.TableState.contents c.self.inside.table) c.args.key ≡ None → g.T.TableState.record_limit c.self.inside.table ≤ maps.len (g.T.TableState.contents c.self.inside.table) → ⊥
+  has_room sound absent reached =
+      let here = sound_is ∙ sound in
+      let room = room_now c.self.inside.log (g.T.TableState.contents c.self.inside.table) c.args.key (c.self.invariant.fits here) (sym (not_full sound) ∙ ap (λ (f : File). is_full f c.args.key) (sym link)) in
+      put_has_room _ c.self.inside.log.changes (g.T.TableState.contents c.self.inside.table) c.self.inside.log.limits.records c.args.key (c.self.invariant.within here) room absent (omega (arith, reached, c.self.invariant.limited))
+
+  -- how often the table was asked before
+  seen : g.T.TableState.calls c.self.inside.table ≡ looked_unless (not c.is_full.ensures.looks.0) (g.T.TableState.calls c.args.self.now.table)
+  seen = ap (λ (s : OpenFile _). g.T.TableState.calls s.table) c.self.view_is ∙ c.is_full.ensures.looks.1
+
+  named : g.T.TableState.damages c.self.inside.table ≡ g.T.TableState.damages c.is_full.new.self.table
+  named = ap (λ (s : OpenFile _). g.T.TableState.damages s.table) c.self.view_is
 
 pub accept-lsn-requires-clause-fits : goal.accept-lsn-requires-clause-fits
 accept-lsn-requires-clause-fits g c =
@@ -70,6 +89,12 @@ returns-clause-accepted g c =
     (subst (λ (f : File). Accepts f c.self.inside.log.records (key_change c.args.tx c.args.key c.copied-told.result (Some (Some c.args.value))) F c.accept-lsn.new.self.records) (link g place)
     (change_accepted _ _ _ c.self.inside.log c.self.invariant c.in_ok-reserve.ensures.kept (g.T.TableState.contents c.set.new.self) c.reserve.new.self c.accept-lsn.new.self c.args.tx c.args.key c.copied-told.result (Some (Some c.args.value)) c.in_ok-reserve.ensures.ok c.accept-lsn.ensures.after)))
 
+pub returns-clause-opening : goal.returns-clause-opening
+returns-clause-opening g c = λ sound.
+    let place = (goal.at.returns-clause-opening g c).After-reserve in
+    let here = sound_is g place ∙ sound in
+    ap (λ (f : File). f.opening) (change_file _ _ _ c.self.inside.log c.self.invariant c.in_ok-reserve.ensures.kept (g.T.TableState.contents c.set.new.self) c.reserve.new.self c.accept-lsn.new.self c.args.tx c.args.key c.in_ok-before.before c.copied-told.result _ c.in_ok-reserve.ensures.ok (c.in_ok-before.ensures.ok here) (c.in_ok-before.ensures.value here) (c.copied-told.ensures ∙ c.as_ref.ensures.value) c.accept-lsn.ensures.after ∙ ap (λ (f : File). with_change f c.args.tx.0 c.args.key (Some (Some c.args.value))) (link g place))
+
 pub returns-clause-err : goal.returns-clause-err
 returns-clause-err g c = tt
 
@@ -102,10 +127,87 @@ returns-in_err-before-clause-step g c = λ sound lt.
     let counts = c.in_err-before.ensures.answered.device ∙ ap (λ n. counted n (is_device {A = Option (List ℕ)} (Err c.in_err-before.field-0.0))) (ap (λ (s : OpenFile _). g.T.TableState.device_failures s.table) c.self.view_is ∙ c.in_ok-is_full.ensures.answered.device) in
     let told = err_from_is_err_and c.from_residual-in_err-before.result c.from_residual-in_err-before.ensures.1 in
     let same = (λ i. file_of (c.in_ok-reserve.ensures.ok i) (c.in_err-before.ensures.err i)) ∙ link g place in
-    let room = room_now c.self.inside.log (g.T.TableState.contents c.self.inside.table) c.args.key (c.self.invariant.fits here) (sym (not_full g place sound) ∙ ap (λ (f : File). is_full f c.args.key) (sym (link g place))) in
     subst (λ (r : Result (Option (List ℕ)) PutFault). PutStep c.args.self.now.file c.args.tx.0 c.args.key c.args.value (rose (g.T.TableState.device_failures c.args.self.now.table) (g.T.TableState.device_failures c.set.new.self)) r (file_of c.reserve.new.self (g.T.TableState.contents c.set.new.self))) (sym (told.1 ∙ ap Err told.2))
     (put_err c.args.self.now.file _ c.args.tx.0 c.args.key c.args.value _ _ c.in_err-before.field-0.0 (none g place) (not_full g place sound) same lt counts
     (λ (is : c.in_err-before.field-0.0 ≡ table_faults.NoRoom).
     let full = c.in_err-before.ensures.no_room here (ap Err is) in
-    absurd (put_has_room _ c.self.inside.log.changes (g.T.TableState.contents c.self.inside.table) c.self.inside.log.limits.records c.args.key (c.self.invariant.within here) room full.1 (omega (arith, full.2, c.self.invariant.limited))))
+    absurd (has_room g place sound full.1 full.2))
     (λ (page : ℕ) (is : c.in_err-before.field-0.0 ≡ table_faults.Damaged page). c.in_err-before.ensures.answered.whole here page (ap Err is)))
+
+pub returns-in_err-before-clause-damaged : goal.returns-in_err-before-clause-damaged
+returns-in_err-before-clause-damaged g c = λ sound page.
+    let place = (goal.at.returns-in_err-before-clause-damaged g c).After-reserve in
+    let here = sound_is g place ∙ sound in
+    let told = err_from_is_err_and c.from_residual-in_err-before.result c.from_residual-in_err-before.ensures.1 in
+    rw (told.1, told.2) (λ is. untold c.in_err-before.field-0.0
+    (λ (is : c.in_err-before.field-0.0 ≡ table_faults.NoRoom). let full = c.in_err-before.ensures.no_room here (ap Err is) in has_room g place sound full.1 full.2)
+    (λ (page : ℕ) (is : c.in_err-before.field-0.0 ≡ table_faults.Damaged page). c.in_err-before.ensures.answered.whole here page (ap Err is)) page (sym (put_cause_is c.in_err-before.field-0.0) ∙ is))
+
+-- what was asked of the table
+
+pub returns-in-Some-clause-asks : goal.returns-in-Some-clause-asks
+returns-in-Some-clause-asks g c = record {
+  asked = looking false;
+  allowed = record { accepted = tt; full = λ _. refl; looks = λ _ looked. absurd (cc) };
+  calls = refl;
+  lost = sym (ap (named_by (g.T.TableState.damages c.args.self.now.table)) (put_refused c.args.self.now.file c.args.tx.0 c.args.key c.in-Some.fault (sym c.put_refusal.ensures ∙ c.in-Some.is)));
+}
+
+pub returns-in_err-is_full-clause-asks : goal.returns-in_err-is_full-clause-asks
+returns-in_err-is_full-clause-asks g c =
+    let told = err_from_is_err_and c.from_residual.result c.from_residual.ensures.1 in
+    let fault = c.in_err-is_full.field-0.0 in
+    let looks = c.is_full.ensures.looks in
+    rw (told.1, told.2) (record {
+      asked = looking looks.0;
+      allowed = record { accepted = tt; full = λ _. refl; looks = λ sound looked. sym (looks.2 sound) ∙ looked };
+      calls = looks.1 ∙ looked_is looks.0 (g.T.TableState.calls c.args.self.now.table);
+      lost = told_named Bool fault _ _ (λ is. c.in_err-is_full.ensures.no_room (ap Err is)) c.in_err-is_full.ensures.answered.damages ∙ ap (named_by (g.T.TableState.damages c.args.self.now.table)) (sym (put_cause_is fault));
+    })
+
+pub returns-then-branch-clause-asks : goal.returns-then-branch-clause-asks
+returns-then-branch-clause-asks g c =
+    let looks = c.is_full.ensures.looks in
+    record {
+      asked = looking looks.0;
+      allowed = record { accepted = tt; full = λ _. refl; looks = λ sound looked. sym (looks.2 sound) ∙ looked };
+      calls = looks.1 ∙ looked_is looks.0 (g.T.TableState.calls c.args.self.now.table);
+      lost = c.in_ok-is_full.ensures.answered.damages;
+    }
+
+pub returns-in_err-reserve-clause-asks : goal.returns-in_err-reserve-clause-asks
+returns-in_err-reserve-clause-asks g c =
+    let told = err_from_is_err_and c.from_residual-in_err-reserve.result c.from_residual-in_err-reserve.ensures.1 in
+    let looks = c.is_full.ensures.looks in
+    rw (told.1, told.2) (record {
+      asked = looking looks.0;
+      allowed = record { accepted = tt; full = λ _. refl; looks = λ sound looked. sym (looks.2 sound) ∙ looked };
+      calls = ap (λ (s : OpenFile _). g.T.TableState.calls s.table) c.self.view_is ∙ looks.1 ∙ looked_is looks.0 (g.T.TableState.calls c.args.self.now.table);
+      lost = ap (λ (s : OpenFile _). g.T.TableState.damages s.table) c.self.view_is ∙ c.in_ok-is_full.ensures.answered.damages;
+    })
+
+pub returns-in_err-before-clause-asks : goal.returns-in_err-before-clause-asks
+returns-in_err-before-clause-asks g c =
+    let place = (goal.at.returns-in_err-before-clause-asks g c).After-reserve in
+    let told = err_from_is_err_and c.from_residual-in_err-before.result c.from_residual-in_err-before.ensures.1 in
+    let fault = c.in_err-before.field-0.0 in
+    let looks = c.is_full.ensures.looks in
+    let before = named g place ∙ c.in_ok-is_full.ensures.answered.damages in
+    rw (told.1, told.2) (record {
+      asked = record { looks = looks.0; sets = true; no_room = is_no_room {A = Option (List ℕ)} (Err fault); lost = false };
+      allowed = record { accepted = tt; full = λ is. absurd (never_full fault is); looks = λ sound looked. sym (looks.2 sound) ∙ looked };
+      calls = set_after looks.0 false (g.T.TableState.calls c.args.self.now.table) (g.T.TableState.calls c.self.inside.table) (g.T.TableState.calls c.set.new.self) (Err fault) (seen g place) c.in_err-before.ensures.calls;
+      lost = subst (λ (cause : Option Cause). TellsLost (is_no_room {A = Option (List ℕ)} (Err fault)) (g.T.TableState.damages c.args.self.now.table) cause (g.T.TableState.damages c.set.new.self)) (sym (put_cause_is fault))
+          (told_lost (Option (List ℕ)) fault _ _ (c.in_err-before.ensures.answered.damages ∙ ap (λ d. damaged_by {A = Option (List ℕ)} d (Err fault)) before));
+    })
+
+pub returns-clause-asks : goal.returns-clause-asks
+returns-clause-asks g c =
+    let place = (goal.at.returns-clause-asks g c).After-reserve in
+    let looks = c.is_full.ensures.looks in
+    record {
+      asked = record { looks = looks.0; sets = true; no_room = false; lost = is_miss false (Ok c.in_ok-before.before) };
+      allowed = record { accepted = refl; full = λ is. absurd (cc); looks = λ sound looked. sym (looks.2 sound) ∙ looked };
+      calls = set_after looks.0 false (g.T.TableState.calls c.args.self.now.table) (g.T.TableState.calls c.self.inside.table) (g.T.TableState.calls c.set.new.self) (Ok c.in_ok-before.before) (seen g place) c.in_ok-before.ensures.calls;
+      lost = put_loses_none c.in_ok-before.before _ _ (c.in_ok-before.ensures.answered.damages ∙ named g place ∙ c.in_ok-is_full.ensures.answered.damages);
+    }

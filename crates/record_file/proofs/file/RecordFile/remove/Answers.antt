@@ -1,16 +1,23 @@
-use Rattle.std.proofs.Common.{rules, Some, None, ◌≤◌, ◌+◌, ap, sym, subst, [], ◌∷◌, ◌++◌, ◌≡◌, IsTrue, ◌∙◌}
+use Rattle.std.proofs.Common.{rules, ℕ, List, Option, true, false, not, is_some, refl, Ok, Err, Some, None, ◌≤◌, ◌+◌, ap, sym, subst, [], ◌∷◌, ◌++◌, ◌≡◌, IsTrue, ◌∙◌}
 use Rattle.std.specs.FinMap as maps
 use Rattle.rec_types.specs.Contents.{set_to}
 use Rattle.tx_log.specs.LogState.{LogState, use_in, update_in, open_in, history_in}
+use Rattle.record_file.specs.Asked.{looked_unless, TellsLost}
+use Rattle.record_file.specs.Outside.{named_by}
+use Rattle.record_file.specs.declared.fault.Cause.{Cause}
+use Rattle.std.proofs.lemmas.Result.{err_from_is_err_and}
+use Rattle.rec_types.specs.Calls.{with_get, is_no_room, is_miss}
+use Rattle.rec_types.specs.Table.{damaged_by}
 use Rattle.record_file.specs.Abstract.{File, OpenFile, file_of, records_of, with_change}
 use Rattle.record_file.specs.Steps.{remove_refusal, Accepts, key_change}
+use Rattle.record_file.proofs.AskedLemmas.{looking, set_after, told_named, told_lost, found_loses_none, none_is_lost, remove_cause_is, never_absent, remove_refused}
 use Rattle.record_file.proofs.FaultLemmas.{none_by, rose_same}
 use Rattle.record_file.proofs.FullnessLemmas.{remove_accepts, present_charged}
 use Rattle.record_file.proofs.InvariantLemmas.{change_kept, change_file, change_accepted}
 use Rattle.record_file.proofs.TableCallLemmas.{answered_then, changes_set}
 use Rattle.record_file.proofs.file.RecordFile.remove.Given as given
 use Rattle.record_file.proofs.file.RecordFile.remove.Goals as goal
-use Rattle.record_file.proofs.file.RecordFile.remove.Goals.{After-accept-lsn}
+use Rattle.record_file.proofs.file.RecordFile.remove.Goals.{After-get, After-accept-lsn}
 
 -- what the change did to the table that was lent
 module _ (g : given.Over) (c : After-accept-lsn g) where
@@ -50,6 +57,13 @@ returns-in-Some-2-clause-step g c = λ sound lt.
           ∙ ap (λ (f : File). with_change f c.args.tx.0 key (Some None)) link,
     )
 
+pub returns-in-Some-2-clause-opening : goal.returns-in-Some-2-clause-opening
+returns-in-Some-2-clause-opening g c = λ sound.
+    let key = c.args.key in
+    let here = ap (λ (s : OpenFile _). g.T.TableState.sound s.table) c.self.view_is ∙ sound in
+    let place = (goal.at.returns-in-Some-2-clause-opening g c).After-accept-lsn in
+    ap (λ (f : File). f.opening) (change_file _ _ _ c.self.inside.log c.self.invariant c.in_ok-reserve.ensures.kept (g.T.TableState.contents c.set.new.self) c.reserve.new.self c.accept-lsn.new.self c.args.tx key c.in_ok-taken.field-0 (Some c.in-Some-2.taken) (Some None) c.in_ok-reserve.ensures.ok (put g place here) (stood g place here) (sym c.in-Some-2.is) c.accept-lsn.ensures.after ∙ ap (λ (f : File). with_change f c.args.tx.0 key (Some None)) (ap (λ (s : OpenFile _). s.file) c.self.view_is))
+
 pub returns-in-Some-2-clause-accepted : goal.returns-in-Some-2-clause-accepted
 returns-in-Some-2-clause-accepted g c =
     subst (λ (s : OpenFile _). Accepts s.file s.log (key_change c.args.tx c.args.key (Some c.in-Some-2.taken) (Some None)) (file_of c.accept-lsn.new.self (g.T.TableState.contents c.set.new.self)) c.accept-lsn.new.self.records) c.self.view_is
@@ -72,3 +86,92 @@ returns-in-None-clause-table g c = search rules
 
 pub returns-in-None-clause-err : goal.returns-in-None-clause-err
 returns-in-None-clause-err g c = search rules
+
+-- what was asked of the table
+
+module _ (g : given.Over) (c : After-get g) where
+  unrefused : remove_refusal c.args.self.now.file c.args.tx.0 c.args.key ≡ None
+  unrefused = sym c.remove_refusal.ensures ∙ none_by c.remove_refusal.result c.in_default.not-Some
+
+  looked : true ≡ not (is_some (remove_refusal c.args.self.now.file c.args.tx.0 c.args.key))
+  looked = sym (ap (λ o. not (is_some o)) unrefused)
+
+  seen : g.T.TableState.calls c.get.new.self ≡ looked_unless (not true) (g.T.TableState.calls c.args.self.now.table)
+  seen = c.get.ensures.calls ∙ ap (λ (s : OpenFile _). with_get (g.T.TableState.calls s.table)) c.self.view_is
+
+  named : g.T.TableState.damages c.self.inside.table ≡ g.T.TableState.damages c.args.self.now.table
+  named = ap (λ (s : OpenFile _). g.T.TableState.damages s.table) c.self.view_is
+
+pub returns-in-Some-clause-asks : goal.returns-in-Some-clause-asks
+returns-in-Some-clause-asks g c = record {
+  asked = looking false;
+  allowed = record { accepted = tt; absent = λ _. refl; looks = ap (λ o. not (is_some o)) (sym c.in-Some.is ∙ c.remove_refusal.ensures) };
+  calls = refl;
+  lost = sym (ap (named_by (g.T.TableState.damages c.args.self.now.table)) (remove_refused c.args.self.now.file c.args.tx.0 c.args.key c.in-Some.fault (sym c.remove_refusal.ensures ∙ c.in-Some.is)));
+}
+
+pub returns-in_err-get-clause-asks : goal.returns-in_err-get-clause-asks
+returns-in_err-get-clause-asks g c =
+    let place = (goal.at.returns-in_err-get-clause-asks g c).After-get in
+    let told = err_from_is_err_and c.from_residual.result c.from_residual.ensures.1 in
+    let fault = c.in_err-get.field-0.0 in
+    rw (told.1, told.2) (record {
+      asked = looking true;
+      allowed = record { accepted = tt; absent = λ _. refl; looks = looked g place };
+      calls = seen g place;
+      lost = told_named (Option (List ℕ)) fault _ _ (λ is. c.in_err-get.ensures.no_room (ap Err is)) (c.in_err-get.ensures.answered.damages ∙ ap (λ d. damaged_by {A = Option (List ℕ)} d (Err fault)) (named g place)) ∙ ap (named_by (g.T.TableState.damages c.args.self.now.table)) (sym (remove_cause_is fault));
+    })
+
+pub returns-then-is_none-clause-asks : goal.returns-then-is_none-clause-asks
+returns-then-is_none-clause-asks g c =
+    let place = (goal.at.returns-then-is_none-clause-asks g c).After-get in
+    record {
+      asked = looking true;
+      allowed = record { accepted = tt; absent = λ _. refl; looks = looked g place };
+      calls = seen g place;
+      lost = c.in_ok-get.ensures.answered.damages ∙ named g place;
+    }
+
+pub returns-in_err-reserve-clause-asks : goal.returns-in_err-reserve-clause-asks
+returns-in_err-reserve-clause-asks g c =
+    let place = (goal.at.returns-in_err-reserve-clause-asks g c).After-get in
+    let told = err_from_is_err_and c.from_residual-in_err-reserve.result c.from_residual-in_err-reserve.ensures.1 in
+    rw (told.1, told.2) (record {
+      asked = looking true;
+      allowed = record { accepted = tt; absent = λ _. refl; looks = looked g place };
+      calls = seen g place;
+      lost = c.in_ok-get.ensures.answered.damages ∙ named g place;
+    })
+
+pub returns-in_err-taken-clause-asks : goal.returns-in_err-taken-clause-asks
+returns-in_err-taken-clause-asks g c =
+    let place = (goal.at.returns-in_err-taken-clause-asks g c).After-get in
+    let told = err_from_is_err_and c.from_residual-in_err-taken.result c.from_residual-in_err-taken.ensures.1 in
+    let fault = c.in_err-taken.field-0.0 in
+    rw (told.1, told.2) (record {
+      asked = record { looks = true; sets = true; no_room = is_no_room {A = Option (List ℕ)} (Err fault); lost = false };
+      allowed = record { accepted = tt; absent = λ is. absurd (never_absent fault is); looks = looked g place };
+      calls = set_after true true (g.T.TableState.calls c.args.self.now.table) (g.T.TableState.calls c.get.new.self) (g.T.TableState.calls c.set.new.self) (Err fault) (seen g place) c.in_err-taken.ensures.calls;
+      lost = subst (λ (cause : Option Cause). TellsLost (is_no_room {A = Option (List ℕ)} (Err fault)) (g.T.TableState.damages c.args.self.now.table) cause (g.T.TableState.damages c.set.new.self)) (sym (remove_cause_is fault))
+          (told_lost (Option (List ℕ)) fault _ _ (c.in_err-taken.ensures.answered.damages ∙ ap (λ d. damaged_by {A = Option (List ℕ)} d (Err fault)) (c.in_ok-get.ensures.answered.damages ∙ named g place)));
+    })
+
+pub returns-in-Some-2-clause-asks : goal.returns-in-Some-2-clause-asks
+returns-in-Some-2-clause-asks g c =
+    let place = (goal.at.returns-in-Some-2-clause-asks g c).After-get in
+    record {
+      asked = record { looks = true; sets = true; no_room = false; lost = is_miss true (Ok c.in_ok-taken.field-0) };
+      allowed = record { accepted = refl; absent = λ is. absurd (cc); looks = looked g place };
+      calls = set_after true true (g.T.TableState.calls c.args.self.now.table) (g.T.TableState.calls c.get.new.self) (g.T.TableState.calls c.set.new.self) (Ok c.in_ok-taken.field-0) (seen g place) c.in_ok-taken.ensures.calls;
+      lost = found_loses_none c.in_ok-taken.field-0 c.in-Some-2.taken _ _ c.in-Some-2.is (c.in_ok-taken.ensures.answered.damages ∙ c.in_ok-get.ensures.answered.damages ∙ named g place);
+    }
+
+pub returns-in-None-clause-asks : goal.returns-in-None-clause-asks
+returns-in-None-clause-asks g c =
+    let place = (goal.at.returns-in-None-clause-asks g c).After-get in
+    record {
+      asked = record { looks = true; sets = true; no_room = false; lost = is_miss true (Ok c.in_ok-taken.field-0) };
+      allowed = record { accepted = tt; absent = λ is. absurd (cc); looks = looked g place };
+      calls = set_after true true (g.T.TableState.calls c.args.self.now.table) (g.T.TableState.calls c.get.new.self) (g.T.TableState.calls c.set.new.self) (Ok c.in_ok-taken.field-0) (seen g place) c.in_ok-taken.ensures.calls;
+      lost = none_is_lost c.in_ok-taken.field-0 _ _ c.in-None.is (c.in_ok-taken.ensures.answered.damages ∙ c.in_ok-get.ensures.answered.damages ∙ named g place);
+    }

@@ -1,9 +1,10 @@
-use Rattle.std.proofs.Common.{◌≡◌, rules, Some, None, sym, ap, ◌∙◌}
+use Rattle.std.proofs.Common.{◌≡◌, rules, Some, None, refl, sym, ap, ◌∙◌}
 use Rattle.std.proofs.lemmas.Result.{err_from_is_err_and}
 use Rattle.tx_log.specs.declared.phase.Phase.{Phase}
 use Rattle.record_file.specs.Abstract.{OpenFile, phase_at}
 use Rattle.record_file.specs.Steps.{resume_in, resume_refusal}
 use Rattle.record_file.proofs.RollbackLemmas.{ends_by}
+use Rattle.record_file.proofs.AskedLemmas.{undo_none}
 use Rattle.record_file.proofs.file.RecordFile.resume.Given as given
 use Rattle.record_file.proofs.file.RecordFile.resume.Goals as goal
 use Rattle.record_file.proofs.file.RecordFile.resume.Goals.{After-take_back}
@@ -44,3 +45,14 @@ returns-in-Some-Active-clause-rolled g c = search rules
 
 pub returns-in-Some-Active-clause-refused : goal.returns-in-Some-Active-clause-refused
 returns-in-Some-Active-clause-refused g c = search rules
+
+pub returns-in-None-clause-asks : goal.returns-in-None-clause-asks
+returns-in-None-clause-asks g c = undo_none g.T.TableState c.args.self.now c.args.self.now refl refl
+
+pub returns-in-Some-Active-clause-asks : goal.returns-in-Some-Active-clause-asks
+returns-in-Some-Active-clause-asks g c = undo_none g.T.TableState c.args.self.now c.args.self.now refl refl
+
+pub returns-in_err-take_back-in-Some-Rolling-clause-damaged : goal.returns-in_err-take_back-in-Some-Rolling-clause-damaged
+returns-in_err-take_back-in-Some-Rolling-clause-damaged g c =
+    let p = err_from_is_err_and c.from_residual.result c.from_residual.ensures.1 in
+    rw (p.1, p.2) c.in_err-take_back-in-Some-Rolling.ensures.damaged

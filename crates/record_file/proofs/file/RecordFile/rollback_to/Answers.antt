@@ -1,10 +1,11 @@
-use Rattle.std.proofs.Common.{◌≡◌, ◌≤◌, Some, None, sym, ap, subst, ◌∙◌}
+use Rattle.std.proofs.Common.{◌≡◌, ◌≤◌, Some, None, refl, sym, ap, subst, ◌∙◌}
 use Rattle.std.proofs.lemmas.Result.{err_from_is_err_and}
 use Rattle.tx_log.specs.Transactions.{depth_of}
 use Rattle.tx_log.specs.declared.phase.Phase.{Phase}
 use Rattle.record_file.specs.Abstract.{OpenFile, phase_at, tx_of}
 use Rattle.record_file.specs.Steps.{rollback_refusal}
 use Rattle.record_file.proofs.RollbackLemmas.{rollback_starts}
+use Rattle.record_file.proofs.AskedLemmas.{undo_none}
 use Rattle.record_file.proofs.file.RecordFile.rollback_to.Given as given
 use Rattle.record_file.proofs.file.RecordFile.rollback_to.Goals as goal
 use Rattle.record_file.proofs.file.RecordFile.rollback_to.Goals.{After-roll_back}
@@ -37,3 +38,17 @@ returns-in_err-roll_back-in-Some-Active-clause-step g c = λ sound few fewer.
       c.in_err-roll_back-in-Some-Active.ensures.opening sound,
       rw (p.1, p.2) (c.in_err-roll_back-in-Some-Active.ensures.ended sound few fewer),
     )
+
+pub returns-then-n-depth-clause-asks : goal.returns-then-n-depth-clause-asks
+returns-then-n-depth-clause-asks g c = undo_none g.T.TableState c.args.self.now c.args.self.now refl refl
+
+pub returns-in-None-clause-asks : goal.returns-in-None-clause-asks
+returns-in-None-clause-asks g c = undo_none g.T.TableState c.args.self.now c.args.self.now refl refl
+
+pub returns-in-Some-Rolling-clause-asks : goal.returns-in-Some-Rolling-clause-asks
+returns-in-Some-Rolling-clause-asks g c = undo_none g.T.TableState c.args.self.now c.args.self.now refl refl
+
+pub returns-in_err-roll_back-in-Some-Active-clause-damaged : goal.returns-in_err-roll_back-in-Some-Active-clause-damaged
+returns-in_err-roll_back-in-Some-Active-clause-damaged g c =
+    let p = err_from_is_err_and c.from_residual.result c.from_residual.ensures.1 in
+    rw (p.1, p.2) c.in_err-roll_back-in-Some-Active.ensures.damaged

@@ -3,6 +3,7 @@ use Rattle.rec_types.specs.History.{take_newest}
 use Rattle.tx_log.specs.Transactions.{left_in}
 use Rattle.record_file.specs.Abstract.{tx_of}
 use Rattle.record_file.specs.Steps.{rolling_place}
+use Rattle.record_file.specs.Asked.{UndoAsks}
 use Rattle.record_file.specs.TableCalls.{ChangesTable}
 use Rattle.record_file.proofs.file.RecordFile.take_back.Given as goal
 
@@ -14,4 +15,5 @@ invariant-loop-undone g l = record {
   refusals : g.T.TableState.memory_refusals l.self.table ≡ g.T.TableState.memory_refusals l.fn.self.table;
   opening : IsTrue (g.T.TableState.sound l.fn.self.table) → l.self.file.opening ≡ l.fn.self.file.opening;
   changes : ChangesTable g.T.TableState l.fn.self None l.self;
+  asks : UndoAsks g.T.TableState l.fn.self None l.self;
 }
