@@ -166,7 +166,7 @@ put old new e answer reply accepted sound =
     let step = one_step old new reply.events (Put (tx 1) e.0 e.1 (Ok told.0)) told.1 reply.ran in
     let known = subst (λ (called : Called). Answers old called step.0.failed step.0.refused new) step.1 step.2.answer in
     let logged = known.1.accepted.logged in
-    let more = append_cancel_left old.log step.2.told.0 _ (sym step.2.told.1 ∙ logged.2) in
+    let more = append_cancel_left old.log step.2.told.0 _ (sym step.2.told.1 ∙ logged) in
     record { records = step.2.told.2 sound ∙ ap (written old.records) more; sound = step.2.sound }
 
 -- the commands of a dump put each element

@@ -12,7 +12,7 @@ use Rattle.record_file.specs.Abstract.{File, open_of}
 use Rattle.record_file.specs.Steps.{Becomes}
 use Rattle.record_file.proofs.OpenTxLemmas.{same_tx, same_tx-is, get-remove_tx}
 use Rattle.recfile.specs.Examples.{change, four_changes, two_taken_back}
-use Rattle.recfile.specs.Ending.{undone_in, without, rest_of, below, IsWholeTx, AbortsWhole, EndsOne, EndsOpen, EndsBelow, EndsAll}
+use Rattle.recfile.specs.Ending.{undone_in, without, rest_of, below, EndsOne, EndsOpen, EndsBelow, EndsAll}
 use Rattle.rec_types.proofs.HistoryLemmas.{live_of-taken_back}
 use Rattle.tx_log.proofs.OpenCount.{same_txs}
 
@@ -140,7 +140,7 @@ high_or_shut f numbers t high = at (is_open f.txs t) refl
 -- nothing has ended yet
 pub below_first : (f : File) → Numbers f → EndsBelow f 1 f
 below_first f numbers = record {
-  history = λ _. sym (without_none (below f.txs 1) f.history (λ t. none t (nat_lt t 1) refl));
+  history = sym (without_none (below f.txs 1) f.history (λ t. none t (nat_lt t 1) refl));
   txs = λ t. same t (nat_lt t 1) refl;
   rest = becomes_same f;
 }
@@ -163,10 +163,6 @@ untouched old now n ended =
     let high : nat_lt n n ≡ false = grind (arith, nat_tests) in
     ended.txs n ∙ ap (λ b. cond b None (get old.txs n)) high
 
--- a transaction above those that have ended so far still aborts whole
-pub whole_still : (old now : File) (n : ℕ) → EndsBelow old n now → AbortsWhole old.txs → IsWholeTx (get now.txs n)
-whole_still old now n ended whole = subst IsWholeTx (sym (untouched old now n ended)) (whole n)
-
 next_txs : (n t : ℕ) (o : Option Tx) → cond (same_tx t n) None (cond (nat_lt t n) None o) ≡ cond (nat_lt t (suc n)) None o
 next_txs n t o = at (same_tx t n) (nat_lt t n) (nat_lt t (suc n)) refl refl refl
   where
@@ -181,7 +177,7 @@ next_txs n t o = at (same_tx t n) (nat_lt t n) (nat_lt t (suc n)) refl refl refl
 -- one more transaction has ended
 pub below_ended : (old now new : File) (n : ℕ) → EndsBelow old n now → EndsOne now n new → EndsBelow old (suc n) new
 below_ended old now new n ended one = record {
-  history = λ whole. one.history (whole_still old now n ended whole) ∙ ap (λ h. take_back h n zero) (ended.history whole) ∙ taken_next old.txs n old.history (sym (ap is_some (untouched old now n ended)) ∙ one.there);
+  history = one.history ∙ ap (λ h. take_back h n zero) ended.history ∙ taken_next old.txs n old.history (sym (ap is_some (untouched old now n ended)) ∙ one.there);
   txs = λ t. ap (λ (f : File). get f.txs t) one.rest ∙ get-remove_tx now.txs n t ∙ ap (cond (same_tx t n) None) (ended.txs t) ∙ next_txs n t (get old.txs t);
   rest = becomes_as old new new.history _ new.txs (becomes_on old now new _ _ _ _ ended.rest one.rest) (sym (ap (λ (f : File). f.txs) one.rest));
 }
@@ -189,7 +185,7 @@ below_ended old now new n ended one = record {
 -- one more was none that is open
 pub below_passed : (old now new : File) (n : ℕ) → EndsBelow old n now → open_of now n ≡ false → new ≡ now → EndsBelow old (suc n) new
 below_passed old now new n ended none same = subst (EndsBelow old (suc n)) (sym same) (record {
-  history = λ whole. ended.history whole ∙ without_same (below old.txs n) (below old.txs (suc n)) old.history (λ t. tests t (eqb t n) refl);
+  history = ended.history ∙ without_same (below old.txs n) (below old.txs (suc n)) old.history (λ t. tests t (eqb t n) refl);
   txs = λ t. ended.txs t ∙ txs t (eqb t n) refl;
   rest = ended.rest;
 })
@@ -240,7 +236,7 @@ all_ended old now ended numbers below_all count =
     let none : now.txs ≡ maps.empty = same_txs now.txs maps.empty (λ t. below_all.txs t ∙ gone t (nat_lt t (old.begun + 1)) refl ∙ sym (get-empty nat_cmp t)) in
     record {
       count = omega (arith, count, ap len none ∙ len-empty nat_cmp Tx);
-      history = λ whole. below_all.history whole ∙ without_same (below old.txs (old.begun + 1)) (is_open old.txs) old.history (λ t. tests t (nat_lt t (old.begun + 1)) refl);
+      history = below_all.history ∙ without_same (below old.txs (old.begun + 1)) (is_open old.txs) old.history (λ t. tests t (nat_lt t (old.begun + 1)) refl);
       rest = becomes_as old now now.history now.txs maps.empty below_all.rest none;
     }
   where

@@ -1,5 +1,5 @@
 -- What a session over a disk leaves.
-use Rattle.std.proofs.Common.{◌≡◌, inl, inr, ℕ, Bool, Option, Some, None, MatchOption, Result, Ok, Err, OnOk, if◌then◌else◌, refl, sym, ap, subst}
+use Rattle.std.proofs.Common.{◌≡◌, inl, inr, Option, Some, None, MatchOption, Result, Ok, Err, OnOk, refl, sym, subst}
 use Rattle.std.specs.Result.{is_ok}
 use Rattle.rec_types.specs.Contents.{Contents}
 use Rattle.btree_delete.specs.TableView.{TableView, IsClosed, table_contents}
@@ -7,6 +7,8 @@ use Rattle.page_journal.specs.Files.{PageFile, Files}
 use Rattle.page_journal.specs.Crash.{IsSettled}
 use Rattle.page_journal.specs.Recovery.{IsTooShort}
 use Rattle.page_journal.specs.declared.disk_state.DiskState.{Ghosts}
+use Rattle.page_store.specs.declared.store_state.StoreState.{Ghosts as Stored}
+use Rattle.recfile.specs.StoreSession.{file_in}
 use Rattle.page_journal.specs.declared.recovery_fault.RecoveryFault.{RecoveryFault}
 use Rattle.page_journal.specs.declared.recovery_fault.RecoveryFault.TheVariants as recovering
 use Rattle.recfile.specs.FileFaults.{fault_of_recovery}
@@ -32,11 +34,13 @@ kept_so g (Ok x) was now file disk same is closed settled = record {
 kept_so g (Err e) was now file disk same is closed settled = tt
 
 -- the same of the table that a file has
-pub safely : {D : Type 0} (g : Ghosts D) (old : PageFile) (disk : D) (status : ℕ) (t now : TableView) (b is : Bool) → t ≡ now → b ≡ is
-    → ClosesSafely g old disk status (table_contents t) (if b then 3 else 0) → ClosesSafely g old disk status (table_contents now) (if is then 3 else 0)
-safely g old disk status t now b is table same known =
-    subst (λ (n : ℕ). ClosesSafely g old disk status (table_contents now) n) (ap (λ (x : Bool). if x then 3 else 0) same)
-    (subst (λ (x : TableView). ClosesSafely g old disk status (table_contents x) (if b then 3 else 0)) table known)
+pub safely : {D : Type 0} (g : Ghosts D) (old : PageFile) (disk : D) (unclosed : Option FileFault) (t now : TableView) → t ≡ now
+    → ClosesSafely g old disk unclosed (table_contents t) → ClosesSafely g old disk unclosed (table_contents now)
+safely g old disk unclosed t now table known = subst (λ (x : TableView). ClosesSafely g old disk unclosed (table_contents x)) table known
+
+-- and of a store
+pub closed_in : {S : Type 0} (g : Stored S) (store : S) (t now : TableView) → t ≡ now → HasRecords (table_contents t) (file_in g store) → HasRecords (table_contents now) (file_in g store)
+closed_in g store t now table known = subst (λ (x : TableView). HasRecords (table_contents x) (file_in g store)) table known
 
 pub wider : {A : Type 0} (o : Option A) (P : Type 0) (Q R : A → Type 0) → ((x : A) → Q x → R x) → MatchOption o P Q → MatchOption o P R
 wider None P Q R more known = known

@@ -4,7 +4,7 @@ pub mod EndingLemmas
 pub mod OneEndingLemmas
 pub mod ScriptRunLemmas
 pub mod CallRunLemmas
-pub mod WholeAbortLemmas
+pub mod SoundRunLemmas
 pub mod ScriptAnswerLemmas
 pub mod DumpRunLemmas
 pub mod FedLemmas
@@ -12,3 +12,4 @@ pub mod ShellLemmas
 pub mod OpenedLemmas
 pub mod KeptLemmas
 pub mod RoomLemmas
+pub mod WordLemmas

@@ -9,7 +9,7 @@ use Rattle.tx_log.specs.declared.phase.Rollback.{Rollback}
 use Rattle.tx_log.specs.LogState.{phase_of, rollback_phase, active_with, rolling_to, finished, finished_by, IsRolling}
 use Rattle.tx_log.specs.declared.phase.Phase.{Phase}
 use Rattle.tx_log.specs.declared.phase.Phase.TheVariants as phases
-use Rattle.record_file.specs.Abstract.{File, open_of, tx_of, phase_at}
+use Rattle.record_file.specs.Abstract.{IsWholeTx, File, open_of, tx_of, phase_at}
 use Rattle.record_file.specs.Steps.{Becomes, Aborts, Resumes, abort_in, abort_refusal, resume_in, resume_refusal, rolling_place, places_at}
 use Rattle.record_file.specs.declared.fault.AbortFault.{AbortFault}
 use Rattle.record_file.specs.declared.fault.AbortFault.TheVariants as abort_faults
@@ -18,7 +18,7 @@ use Rattle.record_file.specs.declared.fault.ResumeFault.TheVariants as resume_fa
 use Rattle.record_file.proofs.OpenTxLemmas.{same_tx, same_tx-is, get-insert_tx, get-remove_tx, get-inserted_tx, remove-insert_tx, same_tx-refl}
 use Rattle.recfile.specs.declared.endings.EndFault.{EndFault}
 use Rattle.recfile.specs.declared.endings.EndFault.TheVariants.{Stopped}
-use Rattle.recfile.specs.Ending.{EndsOne, EndsBelow, StopsOne, StopsEnding, IsWholeTx, resumed, aborted, stopped_tx}
+use Rattle.recfile.specs.Ending.{EndsOne, EndsBelow, StopsOne, StopsEnding, resumed, aborted, stopped_tx}
 use Rattle.recfile.proofs.EndingLemmas.{becomes_on, becomes_as, taken_twice}
 
 -- a transaction with a rollback under way
@@ -95,7 +95,7 @@ active_tx f t txs places is = ap (option_map phase_of) (ap (λ (x : Transactions
 given_up : (old new : File) (t more : ℕ) → Aborts old t (Ok more) new → EndsOne old t new
 given_up old new t more step = record {
   there = active_by old t step.0;
-  history = λ _. ap (λ (f : File). f.history) step.1.1;
+  history = ap (λ (f : File). f.history) step.1.1;
   rest = becomes_as old new _ _ _ step.1.1 refl;
 }
 
@@ -112,7 +112,7 @@ made_active old mid new t answer w stays ok step = at answer ok step
     at : (a : Result ℕ AbortFault) → aborted (record { 0 = t }) a ≡ Ok tt → Aborts mid t a new → EndsOne old t new
     at (Ok more) ok step = record {
       there = ap is_some w.tx;
-      history = λ _. ap (λ (f : File). f.history) step.1.1 ∙ ap (λ h. take_back h t zero) w.history ∙ taken_twice old.history t w.back.to;
+      history = ap (λ (f : File). f.history) step.1.1 ∙ ap (λ h. take_back h t zero) w.history ∙ taken_twice old.history t w.back.to;
       rest = becomes_as old new _ _ _ (becomes_on old mid new _ _ _ _ w.rest step.1.1) (ap (λ (x : Transactions). maps.remove x t) txs ∙ remove-insert_tx old.txs t (active_with w.places));
     }
     at (Err abort_faults.NoSuchTx) ok step = absurd (cc (sym active ∙ step.0))
@@ -120,8 +120,8 @@ made_active old mid new t answer w stays ok step = at answer ok step
     at (Err (abort_faults.Stopped undone left cause)) ok step = absurd (cc ok)
 
 -- one whose rollback has ended it is gone
-went_away : (old mid new : File) (t : ℕ) (answer : Result ℕ AbortFault) (w : Went old mid t) → w.back.ends ≡ true → aborted (record { 0 = t }) answer ≡ Ok tt → Aborts mid t answer new → EndsOne old t new
-went_away old mid new t answer w ends ok step = at answer ok step
+went_away : (old mid new : File) (t : ℕ) (answer : Result ℕ AbortFault) (w : Went old mid t) → w.back.ends ≡ true → IsWholeTx (tx_of old t) → aborted (record { 0 = t }) answer ≡ Ok tt → Aborts mid t answer new → EndsOne old t new
+went_away old mid new t answer w ends whole ok step = at answer ok step
   where
     txs : mid.txs ≡ maps.remove old.txs t
     txs = w.txs ∙ ap (λ b. cond b (maps.remove old.txs t) (maps.insert old.txs t (active_with w.places))) ends
@@ -133,17 +133,17 @@ went_away old mid new t answer w ends ok step = at answer ok step
     at (Ok more) ok step = absurd (cc (sym gone ∙ step.0))
     at (Err abort_faults.NoSuchTx) ok step = subst (EndsOne old t) (sym step.1) (record {
       there = ap is_some w.tx;
-      history = λ whole. w.history ∙ ap (take_back old.history t) (whole_place (tx_of old t) w.back w.places w.tx whole ends);
+      history = w.history ∙ ap (take_back old.history t) (whole_place (tx_of old t) w.back w.places w.tx whole ends);
       rest = becomes_as old mid _ _ _ w.rest txs;
     })
     at (Err abort_faults.Rolling) ok step = absurd (cc (sym gone ∙ step.0))
     at (Err (abort_faults.Stopped undone left cause)) ok step = absurd (cc ok)
 
-after_going : (old mid new : File) (t : ℕ) (answer : Result ℕ AbortFault) (w : Went old mid t) → aborted (record { 0 = t }) answer ≡ Ok tt → Aborts mid t answer new → EndsOne old t new
-after_going old mid new t answer w ok step = at w.back.ends refl
+after_going : (old mid new : File) (t : ℕ) (answer : Result ℕ AbortFault) (w : Went old mid t) → IsWholeTx (tx_of old t) → aborted (record { 0 = t }) answer ≡ Ok tt → Aborts mid t answer new → EndsOne old t new
+after_going old mid new t answer w whole ok step = at w.back.ends refl
   where
     at : (b : Bool) → w.back.ends ≡ b → EndsOne old t new
-    at true ends = went_away old mid new t answer w ends ok step
+    at true ends = went_away old mid new t answer w ends whole ok step
     at false stays = made_active old mid new t answer w stays ok step
 
 -- an active transaction stays as it was where no rollback is under way
@@ -163,11 +163,11 @@ still_active old mid new t answer not_rolling same ok step = at answer ok (subst
 
 -- an open transaction has ended
 pub ended_open : (old mid new : File) (tx : TxId) (went_on : Result ℕ ResumeFault) (answer : Result ℕ AbortFault)
-    → resumed tx went_on ≡ Ok true → Resumes old tx.0 went_on mid → aborted tx answer ≡ Ok tt → Aborts mid tx.0 answer new → EndsOne old tx.0 new
-ended_open old mid new tx (Ok more) answer is step ok later = after_going old mid new tx.0 answer (went old mid tx.0 more step) ok later
-ended_open old mid new tx (Err resume_faults.NoSuchTx) answer is step ok later = absurd (cc is)
-ended_open old mid new tx (Err resume_faults.NotRolling) answer is step ok later = still_active old mid new tx.0 answer step.0 step.1 ok later
-ended_open old mid new tx (Err (resume_faults.Stopped undone left cause)) answer is step ok later = absurd (cc is)
+    → IsWholeTx (tx_of old tx.0) → resumed tx went_on ≡ Ok true → Resumes old tx.0 went_on mid → aborted tx answer ≡ Ok tt → Aborts mid tx.0 answer new → EndsOne old tx.0 new
+ended_open old mid new tx (Ok more) answer whole is step ok later = after_going old mid new tx.0 answer (went old mid tx.0 more step) whole ok later
+ended_open old mid new tx (Err resume_faults.NoSuchTx) answer whole is step ok later = absurd (cc is)
+ended_open old mid new tx (Err resume_faults.NotRolling) answer whole is step ok later = still_active old mid new tx.0 answer step.0 step.1 ok later
+ended_open old mid new tx (Err (resume_faults.Stopped undone left cause)) answer whole is step ok later = absurd (cc is)
 
 -- one that isn't open stays so
 pub not_open : (old new : File) (tx : TxId) (went_on : Result ℕ ResumeFault) → resumed tx went_on ≡ Ok false → Resumes old tx.0 went_on new → (open_of old tx.0 ≡ false) × (new ≡ old)

@@ -1,17 +1,23 @@
 -- A session over the table of a page file.
-use Rattle.std.proofs.Common.{◌≡◌, [], Result, Ok, MatchResult, IsTrue, ap, subst, ◌∙◌}
+use Rattle.std.proofs.Common.{◌≡◌, ◌≤◌, ℕ, Bool, true, false, List, [], Result, Ok, Err, MatchResult, IsTrue, refl, sym, ap, subst, ◌∙◌, arith}
 use Rattle.rec_types.specs.LimitBounds.{Bounds}
 use Rattle.rec_types.specs.Table.{no_damage}
 use Rattle.rec_types.specs.declared.table_state.TableState.{Ghosts}
 use Rattle.page_store.specs.Journal.{untouched}
+use Rattle.page_store.specs.PagesView.{PagesView}
+use Rattle.btree_insert.specs.Contents.{contents_of}
+use Rattle.btree_insert.specs.declared.tree.Tree.{Tree}
+use Rattle.btree_delete.specs.CleanFile.{Opens}
 use Rattle.btree_delete.specs.TableView.{TableView, table_contents}
 use Rattle.record_file.specs.Abstract.{OpenFile, new_file}
 use Rattle.record_file.specs.Runs.{seen}
+use Rattle.recfile.specs.Dumped.{CanBeOpened}
+use Rattle.recfile.specs.Statuses.{status_of}
 use Rattle.recfile.specs.WholeSession.{opened_file}
 
 -- what a table in a tree shows
 abbrev pub treed : Ghosts TableView
-treed = record { contents = table_contents; record_limit = λ t. t.limit; sound = λ t. t.pages.steady; device_failures = λ t. t.pages.failures; memory_refusals = λ t. t.refusals; damages = λ t. t.damages; origin = λ t. untouched t.pages.journal }
+treed = record { contents = table_contents; record_limit = λ t. t.limit; sound = λ t. t.pages.steady; device_failures = λ t. t.pages.failures; memory_refusals = λ t. t.refusals; damages = λ t. t.damages; calls = λ t. t.calls; origin = λ t. untouched t.pages.journal }
 
 -- what a run sees of a new file over the table of a page file
 pub fresh : (f : OpenFile TableView) (table : TableView) (limits : Bounds) → f ≡ record { table = table; file = new_file (table_contents table) limits; log = [] }
@@ -28,5 +34,29 @@ fresh f table limits is steady refusals damages =
       damages = damages i;
     })
 
+-- it is new, with these limits
+pub begun : (f : OpenFile TableView) (table : TableView) (limits : Bounds) → f ≡ record { table = table; file = new_file (table_contents table) limits; log = [] }
+    → (seen treed f).file ≡ new_file (seen treed f).records limits
+begun f table limits is = subst (λ (x : OpenFile TableView). x.file ≡ new_file (table_contents x.table) limits) (sym is) refl
+
+-- what was opened is a closed file within the limit
+pub can_be_opened : (stored : List (List ℕ)) (tail limit reads : ℕ) (pages : PagesView) (tree : Tree) → Opens stored tail limit reads pages tree → CanBeOpened stored tail limit
+can_be_opened stored tail limit reads pages tree opened = (
+  tree,
+  contents_of opened.es,
+  opened.h.version,
+  record { h = opened.h; es = opened.es; us = opened.us; version_is = refl; clean = opened.clean; records = refl },
+  subst (λ (n : ℕ). n ≤ limit) (sym opened.clean.count) opened.few,
+)
+
+-- no status of a session whose transactions were ended is 4
+pub never_4 : (file_fault script_fault : Bool) → status_of false file_fault script_fault ≡ 4 → ⊥
+never_4 true script_fault is = absurd (omega (arith, is))
+never_4 false true is = absurd (omega (arith, is))
+never_4 false false is = absurd (omega (arith, is))
+
 pub at_ok : {A F : Type 0} (answer : Result A F) (x : A) (P : A → Type 0) (Q : F → Type 0) → answer ≡ Ok x → MatchResult answer P Q → P x
 at_ok answer x P Q is known = subst (λ a. MatchResult a P Q) is known
+
+pub at_err : {A F : Type 0} (answer : Result A F) (x : F) (P : A → Type 0) (Q : F → Type 0) → answer ≡ Err x → MatchResult answer P Q → Q x
+at_err answer x P Q is known = subst (λ a. MatchResult a P Q) is known

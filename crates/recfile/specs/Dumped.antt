@@ -1,5 +1,5 @@
 -- What a dump of a page file writes, and why there is none.
-use Rattle.std.specs.Prelude.{◌≡◌, ℕ, ◌<◌, ◌≤◌, ◌⊎◌, List, length, take, Option}
+use Rattle.std.specs.Prelude.{◌≡◌, ℕ, ◌<◌, ◌≤◌, ◌⊎◌, Bool, false, List, length, take, Option, Result, Ok, Err}
 use Rattle.std.specs.List.{All}
 use Rattle.std.specs.Io.KnownBytes.{Appends}
 use Rattle.rec_types.specs.Contents.{Contents}
@@ -8,7 +8,7 @@ use Rattle.btree_delete.specs.CleanFile.{IsFirst}
 use Rattle.btree_delete.specs.TableView.{IsClosed}
 use Rattle.btree_delete.specs.declared.open_fault.OpenFault.{OpenFault}
 use Rattle.command_text.specs.Dump.{dump_text, CanBePut}
-use Rattle.recfile.specs.FileFaults.{fault_of_opening}
+use Rattle.recfile.specs.FileFaults.{fault_of_opening, is_device}
 use Rattle.recfile.specs.declared.dump.DumpFault.{DumpFault}
 use Rattle.recfile.specs.declared.dump.DumpFault.TheVariants.{File, Write}
 use Rattle.recfile.specs.declared.file_fault.FileFault.{FileFault}
@@ -27,6 +27,12 @@ IsOutsideFile fault = (fault ≡ Device) ⊎ (fault ≡ Memory)
 abbrev pub IsFirstOrOutside : List (List ℕ) → ℕ → ℕ → FileFault → Type 0
 IsFirstOrOutside stored tail limit fault =
     IsOutsideFile fault ⊎ ((first : OpenFault) × IsFirst stored tail limit first × (fault ≡ fault_of_opening first))
+
+-- whether the device failed
+abbrev pub is_device_dump : {A : Type 0} → Result A DumpFault → Bool
+is_device_dump (Ok x) = false
+is_device_dump (Err (File fault)) = is_device fault
+is_device_dump (Err Write) = false
 
 -- the text isn't written where the file has a fault, and not whole where the writer has one
 abbrev pub IsDumpFault : List (List ℕ) → ℕ → ℕ → DumpFault → Type 0

@@ -4,10 +4,9 @@ use Rattle.std.specs.FinMap as maps
 use Rattle.rec_types.specs.History.{Change, is_pending, taken_back, take_back}
 use Rattle.rec_types.specs.Table.{counted, greatest_count}
 use Rattle.rec_types.specs.declared.transaction.TxId.{TxId}
-use Rattle.tx_log.specs.Transactions.{Transactions, Tx, is_open}
-use Rattle.tx_log.specs.declared.phase.Rollback.{Rollback}
+use Rattle.tx_log.specs.Transactions.{Transactions, is_open}
 use Rattle.tx_log.specs.LogState.{IsRolling}
-use Rattle.record_file.specs.Abstract.{File, Tells, open_of, tx_of, phase_at}
+use Rattle.record_file.specs.Abstract.{File, Tells, open_of, phase_at}
 use Rattle.record_file.specs.Outside.{by_device, by_memory, TellsDamage}
 use Rattle.record_file.specs.Runs.{Seen}
 use Rattle.record_file.specs.Steps.{rose, EndsBy, Becomes, Aborts, Resumes}
@@ -35,22 +34,10 @@ rest_of these h = filter (λ c. not (is_pending these c)) h
 abbrev pub below : Transactions → ℕ → ℕ → Bool
 below txs n t = is_open txs t && nat_lt t n
 
-abbrev pub EndsAtBeginning : Option Rollback → Type 0
-EndsAtBeginning None = Unit {0}
-EndsAtBeginning (Some r) = IsTrue r.ends → r.to ≡ 0
-
-abbrev pub IsWholeTx : Option Tx → Type 0
-IsWholeTx None = Unit {0}
-IsWholeTx (Some tx) = EndsAtBeginning tx.rollback
-
--- each rollback under way that ends its transaction goes back to the beginning, as every abort does
-abbrev pub AbortsWhole : Transactions → Type 0
-AbortsWhole txs = (t : ℕ) → IsWholeTx (maps.get txs t)
-
 -- An open transaction has ended, with all its live changes taken back.
 pub record EndsOne (old : File) (t : ℕ) (new : File) : Type 0 where
   pub there : IsTrue (open_of old t)
-  pub history : IsWholeTx (tx_of old t) → new.history ≡ take_back old.history t zero
+  pub history : new.history ≡ take_back old.history t zero
   pub rest : Becomes old new.history (maps.remove old.txs t) new
 
 -- whether a transaction was open; then it has ended
@@ -67,14 +54,14 @@ StopsOne old (Stopped tx undone left cause) new =
 
 -- The open transactions below n have ended, with all their live changes taken back. The others are untouched.
 pub record EndsBelow (old : File) (n : ℕ) (new : File) : Type 0 where
-  pub history : AbortsWhole old.txs → new.history ≡ without (below old.txs n) old.history
+  pub history : new.history ≡ without (below old.txs n) old.history
   pub txs : (t : ℕ) → maps.get new.txs t ≡ (if nat_lt t n then None else maps.get old.txs t)
   pub rest : Becomes old new.history new.txs new
 
 -- Every open transaction has ended; so many were open, and exactly their live changes are taken back.
 pub record EndsAll (old : File) (ended : ℕ) (new : File) : Type 0 where
   pub count : ended ≡ maps.len old.txs
-  pub history : AbortsWhole old.txs → new.history ≡ without (open_of old) old.history
+  pub history : new.history ≡ without (open_of old) old.history
   pub rest : Becomes old new.history maps.empty new
 
 abbrev pub stopped_tx : EndFault → ℕ

@@ -1,5 +1,5 @@
 -- The names of what goes wrong with a page file.
-use Rattle.std.specs.Prelude.{ℕ, List}
+use Rattle.std.specs.Prelude.{◌≡◌, ◌⊎◌, ℕ, Bool, true, false, List, Option, Some, None, Result, Ok, Err}
 use Rattle.page_journal.specs.declared.opening_fault.OpeningFault.{OpeningFault}
 use Rattle.page_journal.specs.declared.opening_fault.OpeningFault.TheVariants as files
 use Rattle.page_journal.specs.declared.recovery_fault.RecoveryFault.{RecoveryFault}
@@ -60,6 +60,19 @@ fault_of_listing (listing.Damaged page) = Damaged page
 fault_of_listing listing.NoRoom = Damaged 0
 fault_of_listing listing.Memory = Memory
 
+-- whether the device failed
+abbrev pub is_device : FileFault → Bool
+is_device Device = true
+is_device fault = false
+
+abbrev pub by_device : Option FileFault → Bool
+by_device None = false
+by_device (Some fault) = is_device fault
+
+abbrev pub is_device_answer : {A : Type 0} → Result A FileFault → Bool
+is_device_answer (Ok x) = false
+is_device_answer (Err fault) = is_device fault
+
 -- Why no page file was made: the first check that fails has that name. Device and Memory come from outside, Memory
 -- once the file is being written.
 abbrev pub IsMakingFault : List (List ℕ) → ℕ → ℕ → FileFault → Type 0
@@ -68,3 +81,7 @@ IsMakingFault stored tail k Device = IsOrder k
 IsMakingFault stored tail k NotEmpty = IsOrder k × (IsEmpty stored tail → ⊥)
 IsMakingFault stored tail k Memory = IsOrder k × IsEmpty stored tail
 IsMakingFault stored tail k other = ⊥
+
+-- a fault by which nothing was written
+abbrev pub IsRefusal : FileFault → Type 0
+IsRefusal fault = (fault ≡ BadOrder) ⊎ (fault ≡ NotEmpty)

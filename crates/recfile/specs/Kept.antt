@@ -1,5 +1,5 @@
 -- What a session over a page file that closes safely leaves, and what a crash of it leaves.
-use Rattle.std.specs.Prelude.{◌≡◌, ◌⊎◌, ℕ}
+use Rattle.std.specs.Prelude.{◌≡◌, ◌⊎◌, ℕ, Option, None}
 use Rattle.rec_types.specs.Contents.{Contents}
 use Rattle.btree_node.specs.Layout.{second_version}
 use Rattle.btree_insert.specs.declared.tree.Tree.{Tree}
@@ -29,10 +29,10 @@ pub record IsKept {D : Type 0} (g : Ghosts D) (records : Contents) (disk : D) : 
   pub has : HasRecords records (g.seen disk).main
   pub settled : IsSettled g (g.seen disk).main disk
 
--- The file is closed with these records, or a fault of it stopped that. A crash at any moment leaves the old file or that one.
-pub record ClosesSafely {D : Type 0} (g : Ghosts D) (old : PageFile) (disk : D) (status : ℕ) (records : Contents) (good : ℕ) : Type 0 where
+-- The file is closed with these records, where no fault stopped that. A crash at any moment leaves the old file or that one.
+pub record ClosesSafely {D : Type 0} (g : Ghosts D) (old : PageFile) (disk : D) (unclosed : Option FileFault) (records : Contents) : Type 0 where
   pub any_moment : LeavesEither g old records disk
-  pub ending : ((status ≡ good) × IsKept g records disk) ⊎ (status ≡ 1)
+  pub kept : unclosed ≡ None → IsKept g records disk
 
 -- a fault from outside, or a side file of a longer file
 abbrev pub IsOutsideDisk : Files → FileFault → Type 0

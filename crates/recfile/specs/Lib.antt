@@ -9,3 +9,8 @@ pub mod Kept
 pub mod PartLine
 pub mod Shell
 pub mod Room
+pub mod Statuses
+pub mod TreeLine
+pub mod StoreSession
+pub mod Tasks
+pub mod Words

@@ -1,5 +1,5 @@
 -- A script over a file, and the end of what it leaves open.
-use Rattle.std.specs.Prelude.{◌≡◌, ℕ, Bool, true, List, [], Option, Result, MatchResult, OnOk, IsTrue, if◌then◌else◌}
+use Rattle.std.specs.Prelude.{◌≡◌, ℕ, Bool, true, List, [], Option, None, is_some, IfSome, Result, MatchResult, OnOk, OnErr, IsTrue}
 use Rattle.std.specs.Result.{is_err}
 use Rattle.rec_types.specs.Contents.{Contents}
 use Rattle.rec_types.specs.History.{replay}
@@ -7,10 +7,13 @@ use Rattle.rec_types.specs.LimitBounds.{Bounds}
 use Rattle.rec_types.specs.Table.{no_damage}
 use Rattle.record_file.specs.Abstract.{new_file, open_of}
 use Rattle.record_file.specs.Runs.{Seen}
-use Rattle.recfile.specs.Ending.{AbortsWhole, Asks, EndsAll, StopsEnding, end_cause, rest_of}
+use Rattle.recfile.specs.Ending.{Asks, EndsAll, StopsEnding, end_cause, rest_of}
+use Rattle.recfile.specs.Dumped.{IsOutsideFile}
 use Rattle.recfile.specs.Run.{Ran}
 use Rattle.recfile.specs.Shell.{RanLines}
+use Rattle.recfile.specs.Statuses.{status_of}
 use Rattle.recfile.specs.declared.endings.EndFault.{EndFault}
+use Rattle.recfile.specs.declared.file_fault.FileFault.{FileFault}
 use Rattle.recfile.specs.declared.manner.Feed.{Feed}
 use Rattle.recfile.specs.declared.manner.Feed.TheVariants.{Lines, Script}
 use Rattle.recfile.specs.declared.manner.Manner.{Manner}
@@ -33,7 +36,7 @@ pub record IsSession (manner : Manner) (left leaves held holds : Option (List �
   pub ending : MatchResult ended (λ count. EndsAll mid.file count new.file)
       (λ fault. StopsEnding mid.file fault new.file)
   pub asks : Asks mid (end_cause ended) new
-  pub records : IsTrue mid.sound → AbortsWhole mid.file.txs → OnOk ended
+  pub records : IsTrue mid.sound → OnOk ended
       (new.records ≡ replay mid.file.opening (rest_of (open_of mid.file) mid.file.history))
 
 -- a page file with these records, over a steady store that failed so often; nothing was begun
@@ -48,15 +51,27 @@ opened_file contents limits failures = record {
   damages = no_damage;
 }
 
--- A session that began with a file of sound records. Where a transaction couldn't be ended the status is 4; else the
--- file closes, by what that means, with the records that are left, and a status of 3 where the script had a fault or a refusal ended it.
-pub record EndsFile (manner : Manner) (left leaves held holds : Option (List ℕ)) (old : Seen)
-    (Closes : Contents → ℕ → Type 0) (status : ℕ) : Type 0 where
+-- A session over a file in which nothing was begun; then the file was closed, or a fault from outside stopped that, or a
+-- transaction couldn't be ended, and it wasn't tried. The status tells which.
+pub record RunsFile (manner : Manner) (left leaves held holds : Option (List ℕ)) (old : Seen) (unclosed : Option FileFault) (status : ℕ) : Type 0 where
   pub answer : Result ℕ RunFault
   pub ended : Result ℕ EndFault
   pub mid : Seen
   pub new : Seen
   pub session : IsSession manner left leaves held holds old mid answer ended new
-  pub whole : AbortsWhole mid.file.txs
-  pub sound : IsTrue mid.sound
-  pub ending : MatchResult ended (λ _. Closes new.records (if is_err answer then 3 else 0)) (λ _. status ≡ 4)
+  pub status_is : status ≡ status_of (is_err ended) (is_some unclosed) (is_err answer)
+  pub fault : IfSome unclosed IsOutsideFile
+  pub untried : OnErr ended (unclosed ≡ None)
+
+-- a session over a file with these limits, whatever its records
+abbrev pub RunsAny : Manner → Bounds → Option (List ℕ) → Option (List ℕ) → Option (List ℕ) → Option (List ℕ) → Option FileFault → ℕ → Type 0
+RunsAny manner limits left leaves held holds unclosed status =
+    (old : Seen) × (old.file ≡ new_file old.records limits) × RunsFile manner left leaves held holds old unclosed status
+
+-- A session that began with a file of sound records. Where every transaction was ended the file closes, by what that
+-- means, with the records that are left.
+pub record EndsFile (manner : Manner) (left leaves held holds : Option (List ℕ)) (old : Seen)
+    (Closes : Contents → Type 0) (unclosed : Option FileFault) (status : ℕ) : Type 0 where
+  pub run : RunsFile manner left leaves held holds old unclosed status
+  pub sound : IsTrue run.mid.sound
+  pub closes : OnOk run.ended (Closes run.new.records)

@@ -1,7 +1,7 @@
 ghost use Rattle.std.specs.Prelude.{◌≡◌, MatchOption, Ok, None, if◌then◌else◌};
 ghost use Rattle.command_text.specs.declared.command.Command.TheVariants as commands;
 ghost use Rattle.recfile.specs.Run.{HasReply, LineHasReply, says_command};
-ghost use Rattle.record_file.specs.Runs.{seen};
+ghost use Rattle.record_file.specs.Runs.{IsKeptSeen, seen};
 
 use command_text::{Command, EntryList, KeyList, LineFault, Reply};
 use rec_types::{Table, TxId};
@@ -9,7 +9,8 @@ use record_file::RecordFile;
 
 // The records of the file, or why there is no list of them.
 fn list<T: Table>(file: &mut RecordFile<T>) -> Reply
-    ensures { HasReply (seen T.TableState file.old) (Ok commands.List) result
+    ensures { IsKeptSeen (seen T.TableState file.old) → IsKeptSeen (seen T.TableState file.new)
+        → HasReply (seen T.TableState file.old) (Ok commands.List) result
         (seen T.TableState file.new) }
 {
     Reply::List(file.entries().map(EntryList::new))
@@ -17,7 +18,8 @@ fn list<T: Table>(file: &mut RecordFile<T>) -> Reply
 
 // The keys that a transaction owns.
 fn keys<T: Table>(file: &mut RecordFile<T>, tx: TxId) -> Reply
-    ensures { HasReply (seen T.TableState file.old) (Ok (commands.Keys tx)) result
+    ensures { IsKeptSeen (seen T.TableState file.old) → IsKeptSeen (seen T.TableState file.new)
+        → HasReply (seen T.TableState file.old) (Ok (commands.Keys tx)) result
         (seen T.TableState file.new) }
 {
     Reply::Keys(file.keys_of(tx).map(KeyList::new))
@@ -26,6 +28,18 @@ fn keys<T: Table>(file: &mut RecordFile<T>, tx: TxId) -> Reply
 /// Makes the call that a command asks for.
 pub fn call<T: Table>(file: &mut RecordFile<T>, command: Command) -> Reply
     ensures { HasReply (seen T.TableState file.old) (Ok command) result
+        (seen T.TableState file.new) }
+{
+    let _begun = file.begun();
+    let reply = ask(file, command);
+    let _then_begun = file.begun();
+    reply
+}
+
+// Makes it on a file of which what stays true is true.
+fn ask<T: Table>(file: &mut RecordFile<T>, command: Command) -> Reply
+    ensures { IsKeptSeen (seen T.TableState file.old) → IsKeptSeen (seen T.TableState file.new)
+        → HasReply (seen T.TableState file.old) (Ok command) result
         (seen T.TableState file.new) }
 {
     match command {

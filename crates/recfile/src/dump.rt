@@ -1,10 +1,14 @@
-ghost use Rattle.std.specs.Prelude.{◌≡◌, ◌≤◌, ℕ, IsTrue, IfErr, OnOk, MatchResult};
+ghost use Rattle.std.specs.Prelude.{◌≡◌, ◌≤◌, ℕ, false, Err, IsTrue, IfOk, IfErr, OnOk, MatchResult};
 ghost use Rattle.std.specs.FinMap as maps;
 ghost use Rattle.rec_types.specs.Contents.{Contents};
+ghost use Rattle.rec_types.specs.Table.{counted};
+ghost use Rattle.page_store.specs.StoreCalls.{StaysStore};
 ghost use Rattle.btree_insert.specs.declared.tree.Tree.{Tree as TreeValue};
 ghost use Rattle.btree_delete.specs.TableView.{IsClosed};
 ghost use Rattle.command_text.specs.Dump.{dump_text};
-ghost use Rattle.recfile.specs.Dumped.{CanBeOpened, IsFirstOrOutside, IsOutsideFile, IsDumpFault, IsSilent, Dumps, DumpStops};
+ghost use Rattle.recfile.specs.Dumped.{CanBeOpened, IsFirstOrOutside, IsOutsideFile, IsDumpFault, IsSilent, Dumps, DumpStops, is_device_dump};
+ghost use Rattle.recfile.specs.FileFaults.{is_device_answer};
+ghost use Rattle.recfile.specs.Tasks.{IsDump, Writes};
 
 use crate::file_fault::FileFault;
 use crate::script::write_text;
@@ -16,7 +20,7 @@ use std::alloc::Global;
 use std::io::Write;
 use thiserror::Error;
 
-/// Why the records weren't written: a fault of the file, or the text couldn't be written whole.
+/// Why the text that tells of a file wasn't written: a fault of the file, or it couldn't be written whole.
 #[derive(Clone, Copy, Debug, PartialEq, Eq, Error)]
 pub enum DumpFault {
     #[error("{0}")]
@@ -36,28 +40,31 @@ impl From<FileFault> for DumpFault {
     }
 }
 
-// Opens a page file, and lists its records. Faults: those of opening; Device, Memory.
+// Opens a page file, and lists its records. The store comes back. Faults: those of opening; Device, Memory.
 fn list_in<S: Store>(
     alloc: Global,
     store: S,
     limits: Limits,
-) -> Result<Vec<(Key, Record)>, FileFault>
+) -> (S, Result<Vec<(Key, Record)>, FileFault>)
     ensures closed { IsTrue (S.steady store)
-        → OnOk result (CanBeOpened (S.pages store) (S.tail store) limits.records) }
-    ensures first { IsTrue (S.steady store) → IfErr result
+        → OnOk result.1 (CanBeOpened (S.pages store) (S.tail store) limits.records) }
+    ensures first { IsTrue (S.steady store) → IfErr result.1
         (IsFirstOrOutside (S.pages store) (S.tail store) limits.records) }
     ensures listed { IsTrue (S.steady store) → (tree : TreeValue) → (contents : Contents)
         → (version : ℕ) → IsClosed version (S.pages store) (S.tail store) tree contents
         → tree.count ≤ limits.records
-        → MatchResult result (λ records. records.items ≡ maps.entries contents) IsOutsideFile }
+        → MatchResult result.1 (λ records. records.items ≡ maps.entries contents) IsOutsideFile }
+    ensures stays { StaysStore S.StoreState store result.0 }
+    ensures device { S.failures result.0
+        ≡ counted (S.failures store) (is_device_answer result.1) }
 {
     let mut table = match TreeTable::open_from(alloc, store, limits) {
         Ok(table) => table,
-        Err(stop) => return Err(FileFault::from(stop.fault)),
+        Err(stop) => return (stop.store, Err(FileFault::from(stop.fault))),
     };
     match table.entries() {
-        Ok(records) => Ok(records),
-        Err(fault) => Err(FileFault::from(fault)),
+        Ok(records) => (table.abandon(), Ok(records)),
+        Err(fault) => (table.abandon(), Err(FileFault::from(fault))),
     }
 }
 
@@ -72,33 +79,57 @@ fn write_records<W: Write>(
     ensures stops { IfErr result
         (DumpStops (W.contents out.old) (W.contents out.new) (dump_text records.now)) }
     ensures silent { IfErr result (IsSilent (W.contents out.old) (W.contents out.new)) }
+    ensures device { is_device_dump result ≡ false }
 {
     let text = write_dump(alloc, records).map_err(|_| DumpFault::File(FileFault::Memory))?;
     write_text(out, &text).map_err(|_| DumpFault::Write)
 }
 
+// Writes the records that were listed as a script. Faults: that of the list; Memory, Write.
+fn write_listed<W: Write>(
+    alloc: Global,
+    listed: Result<Vec<(Key, Record)>, FileFault>,
+    out: &mut W,
+) -> Result<(), DumpFault>
+    ensures dumped { IfOk listed (λ records. MatchResult result
+        (λ _. Dumps (W.contents out.old) (W.contents out.new) records.items)
+        (DumpStops (W.contents out.old) (W.contents out.new) (dump_text records.items))) }
+    ensures fault { IfErr listed (λ fault. result ≡ Err (DumpFault.File fault)) }
+    ensures silent { IfErr result (IsSilent (W.contents out.old) (W.contents out.new)) }
+    ensures written { Writes IsDump (W.contents out.old) (W.contents out.new) result }
+    ensures device { is_device_dump result ≡ is_device_answer listed }
+{
+    let records = listed?;
+    write_records(alloc, &records, out)
+}
+
 /// Opens a page file, and writes its records as a script that puts them, in key order, in one transaction. It writes
-/// nothing to the store. Faults: those of opening; Device and Memory, where the records aren't listed; Write, where a
-/// front of the text is written, and the script has no commit.
+/// nothing to the store, which comes back. Faults: those of opening; Device and Memory, where the records aren't listed;
+/// Write, where a front of the text is written, and the script has no commit.
 pub fn dump_in<S: Store, W: Write>(
     alloc: Global,
     store: S,
     limits: Limits,
     out: &mut W,
-) -> Result<(), DumpFault>
+) -> (S, Result<(), DumpFault>)
     ensures closed { IsTrue (S.steady store)
-        → OnOk result (CanBeOpened (S.pages store) (S.tail store) limits.records) }
-    ensures first { IsTrue (S.steady store) → IfErr result
+        → OnOk result.1 (CanBeOpened (S.pages store) (S.tail store) limits.records) }
+    ensures first { IsTrue (S.steady store) → IfErr result.1
         (IsDumpFault (S.pages store) (S.tail store) limits.records) }
-    ensures silent { IfErr result (IsSilent (W.contents out.old) (W.contents out.new)) }
+    ensures silent { IfErr result.1 (IsSilent (W.contents out.old) (W.contents out.new)) }
     ensures dumped { IsTrue (S.steady store) → (tree : TreeValue) → (contents : Contents)
         → (version : ℕ) → IsClosed version (S.pages store) (S.tail store) tree contents
         → tree.count ≤ limits.records
-        → MatchResult result
+        → MatchResult result.1
         (λ _. Dumps (W.contents out.old) (W.contents out.new) (maps.entries contents))
         (DumpStops (W.contents out.old) (W.contents out.new)
         (dump_text (maps.entries contents))) }
+    ensures written { Writes IsDump (W.contents out.old) (W.contents out.new) result.1 }
+    ensures stays { StaysStore S.StoreState store result.0 }
+    ensures device { S.failures result.0
+        ≡ counted (S.failures store) (is_device_dump result.1) }
 {
-    let records = list_in(alloc, store, limits)?;
-    write_records(alloc, &records, out)
+    let (store, listed) = list_in(alloc, store, limits);
+    let dumped = write_listed(alloc, listed, out);
+    (store, dumped)
 }

@@ -6,7 +6,7 @@ ghost use Rattle.record_file.specs.Steps.{Aborts, Resumes, abort_refusal};
 ghost use Rattle.record_file.specs.declared.fault.AbortFault.{AbortFault};
 ghost use Rattle.record_file.specs.declared.fault.AbortFault.TheVariants as abort_faults;
 ghost use Rattle.record_file.specs.declared.fault.ResumeFault.{ResumeFault};
-ghost use Rattle.recfile.specs.Ending.{AbortsWhole, Asks, EndsAll, EndsOpen, StopsEnding, StopsOne, aborted, end_cause, rest_of, resumed, stopped_tx};
+ghost use Rattle.recfile.specs.Ending.{Asks, EndsAll, EndsOpen, StopsEnding, StopsOne, aborted, end_cause, rest_of, resumed, stopped_tx};
 
 use rec_types::{Table, TxId};
 use record_file::{AbortFault, Cause, RecordFile, ResumeFault};
@@ -115,6 +115,7 @@ fn end_one<T: Table>(file: &mut RecordFile<T>, tx: TxId) -> Result<bool, EndFaul
     ensures asks { Asks (seen T.TableState file.old) (end_cause result)
         (seen T.TableState file.new) }
 {
+    let _begun = file.begun();
     if !go_on(file, tx)? {
         return Ok(false);
     }
@@ -137,7 +138,7 @@ pub fn end_all<T: Table>(file: &mut RecordFile<T>) -> Result<u32, EndFault>
     ensures stopped { IfErr result (λ fault. StopsEnding file.old.file fault file.new.file) }
     ensures asks { Asks (seen T.TableState file.old) (end_cause result)
         (seen T.TableState file.new) }
-    ensures records { IsTrue (T.sound file.old.table) → AbortsWhole file.old.file.txs
+    ensures records { IsTrue (T.sound file.old.table)
         → OnOk result (T.contents file.new.table ≡ replay file.old.file.opening
         (rest_of (open_of file.old.file) file.old.file.history)) }
 {

@@ -1,13 +1,14 @@
-ghost use Rattle.std.specs.Prelude.{◌≡◌, ◌≢◌, ◌≤◌, ℕ, IsTrue, IfSome, OnOk, MatchOption, None, Some, if◌then◌else◌};
+ghost use Rattle.std.specs.Prelude.{◌≡◌, ◌≤◌, ℕ, false, is_some, IsTrue, IfErr, IfSome, OnOk, MatchOption, None, Some, if◌then◌else◌};
 ghost use Rattle.rec_types.specs.Contents.{Contents};
 ghost use Rattle.rec_types.specs.Table.{no_damage};
 ghost use Rattle.btree_insert.specs.declared.tree.Tree.{Tree as TreeValue};
 ghost use Rattle.btree_delete.specs.TableView.{IsClosed, table_contents};
 ghost use Rattle.page_journal.specs.Files.{recovered};
 ghost use Rattle.page_journal.specs.Crash.{IsAtRest};
-ghost use Rattle.recfile.specs.Dumped.{IsFirstOrOutside, IsOutsideFile};
+ghost use Rattle.recfile.specs.Dumped.{CanBeOpened, IsFirstOrOutside, IsOutsideFile};
 ghost use Rattle.recfile.specs.Kept.{LeavesOld, LeavesEither, IsKept, ClosesSafely, IsOutsideDisk, IsUnopened};
-ghost use Rattle.recfile.specs.WholeSession.{EndsFile, opened_file};
+ghost use Rattle.recfile.specs.Statuses.{status_of};
+ghost use Rattle.recfile.specs.WholeSession.{EndsFile, RunsAny, opened_file};
 
 use crate::file_fault::FileFault;
 use crate::manner::Manner;
@@ -21,12 +22,14 @@ use record_file::RecordFile;
 use std::alloc::Global;
 use std::io::{Read, Write};
 
-/// How a session over a page file on a disk ended: its status, the disk, and why the file wasn't opened.
+/// How a session over a page file on a disk ended: its status, the disk, why the file wasn't opened, and why it wasn't
+/// closed.
 #[derive(Drop)]
 pub struct DiskEnd<D: Disk + Drop> {
     pub status: u8,
     pub disk: D,
     pub unopened: Option<FileFault>,
+    pub unclosed: Option<FileFault>,
 }
 
 // The disk of a table that isn't closed, with the old file put back. Where that fails the side file stays, and the next
@@ -44,6 +47,7 @@ fn close_table<D: Disk + Drop>(table: TreeTable<KeptStore<D>>) -> (D, Result<(),
         → LeavesEither D.DiskState (recovered D.began) (table_contents table) result.0 }
     ensures closed { IsTrue table.pages.steady
         → OnOk result.1 (IsKept D.DiskState (table_contents table) result.0) }
+    ensures fault { IfErr result.1 IsOutsideFile }
 {
     let mut table = table;
     if let Err(fault) = table.seal() {
@@ -66,8 +70,9 @@ fn close_kept<D: Disk + Drop, E: Write>(
 ) -> DiskEnd<D>
     ensures opened { result.unopened ≡ None }
     ensures closed { IsTrue table.pages.steady → ClosesSafely D.DiskState (recovered D.began)
-        result.disk result.status (table_contents table) (if script_fault then 3 else 0) }
-    ensures ended { result.status ≢ 4 }
+        result.disk result.unclosed (table_contents table) }
+    ensures fault { IfSome result.unclosed IsOutsideFile }
+    ensures status { result.status ≡ status_of false (is_some result.unclosed) script_fault }
 {
     let (disk, done) = close_table(table);
     tell_fault_of(err, &done);
@@ -75,6 +80,7 @@ fn close_kept<D: Disk + Drop, E: Write>(
         status: exit_status(false, done.is_err(), script_fault),
         disk,
         unopened: None,
+        unclosed: done.err(),
     }
 }
 
@@ -90,11 +96,14 @@ fn run_table<D: Disk + Drop, R: Read, W: Write, E: Write>(
 ) -> DiskEnd<D>
     requires limit { table.limit ≡ limits.records }
     ensures opened { result.unopened ≡ None }
+    ensures ran { RunsAny manner limits (R.remaining reader.old) (R.remaining reader.new)
+        (W.contents out.old) (W.contents out.new) result.unclosed result.status }
     ensures session { IsTrue table.pages.steady → table.refusals ≡ 0 → table.damages ≡ no_damage
         → EndsFile manner (R.remaining reader.old) (R.remaining reader.new)
         (W.contents out.old) (W.contents out.new)
         (opened_file (table_contents table) limits table.pages.failures)
-        (ClosesSafely D.DiskState (recovered D.began) result.disk result.status) result.status }
+        (ClosesSafely D.DiskState (recovered D.began) result.disk result.unclosed)
+        result.unclosed result.status }
     ensures stopped { IsTrue table.pages.steady → table.refusals ≡ 0 → table.damages ≡ no_damage
         → result.status ≡ 4 → LeavesOld D.DiskState (recovered D.began) result.disk }
 {
@@ -108,19 +117,26 @@ fn run_table<D: Disk + Drop, R: Read, W: Write, E: Write>(
             status: exit_status(true, false, script_fault),
             disk: give_back(table),
             unopened: None,
+            unclosed: None,
         },
     }
 }
 
 // The end of a session whose file isn't opened. The fault has its line.
 fn unopened<D: Disk + Drop, E: Write>(disk: D, fault: FileFault, err: &mut E) -> DiskEnd<D>
-    ensures { result ≡ record { status = 1; disk = disk; unopened = Some fault } }
+    ensures { result ≡ record {
+      status = 1;
+      disk = disk;
+      unopened = Some fault;
+      unclosed = None;
+    } }
 {
     tell(err, &fault);
     DiskEnd {
         status: exit_status(false, true, false),
         disk,
         unopened: Some(fault),
+        unclosed: None,
     }
 }
 
@@ -137,8 +153,13 @@ fn run_stored<D: Disk + Drop, R: Read, W: Write, E: Write>(
     requires file { IsTrue (D.steady store.disk)
         → (D.seen store.disk).main ≡ recovered D.began }
     requires failures { store.failures ≡ 0 }
-    ensures unread { IfSome result.unopened (λ _. (result.status ≡ 1)
+    ensures unread { IfSome result.unopened (λ _. (result.status ≡ 1) × (result.unclosed ≡ None)
         × (reader.new ≡ reader.old) × (out.new ≡ out.old)) }
+    ensures ran { result.unopened ≡ None → RunsAny manner limits (R.remaining reader.old)
+        (R.remaining reader.new) (W.contents out.old) (W.contents out.new)
+        result.unclosed result.status }
+    ensures closed { IsTrue (D.steady store.disk) → result.unopened ≡ None
+        → CanBeOpened (recovered D.began).pages (recovered D.began).tail limits.records }
     ensures first { IsTrue (D.steady store.disk) → IfSome result.unopened
         (IsFirstOrOutside (recovered D.began).pages (recovered D.began).tail limits.records) }
     ensures untouched { IsTrue (D.steady store.disk) → IfSome result.unopened
@@ -151,7 +172,8 @@ fn run_stored<D: Disk + Drop, R: Read, W: Write, E: Write>(
         → MatchOption result.unopened (EndsFile manner (R.remaining reader.old)
         (R.remaining reader.new) (W.contents out.old) (W.contents out.new)
         (opened_file contents limits 0)
-        (ClosesSafely D.DiskState (recovered D.began) result.disk result.status) result.status)
+        (ClosesSafely D.DiskState (recovered D.began) result.disk result.unclosed)
+        result.unclosed result.status)
         IsOutsideFile }
 {
     match TreeTable::open_from(alloc, store, limits) {
@@ -182,8 +204,13 @@ pub fn run_kept<D: Disk + Drop, R: Read, W: Write, E: Write>(
     requires rest { IsAtRest D.DiskState disk }
     requires began { IsTrue (D.steady disk) → D.seen disk ≡ D.began }
     requires moment { D.moment disk ≡ 0 }
-    ensures unread { IfSome result.unopened (λ _. (result.status ≡ 1)
+    ensures unread { IfSome result.unopened (λ _. (result.status ≡ 1) × (result.unclosed ≡ None)
         × (reader.new ≡ reader.old) × (out.new ≡ out.old)) }
+    ensures ran { result.unopened ≡ None → RunsAny manner limits (R.remaining reader.old)
+        (R.remaining reader.new) (W.contents out.old) (W.contents out.new)
+        result.unclosed result.status }
+    ensures closed { IsTrue (D.steady disk) → result.unopened ≡ None
+        → CanBeOpened (recovered D.began).pages (recovered D.began).tail limits.records }
     ensures first { IsTrue (D.steady disk)
         → IfSome result.unopened (IsUnopened D.began limits.records) }
     ensures untouched { IsTrue (D.steady disk) → IfSome result.unopened
@@ -196,7 +223,8 @@ pub fn run_kept<D: Disk + Drop, R: Read, W: Write, E: Write>(
         → MatchOption result.unopened (EndsFile manner (R.remaining reader.old)
         (R.remaining reader.new) (W.contents out.old) (W.contents out.new)
         (opened_file contents limits 0)
-        (ClosesSafely D.DiskState (recovered D.began) result.disk result.status) result.status)
+        (ClosesSafely D.DiskState (recovered D.began) result.disk result.unclosed)
+        result.unclosed result.status)
         (IsOutsideDisk D.began) }
 {
     match KeptStore::open(alloc, disk) {

@@ -6,17 +6,18 @@ ghost use Rattle.rec_types.specs.Contents.{Contents};
 ghost use Rattle.rec_types.specs.LimitBounds.{Bounds};
 ghost use Rattle.rec_types.specs.Table.{greatest_count};
 ghost use Rattle.record_file.specs.Abstract.{File, new_file, open_of};
-ghost use Rattle.record_file.specs.Runs.{Event, Run, Seen};
+ghost use Rattle.record_file.specs.Runs.{Seen};
 ghost use Rattle.command_text.specs.Dump.{dump_text, CanBePut};
 ghost use Rattle.command_text.specs.Refusals.{is_refusal};
 ghost use Rattle.command_text.specs.Script.{entries_of};
 ghost use Rattle.command_text.specs.declared.reply.Reply.{Reply};
-ghost use Rattle.recfile.specs.Ending.{AbortsWhole, EndsAll, without};
+ghost use Rattle.recfile.specs.Ending.{EndsAll, without};
 ghost use Rattle.recfile.specs.Examples.{four_changes, two_taken_back};
 ghost use Rattle.recfile.specs.Room.{HasRoomFor, was_kept};
 ghost use Rattle.recfile.specs.Run.{Session};
 ghost use Rattle.recfile.specs.WholeSession.{EndsFile, IsSession};
 ghost use Rattle.recfile.specs.declared.endings.EndFault.{EndFault};
+ghost use Rattle.recfile.specs.declared.file_fault.FileFault.{FileFault};
 ghost use Rattle.recfile.specs.declared.manner.Manner.{Manner};
 ghost use Rattle.recfile.specs.declared.script.RunFault.{RunFault};
 
@@ -25,16 +26,8 @@ pub fn endings_by_example()
     ensures taken { (old : File) → open_of old 1 ≡ true → open_of old 2 ≡ false
         → open_of old 3 ≡ true → without (open_of old) four_changes ≡ two_taken_back }
     ensures committed { (old : File) (ended : ℕ) → open_of old 1 ≡ true
-        → old.history ≡ four_changes → AbortsWhole old.txs
+        → old.history ≡ four_changes
         → EndsAll old ended (record old { txs = maps.empty }) → ⊥ }
-{}
-
-/// In a new file, and after any run from there, each rollback under way that ends its transaction goes back to the
-/// beginning.
-pub fn aborts_are_whole()
-    ensures begins { (m : Contents) (limits : Bounds) → AbortsWhole (new_file m limits).txs }
-    ensures kept { (old new : Seen) (events : List Event) → Run old events new
-        → AbortsWhole old.file.txs → AbortsWhole new.file.txs }
 {}
 
 /// After a session no transaction is open; the records have the changes of those that had ended before, and none of
@@ -47,13 +40,14 @@ pub fn sessions_by_example()
     ensures gone { (manner : Manner) (left leaves held holds : Option (List ℕ)) (old mid new : Seen)
         (answer : Result ℕ RunFault) (ended : ℕ)
         → IsSession manner left leaves held holds old mid answer (Ok ended) new → IsTrue mid.sound
-        → AbortsWhole mid.file.txs → mid.file.opening ≡ maps.empty
+        → mid.file.opening ≡ maps.empty
         → mid.file.history ≡ four_changes → open_of mid.file 1 ≡ true
         → open_of mid.file 2 ≡ false → open_of mid.file 3 ≡ true
         → (maps.get new.records (97 ∷ []) ≡ None)
         × (maps.get new.records (98 ∷ []) ≡ Some (121 ∷ [])) }
     ensures unclosed { (manner : Manner) (left leaves held holds : Option (List ℕ)) (old : Seen) (status : ℕ)
-        → EndsFile manner left leaves held holds old (λ _ _. ⊥) status → status ≡ 4 }
+        (unclosed : Option FileFault)
+        → EndsFile manner left leaves held holds old (λ _. ⊥) unclosed status → status ≡ 4 }
 {}
 
 /// A dump that is run over a file without records, with no refusal, gives exactly its records.

@@ -32,7 +32,7 @@ pub use kept_file::{DiskEnd, run_kept};
 pub use manner::{Feed, Manner};
 pub use page_file::{FileEnd, check_in, create_in, run_in};
 pub use program::run_words;
-pub use reads::Reads;
+pub use reads::{CountedRead, Reads};
 pub use script::{RunFault, ScriptFault, run_script, run_script_as, run_script_counted};
 pub use session::{SessionEnd, run_memory, run_session};
 pub use shell::{read_answered, run_shell};

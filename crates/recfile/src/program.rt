@@ -1,3 +1,8 @@
+ghost use Rattle.std.specs.Prelude.{◌≡◌, ◌⊎◌, OnOk, if◌then◌else◌};
+ghost use Rattle.std.specs.Result.{is_err};
+ghost use Rattle.btree_delete.specs.Created.{IsOrder};
+ghost use Rattle.recfile.specs.Tasks.{Does, DoesAny, IsDump, IsLine, Writes, text_status};
+
 use crate::dump::{DumpFault, dump_in};
 use crate::explain::explain_file;
 use crate::file_fault::FileFault;
@@ -26,14 +31,16 @@ fn create<F: OpenFile + FileExt + Lock + Drop, H: Files<File = F>>(
     alloc: Global,
     order: u16,
     path: &str,
-) -> Result<(), FileFault> {
+) -> Result<(), FileFault>
+    ensures { OnOk result (IsOrder order) }
+{
     let store = FileStore::create_new(rt, path)?;
     if has_side_file(rt, alloc, path)? {
         rt.remove_file(path)?;
         return Err(FileFault::BadJournal);
     }
-    create_in(alloc, store, order, greatest_limits())?;
-    Ok(())
+    let (_store, made) = create_in(alloc, store, order, greatest_limits());
+    made
 }
 
 // Opens the page file at a path to read it. Where a side file stands beside it a closing was stopped, and it isn't
@@ -56,9 +63,12 @@ fn check<F: OpenFile + FileExt + Lock + Drop, H: Files<File = F>, W: Write>(
     alloc: Global,
     path: &str,
     out: &mut W,
-) -> Result<(), FileFault> {
+) -> Result<(), DumpFault>
+    ensures { Writes IsLine (W.contents out.old) (W.contents out.new) result }
+{
     let store = open_clean(rt, alloc, path)?;
-    Ok(check_in(alloc, store, greatest_limits(), out)?)
+    let (_store, told) = check_in(alloc, store, greatest_limits(), out);
+    told
 }
 
 // Writes the records of the page file at a path as a script.
@@ -67,13 +77,18 @@ fn dump<F: OpenFile + FileExt + Lock + Drop, H: Files<File = F>, W: Write>(
     alloc: Global,
     path: &str,
     out: &mut W,
-) -> Result<(), DumpFault> {
+) -> Result<(), DumpFault>
+    ensures { Writes IsDump (W.contents out.old) (W.contents out.new) result }
+{
     let store = open_clean(rt, alloc, path)?;
-    dump_in(alloc, store, greatest_limits(), out)
+    let (_store, dumped) = dump_in(alloc, store, greatest_limits(), out);
+    dumped
 }
 
-// The status of a dump; its fault is named.
-fn dump_status<E: Write>(err: &mut E, done: Result<(), DumpFault>) -> u8 {
+// The status where a text was asked for; its fault is named.
+fn text_status<E: Write>(err: &mut E, done: Result<(), DumpFault>) -> u8
+    ensures { result ≡ text_status done }
+{
     match done {
         Ok(()) => exit_status(false, false, false),
         Err(fault) => {
@@ -84,7 +99,9 @@ fn dump_status<E: Write>(err: &mut E, done: Result<(), DumpFault>) -> u8 {
 }
 
 // The status where only a file was asked for; its fault is named.
-fn file_status<E: Write>(err: &mut E, done: Result<(), FileFault>) -> u8 {
+fn file_status<E: Write>(err: &mut E, done: Result<(), FileFault>) -> u8
+    ensures { result ≡ (if is_err done then 1 else 0) }
+{
     match done {
         Ok(()) => exit_status(false, false, false),
         Err(fault) => {
@@ -95,7 +112,9 @@ fn file_status<E: Write>(err: &mut E, done: Result<(), FileFault>) -> u8 {
 }
 
 // Shows why the words ask for nothing: a fault on `err`, and help that was asked for on `out`.
-fn show<W: Write, E: Write>(fault: UsageFault, out: &mut W, err: &mut E) -> u8 {
+fn show<W: Write, E: Write>(fault: UsageFault, out: &mut W, err: &mut E) -> u8
+    ensures { (result ≡ 0) ⊎ (result ≡ 2) }
+{
     match fault {
         UsageFault::Words(error) if !error.use_stderr() => {
             let _ = write!(out, "{error}");
@@ -112,6 +131,7 @@ fn show<W: Write, E: Write>(fault: UsageFault, out: &mut W, err: &mut E) -> u8 {
     }
 }
 
+// Does a task, and answers the status.
 fn run_task<F: OpenFile + FileExt + Lock + Drop, H: Files<File = F>, R: Read, W: Write, E: Write>(
     rt: &H,
     alloc: Global,
@@ -119,11 +139,14 @@ fn run_task<F: OpenFile + FileExt + Lock + Drop, H: Files<File = F>, R: Read, W:
     reader: &mut R,
     out: &mut W,
     err: &mut E,
-) -> u8 {
+) -> u8
+    ensures { Does task.entry (R.remaining reader.old) (R.remaining reader.new)
+        (W.contents out.old) (W.contents out.new) result }
+{
     match task {
         Task::Create { order, path } => file_status(err, create(rt, alloc, order, path)),
-        Task::Check { path } => file_status(err, check(rt, alloc, path, out)),
-        Task::Dump { path } => dump_status(err, dump(rt, alloc, path, out)),
+        Task::Check { path } => text_status(err, check(rt, alloc, path, out)),
+        Task::Dump { path } => text_status(err, dump(rt, alloc, path, out)),
         Task::Explain { path } => {
             let whole = explain_file(rt, alloc, path, out);
             exit_status(false, !whole, false)
@@ -158,7 +181,10 @@ pub fn run_words<
     R: Read,
     W: Write,
     E: Write,
->(rt: &H, alloc: Global, words: &[&str], reader: &mut R, out: &mut W, err: &mut E) -> u8 {
+>(rt: &H, alloc: Global, words: &[&str], reader: &mut R, out: &mut W, err: &mut E) -> u8
+    ensures { DoesAny (R.remaining reader.old) (R.remaining reader.new)
+        (W.contents out.old) (W.contents out.new) result }
+{
     match read_words(alloc, words) {
         Ok(task) => run_task(rt, alloc, task, reader, out, err),
         Err(fault) => show(fault, out, err),

@@ -1,4 +1,4 @@
-ghost use Rattle.std.specs.Prelude.{◌≡◌, ◌+◌, ◌<◌};
+ghost use Rattle.std.specs.Prelude.{◌≡◌, ◌+◌, ◌<◌, ℕ, List, Option};
 ghost use Rattle.std.specs.Io.{ReadsAtMost};
 ghost use Rattle.std.specs.Io.KnownBytes.{ReadConsumes};
 
@@ -7,7 +7,7 @@ use std::io::Read;
 use std::marker::Model;
 use std::sync::ledger::{Blank, Book, Ledger, Share};
 
-/// How many reads were made. It takes no bytes, and only `read` changes it.
+/// How many reads were made. It takes no bytes, and only a read of a `CountedRead` changes it.
 #[derive(Drop)]
 pub struct Reads<L: Ledger> {
     book: Book<L>,
@@ -36,14 +36,32 @@ impl<L: Ledger> Reads<L> {
         Reads { book, share }
     }
 
-    /// Makes one read, and counts it, whatever it answers.
-    pub fn read<R: Read>(&mut self, reader: &mut R, to: &mut [u8]) -> io::Result<usize>
-        ensures count { self.new ≡ self.old + 1 }
-        ensures bound { ReadsAtMost result to.new }
-        ensures bytes { ReadConsumes (R.remaining reader.old) (R.remaining reader.new)
-            result to.new }
+    // Counts one more.
+    fn count(&mut self)
+        ensures { self.new ≡ self.old + 1 }
     {
         self.book.add(&mut self.share, 1);
-        reader.read(to)
+    }
+}
+
+/// A reader of which nothing more is known than that it can be read on the count of one ledger: who has it by this trait
+/// can't read it past that count, since there is one count of a ledger.
+pub trait CountedRead<L: Ledger> {
+    /// The bytes that it has still, where they are known.
+    ghost left: { Self → Option (List ℕ) };
+
+    /// Makes one read, and counts it, whatever it answers.
+    fn read_on(&mut self, reads: &mut Reads<L>, to: &mut [u8]) -> io::Result<usize>
+        ensures count { reads.new ≡ reads.old + 1 }
+        ensures bound { ReadsAtMost result to.new }
+        ensures bytes { ReadConsumes (left self.old) (left self.new) result to.new };
+}
+
+impl<L: Ledger, R: Read> CountedRead<L> for R {
+    ghost left = { λ r. R.remaining r };
+
+    fn read_on(&mut self, reads: &mut Reads<L>, to: &mut [u8]) -> io::Result<usize> {
+        reads.count();
+        self.read(to)
     }
 }

@@ -10,7 +10,7 @@ ghost use Rattle.command_text.specs.declared.reply.Reply.{Reply};
 
 use crate::call::{command_count, reply_to};
 use crate::next_line::next_line;
-use crate::reads::Reads;
+use crate::reads::{CountedRead, Reads};
 use command_text::{Reply, read_line, write_reply};
 use rec_types::Table;
 use record_file::RecordFile;
@@ -63,14 +63,14 @@ const CHUNK: usize = 4096;
 
 // All that the reader has, in at most 1,048,578 reads. Faults: ScriptTooLong, ReadFault, Memory { done: 0 },
 // each where it is met.
-fn read_script<L: Ledger, R: Read>(
+fn read_script<L: Ledger, R: CountedRead<L>>(
     alloc: Global,
     reader: &mut R,
     reads: &mut Reads<L>,
 ) -> Result<Vec<u8>, ScriptFault>
-    ensures whole { IfOk result (λ script. IsWhole (R.remaining reader.old)
-        (R.remaining reader.new) script.items) }
-    ensures stops { IfErr result (ReadStops (R.remaining reader.old) (R.remaining reader.new)) }
+    ensures whole { IfOk result (λ script. IsWhole (R.left reader.old)
+        (R.left reader.new) script.items) }
+    ensures stops { IfErr result (ReadStops (R.left reader.old) (R.left reader.new)) }
     ensures reads { reads.new ≤ reads.old + (longest_script + 2) }
 {
     let mut script = Vec::new(alloc);
@@ -80,7 +80,7 @@ fn read_script<L: Ledger, R: Read>(
         if room == 0 {
             return Err(ScriptFault::ScriptTooLong);
         }
-        match reads.read(reader, &mut chunk[..room]) {
+        match reader.read_on(reads, &mut chunk[..room]) {
             Err(_) => return Err(ScriptFault::ReadFault),
             Ok(0) => return Ok(script),
             Ok(n) => {
@@ -148,18 +148,19 @@ fn run_from<L: Ledger, T: Table, R: Read, W: Write>(
     run_counted(alloc, strict, reader, writer, file, &mut reads)
 }
 
-/// Runs the whole script that a reader has, and counts its reads; the rest is as `run_script` says.
-pub fn run_script_counted<L: Ledger, T: Table, R: Read, W: Write>(
+/// Runs the whole script that a reader has, and counts its reads; the rest is as `run_script` says. It can read on that
+/// count alone.
+pub fn run_script_counted<L: Ledger, T: Table, R: CountedRead<L>, W: Write>(
     alloc: Global,
     reader: &mut R,
     writer: &mut W,
     file: &mut RecordFile<T>,
     reads: &mut Reads<L>,
 ) -> Result<u32, ScriptFault>
-    ensures finished { IfOk result (Finished (R.remaining reader.old) (R.remaining reader.new)
+    ensures finished { IfOk result (Finished (R.left reader.old) (R.left reader.new)
         (W.contents writer.old) (W.contents writer.new)
         (seen T.TableState file.old) (seen T.TableState file.new)) }
-    ensures faulted { IfErr result (Faulted (R.remaining reader.old) (R.remaining reader.new)
+    ensures faulted { IfErr result (Faulted (R.left reader.old) (R.left reader.new)
         (W.contents writer.old) (W.contents writer.new)
         (seen T.TableState file.old) (seen T.TableState file.new)) }
     ensures reads { reads.new ≤ reads.old + (longest_script + 2) }
@@ -180,7 +181,7 @@ fn unrefused(ran: Result<u32, RunFault>) -> Result<u32, ScriptFault>
 }
 
 // Reads a script, and runs it.
-fn run_counted<L: Ledger, T: Table, R: Read, W: Write>(
+fn run_counted<L: Ledger, T: Table, R: CountedRead<L>, W: Write>(
     alloc: Global,
     strict: bool,
     reader: &mut R,
@@ -188,7 +189,7 @@ fn run_counted<L: Ledger, T: Table, R: Read, W: Write>(
     file: &mut RecordFile<T>,
     reads: &mut Reads<L>,
 ) -> Result<u32, RunFault>
-    ensures ran { Ran strict (R.remaining reader.old) (R.remaining reader.new)
+    ensures ran { Ran strict (R.left reader.old) (R.left reader.new)
         (W.contents writer.old) (W.contents writer.new)
         (seen T.TableState file.old) (seen T.TableState file.new) result }
     ensures reads { reads.new ≤ reads.old + (longest_script + 2) }

@@ -1,11 +1,7 @@
-ghost use Rattle.std.specs.Prelude.{◌≡◌, ℕ, Result, if◌then◌else◌};
-ghost use Rattle.std.specs.Result.{is_err};
+ghost use Rattle.std.specs.Prelude.{None};
 ghost use Rattle.record_file.specs.Runs.{Seen, seen};
-ghost use Rattle.recfile.specs.Ending.{AbortsWhole};
 ghost use Rattle.recfile.specs.Whole.{empty_file};
-ghost use Rattle.recfile.specs.WholeSession.{IsSession, RanAs};
-ghost use Rattle.recfile.specs.declared.endings.EndFault.{EndFault};
-ghost use Rattle.recfile.specs.declared.script.RunFault.{RunFault};
+ghost use Rattle.recfile.specs.WholeSession.{IsSession, RanAs, RunsFile};
 
 use crate::endings::{EndFault, end_all};
 use crate::manner::{Feed, Manner};
@@ -75,11 +71,8 @@ pub fn run_memory<R: Read, W: Write, E: Write>(
     out: &mut W,
     err: &mut E,
 ) -> u8
-    ensures { (answer : Result ℕ RunFault) × (ended : Result ℕ EndFault) × (mid new : Seen)
-        × IsSession manner (R.remaining reader.old) (R.remaining reader.new)
-        (W.contents out.old) (W.contents out.new) (empty_file limits) mid answer ended new
-        × AbortsWhole mid.file.txs
-        × (result ≡ (if is_err ended then 4 else (if is_err answer then 3 else 0))) }
+    ensures { RunsFile manner (R.remaining reader.old) (R.remaining reader.new)
+        (W.contents out.old) (W.contents out.new) (empty_file limits) None result }
 {
     let mut file = RecordFile::new(alloc, SortedTable::new(alloc, limits), limits);
     let end = run_session(alloc, manner, &mut file, reader, out, err);

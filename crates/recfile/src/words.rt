@@ -1,3 +1,9 @@
+ghost use Rattle.std.specs.Prelude.{◌≡◌, IfOk, codes};
+ghost use Rattle.clap.specs.Matches.{found_of};
+ghost use Rattle.clap.specs.Simple.{subcommand_rows_of};
+ghost use Rattle.clap.specs.Walk.{one_of, rows_of};
+ghost use Rattle.recfile.specs.Words.{AreLimits, AsksFor, IsManner, IsRead, IsShell, file_of};
+
 use crate::limits::greatest_limits;
 use crate::manner::{Feed, Manner};
 use clap::{Arg, ArgAction, ArgMatches, Command, Error, value_parser};
@@ -209,17 +215,35 @@ fn program<'a>(alloc: Global) -> Result<Command<'a>, AllocError> {
     with_command(program, memory_command(alloc))
 }
 
+// The number of an option, or the default where it has none.
+fn number_of(found: &ArgMatches<'_>, id: &str, default: u32) -> u32
+    ensures { IsRead 32 (one_of id.now (rows_of (found_of found.now))) default result }
+{
+    found.get_one::<u32>(id).unwrap_or(default)
+}
+
 // The limits that were asked for; those that were not are the greatest.
-fn limits_of(found: &ArgMatches<'_>) -> Result<Limits, LimitFault> {
+fn limits_of(found: &ArgMatches<'_>) -> Result<Limits, LimitFault>
+    ensures { IfOk result (AreLimits (rows_of (found_of found.now))) }
+{
     Limits::new(
-        found.get_one::<u32>("records").unwrap_or(MOST_RECORDS),
-        found.get_one::<u32>("log").unwrap_or(MOST_LOG_RECORDS),
-        found.get_one::<u32>("begins").unwrap_or(MOST_BEGINS),
+        number_of(found, "records", MOST_RECORDS),
+        number_of(found, "log", MOST_LOG_RECORDS),
+        number_of(found, "begins", MOST_BEGINS),
     )
 }
 
+// The order that was asked for, or 0, which is none.
+fn order_of(found: &ArgMatches<'_>) -> u16
+    ensures { IsRead 16 (one_of (codes "order") (rows_of (found_of found.now))) 0 result }
+{
+    found.get_one::<u16>("order").unwrap_or(0)
+}
+
 // The manner of a session that was asked for, whose lines come so.
-fn manner_of(found: &ArgMatches<'_>, feed: Feed) -> Manner {
+fn manner_of(found: &ArgMatches<'_>, feed: Feed) -> Manner
+    ensures { IsManner (rows_of (found_of found.now)) feed result }
+{
     Manner {
         strict: found.get_flag("strict"),
         feed,
@@ -227,7 +251,9 @@ fn manner_of(found: &ArgMatches<'_>, feed: Feed) -> Manner {
 }
 
 // A session whose lines come as they are read.
-fn shell_of<'a>(found: &ArgMatches<'a>) -> Result<Task<'a>, UsageFault> {
+fn shell_of<'a>(found: &ArgMatches<'a>) -> Result<Task<'a>, UsageFault>
+    ensures { IfOk result (IsShell (rows_of (found_of found.now))) }
+{
     let limits = limits_of(found)?;
     let manner = manner_of(found, Feed::Lines);
     match found.get_str("FILE") {
@@ -240,15 +266,23 @@ fn shell_of<'a>(found: &ArgMatches<'a>) -> Result<Task<'a>, UsageFault> {
     }
 }
 
-fn path_of<'a>(found: &ArgMatches<'a>) -> &'a str {
-    found.get_str("FILE").unwrap_or("")
+// The path that was asked for.
+fn path_of<'a>(found: &ArgMatches<'a>) -> &'a str
+    ensures { result.now ≡ file_of (rows_of (found_of found.now)) }
+{
+    match found.get_str("FILE") {
+        Some(path) => path,
+        None => "",
+    }
 }
 
 // What was asked for: with no command, the same as with memory.
-fn task_of<'a>(matches: &ArgMatches<'a>) -> Result<Task<'a>, UsageFault> {
+fn task_of<'a>(matches: &ArgMatches<'a>) -> Result<Task<'a>, UsageFault>
+    ensures { IfOk result (AsksFor (subcommand_rows_of matches.now)) }
+{
     match matches.subcommand() {
         Some(("create", found)) => Ok(Task::Create {
-            order: found.get_one::<u16>("order").unwrap_or(0),
+            order: order_of(found),
             path: path_of(found),
         }),
         Some(("run", found)) => Ok(Task::Run {

@@ -5,12 +5,12 @@ use Rattle.recfile.proofs.CallRunLemmas.{quiet}
 use Rattle.recfile.proofs.call.keys.Goals as goal
 
 pub returns : goal.returns
-returns g c =
+returns g c = λ was is.
     let old = seen g.T.TableState c.args.file.now in
-    let is : c.map.result ≡ listed c.keys_of.result = search rules in
-    let step = subst (KeysOfStep c.args.file.now.file c.args.tx.0) (sym is) c.keys_of.ensures in
+    let mapped : c.map.result ≡ listed c.keys_of.result = search rules in
+    let step = subst (KeysOfStep c.args.file.now.file c.args.tx.0) (sym mapped) c.keys_of.ensures in
     record {
       events = record { called = KeysOf c.args.tx c.map.result; failed = false; refused = false } ∷ [];
       told = refl;
-      ran = quiet old old (KeysOf c.args.tx c.map.result) refl ((refl, refl, refl), step);
+      ran = quiet old old (KeysOf c.args.tx c.map.result) refl was was refl ((refl, refl, refl), step);
     }

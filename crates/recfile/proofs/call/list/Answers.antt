@@ -3,7 +3,7 @@ use Rattle.rec_types.specs.declared.transaction.Entry.{Entry}
 use Rattle.command_text.specs.declared.command.Command.TheVariants as commands
 use Rattle.command_text.specs.declared.reply.Reply.TheVariants as replies
 use Rattle.record_file.specs.declared.fault.EntriesFault.{EntriesFault}
-use Rattle.record_file.specs.Outside.{entries_cause, by_device, by_memory, named_by}
+use Rattle.record_file.specs.Outside.{entries_cause, by_device, by_memory, named_by, NeverDamaged}
 use Rattle.record_file.specs.Runs.{seen, Entries}
 use Rattle.record_file.specs.Steps.{listed}
 use Rattle.record_file.proofs.CallStepLemmas.{listed_cause}
@@ -13,19 +13,20 @@ use Rattle.recfile.proofs.CallRunLemmas.{asks}
 use Rattle.recfile.proofs.call.list.Goals as goal
 
 pub returns : goal.returns
-returns g c =
+returns g c = λ was is.
     let old = seen g.T.TableState c.args.file.now in
     let new = seen g.T.TableState c.entries.new.self in
     let told = c.entries.ensures in
     let answer = listed c.entries.result in
-    let is : c.map.result ≡ answer = search rules in
+    let mapped : c.map.result ≡ answer = search rules in
     let cause = listed_cause c.entries.result in
     let failed = by_device (entries_cause c.entries.result) in
-    subst (λ (r : Result (List Entry) EntriesFault). HasReply old (Ok commands.List) (replies.List r) new) (sym is)
+    subst (λ (r : Result (List Entry) EntriesFault). HasReply old (Ok commands.List) (replies.List r) new) (sym mapped)
     (record {
       events = record { called = Entries answer; failed = failed; refused = told.memory.0 } ∷ [];
       told = refl;
       ran = asks old new (Entries answer) failed told.memory.0 told.table.device told.memory.1 told.table.soundness
           (tells_none old.sound old.records new.records old.log new.log told.table.same.0 told.table.same.2)
+          (subst (NeverDamaged old.sound) cause told.damaged) was is
           ((ap by_device cause, λ refused. subst (λ x. IsTrue (by_memory x)) cause (told.memory.2 refused)), record { step = told.step; same = told.table.same; damages = told.table.damages ∙ ap (named_by old.damages) cause });
     })

@@ -1,23 +1,19 @@
-use Rattle.std.proofs.Common.{◌≡◌, ℕ, List, Option, Result, Ok, Err, MatchResult, OnOk, IfErr, ap, sym, subst, ◌∙◌}
-use Rattle.std.proofs.lemmas.Result.{err_from_is_err_and}
+use Rattle.std.proofs.Common.{◌≡◌, ℕ, List, Option, Result, Ok, Err, IfOk, IfErr, MatchResult, sym, subst}
+use Rattle.std.specs.FinMap as maps
 use Rattle.command_text.specs.Dump.{dump_text}
-use Rattle.recfile.specs.Dumped.{Dumps, DumpStops}
+use Rattle.recfile.specs.Dumped.{Dumps, DumpStops, IsOutsideFile}
 use Rattle.recfile.specs.declared.dump.DumpFault.{DumpFault}
+use Rattle.recfile.specs.declared.dump.DumpFault.TheVariants.{File}
+use Rattle.recfile.specs.declared.file_fault.FileFault.{FileFault}
 use Rattle.recfile.proofs.dump.dump_in.Goals as goal
 
 -- the records that were listed are those of the file
-written : (answer : Result (Unit {0}) DumpFault) (held holds : Option (List ℕ)) (records es : List (List ℕ × List ℕ)) → records ≡ es → OnOk answer (Dumps held holds records) → IfErr answer (DumpStops held holds (dump_text records)) → MatchResult answer (λ _. Dumps held holds es) (DumpStops held holds (dump_text es))
-written (Ok done) held holds records es is ok err = subst (Dumps held holds) is ok
-written (Err fault) held holds records es is ok err = subst (λ (rs : List (List ℕ × List ℕ)). DumpStops held holds (dump_text rs) fault) is err
-
-at_err : (answer : Result (Unit {0}) DumpFault) (fault : DumpFault) (P : Unit {0} → Type 0) (Q : DumpFault → Type 0) → answer ≡ Err fault → Q fault → MatchResult answer P Q
-at_err answer fault P Q is known = subst (λ a. MatchResult a P Q) (sym is) known
-
-pub returns-in_err-records-clause-dumped : goal.returns-in_err-records-clause-dumped
-returns-in_err-records-clause-dumped g c steady tree contents version closed few =
-    let told = err_from_is_err_and c.from_residual.result c.from_residual.ensures.1 in
-    at_err c.from_residual.result _ _ _ (told.1 ∙ ap Err told.2) (c.in_err-records.ensures.listed steady tree contents version closed few)
+dumped : {R : Type 0} (listed : Result R FileFault) (items : R → List (List ℕ × List ℕ)) (answer : Result (Unit {0}) DumpFault) (held holds : Option (List ℕ)) (es : List (List ℕ × List ℕ)) → MatchResult listed (λ rs. items rs ≡ es) IsOutsideFile
+    → IfOk listed (λ rs. MatchResult answer (λ _. Dumps held holds (items rs)) (DumpStops held holds (dump_text (items rs)))) → IfErr listed (λ fault. answer ≡ Err (File fault))
+    → MatchResult answer (λ _. Dumps held holds es) (DumpStops held holds (dump_text es))
+dumped (Ok rs) items answer held holds es is known none = subst (λ (l : List (List ℕ × List ℕ)). MatchResult answer (λ _. Dumps held holds l) (DumpStops held holds (dump_text l))) is known
+dumped (Err fault) items answer held holds es outside none known = subst (λ (a : Result (Unit {0}) DumpFault). MatchResult a (λ _. Dumps held holds es) (DumpStops held holds (dump_text es))) (sym known) outside
 
 pub returns-clause-dumped : goal.returns-clause-dumped
 returns-clause-dumped g c steady tree contents version closed few =
-    written c.write_records.result _ _ _ _ (c.deref.ensures.value ∙ c.in_ok-records.ensures.listed steady tree contents version closed few) c.write_records.ensures.dumped c.write_records.ensures.stops
+    dumped c.list_in-store.result.1 (λ records. records.items) c.write_listed-dumped.result _ _ (maps.entries contents) (c.list_in-store.ensures.listed steady tree contents version closed few) c.write_listed-dumped.ensures.dumped c.write_listed-dumped.ensures.fault

@@ -43,9 +43,9 @@ returns-clause-ended g c =
     all_ended c.args.file.now.file c.loop-number.file.file c.loop-number.ended c.begun-number-end.ensures.kept.opens (subst (λ (k : ℕ). EndsBelow c.args.file.now.file (k + 1) c.loop-number.file.file) all c.loop-number.invariant.ended) c.loop-number.invariant.count
 
 pub returns-clause-records : goal.returns-clause-records
-returns-clause-records g c = λ sound whole.
+returns-clause-records g c = λ sound.
     let known = c.loop-number.invariant in
     let all = returns-clause-ended g c in
     c.begun-begun.ensures.kept.replayed (known.asks.sound ∙ sound)
-    ∙ (λ i. replay (known.asks.opening sound i) (all.history whole i))
+    ∙ (λ i. replay (known.asks.opening sound i) (all.history i))
     ∙ replay_without c.args.file.now.file.opening (open_of c.args.file.now.file) c.args.file.now.file.history

@@ -11,7 +11,7 @@ returns-clause-ended g c =
     let going = c.in_ok-go_on.ensures.step in
     let giving = c.in_ok-give_up.ensures.step in
     let open_then : c.in_ok-go_on.field-0 ≡ true = search rules in
-    ended_open c.args.file.now.file c.go_on.new.file.file c.give_up.new.file.file c.args.tx going.0 giving.0 (sym going.1 ∙ ap Ok open_then) going.2 (sym giving.1) giving.2
+    ended_open c.args.file.now.file c.go_on.new.file.file c.give_up.new.file.file c.args.tx going.0 giving.0 (c.begun-begun.ensures.kept.whole c.args.tx.0) (sym going.1 ∙ ap Ok open_then) going.2 (sym giving.1) giving.2
 
 pub returns-clause-asks : goal.returns-clause-asks
 returns-clause-asks g c = asks_on (seen g.T.TableState c.args.file.now) (seen g.T.TableState c.go_on.new.file) (seen g.T.TableState c.give_up.new.file) None c.in_ok-go_on.ensures.asks c.in_ok-give_up.ensures.asks

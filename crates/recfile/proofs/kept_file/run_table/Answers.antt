@@ -1,12 +1,12 @@
-use Rattle.std.proofs.Common.{◌≡◌, Ok, Err, IsTrue, ap, subst, ◌∙◌}
-use Rattle.std.specs.Result.{is_err}
+use Rattle.std.proofs.Common.{◌≡◌, false, is_some, Ok, Err, IsTrue, refl, sym, ap, subst, ◌∙◌}
 use Rattle.rec_types.specs.Table.{no_damage}
 use Rattle.btree_delete.specs.TableView.{TableView, table_contents}
 use Rattle.page_journal.specs.Files.{recovered}
 use Rattle.record_file.specs.Runs.{Seen, seen}
 use Rattle.recfile.specs.WholeSession.{IsSession, opened_file}
-use Rattle.recfile.proofs.WholeAbortLemmas.{whole_empty, whole_ran, sound_ran}
-use Rattle.recfile.proofs.OpenedLemmas.{treed, fresh}
+use Rattle.recfile.proofs.SoundRunLemmas.{sound_ran}
+use Rattle.recfile.specs.Statuses.{status_of}
+use Rattle.recfile.proofs.OpenedLemmas.{treed, fresh, begun, never_4}
 use Rattle.recfile.proofs.KeptLemmas.{safely}
 use Rattle.recfile.proofs.kept_file.run_table.Given as given
 use Rattle.recfile.proofs.kept_file.run_table.Goals as goal
@@ -27,41 +27,79 @@ module _ (g : given.Over) (c : After-abandon-table g) where
   table_steady steady refusals damages =
       ap (λ (t : TableView). t.pages.steady) c.abandon-table.ensures ∙ (session steady refusals damages).asks.sound ∙ sound steady refusals damages
 
+pub returns-in-Ok-clause-ran : goal.returns-in-Ok-clause-ran
+returns-in-Ok-clause-ran g c = (
+  seen treed c.new-file.result,
+  begun c.new-file.result c.args.table c.args.limits c.new-file.ensures,
+  record {
+    answer = c.run_session-end.result.script;
+    ended = Ok c.in-Ok.field-0;
+    mid = c.run_session-end.ensures.0;
+    new = seen treed c.run_session-end.new.file;
+    session = subst (λ e. IsSession c.args.manner (g.R.Read.remaining c.args.reader.now) (g.R.Read.remaining c.run_session-end.new.reader) (g.W.Write.contents c.args.out.now) (g.W.Write.contents c.run_session-end.new.out) (seen treed c.new-file.result) c.run_session-end.ensures.0 c.run_session-end.result.script e (seen treed c.run_session-end.new.file)) c.in-Ok.is c.run_session-end.ensures.1;
+    status_is = c.close_kept.ensures.status ∙ ap (status_of false (is_some c.close_kept.result.unclosed)) c.is_err-script_fault.ensures.value;
+    fault = c.close_kept.ensures.fault;
+    untried = tt;
+  },
+)
+
+pub returns-in-Err-clause-ran : goal.returns-in-Err-clause-ran
+returns-in-Err-clause-ran g c = (
+  seen treed c.new-file.result,
+  begun c.new-file.result c.args.table c.args.limits c.new-file.ensures,
+  record {
+    answer = c.run_session-end.result.script;
+    ended = Err c.in-Err.field-0;
+    mid = c.run_session-end.ensures.0;
+    new = seen treed c.run_session-end.new.file;
+    session = subst (λ e. IsSession c.args.manner (g.R.Read.remaining c.args.reader.now) (g.R.Read.remaining c.run_session-end.new.reader) (g.W.Write.contents c.args.out.now) (g.W.Write.contents c.run_session-end.new.out) (seen treed c.new-file.result) c.run_session-end.ensures.0 c.run_session-end.result.script e (seen treed c.run_session-end.new.file)) c.in-Err.is c.run_session-end.ensures.1;
+    status_is = c.exit_status.ensures;
+    fault = tt;
+    untried = refl;
+  },
+)
+
 pub returns-in-Ok-clause-session : goal.returns-in-Ok-clause-session
 returns-in-Ok-clause-session g c steady refusals damages =
     let old = opened_file (table_contents c.args.table) c.args.limits c.args.table.pages.failures in
-    let mid = c.run_session-end.ensures.0 in
-    let new = seen treed c.run_session-end.new.file in
     let here = (goal.at.returns-in-Ok-clause-session g c).After-abandon-table in
-    let known = session g here steady refusals damages in
     record {
-      answer = c.run_session-end.result.script;
-      ended = Ok c.in-Ok.field-0;
-      mid = mid;
-      new = new;
-      session = subst (λ e. IsSession c.args.manner (g.R.Read.remaining c.args.reader.now) (g.R.Read.remaining c.run_session-end.new.reader) (g.W.Write.contents c.args.out.now) (g.W.Write.contents c.run_session-end.new.out) old mid c.run_session-end.result.script e new) c.in-Ok.is known;
-      whole = whole_ran c.args.manner c.run_session-end.result.script _ _ _ _ old mid known.script whole_empty;
+      run = record {
+        answer = c.run_session-end.result.script;
+        ended = Ok c.in-Ok.field-0;
+        mid = c.run_session-end.ensures.0;
+        new = seen treed c.run_session-end.new.file;
+        session = subst (λ e. IsSession c.args.manner (g.R.Read.remaining c.args.reader.now) (g.R.Read.remaining c.run_session-end.new.reader) (g.W.Write.contents c.args.out.now) (g.W.Write.contents c.run_session-end.new.out) old c.run_session-end.ensures.0 c.run_session-end.result.script e (seen treed c.run_session-end.new.file)) c.in-Ok.is (session g here steady refusals damages);
+        status_is = c.close_kept.ensures.status ∙ ap (status_of false (is_some c.close_kept.result.unclosed)) c.is_err-script_fault.ensures.value;
+        fault = c.close_kept.ensures.fault;
+        untried = tt;
+      };
       sound = sound g here steady refusals damages;
-      ending = safely g.D.DiskState (recovered g.D.DiskState.began) c.close_kept.result.disk c.close_kept.result.status c.abandon-table.result c.run_session-end.new.file.table c.is_err-script_fault.result (is_err c.run_session-end.result.script) c.abandon-table.ensures c.is_err-script_fault.ensures.value (c.close_kept.ensures.closed (table_steady g here steady refusals damages));
+      closes = safely g.D.DiskState (recovered g.D.DiskState.began) c.close_kept.result.disk c.close_kept.result.unclosed c.abandon-table.result c.run_session-end.new.file.table c.abandon-table.ensures (c.close_kept.ensures.closed (table_steady g here steady refusals damages));
     }
 
 pub returns-in-Err-clause-session : goal.returns-in-Err-clause-session
 returns-in-Err-clause-session g c steady refusals damages =
     let old = opened_file (table_contents c.args.table) c.args.limits c.args.table.pages.failures in
-    let mid = c.run_session-end.ensures.0 in
-    let new = seen treed c.run_session-end.new.file in
     let here = (goal.at.returns-in-Err-clause-session g c).After-abandon-table in
-    let known = session g here steady refusals damages in
     record {
-      answer = c.run_session-end.result.script;
-      ended = Err c.in-Err.field-0;
-      mid = mid;
-      new = new;
-      session = subst (λ e. IsSession c.args.manner (g.R.Read.remaining c.args.reader.now) (g.R.Read.remaining c.run_session-end.new.reader) (g.W.Write.contents c.args.out.now) (g.W.Write.contents c.run_session-end.new.out) old mid c.run_session-end.result.script e new) c.in-Err.is known;
-      whole = whole_ran c.args.manner c.run_session-end.result.script _ _ _ _ old mid known.script whole_empty;
+      run = record {
+        answer = c.run_session-end.result.script;
+        ended = Err c.in-Err.field-0;
+        mid = c.run_session-end.ensures.0;
+        new = seen treed c.run_session-end.new.file;
+        session = subst (λ e. IsSession c.args.manner (g.R.Read.remaining c.args.reader.now) (g.R.Read.remaining c.run_session-end.new.reader) (g.W.Write.contents c.args.out.now) (g.W.Write.contents c.run_session-end.new.out) old c.run_session-end.ensures.0 c.run_session-end.result.script e (seen treed c.run_session-end.new.file)) c.in-Err.is (session g here steady refusals damages);
+        status_is = c.exit_status.ensures;
+        fault = tt;
+        untried = refl;
+      };
       sound = sound g here steady refusals damages;
-      ending = c.exit_status.ensures;
+      closes = tt;
     }
+
+pub returns-in-Ok-clause-stopped : goal.returns-in-Ok-clause-stopped
+returns-in-Ok-clause-stopped g c steady refusals damages stopped =
+    absurd (never_4 (is_some c.close_kept.result.unclosed) c.is_err-script_fault.result (sym c.close_kept.ensures.status ∙ stopped))
 
 pub returns-in-Err-clause-stopped : goal.returns-in-Err-clause-stopped
 returns-in-Err-clause-stopped g c steady refusals damages stopped =

@@ -20,4 +20,4 @@ not_live f h first is taken =
     ∙ ap (λ (b : Bool). first_live (cond b (change 1 97 (Some (120 ∷ [])) false) (change 1 97 (Some (120 ∷ [])) true) ∷ [])) first
 
 pub returns-clause-committed : goal.returns-clause-committed
-returns-clause-committed c = λ old ended first is whole all. absurd (cc (not_live (open_of old) old.history first is (all.history whole)))
+returns-clause-committed c = λ old ended first is all. absurd (cc (not_live (open_of old) old.history first is all.history))

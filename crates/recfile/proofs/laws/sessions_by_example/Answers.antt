@@ -32,6 +32,6 @@ returns-clause-open c = λ manner left leaves held holds old mid new answer ende
     ap (λ (f : File). open_of f t) session.ending.rest ∙ ap is_some (get-empty _ t)
 
 pub returns-clause-gone : goal.returns-clause-gone
-returns-clause-gone c = λ manner left leaves held holds old mid new answer ended session sound whole none four first second third.
-    let are = session.records sound whole ∙ left_records (open_of mid.file) mid.file.opening mid.file.history none four first second third in
+returns-clause-gone c = λ manner left leaves held holds old mid new answer ended session sound none four first second third.
+    let are = session.records sound ∙ left_records (open_of mid.file) mid.file.opening mid.file.history none four first second third in
     (ap (λ (m : Contents). maps.get m (97 ∷ [])) are ∙ at_key (97 ∷ []), ap (λ (m : Contents). maps.get m (98 ∷ [])) are ∙ at_key (98 ∷ []))

@@ -1,10 +1,10 @@
-use Rattle.std.proofs.Common.{rules, ◌≡◌, Option, None, MatchOption, IfSome, sym, subst, ◌∙◌}
-use Rattle.btree_insert.specs.declared.tree.Tree.{Tree}
+use Rattle.std.proofs.Common.{◌≡◌, Option, None, MatchOption, IfSome, sym, subst, ◌∙◌}
 use Rattle.btree_delete.specs.CleanFile.{IsOutside}
-use Rattle.btree_delete.specs.TableView.{IsClosed}
 use Rattle.btree_delete.specs.declared.open_fault.OpenFault.{OpenFault}
 use Rattle.record_file.specs.Runs.{Seen}
+use Rattle.recfile.specs.StoreSession.{ClosesIn}
 use Rattle.recfile.specs.WholeSession.{EndsFile, opened_file}
+use Rattle.recfile.proofs.OpenedLemmas.{can_be_opened}
 use Rattle.recfile.proofs.page_file.run_in.Goals as goal
 
 at_none : {A : Type 0} (o : Option A) (P : A → Type 0) → o ≡ None → IfSome o P
@@ -19,15 +19,12 @@ returns-in-Ok-clause-untouched g c = at_none _ _ c.run_opened.ensures.opened
 pub returns-in-Ok-clause-first : goal.returns-in-Ok-clause-first
 returns-in-Ok-clause-first g c steady = at_none _ _ c.run_opened.ensures.opened
 
+pub returns-in-Ok-clause-closed : goal.returns-in-Ok-clause-closed
+returns-in-Ok-clause-closed g c steady none = can_be_opened _ _ c.args.limits.records _ c.in-Ok.table.pages c.in-Ok.table.tree (c.in-Ok.ensures.found steady)
+
 pub returns-in-Ok-clause-session : goal.returns-in-Ok-clause-session
 returns-in-Ok-clause-session g c steady tree contents version closed few =
     let opened = c.in-Ok.ensures.reopened steady tree contents version closed few in
     let same = c.in-Ok.ensures.stored in
-    let ends = λ (s : Seen). EndsFile c.args.manner (g.R.Read.remaining c.args.reader.now) (g.R.Read.remaining c.run_opened.new.reader) (g.W.Write.contents c.args.out.now) (g.W.Write.contents c.run_opened.new.out) s (λ records good. MatchOption c.run_opened.result.store (c.run_opened.result.status ≡ 1) (λ x. ((t : Tree) × IsClosed 2 (g.S.StoreState.pages x) (g.S.StoreState.tail x) t records) × (c.run_opened.result.status ≡ good))) c.run_opened.result.status in
+    let ends = λ (s : Seen). EndsFile c.args.manner (g.R.Read.remaining c.args.reader.now) (g.R.Read.remaining c.run_opened.new.reader) (g.W.Write.contents c.args.out.now) (g.W.Write.contents c.run_opened.new.out) s (ClosesIn g.S.StoreState c.run_opened.result.store c.run_opened.result.unclosed) c.run_opened.result.unclosed c.run_opened.result.status in
     subst (λ (o : Option OpenFault). MatchOption o (ends (opened_file contents c.args.limits (g.S.StoreState.failures c.args.store))) IsOutside) (sym c.run_opened.ensures.opened) (subst ends (λ i. opened_file (opened.1 i) c.args.limits (same.4 i)) (c.run_opened.ensures.session (same.2 ∙ steady) c.in-Ok.ensures.no_faults.0 c.in-Ok.ensures.no_faults.1))
-
-pub returns-in-Err-clause-unread : goal.returns-in-Err-clause-unread
-returns-in-Err-clause-unread g c = search rules
-
-pub returns-in-Err-clause-untouched : goal.returns-in-Err-clause-untouched
-returns-in-Err-clause-untouched g c = search rules

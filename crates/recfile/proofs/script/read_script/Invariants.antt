@@ -4,7 +4,7 @@ use Rattle.recfile.proofs.script.read_script.Given as goal
 
 abbrev pub invariant-loop-turn : goal.invariant-loop-turn
 invariant-loop-turn g l = record {
-  taken : Consumes (g.R.Read.remaining l.fn.reader) (g.R.Read.remaining l.reader) l.script.items;
+  taken : Consumes (g.R.CountedRead.left l.fn.reader) (g.R.CountedRead.left l.reader) l.script.items;
   fits : vec_len l.script ≤ 1048577;
   turns : l.turn ≤ vec_len l.script;
   counted : l.reads ≤ l.fn.reads + l.turn;

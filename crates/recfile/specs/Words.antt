@@ -1,0 +1,68 @@
+-- Which task the words after the program's name ask for, by what was found in them.
+use Rattle.std.specs.Prelude.{◌≡◌, ◌≢◌, ◌⊎◌, ℕ, ◌<◌, ◌^◌, true, false, List, [], Option, Some, None, unwrap_or, codes}
+use Rattle.std.specs.Str.Parse.{IsNumeral, digits_value, without_leading_plus}
+use Rattle.clap.specs.Walk.{Row, first_of, one_of}
+use Rattle.rec_types.specs.LimitBounds.{Bounds, most_records, most_log_records, most_begins}
+use Rattle.recfile.specs.declared.manner.Feed.{Feed}
+use Rattle.recfile.specs.declared.manner.Feed.TheVariants.{Lines, Script}
+use Rattle.recfile.specs.declared.manner.Manner.{Manner}
+use Rattle.recfile.specs.declared.words.Task.{Task}
+use Rattle.recfile.specs.declared.words.Task.TheVariants as tasks
+
+-- the number that was found, of so many bits, or the default where none was
+abbrev pub IsRead : ℕ → Option (List ℕ) → ℕ → ℕ → Type 0
+IsRead bits None default n = n ≡ default
+IsRead bits (Some text) default n =
+    IsNumeral 10 (without_leading_plus text) → digits_value 10 (without_leading_plus text) < 2 ^ bits → n ≡ digits_value 10 (without_leading_plus text)
+
+abbrev pub AreLimits : List Row → Bounds → Type 0
+AreLimits rows limits =
+    IsRead 32 (one_of (codes "records") rows) most_records limits.records
+    × IsRead 32 (one_of (codes "log") rows) most_log_records limits.log_records
+    × IsRead 32 (one_of (codes "begins") rows) most_begins limits.begins
+
+-- a manner: how lines come, and whether a refusal ends them
+pub record IsManner (rows : List Row) (feed : Feed) (manner : Manner) : Type 0 where
+  pub feed_is : manner.feed ≡ feed
+  pub none : one_of (codes "strict") rows ≡ None → manner.strict ≡ false
+  pub set : one_of (codes "strict") rows ≡ Some (codes "true") → manner.strict ≡ true
+  pub unset : one_of (codes "strict") rows ≡ Some (codes "false") → manner.strict ≡ false
+
+abbrev pub file_of : List Row → List ℕ
+file_of rows = unwrap_or (first_of (codes "FILE") rows) []
+
+-- none of the names of commands that have a file, or may have one
+abbrev pub IsOther : List ℕ → Type 0
+IsOther name =
+    (name ≢ codes "create") × (name ≢ codes "run") × (name ≢ codes "shell") × (name ≢ codes "check") × (name ≢ codes "dump") × (name ≢ codes "explain")
+
+-- the task of a shell: a session over the file, or where there is none over an empty one
+abbrev pub IsShell : List Row → Task → Type 0
+IsShell rows (tasks.Create order path) = ⊥
+IsShell rows (tasks.Run limits manner path) =
+    AreLimits rows limits × IsManner rows Lines manner × (first_of (codes "FILE") rows ≡ Some path.now)
+IsShell rows (tasks.Check path) = ⊥
+IsShell rows (tasks.Dump path) = ⊥
+IsShell rows (tasks.Explain path) = ⊥
+IsShell rows (tasks.Memory limits manner) =
+    AreLimits rows limits × IsManner rows Lines manner × (first_of (codes "FILE") rows ≡ None)
+
+-- the task of a command of that name, in which this was found: a session runs a script, but that of a shell, which runs
+-- lines
+abbrev pub IsNamed : List ℕ → List Row → Task → Type 0
+IsNamed name rows (tasks.Create order path) =
+    (name ≡ codes "create") × IsRead 16 (one_of (codes "order") rows) 0 order × (path.now ≡ file_of rows)
+IsNamed name rows (tasks.Run limits manner path) =
+    ((name ≡ codes "run") × AreLimits rows limits × IsManner rows Script manner × (path.now ≡ file_of rows))
+    ⊎ ((name ≡ codes "shell") × IsShell rows (tasks.Run limits manner path))
+IsNamed name rows (tasks.Check path) = (name ≡ codes "check") × (path.now ≡ file_of rows)
+IsNamed name rows (tasks.Dump path) = (name ≡ codes "dump") × (path.now ≡ file_of rows)
+IsNamed name rows (tasks.Explain path) = (name ≡ codes "explain") × (path.now ≡ file_of rows)
+IsNamed name rows (tasks.Memory limits manner) =
+    (IsOther name × AreLimits rows limits × IsManner rows Script manner)
+    ⊎ ((name ≡ codes "shell") × IsShell rows (tasks.Memory limits manner))
+
+-- with no command it is a script over an empty file of the greatest limits, and no refusal ends it
+abbrev pub AsksFor : Option (List ℕ × List Row) → Task → Type 0
+AsksFor None task = task ≡ tasks.Memory (record { records = most_records; log_records = most_log_records; begins = most_begins }) (record { strict = false; feed = Script })
+AsksFor (Some found) task = IsNamed found.0 found.1 task
