@@ -2,6 +2,7 @@
 use Rattle.std.specs.Prelude.{ℕ, Bool, true, None}
 use Rattle.rec_types.specs.Contents.{Contents}
 use Rattle.rec_types.specs.Table.{Damages, no_damage, Origin}
+use Rattle.rec_types.specs.declared.table_calls.TableCalls.{TableCalls}
 use Rattle.page_store.specs.Journal.{untouched}
 use Rattle.btree_delete.specs.TableView.{table_contents}
 use Rattle.recfile_c.specs.declared.file_table.FileTable.{FileTable}
@@ -30,6 +31,10 @@ refusals_of (Paged table) = table.refusals
 abbrev pub damages_of : FileTable → Damages
 damages_of (Memory table) = no_damage
 damages_of (Paged table) = table.damages
+
+abbrev pub calls_of : FileTable → TableCalls
+calls_of (Memory table) = table.calls
+calls_of (Paged table) = table.calls
 
 -- the pages that were handed in
 abbrev pub origin_of : FileTable → Origin

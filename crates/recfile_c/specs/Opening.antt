@@ -4,6 +4,7 @@ use Rattle.std.specs.FinMap as maps
 use Rattle.std.specs.declared.boxed.Box.{Box}
 use Rattle.rec_types.specs.LimitBounds.{Bounds}
 use Rattle.rec_types.specs.declared.limits.LimitFault.{LimitFault}
+use Rattle.rec_types.specs.Calls.{no_calls}
 use Rattle.record_file.specs.Abstract.{new_file}
 use Rattle.recfile_c.specs.declared.file_table.FileTable.TheVariants.{Memory}
 use Rattle.recfile_c.specs.declared.held.Held.{Held}
@@ -13,7 +14,7 @@ use Rattle.recfile_c.specs.Calls.{FileState}
 
 -- an empty file in memory, in which nothing was begun
 abbrev pub memory_file : Bounds → FileState
-memory_file limits = record { table = Memory (record { contents = maps.empty; limit = limits.records; refusals = 0 }); file = new_file maps.empty limits; log = [] }
+memory_file limits = record { table = Memory (record { contents = maps.empty; limit = limits.records; refusals = 0; calls = no_calls }); file = new_file maps.empty limits; log = [] }
 
 -- the file is open, and nothing was listed
 abbrev pub IsOpened : FileState → Held → Type 0

@@ -1,5 +1,6 @@
 -- A table whose closing was tried, by example.
 use Rattle.std.specs.Prelude.{ℕ, true, false, List, [], ◌∷◌, Some, None}
+use Rattle.rec_types.specs.Calls.{no_calls}
 use Rattle.rec_types.specs.Table.{no_damage}
 use Rattle.page_store.specs.Fronts.{two_pages}
 use Rattle.page_store.specs.declared.step.Step.{Step}
@@ -25,6 +26,7 @@ table_over opened steps = record {
   limit = 1;
   refusals = 0;
   damages = no_damage;
+  calls = no_calls;
 }
 
 abbrev pub changed_table : List Step → TableView

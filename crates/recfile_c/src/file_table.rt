@@ -10,7 +10,7 @@ pub enum FileTable {
 }
 
 impl TableState for FileTable {
-    ghost use Rattle.recfile_c.specs.FileTables.{contents_of, limit_of, is_sound, failures_of, refusals_of, damages_of, origin_of};
+    ghost use Rattle.recfile_c.specs.FileTables.{contents_of, limit_of, is_sound, failures_of, refusals_of, damages_of, calls_of, origin_of};
 
     ghost contents = { contents_of };
 
@@ -23,6 +23,8 @@ impl TableState for FileTable {
     ghost memory_refusals = { refusals_of };
 
     ghost damages = { damages_of };
+
+    ghost calls = { calls_of };
 
     ghost origin = { origin_of };
 }
