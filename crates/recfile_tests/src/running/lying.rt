@@ -3,7 +3,7 @@ ghost use Rattle.rec_types.specs.Table.{Damages, damaged_by};
 
 mod lies;
 
-use rec_types::{Key, Record, Table, TableFault, TableState};
+use rec_types::{Key, NO_CALLS, Record, Table, TableCalls, TableFault, TableState};
 
 /// What a table that isn't sound says in place of what it should do.
 #[derive(Clone, Copy, Debug)]
@@ -57,6 +57,7 @@ struct LyingTable<T: Table> {
     inner: T,
     lies: Schedule,
     named: Named,
+    calls: TableCalls,
 }
 
 impl<T: Table> LyingTable<T> {
@@ -66,6 +67,7 @@ impl<T: Table> LyingTable<T> {
             inner,
             lies: Schedule { at, calls: 0 },
             named: Named { count: 0, page: 0 },
+            calls: NO_CALLS,
         }
     }
 }
@@ -85,6 +87,8 @@ impl<T: Table> TableState for LyingTable<T> {
 
     ghost damages = { λ t. record { count = t.named.count; page = t.named.page } };
 
+    ghost calls = { λ t. t.calls };
+
     ghost origin = { λ t. T.origin t.inner };
 }
 
@@ -96,10 +100,12 @@ impl<T: Table> Table for LyingTable<T> {
             Some(Lie::Damaged(page)) => Err(TableFault::Damaged(page)),
         };
         self.named.note(&answer);
+        self.calls.note_get();
         answer
     }
 
     fn set(&mut self, key: Key, to: Option<Record>) -> Result<Option<Record>, TableFault> {
+        let takes_out = to.is_none();
         let answer = match self.lies.next() {
             None => self.inner.set(key, to),
             Some(Lie::NoRoom) => Err(TableFault::NoRoom),
@@ -107,6 +113,7 @@ impl<T: Table> Table for LyingTable<T> {
             Some(Lie::Damaged(page)) => Err(TableFault::Damaged(page)),
         };
         self.named.note(&answer);
+        self.calls.note_set(takes_out, &answer);
         answer
     }
 
@@ -116,6 +123,7 @@ impl<T: Table> Table for LyingTable<T> {
             Some(Lie::Damaged(page)) => Err(TableFault::Damaged(page)),
         };
         self.named.note(&answer);
+        self.calls.note_list();
         answer
     }
 

@@ -2,7 +2,7 @@ use super::{flaky_file, greatest, run};
 use crate::expect_text;
 use page_store::MemStore;
 use rec_types::{Limits, SortedTable, Table, TxId};
-use recfile::laws::{aborts_are_whole, dumps_are_loaded, endings_by_example};
+use recfile::laws::{dumps_are_loaded, endings_by_example};
 use recfile::{
     DumpFault, EndFault, Feed, Manner, ScriptFault, create_in, dump_in, end_all, exit_status,
     run_memory, run_script,
@@ -355,10 +355,9 @@ fn ending_goes_on_after_a_stop(rt: HostRuntime) {
 /// The dump of a new file, and how it ended.
 fn dump_of_new<W: Write>(rt: &impl Abort, alloc: Global, out: &mut W) -> Result<(), DumpFault> {
     let limits = greatest().expect(rt, "no limits");
-    match create_in(alloc, MemStore::new(Vec::new(alloc), 0), 2, limits) {
-        Ok(store) => dump_in(alloc, store, limits, out),
-        Err(_) => panic!(rt; "the file isn't made"),
-    }
+    let (store, made) = create_in(alloc, MemStore::new(Vec::new(alloc), 0), 2, limits);
+    assert_eq!(rt; made, Ok(()));
+    dump_in(alloc, store, limits, out).1
 }
 
 #[test]
@@ -373,6 +372,5 @@ fn a_dump_that_is_not_written(rt: HostRuntime) {
 #[test]
 fn laws_hold(_rt: HostRuntime) {
     endings_by_example();
-    aborts_are_whole();
     dumps_are_loaded();
 }
