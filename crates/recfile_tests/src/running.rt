@@ -4,6 +4,7 @@ mod long_scripts;
 mod lying;
 mod rows;
 mod sessions;
+mod strange_stores;
 mod table_files;
 
 ghost use Rattle.std.specs.Prelude.{◌<◌, ◌≤◌};
