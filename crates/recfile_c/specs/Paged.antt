@@ -8,7 +8,9 @@ use Rattle.page_store.specs.Journal.{carried, noted, untouched, NotesFront}
 use Rattle.rec_types.specs.declared.limits.LimitFault.{LimitFault}
 use Rattle.btree_node.specs.Layout.{second_version}
 use Rattle.btree_delete.specs.declared.open_fault.OpenFault.{OpenFault}
+use Rattle.btree_delete.specs.declared.open_fault.OpenFault.TheVariants as open_faults
 use Rattle.btree_delete.specs.declared.tree_table.CreateFault.{CreateFault}
+use Rattle.btree_delete.specs.declared.tree_table.CreateFault.TheVariants as create_faults
 use Rattle.btree_delete.specs.CleanFile.{IsFirst, Opens}
 use Rattle.btree_delete.specs.Closing.{closing, IsNewOrFile, IsEither}
 use Rattle.btree_delete.specs.Created.{IsCreated, IsCreateFault}
@@ -59,17 +61,17 @@ pub record MakesPages (k : ℕ) (limits : Bounds) (t : TableView) : Type 0 where
   pub limit : t.limit ≡ limits.records
   pub steps : HasNoStep t []
 
--- A file is opened from these pages, or the first check that fails is named.
+-- A file is opened from these pages, or the first check that fails is named; no device can fail.
 abbrev pub OpensFrom : List (List ℕ) → Result Bounds LimitFault → Result Held Outcome → Type 0
 OpensFrom pages (Ok limits) (Ok held) = (t : TableView) × OpensPages pages limits t × IsOpened (paged_file t limits) held
-OpensFrom pages (Ok limits) (Err told) = (fault : OpenFault) × IsFirst pages 0 limits.records fault × (told ≡ open_outcome fault)
+OpensFrom pages (Ok limits) (Err told) = (fault : OpenFault) × IsFirst pages 0 limits.records fault × (told ≡ open_outcome fault) × (fault ≢ open_faults.Device)
 OpensFrom pages (Err fault) (Ok held) = ⊥
 OpensFrom pages (Err fault) (Err told) = told ≡ limits_outcome fault
 
 -- A new file of an order, or why there is none.
 abbrev pub CreatesOf : ℕ → Result Bounds LimitFault → Result Held Outcome → Type 0
 CreatesOf k (Ok limits) (Ok held) = (t : TableView) × MakesPages k limits t × IsOpened (paged_file t limits) held
-CreatesOf k (Ok limits) (Err told) = (fault : CreateFault) × IsCreateFault [] 0 k fault × (told ≡ create_outcome fault)
+CreatesOf k (Ok limits) (Err told) = (fault : CreateFault) × IsCreateFault [] 0 k fault × (told ≡ create_outcome fault) × (fault ≢ create_faults.Device)
 CreatesOf k (Err fault) (Ok held) = ⊥
 CreatesOf k (Err fault) (Err told) = told ≡ limits_outcome fault
 

@@ -1,5 +1,5 @@
 // A store that keeps what is to be done to a file.
-ghost use Rattle.std.specs.Prelude.{◌≡◌, ◌≢◌, ℕ, ◌<◌, List, [], ◌∷◌, ◌++◌, length, true, Some, Err, OnOk, OnErr, slice_get, slice_index_or};
+ghost use Rattle.std.specs.Prelude.{◌≡◌, ◌≢◌, ℕ, ◌<◌, ◌≤◌, List, [], ◌∷◌, ◌++◌, length, true, Some, Err, OnOk, OnErr, slice_get, slice_index_or};
 ghost use Rattle.rec_types.specs.Table.{counted};
 ghost use Rattle.page_store.specs.Blank.{blank};
 ghost use Rattle.page_store.specs.Journal.{carry, carried};
@@ -24,7 +24,7 @@ pub struct JournalStore {
 }
 
 impl Model for JournalStore {
-    ghost use Rattle.std.specs.Prelude.{◌≡◌, length};
+    ghost use Rattle.std.specs.Prelude.{◌≡◌, ◌≤◌, length};
     ghost use Rattle.page_store.specs.Journal.{carried};
     ghost use Rattle.recfile_c.specs.Steps.{JournalView};
 
@@ -38,7 +38,8 @@ impl Model for JournalStore {
       failures = s.failures;
     } };
 
-    ghost invariant = { λ s. s.count ≡ length (carried s.opened.items s.steps.items) };
+    ghost invariant = { λ s. (s.count ≡ length (carried s.opened.items s.steps.items))
+        × (s.failures ≤ s.writes) };
 }
 
 // A page of zeros.
@@ -108,6 +109,14 @@ impl JournalStore {
         ensures { result.now ≡ self.now.steps }
     {
         self.steps.as_slice()
+    }
+
+    /// How many steps found no memory: only a call that changes the file can fail.
+    pub fn failures(&self) -> u64
+        ensures value { result ≡ self.now.failures }
+        ensures most { self.now.failures ≤ self.now.writes }
+    {
+        self.failures
     }
 
     // One more step. Fault: Failed, where it finds no memory.

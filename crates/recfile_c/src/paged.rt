@@ -40,7 +40,11 @@ fn open_pages(
     let limits = Limits::new(records, log_records, begins).map_err(Outcome::from)?;
     match TreeTable::open_from(alloc, JournalStore::new(alloc, pages), limits) {
         Ok(table) => Ok(session_over(alloc, table, limits)),
-        Err(stop) => Err(Outcome::from(stop.fault)),
+        Err(stop) => {
+            // What this says is that no read failed.
+            let _failures = stop.store.failures();
+            Err(Outcome::from(stop.fault))
+        }
     }
 }
 
@@ -58,7 +62,10 @@ fn create_pages(
     let store = JournalStore::new(alloc, Vec::new(alloc));
     match TreeTable::create(alloc, store, order, limits) {
         Ok(table) => Ok(session_over(alloc, table, limits)),
-        Err(stop) => Err(Outcome::from(stop.fault)),
+        Err(stop) => {
+            let _failures = stop.store.failures();
+            Err(Outcome::from(stop.fault))
+        }
     }
 }
 
@@ -139,8 +146,7 @@ fn open_image(
 
 /// Opens the file whose pages were handed in, every page in order; where it is not opened, the handle has none left.
 /// Statuses: OK, NOT_CLOSED, BAD_RECORDS, BAD_LOG, BAD_BEGINS, then the first check that fails: BAD_LENGTH, BAD_MAGIC,
-/// BAD_VERSION, BAD_ORDER, NOT_CLEAN, BAD_HEADER, DAMAGED, WRONG_COUNT, TOO_MANY_RECORDS; and DEVICE and MEMORY where they
-/// are met.
+/// BAD_VERSION, BAD_ORDER, NOT_CLEAN, BAD_HEADER, DAMAGED, WRONG_COUNT, TOO_MANY_RECORDS; and MEMORY where it is met.
 #[unsafe(no_mangle)]
 pub extern "C" fn recfile_open(
     alloc: Global,

@@ -1,4 +1,4 @@
-use Rattle.std.proofs.Common.{◌∙◌, ap, List, ℕ, subst}
+use Rattle.std.proofs.Common.{List, ℕ, subst}
 use Rattle.page_journal.specs.Carrying.{LeavesOf}
 use Rattle.page_journal.proofs.CarryingLemmas.{steps_restored}
 use Rattle.recfile_c.proofs.TryLemmas.{handed_in}
