@@ -1,5 +1,5 @@
 -- Which writes an edit may have, and which nodes can stand after an insertion.
-use Rattle.std.proofs.Common.{◌≡◌, ℕ, zero, suc, ◌+◌, ◌^◌, ◌<◌, ◌≤◌, ◌⊎◌, ⊎_elim, inl, inr, Bool, true, false, ◌||◌, eqb, Option, IsSome, List, [], ◌∷◌, ◌++◌, length, get_or, set, take, drop, refl, ap, sym, ◌∙◌, subst, arith, eq-eqb, Some}
+use Rattle.std.proofs.Common.{◌≡◌, ℕ, zero, suc, ◌+◌, ◌^◌, ◌<◌, ◌≤◌, ◌⊎◌, ⊎_elim, inl, inr, Bool, true, false, ◌||◌, eqb, Option, IsSome, List, [], ◌∷◌, ◌++◌, length, get_or, set, take, drop, refl, ap, sym, ◌∙◌, subst, arith, eq-eqb, Some, None}
 use Rattle.std.specs.List.{AllByRecursion, list_any, insert}
 use Rattle.std.proofs.lemmas.List.{take-append-drop}
 use Rattle.std.proofs.lemmas.List.Folds.{list_any-append}
@@ -7,6 +7,7 @@ use Rattle.std.proofs.lemmas.Bool.{cases_lt}
 use Rattle.page_store.specs.PageMap.{at, is_written}
 use Rattle.page_store.specs.FreeNumbers.{candidate}
 use Rattle.page_store.specs.CanStage.{IsTaken}
+use Rattle.page_store.specs.declared.page_edit.PageEdit.{PageEdit}
 use Rattle.btree_node.specs.declared.node.Node.{Node}
 use Rattle.btree_node.specs.Layout.{second_layout}
 use Rattle.btree_node.specs.Lists.{Element, Each, Ascends, IsPlace}
@@ -18,7 +19,7 @@ use Rattle.btree_insert.specs.declared.insert_below.Grown.{Grown}
 use Rattle.btree_insert.specs.declared.insert_below.Grown.TheVariants.{Replaced, Fits, Split}
 use Rattle.btree_insert.specs.Bounds.{Over, Under, AreWithin}
 use Rattle.btree_insert.specs.Contents.{set_in}
-use Rattle.btree_insert.specs.Growth.{IsWithin, MayBeOverfull, WritesFit, TakesNumbers, SplitGoesUp}
+use Rattle.btree_insert.specs.Growth.{IsWithin, MayBeOverfull, WritesFit, TakesNumbers, SplitGoesUp, WritesOrSplits, replaced}
 use Rattle.btree_insert.proofs.ElementMapLemmas.{put-none, put-ascends}
 
 abbrev Written : List (Option (List ℕ)) → ℕ → ℕ × List ℕ → Type 0
@@ -114,3 +115,9 @@ pub stays_within : (low high : Bounds) (g : Grown) → ((m : Element) (r : ℕ) 
 stays_within low high (Replaced value) never up = tt
 stays_within low high Fits never up = tt
 stays_within low high (Split middle right) never up = nothing_splits middle right never
+
+-- a node with one key more takes the place of no record
+pub never_replaced : (k fresh : ℕ) (old new : PageEdit) (n : ℕ) (node : Node) (grown : Grown) → WritesOrSplits k fresh old new n node grown → replaced grown ≡ None
+never_replaced k fresh old new n node (Replaced value) wrote = absurd wrote
+never_replaced k fresh old new n node Fits wrote = refl
+never_replaced k fresh old new n node (Split middle right) wrote = refl

@@ -1,5 +1,5 @@
 -- An insertion that changes one page.
-use Rattle.std.proofs.Common.{◌≡◌, ℕ, ◌*◌, ◌<◌, ◌++◌, ◌∷◌, [], List, Option, Some, None, IfSome, length, get_or, set, ap, sym, ◌∙◌, arith}
+use Rattle.std.proofs.Common.{◌≡◌, ℕ, ◌*◌, ◌<◌, ◌++◌, ◌∷◌, [], List, Option, Some, None, IfSome, length, get_or, set, refl, ap, sym, ◌∙◌, arith}
 use Rattle.std.specs.List.{insert}
 use Rattle.std.proofs.lemmas.List.{get_or_at, set_at}
 use Rattle.std.proofs.lemmas.List.Edits.{length-insert}
@@ -9,7 +9,7 @@ use Rattle.btree_node.specs.Layout.{second_layout}
 use Rattle.btree_node.specs.Lists.{Element, IsPlace}
 use Rattle.btree_node.specs.Spelling.{ElementFits, CanStand}
 use Rattle.btree_insert.specs.declared.insert_below.Grown.TheVariants.{Split}
-use Rattle.btree_insert.specs.Growth.{in_one}
+use Rattle.btree_insert.specs.Growth.{in_one, replaced}
 use Rattle.btree_insert.proofs.PlaceLemmas.{leaf_may_be_overfull}
 
 -- what follows from a value
@@ -21,6 +21,11 @@ if_some None P Q follows is = tt
 pub never_split : (old : Option (List ℕ)) (m : Element) (r : ℕ) → in_one old ≡ Split m r → ⊥
 never_split (Some value) m r is = absurd (cc)
 never_split None m r is = absurd (cc)
+
+-- what stood at the key
+pub replaced_in_one : (old : Option (List ℕ)) → replaced (in_one old) ≡ old
+replaced_in_one (Some value) = refl
+replaced_in_one None = refl
 
 -- a leaf with room for one more element
 pub leaf_stands : (k : ℕ) (n m : Node) (i : ℕ) (e : Element) → CanStand n k → n.kind ≡ Leaf → IsPlace n.elements.items e.0 i → length n.elements.items < 2 * k → ElementFits second_layout e → m.kind ≡ n.kind → m.elements.items ≡ insert n.elements.items i e → m.sons.items ≡ n.sons.items → CanStand m k

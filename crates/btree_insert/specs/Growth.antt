@@ -68,6 +68,12 @@ abbrev pub in_one : Option (List ℕ) → Grown
 in_one (Some value) = Replaced value
 in_one None = Fits
 
+-- the record that stood at the key
+abbrev pub replaced : Grown → Option (List ℕ)
+replaced (Replaced value) = Some value
+replaced Fits = None
+replaced (Split middle right) = None
+
 -- page n is written as a node of the kind and with the sons of m, and with these elements
 pub record WritesAs (k n : ℕ) (m : Node) (els : List Element) (writes writes' : List (ℕ × List ℕ)) : Type 0 where
   pub node : Node

@@ -1,4 +1,4 @@
--- What a look-up and a walk have gone through, over any pages.
+-- What a look-up, an insertion and a walk have gone through, over any pages.
 use Rattle.std.specs.Prelude.{◌≡◌, ℕ, zero, suc, ◌+◌, ◌<◌, ◌≤◌, ◌⊎◌, List, [], ◌++◌, length, Option, Some, None, slice_index_or}
 use Rattle.btree_node.specs.declared.node.Node.{Node}
 use Rattle.btree_node.specs.Lists.{Element, Ascends, IsAt, IsPlace}
@@ -20,7 +20,7 @@ Leads spells key (suc h) p bounds found =
     × ((IsAt n.elements.items key i × ((d : Element) → found ≡ Some (slice_index_or n.elements.items i d).1))
     ⊎ (IsPlace n.elements.items key i × GoesOn (Leads spells key h) h n i bounds found))
 
--- a look-up from the root: an empty tree has no record
+-- a search from the root: an empty tree has no record
 abbrev pub LeadsFrom : (ℕ → Node → Type 0) → List ℕ → ℕ → ℕ → Option (List ℕ) → Type 0
 LeadsFrom spells key zero root found = found ≡ None
 LeadsFrom spells key (suc h) root found = Leads spells key (suc h) root unbounded found

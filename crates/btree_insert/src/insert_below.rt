@@ -9,8 +9,9 @@ ghost use Rattle.btree_node.specs.Spelling.{spelling, CanStand, IsElement, AreSp
 ghost use Rattle.btree_insert.specs.Bounds.{AreWithin, Between};
 ghost use Rattle.btree_insert.specs.declared.bounds.Bounds.{Bounds};
 ghost use Rattle.btree_insert.specs.Faults.{is_device};
-ghost use Rattle.btree_insert.specs.Growth.{IsOutside, IsWithin, MayBeOverfull, WritesFit, TakesNumbers, SplitGoesUp, WritesOrSplits, Grew};
-ghost use Rattle.btree_insert.specs.PageTrees.{TreeAt, Apart, tree_below};
+ghost use Rattle.btree_insert.specs.Growth.{IsOutside, IsWithin, MayBeOverfull, WritesFit, TakesNumbers, SplitGoesUp, WritesOrSplits, Grew, replaced};
+ghost use Rattle.btree_insert.specs.PageTrees.{Spells, TreeAt, Apart, tree_below};
+ghost use Rattle.btree_insert.specs.Reached.{Leads};
 ghost use Rattle.btree_node.specs.Layout.{IsOrder, greatest_order};
 ghost use Rattle.btree_insert.specs.Sizes.{greatest_height};
 ghost use Rattle.btree_insert.specs.Spelt.{AreSpeltIn};
@@ -137,6 +138,9 @@ pub(crate) fn insert_below<S: Store>(
         (Grew (tree_below order least spot.now.level spot.now.page)
         (edited pages.old.pages edit.old.taken edit.new) es us element.0 element.1)
         IsOutside }
+    ensures led { IsTrue pages.old.steady → IfOk result (λ grown. Leads
+        (Spells order (at pages.old.pages)) element.0 spot.now.level spot.now.page spot.now.bounds
+        (replaced grown)) }
     ensures fits { OnOk result (WritesFit pages.old.pages edit.new.writes.items edit.new.taken) }
     ensures takes { IfOk result (TakesNumbers spot.now.level edit.old.taken edit.new.taken) }
     ensures goes_up { IfOk result (SplitGoesUp spot.now.bounds) }

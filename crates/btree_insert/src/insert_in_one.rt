@@ -8,7 +8,8 @@ ghost use Rattle.btree_node.specs.declared.node.Node.{Node};
 ghost use Rattle.btree_node.specs.declared.node.NodeKind.TheVariants.{Leaf};
 ghost use Rattle.btree_insert.specs.Bounds.{Between};
 ghost use Rattle.btree_insert.specs.Growth.{IsWithin, WritesFit, TakesNumbers, Grew, WritesAs, in_one};
-ghost use Rattle.btree_insert.specs.PageTrees.{TreeAt, Apart, tree_below};
+ghost use Rattle.btree_insert.specs.PageTrees.{Spells, TreeAt, Apart, tree_below};
+ghost use Rattle.btree_insert.specs.Reached.{Leads};
 ghost use Rattle.btree_insert.specs.Spelt.{AreSpeltIn};
 ghost use Rattle.btree_insert.specs.PagesGrown.{edited};
 
@@ -50,6 +51,9 @@ pub(crate) fn insert_in_one<S: Store>(
         Grew (tree_below order least spot.now.level spot.now.page)
         (edited pages.now.pages edit.old.taken edit.new) es us element.0 element.1
         (in_one placed.old))) }
+    ensures led { IfOk result (λ r. IfSome r (λ placed. Leads
+        (Spells order (at pages.now.pages)) element.0 spot.now.level spot.now.page spot.now.bounds
+        placed.old)) }
     ensures none { result ≡ Ok None → edit.new ≡ edit.old }
     ensures fits { OnOk result (WritesFit pages.now.pages edit.new.writes.items edit.new.taken) }
     ensures takes { IfOk result (λ r. IfSome r (λ placed.

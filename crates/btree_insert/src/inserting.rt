@@ -6,9 +6,10 @@ ghost use Rattle.page_store.specs.PagesView.{OnlyReads, OnlyStages};
 ghost use Rattle.btree_node.specs.Lists.{Element};
 ghost use Rattle.btree_node.specs.Spelling.{spelling, CanStand, IsElement, AreSpelt};
 ghost use Rattle.btree_insert.specs.Faults.{is_device};
-ghost use Rattle.btree_insert.specs.Growth.{IsOutside, WritesFit, TakesNumbers, SplitGoesUp, Grew, in_one};
+ghost use Rattle.btree_insert.specs.Growth.{IsOutside, WritesFit, TakesNumbers, SplitGoesUp, Grew, in_one, replaced};
 ghost use Rattle.btree_insert.specs.Inserted.{leaf_of, root_of, Inserted, IsSmall, IsRefused};
-ghost use Rattle.btree_insert.specs.PageTrees.{Holds, tree_below};
+ghost use Rattle.btree_insert.specs.PageTrees.{Spells, Holds, tree_below};
+ghost use Rattle.btree_insert.specs.Reached.{LeadsFrom};
 ghost use Rattle.btree_insert.specs.Spelt.{AreSpeltIn};
 ghost use Rattle.btree_node.specs.Layout.{greatest_order};
 ghost use Rattle.btree_insert.specs.Sizes.{IsTree, greatest_count, greatest_height};
@@ -120,6 +121,9 @@ fn grow_tree<S: Store>(
         (λ changed. Inserted (edited pages.old.pages 0 edit.new) tree.now es us
         element.0 element.1 (changed.tree, changed.old))
         IsOutside }
+    ensures led { IsTrue pages.old.steady → IfOk result (λ changed. LeadsFrom
+        (Spells tree.now.order (at pages.old.pages)) element.0 tree.now.height tree.now.root
+        changed.old) }
     ensures fits { OnOk result (WritesFit pages.old.pages edit.new.writes.items edit.new.taken) }
     ensures few { OnOk result (edit.new.taken ≤ greatest_height + 1) }
     ensures order { IfOk result (λ changed. changed.tree.order ≡ tree.now.order) }
@@ -163,6 +167,9 @@ fn grow_below<S: Store>(
         (λ changed. Inserted (edited pages.old.pages 0 edit.new) tree.now es us
         element.0 element.1 (changed.tree, changed.old))
         IsOutside }
+    ensures led { IsTrue pages.old.steady → IfOk result (λ changed. LeadsFrom
+        (Spells tree.now.order (at pages.old.pages)) element.0 tree.now.height tree.now.root
+        changed.old) }
     ensures fits { OnOk result (WritesFit pages.old.pages edit.new.writes.items edit.new.taken) }
     ensures few { OnOk result (edit.new.taken ≤ greatest_height + 1) }
     ensures order { IfOk result (λ changed. changed.tree.order ≡ tree.now.order) }
@@ -213,6 +220,9 @@ fn grow_in_one<S: Store>(
     ensures grew { (es : List Element) (us : List ℕ) → Holds (at pages.now.pages) tree.now es us
         → IfOk result (λ r. IfSome r (λ changed. Inserted (edited pages.now.pages 0 edit.new)
         tree.now es us element.0 element.1 (changed.tree, changed.old))) }
+    ensures led { IfOk result (λ r. IfSome r (λ changed. LeadsFrom
+        (Spells tree.now.order (at pages.now.pages)) element.0 tree.now.height tree.now.root
+        changed.old)) }
     ensures none { result ≡ Ok None → edit.new ≡ edit.old }
     ensures fits { OnOk result (WritesFit pages.now.pages edit.new.writes.items edit.new.taken) }
     ensures few { OnOk result (edit.new.taken ≤ greatest_height + 1) }
@@ -269,6 +279,7 @@ fn changed_tree<S: Store>(
         → IfOk result
         (λ changed. Inserted (edited pages.now.pages 0 edit.new) tree.now es us key value
         (changed.tree, changed.old)) }
+    ensures old { IfOk result (λ changed. changed.old ≡ replaced grown) }
     ensures fits { OnOk result (WritesFit pages.now.pages edit.new.writes.items edit.new.taken) }
     ensures few { OnOk result (edit.new.taken ≤ greatest_height + 1) }
     ensures order { IfOk result (λ changed. changed.tree.order ≡ tree.now.order) }
@@ -320,6 +331,7 @@ fn plant<S: Store>(
         → IfOk result
         (λ changed. Inserted (edited pages.now.pages 0 edit.new) tree.now es us
         element.0 element.1 (changed.tree, changed.old)) }
+    ensures old { IfOk result (λ changed. changed.old ≡ None) }
     ensures fits { OnOk result (WritesFit pages.now.pages edit.new.writes.items edit.new.taken) }
     ensures few { OnOk result (edit.new.taken ≤ greatest_height + 1) }
     ensures order { IfOk result (λ changed. changed.tree.order ≡ tree.now.order) }
@@ -388,6 +400,8 @@ pub fn insert<S: Store>(
         (λ r. (taken : ℕ) × Inserted (taking pages.old.pages (at pages.new.pages) taken)
         tree.now es us key value r)
         (IsRefused pages.old.pages tree.now es us key value) }
+    ensures led { IsTrue pages.old.steady → IfOk result (λ r. LeadsFrom
+        (Spells tree.now.order (at pages.old.pages)) key tree.now.height tree.now.root r.1) }
     ensures small { IfOk result (λ r. IsSmall r.0 (length pages.new.pages)) }
     ensures page_count { IfOk result (λ r. (tree.now.used ≤ r.0.used)
         × (length pages.new.pages ≡ count_after pages.old.pages (r.0.used - tree.now.used))) }
@@ -419,6 +433,8 @@ pub fn insert_in_place<S: Store>(
         (λ r. (taken : ℕ) × Inserted (taking pages.old.pages (at pages.new.pages) taken)
         tree.now es us key value r)
         (IsRefused pages.old.pages tree.now es us key value) }
+    ensures led { IsTrue pages.old.steady → IfOk result (λ r. LeadsFrom
+        (Spells tree.now.order (at pages.old.pages)) key tree.now.height tree.now.root r.1) }
     ensures small { IfOk result (λ r. IsSmall r.0 (length pages.new.pages)) }
     ensures page_count { IfOk result (λ r. (tree.now.used ≤ r.0.used)
         × (length pages.new.pages ≡ count_after pages.old.pages (r.0.used - tree.now.used))) }
@@ -451,6 +467,8 @@ fn insert_from_root<S: Store>(
         (λ r. (taken : ℕ) × Inserted (taking pages.old.pages (at pages.new.pages) taken)
         tree.now es us key value r)
         (IsRefused pages.old.pages tree.now es us key value) }
+    ensures led { IsTrue pages.old.steady → IfOk result (λ r. LeadsFrom
+        (Spells tree.now.order (at pages.old.pages)) key tree.now.height tree.now.root r.1) }
     ensures small { IfOk result (λ r. IsSmall r.0 (length pages.new.pages)) }
     ensures page_count { IfOk result (λ r. (tree.now.used ≤ r.0.used)
         × (length pages.new.pages ≡ count_after pages.old.pages (r.0.used - tree.now.used))) }

@@ -1,4 +1,4 @@
-use Rattle.std.proofs.Common.{◌≡◌, ◌+◌, ◌-◌, ℕ, suc, IsTrue, Option, List, ◌∷◌, true, false, ◌==◌, length, get_or, set, ap, sym, ◌∙◌, subst, arith, rules}
+use Rattle.std.proofs.Common.{◌≡◌, ◌+◌, ◌-◌, ℕ, suc, IsTrue, Option, Some, None, List, ◌∷◌, true, false, ◌==◌, length, get_or, set, ap, sym, ◌∙◌, subst, arith, rules}
 use Rattle.std.specs.List.{insert}
 use Rattle.std.proofs.lemmas.Bool.{false≢true}
 use Rattle.std.proofs.lemmas.List.{length-set, get_or_default}
@@ -16,13 +16,14 @@ use Rattle.btree_insert.specs.declared.insert_below.Grown.{Grown}
 use Rattle.btree_insert.specs.declared.insert_below.Grown.TheVariants.{Replaced, Split}
 use Rattle.btree_insert.specs.declared.bounds.Bounds.{Bounds}
 use Rattle.btree_insert.specs.Bounds.{AreWithin, Between, son_bounds}
-use Rattle.btree_insert.specs.Growth.{MayBeOverfull, IsOutside, IsWithin, Grew, SplitGoesUp, WritesOrSplits, TakesNumbers, WritesFit}
-use Rattle.btree_insert.specs.PageTrees.{Apart, TreeAt, kind_of_level, tree_below}
+use Rattle.btree_insert.specs.Growth.{MayBeOverfull, IsOutside, IsWithin, Grew, SplitGoesUp, WritesOrSplits, TakesNumbers, WritesFit, replaced}
+use Rattle.btree_insert.specs.PageTrees.{Apart, Spells, TreeAt, kind_of_level, tree_below}
+use Rattle.btree_insert.specs.Reached.{Leads}
 use Rattle.btree_insert.specs.Spelt.{AreSpeltIn}
 use Rattle.btree_insert.specs.declared.step.Step.TheVariants.{Ends, Goes}
 use Rattle.btree_insert.specs.Steps.{Steps}
 use Rattle.btree_insert.specs.PagesGrown.{edited}
-use Rattle.btree_insert.proofs.EditFitLemmas.{wrote_fits, stays_within, takes_more}
+use Rattle.btree_insert.proofs.EditFitLemmas.{wrote_fits, stays_within, takes_more, never_replaced}
 use Rattle.btree_insert.proofs.ChangedTreeLemmas.{in_use}
 use Rattle.btree_insert.proofs.VisitedLemmas.{Unvisited, unvisited_below, apart_below, candidates_free}
 use Rattle.btree_insert.proofs.PlaceLemmas.{within_place, place_within, son_within, insert_within, leaf_may_be_overfull, inner_may_be_overfull, set_stands}
@@ -30,6 +31,8 @@ use Rattle.btree_insert.proofs.SonsAroundLemmas.{Focus}
 use Rattle.btree_insert.proofs.SettledTreeLemmas.{focus_of, grow_stays, grow_split, grow_leaf, grow_replaced}
 use Rattle.btree_insert.proofs.HeadNodeLemmas.{Top, kind_above, head_each, top}
 use Rattle.btree_insert.proofs.StepNodeLemmas.{still_known, taken_top}
+use Rattle.btree_insert.proofs.ReachLemmas.{leads_here}
+use Rattle.btree_insert.proofs.SearchStepLemmas.{goes_leads}
 use Rattle.btree_insert.proofs.insert_below.+insert_below.Given as given
 use Rattle.btree_insert.proofs.insert_below.+insert_below.Goals as goal
 use Rattle.btree_insert.proofs.insert_below.+insert_below.Goals.{In_ok-i, In-Goes, In_ok-done-in-Goes, After-replace-old, After-insert, After-insert-in-Split-2}
@@ -108,6 +111,15 @@ module _ (g : given.Over) (t : ℕ) (c : In_ok-done-in-Goes g t) where
       let level = c.args.spot.now.level - 1 in
       subst (λ q. Grew (tree_below k k level q) (edited c.args.pages.now.pages c.args.edit.now.taken c.insert_below.new.edit) xs mine c.args.element.0 c.args.element.1 c.in_ok-done-in-Goes.done) son_is
       (subst (λ (v : PagesView). Grew (tree_below k k level c.in-Goes.page) (edited v.pages c.args.edit.now.taken c.insert_below.new.edit) xs mine c.args.element.0 c.args.element.1 c.in_ok-done-in-Goes.done) c.take_step.ensures.unchanged grew)
+
+  -- the pages from this one down to the key
+  led_below : IsTrue c.args.pages.now.steady → Steps c.args.spot.now.level c.in_ok-i.ensures.stepped.node c.args.spot.now.bounds c.args.element.0 (Goes c.in-Goes.i c.in-Goes.page c.in-Goes.bounds)
+      → Leads (Spells c.args.order (at c.args.pages.now.pages)) c.args.element.0 c.args.spot.now.level c.args.spot.now.page c.args.spot.now.bounds (replaced c.in_ok-done-in-Goes.done)
+  led_below steady steps =
+      let s = c.in_ok-i.ensures.stepped in
+      let unchanged = c.take_step.ensures.unchanged in
+      goes_leads c.args.order (at c.args.pages.now.pages) (at c.take_step.new.pages.pages) c.args.spot.now s.node c.args.element.0 c.in-Goes.i c.in-Goes.page c.in-Goes.bounds (replaced c.in_ok-done-in-Goes.done) (ap (λ (v : PagesView). at v.pages) unchanged)
+      (s.spells steady) s.belongs steps (c.in_ok-done-in-Goes.ensures.led (ap (λ (v : PagesView). v.steady) unchanged ∙ steady))
 
 pub returns-then-was_visited-clause-grew : goal.returns-then-was_visited-clause-grew
 returns-then-was_visited-clause-grew g t c = λ steady none least es us tree between apart unvisited.
@@ -235,6 +247,14 @@ returns-in_ok-write_node-in-Found-clause-grew g t c = λ steady none least es us
     let old_is = c.replace-old.ensures.old c.args.element ∙ ap (λ (n : Node). (get_or n.elements.items c.in-Found.i c.args.element).1) (filled g t p) in
     subst (λ (old : List ℕ). Grew (tree_below k least spot.level spot.page) (edited c.args.pages.now.pages c.args.edit.now.taken c.write_node.new.edit) es us c.args.element.0 c.args.element.1 (Replaced old)) (sym old_is) grew
 
+pub returns-in_ok-write_node-in-Found-clause-led : goal.returns-in_ok-write_node-in-Found-clause-led
+returns-in_ok-write_node-in-Found-clause-led g t c = λ steady.
+    let spot = c.args.spot.now in
+    let s = c.in_ok-i.ensures.stepped in
+    let p = (goal.at.returns-in_ok-write_node-in-Found-clause-led g t c).After-replace-old in
+    leads_here (Spells c.args.order (at c.args.pages.now.pages)) c.args.element.0 spot.level (spot.level - 1) spot.page spot.bounds s.node c.in-Found.i (Some c.replace-old.result) (omega (arith, c.requires.level)) (s.spells steady) s.belongs.kind s.belongs.within
+    (found g t p) (λ d. ap Some (c.replace-old.ensures.old d ∙ ap (λ (n : Node). (get_or n.elements.items c.in-Found.i d).1) (filled g t p)))
+
 pub returns-in_ok-write_node-in-Found-clause-fits : goal.returns-in_ok-write_node-in-Found-clause-fits
 returns-in_ok-write_node-in-Found-clause-fits g t c =
     wrote_fits c.args.pages.now.pages c.args.edit.now.writes.items c.write_node.new.edit.writes.items c.args.edit.now.taken c.write_node.new.edit.taken c.args.spot.now.page (spelling c.replace-old.new.node c.args.order)
@@ -287,6 +307,14 @@ returns-in_ok-settle-in-Split-clause-grew g t c = λ steady none least es us tre
     (subst (λ (ps : List (Option (List ℕ))). WritesOrSplits k (candidate ps c.insert_below.new.edit.taken) c.insert_below.new.edit c.settle-in-Split.new.edit spot.page m c.in_ok-settle-in-Split.field-0)
     (ap (λ (v : PagesView). v.pages) c.in_ok-done-in-Goes.ensures.unchanged ∙ ap (λ (v : PagesView). v.pages) c.take_step.ensures.unchanged) c.in_ok-settle-in-Split.ensures.settles)
 
+pub returns-in_ok-settle-in-Split-clause-led : goal.returns-in_ok-settle-in-Split-clause-led
+returns-in_ok-settle-in-Split-clause-led g t c = λ steady.
+    let spot = c.args.spot.now in
+    let place = goal.at.returns-in_ok-settle-in-Split-clause-led g t c in
+    let none : replaced c.in_ok-done-in-Goes.done ≡ None = ap replaced c.in-Split.is in
+    let still = never_replaced c.args.order (candidate c.insert_below.new.pages.pages c.insert_below.new.edit.taken) c.insert_below.new.edit c.settle-in-Split.new.edit spot.page (longer_father g t place.After-insert-in-Split-2) c.in_ok-settle-in-Split.field-0 c.in_ok-settle-in-Split.ensures.settles in
+    subst (Leads (Spells c.args.order (at c.args.pages.now.pages)) c.args.element.0 spot.level spot.page spot.bounds) (none ∙ sym still) (led_below g t place.In_ok-done-in-Goes steady (way_down g t place.In-Goes))
+
 pub returns-in_ok-settle-in-Split-clause-goes_up : goal.returns-in_ok-settle-in-Split-clause-goes_up
 returns-in_ok-settle-in-Split-clause-goes_up g t c =
     let b = c.args.spot.now.bounds in
@@ -310,6 +338,9 @@ returns-in_default g t c = record {
       let grew = grew_below g t place.In_ok-done-in-Goes s.node steps.2 son.xs son.mine call in
       grow_stays k (at c.args.pages.now.pages) (overlay (at c.args.pages.now.pages) c.insert_below.new.edit.writes.items) (candidate c.args.pages.now.pages) c.args.edit.now.taken c.insert_below.new.edit.taken least spot.level (spot.level - 1) spot.page es us spot.bounds s.node c.args.element.0 c.args.element.1 c.in-Goes.i c.in_ok-done-in-Goes.done
       (omega (arith, c.requires.level)) (omega (arith, steps.0)) (candidates_free c.args.pages.now.pages) (in_use k (at c.args.pages.now.pages) least spot.level spot.page es us tree) apart head son c.in_default.not-Split grew;
+  led = λ steady.
+      let place = goal.at.returns-in_default g t c in
+      led_below g t place.In_ok-done-in-Goes steady (way_down g t place.In-Goes);
   fits = subst (λ (v : PagesView). WritesFit v.pages c.insert_below.new.edit.writes.items c.insert_below.new.edit.taken) c.take_step.ensures.unchanged c.in_ok-done-in-Goes.ensures.fits;
   takes = subst (λ (h : ℕ). TakesNumbers h c.args.edit.now.taken c.insert_below.new.edit.taken c.in_ok-done-in-Goes.done) (omega (arith, c.requires.level)) (takes_more (c.args.spot.now.level - 1) c.args.edit.now.taken c.insert_below.new.edit.taken c.in_ok-done-in-Goes.done c.in_ok-done-in-Goes.ensures.takes);
   goes_up = stays_within c.in-Goes.bounds c.args.spot.now.bounds c.in_ok-done-in-Goes.done c.in_default.not-Split c.in_ok-done-in-Goes.ensures.goes_up;

@@ -10,7 +10,8 @@ use Rattle.btree_insert.specs.declared.insert_below.Grown.TheVariants.{Replaced,
 use Rattle.btree_insert.specs.declared.insert_in_one.Placed.{Placed}
 use Rattle.btree_insert.specs.Bounds.{Between}
 use Rattle.btree_insert.specs.Growth.{IsWithin, Grew, in_one}
-use Rattle.btree_insert.specs.PageTrees.{TreeAt, kind_of_level, tree_below}
+use Rattle.btree_insert.specs.PageTrees.{Spells, TreeAt, kind_of_level, tree_below}
+use Rattle.btree_insert.specs.Reached.{Leads}
 use Rattle.btree_insert.specs.Steps.{Steps}
 use Rattle.btree_insert.specs.PagesGrown.{edited}
 use Rattle.btree_insert.proofs.EditFitLemmas.{wrote_fits}
@@ -21,7 +22,8 @@ use Rattle.btree_insert.proofs.SettledTreeLemmas.{focus_of, grow_stays, grow_lea
 use Rattle.btree_insert.proofs.HeadNodeLemmas.{Top}
 use Rattle.btree_insert.proofs.StepNodeLemmas.{spelt_top}
 use Rattle.btree_insert.proofs.OnePageLemmas.{if_some, never_split}
-use Rattle.btree_insert.proofs.ReachLemmas.{if_ok}
+use Rattle.btree_insert.proofs.ReachLemmas.{if_ok, leads_here, leads_nowhere}
+use Rattle.btree_insert.proofs.SearchStepLemmas.{goes_leads}
 use Rattle.btree_insert.proofs.insert_in_one.+insert_in_one.Given as given
 use Rattle.btree_insert.proofs.insert_in_one.+insert_in_one.Goals as goal
 use Rattle.btree_insert.proofs.insert_in_one.+insert_in_one.Goals.{After-step_in_page-arg-1}
@@ -65,6 +67,15 @@ returns-in_ok-write_replaced-in-Found-clause-grew g t c = λ none least es us tr
     (get_or_default n.elements.items c.in-Found.i c.args.element x steps.0.within) wrote.stands (omega (arith, size, head.least_is)) wrote.kind wrote.elements wrote.sons wrote.written in
     subst (λ (old : List ℕ). Grew (tree_below k least spot.level spot.page) (edited c.args.pages.now.pages c.args.edit.now.taken c.write_replaced.new.edit) es us c.args.element.0 c.args.element.1 (Replaced old)) (sym (steps.1 c.args.element)) grew
 
+pub returns-in_ok-write_replaced-in-Found-clause-led : goal.returns-in_ok-write_replaced-in-Found-clause-led
+returns-in_ok-write_replaced-in-Found-clause-led g t c =
+    let spot = c.args.spot.now in
+    let met = spelt g t (goal.at.returns-in_ok-write_replaced-in-Found-clause-led g t c).After-step_in_page-arg-1 in
+    let told = c.in-Ok.ensures.steps met.0 met.1 met.2 in
+    let steps = subst (Steps spot.level met.0 spot.bounds c.args.element.0) c.in-Found.is told.1 in
+    leads_here (Spells c.args.order (at c.args.pages.now.pages)) c.args.element.0 spot.level (spot.level - 1) spot.page spot.bounds met.0 c.in-Found.i (Some c.in-Found.old) (omega (arith, c.requires.level))
+    (record { page = c.in-Some.ensures.page ∙ ap Some met.2; stands = met.1 }) told.0.kind told.0.within steps.0 (λ d. ap Some (steps.1 d))
+
 pub returns-in_ok-write_replaced-in-Found-clause-fits : goal.returns-in_ok-write_replaced-in-Found-clause-fits
 returns-in_ok-write_replaced-in-Found-clause-fits g t c =
     let spot = c.args.spot.now in
@@ -97,6 +108,15 @@ returns-in_ok-write_inserted-in-Ends-clause-grew g t c = λ none least es us tre
     n wrote.node c.args.element.0 c.args.element.1 c.in-Ends.i Fits (omega (arith, c.requires.level)) (omega (arith, steps.0)) c.requires.order.0 none (candidates_free c.args.pages.now.pages) (in_use k (at c.args.pages.now.pages) least spot.level spot.page es us tree) apart head steps.1
     may_be_overfull (omega (arith, size, head.least_is)) wrote.kind wrote.elements (wrote.stands.most, wrote.written, c.in_ok-write_inserted-in-Ends.ensures.taken)
 
+pub returns-in_ok-write_inserted-in-Ends-clause-led : goal.returns-in_ok-write_inserted-in-Ends-clause-led
+returns-in_ok-write_inserted-in-Ends-clause-led g t c =
+    let spot = c.args.spot.now in
+    let met = spelt g t (goal.at.returns-in_ok-write_inserted-in-Ends-clause-led g t c).After-step_in_page-arg-1 in
+    let told = c.in-Ok.ensures.steps met.0 met.1 met.2 in
+    let steps = subst (Steps spot.level met.0 spot.bounds c.args.element.0) c.in-Ends.is told.1 in
+    leads_nowhere (Spells c.args.order (at c.args.pages.now.pages)) c.args.element.0 spot.level spot.page spot.bounds met.0 c.in-Ends.i steps.0
+    (record { page = c.in-Some.ensures.page ∙ ap Some met.2; stands = met.1 }) told.0.kind told.0.within steps.1
+
 pub returns-in_ok-write_inserted-in-Ends-clause-fits : goal.returns-in_ok-write_inserted-in-Ends-clause-fits
 returns-in_ok-write_inserted-in-Ends-clause-fits g t c =
     let spot = c.args.spot.now in
@@ -125,3 +145,17 @@ returns-in-Goes-clause-grew g t c = λ none least es us tree between apart.
     (λ placed grew. grow_stays k (at c.args.pages.now.pages) (overlay (at c.args.pages.now.pages) c.insert_in_one.new.edit.writes.items) (candidate c.args.pages.now.pages) c.args.edit.now.taken c.insert_in_one.new.edit.taken least spot.level (spot.level - 1) spot.page es us spot.bounds n c.args.element.0 c.args.element.1 c.in-Goes.field-0 (in_one placed.old)
     (omega (arith, c.requires.level)) (omega (arith, steps.0)) (candidates_free c.args.pages.now.pages) (in_use k (at c.args.pages.now.pages) least spot.level spot.page es us tree) apart head son (never_split placed.old)
     (subst (λ q. Grew (tree_below k k (spot.level - 1) q) (edited c.args.pages.now.pages c.args.edit.now.taken c.insert_in_one.new.edit) son.xs son.mine c.args.element.0 c.args.element.1 (in_one placed.old)) steps.2 grew))) call
+
+pub returns-in-Goes-clause-led : goal.returns-in-Goes-clause-led
+returns-in-Goes-clause-led g t c =
+    let k = c.args.order in
+    let spot = c.args.spot.now in
+    let pages = at c.args.pages.now.pages in
+    let met = spelt g t (goal.at.returns-in-Goes-clause-led g t c).After-step_in_page-arg-1 in
+    let told = c.in-Ok.ensures.steps met.0 met.1 met.2 in
+    let steps = subst (Steps spot.level met.0 spot.bounds c.args.element.0) c.in-Goes.is told.1 in
+    if_ok c.insert_in_one.result (λ r. IfSome r (λ (placed : Placed). Leads (Spells k pages) c.args.element.0 (spot.level - 1) c.in-Goes.son c.in-Goes.bounds placed.old))
+    (λ r. IfSome r (λ (placed : Placed). Leads (Spells k pages) c.args.element.0 spot.level spot.page spot.bounds placed.old))
+    (λ r. if_some r (λ (placed : Placed). Leads (Spells k pages) c.args.element.0 (spot.level - 1) c.in-Goes.son c.in-Goes.bounds placed.old)
+    (λ (placed : Placed). Leads (Spells k pages) c.args.element.0 spot.level spot.page spot.bounds placed.old)
+    (λ placed leads. goes_leads k pages pages spot met.0 c.args.element.0 c.in-Goes.field-0 c.in-Goes.son c.in-Goes.bounds placed.old refl (record { page = c.in-Some.ensures.page ∙ ap Some met.2; stands = met.1 }) told.0 steps leads)) c.insert_in_one.ensures.led

@@ -1,14 +1,16 @@
-use Rattle.std.proofs.Common.{ℕ, Option, List, ap, sym, subst, arith}
+use Rattle.std.proofs.Common.{◌-◌, ℕ, Option, List, ap, sym, subst, arith}
 use Rattle.std.proofs.lemmas.Result.{err_from_is_err_and}
 use Rattle.page_store.specs.PagesView.{PagesView}
 use Rattle.page_store.specs.PageMap.{at}
-use Rattle.btree_insert.specs.Growth.{Grew}
+use Rattle.btree_insert.specs.Growth.{Grew, replaced}
 use Rattle.btree_insert.specs.Inserted.{Inserted}
-use Rattle.btree_insert.specs.PageTrees.{Holds, tree_below}
+use Rattle.btree_insert.specs.PageTrees.{Spells, Holds, tree_below}
+use Rattle.btree_insert.specs.Reached.{LeadsFrom}
 use Rattle.btree_insert.specs.PagesGrown.{edited}
 use Rattle.btree_insert.proofs.BoundLemmas.{Between-all}
 use Rattle.btree_insert.proofs.VisitedLemmas.{unvisited_none}
 use Rattle.btree_insert.proofs.HeadNodeLemmas.{root_tree}
+use Rattle.btree_insert.proofs.ReachLemmas.{leads_from}
 use Rattle.btree_insert.proofs.inserting.grow_below.Goals as goal
 
 pub returns-in_err-grown-clause-grew : goal.returns-in_err-grown-clause-grew
@@ -26,3 +28,10 @@ returns-clause-grew g c = λ steady es us holds.
     let there = subst (λ (ps : List (Option (List ℕ))). Holds (at ps) c.args.tree.now es us) (sym pages_is) holds in
     let done = c.in_ok-changed_tree.ensures.grew es us c.args.element.0 c.args.element.1 there below in
     subst (λ (ps : List (Option (List ℕ))). Inserted (edited ps 0 c.changed_tree.new.edit) c.args.tree.now es us c.args.element.0 c.args.element.1 (c.in_ok-changed_tree.field-0.tree, c.in_ok-changed_tree.field-0.old)) pages_is done
+
+pub returns-clause-led : goal.returns-clause-led
+returns-clause-led g c = λ steady.
+    let tree = c.args.tree.now in
+    let spells = Spells tree.order (at c.args.pages.now.pages) in
+    subst (LeadsFrom spells c.args.element.0 tree.height tree.root) (sym c.in_ok-changed_tree.ensures.old)
+    (leads_from spells c.args.element.0 tree.height (tree.height - 1) tree.root (replaced c.in_ok-grown.grown) (omega (arith, c.requires.height)) (c.in_ok-grown.ensures.led steady))

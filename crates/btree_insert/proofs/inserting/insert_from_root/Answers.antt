@@ -6,6 +6,8 @@ use Rattle.btree_node.specs.Lists.{Element}
 use Rattle.btree_insert.specs.Growth.{WritesFit}
 use Rattle.btree_insert.specs.Inserted.{Inserted}
 use Rattle.btree_insert.specs.PagesGrown.{edited}
+use Rattle.btree_insert.specs.PageTrees.{Spells}
+use Rattle.btree_insert.specs.Reached.{LeadsFrom}
 use Rattle.btree_insert.proofs.InsertionLemmas.{inserted_at, can_stage, after_writes}
 use Rattle.btree_insert.proofs.SpeltLemmas.{spelt_staged, spelt_unchanged}
 use Rattle.btree_node.specs.Spelling.{AreSpelt}
@@ -27,6 +29,11 @@ returns-clause-inserted g c = λ steady es us holds.
     let same : (q : ℕ) → overlay (at c.args.pages.now.pages) c.grow_tree.new.edit.writes.items q ≡ at c.stage.new.self.pages q =
     λ q. sym (c.in_ok-stage.ensures.pages q ∙ after_writes (at c.grow_tree.new.pages.pages) c.grow_tree.new.edit.writes.items c.grow_tree.new.edit.freed.items q none ∙ ap (λ (ps : List (Option (List ℕ))). overlay (at ps) c.grow_tree.new.edit.writes.items q) pages_is) in
     (c.grow_tree.new.edit.taken, inserted_at (at c.args.pages.now.pages) (overlay (at c.args.pages.now.pages) c.grow_tree.new.edit.writes.items) (at c.stage.new.self.pages) (candidate c.args.pages.now.pages) c.grow_tree.new.edit.taken c.args.tree.now c.in_ok-changed.changed.tree es us c.args.key c.args.value c.in_ok-changed.changed.old same done)
+
+pub returns-clause-led : goal.returns-clause-led
+returns-clause-led g c = λ steady.
+    let tree = c.args.tree.now in
+    subst (λ (e : Element). LeadsFrom (Spells tree.order (at c.args.pages.now.pages)) e.0 tree.height tree.root c.in_ok-changed.changed.old) c.element_of.ensures.value (c.in_ok-changed.ensures.led steady)
 
 pub returns-clause-spelt : goal.returns-clause-spelt
 returns-clause-spelt g c = λ spelt.
