@@ -26,3 +26,4 @@ pub mod KeptPageLemmas
 pub mod RespeltTreeLemmas
 pub mod FreedPageLemmas
 pub mod OneDeletionLemmas
+pub mod LedLemmas

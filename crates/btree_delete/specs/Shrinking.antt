@@ -58,6 +58,11 @@ abbrev pub gone : Shrunk → Element
 gone (Whole e) = e
 gone (Underfull e node) = e
 
+-- the record that stood at the key, if one went
+abbrev pub record_gone : Option Shrunk → Option (List ℕ)
+record_gone None = None
+record_gone (Some g) = Some (gone g).1
+
 -- what is not below the page stays unvisited
 abbrev pub StaysUnvisited : List ℕ → List ℕ → List ℕ → Type 0
 StaysUnvisited visited visited' us = (q : ℕ) → is_visited visited q ≡ false → (IsIn q us → ⊥) → is_visited visited' q ≡ false

@@ -10,9 +10,10 @@ ghost use Rattle.btree_insert.specs.Contents.{lookup_in};
 ghost use Rattle.btree_insert.specs.Faults.{is_device};
 ghost use Rattle.btree_insert.specs.Growth.{IsOutside};
 ghost use Rattle.btree_insert.specs.PageTrees.{TreeAt, Apart, Body, Spells, kind_of_level};
+ghost use Rattle.btree_insert.specs.Reached.{Leads};
 ghost use Rattle.btree_delete.specs.Deleted.{MayStop};
 ghost use Rattle.btree_delete.specs.Subtrees.{behind, head_of};
-ghost use Rattle.btree_delete.specs.Shrinking.{MayBeUnderfull, WritesOrHandsUp, UnderfullGoesUp, MayGoUp, TreatsAndSettles, RemovesBelow, gone, sought};
+ghost use Rattle.btree_delete.specs.Shrinking.{MayBeUnderfull, WritesOrHandsUp, UnderfullGoesUp, MayGoUp, TreatsAndSettles, RemovesBelow, gone, record_gone, sought};
 ghost use Rattle.btree_delete.specs.Tidy.{is_visited, Untouched, IsTidy, IsVisit, most_visited, visits, so_far};
 ghost use Rattle.btree_delete.specs.Treatment.{element_at, son_at, brothers};
 ghost use Rattle.btree_delete.specs.PagesLeft.{with_edit};
@@ -254,6 +255,9 @@ pub(crate) fn delete_below<S: Store>(
         (RemovesBelow (head_of tree.now least) (with_edit (at pages.old.pages) edit.new) es us
         (visits visited.old.items visited.new.items) (sought key.now es))
         (MayStop (lookup_in (sought key.now es) es)) }
+    ensures led { IsTrue pages.old.steady → (given : List ℕ) → key.now ≡ Some given
+        → IfOk result (λ g. Leads (Spells tree.now.order (at pages.old.pages)) given
+        tree.now.height tree.now.page tree.now.bounds (record_gone g)) }
     ensures up { IfOk result (MayGoUp tree.now key.now (so_far edit.new)) }
     ensures tidy { OnOk result
         (IsTidy pages.old.pages visited.new.items edit.new.writes.items edit.new.freed.items) }

@@ -10,7 +10,8 @@ ghost use Rattle.btree_node.specs.declared.node.NodeKind.TheVariants.{Leaf};
 ghost use Rattle.btree_insert.specs.Bounds.{Between};
 ghost use Rattle.btree_insert.specs.Contents.{lookup_in};
 ghost use Rattle.btree_insert.specs.Growth.{WritesAs};
-ghost use Rattle.btree_insert.specs.PageTrees.{TreeAt, Apart};
+ghost use Rattle.btree_insert.specs.PageTrees.{TreeAt, Apart, Spells};
+ghost use Rattle.btree_insert.specs.Reached.{Leads};
 ghost use Rattle.btree_insert.specs.Spelt.{AreSpeltIn};
 ghost use Rattle.btree_delete.specs.Shrinking.{Drops};
 ghost use Rattle.btree_delete.specs.Subtrees.{head_page};
@@ -46,6 +47,9 @@ pub(crate) fn delete_in_one<S: Store>(
         Drops (head_page order least (spot.now.level - 1) spot.now.page)
         (with_edit (at pages.now.pages) edit.new) es us key.now (Some (Whole (key.now, old)))))
         (λ _. IsSome (lookup_in key.now es)) }
+    ensures led { IfOk result (λ r. IfSome r (λ old.
+        Leads (Spells order (at pages.now.pages)) key.now
+        spot.now.level spot.now.page spot.now.bounds (Some old))) }
     ensures none { result ≡ Ok None → edit.new ≡ edit.old }
     ensures fits { OnOk result
         (CanStage pages.now.pages edit.new.writes.items edit.new.taken edit.new.freed.items) }

@@ -5,7 +5,8 @@ ghost use Rattle.btree_node.specs.Lists.{Element};
 ghost use Rattle.btree_node.specs.Spelling.{AreSpelt};
 ghost use Rattle.btree_insert.specs.Faults.{is_device};
 ghost use Rattle.btree_insert.specs.Growth.{IsOutside};
-ghost use Rattle.btree_insert.specs.PageTrees.{Holds};
+ghost use Rattle.btree_insert.specs.PageTrees.{Holds, Spells};
+ghost use Rattle.btree_insert.specs.Reached.{LeadsFrom};
 ghost use Rattle.btree_insert.specs.Spelt.{AreSpeltIn};
 ghost use Rattle.btree_insert.specs.Contents.{lookup_in, set_in};
 ghost use Rattle.page_store.specs.CanStage.{CanStage};
@@ -114,6 +115,7 @@ fn shrink_tree(
     ensures spelt { AreSpelt tree.now.order edit.old.writes.items
         → OnOk result (AreSpelt tree.now.order edit.new.writes.items) }
     ensures none_taken { edit.new.taken ≡ 0 }
+    ensures answer { IfOk result (λ r. r.1 ≡ Some (gone shrunk).1) }
     ensures some { IfOk result (λ r. IsSome r.1) }
     ensures height { IfOk result (λ r. r.0.height ≤ tree.now.height) }
     ensures count { IfOk result (λ r. r.0.count ≤ tree.now.count) }
@@ -153,6 +155,9 @@ pub fn delete<S: Store>(
         → MatchResult result
         (λ r. Deleted (at pages.old.pages) (at pages.new.pages) tree.now es us key.now r)
         (MayStop (lookup_in key.now es)) }
+    ensures led { IsTrue pages.old.steady → IfOk result
+        (λ r. LeadsFrom (Spells tree.now.order (at pages.old.pages)) key.now
+        tree.now.height tree.now.root r.1) }
     ensures height { IfOk result (λ r. r.0.height ≤ tree.now.height) }
     ensures count { IfOk result (λ r. r.0.count ≤ tree.now.count) }
     ensures used { IfOk result (λ r. r.0.used ≤ tree.now.used) }
@@ -214,6 +219,9 @@ fn shrink_in_one<S: Store>(
         (after (at pages.now.pages) edit.new.writes.items edit.new.freed.items)
         tree.now es us key.now (shrunk.0, Some shrunk.1)))
         (MayStop (lookup_in key.now es)) }
+    ensures led { IfOk result (λ r. IfSome r (λ shrunk.
+        LeadsFrom (Spells tree.now.order (at pages.now.pages)) key.now
+        tree.now.height tree.now.root (Some shrunk.1))) }
     ensures fits { OnOk result
         (CanStage pages.now.pages edit.new.writes.items edit.new.taken edit.new.freed.items) }
     ensures spelt { OnOk result (AreSpelt tree.now.order edit.new.writes.items) }
@@ -257,6 +265,9 @@ pub fn delete_in_place<S: Store>(
         → MatchResult result
         (λ r. Deleted (at pages.old.pages) (at pages.new.pages) tree.now es us key.now r)
         (MayStop (lookup_in key.now es)) }
+    ensures led { IsTrue pages.old.steady → IfOk result
+        (λ r. LeadsFrom (Spells tree.now.order (at pages.old.pages)) key.now
+        tree.now.height tree.now.root r.1) }
     ensures height { IfOk result (λ r. r.0.height ≤ tree.now.height) }
     ensures count { IfOk result (λ r. r.0.count ≤ tree.now.count) }
     ensures used { IfOk result (λ r. r.0.used ≤ tree.now.used) }

@@ -39,6 +39,8 @@ pub(crate) fn visit<S: Store>(
     ensures fault { IfErr result
         (λ fault. (fault ≡ TreeFault.Device) ⊎ (fault ≡ TreeFault.Damaged tree.now.page)) }
     ensures some { OnOk result (0 < length node.new.elements.items) }
+    ensures spells { IsTrue pages.old.steady
+        → OnOk result (Spells tree.now.order (at pages.old.pages) tree.now.page node.new) }
     ensures stands { OnOk result
         (MayBeUnderfull tree.now.order tree.now.height tree.now.bounds node.new) }
     ensures visited { OnOk result (visited.new.items ≡ visited.old.items ++ tree.now.page ∷ []) }

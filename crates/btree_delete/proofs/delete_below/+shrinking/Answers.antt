@@ -13,6 +13,7 @@ use Rattle.btree_insert.specs.declared.bounds.Bounds.{Bounds}
 use Rattle.btree_insert.specs.Bounds.{Between, Over, Under, son_bounds}
 use Rattle.btree_insert.specs.Contents.{lookup_in, set_in}
 use Rattle.btree_insert.specs.Growth.{IsOutside, IsWithin}
+use Rattle.btree_insert.specs.Reached.{Leads}
 use Rattle.btree_insert.specs.declared.tree.TreeFault.{TreeFault}
 use Rattle.btree_insert.specs.PageTrees.{Apart, TreeAt, Body, Spells, kind_of_level}
 use Rattle.btree_insert.proofs.SonsAroundLemmas.{Stands}
@@ -24,7 +25,7 @@ use Rattle.btree_delete.specs.declared.delete_below.Shrunk.{Shrunk}
 use Rattle.btree_delete.specs.declared.delete_below.Shrunk.TheVariants.{Whole, Underfull}
 use Rattle.btree_delete.specs.declared.subtree.Subtree.{Subtree}
 use Rattle.btree_delete.specs.Treatment.{element_at, son_at, brothers}
-use Rattle.btree_delete.specs.Shrinking.{WritesOrHandsUp, MayBeUnderfull, StaysUnvisited, UnderfullGoesUp, TreatsAndSettles, RemovesBelow, sought}
+use Rattle.btree_delete.specs.Shrinking.{WritesOrHandsUp, MayBeUnderfull, StaysUnvisited, UnderfullGoesUp, TreatsAndSettles, RemovesBelow, gone, record_gone, sought}
 use Rattle.btree_delete.specs.Subtrees.{head_of, son_tree, behind, left_bounds, head_page}
 use Rattle.btree_delete.specs.Tidy.{is_visited, Untouched, IsTidy, IsVisit, visits, done_so_far, so_far}
 use Rattle.btree_delete.specs.PagesLeft.{pages_freed, with_edit}
@@ -36,6 +37,7 @@ use Rattle.btree_delete.proofs.ElementRemovalLemmas.{remove-between_bounds}
 use Rattle.btree_delete.proofs.SettledPageLemmas.{settled_gone, settled_up, settled_tidy, settled_others, here_visit, treated_visit, whole_visit, page_visited}
 use Rattle.btree_delete.proofs.DeletionStepLemmas.{AskRight, AskLeft, ask, treat_son, still_unvisited, page_unvisited, below_in, page_in}
 use Rattle.btree_delete.proofs.FirstElementLemmas.{Takes, WentUp, more_visited, took_of, some_around, sought_here, sought_none, left_between, left_may_be_underfull, left_son, goes_left, went_up}
+use Rattle.btree_delete.proofs.LedLemmas.{here_leads, son_leads}
 use Rattle.btree_delete.proofs.UnderfullNodeLemmas.{next_may_be_underfull, set_son_bounds, leaf_without, leaf_behind}
 use Rattle.btree_delete.proofs.EditLemmas.{untouched_empty, visited_differs}
 use Rattle.btree_delete.proofs.delete_below.+shrinking.Given as given
@@ -769,3 +771,34 @@ delete_here-returns-in_ok-shrunk-in-Underfull-clause-older g t c = λ q is other
     let p = (goal.at.delete_here-returns-in_ok-shrunk-in-Underfull-clause-older g t c).After-set_element-in-Underfull in
     let visit = short_visited g t p in
     c.in_ok-shrunk-in-Underfull.ensures.others q (visit.stays q is) (λ same. visited_differs c.args.visited.now.items q (son_at c.args.node (suc c.args.i)) is visit.fresh (same ∙ sym (short_son g t p))) other (visit.older q is)
+
+pub delete_below-returns-in_ok-shrunk-in-Ok-clause-led : goal.delete_below-returns-in_ok-shrunk-in-Ok-clause-led
+delete_below-returns-in_ok-shrunk-in-Ok-clause-led g t c = λ steady given_key is.
+    let stands = c.in_ok-visit.ensures.stands in
+    here_leads c.args.tree.now c.args.pages.now.pages c.visit.new.node given_key c.in-Ok.i (gone c.in_ok-shrunk-in-Ok.shrunk) c.requires.height (c.in_ok-visit.ensures.spells steady) stands (c.in-Ok.ensures.found given_key is stands.ascends) c.in_ok-shrunk-in-Ok.ensures.gone
+
+-- a given key leads on below the son
+module _ (g : given.Over) (t : ℕ) (c : delete_below-After-delete_below g t) where
+  led_on : (found found2 : Option (List ℕ)) → IsTrue c.args.pages.now.steady → (key : List ℕ) → c.args.key.now ≡ Some key → found ≡ found2 → Spells c.args.tree.now.order (at c.args.pages.now.pages) c.args.tree.now.page c.visit.new.node
+      → MayBeUnderfull c.args.tree.now.order c.args.tree.now.height c.args.tree.now.bounds c.visit.new.node
+      → (let sub = c.tree_of_son-below.result in IsTrue c.visit.new.pages.steady → (k : List ℕ) → c.args.key.now ≡ Some k → Leads (Spells sub.order (at c.visit.new.pages.pages)) k sub.height sub.page sub.bounds found)
+      → Leads (Spells c.args.tree.now.order (at c.args.pages.now.pages)) key c.args.tree.now.height c.args.tree.now.page c.args.tree.now.bounds found2
+  led_on found found2 steady key is found_is spells stands leads =
+      son_leads c.args.tree.now c.tree_of_son-below.result c.args.pages.now.pages c.visit.new.pages.pages c.visit.new.node key c.in-Err.i found found2 c.tree_of_son-below.ensures (ap (λ (v : PagesView). v.pages) c.visit.ensures.unchanged) found_is (omega (arith, c.requires.height, c.if-tree-eq1.false))
+      spells stands (c.in-Err.ensures.found key is stands.ascends) (leads (ap (λ (v : PagesView). v.steady) c.visit.ensures.unchanged ∙ steady) key is)
+
+pub delete_below-returns-in_ok-shrunk-in-Some-Underfull-clause-led : goal.delete_below-returns-in_ok-shrunk-in-Some-Underfull-clause-led
+delete_below-returns-in_ok-shrunk-in-Some-Underfull-clause-led g t c = λ steady key is.
+    let settled = c.in_ok-shrunk-in-Some-Underfull in
+    let went = c.in-Some-Underfull in
+    let found_is = ap record_gone (went.is ∙ ap Some went.field-0-is) ∙ ap (λ (e : Element). Some e.1) (sym settled.ensures.gone) in
+    led_on g t (goal.at.delete_below-returns-in_ok-shrunk-in-Some-Underfull-clause-led g t c).After-delete_below (record_gone c.in_ok-removed-in-Err.field-0) (Some (gone settled.shrunk).1) steady key is found_is (c.in_ok-visit.ensures.spells steady) c.in_ok-visit.ensures.stands c.in_ok-removed-in-Err.ensures.led
+
+pub delete_below-returns-in-Some-Whole-clause-led : goal.delete_below-returns-in-Some-Whole-clause-led
+delete_below-returns-in-Some-Whole-clause-led g t c = λ steady key is.
+    let went = c.in-Some-Whole in
+    led_on g t (goal.at.delete_below-returns-in-Some-Whole-clause-led g t c).After-delete_below (record_gone c.in_ok-removed-in-Err.field-0) (Some went.removed.1) steady key is (ap record_gone (went.is ∙ ap Some went.field-0-is)) (c.in_ok-visit.ensures.spells steady) c.in_ok-visit.ensures.stands c.in_ok-removed-in-Err.ensures.led
+
+pub delete_below-returns-in-None-clause-led : goal.delete_below-returns-in-None-clause-led
+delete_below-returns-in-None-clause-led g t c = λ steady key is.
+    led_on g t (goal.at.delete_below-returns-in-None-clause-led g t c).After-delete_below (record_gone c.in_ok-removed-in-Err.field-0) None steady key is (ap record_gone c.in-None.is) (c.in_ok-visit.ensures.spells steady) c.in_ok-visit.ensures.stands c.in_ok-removed-in-Err.ensures.led

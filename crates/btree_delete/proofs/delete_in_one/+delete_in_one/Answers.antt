@@ -1,12 +1,15 @@
-use Rattle.std.proofs.Common.{◌≡◌, ◌-◌, ◌<◌, ℕ, suc, List, Option, Some, IsSome, IfSome, [], ◌∷◌, length, ap, sym, ◌∙◌, subst, arith}
+use Rattle.std.proofs.Common.{◌≡◌, ◌-◌, ◌<◌, ℕ, suc, List, Option, Some, IsSome, IfSome, [], ◌∷◌, length, refl, ap, sym, ◌∙◌, subst, arith}
 use Rattle.std.proofs.lemmas.Result.{err_from_is_err_and}
 use Rattle.page_store.specs.PageMap.{at, after}
 use Rattle.btree_node.specs.Lists.{Element}
 use Rattle.btree_node.specs.Spelling.{IsSpelt}
 use Rattle.btree_insert.specs.Bounds.{Between}
 use Rattle.btree_insert.specs.Contents.{lookup_in}
-use Rattle.btree_insert.specs.PageTrees.{TreeAt}
+use Rattle.btree_insert.specs.PageTrees.{TreeAt, Spells}
+use Rattle.btree_insert.specs.Reached.{Leads}
 use Rattle.btree_insert.specs.Steps.{Steps}
+use Rattle.btree_insert.proofs.ReachLemmas.{if_ok}
+use Rattle.btree_insert.proofs.SearchStepLemmas.{goes_leads}
 use Rattle.btree_insert.proofs.VisitedLemmas.{apart_below}
 use Rattle.btree_insert.proofs.SettledTreeLemmas.{focus_of}
 use Rattle.btree_insert.proofs.HeadNodeLemmas.{Top}
@@ -94,3 +97,16 @@ returns-in-Goes-clause-drops g t c = λ least es us low tree between apart.
     (drop_son k P ws fs least spot.level levels spot.page es us spot.bounds n i (key, x) key apart head son
     (subst (λ (q : ℕ). Drops (head_page k k levels q) (with_edit P edit) son.xs son.mine key (Some (Whole (key, x)))) steps.2 drops))))
     (λ _ some. subst (λ (stood : Option (List ℕ)). IsSome stood) (sym (some_below key es son.pre son.xs son.post son.es_is son.below son.above)) some) call
+
+pub returns-in-Goes-clause-led : goal.returns-in-Goes-clause-led
+returns-in-Goes-clause-led g t c =
+    let spot = c.args.spot.now in
+    let P = at c.args.pages.now.pages in
+    let key = c.args.key.now in
+    let met = spelt g t (goal.at.returns-in-Goes-clause-led g t c).After-step_in_page in
+    let told = c.in-Ok.ensures.steps met.0 met.1 met.2 in
+    let Below : List ℕ → Type 0 = λ x. Leads (Spells c.args.order P) key (spot.level - 1) c.in-Goes.son c.in-Goes.bounds (Some x) in
+    let Here : List ℕ → Type 0 = λ x. Leads (Spells c.args.order P) key spot.level spot.page spot.bounds (Some x) in
+    if_ok c.delete_in_one.result (λ r. IfSome r Below) (λ r. IfSome r Here)
+    (λ r. if_some r Below Here (λ x leads. goes_leads c.args.order P P spot met.0 key c.in-Goes.field-0 c.in-Goes.son c.in-Goes.bounds (Some x) refl
+    (record { page = c.in-Some.ensures.page ∙ ap Some met.2; stands = met.1 }) told.0 (subst (Steps spot.level met.0 spot.bounds key) c.in-Goes.is told.1) leads)) c.delete_in_one.ensures.led

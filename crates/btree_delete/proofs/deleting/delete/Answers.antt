@@ -4,8 +4,10 @@ use Rattle.page_store.specs.CanStage.{CanStage}
 use Rattle.page_store.specs.PageMap.{at, after}
 use Rattle.page_store.specs.PagesView.{PagesView}
 use Rattle.btree_node.specs.Lists.{Element}
-use Rattle.btree_insert.specs.PageTrees.{Holds}
+use Rattle.btree_insert.specs.PageTrees.{Holds, Spells}
+use Rattle.btree_insert.specs.Reached.{Leads, LeadsFrom}
 use Rattle.btree_insert.proofs.BoundLemmas.{Between-all}
+use Rattle.btree_insert.proofs.ReachLemmas.{leads_from, leads_from_none}
 use Rattle.btree_insert.proofs.VisitedLemmas.{unvisited_none}
 use Rattle.btree_insert.proofs.SpeltLemmas.{spelt_staged, spelt_unchanged}
 use Rattle.btree_insert.proofs.HeadNodeLemmas.{root_tree}
@@ -14,7 +16,7 @@ use Rattle.btree_delete.specs.declared.subtree.Subtree.{Subtree}
 use Rattle.btree_insert.specs.Bounds.{unbounded}
 use Rattle.btree_insert.specs.Contents.{lookup_in, set_in}
 use Rattle.btree_delete.specs.Deleted.{MayStop}
-use Rattle.btree_delete.specs.Shrinking.{LeavesTree, RemovesBelow}
+use Rattle.btree_delete.specs.Shrinking.{LeavesTree, RemovesBelow, gone, record_gone}
 use Rattle.btree_delete.specs.Subtrees.{head_page, head_of}
 use Rattle.btree_delete.specs.PagesLeft.{pages_freed, with_edit}
 use Rattle.btree_delete.specs.Tidy.{visits}
@@ -95,3 +97,28 @@ returns-clause-spelt g c = λ spelt.
     let edit = c.shrink_tree.new.edit in
     let before = spelt_unchanged k c.args.pages.now c.delete_below.new.pages c.delete_below.ensures.unchanged spelt in
     spelt_staged k c.delete_below.new.pages c.stage.new.self edit.writes.items edit.freed.items c.in_ok-stage.ensures.pages c.in_ok-stage.ensures.in_memory (c.in_ok-shrunk-2.ensures.spelt c.in_ok-shrunk.ensures.spelt) before
+
+pub returns-then-tree-eq0-clause-led : goal.returns-then-tree-eq0-clause-led
+returns-then-tree-eq0-clause-led g c = λ steady.
+    leads_from_none (Spells c.args.tree.now.order (at c.args.pages.now.pages)) c.args.key.now c.args.tree.now.height c.args.tree.now.root c.if-tree-eq0.true
+
+-- the key leads from the root to what went below it
+module _ (g : given.Over) (c : After-delete_below g) where
+  led_from : (r r2 : Option Shrunk) → r ≡ r2 → IsTrue c.args.pages.now.steady
+      → (IsTrue c.args.pages.now.steady → (k : List ℕ) → Some c.args.key.now ≡ Some k → Leads (Spells c.args.tree.now.order (at c.args.pages.now.pages)) k c.args.tree.now.height c.args.tree.now.root unbounded (record_gone r))
+      → LeadsFrom (Spells c.args.tree.now.order (at c.args.pages.now.pages)) c.args.key.now c.args.tree.now.height c.args.tree.now.root (record_gone r2)
+  led_from r r2 is steady led =
+      let T = c.args.tree.now in
+      let spells = Spells T.order (at c.args.pages.now.pages) in
+      leads_from spells c.args.key.now T.height (T.height - 1) T.root (record_gone r2) (omega (arith, c.if-tree-eq0.false))
+      (subst (λ (o : Option Shrunk). Leads spells c.args.key.now T.height T.root unbounded (record_gone o)) is (led steady c.args.key.now refl))
+
+pub returns-in_default-clause-led : goal.returns-in_default-clause-led
+returns-in_default-clause-led g c = λ steady.
+    led_from g (goal.at.returns-in_default-clause-led g c).After-delete_below c.in_ok-shrunk.shrunk None c.in_default.is steady c.in_ok-shrunk.ensures.led
+
+pub returns-clause-led : goal.returns-clause-led
+returns-clause-led g c = λ steady.
+    let T = c.args.tree.now in
+    subst (LeadsFrom (Spells T.order (at c.args.pages.now.pages)) c.args.key.now T.height T.root) (sym c.in_ok-shrunk-2.ensures.answer)
+    (led_from g (goal.at.returns-clause-led g c).After-delete_below c.in_ok-shrunk.shrunk (Some c.in-Some.shrunk) c.in-Some.is steady c.in_ok-shrunk.ensures.led)

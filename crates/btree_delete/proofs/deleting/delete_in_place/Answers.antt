@@ -1,5 +1,7 @@
 use Rattle.std.proofs.Common.{Some, IfSome, refl, subst}
 use Rattle.page_store.specs.PageMap.{at, after}
+use Rattle.btree_insert.specs.PageTrees.{Spells}
+use Rattle.btree_insert.specs.Reached.{LeadsFrom}
 use Rattle.btree_insert.proofs.SpeltLemmas.{spelt_staged}
 use Rattle.btree_delete.specs.Deleted.{Deleted}
 use Rattle.btree_delete.proofs.RootLemmas.{deleted_at}
@@ -17,3 +19,8 @@ pub returns-clause-spelt : goal.returns-clause-spelt
 returns-clause-spelt g c =
     let edit = c.shrink_in_one.new.edit in
     spelt_staged c.args.tree.now.order c.args.pages.now c.stage.new.self edit.writes.items edit.freed.items c.in_ok-stage.ensures.pages c.in_ok-stage.ensures.in_memory c.in_ok-shrunk.ensures.spelt c.requires.spelt
+
+pub returns-clause-led : goal.returns-clause-led
+returns-clause-led g c = λ steady.
+    let T = c.args.tree.now in
+    subst (λ r. IfSome r (λ shrunk. LeadsFrom (Spells T.order (at c.args.pages.now.pages)) c.args.key.now T.height T.root (Some shrunk.1))) c.in-Some.is c.in_ok-shrunk.ensures.led

@@ -3,8 +3,11 @@ use Rattle.std.proofs.lemmas.Result.{err_from_is_err_and}
 use Rattle.page_store.specs.PageMap.{at, after}
 use Rattle.btree_node.specs.Lists.{Element}
 use Rattle.btree_insert.specs.Contents.{set_in}
-use Rattle.btree_insert.specs.PageTrees.{Holds}
+use Rattle.btree_insert.specs.PageTrees.{Holds, Spells}
+use Rattle.btree_insert.specs.Reached.{Leads}
+use Rattle.btree_insert.specs.Bounds.{unbounded}
 use Rattle.btree_insert.proofs.BoundLemmas.{Between-all}
+use Rattle.btree_insert.proofs.ReachLemmas.{leads_from}
 use Rattle.btree_insert.proofs.HeadNodeLemmas.{root_tree}
 use Rattle.btree_delete.specs.declared.delete_below.Shrunk.TheVariants.{Whole}
 use Rattle.btree_delete.specs.Shrinking.{Drops}
@@ -56,3 +59,11 @@ returns-clause-deleted g c = λ es us holds.
     let P = at c.args.pages.now.pages in
     shrank_deleted P (after P c.delete_in_one.new.edit.writes.items c.delete_in_one.new.edit.freed.items) T T c.in_ok-next.next es us c.args.key.now c.in-Some.old 0 holds (dropped g place es us holds).1 (shrank g place es us holds)
     c.in_ok-next.ensures.enough.0 c.in_ok-next.ensures.enough.1 c.in_ok-next.ensures.value
+
+pub returns-clause-led : goal.returns-clause-led
+returns-clause-led g c =
+    let T = c.args.tree.now in
+    let key = c.args.key.now in
+    let spells = Spells T.order (at c.args.pages.now.pages) in
+    leads_from spells key T.height (T.height - 1) T.root (Some c.in-Some.old) (omega (arith, c.if-tree-eq0.false))
+    (subst (λ r. IfSome r (λ (x : List ℕ). Leads spells key T.height T.root unbounded (Some x))) c.in-Some.is c.in_ok-old.ensures.led)
