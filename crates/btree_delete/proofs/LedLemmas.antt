@@ -1,5 +1,5 @@
 -- Where the key of a deletion leads.
-use Rattle.std.proofs.Common.{◌≡◌, ℕ, suc, ◌-◌, ◌<◌, Option, Some, List, [], subst, sym, ◌∙◌, ap, arith, get_or}
+use Rattle.std.proofs.Common.{◌≡◌, ℕ, suc, ◌-◌, ◌<◌, Option, Some, List, [], subst, ◌∙◌, ap, arith}
 use Rattle.std.proofs.lemmas.List.{get_or_default}
 use Rattle.page_store.specs.PageMap.{at}
 use Rattle.btree_node.specs.declared.node.Node.{Node}

@@ -116,7 +116,6 @@ fn shrink_tree(
         → OnOk result (AreSpelt tree.now.order edit.new.writes.items) }
     ensures none_taken { edit.new.taken ≡ 0 }
     ensures answer { IfOk result (λ r. r.1 ≡ Some (gone shrunk).1) }
-    ensures some { IfOk result (λ r. IsSome r.1) }
     ensures height { IfOk result (λ r. r.0.height ≤ tree.now.height) }
     ensures count { IfOk result (λ r. r.0.count ≤ tree.now.count) }
     ensures used { IfOk result (λ r. r.0.used ≤ tree.now.used) }

@@ -16,7 +16,7 @@ use Rattle.btree_delete.specs.declared.subtree.Subtree.{Subtree}
 use Rattle.btree_insert.specs.Bounds.{unbounded}
 use Rattle.btree_insert.specs.Contents.{lookup_in, set_in}
 use Rattle.btree_delete.specs.Deleted.{MayStop}
-use Rattle.btree_delete.specs.Shrinking.{LeavesTree, RemovesBelow, gone, record_gone}
+use Rattle.btree_delete.specs.Shrinking.{LeavesTree, RemovesBelow, record_gone}
 use Rattle.btree_delete.specs.Subtrees.{head_page, head_of}
 use Rattle.btree_delete.specs.PagesLeft.{pages_freed, with_edit}
 use Rattle.btree_delete.specs.Tidy.{visits}
