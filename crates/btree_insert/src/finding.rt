@@ -1,4 +1,4 @@
-ghost use Rattle.std.specs.Prelude.{◌≡◌, ◌≢◌, ◌+◌, ◌<◌, ◌≤◌, ℕ, None, List, IsTrue, IfOk, IfErr, MatchResult};
+ghost use Rattle.std.specs.Prelude.{◌≡◌, ◌≢◌, ◌+◌, ◌<◌, ◌≤◌, ℕ, None, Option, List, IsTrue, IfOk, IfErr, MatchResult};
 ghost use Rattle.rec_types.specs.Table.{counted};
 ghost use Rattle.page_store.specs.PageMap.{at};
 ghost use Rattle.page_store.specs.PagesView.{OnlyReads};
@@ -36,6 +36,10 @@ pub fn find<S: Store>(
         (λ fault. fault ≡ TreeFault.Device) }
     ensures led { IsTrue pages.old.steady → IfOk result (LeadsFrom
         (Spells tree.now.order (at pages.old.pages)) key.now tree.now.height tree.now.root) }
+    ensures leads { IsTrue pages.old.steady → (led : Option (List ℕ))
+        → LeadsFrom (Spells tree.now.order (at pages.old.pages)) key.now tree.now.height
+        tree.now.root led → MatchResult result (λ found. found ≡ led)
+        (λ fault. fault ≡ TreeFault.Device) }
     ensures no_memory { IfErr result (λ fault. fault ≢ TreeFault.Memory) }
     ensures device { pages.new.failures ≡ counted pages.old.failures (is_device result) }
     ensures unchanged { OnlyReads pages.old pages.new }
@@ -63,6 +67,10 @@ pub fn look_up<S: Store>(
         (λ fault. fault ≡ TreeFault.Device) }
     ensures led { IsTrue pages.old.steady → IfOk result (LeadsFrom
         (Spells tree.now.order (at pages.old.pages)) key.now tree.now.height tree.now.root) }
+    ensures leads { IsTrue pages.old.steady → (led : Option (List ℕ))
+        → LeadsFrom (Spells tree.now.order (at pages.old.pages)) key.now tree.now.height
+        tree.now.root led → MatchResult result (λ found. found ≡ led)
+        (λ fault. fault ≡ TreeFault.Device) }
     ensures no_memory { IfErr result (λ fault. fault ≢ TreeFault.Memory) }
     ensures device { pages.new.failures ≡ counted pages.old.failures (is_device result) }
     ensures unchanged { OnlyReads pages.old pages.new }
@@ -110,6 +118,10 @@ fn look_up_below<S: Store>(
         (λ fault. fault ≡ TreeFault.Device) }
     ensures led { IsTrue pages.old.steady → IfOk result (Leads
         (Spells order (at pages.old.pages)) key.now spot.now.level spot.now.page spot.now.bounds) }
+    ensures leads { IsTrue pages.old.steady → (led : Option (List ℕ))
+        → Leads (Spells order (at pages.old.pages)) key.now spot.now.level spot.now.page
+        spot.now.bounds led → MatchResult result (λ found. found ≡ led)
+        (λ fault. fault ≡ TreeFault.Device) }
     ensures no_memory { IfErr result (λ fault. fault ≢ TreeFault.Memory) }
     ensures device { pages.new.failures ≡ counted pages.old.failures (is_device result) }
     ensures unchanged { OnlyReads pages.old pages.new }
@@ -151,6 +163,10 @@ fn read_below<S: Store>(
         (λ fault. fault ≡ TreeFault.Device) }
     ensures led { IsTrue pages.old.steady → IfOk result (Leads
         (Spells order (at pages.old.pages)) key.now spot.now.level spot.now.page spot.now.bounds) }
+    ensures leads { IsTrue pages.old.steady → (led : Option (List ℕ))
+        → Leads (Spells order (at pages.old.pages)) key.now spot.now.level spot.now.page
+        spot.now.bounds led → MatchResult result (λ found. found ≡ led)
+        (λ fault. fault ≡ TreeFault.Device) }
     ensures no_memory { IfErr result (λ fault. fault ≢ TreeFault.Memory) }
     ensures device { pages.new.failures ≡ counted pages.old.failures (is_device result) }
     ensures unchanged { OnlyReads pages.old pages.new }
@@ -180,6 +196,10 @@ fn find_below<S: Store>(
         (λ fault. fault ≡ TreeFault.Device) }
     ensures led { IsTrue pages.old.steady → IfOk result (Leads
         (Spells order (at pages.old.pages)) key.now spot.now.level spot.now.page spot.now.bounds) }
+    ensures leads { IsTrue pages.old.steady → (led : Option (List ℕ))
+        → Leads (Spells order (at pages.old.pages)) key.now spot.now.level spot.now.page
+        spot.now.bounds led → MatchResult result (λ found. found ≡ led)
+        (λ fault. fault ≡ TreeFault.Device) }
     ensures no_memory { IfErr result (λ fault. fault ≢ TreeFault.Memory) }
     ensures device { pages.new.failures ≡ counted pages.old.failures (is_device result) }
     ensures unchanged { OnlyReads pages.old pages.new }

@@ -10,6 +10,7 @@ use Rattle.btree_insert.specs.Steps.{Steps}
 use Rattle.btree_insert.proofs.ReachLemmas.{if_ok}
 use Rattle.btree_insert.proofs.SearchStepLemmas.{found_tells, ends_tells, goes_tells, goes_leads}
 use Rattle.btree_insert.proofs.HeadNodeLemmas.{top}
+use Rattle.btree_insert.proofs.LeadLemmas.{found_is_led, end_is_led, son_is_led}
 use Rattle.btree_insert.proofs.finding.+find_below.Goals as goal
 
 pub returns-in_err-value-clause-found : goal.returns-in_err-value-clause-found
@@ -59,3 +60,23 @@ returns-in-Goes-clause-led g t c = λ steady.
     (λ found leads. goes_leads c.args.order (at c.args.pages.now.pages) (at c.take_step.new.pages.pages) spot stepped.node c.args.key.now c.in-Goes.field-0 c.in-Goes.page c.in-Goes.bounds found (ap (λ (v : PagesView). at v.pages) unchanged) (stepped.spells steady) stepped.belongs
     (subst (Steps spot.level stepped.node spot.bounds c.args.key.now) c.in-Goes.is stepped.steps) leads)
     (c.find_below.ensures.led (ap (λ (v : PagesView). v.steady) unchanged ∙ steady))
+
+pub returns-in-Found-clause-leads : goal.returns-in-Found-clause-leads
+returns-in-Found-clause-leads g t c = λ steady led leads.
+    let spot = c.args.spot.now in
+    found_is_led c.args.order (at c.args.pages.now.pages) spot c.args.key.now c.in-Found.value c.in-Found.field-0 led c.requires.level leads
+    (λ m spells belongs. subst (Steps spot.level m spot.bounds c.args.key.now) c.in-Found.is (c.in_ok-value.ensures.exact steady m spells belongs))
+
+pub returns-in-Ends-clause-leads : goal.returns-in-Ends-clause-leads
+returns-in-Ends-clause-leads g t c = λ steady led leads.
+    let spot = c.args.spot.now in
+    end_is_led c.args.order (at c.args.pages.now.pages) spot c.args.key.now c.in-Ends.field-0 led c.requires.level leads
+    (λ m spells belongs. subst (Steps spot.level m spot.bounds c.args.key.now) c.in-Ends.is (c.in_ok-value.ensures.exact steady m spells belongs))
+
+pub returns-in-Goes-clause-leads : goal.returns-in-Goes-clause-leads
+returns-in-Goes-clause-leads g t c = λ steady led leads.
+    let spot = c.args.spot.now in
+    let unchanged = c.take_step.ensures.unchanged in
+    c.find_below.ensures.leads (ap (λ (v : PagesView). v.steady) unchanged ∙ steady) led
+    (son_is_led c.args.order (at c.args.pages.now.pages) (at c.take_step.new.pages.pages) spot c.args.key.now c.in-Goes.field-0 c.in-Goes.page c.in-Goes.bounds led (ap (λ (v : PagesView). at v.pages) unchanged) c.requires.level leads
+    (λ m spells belongs. subst (Steps spot.level m spot.bounds c.args.key.now) c.in-Goes.is (c.in_ok-value.ensures.exact steady m spells belongs)))

@@ -9,6 +9,7 @@ use Rattle.btree_insert.proofs.SearchStepLemmas.{found_tells, ends_tells, goes_t
 use Rattle.btree_insert.proofs.SpeltLemmas.{bytes_of}
 use Rattle.btree_insert.proofs.ReachLemmas.{if_ok}
 use Rattle.btree_insert.proofs.HeadNodeLemmas.{top}
+use Rattle.btree_insert.proofs.LeadLemmas.{led_node, found_is_led, end_is_led, son_is_led}
 use Rattle.btree_insert.proofs.finding.+look_up_below.Goals as goal
 
 pub returns-in_err-value-clause-found : goal.returns-in_err-value-clause-found
@@ -48,3 +49,28 @@ returns-in-Goes-clause-led g t c = λ steady.
     (λ found leads. goes_leads c.args.order pages pages spot spelt.0 c.args.key.now c.in-Goes.field-0 c.in-Goes.page c.in-Goes.bounds found refl (record { page = c.in-Some.ensures.page ∙ ap Some spelt.2; stands = spelt.1 }) step.0
     (subst (Steps spot.level spelt.0 spot.bounds c.args.key.now) c.in-Goes.is step.1) leads)
     (c.look_up_below.ensures.led steady)
+
+pub returns-in_err-value-clause-leads : goal.returns-in_err-value-clause-leads
+returns-in_err-value-clause-leads g t c = λ steady led leads.
+    let l = led_node c.args.order (at c.args.pages.now.pages) c.args.spot.now c.args.key.now led c.requires.level leads in
+    absurd (false≢true (c.in_err-value.ensures.exact l.node l.spells.stands (ap bytes_of (sym c.in-Some.ensures.page ∙ l.spells.page)) l.belongs))
+
+pub returns-in-Found-clause-leads : goal.returns-in-Found-clause-leads
+returns-in-Found-clause-leads g t c = λ steady led leads.
+    let spot = c.args.spot.now in
+    found_is_led c.args.order (at c.args.pages.now.pages) spot c.args.key.now c.in-Found.value c.in-Found.field-0 led c.requires.level leads
+    (λ m spells belongs. subst (Steps spot.level m spot.bounds c.args.key.now) c.in-Found.is (c.in_ok-value.ensures.steps m spells.stands (ap bytes_of (sym c.in-Some.ensures.page ∙ spells.page))).1)
+
+pub returns-in-Ends-clause-leads : goal.returns-in-Ends-clause-leads
+returns-in-Ends-clause-leads g t c = λ steady led leads.
+    let spot = c.args.spot.now in
+    end_is_led c.args.order (at c.args.pages.now.pages) spot c.args.key.now c.in-Ends.field-0 led c.requires.level leads
+    (λ m spells belongs. subst (Steps spot.level m spot.bounds c.args.key.now) c.in-Ends.is (c.in_ok-value.ensures.steps m spells.stands (ap bytes_of (sym c.in-Some.ensures.page ∙ spells.page))).1)
+
+pub returns-in-Goes-clause-leads : goal.returns-in-Goes-clause-leads
+returns-in-Goes-clause-leads g t c = λ steady led leads.
+    let spot = c.args.spot.now in
+    let pages = at c.args.pages.now.pages in
+    c.look_up_below.ensures.leads steady led
+    (son_is_led c.args.order pages pages spot c.args.key.now c.in-Goes.field-0 c.in-Goes.page c.in-Goes.bounds led refl c.requires.level leads
+    (λ m spells belongs. subst (Steps spot.level m spot.bounds c.args.key.now) c.in-Goes.is (c.in_ok-value.ensures.steps m spells.stands (ap bytes_of (sym c.in-Some.ensures.page ∙ spells.page))).1))
