@@ -13,6 +13,7 @@ use Rattle.btree_insert.specs.Reached.{Leads, GoesOn}
 use Rattle.btree_insert.specs.Steps.{Steps, Belongs}
 use Rattle.btree_insert.proofs.DistinctPageLemmas.{irreflexive}
 
+-- a key is not on two sides of another
 not_both : (x key : List ℕ) → Below x key → Below key x → ⊥
 not_both x key low high = irreflexive x (Below-trans x key x low high)
 
@@ -51,15 +52,19 @@ at_no_place (e ∷ els) key (suc i) zero p q = not_both e.0 key p.below.0 q.abov
 at_no_place (e ∷ els) key (suc i) (suc j) p q =
     at_no_place els key i j (record { within = omega (arith, p.within); below = p.below.1; here = p.here; above = p.above }) (record { within = omega (arith, q.within); below = q.below.1; above = q.above })
 
+-- what a lead says of a node: it has the key's record, or the key has a place from which the search goes on
+abbrev pub Meets : List Element → List ℕ → ℕ → Option (List ℕ) → Type 0 → Type 0
+Meets els key j led on = (IsAt els key j × ((d : Element) → led ≡ Some (get_or els j d).1)) ⊎ (IsPlace els key j × on)
+
 found_meets : (els : List Element) (key value : List ℕ) (i j : ℕ) (led : Option (List ℕ)) (on : Type 0) → IsAt els key i → ((d : Element) → value ≡ (get_or els i d).1)
-    → (IsAt els key j × ((d : Element) → led ≡ Some (get_or els j d).1)) ⊎ (IsPlace els key j × on) → Some value ≡ led
+    → Meets els key j led on → Some value ≡ led
 found_meets els key value i j led on here value_is (inl (there, led_is)) =
     let d : Element = ([], []) in
     ap Some (value_is d) ∙ ap (λ x. Some (get_or els x d).1) (same_at els key i j here there) ∙ sym (led_is d)
 found_meets els key value i j led on here value_is (inr (place, goes)) = absurd (at_no_place els key i j here place)
 
 place_meets : (els : List Element) (key : List ℕ) (i j : ℕ) (led : Option (List ℕ)) (on : Type 0) → IsPlace els key i
-    → (IsAt els key j × ((d : Element) → led ≡ Some (get_or els j d).1)) ⊎ (IsPlace els key j × on) → (i ≡ j) × on
+    → Meets els key j led on → (i ≡ j) × on
 place_meets els key i j led on place (inl (there, led_is)) = absurd (at_no_place els key j i there place)
 place_meets els key i j led on place (inr (other, goes)) = (same_place els key i j place other, goes)
 
@@ -69,14 +74,13 @@ levels_of k pages spot key led some leads =
     let level_is : spot.level ≡ suc (spot.level - 1) = omega (arith, some) in
     subst (λ x. Leads (Spells k pages) key x spot.page spot.bounds led) level_is leads
 
--- the node of the page at a spot
+-- the node of the page at a spot, and what the lead says of it
 pub record Led (k : ℕ) (pages : PageMap) (spot : Spot) (key : List ℕ) (led : Option (List ℕ)) : Type 0 where
   pub node : Node
   pub spells : Spells k pages spot.page node
   pub belongs : Belongs spot node
   pub place : ℕ
-  pub meets : (IsAt node.elements.items key place × ((d : Element) → led ≡ Some (get_or node.elements.items place d).1))
-      ⊎ (IsPlace node.elements.items key place × GoesOn (Leads (Spells k pages) key (spot.level - 1)) (spot.level - 1) node place spot.bounds led)
+  pub meets : Meets node.elements.items key place led (GoesOn (Leads (Spells k pages) key (spot.level - 1)) (spot.level - 1) node place spot.bounds led)
 
 pub led_node : (k : ℕ) (pages : PageMap) (spot : Spot) (key : List ℕ) (led : Option (List ℕ)) → 0 < spot.level → Leads (Spells k pages) key spot.level spot.page spot.bounds led → Led k pages spot key led
 led_node k pages spot key led some leads =
