@@ -54,6 +54,13 @@ for document in "$@"; do
     for command in "$parts"/*.sh "$parts"/*.console; do echo "$command"; done | sort >"$room/commands"
     while read -r command; do
         [ -e "$command" ] || continue
+        for tool in cc pkg-config python3 rustc; do
+            if grep -q -w -e "$tool" "$command" && ! command -v "$tool" >"$room/got"; then
+                echo "readme: left out, since there is no $tool:"
+                cat "$command"
+                continue 2
+            fi
+        done
         runs=$((runs + 1))
         wanted=${command%.*}.out
         # In this shell, so that what a block exports is there in the next.
