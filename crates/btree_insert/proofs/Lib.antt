@@ -17,6 +17,7 @@ pub mod StepNodeLemmas
 pub mod OnePageLemmas
 pub mod TreeClassLemmas
 pub mod ReachLemmas
+pub mod ReadingLemmas
 pub mod LeadLemmas
 pub mod DistinctPageLemmas
 pub mod ContentsLemmas

@@ -1,7 +1,11 @@
 -- Which fault of a tree an answer is.
-use Rattle.std.specs.Prelude.{Bool, true, false, Result, Ok, Err}
+use Rattle.std.specs.Prelude.{◌≢◌, Bool, true, false, Result, Ok, Err, IfErr}
 use Rattle.btree_insert.specs.declared.tree.TreeFault.{TreeFault}
 use Rattle.btree_insert.specs.declared.tree.TreeFault.TheVariants.{Device, Damaged, Memory}
+
+-- no memory was asked for
+abbrev pub AsksNoMemory : {X : Type 0} → Result X TreeFault → Type 0
+AsksNoMemory answer = IfErr answer (λ fault. fault ≢ Memory)
 
 -- whether a read of the store failed
 abbrev pub is_device : {X : Type 0} → Result X TreeFault → Bool

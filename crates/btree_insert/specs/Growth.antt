@@ -1,23 +1,27 @@
 -- What an insertion below a page comes to.
-use Rattle.std.specs.Prelude.{◌≡◌, ℕ, ◌+◌, ◌*◌, ◌<◌, ◌≤◌, ◌⊎◌, true, List, [], ◌∷◌, ◌++◌, length, Option, Some, None, IsSome, slice_index_or}
+use Rattle.std.specs.Prelude.{◌≡◌, ℕ, ◌+◌, ◌*◌, ◌<◌, ◌≤◌, ◌⊎◌, Bool, true, List, [], ◌∷◌, ◌++◌, length, Option, Some, None, IsSome, slice_index_or}
 use Rattle.std.specs.List.{AllByRecursion}
 use Rattle.page_store.specs.PageMap.{at, is_written}
 use Rattle.page_store.specs.FreeNumbers.{candidate}
+use Rattle.page_store.specs.PagesView.{PagesView}
 use Rattle.page_store.specs.declared.page_edit.PageEdit.{PageEdit}
 use Rattle.page_store.specs.CanStage.{IsTaken}
 use Rattle.btree_node.specs.declared.node.Node.{Node}
 use Rattle.btree_node.specs.Cut.{left_of, right_of}
+use Rattle.btree_node.specs.Layout.{IsOrder}
 use Rattle.btree_node.specs.Lists.{Element, Each, Ascends}
 use Rattle.btree_node.specs.Spelling.{spelling, CanStand, IsElement, IsSon, SonsFit}
 use Rattle.btree_insert.specs.declared.bounds.Bounds.{Bounds}
 use Rattle.btree_insert.specs.declared.insert_below.Grown.{Grown}
 use Rattle.btree_insert.specs.declared.insert_below.Grown.TheVariants.{Replaced, Fits, Split}
+use Rattle.btree_insert.specs.declared.step.Spot.{Spot}
 use Rattle.btree_insert.specs.declared.tree.TreeFault.{TreeFault}
 use Rattle.btree_insert.specs.declared.tree.TreeFault.TheVariants.{Device, Damaged, Memory}
 use Rattle.btree_insert.specs.Bounds.{Over, Under}
 use Rattle.btree_insert.specs.Contents.{lookup_in, set_in}
 use Rattle.btree_insert.specs.PagesGrown.{PagesGrown, PagesChange}
 use Rattle.btree_insert.specs.PageTrees.{TreeAt, TreeBelow}
+use Rattle.btree_insert.specs.Steps.{CanSearch}
 
 -- the fault is not of the pages
 abbrev pub IsOutside : TreeFault → Type 0
@@ -28,6 +32,13 @@ IsOutside Memory = Unit {0}
 -- a key strictly between the bounds
 abbrev pub IsWithin : Bounds → List ℕ → Type 0
 IsWithin bounds key = Over bounds.low key × Under bounds.high key
+
+-- an element may be put into the tree below a spot
+pub record CanInsert (k : ℕ) (spot : Spot) (in_place : Bool) (pages : PagesView) (element : Element) : Type 0 where
+  pub order : IsOrder k
+  pub search : CanSearch k spot in_place pages
+  pub fits : IsElement element
+  pub within : IsWithin spot.bounds element.0
 
 -- a node that can stand in a page, or could without one of its keys
 pub record MayBeOverfull (k : ℕ) (n : Node) : Type 0 where
@@ -53,6 +64,11 @@ abbrev pub SplitGoesUp : Bounds → Grown → Type 0
 SplitGoesUp bounds (Replaced value) = Unit {0}
 SplitGoesUp bounds Fits = Unit {0}
 SplitGoesUp bounds (Split middle right) = IsElement middle × IsWithin bounds middle.0 × IsSon right
+
+-- what an insertion below a spot comes to: how many numbers it takes, and what goes up
+pub record GrowsWithin (spot : Spot) (old new : ℕ) (g : Grown) : Type 0 where
+  pub takes : TakesNumbers spot.level old new g
+  pub goes_up : SplitGoesUp spot.bounds g
 
 -- a node written as page n, or cut in two around its middle key, the right half as a new page
 abbrev pub WritesOrSplits : ℕ → ℕ → PageEdit → PageEdit → ℕ → Node → Grown → Type 0

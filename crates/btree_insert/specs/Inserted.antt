@@ -11,7 +11,7 @@ use Rattle.btree_insert.specs.declared.tree.TreeFault.TheVariants.{Device, Damag
 use Rattle.btree_insert.specs.Contents.{lookup_in, set_in}
 use Rattle.btree_insert.specs.PagesGrown.{PagesGrown, PagesChange, taking}
 use Rattle.btree_insert.specs.PageTrees.{Holds}
-use Rattle.btree_insert.specs.Sizes.{greatest_height, greatest_count}
+use Rattle.btree_insert.specs.Sizes.{greatest_height, greatest_size}
 
 -- a leaf with one element
 abbrev pub leaf_of : Element → Node
@@ -32,8 +32,8 @@ pub record Inserted (change : PagesChange) (tree : Tree) (es : List Element) (us
 -- a tree and a page count within the limits of a file
 pub record IsSmall (tree : Tree) (page_count : ℕ) : Type 0 where
   pub height : tree.height ≤ greatest_height
-  pub count : tree.count ≤ greatest_count
-  pub used : tree.used ≤ greatest_count
+  pub count : tree.count ≤ greatest_size
+  pub used : tree.used ≤ greatest_size
   pub pages : page_count ≤ greatest_page_count
 
 -- a fault from outside, or the tree with the record at the key would pass a limit

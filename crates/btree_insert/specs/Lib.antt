@@ -5,6 +5,7 @@ pub mod Sizes
 pub mod PageTrees
 pub mod Growth
 pub mod PagesGrown
+pub mod Edits
 pub mod Inserted
 pub mod Classes
 pub mod Reached

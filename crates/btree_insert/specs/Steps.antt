@@ -3,6 +3,7 @@ use Rattle.std.specs.Prelude.{◌≡◌, ℕ, ◌<◌, Bool, true, false, ◌&&�
 use Rattle.page_store.specs.PageMap.{at}
 use Rattle.page_store.specs.PagesView.{PagesView, is_in_memory}
 use Rattle.btree_node.specs.declared.node.Node.{Node}
+use Rattle.btree_node.specs.Layout.{IsSmallOrder}
 use Rattle.btree_node.specs.Lists.{Element, IsAt, IsPlace}
 use Rattle.btree_node.specs.Spelling.{spelling, CanStand}
 use Rattle.btree_insert.specs.declared.bounds.Bounds.{Bounds}
@@ -11,6 +12,13 @@ use Rattle.btree_insert.specs.declared.step.Step.{Step}
 use Rattle.btree_insert.specs.declared.step.Step.TheVariants.{Found, Ends, Goes}
 use Rattle.btree_insert.specs.Bounds.{AreWithin, son_bounds}
 use Rattle.btree_insert.specs.PageTrees.{Spells, kind_of_level}
+use Rattle.btree_insert.specs.Spelt.{AreSpeltIn}
+
+-- a search of order k may begin at a spot: where pages are searched in memory, they spell nodes
+pub record CanSearch (k : ℕ) (spot : Spot) (in_place : Bool) (pages : PagesView) : Type 0 where
+  pub order : IsSmallOrder k
+  pub level : 0 < spot.level
+  pub spelt : IsTrue in_place → AreSpeltIn k pages
 
 -- where the search goes from a node at a level: to the record of the key, no further, or to the son between whose neighbours the key lies
 abbrev pub Steps : ℕ → Node → Bounds → List ℕ → Step → Type 0

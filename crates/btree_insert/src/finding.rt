@@ -1,16 +1,16 @@
-ghost use Rattle.std.specs.Prelude.{◌≡◌, ◌≢◌, ◌+◌, ◌<◌, ◌≤◌, ℕ, None, Option, List, IsTrue, IfOk, IfErr, MatchResult};
-ghost use Rattle.rec_types.specs.Table.{counted};
+ghost use Rattle.std.specs.Prelude.{◌≡◌, ◌<◌, ◌≤◌, ℕ, None, Option, List, IsTrue, IfOk, MatchResult, true};
 ghost use Rattle.page_store.specs.PageMap.{at};
-ghost use Rattle.page_store.specs.PagesView.{OnlyReads};
 ghost use Rattle.btree_node.specs.Lists.{Element};
 ghost use Rattle.btree_insert.specs.Bounds.{Between};
 ghost use Rattle.btree_insert.specs.Contents.{lookup_in};
-ghost use Rattle.btree_insert.specs.Faults.{is_device};
+ghost use Rattle.btree_insert.specs.Faults.{AsksNoMemory};
 ghost use Rattle.btree_insert.specs.PageTrees.{Spells, TreeAt, Holds};
 ghost use Rattle.btree_insert.specs.Reached.{Leads, LeadsFrom};
 ghost use Rattle.btree_insert.specs.Spelt.{AreSpeltIn};
-ghost use Rattle.btree_node.specs.Layout.{IsOrder, greatest_order};
+ghost use Rattle.btree_node.specs.Layout.{IsOrder};
 ghost use Rattle.btree_insert.specs.Sizes.{greatest_height};
+ghost use Rattle.btree_insert.specs.Edits.{Reads};
+ghost use Rattle.btree_insert.specs.Steps.{CanSearch};
 
 use crate::bounds::Bounds;
 use crate::step::{Spot, Step, step_in_page, take_step};
@@ -40,10 +40,8 @@ pub fn find<S: Store>(
         → LeadsFrom (Spells tree.now.order (at pages.old.pages)) key.now tree.now.height
         tree.now.root led → MatchResult result (λ found. found ≡ led)
         (λ fault. fault ≡ TreeFault.Device) }
-    ensures no_memory { IfErr result (λ fault. fault ≢ TreeFault.Memory) }
-    ensures device { pages.new.failures ≡ counted pages.old.failures (is_device result) }
-    ensures unchanged { OnlyReads pages.old pages.new }
-    ensures reads { pages.new.reads ≤ pages.old.reads + tree.now.height }
+    ensures no_memory { AsksNoMemory result }
+    ensures reading { Reads tree.now.height pages.old result pages.new }
 {
     if tree.height == 0 {
         return Ok(None);
@@ -71,10 +69,8 @@ pub fn look_up<S: Store>(
         → LeadsFrom (Spells tree.now.order (at pages.old.pages)) key.now tree.now.height
         tree.now.root led → MatchResult result (λ found. found ≡ led)
         (λ fault. fault ≡ TreeFault.Device) }
-    ensures no_memory { IfErr result (λ fault. fault ≢ TreeFault.Memory) }
-    ensures device { pages.new.failures ≡ counted pages.old.failures (is_device result) }
-    ensures unchanged { OnlyReads pages.old pages.new }
-    ensures reads { pages.new.reads ≤ pages.old.reads + tree.now.height }
+    ensures no_memory { AsksNoMemory result }
+    ensures reading { Reads tree.now.height pages.old result pages.new }
 {
     if tree.height == 0 {
         return Ok(None);
@@ -108,9 +104,7 @@ fn look_up_below<S: Store>(
     spot: &Spot,
     key: &Key,
 ) -> Result<Option<Record>, TreeFault>
-    requires order { order ≤ greatest_order }
-    requires level { 0 < spot.now.level }
-    requires spelt { AreSpeltIn order pages.old }
+    requires search { CanSearch order spot.now true pages.old }
     ensures found { IsTrue pages.old.steady → (least : ℕ) (es : List Element) (us : List ℕ)
         → TreeAt order (at pages.old.pages) least spot.now.level spot.now.page es us
         → Between spot.now.bounds es
@@ -122,10 +116,8 @@ fn look_up_below<S: Store>(
         → Leads (Spells order (at pages.old.pages)) key.now spot.now.level spot.now.page
         spot.now.bounds led → MatchResult result (λ found. found ≡ led)
         (λ fault. fault ≡ TreeFault.Device) }
-    ensures no_memory { IfErr result (λ fault. fault ≢ TreeFault.Memory) }
-    ensures device { pages.new.failures ≡ counted pages.old.failures (is_device result) }
-    ensures unchanged { OnlyReads pages.old pages.new }
-    ensures reads { pages.new.reads ≤ pages.old.reads + spot.now.level }
+    ensures no_memory { AsksNoMemory result }
+    ensures reading { Reads spot.now.level pages.old result pages.new }
 {
     let Some(lies) = pages.in_memory(spot.page) else {
         return read_below(pages, order, spot, key, true);
@@ -153,9 +145,7 @@ fn read_below<S: Store>(
     key: &Key,
     in_place: bool,
 ) -> Result<Option<Record>, TreeFault>
-    requires order { order ≤ greatest_order }
-    requires level { 0 < spot.now.level }
-    requires spelt { IsTrue in_place → AreSpeltIn order pages.old }
+    requires search { CanSearch order spot.now in_place pages.old }
     ensures found { IsTrue pages.old.steady → (least : ℕ) (es : List Element) (us : List ℕ)
         → TreeAt order (at pages.old.pages) least spot.now.level spot.now.page es us
         → Between spot.now.bounds es
@@ -167,10 +157,8 @@ fn read_below<S: Store>(
         → Leads (Spells order (at pages.old.pages)) key.now spot.now.level spot.now.page
         spot.now.bounds led → MatchResult result (λ found. found ≡ led)
         (λ fault. fault ≡ TreeFault.Device) }
-    ensures no_memory { IfErr result (λ fault. fault ≢ TreeFault.Memory) }
-    ensures device { pages.new.failures ≡ counted pages.old.failures (is_device result) }
-    ensures unchanged { OnlyReads pages.old pages.new }
-    ensures reads { pages.new.reads ≤ pages.old.reads + spot.now.level }
+    ensures no_memory { AsksNoMemory result }
+    ensures reading { Reads spot.now.level pages.old result pages.new }
 {
     let mut node = Node::blank();
     find_below(pages, order, spot, key, in_place, &mut node)
@@ -186,9 +174,7 @@ fn find_below<S: Store>(
     in_place: bool,
     node: &mut Node,
 ) -> Result<Option<Record>, TreeFault>
-    requires order { order ≤ greatest_order }
-    requires level { 0 < spot.now.level }
-    requires spelt { IsTrue in_place → AreSpeltIn order pages.old }
+    requires search { CanSearch order spot.now in_place pages.old }
     ensures found { IsTrue pages.old.steady → (least : ℕ) (es : List Element) (us : List ℕ)
         → TreeAt order (at pages.old.pages) least spot.now.level spot.now.page es us
         → Between spot.now.bounds es
@@ -200,10 +186,8 @@ fn find_below<S: Store>(
         → Leads (Spells order (at pages.old.pages)) key.now spot.now.level spot.now.page
         spot.now.bounds led → MatchResult result (λ found. found ≡ led)
         (λ fault. fault ≡ TreeFault.Device) }
-    ensures no_memory { IfErr result (λ fault. fault ≢ TreeFault.Memory) }
-    ensures device { pages.new.failures ≡ counted pages.old.failures (is_device result) }
-    ensures unchanged { OnlyReads pages.old pages.new }
-    ensures reads { pages.new.reads ≤ pages.old.reads + spot.now.level }
+    ensures no_memory { AsksNoMemory result }
+    ensures reading { Reads spot.now.level pages.old result pages.new }
 {
     match take_step(pages, order, spot, key, in_place, node)? {
         Step::Found(_, value) => Ok(Some(value)),

@@ -1,22 +1,18 @@
-ghost use Rattle.std.specs.Prelude.{◌≡◌, ◌+◌, ◌*◌, ◌<◌, ◌≤◌, ◌∷◌, ◌++◌, [], ℕ, List, ◌==◌, true, false, length, IsTrue, IsSome, IfOk, OnOk, MatchResult, slice_index_or, slice_set};
+ghost use Rattle.std.specs.Prelude.{◌≡◌, ◌+◌, ◌*◌, ◌<◌, ◌≤◌, ◌∷◌, ◌++◌, [], ℕ, List, ◌==◌, false, length, IsTrue, IsSome, IfOk, OnOk, MatchResult, slice_index_or, slice_set};
 ghost use Rattle.std.specs.List.{list_any};
-ghost use Rattle.rec_types.specs.Table.{counted};
 ghost use Rattle.page_store.specs.FreeNumbers.{candidate};
 ghost use Rattle.page_store.specs.PageMap.{at};
-ghost use Rattle.page_store.specs.PagesView.{OnlyReads};
 ghost use Rattle.btree_node.specs.Lists.{Element, Each};
-ghost use Rattle.btree_node.specs.Spelling.{spelling, CanStand, IsElement, AreSpelt};
+ghost use Rattle.btree_node.specs.Spelling.{spelling, CanStand};
 ghost use Rattle.btree_insert.specs.Bounds.{AreWithin, Between};
 ghost use Rattle.btree_insert.specs.declared.bounds.Bounds.{Bounds};
-ghost use Rattle.btree_insert.specs.Faults.{is_device};
-ghost use Rattle.btree_insert.specs.Growth.{IsOutside, IsWithin, MayBeOverfull, WritesFit, TakesNumbers, SplitGoesUp, WritesOrSplits, Grew, replaced};
+ghost use Rattle.btree_insert.specs.Growth.{IsOutside, MayBeOverfull, WritesFit, TakesNumbers, SplitGoesUp, WritesOrSplits, Grew, replaced, CanInsert, GrowsWithin};
 ghost use Rattle.btree_insert.specs.PageTrees.{Spells, TreeAt, Apart, tree_below};
 ghost use Rattle.btree_insert.specs.Reached.{Leads};
-ghost use Rattle.btree_node.specs.Layout.{IsOrder, greatest_order};
-ghost use Rattle.btree_insert.specs.Sizes.{greatest_height};
-ghost use Rattle.btree_insert.specs.Spelt.{AreSpeltIn};
+ghost use Rattle.btree_node.specs.Layout.{IsOrder, IsSmallOrder};
 ghost use Rattle.btree_insert.specs.Steps.{IsKnown};
 ghost use Rattle.btree_insert.specs.PagesGrown.{edited};
+ghost use Rattle.btree_insert.specs.Edits.{IsInUse, Reads, OnlyWrites, WritesAndTakes, HasRoom};
 
 use crate::step::{Spot, Step, take_step};
 use crate::tree::{PATH_ROOM, TreeFault};
@@ -39,14 +35,11 @@ pub(crate) enum Grown {
 /// Adds a node to the edit as page n. The conditions are an order of at most 16 and a node that fits a
 /// page. Fault: Memory.
 pub fn write_node(edit: &mut PageEdit, order: u16, n: u32, node: &Node) -> Result<(), Memory>
-    requires order { order ≤ greatest_order }
+    requires order { IsSmallOrder order }
     requires stands { CanStand node.now order }
     ensures writes { OnOk result (edit.new.writes.items
         ≡ edit.old.writes.items ++ (n, spelling node.now order) ∷ []) }
-    ensures spelt { AreSpelt order edit.old.writes.items
-        → OnOk result (AreSpelt order edit.new.writes.items) }
-    ensures taken { edit.new.taken ≡ edit.old.taken }
-    ensures freed { edit.new.freed ≡ edit.old.freed }
+    ensures edit { OnlyWrites order edit.old result edit.new }
 {
     edit.writes
         .push((n, encode(node, order)))
@@ -68,13 +61,10 @@ fn settle<S: Store>(
     requires fits { WritesFit pages.now.pages edit.old.writes.items edit.old.taken }
     ensures settles { IfOk result
         (WritesOrSplits order (candidate pages.now.pages edit.old.taken) edit.old edit.new n node) }
-    ensures fits { OnOk result (WritesFit pages.now.pages edit.new.writes.items edit.new.taken) }
+    ensures edit { WritesAndTakes order pages.now.pages edit.old result edit.new }
     ensures takes { IfOk result (TakesNumbers 1 edit.old.taken edit.new.taken) }
     ensures goes_up { (bounds : Bounds) → AreWithin bounds node.elements.items
         → IfOk result (SplitGoesUp bounds) }
-    ensures spelt { AreSpelt order edit.old.writes.items
-        → OnOk result (AreSpelt order edit.new.writes.items) }
-    ensures freed { edit.new.freed ≡ edit.old.freed }
 {
     if node.elements.len() <= 2 * order as usize {
         write_node(edit, order, n, &node)?;
@@ -98,7 +88,7 @@ pub fn was_visited(visited: &[u32], n: u32) -> bool
 /// Fills the node with what page n spells, after a step from there: where the page was searched in
 /// memory it is read now, and any other page is in the node already.
 fn fill_node<S: Store>(pages: &Pages<S>, order: u16, n: u32, in_place: bool, node: &mut Node)
-    requires order { order ≤ greatest_order }
+    requires order { IsSmallOrder order }
     ensures known { (m : Node) → IsKnown order pages.now n in_place node.old m → node.new ≡ m }
 {
     if in_place {
@@ -121,14 +111,8 @@ pub(crate) fn insert_below<S: Store>(
     element: (Key, Record),
     in_place: bool,
 ) -> Result<Grown, TreeFault>
-    requires order { IsOrder order }
-    requires level { 0 < spot.now.level }
-    requires levels { length visited.old.items + spot.now.level ≤ greatest_height }
-    requires element { IsElement element }
-    requires within { IsWithin spot.now.bounds element.0 }
-    requires taken { edit.old.taken ≤ greatest_height }
-    requires fits { WritesFit pages.old.pages edit.old.writes.items edit.old.taken }
-    requires spelt { IsTrue in_place → AreSpeltIn order pages.old }
+    requires can { CanInsert order spot.now in_place pages.old element }
+    requires room { HasRoom pages.old.pages edit.old visited.old.items spot.now.level }
     ensures grew { IsTrue pages.old.steady → edit.old.writes.items ≡ []
         → (least : ℕ) (es : List Element) (us : List ℕ)
         → TreeAt order (at pages.old.pages) least spot.now.level spot.now.page es us
@@ -141,18 +125,11 @@ pub(crate) fn insert_below<S: Store>(
     ensures led { IsTrue pages.old.steady → IfOk result (λ grown. Leads
         (Spells order (at pages.old.pages)) element.0 spot.now.level spot.now.page spot.now.bounds
         (replaced grown)) }
-    ensures fits { OnOk result (WritesFit pages.old.pages edit.new.writes.items edit.new.taken) }
-    ensures takes { IfOk result (TakesNumbers spot.now.level edit.old.taken edit.new.taken) }
-    ensures goes_up { IfOk result (SplitGoesUp spot.now.bounds) }
-    ensures spelt { AreSpelt order edit.old.writes.items
-        → OnOk result (AreSpelt order edit.new.writes.items) }
-    ensures freed { edit.new.freed ≡ edit.old.freed }
+    ensures edit { WritesAndTakes order pages.old.pages edit.old result edit.new }
+    ensures grows { IfOk result (GrowsWithin spot.now edit.old.taken edit.new.taken) }
     ensures visited { OnOk result (0 < length visited.new.items) }
-    ensures in_use { OnOk result (IsSome (at pages.old.pages spot.now.page)) }
-    ensures some_page { OnOk result (0 < spot.now.page) }
-    ensures device { pages.new.failures ≡ counted pages.old.failures (is_device result) }
-    ensures unchanged { OnlyReads pages.old pages.new }
-    ensures reads { pages.new.reads ≤ pages.old.reads + spot.now.level }
+    ensures in_use { OnOk result (IsInUse pages.old.pages spot.now.page) }
+    ensures reading { Reads spot.now.level pages.old result pages.new }
 {
     let n = spot.page;
     if was_visited(visited.as_slice(), n) {

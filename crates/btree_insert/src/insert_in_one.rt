@@ -1,17 +1,17 @@
-ghost use Rattle.std.specs.Prelude.{◌≡◌, ◌*◌, ◌<◌, ◌≤◌, ◌∷◌, ◌++◌, [], ℕ, List, Some, None, Ok, length, IsSome, IfOk, IfSome, OnOk, slice_set};
+ghost use Rattle.std.specs.Prelude.{◌≡◌, ◌*◌, ◌<◌, ◌∷◌, ◌++◌, [], ℕ, List, Some, None, Ok, length, IsSome, IfOk, IfSome, OnOk, slice_set, true};
 ghost use Rattle.std.specs.List.{insert};
 ghost use Rattle.page_store.specs.PageMap.{at};
-ghost use Rattle.btree_node.specs.Layout.{IsOrder, greatest_order};
+ghost use Rattle.btree_node.specs.Layout.{IsSmallOrder};
 ghost use Rattle.btree_node.specs.Lists.{Element, IsAt, IsPlace};
-ghost use Rattle.btree_node.specs.Spelling.{spelling, CanStand, IsElement, IsSpelt, AreSpelt};
+ghost use Rattle.btree_node.specs.Spelling.{spelling, CanStand, IsElement, IsSpelt};
 ghost use Rattle.btree_node.specs.declared.node.Node.{Node};
 ghost use Rattle.btree_node.specs.declared.node.NodeKind.TheVariants.{Leaf};
 ghost use Rattle.btree_insert.specs.Bounds.{Between};
-ghost use Rattle.btree_insert.specs.Growth.{IsWithin, WritesFit, TakesNumbers, Grew, WritesAs, in_one};
+ghost use Rattle.btree_insert.specs.Growth.{WritesFit, TakesNumbers, Grew, WritesAs, in_one, CanInsert};
 ghost use Rattle.btree_insert.specs.PageTrees.{Spells, TreeAt, Apart, tree_below};
 ghost use Rattle.btree_insert.specs.Reached.{Leads};
-ghost use Rattle.btree_insert.specs.Spelt.{AreSpeltIn};
 ghost use Rattle.btree_insert.specs.PagesGrown.{edited};
+ghost use Rattle.btree_insert.specs.Edits.{IsInUse, OnlyWrites, WritesAndTakes};
 
 use crate::step::{Spot, Step, step_in_page};
 use btree_node::{count_in, insert_in, replace_in};
@@ -37,12 +37,8 @@ pub(crate) fn insert_in_one<S: Store>(
     spot: &Spot,
     element: (Key, Record),
 ) -> Result<Option<Placed>, Memory>
-    requires order { IsOrder order }
-    requires level { 0 < spot.now.level }
-    requires element { IsElement element }
-    requires within { IsWithin spot.now.bounds element.0 }
+    requires can { CanInsert order spot.now true pages.now element }
     requires fits { WritesFit pages.now.pages edit.old.writes.items edit.old.taken }
-    requires spelt { AreSpeltIn order pages.now }
     ensures grew { edit.old.writes.items ≡ []
         → (least : ℕ) (es : List Element) (us : List ℕ)
         → TreeAt order (at pages.now.pages) least spot.now.level spot.now.page es us
@@ -55,14 +51,10 @@ pub(crate) fn insert_in_one<S: Store>(
         (Spells order (at pages.now.pages)) element.0 spot.now.level spot.now.page spot.now.bounds
         placed.old)) }
     ensures none { result ≡ Ok None → edit.new ≡ edit.old }
-    ensures fits { OnOk result (WritesFit pages.now.pages edit.new.writes.items edit.new.taken) }
+    ensures edit { WritesAndTakes order pages.now.pages edit.old result edit.new }
     ensures takes { IfOk result (λ r. IfSome r (λ placed.
         TakesNumbers spot.now.level edit.old.taken edit.new.taken (in_one placed.old))) }
-    ensures spelt { AreSpelt order edit.old.writes.items
-        → OnOk result (AreSpelt order edit.new.writes.items) }
-    ensures freed { edit.new.freed ≡ edit.old.freed }
-    ensures in_use { IfOk result (λ r. IsSome r → IsSome (at pages.now.pages spot.now.page)) }
-    ensures some_page { IfOk result (λ r. IsSome r → 0 < spot.now.page) }
+    ensures in_use { IfOk result (λ r. IsSome r → IsInUse pages.now.pages spot.now.page) }
 {
     let n = spot.page;
     let Some(page) = pages.in_memory(n) else {
@@ -106,7 +98,7 @@ fn write_replaced(
     i: usize,
     element: (Key, Record),
 ) -> Result<(), Memory>
-    requires order { order ≤ greatest_order }
+    requires order { IsSmallOrder order }
     requires element { IsElement element }
     requires spelt { IsSpelt order page.now }
     requires found { (m : Node) → CanStand m order → page.now ≡ spelling m order
@@ -114,10 +106,7 @@ fn write_replaced(
     ensures writes { (m : Node) → CanStand m order → page.now ≡ spelling m order
         → OnOk result (WritesAs order n m (slice_set m.elements.items i element)
         edit.old.writes.items edit.new.writes.items) }
-    ensures spelt { AreSpelt order edit.old.writes.items
-        → OnOk result (AreSpelt order edit.new.writes.items) }
-    ensures taken { edit.new.taken ≡ edit.old.taken }
-    ensures freed { edit.new.freed ≡ edit.old.freed }
+    ensures edit { OnlyWrites order edit.old result edit.new }
 {
     let at = edit.writes.len();
     write_page(edit, order, n, page)?;
@@ -135,10 +124,7 @@ fn write_page(
     requires { IsSpelt order page.now }
     ensures writes { OnOk result
         (edit.new.writes.items ≡ edit.old.writes.items ++ (n, page.now) ∷ []) }
-    ensures spelt { AreSpelt order edit.old.writes.items
-        → OnOk result (AreSpelt order edit.new.writes.items) }
-    ensures taken { edit.new.taken ≡ edit.old.taken }
-    ensures freed { edit.new.freed ≡ edit.old.freed }
+    ensures edit { OnlyWrites order edit.old result edit.new }
 {
     edit.writes.push((n, *page)).map_err(|_| Memory)
 }
@@ -152,7 +138,7 @@ fn write_inserted(
     i: usize,
     element: (Key, Record),
 ) -> Result<(), Memory>
-    requires order { order ≤ greatest_order }
+    requires order { IsSmallOrder order }
     requires element { IsElement element }
     requires spelt { IsSpelt order page.now }
     requires leaf { (m : Node) → CanStand m order → page.now ≡ spelling m order
@@ -161,10 +147,7 @@ fn write_inserted(
     ensures writes { (m : Node) → CanStand m order → page.now ≡ spelling m order
         → OnOk result (WritesAs order n m (insert m.elements.items i element)
         edit.old.writes.items edit.new.writes.items) }
-    ensures spelt { AreSpelt order edit.old.writes.items
-        → OnOk result (AreSpelt order edit.new.writes.items) }
-    ensures taken { edit.new.taken ≡ edit.old.taken }
-    ensures freed { edit.new.freed ≡ edit.old.freed }
+    ensures edit { OnlyWrites order edit.old result edit.new }
 {
     let at = edit.writes.len();
     write_page(edit, order, n, page)?;

@@ -1,19 +1,17 @@
-ghost use Rattle.std.specs.Prelude.{◌≡◌, ◌+◌, ◌-◌, ◌<◌, ◌≤◌, ◌↔◌, ◌∷◌, ◌++◌, [], ℕ, List, None, true, IsTrue, IsSome, Ok, IfOk, IfSome, OnOk, OnErr, MatchResult, length};
-ghost use Rattle.rec_types.specs.Table.{counted};
+ghost use Rattle.std.specs.Prelude.{◌≡◌, ◌+◌, ◌-◌, ◌<◌, ◌≤◌, ◌↔◌, ◌∷◌, ◌++◌, [], ℕ, List, None, true, IsTrue, Ok, IfOk, IfSome, OnOk, MatchResult, length};
 ghost use Rattle.page_store.specs.FreeNumbers.{candidate, count_after};
 ghost use Rattle.page_store.specs.PageMap.{at};
-ghost use Rattle.page_store.specs.PagesView.{OnlyReads, OnlyStages};
 ghost use Rattle.btree_node.specs.Lists.{Element};
-ghost use Rattle.btree_node.specs.Spelling.{spelling, CanStand, IsElement, AreSpelt};
-ghost use Rattle.btree_insert.specs.Faults.{is_device};
+ghost use Rattle.btree_node.specs.Spelling.{spelling, CanStand, IsElement};
 ghost use Rattle.btree_insert.specs.Growth.{IsOutside, WritesFit, TakesNumbers, SplitGoesUp, Grew, in_one, replaced};
 ghost use Rattle.btree_insert.specs.Inserted.{leaf_of, root_of, Inserted, IsSmall, IsRefused};
 ghost use Rattle.btree_insert.specs.PageTrees.{Spells, Holds, tree_below};
 ghost use Rattle.btree_insert.specs.Reached.{LeadsFrom};
 ghost use Rattle.btree_insert.specs.Spelt.{AreSpeltIn};
-ghost use Rattle.btree_node.specs.Layout.{greatest_order};
-ghost use Rattle.btree_insert.specs.Sizes.{IsTree, greatest_count, greatest_height};
+ghost use Rattle.btree_node.specs.Layout.{IsSmallOrder};
+ghost use Rattle.btree_insert.specs.Sizes.{IsTree, greatest_size, greatest_height, IsPlanted, IsNext};
 ghost use Rattle.btree_insert.specs.PagesGrown.{edited, taking};
+ghost use Rattle.btree_insert.specs.Edits.{IsInUse, IsNewEdit, Reads, Stages, WritesAndTakes};
 
 use crate::bounds::Bounds;
 use crate::insert_below::{Grown, insert_below, write_node};
@@ -43,7 +41,7 @@ fn add_node<S: Store>(
     order: u16,
     node: &Node,
 ) -> Result<u32, Memory>
-    requires order { order ≤ greatest_order }
+    requires order { IsSmallOrder order }
     requires stands { CanStand node.now order }
     requires taken { edit.old.taken ≤ greatest_height + 1 }
     requires fits { WritesFit pages.now.pages edit.old.writes.items edit.old.taken }
@@ -51,10 +49,7 @@ fn add_node<S: Store>(
     ensures writes { IfOk result (λ n. edit.new.writes.items
         ≡ edit.old.writes.items ++ (n, spelling node.now order) ∷ []) }
     ensures taken { OnOk result (edit.new.taken ≡ edit.old.taken + 1) }
-    ensures fits { OnOk result (WritesFit pages.now.pages edit.new.writes.items edit.new.taken) }
-    ensures spelt { AreSpelt order edit.old.writes.items
-        → OnOk result (AreSpelt order edit.new.writes.items) }
-    ensures freed { edit.new.freed ≡ edit.old.freed }
+    ensures edit { WritesAndTakes order pages.now.pages edit.old result edit.new }
 {
     let number = pages.candidate(edit.taken);
     write_node(edit, order, number, node)?;
@@ -112,8 +107,7 @@ fn grow_tree<S: Store>(
 ) -> Result<Changed, TreeFault>
     requires tree { IsTree tree.now }
     requires element { IsElement element }
-    requires empty { edit.old.writes.items ≡ [] }
-    requires none_taken { edit.old.taken ≡ 0 }
+    requires new_edit { IsNewEdit edit.old }
     requires spelt { IsTrue in_place → AreSpeltIn tree.now.order pages.old }
     ensures grew { IsTrue pages.old.steady → (es : List Element) (us : List ℕ)
         → Holds (at pages.old.pages) tree.now es us
@@ -124,16 +118,10 @@ fn grow_tree<S: Store>(
     ensures led { IsTrue pages.old.steady → IfOk result (λ changed. LeadsFrom
         (Spells tree.now.order (at pages.old.pages)) element.0 tree.now.height tree.now.root
         changed.old) }
-    ensures fits { OnOk result (WritesFit pages.old.pages edit.new.writes.items edit.new.taken) }
+    ensures edit { WritesAndTakes tree.now.order pages.old.pages edit.old result edit.new }
     ensures few { OnOk result (edit.new.taken ≤ greatest_height + 1) }
-    ensures order { IfOk result (λ changed. changed.tree.order ≡ tree.now.order) }
-    ensures used { IfOk result (λ changed. changed.tree.used ≡ tree.now.used + edit.new.taken) }
-    ensures spelt { AreSpelt tree.now.order edit.old.writes.items
-        → OnOk result (AreSpelt tree.now.order edit.new.writes.items) }
-    ensures freed { edit.new.freed ≡ edit.old.freed }
-    ensures device { pages.new.failures ≡ counted pages.old.failures (is_device result) }
-    ensures unchanged { OnlyReads pages.old pages.new }
-    ensures reads { pages.new.reads ≤ pages.old.reads + tree.now.height }
+    ensures next { IfOk result (λ changed. IsNext tree.now edit.new.taken changed.tree) }
+    ensures reading { Reads tree.now.height pages.old result pages.new }
 {
     if tree.height == 0 {
         return Ok(plant(pages, edit, tree, element)?);
@@ -155,11 +143,9 @@ fn grow_below<S: Store>(
     element: (Key, Record),
     in_place: bool,
 ) -> Result<Changed, TreeFault>
-    requires tree { IsTree tree.now }
-    requires height { 0 < tree.now.height }
+    requires tree { IsPlanted tree.now }
     requires element { IsElement element }
-    requires empty { edit.old.writes.items ≡ [] }
-    requires none_taken { edit.old.taken ≡ 0 }
+    requires new_edit { IsNewEdit edit.old }
     requires spelt { IsTrue in_place → AreSpeltIn tree.now.order pages.old }
     ensures grew { IsTrue pages.old.steady → (es : List Element) (us : List ℕ)
         → Holds (at pages.old.pages) tree.now es us
@@ -170,16 +156,10 @@ fn grow_below<S: Store>(
     ensures led { IsTrue pages.old.steady → IfOk result (λ changed. LeadsFrom
         (Spells tree.now.order (at pages.old.pages)) element.0 tree.now.height tree.now.root
         changed.old) }
-    ensures fits { OnOk result (WritesFit pages.old.pages edit.new.writes.items edit.new.taken) }
+    ensures edit { WritesAndTakes tree.now.order pages.old.pages edit.old result edit.new }
     ensures few { OnOk result (edit.new.taken ≤ greatest_height + 1) }
-    ensures order { IfOk result (λ changed. changed.tree.order ≡ tree.now.order) }
-    ensures used { IfOk result (λ changed. changed.tree.used ≡ tree.now.used + edit.new.taken) }
-    ensures spelt { AreSpelt tree.now.order edit.old.writes.items
-        → OnOk result (AreSpelt tree.now.order edit.new.writes.items) }
-    ensures freed { edit.new.freed ≡ edit.old.freed }
-    ensures device { pages.new.failures ≡ counted pages.old.failures (is_device result) }
-    ensures unchanged { OnlyReads pages.old pages.new }
-    ensures reads { pages.new.reads ≤ pages.old.reads + tree.now.height }
+    ensures next { IfOk result (λ changed. IsNext tree.now edit.new.taken changed.tree) }
+    ensures reading { Reads tree.now.height pages.old result pages.new }
 {
     let root = Spot {
         page: tree.root,
@@ -211,11 +191,9 @@ fn grow_in_one<S: Store>(
     tree: &Tree,
     element: (Key, Record),
 ) -> Result<Option<Changed>, Memory>
-    requires tree { IsTree tree.now }
-    requires height { 0 < tree.now.height }
+    requires tree { IsPlanted tree.now }
     requires element { IsElement element }
-    requires empty { edit.old.writes.items ≡ [] }
-    requires none_taken { edit.old.taken ≡ 0 }
+    requires new_edit { IsNewEdit edit.old }
     requires spelt { AreSpeltIn tree.now.order pages.now }
     ensures grew { (es : List Element) (us : List ℕ) → Holds (at pages.now.pages) tree.now es us
         → IfOk result (λ r. IfSome r (λ changed. Inserted (edited pages.now.pages 0 edit.new)
@@ -224,15 +202,10 @@ fn grow_in_one<S: Store>(
         (Spells tree.now.order (at pages.now.pages)) element.0 tree.now.height tree.now.root
         changed.old)) }
     ensures none { result ≡ Ok None → edit.new ≡ edit.old }
-    ensures fits { OnOk result (WritesFit pages.now.pages edit.new.writes.items edit.new.taken) }
+    ensures edit { WritesAndTakes tree.now.order pages.now.pages edit.old result edit.new }
     ensures few { OnOk result (edit.new.taken ≤ greatest_height + 1) }
-    ensures order { IfOk result (λ r. IfSome r (λ changed.
-        changed.tree.order ≡ tree.now.order)) }
-    ensures used { IfOk result (λ r. IfSome r (λ changed.
-        changed.tree.used ≡ tree.now.used + edit.new.taken)) }
-    ensures spelt { AreSpelt tree.now.order edit.old.writes.items
-        → OnOk result (AreSpelt tree.now.order edit.new.writes.items) }
-    ensures freed { edit.new.freed ≡ edit.old.freed }
+    ensures next { IfOk result (λ r. IfSome r (λ changed.
+        IsNext tree.now edit.new.taken changed.tree)) }
 {
     let root = Spot {
         page: tree.root,
@@ -265,10 +238,8 @@ fn changed_tree<S: Store>(
     grown: Grown,
     leaf: u32,
 ) -> Result<Changed, Memory>
-    requires tree { IsTree tree.now }
-    requires height { 0 < tree.now.height }
-    requires in_use { IsSome (at pages.now.pages tree.now.root) }
-    requires some_root { 0 < tree.now.root }
+    requires tree { IsPlanted tree.now }
+    requires in_use { IsInUse pages.now.pages tree.now.root }
     requires fits { WritesFit pages.now.pages edit.old.writes.items edit.old.taken }
     requires takes { TakesNumbers tree.now.height 0 edit.old.taken grown }
     requires goes_up { SplitGoesUp (record { low = None; high = None }) grown }
@@ -280,13 +251,9 @@ fn changed_tree<S: Store>(
         (λ changed. Inserted (edited pages.now.pages 0 edit.new) tree.now es us key value
         (changed.tree, changed.old)) }
     ensures old { IfOk result (λ changed. changed.old ≡ replaced grown) }
-    ensures fits { OnOk result (WritesFit pages.now.pages edit.new.writes.items edit.new.taken) }
+    ensures edit { WritesAndTakes tree.now.order pages.now.pages edit.old result edit.new }
     ensures few { OnOk result (edit.new.taken ≤ greatest_height + 1) }
-    ensures order { IfOk result (λ changed. changed.tree.order ≡ tree.now.order) }
-    ensures used { IfOk result (λ changed. changed.tree.used ≡ tree.now.used + edit.new.taken) }
-    ensures spelt { AreSpelt tree.now.order edit.old.writes.items
-        → OnOk result (AreSpelt tree.now.order edit.new.writes.items) }
-    ensures freed { edit.new.freed ≡ edit.old.freed }
+    ensures next { IfOk result (λ changed. IsNext tree.now edit.new.taken changed.tree) }
 {
     match grown {
         Grown::Replaced(old) => Ok(Changed {
@@ -325,20 +292,15 @@ fn plant<S: Store>(
     requires tree { IsTree tree.now }
     requires height { tree.now.height ≡ 0 }
     requires element { IsElement element }
-    requires empty { edit.old.writes.items ≡ [] }
-    requires none_taken { edit.old.taken ≡ 0 }
+    requires new_edit { IsNewEdit edit.old }
     ensures grew { (es : List Element) (us : List ℕ) → Holds (at pages.now.pages) tree.now es us
         → IfOk result
         (λ changed. Inserted (edited pages.now.pages 0 edit.new) tree.now es us
         element.0 element.1 (changed.tree, changed.old)) }
     ensures old { IfOk result (λ changed. changed.old ≡ None) }
-    ensures fits { OnOk result (WritesFit pages.now.pages edit.new.writes.items edit.new.taken) }
+    ensures edit { WritesAndTakes tree.now.order pages.now.pages edit.old result edit.new }
     ensures few { OnOk result (edit.new.taken ≤ greatest_height + 1) }
-    ensures order { IfOk result (λ changed. changed.tree.order ≡ tree.now.order) }
-    ensures used { IfOk result (λ changed. changed.tree.used ≡ tree.now.used + edit.new.taken) }
-    ensures spelt { AreSpelt tree.now.order edit.old.writes.items
-        → OnOk result (AreSpelt tree.now.order edit.new.writes.items) }
-    ensures freed { edit.new.freed ≡ edit.old.freed }
+    ensures next { IfOk result (λ changed. IsNext tree.now edit.new.taken changed.tree) }
 {
     let root = add_node(pages, edit, tree.order, &leaf_node(element))?;
     Ok(Changed {
@@ -350,8 +312,8 @@ fn plant<S: Store>(
 
 /// The tree with one key more, and so many pages more.
 fn grown_tree(tree: &Tree, root: u32, height: u32, taken: u32) -> Tree
-    requires count { tree.now.count ≤ greatest_count }
-    requires used { tree.now.used ≤ greatest_count }
+    requires count { tree.now.count ≤ greatest_size }
+    requires used { tree.now.used ≤ greatest_size }
     requires taken { taken ≤ greatest_height + 1 }
     ensures { result ≡ record {
       order = tree.now.order;
@@ -408,10 +370,7 @@ pub fn insert<S: Store>(
     ensures changed { OnOk result (pages.new.changed ≡ true) }
     ensures order { IfOk result (λ r. r.0.order ≡ tree.now.order) }
     ensures spelt { AreSpeltIn tree.now.order pages.old → AreSpeltIn tree.now.order pages.new }
-    ensures device { pages.new.failures ≡ counted pages.old.failures (is_device result) }
-    ensures err { OnErr result (OnlyReads pages.old pages.new) }
-    ensures store { OnlyStages pages.old pages.new }
-    ensures reads { pages.new.reads ≤ pages.old.reads + tree.now.height }
+    ensures stages { Stages tree.now.height pages.old result pages.new }
 {
     insert_from_root(alloc, pages, tree, key, value, false)
 }
@@ -441,10 +400,7 @@ pub fn insert_in_place<S: Store>(
     ensures changed { OnOk result (pages.new.changed ≡ true) }
     ensures order { IfOk result (λ r. r.0.order ≡ tree.now.order) }
     ensures spelt { AreSpeltIn tree.now.order pages.new }
-    ensures device { pages.new.failures ≡ counted pages.old.failures (is_device result) }
-    ensures err { OnErr result (OnlyReads pages.old pages.new) }
-    ensures store { OnlyStages pages.old pages.new }
-    ensures reads { pages.new.reads ≤ pages.old.reads + tree.now.height }
+    ensures stages { Stages tree.now.height pages.old result pages.new }
 {
     insert_from_root(alloc, pages, tree, key, value, true)
 }
@@ -475,10 +431,7 @@ fn insert_from_root<S: Store>(
     ensures changed { OnOk result (pages.new.changed ≡ true) }
     ensures order { IfOk result (λ r. r.0.order ≡ tree.now.order) }
     ensures spelt { AreSpeltIn tree.now.order pages.old → AreSpeltIn tree.now.order pages.new }
-    ensures device { pages.new.failures ≡ counted pages.old.failures (is_device result) }
-    ensures err { OnErr result (OnlyReads pages.old pages.new) }
-    ensures store { OnlyStages pages.old pages.new }
-    ensures reads { pages.new.reads ≤ pages.old.reads + tree.now.height }
+    ensures stages { Stages tree.now.height pages.old result pages.new }
 {
     let mut edit = PageEdit {
         writes: Vec::new(alloc),

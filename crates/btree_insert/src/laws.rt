@@ -1,18 +1,21 @@
 //! What holds of the trees that contracts speak of. The functions do nothing: their contracts are the
 //! laws.
-ghost use Rattle.std.specs.Prelude.{◌≡◌, ℕ, ◌+◌, ◌-◌, ◌*◌, ◌/◌, ◌^◌, ◌≤◌, List, [], ◌∷◌, Option, Some, length};
+ghost use Rattle.std.specs.Prelude.{◌≡◌, ℕ, ◌+◌, ◌-◌, ◌*◌, ◌/◌, ◌^◌, ◌≤◌, true, false, List, [], ◌∷◌, Option, Some, Result, Ok, Err, length};
 ghost use Rattle.std.specs.FinMap.{get, entries, len};
 ghost use Rattle.rec_types.specs.Contents.{set_to};
 ghost use Rattle.page_store.specs.PageMap.{PageMap, at};
+ghost use Rattle.page_store.specs.PagesView.{PagesView};
 ghost use Rattle.btree_node.specs.Lists.{Element, Ascends};
 ghost use Rattle.btree_node.specs.Layout.{greatest_order};
 ghost use Rattle.btree_insert.specs.Classes.{BTree, in_order, StandsFor};
 ghost use Rattle.btree_insert.specs.Contents.{lookup_in, set_in, contents_of};
+ghost use Rattle.btree_insert.specs.Edits.{Reads};
 ghost use Rattle.btree_insert.specs.Elements.{elements_of, contents_at};
 ghost use Rattle.btree_insert.specs.Examples.{ax, by, cz, tree_of, three_pages, uneven_pages, shared_pages, equal_pages};
 ghost use Rattle.btree_insert.specs.Inserted.{Inserted};
 ghost use Rattle.btree_insert.specs.PageTrees.{Holds};
 ghost use Rattle.btree_insert.specs.declared.tree.Tree.{Tree};
+ghost use Rattle.btree_insert.specs.declared.tree.TreeFault.{TreeFault};
 ghost use Rattle.btree_insert.specs.PagesGrown.{pages_change};
 
 /// How many keys a tree has at least and at most, by its height, and how many pages at most, by its keys.
@@ -82,4 +85,18 @@ pub fn trees_by_example()
         → Holds (at shared_pages) (tree_of 3 height count used) es us → ⊥ }
     ensures equal { (height count used : ℕ) (es : List Element) (us : List ℕ)
         → Holds (at equal_pages) (tree_of 3 height count used) es us → ⊥ }
+{}
+
+/// What calls that read pages leave: one that succeeds and one behind it are as one call. A read that
+/// failed is counted. It fails where the failed read isn't counted, and where a page changes.
+pub fn readings()
+    ensures both { (m n : ℕ) (old mid new : PagesView) (x : ℕ) (answer : Result ℕ TreeFault)
+        → Reads m old (Ok x) mid → Reads n mid answer new → Reads (m + n) old answer new }
+    ensures example { (v : PagesView) → v.failures ≡ 0
+        → Reads {A = ℕ} 1 v (Err TreeFault.Device)
+        (record v { reads = v.reads + 1; failures = 1 }) }
+    ensures uncounted { (v : PagesView) → v.failures ≡ 0
+        → Reads {A = ℕ} 1 v (Err TreeFault.Device) (record v { reads = v.reads + 1 }) → ⊥ }
+    ensures changed { (v : PagesView) → v.changed ≡ false
+        → Reads {A = ℕ} 1 v (Ok 0) (record v { changed = true }) → ⊥ }
 {}

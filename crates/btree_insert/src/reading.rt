@@ -1,13 +1,11 @@
-ghost use Rattle.std.specs.Prelude.{◌≡◌, ◌+◌, ◌<◌, ◌≤◌, ◌⊎◌, IsTrue, IsSome, IfErr, OnOk, IsOk, MatchResult};
-ghost use Rattle.rec_types.specs.Table.{counted};
+ghost use Rattle.std.specs.Prelude.{◌≡◌, ◌<◌, ◌⊎◌, IsTrue, IfErr, OnOk, IsOk, MatchResult};
 ghost use Rattle.page_store.specs.PageMap.{at};
-ghost use Rattle.page_store.specs.PagesView.{OnlyReads};
 ghost use Rattle.btree_node.specs.Spelling.{spelling, CanStand};
 ghost use Rattle.btree_node.specs.declared.node.Node.{Node};
 ghost use Rattle.btree_insert.specs.Bounds.{AreWithin};
-ghost use Rattle.btree_insert.specs.Faults.{is_device};
 ghost use Rattle.btree_insert.specs.PageTrees.{Spells, kind_of_level};
-ghost use Rattle.btree_node.specs.Layout.{greatest_order};
+ghost use Rattle.btree_node.specs.Layout.{IsSmallOrder};
+ghost use Rattle.btree_insert.specs.Edits.{IsInUse, Reads};
 
 use crate::bounds::{Bounds, are_within};
 use crate::tree::TreeFault;
@@ -27,7 +25,7 @@ pub fn read_into<S: Store>(
     bounds: &Bounds,
     node: &mut Node,
 ) -> Result<(), TreeFault>
-    requires { order ≤ greatest_order }
+    requires { IsSmallOrder order }
     ensures exact { IsTrue pages.old.steady → (m : Node)
         → Spells order (at pages.old.pages) n m → m.kind ≡ kind
         → AreWithin bounds.now m.elements.items
@@ -37,12 +35,9 @@ pub fn read_into<S: Store>(
         → OnOk result (Spells order (at pages.old.pages) n node.new) }
     ensures fault { IfErr result
         (λ fault. (fault ≡ TreeFault.Device) ⊎ (fault ≡ TreeFault.Damaged n)) }
-    ensures in_use { OnOk result (IsSome (at pages.old.pages n)) }
-    ensures some_page { OnOk result (0 < n) }
+    ensures in_use { OnOk result (IsInUse pages.old.pages n) }
     ensures within { OnOk result (AreWithin bounds.now node.new.elements.items) }
-    ensures device { pages.new.failures ≡ counted pages.old.failures (is_device result) }
-    ensures unchanged { OnlyReads pages.old pages.new }
-    ensures one_read { pages.new.reads ≤ pages.old.reads + 1 }
+    ensures reading { Reads 1 pages.old result pages.new }
 {
     if let Some(page) = pages.in_memory(n) {
         return take_into(page, order, kind, n, bounds, node);
@@ -64,7 +59,7 @@ fn take_into(
     bounds: &Bounds,
     node: &mut Node,
 ) -> Result<(), TreeFault>
-    requires { order ≤ greatest_order }
+    requires { IsSmallOrder order }
     ensures exact { (m : Node) → CanStand m order → page.now ≡ spelling m order
         → m.kind ≡ kind → AreWithin bounds.now m.elements.items → IsOk result × (node.new ≡ m) }
     ensures stands { OnOk result (CanStand node.new order × (node.new.kind ≡ kind)) }

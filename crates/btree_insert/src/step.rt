@@ -1,17 +1,14 @@
-ghost use Rattle.std.specs.Prelude.{◌≡◌, ◌+◌, ◌<◌, ◌≤◌, ◌⊎◌, ◌↔◌, ℕ, length, IsTrue, IsSome, IsOk, IfOk, IfErr, OnOk, MatchResult};
-ghost use Rattle.rec_types.specs.Table.{counted};
+ghost use Rattle.std.specs.Prelude.{◌≡◌, ◌<◌, ◌≤◌, ◌⊎◌, ◌↔◌, length, IsTrue, IsOk, IfOk, IfErr, OnOk, MatchResult};
 ghost use Rattle.page_store.specs.PageMap.{at};
-ghost use Rattle.page_store.specs.PagesView.{OnlyReads};
-ghost use Rattle.btree_node.specs.Layout.{greatest_order};
+ghost use Rattle.btree_node.specs.Layout.{IsSmallOrder};
 ghost use Rattle.btree_node.specs.Lists.{Ascends};
 ghost use Rattle.btree_node.specs.Reading.{count_at};
 ghost use Rattle.btree_node.specs.Spelling.{spelling, CanStand, SonsFit, IsSpelt};
 ghost use Rattle.btree_node.specs.declared.node.Node.{Node};
 ghost use Rattle.btree_insert.specs.Bounds.{AreWithin, low_at, high_at, son_bounds};
-ghost use Rattle.btree_insert.specs.Faults.{is_device};
 ghost use Rattle.btree_insert.specs.PageTrees.{Spells, kind_of_level};
-ghost use Rattle.btree_insert.specs.Spelt.{AreSpeltIn};
-ghost use Rattle.btree_insert.specs.Steps.{Steps, Belongs, Stepped};
+ghost use Rattle.btree_insert.specs.Steps.{Steps, Belongs, Stepped, CanSearch};
+ghost use Rattle.btree_insert.specs.Edits.{IsInUse, Reads};
 
 use crate::bounds::{Bounds, bounds_of_son, is_over, is_under};
 use crate::reading::{kind_of_level, read_into};
@@ -53,22 +50,17 @@ pub(crate) fn take_step<S: Store>(
     in_place: bool,
     node: &mut Node,
 ) -> Result<Step, TreeFault>
-    requires order { order ≤ greatest_order }
-    requires level { 0 < spot.now.level }
-    requires spelt { IsTrue in_place → AreSpeltIn order pages.old }
+    requires search { CanSearch order spot.now in_place pages.old }
     ensures exact { IsTrue pages.old.steady → (m : Node)
         → Spells order (at pages.old.pages) spot.now.page m → Belongs spot.now m
         → MatchResult result (Steps spot.now.level m spot.now.bounds key.now)
         (λ fault. fault ≡ TreeFault.Device) }
     ensures stepped { IfOk result
         (Stepped order pages.old spot.now key.now in_place node.new) }
-    ensures in_use { OnOk result (IsSome (at pages.old.pages spot.now.page)) }
-    ensures some_page { OnOk result (0 < spot.now.page) }
+    ensures in_use { OnOk result (IsInUse pages.old.pages spot.now.page) }
     ensures fault { IfErr result
         (λ fault. (fault ≡ TreeFault.Device) ⊎ (fault ≡ TreeFault.Damaged spot.now.page)) }
-    ensures device { pages.new.failures ≡ counted pages.old.failures (is_device result) }
-    ensures unchanged { OnlyReads pages.old pages.new }
-    ensures one_read { pages.new.reads ≤ pages.old.reads + 1 }
+    ensures reading { Reads 1 pages.old result pages.new }
 {
     if in_place {
         if let Some(page) = pages.in_memory(spot.page) {
@@ -108,7 +100,7 @@ pub fn step_in_page(
     spot: &Spot,
     key: &Key,
 ) -> Result<Step, TreeFault>
-    requires order { order ≤ greatest_order }
+    requires order { IsSmallOrder order }
     requires level { 0 < spot.now.level }
     requires spelt { IsSpelt order page.now }
     ensures steps { (m : Node) → CanStand m order → page.now ≡ spelling m order
@@ -135,7 +127,7 @@ pub fn step_in_page(
 
 /// Whether the keys of the node that the page spells are within the bounds.
 fn is_within(page: &[u8; PAGE_WIDTH], order: u16, bounds: &Bounds) -> bool
-    requires order { order ≤ greatest_order }
+    requires order { IsSmallOrder order }
     requires spelt { IsSpelt order page.now }
     ensures { (m : Node) → CanStand m order → page.now ≡ spelling m order
         → IsTrue result ↔ AreWithin bounds.now m.elements.items }
@@ -147,7 +139,7 @@ fn is_within(page: &[u8; PAGE_WIDTH], order: u16, bounds: &Bounds) -> bool
 
 /// The bounds of son i of the node that the page spells: the same as `bounds_of_son` of its elements.
 fn bounds_in(page: &[u8; PAGE_WIDTH], order: u16, bounds: &Bounds, i: usize) -> Bounds
-    requires order { order ≤ greatest_order }
+    requires order { IsSmallOrder order }
     requires spelt { IsSpelt order page.now }
     requires index { i ≤ count_at page.now }
     ensures { (m : Node) → CanStand m order → page.now ≡ spelling m order
@@ -160,7 +152,7 @@ fn bounds_in(page: &[u8; PAGE_WIDTH], order: u16, bounds: &Bounds, i: usize) -> 
 }
 
 fn low_in(page: &[u8; PAGE_WIDTH], order: u16, low: &Option<Key>, i: usize) -> Option<Key>
-    requires order { order ≤ greatest_order }
+    requires order { IsSmallOrder order }
     requires spelt { IsSpelt order page.now }
     requires index { i ≤ count_at page.now }
     ensures { (m : Node) → CanStand m order → page.now ≡ spelling m order
@@ -174,7 +166,7 @@ fn low_in(page: &[u8; PAGE_WIDTH], order: u16, low: &Option<Key>, i: usize) -> O
 }
 
 fn high_in(page: &[u8; PAGE_WIDTH], order: u16, high: &Option<Key>, i: usize) -> Option<Key>
-    requires order { order ≤ greatest_order }
+    requires order { IsSmallOrder order }
     requires spelt { IsSpelt order page.now }
     requires index { i ≤ count_at page.now }
     ensures { (m : Node) → CanStand m order → page.now ≡ spelling m order

@@ -1,15 +1,13 @@
-ghost use Rattle.std.specs.Prelude.{◌≡◌, ◌+◌, ◌<◌, ◌≤◌, ◌++◌, ℕ, List, Err, IsTrue, IfOk, OnOk, MatchResult, length};
-ghost use Rattle.rec_types.specs.Table.{counted};
+ghost use Rattle.std.specs.Prelude.{◌≡◌, ◌+◌, ◌<◌, ◌≤◌, ◌++◌, ℕ, List, Err, IsTrue, IfOk, OnOk, MatchResult, length, ◌-◌};
 ghost use Rattle.page_store.specs.PageMap.{at};
-ghost use Rattle.page_store.specs.PagesView.{OnlyReads};
 ghost use Rattle.btree_node.specs.Lists.{Element};
 ghost use Rattle.btree_insert.specs.Bounds.{Between};
-ghost use Rattle.btree_insert.specs.Faults.{is_device};
 ghost use Rattle.btree_insert.specs.Growth.{IsOutside};
 ghost use Rattle.btree_insert.specs.PageTrees.{Spells, Fan, TreeOf, TreeAt, Holds};
 ghost use Rattle.btree_insert.specs.Reached.{Adds, Walks};
-ghost use Rattle.btree_node.specs.Layout.{greatest_order};
+ghost use Rattle.btree_node.specs.Layout.{IsSmallOrder};
 ghost use Rattle.btree_insert.specs.Sizes.{IsTree};
+ghost use Rattle.btree_insert.specs.Edits.{Reads};
 
 use crate::bounds::Bounds;
 use crate::reading::{kind_of_level, read_into};
@@ -34,9 +32,7 @@ pub fn walk<S: Store>(
         → MatchResult result (λ elements. elements.items ≡ es) IsOutside }
     ensures there { IsTrue pages.old.steady → IfOk result
         (λ elements. Walks (Spells tree.now.order (at pages.old.pages)) tree.now elements.items) }
-    ensures device { pages.new.failures ≡ counted pages.old.failures (is_device result) }
-    ensures unchanged { OnlyReads pages.old pages.new }
-    ensures reads { pages.new.reads ≤ pages.old.reads + tree.now.used }
+    ensures reading { Reads tree.now.used pages.old result pages.new }
 {
     let mut out = Vec::new(alloc);
     if tree.height == 0 {
@@ -73,7 +69,7 @@ fn walk_below<S: Store>(
     n: u32,
     above: &Above,
 ) -> Result<(), TreeFault>
-    requires order { order ≤ greatest_order }
+    requires order { IsSmallOrder order }
     requires height { 0 < above.now.height }
     ensures walked { IsTrue pages.old.steady → (least : ℕ) (es : List Element) (us : List ℕ)
         → TreeAt order (at pages.old.pages) least above.now.height n es us
@@ -85,9 +81,8 @@ fn walk_below<S: Store>(
         (Adds (TreeOf (Spells order (at pages.old.pages)) 1 1 above.now.height n)
         above.now.bounds out.old.items out.new.items left.old left.new) }
     ensures spent { left.old ≡ 0 → result ≡ Err (TreeFault.Damaged n) }
-    ensures device { pages.new.failures ≡ counted pages.old.failures (is_device result) }
-    ensures unchanged { OnlyReads pages.old pages.new }
-    ensures reads { pages.new.reads + left.new ≤ pages.old.reads + left.old }
+    ensures fewer { left.new ≤ left.old }
+    ensures reading { Reads (left.old - left.new) pages.old result pages.new }
 {
     if *left == 0 {
         return Err(TreeFault::Damaged(n));
@@ -132,7 +127,7 @@ fn walk_sons<S: Store>(
     elements: &[(Key, Record)],
     above: &Above,
 ) -> Result<(), TreeFault>
-    requires order { order ≤ greatest_order }
+    requires order { IsSmallOrder order }
     requires height { 0 < above.now.height }
     requires sons { length sons.now ≡ length elements.now + 1 }
     ensures walked { IsTrue pages.old.steady → (es : List Element) (us : List ℕ)
@@ -145,9 +140,8 @@ fn walk_sons<S: Store>(
         (Adds (Fan (TreeOf (Spells order (at pages.old.pages)) 1 1 above.now.height)
         sons.now elements.now)
         above.now.bounds out.old.items out.new.items left.old left.new) }
-    ensures device { pages.new.failures ≡ counted pages.old.failures (is_device result) }
-    ensures unchanged { OnlyReads pages.old pages.new }
-    ensures reads { pages.new.reads + left.new ≤ pages.old.reads + left.old }
+    ensures fewer { left.new ≤ left.old }
+    ensures reading { Reads (left.old - left.new) pages.old result pages.new }
 {
     if elements.is_empty() {
         return walk_below(pages, out, left, order, sons[0], above);

@@ -34,9 +34,17 @@ layout_of version = if version == first_version then first_layout else second_la
 abbrev pub greatest_order : ℕ
 greatest_order = 16
 
+-- an order whose pages have room for their places and sons
+abbrev pub IsSmallOrder : ℕ → Type 0
+IsSmallOrder k = k ≤ greatest_order
+
 -- the most keys of a page, of any order
 abbrev pub most_keys : ℕ
 most_keys = 2 * greatest_order
+
+-- as many keys as a page of some order may have
+abbrev pub IsKeyCount : ℕ → Type 0
+IsKeyCount count = count ≤ most_keys
 
 -- an order that a tree can have
 abbrev pub IsOrder : ℕ → Type 0
@@ -45,6 +53,10 @@ IsOrder k = (1 ≤ k) × (k ≤ greatest_order)
 -- the bytes before the first place
 abbrev pub head_width : ℕ
 head_width = 8
+
+-- a layout whose records take no more bytes than any record may
+abbrev pub IsNarrow : Layout → Type 0
+IsNarrow layout = layout.record_width ≤ widest_record
 
 -- where the record's length stands in a place, behind the key's length and the key
 abbrev pub record_at : ℕ

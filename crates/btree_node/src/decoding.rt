@@ -1,6 +1,6 @@
 ghost use Rattle.std.specs.Prelude.{◌≡◌, ℕ, ◌+◌, ◌*◌, ◌^◌, ◌<◌, ◌≤◌, ◌↔◌, [], Ok, IfOk, IfErr, OnOk, IsOk, MatchResult, length, All, IsTrue};
 ghost use Rattle.rec_types.specs.Widths.{key_width, widest_record};
-ghost use Rattle.btree_node.specs.Layout.{first_layout, layout_of, record_at, place_width, sons_start, greatest_order, most_keys};
+ghost use Rattle.btree_node.specs.Layout.{first_layout, layout_of, record_at, place_width, sons_start, most_keys, IsSmallOrder, IsNarrow, IsKeyCount};
 ghost use Rattle.btree_node.specs.Lists.{Below, Ascends};
 ghost use Rattle.btree_node.specs.Spelling.{spelling, spelling_in, CanStand, CanStandIn};
 ghost use Rattle.btree_node.specs.Reading.{kind_at, count_at, place_at, element_in, elements_at, son_at, sons_at, sons_of_kind, kind_read, node_at, key_length, record_length, KeyLengths, RecordLengths, PassesBefore, FirstFault, FirstFaultIn};
@@ -18,7 +18,7 @@ use rec_types::{KEY_WIDTH, Key, PAGE_WIDTH, Record};
 /// The node that the page spells, in a tree of order `k`. The faults in their order: Kind, Count,
 /// KeyLength, RecordLength, Order, Son, NotZero.
 pub fn decode(page: &[u8; PAGE_WIDTH], k: u16) -> Result<Node, NodeFault>
-    requires { k ≤ greatest_order }
+    requires { IsSmallOrder k }
 
     // What is read is spelled so.
     ensures found { IfOk result (λ n. CanStand n k × (page.now ≡ spelling n k)) }
@@ -37,7 +37,7 @@ pub fn decode(page: &[u8; PAGE_WIDTH], k: u16) -> Result<Node, NodeFault>
 /// The same as `decode`, into a node that there is: nothing as large as a node is made or moved. After
 /// a fault the node may be any.
 pub fn decode_into(page: &[u8; PAGE_WIDTH], k: u16, node: &mut Node) -> Result<(), NodeFault>
-    requires { k ≤ greatest_order }
+    requires { IsSmallOrder k }
     ensures found { OnOk result (CanStand node.new k × (page.now ≡ spelling node.new k)) }
     ensures only { (n : Node) → CanStand n k → page.now ≡ spelling n k
         → IsOk result × (node.new ≡ n) }
@@ -54,7 +54,7 @@ pub fn decode_into(page: &[u8; PAGE_WIDTH], k: u16, node: &mut Node) -> Result<(
 #[cold]
 #[inline(never)]
 fn decode_by_tests(page: &[u8; PAGE_WIDTH], k: u16, node: &mut Node) -> Result<(), NodeFault>
-    requires { k ≤ greatest_order }
+    requires { IsSmallOrder k }
     ensures found { OnOk result (CanStand node.new k × (page.now ≡ spelling node.new k)) }
     ensures only { (n : Node) → CanStand n k → page.now ≡ spelling n k
         → IsOk result × (node.new ≡ n) }
@@ -67,7 +67,7 @@ fn decode_by_tests(page: &[u8; PAGE_WIDTH], k: u16, node: &mut Node) -> Result<(
 /// The node that the page spells in a file of the first version, in a tree of order `k`. Faults: those of
 /// `decode`, with RecordLength above 32.
 pub fn decode_old(page: &[u8; PAGE_WIDTH], k: u16) -> Result<Node, NodeFault>
-    requires { k ≤ greatest_order }
+    requires { IsSmallOrder k }
     ensures found { IfOk result (λ n. CanStandIn first_layout n k
         × (page.now ≡ spelling_in first_layout n k)) }
     ensures only { (n : Node) → CanStandIn first_layout n k → page.now ≡ spelling_in first_layout n k
@@ -85,7 +85,7 @@ pub fn decode_version(
     k: u16,
     node: &mut Node,
 ) -> Result<(), NodeFault>
-    requires { k ≤ greatest_order }
+    requires { IsSmallOrder k }
     ensures found { OnOk result (CanStandIn (layout_of version) node.new k
         × (page.now ≡ spelling_in (layout_of version) node.new k)) }
     ensures only { (n : Node) → CanStandIn (layout_of version) n k
@@ -101,8 +101,8 @@ pub fn decode_version(
 
 /// The node that the page spells in a layout.
 fn decode_in(layout: Layout, page: &[u8; PAGE_WIDTH], k: u16) -> Result<Node, NodeFault>
-    requires width { layout.record_width ≤ widest_record }
-    requires order { k ≤ greatest_order }
+    requires width { IsNarrow layout }
+    requires order { IsSmallOrder k }
     ensures found { IfOk result (λ n. CanStandIn layout n k × (page.now ≡ spelling_in layout n k)) }
     ensures only { (n : Node) → CanStandIn layout n k → page.now ≡ spelling_in layout n k
         → result ≡ Ok n }
@@ -119,8 +119,8 @@ fn decode_in(layout: Layout, page: &[u8; PAGE_WIDTH], k: u16) -> Result<Node, No
 /// The node that stands at the fixed places of the page.
 #[tactic(auto, unfolding(crate::specs::Reading::Passes, crate::specs::Reading::node_at))]
 fn node_of(layout: Layout, page: &[u8; PAGE_WIDTH], k: u16) -> Result<Node, NodeFault>
-    requires width { layout.record_width ≤ widest_record }
-    requires order { k ≤ greatest_order }
+    requires width { IsNarrow layout }
+    requires order { IsSmallOrder k }
     ensures value { IfOk result (λ n. n ≡ node_at layout k page.now) }
     ensures passes { IfOk result (λ _. PassesBefore layout k page.now NotZero) }
     ensures fault { IfErr result (λ e. FirstFaultIn layout k page.now e) }
@@ -174,7 +174,7 @@ pub(crate) fn count_of(page: &[u8; PAGE_WIDTH]) -> usize
 
 /// Whether a page of the order may have so many keys.
 pub(crate) fn count_fits(count: usize, k: u16) -> bool
-    requires { k ≤ greatest_order }
+    requires { IsSmallOrder k }
     ensures { IsTrue result ↔ ((0 < count) × (count ≤ 2 * k)) }
 {
     0 < count && count <= 2 * k as usize
@@ -182,7 +182,7 @@ pub(crate) fn count_fits(count: usize, k: u16) -> bool
 
 /// The bytes of place i.
 pub(crate) fn place_of_page(layout: Layout, page: &[u8; PAGE_WIDTH], i: usize) -> &[u8]
-    requires width { layout.record_width ≤ widest_record }
+    requires width { IsNarrow layout }
     requires index { i < most_keys }
     ensures value { result.now ≡ place_at layout page.now i }
     ensures len { length result.now ≡ place_width layout }
@@ -192,8 +192,8 @@ pub(crate) fn place_of_page(layout: Layout, page: &[u8; PAGE_WIDTH], i: usize) -
 
 #[tactic(auto, unfolding(crate::specs::Reading::key_length))]
 fn key_lengths_fit(layout: Layout, page: &[u8; PAGE_WIDTH], count: usize) -> bool
-    requires width { layout.record_width ≤ widest_record }
-    requires count { count ≤ most_keys }
+    requires width { IsNarrow layout }
+    requires count { IsKeyCount count }
     ensures { IsTrue result ↔ KeyLengths layout page.now count }
 {
     for i in 0..count {
@@ -207,8 +207,8 @@ fn key_lengths_fit(layout: Layout, page: &[u8; PAGE_WIDTH], count: usize) -> boo
 
 #[tactic(auto, unfolding(crate::specs::Reading::record_length))]
 fn record_lengths_fit(layout: Layout, page: &[u8; PAGE_WIDTH], count: usize) -> bool
-    requires width { layout.record_width ≤ widest_record }
-    requires count { count ≤ most_keys }
+    requires width { IsNarrow layout }
+    requires count { IsKeyCount count }
     ensures { IsTrue result ↔ RecordLengths layout page.now count }
 {
     for i in 0..count {
@@ -226,8 +226,8 @@ fn elements_of(
     page: &[u8; PAGE_WIDTH],
     count: usize,
 ) -> ArrayVec<(Key, Record), ELEMENT_ROOM>
-    requires width { layout.record_width ≤ widest_record }
-    requires count { count ≤ most_keys }
+    requires width { IsNarrow layout }
+    requires count { IsKeyCount count }
     requires keys { KeyLengths layout page.now count }
     requires records { RecordLengths layout page.now count }
     ensures { result.items ≡ elements_at layout page.now count }
@@ -279,9 +279,9 @@ fn sons_of(
     kind: NodeKind,
     count: usize,
 ) -> ArrayVec<u32, SON_ROOM>
-    requires width { layout.record_width ≤ widest_record }
-    requires order { k ≤ greatest_order }
-    requires count { count ≤ most_keys }
+    requires width { IsNarrow layout }
+    requires order { IsSmallOrder k }
+    requires count { IsKeyCount count }
     ensures { result.items ≡ sons_of_kind kind layout k page.now count }
 {
     match kind {
@@ -296,8 +296,8 @@ fn numbers_of(
     k: u16,
     count: usize,
 ) -> ArrayVec<u32, SON_ROOM>
-    requires width { layout.record_width ≤ widest_record }
-    requires order { k ≤ greatest_order }
+    requires width { IsNarrow layout }
+    requires order { IsSmallOrder k }
     requires count { count ≤ most_keys + 1 }
     ensures { result.items ≡ sons_at layout k page.now count }
 {
@@ -315,8 +315,8 @@ pub(crate) fn push_sons(
     count: usize,
     sons: &mut ArrayVec<u32, SON_ROOM>,
 )
-    requires width { layout.record_width ≤ widest_record }
-    requires order { k ≤ greatest_order }
+    requires width { IsNarrow layout }
+    requires order { IsSmallOrder k }
     requires count { count ≤ most_keys + 1 }
     requires empty { sons.old.items ≡ [] }
     ensures { sons.new.items ≡ sons_at layout k page.now count }

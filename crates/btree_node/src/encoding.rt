@@ -1,8 +1,8 @@
 ghost use Rattle.std.specs.Prelude.{◌≡◌, ◌+◌, ◌*◌, ◌≤◌, ◌++◌, length};
 ghost use Rattle.std.specs.List.{flat_map};
 ghost use Rattle.rec_types.specs.Padded.{padded};
-ghost use Rattle.rec_types.specs.Widths.{widest_record, page_width};
-ghost use Rattle.btree_node.specs.Layout.{place_width, greatest_order};
+ghost use Rattle.rec_types.specs.Widths.{page_width};
+ghost use Rattle.btree_node.specs.Layout.{place_width, IsSmallOrder, IsNarrow};
 ghost use Rattle.btree_node.specs.Lists.{Each};
 ghost use Rattle.btree_node.specs.Spelling.{head, place, sons_bytes, spelling, spelling_in, ElementFits, CanStand, CanStandIn};
 
@@ -13,7 +13,7 @@ use rec_types::{KEY_WIDTH, Key, PAGE_WIDTH, Record};
 
 /// The one page that spells the node, for a tree of order `k`.
 pub fn encode(node: &Node, k: u16) -> [u8; PAGE_WIDTH]
-    requires order { k ≤ greatest_order }
+    requires order { IsSmallOrder k }
     requires stands { CanStand node.now k }
     ensures { result ≡ spelling node.now k }
 {
@@ -23,8 +23,8 @@ pub fn encode(node: &Node, k: u16) -> [u8; PAGE_WIDTH]
 /// Writes the page that spells the node in a layout.
 #[tactic(auto, using(crate::proofs::ElementOrderLemmas::sons_most), unfolding(crate::specs::Spelling::spelling_in))]
 pub fn spell(layout: Layout, node: &Node, k: u16) -> PageWriter
-    requires width { layout.record_width ≤ widest_record }
-    requires order { k ≤ greatest_order }
+    requires width { IsNarrow layout }
+    requires order { IsSmallOrder k }
     requires stands { CanStandIn layout node.now k }
     ensures { padded page_width result ≡ spelling_in layout node.now k }
 {
@@ -53,7 +53,7 @@ fn put_head(page: &mut PageWriter, kind: NodeKind, count: usize)
 }
 
 fn put_places(page: &mut PageWriter, layout: Layout, elements: &[(Key, Record)])
-    requires width { layout.record_width ≤ widest_record }
+    requires width { IsNarrow layout }
     requires fit { Each (ElementFits layout) elements.now }
     requires room { length page.old + place_width layout * length elements.now ≤ page_width }
     ensures value { page.new ≡ page.old ++ flat_map (place layout) elements.now }
@@ -66,7 +66,7 @@ fn put_places(page: &mut PageWriter, layout: Layout, elements: &[(Key, Record)])
 
 #[tactic(auto, unfolding(crate::specs::Spelling::place))]
 fn put_place(page: &mut PageWriter, layout: Layout, element: &(Key, Record))
-    requires width { layout.record_width ≤ widest_record }
+    requires width { IsNarrow layout }
     requires fits { ElementFits layout element.now }
     requires room { length page.old + place_width layout ≤ page_width }
     ensures value { page.new ≡ page.old ++ place layout element.now }

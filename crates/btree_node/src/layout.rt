@@ -1,6 +1,6 @@
 ghost use Rattle.std.specs.Prelude.{◌≡◌, ◌+◌, ◌*◌, ◌≤◌};
-ghost use Rattle.rec_types.specs.Widths.{widest_record, page_width};
-ghost use Rattle.btree_node.specs.Layout.{place_width, place_start, sons_start, greatest_order, most_keys};
+ghost use Rattle.rec_types.specs.Widths.{page_width};
+ghost use Rattle.btree_node.specs.Layout.{place_width, place_start, sons_start, most_keys, IsSmallOrder, IsNarrow, IsKeyCount};
 
 use rec_types::{KEY_WIDTH, RECORD_WIDTH};
 
@@ -40,7 +40,7 @@ pub const SECOND_LAYOUT: Layout = Layout {
 impl Layout {
     /// The bytes of a place: a key and a record, each behind its length.
     pub fn place_width(self) -> usize
-        requires { self.record_width ≤ widest_record }
+        requires { IsNarrow self }
         ensures { result ≡ place_width self }
     {
         RECORD_AT + 1 + self.record_width
@@ -48,8 +48,8 @@ impl Layout {
 
     /// Where place `i` begins.
     pub fn place_start(self, i: usize) -> usize
-        requires width { self.record_width ≤ widest_record }
-        requires index { i ≤ most_keys }
+        requires width { IsNarrow self }
+        requires index { IsKeyCount i }
         ensures value { result ≡ place_start self i }
         ensures within { result + 4 * (most_keys + 1) ≤ page_width }
     {
@@ -58,8 +58,8 @@ impl Layout {
 
     /// Where the sons begin in a page of order `k`: behind its places.
     pub fn sons_start(self, k: u16) -> usize
-        requires width { self.record_width ≤ widest_record }
-        requires order { k ≤ greatest_order }
+        requires width { IsNarrow self }
+        requires order { IsSmallOrder k }
         ensures value { result ≡ sons_start self k }
         ensures within { result + 4 * (most_keys + 1) ≤ page_width }
     {

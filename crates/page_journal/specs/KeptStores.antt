@@ -8,12 +8,13 @@ use Rattle.page_journal.specs.declared.disk_state.DiskState.{Ghosts}
 use Rattle.page_journal.specs.declared.seal_state.SealState.{SealState}
 use Rattle.page_journal.specs.declared.seal_state.SealState.TheVariants.{Unsealed, Sealed, Stopped}
 
--- the disk; of each page that the file had when it was sealed whether it was kept; whether it was; and how many reads, changing calls and failures there were
+-- the disk; of each page that the file had when it was sealed whether it was kept; whether it was; and how many reads, calls of the shape, changing calls and failures there were
 pub record KeptStored (D : Type 0) : Type 0 where
   pub disk : D
   pub kept : List Bool
   pub state : SealState
   pub reads : ℕ
+  pub shapes : ℕ
   pub writes : ℕ
   pub failures : ℕ
 
@@ -34,7 +35,7 @@ abbrev pub coded_state : Coded SealState
 coded_state = code_by (Bool × Bool) (coded× coded_bool coded_bool) state_code state_of state_back
 
 abbrev pub coded_kept_stored : {D : Type 0} → Coded D → Coded (KeptStored D)
-coded_kept_stored {D} d = code_by (D × (List Bool × (SealState × (ℕ × (ℕ × ℕ))))) (coded× d (coded× (coded_list coded_bool) (coded× coded_state (coded× coded_ℕ (coded× coded_ℕ coded_ℕ))))) (λ s. (s.disk, (s.kept, (s.state, (s.reads, (s.writes, s.failures)))))) (λ p. record { disk = p.0; kept = p.1.0; state = p.1.1.0; reads = p.1.1.1.0; writes = p.1.1.1.1.0; failures = p.1.1.1.1.1 }) (λ _. refl)
+coded_kept_stored {D} d = code_by (D × (List Bool × (SealState × (ℕ × (ℕ × (ℕ × ℕ)))))) (coded× d (coded× (coded_list coded_bool) (coded× coded_state (coded× coded_ℕ (coded× coded_ℕ (coded× coded_ℕ coded_ℕ)))))) (λ s. (s.disk, (s.kept, (s.state, (s.reads, (s.shapes, (s.writes, s.failures))))))) (λ p. record { disk = p.0; kept = p.1.0; state = p.1.1.0; reads = p.1.1.1.0; shapes = p.1.1.1.1.0; writes = p.1.1.1.1.1.0; failures = p.1.1.1.1.1.1 }) (λ _. refl)
 
 -- whether page n was kept, or is past the old end
 abbrev pub is_open : List Bool → ℕ → Bool

@@ -81,6 +81,10 @@ pub record Does {D : Type 0} (g : Ghosts D) (step : Files → Files → Type 0) 
 abbrev pub Stays : {D : Type 0} → Ghosts D → D → D → Type 0
 Stays g old new = Does g Nothing old new
 
+-- a disk gives back what it took as it did before
+abbrev pub StaysSteady : {D : Type 0} → Ghosts D → D → D → Type 0
+StaysSteady g old new = g.steady new ≡ g.steady old
+
 -- the one fault is Failed, and it is counted
 pub record CountsFault {D A : Type 0} (g : Ghosts D) (old : D) (answer : Result A StoreFault) (new : D) : Type 0 where
   pub failures : g.failures new ≡ counted (g.failures old) (is_failed answer)

@@ -5,7 +5,7 @@ ghost use Rattle.rec_types.specs.Widths.{page_width};
 ghost use Rattle.page_store.specs.Blank.{blanks};
 ghost use Rattle.page_store.specs.Growth.{GrowsTo};
 ghost use Rattle.page_store.specs.StoreCalls.{LeavesStore, ChangesStore};
-ghost use Rattle.page_store.specs.StoreFaults.{is_failed};
+ghost use Rattle.page_store.specs.StoreFaults.{is_failed, AsksNoMemory};
 ghost use Rattle.page_store.specs.declared.step.Step.{Step};
 ghost use Rattle.page_journal.specs.Files.{Files, recovered};
 ghost use Rattle.page_journal.specs.Crash.{IsSettled, IsAtRest, StandsFor, IsEither};
@@ -28,8 +28,8 @@ pub(crate) const MOST_PAGES: u64 = 1_000_001;
 
 /// A store over a disk. It refuses to write over a page that wasn't kept aside, so that a crash at any moment leaves the
 /// file that there was when the disk was opened, whatever its callers do, until `finish` gives that up. Contracts see
-/// the disk, which pages were kept, and how many reads, changing calls and failures there were; a refused call is
-/// a failure.
+/// the disk, which pages were kept, and how many reads, calls of `shape`, changing calls and failures there were; a
+/// refused call is a failure.
 #[derive(Drop)]
 pub struct KeptStore<D: Disk + Drop> {
     disk: D,
@@ -37,6 +37,7 @@ pub struct KeptStore<D: Disk + Drop> {
     state: SealState,
     alloc: Global,
     reads: u64,
+    shapes: u64,
     writes: u64,
     failures: u64,
 }
@@ -54,6 +55,7 @@ impl<D: Disk + Drop> Model for KeptStore<D> {
       kept = s.kept.items;
       state = s.state;
       reads = s.reads;
+      shapes = s.shapes;
       writes = s.writes;
       failures = s.failures;
     } };
@@ -98,6 +100,7 @@ impl<D: Disk + Drop> KeptStore<D> {
           kept = [];
           state = SealState.Unsealed;
           reads = 0;
+          shapes = 0;
           writes = 0;
           failures = 0;
         } }
@@ -108,6 +111,7 @@ impl<D: Disk + Drop> KeptStore<D> {
             state: SealState::Unsealed,
             alloc,
             reads: 0,
+            shapes: 0,
             writes: 0,
             failures: 0,
         }
@@ -125,6 +129,7 @@ impl<D: Disk + Drop> KeptStore<D> {
           kept = [];
           state = SealState.Unsealed;
           reads = 0;
+          shapes = 0;
           writes = 0;
           failures = 0;
         }) }
@@ -256,6 +261,8 @@ impl<D: Disk + Drop> StoreState for KeptStore<D> {
 
     ghost reads = { λ s. s.reads };
 
+    ghost shapes = { λ s. s.shapes };
+
     ghost writes = { λ s. s.writes };
 
     ghost failures = { λ s. s.failures };
@@ -267,6 +274,7 @@ impl<D: Disk + Drop> StoreState for KeptStore<D> {
 // of the calls that are refused.
 impl<D: Disk + Drop> Store for KeptStore<D> {
     fn shape(&mut self) -> Result<Shape, StoreFault> {
+        self.shapes = self.shapes.saturating_add(1);
         let answer = self.disk.shape();
         noted(&mut self.failures, answer)
     }
@@ -286,7 +294,7 @@ impl<D: Disk + Drop> Store for KeptStore<D> {
             ≡ slice_set (D.seen self.old.disk).main.pages n from.now) }
         ensures other_pages { (page : List ℕ) × ((D.seen self.new.disk).main.pages
             ≡ slice_set (D.seen self.old.disk).main.pages n page) }
-        ensures no_memory { result ≢ Err StoreFault.Memory }
+        ensures no_memory { AsksNoMemory result }
         ensures same_tail { (D.seen self.new.disk).main.tail ≡ (D.seen self.old.disk).main.tail }
         ensures changes { ChangesStore ⟦<KeptStore<D> as StoreState>⟧ (Step.Write n from.now)
             self.old result self.new }

@@ -1,6 +1,6 @@
-ghost use Rattle.std.specs.Prelude.{◌≡◌, ◌↔◌, IsOk, IfErr, true};
+ghost use Rattle.std.specs.Prelude.{◌≡◌, ◌↔◌, IsOk, true};
 ghost use Rattle.rec_types.specs.Table.{counted};
-ghost use Rattle.page_store.specs.StoreFaults.{is_failed};
+ghost use Rattle.page_store.specs.StoreFaults.{is_failed, OnlyFails};
 
 use page_store::StoreFault;
 use std::io;
@@ -25,7 +25,7 @@ pub(crate) fn noted_call<T: Drop>(
     answer: io::Result<T>,
 ) -> Result<T, StoreFault>
     ensures failures { failures.new ≡ counted failures.old (is_failed result) }
-    ensures fault { IfErr result (λ fault. fault ≡ StoreFault.Failed) }
+    ensures fault { OnlyFails result }
 {
     noted(failures, answer.map_err(StoreFault::from))
 }

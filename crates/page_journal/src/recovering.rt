@@ -1,7 +1,7 @@
 ghost use Rattle.std.specs.Prelude.{◌≡◌, ◌<◌, ◌≤◌, ℕ, List, Some, Err, length, IsErr, IsTrue, OnOk, slice_set};
 ghost use Rattle.rec_types.specs.Table.{counted};
 ghost use Rattle.page_journal.specs.Files.{Kept, recovered, restored};
-ghost use Rattle.page_journal.specs.Steps.{CountsFault, TornAt, side_shape};
+ghost use Rattle.page_journal.specs.Steps.{CountsFault, TornAt, side_shape, StaysSteady};
 ghost use Rattle.page_journal.specs.Crash.{LeavesOnly, IsSettled, IsSealed, IsAtRest, StandsFor, IsEither, MayWrite, PutsBack};
 ghost use Rattle.page_journal.specs.Recovery.{is_device, IsTooShort};
 
@@ -20,7 +20,7 @@ pub(crate) fn overwrite<D: Disk>(
     page: &[u8; PAGE_WIDTH],
 ) -> Result<(), StoreFault>
     requires { n < length (D.seen disk.old).main.pages }
-    ensures steady { D.steady disk.new ≡ D.steady disk.old }
+    ensures steady { StaysSteady D.DiskState disk.old disk.new }
     ensures page { IsTrue (D.steady disk.old) → OnOk result ((D.seen disk.new).main.pages
         ≡ slice_set (D.seen disk.old).main.pages n page.now) }
     ensures torn { TornAt n (D.seen disk.old) (D.seen disk.new) }
@@ -36,7 +36,7 @@ pub(crate) fn overwrite<D: Disk>(
 /// crash leaves the new file. Until then it leaves the old one. Fault: Failed; no page has changed then, and the
 /// side file may be there or not.
 pub fn commit<D: Disk>(disk: &mut D) -> Result<(), StoreFault>
-    ensures steady { D.steady disk.new ≡ D.steady disk.old }
+    ensures steady { StaysSteady D.DiskState disk.old disk.new }
     ensures same { (D.seen disk.new).main ≡ (D.seen disk.old).main }
     ensures committed { (kept : Kept) (base : List (List ℕ))
         → IsSealed D.DiskState kept base disk.old
@@ -55,7 +55,7 @@ pub fn commit<D: Disk>(disk: &mut D) -> Result<(), StoreFault>
 // Puts the old pages of the side file back, of which there are so many. The file has as many pages as it had then.
 fn put_pages<D: Disk>(disk: &mut D, long: u32, count: u32) -> Result<(), StoreFault>
     requires long { long ≡ length (D.seen disk.old).main.pages }
-    ensures steady { D.steady disk.new ≡ D.steady disk.old }
+    ensures steady { StaysSteady D.DiskState disk.old disk.new }
     ensures tail { (D.seen disk.new).main.tail ≡ (D.seen disk.old).main.tail }
     ensures put { IsTrue (D.steady disk.old) → (kept : Kept) (base : List (List ℕ))
         → kept.long ≡ long → length kept.pages ≡ count → IsSealed D.DiskState kept base disk.old
@@ -76,7 +76,7 @@ fn put_pages<D: Disk>(disk: &mut D, long: u32, count: u32) -> Result<(), StoreFa
 // was.
 fn put_back<D: Disk>(disk: &mut D, side: SideShape) -> Result<(), StoreFault>
     requires long { side.long ≤ length (D.seen disk.old).main.pages }
-    ensures steady { D.steady disk.new ≡ D.steady disk.old }
+    ensures steady { StaysSteady D.DiskState disk.old disk.new }
     ensures restored { IsTrue (D.steady disk.old) → (kept : Kept) (base : List (List ℕ))
         → side_shape (Some kept) ≡ Some side → IsSealed D.DiskState kept base disk.old
         → OnOk result (IsSettled D.DiskState (restored kept base) disk.new) }
@@ -99,7 +99,7 @@ fn put_back<D: Disk>(disk: &mut D, side: SideShape) -> Result<(), StoreFault>
 /// over a file whose old pages are kept aside. Faults: Device, where a call of the disk failed; BadJournal, where the
 /// file has fewer pages than the side file says that it had, which no closing leaves: nothing has changed then.
 pub fn recover<D: Disk>(disk: &mut D) -> Result<(), RecoveryFault>
-    ensures steady { D.steady disk.new ≡ D.steady disk.old }
+    ensures steady { StaysSteady D.DiskState disk.old disk.new }
     ensures recovered { IsTrue (D.steady disk.old) → IsAtRest D.DiskState disk.old → OnOk result
         (IsSettled D.DiskState (recovered (D.seen disk.old)) disk.new) }
     ensures any_moment { IsTrue (D.steady disk.old) → IsAtRest D.DiskState disk.old

@@ -1,7 +1,7 @@
 ghost use Rattle.std.specs.Prelude.{◌≡◌, ◌≤◌, ℕ, List, [], Some, length, All, IsTrue, OnOk, slice_get};
 ghost use Rattle.page_store.specs.FreeNumbers.{greatest_page_count};
 ghost use Rattle.page_journal.specs.Files.{Kept, restored};
-ghost use Rattle.page_journal.specs.Steps.{CountsFault, nothing_kept};
+ghost use Rattle.page_journal.specs.Steps.{CountsFault, nothing_kept, StaysSteady};
 ghost use Rattle.page_journal.specs.Crash.{LeavesOnly, IsSettled, IsSealed, StandsFor, Gathered, AreKept};
 
 use crate::blank::blank_page;
@@ -14,7 +14,7 @@ fn gather<D: Disk>(disk: &mut D, long: u32, numbers: &[u32]) -> Result<(), Store
     requires settled { IsTrue (D.steady disk.old)
         → IsSettled D.DiskState (D.seen disk.old).main disk.old }
     requires fresh { IsTrue (D.steady disk.old) → (D.seen disk.old).fresh ≡ nothing_kept long }
-    ensures steady { D.steady disk.new ≡ D.steady disk.old }
+    ensures steady { StaysSteady D.DiskState disk.old disk.new }
     ensures same { (D.seen disk.new).main ≡ (D.seen disk.old).main }
     ensures settled { IsTrue (D.steady disk.old)
         → IsSettled D.DiskState (D.seen disk.old).main disk.new }
@@ -47,7 +47,7 @@ pub fn seal<D: Disk>(disk: &mut D, numbers: &[u32]) -> Result<(), StoreFault>
     requires no_tail { (D.seen disk.old).main.tail ≡ 0 }
     requires settled { IsTrue (D.steady disk.old)
         → IsSettled D.DiskState (D.seen disk.old).main disk.old }
-    ensures steady { D.steady disk.new ≡ D.steady disk.old }
+    ensures steady { StaysSteady D.DiskState disk.old disk.new }
     ensures same { (D.seen disk.new).main ≡ (D.seen disk.old).main }
     ensures sealed { IsTrue (D.steady disk.old) → OnOk result ((kept : Kept)
         × IsSealed D.DiskState kept (D.seen disk.old).main.pages disk.new

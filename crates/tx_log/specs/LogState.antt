@@ -1,5 +1,5 @@
 -- What a log of transactions stands for.
-use Rattle.std.specs.Prelude.{ℕ, ◌+◌, ◌<◌, ◌≤◌, Bool, true, if◌then◌else◌, List, [], ◌∷◌, ◌++◌, length, take, reverse, Option, Some, None, option_map, refl, IsTrue}
+use Rattle.std.specs.Prelude.{◌≡◌, ℕ, ◌+◌, ◌<◌, ◌≤◌, Bool, true, if◌then◌else◌, List, [], ◌∷◌, ◌++◌, length, take, reverse, Option, Some, None, option_map, refl, IsTrue}
 use Rattle.std.specs.Coded.{Coded, code_by, coded×, coded_ℕ, coded_bool, coded_list, coded_option}
 use Rattle.std.specs.FinMap as maps
 use Rattle.rec_types.specs.LimitBounds.{Bounds, coded_bounds}
@@ -64,6 +64,10 @@ phase_of tx = rollback_phase tx.rollback
 
 abbrev pub phase_in : LogState → ℕ → Option Phase
 phase_in s t = option_map phase_of (tx_in s t)
+
+-- a transaction that is open and isn't rolling back
+abbrev pub IsActive : LogState → ℕ → Type 0
+IsActive s t = phase_in s t ≡ Some Active
 
 abbrev pub step_of : List ℕ → Option (Option (List ℕ)) → UndoStep
 step_of key None = Unclaim key

@@ -1,7 +1,7 @@
 -- What is kept beside each record of a log. Both lists stand newest first.
-use Rattle.std.specs.Prelude.{◌≡◌, ℕ, List, [], ◌∷◌}
+use Rattle.std.specs.Prelude.{◌≡◌, ℕ, ◌≤◌, List, [], ◌∷◌, length, reverse}
 use Rattle.tx_log.specs.Walks.{absent_at}
-use Rattle.tx_log.specs.Log.{lsn_of, key_of, leads_to, led, is_change, chain}
+use Rattle.tx_log.specs.Log.{lsn_of, key_of, leads_to, led, is_change, chain, IsNumbered}
 use Rattle.tx_log.specs.declared.log_record.LogRecord.{LogRecord}
 use Rattle.tx_log.specs.declared.mark.Mark.{Mark}
 
@@ -21,3 +21,9 @@ AreMarked [] [] = Unit {0}
 AreMarked [] (m ∷ ms) = ⊥
 AreMarked (r ∷ rs) [] = ⊥
 AreMarked (r ∷ rs) (m ∷ ms) = IsMarked r rs m × AreMarked rs ms
+
+-- a way down may begin at record «from» of a log: its records are numbered, and each has its mark
+pub record CanWalk (log : List LogRecord) (marks : List Mark) (from : ℕ) : Type 0 where
+  pub numbered : IsNumbered (reverse log)
+  pub marked : AreMarked (reverse log) (reverse marks)
+  pub within : from ≤ length log

@@ -1,9 +1,9 @@
-ghost use Rattle.std.specs.Prelude.{◌≡◌, ℕ, ◌+◌, ◌^◌, ◌-◌, ◌<◌, ◌≤◌, Bool, ◌||◌, ◌==◌, List, IsSome, IsTrue, None, Some, false, length, reverse, OnOk, OnErr, if◌then◌else◌};
+ghost use Rattle.std.specs.Prelude.{◌≡◌, ℕ, ◌+◌, ◌^◌, ◌-◌, ◌<◌, Bool, ◌||◌, ◌==◌, List, IsSome, IsTrue, None, Some, false, length, reverse, OnOk, OnErr, if◌then◌else◌};
 ghost use Rattle.std.specs.List.{list_any};
 ghost use Rattle.indexmap.specs.IndexMap.{index_map_len};
-ghost use Rattle.tx_log.specs.Log.{chain, IsNumbered};
+ghost use Rattle.tx_log.specs.Log.{chain};
 ghost use Rattle.tx_log.specs.Walks.{is_at};
-ghost use Rattle.tx_log.specs.Marks.{AreMarked};
+ghost use Rattle.tx_log.specs.Marks.{CanWalk};
 ghost use Rattle.tx_log.specs.Holdings.{held, Places, HeldAt, holder, lowered, busy, or_idle, idle, IsHeld, AllBusy};
 ghost use Rattle.tx_log.specs.declared.holding.Holding.{Holding};
 ghost use Rattle.tx_log.specs.declared.log_record.LogRecord.{LogRecord};
@@ -146,9 +146,7 @@ pub fn lower(holdings: &mut Holdings, key: &Key, absent: bool) -> bool
 
 /// Forgets the keys of the changes that aren't taken back, on the way down from the record with the number `from`.
 pub fn free_keys(holdings: &mut Holdings, log: &Records, marks: &[Mark], from: u32)
-    requires numbered { IsNumbered (reverse log.now.items) }
-    requires marked { AreMarked (reverse log.now.items) (reverse marks.now) }
-    requires within { from ≤ length log.now.items }
+    requires { CanWalk log.now.items marks.now from }
     ensures { (q : List ℕ) → held holdings.new q
         ≡ (if list_any (is_at q) (chain (reverse log.now.items) from) then None
         else held holdings.old q) }
@@ -163,9 +161,7 @@ pub fn free_keys(holdings: &mut Holdings, log: &Records, marks: &[Mark], from: u
 /// Forgets the keys of a transaction that ends: all keys where it is the last that is open, and else those of its
 /// changes that aren't taken back, on the way down from the record with the number `from`.
 pub fn free_held(holdings: &mut Holdings, log: &Records, marks: &[Mark], from: u32, is_last: bool)
-    requires numbered { IsNumbered (reverse log.now.items) }
-    requires marked { AreMarked (reverse log.now.items) (reverse marks.now) }
-    requires within { from ≤ length log.now.items }
+    requires { CanWalk log.now.items marks.now from }
     ensures last { IsTrue is_last → (q : List ℕ) → held holdings.new q ≡ None }
     ensures others { is_last ≡ false → (q : List ℕ) → held holdings.new q
         ≡ (if list_any (is_at q) (chain (reverse log.now.items) from) then None

@@ -5,7 +5,7 @@ ghost use Rattle.tx_log.specs.Log.{record_at};
 ghost use Rattle.tx_log.specs.LogLaws.{IsChained};
 ghost use Rattle.tx_log.specs.Transactions.{depth_of, live_in, left_in, fresh, most_savepoints};
 ghost use Rattle.tx_log.specs.Owners.{owner_of, holder_of, keys_owned, absent};
-ghost use Rattle.tx_log.specs.LogState.{new_log, history_in, open_in, tx_in, use_in, phase_in, undo_in, undo_step, places_in, active_with, rolling_to, finished, with_txs, with_update, with_compensation, IsRolling, IsLog};
+ghost use Rattle.tx_log.specs.LogState.{new_log, history_in, open_in, tx_in, use_in, phase_in, undo_in, undo_step, places_in, active_with, rolling_to, finished, with_txs, with_update, with_compensation, IsRolling, IsLog, IsActive};
 
 use crate::holding::{Holdings, find_holder, free_held, lower, make_room, raise};
 use crate::mark::{Mark, is_absent_below, newest_number};
@@ -260,7 +260,7 @@ impl TxLog {
         before: Option<Record>,
         after: Option<Record>,
     ) -> u32
-        requires active { phase_in self.old tx.0 ≡ Some Phase.Active }
+        requires active { IsActive self.old tx.0 }
         requires free { holder_of (open_in self.old) (history_in self.old) tx.0 key ≡ None }
         requires fits { use_in self.old + 2 ≤ self.old.limits.log_records }
         requires room { self.old.room ≡ Some key }
@@ -273,7 +273,7 @@ impl TxLog {
     /// Adds a claim of an active transaction, live, and answers its LSN; `seen` is what stands at the key. It takes no
     /// memory.
     pub fn accept_claim(&mut self, tx: TxId, key: Key, seen: Option<Record>) -> u32
-        requires active { phase_in self.old tx.0 ≡ Some Phase.Active }
+        requires active { IsActive self.old tx.0 }
         requires free { holder_of (open_in self.old) (history_in self.old) tx.0 key ≡ None }
         requires fits { use_in self.old + 2 ≤ self.old.limits.log_records }
         requires room { self.old.room ≡ Some key }
@@ -291,7 +291,7 @@ impl TxLog {
         before: Option<Record>,
         after: Option<Option<Record>>,
     ) -> u32
-        requires active { phase_in self.old tx.0 ≡ Some Phase.Active }
+        requires active { IsActive self.old tx.0 }
         requires free { holder_of (open_in self.old) (history_in self.old) tx.0 key ≡ None }
         requires fits { use_in self.old + 2 ≤ self.old.limits.log_records }
         requires room { self.old.room ≡ Some key }
@@ -322,7 +322,7 @@ impl TxLog {
 
     /// Starts a rollback to savepoint n, or to the beginning for 0, and drops the savepoints above it.
     pub fn start_rollback(&mut self, tx: TxId, n: u32, ends: bool)
-        requires active { phase_in self.old tx.0 ≡ Some Phase.Active }
+        requires active { IsActive self.old tx.0 }
         requires within { n ≤ depth_of (tx_in self.old tx.0) }
         requires whole { IsTrue ends → n ≡ 0 }
         ensures after { self.new ≡ with_txs self.old
@@ -391,7 +391,7 @@ impl TxLog {
 
     /// Sets a savepoint, and answers its number.
     pub fn savepoint(&mut self, tx: TxId) -> u32
-        requires active { phase_in self.old tx.0 ≡ Some Phase.Active }
+        requires active { IsActive self.old tx.0 }
         requires room { depth_of (tx_in self.old tx.0) < most_savepoints }
         ensures number { result ≡ depth_of (tx_in self.old tx.0) + 1 }
         ensures after { self.new ≡ with_txs self.old (maps.insert self.old.txs tx.0
@@ -408,7 +408,7 @@ impl TxLog {
 
     /// Drops savepoint n and those above it.
     pub fn release(&mut self, tx: TxId, n: u32)
-        requires active { phase_in self.old tx.0 ≡ Some Phase.Active }
+        requires active { IsActive self.old tx.0 }
         requires some { 0 < n }
         requires within { n ≤ depth_of (tx_in self.old tx.0) }
         ensures after { self.new ≡ with_txs self.old
@@ -423,7 +423,7 @@ impl TxLog {
 
     /// Ends an active transaction. Its live changes stay.
     pub fn end(&mut self, tx: TxId)
-        requires { phase_in self.old tx.0 ≡ Some Phase.Active }
+        requires { IsActive self.old tx.0 }
         ensures after { self.new ≡ with_txs self.old (maps.remove self.old.txs tx.0) }
         ensures kept { IsLog self.old }
     {

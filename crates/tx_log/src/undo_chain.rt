@@ -1,7 +1,7 @@
-ghost use Rattle.std.specs.Prelude.{◌≡◌, ℕ, ◌+◌, ◌<◌, ◌≤◌, length, reverse, map, option_map, cond, IfOk};
+ghost use Rattle.std.specs.Prelude.{◌≡◌, ℕ, ◌+◌, ◌<◌, length, reverse, map, option_map, cond, IfOk};
 ghost use Rattle.std.specs.List.{filter};
-ghost use Rattle.tx_log.specs.Log.{chain, key_of, IsNumbered};
-ghost use Rattle.tx_log.specs.Marks.{AreMarked};
+ghost use Rattle.tx_log.specs.Log.{chain, key_of};
+ghost use Rattle.tx_log.specs.Marks.{CanWalk};
 ghost use Rattle.tx_log.specs.Walks.{link_of, newest_in, is_after};
 
 use crate::mark::{Mark, newest_number};
@@ -31,9 +31,7 @@ pub struct Link {
 /// The newest change that isn't taken back, on the way down from the record with the number `from`.
 #[inline(always)]
 pub fn newest_change(log: &Records, marks: &[Mark], from: u32) -> Option<LiveChange>
-    requires numbered { IsNumbered (reverse log.now.items) }
-    requires marked { AreMarked (reverse log.now.items) (reverse marks.now) }
-    requires within { from ≤ length log.now.items }
+    requires { CanWalk log.now.items marks.now from }
     ensures { result ≡ newest_in (chain (reverse log.now.items) from) }
 {
     let at = newest_number(marks, from);
@@ -45,9 +43,7 @@ pub fn newest_change(log: &Records, marks: &[Mark], from: u32) -> Option<LiveCha
 
 /// The same change, without its records.
 pub fn newest_link(log: &Records, marks: &[Mark], from: u32) -> Option<Link>
-    requires numbered { IsNumbered (reverse log.now.items) }
-    requires marked { AreMarked (reverse log.now.items) (reverse marks.now) }
-    requires within { from ≤ length log.now.items }
+    requires { CanWalk log.now.items marks.now from }
     ensures { result ≡ option_map link_of (newest_in (chain (reverse log.now.items) from)) }
 {
     let at = newest_number(marks, from);
@@ -60,9 +56,7 @@ pub fn newest_link(log: &Records, marks: &[Mark], from: u32) -> Option<Link>
 /// The newest change that isn't taken back, on the way down from the record with the number `from`, if its own number
 /// is above `to`.
 pub fn newest_above(log: &Records, marks: &[Mark], from: u32, to: u32) -> Option<LiveChange>
-    requires numbered { IsNumbered (reverse log.now.items) }
-    requires marked { AreMarked (reverse log.now.items) (reverse marks.now) }
-    requires within { from ≤ length log.now.items }
+    requires { CanWalk log.now.items marks.now from }
     ensures { result ≡ newest_in (filter (is_after to) (chain (reverse log.now.items) from)) }
 {
     match newest_change(log, marks, from) {
@@ -74,9 +68,7 @@ pub fn newest_above(log: &Records, marks: &[Mark], from: u32, to: u32) -> Option
 /// How many changes with numbers above `to` aren't taken back, on the way down from the record with the number
 /// `from`. `live` is how many there are with any number.
 pub fn count_changes(log: &Records, marks: &[Mark], from: u32, live: u32, to: u32) -> u32
-    requires numbered { IsNumbered (reverse log.now.items) }
-    requires marked { AreMarked (reverse log.now.items) (reverse marks.now) }
-    requires within { from ≤ length log.now.items }
+    requires walk { CanWalk log.now.items marks.now from }
     requires live { live ≡ length (chain (reverse log.now.items) from) }
     ensures { result ≡ length (filter (is_after to) (chain (reverse log.now.items) from)) }
 {
@@ -109,9 +101,7 @@ pub fn changed_keys(
     from: u32,
     count: u32,
 ) -> Result<Vec<Key>, Memory>
-    requires numbered { IsNumbered (reverse log.now.items) }
-    requires marked { AreMarked (reverse log.now.items) (reverse marks.now) }
-    requires within { from ≤ length log.now.items }
+    requires { CanWalk log.now.items marks.now from }
     ensures { IfOk result (λ keys. keys.items ≡ map key_of (chain (reverse log.now.items) from)) }
 {
     let mut keys = Vec::with_capacity(alloc, count as usize)?;

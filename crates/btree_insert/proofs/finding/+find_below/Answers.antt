@@ -17,19 +17,19 @@ pub returns-in_err-value-clause-found : goal.returns-in_err-value-clause-found
 returns-in_err-value-clause-found g t c = λ steady least es us tree between.
     let spot = c.args.spot.now in
     let p = err_from_is_err_and c.from_residual.result c.from_residual.ensures.1 in
-    let head = top c.args.order (at c.args.pages.now.pages) least spot.level (spot.level - 1) spot.page es us spot.bounds (omega (arith, c.requires.level)) tree between in
+    let head = top c.args.order (at c.args.pages.now.pages) least spot.level (spot.level - 1) spot.page es us spot.bounds (omega (arith, c.requires.search.level)) tree between in
     rw (p.1, p.2) (c.in_err-value.ensures.exact steady head.0 head.1.spells (record { kind = head.1.kind; within = head.1.within }))
 
 pub returns-in-Found-clause-found : goal.returns-in-Found-clause-found
 returns-in-Found-clause-found g t c = λ steady least es us tree between.
     let spot = c.args.spot.now in
-    found_tells c.args.order (at c.args.pages.now.pages) least spot es us c.args.key.now c.in-Found.value c.in-Found.field-0 c.requires.level tree between
+    found_tells c.args.order (at c.args.pages.now.pages) least spot es us c.args.key.now c.in-Found.value c.in-Found.field-0 c.requires.search.level tree between
     (λ m spells belongs. subst (Steps spot.level m spot.bounds c.args.key.now) c.in-Found.is (c.in_ok-value.ensures.exact steady m spells belongs))
 
 pub returns-in-Ends-clause-found : goal.returns-in-Ends-clause-found
 returns-in-Ends-clause-found g t c = λ steady least es us tree between.
     let spot = c.args.spot.now in
-    ends_tells c.args.order (at c.args.pages.now.pages) least spot es us c.args.key.now c.in-Ends.field-0 c.requires.level tree between
+    ends_tells c.args.order (at c.args.pages.now.pages) least spot es us c.args.key.now c.in-Ends.field-0 c.requires.search.level tree between
     (λ m spells belongs. subst (Steps spot.level m spot.bounds c.args.key.now) c.in-Ends.is (c.in_ok-value.ensures.exact steady m spells belongs))
 
 pub find_below-requires : goal.find_below-requires
@@ -37,16 +37,16 @@ find_below-requires g t c = λ κs sub.
     let spot = c.args.spot.now in
     let stepped = c.in_ok-value.ensures.stepped in
     let goes = subst (Steps spot.level stepped.node spot.bounds c.args.key.now) c.in-Goes.is stepped.steps in (
-      omega (arith, c.decreases, c.requires.level),
-      (sub, (c.requires.order, (omega (arith, goes.0), λ in_place. subst (AreSpeltIn c.args.order) (sym c.take_step.ensures.unchanged) (c.requires.spelt in_place)))),
+      omega (arith, c.decreases, c.requires.search.level),
+      (sub, record { order = c.requires.search.order; level = omega (arith, goes.0); spelt = λ in_place. subst (AreSpeltIn c.args.order) (sym c.take_step.ensures.reading.unchanged) (c.requires.search.spelt in_place) }),
     )
 
 pub returns-in-Goes-clause-found : goal.returns-in-Goes-clause-found
 returns-in-Goes-clause-found g t c = λ steady least es us tree between.
     let spot = c.args.spot.now in
-    let son = goes_tells c.args.order (at c.args.pages.now.pages) least spot es us c.args.key.now c.in-Goes.field-0 c.in-Goes.page c.in-Goes.bounds c.requires.level tree between
+    let son = goes_tells c.args.order (at c.args.pages.now.pages) least spot es us c.args.key.now c.in-Goes.field-0 c.in-Goes.page c.in-Goes.bounds c.requires.search.level tree between
     (λ m spells belongs. subst (Steps spot.level m spot.bounds c.args.key.now) c.in-Goes.is (c.in_ok-value.ensures.exact steady m spells belongs)) in
-    let unchanged = c.take_step.ensures.unchanged in
+    let unchanged = c.take_step.ensures.reading.unchanged in
     let tree2 = subst (λ (v : PagesView). TreeAt c.args.order (at v.pages) c.args.order (spot.level - 1) c.in-Goes.page son.xs son.mine) (sym unchanged) son.tree in
     let call = c.find_below.ensures.found (ap (λ (v : PagesView). v.steady) unchanged ∙ steady) c.args.order son.xs son.mine tree2 son.between in
     subst (λ o. MatchResult c.find_below.result (λ found. found ≡ o) (λ fault. fault ≡ Device)) son.same call
@@ -54,7 +54,7 @@ returns-in-Goes-clause-found g t c = λ steady least es us tree between.
 pub returns-in-Goes-clause-led : goal.returns-in-Goes-clause-led
 returns-in-Goes-clause-led g t c = λ steady.
     let spot = c.args.spot.now in
-    let unchanged = c.take_step.ensures.unchanged in
+    let unchanged = c.take_step.ensures.reading.unchanged in
     let stepped = c.in_ok-value.ensures.stepped in
     if_ok c.find_below.result (Leads (Spells c.args.order (at c.take_step.new.pages.pages)) c.args.key.now (spot.level - 1) c.in-Goes.page c.in-Goes.bounds) (Leads (Spells c.args.order (at c.args.pages.now.pages)) c.args.key.now spot.level spot.page spot.bounds)
     (λ found leads. goes_leads c.args.order (at c.args.pages.now.pages) (at c.take_step.new.pages.pages) spot stepped.node c.args.key.now c.in-Goes.field-0 c.in-Goes.page c.in-Goes.bounds found (ap (λ (v : PagesView). at v.pages) unchanged) (stepped.spells steady) stepped.belongs
@@ -64,19 +64,19 @@ returns-in-Goes-clause-led g t c = λ steady.
 pub returns-in-Found-clause-leads : goal.returns-in-Found-clause-leads
 returns-in-Found-clause-leads g t c = λ steady led leads.
     let spot = c.args.spot.now in
-    found_is_led c.args.order (at c.args.pages.now.pages) spot c.args.key.now c.in-Found.value c.in-Found.field-0 led c.requires.level leads
+    found_is_led c.args.order (at c.args.pages.now.pages) spot c.args.key.now c.in-Found.value c.in-Found.field-0 led c.requires.search.level leads
     (λ m spells belongs. subst (Steps spot.level m spot.bounds c.args.key.now) c.in-Found.is (c.in_ok-value.ensures.exact steady m spells belongs))
 
 pub returns-in-Ends-clause-leads : goal.returns-in-Ends-clause-leads
 returns-in-Ends-clause-leads g t c = λ steady led leads.
     let spot = c.args.spot.now in
-    end_is_led c.args.order (at c.args.pages.now.pages) spot c.args.key.now c.in-Ends.field-0 led c.requires.level leads
+    end_is_led c.args.order (at c.args.pages.now.pages) spot c.args.key.now c.in-Ends.field-0 led c.requires.search.level leads
     (λ m spells belongs. subst (Steps spot.level m spot.bounds c.args.key.now) c.in-Ends.is (c.in_ok-value.ensures.exact steady m spells belongs))
 
 pub returns-in-Goes-clause-leads : goal.returns-in-Goes-clause-leads
 returns-in-Goes-clause-leads g t c = λ steady led leads.
     let spot = c.args.spot.now in
-    let unchanged = c.take_step.ensures.unchanged in
+    let unchanged = c.take_step.ensures.reading.unchanged in
     c.find_below.ensures.leads (ap (λ (v : PagesView). v.steady) unchanged ∙ steady) led
-    (son_is_led c.args.order (at c.args.pages.now.pages) (at c.take_step.new.pages.pages) spot c.args.key.now c.in-Goes.field-0 c.in-Goes.page c.in-Goes.bounds led (ap (λ (v : PagesView). at v.pages) unchanged) c.requires.level leads
+    (son_is_led c.args.order (at c.args.pages.now.pages) (at c.take_step.new.pages.pages) spot c.args.key.now c.in-Goes.field-0 c.in-Goes.page c.in-Goes.bounds led (ap (λ (v : PagesView). at v.pages) unchanged) c.requires.search.level leads
     (λ m spells belongs. subst (Steps spot.level m spot.bounds c.args.key.now) c.in-Goes.is (c.in_ok-value.ensures.exact steady m spells belongs)))

@@ -1,4 +1,4 @@
-use Rattle.std.proofs.Common.{◌≡◌, ◌+◌, ◌-◌, ℕ, suc, IsTrue, Option, Some, None, List, ◌∷◌, true, false, ◌==◌, length, get_or, set, ap, sym, ◌∙◌, subst, arith, rules}
+use Rattle.std.proofs.Common.{◌≡◌, ◌+◌, ◌-◌, ℕ, suc, IsTrue, Ok, Option, Some, None, List, ◌∷◌, true, false, ◌==◌, length, get_or, set, ap, sym, ◌∙◌, subst, arith, rules}
 use Rattle.std.specs.List.{insert}
 use Rattle.std.proofs.lemmas.Bool.{false≢true}
 use Rattle.std.proofs.lemmas.List.{length-set, get_or_default}
@@ -32,6 +32,7 @@ use Rattle.btree_insert.proofs.SettledTreeLemmas.{focus_of, grow_stays, grow_spl
 use Rattle.btree_insert.proofs.HeadNodeLemmas.{Top, kind_above, head_each, top}
 use Rattle.btree_insert.proofs.StepNodeLemmas.{still_known, taken_top}
 use Rattle.btree_insert.proofs.ReachLemmas.{leads_here}
+use Rattle.btree_insert.proofs.ReadingLemmas.{reads_then}
 use Rattle.btree_insert.proofs.SearchStepLemmas.{goes_leads}
 use Rattle.btree_insert.proofs.insert_below.+insert_below.Given as given
 use Rattle.btree_insert.proofs.insert_below.+insert_below.Goals as goal
@@ -49,7 +50,7 @@ module _ (g : given.Over) (t : ℕ) (c : In_ok-i g t) where
   head_of : (steady : IsTrue c.args.pages.now.steady) (least : ℕ) (es : List Element) (us : List ℕ) → TreeAt c.args.order (at c.args.pages.now.pages) least c.args.spot.now.level c.args.spot.now.page es us → Between c.args.spot.now.bounds es
       → Top c.args.order (at c.args.pages.now.pages) least c.args.spot.now.level (c.args.spot.now.level - 1) c.args.spot.now.page es us c.args.spot.now.bounds c.in_ok-i.ensures.stepped.node
   head_of steady least es us tree between =
-      taken_top c.args.order c.args.pages.now least c.args.spot.now es us c.args.element.0 c.args.in_place c.take_step.new.node c.in_ok-i.field-0 c.requires.order.1 c.requires.level steady c.in_ok-i.ensures.stepped tree between
+      taken_top c.args.order c.args.pages.now least c.args.spot.now es us c.args.element.0 c.args.in_place c.take_step.new.node c.in_ok-i.field-0 c.requires.can.order.1 c.requires.can.search.level steady c.in_ok-i.ensures.stepped tree between
 
 -- the node with another record in the place of the one at the key
 module _ (g : given.Over) (t : ℕ) (c : After-replace-old g t) where
@@ -60,7 +61,7 @@ module _ (g : given.Over) (t : ℕ) (c : After-replace-old g t) where
   found = (subst (Steps c.args.spot.now.level met c.args.spot.now.bounds c.args.element.0) c.in-Found.is c.in_ok-i.ensures.stepped.steps).0
 
   filled : c.fill_node.new.node ≡ met
-  filled = c.fill_node.ensures.known met (still_known c.args.order c.args.pages.now c.take_step.new.pages c.args.spot.now.page c.args.in_place c.take_step.new.node met c.take_step.ensures.unchanged c.in_ok-i.ensures.stepped.known)
+  filled = c.fill_node.ensures.known met (still_known c.args.order c.args.pages.now c.take_step.new.pages c.args.spot.now.page c.args.in_place c.take_step.new.node met c.take_step.ensures.reading.unchanged c.in_ok-i.ensures.stepped.known)
 
   replaced_kind : c.replace-old.new.node.kind ≡ met.kind
   replaced_kind = c.replace-old.ensures.kind ∙ ap (λ (n : Node). n.kind) filled
@@ -72,7 +73,7 @@ module _ (g : given.Over) (t : ℕ) (c : After-replace-old g t) where
   replaced_sons = ap (λ s. s.items) c.replace-old.ensures.sons ∙ ap (λ (n : Node). n.sons.items) filled
 
   replaced_stands : CanStand c.replace-old.new.node c.args.order
-  replaced_stands = set_stands c.args.order met c.replace-old.new.node c.in-Found.i c.args.element c.in_ok-i.ensures.stepped.known.stands found c.requires.element replaced_kind replaced_elements replaced_sons
+  replaced_stands = set_stands c.args.order met c.replace-old.new.node c.in-Found.i c.args.element c.in_ok-i.ensures.stepped.known.stands found c.requires.can.fits replaced_kind replaced_elements replaced_sons
 
 -- the son that the descent goes to
 module _ (g : given.Over) (t : ℕ) (c : In-Goes g t) where
@@ -95,7 +96,7 @@ module _ (g : given.Over) (t : ℕ) (c : In-Goes g t) where
       let spot = c.args.spot.now in
       let around = us_is ∙ ap (λ vs. spot.page ∷ vs) son.us_is in
       record {
-        tree = subst (λ (v : PagesView). TreeAt k (at v.pages) k (spot.level - 1) c.in-Goes.page son.xs son.mine) (sym c.take_step.ensures.unchanged)
+        tree = subst (λ (v : PagesView). TreeAt k (at v.pages) k (spot.level - 1) c.in-Goes.page son.xs son.mine) (sym c.take_step.ensures.reading.unchanged)
             (subst (λ q. TreeAt k (at c.args.pages.now.pages) k (spot.level - 1) q son.xs son.mine) (sym way_down.2) son.here);
         between = subst (λ b. Between b son.xs) (sym way_down.3) son.between;
         apart = apart_below spot.page us son.upre son.mine son.upost around apart;
@@ -110,14 +111,14 @@ module _ (g : given.Over) (t : ℕ) (c : In_ok-done-in-Goes g t) where
       let k = c.args.order in
       let level = c.args.spot.now.level - 1 in
       subst (λ q. Grew (tree_below k k level q) (edited c.args.pages.now.pages c.args.edit.now.taken c.insert_below.new.edit) xs mine c.args.element.0 c.args.element.1 c.in_ok-done-in-Goes.done) son_is
-      (subst (λ (v : PagesView). Grew (tree_below k k level c.in-Goes.page) (edited v.pages c.args.edit.now.taken c.insert_below.new.edit) xs mine c.args.element.0 c.args.element.1 c.in_ok-done-in-Goes.done) c.take_step.ensures.unchanged grew)
+      (subst (λ (v : PagesView). Grew (tree_below k k level c.in-Goes.page) (edited v.pages c.args.edit.now.taken c.insert_below.new.edit) xs mine c.args.element.0 c.args.element.1 c.in_ok-done-in-Goes.done) c.take_step.ensures.reading.unchanged grew)
 
   -- the pages from this one down to the key
   led_below : IsTrue c.args.pages.now.steady → Steps c.args.spot.now.level c.in_ok-i.ensures.stepped.node c.args.spot.now.bounds c.args.element.0 (Goes c.in-Goes.i c.in-Goes.page c.in-Goes.bounds)
       → Leads (Spells c.args.order (at c.args.pages.now.pages)) c.args.element.0 c.args.spot.now.level c.args.spot.now.page c.args.spot.now.bounds (replaced c.in_ok-done-in-Goes.done)
   led_below steady steps =
       let s = c.in_ok-i.ensures.stepped in
-      let unchanged = c.take_step.ensures.unchanged in
+      let unchanged = c.take_step.ensures.reading.unchanged in
       goes_leads c.args.order (at c.args.pages.now.pages) (at c.take_step.new.pages.pages) c.args.spot.now s.node c.args.element.0 c.in-Goes.i c.in-Goes.page c.in-Goes.bounds (replaced c.in_ok-done-in-Goes.done) (ap (λ (v : PagesView). at v.pages) unchanged)
       (s.spells steady) s.belongs steps (c.in_ok-done-in-Goes.ensures.led (ap (λ (v : PagesView). v.steady) unchanged ∙ steady))
 
@@ -132,7 +133,7 @@ pub returns-in_err-i-clause-grew : goal.returns-in_err-i-clause-grew
 returns-in_err-i-clause-grew g t c = λ steady none least es us tree between apart unvisited.
     let spot = c.args.spot.now in
     let p = err_from_is_err_and c.from_residual.result c.from_residual.ensures.1 in
-    let head = top c.args.order (at c.args.pages.now.pages) least spot.level (spot.level - 1) spot.page es us spot.bounds (omega (arith, c.requires.level)) tree between in
+    let head = top c.args.order (at c.args.pages.now.pages) least spot.level (spot.level - 1) spot.page es us spot.bounds (omega (arith, c.requires.can.search.level)) tree between in
     rw (p.1, p.2) (subst IsOutside (sym (c.in_err-i.ensures.exact steady head.0 head.1.spells (record { kind = head.1.kind; within = head.1.within }))) tt)
 
 pub write_node-requires-clause-stands : goal.write_node-requires-clause-stands
@@ -147,7 +148,7 @@ module _ (g : given.Over) (t : ℕ) (c : After-insert g t) where
   ends_here = subst (Steps c.args.spot.now.level leaf_met c.args.spot.now.bounds c.args.element.0) c.in-Ends.is c.in_ok-i.ensures.stepped.steps
 
   leaf_filled : c.fill_node-in-Ends.new.node ≡ leaf_met
-  leaf_filled = c.fill_node-in-Ends.ensures.known leaf_met (still_known c.args.order c.args.pages.now c.take_step.new.pages c.args.spot.now.page c.args.in_place c.take_step.new.node leaf_met c.take_step.ensures.unchanged c.in_ok-i.ensures.stepped.known)
+  leaf_filled = c.fill_node-in-Ends.ensures.known leaf_met (still_known c.args.order c.args.pages.now c.take_step.new.pages c.args.spot.now.page c.args.in_place c.take_step.new.node leaf_met c.take_step.ensures.reading.unchanged c.in_ok-i.ensures.stepped.known)
 
   abbrev longer_leaf : Node
   longer_leaf = record { kind = c.fill_node-in-Ends.new.node.kind; elements = c.insert.new.self; sons = c.fill_node-in-Ends.new.node.sons }
@@ -161,7 +162,7 @@ module _ (g : given.Over) (t : ℕ) (c : After-insert g t) where
   leaf_overfull : MayBeOverfull c.args.order longer_leaf
   leaf_overfull =
       let met = c.in_ok-i.ensures.stepped in
-      leaf_may_be_overfull c.args.order leaf_met longer_leaf c.in-Ends.i c.args.element met.known.stands (met.belongs.kind ∙ ap kind_of_level ends_here.0) ends_here.1 c.requires.element leaf_kind leaf_elements (ap (λ (n : Node). n.sons.items) leaf_filled)
+      leaf_may_be_overfull c.args.order leaf_met longer_leaf c.in-Ends.i c.args.element met.known.stands (met.belongs.kind ∙ ap kind_of_level ends_here.0) ends_here.1 c.requires.can.fits leaf_kind leaf_elements (ap (λ (n : Node). n.sons.items) leaf_filled)
 
 pub settle-requires-clause-may_be_overfull : goal.settle-requires-clause-may_be_overfull
 settle-requires-clause-may_be_overfull g t c = leaf_overfull g t (goal.at.settle-requires-clause-may_be_overfull g t c).After-insert
@@ -172,9 +173,30 @@ insert_below-requires g t c = λ κs sub.
     let spot = c.args.spot.now in
     let n = c.in_ok-i.ensures.stepped.node in
     let steps = way_down g t (goal.at.insert_below-requires g t c).In-Goes in
-    let inside = subst (λ b. IsWithin b c.args.element.0) (sym steps.3) (place_within n.elements.items c.in-Goes.i spot.bounds c.args.element.0 c.requires.within steps.1) in
-    let fits = subst (λ (v : PagesView). WritesFit v.pages c.args.edit.now.writes.items c.args.edit.now.taken) (sym c.take_step.ensures.unchanged) c.requires.fits in
-    (omega (arith, c.decreases, c.requires.level), (sub, (c.requires.order, (omega (arith, steps.0), (omega (arith, c.push.ensures.len, c.requires.levels, steps.0), (c.requires.element, (inside, (c.requires.taken, (fits, λ in_place. subst (AreSpeltIn k) (sym c.take_step.ensures.unchanged) (c.requires.spelt in_place))))))))))
+    let inside = subst (λ b. IsWithin b c.args.element.0) (sym steps.3) (place_within n.elements.items c.in-Goes.i spot.bounds c.args.element.0 c.requires.can.within steps.1) in
+    let fits = subst (λ (v : PagesView). WritesFit v.pages c.args.edit.now.writes.items c.args.edit.now.taken) (sym c.take_step.ensures.reading.unchanged) c.requires.room.fits in (
+      omega (arith, c.decreases, c.requires.can.search.level),
+      (
+        sub,
+        (
+          record {
+            order = c.requires.can.order;
+            search = record {
+              order = c.requires.can.search.order;
+              level = omega (arith, steps.0);
+              spelt = λ in_place. subst (AreSpeltIn k) (sym c.take_step.ensures.reading.unchanged) (c.requires.can.search.spelt in_place);
+            };
+            fits = c.requires.can.fits;
+            within = inside;
+          },
+          record {
+            levels = omega (arith, c.push.ensures.len, c.requires.room.levels, steps.0);
+            taken = c.requires.room.taken;
+            fits = fits;
+          },
+        ),
+      ),
+    )
 
 pub returns-in_err-done-in-Goes-clause-grew : goal.returns-in_err-done-in-Goes-clause-grew
 returns-in_err-done-in-Goes-clause-grew g t c = λ steady none least es us tree between apart unvisited.
@@ -183,7 +205,7 @@ returns-in_err-done-in-Goes-clause-grew g t c = λ steady none least es us tree 
     let head = head_of g t place.In_ok-i steady least es us tree between in
     let son = son_of g t place.In-Goes (at c.args.pages.now.pages) least es us between head in
     let known = son_known g t place.In-Goes (at c.args.pages.now.pages) es us head.below head.us_is apart unvisited son in
-    rw (p.1, p.2) (c.in_err-done-in-Goes.ensures.grew (ap (λ (v : PagesView). v.steady) c.take_step.ensures.unchanged ∙ steady) none c.args.order son.xs son.mine known.tree known.between known.apart known.unvisited)
+    rw (p.1, p.2) (c.in_err-done-in-Goes.ensures.grew (ap (λ (v : PagesView). v.steady) c.take_step.ensures.reading.unchanged ∙ steady) none c.args.order son.xs son.mine known.tree known.between known.apart known.unvisited)
 
 -- a node with the half that was split off its son
 module _ (g : given.Over) (t : ℕ) (c : After-insert-in-Split-2 g t) where
@@ -195,11 +217,11 @@ module _ (g : given.Over) (t : ℕ) (c : After-insert-in-Split-2 g t) where
 
   father_filled : c.fill_node-in-Split.new.node ≡ father_met
   father_filled =
-      c.fill_node-in-Split.ensures.known father_met (still_known c.args.order c.take_step.new.pages c.insert_below.new.pages c.args.spot.now.page c.args.in_place c.take_step.new.node father_met c.in_ok-done-in-Goes.ensures.unchanged
-      (still_known c.args.order c.args.pages.now c.take_step.new.pages c.args.spot.now.page c.args.in_place c.take_step.new.node father_met c.take_step.ensures.unchanged c.in_ok-i.ensures.stepped.known))
+      c.fill_node-in-Split.ensures.known father_met (still_known c.args.order c.take_step.new.pages c.insert_below.new.pages c.args.spot.now.page c.args.in_place c.take_step.new.node father_met c.in_ok-done-in-Goes.ensures.reading.unchanged
+      (still_known c.args.order c.args.pages.now c.take_step.new.pages c.args.spot.now.page c.args.in_place c.take_step.new.node father_met c.take_step.ensures.reading.unchanged c.in_ok-i.ensures.stepped.known))
 
   split_up : SplitGoesUp c.in-Goes.bounds (Split c.in-Split.middle c.in-Split.right)
-  split_up = subst (SplitGoesUp c.in-Goes.bounds) c.in-Split.is c.in_ok-done-in-Goes.ensures.goes_up
+  split_up = subst (SplitGoesUp c.in-Goes.bounds) c.in-Split.is c.in_ok-done-in-Goes.ensures.grows.goes_up
 
   split_inside : IsWithin (son_bounds father_met.elements.items c.in-Goes.i c.args.spot.now.bounds) c.in-Split.middle.0
   split_inside = subst (λ b. IsWithin b c.in-Split.middle.0) goes_down.3 split_up.1
@@ -242,7 +264,7 @@ returns-in_ok-write_node-in-Found-clause-grew g t c = λ steady none least es us
     let x : Element = get_or n.elements.items c.in-Found.i c.args.element in
     let size = ap length (replaced_elements g t p) ∙ length-set n.elements.items c.in-Found.i c.args.element in
     let grew = grow_replaced k (at c.args.pages.now.pages) c.args.edit.now.writes.items c.write_node.new.edit.writes.items (candidate c.args.pages.now.pages) c.args.edit.now.taken c.write_node.new.edit.taken least spot.level (spot.level - 1) spot.page es us spot.bounds
-    n c.replace-old.new.node c.args.element.0 c.args.element.1 c.in-Found.i x (omega (arith, c.requires.level)) none c.in_ok-write_node-in-Found.ensures.taken (candidates_free c.args.pages.now.pages) (in_use k (at c.args.pages.now.pages) least spot.level spot.page es us tree) apart head between.ascends at_key
+    n c.replace-old.new.node c.args.element.0 c.args.element.1 c.in-Found.i x (omega (arith, c.requires.can.search.level)) none c.in_ok-write_node-in-Found.ensures.edit.taken (candidates_free c.args.pages.now.pages) (in_use k (at c.args.pages.now.pages) least spot.level spot.page es us tree) apart head between.ascends at_key
     (get_or_default n.elements.items c.in-Found.i c.args.element x at_key.within) (replaced_stands g t p) (omega (arith, size, head.least_is)) (replaced_kind g t p) (replaced_elements g t p) (replaced_sons g t p) c.in_ok-write_node-in-Found.ensures.writes in
     let old_is = c.replace-old.ensures.old c.args.element ∙ ap (λ (n : Node). (get_or n.elements.items c.in-Found.i c.args.element).1) (filled g t p) in
     subst (λ (old : List ℕ). Grew (tree_below k least spot.level spot.page) (edited c.args.pages.now.pages c.args.edit.now.taken c.write_node.new.edit) es us c.args.element.0 c.args.element.1 (Replaced old)) (sym old_is) grew
@@ -252,13 +274,16 @@ returns-in_ok-write_node-in-Found-clause-led g t c = λ steady.
     let spot = c.args.spot.now in
     let s = c.in_ok-i.ensures.stepped in
     let p = (goal.at.returns-in_ok-write_node-in-Found-clause-led g t c).After-replace-old in
-    leads_here (Spells c.args.order (at c.args.pages.now.pages)) c.args.element.0 spot.level (spot.level - 1) spot.page spot.bounds s.node c.in-Found.i (Some c.replace-old.result) (omega (arith, c.requires.level)) (s.spells steady) s.belongs.kind s.belongs.within
+    leads_here (Spells c.args.order (at c.args.pages.now.pages)) c.args.element.0 spot.level (spot.level - 1) spot.page spot.bounds s.node c.in-Found.i (Some c.replace-old.result) (omega (arith, c.requires.can.search.level)) (s.spells steady) s.belongs.kind s.belongs.within
     (found g t p) (λ d. ap Some (c.replace-old.ensures.old d ∙ ap (λ (n : Node). (get_or n.elements.items c.in-Found.i d).1) (filled g t p)))
 
-pub returns-in_ok-write_node-in-Found-clause-fits : goal.returns-in_ok-write_node-in-Found-clause-fits
-returns-in_ok-write_node-in-Found-clause-fits g t c =
-    wrote_fits c.args.pages.now.pages c.args.edit.now.writes.items c.write_node.new.edit.writes.items c.args.edit.now.taken c.write_node.new.edit.taken c.args.spot.now.page (spelling c.replace-old.new.node c.args.order)
-    c.in_ok-write_node-in-Found.ensures.writes c.in_ok-write_node-in-Found.ensures.taken c.in_ok-i.ensures.in_use c.requires.fits
+pub returns-in_ok-write_node-in-Found-clause-edit : goal.returns-in_ok-write_node-in-Found-clause-edit
+returns-in_ok-write_node-in-Found-clause-edit g t c = record {
+  fits = wrote_fits c.args.pages.now.pages c.args.edit.now.writes.items c.write_node.new.edit.writes.items c.args.edit.now.taken c.write_node.new.edit.taken c.args.spot.now.page (spelling c.replace-old.new.node c.args.order)
+      c.in_ok-write_node-in-Found.ensures.writes c.in_ok-write_node-in-Found.ensures.edit.taken c.in_ok-i.ensures.in_use.there c.requires.room.fits;
+  spelt = c.in_ok-write_node-in-Found.ensures.edit.spelt;
+  freed = c.in_ok-write_node-in-Found.ensures.edit.freed;
+}
 
 pub returns-in_ok-settle-in-Ends-clause-grew : goal.returns-in_ok-settle-in-Ends-clause-grew
 returns-in_ok-settle-in-Ends-clause-grew g t c = λ steady none least es us tree between apart unvisited.
@@ -273,15 +298,17 @@ returns-in_ok-settle-in-Ends-clause-grew g t c = λ steady none least es us tree
     let head = head_of g t place.In_ok-i steady least es us tree between in
     let size = ap length els_is ∙ length-insert s.node.elements.items c.in-Ends.i c.args.element steps.1.within in
     grow_leaf k (at c.args.pages.now.pages) c.args.edit.now c.settle.new.edit (candidate c.args.pages.now.pages) least spot.level (spot.level - 1) spot.page es us spot.bounds
-    s.node m c.args.element.0 c.args.element.1 c.in-Ends.i c.in_ok-settle-in-Ends.field-0 (omega (arith, c.requires.level)) (omega (arith, steps.0)) c.requires.order.0 none (candidates_free c.args.pages.now.pages) (in_use k (at c.args.pages.now.pages) least spot.level spot.page es us tree) apart head steps.1
+    s.node m c.args.element.0 c.args.element.1 c.in-Ends.i c.in_ok-settle-in-Ends.field-0 (omega (arith, c.requires.can.search.level)) (omega (arith, steps.0)) c.requires.can.order.0 none (candidates_free c.args.pages.now.pages) (in_use k (at c.args.pages.now.pages) least spot.level spot.page es us tree) apart head steps.1
     (leaf_overfull g t p) (omega (arith, size, head.least_is)) (leaf_kind g t p) els_is
-    (subst (λ (v : PagesView). WritesOrSplits k (candidate v.pages c.args.edit.now.taken) c.args.edit.now c.settle.new.edit spot.page m c.in_ok-settle-in-Ends.field-0) c.take_step.ensures.unchanged c.in_ok-settle-in-Ends.ensures.settles)
+    (subst (λ (v : PagesView). WritesOrSplits k (candidate v.pages c.args.edit.now.taken) c.args.edit.now c.settle.new.edit spot.page m c.in_ok-settle-in-Ends.field-0) c.take_step.ensures.reading.unchanged c.in_ok-settle-in-Ends.ensures.settles)
 
-pub returns-in_ok-settle-in-Ends-clause-goes_up : goal.returns-in_ok-settle-in-Ends-clause-goes_up
-returns-in_ok-settle-in-Ends-clause-goes_up g t c =
+pub returns-in_ok-settle-in-Ends-clause-grows : goal.returns-in_ok-settle-in-Ends-clause-grows
+returns-in_ok-settle-in-Ends-clause-grows g t c =
     let s = c.in_ok-i.ensures.stepped in
-    let els_is = leaf_elements g t (goal.at.returns-in_ok-settle-in-Ends-clause-goes_up g t c).After-insert in
-    c.in_ok-settle-in-Ends.ensures.goes_up c.args.spot.now.bounds (subst (AreWithin c.args.spot.now.bounds) (sym els_is) (insert_within c.args.spot.now.bounds s.node.elements.items c.in-Ends.i c.args.element s.belongs.within c.requires.within))
+    let els_is = leaf_elements g t (goal.at.returns-in_ok-settle-in-Ends-clause-grows g t c).After-insert in record {
+      takes = search rules;
+      goes_up = c.in_ok-settle-in-Ends.ensures.goes_up c.args.spot.now.bounds (subst (AreWithin c.args.spot.now.bounds) (sym els_is) (insert_within c.args.spot.now.bounds s.node.elements.items c.in-Ends.i c.args.element s.belongs.within c.requires.can.within));
+    }
 
 pub returns-in_ok-settle-in-Split-clause-grew : goal.returns-in_ok-settle-in-Split-clause-grew
 returns-in_ok-settle-in-Split-clause-grew g t c = λ steady none least es us tree between apart unvisited.
@@ -296,16 +323,16 @@ returns-in_ok-settle-in-Split-clause-grew g t c = λ steady none least es us tre
     let head = head_of g t place.In_ok-i steady least es us tree between in
     let son = son_of g t place.In-Goes (overlay (at c.args.pages.now.pages) c.insert_below.new.edit.writes.items) least es us between head in
     let known = son_known g t place.In-Goes (overlay (at c.args.pages.now.pages) c.insert_below.new.edit.writes.items) es us head.below head.us_is apart unvisited son in
-    let call = c.in_ok-done-in-Goes.ensures.grew (ap (λ (v : PagesView). v.steady) c.take_step.ensures.unchanged ∙ steady) none k son.xs son.mine known.tree known.between known.apart known.unvisited in
+    let call = c.in_ok-done-in-Goes.ensures.grew (ap (λ (v : PagesView). v.steady) c.take_step.ensures.reading.unchanged ∙ steady) none k son.xs son.mine known.tree known.between known.apart known.unvisited in
     let grew = grew_below g t place.In_ok-done-in-Goes s.node steps.2 son.xs son.mine call in
     let size = ap length els_is ∙ length-insert s.node.elements.items c.in-Goes.i c.in-Split.middle (split_among g t p).within in
-    let counted = subst (TakesNumbers (spot.level - 1) c.args.edit.now.taken c.insert_below.new.edit.taken) c.in-Split.is c.in_ok-done-in-Goes.ensures.takes in
+    let counted = subst (TakesNumbers (spot.level - 1) c.args.edit.now.taken c.insert_below.new.edit.taken) c.in-Split.is c.in_ok-done-in-Goes.ensures.grows.takes in
     grow_split k (at c.args.pages.now.pages) c.insert_below.new.edit c.settle-in-Split.new.edit (candidate c.args.pages.now.pages) c.args.edit.now.taken least spot.level (spot.level - 1) spot.page es us spot.bounds
-    s.node m c.args.element.0 c.args.element.1 c.in-Goes.i c.in-Split.middle c.in-Split.right c.in_ok-settle-in-Split.field-0 (omega (arith, c.requires.level)) (omega (arith, steps.0)) c.requires.order.0 counted.0 (candidates_free c.args.pages.now.pages) (in_use k (at c.args.pages.now.pages) least spot.level spot.page es us tree) apart head son
+    s.node m c.args.element.0 c.args.element.1 c.in-Goes.i c.in-Split.middle c.in-Split.right c.in_ok-settle-in-Split.field-0 (omega (arith, c.requires.can.search.level)) (omega (arith, steps.0)) c.requires.can.order.0 counted.0 (candidates_free c.args.pages.now.pages) (in_use k (at c.args.pages.now.pages) least spot.level spot.page es us tree) apart head son
     (subst (λ (r : Grown). Grew (tree_below k k (spot.level - 1) (get_or s.node.sons.items c.in-Goes.i 0)) (edited c.args.pages.now.pages c.args.edit.now.taken c.insert_below.new.edit) son.xs son.mine c.args.element.0 c.args.element.1 r) c.in-Split.is grew)
     (father_overfull g t p) (omega (arith, size, head.least_is)) (father_kind g t p) els_is (father_sons g t p)
     (subst (λ (ps : List (Option (List ℕ))). WritesOrSplits k (candidate ps c.insert_below.new.edit.taken) c.insert_below.new.edit c.settle-in-Split.new.edit spot.page m c.in_ok-settle-in-Split.field-0)
-    (ap (λ (v : PagesView). v.pages) c.in_ok-done-in-Goes.ensures.unchanged ∙ ap (λ (v : PagesView). v.pages) c.take_step.ensures.unchanged) c.in_ok-settle-in-Split.ensures.settles)
+    (ap (λ (v : PagesView). v.pages) c.in_ok-done-in-Goes.ensures.reading.unchanged ∙ ap (λ (v : PagesView). v.pages) c.take_step.ensures.reading.unchanged) c.in_ok-settle-in-Split.ensures.settles)
 
 pub returns-in_ok-settle-in-Split-clause-led : goal.returns-in_ok-settle-in-Split-clause-led
 returns-in_ok-settle-in-Split-clause-led g t c = λ steady.
@@ -315,13 +342,15 @@ returns-in_ok-settle-in-Split-clause-led g t c = λ steady.
     let still = never_replaced c.args.order (candidate c.insert_below.new.pages.pages c.insert_below.new.edit.taken) c.insert_below.new.edit c.settle-in-Split.new.edit spot.page (longer_father g t place.After-insert-in-Split-2) c.in_ok-settle-in-Split.field-0 c.in_ok-settle-in-Split.ensures.settles in
     subst (Leads (Spells c.args.order (at c.args.pages.now.pages)) c.args.element.0 spot.level spot.page spot.bounds) (none ∙ sym still) (led_below g t place.In_ok-done-in-Goes steady (way_down g t place.In-Goes))
 
-pub returns-in_ok-settle-in-Split-clause-goes_up : goal.returns-in_ok-settle-in-Split-clause-goes_up
-returns-in_ok-settle-in-Split-clause-goes_up g t c =
+pub returns-in_ok-settle-in-Split-clause-grows : goal.returns-in_ok-settle-in-Split-clause-grows
+returns-in_ok-settle-in-Split-clause-grows g t c =
     let b = c.args.spot.now.bounds in
     let s = c.in_ok-i.ensures.stepped in
-    let p = (goal.at.returns-in_ok-settle-in-Split-clause-goes_up g t c).After-insert-in-Split-2 in
-    c.in_ok-settle-in-Split.ensures.goes_up b (subst (AreWithin b) (sym (father_elements g t p))
-    (insert_within b s.node.elements.items c.in-Goes.i c.in-Split.middle s.belongs.within (son_within s.node.elements.items c.in-Goes.i b c.in-Split.middle.0 s.known.stands.ascends s.belongs.within (split_inside g t p))))
+    let p = (goal.at.returns-in_ok-settle-in-Split-clause-grows g t c).After-insert-in-Split-2 in record {
+      takes = search rules;
+      goes_up = c.in_ok-settle-in-Split.ensures.goes_up b (subst (AreWithin b) (sym (father_elements g t p))
+          (insert_within b s.node.elements.items c.in-Goes.i c.in-Split.middle s.belongs.within (son_within s.node.elements.items c.in-Goes.i b c.in-Split.middle.0 s.known.stands.ascends s.belongs.within (split_inside g t p))));
+    }
 
 pub returns-in_default : goal.returns-in_default
 returns-in_default g t c = record {
@@ -334,22 +363,23 @@ returns-in_default g t c = record {
       let head = head_of g t place.In_ok-i steady least es us tree between in
       let son = son_of g t place.In-Goes (overlay (at c.args.pages.now.pages) c.insert_below.new.edit.writes.items) least es us between head in
       let known = son_known g t place.In-Goes (overlay (at c.args.pages.now.pages) c.insert_below.new.edit.writes.items) es us head.below head.us_is apart unvisited son in
-      let call = c.in_ok-done-in-Goes.ensures.grew (ap (λ (v : PagesView). v.steady) c.take_step.ensures.unchanged ∙ steady) none k son.xs son.mine known.tree known.between known.apart known.unvisited in
+      let call = c.in_ok-done-in-Goes.ensures.grew (ap (λ (v : PagesView). v.steady) c.take_step.ensures.reading.unchanged ∙ steady) none k son.xs son.mine known.tree known.between known.apart known.unvisited in
       let grew = grew_below g t place.In_ok-done-in-Goes s.node steps.2 son.xs son.mine call in
       grow_stays k (at c.args.pages.now.pages) (overlay (at c.args.pages.now.pages) c.insert_below.new.edit.writes.items) (candidate c.args.pages.now.pages) c.args.edit.now.taken c.insert_below.new.edit.taken least spot.level (spot.level - 1) spot.page es us spot.bounds s.node c.args.element.0 c.args.element.1 c.in-Goes.i c.in_ok-done-in-Goes.done
-      (omega (arith, c.requires.level)) (omega (arith, steps.0)) (candidates_free c.args.pages.now.pages) (in_use k (at c.args.pages.now.pages) least spot.level spot.page es us tree) apart head son c.in_default.not-Split grew;
+      (omega (arith, c.requires.can.search.level)) (omega (arith, steps.0)) (candidates_free c.args.pages.now.pages) (in_use k (at c.args.pages.now.pages) least spot.level spot.page es us tree) apart head son c.in_default.not-Split grew;
   led = λ steady.
       let place = goal.at.returns-in_default g t c in
       led_below g t place.In_ok-done-in-Goes steady (way_down g t place.In-Goes);
-  fits = subst (λ (v : PagesView). WritesFit v.pages c.insert_below.new.edit.writes.items c.insert_below.new.edit.taken) c.take_step.ensures.unchanged c.in_ok-done-in-Goes.ensures.fits;
-  takes = subst (λ (h : ℕ). TakesNumbers h c.args.edit.now.taken c.insert_below.new.edit.taken c.in_ok-done-in-Goes.done) (omega (arith, c.requires.level)) (takes_more (c.args.spot.now.level - 1) c.args.edit.now.taken c.insert_below.new.edit.taken c.in_ok-done-in-Goes.done c.in_ok-done-in-Goes.ensures.takes);
-  goes_up = stays_within c.in-Goes.bounds c.args.spot.now.bounds c.in_ok-done-in-Goes.done c.in_default.not-Split c.in_ok-done-in-Goes.ensures.goes_up;
-  spelt = c.in_ok-done-in-Goes.ensures.spelt;
-  freed = c.in_ok-done-in-Goes.ensures.freed;
+  edit = record {
+    fits = subst (λ (v : PagesView). WritesFit v.pages c.insert_below.new.edit.writes.items c.insert_below.new.edit.taken) c.take_step.ensures.reading.unchanged c.in_ok-done-in-Goes.ensures.edit.fits;
+    spelt = c.in_ok-done-in-Goes.ensures.edit.spelt;
+    freed = c.in_ok-done-in-Goes.ensures.edit.freed;
+  };
+  grows = record {
+    takes = subst (λ (h : ℕ). TakesNumbers h c.args.edit.now.taken c.insert_below.new.edit.taken c.in_ok-done-in-Goes.done) (omega (arith, c.requires.can.search.level)) (takes_more (c.args.spot.now.level - 1) c.args.edit.now.taken c.insert_below.new.edit.taken c.in_ok-done-in-Goes.done c.in_ok-done-in-Goes.ensures.grows.takes);
+    goes_up = stays_within c.in-Goes.bounds c.args.spot.now.bounds c.in_ok-done-in-Goes.done c.in_default.not-Split c.in_ok-done-in-Goes.ensures.grows.goes_up;
+  };
   visited = c.in_ok-done-in-Goes.ensures.visited;
   in_use = c.in_ok-i.ensures.in_use;
-  some_page = c.in_ok-i.ensures.some_page;
-  device = search rules;
-  unchanged = search rules;
-  reads = omega (arith, c.in_ok-done-in-Goes.ensures.reads, c.take_step.ensures.one_read, c.requires.level);
+  reading = reads_then 1 (c.args.spot.now.level - 1) c.args.spot.now.level c.args.pages.now c.take_step.new.pages c.insert_below.new.pages c.in_ok-i.field-0 (Ok c.in_ok-done-in-Goes.done) (omega (arith, c.requires.can.search.level)) c.in_ok-i.ensures.reading c.in_ok-done-in-Goes.ensures.reading;
 }

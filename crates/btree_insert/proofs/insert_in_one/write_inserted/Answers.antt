@@ -54,10 +54,13 @@ returns-clause-writes c = λ n can is.
       written = last_rewritten c.args.edit.now.writes.items c.write_page.new.edit.writes.items (c.args.n, c.args.page.now) c.index_mut.result.now c.insert_in.new.page (spelling m c.args.order) c.len-at.result c.in_ok-write_page.ensures.writes (stands_at place) (added place) (c.insert_in.ensures n can (bytes place ∙ is));
     }
 
-pub returns-clause-spelt : goal.returns-clause-spelt
-returns-clause-spelt c =
+pub returns-clause-edit : goal.returns-clause-edit
+returns-clause-edit c =
     let n = c.requires.spelt.0 in
     let can = c.requires.spelt.1 in
     let is = c.requires.spelt.2 in
-    let changed = returns-clause-writes c n can is in
-    spelt_more c.args.order c.args.n c.args.edit.now.writes.items _ changed.node changed.stands changed.written
+    let changed = returns-clause-writes c n can is in record {
+      spelt = spelt_more c.args.order c.args.n c.args.edit.now.writes.items _ changed.node changed.stands changed.written;
+      taken = c.in_ok-write_page.ensures.edit.taken;
+      freed = c.in_ok-write_page.ensures.edit.freed;
+    }

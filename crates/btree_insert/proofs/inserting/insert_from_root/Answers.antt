@@ -15,15 +15,15 @@ use Rattle.btree_insert.proofs.inserting.insert_from_root.Goals as goal
 
 pub stage-requires : goal.stage-requires
 stage-requires g c =
-    let pages_is = ap (λ (v : PagesView). v.pages) c.in_ok-changed.ensures.unchanged in
-    let none = ap (λ v. v.items) c.in_ok-changed.ensures.freed ∙ c.new-2.ensures.items in
+    let pages_is = ap (λ (v : PagesView). v.pages) c.in_ok-changed.ensures.reading.unchanged in
+    let none = ap (λ v. v.items) c.in_ok-changed.ensures.edit.freed ∙ c.new-2.ensures.items in
     can_stage c.grow_tree.new.pages.pages c.grow_tree.new.edit.writes.items c.grow_tree.new.edit.taken c.grow_tree.new.edit.freed.items none
-    (subst (λ (ps : List (Option (List ℕ))). WritesFit ps c.grow_tree.new.edit.writes.items c.grow_tree.new.edit.taken) (sym pages_is) c.in_ok-changed.ensures.fits) (c.is_small.ensures.0 c.if-not-is_small.false).pages
+    (subst (λ (ps : List (Option (List ℕ))). WritesFit ps c.grow_tree.new.edit.writes.items c.grow_tree.new.edit.taken) (sym pages_is) c.in_ok-changed.ensures.edit.fits) (c.is_small.ensures.0 c.if-not-is_small.false).pages
 
 pub returns-clause-inserted : goal.returns-clause-inserted
 returns-clause-inserted g c = λ steady es us holds.
-    let pages_is = ap (λ (v : PagesView). v.pages) c.in_ok-changed.ensures.unchanged in
-    let none = ap (λ v. v.items) c.in_ok-changed.ensures.freed ∙ c.new-2.ensures.items in
+    let pages_is = ap (λ (v : PagesView). v.pages) c.in_ok-changed.ensures.reading.unchanged in
+    let none = ap (λ v. v.items) c.in_ok-changed.ensures.edit.freed ∙ c.new-2.ensures.items in
     let done = subst (λ (e : Element). Inserted (edited c.args.pages.now.pages 0 c.grow_tree.new.edit) c.args.tree.now es us e.0 e.1 (c.in_ok-changed.changed.tree, c.in_ok-changed.changed.old))
     c.element_of.ensures.value (c.in_ok-changed.ensures.grew steady es us holds) in
     let same : (q : ℕ) → overlay (at c.args.pages.now.pages) c.grow_tree.new.edit.writes.items q ≡ at c.stage.new.self.pages q =
@@ -40,4 +40,4 @@ returns-clause-spelt g c = λ spelt.
     let order = c.args.tree.now.order in
     let none_yet = subst (AreSpelt order) (sym c.new.ensures.items) tt in
     spelt_staged order c.grow_tree.new.pages c.stage.new.self c.grow_tree.new.edit.writes.items c.grow_tree.new.edit.freed.items c.in_ok-stage.ensures.pages c.in_ok-stage.ensures.in_memory
-    (c.in_ok-changed.ensures.spelt none_yet) (spelt_unchanged order c.args.pages.now c.grow_tree.new.pages c.in_ok-changed.ensures.unchanged spelt)
+    (c.in_ok-changed.ensures.edit.spelt none_yet) (spelt_unchanged order c.args.pages.now c.grow_tree.new.pages c.in_ok-changed.ensures.reading.unchanged spelt)

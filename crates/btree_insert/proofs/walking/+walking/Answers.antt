@@ -29,9 +29,9 @@ walk_below-returns-clause-walked g t c = λ steady least es us tree between few.
     let fan = body_fan (TreeAt c.args.order (at c.args.pages.now.pages) c.args.order h) h c.read_into.new.node es head.below (omega arith) head.body in
     let fan2 = subst (λ (ss : List ℕ). Fan (TreeAt c.args.order (at c.args.pages.now.pages) c.args.order h) ss c.as_slice-elements.result.now es head.below) (sym c.as_slice.ensures.value)
     (subst (λ (els : List Element). Fan (TreeAt c.args.order (at c.args.pages.now.pages) c.args.order h) c.read_into.new.node.sons.items els es head.below) (sym c.as_slice-elements.ensures.value) fan) in
-    let fan3 = subst (λ (v : PagesView). Fan (TreeAt c.args.order (at v.pages) c.args.order h) c.as_slice.result.now c.as_slice-elements.result.now es head.below) (sym c.read_into.ensures.unchanged) fan2 in
+    let fan3 = subst (λ (v : PagesView). Fan (TreeAt c.args.order (at v.pages) c.args.order h) c.as_slice.result.now c.as_slice-elements.result.now es head.below) (sym c.read_into.ensures.reading.unchanged) fan2 in
     let size = one_page us c.args.n head.below head.us_is in
-    let call = c.walk_sons.ensures.walked (ap (λ (v : PagesView). v.steady) c.read_into.ensures.unchanged ∙ steady) es head.below fan3 between (omega (arith, size, few)) in
+    let call = c.walk_sons.ensures.walked (ap (λ (v : PagesView). v.steady) c.read_into.ensures.reading.unchanged ∙ steady) es head.below fan3 between (omega (arith, size, few)) in
     weaken c.walk_sons.result ((c.walk_sons.new.out.items ≡ c.args.out.now.items ++ es) × (c.walk_sons.new.left + length head.below ≡ c.args.left.now - 1)) ((c.walk_sons.new.out.items ≡ c.args.out.now.items ++ es) × (c.walk_sons.new.left + length us ≡ c.args.left.now))
     (λ both. (both.0, omega (arith, both.1, size, few))) call
 
@@ -55,8 +55,8 @@ walk_sons-returns-clause-walked g t c = λ steady es us fan between few.
     let first = c.in_ok-walk_below.ensures.walked steady c.args.order one.xs one.here one.first (Between-left c.args.above.now.bounds one.xs x one.ys bounded) (omega (arith, size, few)) in
     let fan2 = subst (λ (ss : List ℕ). Fan (TreeAt c.args.order (at c.args.pages.now.pages) c.args.order c.args.above.now.height) ss (drop 1 c.args.elements.now) one.ys one.rest) (sym (take_rest c.args.sons.now 1)) one.more in
     let fan3 = subst (λ (els : List Element). Fan (TreeAt c.args.order (at c.args.pages.now.pages) c.args.order c.args.above.now.height) (take (length c.args.sons.now - 1) (drop 1 c.args.sons.now)) els one.ys one.rest) (sym (take_rest c.args.elements.now 1)) fan2 in
-    let fan4 = subst (λ (v : PagesView). Fan (TreeAt c.args.order (at v.pages) c.args.order c.args.above.now.height) (take (length c.args.sons.now - 1) (drop 1 c.args.sons.now)) (take (length c.args.elements.now - 1) (drop 1 c.args.elements.now)) one.ys one.rest) (sym c.in_ok-walk_below.ensures.unchanged) fan3 in
-    let call = c.walk_sons.ensures.walked (ap (λ (v : PagesView). v.steady) c.in_ok-walk_below.ensures.unchanged ∙ steady) one.ys one.rest fan4 (Between-right c.args.above.now.bounds one.xs x one.ys bounded) (omega (arith, size, few, first.1)) in
+    let fan4 = subst (λ (v : PagesView). Fan (TreeAt c.args.order (at v.pages) c.args.order c.args.above.now.height) (take (length c.args.sons.now - 1) (drop 1 c.args.sons.now)) (take (length c.args.elements.now - 1) (drop 1 c.args.elements.now)) one.ys one.rest) (sym c.in_ok-walk_below.ensures.reading.unchanged) fan3 in
+    let call = c.walk_sons.ensures.walked (ap (λ (v : PagesView). v.steady) c.in_ok-walk_below.ensures.reading.unchanged ∙ steady) one.ys one.rest fan4 (Between-right c.args.above.now.bounds one.xs x one.ys bounded) (omega (arith, size, few, first.1)) in
     let second = c.in_ok-add_elements.ensures ∙ ap (λ zs. c.walk_below-2.new.out.items ++ zs) (take_one c.args.elements.now x some x_is) in
     weaken c.walk_sons.result ((c.walk_sons.new.out.items ≡ c.add_elements.new.out.items ++ one.ys) × (c.walk_sons.new.left + length one.rest ≡ c.walk_below-2.new.left)) ((c.walk_sons.new.out.items ≡ c.args.out.now.items ++ es) × (c.walk_sons.new.left + length us ≡ c.args.left.now))
     (λ both. (added c.args.out.now.items c.walk_below-2.new.out.items c.add_elements.new.out.items c.walk_sons.new.out.items one.xs one.ys es x first.0 second both.0 (one.es_is x x_is), omega (arith, both.1, first.1, size))) call
@@ -72,7 +72,7 @@ pub walk_below-returns-clause-adds : goal.walk_below-returns-clause-adds
 walk_below-returns-clause-adds g t c = λ steady.
     let node = c.read_into.new.node in
     let k = c.args.order in
-    let pages_is : at c.read_into.new.pages.pages ≡ at c.args.pages.now.pages = ap (λ (v : PagesView). at v.pages) c.read_into.ensures.unchanged in
+    let pages_is : at c.read_into.new.pages.pages ≡ at c.args.pages.now.pages = ap (λ (v : PagesView). at v.pages) c.read_into.ensures.reading.unchanged in
     let between : Between c.args.above.now.bounds c.as_slice-elements.result.now = subst (Between c.args.above.now.bounds) (sym c.as_slice-elements.ensures.value) (record { ascends = c.in_ok-read_into.ensures.stands.0.ascends; within = c.in_ok-read_into.ensures.within }) in
     let low_is : c.args.above.now.height - 1 ≡ suc (c.args.above.now.height - 2) = omega arith in
     on_ok c.walk_sons.result (Adds (Fan (TreeOf (Spells k (at c.read_into.new.pages.pages)) 1 1 (c.args.above.now.height - 1)) c.as_slice.result.now c.as_slice-elements.result.now) c.args.above.now.bounds c.args.out.now.items c.walk_sons.new.out.items (c.args.left.now - 1) c.walk_sons.new.left)
@@ -81,7 +81,7 @@ walk_below-returns-clause-adds g t c = λ steady.
     (c.in_ok-read_into.ensures.spells steady) (c.in_ok-read_into.ensures.stands.1 ∙ c.kind_of_level.ensures) c.in_ok-read_into.ensures.stands.0.some (omega arith)
     (adds_below k (at c.args.pages.now.pages) (at c.read_into.new.pages.pages) (c.args.above.now.height - 1) (suc (c.args.above.now.height - 2)) node.sons.items c.as_slice.result.now node.elements.items c.as_slice-elements.result.now c.args.above.now.bounds c.args.out.now.items c.walk_sons.new.out.items (c.args.left.now - 1) c.walk_sons.new.left
     pages_is low_is c.as_slice.ensures.value c.as_slice-elements.ensures.value adds))
-    (c.walk_sons.ensures.adds (ap (λ (v : PagesView). v.steady) c.read_into.ensures.unchanged ∙ steady) between)
+    (c.walk_sons.ensures.adds (ap (λ (v : PagesView). v.steady) c.read_into.ensures.reading.unchanged ∙ steady) between)
 
 pub walk_sons-returns-clause-adds : goal.walk_sons-returns-clause-adds
 walk_sons-returns-clause-adds g t c = λ steady between.
@@ -90,7 +90,7 @@ walk_sons-returns-clause-adds g t c = λ steady between.
     let some : 0 < length c.args.elements.now = nonempty c.args.elements.now c.is_empty.result c.is_empty.ensures c.if-is_empty.false in
     let k = c.args.order in
     let behind : Bounds = record { low = Some x.0; high = c.args.above.now.bounds.high } in
-    let pages_is : at c.walk_below-2.new.pages.pages ≡ at c.args.pages.now.pages = ap (λ (v : PagesView). at v.pages) c.in_ok-walk_below.ensures.unchanged in
+    let pages_is : at c.walk_below-2.new.pages.pages ≡ at c.args.pages.now.pages = ap (λ (v : PagesView). at v.pages) c.in_ok-walk_below.ensures.reading.unchanged in
     let sons = take (length c.args.sons.now - 1) (drop 1 c.args.sons.now) in
     let els = take (length c.args.elements.now - 1) (drop 1 c.args.elements.now) in
     let els_is : els ≡ drop 1 c.args.elements.now = take_rest c.args.elements.now 1 in
@@ -102,7 +102,7 @@ walk_sons-returns-clause-adds g t c = λ steady between.
     some c.requires.sons x_is between front one
     (adds_below k (at c.args.pages.now.pages) (at c.walk_below-2.new.pages.pages) c.args.above.now.height c.args.above.now.height (drop 1 c.args.sons.now) sons (drop 1 c.args.elements.now) els behind c.add_elements.new.out.items c.walk_sons.new.out.items c.walk_below-2.new.left c.walk_sons.new.left
     pages_is refl (take_rest c.args.sons.now 1) els_is back))
-    (c.walk_sons.ensures.adds (ap (λ (v : PagesView). v.steady) c.in_ok-walk_below.ensures.unchanged ∙ steady) (subst (Between behind) (sym els_is) (rest_within c.args.above.now.bounds c.args.elements.now x some x_is between)))
+    (c.walk_sons.ensures.adds (ap (λ (v : PagesView). v.steady) c.in_ok-walk_below.ensures.reading.unchanged ∙ steady) (subst (Between behind) (sym els_is) (rest_within c.args.above.now.bounds c.args.elements.now x some x_is between)))
 
 pub walk_sons-returns-then-is_empty-clause-walked : goal.walk_sons-returns-then-is_empty-clause-walked
 walk_sons-returns-then-is_empty-clause-walked g t c = grind (arith, common_steps)

@@ -1,4 +1,4 @@
-use Rattle.std.proofs.Common.{◌≡◌, ℕ, ◌≤◌, true, false, List, [], ◌∷◌, length, cond, None, reverse, refl, ap, subst, ◌∙◌, arith}
+use Rattle.std.proofs.Common.{rules, ◌≡◌, ℕ, ◌≤◌, true, false, List, [], ◌∷◌, length, cond, None, reverse, refl, ap, subst, ◌∙◌, arith}
 use Rattle.std.specs.FinMap as maps
 use Rattle.tx_log.proofs.EndLemmas.{closed, closed_state, live_part}
 use Rattle.std.specs.List.{list_any}
@@ -56,14 +56,17 @@ module _ (c : goal.After-self-3-1) where
   closed_all : c.is_empty-is_last.result ≡ true → (u : ℕ) → opens (finding c.take_out-closed.new.txs.entries) u ≡ false
   closed_all last u = ap (λ es. opens (finding es) u) (no_entries c.take_out-closed.new.txs.entries (c.is_empty-is_last.ensures.0 last))
 
-pub free_held-requires-clause-within : goal.free_held-requires-clause-within
-free_held-requires-clause-within c =
+pub free_held-requires : goal.free_held-requires
+free_held-requires c =
     let l = c.self.inside in
     let t = c.args.tx.0 in
     let e = c.take_out-closed.result in
     let out = c.take_out-closed.ensures t c.place_of-at.ensures.stands in
-    let size = sized (reverse l.records.items) l.txs.entries l.begun l.pending l.gone t e c.self.invariant.log_kept out.0 in
-    subst (λ (n : ℕ). e.last ≤ n) (length-reverse l.records.items) size.last
+    let size = sized (reverse l.records.items) l.txs.entries l.begun l.pending l.gone t e c.self.invariant.log_kept out.0 in record {
+      numbered = search rules;
+      marked = search rules;
+      within = subst (λ (n : ℕ). e.last ≤ n) (length-reverse l.records.items) size.last;
+    }
 
 pub invariant_of-self : goal.invariant_of-self
 invariant_of-self c =

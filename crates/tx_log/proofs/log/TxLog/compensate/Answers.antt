@@ -1,4 +1,4 @@
-use Rattle.std.proofs.Common.{◌≡◌, ◌∷◌, [], ◌++◌, cond, refl, ℕ, zero, suc, slice_get, ◌+◌, ◌-◌, ◌<◌, ◌≤◌, Bool, true, List, Some, None, option_map, length, reverse, is_some, vec_len, sym, ap, subst, ◌∙◌, arith}
+use Rattle.std.proofs.Common.{rules, ◌≡◌, ◌∷◌, [], ◌++◌, cond, refl, ℕ, zero, suc, slice_get, ◌+◌, ◌-◌, ◌<◌, ◌≤◌, Bool, true, List, Some, None, option_map, length, reverse, is_some, vec_len, sym, ap, subst, ◌∙◌, arith}
 use Rattle.std.specs.Vec.{vec_capacity}
 use Rattle.std.proofs.lemmas.List.{length-reverse, length-append}
 use Rattle.rec_types.specs.History.{log_len}
@@ -93,10 +93,13 @@ place_of-at-requires c =
     let some = open_of_undo (kept_of (reverse l.records.items)) l.txs.entries t (ap (λ (s : LogState). is_some (undo_in s t)) c.self.view_is ∙ c.requires) in
     some
 
-pub newest_change-newest-requires-clause-within : goal.newest_change-newest-requires-clause-within
-newest_change-newest-requires-clause-within c =
-    let size = met_sizes (goal.at.newest_change-newest-requires-clause-within c).After-index in
-    subst (λ (k : ℕ). c.index.result.now.last ≤ k) (length-reverse c.self.inside.records.items) size.last
+pub newest_change-newest-requires : goal.newest_change-newest-requires
+newest_change-newest-requires c =
+    let size = met_sizes (goal.at.newest_change-newest-requires c).After-index in record {
+      numbered = search rules;
+      marked = search rules;
+      within = subst (λ (k : ℕ). c.index.result.now.last ≤ k) (length-reverse c.self.inside.records.items) size.last;
+    }
 
 pub unwrap-change-requires : goal.unwrap-change-requires
 unwrap-change-requires c =

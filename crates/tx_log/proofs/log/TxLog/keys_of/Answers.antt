@@ -1,4 +1,4 @@
-use Rattle.std.proofs.Common.{ℕ, ◌≤◌, reverse, sym, ap, subst, ◌∙◌}
+use Rattle.std.proofs.Common.{rules, ℕ, ◌≤◌, reverse, sym, ap, subst, ◌∙◌}
 use Rattle.std.proofs.lemmas.List.{length-reverse}
 use Rattle.std.proofs.lemmas.List.Filters.{dedup_is}
 use Rattle.tx_log.proofs.KeptLogLemmas.{sized}
@@ -15,14 +15,17 @@ returns-in_default c =
     let none = sym c.in_default.ensures in
     c.new.ensures.items ∙ unowned_keys (kept_of (reverse l.records.items)) l.txs.entries t none ∙ ap (λ (s : LogState). keys_owned (open_in s) (history_in s) t) c.self.view_is
 
-pub changed_keys-requires-clause-within : goal.changed_keys-requires-clause-within
-changed_keys-requires-clause-within c =
+pub changed_keys-requires : goal.changed_keys-requires
+changed_keys-requires c =
     let l = c.self.inside in
     let t = c.args.tx.0 in
     let e = c.in-Some.open_tx.now in
     let found = sym c.in-Some.ensures in
-    let size = sized (reverse l.records.items) l.txs.entries l.begun l.pending l.gone t e c.self.invariant.log_kept found in
-    subst (λ (n : ℕ). e.last ≤ n) (length-reverse l.records.items) size.last
+    let size = sized (reverse l.records.items) l.txs.entries l.begun l.pending l.gone t e c.self.invariant.log_kept found in record {
+      numbered = search rules;
+      marked = search rules;
+      within = subst (λ (n : ℕ). e.last ≤ n) (length-reverse l.records.items) size.last;
+    }
 
 pub returns : goal.returns
 returns c =

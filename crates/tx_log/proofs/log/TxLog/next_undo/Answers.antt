@@ -1,4 +1,4 @@
-use Rattle.std.proofs.Common.{◌≡◌, ℕ, ◌≤◌, List, map, reverse, Some, option_map, sym, ap, subst, ◌∙◌}
+use Rattle.std.proofs.Common.{rules, ◌≡◌, ℕ, ◌≤◌, List, map, reverse, Some, option_map, sym, ap, subst, ◌∙◌}
 use Rattle.std.specs.List.{filter}
 use Rattle.std.proofs.lemmas.List.{length-reverse}
 use Rattle.tx_log.proofs.KeptLogLemmas.{sized}
@@ -34,13 +34,16 @@ returns-in_default c =
     let none = sym c.in_default.ensures in
     sym (ap (λ o. option_map undo_step (undo_of cs t o)) (tx_none cs l.txs.entries t none)) ∙ ap (λ (s : LogState). option_map undo_step (undo_in s t)) c.self.view_is
 
-pub newest_above-requires-clause-within : goal.newest_above-requires-clause-within
-newest_above-requires-clause-within c =
+pub newest_above-requires : goal.newest_above-requires
+newest_above-requires c =
     let l = c.self.inside in
     let t = c.args.tx.0 in
     let found = sym c.in-Some.ensures in
-    let size = sized (reverse l.records.items) l.txs.entries l.begun l.pending l.gone t c.in-Some.open_tx.now c.self.invariant.log_kept found in
-    subst (λ (n : ℕ). c.in-Some.open_tx.now.last ≤ n) (length-reverse l.records.items) size.last
+    let size = sized (reverse l.records.items) l.txs.entries l.begun l.pending l.gone t c.in-Some.open_tx.now c.self.invariant.log_kept found in record {
+      numbered = search rules;
+      marked = search rules;
+      within = subst (λ (n : ℕ). c.in-Some.open_tx.now.last ≤ n) (length-reverse l.records.items) size.last;
+    }
 
 pub returns-in_default-rollback : goal.returns-in_default-rollback
 returns-in_default-rollback c =

@@ -1,4 +1,4 @@
-use Rattle.std.proofs.Common.{◌≡◌, Option, Some, ℕ, ◌≤◌, length, take, reverse, sym, ap, subst, ◌∙◌}
+use Rattle.std.proofs.Common.{rules, ◌≡◌, Option, Some, ℕ, ◌≤◌, length, take, reverse, sym, ap, subst, ◌∙◌}
 use Rattle.tx_log.proofs.KeptLogLemmas.{active_open, kept_now, sized, some_of}
 use Rattle.tx_log.proofs.StageLemmas.{IsMove, moved_tx, moved_log, moved_view, up_to_take, up_to_place, rolling_is, short_take}
 use Rattle.tx_log.proofs.PlaceOf.{read_at}
@@ -26,14 +26,17 @@ save_at-to-requires c =
     let found = read_at l.txs t c.place_of-at.result e c.place_of-at.ensures.stands c.index.ensures in
     subst (λ (n : ℕ). c.args.n ≤ n) (ap (λ (s : LogState). depth_of (tx_in s t)) (sym c.self.view_is) ∙ depth_is (kept_of (reverse l.records.items)) l.txs.entries t e found) c.requires.within
 
-pub count_changes-left-requires-clause-within : goal.count_changes-left-requires-clause-within
-count_changes-left-requires-clause-within c =
+pub count_changes-left-requires-clause-walk : goal.count_changes-left-requires-clause-walk
+count_changes-left-requires-clause-walk c =
     let l = c.self.inside in
     let t = c.args.tx.0 in
     let e = c.index-open_tx.result.now in
     let found = read_at l.txs t c.place_of-at.result e c.place_of-at.ensures.stands c.index-open_tx.ensures in
-    let size = sized (reverse l.records.items) l.txs.entries l.begun l.pending l.gone t e c.self.invariant.log_kept found in
-    subst (λ (n : ℕ). e.last ≤ n) (length-reverse l.records.items) size.last
+    let size = sized (reverse l.records.items) l.txs.entries l.begun l.pending l.gone t e c.self.invariant.log_kept found in record {
+      numbered = search rules;
+      marked = search rules;
+      within = subst (λ (n : ℕ). e.last ≤ n) (length-reverse l.records.items) size.last;
+    }
 
 pub count_changes-left-requires-clause-live : goal.count_changes-left-requires-clause-live
 count_changes-left-requires-clause-live c =

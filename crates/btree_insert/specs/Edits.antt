@@ -1,0 +1,52 @@
+-- What calls that go through a tree leave of its pages, and of an edit.
+use Rattle.std.specs.Prelude.{◌≡◌, ℕ, ◌+◌, ◌<◌, ◌≤◌, List, [], length, Option, IsSome, Result, OnOk, OnErr}
+use Rattle.rec_types.specs.Table.{counted}
+use Rattle.page_store.specs.PageMap.{at}
+use Rattle.page_store.specs.PagesView.{PagesView, OnlyReads, OnlyStages}
+use Rattle.page_store.specs.declared.page_edit.PageEdit.{PageEdit}
+use Rattle.btree_node.specs.Spelling.{AreSpelt}
+use Rattle.btree_insert.specs.declared.tree.TreeFault.{TreeFault}
+use Rattle.btree_insert.specs.Faults.{is_device}
+use Rattle.btree_insert.specs.Growth.{WritesFit}
+use Rattle.btree_insert.specs.Sizes.{greatest_height}
+
+-- page n is in use, and is not page 0
+pub record IsInUse (pages : List (Option (List ℕ))) (n : ℕ) : Type 0 where
+  pub there : IsSome (at pages n)
+  pub some : 0 < n
+
+-- pages were at most read, at most so often, and the answer tells whether a read failed
+pub record Reads {A : Type 0} (most : ℕ) (old : PagesView) (answer : Result A TreeFault) (new : PagesView) : Type 0 where
+  pub unchanged : OnlyReads old new
+  pub device : new.failures ≡ counted old.failures (is_device answer)
+  pub reads : new.reads ≤ old.reads + most
+
+-- the same, and an edit was staged unless there is a fault
+pub record Stages {A : Type 0} (most : ℕ) (old : PagesView) (answer : Result A TreeFault) (new : PagesView) : Type 0 where
+  pub store : OnlyStages old new
+  pub err : OnErr answer (OnlyReads old new)
+  pub device : new.failures ≡ counted old.failures (is_device answer)
+  pub reads : new.reads ≤ old.reads + most
+
+-- an edit that writes no page and takes no number
+pub record IsNewEdit (edit : PageEdit) : Type 0 where
+  pub unwritten : edit.writes.items ≡ []
+  pub none_taken : edit.taken ≡ 0
+
+-- what an edit writes spells nodes of the order, if it did before; it takes and frees no other numbers
+pub record OnlyWrites {A F : Type 0} (k : ℕ) (old : PageEdit) (answer : Result A F) (new : PageEdit) : Type 0 where
+  pub spelt : AreSpelt k old.writes.items → OnOk answer (AreSpelt k new.writes.items)
+  pub taken : new.taken ≡ old.taken
+  pub freed : new.freed ≡ old.freed
+
+-- the same, but that numbers may be taken: then each of them is written
+pub record WritesAndTakes {A F : Type 0} (k : ℕ) (pages : List (Option (List ℕ))) (old : PageEdit) (answer : Result A F) (new : PageEdit) : Type 0 where
+  pub fits : OnOk answer (WritesFit pages new.writes.items new.taken)
+  pub spelt : AreSpelt k old.writes.items → OnOk answer (AreSpelt k new.writes.items)
+  pub freed : new.freed ≡ old.freed
+
+-- a way down has room for so many levels, and an edit for what is written on it
+pub record HasRoom (pages : List (Option (List ℕ))) (edit : PageEdit) (visited : List ℕ) (level : ℕ) : Type 0 where
+  pub levels : length visited + level ≤ greatest_height
+  pub taken : edit.taken ≤ greatest_height
+  pub fits : WritesFit pages edit.writes.items edit.taken
