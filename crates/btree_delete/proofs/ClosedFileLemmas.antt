@@ -26,8 +26,8 @@ use Rattle.btree_insert.specs.Elements.{elements_below, contents_at}
 use Rattle.btree_insert.proofs.TreeElementLemmas.{node_in, held_in, held_elements}
 use Rattle.btree_insert.proofs.ChangedTreeLemmas.{tree_move}
 use Rattle.btree_insert.proofs.Membership.{each_in}
-use Rattle.btree_delete.specs.declared.open_fault.OpenFault.{OpenFault}
-use Rattle.btree_delete.specs.declared.open_fault.OpenFault.TheVariants.{Device, BadLength, BadMagic, BadVersion, BadOrder, NotClean, BadHeader, Damaged, WrongCount, TooManyRecords, Memory}
+use Rattle.btree_delete.specs.declared.opening.open_fault.OpenFault.{OpenFault}
+use Rattle.btree_delete.specs.declared.opening.open_fault.OpenFault.TheVariants.{Device, BadLength, BadMagic, BadVersion, BadOrder, NotClean, BadHeader, Damaged, WrongCount, TooManyRecords, Memory}
 use Rattle.btree_delete.specs.Survey.{IsRespelt, Measured}
 use Rattle.btree_delete.specs.CleanFile.{in_file, Begins, HasHeader, HasTree, IsFirst, FailsTree, Opens}
 use Rattle.btree_insert.specs.Spelt.{AreSpeltIn}

@@ -21,8 +21,8 @@ use Rattle.btree_insert.proofs.SonsAroundLemmas.{Focus}
 use Rattle.btree_insert.proofs.ElementMapLemmas.{lookup-between, lookup-here}
 use Rattle.btree_insert.proofs.Membership.{in_left, in_right, Apart-right, Apart-across, each_in, in_each}
 use Rattle.btree_insert.proofs.HeadNodeLemmas.{Top, find_here, find_no_more}
-use Rattle.btree_delete.specs.declared.delete_below.Shrunk.{Shrunk}
-use Rattle.btree_delete.specs.declared.delete_below.Shrunk.TheVariants.{Whole, Underfull}
+use Rattle.btree_delete.specs.declared.deletion.delete_below.Shrunk.{Shrunk}
+use Rattle.btree_delete.specs.declared.deletion.delete_below.Shrunk.TheVariants.{Whole, Underfull}
 use Rattle.btree_delete.specs.Treatment.{element_at, son_at}
 use Rattle.btree_delete.specs.Shrinking.{MayBeUnderfull, WritesOrHandsUp, Loses, gone, StaysUnvisited, Drops, RemovesBelow, unsettled}
 use Rattle.btree_delete.specs.Tidy.{is_visited, Untouched, visits}

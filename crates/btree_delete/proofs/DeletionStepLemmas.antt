@@ -8,7 +8,7 @@ use Rattle.btree_insert.specs.declared.bounds.Bounds.{Bounds}
 use Rattle.btree_insert.specs.Bounds.{AreWithin, Between, son_bounds}
 use Rattle.btree_insert.specs.PageTrees.{IsIn, Fan, Spells, kind_of_level}
 use Rattle.btree_insert.proofs.Membership.{in_left, in_right}
-use Rattle.btree_delete.specs.declared.delete_below.Shrunk.{Shrunk}
+use Rattle.btree_delete.specs.declared.deletion.delete_below.Shrunk.{Shrunk}
 use Rattle.btree_delete.specs.Treatment.{son_at, brothers}
 use Rattle.btree_delete.specs.Shrinking.{MayBeUnderfull, WritesOrHandsUp, Loses, TreatsAndSettles, StaysUnvisited, unsettled}
 use Rattle.btree_delete.specs.Tidy.{is_visited, Untouched, done_so_far}

@@ -1,5 +1,5 @@
 -- What stays true of a deletion's writes, freed numbers and pages visited as they grow.
-use Rattle.std.proofs.Common.{◌≡◌, ℕ, suc, inl, inr, Bool, true, false, ◌||◌, eqb, Option, IsSome, List, [], ◌∷◌, ◌++◌, refl, ap, sym, ◌∙◌, arith, eq-eqb}
+use Rattle.std.proofs.Common.{◌≡◌, ℕ, suc, ◌+◌, inl, inr, Bool, true, false, ◌||◌, eqb, Option, IsSome, List, [], ◌∷◌, ◌++◌, length, length-append, refl, ap, sym, ◌∙◌, subst, arith, eq-eqb}
 use Rattle.std.specs.List.{AllByRecursion}
 use Rattle.std.proofs.lemmas.List.Folds.{list_any-append}
 use Rattle.std.proofs.lemmas.Bool.Decides.{nat_tests}
@@ -9,7 +9,7 @@ use Rattle.btree_node.specs.Cut.{left_of, right_of}
 use Rattle.btree_node.specs.Joined.{half_of_both}
 use Rattle.btree_node.specs.Spelling.{spelling}
 use Rattle.btree_delete.specs.Treatment.{son_at, both, Treats, brothers}
-use Rattle.btree_delete.specs.Tidy.{is_visited, Untouched, IsTidy, done_so_far}
+use Rattle.btree_delete.specs.Tidy.{is_visited, Visited, Untouched, IsTidy, done_so_far}
 use Rattle.btree_insert.proofs.EditFitLemmas.{or_true}
 use Rattle.btree_delete.proofs.EditedPagesLemmas.{or_right}
 
@@ -49,6 +49,14 @@ unvisited_push visited n q is other =
 -- a page that was visited is none that was not
 pub visited_differs : (visited : List ℕ) (p q : ℕ) → is_visited visited p ≡ true → is_visited visited q ≡ false → p ≡ q → ⊥
 visited_differs visited p q is not same = let never : true ≡ false = sym is ∙ ap (is_visited visited) same ∙ not in absurd (cc)
+
+-- the pages that were visited are visited still
+pub visit_stays : (old new : List ℕ) (n q : ℕ) → Visited old new n → is_visited old q ≡ true → is_visited new q ≡ true
+visit_stays old new n q visit is = subst (λ (m : List ℕ). is_visited m q ≡ true) (sym visit.added) (visited_stays old n q is)
+
+-- and there is one more of them
+pub visit_one_more : (old new : List ℕ) (n : ℕ) → Visited old new n → length new ≡ length old + 1
+visit_one_more old new n visit = ap length visit.added ∙ length-append old (n ∷ [])
 
 -- one more write
 pub written_push : (ws : List (ℕ × List ℕ)) (n : ℕ) (page : List ℕ) (q : ℕ) → is_written (ws ++ (n, page) ∷ []) q ≡ (is_written ws q || (eqb q n || false))

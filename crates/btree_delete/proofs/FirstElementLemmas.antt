@@ -13,8 +13,8 @@ use Rattle.btree_insert.specs.PageTrees.{IsIn, Fan, Body, TreeAt}
 use Rattle.btree_insert.proofs.DistinctPageLemmas.{irreflexive}
 use Rattle.btree_insert.proofs.ElementMapLemmas.{lookup-here}
 use Rattle.btree_insert.proofs.Membership.{each_in, in_each}
-use Rattle.btree_delete.specs.declared.delete_below.Shrunk.{Shrunk}
-use Rattle.btree_delete.specs.declared.subtree.Subtree.{Subtree}
+use Rattle.btree_delete.specs.declared.deletion.delete_below.Shrunk.{Shrunk}
+use Rattle.btree_delete.specs.declared.deletion.subtree.Subtree.{Subtree}
 use Rattle.btree_delete.specs.Treatment.{element_at}
 use Rattle.btree_delete.specs.Shrinking.{MayBeUnderfull, UnderfullGoesUp, MayGoUp, LeavesTree, RemovesBelow, StaysUnvisited, gone, sought}
 use Rattle.btree_delete.specs.Subtrees.{behind, left_bounds, head_page}

@@ -1,11 +1,13 @@
 -- The pages of a file without those that are free.
-use Rattle.std.proofs.Common.{◌≡◌, ℕ, zero, suc, ◌<◌, ◌≤◌, Bool, true, false, cond, ◌||◌, eqb, Option, Some, None, IsSome, List, [], ◌∷◌, length, slice_get, refl, ap, sym, ◌∙◌, subst, arith, Result, Ok, Err, OnOk}
+use Rattle.std.proofs.Common.{◌≡◌, ℕ, zero, suc, ◌<◌, ◌≤◌, Bool, true, false, cond, ◌||◌, ◌&&◌, not, eqb, Option, Some, None, IsSome, List, [], ◌∷◌, length, slice_get, refl, ap, sym, ◌∙◌, subst, arith, Result, Ok, Err, OnOk}
 use Rattle.std.proofs.lemmas.Bool.Decides.{nat_tests}
 use Rattle.std.specs.List.{AllByRecursion}
 use Rattle.page_store.specs.PageMap.{PageMap, at, free_all, after, is_freed, is_written}
 use Rattle.page_store.specs.CanStage.{CanStage}
+use Rattle.page_store.specs.FreeNumbers.{count_after}
 use Rattle.page_store.specs.PagesView.{PagesView, is_in_memory}
 use Rattle.btree_insert.specs.Spelt.{AreSpeltIn}
+use Rattle.btree_delete.specs.Opening.{Frees}
 
 -- what holds of each number in a list holds of all
 pub each_freed : (P : ℕ → Type 0) (xs : List ℕ) → ((n : ℕ) → is_freed xs n ≡ true → P n) → AllByRecursion P xs
@@ -69,6 +71,23 @@ pub pages_freed : {E : Type 0} (r : Result (Unit {0}) E) (pages new : PageMap) (
 pages_freed (Ok x) pages new writes freed free none some all is =
     λ n. is n ∙ ap (λ (ws : List (ℕ × List ℕ)). after pages ws freed n) none ∙ freed_at pages freed n ∙ ap (λ (b : Bool). cond b None (pages n)) (agree (is_freed freed n) (free n) (some n) (all n))
 pages_freed (Err e) pages new writes freed free none some all is = tt
+
+-- what a test and another that fails leave
+first_holds : (held freed : Bool) → (held && not freed) ≡ true → held ≡ true
+first_holds true freed is = refl
+first_holds false freed is = absurd (cc)
+
+-- the same with what the edit leaves of all else
+pub frees_staged : {E : Type 0} (r : Result (Unit {0}) E) (old new : PagesView) (writes : List (ℕ × List ℕ)) (freed : List ℕ) (free : ℕ → Bool) → writes ≡ [] → ((n : ℕ) → is_freed freed n ≡ true → free n ≡ true) → ((n : ℕ) → free n ≡ true → is_freed freed n ≡ true)
+    → OnOk r ((n : ℕ) → at new.pages n ≡ after (at old.pages) writes freed n) → OnOk r (length new.pages ≡ count_after old.pages 0) → OnOk r ((n : ℕ) → is_in_memory new n ≡ ((is_written writes n || is_in_memory old n) && not (is_freed freed n)))
+    → new ≡ record old { pages = new.pages; changed = new.changed; in_memory = new.in_memory } → OnOk r (Frees old new free)
+frees_staged {E} (Ok x) old new writes freed free none some all shown count memory rest = record {
+  pages = pages_freed {E = E} (Ok x) (at old.pages) (at new.pages) writes freed free none some all shown;
+  count = omega (arith, count);
+  in_memory = λ n is. first_holds (is_in_memory old n) (is_freed freed n) (sym (ap (λ (ws : List (ℕ × List ℕ)). (is_written ws n || is_in_memory old n) && not (is_freed freed n)) none) ∙ sym (memory n) ∙ is);
+  rest = rest;
+}
+frees_staged (Err e) old new writes freed free none some all shown count memory rest = tt
 
 -- the pages in memory without those that are free
 pub spelt_left : (k : ℕ) (old new : PagesView) (free : ℕ → Bool) → ((n : ℕ) → is_in_memory new n ≡ true → is_in_memory old n ≡ true) → ((n : ℕ) → at new.pages n ≡ cond (free n) None (at old.pages n)) → AreSpeltIn k old → AreSpeltIn k new

@@ -7,7 +7,7 @@ use Rattle.btree_node.specs.Lists.{Element, IsAt, IsPlace}
 use Rattle.btree_insert.specs.PageTrees.{Spells}
 use Rattle.btree_insert.specs.Reached.{Leads}
 use Rattle.btree_insert.proofs.ReachLemmas.{leads_here, leads_on}
-use Rattle.btree_delete.specs.declared.subtree.Subtree.{Subtree}
+use Rattle.btree_delete.specs.declared.deletion.subtree.Subtree.{Subtree}
 use Rattle.btree_delete.specs.Shrinking.{MayBeUnderfull}
 use Rattle.btree_delete.specs.Subtrees.{son_tree}
 use Rattle.btree_delete.specs.Treatment.{element_at}

@@ -11,8 +11,8 @@ use Rattle.btree_insert.specs.PageTrees.{IsIn, Apart, Body, TreeAt}
 use Rattle.btree_insert.proofs.ChangedTreeLemmas.{body_move}
 use Rattle.btree_insert.proofs.Membership.{in_left, in_right, Apart-right, Apart-across, each_in, in_each}
 use Rattle.btree_insert.proofs.SettledTreeLemmas.{write_here, write_other}
-use Rattle.btree_delete.specs.declared.delete_below.Shrunk.{Shrunk}
-use Rattle.btree_delete.specs.declared.delete_below.Shrunk.TheVariants.{Whole, Underfull}
+use Rattle.btree_delete.specs.declared.deletion.delete_below.Shrunk.{Shrunk}
+use Rattle.btree_delete.specs.declared.deletion.delete_below.Shrunk.TheVariants.{Whole, Underfull}
 use Rattle.btree_delete.specs.Treatment.{Treats, brothers}
 use Rattle.btree_delete.specs.Shrinking.{MayBeUnderfull, WritesOrHandsUp, UnderfullGoesUp, Loses, LeavesTree, TreatsAndSettles, gone, StaysUnvisited, unsettled}
 use Rattle.btree_delete.specs.Tidy.{is_visited, Untouched, IsTidy, IsVisit, done_so_far}

@@ -13,8 +13,8 @@ use Rattle.btree_insert.specs.PageTrees.{IsIn, Apart, TreeAt, Body, Spells}
 use Rattle.btree_insert.proofs.SonsAroundLemmas.{Stands, Focus, focus}
 use Rattle.btree_insert.proofs.HeadNodeLemmas.{Top}
 use Rattle.btree_insert.proofs.VisitedLemmas.{unvisited_below, apart_below}
-use Rattle.btree_delete.specs.declared.delete_below.Shrunk.{Shrunk}
-use Rattle.btree_delete.specs.declared.subtree.Subtree.{Subtree}
+use Rattle.btree_delete.specs.declared.deletion.delete_below.Shrunk.{Shrunk}
+use Rattle.btree_delete.specs.declared.deletion.subtree.Subtree.{Subtree}
 use Rattle.btree_delete.specs.Shrinking.{MayBeUnderfull, RemovesBelow, StaysUnvisited, sought}
 use Rattle.btree_delete.specs.Tidy.{is_visited, visits}
 use Rattle.btree_delete.specs.Treatment.{element_at, son_at}

@@ -10,7 +10,6 @@ use Rattle.rec_types.specs.declared.table.TableFault.TheVariants.{Device, Damage
 use Rattle.page_store.specs.PageMap.{at}
 use Rattle.page_store.specs.PagesView.{PagesView}
 use Rattle.btree_node.specs.Lists.{Element, Ascends}
-use Rattle.btree_insert.specs.Sizes.{greatest_height, greatest_count}
 use Rattle.btree_insert.specs.declared.tree.Tree.{Tree}
 use Rattle.btree_insert.specs.declared.tree.TreeFault.{TreeFault}
 use Rattle.btree_insert.specs.declared.tree.TreeFault.TheVariants.{Device as ReadFailed}
@@ -21,9 +20,9 @@ use Rattle.btree_insert.specs.Elements.{contents_at}
 use Rattle.btree_insert.proofs.ContentsLemmas.{entries-contents_of, len-contents_of}
 use Rattle.btree_insert.proofs.TreeElementLemmas.{contents_set, contents_get}
 use Rattle.btree_insert.proofs.ElementMapLemmas.{one_if_none, put-length}
-use Rattle.btree_delete.specs.TableAnswers.{table_answer, IsSet, IsFull, MayRefuse}
+use Rattle.btree_delete.specs.TableAnswers.{table_answer, IsSet, IsFull, MayRefuse, KeepsLimits, StagesSet, TellsChange}
 use Rattle.btree_insert.specs.Spelt.{AreSpeltIn}
-use Rattle.btree_delete.specs.declared.fault_counts.FaultCounts.{FaultCounts}
+use Rattle.btree_delete.specs.declared.table.fault_counts.FaultCounts.{FaultCounts}
 use Rattle.btree_delete.specs.TableView.{TableView, Fills, IsClosed, IsTable, table_contents, table_of}
 use Rattle.btree_delete.proofs.ClosedFileLemmas.{held_contents}
 
@@ -112,12 +111,12 @@ module _ (here now : TableView) (new : List (Option (List ℕ))) (key : List ℕ
   set_value next before r_is = (done next before r_is).answer ∙ looked_up here now key same is steady2
 
   -- the records after it
-  pub set_contents : (next : Tree) (before : Option (List ℕ)) → r ≡ Ok (next, before) → IfOk r (λ x. x.0.order ≡ here.tree.order) → contents_at next.order (at new) next.height next.root ≡ set_to (table_contents now) key to
-  set_contents next before r_is order =
+  pub set_contents : (next : Tree) (before : Option (List ℕ)) → r ≡ Ok (next, before) → IfOk r (λ x. KeepsLimits here.tree x.0) → contents_at next.order (at new) next.height next.root ≡ set_to (table_contents now) key to
+  set_contents next before r_is limits =
       let held = is.holds steady2 in
       let set = done next before r_is in
-      let order2 = subst (λ (r : Result (Tree × Option (List ℕ)) TableFault). IfOk r (λ x. x.0.order ≡ here.tree.order)) r_is order in
-      contents_set (at here.pages.pages) (at new) here.tree next held.es held.us set.vs key to is.tree.order.1 order2 held.fills.holds set.fills.holds
+      let kept = subst (λ (r : Result (Tree × Option (List ℕ)) TableFault). IfOk r (λ x. KeepsLimits here.tree x.0)) r_is limits in
+      contents_set (at here.pages.pages) (at new) here.tree next held.es held.us set.vs key to is.tree.order.1 kept.order held.fills.holds set.fills.holds
       ∙ ap (λ (t : TableView). set_to (table_contents t) key to) same
 
   -- a new key is not put where there are as many records as there may be
@@ -156,32 +155,31 @@ idle_of t pages next None None out_none out put idle = out_none refl refl
 
 -- the table after it
 pub set_table : (t : TableView) (pages : PagesView) (key : List ℕ) (to : Option (List ℕ)) (r : Result (Tree × Option (List ℕ)) TableFault) (next : Tree) (before : Option (List ℕ)) (faults : FaultCounts) (calls : TableCalls) → IsTable t → Changes t pages.pages key to r → r ≡ Ok (next, before)
-    → IfOk r (λ x. (x.0.height ≤ greatest_height) × (x.0.count ≤ greatest_count) × (x.0.used ≤ greatest_count)) → IfOk r (λ x. x.0.order ≡ t.tree.order) → (to ≡ None → IfOk r (λ x. x.1 ≡ None → IsIdle t pages x.0)) → (to ≡ None → IfOk r (λ x. IsSome x.1 → pages.changed ≡ true)) → (IsSome to → IsOk r → pages.changed ≡ true)
-    → pages.stored ≡ t.pages.stored → pages.tail ≡ t.pages.tail → pages.steady ≡ t.pages.steady → AreSpeltIn t.tree.order pages → IsTable (table_of pages next t.limit faults calls)
-set_table t pages key to r next before faults calls is call r_is small order out_none out put stored tail steady_is spelt =
-    let small2 = subst (λ (r : Result (Tree × Option (List ℕ)) TableFault). IfOk r (λ x. (x.0.height ≤ greatest_height) × (x.0.count ≤ greatest_count) × (x.0.used ≤ greatest_count))) r_is small in
-    let order2 = subst (λ (r : Result (Tree × Option (List ℕ)) TableFault). IfOk r (λ x. x.0.order ≡ t.tree.order)) r_is order in
+    → IfOk r (λ x. KeepsLimits t.tree x.0) → TellsChange t.tree to t.pages r pages → StagesSet t.pages r pages → AreSpeltIn t.tree.order pages → IsTable (table_of pages next t.limit faults calls)
+set_table t pages key to r next before faults calls is call r_is limits tells stages spelt =
+    let kept = subst (λ (r : Result (Tree × Option (List ℕ)) TableFault). IfOk r (λ x. KeepsLimits t.tree x.0)) r_is limits in
+    let steady_is = ap (λ (v : PagesView). v.steady) stages.store in
     let ok = subst (λ (r : Result (Tree × Option (List ℕ)) TableFault). IsOk r) (sym r_is) refl in
     let done : (steady : IsTrue pages.steady) → IsSet pages.pages next t.limit (is.holds (sym steady_is ∙ steady)).es key to before = λ steady. set_answer t pages.pages key to r (Ok (next, before)) is (sym steady_is ∙ steady) call r_is in
     record {
       tree = record {
-        order = (omega (arith, is.tree.order.0, order2), omega (arith, is.tree.order.1, order2));
-        height = small2.0;
-        count = small2.1;
-        used = small2.2;
+        order = (omega (arith, is.tree.order.0, kept.order), omega (arith, is.tree.order.1, kept.order));
+        height = kept.height;
+        count = kept.count;
+        used = kept.used;
       };
       count = λ steady. (done steady).few;
       limit = is.limit;
-      spelt = subst (λ (k : ℕ). AreSpeltIn k pages) (sym order2) spelt;
+      spelt = subst (λ (k : ℕ). AreSpeltIn k pages) (sym kept.order) spelt;
       holds = λ steady. record { es = set_in key to (is.holds (sym steady_is ∙ steady)).es; us = (done steady).vs; fills = (done steady).fills };
       closed = λ steady idle.
-          let none = subst (λ (r : Result (Tree × Option (List ℕ)) TableFault). to ≡ None → IfOk r (λ x. x.1 ≡ None → IsIdle t pages x.0)) r_is out_none in
-          let some = subst (λ (r : Result (Tree × Option (List ℕ)) TableFault). to ≡ None → IfOk r (λ x. IsSome x.1 → pages.changed ≡ true)) r_is out in
-          let as_was = idle_of t pages next to before none some (λ puts. put puts ok) idle in
+          let none = subst (λ (r : Result (Tree × Option (List ℕ)) TableFault). to ≡ None → IfOk r (λ x. x.1 ≡ None → IsIdle t pages x.0)) r_is tells.absent in
+          let some = subst (λ (r : Result (Tree × Option (List ℕ)) TableFault). to ≡ None → IfOk r (λ x. IsSome x.1 → pages.changed ≡ true)) r_is tells.taken_out in
+          let as_was = idle_of t pages next to before none some (λ puts. tells.put puts ok) idle in
           let closed = is.closed (sym steady_is ∙ steady) (sym as_was.2 ∙ idle) in
           let same : table_contents t ≡ contents_at next.order (at pages.pages) next.height next.root = λ i. contents_at (sym as_was.0 i).order (at (sym as_was.1 i)) (sym as_was.0 i).height (sym as_was.0 i).root in
-          subst (λ (ps : List (List ℕ)). IsClosed 2 ps pages.tail next (contents_at next.order (at pages.pages) next.height next.root)) (sym stored)
-          (subst (λ (n : ℕ). IsClosed 2 t.pages.stored n next (contents_at next.order (at pages.pages) next.height next.root)) (sym tail)
+          subst (λ (ps : List (List ℕ)). IsClosed 2 ps pages.tail next (contents_at next.order (at pages.pages) next.height next.root)) (sym (ap (λ (v : PagesView). v.stored) stages.store))
+          (subst (λ (n : ℕ). IsClosed 2 t.pages.stored n next (contents_at next.order (at pages.pages) next.height next.root)) (sym (ap (λ (v : PagesView). v.tail) stages.store))
           (subst (λ (x : Tree). IsClosed 2 t.pages.stored t.pages.tail x (contents_at next.order (at pages.pages) next.height next.root)) (sym as_was.0)
           (subst (λ (m : Contents). IsClosed 2 t.pages.stored t.pages.tail t.tree m) same closed)));
     }

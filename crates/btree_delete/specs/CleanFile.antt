@@ -16,8 +16,8 @@ use Rattle.btree_insert.specs.declared.tree.TreeFault.{TreeFault}
 use Rattle.btree_insert.specs.declared.tree.TreeFault.TheVariants.{Device as ReadFailed, Damaged as NoTreePage, Memory as NoMemory}
 use Rattle.btree_insert.specs.PageTrees.{IsIn, Holds, HoldsIn}
 use Rattle.btree_node.specs.Layout.{first_version, layout_of}
-use Rattle.btree_delete.specs.declared.open_fault.OpenFault.{OpenFault}
-use Rattle.btree_delete.specs.declared.open_fault.OpenFault.TheVariants.{Device, BadLength, BadMagic, BadVersion, BadOrder, NotClean, BadHeader, Damaged, WrongCount, TooManyRecords, Memory}
+use Rattle.btree_delete.specs.declared.opening.open_fault.OpenFault.{OpenFault}
+use Rattle.btree_delete.specs.declared.opening.open_fault.OpenFault.TheVariants.{Device, BadLength, BadMagic, BadVersion, BadOrder, NotClean, BadHeader, Damaged, WrongCount, TooManyRecords, Memory}
 
 -- the pages of a file by their numbers: page 0 is no page of the tree
 abbrev pub in_file : List (List ℕ) → PageMap

@@ -2,8 +2,8 @@
 use Rattle.std.specs.Prelude.{◌≡◌, ℕ, Bool, true, false, List, length, Result, Ok, Err}
 pub use Rattle.btree_node.specs.Layout.{IsOrder}
 use Rattle.btree_insert.specs.declared.tree.Tree.{Tree}
-use Rattle.btree_delete.specs.declared.tree_table.CreateFault.{CreateFault}
-use Rattle.btree_delete.specs.declared.tree_table.CreateFault.TheVariants.{BadOrder, Device, NotEmpty}
+use Rattle.btree_delete.specs.declared.table.tree_table.CreateFault.{CreateFault}
+use Rattle.btree_delete.specs.declared.table.tree_table.CreateFault.TheVariants.{BadOrder, Device, NotEmpty}
 use Rattle.btree_delete.specs.TableView.{TableView}
 
 -- a store with no page and no further byte
@@ -36,6 +36,12 @@ abbrev pub is_create_device_fault : CreateFault → Bool
 is_create_device_fault BadOrder = false
 is_create_device_fault Device = true
 is_create_device_fault NotEmpty = false
+
+-- whether the store was asked for its shape
+abbrev pub asks_shape : CreateFault → Bool
+asks_shape BadOrder = false
+asks_shape Device = true
+asks_shape NotEmpty = true
 
 abbrev pub is_create_device : {X : Type 0} → Result X CreateFault → Bool
 is_create_device (Ok x) = false

@@ -1,5 +1,5 @@
 -- What a deletion from a tree comes to.
-use Rattle.std.specs.Prelude.{◌≡◌, ℕ, List, Option, None, IsSome}
+use Rattle.std.specs.Prelude.{◌≡◌, ℕ, ◌≤◌, List, Option, None, IsSome}
 use Rattle.page_store.specs.PageMap.{PageMap}
 use Rattle.btree_node.specs.Lists.{Element}
 use Rattle.btree_insert.specs.declared.tree.Tree.{Tree}
@@ -16,6 +16,13 @@ pub record Deleted (old new : PageMap) (tree : Tree) (es : List Element) (us : L
   pub answer : answered.1 ≡ lookup_in key es
   pub order : answered.0.order ≡ tree.order
   pub left : PagesLeft old new us vs
+
+-- a tree of the same order that is no larger
+pub record IsNoLarger (tree next : Tree) : Type 0 where
+  pub order : next.order ≡ tree.order
+  pub height : next.height ≤ tree.height
+  pub count : next.count ≤ tree.count
+  pub used : next.used ≤ tree.used
 
 -- why a key wasn't taken out, given what stands at it: the device failed, or memory was refused; for an absent key none is asked for
 abbrev pub MayStop : Option (List ℕ) → TreeFault → Type 0

@@ -1,13 +1,16 @@
 pub mod PagesLeft
 pub mod Deleted
+pub mod Edits
 pub mod Tidy
 pub mod Treatment
 pub mod Subtrees
 pub mod Shrinking
 pub mod Survey
 pub mod CleanFile
+pub mod Opening
 pub mod Closing
 pub mod FileExamples
 pub mod TableView
+pub mod Origins
 pub mod Created
 pub mod TableAnswers

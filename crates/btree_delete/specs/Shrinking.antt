@@ -1,22 +1,23 @@
 -- What a deletion below a page comes to.
-use Rattle.std.specs.Prelude.{◌≡◌, ℕ, suc, ◌+◌, ◌-◌, ◌*◌, ◌<◌, ◌≤◌, false, List, [], ◌∷◌, ◌++◌, length, Option, Some, None, IsSome, take, slice_index_or}
-use Rattle.page_store.specs.PageMap.{PageMap}
+use Rattle.std.specs.Prelude.{◌≡◌, ℕ, suc, ◌+◌, ◌-◌, ◌*◌, ◌<◌, ◌≤◌, true, false, List, [], ◌∷◌, ◌++◌, length, Option, Some, None, IsSome, take, slice_index_or}
+use Rattle.page_store.specs.PageMap.{PageMap, at}
 use Rattle.btree_node.specs.declared.node.Node.{Node}
+use Rattle.btree_node.specs.Layout.{IsOrder}
 use Rattle.btree_node.specs.Lists.{Element, Each, Ascends}
 use Rattle.btree_node.specs.Spelling.{spelling, IsElement, SonsFit}
 use Rattle.btree_insert.specs.declared.bounds.Bounds.{Bounds}
 use Rattle.btree_insert.specs.declared.tree.Tree.{Tree}
-use Rattle.btree_insert.specs.Bounds.{AreWithin}
+use Rattle.btree_insert.specs.Bounds.{AreWithin, son_bounds}
 use Rattle.btree_insert.specs.Contents.{lookup_in, set_in}
 use Rattle.btree_insert.specs.Growth.{IsWithin}
 use Rattle.btree_insert.specs.PageTrees.{IsIn, Body, TreeAt, kind_of_level}
-use Rattle.btree_delete.specs.declared.subtree.Subtree.{Subtree}
-use Rattle.btree_delete.specs.declared.delete_below.Shrunk.{Shrunk}
-use Rattle.btree_delete.specs.declared.delete_below.Shrunk.TheVariants.{Whole, Underfull}
+use Rattle.btree_delete.specs.declared.deletion.subtree.Subtree.{Subtree}
+use Rattle.btree_delete.specs.declared.deletion.delete_below.Shrunk.{Shrunk}
+use Rattle.btree_delete.specs.declared.deletion.delete_below.Shrunk.TheVariants.{Whole, Underfull}
 use Rattle.btree_delete.specs.PagesLeft.{PagesLeft, PagesFreed}
-use Rattle.btree_delete.specs.Treatment.{Brothers, Treats}
+use Rattle.btree_delete.specs.Treatment.{son_at, Brothers, Treats}
 use Rattle.btree_delete.specs.Subtrees.{HeadPage, left_bounds}
-use Rattle.btree_delete.specs.Tidy.{is_visited, Untouched, DoneSoFar, done_so_far, Visits}
+use Rattle.btree_delete.specs.Tidy.{is_visited, most_visited, Untouched, IsAwaited, IsTidy, IsVisit, DoneSoFar, done_so_far, Visits}
 
 -- a node of a level, within bounds, that fits a page but for the least number of keys
 pub record MayBeUnderfull (k height : ℕ) (bounds : Bounds) (n : Node) : Type 0 where
@@ -26,6 +27,66 @@ pub record MayBeUnderfull (k height : ℕ) (bounds : Bounds) (n : Node) : Type 0
   pub ascends : Ascends n.elements.items
   pub within : AreWithin bounds n.elements.items
   pub sons : SonsFit n.kind (length n.elements.items) n.sons.items
+
+-- a tree of an order that has a page
+pub record IsSubtree (t : Subtree) : Type 0 where
+  pub order : IsOrder t.order
+  pub height : 0 < t.height
+
+-- the node at the head of a tree, with an element i
+pub record HasElement (t : Subtree) (n : Node) (i : ℕ) : Type 0 where
+  pub tree : IsSubtree t
+  pub node : MayBeUnderfull t.order t.height t.bounds n
+  pub place : i < length n.elements.items
+
+-- the head of a tree was visited, and there is room for the pages that are visited below it
+pub record IsReached (visited : List ℕ) (t : Subtree) : Type 0 where
+  pub here : is_visited visited t.page ≡ true
+  pub levels : length visited + 2 * t.height ≤ most_visited + 2
+
+-- a father at the head of a tree, and the node of its son i, of which either may be underfull
+pub record HasSon (t : Subtree) (f : Node) (i : ℕ) (s : Node) : Type 0 where
+  pub order : IsOrder t.order
+  pub height : 2 ≤ t.height
+  pub father : MayBeUnderfull t.order t.height t.bounds f
+  pub some : 0 < length f.elements.items
+  pub place : i ≤ length f.elements.items
+  pub son : MayBeUnderfull t.order (t.height - 1) (son_bounds f.elements.items i t.bounds) s
+
+-- the son's page was visited, and waits for its treatment with a brother
+pub record CanTreat (pages : List (Option (List ℕ))) (visited : List ℕ) (done : DoneSoFar) (t : Subtree) (f : Node) (i : ℕ) (s : Node) : Type 0 where
+  pub sons : HasSon t f i s
+  pub room : length visited < most_visited
+  pub in_use : IsSome (at pages (son_at f i))
+  pub tidy : IsTidy pages visited done.writes done.freed
+  pub awaited : IsAwaited visited done (son_at f i)
+
+-- one page more was visited, and of those that were before only the son's was written or freed
+pub record TreatsSon (pages : List (Option (List ℕ))) (visited : Visits) (old new : DoneSoFar) (son : ℕ) : Type 0 where
+  pub tidy : IsTidy pages visited.now new.writes new.freed
+  pub others : (q : ℕ) → is_visited visited.before q ≡ true → (q ≡ son → ⊥) → Untouched old.writes old.freed q → Untouched new.writes new.freed q
+  pub stays : (q : ℕ) → is_visited visited.before q ≡ true → is_visited visited.now q ≡ true
+  pub one_more : length visited.now ≡ length visited.before + 1
+
+-- the same, but that the father's page may be written, too
+pub record SettlesFather (pages : List (Option (List ℕ))) (visited : Visits) (old new : DoneSoFar) (son page : ℕ) : Type 0 where
+  pub tidy : IsSome (at pages page) → IsTidy pages visited.now new.writes new.freed
+  pub others : (q : ℕ) → is_visited visited.before q ≡ true → (q ≡ son → ⊥) → (q ≡ page → ⊥) → Untouched old.writes old.freed q → Untouched new.writes new.freed q
+  pub stays : (q : ℕ) → is_visited visited.before q ≡ true → is_visited visited.now q ≡ true
+  pub one_more : length visited.now ≡ length visited.before + 1
+
+-- an element was taken out of the head of a tree: of the pages that were visited before, only the head was written or freed
+pub record TakesHere (pages : List (Option (List ℕ))) (visited : Visits) (done : DoneSoFar) (t : Subtree) : Type 0 where
+  pub tidy : IsSome (at pages t.page) → IsTidy pages visited.now done.writes done.freed
+  pub older : (q : ℕ) → is_visited visited.before q ≡ true → (q ≡ t.page → ⊥) → Untouched done.writes done.freed q
+  pub stays : (q : ℕ) → is_visited visited.before q ≡ true → is_visited visited.now q ≡ true
+  pub few : length visited.now + 2 ≤ length visited.before + 2 * t.height
+
+-- a tree was visited, of which the first page is in use
+pub record VisitsBelow (pages : List (Option (List ℕ))) (visited : Visits) (done : DoneSoFar) (t : Subtree) : Type 0 where
+  pub in_use : IsSome (at pages t.page)
+  pub tidy : IsTidy pages visited.now done.writes done.freed
+  pub visit : IsVisit visited.before visited.now done.writes done.freed t.height t.page
 
 -- the node was written as page n, or it is underfull
 abbrev pub WritesOrHandsUp : ℕ → List (ℕ × List ℕ) → List (ℕ × List ℕ) → ℕ → Element → Node → Shrunk → Type 0

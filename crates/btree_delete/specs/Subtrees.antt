@@ -4,7 +4,7 @@ use Rattle.btree_node.specs.declared.node.Node.{Node}
 use Rattle.btree_node.specs.Lists.{Element}
 use Rattle.btree_insert.specs.declared.bounds.Bounds.{Bounds}
 use Rattle.btree_insert.specs.Bounds.{son_bounds}
-use Rattle.btree_delete.specs.declared.subtree.Subtree.{Subtree}
+use Rattle.btree_delete.specs.declared.deletion.subtree.Subtree.{Subtree}
 use Rattle.btree_delete.specs.Treatment.{son_at}
 
 -- the tree below son i of the node at the head of a tree

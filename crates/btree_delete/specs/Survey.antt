@@ -1,17 +1,20 @@
 -- What a walk that looks at each page of a tree once goes through.
-use Rattle.std.specs.Prelude.{◌≡◌, ℕ, zero, suc, ◌+◌, ◌-◌, ◌<◌, ◌≤◌, ◌↔◌, Bool, true, false, ◌⊎◌, List, [], ◌∷◌, length, replicate, Option, Some, None, slice_index_or, slice_set, IsTrue}
+use Rattle.std.specs.Prelude.{◌≡◌, ◌≢◌, ℕ, zero, suc, ◌+◌, ◌-◌, ◌<◌, ◌≤◌, ◌↔◌, Bool, true, false, ◌⊎◌, List, [], ◌∷◌, length, replicate, Option, Some, None, slice_index_or, slice_set, IsTrue}
+use Rattle.rec_types.specs.Table.{counted}
 use Rattle.page_store.specs.PageMap.{PageMap, at}
 use Rattle.page_store.specs.Calls.{counted_times}
 use Rattle.btree_node.specs.Lists.{Element, Ascends}
 use Rattle.btree_insert.specs.Sizes.{greatest_height}
 use Rattle.btree_insert.specs.declared.bounds.Bounds.{Bounds}
 use Rattle.btree_insert.specs.declared.tree.Tree.{Tree}
-use Rattle.btree_insert.specs.Bounds.{Between}
+use Rattle.btree_insert.specs.Bounds.{AreWithin, Between}
 use Rattle.btree_insert.specs.PageTrees.{IsIn, Apart, Fan, SpellsIn, Spells, TreeIn, RootIn, HoldsIn}
 use Rattle.btree_insert.specs.Spelt.{AreSpeltIn}
+use Rattle.btree_node.specs.Layout.{first_version}
+use Rattle.btree_node.specs.Spelling.{CanStandIn}
 use Rattle.btree_node.specs.declared.layout.Layout.{Layout}
 use Rattle.btree_node.specs.declared.node.Node.{Node}
-use Rattle.page_store.specs.PagesView.{PagesView, is_in_memory}
+use Rattle.page_store.specs.PagesView.{PagesView, is_in_memory, OnlyReads, OnlyStages}
 use Rattle.btree_delete.specs.CleanFile.{in_file}
 
 -- which pages were reached, how many levels below the most a tree may have the first leaf stood, and how many keys were met
@@ -144,3 +147,23 @@ pub record AreKept (layout : Layout) (k : ℕ) (v : PagesView) (reached : List B
   pub unread : (q : ℕ) → slice_index_or reached q true ≡ false → (at v.pages q ≡ stored_page v q) × (is_in_memory v q ≡ false)
   pub respelt : IsTrue v.steady → (q : ℕ) → slice_index_or reached q false ≡ true → IsRespelt layout k v q
   pub spelt : AreSpeltIn k v
+
+-- a node that was read: it can stand in a page, has at least so many keys, and all of them within the bounds
+pub record StandsWithin (layout : Layout) (k least : ℕ) (bounds : Bounds) (n : Node) : Type 0 where
+  pub stands : CanStandIn layout n k
+  pub enough : least ≤ length n.elements.items
+  pub within : AreWithin bounds n.elements.items
+
+-- the pages of a file of that version were read, and those of the first version put into memory; and whether a read failed
+pub record Surveys (version : ℕ) (failed : Bool) (old new : PagesView) : Type 0 where
+  pub store : OnlyStages old new
+  pub device : new.failures ≡ counted old.failures failed
+  pub same : version ≢ first_version → OnlyReads old new
+
+-- how the pages are left: those in use spell their nodes as they are written, and the free ones are as they are stored
+pub record LeavesFile (layout : Layout) (k : ℕ) (old new : PagesView) (free : ℕ → Bool) : Type 0 where
+  pub free_fits : (n : ℕ) → IsTrue (free n) → (1 ≤ n) × (n < length old.pages)
+  pub free_stay : (q : ℕ) → free q ≡ true → at new.pages q ≡ stored_page new q
+  pub respelt : IsTrue old.steady → (q : ℕ) → 1 ≤ q → q < length old.pages → free q ≡ false → IsRespelt layout k new q
+  pub whole : length new.pages ≡ length new.stored
+  pub spelt : AreSpeltIn k new

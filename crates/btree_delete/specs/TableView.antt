@@ -15,7 +15,7 @@ use Rattle.rec_types.specs.Contents.{Contents}
 use Rattle.rec_types.specs.LimitBounds.{most_records}
 use Rattle.rec_types.specs.Table.{Damages}
 use Rattle.rec_types.specs.declared.table_calls.TableCalls.{TableCalls}
-use Rattle.btree_delete.specs.declared.fault_counts.FaultCounts.{FaultCounts}
+use Rattle.btree_delete.specs.declared.table.fault_counts.FaultCounts.{FaultCounts}
 use Rattle.btree_delete.specs.CleanFile.{IsCleanFile}
 
 -- the pages, the tree in them, how many records there may be, how many calls a refused growth ended, what was told of damaged pages, and how often the table was called

@@ -1,5 +1,5 @@
 -- What a deletion has visited, written and freed so far.
-use Rattle.std.specs.Prelude.{◌≡◌, ℕ, ◌+◌, ◌-◌, ◌*◌, ◌≤◌, Bool, true, false, List, length, Option, IsSome, ◌==◌}
+use Rattle.std.specs.Prelude.{◌≡◌, ℕ, ◌+◌, ◌-◌, ◌*◌, ◌≤◌, Bool, true, false, List, [], ◌∷◌, ◌++◌, length, Option, IsSome, ◌==◌}
 use Rattle.std.specs.List.{AllByRecursion, list_any}
 use Rattle.page_store.specs.PageMap.{at, is_written, is_freed}
 use Rattle.page_store.specs.declared.page_edit.PageEdit.{PageEdit}
@@ -36,6 +36,16 @@ is_visited visited q = list_any (λ m. m == q) visited
 pub record Untouched (writes : List (ℕ × List ℕ)) (freed : List ℕ) (q : ℕ) : Type 0 where
   pub unwritten : is_written writes q ≡ false
   pub kept : is_freed freed q ≡ false
+
+-- page n was visited for the first time
+pub record Visited (old new : List ℕ) (n : ℕ) : Type 0 where
+  pub added : new ≡ old ++ n ∷ []
+  pub fresh : is_visited old n ≡ false
+
+-- page n was visited, and is neither written nor freed so far
+pub record IsAwaited (visited : List ℕ) (done : DoneSoFar) (n : ℕ) : Type 0 where
+  pub here : is_visited visited n ≡ true
+  pub kept : Untouched done.writes done.freed n
 
 -- what is written and freed was visited and is in use, and nothing is both
 pub record IsTidy (pages : List (Option (List ℕ))) (visited : List ℕ) (writes : List (ℕ × List ℕ)) (freed : List ℕ) : Type 0 where

@@ -67,7 +67,12 @@ then_calls old mid new calls more is later = later ∙ ap (λ k. counted_times k
 pub all_calls : (old new calls most : ℕ) → 1 ≤ calls → calls ≤ most → new ≡ counted_times old calls → CountedUpTo most old new
 all_calls old new calls most some few is = (calls, some, few, is)
 
--- what holds anyway holds at a fault
+-- what holds anyway holds of a value
+pub always : {A E P : Type 0} (r : Result A E) → P → OnOk r P
+always (Ok x) p = p
+always (Err e) p = tt
+
+-- and at a fault
 pub on_err : {A E P : Type 0} (r : Result A E) → P → OnErr r P
 on_err (Ok x) p = tt
 on_err (Err e) p = p

@@ -6,5 +6,6 @@ pub record OpenedFile : Type 0 where
   pub tail : ℕ
   pub steady : Bool
   pub reads : ℕ
+  pub shapes : ℕ
   pub writes : ℕ
   pub failures : ℕ

@@ -12,6 +12,7 @@ pub record PagesView : Type 0 where
   pub tail : ℕ
   pub steady : Bool
   pub reads : ℕ
+  pub shapes : ℕ
   pub writes : ℕ
   pub failures : ℕ
   pub journal : Option Journal

@@ -1,5 +1,5 @@
 -- What each call of a store leaves as it was, and what it counts.
-use Rattle.std.specs.Prelude.{◌≡◌, Bool, true, [], ◌∷◌, Result, OnOk, OnErr}
+use Rattle.std.specs.Prelude.{◌≡◌, Bool, true, not, [], ◌∷◌, Result, OnOk, OnErr}
 use Rattle.rec_types.specs.Table.{counted}
 use Rattle.page_store.specs.Journal.{noted}
 use Rattle.page_store.specs.StoreFaults.{is_failed}
@@ -15,16 +15,18 @@ pub record StaysStore {S : Type 0} (s : Ghosts S) (old new : S) : Type 0 where
   pub writes : s.writes new ≡ s.writes old
   pub journal : s.journal new ≡ s.journal old
 
--- a call that changes no page, and is a read or none
+-- a call that changes no page: a read, or one that asks for the shape
 pub record LeavesStore {S A : Type 0} (s : Ghosts S) (read : Bool) (old : S) (answer : Result A StoreFault) (new : S) : Type 0 where
   pub stays : StaysStore s old new
   pub reads : s.reads new ≡ counted (s.reads old) read
+  pub shapes : s.shapes new ≡ counted (s.shapes old) (not read)
   pub failures : s.failures new ≡ counted (s.failures old) (is_failed answer)
 
 -- a changing call, and the step that it is
 pub record ChangesStore {S A : Type 0} (s : Ghosts S) (step : Step) (old : S) (answer : Result A StoreFault) (new : S) : Type 0 where
   pub steady : s.steady new ≡ s.steady old
   pub reads : s.reads new ≡ s.reads old
+  pub shapes : s.shapes new ≡ s.shapes old
   pub writes : s.writes new ≡ counted (s.writes old) true
   pub failures : s.failures new ≡ counted (s.failures old) (is_failed answer)
   pub journal : OnOk answer (s.journal new ≡ noted (s.journal old) (step ∷ []))

@@ -5,4 +5,5 @@ pub record StoredPages : Type 0 where
   pub pages : List (List ℕ)
   pub tail : ℕ
   pub reads : ℕ
+  pub shapes : ℕ
   pub writes : ℕ

@@ -1,7 +1,7 @@
-ghost use Rattle.std.specs.Prelude.{◌≡◌, ◌*◌, ◌<◌, ◌↔◌, [], IfOk, IfErr, IsOk};
+ghost use Rattle.std.specs.Prelude.{◌≡◌, ◌*◌, ◌<◌, ◌↔◌, [], IfOk, IsOk};
 ghost use Rattle.rec_types.specs.Table.{counted};
 ghost use Rattle.rec_types.specs.Widths.{page_width};
-ghost use Rattle.page_store.specs.StoreFaults.{is_failed};
+ghost use Rattle.page_store.specs.StoreFaults.{is_failed, OnlyFails};
 
 use crate::count::count_up;
 use crate::lock::Lock;
@@ -27,6 +27,7 @@ pub struct FileStore<F> {
     pages: u64,
     tail: u16,
     reads: u64,
+    shapes: u64,
     writes: u64,
     failures: u64,
 }
@@ -45,6 +46,7 @@ impl<F> Model for FileStore<F> {
       tail = s.tail;
       steady = gives_back;
       reads = s.reads;
+      shapes = s.shapes;
       writes = s.writes;
       failures = s.failures;
     } };
@@ -57,9 +59,10 @@ impl<F: OpenFile + FileExt + Lock + Drop> FileStore<F> {
     /// as where there is no file or another opening has a lock.
     pub fn open_path<R: Files<File = F>>(rt: &R, path: &str) -> Result<FileStore<F>, StoreFault>
         ensures counts { IfOk result
-            (λ store. (store.reads ≡ 0) × (store.writes ≡ 0) × (store.failures ≡ 0)) }
+            (λ store. (store.reads ≡ 0) × (store.shapes ≡ 0) × (store.writes ≡ 0)
+            × (store.failures ≡ 0)) }
         ensures tail { IfOk result (λ store. store.tail < page_width) }
-        ensures fault { IfErr result (λ fault. fault ≡ StoreFault.Failed) }
+        ensures fault { OnlyFails result }
     {
         let file = OpenOptions::new().read(true).write(true).open(rt, path)?;
         file.try_lock()?;
@@ -70,9 +73,10 @@ impl<F: OpenFile + FileExt + Lock + Drop> FileStore<F> {
     /// Fault: Failed, as where there is no file or a writer has a lock.
     pub fn open_to_read<R: Files<File = F>>(rt: &R, path: &str) -> Result<FileStore<F>, StoreFault>
         ensures counts { IfOk result
-            (λ store. (store.reads ≡ 0) × (store.writes ≡ 0) × (store.failures ≡ 0)) }
+            (λ store. (store.reads ≡ 0) × (store.shapes ≡ 0) × (store.writes ≡ 0)
+            × (store.failures ≡ 0)) }
         ensures tail { IfOk result (λ store. store.tail < page_width) }
-        ensures fault { IfErr result (λ fault. fault ≡ StoreFault.Failed) }
+        ensures fault { OnlyFails result }
     {
         let file = OpenOptions::new().read(true).open(rt, path)?;
         file.try_lock_shared()?;
@@ -87,10 +91,11 @@ impl<F: OpenFile + FileExt + Lock + Drop> FileStore<F> {
           tail = 0;
           steady = store.steady;
           reads = 0;
+          shapes = 0;
           writes = 0;
           failures = 0;
         }) }
-        ensures fault { IfErr result (λ fault. fault ≡ StoreFault.Failed) }
+        ensures fault { OnlyFails result }
     {
         let file = OpenOptions::new()
             .read(true)
@@ -103,6 +108,7 @@ impl<F: OpenFile + FileExt + Lock + Drop> FileStore<F> {
             pages: 0,
             tail: 0,
             reads: 0,
+            shapes: 0,
             writes: 0,
             failures: 0,
         })
@@ -111,9 +117,10 @@ impl<F: OpenFile + FileExt + Lock + Drop> FileStore<F> {
     // A store over a file that was opened. Fault: Failed.
     fn over(file: F) -> Result<FileStore<F>, StoreFault>
         ensures counts { IfOk result
-            (λ store. (store.reads ≡ 0) × (store.writes ≡ 0) × (store.failures ≡ 0)) }
+            (λ store. (store.reads ≡ 0) × (store.shapes ≡ 0) × (store.writes ≡ 0)
+            × (store.failures ≡ 0)) }
         ensures tail { IfOk result (λ store. store.tail < page_width) }
-        ensures fault { IfErr result (λ fault. fault ≡ StoreFault.Failed) }
+        ensures fault { OnlyFails result }
     {
         let len = file.metadata()?.len();
         Ok(FileStore {
@@ -121,6 +128,7 @@ impl<F: OpenFile + FileExt + Lock + Drop> FileStore<F> {
             pages: len / PAGE_BYTES,
             tail: (len % PAGE_BYTES) as u16,
             reads: 0,
+            shapes: 0,
             writes: 0,
             failures: 0,
         })
@@ -138,7 +146,7 @@ fn page_start(n: u32) -> u64
 fn noted(failures: &mut u64, answer: io::Result<()>) -> Result<(), StoreFault>
     ensures failures { failures.new ≡ counted failures.old (is_failed result) }
     ensures told { IsOk result ↔ IsOk answer }
-    ensures fault { IfErr result (λ fault. fault ≡ StoreFault.Failed) }
+    ensures fault { OnlyFails result }
 {
     if answer.is_err() {
         count_up(failures);
@@ -158,6 +166,8 @@ impl<F: OpenFile + FileExt + Drop> StoreState for FileStore<F> {
 
     ghost reads = { λ s. s.reads };
 
+    ghost shapes = { λ s. s.shapes };
+
     ghost writes = { λ s. s.writes };
 
     ghost failures = { λ s. s.failures };
@@ -167,6 +177,7 @@ impl<F: OpenFile + FileExt + Drop> StoreState for FileStore<F> {
 
 impl<F: OpenFile + FileExt + Drop> Store for FileStore<F> {
     fn shape(&mut self) -> Result<Shape, StoreFault> {
+        count_up(&mut self.shapes);
         Ok(Shape {
             pages: self.pages,
             tail: self.tail,

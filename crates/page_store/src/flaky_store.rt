@@ -1,11 +1,11 @@
-ghost use Rattle.std.specs.Prelude.{◌≡◌, ◌≢◌, ℕ, ◌-◌, ◌<◌, ◌≤◌, ◌++◌, List, length, IsTrue, true, false, Some, Err, IfOk, OnOk, OnErr, slice_get, slice_set};
+ghost use Rattle.std.specs.Prelude.{◌≡◌, ℕ, ◌-◌, ◌<◌, ◌≤◌, ◌++◌, List, length, IsTrue, true, false, Some, Err, IfOk, OnOk, OnErr, slice_get, slice_set};
 ghost use Rattle.rec_types.specs.Table.{counted};
 ghost use Rattle.rec_types.specs.Widths.{page_width};
 ghost use Rattle.page_store.specs.Blank.{blanks};
 ghost use Rattle.page_store.specs.Growth.{GrowsTo};
 ghost use Rattle.page_store.specs.StoreCalls.{LeavesStore, ChangesStore};
 ghost use Rattle.page_store.specs.declared.step.Step.{Step};
-ghost use Rattle.page_store.specs.StoreFaults.{is_failed};
+ghost use Rattle.page_store.specs.StoreFaults.{is_failed, AsksNoMemory};
 ghost use Rattle.page_store.specs.FlakyStored.{read_fails, write_fails, with_read, with_write, reads_of, writes_of, failures_of};
 
 use crate::store::Store;
@@ -107,6 +107,8 @@ impl<S: Store> StoreState for FlakyStore<S> {
 
     ghost reads = { λ s. reads_of S.reads s };
 
+    ghost shapes = { λ s. S.shapes s.inner };
+
     ghost writes = { λ s. writes_of S.writes s };
 
     ghost failures = { λ s. failures_of S.failures s };
@@ -122,12 +124,13 @@ impl<S: Store> Store for FlakyStore<S> {
         ensures pages { IfOk result (λ shape. shape.pages ≡ length (S.pages self.old.inner)) }
         ensures tail { IfOk result (λ shape. shape.tail ≡ S.tail self.old.inner) }
         ensures short_tail { OnOk result (S.tail self.old.inner < page_width) }
-        ensures no_memory { result ≢ Err StoreFault.Memory }
+        ensures no_memory { AsksNoMemory result }
         ensures leaves { LeavesStore ⟦<FlakyStore<S> as StoreState>⟧ false
             self.old result self.new }
         ensures passes { S.failures self.new.inner
             ≡ counted (S.failures self.old.inner) (is_failed result) }
         ensures reads_below { S.reads self.new.inner ≡ S.reads self.old.inner }
+        ensures shapes_below { S.shapes self.new.inner ≡ counted (S.shapes self.old.inner) true }
         ensures writes_below { S.writes self.new.inner ≡ S.writes self.old.inner }
         ensures rest { self.new ≡ record self.old { inner = self.new.inner } }
     {
@@ -140,7 +143,7 @@ impl<S: Store> Store for FlakyStore<S> {
         requires { n < length (S.pages self.old.inner) }
         ensures page { IsTrue (S.steady self.old.inner)
             → OnOk result (slice_get (S.pages self.old.inner) n ≡ Some to.new) }
-        ensures no_memory { result ≢ Err StoreFault.Memory }
+        ensures no_memory { AsksNoMemory result }
         ensures leaves { LeavesStore ⟦<FlakyStore<S> as StoreState>⟧ true
             self.old result self.new }
         ensures fails { IsTrue (read_fails self.old) → (result ≡ Err StoreFault.Failed)
@@ -149,6 +152,7 @@ impl<S: Store> Store for FlakyStore<S> {
             ≡ counted (S.failures self.old.inner) (is_failed result) }
         ensures reads_below { read_fails self.old ≡ false
             → S.reads self.new.inner ≡ counted (S.reads self.old.inner) true }
+        ensures shapes_below { S.shapes self.new.inner ≡ S.shapes self.old.inner }
         ensures writes_below { S.writes self.new.inner ≡ S.writes self.old.inner }
         ensures rest { self.new
             ≡ record (with_read self.old (read_fails self.old)) { inner = self.new.inner } }
@@ -167,7 +171,7 @@ impl<S: Store> Store for FlakyStore<S> {
             → OnOk result (S.pages self.new.inner ≡ slice_set (S.pages self.old.inner) n from.now) }
         ensures other_pages { (page : List ℕ)
             × (S.pages self.new.inner ≡ slice_set (S.pages self.old.inner) n page) }
-        ensures no_memory { result ≢ Err StoreFault.Memory }
+        ensures no_memory { AsksNoMemory result }
         ensures same_tail { S.tail self.new.inner ≡ S.tail self.old.inner }
         ensures changes { ChangesStore ⟦<FlakyStore<S> as StoreState>⟧ (Step.Write n from.now)
             self.old result self.new }
@@ -176,6 +180,7 @@ impl<S: Store> Store for FlakyStore<S> {
         ensures passes { write_fails self.old ≡ false → S.failures self.new.inner
             ≡ counted (S.failures self.old.inner) (is_failed result) }
         ensures reads_below { S.reads self.new.inner ≡ S.reads self.old.inner }
+        ensures shapes_below { S.shapes self.new.inner ≡ S.shapes self.old.inner }
         ensures writes_below { write_fails self.old ≡ false
             → S.writes self.new.inner ≡ counted (S.writes self.old.inner) true }
         ensures rest { self.new
@@ -204,6 +209,7 @@ impl<S: Store> Store for FlakyStore<S> {
         ensures passes { write_fails self.old ≡ false → S.failures self.new.inner
             ≡ counted (S.failures self.old.inner) (is_failed result) }
         ensures reads_below { S.reads self.new.inner ≡ S.reads self.old.inner }
+        ensures shapes_below { S.shapes self.new.inner ≡ S.shapes self.old.inner }
         ensures writes_below { write_fails self.old ≡ false
             → S.writes self.new.inner ≡ counted (S.writes self.old.inner) true }
         ensures rest { self.new
@@ -218,7 +224,7 @@ impl<S: Store> Store for FlakyStore<S> {
     /// Has the device keep what was written. Fault: Failed, at the chosen calls and where the store
     /// below fails; no page has changed then.
     fn sync(&mut self) -> Result<(), StoreFault>
-        ensures no_memory { result ≢ Err StoreFault.Memory }
+        ensures no_memory { AsksNoMemory result }
         ensures same_pages { S.pages self.new.inner ≡ S.pages self.old.inner }
         ensures same_tail { S.tail self.new.inner ≡ S.tail self.old.inner }
         ensures changes { ChangesStore ⟦<FlakyStore<S> as StoreState>⟧ Step.Sync
@@ -228,6 +234,7 @@ impl<S: Store> Store for FlakyStore<S> {
         ensures passes { write_fails self.old ≡ false → S.failures self.new.inner
             ≡ counted (S.failures self.old.inner) (is_failed result) }
         ensures reads_below { S.reads self.new.inner ≡ S.reads self.old.inner }
+        ensures shapes_below { S.shapes self.new.inner ≡ S.shapes self.old.inner }
         ensures writes_below { write_fails self.old ≡ false
             → S.writes self.new.inner ≡ counted (S.writes self.old.inner) true }
         ensures rest { self.new

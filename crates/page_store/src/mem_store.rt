@@ -10,12 +10,13 @@ use rec_types::PAGE_WIDTH;
 use std::marker::Model;
 
 /// A store in memory, which is always steady and never fails. Contracts see its pages, the length of
-/// its tail and the numbers of its reads and of its changing calls.
+/// its tail and the numbers of its reads, of its calls of `shape` and of its changing calls.
 #[derive(Drop)]
 pub struct MemStore {
     pages: Vec<[u8; PAGE_WIDTH]>,
     tail: u16,
     reads: u64,
+    shapes: u64,
     writes: u64,
 }
 
@@ -30,6 +31,7 @@ impl Model for MemStore {
       pages = s.pages.items;
       tail = s.tail;
       reads = s.reads;
+      shapes = s.shapes;
       writes = s.writes;
     } };
 
@@ -40,12 +42,19 @@ impl MemStore {
     /// A store of these pages, with a tail of that many bytes, at most 4,095.
     pub fn new(pages: Vec<[u8; PAGE_WIDTH]>, tail: u16) -> MemStore
         requires { tail < page_width }
-        ensures { result ≡ record { pages = pages.items; tail = tail; reads = 0; writes = 0 } }
+        ensures { result ≡ record {
+          pages = pages.items;
+          tail = tail;
+          reads = 0;
+          shapes = 0;
+          writes = 0;
+        } }
     {
         MemStore {
             pages,
             tail,
             reads: 0,
+            shapes: 0,
             writes: 0,
         }
     }
@@ -69,6 +78,8 @@ impl StoreState for MemStore {
 
     ghost reads = { λ s. s.reads };
 
+    ghost shapes = { λ s. s.shapes };
+
     ghost writes = { λ s. s.writes };
 
     ghost failures = { λ _. 0 };
@@ -78,6 +89,7 @@ impl StoreState for MemStore {
 
 impl Store for MemStore {
     fn shape(&mut self) -> Result<Shape, StoreFault> {
+        count_up(&mut self.shapes);
         Ok(Shape {
             pages: self.pages.len() as u64,
             tail: self.tail,

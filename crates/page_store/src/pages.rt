@@ -57,6 +57,7 @@ impl<S: Store> Model for Pages<S> {
       tail = S.tail p.store;
       steady = S.steady p.store;
       reads = S.reads p.store;
+      shapes = S.shapes p.store;
       writes = S.writes p.store;
       failures = S.failures p.store;
       journal = S.journal p.store;
@@ -89,6 +90,7 @@ impl<S: Store> Pages<S> {
           tail = S.tail store;
           steady = S.steady store;
           reads = S.reads store;
+          shapes = S.shapes store;
           writes = S.writes store;
           failures = S.failures store;
           journal = S.journal store;
@@ -303,6 +305,7 @@ impl<S: Store> Pages<S> {
         ensures tail { S.tail result ≡ self.tail }
         ensures steady { S.steady result ≡ self.steady }
         ensures reads { S.reads result ≡ self.reads }
+        ensures shapes { S.shapes result ≡ self.shapes }
         ensures writes { S.writes result ≡ self.writes }
         ensures failures { S.failures result ≡ self.failures }
         ensures journal { S.journal result ≡ self.journal }

@@ -1,18 +1,19 @@
-ghost use Rattle.std.specs.Prelude.{◌≡◌, ◌≢◌, ℕ, ◌-◌, ◌<◌, ◌≤◌, List, true, false, ◌++◌, length, IsTrue, IfOk, OnOk, OnErr, slice_get, slice_set};
+ghost use Rattle.std.specs.Prelude.{◌≡◌, ℕ, ◌-◌, ◌<◌, ◌≤◌, List, true, false, ◌++◌, length, IsTrue, IfOk, OnOk, OnErr, slice_get, slice_set};
 ghost use Rattle.rec_types.specs.Widths.{page_width};
 ghost use Rattle.page_store.specs.Blank.{blanks};
 ghost use Rattle.page_store.specs.Growth.{GrowsTo};
 ghost use Rattle.page_store.specs.StoreCalls.{LeavesStore, ChangesStore};
 ghost use Rattle.page_store.specs.declared.step.Step.{Step};
+ghost use Rattle.page_store.specs.StoreFaults.{AsksNoMemory};
 
 use crate::store_fault::{Shape, StoreFault};
 use crate::store_state::StoreState;
 use rec_types::PAGE_WIDTH;
 
 /// A file of pages of 4,096 bytes. Its meaning is a list of pages and a tail of 0 to 4,095 further
-/// bytes, a fact `steady`, which no call changes, and three counts, which stay at the greatest 64-bit
-/// number: of its reads and of its changing calls (`write`, `set_pages` and `sync`), failed ones too,
-/// and of its failures. A store may keep a journal, which is the pages that it was made of and its
+/// bytes, a fact `steady`, which no call changes, and four counts, which stay at the greatest 64-bit
+/// number: of its reads, of its calls of `shape` and of its changing calls (`write`, `set_pages` and
+/// `sync`), failed ones too, and of its failures. A store may keep a journal, which is the pages that it was made of and its
 /// changing calls since then that succeeded, in their order.
 ///
 /// Where `steady` holds, a read that succeeds gives the page of the list, and a write that succeeds
@@ -23,7 +24,7 @@ pub trait Store: StoreState + Drop {
         ensures pages { IfOk result (λ shape. shape.pages ≡ length (Self.pages self.old)) }
         ensures tail { IfOk result (λ shape. shape.tail ≡ Self.tail self.old) }
         ensures short_tail { OnOk result (Self.tail self.old < page_width) }
-        ensures no_memory { result ≢ Err StoreFault.Memory }
+        ensures no_memory { AsksNoMemory result }
         ensures leaves { LeavesStore Self.StoreState false self.old result self.new };
 
     /// Reads page n, which is there. Fault: Failed; no page has changed then.
@@ -31,7 +32,7 @@ pub trait Store: StoreState + Drop {
         requires { n < length (Self.pages self.old) }
         ensures page { IsTrue (Self.steady self.old)
             → OnOk result (slice_get (Self.pages self.old) n ≡ Some to.new) }
-        ensures no_memory { result ≢ Err StoreFault.Memory }
+        ensures no_memory { AsksNoMemory result }
         ensures leaves { LeavesStore Self.StoreState true self.old result self.new };
 
     /// Writes page n, which is there. Fault: Failed; the page then has any bytes, and the other pages
@@ -42,7 +43,7 @@ pub trait Store: StoreState + Drop {
             → OnOk result (Self.pages self.new ≡ slice_set (Self.pages self.old) n from.now) }
         ensures other_pages { (page : List ℕ)
             × (Self.pages self.new ≡ slice_set (Self.pages self.old) n page) }
-        ensures no_memory { result ≢ Err StoreFault.Memory }
+        ensures no_memory { AsksNoMemory result }
         ensures same_tail { Self.tail self.new ≡ Self.tail self.old }
         ensures changes { ChangesStore Self.StoreState (Step.Write n from.now)
             self.old result self.new };
@@ -60,7 +61,7 @@ pub trait Store: StoreState + Drop {
 
     /// Has the device keep what was written. Fault: Failed; no page has changed then.
     fn sync(&mut self) -> Result<(), StoreFault>
-        ensures no_memory { result ≢ Err StoreFault.Memory }
+        ensures no_memory { AsksNoMemory result }
         ensures same_pages { Self.pages self.new ≡ Self.pages self.old }
         ensures same_tail { Self.tail self.new ≡ Self.tail self.old }
         ensures changes { ChangesStore Self.StoreState Step.Sync self.old result self.new };

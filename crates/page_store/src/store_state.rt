@@ -15,6 +15,9 @@ pub trait StoreState {
     /// How many reads there were.
     ghost reads: { Self → ℕ };
 
+    /// How often the shape was asked for.
+    ghost shapes: { Self → ℕ };
+
     /// How many changing calls there were.
     ghost writes: { Self → ℕ };
 

@@ -1,15 +1,14 @@
 ghost use Rattle.std.specs.Prelude.{◌≡◌, ◌≢◌, ℕ, ◌-◌, ◌<◌, ◌≤◌, ◌+◌, ◌==◌, [], ◌∷◌, ◌++◌, length, None, Err, is_some, IsTrue, OnOk, OnErr, slice_get};
 ghost use Rattle.std.specs.Option.{option_copied};
-ghost use Rattle.rec_types.specs.Table.{counted};
 ghost use Rattle.page_store.specs.Blank.{blanks};
-ghost use Rattle.page_store.specs.Calls.{counted_times, CountedUpTo, how_many};
-ghost use Rattle.page_store.specs.Growth.{GrowsTo};
-ghost use Rattle.page_store.specs.Journal.{noted, NotesFront, writes_below, writing_back};
+ghost use Rattle.page_store.specs.Calls.{how_many};
+ghost use Rattle.page_store.specs.Journal.{writes_below, writing_back};
 ghost use Rattle.page_store.specs.declared.step.Step.{Step};
-ghost use Rattle.page_store.specs.StoreFaults.{is_failed};
+ghost use Rattle.page_store.specs.StoreFaults.{AsksNoMemory};
 ghost use Rattle.page_store.specs.Overlaid.{slots_of};
 ghost use Rattle.page_store.specs.WriteFaults.{told};
 ghost use Rattle.page_store.specs.WritingBack.{to_write, AreStored, SameBut, KeepsOthers, Stopped};
+ghost use Rattle.page_store.specs.Carrying.{Carries, IsLong, OnlyGrows};
 
 use crate::page_edit::WriteFault;
 use crate::slot::{Slot, changed_page, is_in_use};
@@ -49,17 +48,10 @@ fn put_header<S: Store>(store: &mut S, page: &[u8; PAGE_WIDTH]) -> Result<(), St
     ensures page { IsTrue (S.steady store.old)
         → OnOk result (slice_get (S.pages store.new) 0 ≡ Some page.now) }
     ensures others { SameBut (λ n. n == 0) (S.pages store.old) (S.pages store.new) }
-    ensures no_memory { result ≢ Err StoreFault.Memory }
+    ensures no_memory { AsksNoMemory result }
     ensures tail { S.tail store.new ≡ S.tail store.old }
-    ensures steady { S.steady store.new ≡ S.steady store.old }
-    ensures reads { S.reads store.new ≡ S.reads store.old }
-    ensures writes { OnOk result (S.writes store.new ≡ counted_times (S.writes store.old) 2) }
-    ensures writes_err { OnErr result (CountedUpTo 2 (S.writes store.old) (S.writes store.new)) }
-    ensures failures { S.failures store.new ≡ counted (S.failures store.old) (is_failed result) }
-    ensures journal { OnOk result (S.journal store.new
-        ≡ noted (S.journal store.old) (Step.Write 0 page.now ∷ Step.Sync ∷ [])) }
-    ensures journal_err { OnErr result (NotesFront (Step.Write 0 page.now ∷ Step.Sync ∷ [])
-        (S.journal store.old) (S.journal store.new)) }
+    ensures carries { Carries S.StoreState 2 (Step.Write 0 page.now ∷ Step.Sync ∷ []) store.old result
+        store.new }
 {
     store.write(0, page)?;
     store.sync()
@@ -80,21 +72,12 @@ fn put_changed<S: Store>(
     ensures others { SameBut
         (λ n. is_some (to_write (slots_of changed.now) free.now.keys count n))
         (S.pages store.old) (S.pages store.new) }
-    ensures no_memory { result ≢ Err StoreFault.Memory }
+    ensures no_memory { AsksNoMemory result }
     ensures tail { S.tail store.new ≡ S.tail store.old }
-    ensures steady { S.steady store.new ≡ S.steady store.old }
-    ensures reads { S.reads store.new ≡ S.reads store.old }
-    ensures writes { OnOk result (S.writes store.new ≡ counted_times (S.writes store.old) (how_many
-        (λ n. is_some (to_write (slots_of changed.now) free.now.keys count n)) count)) }
-    ensures writes_err { OnErr result (CountedUpTo (how_many
+    ensures carries { Carries S.StoreState (how_many
         (λ n. is_some (to_write (slots_of changed.now) free.now.keys count n)) count)
-        (S.writes store.old) (S.writes store.new)) }
-    ensures failures { S.failures store.new ≡ counted (S.failures store.old) (is_failed result) }
-    ensures journal { OnOk result (S.journal store.new ≡ noted (S.journal store.old)
-        (writes_below (to_write (slots_of changed.now) free.now.keys count) count)) }
-    ensures journal_err { OnErr result (NotesFront
         (writes_below (to_write (slots_of changed.now) free.now.keys count) count)
-        (S.journal store.old) (S.journal store.new)) }
+        store.old result store.new }
 {
     for n in 1..count {
         if let Some(page) = page_to_write(changed, free, count, n) {
@@ -116,8 +99,7 @@ pub(crate) fn write_out<S: Store>(
 ) -> Result<(), StoreFault>
     requires some { 1 ≤ count }
     requires fits { length (S.pages store.old) ≤ count }
-    ensures count { OnOk result (length (S.pages store.new) ≡ count) }
-    ensures tail { OnOk result (S.tail store.new ≡ 0) }
+    ensures long { OnOk result (IsLong S.StoreState count store.new) }
     ensures header { IsTrue (S.steady store.old)
         → OnOk result (slice_get (S.pages store.new) 0 ≡ Some clean.now) }
     ensures pages { IsTrue (S.steady store.old) → OnOk result
@@ -132,24 +114,11 @@ pub(crate) fn write_out<S: Store>(
         (Stopped (to_write (slots_of changed.now) free.now.keys count) writing.now
         (S.pages store.old) (S.pages store.new)) }
     ensures memory { result ≡ Err StoreFault.Memory
-        → GrowsTo count (S.pages store.old) (S.pages store.new) }
-    ensures memory_unnoted { result ≡ Err StoreFault.Memory
-        → S.journal store.new ≡ S.journal store.old }
-    ensures steady { S.steady store.new ≡ S.steady store.old }
-    ensures reads { S.reads store.new ≡ S.reads store.old }
-    ensures writes { OnOk result (S.writes store.new ≡ counted_times (S.writes store.old)
-        (6 + how_many
-        (λ n. is_some (to_write (slots_of changed.now) free.now.keys count n)) count)) }
-    ensures writes_err { OnErr result (CountedUpTo (6 + how_many
+        → OnlyGrows S.StoreState count store.old store.new }
+    ensures carries { Carries S.StoreState (6 + how_many
         (λ n. is_some (to_write (slots_of changed.now) free.now.keys count n)) count)
-        (S.writes store.old) (S.writes store.new)) }
-    ensures failures { S.failures store.new ≡ counted (S.failures store.old) (is_failed result) }
-    ensures journal { OnOk result (S.journal store.new ≡ noted (S.journal store.old)
         (writing_back (to_write (slots_of changed.now) free.now.keys count) count
-        writing.now clean.now)) }
-    ensures journal_err { OnErr result (NotesFront
-        (writing_back (to_write (slots_of changed.now) free.now.keys count) count
-        writing.now clean.now) (S.journal store.old) (S.journal store.new)) }
+        writing.now clean.now) store.old result store.new }
 {
     store.set_pages(count)?;
     put_header(store, writing)?;

@@ -1,5 +1,5 @@
 -- What a table's answers say.
-use Rattle.std.specs.Prelude.{ℕ, ◌+◌, Bool, true, false, ◌&&◌, nat_lt, if◌then◌else◌, List, Option, Result, Ok, Err}
+use Rattle.std.specs.Prelude.{◌≢◌, ℕ, ◌+◌, Bool, true, false, ◌&&◌, nat_lt, if◌then◌else◌, Result, Ok, Err}
 use Rattle.rec_types.specs.declared.table.TableFault.{TableFault}
 use Rattle.rec_types.specs.declared.table.TableFault.TheVariants.{Device, Damaged, NoRoom, Memory}
 
@@ -16,6 +16,10 @@ is_memory (Err Device) = false
 is_memory (Err (Damaged page)) = false
 is_memory (Err NoRoom) = false
 is_memory (Err Memory) = true
+
+-- the table doesn't answer that it has no room
+abbrev pub NeverFull : {A : Type 0} → Result A TableFault → Type 0
+NeverFull answer = answer ≢ Err NoRoom
 
 -- the greatest number of 64 bits
 abbrev pub greatest_count : ℕ
@@ -45,7 +49,3 @@ damaged_by d (Err Device) = d
 damaged_by d (Err (Damaged page)) = damaged_at d page
 damaged_by d (Err NoRoom) = d
 damaged_by d (Err Memory) = d
-
--- the pages of the file that a table was made of, where it is known that they are all still as they were then
-abbrev pub Origin : Type 0
-Origin = Option (List (List ℕ))

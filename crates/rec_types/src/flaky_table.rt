@@ -4,7 +4,7 @@ ghost use Rattle.rec_types.specs.Contents.{set_to};
 ghost use Rattle.rec_types.specs.Flaky.{fails_next, called, failures_of};
 ghost use Rattle.rec_types.specs.Answered.{Answered};
 ghost use Rattle.rec_types.specs.Calls.{no_calls, with_get, with_set, with_list};
-ghost use Rattle.rec_types.specs.Table.{is_device, counted};
+ghost use Rattle.rec_types.specs.Table.{NeverFull, is_device, counted};
 
 use crate::{Key, NO_CALLS, Record, Table, TableCalls, TableFault, TableState};
 use std::marker::Model;
@@ -74,6 +74,8 @@ impl<T: Table> TableState for FlakyTable<T> {
 
     ghost calls = { λ t. t.calls };
 
+    ghost Source = { T.Source };
+
     ghost origin = { λ t. T.origin t.inner };
 }
 
@@ -86,7 +88,7 @@ impl<T: Table> Table for FlakyTable<T> {
             → IfOk result (λ found. found ≡ maps.get (T.contents self.old.inner) key.now) }
         ensures same { T.contents self.new.inner ≡ T.contents self.old.inner }
         ensures no_memory { result ≢ Err TableFault.Memory }
-        ensures no_room { result ≢ Err TableFault.NoRoom }
+        ensures no_room { NeverFull result }
         ensures answered { Answered ⟦<FlakyTable<T> as TableState>⟧ self.old result self.new }
         ensures calls { self.new.calls ≡ with_get self.old.calls }
         ensures inner { (T.calls self.new.inner ≡ with_get (T.calls self.old.inner))
@@ -147,7 +149,7 @@ impl<T: Table> Table for FlakyTable<T> {
         ensures value { IsTrue (T.sound self.old.inner)
             → IfOk result (λ records. records.items ≡ maps.entries (T.contents self.old.inner)) }
         ensures same { T.contents self.new.inner ≡ T.contents self.old.inner }
-        ensures no_room { result ≢ Err TableFault.NoRoom }
+        ensures no_room { NeverFull result }
         ensures answered { Answered ⟦<FlakyTable<T> as TableState>⟧ self.old result self.new }
         ensures calls { self.new.calls ≡ with_list self.old.calls }
         ensures inner { (T.calls self.new.inner ≡ with_list (T.calls self.old.inner))

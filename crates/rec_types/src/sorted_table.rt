@@ -73,7 +73,7 @@ impl SortedTable {
 }
 
 impl TableState for SortedTable {
-    ghost use Rattle.std.specs.Prelude.{true, None};
+    ghost use Rattle.std.specs.Prelude.{true};
     ghost use Rattle.rec_types.specs.Table.{no_damage};
 
     ghost contents = { λ t. t.contents };
@@ -90,7 +90,9 @@ impl TableState for SortedTable {
 
     ghost calls = { λ t. t.calls };
 
-    ghost origin = { λ _. None };
+    ghost Source = { Unit {0} };
+
+    ghost origin = { λ _. tt };
 }
 
 impl Table for SortedTable {

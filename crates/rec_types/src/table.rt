@@ -3,7 +3,7 @@ ghost use Rattle.std.specs.FinMap as maps;
 ghost use Rattle.rec_types.specs.Contents.{set_to};
 ghost use Rattle.rec_types.specs.Answered.{Answered};
 ghost use Rattle.rec_types.specs.Calls.{with_get, with_set, with_list};
-ghost use Rattle.rec_types.specs.Table.{is_device};
+ghost use Rattle.rec_types.specs.Table.{NeverFull, is_device};
 
 use crate::{Key, Record, TableState};
 use thiserror::Error;
@@ -29,7 +29,7 @@ pub trait Table: TableState + Drop {
             → IfOk result (λ found. found ≡ maps.get (Self.contents self.old) key.now) }
         ensures same { Self.contents self.new ≡ Self.contents self.old }
         ensures no_memory { result ≢ Err TableFault.Memory }
-        ensures no_room { result ≢ Err TableFault.NoRoom }
+        ensures no_room { NeverFull result }
         ensures answered { Answered Self.TableState self.old result self.new }
         ensures calls { Self.calls self.new ≡ with_get (Self.calls self.old) };
 
@@ -65,7 +65,7 @@ pub trait Table: TableState + Drop {
         ensures value { IsTrue (Self.sound self.old)
             → IfOk result (λ records. records.items ≡ maps.entries (Self.contents self.old)) }
         ensures same { Self.contents self.new ≡ Self.contents self.old }
-        ensures no_room { result ≢ Err TableFault.NoRoom }
+        ensures no_room { NeverFull result }
         ensures answered { Answered Self.TableState self.old result self.new }
         ensures calls { Self.calls self.new ≡ with_list (Self.calls self.old) };
 

@@ -1,6 +1,6 @@
 ghost use Rattle.std.specs.Prelude.{ℕ, Bool};
 ghost use Rattle.rec_types.specs.Contents.{Contents};
-ghost use Rattle.rec_types.specs.Table.{Damages, Origin};
+ghost use Rattle.rec_types.specs.Table.{Damages};
 ghost use Rattle.rec_types.specs.declared.table_calls.TableCalls.{TableCalls};
 
 /// What contracts know of a table. It has no code.
@@ -26,7 +26,9 @@ pub trait TableState {
     /// How often the table was called, how often it had no room, and how often a taking out found nothing.
     ghost calls: { Self → TableCalls };
 
-    /// The pages of the file behind the table, where it has one and it is known that nothing was written
-    /// to it since the table was made. No call changes it.
-    ghost origin: { Self → Origin };
+    /// What a table tells of what it was made of.
+    ghost Source: { Type 0 };
+
+    /// What the table was made of. No call changes it.
+    ghost origin: { Self → Source };
 }

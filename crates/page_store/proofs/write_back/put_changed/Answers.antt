@@ -1,4 +1,4 @@
-use Rattle.std.proofs.Common.{◌≡◌, ℕ, ◌+◌, ◌<◌, zero, suc, Bool, true, List, Option, IsSome, slice_get, is_some, refl, subst, sym, ap, ◌∙◌, arith}
+use Rattle.std.proofs.Common.{rules, ◌≡◌, ℕ, ◌+◌, ◌<◌, zero, suc, Bool, true, List, Option, IsSome, slice_get, is_some, refl, subst, sym, ap, ◌∙◌, arith}
 use Rattle.std.proofs.lemmas.Grind.{elements}
 use Rattle.rec_types.specs.Table.{counted}
 use Rattle.page_store.specs.Overlaid.{slots_of}
@@ -17,19 +17,6 @@ page_0_left : (slots : List (Option (List ℕ))) (free : List ℕ) (count : ℕ)
 page_0_left slots free count stored zero below some = absurd (cc)
 page_0_left slots free count stored (suc n) below some = absurd (omega (arith, below))
 
-pub returns-in_err-write-clause-writes_err : goal.returns-in_err-write-clause-writes_err
-returns-in_err-write-clause-writes_err g c =
-    let pages : PageMap = to_write (slots_of c.args.changed.now) c.args.free.now.keys c.args.count in
-    let many : ℕ → ℕ = how_many (λ n. is_some (pages n)) in
-    let old = g.S.StoreState.writes c.args.store.now in
-    let made : g.S.StoreState.writes c.write.new.self ≡ counted_times old (many c.loop-n.n + 1) = c.write.ensures.changes.writes ∙ ap (λ k. counted k true) c.loop-n.invariant.writes ∙ counted_once old (many c.loop-n.n) in
-    on_err _ (all_calls old _ (many c.loop-n.n + 1) (many c.args.count) (omega arith) (how_many_below (λ n. is_some (pages n)) c.loop-n.n c.args.count c.loop-n-test.true (ap is_some (sym c.in-Some.ensures))) made)
-
-pub returns-in_err-write-clause-journal_err : goal.returns-in_err-write-clause-journal_err
-returns-in_err-write-clause-journal_err g c =
-    let pages : PageMap = to_write (slots_of c.args.changed.now) c.args.free.now.keys c.args.count in
-    on_err _ (failed_writes pages c.loop-n.n c.args.count (g.S.StoreState.journal c.args.store.now) (g.S.StoreState.journal c.loop-n.store) (g.S.StoreState.journal c.write.new.self) (let below = c.loop-n-test.true in omega arith) c.loop-n.invariant.journal c.in_err-write.ensures.changes.same_journal)
-
 pub loop-n-init : goal.loop-n-init
 loop-n-init g c = record {
   others = record { long = refl; same = λ n out. refl };
@@ -37,6 +24,7 @@ loop-n-init g c = record {
   tail = refl;
   steady = refl;
   reads = refl;
+  shapes = refl;
   writes = refl;
   failures = refl;
   journal = noted_none (g.S.StoreState.journal c.args.store.now);
@@ -62,6 +50,7 @@ loop-n-preserved g c =
       tail = elim c.match-page_to_write.branch [ in-Some+in_ok-write w ↦ ap g.S.StoreState.tail w.store-is ∙ w.write.ensures.same_tail ∙ c.loop-n.invariant.tail | in_default w ↦ ap g.S.StoreState.tail w.store-is ∙ c.loop-n.invariant.tail ];
       steady = elim c.match-page_to_write.branch [ in-Some+in_ok-write w ↦ ap g.S.StoreState.steady w.store-is ∙ w.write.ensures.changes.steady ∙ c.loop-n.invariant.steady | in_default w ↦ ap g.S.StoreState.steady w.store-is ∙ c.loop-n.invariant.steady ];
       reads = elim c.match-page_to_write.branch [ in-Some+in_ok-write w ↦ ap g.S.StoreState.reads w.store-is ∙ w.write.ensures.changes.reads ∙ c.loop-n.invariant.reads | in_default w ↦ ap g.S.StoreState.reads w.store-is ∙ c.loop-n.invariant.reads ];
+      shapes = elim c.match-page_to_write.branch [ in-Some+in_ok-write w ↦ ap g.S.StoreState.shapes w.store-is ∙ w.write.ensures.changes.shapes ∙ c.loop-n.invariant.shapes | in_default w ↦ ap g.S.StoreState.shapes w.store-is ∙ c.loop-n.invariant.shapes ];
       writes = elim c.match-page_to_write.branch [
         | in-Some+in_ok-write w ↦ ap g.S.StoreState.writes w.store-is ∙ w.write.ensures.changes.writes ∙ ap (λ k. counted k true) c.loop-n.invariant.writes
             ∙ counted_once old (how_many test c.loop-n.n) ∙ ap (counted_times old) (sym (one_more_yes test c.loop-n.n (ap is_some (sym w.in-Some.ensures))))
@@ -74,21 +63,46 @@ loop-n-preserved g c =
       ];
     }
 
-pub returns-clause-writes : goal.returns-clause-writes
-returns-clause-writes g c =
-    let pages : PageMap = to_write (slots_of c.args.changed.now) c.args.free.now.keys c.args.count in
-    let low = c.loop-n.auto.n-end c.requires.some in
-    let high = c.loop-n-test.false in
-    let done : c.loop-n.n ≡ c.args.count = omega arith in
-    c.loop-n.invariant.writes ∙ ap (λ n. counted_times (g.S.StoreState.writes c.args.store.now) (how_many (λ k. is_some (pages k)) n)) done
-
-pub returns-clause-journal : goal.returns-clause-journal
-returns-clause-journal g c =
-    let pages : PageMap = to_write (slots_of c.args.changed.now) c.args.free.now.keys c.args.count in
-    let low = c.loop-n.auto.n-end c.requires.some in
-    let high = c.loop-n-test.false in
-    let done : c.loop-n.n ≡ c.args.count = omega arith in
-    c.loop-n.invariant.journal ∙ ap (λ n. noted (g.S.StoreState.journal c.args.store.now) (writes_below pages n)) done
-
 pub returns-in_err-write-clause-others : goal.returns-in_err-write-clause-others
 returns-in_err-write-clause-others g c = grind (arith, elements)
+
+pub returns-in_err-write-clause-carries : goal.returns-in_err-write-clause-carries
+returns-in_err-write-clause-carries g c = record {
+  steady = search rules;
+  reads = search rules;
+  shapes = search rules;
+  writes = search rules;
+  writes_err =
+      let pages : PageMap = to_write (slots_of c.args.changed.now) c.args.free.now.keys c.args.count in
+      let many : ℕ → ℕ = how_many (λ n. is_some (pages n)) in
+      let old = g.S.StoreState.writes c.args.store.now in
+      let made : g.S.StoreState.writes c.write.new.self ≡ counted_times old (many c.loop-n.n + 1) = c.write.ensures.changes.writes ∙ ap (λ k. counted k true) c.loop-n.invariant.writes ∙ counted_once old (many c.loop-n.n) in
+      on_err _ (all_calls old _ (many c.loop-n.n + 1) (many c.args.count) (omega arith) (how_many_below (λ n. is_some (pages n)) c.loop-n.n c.args.count c.loop-n-test.true (ap is_some (sym c.in-Some.ensures))) made);
+  failures = search rules;
+  journal = search rules;
+  journal_err =
+      let pages : PageMap = to_write (slots_of c.args.changed.now) c.args.free.now.keys c.args.count in
+      on_err _ (failed_writes pages c.loop-n.n c.args.count (g.S.StoreState.journal c.args.store.now) (g.S.StoreState.journal c.loop-n.store) (g.S.StoreState.journal c.write.new.self) (let below = c.loop-n-test.true in omega arith) c.loop-n.invariant.journal c.in_err-write.ensures.changes.same_journal);
+}
+
+pub returns-clause-carries : goal.returns-clause-carries
+returns-clause-carries g c = record {
+  steady = search rules;
+  reads = search rules;
+  shapes = search rules;
+  writes =
+      let pages : PageMap = to_write (slots_of c.args.changed.now) c.args.free.now.keys c.args.count in
+      let low = c.loop-n.auto.n-end c.requires.some in
+      let high = c.loop-n-test.false in
+      let done : c.loop-n.n ≡ c.args.count = omega arith in
+      c.loop-n.invariant.writes ∙ ap (λ n. counted_times (g.S.StoreState.writes c.args.store.now) (how_many (λ k. is_some (pages k)) n)) done;
+  writes_err = search rules;
+  failures = search rules;
+  journal =
+      let pages : PageMap = to_write (slots_of c.args.changed.now) c.args.free.now.keys c.args.count in
+      let low = c.loop-n.auto.n-end c.requires.some in
+      let high = c.loop-n-test.false in
+      let done : c.loop-n.n ≡ c.args.count = omega arith in
+      c.loop-n.invariant.journal ∙ ap (λ n. noted (g.S.StoreState.journal c.args.store.now) (writes_below pages n)) done;
+  journal_err = search rules;
+}

@@ -12,6 +12,7 @@ invariant-loop-n g l = record {
   tail : g.S.StoreState.tail l.store ≡ g.S.StoreState.tail l.fn.store;
   steady : g.S.StoreState.steady l.store ≡ g.S.StoreState.steady l.fn.store;
   reads : g.S.StoreState.reads l.store ≡ g.S.StoreState.reads l.fn.store;
+  shapes : g.S.StoreState.shapes l.store ≡ g.S.StoreState.shapes l.fn.store;
   writes : g.S.StoreState.writes l.store ≡ counted_times (g.S.StoreState.writes l.fn.store) (how_many (λ n. is_some (to_write (slots_of l.changed) l.free.keys l.count n)) l.n);
   failures : g.S.StoreState.failures l.store ≡ g.S.StoreState.failures l.fn.store;
   journal : g.S.StoreState.journal l.store ≡ noted (g.S.StoreState.journal l.fn.store) (writes_below (to_write (slots_of l.changed) l.free.keys l.count) l.n);

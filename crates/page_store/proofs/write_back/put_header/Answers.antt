@@ -1,4 +1,4 @@
-use Rattle.std.proofs.Common.{true, ap, ◌∙◌, arith}
+use Rattle.std.proofs.Common.{rules, true, ap, ◌∙◌, arith}
 use Rattle.std.proofs.lemmas.Grind.{common_steps, elements}
 use Rattle.rec_types.specs.Table.{counted}
 use Rattle.page_store.proofs.CallCountLemmas.{all_calls, on_err}
@@ -13,14 +13,28 @@ returns-clause-page g c = grind (arith, elements)
 pub returns-clause-others : goal.returns-clause-others
 returns-clause-others g c = grind (arith, elements)
 
-pub returns-clause-journal : goal.returns-clause-journal
-returns-clause-journal g c = grind (arith, common_steps)
+pub returns-in_err-write-clause-carries : goal.returns-in_err-write-clause-carries
+returns-in_err-write-clause-carries g c = record {
+  steady = search rules;
+  reads = search rules;
+  shapes = search rules;
+  writes = search rules;
+  writes_err = on_err _ (all_calls _ _ 1 2 (omega arith) (omega arith) c.write.ensures.changes.writes);
+  failures = search rules;
+  journal = search rules;
+  journal_err = search rules;
+}
 
-pub returns-in_err-write-clause-writes_err : goal.returns-in_err-write-clause-writes_err
-returns-in_err-write-clause-writes_err g c =
-    on_err _ (all_calls _ _ 1 2 (omega arith) (omega arith) c.write.ensures.changes.writes)
-
-pub returns-clause-writes_err : goal.returns-clause-writes_err
-returns-clause-writes_err g c =
-    let both = c.sync.ensures.changes.writes ∙ ap (λ k. counted k true) c.write.ensures.changes.writes in
-    on_err _ (all_calls _ _ 2 2 (omega arith) (omega arith) both)
+pub returns-clause-carries : goal.returns-clause-carries
+returns-clause-carries g c = record {
+  steady = search rules;
+  reads = search rules;
+  shapes = search rules;
+  writes = search rules;
+  writes_err =
+      let both = c.sync.ensures.changes.writes ∙ ap (λ k. counted k true) c.write.ensures.changes.writes in
+      on_err _ (all_calls _ _ 2 2 (omega arith) (omega arith) both);
+  failures = search rules;
+  journal = grind (arith, common_steps);
+  journal_err = search rules;
+}

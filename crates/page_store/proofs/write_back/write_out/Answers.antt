@@ -1,11 +1,11 @@
-use Rattle.std.proofs.Common.{◌≡◌, ℕ, ◌+◌, List, length, is_some, slice_get, ap, ◌∙◌, arith}
+use Rattle.std.proofs.Common.{rules, ◌≡◌, ℕ, ◌+◌, List, length, is_some, slice_get, ap, ◌∙◌, arith}
 use Rattle.std.proofs.lemmas.Bool.Decides.{nat_tests}
 use Rattle.std.proofs.lemmas.Grind.{common_steps, elements}
 use Rattle.page_store.specs.Overlaid.{slots_of}
 use Rattle.page_store.specs.Calls.{counted_times, how_many}
 use Rattle.page_store.specs.PageMap.{PageMap}
 use Rattle.page_store.specs.WritingBack.{to_write}
-use Rattle.page_store.proofs.CallCountLemmas.{then_calls, after_calls, no_more, all_calls, on_err, last_calls, last_up_to}
+use Rattle.page_store.proofs.CallCountLemmas.{always, then_calls, after_calls, no_more, all_calls, on_err, last_calls, last_up_to}
 use Rattle.page_store.proofs.WriteBackLemmas.{leaves_by, same_two}
 use Rattle.page_store.proofs.JournalLemmas.{no_header, no_writes, no_sync, all_noted, no_close}
 use Rattle.page_store.proofs.write_back.write_out.Given as given
@@ -17,7 +17,7 @@ module _ (g : given.Over) (c : After-put_changed g) where
   marked : g.S.StoreState.writes c.put_header.new.store ≡ counted_times (g.S.StoreState.writes c.args.store.now) 3
   marked =
       let W = g.S.StoreState.writes in
-      then_calls (W c.args.store.now) (W c.set_pages.new.self) _ 1 2 c.set_pages.ensures.changes.writes c.in_ok-put_header.ensures.writes
+      then_calls (W c.args.store.now) (W c.set_pages.new.self) _ 1 2 c.set_pages.ensures.changes.writes c.in_ok-put_header.ensures.carries.writes
 
 module _ (g : given.Over) (c : After-sync g) where
   abbrev many : ℕ
@@ -26,27 +26,14 @@ module _ (g : given.Over) (c : After-sync g) where
   kept : g.S.StoreState.writes c.put_header.new.store ≡ counted_times (g.S.StoreState.writes c.args.store.now) 3 → g.S.StoreState.writes c.sync.new.self ≡ counted_times (g.S.StoreState.writes c.args.store.now) (3 + many + 1)
   kept was_marked =
       let W = g.S.StoreState.writes in
-      let put = then_calls (W c.args.store.now) (W c.put_header.new.store) _ 3 many was_marked c.in_ok-put_changed.ensures.writes in
+      let put = then_calls (W c.args.store.now) (W c.put_header.new.store) _ 3 many was_marked c.in_ok-put_changed.ensures.carries.writes in
       then_calls (W c.args.store.now) (W c.put_changed.new.store) _ (3 + many) 1 put c.sync.ensures.changes.writes
-
-pub returns-in_err-put_header-clause-writes_err : goal.returns-in_err-put_header-clause-writes_err
-returns-in_err-put_header-clause-writes_err g c =
-    let W = g.S.StoreState.writes in
-    let k = how_many (λ n. is_some (to_write (slots_of c.args.changed.now) c.args.free.now.keys c.args.count n)) c.args.count in
-    on_err _ (no_more (W c.args.store.now) _ (1 + 2) (6 + k) (omega arith) (after_calls (W c.args.store.now) (W c.set_pages.new.self) _ 1 2 c.set_pages.ensures.changes.writes c.in_err-put_header.ensures.writes_err))
 
 pub returns-in_err-put_changed-clause-others : goal.returns-in_err-put_changed-clause-others
 returns-in_err-put_changed-clause-others g c =
     let pages : PageMap = to_write (slots_of c.args.changed.now) c.args.free.now.keys c.args.count in
     leaves_by pages _ _ _ _ c.requires.fits c.in_ok-set_pages.ensures.pages (c.put_changed.ensures.others.long ∙ c.put_header.ensures.others.long)
     (same_two pages _ _ _ c.put_header.ensures.others c.put_changed.ensures.others)
-
-pub returns-in_err-put_changed-clause-writes_err :
-    goal.returns-in_err-put_changed-clause-writes_err
-returns-in_err-put_changed-clause-writes_err g c =
-    let W = g.S.StoreState.writes in
-    let k = how_many (λ n. is_some (to_write (slots_of c.args.changed.now) c.args.free.now.keys c.args.count n)) c.args.count in
-    on_err _ (no_more (W c.args.store.now) _ (3 + k) (6 + k) (omega arith) (after_calls (W c.args.store.now) (W c.put_header.new.store) _ 3 k (marked g (goal.at.returns-in_err-put_changed-clause-writes_err g c).After-put_changed) c.in_err-put_changed.ensures.writes_err))
 
 pub returns-in_err-sync-clause-others : goal.returns-in_err-sync-clause-others
 returns-in_err-sync-clause-others g c =
@@ -55,63 +42,12 @@ returns-in_err-sync-clause-others g c =
     (ap (λ (ps : List (List ℕ)). length ps) c.sync.ensures.same_pages ∙ c.put_changed.ensures.others.long ∙ c.put_header.ensures.others.long)
     (λ n some none. ap (λ (ps : List (List ℕ)). slice_get ps n) c.sync.ensures.same_pages ∙ same_two pages _ _ _ c.put_header.ensures.others c.put_changed.ensures.others n some none)
 
-pub returns-in_err-sync-clause-writes_err : goal.returns-in_err-sync-clause-writes_err
-returns-in_err-sync-clause-writes_err g c =
-    let W = g.S.StoreState.writes in
-    let place = goal.at.returns-in_err-sync-clause-writes_err g c in
-    let k = many g place.After-sync in
-    on_err _ (all_calls (W c.args.store.now) _ (3 + k + 1) (6 + k) (omega arith) (omega arith) (kept g place.After-sync (marked g place.After-put_changed)))
-
 pub returns-clause-others : goal.returns-clause-others
 returns-clause-others g c =
     let pages : PageMap = to_write (slots_of c.args.changed.now) c.args.free.now.keys c.args.count in
     leaves_by pages _ _ _ _ c.requires.fits c.in_ok-set_pages.ensures.pages
     (c.put_header-2.ensures.others.long ∙ ap (λ (ps : List (List ℕ)). length ps) c.sync.ensures.same_pages ∙ c.put_changed.ensures.others.long ∙ c.put_header.ensures.others.long)
     (λ n some none. c.put_header-2.ensures.others.same n (grind (arith, nat_tests)) ∙ ap (λ (ps : List (List ℕ)). slice_get ps n) c.sync.ensures.same_pages ∙ same_two pages _ _ _ c.put_header.ensures.others c.put_changed.ensures.others n some none)
-
-pub returns-clause-writes : goal.returns-clause-writes
-returns-clause-writes g c =
-    let W = g.S.StoreState.writes in
-    let place = goal.at.returns-clause-writes g c in
-    let k = many g place.After-sync in
-    last_calls c.put_header-2.result (W c.args.store.now) (W c.sync.new.self) (W c.put_header-2.new.store) (3 + k + 1) 2 (6 + k) (kept g place.After-sync (marked g place.After-put_changed)) (omega arith) c.put_header-2.ensures.writes
-
-pub returns-clause-writes_err : goal.returns-clause-writes_err
-returns-clause-writes_err g c =
-    let W = g.S.StoreState.writes in
-    let place = goal.at.returns-clause-writes_err g c in
-    let k = many g place.After-sync in
-    last_up_to c.put_header-2.result (W c.args.store.now) (W c.sync.new.self) (W c.put_header-2.new.store) (3 + k + 1) 2 (6 + k) (kept g place.After-sync (marked g place.After-put_changed)) (omega arith) c.put_header-2.ensures.writes_err
-
-pub returns-in_err-put_header-clause-journal_err : goal.returns-in_err-put_header-clause-journal_err
-returns-in_err-put_header-clause-journal_err g c =
-    let pages : PageMap = to_write (slots_of c.args.changed.now) c.args.free.now.keys c.args.count in
-    let J = g.S.StoreState.journal in
-    on_err _ (no_header pages c.args.count c.args.writing.now c.args.clean.now (J c.args.store.now) (J c.set_pages.new.self) (J c.set_pages.new.self) (J c.set_pages.new.self) (J c.set_pages.new.self) (J c.put_header.new.store) c.in_ok-set_pages.ensures.changes.journal c.in_err-put_header.ensures.journal_err)
-
-pub returns-in_err-put_changed-clause-journal_err : goal.returns-in_err-put_changed-clause-journal_err
-returns-in_err-put_changed-clause-journal_err g c =
-    let pages : PageMap = to_write (slots_of c.args.changed.now) c.args.free.now.keys c.args.count in
-    let J = g.S.StoreState.journal in
-    on_err _ (no_writes pages c.args.count c.args.writing.now c.args.clean.now (J c.args.store.now) (J c.set_pages.new.self) (J c.put_header.new.store) (J c.put_header.new.store) (J c.put_header.new.store) (J c.put_changed.new.store) c.in_ok-set_pages.ensures.changes.journal c.in_ok-put_header.ensures.journal c.in_err-put_changed.ensures.journal_err)
-
-pub returns-in_err-sync-clause-journal_err : goal.returns-in_err-sync-clause-journal_err
-returns-in_err-sync-clause-journal_err g c =
-    let pages : PageMap = to_write (slots_of c.args.changed.now) c.args.free.now.keys c.args.count in
-    let J = g.S.StoreState.journal in
-    on_err _ (no_sync pages c.args.count c.args.writing.now c.args.clean.now (J c.args.store.now) (J c.set_pages.new.self) (J c.put_header.new.store) (J c.put_changed.new.store) (J c.put_changed.new.store) (J c.sync.new.self) c.in_ok-set_pages.ensures.changes.journal c.in_ok-put_header.ensures.journal c.in_ok-put_changed.ensures.journal c.in_err-sync.ensures.changes.same_journal)
-
-pub returns-clause-journal : goal.returns-clause-journal
-returns-clause-journal g c =
-    let pages : PageMap = to_write (slots_of c.args.changed.now) c.args.free.now.keys c.args.count in
-    let J = g.S.StoreState.journal in
-    all_noted pages c.args.count c.args.writing.now c.args.clean.now (J c.args.store.now) (J c.set_pages.new.self) (J c.put_header.new.store) (J c.put_changed.new.store) (J c.sync.new.self) (J c.put_header-2.new.store) c.in_ok-set_pages.ensures.changes.journal c.in_ok-put_header.ensures.journal c.in_ok-put_changed.ensures.journal c.in_ok-sync.ensures.changes.journal c.put_header-2.result c.put_header-2.ensures.journal
-
-pub returns-clause-journal_err : goal.returns-clause-journal_err
-returns-clause-journal_err g c =
-    let pages : PageMap = to_write (slots_of c.args.changed.now) c.args.free.now.keys c.args.count in
-    let J = g.S.StoreState.journal in
-    no_close pages c.args.count c.args.writing.now c.args.clean.now (J c.args.store.now) (J c.set_pages.new.self) (J c.put_header.new.store) (J c.put_changed.new.store) (J c.sync.new.self) (J c.put_header-2.new.store) c.in_ok-set_pages.ensures.changes.journal c.in_ok-put_header.ensures.journal c.in_ok-put_changed.ensures.journal c.in_ok-sync.ensures.changes.journal c.put_header-2.result c.put_header-2.ensures.journal_err
 
 pub put_header-requires : goal.put_header-requires
 put_header-requires g c = grind (arith, common_steps)
@@ -122,8 +58,11 @@ put_changed-requires-clause-long g c = grind (arith, common_steps)
 pub put_header-requires-2 : goal.put_header-requires-2
 put_header-requires-2 g c = grind (arith, common_steps)
 
-pub returns-clause-count : goal.returns-clause-count
-returns-clause-count g c = grind (arith, common_steps)
+pub returns-clause-long : goal.returns-clause-long
+returns-clause-long g c = always c.put_header-2.result (record {
+  count = grind (arith, common_steps);
+  tail = search rules;
+})
 
 pub returns-in_err-set_pages-clause-others : goal.returns-in_err-set_pages-clause-others
 returns-in_err-set_pages-clause-others g c = grind (arith, elements)
@@ -136,3 +75,84 @@ returns-in_err-put_header-clause-others g c = grind (arith, elements)
 
 pub returns-in_err-put_header-clause-stopped : goal.returns-in_err-put_header-clause-stopped
 returns-in_err-put_header-clause-stopped g c = grind (arith, elements)
+
+pub returns-in_err-put_header-clause-carries : goal.returns-in_err-put_header-clause-carries
+returns-in_err-put_header-clause-carries g c = record {
+  steady = search rules;
+  reads = search rules;
+  shapes = search rules;
+  writes = search rules;
+  writes_err =
+      let W = g.S.StoreState.writes in
+      let k = how_many (λ n. is_some (to_write (slots_of c.args.changed.now) c.args.free.now.keys c.args.count n)) c.args.count in
+      on_err _ (no_more (W c.args.store.now) _ (1 + 2) (6 + k) (omega arith) (after_calls (W c.args.store.now) (W c.set_pages.new.self) _ 1 2 c.set_pages.ensures.changes.writes c.in_err-put_header.ensures.carries.writes_err));
+  failures = search rules;
+  journal = search rules;
+  journal_err =
+      let pages : PageMap = to_write (slots_of c.args.changed.now) c.args.free.now.keys c.args.count in
+      let J = g.S.StoreState.journal in
+      on_err _ (no_header pages c.args.count c.args.writing.now c.args.clean.now (J c.args.store.now) (J c.set_pages.new.self) (J c.set_pages.new.self) (J c.set_pages.new.self) (J c.set_pages.new.self) (J c.put_header.new.store) c.in_ok-set_pages.ensures.changes.journal c.in_err-put_header.ensures.carries.journal_err);
+}
+
+pub returns-in_err-put_changed-clause-carries : goal.returns-in_err-put_changed-clause-carries
+returns-in_err-put_changed-clause-carries g c = record {
+  steady = search rules;
+  reads = search rules;
+  shapes = search rules;
+  writes = search rules;
+  writes_err =
+      let W = g.S.StoreState.writes in
+      let k = how_many (λ n. is_some (to_write (slots_of c.args.changed.now) c.args.free.now.keys c.args.count n)) c.args.count in
+      on_err _ (no_more (W c.args.store.now) _ (3 + k) (6 + k) (omega arith) (after_calls (W c.args.store.now) (W c.put_header.new.store) _ 3 k (marked g (goal.at.returns-in_err-put_changed-clause-carries g c).After-put_changed) c.in_err-put_changed.ensures.carries.writes_err));
+  failures = search rules;
+  journal = search rules;
+  journal_err =
+      let pages : PageMap = to_write (slots_of c.args.changed.now) c.args.free.now.keys c.args.count in
+      let J = g.S.StoreState.journal in
+      on_err _ (no_writes pages c.args.count c.args.writing.now c.args.clean.now (J c.args.store.now) (J c.set_pages.new.self) (J c.put_header.new.store) (J c.put_header.new.store) (J c.put_header.new.store) (J c.put_changed.new.store) c.in_ok-set_pages.ensures.changes.journal c.in_ok-put_header.ensures.carries.journal c.in_err-put_changed.ensures.carries.journal_err);
+}
+
+pub returns-in_err-sync-clause-carries : goal.returns-in_err-sync-clause-carries
+returns-in_err-sync-clause-carries g c = record {
+  steady = search rules;
+  reads = search rules;
+  shapes = search rules;
+  writes = search rules;
+  writes_err =
+      let W = g.S.StoreState.writes in
+      let place = goal.at.returns-in_err-sync-clause-carries g c in
+      let k = many g place.After-sync in
+      on_err _ (all_calls (W c.args.store.now) _ (3 + k + 1) (6 + k) (omega arith) (omega arith) (kept g place.After-sync (marked g place.After-put_changed)));
+  failures = search rules;
+  journal = search rules;
+  journal_err =
+      let pages : PageMap = to_write (slots_of c.args.changed.now) c.args.free.now.keys c.args.count in
+      let J = g.S.StoreState.journal in
+      on_err _ (no_sync pages c.args.count c.args.writing.now c.args.clean.now (J c.args.store.now) (J c.set_pages.new.self) (J c.put_header.new.store) (J c.put_changed.new.store) (J c.put_changed.new.store) (J c.sync.new.self) c.in_ok-set_pages.ensures.changes.journal c.in_ok-put_header.ensures.carries.journal c.in_ok-put_changed.ensures.carries.journal c.in_err-sync.ensures.changes.same_journal);
+}
+
+pub returns-clause-carries : goal.returns-clause-carries
+returns-clause-carries g c = record {
+  steady = search rules;
+  reads = search rules;
+  shapes = search rules;
+  writes =
+      let W = g.S.StoreState.writes in
+      let place = goal.at.returns-clause-carries g c in
+      let k = many g place.After-sync in
+      last_calls c.put_header-2.result (W c.args.store.now) (W c.sync.new.self) (W c.put_header-2.new.store) (3 + k + 1) 2 (6 + k) (kept g place.After-sync (marked g place.After-put_changed)) (omega arith) c.put_header-2.ensures.carries.writes;
+  writes_err =
+      let W = g.S.StoreState.writes in
+      let place = goal.at.returns-clause-carries g c in
+      let k = many g place.After-sync in
+      last_up_to c.put_header-2.result (W c.args.store.now) (W c.sync.new.self) (W c.put_header-2.new.store) (3 + k + 1) 2 (6 + k) (kept g place.After-sync (marked g place.After-put_changed)) (omega arith) c.put_header-2.ensures.carries.writes_err;
+  failures = search rules;
+  journal =
+      let pages : PageMap = to_write (slots_of c.args.changed.now) c.args.free.now.keys c.args.count in
+      let J = g.S.StoreState.journal in
+      all_noted pages c.args.count c.args.writing.now c.args.clean.now (J c.args.store.now) (J c.set_pages.new.self) (J c.put_header.new.store) (J c.put_changed.new.store) (J c.sync.new.self) (J c.put_header-2.new.store) c.in_ok-set_pages.ensures.changes.journal c.in_ok-put_header.ensures.carries.journal c.in_ok-put_changed.ensures.carries.journal c.in_ok-sync.ensures.changes.journal c.put_header-2.result c.put_header-2.ensures.carries.journal;
+  journal_err =
+      let pages : PageMap = to_write (slots_of c.args.changed.now) c.args.free.now.keys c.args.count in
+      let J = g.S.StoreState.journal in
+      no_close pages c.args.count c.args.writing.now c.args.clean.now (J c.args.store.now) (J c.set_pages.new.self) (J c.put_header.new.store) (J c.put_changed.new.store) (J c.sync.new.self) (J c.put_header-2.new.store) c.in_ok-set_pages.ensures.changes.journal c.in_ok-put_header.ensures.carries.journal c.in_ok-put_changed.ensures.carries.journal c.in_ok-sync.ensures.changes.journal c.put_header-2.result c.put_header-2.ensures.carries.journal_err;
+}

@@ -8,6 +8,7 @@ returns-clause-created g c = λ i. record {
   tail = 0;
   steady = gives_back;
   reads = 0;
+  shapes = 0;
   writes = 0;
   failures = 0;
 }

@@ -83,8 +83,9 @@ returns-in-Err-clause-err g c =
       in_memory = ap (λ (v : PagesView). v.in_memory) c.self.view_is i;
       stored = g.S.StoreState.pages c.write_out-written.new.store;
       tail = g.S.StoreState.tail c.write_out-written.new.store;
-      steady = (c.write_out-written.ensures.steady ∙ ap (λ (v : PagesView). v.steady) c.self.view_is) i;
-      reads = (c.write_out-written.ensures.reads ∙ ap (λ (v : PagesView). v.reads) c.self.view_is) i;
+      steady = (c.write_out-written.ensures.carries.steady ∙ ap (λ (v : PagesView). v.steady) c.self.view_is) i;
+      reads = (c.write_out-written.ensures.carries.reads ∙ ap (λ (v : PagesView). v.reads) c.self.view_is) i;
+      shapes = (c.write_out-written.ensures.carries.shapes ∙ ap (λ (v : PagesView). v.shapes) c.self.view_is) i;
       writes = g.S.StoreState.writes c.write_out-written.new.store;
       failures = g.S.StoreState.failures c.write_out-written.new.store;
       journal = g.S.StoreState.journal c.write_out-written.new.store;
@@ -101,14 +102,14 @@ returns-in-Err-clause-stopped g c = λ steady.
 
 pub returns-in-Err-clause-memory : goal.returns-in-Err-clause-memory
 returns-in-Err-clause-memory g c = λ same.
-    let grows = c.in-Err.ensures.memory (memory_back c.in-Err.fault c.told.result c.told.ensures same) in
+    let grows = (c.in-Err.ensures.memory (memory_back c.in-Err.fault c.told.result c.told.ensures same)).grows in
     let long = length-pages_of (g.S.StoreState.pages c.self.inside.store) (slots_of c.self.inside.changed.items) c.self.inside.free.keys c.self.inside.count in
     subst (λ (v : PagesView). GrowsTo (length v.pages) v.stored (g.S.StoreState.pages c.write_out-written.new.store)) c.self.view_is
     (subst (λ (k : ℕ). GrowsTo k (g.S.StoreState.pages c.self.inside.store) (g.S.StoreState.pages c.write_out-written.new.store)) (sym long) grows)
 
 pub returns-clause-count : goal.returns-clause-count
 returns-clause-count g c =
-    c.in_default.ensures.count ∙ sym (length-pages_of (g.S.StoreState.pages c.self.inside.store) (slots_of c.self.inside.changed.items) c.self.inside.free.keys c.self.inside.count) ∙ ap (λ (v : PagesView). length v.pages) c.self.view_is
+    c.in_default.ensures.long.count ∙ sym (length-pages_of (g.S.StoreState.pages c.self.inside.store) (slots_of c.self.inside.changed.items) c.self.inside.free.keys c.self.inside.count) ∙ ap (λ (v : PagesView). length v.pages) c.self.view_is
 
 pub returns-clause-stored : goal.returns-clause-stored
 returns-clause-stored g c = λ steady.
@@ -124,7 +125,7 @@ pub returns-clause-pages : goal.returns-clause-pages
 returns-clause-pages g c = λ steady.
     let place = (goal.at.returns-clause-pages g c).After-clear-arg-1 in
     ap (λ (xs : List (Option (Box (List ℕ) Global))). pages_of (g.S.StoreState.pages c.write_out-written.new.store) (slots_of xs) c.self.inside.free.keys c.self.inside.count) c.clear.ensures.items
-    ∙ pages_dropped _ _ _ _ _ c.self.invariant _ (leaves g place) c.in_default.ensures.count (put g place steady)
+    ∙ pages_dropped _ _ _ _ _ c.self.invariant _ (leaves g place) c.in_default.ensures.long.count (put g place steady)
     ∙ ap (λ (v : PagesView). v.pages) c.self.view_is
 
 pub returns-clause-same_count : goal.returns-clause-same_count
@@ -134,13 +135,13 @@ returns-clause-same_count g c =
 pub returns-clause-same_free : goal.returns-clause-same_free
 returns-clause-same_free g c =
     ap (λ (xs : List (Option (Box (List ℕ) Global))). free_numbers (pages_of (g.S.StoreState.pages c.write_out-written.new.store) (slots_of xs) c.self.inside.free.keys c.self.inside.count)) c.clear.ensures.items
-    ∙ same_free _ _ _ _ _ c.self.invariant _ (leaves g (goal.at.returns-clause-same_free g c).After-clear-arg-1) c.in_default.ensures.count
+    ∙ same_free _ _ _ _ _ c.self.invariant _ (leaves g (goal.at.returns-clause-same_free g c).After-clear-arg-1) c.in_default.ensures.long.count
     ∙ ap (λ (v : PagesView). free_numbers v.pages) c.self.view_is
 
 pub returns-clause-same_use : goal.returns-clause-same_use
 returns-clause-same_use g c = λ n.
     ap (λ (xs : List (Option (Box (List ℕ) Global))). is_some (at (pages_of (g.S.StoreState.pages c.write_out-written.new.store) (slots_of xs) c.self.inside.free.keys c.self.inside.count) n)) c.clear.ensures.items
-    ∙ same_use _ _ _ _ _ c.self.invariant _ (leaves g (goal.at.returns-clause-same_use g c).After-clear-arg-1) c.in_default.ensures.count n
+    ∙ same_use _ _ _ _ _ c.self.invariant _ (leaves g (goal.at.returns-clause-same_use g c).After-clear-arg-1) c.in_default.ensures.long.count n
     ∙ ap (λ (v : PagesView). is_some (at v.pages n)) c.self.view_is
 
 pub returns-clause-others : goal.returns-clause-others
@@ -152,7 +153,7 @@ returns-in-Err-clause-writes_err g c =
     let many = calls_in c.args.self.now (g.S.StoreState.pages c.self.inside.store) _ c.self.inside.changed.items c.self.inside.free.keys c.self.inside.count c.deref.ensures.value (ap (λ (v : PagesView). v.pages) c.self.view_is) (ap (λ (v : PagesView). v.in_memory) c.self.view_is) in
     let before = ap (λ (v : PagesView). v.writes) c.self.view_is in
     subst (λ k. CountedUpTo (6 + k) c.args.self.now.writes (g.S.StoreState.writes c.write_out-written.new.store)) many
-    (subst (λ old. CountedUpTo (6 + how_many (λ n. is_some (to_write (slots_of c.deref.result.now) c.self.inside.free.keys c.self.inside.count n)) c.self.inside.count) old (g.S.StoreState.writes c.write_out-written.new.store)) before c.in-Err.ensures.writes_err)
+    (subst (λ old. CountedUpTo (6 + how_many (λ n. is_some (to_write (slots_of c.deref.result.now) c.self.inside.free.keys c.self.inside.count n)) c.self.inside.count) old (g.S.StoreState.writes c.write_out-written.new.store)) before c.in-Err.ensures.carries.writes_err)
 
 pub returns-clause-in_memory : goal.returns-clause-in_memory
 returns-clause-in_memory g c = λ n.
@@ -163,7 +164,7 @@ pub returns-clause-writes : goal.returns-clause-writes
 returns-clause-writes g c =
     let many = calls_in c.args.self.now (g.S.StoreState.pages c.self.inside.store) _ c.self.inside.changed.items c.self.inside.free.keys c.self.inside.count c.deref.ensures.value (ap (λ (v : PagesView). v.pages) c.self.view_is) (ap (λ (v : PagesView). v.in_memory) c.self.view_is) in
     let before = ap (λ (v : PagesView). v.writes) c.self.view_is in
-    c.in_default.ensures.writes ∙ ap (λ old. counted_times old (6 + how_many (λ n. is_some (to_write (slots_of c.deref.result.now) c.self.inside.free.keys c.self.inside.count n)) c.self.inside.count)) before ∙ ap (λ k. counted_times c.args.self.now.writes (6 + k)) many
+    c.in_default.ensures.carries.writes ∙ ap (λ old. counted_times old (6 + how_many (λ n. is_some (to_write (slots_of c.deref.result.now) c.self.inside.free.keys c.self.inside.count n)) c.self.inside.count)) before ∙ ap (λ k. counted_times c.args.self.now.writes (6 + k)) many
 
 -- the calls that write the slots that were passed are those that write the pages in memory
 steps_in : (v : PagesView) (stored : List (List ℕ)) (seen items : List (Option (Box (List ℕ) Global))) (free : List ℕ) (count : ℕ) (writing clean : List ℕ) → seen ≡ items → pages_of stored (slots_of items) free count ≡ v.pages → in_memory_of (slots_of items) free count ≡ v.in_memory
@@ -177,12 +178,12 @@ pub returns-in-Err-clause-journal_err : goal.returns-in-Err-clause-journal_err
 returns-in-Err-clause-journal_err g c =
     let all = steps_in c.args.self.now (g.S.StoreState.pages c.self.inside.store) _ c.self.inside.changed.items c.self.inside.free.keys c.self.inside.count c.args.writing.now c.args.clean.now c.deref.ensures.value (ap (λ (v : PagesView). v.pages) c.self.view_is) (ap (λ (v : PagesView). v.in_memory) c.self.view_is) in
     subst (λ steps. NotesFront steps c.args.self.now.journal (g.S.StoreState.journal c.write_out-written.new.store)) all
-    (subst (λ old. NotesFront (writing_back (to_write (slots_of c.deref.result.now) c.self.inside.free.keys c.self.inside.count) c.self.inside.count c.args.writing.now c.args.clean.now) old (g.S.StoreState.journal c.write_out-written.new.store)) (ap (λ (v : PagesView). v.journal) c.self.view_is) c.in-Err.ensures.journal_err)
+    (subst (λ old. NotesFront (writing_back (to_write (slots_of c.deref.result.now) c.self.inside.free.keys c.self.inside.count) c.self.inside.count c.args.writing.now c.args.clean.now) old (g.S.StoreState.journal c.write_out-written.new.store)) (ap (λ (v : PagesView). v.journal) c.self.view_is) c.in-Err.ensures.carries.journal_err)
 
 pub returns-clause-journal : goal.returns-clause-journal
 returns-clause-journal g c =
     let all = steps_in c.args.self.now (g.S.StoreState.pages c.self.inside.store) _ c.self.inside.changed.items c.self.inside.free.keys c.self.inside.count c.args.writing.now c.args.clean.now c.deref.ensures.value (ap (λ (v : PagesView). v.pages) c.self.view_is) (ap (λ (v : PagesView). v.in_memory) c.self.view_is) in
-    c.in_default.ensures.journal ∙ ap (λ old. noted old (writing_back (to_write (slots_of c.deref.result.now) c.self.inside.free.keys c.self.inside.count) c.self.inside.count c.args.writing.now c.args.clean.now)) (ap (λ (v : PagesView). v.journal) c.self.view_is)
+    c.in_default.ensures.carries.journal ∙ ap (λ old. noted old (writing_back (to_write (slots_of c.deref.result.now) c.self.inside.free.keys c.self.inside.count) c.self.inside.count c.args.writing.now c.args.clean.now)) (ap (λ (v : PagesView). v.journal) c.self.view_is)
     ∙ ap (noted c.args.self.now.journal) all
 
 pub returns-clause-idle : goal.returns-clause-idle

@@ -1,5 +1,0 @@
-use Rattle.std.proofs.Common.{rules}
-use Rattle.btree_delete.proofs.fault_counts.FaultCounts.note.Goals as goal
-
-pub returns-in-Err-Damaged-clause-damages : goal.returns-in-Err-Damaged-clause-damages
-returns-in-Err-Damaged-clause-damages g c = search rules

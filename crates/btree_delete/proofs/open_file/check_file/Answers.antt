@@ -1,8 +1,0 @@
-use Rattle.std.proofs.Common.{ℕ, List, IfErr, ◌∙◌, subst}
-use Rattle.btree_delete.specs.CleanFile.{IsFirst}
-use Rattle.btree_delete.proofs.open_file.check_file.Goals as goal
-
-pub returns-clause-fault : goal.returns-clause-fault
-returns-clause-fault g c = λ steady limit.
-    subst (λ (pages : List (List ℕ)). IfErr c.check_header.result (IsFirst pages (g.S.StoreState.tail c.args.store.now) limit)) c.check_length.ensures.stays.pages
-    (subst (λ (tail : ℕ). IfErr c.check_header.result (IsFirst (g.S.StoreState.pages c.check_length.new.store) tail limit)) c.check_length.ensures.stays.tail (c.check_header.ensures.fault (c.check_length.ensures.stays.steady ∙ steady) limit))

@@ -1,5 +1,0 @@
-use Rattle.std.proofs.Common.{rules}
-use Rattle.btree_delete.proofs.survey.Survey.add_leaf.Goals as goal
-
-pub returns-2-clause-fits : goal.returns-2-clause-fits
-returns-2-clause-fits c = search rules

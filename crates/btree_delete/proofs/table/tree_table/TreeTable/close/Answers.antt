@@ -1,0 +1,86 @@
+use Rattle.std.proofs.Common.{rules, ◌≡◌, ℕ, List, length, true, false, Some, ap, sym, ◌∙◌, subst, arith}
+use Rattle.page_store.specs.Fronts.{tried}
+use Rattle.page_store.specs.Journal.{noted, NotesFront, carried, writing_back}
+use Rattle.page_store.specs.PagesView.{memory_pages}
+use Rattle.page_store.specs.declared.step.Step.{Step}
+use Rattle.btree_delete.specs.Closing.{closing, IsNewOrFile, IsEither}
+use Rattle.btree_delete.specs.TableView.{TableView, IsClosed, table_contents, table_of}
+use Rattle.btree_delete.proofs.ClosedFileLemmas.{written_back}
+use Rattle.btree_delete.proofs.CloseFrontLemmas.{closing_is, either_idle, again_idle, either_changed, again_changed}
+use Rattle.btree_delete.proofs.table.tree_table.TreeTable.close.Given as given
+use Rattle.btree_delete.proofs.table.tree_table.TreeTable.close.Goals as goal
+use Rattle.btree_delete.proofs.table.tree_table.TreeTable.close.Goals.{After-write_back-arg-2-1, Then-not-changed}
+
+-- the calls that write the table back, and what a front of them leaves
+module _ (g : given.Over) (c : After-write_back-arg-2-1 g) where
+  abbrev here : TableView
+  here = table_of c.self.inside.pages c.self.inside.tree c.self.inside.limit c.self.inside.faults c.self.inside.calls
+
+  changed : here.pages.changed ≡ true
+  changed = sym c.changed.ensures.value ∙ c.if-not-changed.false
+
+  steps : writing_back (memory_pages here.pages) (length here.pages.pages) c.write_header.result c.write_header-2.result ≡ closing here
+  steps = closing_is here c.page_count.result c.write_header.result c.write_header-2.result changed c.page_count.ensures.value c.write_header.ensures c.write_header-2.ensures
+
+  fronts : (old : List (List ℕ)) (ks : List ℕ) → IsNewOrFile old → IsEither old (carried old (closing c.args.self)) (carried old (tried ks (closing c.args.self)))
+  fronts old ks file =
+      subst (λ (t : TableView). IsEither old (carried old (closing t)) (carried old (tried ks (closing t)))) c.self.view_is
+      (either_changed here old ks changed (omega (arith, c.page_count.ensures.value, c.page_count.ensures.some)) c.page_count.ensures.header file)
+
+  again : (old : List (List ℕ)) (ks : List ℕ) → carried (carried old (tried ks (closing c.args.self))) (closing c.args.self) ≡ carried old (closing c.args.self)
+  again old ks = subst (λ (t : TableView). carried (carried old (tried ks (closing t))) (closing t) ≡ carried old (closing t)) c.self.view_is (again_changed here old ks changed)
+
+-- nothing was changed
+module _ (g : given.Over) (c : Then-not-changed g) where
+  abbrev unchanged : TableView
+  unchanged = table_of c.self.inside.pages c.self.inside.tree c.self.inside.limit c.self.inside.faults c.self.inside.calls
+
+  idle : unchanged.pages.changed ≡ false
+  idle = sym c.changed.ensures.value ∙ c.if-not-changed.true
+
+pub returns-in-Ok-clause-closed : goal.returns-in-Ok-clause-closed
+returns-in-Ok-clause-closed g c = λ steady.
+    let inv = c.self.invariant in
+    let steady2 = ap (λ (t : TableView). t.pages.steady) c.self.view_is ∙ steady in
+    let t = here g (goal.at.returns-in-Ok-clause-closed g c).After-write_back-arg-2-1 in
+    let closed = written_back c.self.inside.pages c.write_back.new.self.stored c.write_back.new.self.tail c.page_count.result c.self.inside.tree (inv.holds steady2) c.in-Ok.ensures.count c.in-Ok.ensures.tail c.page_count.ensures.value c.page_count.ensures.some c.page_count.ensures.most c.page_count.ensures.header
+    (c.in-Ok.ensures.header steady2 ∙ ap Some c.write_header-2.ensures) (c.in-Ok.ensures.stored steady2) inv.tree.order.0 inv.tree.order.1 inv.tree.count in
+    subst (λ (t : TableView). IsClosed 2 (g.S.StoreState.pages c.into_store-in-Ok.result) (g.S.StoreState.tail c.into_store-in-Ok.result) t.tree (table_contents t)) c.self.view_is
+    (subst (λ (pages : List (List ℕ)). IsClosed 2 pages (g.S.StoreState.tail c.into_store-in-Ok.result) c.self.inside.tree (table_contents t)) (sym c.into_store-in-Ok.ensures.pages)
+    (subst (λ (tail : ℕ). IsClosed 2 c.write_back.new.self.stored tail c.self.inside.tree (table_contents t)) (sym c.into_store-in-Ok.ensures.tail) closed))
+
+pub returns-in-Ok-clause-journal : goal.returns-in-Ok-clause-journal
+returns-in-Ok-clause-journal g c =
+    let place = (goal.at.returns-in-Ok-clause-journal g c).After-write_back-arg-2-1 in
+    c.into_store-in-Ok.ensures.journal ∙ c.in-Ok.ensures.journal ∙ ap (noted c.self.inside.pages.journal) (steps g place) ∙ ap (λ (t : TableView). noted t.pages.journal (closing t)) c.self.view_is
+
+pub returns-in-Err-clause-journal : goal.returns-in-Err-clause-journal
+returns-in-Err-clause-journal g c =
+    let place = (goal.at.returns-in-Err-clause-journal g c).After-write_back-arg-2-1 in
+    subst (λ (t : TableView). NotesFront (closing t) t.pages.journal c.write_back.new.self.journal) c.self.view_is
+    (subst (λ (all : List Step). NotesFront all c.self.inside.pages.journal c.write_back.new.self.journal) (steps g place) c.in-Err.ensures.journal_err)
+
+pub returns-in-Ok-clause-fronts : goal.returns-in-Ok-clause-fronts
+returns-in-Ok-clause-fronts g c = fronts g (goal.at.returns-in-Ok-clause-fronts g c).After-write_back-arg-2-1
+
+pub returns-in-Err-clause-fronts : goal.returns-in-Err-clause-fronts
+returns-in-Err-clause-fronts g c = fronts g (goal.at.returns-in-Err-clause-fronts g c).After-write_back-arg-2-1
+
+pub returns-in-Ok-clause-again : goal.returns-in-Ok-clause-again
+returns-in-Ok-clause-again g c = again g (goal.at.returns-in-Ok-clause-again g c).After-write_back-arg-2-1
+
+pub returns-in-Err-clause-again : goal.returns-in-Err-clause-again
+returns-in-Err-clause-again g c = again g (goal.at.returns-in-Err-clause-again g c).After-write_back-arg-2-1
+
+pub returns-then-not-changed-clause-fronts : goal.returns-then-not-changed-clause-fronts
+returns-then-not-changed-clause-fronts g c = λ old ks file.
+    let place = (goal.at.returns-then-not-changed-clause-fronts g c).Then-not-changed in
+    subst (λ (t : TableView). IsEither old (carried old (closing t)) (carried old (tried ks (closing t)))) c.self.view_is (either_idle (unchanged g place) old ks (idle g place))
+
+pub returns-then-not-changed-clause-again : goal.returns-then-not-changed-clause-again
+returns-then-not-changed-clause-again g c = λ old ks.
+    let place = (goal.at.returns-then-not-changed-clause-again g c).Then-not-changed in
+    subst (λ (t : TableView). carried (carried old (tried ks (closing t))) (closing t) ≡ carried old (closing t)) c.self.view_is (again_idle (unchanged g place) old ks (idle g place))
+
+pub returns-in-Err-clause-device : goal.returns-in-Err-clause-device
+returns-in-Err-clause-device g c = search rules

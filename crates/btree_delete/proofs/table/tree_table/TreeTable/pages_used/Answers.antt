@@ -1,0 +1,5 @@
+use Rattle.std.proofs.Common.{rules}
+use Rattle.btree_delete.proofs.table.tree_table.TreeTable.pages_used.Goals as goal
+
+pub returns : goal.returns
+returns g c = search rules

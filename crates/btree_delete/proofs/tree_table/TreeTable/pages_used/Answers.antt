@@ -1,5 +1,0 @@
-use Rattle.std.proofs.Common.{rules}
-use Rattle.btree_delete.proofs.tree_table.TreeTable.pages_used.Goals as goal
-
-pub returns : goal.returns
-returns g c = search rules

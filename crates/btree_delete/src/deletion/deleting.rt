@@ -1,0 +1,269 @@
+ghost use Rattle.std.specs.Prelude.{◌≡◌, ◌-◌, ◌*◌, ◌<◌, ◌≤◌, ◌⊎◌, ℕ, List, Option, Some, None, true, false, IsTrue, IsSome, IfOk, IfSome, IfErr, OnOk, MatchResult, length};
+ghost use Rattle.page_store.specs.PageMap.{PageMap, at, after};
+ghost use Rattle.btree_node.specs.Lists.{Element};
+ghost use Rattle.btree_insert.specs.Faults.{is_device};
+ghost use Rattle.btree_insert.specs.Growth.{IsOutside};
+ghost use Rattle.btree_insert.specs.PageTrees.{Holds, Spells};
+ghost use Rattle.btree_insert.specs.Reached.{LeadsFrom};
+ghost use Rattle.btree_insert.specs.Spelt.{AreSpeltIn};
+ghost use Rattle.btree_insert.specs.Contents.{lookup_in, set_in};
+ghost use Rattle.page_store.specs.CanStage.{CanStage};
+ghost use Rattle.btree_delete.specs.Deleted.{Deleted, MayStop, IsNoLarger};
+ghost use Rattle.btree_delete.specs.Treatment.{son_at};
+ghost use Rattle.btree_delete.specs.Shrinking.{MayBeUnderfull, UnderfullGoesUp, LeavesTree, ShrinksRoot, gone};
+ghost use Rattle.btree_insert.specs.declared.bounds.Bounds.{Bounds};
+ghost use Rattle.btree_delete.specs.Tidy.{is_visited, IsTidy};
+ghost use Rattle.btree_delete.specs.Subtrees.{head_page};
+ghost use Rattle.btree_delete.specs.PagesLeft.{with_edit};
+ghost use Rattle.btree_node.specs.Layout.{IsOrder};
+ghost use Rattle.btree_insert.specs.Sizes.{IsTree};
+ghost use Rattle.btree_insert.specs.Edits.{Stages};
+ghost use Rattle.btree_delete.specs.Edits.{TakesNone, TouchesNone};
+
+use crate::deletion::delete_below::{Shrunk, delete_below};
+use crate::deletion::delete_in_one::delete_in_one;
+use crate::deletion::subtree::Subtree;
+use crate::deletion::underflow::free_page;
+use arrayvec::ArrayVec;
+use btree_insert::{Bounds, Spot, Tree, TreeFault, write_node};
+use btree_node::Node;
+use page_store::{PageEdit, Pages, Store};
+use rec_types::{Key, Memory, Record};
+use std::alloc::Global;
+
+/// Son 0 of a node, 0 where it is a leaf.
+fn first_son(node: &Node) -> u32
+    ensures { result ≡ son_at node.now 0 }
+{
+    if node.sons.is_empty() {
+        0
+    } else {
+        node.sons[0]
+    }
+}
+
+/// The tree with one key less, and with so many pages less. Fault: Damaged with the page, where the
+/// tree says that it has no key, or fewer pages.
+fn fewer(tree: &Tree, page: u32, freed: usize) -> Result<Tree, TreeFault>
+    ensures value { IfOk result (λ next. next
+        ≡ record tree.now { count = tree.now.count - 1; used = tree.now.used - freed }) }
+    ensures enough { OnOk result ((1 ≤ tree.now.count) × (freed ≤ tree.now.used)) }
+    ensures fault { IfErr result (λ fault. (fault ≡ TreeFault.Damaged page)
+        × ((tree.now.count ≡ 0) ⊎ (tree.now.used < freed))) }
+{
+    if tree.count == 0 || (tree.used as usize) < freed {
+        return Err(TreeFault::Damaged(page));
+    }
+    Ok(Tree {
+        count: tree.count - 1,
+        used: tree.used - freed as u32,
+        ..*tree
+    })
+}
+
+/// Writes the underfull node of the root. A root without a key is freed: its one son is the root, or the
+/// tree is empty.
+fn shrink_root(edit: &mut PageEdit, tree: &Tree, node: &Node) -> Result<Tree, Memory>
+    requires order { IsOrder tree.now.order }
+    requires height { 0 < tree.now.height }
+    requires may_be_underfull { (height : ℕ) × (bounds : Bounds)
+        × MayBeUnderfull tree.now.order height bounds node.now }
+    ensures shrinks { IfOk result (λ next. ShrinksRoot tree.now next node.now
+        edit.old.writes.items edit.new.writes.items edit.old.freed.items edit.new.freed.items) }
+    ensures edit { TakesNone tree.now.order edit.old result edit.new }
+{
+    if node.elements.is_empty() {
+        free_page(edit, tree.root)?;
+        return Ok(Tree {
+            root: first_son(node),
+            height: tree.height - 1,
+            ..*tree
+        });
+    }
+    write_node(edit, tree.order, tree.root, node)?;
+    Ok(*tree)
+}
+
+/// The tree and what stood at the key, after an element was taken out below the root. Faults: Memory;
+/// Damaged with the root where the tree says that it has no key, or fewer pages than are freed.
+fn shrink_tree(
+    edit: &mut PageEdit,
+    tree: &Tree,
+    shrunk: Shrunk,
+) -> Result<(Tree, Option<Record>), TreeFault>
+    requires order { IsOrder tree.now.order }
+    requires height { 0 < tree.now.height }
+    requires up { UnderfullGoesUp tree.now.order tree.now.height
+        (record { low = None; high = None }) tree.now.root
+        edit.old.writes.items edit.old.freed.items shrunk }
+    requires none_taken { edit.old.taken ≡ 0 }
+    ensures deleted { (pages : PageMap) (es : List Element) (us key : List ℕ)
+        → Holds pages tree.now es us → lookup_in key es ≡ Some (gone shrunk).1
+        → LeavesTree (head_page tree.now.order 1 (tree.now.height - 1) tree.now.root)
+        (with_edit pages edit.old) us (set_in key None es) shrunk
+        → MatchResult result
+        (λ r. Deleted pages (after pages edit.new.writes.items edit.new.freed.items)
+        tree.now es us key r)
+        IsOutside }
+    ensures fits { (pages : List (Option (List ℕ))) (visited : List ℕ)
+        → IsSome (at pages tree.now.root) → is_visited visited tree.now.root ≡ true
+        → IsTidy pages visited edit.old.writes.items edit.old.freed.items
+        → OnOk result (CanStage pages edit.new.writes.items edit.new.taken edit.new.freed.items) }
+    ensures edit { TakesNone tree.now.order edit.old result edit.new }
+    ensures answer { IfOk result (λ r. r.1 ≡ Some (gone shrunk).1) }
+    ensures smaller { IfOk result (λ r. IsNoLarger tree.now r.0) }
+    ensures no_device { is_device result ≡ false }
+{
+    match shrunk {
+        Shrunk::Whole(removed) => {
+            let next = fewer(tree, tree.root, edit.freed.len())?;
+            Ok((next, Some(removed.1)))
+        }
+        Shrunk::Underfull(removed, node) => {
+            let shrunk = shrink_root(edit, tree, &node)?;
+            let next = fewer(&shrunk, tree.root, edit.freed.len())?;
+            Ok((next, Some(removed.1)))
+        }
+    }
+}
+
+/// Takes the key out, and answers the new tree and the record that stood there; an absent key answers
+/// `None`, and nothing changes. The conditions are an order from 1 to 16, a height of at most 19, and
+/// a `count` and a `used` of at most 1,000,000. It reads each page of the path to the key once, and
+/// one brother at most of each page below the root. Faults: Device; Damaged with the page that is not
+/// in use, spells no node of the order, is of a kind that does not fit its level, has a key that is not
+/// strictly between the bounds from all levels above, or is visited twice; Damaged with the root where
+/// `count` or `used` would pass 0; Memory, where the key is there. After a fault no page has changed.
+pub fn delete<S: Store>(
+    alloc: Global,
+    pages: &mut Pages<S>,
+    tree: &Tree,
+    key: &Key,
+) -> Result<(Tree, Option<Record>), TreeFault>
+    requires tree { IsTree tree.now }
+    ensures deleted { IsTrue pages.old.steady → (es : List Element) (us : List ℕ)
+        → Holds (at pages.old.pages) tree.now es us
+        → MatchResult result
+        (λ r. Deleted (at pages.old.pages) (at pages.new.pages) tree.now es us key.now r)
+        (MayStop (lookup_in key.now es)) }
+    ensures led { IsTrue pages.old.steady → IfOk result
+        (λ r. LeadsFrom (Spells tree.now.order (at pages.old.pages)) key.now
+        tree.now.height tree.now.root r.1) }
+    ensures smaller { IfOk result (λ r. IsNoLarger tree.now r.0) }
+    ensures spelt { AreSpeltIn tree.now.order pages.old → AreSpeltIn tree.now.order pages.new }
+    ensures absent { IfOk result (λ r. r.1 ≡ None → (r.0 ≡ tree.now)
+        × (pages.new.pages ≡ pages.old.pages) × (pages.new.changed ≡ pages.old.changed)) }
+    ensures changed { IfOk result (λ r. IsSome r.1 → pages.new.changed ≡ true) }
+    ensures page_count { length pages.new.pages ≡ length pages.old.pages }
+    ensures stages { Stages (2 * tree.now.height - 1) pages.old result pages.new }
+{
+    if tree.height == 0 {
+        return Ok((*tree, None));
+    }
+    let mut edit = PageEdit {
+        writes: Vec::new(alloc),
+        taken: 0,
+        freed: Vec::new(alloc),
+    };
+    let whole = Subtree {
+        order: tree.order,
+        height: tree.height,
+        page: tree.root,
+        bounds: Bounds {
+            low: None,
+            high: None,
+        },
+    };
+    let mut visited = ArrayVec::new();
+    let shrunk = delete_below(pages, &mut edit, &mut visited, &whole, &Some(*key))?;
+    let Some(shrunk) = shrunk else {
+        return Ok((*tree, None));
+    };
+    let shrunk = shrink_tree(&mut edit, tree, shrunk)?;
+    pages.stage(edit)?;
+    Ok(shrunk)
+}
+
+/// Takes the key out of a tree where one page changes alone and all pages on the way are in memory, and answers the
+/// new tree and the record that stood there. None where it is not so: the edit is as it was then. Faults: Memory;
+/// Damaged with the root where the tree says that it has no key.
+fn shrink_in_one<S: Store>(
+    pages: &Pages<S>,
+    edit: &mut PageEdit,
+    tree: &Tree,
+    key: &Key,
+) -> Result<Option<(Tree, Record)>, TreeFault>
+    requires tree { IsTree tree.now }
+    requires untouched { TouchesNone edit.old }
+    requires none_taken { edit.old.taken ≡ 0 }
+    requires spelt { AreSpeltIn tree.now.order pages.now }
+    ensures deleted { (es : List Element) (us : List ℕ) → Holds (at pages.now.pages) tree.now es us
+        → MatchResult result
+        (λ r. IfSome r (λ shrunk. Deleted (at pages.now.pages)
+        (after (at pages.now.pages) edit.new.writes.items edit.new.freed.items)
+        tree.now es us key.now (shrunk.0, Some shrunk.1)))
+        (MayStop (lookup_in key.now es)) }
+    ensures led { IfOk result (λ r. IfSome r (λ shrunk.
+        LeadsFrom (Spells tree.now.order (at pages.now.pages)) key.now
+        tree.now.height tree.now.root (Some shrunk.1))) }
+    ensures fits { OnOk result
+        (CanStage pages.now.pages edit.new.writes.items edit.new.taken edit.new.freed.items) }
+    ensures edit { TakesNone tree.now.order edit.old result edit.new }
+    ensures smaller { IfOk result (λ r. IfSome r (λ shrunk. IsNoLarger tree.now shrunk.0)) }
+    ensures no_device { is_device result ≡ false }
+{
+    if tree.height == 0 {
+        return Ok(None);
+    }
+    let root = Spot {
+        page: tree.root,
+        level: tree.height,
+        bounds: Bounds {
+            low: None,
+            high: None,
+        },
+    };
+    let Some(old) = delete_in_one(pages, edit, tree.order, &root, key)? else {
+        return Ok(None);
+    };
+    let next = fewer(tree, tree.root, 0)?;
+    Ok(Some((next, old)))
+}
+
+/// The same as `delete`, where each page in memory is known to spell a node of the order: where the key stands in a
+/// leaf with a key to spare, that leaf is changed where it lies.
+pub fn delete_in_place<S: Store>(
+    alloc: Global,
+    pages: &mut Pages<S>,
+    tree: &Tree,
+    key: &Key,
+) -> Result<(Tree, Option<Record>), TreeFault>
+    requires tree { IsTree tree.now }
+    requires spelt { AreSpeltIn tree.now.order pages.old }
+    ensures deleted { IsTrue pages.old.steady → (es : List Element) (us : List ℕ)
+        → Holds (at pages.old.pages) tree.now es us
+        → MatchResult result
+        (λ r. Deleted (at pages.old.pages) (at pages.new.pages) tree.now es us key.now r)
+        (MayStop (lookup_in key.now es)) }
+    ensures led { IsTrue pages.old.steady → IfOk result
+        (λ r. LeadsFrom (Spells tree.now.order (at pages.old.pages)) key.now
+        tree.now.height tree.now.root r.1) }
+    ensures smaller { IfOk result (λ r. IsNoLarger tree.now r.0) }
+    ensures spelt { AreSpeltIn tree.now.order pages.new }
+    ensures absent { IfOk result (λ r. r.1 ≡ None → (r.0 ≡ tree.now)
+        × (pages.new.pages ≡ pages.old.pages) × (pages.new.changed ≡ pages.old.changed)) }
+    ensures changed { IfOk result (λ r. IsSome r.1 → pages.new.changed ≡ true) }
+    ensures page_count { length pages.new.pages ≡ length pages.old.pages }
+    ensures stages { Stages (2 * tree.now.height - 1) pages.old result pages.new }
+{
+    let mut edit = PageEdit {
+        writes: Vec::new(alloc),
+        taken: 0,
+        freed: Vec::new(alloc),
+    };
+    let Some(shrunk) = shrink_in_one(pages, &mut edit, tree, key)? else {
+        return delete(alloc, pages, tree, key);
+    };
+    pages.stage(edit)?;
+    Ok((shrunk.0, Some(shrunk.1)))
+}

@@ -1,0 +1,362 @@
+ghost use Rattle.std.specs.Prelude.{◌≡◌, ◌≢◌, ◌+◌, ◌*◌, ◌^◌, ◌<◌, ◌≤◌, ◌⊎◌, ℕ, true, false, List, Some, None, length, IsTrue, IfErr, OnOk, MatchResult, IsSome, slice_index_or, slice_set};
+ghost use Rattle.rec_types.specs.Table.{counted};
+ghost use Rattle.page_store.specs.PageMap.{at};
+ghost use Rattle.page_store.specs.PagesView.{is_in_memory};
+ghost use Rattle.btree_node.specs.Lists.{Element};
+ghost use Rattle.btree_node.specs.Spelling.{CanStandIn, spelling_in};
+ghost use Rattle.btree_node.specs.declared.node.Node.{Node};
+ghost use Rattle.btree_node.specs.Layout.{first_version, layout_of, most_keys, IsSmallOrder};
+ghost use Rattle.btree_insert.specs.Bounds.{AreWithin, Between};
+ghost use Rattle.btree_insert.specs.Faults.{is_device, AsksNoMemory};
+ghost use Rattle.btree_insert.specs.PageTrees.{SpellsIn, Spells};
+ghost use Rattle.btree_insert.specs.Growth.{IsOutside};
+ghost use Rattle.btree_insert.specs.Spelt.{AreSpeltIn};
+ghost use Rattle.btree_delete.specs.Survey.{SeenSoFar, unreached, AreKept, stored_page, after, below_page, below_sons, Sound, Surveyed, allowed, StandsWithin, Surveys};
+ghost use Rattle.btree_insert.specs.Edits.{Reads};
+
+use btree_insert::{Bounds, TreeFault, are_within};
+use btree_node::{FIRST_VERSION, Node, NodeKind, decode_version, encode};
+use page_store::{FetchFault, PageEdit, Pages, Store};
+use rec_types::{Key, PAGE_WIDTH, Record};
+use std::alloc::Global;
+use std::marker::Model;
+
+/// What a walk has seen: which pages it reached, where the first leaf stood, how many keys there are.
+#[derive(Drop)]
+pub(crate) struct Survey {
+    reached: Vec<bool>,
+    leaf: Option<u32>,
+    keys: u32,
+}
+
+impl Model for Survey {
+    ghost use Rattle.btree_delete.specs.Survey.{SeenSoFar};
+
+    ghost Value = { SeenSoFar };
+
+    ghost view = { λ s. record { reached = s.reached.items; leaf = s.leaf; keys = s.keys } };
+}
+
+impl Survey {
+    /// Nothing was met yet but the pages that are marked.
+    pub(crate) fn new(reached: Vec<bool>) -> Survey
+        ensures { result ≡ record { reached = reached.items; leaf = None; keys = 0 } }
+    {
+        Survey {
+            reached,
+            leaf: None,
+            keys: 0,
+        }
+    }
+
+    /// Whether page n is there and was not reached before. It is reached then.
+    fn reach(&mut self, n: u32) -> bool
+        ensures visited { result ≡ false → slice_index_or self.old.reached n true ≡ true }
+        ensures unvisited { result ≡ true → slice_index_or self.old.reached n true ≡ false }
+        ensures fewer { result ≡ true
+            → unreached self.new.reached + 1 ≡ unreached self.old.reached }
+        ensures reached { result ≡ true
+            → self.new ≡ record self.old { reached = slice_set self.old.reached n true } }
+        ensures long { length self.new.reached ≡ length self.old.reached }
+    {
+        let at = n as usize;
+        if at >= self.reached.len() || self.reached[at] {
+            return false;
+        }
+        self.reached[at] = true;
+        true
+    }
+
+    /// Whether a leaf may stand at that level: the first one may, and the others stand where it does.
+    /// Its keys are counted then.
+    fn add_leaf(&mut self, level: u32, keys: u32) -> bool
+        requires room { self.old.keys + keys < 2 ^ 32 }
+        ensures fits { result ≡ true
+            → (self.old.leaf ≡ None) ⊎ (self.old.leaf ≡ Some level) }
+        ensures uneven { result ≡ false
+            → ((self.old.leaf ≡ None) ⊎ (self.old.leaf ≡ Some level)) → ⊥ }
+        ensures long { length self.new.reached ≡ length self.old.reached }
+        ensures added { result ≡ true → self.new
+            ≡ record {
+              reached = self.old.reached;
+              leaf = Some level;
+              keys = self.old.keys + keys;
+            } }
+    {
+        if let Some(first) = self.leaf
+            && first != level
+        {
+            return false;
+        }
+        self.leaf = Some(level);
+        self.keys += keys;
+        true
+    }
+
+    /// Counts a key between two sons.
+    fn add_key(&mut self)
+        requires room { self.old.keys + 1 < 2 ^ 32 }
+        ensures { self.new ≡ record self.old { keys = self.old.keys + 1 } }
+    {
+        self.keys += 1;
+    }
+
+    /// How many keys were met.
+    pub(crate) fn keys(&self) -> u32
+        ensures { result ≡ self.now.keys }
+    {
+        self.keys
+    }
+
+    /// How many levels more than those above the leaves a tree may have.
+    pub(crate) fn leaf(&self) -> Option<u32>
+        ensures { result ≡ self.now.leaf }
+    {
+        self.leaf
+    }
+
+    /// Of each page whether it was reached.
+    pub(crate) fn into_reached(self) -> Vec<bool>
+        ensures { result.items ≡ self.reached }
+    {
+        let Survey { reached, .. } = self;
+        reached
+    }
+}
+
+/// What the levels above say of a page and of those below it.
+#[derive(Clone, Copy)]
+pub(crate) struct Above {
+    /// The page in which its number stands.
+    pub from: u32,
+    /// How many levels there may be below it.
+    pub left: u32,
+    /// The bounds of its keys.
+    pub bounds: Bounds,
+}
+
+/// Fills the node with that of page n, which has at least so many keys, all within the bounds. Faults:
+/// Device, and Damaged(n) where the page is not in use or spells no such node; the node may then be any.
+/// No page changes.
+fn read_page<S: Store>(
+    pages: &mut Pages<S>,
+    version: u16,
+    order: u16,
+    least: u16,
+    n: u32,
+    bounds: &Bounds,
+    node: &mut Node,
+) -> Result<(), TreeFault>
+    requires order { IsSmallOrder order }
+    requires unread { is_in_memory pages.old n ≡ false }
+    ensures exact { IsTrue pages.old.steady → (m : Node)
+        → SpellsIn (layout_of version) order (at pages.old.pages) n m → least ≤ length m.elements.items
+        → AreWithin bounds.now m.elements.items
+        → MatchResult result (λ _. node.new ≡ m) (λ fault. fault ≡ TreeFault.Device) }
+    ensures stands { OnOk result
+        (StandsWithin (layout_of version) order least bounds.now node.new) }
+    ensures spells { IsTrue pages.old.steady
+        → OnOk result (SpellsIn (layout_of version) order (at pages.old.pages) n node.new) }
+    ensures in_use { OnOk result (IsSome (at pages.old.pages n)) }
+    ensures no_memory { AsksNoMemory result }
+    ensures reading { Reads 1 pages.old result pages.new }
+    ensures one_read { OnOk result (pages.new.reads ≡ counted pages.old.reads true) }
+{
+    let mut page = [0; PAGE_WIDTH];
+    match pages.fetch(n, &mut page) {
+        Ok(()) => {}
+        Err(FetchFault::Device) => return Err(TreeFault::Device),
+        Err(FetchFault::OutOfRange) => return Err(TreeFault::Damaged(n)),
+    }
+    decode_version(version, &page, order, node).map_err(|_| TreeFault::Damaged(n))?;
+    let elements = node.elements.as_slice();
+    if elements.len() < least as usize || !are_within(bounds, elements) {
+        return Err(TreeFault::Damaged(n));
+    }
+    Ok(())
+}
+
+/// Puts the node of page n in memory in the spelling that is written, where it was read in another. Fault:
+/// Memory; no page changes then.
+fn keep_page<S: Store>(
+    alloc: Global,
+    pages: &mut Pages<S>,
+    version: u16,
+    order: u16,
+    n: u32,
+    node: &Node,
+) -> Result<(), TreeFault>
+    requires order { IsSmallOrder order }
+    requires stands { CanStandIn (layout_of version) node.now order }
+    requires in_use { IsSome (at pages.old.pages n) }
+    ensures others { OnOk result ((q : ℕ) → q ≢ n
+        → (at pages.new.pages q ≡ at pages.old.pages q)
+        × (is_in_memory pages.new q ≡ is_in_memory pages.old q)) }
+    ensures here { at pages.old.pages n ≡ Some (spelling_in (layout_of version) node.now order)
+        → OnOk result (Spells order (at pages.new.pages) n node.now) }
+    ensures count { OnOk result (length pages.new.pages ≡ length pages.old.pages) }
+    ensures spelt { AreSpeltIn order pages.old → OnOk result (AreSpeltIn order pages.new) }
+    ensures memory { IfErr result (λ fault. fault ≡ TreeFault.Memory) }
+    ensures stays { pages.new ≡ record pages.old {
+      pages = pages.new.pages;
+      changed = pages.new.changed;
+      in_memory = pages.new.in_memory;
+    } }
+    ensures idle { version ≢ first_version → pages.new ≡ pages.old }
+{
+    if version != FIRST_VERSION {
+        return Ok(());
+    }
+    let mut edit = PageEdit {
+        writes: Vec::new(alloc),
+        taken: 0,
+        freed: Vec::new(alloc),
+    };
+    match edit.writes.push((n, encode(node, order))) {
+        Ok(()) => {}
+        Err(_) => return Err(TreeFault::Memory),
+    }
+    pages.stage(edit)?;
+    Ok(())
+}
+
+/// Goes through the tree below page n, a page of at least so many keys, and keeps each of its pages.
+/// Faults: Device and Memory where they are met, and Damaged with the first page that is not as it should
+/// be, or with the page above where page n was reached before or isn't there.
+#[cycle(surveying)]
+pub(crate) fn survey_page<S: Store>(
+    alloc: Global,
+    pages: &mut Pages<S>,
+    survey: &mut Survey,
+    version: u16,
+    order: u16,
+    least: u16,
+    n: u32,
+    above: &Above,
+) -> Result<(), TreeFault>
+    requires order { IsSmallOrder order }
+    requires kept { AreKept (layout_of version) order pages.old survey.old.reached }
+    requires room { survey.old.keys + most_keys * unreached survey.old.reached < 2 ^ 32 }
+    ensures found { IsTrue pages.old.steady → OnOk result
+        (Surveyed (below_page (layout_of version) order (stored_page pages.old) least n)
+        (allowed above.now.left above.now.bounds) survey.old survey.new
+        pages.old.reads pages.new.reads) }
+    ensures exact { IsTrue pages.old.steady → (h level : ℕ) (es : List Element) (us : List ℕ)
+        → Sound (below_page (layout_of version) order (stored_page pages.old) least n)
+        (allowed above.now.left above.now.bounds) survey.old h level es us
+        → MatchResult result (λ _. survey.new ≡ after level es us survey.old)
+        IsOutside }
+    ensures kept { OnOk result
+        (AreKept (layout_of version) order pages.new survey.new.reached) }
+    ensures room { OnOk result (survey.new.keys + most_keys * unreached survey.new.reached
+        ≤ survey.old.keys + most_keys * unreached survey.old.reached) }
+    ensures long { length survey.new.reached ≡ length survey.old.reached }
+    ensures surveys { Surveys version (is_device result) pages.old pages.new }
+{
+    if !survey.reach(n) {
+        return Err(TreeFault::Damaged(above.from));
+    }
+    let mut node = Node::blank();
+    read_page(pages, version, order, least, n, &above.bounds, &mut node)?;
+    keep_page(alloc, pages, version, order, n, &node)?;
+    let elements = node.elements.as_slice();
+    match node.kind {
+        NodeKind::Leaf => {
+            if survey.add_leaf(above.left, elements.len() as u32) {
+                Ok(())
+            } else {
+                Err(TreeFault::Damaged(n))
+            }
+        }
+        NodeKind::Inner => {
+            if above.left == 0 {
+                return Err(TreeFault::Damaged(n));
+            }
+            let below = Above {
+                from: n,
+                left: above.left - 1,
+                bounds: above.bounds,
+            };
+            survey_sons(
+                alloc,
+                pages,
+                survey,
+                version,
+                order,
+                node.sons.as_slice(),
+                elements,
+                &below,
+            )
+        }
+    }
+}
+
+/// Goes through the trees below the sons of a page, with the keys between them. Faults: as in
+/// `survey_page`.
+#[cycle(surveying)]
+fn survey_sons<S: Store>(
+    alloc: Global,
+    pages: &mut Pages<S>,
+    survey: &mut Survey,
+    version: u16,
+    order: u16,
+    sons: &[u32],
+    elements: &[(Key, Record)],
+    above: &Above,
+) -> Result<(), TreeFault>
+    requires order { IsSmallOrder order }
+    requires kept { AreKept (layout_of version) order pages.old survey.old.reached }
+    requires sons { length sons.now ≡ length elements.now + 1 }
+    requires room { survey.old.keys + length elements.now + most_keys * unreached survey.old.reached
+        < 2 ^ 32 }
+    ensures found { IsTrue pages.old.steady → Between above.now.bounds elements.now → OnOk result
+        (Surveyed (below_sons (layout_of version) order (stored_page pages.old) sons.now elements.now)
+        (allowed above.now.left above.now.bounds) survey.old survey.new
+        pages.old.reads pages.new.reads) }
+    ensures exact { IsTrue pages.old.steady → (h level : ℕ) (es : List Element) (us : List ℕ)
+        → Sound (below_sons (layout_of version) order (stored_page pages.old) sons.now elements.now)
+        (allowed above.now.left above.now.bounds) survey.old h level es us
+        → MatchResult result (λ _. survey.new ≡ after level es us survey.old)
+        IsOutside }
+    ensures kept { OnOk result
+        (AreKept (layout_of version) order pages.new survey.new.reached) }
+    ensures room { OnOk result (survey.new.keys + most_keys * unreached survey.new.reached
+        ≤ survey.old.keys + length elements.now + most_keys * unreached survey.old.reached) }
+    ensures long { length survey.new.reached ≡ length survey.old.reached }
+    ensures surveys { Surveys version (is_device result) pages.old pages.new }
+{
+    if elements.is_empty() {
+        return survey_page(alloc, pages, survey, version, order, order, sons[0], above);
+    }
+    let middle = elements[0];
+    let before = Above {
+        from: above.from,
+        left: above.left,
+        bounds: Bounds {
+            low: above.bounds.low,
+            high: Some(middle.0),
+        },
+    };
+    survey_page(
+        alloc, pages, survey, version, order, order, sons[0], &before,
+    )?;
+    survey.add_key();
+    let behind = Above {
+        from: above.from,
+        left: above.left,
+        bounds: Bounds {
+            low: Some(middle.0),
+            high: above.bounds.high,
+        },
+    };
+    survey_sons(
+        alloc,
+        pages,
+        survey,
+        version,
+        order,
+        &sons[1..],
+        &elements[1..],
+        &behind,
+    )
+}

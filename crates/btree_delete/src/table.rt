@@ -1,0 +1,4 @@
+// A table in a tree.
+pub(crate) mod change;
+pub(crate) mod fault_counts;
+pub(crate) mod tree_table;
