@@ -6,8 +6,8 @@ use Rattle.command_text.specs.Refusals.{is_refusal, begins_refused}
 use Rattle.command_text.specs.Texts.{line, answer_text, refusal_text, fault_text, old_text, entries_text, keys_text, text_of}
 use Rattle.command_text.specs.declared.command.LineFault.{LineFault}
 use Rattle.command_text.specs.declared.command.LineFault.TheVariants as line_faults
-use Rattle.command_text.specs.declared.refusal.Refusal.{Refusal}
-use Rattle.command_text.specs.declared.refusal.Refusal.TheVariants as refusals
+use Rattle.record_file.specs.declared.refusal.Refusal.{Refusal}
+use Rattle.record_file.specs.declared.refusal.Refusal.TheVariants as refusals
 use Rattle.command_text.specs.declared.reply.Reply.{Reply}
 use Rattle.command_text.specs.declared.reply.Reply.TheVariants as reply
 

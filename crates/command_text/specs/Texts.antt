@@ -9,11 +9,11 @@ use Rattle.record_file.specs.declared.fault.Cause.{Cause}
 use Rattle.record_file.specs.declared.fault.Cause.TheVariants as causes
 use Rattle.command_text.specs.declared.command.LineFault.{LineFault}
 use Rattle.command_text.specs.declared.command.LineFault.TheVariants as line_faults
-use Rattle.command_text.specs.declared.refusal.Refusal.{Refusal}
-use Rattle.command_text.specs.declared.refusal.Refusal.TheVariants as refusals
+use Rattle.record_file.specs.declared.refusal.Refusal.{Refusal}
+use Rattle.record_file.specs.declared.refusal.Refusal.TheVariants as refusals
 use Rattle.command_text.specs.declared.reply.Reply.{Reply}
 use Rattle.command_text.specs.declared.reply.Reply.TheVariants as reply
-use Rattle.command_text.specs.Refusals.{begin_refusal, put_refusal, claim_refusal, remove_refusal, get_refusal, savepoint_refusal, release_refusal, rollback_refusal, abort_refusal, resume_refusal, commit_refusal, entries_refusal, keys_refusal}
+use Rattle.record_file.specs.Refusals.{begin_refusal, put_refusal, claim_refusal, remove_refusal, get_refusal, savepoint_refusal, release_refusal, rollback_refusal, abort_refusal, resume_refusal, commit_refusal, entries_refusal, keys_of_refusal}
 
 -- the bytes 0 to 32, `%`, and those from 127 on are written as `%` and two upper case hexadecimal digits
 abbrev pub is_escaped : ℕ → Bool
@@ -115,7 +115,7 @@ reply_text (reply.Resume answer) = answer_text number_text resume_refusal answer
 reply_text (reply.Abort answer) = answer_text number_text abort_refusal answer
 reply_text (reply.Commit answer) = answer_text done_text commit_refusal answer
 reply_text (reply.List answer) = answer_text entries_text entries_refusal answer
-reply_text (reply.Keys answer) = answer_text keys_text keys_refusal answer
+reply_text (reply.Keys answer) = answer_text keys_text keys_of_refusal answer
 reply_text (reply.Log len used) = number_text len ++ codes " " ++ decimal used
 reply_text (reply.Bad fault) = fault_text fault
 

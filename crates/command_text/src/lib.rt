@@ -7,7 +7,6 @@ mod dump;
 pub mod laws;
 mod list;
 mod reading;
-mod refusal;
 mod reply;
 mod word;
 

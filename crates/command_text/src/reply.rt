@@ -4,13 +4,13 @@ ghost use Rattle.std.specs.String.{string_bytes};
 ghost use Rattle.command_text.specs.Refusals.{is_refusal};
 ghost use Rattle.command_text.specs.Texts.{is_escaped, escaped, cause_text, refusal_text, fault_text, number_text, record_text, old_text, owner_text, entry_line, key_line, entries_text, keys_text, reply_text, text_of};
 
-use crate::refusal::Refusal;
 use crate::{EntryList, KeyList, LineFault};
 use percent_encoding::{AsciiSet, CONTROLS, ascii_set, ascii_str, percent_encode};
 use rec_types::{Entry, Key, Memory, Record, TxId};
 use record_file::{
     AbortFault, BeginFault, Cause, ClaimFault, CommitFault, EntriesFault, GetFault, KeysOfFault,
-    PutFault, ReleaseFault, RemoveFault, ResumeFault, RollbackToFault, SavepointFault,
+    PutFault, Refusal, ReleaseFault, RemoveFault, ResumeFault, RollbackToFault, SavepointFault,
+    ToRefusal,
 };
 use std::alloc::{AllocError, Global};
 
@@ -231,31 +231,31 @@ fn push_reply(text: &mut String, reply: &Reply) -> Result<(), AllocError>
 {
     match reply {
         Reply::Begin(Ok(TxId(number))) => push_number(text, *number),
-        Reply::Begin(Err(fault)) => push_refusal(text, Refusal::from(*fault)),
+        Reply::Begin(Err(fault)) => push_refusal(text, fault.to_refusal()),
         Reply::Put(Ok(old)) => push_old(text, old),
-        Reply::Put(Err(fault)) => push_refusal(text, Refusal::from(*fault)),
+        Reply::Put(Err(fault)) => push_refusal(text, fault.to_refusal()),
         Reply::Claim(Ok(seen)) => push_old(text, seen),
-        Reply::Claim(Err(fault)) => push_refusal(text, Refusal::from(*fault)),
+        Reply::Claim(Err(fault)) => push_refusal(text, fault.to_refusal()),
         Reply::Del(Ok(record)) => push_record(text, record),
-        Reply::Del(Err(fault)) => push_refusal(text, Refusal::from(*fault)),
+        Reply::Del(Err(fault)) => push_refusal(text, fault.to_refusal()),
         Reply::Get(Ok(value)) => push_old(text, value),
-        Reply::Get(Err(fault)) => push_refusal(text, Refusal::from(*fault)),
+        Reply::Get(Err(fault)) => push_refusal(text, fault.to_refusal()),
         Reply::Save(Ok(number)) => push_number(text, *number),
-        Reply::Save(Err(fault)) => push_refusal(text, Refusal::from(*fault)),
+        Reply::Save(Err(fault)) => push_refusal(text, fault.to_refusal()),
         Reply::Release(Ok(())) => text.push_str("ok"),
-        Reply::Release(Err(fault)) => push_refusal(text, Refusal::from(*fault)),
+        Reply::Release(Err(fault)) => push_refusal(text, fault.to_refusal()),
         Reply::Back(Ok(undone)) => push_number(text, *undone),
-        Reply::Back(Err(fault)) => push_refusal(text, Refusal::from(*fault)),
+        Reply::Back(Err(fault)) => push_refusal(text, fault.to_refusal()),
         Reply::Resume(Ok(undone)) => push_number(text, *undone),
-        Reply::Resume(Err(fault)) => push_refusal(text, Refusal::from(*fault)),
+        Reply::Resume(Err(fault)) => push_refusal(text, fault.to_refusal()),
         Reply::Abort(Ok(undone)) => push_number(text, *undone),
-        Reply::Abort(Err(fault)) => push_refusal(text, Refusal::from(*fault)),
+        Reply::Abort(Err(fault)) => push_refusal(text, fault.to_refusal()),
         Reply::Commit(Ok(())) => text.push_str("ok"),
-        Reply::Commit(Err(fault)) => push_refusal(text, Refusal::from(*fault)),
+        Reply::Commit(Err(fault)) => push_refusal(text, fault.to_refusal()),
         Reply::List(Ok(entries)) => push_entries(text, entries),
-        Reply::List(Err(fault)) => push_refusal(text, Refusal::from(*fault)),
+        Reply::List(Err(fault)) => push_refusal(text, fault.to_refusal()),
         Reply::Keys(Ok(keys)) => push_keys(text, keys),
-        Reply::Keys(Err(fault)) => push_refusal(text, Refusal::from(*fault)),
+        Reply::Keys(Err(fault)) => push_refusal(text, fault.to_refusal()),
         Reply::Log(len, used) => write!(text, "ok {len} {used}"),
         Reply::Bad(fault) => push_fault(text, *fault),
     }

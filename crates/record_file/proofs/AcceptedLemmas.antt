@@ -1,5 +1,5 @@
 -- What an accepted change tells of the file before it.
-use Rattle.std.proofs.Common.{◌≡◌, ℕ, ◌≤◌, Bool, true, false, cond, ◌&&◌, ◌||◌, nat_le, List, [], ◌∷◌, ◌++◌, Option, Some, None, is_some, is_none, Ok, Err, IfSome, refl, sym, ap, subst, ◌∙◌, IsTrue, arith}
+use Rattle.std.proofs.Common.{◌≡◌, ℕ, ◌≤◌, Bool, true, false, cond, ◌&&◌, ◌||◌, nat_le, List, [], ◌∷◌, ◌++◌, Option, Some, None, is_some, is_none, IfSome, refl, sym, ap, subst, ◌∙◌, IsTrue, arith}
 use Rattle.std.proofs.lemmas.Bool.Decides.{nat_tests}
 use Rattle.std.specs.FinMap.{get, len}
 use Rattle.rec_types.specs.Contents.{Contents, set_to, write_to, same_key, has}
@@ -13,13 +13,14 @@ use Rattle.tx_log.specs.declared.log_record.LogRecord.{LogRecord}
 use Rattle.record_file.specs.Abstract.{File, Told, AllTold, written, open_of, records_of, charged_of, is_full, with_change}
 use Rattle.record_file.specs.Runs.{Seen, IsKeptSeen}
 use Rattle.record_file.specs.Steps.{Accepts, key_change}
+use Rattle.record_file.specs.declared.refusal.Refusal.{Refusal}
 use Rattle.record_file.proofs.ChargedLemmas.{claimed, has-charged, claimed-push}
 use Rattle.record_file.proofs.FileLemmas.{or_either, or_first, or_second, replay-push}
 
 -- an answer is no refusal
-pub unrefused : {A F : Type 0} (P : Type 0) (found : A) (o : Option F) → IfSome o (λ fault. ((Ok found) ≡ Err fault) × P) → o ≡ None
-unrefused P found None is = refl
-unrefused P found (Some fault) is = absurd (cc is.0)
+pub unrefused : (P : Type 0) (first : Option Refusal) → IfSome first (λ refusal. (None ≡ Some refusal) × P) → first ≡ None
+unrefused P None is = refl
+unrefused P (Some refusal) is = absurd (cc is.0)
 
 told_last : (rs : List LogRecord) (r : LogRecord) (m : Contents) → AllTold m (rs ++ r ∷ []) → Told (written m rs) r
 told_last [] r m told = told.0

@@ -18,9 +18,11 @@ use Rattle.tx_log.specs.declared.phase.Phase.{Phase}
 use Rattle.tx_log.specs.declared.phase.Phase.TheVariants as phases
 use Rattle.record_file.specs.Abstract.{File, OpenFile, open_of, charged_of, phase_at, held_by}
 use Rattle.record_file.specs.Asked.{Asked, after_asking, looked_unless, TellsLost, UndoAsks, may_be_full, restores, sets_told}
-use Rattle.record_file.specs.Faults.{cause_of, put_fault, remove_fault}
-use Rattle.record_file.specs.Outside.{named_by, put_cause, remove_cause}
-use Rattle.record_file.specs.Steps.{put_in, put_held, put_refusal, remove_in, remove_held, remove_refusal}
+use Rattle.record_file.specs.Outside.{cause_of, named_by}
+use Rattle.record_file.specs.Refusals.{put_refusal, remove_refusal, refusal_by, cause_in_refusal}
+use Rattle.record_file.specs.Steps.{active_refusal, held_refusal, key_refusal}
+use Rattle.record_file.specs.declared.refusal.Refusal.{Refusal}
+use Rattle.record_file.specs.declared.refusal.Refusal.TheVariants as refusals
 use Rattle.record_file.specs.declared.fault.Cause.{Cause}
 use Rattle.record_file.specs.declared.fault.Cause.TheVariants.{Damaged}
 use Rattle.record_file.specs.declared.fault.PutFault.{PutFault}
@@ -85,72 +87,31 @@ pub none_is_lost : (before : Option (List ℕ)) (old new : Damages) → before �
 none_is_lost None old new none is = (refl, is)
 none_is_lost (Some s) old new none is = absurd (cc)
 
--- a fault of the table as a cause
-
-pub put_cause_is : (fault : TableFault) → put_cause {A = Option (List ℕ)} (Err (put_fault fault)) ≡ Some (cause_of fault)
-put_cause_is table_faults.Device = refl
-put_cause_is (table_faults.Damaged page) = refl
-put_cause_is table_faults.NoRoom = refl
-put_cause_is table_faults.Memory = refl
-
-pub remove_cause_is : (fault : TableFault) → remove_cause {A = List ℕ} (Err (remove_fault fault)) ≡ Some (cause_of fault)
-remove_cause_is table_faults.Device = refl
-remove_cause_is (table_faults.Damaged page) = refl
-remove_cause_is table_faults.NoRoom = refl
-remove_cause_is table_faults.Memory = refl
-
 -- no table's fault is a file's own
 
-pub never_full : (fault : TableFault) → ◌≡◌ {A = Result (Option (List ℕ)) PutFault} (Err (put_fault fault)) (Err put_faults.Full) → ⊥
-never_full table_faults.Device is = cc
-never_full (table_faults.Damaged page) is = cc
-never_full table_faults.NoRoom is = cc
-never_full table_faults.Memory is = cc
+pub never_full : (fault : PutFault) (cause : Cause) → put_refusal fault ≡ refusals.Failed cause → ◌≡◌ {A = Result (Option (List ℕ)) PutFault} (Err fault) (Err put_faults.Full) → ⊥
+never_full fault cause told is = absurd (cc (ap (λ (r : Refusal). Some r) (sym told) ∙ ap (refusal_by put_refusal) is))
 
-pub never_absent : (fault : TableFault) → ◌≡◌ {A = Result (List ℕ) RemoveFault} (Err (remove_fault fault)) (Err remove_faults.Absent) → ⊥
-never_absent table_faults.Device is = cc
-never_absent (table_faults.Damaged page) is = cc
-never_absent table_faults.NoRoom is = cc
-never_absent table_faults.Memory is = cc
+pub never_absent : (fault : RemoveFault) (cause : Cause) → remove_refusal fault ≡ refusals.Failed cause → ◌≡◌ {A = Result (List ℕ) RemoveFault} (Err fault) (Err remove_faults.Absent) → ⊥
+never_absent fault cause told is = absurd (cc (ap (λ (r : Refusal). Some r) (sym told) ∙ ap (refusal_by remove_refusal) is))
 
 -- what the file alone refuses a call for has no cause outside
-
-abbrev put_cause_in : Option PutFault → Option Cause
-put_cause_in None = None
-put_cause_in (Some fault) = put_cause {A = Option (List ℕ)} (Err fault)
-
-pub put_refused : (f : File) (t : ℕ) (x : List ℕ) (fault : PutFault) → put_refusal f t x ≡ Some fault → put_cause {A = Option (List ℕ)} (Err fault) ≡ None
-put_refused f t x fault is = subst (λ (o : Option PutFault). put_cause_in o ≡ None) is (by_phase (phase_at f t))
+pub without_cause : (changes : Bool) (f : File) (t : ℕ) (x : List ℕ) (refusal : Refusal) → key_refusal changes f t x ≡ Some refusal → cause_in_refusal refusal ≡ None
+without_cause changes f t x refusal is = subst (λ (o : Option Refusal). Without o) is (by_phase (phase_at f t))
   where
-    by_log : (b : Bool) → put_cause_in (if b then Some put_faults.LogFull else None) ≡ None
-    by_log true = refl
-    by_log false = refl
+    Without : Option Refusal → Type 0
+    Without None = Unit {0}
+    Without (Some refusal) = cause_in_refusal refusal ≡ None
 
-    by_owner : (o : Option ℕ) → put_cause_in (put_held f o) ≡ None
+    by_log : (b : Bool) → Without (if b then Some refusals.LogFull else None)
+    by_log true = refl
+    by_log false = tt
+
+    by_owner : (o : Option ℕ) → Without (held_refusal changes f o)
     by_owner None = by_log _
     by_owner (Some owner) = refl
 
-    by_phase : (o : Option Phase) → put_cause_in (put_in f t x o) ≡ None
-    by_phase None = refl
-    by_phase (Some (phases.Rolling ends)) = refl
-    by_phase (Some phases.Active) = by_owner (held_by f t x)
-
-abbrev remove_cause_in : Option RemoveFault → Option Cause
-remove_cause_in None = None
-remove_cause_in (Some fault) = remove_cause {A = List ℕ} (Err fault)
-
-pub remove_refused : (f : File) (t : ℕ) (x : List ℕ) (fault : RemoveFault) → remove_refusal f t x ≡ Some fault → remove_cause {A = List ℕ} (Err fault) ≡ None
-remove_refused f t x fault is = subst (λ (o : Option RemoveFault). remove_cause_in o ≡ None) is (by_phase (phase_at f t))
-  where
-    by_log : (b : Bool) → remove_cause_in (if b then Some remove_faults.LogFull else None) ≡ None
-    by_log true = refl
-    by_log false = refl
-
-    by_owner : (o : Option ℕ) → remove_cause_in (remove_held f o) ≡ None
-    by_owner None = by_log _
-    by_owner (Some owner) = refl
-
-    by_phase : (o : Option Phase) → remove_cause_in (remove_in f t x o) ≡ None
+    by_phase : (o : Option Phase) → Without (active_refusal (held_refusal changes f (held_by f t x)) o)
     by_phase None = refl
     by_phase (Some (phases.Rolling ends)) = refl
     by_phase (Some phases.Active) = by_owner (held_by f t x)

@@ -10,7 +10,7 @@ use Rattle.tx_log.specs.declared.phase.Rollback.{Rollback}
 use Rattle.tx_log.specs.LogState.{active_with, rolling_to, rollback_phase, phase_of, finished, finished_by}
 use Rattle.tx_log.specs.declared.phase.BeginFault.TheVariants as begin_faults
 use Rattle.record_file.specs.Abstract.{charged_of, EndsAtBeginning, IsWholeTx, AbortsWhole, File, records_of, open_of, tx_of, phase_at, is_full, with_change}
-use Rattle.record_file.specs.Steps.{BeginStep, CommitStep, Becomes, Accepts, key_change, put_refusal, put_in, claim_refusal, claim_fault, remove_refusal, savepoint_in, release_in, rollback_in, abort_in, resume_in, places_at, rolling_place, to_of}
+use Rattle.record_file.specs.Steps.{BeginStep, CommitStep, Becomes, Accepts, key_change, active_refusal, rolling_refusal, key_refusal, places_at, rolling_place, to_of}
 use Rattle.record_file.specs.Runs.{Called, Event, Seen, Step, Answers, IsKeptSeen, Begin, Put, Claim, Remove, Get, Savepoint, Release, RollbackTo, Abort, Resume, Commit, Entries, KeysOf, StatusOf, Charged, Begun, LogLen, LogUse, RecordAt, IntoTable}
 use Rattle.record_file.specs.Undo.{old_record}
 use Rattle.record_file.specs.Remaining.{begins_or_commits}
@@ -19,7 +19,6 @@ use Rattle.record_file.specs.declared.fault.AbortFault.TheVariants as abort_faul
 use Rattle.record_file.specs.declared.fault.ResumeFault.TheVariants as resume_faults
 use Rattle.record_file.proofs.AcceptedLemmas.{unrefused, accepted_stood, accepted_not_full}
 use Rattle.record_file.proofs.OpenTxLemmas.{same_tx, same_tx-is, open-insert}
-use Rattle.record_file.proofs.FaultLemmas.{unmapped}
 use Rattle.record_file.proofs.WholeTxLemmas.{whole_insert}
 
 -- the same transactions are open
@@ -37,9 +36,9 @@ same_open txs t tx there q = open-insert txs t tx q ∙ at (same_tx q t) refl
 pub data Move (old : File) (called : Called) (new : File) : Type 0 where
   Still : new ≡ old → old_record called ≡ None → begins_or_commits called ≡ false → Move old called new
   Began : (tx : TxId) → called ≡ Begin (Ok tx) → BeginStep old (Ok tx) new → Move old called new
-  PutIn : (t : TxId) → (x r : List ℕ) → (before : Option (List ℕ)) → called ≡ Put t x r (Ok before) → put_refusal old t.0 x ≡ None → is_full old x ≡ false → before ≡ get (records_of old) x → new ≡ with_change old t.0 x (Some (Some r)) → Move old called new
-  ClaimIn : (t : TxId) → (x : List ℕ) → (before : Option (List ℕ)) → called ≡ Claim t x (Ok before) → put_refusal old t.0 x ≡ None → is_full old x ≡ false → before ≡ get (records_of old) x → new ≡ with_change old t.0 x None → Move old called new
-  TookOut : (t : TxId) → (x before : List ℕ) → called ≡ Remove t x (Ok before) → remove_refusal old t.0 x ≡ None → get (records_of old) x ≡ Some before → new ≡ with_change old t.0 x (Some None) → Move old called new
+  PutIn : (t : TxId) → (x r : List ℕ) → (before : Option (List ℕ)) → called ≡ Put t x r (Ok before) → key_refusal true old t.0 x ≡ None → is_full old x ≡ false → before ≡ get (records_of old) x → new ≡ with_change old t.0 x (Some (Some r)) → Move old called new
+  ClaimIn : (t : TxId) → (x : List ℕ) → (before : Option (List ℕ)) → called ≡ Claim t x (Ok before) → key_refusal true old t.0 x ≡ None → is_full old x ≡ false → before ≡ get (records_of old) x → new ≡ with_change old t.0 x None → Move old called new
+  TookOut : (t : TxId) → (x before : List ℕ) → called ≡ Remove t x (Ok before) → key_refusal true old t.0 x ≡ None → get (records_of old) x ≡ Some before → new ≡ with_change old t.0 x (Some None) → Move old called new
   Committed : (t : TxId) → (done : Unit {0}) → called ≡ Commit t (Ok done) → CommitStep old t.0 (Ok done) new → Move old called new
   WentBack : (t p n : ℕ) → (txs : Transactions) → open_of old t ≡ true → n ≤ live_from old.history t p → new ≡ record old { history = take_newest old.history t p n; txs = txs } → SameOpen old.txs txs → AbortsWhole txs → old_record called ≡ None → begins_or_commits called ≡ false → Move old called new
   Ended : (t : ℕ) → open_of old t ≡ true → new ≡ record old { history = take_back old.history t zero; txs = maps.remove old.txs t } → old_record called ≡ None → begins_or_commits called ≡ false → Move old called new
@@ -50,8 +49,8 @@ some_phase None none = absurd (none refl)
 some_phase (Some tx) none = refl
 
 -- a put that isn't refused is by an open transaction
-put_open : (f : File) (t : ℕ) (x : List ℕ) → put_refusal f t x ≡ None → open_of f t ≡ true
-put_open f t x free = some_phase (tx_of f t) (λ none. absurd (cc (sym (ap (put_in f t x) none) ∙ free)))
+put_open : (f : File) (t : ℕ) (x : List ℕ) → key_refusal true f t x ≡ None → open_of f t ≡ true
+put_open f t x free = some_phase (tx_of f t) (λ none. absurd (cc (sym (ap (active_refusal _) none) ∙ free)))
 
 -- a fault isn't told where none is
 pub no_refusal : {X : Type 0} (fault : X) (o : Option X) → o ≡ Some fault → o ≡ None → ⊥
@@ -78,7 +77,7 @@ module _ (old new : File) (called : Called) (no_record : old_record called ≡ N
       (same_open old.txs t tx there) (whole_insert old.txs t tx first all) no_record no_begin
 
   -- a rollback under way is over
-  resumed : (t : ℕ) → AbortsWhole old.txs → resume_in (phase_at old t) ≡ None → new ≡ record old { history = take_back old.history t (rolling_place (tx_of old t)); txs = finished old.txs t (tx_of old t) } → Move old called new
+  resumed : (t : ℕ) → AbortsWhole old.txs → rolling_refusal (phase_at old t) ≡ None → new ≡ record old { history = take_back old.history t (rolling_place (tx_of old t)); txs = finished old.txs t (tx_of old t) } → Move old called new
   resumed t all refused is = at (tx_of old t) refl refused is
     where
       ends : (tx : Tx) (r : Rollback) → tx_of old t ≡ Some tx → tx.rollback ≡ Some r → (b : Bool) → r.ends ≡ b → new ≡ record old { history = take_back old.history t r.to; txs = if b then maps.remove old.txs t else maps.insert old.txs t (active_with tx.places) } → Move old called new
@@ -87,22 +86,22 @@ module _ (old new : File) (called : Called) (no_record : old_record called ≡ N
           Ended t (ap is_some tx_is) (becomes ∙ (λ i. record old { history = take_back old.history t (first i); txs = maps.remove old.txs t })) no_record no_begin
       ends tx r tx_is is false over becomes = back t r.to (active_with tx.places) (ap is_some tx_is) becomes tt all
 
-      by : (tx : Tx) → tx_of old t ≡ Some tx → (r : Option Rollback) → tx.rollback ≡ r → resume_in (Some (rollback_phase r)) ≡ None → new ≡ record old { history = take_back old.history t (to_of r); txs = finished_by old.txs t tx.places r } → Move old called new
+      by : (tx : Tx) → tx_of old t ≡ Some tx → (r : Option Rollback) → tx.rollback ≡ r → rolling_refusal (Some (rollback_phase r)) ≡ None → new ≡ record old { history = take_back old.history t (to_of r); txs = finished_by old.txs t tx.places r } → Move old called new
       by tx tx_is None is refused becomes = absurd (cc)
       by tx tx_is (Some r) is refused becomes = ends tx r tx_is is r.ends refl becomes
 
-      at : (o : Option Tx) → tx_of old t ≡ o → resume_in (option_map phase_of o) ≡ None → new ≡ record old { history = take_back old.history t (rolling_place o); txs = finished old.txs t o } → Move old called new
+      at : (o : Option Tx) → tx_of old t ≡ o → rolling_refusal (option_map phase_of o) ≡ None → new ≡ record old { history = take_back old.history t (rolling_place o); txs = finished old.txs t o } → Move old called new
       at None tx_is refused becomes = absurd (cc)
       at (Some tx) tx_is refused becomes = by tx tx_is tx.rollback refl refused becomes
 
 -- an accepted put or claim
 record Placed (f new : File) (t : ℕ) (x : List ℕ) (before : Option (List ℕ)) (after : Option (Option (List ℕ))) : Type 0 where
-  free : put_refusal f t x ≡ None
+  free : key_refusal true f t x ≡ None
   room : is_full f x ≡ false
   stood : before ≡ get (records_of f) x
   file : new ≡ with_change f t x after
 
-placed : (old new : Seen) (t : TxId) (x : List ℕ) (before : Option (List ℕ)) (after : Option (Option (List ℕ))) → put_refusal old.file t.0 x ≡ None → IsTrue old.sound → IsTrue new.sound → IsKeptSeen old → IsKeptSeen new → new.file.opening ≡ old.file.opening → Accepts old.file old.log (key_change t x before after) new.file new.log → Placed old.file new.file t.0 x before after
+placed : (old new : Seen) (t : TxId) (x : List ℕ) (before : Option (List ℕ)) (after : Option (Option (List ℕ))) → key_refusal true old.file t.0 x ≡ None → IsTrue old.sound → IsTrue new.sound → IsKeptSeen old → IsKeptSeen new → new.file.opening ≡ old.file.opening → Accepts old.file old.log (key_change t x before after) new.file new.log → Placed old.file new.file t.0 x before after
 placed old new t x before after free sound still was is opening accepted =
     let file = becomes old.file new.file _ _ accepted.history opening in
     record {
@@ -116,36 +115,36 @@ move_called : (old new : Seen) (called : Called) (failed refused : Bool) → IsT
 move_called old new (Begin (Ok tx)) failed refused sound still was is all step = Began tx refl step.1
 move_called old new (Begin (Err begin_faults.BeginsSpent)) failed refused sound still was is all step = Still step.1.1 refl refl
 move_called old new (Begin (Err begin_faults.Memory)) failed refused sound still was is all step = Still step.1.1 refl refl
-move_called old new (Put t x r (Ok before)) failed refused sound still was is all step = let a = placed old new t x before (Some (Some r)) (unrefused (new ≡ old) before (put_refusal old.file t.0 x) step.1.refused) sound still was is (step.1.opening sound) step.1.accepted in PutIn t x r before refl a.free a.room a.stood a.file
+move_called old new (Put t x r (Ok before)) failed refused sound still was is all step = let a = placed old new t x before (Some (Some r)) (unrefused (new ≡ old) (key_refusal true old.file t.0 x) step.1.refused) sound still was is (step.1.opening sound) step.1.accepted in PutIn t x r before refl a.free a.room a.stood a.file
 move_called old new (Put t x r (Err fault)) failed refused sound still was is all step = Still step.1.err.1 refl refl
-move_called old new (Claim t x (Ok before)) failed refused sound still was is all step = let a = placed old new t x before None (unmapped claim_fault (put_refusal old.file t.0 x) (unrefused (new ≡ old) before (claim_refusal old.file t.0 x) step.1.refused)) sound still was is (step.1.opening sound) step.1.accepted in ClaimIn t x before refl a.free a.room a.stood a.file
+move_called old new (Claim t x (Ok before)) failed refused sound still was is all step = let a = placed old new t x before None (unrefused (new ≡ old) (key_refusal true old.file t.0 x) step.1.refused) sound still was is (step.1.opening sound) step.1.accepted in ClaimIn t x before refl a.free a.room a.stood a.file
 move_called old new (Claim t x (Err fault)) failed refused sound still was is all step = Still step.1.err.1 refl refl
 move_called old new (Remove t x (Ok before)) failed refused sound still was is all step =
     let opening = step.1.opening sound in
-    TookOut t x before refl (unrefused (new ≡ old) before (remove_refusal old.file t.0 x) step.1.refused) (sym (accepted_stood old new t x (Some before) (Some None) sound still was is opening step.1.accepted)) (becomes old.file new.file _ _ step.1.accepted.history opening)
+    TookOut t x before refl (unrefused (new ≡ old) (key_refusal true old.file t.0 x) step.1.refused) (sym (accepted_stood old new t x (Some before) (Some None) sound still was is opening step.1.accepted)) (becomes old.file new.file _ _ step.1.accepted.history opening)
 move_called old new (Remove t x (Err fault)) failed refused sound still was is all step = Still step.1.err.1 refl refl
 move_called old new (Get t x answer) failed refused sound still was is all step = Still step.1.same.1 refl refl
 move_called old new (Savepoint t (Ok n)) failed refused sound still was is all step =
-    known old.file new.file (Savepoint t (Ok n)) refl refl t.0 _ (some_phase (tx_of old.file t.0) (λ none. no_refusal _ _ (ap (savepoint_in _) none) step.1.0)) step.1.2 tt all
+    known old.file new.file (Savepoint t (Ok n)) refl refl t.0 _ (some_phase (tx_of old.file t.0) (λ none. no_refusal _ _ (ap (active_refusal _) none) step.1.0)) step.1.2 tt all
 move_called old new (Savepoint t (Err fault)) failed refused sound still was is all step = Still step.1.1 refl refl
 move_called old new (Release t n (Ok done)) failed refused sound still was is all step =
-    known old.file new.file (Release t n (Ok done)) refl refl t.0 _ (some_phase (tx_of old.file t.0) (λ none. no_refusal _ _ (ap (release_in n _) none) step.1.0)) step.1.1 tt all
+    known old.file new.file (Release t n (Ok done)) refl refl t.0 _ (some_phase (tx_of old.file t.0) (λ none. no_refusal _ _ (ap (active_refusal _) none) step.1.0)) step.1.1 tt all
 move_called old new (Release t n (Err fault)) failed refused sound still was is all step = Still step.1.1 refl refl
 move_called old new (RollbackTo t n (Ok undone)) failed refused sound still was is all step =
-    back old.file new.file (RollbackTo t n (Ok undone)) refl refl t.0 _ _ (some_phase (tx_of old.file t.0) (λ none. no_refusal _ _ (ap (rollback_in n _) none) step.1.rolled.0)) (becomes old.file new.file _ _ step.1.rolled.1.1 (step.1.opening sound)) tt all
+    back old.file new.file (RollbackTo t n (Ok undone)) refl refl t.0 _ _ (some_phase (tx_of old.file t.0) (λ none. no_refusal _ _ (ap (active_refusal _) none) step.1.rolled.0)) (becomes old.file new.file _ _ step.1.rolled.1.1 (step.1.opening sound)) tt all
 move_called old new (RollbackTo t n (Err rollback_faults.NoSuchTx)) failed refused sound still was is all step = Still step.1.rolled.1 refl refl
 move_called old new (RollbackTo t n (Err rollback_faults.Rolling)) failed refused sound still was is all step = Still step.1.rolled.1 refl refl
 move_called old new (RollbackTo t n (Err rollback_faults.NoSuchSave)) failed refused sound still was is all step = Still step.1.rolled.1 refl refl
 move_called old new (RollbackTo t n (Err (rollback_faults.Stopped undone left cause))) failed refused sound still was is all step =
-    let there = some_phase (tx_of old.file t.0) (λ none. no_refusal _ _ (ap (rollback_in n _) none) step.1.rolled.0) in
+    let there = some_phase (tx_of old.file t.0) (λ none. no_refusal _ _ (ap (active_refusal _) none) step.1.rolled.0) in
     let few = step.1.rolled.1.0 in
     WentBack t.0 _ undone _ there (omega (arith, few)) (becomes old.file new.file _ _ step.1.rolled.1.2 (step.1.opening sound)) (same_open old.file.txs t.0 _ there) (whole_insert old.file.txs t.0 (rolling_to (places_at old.file t.0) n false) (λ ends. absurd (cc ends)) all) refl refl
 move_called old new (Abort t (Ok undone)) failed refused sound still was is all step =
-    Ended t.0 (some_phase (tx_of old.file t.0) (λ none. no_refusal _ _ (ap abort_in none) step.1.rolled.0)) (becomes old.file new.file _ _ step.1.rolled.1.1 (step.1.opening sound)) refl refl
+    Ended t.0 (some_phase (tx_of old.file t.0) (λ none. no_refusal _ _ (ap (active_refusal None) none) step.1.rolled.0)) (becomes old.file new.file _ _ step.1.rolled.1.1 (step.1.opening sound)) refl refl
 move_called old new (Abort t (Err abort_faults.NoSuchTx)) failed refused sound still was is all step = Still step.1.rolled.1 refl refl
 move_called old new (Abort t (Err abort_faults.Rolling)) failed refused sound still was is all step = Still step.1.rolled.1 refl refl
 move_called old new (Abort t (Err (abort_faults.Stopped undone left cause))) failed refused sound still was is all step =
-    let there = some_phase (tx_of old.file t.0) (λ none. no_refusal _ _ (ap abort_in none) step.1.rolled.0) in
+    let there = some_phase (tx_of old.file t.0) (λ none. no_refusal _ _ (ap (active_refusal None) none) step.1.rolled.0) in
     let few = step.1.rolled.1.0 in
     WentBack t.0 _ undone _ there (omega (arith, few)) (becomes old.file new.file _ _ step.1.rolled.1.2 (step.1.opening sound)) (same_open old.file.txs t.0 _ there) (whole_insert old.file.txs t.0 (rolling_to (places_at old.file t.0) zero true) (λ ends. refl) all) refl refl
 move_called old new (Resume t (Ok undone)) failed refused sound still was is all step =
@@ -153,7 +152,7 @@ move_called old new (Resume t (Ok undone)) failed refused sound still was is all
 move_called old new (Resume t (Err resume_faults.NoSuchTx)) failed refused sound still was is all step = Still step.1.rolled.1 refl refl
 move_called old new (Resume t (Err resume_faults.NotRolling)) failed refused sound still was is all step = Still step.1.rolled.1 refl refl
 move_called old new (Resume t (Err (resume_faults.Stopped undone left cause))) failed refused sound still was is all step =
-    let there = some_phase (tx_of old.file t.0) (λ none. no_refusal _ _ (ap resume_in none) step.1.rolled.0) in
+    let there = some_phase (tx_of old.file t.0) (λ none. no_refusal _ _ (ap rolling_refusal none) step.1.rolled.0) in
     let few = step.1.rolled.1.0 in
     WentBack t.0 _ undone old.file.txs there (omega (arith, few)) (becomes old.file new.file _ _ step.1.rolled.1.2 (step.1.opening sound)) (λ q. refl) all refl refl
 move_called old new (Commit t (Ok done)) failed refused sound still was is all step = Committed t done refl step.1

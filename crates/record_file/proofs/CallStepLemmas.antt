@@ -7,8 +7,9 @@ use Rattle.record_file.specs.declared.fault.GetFault.{GetFault}
 use Rattle.record_file.specs.declared.fault.GetFault.TheVariants as get_faults
 use Rattle.record_file.specs.Abstract.{OpenFile, IsKeptFile, Tells}
 use Rattle.record_file.specs.declared.fault.EntriesFault.{EntriesFault}
-use Rattle.record_file.specs.declared.fault.EntriesFault.TheVariants as entries_faults
-use Rattle.record_file.specs.Outside.{get_cause, entries_cause, by_memory, NeverDamaged}
+use Rattle.record_file.specs.Outside.{by_memory, NeverDamaged}
+use Rattle.record_file.specs.Refusals.{get_refusal, entries_refusal, cause_by}
+use Rattle.record_file.specs.declared.refusal.Refusal.{Refusal}
 use Rattle.record_file.specs.Steps.{listed}
 use Rattle.record_file.specs.Runs.{Called, Seen, Answers, IsKeptSeen, cause_in, seen}
 use Rattle.record_file.specs.declared.call.Call.{Call}
@@ -74,12 +75,12 @@ asks_makes old new asked told called failed refused tells failures refusals soun
 }
 
 -- a refusal leaves all that a run sees
-pub refused_seen : {T A F : Type 0} (t : Ghosts T) (old new : OpenFile T) (refusal : Option F) (answer : Result A F) → IfSome refusal (λ fault. (answer ≡ Err fault) × (new ≡ old)) → IfSome refusal (λ fault. (answer ≡ Err fault) × (seen t new ≡ seen t old))
-refused_seen t old new None answer is = is
-refused_seen t old new (Some fault) answer is = (is.0, ap (seen t) is.1)
+pub refused_seen : {T : Type 0} (t : Ghosts T) (old new : OpenFile T) (first told : Option Refusal) → IfSome first (λ refusal. (told ≡ Some refusal) × (new ≡ old)) → IfSome first (λ refusal. (told ≡ Some refusal) × (seen t new ≡ seen t old))
+refused_seen t old new None told is = is
+refused_seen t old new (Some refusal) told is = (is.0, ap (seen t) is.1)
 
 -- a look never wants memory
-pub get_wants_none : {A : Type 0} (answer : Result A GetFault) → false ≡ by_memory (get_cause answer)
+pub get_wants_none : {A : Type 0} (answer : Result A GetFault) → false ≡ by_memory (cause_by get_refusal answer)
 get_wants_none (Ok found) = refl
 get_wants_none (Err get_faults.NoSuchTx) = refl
 get_wants_none (Err get_faults.Rolling) = refl
@@ -88,8 +89,6 @@ get_wants_none (Err get_faults.Device) = refl
 get_wants_none (Err (get_faults.Damaged page)) = refl
 
 -- a listing has the cause of its list
-pub listed_cause : {X : Type 0} (told : Result (Vec X) EntriesFault) → entries_cause told ≡ entries_cause (listed told)
+pub listed_cause : {X : Type 0} (told : Result (Vec X) EntriesFault) → cause_by entries_refusal told ≡ cause_by entries_refusal (listed told)
 listed_cause (Ok list) = refl
-listed_cause (Err entries_faults.Device) = refl
-listed_cause (Err (entries_faults.Damaged page)) = refl
-listed_cause (Err entries_faults.Memory) = refl
+listed_cause (Err fault) = refl

@@ -7,12 +7,11 @@ use Rattle.rec_types.specs.declared.transaction.TxId.{TxId}
 use Rattle.tx_log.specs.Owners.{owner_of, charged}
 use Rattle.tx_log.specs.declared.phase.Phase.{Phase}
 use Rattle.tx_log.specs.declared.phase.Phase.TheVariants as phases
-use Rattle.record_file.specs.declared.fault.PutFault.TheVariants as put_faults
-use Rattle.record_file.specs.declared.fault.RemoveFault.TheVariants as remove_faults
+use Rattle.record_file.specs.declared.refusal.Refusal.TheVariants.{LogFull}
 use Rattle.rec_types.specs.History.{Change}
 use Rattle.tx_log.specs.LogState.{LogState, open_in, history_in}
 use Rattle.record_file.specs.Abstract.{File, Fits, file_of, records_of, open_of, phase_at, use_of, held_by, is_full, charged_of}
-use Rattle.record_file.specs.Steps.{put_refusal, put_in, put_held, remove_refusal, remove_in, remove_held}
+use Rattle.record_file.specs.Steps.{active_refusal, held_refusal, key_refusal}
 use Rattle.record_file.proofs.ChargedLemmas.{claimed, has-charged}
 
 none_of : (o : Option (List ℕ)) → is_none o ≡ not (is_some o)
@@ -78,27 +77,16 @@ room_of f x not_full absent = at (nat_le f.limits.records (len (charged_of f))) 
     at true is not_true = absurd (cc)
     at false is not_true = grind (arith, nat_tests)
 
--- a put that the file doesn't refuse has room in the log
-pub put_accepts : (f : File) (t : ℕ) (x : List ℕ) → put_refusal f t x ≡ None → use_of f + 2 ≤ f.limits.log_records
-put_accepts f t x none = at (phase_at f t) (held_by f t x) (nat_lt f.limits.log_records (use_of f + 2)) refl refl refl none
+-- a change that the file doesn't refuse has room in the log
+pub change_fits : (f : File) (t : ℕ) (x : List ℕ) → key_refusal true f t x ≡ None → use_of f + 2 ≤ f.limits.log_records
+change_fits f t x none = at (phase_at f t) (held_by f t x) (nat_lt f.limits.log_records (use_of f + 2)) refl none
   where
-    at : (p : Option Phase) (h : Option ℕ) (l : Bool) → phase_at f t ≡ p → held_by f t x ≡ h → nat_lt f.limits.log_records (use_of f + 2) ≡ l → put_in f t x (phase_at f t) ≡ None → use_of f + 2 ≤ f.limits.log_records
-    at None h l p_is h_is l_is none = absurd (cc (ap (put_in f t x) (sym p_is) ∙ none))
-    at (Some (phases.Rolling ends)) h l p_is h_is l_is none = absurd (cc (ap (put_in f t x) (sym p_is) ∙ none))
-    at (Some phases.Active) (Some owner) l p_is h_is l_is none = absurd (cc (ap (put_held f) (sym h_is) ∙ ap (put_in f t x) (sym p_is) ∙ none))
-    at (Some phases.Active) None true p_is h_is l_is none = absurd (cc (ap (λ b. if b then Some put_faults.LogFull else None) (sym l_is) ∙ ap (put_held f) (sym h_is) ∙ ap (put_in f t x) (sym p_is) ∙ none))
-    at (Some phases.Active) None false p_is h_is l_is none = grind (arith, nat_tests)
-
--- a removal that isn't refused has room in the log
-pub remove_accepts : (f : File) (t : ℕ) (x : List ℕ) → remove_refusal f t x ≡ None → use_of f + 2 ≤ f.limits.log_records
-remove_accepts f t x none = at (phase_at f t) (held_by f t x) (nat_lt f.limits.log_records (use_of f + 2)) refl refl refl none
-  where
-    at : (p : Option Phase) (h : Option ℕ) (l : Bool) → phase_at f t ≡ p → held_by f t x ≡ h → nat_lt f.limits.log_records (use_of f + 2) ≡ l → remove_in f t x (phase_at f t) ≡ None → use_of f + 2 ≤ f.limits.log_records
-    at None h l p_is h_is l_is none = absurd (cc (ap (remove_in f t x) (sym p_is) ∙ none))
-    at (Some (phases.Rolling ends)) h l p_is h_is l_is none = absurd (cc (ap (remove_in f t x) (sym p_is) ∙ none))
-    at (Some phases.Active) (Some owner) l p_is h_is l_is none = absurd (cc (ap (remove_held f) (sym h_is) ∙ ap (remove_in f t x) (sym p_is) ∙ none))
-    at (Some phases.Active) None true p_is h_is l_is none = absurd (cc (ap (λ b. if b then Some remove_faults.LogFull else None) (sym l_is) ∙ ap (remove_held f) (sym h_is) ∙ ap (remove_in f t x) (sym p_is) ∙ none))
-    at (Some phases.Active) None false p_is h_is l_is none = grind (arith, nat_tests)
+    at : (p : Option Phase) (h : Option ℕ) (l : Bool) → nat_lt f.limits.log_records (use_of f + 2) ≡ l → active_refusal (held_refusal true f h) p ≡ None → use_of f + 2 ≤ f.limits.log_records
+    at None h l l_is none = absurd (cc)
+    at (Some (phases.Rolling ends)) h l l_is none = absurd (cc)
+    at (Some phases.Active) (Some owner) l l_is none = absurd (cc)
+    at (Some phases.Active) None true l_is none = absurd (cc (ap (λ b. if b then Some LogFull else None) (sym l_is) ∙ none))
+    at (Some phases.Active) None false l_is none = grind (arith, nat_tests)
 
 -- the same of the table's present contents
 pub room_now : (log : LogState) (now : Contents) (x : List ℕ) → Fits log.changes now → false ≡ is_full (file_of log now) x → has (charged (open_in log) (history_in log) now) x ≡ false → len (charged (open_in log) (history_in log) now) < log.limits.records

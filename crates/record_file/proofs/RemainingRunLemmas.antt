@@ -1,5 +1,5 @@
 -- The remaining calls of a run, made by themselves.
-use Rattle.std.proofs.Common.{◌≡◌, ℕ, ◌+◌, ◌-◌, ◌<◌, ◌≤◌, zero, suc, Bool, true, false, cond, if◌then◌else◌, ◌&&◌, eqb, nat_lt, nat_le, List, [], ◌∷◌, ◌++◌, length, Option, Some, None, is_some, is_none, option_map, Ok, Err, IfSome, inl, refl, sym, ap, subst, ◌∙◌, IsTrue, arith}
+use Rattle.std.proofs.Common.{◌≡◌, ℕ, ◌+◌, ◌-◌, ◌<◌, ◌≤◌, zero, suc, Bool, true, false, cond, if◌then◌else◌, ◌&&◌, eqb, nat_lt, nat_le, List, [], ◌∷◌, ◌++◌, length, Option, Some, None, is_some, is_none, option_map, Ok, IfSome, inl, refl, sym, ap, subst, ◌∙◌, IsTrue, arith}
 use Rattle.std.proofs.lemmas.Bool.Decides.{nat_tests}
 use Rattle.std.specs.FinMap as maps
 use Rattle.std.specs.FinMap.{get, get-empty, len}
@@ -18,7 +18,7 @@ use Rattle.tx_log.specs.declared.phase.Phase.TheVariants as phases
 use Rattle.tx_log.proofs.OwnerLemmas.{held-free}
 use Rattle.tx_log.proofs.RemainingLemmas.{leaves-take_newest, leaves-take_back}
 use Rattle.record_file.specs.Abstract.{File, open_of, tx_of, phase_at, use_of, held_by, is_full, charged_of, records_of, with_change}
-use Rattle.record_file.specs.Steps.{put_refusal, claim_fault, put_in, put_held, remove_refusal, remove_in, remove_held, commit_in}
+use Rattle.record_file.specs.Steps.{active_refusal, held_refusal, key_refusal, tx_refusal}
 use Rattle.record_file.specs.Runs.{Called, Event, Seen, Step, Run, Answers, IsKeptSeen, cause_in, Begin, Put, Claim, Remove, Commit}
 use Rattle.record_file.specs.Undo.{Starts, old_record}
 use Rattle.record_file.specs.Outside.{NeverDamaged}
@@ -26,14 +26,13 @@ use Rattle.record_file.specs.declared.fault.Cause.{Cause}
 use Rattle.record_file.proofs.TidyLogLemmas.{TidyLog, IsBounded, tidy_kept, start_tidy, begun_tidy, ended_tidy, change_tidy, made, next_record}
 use Rattle.record_file.specs.Remaining.{is_change, begins_or_commits, first_lives, past_first, remains, front_if, remaining, NothingFails}
 use Rattle.record_file.specs.Leads.{LeadsTo, part, past}
-use Rattle.record_file.specs.declared.fault.PutFault.TheVariants as put_faults
-use Rattle.record_file.specs.declared.fault.RemoveFault.TheVariants as remove_faults
+use Rattle.record_file.specs.declared.refusal.Refusal.TheVariants.{LogFull}
 use Rattle.record_file.proofs.OpenTxLemmas.{same_tx, same_tx-is, get-insert_tx, get-remove_tx, open-insert, open-remove}
 use Rattle.record_file.proofs.InvariantLemmas.{open_by_phase, change_written}
-use Rattle.record_file.proofs.FullnessLemmas.{put_accepts, remove_accepts, room_of, below_not_full}
+use Rattle.record_file.proofs.FullnessLemmas.{change_fits, room_of, below_not_full}
 use Rattle.record_file.proofs.LogGrowthLemmas.{tells_none, tells_one}
 use Rattle.record_file.proofs.CallKindLemmas.{Move, Still, Began, PutIn, ClaimIn, TookOut, Committed, WentBack, Ended, move_of, taken_all, some_phase, no_refusal}
-use Rattle.record_file.proofs.RunLemmas.{KeptRun, added, put_free, remove_free, step_kept, start_kept}
+use Rattle.record_file.proofs.RunLemmas.{KeptRun, added, change_free, step_kept, start_kept}
 use Rattle.record_file.proofs.HistoryLeadLemmas.{run_leads}
 use Rattle.record_file.proofs.LivePartLemmas.{length-push, leaves-length, past-push, part-push, part-stays, AgreeOn, agree-map, agree-push, use_less, KeptAt, PendingAll, pending_all, kept_at, same_record, charged_less, charged_kept, free_part, part_whole, keys_whole}
 
@@ -105,12 +104,9 @@ not_true false never = refl
 below : (a b : ℕ) → b ≤ a → nat_lt a b ≡ false
 below a b le = grind (arith, nat_tests)
 
--- a put that is free in an active transaction's room isn't refused
-put_none : (f : File) (t : ℕ) (x : List ℕ) → phase_at f t ≡ Some phases.Active → held_by f t x ≡ None → use_of f + 2 ≤ f.limits.log_records → put_refusal f t x ≡ None
-put_none f t x active free room = ap (put_in f t x) active ∙ ap (put_held f) free ∙ ap (λ b. if b then Some put_faults.LogFull else None) (below f.limits.log_records (use_of f + 2) room)
-
-remove_none : (f : File) (t : ℕ) (x : List ℕ) → phase_at f t ≡ Some phases.Active → held_by f t x ≡ None → use_of f + 2 ≤ f.limits.log_records → remove_refusal f t x ≡ None
-remove_none f t x active free room = ap (remove_in f t x) active ∙ ap (remove_held f) free ∙ ap (λ b. if b then Some remove_faults.LogFull else None) (below f.limits.log_records (use_of f + 2) room)
+-- a change that is free in an active transaction's room isn't refused
+none_refused : (f : File) (t : ℕ) (x : List ℕ) → phase_at f t ≡ Some phases.Active → held_by f t x ≡ None → use_of f + 2 ≤ f.limits.log_records → key_refusal true f t x ≡ None
+none_refused f t x active free room = ap (active_refusal (held_refusal true f (held_by f t x))) active ∙ ap (held_refusal true f) free ∙ ap (λ b. if b then Some LogFull else None) (below f.limits.log_records (use_of f + 2) room)
 
 none_some : (o : Option (List ℕ)) (b : Bool) → is_some o ≡ true → is_none o && b ≡ false
 none_some None b some = absurd (cc)
@@ -183,12 +179,12 @@ module _ (g : List Change) (e : Event) where
               (λ t same. open-insert s.file.txs (f.begun + 1) fresh t ∙ ap (cond (same_tx t (f.begun + 1)) true) same ∙ sym (open-insert f.txs (f.begun + 1) fresh t)) alone.agree;
         }
 
-    commit_alone : (t : TxId) (done : Unit {0}) → e.called ≡ Commit t (Ok done) → e.failed ≡ false → e.refused ≡ false → commit_in (phase_at f t.0) ≡ None → Keeps (record f { txs = maps.remove f.txs t.0 }) g → Goes f g e (record f { txs = maps.remove f.txs t.0 }) s
+    commit_alone : (t : TxId) (done : Unit {0}) → e.called ≡ Commit t (Ok done) → e.failed ≡ false → e.refused ≡ false → tx_refusal f t.0 None ≡ None → Keeps (record f { txs = maps.remove f.txs t.0 }) g → Goes f g e (record f { txs = maps.remove f.txs t.0 }) s
     commit_alone t done called_is failed refused free keeps = (
       s2,
       made_again (Commit t (Ok done)) s2.file called_is refl (keeps s2 alone2) failed refused refl (
         (failed, refused, refl),
-        (ap commit_in (alone.active t.0 (some_phase (tx_of f t.0) (λ none. no_refusal _ _ (ap commit_in none) free))), refl),
+        (ap (active_refusal None) (alone.active t.0 (some_phase (tx_of f t.0) (λ none. no_refusal _ _ (ap (active_refusal None) none) free))), refl),
       ),
       alone2,
       ap (λ c. if is_change c then past_first (past (length f.history) g) else past (length f.history) g) (sym called_is),
@@ -362,10 +358,10 @@ step_alone m answered fs fs2 e g s sound kept step move leads on alone = at move
     called c is = subst (λ c. Answers fs c e.failed e.refused fs2) is step.answer
 
     -- a change that is put or claimed
-    placed : (t : TxId) (x : List ℕ) (after : Option (Option (List ℕ))) (before : Option (List ℕ)) → old_record e.called ≡ Some before → cause_in e.called ≡ None → e.failed ≡ false → e.refused ≡ false → put_refusal f t.0 x ≡ None → is_full f x ≡ false → before ≡ get (records_of f) x → fs2.file ≡ with_change f t.0 x after → (put_refusal s.file t.0 x ≡ None → is_full s.file x ≡ false → before ≡ get (records_of s.file) x → Answers s e.called e.failed e.refused (made s alone.tidy t x before after)) → Goes f g e (with_change f t.0 x after) s
+    placed : (t : TxId) (x : List ℕ) (after : Option (Option (List ℕ))) (before : Option (List ℕ)) → old_record e.called ≡ Some before → cause_in e.called ≡ None → e.failed ≡ false → e.refused ≡ false → key_refusal true f t.0 x ≡ None → is_full f x ≡ false → before ≡ get (records_of f) x → fs2.file ≡ with_change f t.0 x after → (key_refusal true s.file t.0 x ≡ None → is_full s.file x ≡ false → before ≡ get (records_of s.file) x → Answers s e.called e.failed e.refused (made s alone.tidy t x before after)) → Goes f g e (with_change f t.0 x after) s
     placed t x after before record_is no_cause quiet unrefused free room stood is answers =
-        let it = put_free f t.0 x free in
-        let fits = put_accepts f t.0 x free in
+        let it = change_free f t.0 x free in
+        let fits = change_fits f t.0 x free in
         let next = led (with_change f t.0 x after) is in
         let now = alike g e f s alone was m answered kept t x after it.0 it.1 fits leads next in
         changed_alone g e f s alone was m answered kept t x after it.0 it.1 fits leads next before stood (keeps _ is) record_is (λ lasts now_kept. (
@@ -377,23 +373,22 @@ step_alone m answered fs fs2 e g s sound kept step move leads on alone = at move
             refusals = ap (counted s.refusals) (sym unrefused);
             sound = refl;
             told = tells_one s.sound s.records (write_to s.records x after) s.log s.log (made s alone.tidy t x before after).log (next_record s alone.tidy t x before after) refl refl (λ here. change_written s.records _ _ t x before after);
-            answer = answers (put_none s.file t.0 x now.active now.free now.room) (now.not_full lasts room) (stood ∙ sym (now.stood lasts));
+            answer = answers (none_refused s.file t.0 x now.active now.free now.room) (now.not_full lasts room) (stood ∙ sym (now.stood lasts));
           },
           quiet,
           unrefused,
         ))
 
-    put : (t : TxId) (x r : List ℕ) (before : Option (List ℕ)) → e.called ≡ Put t x r (Ok before) → put_refusal f t.0 x ≡ None → is_full f x ≡ false → before ≡ get (records_of f) x → fs2.file ≡ with_change f t.0 x (Some (Some r)) → Goes f g e (with_change f t.0 x (Some (Some r))) s
+    put : (t : TxId) (x r : List ℕ) (before : Option (List ℕ)) → e.called ≡ Put t x r (Ok before) → key_refusal true f t.0 x ≡ None → is_full f x ≡ false → before ≡ get (records_of f) x → fs2.file ≡ with_change f t.0 x (Some (Some r)) → Goes f g e (with_change f t.0 x (Some (Some r))) s
     put t x r before called_is free room stood is =
         let a = called (Put t x r (Ok before)) called_is in
         let s2 = made s alone.tidy t x before (Some (Some r)) in
         placed t x (Some (Some r)) before (ap old_record called_is) (ap cause_in called_is) a.0.0 (not_true e.refused a.0.1) free room stood is (λ none not_full here_stood.
-        let unrefused = none in
         subst (λ c. Answers s c e.failed e.refused s2) (sym called_is) (
           a.0,
           record {
-            step = λ here few. (unrefused, not_risen s.failures, not_full, here_stood, refl);
-            refused = subst (λ o. IfSome o (λ fault. (Ok before ≡ Err fault) × (s2 ≡ s))) (sym unrefused) tt;
+            step = λ here few. (none, not_risen s.failures, not_full, here_stood, refl);
+            refused = subst (λ o. IfSome o (λ refusal. (None ≡ Some refusal) × (s2 ≡ s))) (sym none) tt;
             refused_only = tt;
             accepted = record { history = refl; logged = refl };
             opening = λ here. refl;
@@ -402,17 +397,16 @@ step_alone m answered fs fs2 e g s sound kept step move leads on alone = at move
           },
         ))
 
-    claim : (t : TxId) (x : List ℕ) (before : Option (List ℕ)) → e.called ≡ Claim t x (Ok before) → put_refusal f t.0 x ≡ None → is_full f x ≡ false → before ≡ get (records_of f) x → fs2.file ≡ with_change f t.0 x None → Goes f g e (with_change f t.0 x None) s
+    claim : (t : TxId) (x : List ℕ) (before : Option (List ℕ)) → e.called ≡ Claim t x (Ok before) → key_refusal true f t.0 x ≡ None → is_full f x ≡ false → before ≡ get (records_of f) x → fs2.file ≡ with_change f t.0 x None → Goes f g e (with_change f t.0 x None) s
     claim t x before called_is free room stood is =
         let a = called (Claim t x (Ok before)) called_is in
         let s2 = made s alone.tidy t x before None in
         placed t x None before (ap old_record called_is) (ap cause_in called_is) a.0.0 (not_true e.refused a.0.1) free room stood is (λ none not_full here_stood.
-        let unrefused = ap (option_map claim_fault) none in
         subst (λ c. Answers s c e.failed e.refused s2) (sym called_is) (
           a.0,
           record {
-            step = λ here few. (unrefused, not_risen s.failures, not_full, here_stood, refl);
-            refused = subst (λ o. IfSome o (λ fault. (Ok before ≡ Err fault) × (s2 ≡ s))) (sym unrefused) tt;
+            step = λ here few. (none, not_risen s.failures, not_full, here_stood, refl);
+            refused = subst (λ o. IfSome o (λ refusal. (None ≡ Some refusal) × (s2 ≡ s))) (sym none) tt;
             refused_only = tt;
             accepted = record { history = refl; logged = refl };
             opening = λ here. refl;
@@ -421,15 +415,15 @@ step_alone m answered fs fs2 e g s sound kept step move leads on alone = at move
           },
         ))
 
-    take : (t : TxId) (x before : List ℕ) → e.called ≡ Remove t x (Ok before) → remove_refusal f t.0 x ≡ None → get (records_of f) x ≡ Some before → fs2.file ≡ with_change f t.0 x (Some None) → Goes f g e (with_change f t.0 x (Some None)) s
+    take : (t : TxId) (x before : List ℕ) → e.called ≡ Remove t x (Ok before) → key_refusal true f t.0 x ≡ None → get (records_of f) x ≡ Some before → fs2.file ≡ with_change f t.0 x (Some None) → Goes f g e (with_change f t.0 x (Some None)) s
     take t x before called_is free stood is =
-        let it = remove_free f t.0 x free in
+        let it = change_free f t.0 x free in
         let a = called (Remove t x (Ok before)) called_is in
         let refused = not_true e.refused a.0.1 in
-        let fits = remove_accepts f t.0 x free in
+        let fits = change_fits f t.0 x free in
         let next = led (with_change f t.0 x (Some None)) is in
         let now = alike g e f s alone was m answered kept t x (Some None) it.0 it.1 fits leads next in
-        let none = remove_none s.file t.0 x now.active now.free now.room in
+        let none = none_refused s.file t.0 x now.active now.free now.room in
         let s2 = made s alone.tidy t x (Some before) (Some None) in
         changed_alone g e f s alone was m answered kept t x (Some None) it.0 it.1 fits leads next (Some before) (sym stood) (keeps _ is) (ap old_record called_is) (λ lasts now_kept. (
           record {
@@ -449,7 +443,7 @@ step_alone m answered fs fs2 e g s sound kept step move leads on alone = at move
                   now.stood lasts ∙ stood,
                   refl,
                 );
-                refused = subst (λ o. IfSome o (λ fault. (Ok before ≡ Err fault) × (s2 ≡ s))) (sym none) tt;
+                refused = subst (λ o. IfSome o (λ refusal. (None ≡ Some refusal) × (s2 ≡ s))) (sym none) tt;
                 refused_only = tt;
                 accepted = record { history = refl; logged = refl };
                 opening = λ here. refl;

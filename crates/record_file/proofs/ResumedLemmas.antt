@@ -6,15 +6,15 @@ use Rattle.std.specs.FinMap as maps
 use Rattle.std.specs.FinMap.{get}
 use Rattle.rec_types.specs.History.{Change, live_from, take_back, take_newest}
 use Rattle.tx_log.specs.LogState.{active_with, phase_of, rolling_to, finished, finished_by}
-use Rattle.tx_log.specs.Transactions.{Transactions, Tx, fresh, place_in, depth_of}
+use Rattle.tx_log.specs.Transactions.{Transactions, Tx, fresh, place_in}
 use Rattle.tx_log.specs.declared.phase.BeginFault.TheVariants as begin_faults
-use Rattle.tx_log.specs.declared.phase.Phase.{Phase}
 use Rattle.tx_log.specs.declared.phase.Phase.TheVariants as phases
 use Rattle.tx_log.specs.declared.phase.Rollback.{Rollback}
 use Rattle.record_file.specs.Abstract.{File, phase_at, tx_of}
 use Rattle.record_file.specs.Resumed.{StopsFirst, Finishes, TakesWhole}
 use Rattle.record_file.specs.Runs.{Called, Event, Seen, Run, Answers, IsKeptSeen, Begin, Put, Claim, Remove, Get, Savepoint, Release, RollbackTo, Abort, Resume, Commit, Entries, KeysOf, StatusOf, Charged, Begun, LogLen, LogUse, RecordAt, IntoTable}
-use Rattle.record_file.specs.Steps.{savepoint_in, release_in, commit_in, rollback_in, abort_in, places_at, rolling_place}
+use Rattle.record_file.specs.Steps.{active_refusal, tx_refusal, places_at, rolling_place}
+use Rattle.record_file.specs.declared.refusal.Refusal.{Refusal}
 use Rattle.record_file.specs.declared.fault.AbortFault.TheVariants as abort_faults
 use Rattle.record_file.specs.declared.fault.ResumeFault.TheVariants as resume_faults
 use Rattle.record_file.specs.declared.fault.RollbackToFault.TheVariants as rollback_faults
@@ -77,8 +77,8 @@ module _ (t p : ℕ) where
     back_other q place differ = subst (Stays t p old.history) (sym (taken_all old.history q place)) (stays_other t p q place (live_from old.history q place) old.history differ)
 
     -- a call that a rolling transaction is refused is another's
-    other : (q : ℕ) (P : Option Phase → Type 0) → P (phase_at old q) → (P (Some (phases.Rolling under.ends)) → ⊥) → q ≡ t → ⊥
-    other q P free never same = never (subst P (ap (phase_at old) same ∙ rolls) free)
+    other : (q : ℕ) (more : Option Refusal) → tx_refusal old q more ≡ None → q ≡ t → ⊥
+    other q more free same = absurd (cc (ap (active_refusal more) (sym (ap (phase_at old) same ∙ rolls)) ∙ free))
 
   passes : (old new : Seen) (called : Called) (failed refused : Bool) → IsKeptSeen old → Under old.file → (Finishes t called → ⊥) → Answers old called failed refused new → Passes old.file new.file
   passes old new (Begin (Ok tx)) failed refused kept under unfinished step =
@@ -98,32 +98,32 @@ module _ (t p : ℕ) where
   passes old new (Remove q x (Err fault)) failed refused kept under unfinished step = still old.file under new.file step.1.err.1
   passes old new (Get q x answer) failed refused kept under unfinished step = still old.file under new.file step.1.same.1
   passes old new (Savepoint q (Ok n)) failed refused kept under unfinished step =
-      let differ = other old.file under q.0 (λ o. savepoint_in (depth_of (tx_of old.file q.0)) o ≡ None) step.1.0 (λ none. absurd (cc none)) in
+      let differ = other old.file under q.0 _ step.1.0 in
       moves old.file under new.file old.file.history _ (ap (λ (f : File). f.history) step.1.2) (ap (λ (f : File). f.txs) step.1.2) (inserted old.file under q.0 _ differ) (stays_same t p old.file.history)
   passes old new (Savepoint q (Err fault)) failed refused kept under unfinished step = still old.file under new.file step.1.1
   passes old new (Release q n (Ok done)) failed refused kept under unfinished step =
-      let differ = other old.file under q.0 (λ o. release_in n (depth_of (tx_of old.file q.0)) o ≡ None) step.1.0 (λ none. absurd (cc none)) in
+      let differ = other old.file under q.0 _ step.1.0 in
       moves old.file under new.file old.file.history _ (ap (λ (f : File). f.history) step.1.1) (ap (λ (f : File). f.txs) step.1.1) (inserted old.file under q.0 _ differ) (stays_same t p old.file.history)
   passes old new (Release q n (Err fault)) failed refused kept under unfinished step = still old.file under new.file step.1.1
   passes old new (RollbackTo q n (Ok undone)) failed refused kept under unfinished step =
-      let differ = other old.file under q.0 (λ o. rollback_in n (depth_of (tx_of old.file q.0)) o ≡ None) step.1.rolled.0 (λ none. absurd (cc none)) in
+      let differ = other old.file under q.0 _ step.1.rolled.0 in
       let becomes = step.1.rolled.1.1 in
       moves old.file under new.file _ _ (ap (λ (f : File). f.history) becomes) (ap (λ (f : File). f.txs) becomes) (inserted old.file under q.0 _ differ) (back_other old.file under q.0 _ differ)
   passes old new (RollbackTo q n (Err rollback_faults.NoSuchTx)) failed refused kept under unfinished step = still old.file under new.file step.1.rolled.1
   passes old new (RollbackTo q n (Err rollback_faults.Rolling)) failed refused kept under unfinished step = still old.file under new.file step.1.rolled.1
   passes old new (RollbackTo q n (Err rollback_faults.NoSuchSave)) failed refused kept under unfinished step = still old.file under new.file step.1.rolled.1
   passes old new (RollbackTo q n (Err (rollback_faults.Stopped undone left cause))) failed refused kept under unfinished step =
-      let differ = other old.file under q.0 (λ o. rollback_in n (depth_of (tx_of old.file q.0)) o ≡ None) step.1.rolled.0 (λ none. absurd (cc none)) in
+      let differ = other old.file under q.0 _ step.1.rolled.0 in
       let becomes = step.1.rolled.1.2 in
       moves old.file under new.file _ _ (ap (λ (f : File). f.history) becomes) (ap (λ (f : File). f.txs) becomes) (inserted old.file under q.0 _ differ) (stays_other t p q.0 _ undone old.file.history differ)
   passes old new (Abort q (Ok undone)) failed refused kept under unfinished step =
-      let differ = other old.file under q.0 (λ o. abort_in o ≡ None) step.1.rolled.0 (λ none. absurd (cc none)) in
+      let differ = other old.file under q.0 _ step.1.rolled.0 in
       let becomes = step.1.rolled.1.1 in
       moves old.file under new.file _ _ (ap (λ (f : File). f.history) becomes) (ap (λ (f : File). f.txs) becomes) (removed old.file under q.0 differ) (back_other old.file under q.0 _ differ)
   passes old new (Abort q (Err abort_faults.NoSuchTx)) failed refused kept under unfinished step = still old.file under new.file step.1.rolled.1
   passes old new (Abort q (Err abort_faults.Rolling)) failed refused kept under unfinished step = still old.file under new.file step.1.rolled.1
   passes old new (Abort q (Err (abort_faults.Stopped undone left cause))) failed refused kept under unfinished step =
-      let differ = other old.file under q.0 (λ o. abort_in o ≡ None) step.1.rolled.0 (λ none. absurd (cc none)) in
+      let differ = other old.file under q.0 _ step.1.rolled.0 in
       let becomes = step.1.rolled.1.2 in
       moves old.file under new.file _ _ (ap (λ (f : File). f.history) becomes) (ap (λ (f : File). f.txs) becomes) (inserted old.file under q.0 _ differ) (stays_other t p q.0 _ undone old.file.history differ)
   passes old new (Resume q (Ok undone)) failed refused kept under unfinished step =
@@ -145,7 +145,7 @@ module _ (t p : ℕ) where
           same_refl : q.0 ≡ t → same_tx t q.0 ≡ true
           same_refl mine = ap (same_tx t) mine ∙ same_tx-refl t
   passes old new (Commit q (Ok done)) failed refused kept under unfinished step =
-      let differ = other old.file under q.0 (λ o. commit_in o ≡ None) step.1.0 (λ none. absurd (cc none)) in
+      let differ = other old.file under q.0 _ step.1.0 in
       moves old.file under new.file old.file.history _ (ap (λ (f : File). f.history) step.1.1) (ap (λ (f : File). f.txs) step.1.1) (removed old.file under q.0 differ) (stays_same t p old.file.history)
   passes old new (Commit q (Err fault)) failed refused kept under unfinished step = still old.file under new.file step.1.1
   passes old new (Entries answer) failed refused kept under unfinished step = still old.file under new.file step.1.same.1

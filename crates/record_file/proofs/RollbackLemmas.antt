@@ -11,12 +11,12 @@ use Rattle.tx_log.specs.declared.phase.Rollback.{Rollback}
 use Rattle.tx_log.specs.LogState.{IsRolling, phase_of, finished, rolling_to, active_with}
 use Rattle.tx_log.specs.declared.phase.Phase.TheVariants as phases
 use Rattle.record_file.specs.declared.fault.Stop.{Stop}
-use Rattle.record_file.specs.declared.fault.RollbackToFault.TheVariants as rollback_faults
+use Rattle.record_file.specs.declared.refusal.Refusal.TheVariants.{NoSuchSave}
 use Rattle.record_file.specs.declared.fault.Cause.{Cause}
 use Rattle.record_file.specs.declared.fault.Cause.TheVariants as causes
 use Rattle.record_file.specs.Abstract.{File, tx_of, phase_at}
 use Rattle.record_file.specs.Outside.{by_device, by_memory}
-use Rattle.record_file.specs.Steps.{rose, rolling_place, places_at, rollback_in, rollback_refusal, RollsBack, RollsFrom, EndsBy, StopsAt, TakesBack}
+use Rattle.record_file.specs.Steps.{rose, rolling_place, places_at, active_refusal, returning_refusal, RollsBack, RollsFrom, EndsBy, StopsAt, TakesBack}
 use Rattle.record_file.proofs.FaultLemmas.{rose_same, rose_counted}
 use Rattle.record_file.proofs.OpenTxLemmas.{get-inserted_tx, insert-insert_tx, remove-insert_tx}
 
@@ -101,8 +101,8 @@ is_rolling f now t n ends is =
     (subst (λ (o : Option Tx). IsRolling (option_map phase_of o)) (sym (get-inserted_tx f.txs t (rolling_to (places_at f t) n ends))) tt)
 
 -- a rollback that has started was an active transaction
-pub rollback_starts : (f : File) (t n : ℕ) → phase_at f t ≡ Some phases.Active → n ≤ depth_of (tx_of f t) → rollback_refusal f t n ≡ None
-rollback_starts f t n active le = ap (rollback_in n (depth_of (tx_of f t))) active ∙ ap (λ b. if b then None else Some rollback_faults.NoSuchSave) (below n (depth_of (tx_of f t)) le)
+pub rollback_starts : (f : File) (t n : ℕ) → phase_at f t ≡ Some phases.Active → n ≤ depth_of (tx_of f t) → returning_refusal f t n ≡ None
+rollback_starts f t n active le = ap (active_refusal _) active ∙ ap (λ b. if b then None else Some NoSuchSave) (below n (depth_of (tx_of f t)) le)
   where
     below : (a b : ℕ) → a ≤ b → nat_le a b ≡ true
     below a b le = grind (arith, nat_tests)

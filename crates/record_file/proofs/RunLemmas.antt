@@ -15,7 +15,7 @@ use Rattle.tx_log.specs.declared.phase.Phase.{Phase}
 use Rattle.tx_log.specs.declared.phase.Phase.TheVariants as phases
 use Rattle.tx_log.proofs.OwnerLemmas.{held-free, owned-push}
 use Rattle.record_file.specs.Abstract.{AbortsWhole, File, open_of, tx_of, phase_at, held_by, records_of, charged_of, with_change}
-use Rattle.record_file.specs.Steps.{put_refusal, put_in, put_held, remove_refusal, remove_in, remove_held}
+use Rattle.record_file.specs.Steps.{active_refusal, held_refusal, key_refusal}
 use Rattle.record_file.specs.Runs.{Called, Event, Seen, Step, Run}
 use Rattle.record_file.specs.Undo.{Starts, old_record, with_first, old_records}
 use Rattle.record_file.proofs.OpenTxLemmas.{same_tx, same_tx-is, open-insert, open-remove}
@@ -117,24 +117,14 @@ abbrev pub added : List (Option (List ℕ)) → Option (Option (List ℕ)) → L
 added answered None = answered
 added answered (Some before) = answered ++ before ∷ []
 
--- a put that isn't refused is by an active transaction, at a key that no other holds
-pub put_free : (f : File) (t : ℕ) (x : List ℕ) → put_refusal f t x ≡ None → (phase_at f t ≡ Some phases.Active) × (held_by f t x ≡ None)
-put_free f t x none = at (phase_at f t) refl (held_by f t x) refl none
+-- a change that isn't refused is by an active transaction, at a key that no other holds
+pub change_free : (f : File) (t : ℕ) (x : List ℕ) → key_refusal true f t x ≡ None → (phase_at f t ≡ Some phases.Active) × (held_by f t x ≡ None)
+change_free f t x none = at (phase_at f t) refl (held_by f t x) refl none
   where
-    at : (p : Option Phase) → phase_at f t ≡ p → (h : Option ℕ) → held_by f t x ≡ h → put_in f t x (phase_at f t) ≡ None → (phase_at f t ≡ Some phases.Active) × (held_by f t x ≡ None)
-    at None p_is h h_is none = absurd (cc (ap (put_in f t x) (sym p_is) ∙ none))
-    at (Some (phases.Rolling ends)) p_is h h_is none = absurd (cc (ap (put_in f t x) (sym p_is) ∙ none))
-    at (Some phases.Active) p_is (Some owner) h_is none = absurd (cc (ap (put_held f) (sym h_is) ∙ ap (put_in f t x) (sym p_is) ∙ none))
-    at (Some phases.Active) p_is None h_is none = (p_is, h_is)
-
--- so is a removal
-pub remove_free : (f : File) (t : ℕ) (x : List ℕ) → remove_refusal f t x ≡ None → (phase_at f t ≡ Some phases.Active) × (held_by f t x ≡ None)
-remove_free f t x none = at (phase_at f t) refl (held_by f t x) refl none
-  where
-    at : (p : Option Phase) → phase_at f t ≡ p → (h : Option ℕ) → held_by f t x ≡ h → remove_in f t x (phase_at f t) ≡ None → (phase_at f t ≡ Some phases.Active) × (held_by f t x ≡ None)
-    at None p_is h h_is none = absurd (cc (ap (remove_in f t x) (sym p_is) ∙ none))
-    at (Some (phases.Rolling ends)) p_is h h_is none = absurd (cc (ap (remove_in f t x) (sym p_is) ∙ none))
-    at (Some phases.Active) p_is (Some owner) h_is none = absurd (cc (ap (remove_held f) (sym h_is) ∙ ap (remove_in f t x) (sym p_is) ∙ none))
+    at : (p : Option Phase) → phase_at f t ≡ p → (h : Option ℕ) → held_by f t x ≡ h → active_refusal (held_refusal true f h) p ≡ None → (phase_at f t ≡ Some phases.Active) × (held_by f t x ≡ None)
+    at None p_is h h_is none = absurd (cc)
+    at (Some (phases.Rolling ends)) p_is h h_is none = absurd (cc)
+    at (Some phases.Active) p_is (Some owner) h_is none = absurd (cc)
     at (Some phases.Active) p_is None h_is none = (p_is, h_is)
 
 module _ (m : Contents) (answered : List (Option (List ℕ))) (old : File) (kept : KeptRun m answered old) where
@@ -214,13 +204,13 @@ move_kept m answered old called new kept move = at move
     at (Still is no_record no_begin) = over None old no_record is kept
     at (Began tx called_is step) = over None _ (ap old_record called_is) step.2 (begun_kept m answered old kept)
     at (PutIn t x r before called_is free room stood is) =
-        let it = put_free old t.0 x free in
+        let it = change_free old t.0 x free in
         over (Some before) _ (ap old_record called_is) is (push_kept m answered old kept t.0 x before (Some (Some r)) (open_by_phase (tx_of old t.0) phases.Active it.0) it.1 stood (room_of old x (sym room)))
     at (ClaimIn t x before called_is free room stood is) =
-        let it = put_free old t.0 x free in
+        let it = change_free old t.0 x free in
         over (Some before) _ (ap old_record called_is) is (push_kept m answered old kept t.0 x before None (open_by_phase (tx_of old t.0) phases.Active it.0) it.1 stood (room_of old x (sym room)))
     at (TookOut t x before called_is free stood is) =
-        let it = remove_free old t.0 x free in
+        let it = change_free old t.0 x free in
         over (Some (Some before)) _ (ap old_record called_is) is (push_kept m answered old kept t.0 x (Some before) (Some None) (open_by_phase (tx_of old t.0) phases.Active it.0) it.1 (sym stood) (λ absent. absurd (present_charged (open_of old) old.history (records_of old) x (Some before) (sym stood) refl absent)))
     at (Committed t done called_is step) = over None _ (ap old_record called_is) step.1 (end_kept m answered old kept old.history t.0 kept.cs kept.history kept.answers kept.holds)
     at (WentBack t p n txs there le is same ends no_record no_begin) = over None _ no_record is (back_kept m answered old kept t p n txs there le same ends)

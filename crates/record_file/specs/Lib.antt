@@ -2,7 +2,7 @@ pub mod Abstract
 pub mod Outside
 pub mod Steps
 pub mod TableCalls
-pub mod Faults
+pub mod Refusals
 pub mod Runs
 pub mod Undo
 pub mod Remaining

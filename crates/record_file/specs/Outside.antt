@@ -1,110 +1,23 @@
 -- What comes to a call from outside: a failed device, a damaged page, or a want of memory; and what the table, whose
 -- counts tell of them, has then counted.
-use Rattle.std.specs.Prelude.{◌≡◌, ◌≢◌, ◌⊎◌, ℕ, Bool, true, false, Option, Some, None, Result, Ok, Err, IsTrue}
+use Rattle.std.specs.Prelude.{◌≡◌, ◌≢◌, ◌⊎◌, ℕ, Bool, true, false, Option, Some, IsTrue}
 use Rattle.rec_types.specs.Table.{counted, Damages, damaged_at}
+use Rattle.rec_types.specs.declared.table.TableFault.{TableFault}
+use Rattle.rec_types.specs.declared.table.TableFault.TheVariants as table_faults
 use Rattle.record_file.specs.declared.fault.Cause.{Cause}
 use Rattle.record_file.specs.declared.fault.Cause.TheVariants.{Device, Damaged, Memory}
-use Rattle.record_file.specs.declared.fault.Stop.{Stop}
-use Rattle.record_file.specs.declared.fault.PutFault.{PutFault}
-use Rattle.record_file.specs.declared.fault.PutFault.TheVariants as put_faults
-use Rattle.record_file.specs.declared.fault.ClaimFault.{ClaimFault}
-use Rattle.record_file.specs.declared.fault.ClaimFault.TheVariants as claim_faults
-use Rattle.record_file.specs.declared.fault.RemoveFault.{RemoveFault}
-use Rattle.record_file.specs.declared.fault.RemoveFault.TheVariants as remove_faults
-use Rattle.record_file.specs.declared.fault.GetFault.{GetFault}
-use Rattle.record_file.specs.declared.fault.GetFault.TheVariants as get_faults
-use Rattle.record_file.specs.declared.fault.RollbackToFault.{RollbackToFault}
-use Rattle.record_file.specs.declared.fault.RollbackToFault.TheVariants as rollback_faults
-use Rattle.record_file.specs.declared.fault.AbortFault.{AbortFault}
-use Rattle.record_file.specs.declared.fault.AbortFault.TheVariants as abort_faults
-use Rattle.record_file.specs.declared.fault.ResumeFault.{ResumeFault}
-use Rattle.record_file.specs.declared.fault.ResumeFault.TheVariants as resume_faults
-use Rattle.record_file.specs.declared.fault.EntriesFault.{EntriesFault}
-use Rattle.record_file.specs.declared.fault.EntriesFault.TheVariants as entries_faults
 
--- what came from outside and ended a call, where something did
+-- A table that has no room where there was some isn't sound.
+abbrev pub cause_of : TableFault → Cause
+cause_of table_faults.Device = Device
+cause_of (table_faults.Damaged page) = Damaged page
+cause_of table_faults.NoRoom = Damaged 0
+cause_of table_faults.Memory = Memory
 
-abbrev pub put_cause : {A : Type 0} → Result A PutFault → Option Cause
-put_cause (Ok answer) = None
-put_cause (Err put_faults.Device) = Some Device
-put_cause (Err (put_faults.Damaged page)) = Some (Damaged page)
-put_cause (Err put_faults.Memory) = Some Memory
-put_cause (Err fault) = None
-
-abbrev pub claim_cause : {A : Type 0} → Result A ClaimFault → Option Cause
-claim_cause (Ok answer) = None
-claim_cause (Err claim_faults.Device) = Some Device
-claim_cause (Err (claim_faults.Damaged page)) = Some (Damaged page)
-claim_cause (Err claim_faults.Memory) = Some Memory
-claim_cause (Err fault) = None
-
-abbrev pub remove_cause : {A : Type 0} → Result A RemoveFault → Option Cause
-remove_cause (Ok answer) = None
-remove_cause (Err remove_faults.Device) = Some Device
-remove_cause (Err (remove_faults.Damaged page)) = Some (Damaged page)
-remove_cause (Err remove_faults.Memory) = Some Memory
-remove_cause (Err fault) = None
-
-abbrev pub get_cause : {A : Type 0} → Result A GetFault → Option Cause
-get_cause (Ok answer) = None
-get_cause (Err get_faults.Device) = Some Device
-get_cause (Err (get_faults.Damaged page)) = Some (Damaged page)
-get_cause (Err fault) = None
-
-abbrev pub entries_cause : {A : Type 0} → Result A EntriesFault → Option Cause
-entries_cause (Ok answer) = None
-entries_cause (Err entries_faults.Device) = Some Device
-entries_cause (Err (entries_faults.Damaged page)) = Some (Damaged page)
-entries_cause (Err entries_faults.Memory) = Some Memory
-
-abbrev pub stop_cause : {A : Type 0} → Result A Stop → Option Cause
-stop_cause (Ok answer) = None
-stop_cause (Err stop) = Some stop.cause
-
-abbrev pub rollback_cause : {A : Type 0} → Result A RollbackToFault → Option Cause
-rollback_cause (Err (rollback_faults.Stopped undone left cause)) = Some cause
-rollback_cause answer = None
-
-abbrev pub abort_cause : {A : Type 0} → Result A AbortFault → Option Cause
-abort_cause (Err (abort_faults.Stopped undone left cause)) = Some cause
-abort_cause answer = None
-
-abbrev pub resume_cause : {A : Type 0} → Result A ResumeFault → Option Cause
-resume_cause (Err (resume_faults.Stopped undone left cause)) = Some cause
-resume_cause answer = None
-
-abbrev pub step_cause : {A : Type 0} → Result A Cause → Option Cause
-step_cause (Ok answer) = None
-step_cause (Err cause) = Some cause
-
--- a refusal that the file alone decides
-
-abbrev pub put_by_file : PutFault → Bool
-put_by_file put_faults.NoSuchTx = true
-put_by_file put_faults.Rolling = true
-put_by_file (put_faults.Held owner) = true
-put_by_file put_faults.LogFull = true
-put_by_file fault = false
-
-abbrev pub claim_by_file : ClaimFault → Bool
-claim_by_file claim_faults.NoSuchTx = true
-claim_by_file claim_faults.Rolling = true
-claim_by_file (claim_faults.Held owner) = true
-claim_by_file claim_faults.LogFull = true
-claim_by_file fault = false
-
-abbrev pub remove_by_file : RemoveFault → Bool
-remove_by_file remove_faults.NoSuchTx = true
-remove_by_file remove_faults.Rolling = true
-remove_by_file (remove_faults.Held owner) = true
-remove_by_file remove_faults.LogFull = true
-remove_by_file fault = false
-
-abbrev pub get_by_file : GetFault → Bool
-get_by_file get_faults.NoSuchTx = true
-get_by_file get_faults.Rolling = true
-get_by_file (get_faults.Held owner) = true
-get_by_file fault = false
+-- a look wants neither room nor memory
+abbrev pub look_cause : TableFault → Cause
+look_cause (table_faults.Damaged page) = Damaged page
+look_cause fault = Device
 
 -- what the table has counted
 

@@ -1,5 +1,5 @@
 -- A run: calls on a file one after another, each with its answer, and what came to it from outside.
-use Rattle.std.specs.Prelude.{◌≡◌, ◌≢◌, ℕ, ◌<◌, Bool, false, List, [], ◌∷◌, Option, Some, None, Result, Err, IsTrue, IfSome, IfOk, IfErr, OnErr}
+use Rattle.std.specs.Prelude.{◌≡◌, ◌≢◌, ℕ, ◌<◌, Bool, true, false, List, [], ◌∷◌, Option, Some, None, Result, IsTrue, IfSome, IfOk, IfErr, OnErr}
 use Rattle.std.specs.FinMap as maps
 use Rattle.rec_types.specs.Contents.{Contents}
 use Rattle.rec_types.specs.History.{log_len}
@@ -25,9 +25,10 @@ use Rattle.record_file.specs.declared.fault.KeysOfFault.{KeysOfFault}
 use Rattle.record_file.specs.declared.fault.StatusFault.{StatusFault}
 use Rattle.record_file.specs.declared.fault.Status.{Status}
 use Rattle.record_file.specs.Abstract.{File, OpenFile, IsKeptFile, Tells, charged_of, use_of}
-use Rattle.record_file.specs.Outside.{put_cause, claim_cause, remove_cause, get_cause, entries_cause, rollback_cause, abort_cause, resume_cause, put_by_file, claim_by_file, remove_by_file, get_by_file, by_device, by_memory, named_by, TellsDamage, NeverDamaged}
+use Rattle.record_file.specs.Outside.{by_device, by_memory, named_by, TellsDamage, NeverDamaged}
+use Rattle.record_file.specs.Refusals.{put_refusal, claim_refusal, remove_refusal, get_refusal, rollback_refusal, abort_refusal, resume_refusal, entries_refusal, refusal_by, cause_by, by_file}
 use Rattle.record_file.specs.declared.fault.Cause.{Cause}
-use Rattle.record_file.specs.Steps.{rose, put_refusal, claim_refusal, remove_refusal, get_refusal, rollback_refusal, abort_refusal, resume_refusal, Accepts, key_change, BeginStep, PutStep, ClaimStep, RemoveStep, GetStep, SavepointStep, ReleaseStep, CommitStep, RollsBackTo, RollbackToStep, Aborts, AbortStep, Resumes, ResumeStep, EntriesStep, KeysOfStep, status_of}
+use Rattle.record_file.specs.Steps.{rose, key_refusal, tx_refusal, returning_refusal, resuming_refusal, Accepts, key_change, BeginStep, PutStep, ClaimStep, RemoveStep, GetStep, SavepointStep, ReleaseStep, CommitStep, RollsBackTo, RollbackToStep, Aborts, AbortStep, Resumes, ResumeStep, EntriesStep, KeysOfStep, status_of}
 
 -- a call with its arguments, and what it answered
 pub data Called : Type 0 where
@@ -78,14 +79,14 @@ IsKeptSeen s = IsKeptFile s.sound s.records s.file.limits.records s.file s.log
 
 -- what came from outside and ended the call
 abbrev pub cause_in : Called → Option Cause
-cause_in (Put t x r answer) = put_cause answer
-cause_in (Claim t x answer) = claim_cause answer
-cause_in (Remove t x answer) = remove_cause answer
-cause_in (Get t x answer) = get_cause answer
-cause_in (RollbackTo t n answer) = rollback_cause answer
-cause_in (Abort t answer) = abort_cause answer
-cause_in (Resume t answer) = resume_cause answer
-cause_in (Entries answer) = entries_cause answer
+cause_in (Put t x r answer) = cause_by put_refusal answer
+cause_in (Claim t x answer) = cause_by claim_refusal answer
+cause_in (Remove t x answer) = cause_by remove_refusal answer
+cause_in (Get t x answer) = cause_by get_refusal answer
+cause_in (RollbackTo t n answer) = cause_by rollback_refusal answer
+cause_in (Abort t answer) = cause_by abort_refusal answer
+cause_in (Resume t answer) = cause_by resume_refusal answer
+cause_in (Entries answer) = cause_by entries_refusal answer
 cause_in called = None
 
 -- The call asks the table nothing, and leaves all but the abstract file.
@@ -110,63 +111,63 @@ IsCausedOrLog cause failed refused = (failed ≡ by_device cause) × (IsTrue ref
 
 pub record Puts (old : Seen) (t : TxId) (x r : List ℕ) (answer : Result (Option (List ℕ)) PutFault) (new : Seen) : Type 0 where
   pub step : IsTrue old.sound → old.failures < greatest_count → PutStep old.file t.0 x r (rose old.failures new.failures) answer new.file
-  pub refused : IfSome (put_refusal old.file t.0 x) (λ fault. (answer ≡ Err fault) × (new ≡ old))
-  pub refused_only : IfErr answer (λ fault. IsTrue (put_by_file fault) → put_refusal old.file t.0 x ≡ Some fault)
+  pub refused : IfSome (key_refusal true old.file t.0 x) (λ refusal. (refusal_by put_refusal answer ≡ Some refusal) × (new ≡ old))
+  pub refused_only : IfErr answer (λ fault. IsTrue (by_file (put_refusal fault)) → key_refusal true old.file t.0 x ≡ Some (put_refusal fault))
   pub accepted : IfOk answer (λ before. Accepts old.file old.log (key_change t x before (Some (Some r))) new.file new.log)
   pub opening : IsTrue old.sound → new.file.opening ≡ old.file.opening
   pub err : OnErr answer (Leaves old new)
-  pub damages : TellsDamage old.damages (put_cause answer) new.damages
+  pub damages : TellsDamage old.damages (cause_by put_refusal answer) new.damages
 
 pub record Claims (old : Seen) (t : TxId) (x : List ℕ) (answer : Result (Option (List ℕ)) ClaimFault) (new : Seen) : Type 0 where
   pub step : IsTrue old.sound → old.failures < greatest_count → ClaimStep old.file t.0 x (rose old.failures new.failures) answer new.file
-  pub refused : IfSome (claim_refusal old.file t.0 x) (λ fault. (answer ≡ Err fault) × (new ≡ old))
-  pub refused_only : IfErr answer (λ fault. IsTrue (claim_by_file fault) → claim_refusal old.file t.0 x ≡ Some fault)
+  pub refused : IfSome (key_refusal true old.file t.0 x) (λ refusal. (refusal_by claim_refusal answer ≡ Some refusal) × (new ≡ old))
+  pub refused_only : IfErr answer (λ fault. IsTrue (by_file (claim_refusal fault)) → key_refusal true old.file t.0 x ≡ Some (claim_refusal fault))
   pub accepted : IfOk answer (λ seen. Accepts old.file old.log (key_change t x seen None) new.file new.log)
   pub opening : IsTrue old.sound → new.file.opening ≡ old.file.opening
   pub err : OnErr answer (Leaves old new)
-  pub damages : TellsDamage old.damages (claim_cause answer) new.damages
+  pub damages : TellsDamage old.damages (cause_by claim_refusal answer) new.damages
 
 pub record Removes (old : Seen) (t : TxId) (x : List ℕ) (answer : Result (List ℕ) RemoveFault) (new : Seen) : Type 0 where
   pub step : IsTrue old.sound → old.failures < greatest_count → RemoveStep old.file t.0 x (rose old.failures new.failures) answer new.file
-  pub refused : IfSome (remove_refusal old.file t.0 x) (λ fault. (answer ≡ Err fault) × (new ≡ old))
-  pub refused_only : IfErr answer (λ fault. IsTrue (remove_by_file fault) → remove_refusal old.file t.0 x ≡ Some fault)
+  pub refused : IfSome (key_refusal true old.file t.0 x) (λ refusal. (refusal_by remove_refusal answer ≡ Some refusal) × (new ≡ old))
+  pub refused_only : IfErr answer (λ fault. IsTrue (by_file (remove_refusal fault)) → key_refusal true old.file t.0 x ≡ Some (remove_refusal fault))
   pub accepted : IfOk answer (λ before. Accepts old.file old.log (key_change t x (Some before) (Some None)) new.file new.log)
   pub opening : IsTrue old.sound → new.file.opening ≡ old.file.opening
   pub err : OnErr answer (Leaves old new)
-  pub damages : TellsDamage old.damages (remove_cause answer) new.damages
+  pub damages : TellsDamage old.damages (cause_by remove_refusal answer) new.damages
 
 pub record Gets (old : Seen) (t : TxId) (x : List ℕ) (answer : Result (Option (List ℕ)) GetFault) (new : Seen) : Type 0 where
   pub step : IsTrue old.sound → old.failures < greatest_count → GetStep old.file t.0 x (rose old.failures new.failures) answer new.file
-  pub refused : IfSome (get_refusal old.file t.0 x) (λ fault. (answer ≡ Err fault) × (new ≡ old))
-  pub refused_only : IfErr answer (λ fault. IsTrue (get_by_file fault) → get_refusal old.file t.0 x ≡ Some fault)
+  pub refused : IfSome (key_refusal false old.file t.0 x) (λ refusal. (refusal_by get_refusal answer ≡ Some refusal) × (new ≡ old))
+  pub refused_only : IfErr answer (λ fault. IsTrue (by_file (get_refusal fault)) → key_refusal false old.file t.0 x ≡ Some (get_refusal fault))
   pub same : Leaves old new
-  pub damages : new.damages ≡ named_by old.damages (get_cause answer)
+  pub damages : new.damages ≡ named_by old.damages (cause_by get_refusal answer)
 
 pub record RollsTo (old : Seen) (t : TxId) (n : ℕ) (answer : Result ℕ RollbackToFault) (new : Seen) : Type 0 where
   pub step : IsTrue old.sound → old.failures < greatest_count → old.refusals < greatest_count → RollbackToStep old.file t.0 n (rose old.failures new.failures) (rose old.refusals new.refusals) answer new.file
   pub rolled : RollsBackTo old.file t.0 n answer new.file
   pub opening : IsTrue old.sound → new.file.opening ≡ old.file.opening
-  pub refused : IfSome (rollback_refusal old.file t.0 n) (λ fault. (answer ≡ Err fault) × (new ≡ old))
-  pub damages : TellsDamage old.damages (rollback_cause answer) new.damages
+  pub refused : IfSome (returning_refusal old.file t.0 n) (λ refusal. (refusal_by rollback_refusal answer ≡ Some refusal) × (new ≡ old))
+  pub damages : TellsDamage old.damages (cause_by rollback_refusal answer) new.damages
 
 pub record IsAborted (old : Seen) (t : TxId) (answer : Result ℕ AbortFault) (new : Seen) : Type 0 where
   pub step : IsTrue old.sound → old.failures < greatest_count → old.refusals < greatest_count → AbortStep old.file t.0 (rose old.failures new.failures) (rose old.refusals new.refusals) answer new.file
   pub rolled : Aborts old.file t.0 answer new.file
   pub opening : IsTrue old.sound → new.file.opening ≡ old.file.opening
-  pub refused : IfSome (abort_refusal old.file t.0) (λ fault. (answer ≡ Err fault) × (new ≡ old))
-  pub damages : TellsDamage old.damages (abort_cause answer) new.damages
+  pub refused : IfSome (tx_refusal old.file t.0 None) (λ refusal. (refusal_by abort_refusal answer ≡ Some refusal) × (new ≡ old))
+  pub damages : TellsDamage old.damages (cause_by abort_refusal answer) new.damages
 
 pub record IsResumed (old : Seen) (t : TxId) (answer : Result ℕ ResumeFault) (new : Seen) : Type 0 where
   pub step : IsTrue old.sound → old.failures < greatest_count → old.refusals < greatest_count → ResumeStep old.file t.0 (rose old.failures new.failures) (rose old.refusals new.refusals) answer new.file
   pub rolled : Resumes old.file t.0 answer new.file
   pub opening : IsTrue old.sound → new.file.opening ≡ old.file.opening
-  pub refused : IfSome (resume_refusal old.file t.0) (λ fault. (answer ≡ Err fault) × (new ≡ old))
-  pub damages : TellsDamage old.damages (resume_cause answer) new.damages
+  pub refused : IfSome (resuming_refusal old.file t.0) (λ refusal. (refusal_by resume_refusal answer ≡ Some refusal) × (new ≡ old))
+  pub damages : TellsDamage old.damages (cause_by resume_refusal answer) new.damages
 
 pub record Lists (old : Seen) (answer : Result (List Entry) EntriesFault) (new : Seen) : Type 0 where
   pub step : IsTrue old.sound → old.failures < greatest_count → EntriesStep old.file (rose old.failures new.failures) answer new.file
   pub same : Leaves old new
-  pub damages : new.damages ≡ named_by old.damages (entries_cause answer)
+  pub damages : new.damages ≡ named_by old.damages (cause_by entries_refusal answer)
 
 -- the table is given out once no transaction is open, and else the file comes back with the number of those that are
 abbrev pub GivesTable : File → Option ℕ → Type 0
@@ -176,17 +177,17 @@ GivesTable f (Some count) = (maps.len f.txs ≢ 0) × (count ≡ maps.len f.txs)
 -- From old the call may answer so, and lead to new.
 abbrev pub Answers : Seen → Called → Bool → Bool → Seen → Type 0
 Answers old (Begin answer) failed refused new = AsksNothing old failed refused new × BeginStep old.file answer new.file
-Answers old (Put t x r answer) failed refused new = IsCausedOrLog (put_cause answer) failed refused × Puts old t x r answer new
-Answers old (Claim t x answer) failed refused new = IsCausedOrLog (claim_cause answer) failed refused × Claims old t x answer new
-Answers old (Remove t x answer) failed refused new = IsCausedOrLog (remove_cause answer) failed refused × Removes old t x answer new
-Answers old (Get t x answer) failed refused new = IsCaused (get_cause answer) failed refused × Gets old t x answer new
+Answers old (Put t x r answer) failed refused new = IsCausedOrLog (cause_by put_refusal answer) failed refused × Puts old t x r answer new
+Answers old (Claim t x answer) failed refused new = IsCausedOrLog (cause_by claim_refusal answer) failed refused × Claims old t x answer new
+Answers old (Remove t x answer) failed refused new = IsCausedOrLog (cause_by remove_refusal answer) failed refused × Removes old t x answer new
+Answers old (Get t x answer) failed refused new = IsCaused (cause_by get_refusal answer) failed refused × Gets old t x answer new
 Answers old (Savepoint t answer) failed refused new = AsksNothing old failed refused new × SavepointStep old.file t.0 answer new.file
 Answers old (Release t n answer) failed refused new = AsksNothing old failed refused new × ReleaseStep old.file t.0 n answer new.file
-Answers old (RollbackTo t n answer) failed refused new = IsCaused (rollback_cause answer) failed refused × RollsTo old t n answer new
-Answers old (Abort t answer) failed refused new = IsCaused (abort_cause answer) failed refused × IsAborted old t answer new
-Answers old (Resume t answer) failed refused new = IsCaused (resume_cause answer) failed refused × IsResumed old t answer new
+Answers old (RollbackTo t n answer) failed refused new = IsCaused (cause_by rollback_refusal answer) failed refused × RollsTo old t n answer new
+Answers old (Abort t answer) failed refused new = IsCaused (cause_by abort_refusal answer) failed refused × IsAborted old t answer new
+Answers old (Resume t answer) failed refused new = IsCaused (cause_by resume_refusal answer) failed refused × IsResumed old t answer new
 Answers old (Commit t answer) failed refused new = AsksNothing old failed refused new × CommitStep old.file t.0 answer new.file
-Answers old (Entries answer) failed refused new = IsCausedOrLog (entries_cause answer) failed refused × Lists old answer new
+Answers old (Entries answer) failed refused new = IsCausedOrLog (cause_by entries_refusal answer) failed refused × Lists old answer new
 Answers old (KeysOf t answer) failed refused new = Looks old failed refused new × KeysOfStep old.file t.0 answer
 Answers old (StatusOf t answer) failed refused new = Looks old failed refused new × (answer ≡ status_of old.file t.0)
 Answers old (Charged count) failed refused new = Looks old failed refused new × (IsTrue old.sound → count ≡ maps.len (charged_of old.file))

@@ -1,5 +1,5 @@
 -- What a call of a file does to its table beside its step.
-use Rattle.std.specs.Prelude.{◌≡◌, ℕ, List, Option}
+use Rattle.std.specs.Prelude.{◌≡◌, ℕ, List, Option, IsTrue}
 use Rattle.rec_types.specs.Contents.{Contents, set_to}
 use Rattle.tx_log.specs.declared.phase.UndoStep.{UndoStep}
 use Rattle.tx_log.specs.declared.phase.UndoStep.TheVariants.{Restore, Unclaim}
@@ -33,3 +33,17 @@ pub record ChangesTable {T : Type 0} (t : Ghosts T) (old : OpenFile T) (cause : 
   pub origin : t.origin new.table ≡ t.origin old.table
   pub device : t.device_failures new.table ≡ counted (t.device_failures old.table) (by_device cause)
   pub damages : TellsDamage (t.damages old.table) cause (t.damages new.table)
+
+-- frames of a call on a file
+
+abbrev pub KeepsOrigin : {T : Type 0} → Ghosts T → OpenFile T → OpenFile T → Type 0
+KeepsOrigin t old new = t.origin new.table ≡ t.origin old.table
+
+abbrev pub KeepsOpening : {T : Type 0} → Ghosts T → OpenFile T → OpenFile T → Type 0
+KeepsOpening t old new = IsTrue (t.sound old.table) → new.file.opening ≡ old.file.opening
+
+abbrev pub KeepsTable : {T : Type 0} → OpenFile T → OpenFile T → Type 0
+KeepsTable old new = new.table ≡ old.table
+
+abbrev pub KeepsLog : {T : Type 0} → OpenFile T → OpenFile T → Type 0
+KeepsLog old new = new.log ≡ old.log

@@ -1,3 +1,4 @@
+ghost use Rattle.record_file.specs.TableCalls.{KeepsLog, KeepsTable};
 ghost use Rattle.std.specs.Prelude.{[], ◌≡◌, ◌≢◌, ◌<◌, Some, None, Ok, Err, MatchResult};
 ghost use Rattle.std.specs.FinMap as maps;
 ghost use Rattle.record_file.specs.Abstract.{new_file};
@@ -93,8 +94,8 @@ impl<T: Table> RecordFile<T> {
     /// Begins a transaction; its number is the count of those begun. Faults: BeginsSpent, Memory.
     pub fn begin(&mut self) -> Result<TxId, BeginFault>
         ensures step { BeginStep self.old.file result self.new.file }
-        ensures table { self.new.table ≡ self.old.table }
-        ensures log { self.new.log ≡ self.old.log }
+        ensures table { KeepsTable self.old self.new }
+        ensures log { KeepsLog self.old self.new }
     {
         self.log.begin()
     }
@@ -102,8 +103,8 @@ impl<T: Table> RecordFile<T> {
     /// Sets a savepoint, and answers its number. Faults: NoSuchTx, Rolling, TooDeep. It takes no memory.
     pub fn savepoint(&mut self, tx: TxId) -> Result<u32, SavepointFault>
         ensures step { SavepointStep self.old.file tx.0 result self.new.file }
-        ensures table { self.new.table ≡ self.old.table }
-        ensures log { self.new.log ≡ self.old.log }
+        ensures table { KeepsTable self.old self.new }
+        ensures log { KeepsLog self.old self.new }
     {
         match self.log.phase(tx) {
             None => Err(SavepointFault::NoSuchTx),
@@ -120,8 +121,8 @@ impl<T: Table> RecordFile<T> {
     /// Drops savepoint n and those above it. Faults: NoSuchTx, Rolling, NoSuchSave. It takes no memory.
     pub fn release(&mut self, tx: TxId, n: u32) -> Result<(), ReleaseFault>
         ensures step { ReleaseStep self.old.file tx.0 n result self.new.file }
-        ensures table { self.new.table ≡ self.old.table }
-        ensures log { self.new.log ≡ self.old.log }
+        ensures table { KeepsTable self.old self.new }
+        ensures log { KeepsLog self.old self.new }
     {
         match self.log.phase(tx) {
             None => Err(ReleaseFault::NoSuchTx),
@@ -139,8 +140,8 @@ impl<T: Table> RecordFile<T> {
     /// Ends a transaction; its changes stay. Faults: NoSuchTx, Rolling. It takes no memory.
     pub fn commit(&mut self, tx: TxId) -> Result<(), CommitFault>
         ensures step { CommitStep self.old.file tx.0 result self.new.file }
-        ensures table { self.new.table ≡ self.old.table }
-        ensures log { self.new.log ≡ self.old.log }
+        ensures table { KeepsTable self.old self.new }
+        ensures log { KeepsLog self.old self.new }
     {
         match self.log.phase(tx) {
             None => Err(CommitFault::NoSuchTx),

@@ -10,7 +10,7 @@ ghost use Rattle.rec_types.specs.declared.transaction.TxId.{TxId};
 ghost use Rattle.tx_log.specs.Log.{last_of};
 ghost use Rattle.tx_log.specs.Owners.{keys_owned};
 ghost use Rattle.tx_log.specs.Transactions.{fresh, place_in};
-ghost use Rattle.record_file.specs.Abstract.{File, new_file, open_of, records_of, tx_of};
+ghost use Rattle.record_file.specs.Abstract.{File, held_by, new_file, open_of, phase_at, records_of, tx_of, use_of};
 ghost use Rattle.record_file.specs.Exact.{IsExact, CompensatesOnce, one};
 ghost use Rattle.record_file.specs.Resumed.{StopsFirst, Finishes, TakesWhole, CompensatesTake};
 ghost use Rattle.record_file.specs.Remaining.{NothingFails, remaining};
@@ -18,9 +18,25 @@ ghost use Rattle.record_file.specs.Undo.{Starts, old_records, quiet, wrote, clai
 ghost use Rattle.record_file.specs.Runs.{Seen, Event, Step, Run, IsKeptSeen, Begin, Put, Claim, Remove, Savepoint, RollbackTo, Abort, Resume, Commit, Entries};
 ghost use Rattle.tx_log.specs.declared.log_record.LogRecord.TheVariants.{Update, Compensation, Unclaim};
 ghost use Rattle.tx_log.specs.declared.log_record.LogRecord.TheVariants as records;
-ghost use Rattle.record_file.specs.Steps.{rose, places_at, rolling_place};
+ghost use Rattle.record_file.specs.Steps.{rose, key_refusal, places_at, rolling_place};
 ghost use Rattle.record_file.specs.declared.fault.Cause.TheVariants as causes;
+ghost use Rattle.record_file.specs.declared.refusal.Refusal.TheVariants as refusals;
+ghost use Rattle.tx_log.specs.declared.phase.Phase.TheVariants.{Active};
+ghost use Rattle.tx_log.specs.declared.phase.BeginFault.{BeginFault};
+ghost use Rattle.record_file.specs.declared.fault.PutFault.{PutFault};
+ghost use Rattle.record_file.specs.declared.fault.ClaimFault.{ClaimFault};
+ghost use Rattle.record_file.specs.declared.fault.RemoveFault.{RemoveFault};
+ghost use Rattle.record_file.specs.declared.fault.GetFault.{GetFault};
+ghost use Rattle.record_file.specs.declared.fault.SavepointFault.{SavepointFault};
+ghost use Rattle.record_file.specs.declared.fault.ReleaseFault.{ReleaseFault};
+ghost use Rattle.record_file.specs.declared.fault.RollbackToFault.{RollbackToFault};
+ghost use Rattle.record_file.specs.declared.fault.AbortFault.{AbortFault};
+ghost use Rattle.record_file.specs.declared.fault.ResumeFault.{ResumeFault};
+ghost use Rattle.record_file.specs.declared.fault.CommitFault.{CommitFault};
+ghost use Rattle.record_file.specs.declared.fault.EntriesFault.{EntriesFault};
+ghost use Rattle.record_file.specs.declared.fault.KeysOfFault.{KeysOfFault};
 ghost use Rattle.record_file.specs.declared.fault.PutFault.TheVariants as put_faults;
+ghost use Rattle.record_file.specs.Refusals.{begin_refusal, put_refusal, claim_refusal, remove_refusal, get_refusal, savepoint_refusal, release_refusal, rollback_refusal, abort_refusal, resume_refusal, commit_refusal, entries_refusal, keys_of_refusal};
 ghost use Rattle.record_file.specs.declared.fault.RollbackToFault.TheVariants as rollback_faults;
 ghost use Rattle.record_file.specs.declared.fault.EntriesFault.TheVariants as entries_faults;
 
@@ -96,6 +112,35 @@ pub fn steps()
           failed = failed;
           refused = refused;
         }) new → ⊥ }
+{}
+
+/// What the file alone refuses a call at a key for, where its transaction is active: a key that another transaction
+/// holds, whatever room the log has; and then a full log, which refuses a change and no look.
+pub fn key_refusals()
+    ensures held { (f : File) (t owner : ℕ) (x : List ℕ) (changes : Bool)
+        → phase_at f t ≡ Some Active → held_by f t x ≡ Some owner
+        → key_refusal changes f t x ≡ Some (refusals.Held (record { 0 = owner })) }
+    ensures full { (f : File) (t : ℕ) (x : List ℕ)
+        → phase_at f t ≡ Some Active → held_by f t x ≡ None
+        → f.limits.log_records < use_of f + 2
+        → (key_refusal true f t x ≡ Some refusals.LogFull) × (key_refusal false f t x ≡ None) }
+{}
+
+/// No two faults of a call are the same refusal, so a refusal tells which fault a call has.
+pub fn faults_are_told_apart()
+    ensures begin { (a b : BeginFault) → begin_refusal a ≡ begin_refusal b → a ≡ b }
+    ensures put { (a b : PutFault) → put_refusal a ≡ put_refusal b → a ≡ b }
+    ensures claim { (a b : ClaimFault) → claim_refusal a ≡ claim_refusal b → a ≡ b }
+    ensures remove { (a b : RemoveFault) → remove_refusal a ≡ remove_refusal b → a ≡ b }
+    ensures get { (a b : GetFault) → get_refusal a ≡ get_refusal b → a ≡ b }
+    ensures savepoint { (a b : SavepointFault) → savepoint_refusal a ≡ savepoint_refusal b → a ≡ b }
+    ensures release { (a b : ReleaseFault) → release_refusal a ≡ release_refusal b → a ≡ b }
+    ensures rollback_to { (a b : RollbackToFault) → rollback_refusal a ≡ rollback_refusal b → a ≡ b }
+    ensures abort { (a b : AbortFault) → abort_refusal a ≡ abort_refusal b → a ≡ b }
+    ensures resume { (a b : ResumeFault) → resume_refusal a ≡ resume_refusal b → a ≡ b }
+    ensures commit { (a b : CommitFault) → commit_refusal a ≡ commit_refusal b → a ≡ b }
+    ensures entries { (a b : EntriesFault) → entries_refusal a ≡ entries_refusal b → a ≡ b }
+    ensures keys_of { (a b : KeysOfFault) → keys_of_refusal a ≡ keys_of_refusal b → a ≡ b }
 {}
 
 /// Undo commutes. After every run from a start the old record that a live change's call answered is

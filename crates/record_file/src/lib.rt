@@ -5,6 +5,7 @@ mod call;
 mod fault;
 mod file;
 pub mod laws;
+mod refusal;
 
 pub use call::{Answer, AnswerLost, Call, make_call, run_calls};
 pub use fault::{
@@ -12,4 +13,5 @@ pub use fault::{
     ReleaseFault, RemoveFault, ResumeFault, RollbackToFault, SavepointFault, Status, StatusFault,
 };
 pub use file::{RecordFile, StillOpen};
+pub use refusal::{Refusal, ToRefusal};
 pub use tx_log::BeginFault;

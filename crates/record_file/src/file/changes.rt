@@ -1,12 +1,13 @@
-ghost use Rattle.std.specs.Prelude.{◌≡◌, ◌≢◌, ℕ, ◌<◌, ◌&&◌, Bool, false, not, is_none, is_some, Option, Some, None, Ok, Err, IsTrue, IfOk, IfErr, OnErr, IfSome};
+ghost use Rattle.std.specs.Prelude.{◌≡◌, ◌≢◌, ℕ, ◌<◌, ◌&&◌, Bool, true, false, not, is_none, is_some, Option, Some, None, Ok, Err, IsTrue, IfOk, IfErr, OnErr, IfSome};
 ghost use Rattle.rec_types.specs.Answered.{Answered};
-ghost use Rattle.rec_types.specs.Table.{greatest_count};
+ghost use Rattle.rec_types.specs.Table.{NeverFull, greatest_count};
 ghost use Rattle.std.specs.FinMap as maps;
 ghost use Rattle.record_file.specs.Abstract.{is_full, records_of};
 ghost use Rattle.record_file.specs.Asked.{Asks, MayPut, MayRemove, looked_unless, may_be_full};
-ghost use Rattle.record_file.specs.Outside.{put_cause, claim_cause, remove_cause, put_by_file, claim_by_file, remove_by_file, AsksMemory, NeverDamaged, named_by};
-ghost use Rattle.record_file.specs.TableCalls.{ChangesTable};
-ghost use Rattle.record_file.specs.Steps.{rose, put_refusal, claim_refusal, remove_refusal, Accepts, key_change, PutStep, ClaimStep, RemoveStep};
+ghost use Rattle.record_file.specs.Outside.{AsksMemory, NeverDamaged, named_by};
+ghost use Rattle.record_file.specs.Refusals.{put_refusal, claim_refusal, remove_refusal, refusal_by, cause_by, by_file};
+ghost use Rattle.record_file.specs.TableCalls.{KeepsOpening, ChangesTable};
+ghost use Rattle.record_file.specs.Steps.{rose, key_refusal, Accepts, key_change, PutStep, ClaimStep, RemoveStep};
 
 use super::RecordFile;
 use crate::fault::{ClaimFault, PutFault, RemoveFault};
@@ -21,22 +22,21 @@ impl<T: Table> RecordFile<T> {
             → PutStep self.old.file tx.0 key value
             (rose (T.device_failures self.old.table) (T.device_failures self.new.table))
             result self.new.file }
-        ensures refused { IfSome (put_refusal self.old.file tx.0 key)
-            (λ fault. (result ≡ Err fault) × (self.new ≡ self.old)) }
-        ensures refused_only { IfErr result (λ fault.
-            IsTrue (put_by_file fault) → put_refusal self.old.file tx.0 key ≡ Some fault) }
+        ensures refused { IfSome (key_refusal true self.old.file tx.0 key)
+            (λ refusal. (refusal_by put_refusal result ≡ Some refusal) × (self.new ≡ self.old)) }
+        ensures refused_only { IfErr result (λ fault. IsTrue (by_file (put_refusal fault))
+            → key_refusal true self.old.file tx.0 key ≡ Some (put_refusal fault)) }
         ensures accepted { IfOk result (λ before. Accepts self.old.file self.old.log
             (key_change tx key before (Some (Some value))) self.new.file self.new.log) }
         ensures err { OnErr result ((T.contents self.new.table ≡ T.contents self.old.table)
             × (self.new.file ≡ self.old.file) × (self.new.log ≡ self.old.log)) }
-        ensures opening { IsTrue (T.sound self.old.table)
-            → self.new.file.opening ≡ self.old.file.opening }
-        ensures table { ChangesTable T.TableState self.old (put_cause result) self.new }
-        ensures memory { AsksMemory (T.memory_refusals self.old.table) (put_cause result)
+        ensures opening { KeepsOpening T.TableState self.old self.new }
+        ensures table { ChangesTable T.TableState self.old (cause_by put_refusal result) self.new }
+        ensures memory { AsksMemory (T.memory_refusals self.old.table) (cause_by put_refusal result)
             (T.memory_refusals self.new.table) }
-        ensures damaged { NeverDamaged (T.sound self.old.table) (put_cause result) }
+        ensures damaged { NeverDamaged (T.sound self.old.table) (cause_by put_refusal result) }
         ensures asks { Asks T.TableState (MayPut (T.sound self.old.table) self.old.file key result)
-            self.old (put_cause result) self.new }
+            self.old (cause_by put_refusal result) self.new }
     {
         if let Some(fault) = self.put_refusal(tx, &key) {
             return Err(fault);
@@ -59,24 +59,23 @@ impl<T: Table> RecordFile<T> {
             → ClaimStep self.old.file tx.0 key
             (rose (T.device_failures self.old.table) (T.device_failures self.new.table))
             result self.new.file }
-        ensures refused { IfSome (claim_refusal self.old.file tx.0 key)
-            (λ fault. (result ≡ Err fault) × (self.new ≡ self.old)) }
-        ensures refused_only { IfErr result (λ fault.
-            IsTrue (claim_by_file fault) → claim_refusal self.old.file tx.0 key ≡ Some fault) }
+        ensures refused { IfSome (key_refusal true self.old.file tx.0 key)
+            (λ refusal. (refusal_by claim_refusal result ≡ Some refusal) × (self.new ≡ self.old)) }
+        ensures refused_only { IfErr result (λ fault. IsTrue (by_file (claim_refusal fault))
+            → key_refusal true self.old.file tx.0 key ≡ Some (claim_refusal fault)) }
         ensures accepted { IfOk result (λ seen. Accepts self.old.file self.old.log
             (key_change tx key seen None) self.new.file self.new.log) }
         ensures err { OnErr result ((T.contents self.new.table ≡ T.contents self.old.table)
             × (self.new.file ≡ self.old.file) × (self.new.log ≡ self.old.log)) }
-        ensures opening { IsTrue (T.sound self.old.table)
-            → self.new.file.opening ≡ self.old.file.opening }
-        ensures table { ChangesTable T.TableState self.old (claim_cause result) self.new }
-        ensures memory { AsksMemory (T.memory_refusals self.old.table) (claim_cause result)
+        ensures opening { KeepsOpening T.TableState self.old self.new }
+        ensures table { ChangesTable T.TableState self.old (cause_by claim_refusal result) self.new }
+        ensures memory { AsksMemory (T.memory_refusals self.old.table) (cause_by claim_refusal result)
             (T.memory_refusals self.new.table) }
-        ensures damaged { NeverDamaged (T.sound self.old.table) (claim_cause result) }
+        ensures damaged { NeverDamaged (T.sound self.old.table) (cause_by claim_refusal result) }
         ensures asks { T.calls self.new.table
-            ≡ looked_unless (is_some (claim_refusal self.old.file tx.0 key)) (T.calls self.old.table) }
+            ≡ looked_unless (is_some (key_refusal true self.old.file tx.0 key)) (T.calls self.old.table) }
         ensures named { T.damages self.new.table
-            ≡ named_by (T.damages self.old.table) (claim_cause result) }
+            ≡ named_by (T.damages self.old.table) (cause_by claim_refusal result) }
     {
         if let Some(fault) = self.claim_refusal(tx, &key) {
             return Err(fault);
@@ -100,23 +99,22 @@ impl<T: Table> RecordFile<T> {
             → RemoveStep self.old.file tx.0 key
             (rose (T.device_failures self.old.table) (T.device_failures self.new.table))
             result self.new.file }
-        ensures refused { IfSome (remove_refusal self.old.file tx.0 key)
-            (λ fault. (result ≡ Err fault) × (self.new ≡ self.old)) }
-        ensures refused_only { IfErr result (λ fault.
-            IsTrue (remove_by_file fault) → remove_refusal self.old.file tx.0 key ≡ Some fault) }
+        ensures refused { IfSome (key_refusal true self.old.file tx.0 key)
+            (λ refusal. (refusal_by remove_refusal result ≡ Some refusal) × (self.new ≡ self.old)) }
+        ensures refused_only { IfErr result (λ fault. IsTrue (by_file (remove_refusal fault))
+            → key_refusal true self.old.file tx.0 key ≡ Some (remove_refusal fault)) }
         ensures accepted { IfOk result (λ before. Accepts self.old.file self.old.log
             (key_change tx key (Some before) (Some None)) self.new.file self.new.log) }
         ensures err { OnErr result ((T.contents self.new.table ≡ T.contents self.old.table)
             × (self.new.file ≡ self.old.file) × (self.new.log ≡ self.old.log)) }
-        ensures opening { IsTrue (T.sound self.old.table)
-            → self.new.file.opening ≡ self.old.file.opening }
-        ensures table { ChangesTable T.TableState self.old (remove_cause result) self.new }
-        ensures memory { AsksMemory (T.memory_refusals self.old.table) (remove_cause result)
+        ensures opening { KeepsOpening T.TableState self.old self.new }
+        ensures table { ChangesTable T.TableState self.old (cause_by remove_refusal result) self.new }
+        ensures memory { AsksMemory (T.memory_refusals self.old.table) (cause_by remove_refusal result)
             (T.memory_refusals self.new.table) }
-        ensures damaged { NeverDamaged (T.sound self.old.table) (remove_cause result) }
+        ensures damaged { NeverDamaged (T.sound self.old.table) (cause_by remove_refusal result) }
         ensures asks { Asks T.TableState
-            (MayRemove (is_some (remove_refusal self.old.file tx.0 key)) result)
-            self.old (remove_cause result) self.new }
+            (MayRemove (is_some (key_refusal true self.old.file tx.0 key)) result)
+            self.old (cause_by remove_refusal result) self.new }
     {
         if let Some(fault) = self.remove_refusal(tx, &key) {
             return Err(fault);
@@ -142,7 +140,7 @@ impl<T: Table> RecordFile<T> {
         ensures same { (T.contents self.new.table ≡ T.contents self.old.table)
             × (self.new.file ≡ self.old.file) × (self.new.log ≡ self.old.log) }
         ensures no_memory { result ≢ Err TableFault.Memory }
-        ensures no_room { result ≢ Err TableFault.NoRoom }
+        ensures no_room { NeverFull result }
         ensures answered { Answered T.TableState self.old.table result self.new.table }
         ensures looks { (looks : Bool)
             × (T.calls self.new.table ≡ looked_unless (not looks) (T.calls self.old.table))

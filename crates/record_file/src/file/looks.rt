@@ -1,15 +1,16 @@
-ghost use Rattle.std.specs.Prelude.{◌≡◌, ◌+◌, ◌<◌, true, is_some, Option, Some, None, Ok, Err, IsTrue, IfOk, IfErr, IfSome, map};
+ghost use Rattle.std.specs.Prelude.{◌≡◌, ◌+◌, ◌<◌, true, false, is_some, Option, Some, None, Ok, Err, IsTrue, IfOk, IfErr, IfSome, map};
 ghost use Rattle.std.specs.FinMap as maps;
 ghost use Rattle.rec_types.specs.History.{log_len};
 ghost use Rattle.tx_log.specs.Log.{record_at};
 ghost use Rattle.rec_types.specs.Table.{greatest_count};
 ghost use Rattle.record_file.specs.Abstract.{charged_of, use_of, IsKeptFile};
 ghost use Rattle.tx_log.specs.LogState.{open_in, history_in};
-ghost use Rattle.record_file.specs.Outside.{get_cause, entries_cause, get_by_file, AsksMemory, NeverDamaged};
+ghost use Rattle.record_file.specs.Outside.{AsksMemory, NeverDamaged};
+ghost use Rattle.record_file.specs.Refusals.{get_refusal, entries_refusal, refusal_by, cause_by, by_file};
 ghost use Rattle.record_file.specs.TableCalls.{LeavesTable};
 ghost use Rattle.record_file.specs.Asked.{looked_unless};
 ghost use Rattle.rec_types.specs.Calls.{with_list};
-ghost use Rattle.record_file.specs.Steps.{rose, get_refusal, GetStep, EntriesStep, KeysOfStep, entry_with, listed, status_of};
+ghost use Rattle.record_file.specs.Steps.{rose, key_refusal, GetStep, EntriesStep, KeysOfStep, entry_with, listed, status_of};
 
 use super::RecordFile;
 use crate::fault::{EntriesFault, GetFault, KeysOfFault, Status, StatusFault};
@@ -25,15 +26,16 @@ impl<T: Table> RecordFile<T> {
             → GetStep self.old.file tx.0 key.now
             (rose (T.device_failures self.old.table) (T.device_failures self.new.table))
             result self.new.file }
-        ensures refused { IfSome (get_refusal self.old.file tx.0 key.now)
-            (λ fault. (result ≡ Err fault) × (self.new ≡ self.old)) }
-        ensures refused_only { IfErr result (λ fault.
-            IsTrue (get_by_file fault) → get_refusal self.old.file tx.0 key.now ≡ Some fault) }
-        ensures table { LeavesTable T.TableState self.old (get_cause result) self.new }
+        ensures refused { IfSome (key_refusal false self.old.file tx.0 key.now)
+            (λ refusal. (refusal_by get_refusal result ≡ Some refusal) × (self.new ≡ self.old)) }
+        ensures refused_only { IfErr result (λ fault. IsTrue (by_file (get_refusal fault))
+            → key_refusal false self.old.file tx.0 key.now ≡ Some (get_refusal fault)) }
+        ensures table { LeavesTable T.TableState self.old (cause_by get_refusal result) self.new }
         ensures memory { T.memory_refusals self.new.table ≡ T.memory_refusals self.old.table }
-        ensures damaged { NeverDamaged (T.sound self.old.table) (get_cause result) }
+        ensures damaged { NeverDamaged (T.sound self.old.table) (cause_by get_refusal result) }
         ensures asks { T.calls self.new.table
-            ≡ looked_unless (is_some (get_refusal self.old.file tx.0 key.now)) (T.calls self.old.table) }
+            ≡ looked_unless (is_some (key_refusal false self.old.file tx.0 key.now))
+            (T.calls self.old.table) }
     {
         if let Some(fault) = self.get_refusal(tx, key) {
             return Err(fault);
@@ -49,10 +51,10 @@ impl<T: Table> RecordFile<T> {
             → EntriesStep self.old.file
             (rose (T.device_failures self.old.table) (T.device_failures self.new.table))
             (listed result) self.new.file }
-        ensures table { LeavesTable T.TableState self.old (entries_cause result) self.new }
-        ensures memory { AsksMemory (T.memory_refusals self.old.table) (entries_cause result)
+        ensures table { LeavesTable T.TableState self.old (cause_by entries_refusal result) self.new }
+        ensures memory { AsksMemory (T.memory_refusals self.old.table) (cause_by entries_refusal result)
             (T.memory_refusals self.new.table) }
-        ensures damaged { NeverDamaged (T.sound self.old.table) (entries_cause result) }
+        ensures damaged { NeverDamaged (T.sound self.old.table) (cause_by entries_refusal result) }
         ensures asks { T.calls self.new.table ≡ with_list (T.calls self.old.table) }
     {
         let records = self.table.entries()?;

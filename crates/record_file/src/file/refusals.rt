@@ -1,6 +1,7 @@
-ghost use Rattle.std.specs.Prelude.{nat_lt, ◌≡◌, ◌+◌, ◌<◌, Option, Some, None, option_map};
+ghost use Rattle.std.specs.Prelude.{nat_lt, ◌≡◌, ◌+◌, ◌<◌, true, false, Option, Some, None, option_map};
 ghost use Rattle.record_file.specs.Abstract.{use_of, held_by};
-ghost use Rattle.record_file.specs.Steps.{put_refusal, claim_refusal, remove_refusal, get_refusal};
+ghost use Rattle.record_file.specs.Refusals.{put_refusal, claim_refusal, remove_refusal, get_refusal};
+ghost use Rattle.record_file.specs.Steps.{key_refusal};
 
 use super::RecordFile;
 use crate::fault::{ClaimFault, GetFault, PutFault, RemoveFault};
@@ -10,7 +11,8 @@ use tx_log::Phase;
 impl<T: Table> RecordFile<T> {
     /// What the file alone refuses a put for.
     pub(super) fn put_refusal(&self, tx: TxId, key: &Key) -> Option<PutFault>
-        ensures { result ≡ put_refusal self.now.file tx.0 key.now }
+        ensures { option_map put_refusal result
+            ≡ key_refusal true self.now.file tx.0 key.now }
     {
         match self.log.phase(tx) {
             None => Some(PutFault::NoSuchTx),
@@ -24,17 +26,23 @@ impl<T: Table> RecordFile<T> {
 
     /// What the file alone refuses a claim for.
     pub(super) fn claim_refusal(&self, tx: TxId, key: &Key) -> Option<ClaimFault>
-        ensures { result ≡ claim_refusal self.now.file tx.0 key.now }
+        ensures { option_map claim_refusal result
+            ≡ key_refusal true self.now.file tx.0 key.now }
     {
-        match self.put_refusal(tx, key) {
-            Some(fault) => Some(ClaimFault::from(fault)),
-            None => None,
+        match self.log.phase(tx) {
+            None => Some(ClaimFault::NoSuchTx),
+            Some(Phase::Rolling { .. }) => Some(ClaimFault::Rolling),
+            Some(Phase::Active) => match self.holder(tx, key) {
+                Some(owner) => Some(ClaimFault::Held(owner)),
+                None => self.is_log_full().then_some(ClaimFault::LogFull),
+            },
         }
     }
 
     /// What the file alone refuses a removal for.
     pub(super) fn remove_refusal(&self, tx: TxId, key: &Key) -> Option<RemoveFault>
-        ensures { result ≡ remove_refusal self.now.file tx.0 key.now }
+        ensures { option_map remove_refusal result
+            ≡ key_refusal true self.now.file tx.0 key.now }
     {
         match self.log.phase(tx) {
             None => Some(RemoveFault::NoSuchTx),
@@ -48,7 +56,8 @@ impl<T: Table> RecordFile<T> {
 
     /// What the file alone refuses a look for.
     pub(super) fn get_refusal(&self, tx: TxId, key: &Key) -> Option<GetFault>
-        ensures { result ≡ get_refusal self.now.file tx.0 key.now }
+        ensures { option_map get_refusal result
+            ≡ key_refusal false self.now.file tx.0 key.now }
     {
         match self.log.phase(tx) {
             None => Some(GetFault::NoSuchTx),

@@ -6,10 +6,12 @@ ghost use Rattle.rec_types.specs.Answered.{Answered};
 ghost use Rattle.record_file.specs.Abstract.{tx_of, phase_at};
 ghost use Rattle.tx_log.specs.Transactions.{depth_of, left_in};
 ghost use Rattle.tx_log.specs.LogState.{rolling_to, finished, IsRolling};
-ghost use Rattle.record_file.specs.Outside.{stop_cause, rollback_cause, abort_cause, resume_cause, step_cause, by_memory, NeverDamaged};
-ghost use Rattle.record_file.specs.TableCalls.{ChangesTable, undone_by, step_key};
+ghost use Rattle.record_file.specs.Outside.{by_memory, NeverDamaged};
+ghost use Rattle.record_file.specs.Refusals.{rollback_refusal, abort_refusal, resume_refusal, stop_refusal, refusal_by, cause_by};
+ghost use Rattle.record_file.specs.declared.refusal.Refusal.TheVariants.{Failed};
+ghost use Rattle.record_file.specs.TableCalls.{KeepsLog, KeepsTable, KeepsOpening, ChangesTable, undone_by, step_key};
 ghost use Rattle.record_file.specs.Asked.{UndoAsks, StepAsks, restores};
-ghost use Rattle.record_file.specs.Steps.{rose, RollsBackTo, RollbackToStep, Aborts, AbortStep, Resumes, ResumeStep, rollback_refusal, abort_refusal, resume_refusal, RollsBack, RollsFrom, EndsBy, places_at};
+ghost use Rattle.record_file.specs.Steps.{rose, RollsBackTo, RollbackToStep, Aborts, AbortStep, Resumes, ResumeStep, tx_refusal, returning_refusal, resuming_refusal, RollsBack, RollsFrom, EndsBy, places_at};
 
 use super::RecordFile;
 use crate::fault::{AbortFault, Cause, ResumeFault, RollbackToFault, Stop};
@@ -29,15 +31,14 @@ impl<T: Table> RecordFile<T> {
             (rose (T.memory_refusals self.old.table) (T.memory_refusals self.new.table))
             result self.new.file }
         ensures rolled { RollsBackTo self.old.file tx.0 n result self.new.file }
-        ensures opening { IsTrue (T.sound self.old.table)
-            → self.new.file.opening ≡ self.old.file.opening }
-        ensures refused { IfSome (rollback_refusal self.old.file tx.0 n)
-            (λ fault. (result ≡ Err fault) × (self.new ≡ self.old)) }
-        ensures table { ChangesTable T.TableState self.old (rollback_cause result) self.new }
+        ensures opening { KeepsOpening T.TableState self.old self.new }
+        ensures refused { IfSome (returning_refusal self.old.file tx.0 n)
+            (λ refusal. (refusal_by rollback_refusal result ≡ Some refusal) × (self.new ≡ self.old)) }
+        ensures table { ChangesTable T.TableState self.old (cause_by rollback_refusal result) self.new }
         ensures memory { T.memory_refusals self.new.table
-            ≡ counted (T.memory_refusals self.old.table) (by_memory (rollback_cause result)) }
-        ensures damaged { NeverDamaged (T.sound self.old.table) (rollback_cause result) }
-        ensures asks { UndoAsks T.TableState self.old (rollback_cause result) self.new }
+            ≡ counted (T.memory_refusals self.old.table) (by_memory (cause_by rollback_refusal result)) }
+        ensures damaged { NeverDamaged (T.sound self.old.table) (cause_by rollback_refusal result) }
+        ensures asks { UndoAsks T.TableState self.old (cause_by rollback_refusal result) self.new }
     {
         match self.log.phase(tx) {
             None => Err(RollbackToFault::NoSuchTx),
@@ -62,15 +63,14 @@ impl<T: Table> RecordFile<T> {
             (rose (T.memory_refusals self.old.table) (T.memory_refusals self.new.table))
             result self.new.file }
         ensures rolled { Aborts self.old.file tx.0 result self.new.file }
-        ensures opening { IsTrue (T.sound self.old.table)
-            → self.new.file.opening ≡ self.old.file.opening }
-        ensures refused { IfSome (abort_refusal self.old.file tx.0)
-            (λ fault. (result ≡ Err fault) × (self.new ≡ self.old)) }
-        ensures table { ChangesTable T.TableState self.old (abort_cause result) self.new }
+        ensures opening { KeepsOpening T.TableState self.old self.new }
+        ensures refused { IfSome (tx_refusal self.old.file tx.0 None)
+            (λ refusal. (refusal_by abort_refusal result ≡ Some refusal) × (self.new ≡ self.old)) }
+        ensures table { ChangesTable T.TableState self.old (cause_by abort_refusal result) self.new }
         ensures memory { T.memory_refusals self.new.table
-            ≡ counted (T.memory_refusals self.old.table) (by_memory (abort_cause result)) }
-        ensures damaged { NeverDamaged (T.sound self.old.table) (abort_cause result) }
-        ensures asks { UndoAsks T.TableState self.old (abort_cause result) self.new }
+            ≡ counted (T.memory_refusals self.old.table) (by_memory (cause_by abort_refusal result)) }
+        ensures damaged { NeverDamaged (T.sound self.old.table) (cause_by abort_refusal result) }
+        ensures asks { UndoAsks T.TableState self.old (cause_by abort_refusal result) self.new }
     {
         match self.log.phase(tx) {
             None => Err(AbortFault::NoSuchTx),
@@ -90,15 +90,14 @@ impl<T: Table> RecordFile<T> {
             (rose (T.memory_refusals self.old.table) (T.memory_refusals self.new.table))
             result self.new.file }
         ensures rolled { Resumes self.old.file tx.0 result self.new.file }
-        ensures opening { IsTrue (T.sound self.old.table)
-            → self.new.file.opening ≡ self.old.file.opening }
-        ensures refused { IfSome (resume_refusal self.old.file tx.0)
-            (λ fault. (result ≡ Err fault) × (self.new ≡ self.old)) }
-        ensures table { ChangesTable T.TableState self.old (resume_cause result) self.new }
+        ensures opening { KeepsOpening T.TableState self.old self.new }
+        ensures refused { IfSome (resuming_refusal self.old.file tx.0)
+            (λ refusal. (refusal_by resume_refusal result ≡ Some refusal) × (self.new ≡ self.old)) }
+        ensures table { ChangesTable T.TableState self.old (cause_by resume_refusal result) self.new }
         ensures memory { T.memory_refusals self.new.table
-            ≡ counted (T.memory_refusals self.old.table) (by_memory (resume_cause result)) }
-        ensures damaged { NeverDamaged (T.sound self.old.table) (resume_cause result) }
-        ensures asks { UndoAsks T.TableState self.old (resume_cause result) self.new }
+            ≡ counted (T.memory_refusals self.old.table) (by_memory (cause_by resume_refusal result)) }
+        ensures damaged { NeverDamaged (T.sound self.old.table) (cause_by resume_refusal result) }
+        ensures asks { UndoAsks T.TableState self.old (cause_by resume_refusal result) self.new }
     {
         match self.log.phase(tx) {
             None => Err(ResumeFault::NoSuchTx),
@@ -113,19 +112,18 @@ impl<T: Table> RecordFile<T> {
         requires within { n ≤ depth_of (tx_of self.old.file tx.0) }
         requires whole { IsTrue ends → n ≡ 0 }
         ensures rolled { RollsFrom self.old.file tx.0 n ends result self.new.file }
-        ensures opening { IsTrue (T.sound self.old.table)
-            → self.new.file.opening ≡ self.old.file.opening }
+        ensures opening { KeepsOpening T.TableState self.old self.new }
         ensures ended { IsTrue (T.sound self.old.table)
             → T.device_failures self.old.table < greatest_count
             → T.memory_refusals self.old.table < greatest_count
             → EndsBy (rose (T.device_failures self.old.table) (T.device_failures self.new.table))
             (rose (T.memory_refusals self.old.table) (T.memory_refusals self.new.table))
-            (stop_cause result) }
-        ensures table { ChangesTable T.TableState self.old (stop_cause result) self.new }
+            (cause_by stop_refusal result) }
+        ensures table { ChangesTable T.TableState self.old (cause_by stop_refusal result) self.new }
         ensures memory { T.memory_refusals self.new.table
-            ≡ counted (T.memory_refusals self.old.table) (by_memory (stop_cause result)) }
-        ensures damaged { NeverDamaged (T.sound self.old.table) (stop_cause result) }
-        ensures asks { UndoAsks T.TableState self.old (stop_cause result) self.new }
+            ≡ counted (T.memory_refusals self.old.table) (by_memory (cause_by stop_refusal result)) }
+        ensures damaged { NeverDamaged (T.sound self.old.table) (cause_by stop_refusal result) }
+        ensures asks { UndoAsks T.TableState self.old (cause_by stop_refusal result) self.new }
     {
         self.start_rollback(tx, n, ends);
         self.take_back(tx)
@@ -140,8 +138,8 @@ impl<T: Table> RecordFile<T> {
           txs = maps.insert self.old.file.txs tx.0
               (rolling_to (places_at self.old.file tx.0) n ends);
         } }
-        ensures table { self.new.table ≡ self.old.table }
-        ensures log { self.new.log ≡ self.old.log }
+        ensures table { KeepsTable self.old self.new }
+        ensures log { KeepsLog self.old self.new }
     {
         self.log.start_rollback(tx, n, ends);
     }
@@ -150,13 +148,12 @@ impl<T: Table> RecordFile<T> {
     fn take_back(&mut self, tx: TxId) -> Result<u32, Stop>
         requires { IsRolling (phase_at self.old.file tx.0) }
         ensures rolled { RollsBack self.old.file tx.0 result self.new.file }
-        ensures opening { IsTrue (T.sound self.old.table)
-            → self.new.file.opening ≡ self.old.file.opening }
-        ensures damaged { NeverDamaged (T.sound self.old.table) (stop_cause result) }
-        ensures asks { UndoAsks T.TableState self.old (stop_cause result) self.new }
-        ensures table { ChangesTable T.TableState self.old (stop_cause result) self.new }
+        ensures opening { KeepsOpening T.TableState self.old self.new }
+        ensures damaged { NeverDamaged (T.sound self.old.table) (cause_by stop_refusal result) }
+        ensures asks { UndoAsks T.TableState self.old (cause_by stop_refusal result) self.new }
+        ensures table { ChangesTable T.TableState self.old (cause_by stop_refusal result) self.new }
         ensures memory { T.memory_refusals self.new.table
-            ≡ counted (T.memory_refusals self.old.table) (by_memory (stop_cause result)) }
+            ≡ counted (T.memory_refusals self.old.table) (by_memory (cause_by stop_refusal result)) }
     {
         let total = self.left(tx);
         for undone in 0..total {
@@ -180,14 +177,13 @@ impl<T: Table> RecordFile<T> {
           opening = self.new.file.opening;
           history = undo_last tx.0 self.old.file.history;
         }) }
-        ensures opening { IsTrue (T.sound self.old.table)
-            → self.new.file.opening ≡ self.old.file.opening }
+        ensures opening { KeepsOpening T.TableState self.old self.new }
         ensures err { OnErr result (self.new.file ≡ self.old.file) }
-        ensures damaged { NeverDamaged (T.sound self.old.table) (step_cause result) }
-        ensures asks { UndoAsks T.TableState self.old (step_cause result) self.new }
-        ensures table { ChangesTable T.TableState self.old (step_cause result) self.new }
+        ensures damaged { NeverDamaged (T.sound self.old.table) (cause_by Failed result) }
+        ensures asks { UndoAsks T.TableState self.old (cause_by Failed result) self.new }
+        ensures table { ChangesTable T.TableState self.old (cause_by Failed result) self.new }
         ensures memory { T.memory_refusals self.new.table
-            ≡ counted (T.memory_refusals self.old.table) (by_memory (step_cause result)) }
+            ≡ counted (T.memory_refusals self.old.table) (by_memory (cause_by Failed result)) }
     {
         let step = self.log.next_undo(tx).unwrap();
         put_back(&mut self.table, step)?;
@@ -209,8 +205,8 @@ impl<T: Table> RecordFile<T> {
         ensures file { self.new.file ≡ record self.old.file {
           txs = finished self.old.file.txs tx.0 (tx_of self.old.file tx.0);
         } }
-        ensures table { self.new.table ≡ self.old.table }
-        ensures log { self.new.log ≡ self.old.log }
+        ensures table { KeepsTable self.old self.new }
+        ensures log { KeepsLog self.old self.new }
     {
         self.log.finish(tx);
     }

@@ -60,4 +60,4 @@ returns-clause-room c = λ old new limits tx key value failed refused also_faile
     let mid_is = first.answer.1.2 ∙ ap (λ (f : File). let g : File = record f { begun = old.file.begun + 1; txs = maps.insert old.file.txs (old.file.begun + 1) fresh } in g) is in
     let few = ap (λ (s : Seen). s.failures) first.answer.0.2 ∙ zero in
     not_full run.0.file limits key (old.file.begun + 1) (maps.insert old.file.txs (old.file.begun + 1) fresh) mid_is some
-    (then.answer.1.step (first.sound ∙ sound) (omega (arith, few))).2
+    (then.answer.1.step (first.sound ∙ sound) (omega (arith, few))).0.2

@@ -2,7 +2,7 @@ use Rattle.std.proofs.Common.{◌≡◌, Some, None, refl, sym, ap, ◌∙◌}
 use Rattle.std.proofs.lemmas.Result.{err_from_is_err_and}
 use Rattle.tx_log.specs.declared.phase.Phase.{Phase}
 use Rattle.record_file.specs.Abstract.{OpenFile, phase_at}
-use Rattle.record_file.specs.Steps.{abort_in, abort_refusal}
+use Rattle.record_file.specs.Steps.{active_refusal, tx_refusal}
 use Rattle.record_file.proofs.AskedLemmas.{undo_none}
 use Rattle.record_file.proofs.file.RecordFile.abort.Given as given
 use Rattle.record_file.proofs.file.RecordFile.abort.Goals as goal
@@ -10,8 +10,8 @@ use Rattle.record_file.proofs.file.RecordFile.abort.Goals.{After-roll_back}
 
 -- the transaction is active
 module _ (g : given.Over) (c : After-roll_back g) where
-  starts : abort_refusal c.args.self.now.file c.args.tx.0 ≡ None
-  starts = ap abort_in (sym (ap (λ (s : OpenFile _). phase_at s.file c.args.tx.0) c.self.view_is) ∙ sym c.phase.ensures ∙ c.in-Some-Active.is ∙ ap (λ (p : Phase). Some p) c.in-Some-Active.field-0-is)
+  starts : tx_refusal c.args.self.now.file c.args.tx.0 None ≡ None
+  starts = ap (active_refusal None) (sym (ap (λ (s : OpenFile _). phase_at s.file c.args.tx.0) c.self.view_is) ∙ sym c.phase.ensures ∙ c.in-Some-Active.is ∙ ap (λ (p : Phase). Some p) c.in-Some-Active.field-0-is)
 
 pub returns-in_ok-roll_back-in-Some-Active-clause-rolled : goal.returns-in_ok-roll_back-in-Some-Active-clause-rolled
 returns-in_ok-roll_back-in-Some-Active-clause-rolled g c =

@@ -1,11 +1,12 @@
-use Rattle.std.proofs.Common.{ℕ, ◌&&◌, not, is_some, is_none, false, List, Option, ◌≡◌, ◌≤◌, ◌+◌, None, IsTrue, ap, sym, subst, [], ◌∷◌, ◌++◌, ◌∙◌}
+use Rattle.std.proofs.Common.{ℕ, ◌&&◌, true, option_map, not, is_some, is_none, false, List, Option, ◌≡◌, ◌≤◌, ◌+◌, None, IsTrue, ap, sym, subst, [], ◌∷◌, ◌++◌, ◌∙◌}
 use Rattle.std.specs.FinMap as maps
 use Rattle.tx_log.specs.LogState.{LogState, use_in, update_in}
 use Rattle.tx_log.specs.declared.log_record.LogRecord.{LogRecord}
 use Rattle.record_file.specs.Abstract.{File, OpenFile, file_of, is_full, records_of, with_change}
-use Rattle.record_file.specs.Steps.{put_refusal, claim_fault, claim_refusal, Accepts, key_change}
-use Rattle.record_file.proofs.FaultLemmas.{none_by, unmapped, rose_same}
-use Rattle.record_file.proofs.FullnessLemmas.{put_accepts, room_now, stands_not_full}
+use Rattle.record_file.specs.Refusals.{claim_refusal}
+use Rattle.record_file.specs.Steps.{key_refusal, Accepts, key_change}
+use Rattle.record_file.proofs.FaultLemmas.{none_by, rose_same}
+use Rattle.record_file.proofs.FullnessLemmas.{change_fits, room_now, stands_not_full}
 use Rattle.record_file.proofs.InvariantLemmas.{change_kept, change_file, change_accepted}
 use Rattle.record_file.proofs.TableCallLemmas.{changes_set}
 use Rattle.record_file.proofs.file.RecordFile.claim.Given as given
@@ -20,11 +21,8 @@ module _ (g : given.Over) (c : After-reserve g) where
   sound_is : g.T.TableState.sound c.self.inside.table ≡ g.T.TableState.sound c.args.self.now.table
   sound_is = ap (λ (s : OpenFile _). g.T.TableState.sound s.table) c.self.view_is
 
-  unclaimed : claim_refusal c.args.self.now.file c.args.tx.0 c.args.key ≡ None
-  unclaimed = sym c.claim_refusal.ensures ∙ none_by c.claim_refusal.result c.in_default.not-Some
-
-  none : put_refusal c.args.self.now.file c.args.tx.0 c.args.key ≡ None
-  none = unmapped claim_fault (put_refusal c.args.self.now.file c.args.tx.0 c.args.key) unclaimed
+  none : key_refusal true c.args.self.now.file c.args.tx.0 c.args.key ≡ None
+  none = sym c.claim_refusal.ensures ∙ ap (option_map claim_refusal) (none_by c.claim_refusal.result c.in_default.not-Some)
 
   stood : IsTrue (g.T.TableState.sound c.args.self.now.table) → c.in_ok-seen.seen ≡ maps.get (records_of c.args.self.now.file) c.args.key
   stood sound =
@@ -43,8 +41,8 @@ module _ (g : given.Over) (c : After-reserve g) where
 pub accept_claim-lsn-requires-clause-fits : goal.accept_claim-lsn-requires-clause-fits
 accept_claim-lsn-requires-clause-fits g c =
     let place = (goal.at.accept_claim-lsn-requires-clause-fits g c).After-reserve in
-    let none_here = ap (λ (f : File). put_refusal f c.args.tx.0 c.args.key) (link g place) ∙ none g place in
-    subst (λ (s : LogState). use_in s + 2 ≤ s.limits.log_records) (sym c.in_ok-reserve.ensures.ok) (put_accepts (file_of c.self.inside.log (g.T.TableState.contents c.self.inside.table)) c.args.tx.0 c.args.key none_here)
+    let none_here = ap (λ (f : File). key_refusal true f c.args.tx.0 c.args.key) (link g place) ∙ none g place in
+    subst (λ (s : LogState). use_in s + 2 ≤ s.limits.log_records) (sym c.in_ok-reserve.ensures.ok) (change_fits (file_of c.self.inside.log (g.T.TableState.contents c.self.inside.table)) c.args.tx.0 c.args.key none_here)
 
 pub invariant_of-self-2 : goal.invariant_of-self-2
 invariant_of-self-2 g c =
@@ -61,7 +59,7 @@ returns-clause-step g c = λ sound lt.
     let place = (goal.at.returns-clause-step g c).After-reserve in
     let here = sound_is g place ∙ sound in
     let counts = c.in_ok-seen.ensures.answered.device ∙ ap (λ (s : OpenFile _). g.T.TableState.device_failures s.table) c.self.view_is in (
-      unclaimed g place,
+      none g place,
       rose_same (g.T.TableState.device_failures c.args.self.now.table) (g.T.TableState.device_failures c.get.new.self) counts,
       not_full g place sound,
       stood g place sound,

@@ -1,21 +1,21 @@
-use Rattle.std.proofs.Common.{ℕ, Bool, false, List, Option, not, true, refl, Result, Ok, Err, ◌≡◌, ◌≤◌, ◌+◌, Some, None, IsTrue, ap, sym, subst, [], ◌∷◌, ◌++◌, ◌∙◌, rules, arith}
+use Rattle.std.proofs.Common.{ℕ, Bool, false, List, Option, option_map, not, true, refl, Ok, Err, ◌≡◌, ◌≤◌, ◌+◌, Some, None, IsTrue, ap, sym, subst, [], ◌∷◌, ◌++◌, ◌∙◌, rules, arith}
 use Rattle.std.specs.FinMap as maps
 use Rattle.tx_log.specs.LogState.{LogState, use_in, update_in}
 use Rattle.tx_log.specs.declared.log_record.LogRecord.{LogRecord}
-use Rattle.record_file.specs.Asked.{looked_unless, TellsLost}
-use Rattle.record_file.specs.Outside.{named_by}
-use Rattle.record_file.specs.declared.fault.Cause.{Cause}
+use Rattle.record_file.specs.Asked.{looked_unless}
+use Rattle.record_file.specs.Outside.{cause_of, named_by}
 use Rattle.rec_types.specs.Calls.{is_no_room, is_miss}
 use Rattle.record_file.specs.Abstract.{File, OpenFile, file_of, is_full, records_of, with_change}
 use Rattle.std.proofs.lemmas.Result.{err_from_is_err_and}
 use Rattle.rec_types.specs.Table.{is_device, counted, damaged_by}
 use Rattle.rec_types.specs.declared.table.TableFault.TheVariants as table_faults
-use Rattle.record_file.specs.declared.fault.PutFault.{PutFault}
-use Rattle.record_file.specs.Steps.{rose, put_refusal, PutStep, Accepts, key_change}
-use Rattle.record_file.proofs.AskedLemmas.{looking, looked_is, set_after, told_named, told_lost, put_loses_none, put_cause_is, never_full, put_refused}
-use Rattle.record_file.proofs.FaultLemmas.{none_by, rose_same, put_err, untold}
+use Rattle.record_file.specs.declared.refusal.Refusal.{Refusal}
+use Rattle.record_file.specs.Refusals.{put_refusal}
+use Rattle.record_file.specs.Steps.{rose, key_refusal, RefusedFor, Accepts, key_change}
+use Rattle.record_file.proofs.AskedLemmas.{looking, looked_is, set_after, told_named, told_lost, put_loses_none, never_full, without_cause}
+use Rattle.record_file.proofs.FaultLemmas.{none_by, rose_same, refused_by_table, untold}
 use Rattle.record_file.proofs.FileLemmas.{put_has_room}
-use Rattle.record_file.proofs.FullnessLemmas.{put_accepts, room_now}
+use Rattle.record_file.proofs.FullnessLemmas.{change_fits, room_now}
 use Rattle.record_file.proofs.InvariantLemmas.{change_kept, change_file, change_accepted}
 use Rattle.record_file.proofs.TableCallLemmas.{changes_asked, changes_set, changes_then}
 use Rattle.record_file.proofs.file.RecordFile.put.Given as given
@@ -30,8 +30,8 @@ module _ (g : given.Over) (c : After-reserve g) where
   sound_is : g.T.TableState.sound c.self.inside.table ≡ g.T.TableState.sound c.args.self.now.table
   sound_is = ap (λ (s : OpenFile _). g.T.TableState.sound s.table) c.self.view_is ∙ c.is_full.ensures.answered.soundness
 
-  none : put_refusal c.args.self.now.file c.args.tx.0 c.args.key ≡ None
-  none = sym c.put_refusal.ensures ∙ none_by c.put_refusal.result c.in_default.not-Some
+  none : key_refusal true c.args.self.now.file c.args.tx.0 c.args.key ≡ None
+  none = sym c.put_refusal.ensures ∙ ap (option_map put_refusal) (none_by c.put_refusal.result c.in_default.not-Some)
 
   not_full : IsTrue (g.T.TableState.sound c.args.self.now.table) → is_full c.args.self.now.file c.args.key ≡ false
   not_full sound = sym (c.in_ok-is_full.ensures.value sound) ∙ c.if-branch.false
@@ -53,8 +53,8 @@ module _ (g : given.Over) (c : After-reserve g) where
 pub accept-lsn-requires-clause-fits : goal.accept-lsn-requires-clause-fits
 accept-lsn-requires-clause-fits g c =
     let place = (goal.at.accept-lsn-requires-clause-fits g c).After-reserve in
-    let none_here = ap (λ (f : File). put_refusal f c.args.tx.0 c.args.key) (link g place) ∙ none g place in
-    subst (λ (s : LogState). use_in s + 2 ≤ s.limits.log_records) (sym c.in_ok-reserve.ensures.ok) (put_accepts (file_of c.self.inside.log (g.T.TableState.contents c.self.inside.table)) c.args.tx.0 c.args.key none_here)
+    let none_here = ap (λ (f : File). key_refusal true f c.args.tx.0 c.args.key) (link g place) ∙ none g place in
+    subst (λ (s : LogState). use_in s + 2 ≤ s.limits.log_records) (sym c.in_ok-reserve.ensures.ok) (change_fits (file_of c.self.inside.log (g.T.TableState.contents c.self.inside.table)) c.args.tx.0 c.args.key none_here)
 
 pub invariant_of-self-2 : goal.invariant_of-self-2
 invariant_of-self-2 g c =
@@ -127,12 +127,15 @@ returns-in_err-before-clause-step g c = λ sound lt.
     let counts = c.in_err-before.ensures.answered.device ∙ ap (λ n. counted n (is_device {A = Option (List ℕ)} (Err c.in_err-before.field-0.0))) (ap (λ (s : OpenFile _). g.T.TableState.device_failures s.table) c.self.view_is ∙ c.in_ok-is_full.ensures.answered.device) in
     let told = err_from_is_err_and c.from_residual-in_err-before.result c.from_residual-in_err-before.ensures.1 in
     let same = (λ i. file_of (c.in_ok-reserve.ensures.ok i) (c.in_err-before.ensures.err i)) ∙ link g place in
-    subst (λ (r : Result (Option (List ℕ)) PutFault). PutStep c.args.self.now.file c.args.tx.0 c.args.key c.args.value (rose (g.T.TableState.device_failures c.args.self.now.table) (g.T.TableState.device_failures c.set.new.self)) r (file_of c.reserve.new.self (g.T.TableState.contents c.set.new.self))) (sym (told.1 ∙ ap Err told.2))
-    (put_err c.args.self.now.file _ c.args.tx.0 c.args.key c.args.value _ _ c.in_err-before.field-0.0 (none g place) (not_full g place sound) same lt counts
-    (λ (is : c.in_err-before.field-0.0 ≡ table_faults.NoRoom).
-    let full = c.in_err-before.ensures.no_room here (ap Err is) in
-    absurd (has_room g place sound full.1 full.2))
-    (λ (page : ℕ) (is : c.in_err-before.field-0.0 ≡ table_faults.Damaged page). c.in_err-before.ensures.answered.whole here page (ap Err is)))
+    rw told.1 (
+      subst (λ (r : Refusal). RefusedFor (key_refusal true c.args.self.now.file c.args.tx.0 c.args.key) (is_full c.args.self.now.file c.args.key) (rose (g.T.TableState.device_failures c.args.self.now.table) (g.T.TableState.device_failures c.set.new.self)) r) (sym told.2)
+          (refused_by_table _ _ _ _ c.in_err-before.field-0.0 (none g place) (not_full g place sound) lt counts
+          (λ (is : c.in_err-before.field-0.0 ≡ table_faults.NoRoom).
+          let full = c.in_err-before.ensures.no_room here (ap Err is) in
+          absurd (has_room g place sound full.1 full.2))
+          (λ (page : ℕ) (is : c.in_err-before.field-0.0 ≡ table_faults.Damaged page). c.in_err-before.ensures.answered.whole here page (ap Err is))),
+      same,
+    )
 
 pub returns-in_err-before-clause-damaged : goal.returns-in_err-before-clause-damaged
 returns-in_err-before-clause-damaged g c = λ sound page.
@@ -141,7 +144,7 @@ returns-in_err-before-clause-damaged g c = λ sound page.
     let told = err_from_is_err_and c.from_residual-in_err-before.result c.from_residual-in_err-before.ensures.1 in
     rw (told.1, told.2) (λ is. untold c.in_err-before.field-0.0
     (λ (is : c.in_err-before.field-0.0 ≡ table_faults.NoRoom). let full = c.in_err-before.ensures.no_room here (ap Err is) in has_room g place sound full.1 full.2)
-    (λ (page : ℕ) (is : c.in_err-before.field-0.0 ≡ table_faults.Damaged page). c.in_err-before.ensures.answered.whole here page (ap Err is)) page (sym (put_cause_is c.in_err-before.field-0.0) ∙ is))
+    (λ (page : ℕ) (is : c.in_err-before.field-0.0 ≡ table_faults.Damaged page). c.in_err-before.ensures.answered.whole here page (ap Err is)) page is)
 
 -- what was asked of the table
 
@@ -150,7 +153,7 @@ returns-in-Some-clause-asks g c = record {
   asked = looking false;
   allowed = record { accepted = tt; full = λ _. refl; looks = λ _ looked. absurd (cc) };
   calls = refl;
-  lost = sym (ap (named_by (g.T.TableState.damages c.args.self.now.table)) (put_refused c.args.self.now.file c.args.tx.0 c.args.key c.in-Some.fault (sym c.put_refusal.ensures ∙ c.in-Some.is)));
+  lost = sym (ap (named_by (g.T.TableState.damages c.args.self.now.table)) (without_cause true c.args.self.now.file c.args.tx.0 c.args.key (put_refusal c.in-Some.fault) (sym c.put_refusal.ensures ∙ ap (option_map put_refusal) c.in-Some.is)));
 }
 
 pub returns-in_err-is_full-clause-asks : goal.returns-in_err-is_full-clause-asks
@@ -162,7 +165,7 @@ returns-in_err-is_full-clause-asks g c =
       asked = looking looks.0;
       allowed = record { accepted = tt; full = λ _. refl; looks = λ sound looked. sym (looks.2 sound) ∙ looked };
       calls = looks.1 ∙ looked_is looks.0 (g.T.TableState.calls c.args.self.now.table);
-      lost = told_named Bool fault _ _ (λ is. c.in_err-is_full.ensures.no_room (ap Err is)) c.in_err-is_full.ensures.answered.damages ∙ ap (named_by (g.T.TableState.damages c.args.self.now.table)) (sym (put_cause_is fault));
+      lost = told_named Bool fault _ _ (λ is. c.in_err-is_full.ensures.no_room (ap Err is)) c.in_err-is_full.ensures.answered.damages;
     })
 
 pub returns-then-branch-clause-asks : goal.returns-then-branch-clause-asks
@@ -195,10 +198,9 @@ returns-in_err-before-clause-asks g c =
     let before = named g place ∙ c.in_ok-is_full.ensures.answered.damages in
     rw (told.1, told.2) (record {
       asked = record { looks = looks.0; sets = true; no_room = is_no_room {A = Option (List ℕ)} (Err fault); lost = false };
-      allowed = record { accepted = tt; full = λ is. absurd (never_full fault is); looks = λ sound looked. sym (looks.2 sound) ∙ looked };
+      allowed = record { accepted = tt; full = λ is. absurd (never_full told.0 (cause_of fault) told.2 is); looks = λ sound looked. sym (looks.2 sound) ∙ looked };
       calls = set_after looks.0 false (g.T.TableState.calls c.args.self.now.table) (g.T.TableState.calls c.self.inside.table) (g.T.TableState.calls c.set.new.self) (Err fault) (seen g place) c.in_err-before.ensures.calls;
-      lost = subst (λ (cause : Option Cause). TellsLost (is_no_room {A = Option (List ℕ)} (Err fault)) (g.T.TableState.damages c.args.self.now.table) cause (g.T.TableState.damages c.set.new.self)) (sym (put_cause_is fault))
-          (told_lost (Option (List ℕ)) fault _ _ (c.in_err-before.ensures.answered.damages ∙ ap (λ d. damaged_by {A = Option (List ℕ)} d (Err fault)) before));
+      lost = told_lost (Option (List ℕ)) fault _ _ (c.in_err-before.ensures.answered.damages ∙ ap (λ d. damaged_by {A = Option (List ℕ)} d (Err fault)) before);
     })
 
 pub returns-clause-asks : goal.returns-clause-asks

@@ -1,18 +1,18 @@
-use Rattle.std.proofs.Common.{rules, ℕ, List, Option, true, false, not, is_some, refl, Ok, Err, Some, None, ◌≤◌, ◌+◌, ap, sym, subst, [], ◌∷◌, ◌++◌, ◌≡◌, IsTrue, ◌∙◌}
+use Rattle.std.proofs.Common.{rules, ℕ, List, Option, option_map, true, false, not, is_some, refl, Ok, Err, Some, None, ◌≤◌, ◌+◌, ap, sym, subst, [], ◌∷◌, ◌++◌, ◌≡◌, IsTrue, ◌∙◌}
 use Rattle.std.specs.FinMap as maps
 use Rattle.rec_types.specs.Contents.{set_to}
 use Rattle.tx_log.specs.LogState.{LogState, use_in, update_in, open_in, history_in}
-use Rattle.record_file.specs.Asked.{looked_unless, TellsLost}
-use Rattle.record_file.specs.Outside.{named_by}
-use Rattle.record_file.specs.declared.fault.Cause.{Cause}
+use Rattle.record_file.specs.Asked.{looked_unless}
+use Rattle.record_file.specs.Outside.{cause_of, named_by}
 use Rattle.std.proofs.lemmas.Result.{err_from_is_err_and}
 use Rattle.rec_types.specs.Calls.{with_get, is_no_room, is_miss}
 use Rattle.rec_types.specs.Table.{damaged_by}
 use Rattle.record_file.specs.Abstract.{File, OpenFile, file_of, records_of, with_change}
-use Rattle.record_file.specs.Steps.{remove_refusal, Accepts, key_change}
-use Rattle.record_file.proofs.AskedLemmas.{looking, set_after, told_named, told_lost, found_loses_none, none_is_lost, remove_cause_is, never_absent, remove_refused}
+use Rattle.record_file.specs.Refusals.{remove_refusal}
+use Rattle.record_file.specs.Steps.{key_refusal, Accepts, key_change}
+use Rattle.record_file.proofs.AskedLemmas.{looking, set_after, told_named, told_lost, found_loses_none, none_is_lost, never_absent, without_cause}
 use Rattle.record_file.proofs.FaultLemmas.{none_by, rose_same}
-use Rattle.record_file.proofs.FullnessLemmas.{remove_accepts, present_charged}
+use Rattle.record_file.proofs.FullnessLemmas.{change_fits, present_charged}
 use Rattle.record_file.proofs.InvariantLemmas.{change_kept, change_file, change_accepted}
 use Rattle.record_file.proofs.TableCallLemmas.{answered_then, changes_set}
 use Rattle.record_file.proofs.file.RecordFile.remove.Given as given
@@ -30,8 +30,8 @@ module _ (g : given.Over) (c : After-accept-lsn g) where
 pub accept-lsn-requires-clause-fits : goal.accept-lsn-requires-clause-fits
 accept-lsn-requires-clause-fits g c =
     let link = ap (λ (s : OpenFile _). s.file) c.self.view_is in
-    let none = ap (λ (f : File). remove_refusal f c.args.tx.0 c.args.key) link ∙ sym c.remove_refusal.ensures ∙ none_by c.remove_refusal.result c.in_default.not-Some in
-    subst (λ (s : LogState). use_in s + 2 ≤ s.limits.log_records) (sym c.in_ok-reserve.ensures.ok) (remove_accepts (file_of c.self.inside.log (g.T.TableState.contents c.self.inside.table)) c.args.tx.0 c.args.key none)
+    let none = ap (λ (f : File). key_refusal true f c.args.tx.0 c.args.key) link ∙ sym c.remove_refusal.ensures ∙ ap (option_map remove_refusal) (none_by c.remove_refusal.result c.in_default.not-Some) in
+    subst (λ (s : LogState). use_in s + 2 ≤ s.limits.log_records) (sym c.in_ok-reserve.ensures.ok) (change_fits (file_of c.self.inside.log (g.T.TableState.contents c.self.inside.table)) c.args.tx.0 c.args.key none)
 
 pub invariant_of-self-in-Some-2 : goal.invariant_of-self-in-Some-2
 invariant_of-self-in-Some-2 g c =
@@ -47,7 +47,7 @@ returns-in-Some-2-clause-step g c = λ sound lt.
     let key = c.args.key in
     let link = ap (λ (s : OpenFile _). s.file) c.self.view_is in
     let here = ap (λ (s : OpenFile _). g.T.TableState.sound s.table) c.self.view_is ∙ sound in
-    let none = sym c.remove_refusal.ensures ∙ none_by c.remove_refusal.result c.in_default.not-Some in
+    let none = sym c.remove_refusal.ensures ∙ ap (option_map remove_refusal) (none_by c.remove_refusal.result c.in_default.not-Some) in
     let counts = c.in_ok-taken.ensures.answered.device ∙ c.in_ok-get.ensures.answered.device ∙ ap (λ (s : OpenFile _). g.T.TableState.device_failures s.table) c.self.view_is in
     let place = (goal.at.returns-in-Some-2-clause-step g c).After-accept-lsn in (
       none,
@@ -90,10 +90,10 @@ returns-in-None-clause-err g c = search rules
 -- what was asked of the table
 
 module _ (g : given.Over) (c : After-get g) where
-  unrefused : remove_refusal c.args.self.now.file c.args.tx.0 c.args.key ≡ None
-  unrefused = sym c.remove_refusal.ensures ∙ none_by c.remove_refusal.result c.in_default.not-Some
+  unrefused : key_refusal true c.args.self.now.file c.args.tx.0 c.args.key ≡ None
+  unrefused = sym c.remove_refusal.ensures ∙ ap (option_map remove_refusal) (none_by c.remove_refusal.result c.in_default.not-Some)
 
-  looked : true ≡ not (is_some (remove_refusal c.args.self.now.file c.args.tx.0 c.args.key))
+  looked : true ≡ not (is_some (key_refusal true c.args.self.now.file c.args.tx.0 c.args.key))
   looked = sym (ap (λ o. not (is_some o)) unrefused)
 
   seen : g.T.TableState.calls c.get.new.self ≡ looked_unless (not true) (g.T.TableState.calls c.args.self.now.table)
@@ -105,9 +105,9 @@ module _ (g : given.Over) (c : After-get g) where
 pub returns-in-Some-clause-asks : goal.returns-in-Some-clause-asks
 returns-in-Some-clause-asks g c = record {
   asked = looking false;
-  allowed = record { accepted = tt; absent = λ _. refl; looks = ap (λ o. not (is_some o)) (sym c.in-Some.is ∙ c.remove_refusal.ensures) };
+  allowed = record { accepted = tt; absent = λ _. refl; looks = ap (λ o. not (is_some o)) (ap (option_map remove_refusal) (sym c.in-Some.is) ∙ c.remove_refusal.ensures) };
   calls = refl;
-  lost = sym (ap (named_by (g.T.TableState.damages c.args.self.now.table)) (remove_refused c.args.self.now.file c.args.tx.0 c.args.key c.in-Some.fault (sym c.remove_refusal.ensures ∙ c.in-Some.is)));
+  lost = sym (ap (named_by (g.T.TableState.damages c.args.self.now.table)) (without_cause true c.args.self.now.file c.args.tx.0 c.args.key (remove_refusal c.in-Some.fault) (sym c.remove_refusal.ensures ∙ ap (option_map remove_refusal) c.in-Some.is)));
 }
 
 pub returns-in_err-get-clause-asks : goal.returns-in_err-get-clause-asks
@@ -119,7 +119,7 @@ returns-in_err-get-clause-asks g c =
       asked = looking true;
       allowed = record { accepted = tt; absent = λ _. refl; looks = looked g place };
       calls = seen g place;
-      lost = told_named (Option (List ℕ)) fault _ _ (λ is. c.in_err-get.ensures.no_room (ap Err is)) (c.in_err-get.ensures.answered.damages ∙ ap (λ d. damaged_by {A = Option (List ℕ)} d (Err fault)) (named g place)) ∙ ap (named_by (g.T.TableState.damages c.args.self.now.table)) (sym (remove_cause_is fault));
+      lost = told_named (Option (List ℕ)) fault _ _ (λ is. c.in_err-get.ensures.no_room (ap Err is)) (c.in_err-get.ensures.answered.damages ∙ ap (λ d. damaged_by {A = Option (List ℕ)} d (Err fault)) (named g place));
     })
 
 pub returns-then-is_none-clause-asks : goal.returns-then-is_none-clause-asks
@@ -150,10 +150,9 @@ returns-in_err-taken-clause-asks g c =
     let fault = c.in_err-taken.field-0.0 in
     rw (told.1, told.2) (record {
       asked = record { looks = true; sets = true; no_room = is_no_room {A = Option (List ℕ)} (Err fault); lost = false };
-      allowed = record { accepted = tt; absent = λ is. absurd (never_absent fault is); looks = looked g place };
+      allowed = record { accepted = tt; absent = λ is. absurd (never_absent told.0 (cause_of fault) told.2 is); looks = looked g place };
       calls = set_after true true (g.T.TableState.calls c.args.self.now.table) (g.T.TableState.calls c.get.new.self) (g.T.TableState.calls c.set.new.self) (Err fault) (seen g place) c.in_err-taken.ensures.calls;
-      lost = subst (λ (cause : Option Cause). TellsLost (is_no_room {A = Option (List ℕ)} (Err fault)) (g.T.TableState.damages c.args.self.now.table) cause (g.T.TableState.damages c.set.new.self)) (sym (remove_cause_is fault))
-          (told_lost (Option (List ℕ)) fault _ _ (c.in_err-taken.ensures.answered.damages ∙ ap (λ d. damaged_by {A = Option (List ℕ)} d (Err fault)) (c.in_ok-get.ensures.answered.damages ∙ named g place)));
+      lost = told_lost (Option (List ℕ)) fault _ _ (c.in_err-taken.ensures.answered.damages ∙ ap (λ d. damaged_by {A = Option (List ℕ)} d (Err fault)) (c.in_ok-get.ensures.answered.damages ∙ named g place));
     })
 
 pub returns-in-Some-2-clause-asks : goal.returns-in-Some-2-clause-asks

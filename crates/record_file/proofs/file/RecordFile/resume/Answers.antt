@@ -2,7 +2,7 @@ use Rattle.std.proofs.Common.{◌≡◌, rules, Some, None, refl, sym, ap, ◌�
 use Rattle.std.proofs.lemmas.Result.{err_from_is_err_and}
 use Rattle.tx_log.specs.declared.phase.Phase.{Phase}
 use Rattle.record_file.specs.Abstract.{OpenFile, phase_at}
-use Rattle.record_file.specs.Steps.{resume_in, resume_refusal}
+use Rattle.record_file.specs.Steps.{rolling_refusal, resuming_refusal}
 use Rattle.record_file.proofs.RollbackLemmas.{ends_by}
 use Rattle.record_file.proofs.AskedLemmas.{undo_none}
 use Rattle.record_file.proofs.file.RecordFile.resume.Given as given
@@ -11,8 +11,8 @@ use Rattle.record_file.proofs.file.RecordFile.resume.Goals.{After-take_back}
 
 -- the transaction's rollback is under way
 module _ (g : given.Over) (c : After-take_back g) where
-  goes_on : resume_refusal c.args.self.now.file c.args.tx.0 ≡ None
-  goes_on = ap resume_in (sym (ap (λ (s : OpenFile _). phase_at s.file c.args.tx.0) c.self.view_is) ∙ sym c.phase.ensures ∙ c.in-Some-Rolling.is ∙ ap (λ (p : Phase). Some p) c.in-Some-Rolling.field-0-is)
+  goes_on : resuming_refusal c.args.self.now.file c.args.tx.0 ≡ None
+  goes_on = ap rolling_refusal (sym (ap (λ (s : OpenFile _). phase_at s.file c.args.tx.0) c.self.view_is) ∙ sym c.phase.ensures ∙ c.in-Some-Rolling.is ∙ ap (λ (p : Phase). Some p) c.in-Some-Rolling.field-0-is)
 
 pub returns-in_ok-take_back-in-Some-Rolling-clause-rolled : goal.returns-in_ok-take_back-in-Some-Rolling-clause-rolled
 returns-in_ok-take_back-in-Some-Rolling-clause-rolled g c = (goes_on g (goal.at.returns-in_ok-take_back-in-Some-Rolling-clause-rolled g c).After-take_back, c.in_ok-take_back-in-Some-Rolling.ensures.rolled)

@@ -3,7 +3,7 @@ use Rattle.std.proofs.lemmas.Result.{err_from_is_err_and}
 use Rattle.tx_log.specs.Transactions.{depth_of}
 use Rattle.tx_log.specs.declared.phase.Phase.{Phase}
 use Rattle.record_file.specs.Abstract.{OpenFile, phase_at, tx_of}
-use Rattle.record_file.specs.Steps.{rollback_refusal}
+use Rattle.record_file.specs.Steps.{returning_refusal}
 use Rattle.record_file.proofs.RollbackLemmas.{rollback_starts}
 use Rattle.record_file.proofs.AskedLemmas.{undo_none}
 use Rattle.record_file.proofs.file.RecordFile.rollback_to.Given as given
@@ -12,7 +12,7 @@ use Rattle.record_file.proofs.file.RecordFile.rollback_to.Goals.{After-roll_back
 
 -- the transaction is active, and has the savepoint
 module _ (g : given.Over) (c : After-roll_back g) where
-  starts : rollback_refusal c.args.self.now.file c.args.tx.0 c.args.n ≡ None
+  starts : returning_refusal c.args.self.now.file c.args.tx.0 c.args.n ≡ None
   starts =
       let active = sym (ap (λ (s : OpenFile _). phase_at s.file c.args.tx.0) c.self.view_is) ∙ sym c.phase.ensures ∙ c.in-Some-Active.is ∙ ap (λ (p : Phase). Some p) c.in-Some-Active.field-0-is in
       rollback_starts c.args.self.now.file c.args.tx.0 c.args.n active (subst (λ k. c.args.n ≤ k) (c.depth.ensures.value ∙ ap (λ (s : OpenFile _). depth_of (tx_of s.file c.args.tx.0)) c.self.view_is) c.if-n-depth.false)

@@ -1,26 +1,41 @@
 ghost use Rattle.std.specs.Prelude.{◌≡◌};
-ghost use Rattle.command_text.specs.Refusals.{begin_refusal, put_refusal, claim_refusal, remove_refusal, get_refusal, savepoint_refusal, release_refusal, rollback_refusal, abort_refusal, resume_refusal, commit_refusal, entries_refusal, keys_refusal};
+ghost use Rattle.record_file.specs.declared.refusal.Refusal.{Refusal};
+ghost use Rattle.record_file.specs.Refusals.{begin_refusal, put_refusal, claim_refusal, remove_refusal, get_refusal, savepoint_refusal, release_refusal, rollback_refusal, abort_refusal, resume_refusal, commit_refusal, entries_refusal, keys_of_refusal, status_refusal};
 
-use rec_types::TxId;
-use record_file::{
-    AbortFault, BeginFault, Cause, ClaimFault, CommitFault, EntriesFault, GetFault, KeysOfFault,
-    PutFault, ReleaseFault, RemoveFault, ResumeFault, RollbackToFault, SavepointFault,
+use crate::fault::{
+    AbortFault, Cause, ClaimFault, CommitFault, EntriesFault, GetFault, KeysOfFault, PutFault,
+    ReleaseFault, RemoveFault, ResumeFault, RollbackToFault, SavepointFault, StatusFault,
 };
+use rec_types::TxId;
+use thiserror::Error;
+use tx_log::BeginFault;
 
 /// Why a call did nothing, or how far a rollback came that was stopped.
-#[derive(Clone, Copy, Debug)]
+#[derive(Clone, Copy, Debug, PartialEq, Eq, Error)]
 pub enum Refusal {
+    #[error("the session has begun as many transactions as it may")]
     BeginsSpent,
+    #[error("no such open transaction")]
     NoSuchTx,
+    #[error("the transaction is being rolled back")]
     Rolling,
+    #[error("the transaction isn't being rolled back")]
     NotRolling,
+    #[error("the key is held by another transaction")]
     Held(TxId),
+    #[error("the log is full")]
     LogFull,
+    #[error("the file has as many records as it may")]
     Full,
+    #[error("the key has no record")]
     Absent,
+    #[error("the transaction has 32 savepoints")]
     TooDeep,
+    #[error("no such savepoint")]
     NoSuchSave,
+    #[error("{0}")]
     Failed(Cause),
+    #[error("stopped after {undone} changes, {left} are left")]
     Stopped {
         undone: u32,
         left: u32,
@@ -28,24 +43,33 @@ pub enum Refusal {
     },
 }
 
-/// The refusal that the reply to `begin` names.
-impl From<BeginFault> for Refusal {
-    fn from(fault: BeginFault) -> Refusal
-        ensures { result ≡ begin_refusal fault }
-    {
-        match fault {
+/// The fault of a call.
+pub trait ToRefusal: Copy {
+    ghost refusal_of: { Self → Refusal };
+
+    /// The refusal that it is.
+    fn to_refusal(self) -> Refusal
+        ensures { result ≡ refusal_of self };
+}
+
+impl ToRefusal for BeginFault {
+    ghost refusal_of = { begin_refusal };
+
+    #[inline]
+    fn to_refusal(self) -> Refusal {
+        match self {
             BeginFault::BeginsSpent => Refusal::BeginsSpent,
             BeginFault::Memory => Refusal::Failed(Cause::Memory),
         }
     }
 }
 
-/// The refusal that the reply to `put` names.
-impl From<PutFault> for Refusal {
-    fn from(fault: PutFault) -> Refusal
-        ensures { result ≡ put_refusal fault }
-    {
-        match fault {
+impl ToRefusal for PutFault {
+    ghost refusal_of = { put_refusal };
+
+    #[inline]
+    fn to_refusal(self) -> Refusal {
+        match self {
             PutFault::NoSuchTx => Refusal::NoSuchTx,
             PutFault::Rolling => Refusal::Rolling,
             PutFault::Held(owner) => Refusal::Held(owner),
@@ -58,12 +82,12 @@ impl From<PutFault> for Refusal {
     }
 }
 
-/// The refusal that the reply to `claim` names.
-impl From<ClaimFault> for Refusal {
-    fn from(fault: ClaimFault) -> Refusal
-        ensures { result ≡ claim_refusal fault }
-    {
-        match fault {
+impl ToRefusal for ClaimFault {
+    ghost refusal_of = { claim_refusal };
+
+    #[inline]
+    fn to_refusal(self) -> Refusal {
+        match self {
             ClaimFault::NoSuchTx => Refusal::NoSuchTx,
             ClaimFault::Rolling => Refusal::Rolling,
             ClaimFault::Held(owner) => Refusal::Held(owner),
@@ -76,12 +100,12 @@ impl From<ClaimFault> for Refusal {
     }
 }
 
-/// The refusal that the reply to `del` names.
-impl From<RemoveFault> for Refusal {
-    fn from(fault: RemoveFault) -> Refusal
-        ensures { result ≡ remove_refusal fault }
-    {
-        match fault {
+impl ToRefusal for RemoveFault {
+    ghost refusal_of = { remove_refusal };
+
+    #[inline]
+    fn to_refusal(self) -> Refusal {
+        match self {
             RemoveFault::NoSuchTx => Refusal::NoSuchTx,
             RemoveFault::Rolling => Refusal::Rolling,
             RemoveFault::Held(owner) => Refusal::Held(owner),
@@ -94,12 +118,12 @@ impl From<RemoveFault> for Refusal {
     }
 }
 
-/// The refusal that the reply to `get` names.
-impl From<GetFault> for Refusal {
-    fn from(fault: GetFault) -> Refusal
-        ensures { result ≡ get_refusal fault }
-    {
-        match fault {
+impl ToRefusal for GetFault {
+    ghost refusal_of = { get_refusal };
+
+    #[inline]
+    fn to_refusal(self) -> Refusal {
+        match self {
             GetFault::NoSuchTx => Refusal::NoSuchTx,
             GetFault::Rolling => Refusal::Rolling,
             GetFault::Held(owner) => Refusal::Held(owner),
@@ -109,12 +133,12 @@ impl From<GetFault> for Refusal {
     }
 }
 
-/// The refusal that the reply to `save` names.
-impl From<SavepointFault> for Refusal {
-    fn from(fault: SavepointFault) -> Refusal
-        ensures { result ≡ savepoint_refusal fault }
-    {
-        match fault {
+impl ToRefusal for SavepointFault {
+    ghost refusal_of = { savepoint_refusal };
+
+    #[inline]
+    fn to_refusal(self) -> Refusal {
+        match self {
             SavepointFault::NoSuchTx => Refusal::NoSuchTx,
             SavepointFault::Rolling => Refusal::Rolling,
             SavepointFault::TooDeep => Refusal::TooDeep,
@@ -122,12 +146,12 @@ impl From<SavepointFault> for Refusal {
     }
 }
 
-/// The refusal that the reply to `release` names.
-impl From<ReleaseFault> for Refusal {
-    fn from(fault: ReleaseFault) -> Refusal
-        ensures { result ≡ release_refusal fault }
-    {
-        match fault {
+impl ToRefusal for ReleaseFault {
+    ghost refusal_of = { release_refusal };
+
+    #[inline]
+    fn to_refusal(self) -> Refusal {
+        match self {
             ReleaseFault::NoSuchTx => Refusal::NoSuchTx,
             ReleaseFault::Rolling => Refusal::Rolling,
             ReleaseFault::NoSuchSave => Refusal::NoSuchSave,
@@ -135,12 +159,12 @@ impl From<ReleaseFault> for Refusal {
     }
 }
 
-/// The refusal that the reply to `back` names.
-impl From<RollbackToFault> for Refusal {
-    fn from(fault: RollbackToFault) -> Refusal
-        ensures { result ≡ rollback_refusal fault }
-    {
-        match fault {
+impl ToRefusal for RollbackToFault {
+    ghost refusal_of = { rollback_refusal };
+
+    #[inline]
+    fn to_refusal(self) -> Refusal {
+        match self {
             RollbackToFault::NoSuchTx => Refusal::NoSuchTx,
             RollbackToFault::Rolling => Refusal::Rolling,
             RollbackToFault::NoSuchSave => Refusal::NoSuchSave,
@@ -157,12 +181,12 @@ impl From<RollbackToFault> for Refusal {
     }
 }
 
-/// The refusal that the reply to `abort` names.
-impl From<AbortFault> for Refusal {
-    fn from(fault: AbortFault) -> Refusal
-        ensures { result ≡ abort_refusal fault }
-    {
-        match fault {
+impl ToRefusal for AbortFault {
+    ghost refusal_of = { abort_refusal };
+
+    #[inline]
+    fn to_refusal(self) -> Refusal {
+        match self {
             AbortFault::NoSuchTx => Refusal::NoSuchTx,
             AbortFault::Rolling => Refusal::Rolling,
             AbortFault::Stopped {
@@ -178,12 +202,12 @@ impl From<AbortFault> for Refusal {
     }
 }
 
-/// The refusal that the reply to `resume` names.
-impl From<ResumeFault> for Refusal {
-    fn from(fault: ResumeFault) -> Refusal
-        ensures { result ≡ resume_refusal fault }
-    {
-        match fault {
+impl ToRefusal for ResumeFault {
+    ghost refusal_of = { resume_refusal };
+
+    #[inline]
+    fn to_refusal(self) -> Refusal {
+        match self {
             ResumeFault::NoSuchTx => Refusal::NoSuchTx,
             ResumeFault::NotRolling => Refusal::NotRolling,
             ResumeFault::Stopped {
@@ -199,24 +223,24 @@ impl From<ResumeFault> for Refusal {
     }
 }
 
-/// The refusal that the reply to `commit` names.
-impl From<CommitFault> for Refusal {
-    fn from(fault: CommitFault) -> Refusal
-        ensures { result ≡ commit_refusal fault }
-    {
-        match fault {
+impl ToRefusal for CommitFault {
+    ghost refusal_of = { commit_refusal };
+
+    #[inline]
+    fn to_refusal(self) -> Refusal {
+        match self {
             CommitFault::NoSuchTx => Refusal::NoSuchTx,
             CommitFault::Rolling => Refusal::Rolling,
         }
     }
 }
 
-/// The refusal that the reply to `list` names.
-impl From<EntriesFault> for Refusal {
-    fn from(fault: EntriesFault) -> Refusal
-        ensures { result ≡ entries_refusal fault }
-    {
-        match fault {
+impl ToRefusal for EntriesFault {
+    ghost refusal_of = { entries_refusal };
+
+    #[inline]
+    fn to_refusal(self) -> Refusal {
+        match self {
             EntriesFault::Device => Refusal::Failed(Cause::Device),
             EntriesFault::Damaged(page) => Refusal::Failed(Cause::Damaged(page)),
             EntriesFault::Memory => Refusal::Failed(Cause::Memory),
@@ -224,14 +248,25 @@ impl From<EntriesFault> for Refusal {
     }
 }
 
-/// The refusal that the reply to `keys` names.
-impl From<KeysOfFault> for Refusal {
-    fn from(fault: KeysOfFault) -> Refusal
-        ensures { result ≡ keys_refusal fault }
-    {
-        match fault {
+impl ToRefusal for KeysOfFault {
+    ghost refusal_of = { keys_of_refusal };
+
+    #[inline]
+    fn to_refusal(self) -> Refusal {
+        match self {
             KeysOfFault::NoSuchTx => Refusal::NoSuchTx,
             KeysOfFault::Memory => Refusal::Failed(Cause::Memory),
+        }
+    }
+}
+
+impl ToRefusal for StatusFault {
+    ghost refusal_of = { status_refusal };
+
+    #[inline]
+    fn to_refusal(self) -> Refusal {
+        match self {
+            StatusFault::NoSuchTx => Refusal::NoSuchTx,
         }
     }
 }
