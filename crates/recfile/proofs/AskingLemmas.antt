@@ -8,7 +8,8 @@ use Rattle.record_file.specs.declared.fault.AbortFault.{AbortFault}
 use Rattle.record_file.specs.declared.fault.AbortFault.TheVariants as abort_faults
 use Rattle.record_file.specs.declared.fault.ResumeFault.{ResumeFault}
 use Rattle.record_file.specs.declared.fault.ResumeFault.TheVariants as resume_faults
-use Rattle.record_file.specs.Outside.{by_device, by_memory, TellsDamage, resume_cause, abort_cause}
+use Rattle.record_file.specs.Outside.{by_device, by_memory, TellsDamage}
+use Rattle.record_file.specs.Refusals.{abort_refusal, resume_refusal, cause_by}
 use Rattle.record_file.specs.Runs.{Seen}
 use Rattle.record_file.specs.Steps.{rose, EndsBy}
 use Rattle.record_file.proofs.FaultLemmas.{tells_no_damage}
@@ -46,14 +47,14 @@ asks_on old mid new cause first later = record {
 }
 
 -- the cause of a resumed rollback's stop is the one that ending the transaction tells
-pub resumed_cause : (tx : TxId) (answer : Result ℕ ResumeFault) → resume_cause answer ≡ end_cause (resumed tx answer)
+pub resumed_cause : (tx : TxId) (answer : Result ℕ ResumeFault) → cause_by resume_refusal answer ≡ end_cause (resumed tx answer)
 resumed_cause tx (Ok undone) = refl
 resumed_cause tx (Err resume_faults.NoSuchTx) = refl
 resumed_cause tx (Err resume_faults.NotRolling) = refl
 resumed_cause tx (Err (resume_faults.Stopped undone left cause)) = refl
 
 -- the cause of an abort's stop is the one that ending the transaction tells
-pub aborted_cause : (tx : TxId) (answer : Result ℕ AbortFault) → abort_cause answer ≡ end_cause (aborted tx answer)
+pub aborted_cause : (tx : TxId) (answer : Result ℕ AbortFault) → cause_by abort_refusal answer ≡ end_cause (aborted tx answer)
 aborted_cause tx (Ok undone) = refl
 aborted_cause tx (Err abort_faults.NoSuchTx) = refl
 aborted_cause tx (Err abort_faults.Rolling) = refl

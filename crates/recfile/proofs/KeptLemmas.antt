@@ -1,5 +1,5 @@
 -- What a session over a disk leaves.
-use Rattle.std.proofs.Common.{◌≡◌, inl, inr, Option, Some, None, MatchOption, Result, Ok, Err, OnOk, refl, sym, subst}
+use Rattle.std.proofs.Common.{◌≡◌, ℕ, inl, inr, Option, Some, None, MatchOption, Result, Ok, Err, OnOk, refl, sym, subst}
 use Rattle.std.specs.Result.{is_ok}
 use Rattle.rec_types.specs.Contents.{Contents}
 use Rattle.btree_delete.specs.TableView.{TableView, IsClosed, table_contents}
@@ -7,40 +7,36 @@ use Rattle.page_journal.specs.Files.{PageFile, Files}
 use Rattle.page_journal.specs.Crash.{IsSettled}
 use Rattle.page_journal.specs.Recovery.{IsTooShort}
 use Rattle.page_journal.specs.declared.disk_state.DiskState.{Ghosts}
-use Rattle.page_store.specs.declared.store_state.StoreState.{Ghosts as Stored}
-use Rattle.recfile.specs.StoreSession.{file_in}
 use Rattle.page_journal.specs.declared.recovery_fault.RecoveryFault.{RecoveryFault}
 use Rattle.page_journal.specs.declared.recovery_fault.RecoveryFault.TheVariants as recovering
 use Rattle.recfile.specs.FileFaults.{fault_of_recovery}
 use Rattle.recfile.specs.Kept.{HasRecords, IsKept, ClosesSafely, IsOutsideDisk}
 use Rattle.recfile.specs.declared.file_fault.FileFault.{FileFault}
 
-pub has_records : (was now : TableView) (file found : PageFile) → table_contents was ≡ table_contents now → found ≡ file
-    → IsClosed 2 file.pages file.tail was.tree (table_contents was) → HasRecords (table_contents now) found
-has_records was now file found same is closed =
-    subst (HasRecords (table_contents now)) (sym is) (was.tree, subst (λ (m : Contents). IsClosed 2 file.pages file.tail was.tree m) same closed)
+pub has_records : (was now : TableView) (file found : PageFile) → was.tree.order ≡ now.tree.order → table_contents was ≡ table_contents now → found ≡ file
+    → IsClosed 2 file.pages file.tail was.tree (table_contents was) → HasRecords now.tree.order (table_contents now) found
+has_records was now file found order same is closed =
+    subst (HasRecords now.tree.order (table_contents now)) (sym is) (was.tree, order, subst (λ (m : Contents). IsClosed 2 file.pages file.tail was.tree m) same closed)
 
 pub ok_mapped : {E D : Type 0} (answer : Result (Unit {0}) E) (mapped : Result (Unit {0}) D) (P : Type 0) → is_ok mapped ≡ is_ok answer → OnOk answer P → OnOk mapped P
 ok_mapped (Ok x) (Ok y) P same known = known
 ok_mapped (Err e) (Ok y) P same known = absurd (cc)
 ok_mapped answer (Err e) P same known = tt
 
-pub kept_so : {D E : Type 0} (g : Ghosts D) (answer : Result (Unit {0}) E) (was now : TableView) (file : PageFile) (disk : D) → table_contents was ≡ table_contents now → (g.seen disk).main ≡ file
-    → IsClosed 2 file.pages file.tail was.tree (table_contents was) → OnOk answer (IsSettled g file disk) → OnOk answer (IsKept g (table_contents now) disk)
-kept_so g (Ok x) was now file disk same is closed settled = record {
-  has = has_records was now file (g.seen disk).main same is closed;
+pub kept_so : {D E : Type 0} (g : Ghosts D) (answer : Result (Unit {0}) E) (was now : TableView) (file : PageFile) (disk : D) → was.tree.order ≡ now.tree.order → table_contents was ≡ table_contents now → (g.seen disk).main ≡ file
+    → IsClosed 2 file.pages file.tail was.tree (table_contents was) → OnOk answer (IsSettled g file disk) → OnOk answer (IsKept g now.tree.order (table_contents now) disk)
+kept_so g (Ok x) was now file disk order same is closed settled = record {
+  has = has_records was now file (g.seen disk).main order same is closed;
   settled = subst (λ (f : PageFile). IsSettled g f disk) (sym is) settled;
 }
-kept_so g (Err e) was now file disk same is closed settled = tt
+kept_so g (Err e) was now file disk order same is closed settled = tt
 
 -- the same of the table that a file has
-pub safely : {D : Type 0} (g : Ghosts D) (old : PageFile) (disk : D) (unclosed : Option FileFault) (t now : TableView) → t ≡ now
-    → ClosesSafely g old disk unclosed (table_contents t) → ClosesSafely g old disk unclosed (table_contents now)
-safely g old disk unclosed t now table known = subst (λ (x : TableView). ClosesSafely g old disk unclosed (table_contents x)) table known
-
--- and of a store
-pub closed_in : {S : Type 0} (g : Stored S) (store : S) (t now : TableView) → t ≡ now → HasRecords (table_contents t) (file_in g store) → HasRecords (table_contents now) (file_in g store)
-closed_in g store t now table known = subst (λ (x : TableView). HasRecords (table_contents x) (file_in g store)) table known
+pub safely : {D : Type 0} (g : Ghosts D) (old : PageFile) (disk : D) (unclosed : Option FileFault) (t now : TableView) (order : ℕ) → t ≡ now → now.tree.order ≡ order
+    → ClosesSafely g old disk unclosed t.tree.order (table_contents t) → ClosesSafely g old disk unclosed order (table_contents now)
+safely g old disk unclosed t now order table is known =
+    subst (λ (k : ℕ). ClosesSafely g old disk unclosed k (table_contents now)) is
+    (subst (λ (x : TableView). ClosesSafely g old disk unclosed x.tree.order (table_contents x)) table known)
 
 pub wider : {A : Type 0} (o : Option A) (P : Type 0) (Q R : A → Type 0) → ((x : A) → Q x → R x) → MatchOption o P Q → MatchOption o P R
 wider None P Q R more known = known

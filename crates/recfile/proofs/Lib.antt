@@ -11,5 +11,6 @@ pub mod FedLemmas
 pub mod ShellLemmas
 pub mod OpenedLemmas
 pub mod KeptLemmas
+pub mod WritingLemmas
 pub mod RoomLemmas
 pub mod WordLemmas

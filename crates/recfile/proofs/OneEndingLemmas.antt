@@ -10,7 +10,8 @@ use Rattle.tx_log.specs.LogState.{phase_of, rollback_phase, active_with, rolling
 use Rattle.tx_log.specs.declared.phase.Phase.{Phase}
 use Rattle.tx_log.specs.declared.phase.Phase.TheVariants as phases
 use Rattle.record_file.specs.Abstract.{IsWholeTx, File, open_of, tx_of, phase_at}
-use Rattle.record_file.specs.Steps.{Becomes, Aborts, Resumes, abort_in, abort_refusal, resume_in, resume_refusal, rolling_place, places_at}
+use Rattle.record_file.specs.Steps.{Becomes, Aborts, Resumes, active_refusal, rolling_refusal, tx_refusal, resuming_refusal, rolling_place, places_at}
+use Rattle.record_file.specs.declared.refusal.Refusal.TheVariants as refusals
 use Rattle.record_file.specs.declared.fault.AbortFault.{AbortFault}
 use Rattle.record_file.specs.declared.fault.AbortFault.TheVariants as abort_faults
 use Rattle.record_file.specs.declared.fault.ResumeFault.{ResumeFault}
@@ -27,14 +28,14 @@ pub record Under (f : File) (t : ℕ) : Type 0 where
   places : List ℕ
   is : tx_of f t ≡ Some (record { rollback = Some back; places = places })
 
-under : (f : File) (t : ℕ) → resume_refusal f t ≡ None → Under f t
+under : (f : File) (t : ℕ) → resuming_refusal f t ≡ None → Under f t
 under f t none = at (tx_of f t) refl none
   where
-    in_tx : (tx : Tx) (r : Option Rollback) → tx_of f t ≡ Some tx → tx.rollback ≡ r → resume_in (Some (rollback_phase r)) ≡ None → Under f t
+    in_tx : (tx : Tx) (r : Option Rollback) → tx_of f t ≡ Some tx → tx.rollback ≡ r → rolling_refusal (Some (rollback_phase r)) ≡ None → Under f t
     in_tx tx None is same none = absurd (cc)
     in_tx tx (Some r) is same none = record { back = r; places = tx.places; is = is ∙ (λ i. Some (record { rollback = same i; places = tx.places })) }
 
-    at : (o : Option Tx) → tx_of f t ≡ o → resume_in (option_map phase_of o) ≡ None → Under f t
+    at : (o : Option Tx) → tx_of f t ≡ o → rolling_refusal (option_map phase_of o) ≡ None → Under f t
     at None is none = absurd (cc)
     at (Some tx) is none = in_tx tx tx.rollback is refl none
 
@@ -42,10 +43,10 @@ open_under : (f : File) (t : ℕ) → Under f t → IsTrue (open_of f t)
 open_under f t u = ap is_some u.is
 
 -- an active transaction
-active_by : (f : File) (t : ℕ) → abort_refusal f t ≡ None → IsTrue (open_of f t)
+active_by : (f : File) (t : ℕ) → tx_refusal f t None ≡ None → IsTrue (open_of f t)
 active_by f t none = at (tx_of f t) none
   where
-    at : (o : Option Tx) → abort_in (option_map phase_of o) ≡ None → is_some o ≡ true
+    at : (o : Option Tx) → active_refusal None (option_map phase_of o) ≡ None → is_some o ≡ true
     at None none = absurd (cc)
     at (Some tx) none = refl
 
@@ -106,8 +107,8 @@ made_active old mid new t answer w stays ok step = at answer ok step
     txs : mid.txs ≡ maps.insert old.txs t (active_with w.places)
     txs = w.txs ∙ ap (λ b. cond b (maps.remove old.txs t) (maps.insert old.txs t (active_with w.places))) stays
 
-    active : abort_refusal mid t ≡ None
-    active = ap abort_in (active_tx mid t old.txs w.places txs)
+    active : tx_refusal mid t None ≡ None
+    active = ap (active_refusal None) (active_tx mid t old.txs w.places txs)
 
     at : (a : Result ℕ AbortFault) → aborted (record { 0 = t }) a ≡ Ok tt → Aborts mid t a new → EndsOne old t new
     at (Ok more) ok step = record {
@@ -126,8 +127,8 @@ went_away old mid new t answer w ends whole ok step = at answer ok step
     txs : mid.txs ≡ maps.remove old.txs t
     txs = w.txs ∙ ap (λ b. cond b (maps.remove old.txs t) (maps.insert old.txs t (active_with w.places))) ends
 
-    gone : abort_refusal mid t ≡ Some abort_faults.NoSuchTx
-    gone = ap abort_in (ended_tx mid t old.txs txs)
+    gone : tx_refusal mid t None ≡ Some refusals.NoSuchTx
+    gone = ap (active_refusal None) (ended_tx mid t old.txs txs)
 
     at : (a : Result ℕ AbortFault) → aborted (record { 0 = t }) a ≡ Ok tt → Aborts mid t a new → EndsOne old t new
     at (Ok more) ok step = absurd (cc (sym gone ∙ step.0))
@@ -147,10 +148,10 @@ after_going old mid new t answer w whole ok step = at w.back.ends refl
     at false stays = made_active old mid new t answer w stays ok step
 
 -- an active transaction stays as it was where no rollback is under way
-still_active : (old mid new : File) (t : ℕ) (answer : Result ℕ AbortFault) → resume_refusal old t ≡ Some resume_faults.NotRolling → mid ≡ old → aborted (record { 0 = t }) answer ≡ Ok tt → Aborts mid t answer new → EndsOne old t new
+still_active : (old mid new : File) (t : ℕ) (answer : Result ℕ AbortFault) → resuming_refusal old t ≡ Some refusals.NotRolling → mid ≡ old → aborted (record { 0 = t }) answer ≡ Ok tt → Aborts mid t answer new → EndsOne old t new
 still_active old mid new t answer not_rolling same ok step = at answer ok (subst (λ (f : File). Aborts f t answer new) same step)
   where
-    active : (o : Option Phase) → resume_in o ≡ Some resume_faults.NotRolling → abort_in o ≡ None
+    active : (o : Option Phase) → rolling_refusal o ≡ Some refusals.NotRolling → active_refusal None o ≡ None
     active None is = absurd (cc)
     active (Some (phases.Rolling ends)) is = absurd (cc)
     active (Some phases.Active) is = refl
@@ -174,11 +175,11 @@ pub not_open : (old new : File) (tx : TxId) (went_on : Result ℕ ResumeFault) �
 not_open old new tx (Ok more) is step = absurd (cc is)
 not_open old new tx (Err resume_faults.NoSuchTx) is step = (at (tx_of old tx.0) step.0, step.1)
   where
-    in_tx : (r : Option Rollback) → resume_in (Some (rollback_phase r)) ≡ Some resume_faults.NoSuchTx → true ≡ false
+    in_tx : (r : Option Rollback) → rolling_refusal (Some (rollback_phase r)) ≡ Some refusals.NoSuchTx → true ≡ false
     in_tx None is = absurd (cc)
     in_tx (Some r) is = absurd (cc)
 
-    at : (o : Option Tx) → resume_in (option_map phase_of o) ≡ Some resume_faults.NoSuchTx → is_some o ≡ false
+    at : (o : Option Tx) → rolling_refusal (option_map phase_of o) ≡ Some refusals.NoSuchTx → is_some o ≡ false
     at None is = refl
     at (Some found) is = in_tx found.rollback is
 not_open old new tx (Err resume_faults.NotRolling) is step = absurd (cc is)

@@ -3,11 +3,11 @@ use Rattle.std.proofs.Common.{◌≡◌, ◌≤◌, ℕ, Bool, true, false, List
 use Rattle.rec_types.specs.LimitBounds.{Bounds}
 use Rattle.rec_types.specs.Table.{no_damage}
 use Rattle.rec_types.specs.declared.table_state.TableState.{Ghosts}
-use Rattle.page_store.specs.Journal.{untouched}
 use Rattle.page_store.specs.PagesView.{PagesView}
 use Rattle.btree_insert.specs.Contents.{contents_of}
 use Rattle.btree_insert.specs.declared.tree.Tree.{Tree}
 use Rattle.btree_delete.specs.CleanFile.{Opens}
+use Rattle.btree_delete.specs.Origins.{Origin, origin_of}
 use Rattle.btree_delete.specs.TableView.{TableView, table_contents}
 use Rattle.record_file.specs.Abstract.{OpenFile, new_file}
 use Rattle.record_file.specs.Runs.{seen}
@@ -17,7 +17,7 @@ use Rattle.recfile.specs.WholeSession.{opened_file}
 
 -- what a table in a tree shows
 abbrev pub treed : Ghosts TableView
-treed = record { contents = table_contents; record_limit = λ t. t.limit; sound = λ t. t.pages.steady; device_failures = λ t. t.pages.failures; memory_refusals = λ t. t.refusals; damages = λ t. t.damages; calls = λ t. t.calls; origin = λ t. untouched t.pages.journal }
+treed = record { contents = table_contents; record_limit = λ t. t.limit; sound = λ t. t.pages.steady; device_failures = λ t. t.pages.failures; memory_refusals = λ t. t.refusals; damages = λ t. t.damages; calls = λ t. t.calls; Source = Origin; origin = origin_of }
 
 -- what a run sees of a new file over the table of a page file
 pub fresh : (f : OpenFile TableView) (table : TableView) (limits : Bounds) → f ≡ record { table = table; file = new_file (table_contents table) limits; log = [] }

@@ -20,9 +20,11 @@ use Rattle.tx_log.specs.LogState.{phase_of}
 use Rattle.tx_log.specs.declared.phase.BeginFault.{BeginFault}
 use Rattle.tx_log.specs.declared.phase.BeginFault.TheVariants as begin_faults
 use Rattle.tx_log.specs.declared.phase.Phase.TheVariants.{Active}
-use Rattle.record_file.specs.Abstract.{File, is_full, new_file, phase_at, use_of, with_change}
+use Rattle.record_file.specs.Abstract.{File, held_by, is_full, new_file, phase_at, use_of, with_change}
 use Rattle.record_file.specs.Runs.{Answers, Begin, Called, Commit, Put, Seen}
-use Rattle.record_file.specs.Steps.{put_held, put_in, put_refusal, rose}
+use Rattle.record_file.specs.Steps.{active_refusal, held_refusal, key_refusal}
+use Rattle.record_file.specs.Refusals.{commit_refusal}
+use Rattle.record_file.specs.declared.refusal.Refusal.TheVariants as refusals
 use Rattle.record_file.specs.declared.fault.CommitFault.{CommitFault}
 use Rattle.record_file.specs.declared.fault.PutFault.{PutFault}
 use Rattle.record_file.specs.declared.fault.PutFault.TheVariants as put_faults
@@ -103,13 +105,13 @@ not_held (e ∷ es) x = at (is_open alone 1 && same_key e.0 x) (not_held es x)
     at false rest = rest
 
 -- a put isn't refused
-not_refused : (limits : Bounds) (es : Records) (x : List ℕ) → 2 * (length es + 1) ≤ limits.log_records → put_refusal (loading limits es) 1 x ≡ None
+not_refused : (limits : Bounds) (es : Records) (x : List ℕ) → 2 * (length es + 1) ≤ limits.log_records → key_refusal true (loading limits es) 1 x ≡ None
 not_refused limits es x room =
-    ap (λ (o : Option Tx). put_in (loading limits es) 1 x (option_map phase_of o)) there
-    ∙ ap (put_held (loading limits es)) (not_held es x)
+    ap (λ (o : Option Tx). active_refusal (held_refusal true (loading limits es) (held_by (loading limits es) 1 x)) (option_map phase_of o)) there
+    ∙ ap (held_refusal true (loading limits es)) (not_held es x)
     ∙ at (nat_lt limits.log_records (use_of (loading limits es) + 2)) refl
   where
-    at : (b : Bool) → nat_lt limits.log_records (use_of (loading limits es) + 2) ≡ b → (if b then Some put_faults.LogFull else None) ≡ None
+    at : (b : Bool) → nat_lt limits.log_records (use_of (loading limits es) + 2) ≡ b → (if b then Some refusals.LogFull else None) ≡ None
     at true is = let used = uses limits es in absurd (grind (arith, nat_tests, used, room))
     at false is = refl
 
@@ -197,8 +199,8 @@ put_done : (limits : Bounds) (es : Records) (e : List ℕ × List ℕ) (old new 
     → new.failures ≡ counted old.failures failed → new.sound ≡ old.sound → Answers old (Put (tx 1) e.0 e.1 answer) failed refused new → PutDone limits es e answer new
 put_done limits es e old new answer failed refused before log room kept counts sounds known = at answer kept known
   where
-    free : put_refusal old.file 1 e.0 ≡ None
-    free = ap (λ (f : File). put_refusal f 1 e.0) before.file ∙ not_refused limits es e.0 log
+    free : key_refusal true old.file 1 e.0 ≡ None
+    free = ap (λ (f : File). key_refusal true f 1 e.0) before.file ∙ not_refused limits es e.0 log
 
     roomy : is_full old.file e.0 ≡ false
     roomy = ap (λ (f : File). is_full f e.0) before.file ∙ sym (below_not_full (loading limits es) e.0 (charges es) refl (omega (arith, before.few, room)))
@@ -215,13 +217,13 @@ put_done limits es e old new answer failed refused before log room kept counts s
             failures = subst (λ n. n < greatest_count) (sym (counts ∙ ap (counted old.failures) known.0.0)) before.failures;
           };
         }
-    at (Err put_faults.NoSuchTx) kept known = absurd (both_none (put_refusal old.file 1 e.0) put_faults.NoSuchTx free (known.1.step before.sound before.failures).0)
-    at (Err put_faults.Rolling) kept known = absurd (both_none (put_refusal old.file 1 e.0) put_faults.Rolling free (known.1.step before.sound before.failures).0)
-    at (Err (put_faults.Held owner)) kept known = absurd (both_none (put_refusal old.file 1 e.0) (put_faults.Held owner) free (known.1.step before.sound before.failures).0)
-    at (Err put_faults.LogFull) kept known = absurd (both_none (put_refusal old.file 1 e.0) put_faults.LogFull free (known.1.step before.sound before.failures).0)
+    at (Err put_faults.NoSuchTx) kept known = absurd (both_none (key_refusal true old.file 1 e.0) refusals.NoSuchTx free (known.1.step before.sound before.failures).0.0)
+    at (Err put_faults.Rolling) kept known = absurd (both_none (key_refusal true old.file 1 e.0) refusals.Rolling free (known.1.step before.sound before.failures).0.0)
+    at (Err (put_faults.Held owner)) kept known = absurd (both_none (key_refusal true old.file 1 e.0) (refusals.Held owner) free (known.1.step before.sound before.failures).0.0)
+    at (Err put_faults.LogFull) kept known = absurd (both_none (key_refusal true old.file 1 e.0) refusals.LogFull free (known.1.step before.sound before.failures).0.0)
     at (Err put_faults.Device) kept known = absurd (cc)
     at (Err (put_faults.Damaged page)) kept known = absurd (cc)
-    at (Err put_faults.Full) kept known = let step = known.1.step before.sound before.failures in let full = step.2 in absurd (cc (roomy, full))
+    at (Err put_faults.Full) kept known = let step = known.1.step before.sound before.failures in let full = step.0.2 in absurd (cc (roomy, full))
     at (Err put_faults.Memory) kept known = absurd (cc)
 
 -- the commit is accepted
@@ -233,7 +235,7 @@ commit_done limits es old new answer failed refused before known = at answer kno
 
     at : (a : Result (Unit {0}) CommitFault) → Answers old (Commit (tx 1) a) failed refused new → is_refusal (reply.Commit a) ≡ false
     at (Ok done) known = refl
-    at (Err fault) known = absurd (both_none (Rattle.record_file.specs.Steps.commit_in (phase_at old.file 1)) fault (ap Rattle.record_file.specs.Steps.commit_in active) known.1.0)
+    at (Err fault) known = absurd (both_none (active_refusal None (phase_at old.file 1)) (commit_refusal fault) (ap (active_refusal None) active) known.1.0)
 
 abbrev Accepted : List Reply → Type 0
 Accepted replies = All (λ r. is_refusal r ≡ false) replies

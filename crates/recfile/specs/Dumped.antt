@@ -6,7 +6,7 @@ use Rattle.rec_types.specs.Contents.{Contents}
 use Rattle.btree_insert.specs.declared.tree.Tree.{Tree}
 use Rattle.btree_delete.specs.CleanFile.{IsFirst}
 use Rattle.btree_delete.specs.TableView.{IsClosed}
-use Rattle.btree_delete.specs.declared.open_fault.OpenFault.{OpenFault}
+use Rattle.btree_delete.specs.declared.opening.open_fault.OpenFault.{OpenFault}
 use Rattle.command_text.specs.Dump.{dump_text, CanBePut}
 use Rattle.recfile.specs.FileFaults.{fault_of_opening, is_device}
 use Rattle.recfile.specs.declared.dump.DumpFault.{DumpFault}

@@ -11,10 +11,10 @@ use Rattle.page_store.specs.declared.page_edit.WriteFault.TheVariants as closing
 use Rattle.rec_types.specs.declared.table.TableFault.{TableFault}
 use Rattle.rec_types.specs.declared.table.TableFault.TheVariants as listing
 use Rattle.btree_delete.specs.Created.{IsEmpty, IsOrder}
-use Rattle.btree_delete.specs.declared.open_fault.OpenFault.{OpenFault}
-use Rattle.btree_delete.specs.declared.open_fault.OpenFault.TheVariants as opening
-use Rattle.btree_delete.specs.declared.tree_table.CreateFault.{CreateFault}
-use Rattle.btree_delete.specs.declared.tree_table.CreateFault.TheVariants as making
+use Rattle.btree_delete.specs.declared.opening.open_fault.OpenFault.{OpenFault}
+use Rattle.btree_delete.specs.declared.opening.open_fault.OpenFault.TheVariants as opening
+use Rattle.btree_delete.specs.declared.table.tree_table.CreateFault.{CreateFault}
+use Rattle.btree_delete.specs.declared.table.tree_table.CreateFault.TheVariants as making
 use Rattle.recfile.specs.declared.file_fault.FileFault.{FileFault}
 use Rattle.recfile.specs.declared.file_fault.FileFault.TheVariants.{Device, NotEmpty, BadLength, BadMagic, BadVersion, BadOrder, NotClean, BadHeader, Damaged, WrongCount, TooManyRecords, Memory, BadJournal}
 

@@ -12,27 +12,27 @@ use Rattle.recfile.specs.Dumped.{IsFirstOrOutside, IsOutsideFile}
 use Rattle.recfile.specs.declared.file_fault.FileFault.{FileFault}
 use Rattle.recfile.specs.declared.file_fault.FileFault.TheVariants.{BadJournal}
 
--- the file is closed and has these records
-abbrev pub HasRecords : Contents → PageFile → Type 0
-HasRecords records file = (tree : Tree) × IsClosed second_version file.pages file.tail tree records
+-- the file is closed and has these records, in a tree of this order
+abbrev pub HasRecords : ℕ → Contents → PageFile → Type 0
+HasRecords order records file = (tree : Tree) × (tree.order ≡ order) × IsClosed second_version file.pages file.tail tree records
 
 -- a crash at any moment since the disk was opened leaves files that stand for this file
 abbrev pub LeavesOld : {D : Type 0} → Ghosts D → PageFile → D → Type 0
 LeavesOld g old disk = (c : Files) → g.left_since disk 0 c → StandsFor old c
 
--- or for one that is closed and has these records
-abbrev pub LeavesEither : {D : Type 0} → Ghosts D → PageFile → Contents → D → Type 0
-LeavesEither g old records disk = (c : Files) → g.left_since disk 0 c → StandsFor old c ⊎ HasRecords records (recovered c)
+-- or for one that is closed and has these records, in a tree of this order
+abbrev pub LeavesEither : {D : Type 0} → Ghosts D → PageFile → ℕ → Contents → D → Type 0
+LeavesEither g old order records disk = (c : Files) → g.left_since disk 0 c → StandsFor old c ⊎ HasRecords order records (recovered c)
 
--- the file is closed, has these records, and the device keeps it with no side file
-pub record IsKept {D : Type 0} (g : Ghosts D) (records : Contents) (disk : D) : Type 0 where
-  pub has : HasRecords records (g.seen disk).main
+-- the file is closed, has these records in a tree of this order, and the device keeps it with no side file
+pub record IsKept {D : Type 0} (g : Ghosts D) (order : ℕ) (records : Contents) (disk : D) : Type 0 where
+  pub has : HasRecords order records (g.seen disk).main
   pub settled : IsSettled g (g.seen disk).main disk
 
--- The file is closed with these records, where no fault stopped that. A crash at any moment leaves the old file or that one.
-pub record ClosesSafely {D : Type 0} (g : Ghosts D) (old : PageFile) (disk : D) (unclosed : Option FileFault) (records : Contents) : Type 0 where
-  pub any_moment : LeavesEither g old records disk
-  pub kept : unclosed ≡ None → IsKept g records disk
+-- The file is closed with these records, in a tree of this order, where no fault stopped that. A crash at any moment leaves the old file or that one.
+pub record ClosesSafely {D : Type 0} (g : Ghosts D) (old : PageFile) (disk : D) (unclosed : Option FileFault) (order : ℕ) (records : Contents) : Type 0 where
+  pub any_moment : LeavesEither g old order records disk
+  pub kept : unclosed ≡ None → IsKept g order records disk
 
 -- a fault from outside, or a side file of a longer file
 abbrev pub IsOutsideDisk : Files → FileFault → Type 0

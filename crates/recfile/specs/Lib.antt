@@ -12,5 +12,6 @@ pub mod Room
 pub mod Statuses
 pub mod TreeLine
 pub mod StoreSession
+pub mod FilesAt
 pub mod Tasks
 pub mod Words

@@ -1,11 +1,18 @@
 -- What doing a task of the program leaves, and its status.
-use Rattle.std.specs.Prelude.{◌≡◌, ◌⊎◌, ℕ, ◌<◌, List, length, take, Option, None, Result, Ok, Err}
+use Rattle.std.specs.Prelude.{◌≡◌, ◌⊎◌, ℕ, ◌<◌, List, length, take, Option, None, Result, Ok, Err, if◌then◌else◌}
+use Rattle.std.specs.Result.{is_err}
 use Rattle.std.specs.Io.KnownBytes.{Appends}
-use Rattle.btree_delete.specs.Created.{IsOrder}
+use Rattle.rec_types.specs.Contents.{Contents}
+use Rattle.rec_types.specs.LimitBounds.{most_records}
+use Rattle.page_store.specs.declared.store_state.StoreState.{Ghosts as StoreGhosts}
+use Rattle.page_journal.specs.Files.{Files}
+use Rattle.page_journal.specs.declared.disk_state.DiskState.{Ghosts as DiskGhosts}
+use Rattle.btree_insert.specs.declared.tree.Tree.{Tree}
 use Rattle.command_text.specs.Dump.{dump_text}
+use Rattle.recfile.specs.FilesAt.{Creates, RunsAt, Tells, TellsRecords, TellsTree}
 use Rattle.recfile.specs.TreeLine.{counts_line}
 use Rattle.recfile.specs.Whole.{empty_file}
-use Rattle.recfile.specs.WholeSession.{RunsAny, RunsFile}
+use Rattle.recfile.specs.WholeSession.{RunsFile}
 use Rattle.recfile.specs.declared.dump.DumpFault.{DumpFault}
 use Rattle.recfile.specs.declared.dump.DumpFault.TheVariants.{File, Write}
 use Rattle.recfile.specs.declared.file_fault.FileFault.{FileFault}
@@ -32,29 +39,35 @@ text_status (Ok done) = 0
 text_status (Err (File fault)) = 1
 text_status (Err Write) = 3
 
--- a text was asked for, and this is the status
-abbrev pub WritesText : (List ℕ → Type 0) → Option (List ℕ) → Option (List ℕ) → ℕ → Type 0
-WritesText Is held holds status = (done : Result (Unit {0}) DumpFault) × Writes Is held holds done × (status ≡ text_status done)
+-- a text about the file at a path was asked for, and this is the status
+abbrev pub WritesText : {S : Type 0} → (List ℕ → Type 0) → StoreGhosts S → (Files → Type 0) → (Tree → Contents → ℕ → Result (Unit {0}) DumpFault → Type 0) → Option (List ℕ) → Option (List ℕ) → ℕ → Type 0
+WritesText Is g At Told held holds status =
+    (done : Result (Unit {0}) DumpFault) × Writes Is held holds done × Tells g At most_records Told held holds done × (status ≡ text_status done)
 
 -- the status where only a file was asked for
 abbrev pub IsFileStatus : ℕ → Type 0
 IsFileStatus status = (status ≡ 0) ⊎ (status ≡ 1)
 
--- What doing a task leaves of what the reader has and of what the writer holds, and its status: a file is made of an
--- order alone that a tree may have; a session has the limits and the manner that were asked for, or the file isn't opened,
--- and nothing is read and written then; what a check and a dump write is a line and a script.
-abbrev pub Does : Task → Option (List ℕ) → Option (List ℕ) → Option (List ℕ) → Option (List ℕ) → ℕ → Type 0
-Does (tasks.Create order path) left leaves held holds status =
-    (leaves ≡ left) × (holds ≡ held) × (((status ≡ 0) × IsOrder order) ⊎ (status ≡ 1))
-Does (tasks.Run limits manner path) left leaves held holds status =
-    ((status ≡ 1) × (leaves ≡ left) × (holds ≡ held)) ⊎ ((unclosed : Option FileFault) × RunsAny manner limits left leaves held holds unclosed status)
-Does (tasks.Check path) left leaves held holds status = (leaves ≡ left) × WritesText IsLine held holds status
-Does (tasks.Dump path) left leaves held holds status = (leaves ≡ left) × WritesText IsDump held holds status
-Does (tasks.Explain path) left leaves held holds status = (leaves ≡ left) × IsFileStatus status
-Does (tasks.Memory limits manner) left leaves held holds status = RunsFile manner left leaves held holds (empty_file limits) None status
+-- What doing a task leaves of what the reader has and of what the writer holds, and its status: a file is made, opened and
+-- read at the path that was asked for, or there is none, and nothing is read and written then; a session has the limits
+-- and the manner that were asked for, and closes its file so that no crash loses it; what a check and a dump write is a
+-- line and a script.
+abbrev pub Does : {D S : Type 0} → DiskGhosts D → StoreGhosts S → (List ℕ → Files → Type 0) → Task → Option (List ℕ) → Option (List ℕ) → Option (List ℕ) → Option (List ℕ) → ℕ → Type 0
+Does disks stores at (tasks.Create order path) left leaves held holds status =
+    (leaves ≡ left) × (holds ≡ held)
+    × ((made : Result (Unit {0}) FileFault) × Creates stores order made × (status ≡ (if is_err made then 1 else 0)))
+Does disks stores at (tasks.Run limits manner path) left leaves held holds status =
+    ((status ≡ 1) × (leaves ≡ left) × (holds ≡ held)) ⊎ RunsAt disks (at path.now) manner limits left leaves held holds status
+Does disks stores at (tasks.Check path) left leaves held holds status =
+    (leaves ≡ left) × WritesText IsLine stores (at path.now) (TellsTree held holds) held holds status
+Does disks stores at (tasks.Dump path) left leaves held holds status =
+    (leaves ≡ left) × WritesText IsDump stores (at path.now) (TellsRecords held holds) held holds status
+Does disks stores at (tasks.Explain path) left leaves held holds status = (leaves ≡ left) × IsFileStatus status
+Does disks stores at (tasks.Memory limits manner) left leaves held holds status =
+    RunsFile manner left leaves held holds (empty_file limits) None status
 
 -- The words asked for a task, and it was done; or they asked for nothing: nothing is read, and the status is that of help
 -- that was asked for, or of a fault of the words.
-abbrev pub DoesAny : Option (List ℕ) → Option (List ℕ) → Option (List ℕ) → Option (List ℕ) → ℕ → Type 0
-DoesAny left leaves held holds status =
-    ((task : Task) × Does task left leaves held holds status) ⊎ ((leaves ≡ left) × ((status ≡ 0) ⊎ (status ≡ 2)))
+abbrev pub DoesAny : {D S : Type 0} → DiskGhosts D → StoreGhosts S → (List ℕ → Files → Type 0) → Option (List ℕ) → Option (List ℕ) → Option (List ℕ) → Option (List ℕ) → ℕ → Type 0
+DoesAny disks stores at left leaves held holds status =
+    ((task : Task) × Does disks stores at task left leaves held holds status) ⊎ ((leaves ≡ left) × ((status ≡ 0) ⊎ (status ≡ 2)))

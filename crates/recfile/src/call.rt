@@ -1,3 +1,4 @@
+ghost use Rattle.record_file.specs.TableCalls.{KeepsOrigin};
 ghost use Rattle.std.specs.Prelude.{◌≡◌, MatchOption, Ok, None, if◌then◌else◌};
 ghost use Rattle.command_text.specs.declared.command.Command.TheVariants as commands;
 ghost use Rattle.recfile.specs.Run.{HasReply, LineHasReply, says_command};
@@ -9,26 +10,29 @@ use record_file::RecordFile;
 
 // The records of the file, or why there is no list of them.
 fn list<T: Table>(file: &mut RecordFile<T>) -> Reply
-    ensures { IsKeptSeen (seen T.TableState file.old) → IsKeptSeen (seen T.TableState file.new)
+    ensures told { IsKeptSeen (seen T.TableState file.old) → IsKeptSeen (seen T.TableState file.new)
         → HasReply (seen T.TableState file.old) (Ok commands.List) result
         (seen T.TableState file.new) }
+    ensures origin { KeepsOrigin T.TableState file.old file.new }
 {
     Reply::List(file.entries().map(EntryList::new))
 }
 
 // The keys that a transaction owns.
 fn keys<T: Table>(file: &mut RecordFile<T>, tx: TxId) -> Reply
-    ensures { IsKeptSeen (seen T.TableState file.old) → IsKeptSeen (seen T.TableState file.new)
+    ensures told { IsKeptSeen (seen T.TableState file.old) → IsKeptSeen (seen T.TableState file.new)
         → HasReply (seen T.TableState file.old) (Ok (commands.Keys tx)) result
         (seen T.TableState file.new) }
+    ensures origin { KeepsOrigin T.TableState file.old file.new }
 {
     Reply::Keys(file.keys_of(tx).map(KeyList::new))
 }
 
 /// Makes the call that a command asks for.
 pub fn call<T: Table>(file: &mut RecordFile<T>, command: Command) -> Reply
-    ensures { HasReply (seen T.TableState file.old) (Ok command) result
+    ensures told { HasReply (seen T.TableState file.old) (Ok command) result
         (seen T.TableState file.new) }
+    ensures origin { KeepsOrigin T.TableState file.old file.new }
 {
     let _begun = file.begun();
     let reply = ask(file, command);
@@ -38,9 +42,10 @@ pub fn call<T: Table>(file: &mut RecordFile<T>, command: Command) -> Reply
 
 // Makes it on a file of which what stays true is true.
 fn ask<T: Table>(file: &mut RecordFile<T>, command: Command) -> Reply
-    ensures { IsKeptSeen (seen T.TableState file.old) → IsKeptSeen (seen T.TableState file.new)
+    ensures told { IsKeptSeen (seen T.TableState file.old) → IsKeptSeen (seen T.TableState file.new)
         → HasReply (seen T.TableState file.old) (Ok command) result
         (seen T.TableState file.new) }
+    ensures origin { KeepsOrigin T.TableState file.old file.new }
 {
     match command {
         Command::Begin => Reply::Begin(file.begin()),
@@ -75,10 +80,11 @@ pub fn reply_to<T: Table>(
     file: &mut RecordFile<T>,
     said: Result<Option<Command>, LineFault>,
 ) -> Option<Reply>
-    ensures { MatchOption result
+    ensures told { MatchOption result
         ((said ≡ Ok None) × (seen T.TableState file.new ≡ seen T.TableState file.old))
         (λ reply. LineHasReply (seen T.TableState file.old) said reply
         (seen T.TableState file.new)) }
+    ensures origin { KeepsOrigin T.TableState file.old file.new }
 {
     match said {
         Ok(None) => None,

@@ -1,4 +1,4 @@
-ghost use Rattle.std.specs.Prelude.{◌≡◌, ◌≤◌, ℕ, false, Err, IsTrue, IfOk, IfErr, OnOk, MatchResult};
+ghost use Rattle.std.specs.Prelude.{◌≡◌, ◌≤◌, ℕ, true, false, Err, IsTrue, IfOk, IfErr, OnOk, MatchResult};
 ghost use Rattle.std.specs.FinMap as maps;
 ghost use Rattle.rec_types.specs.Contents.{Contents};
 ghost use Rattle.rec_types.specs.Table.{counted};
@@ -55,6 +55,7 @@ fn list_in<S: Store>(
         → tree.count ≤ limits.records
         → MatchResult result.1 (λ records. records.items ≡ maps.entries contents) IsOutsideFile }
     ensures stays { StaysStore S.StoreState store result.0 }
+    ensures asked { S.shapes result.0 ≡ counted (S.shapes store) true }
     ensures device { S.failures result.0
         ≡ counted (S.failures store) (is_device_answer result.1) }
 {
@@ -126,6 +127,7 @@ pub fn dump_in<S: Store, W: Write>(
         (dump_text (maps.entries contents))) }
     ensures written { Writes IsDump (W.contents out.old) (W.contents out.new) result.1 }
     ensures stays { StaysStore S.StoreState store result.0 }
+    ensures asked { S.shapes result.0 ≡ counted (S.shapes store) true }
     ensures device { S.failures result.0
         ≡ counted (S.failures store) (is_device_dump result.1) }
 {

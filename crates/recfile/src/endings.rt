@@ -1,8 +1,9 @@
+ghost use Rattle.record_file.specs.TableCalls.{KeepsOrigin};
 ghost use Rattle.std.specs.Prelude.{◌≡◌, ◌≢◌, ℕ, Result, Err, Some, IsTrue, IfOk, IfErr, OnOk, if◌then◌else◌};
 ghost use Rattle.rec_types.specs.History.{replay};
 ghost use Rattle.record_file.specs.Abstract.{open_of};
 ghost use Rattle.record_file.specs.Runs.{seen};
-ghost use Rattle.record_file.specs.Steps.{Aborts, Resumes, abort_refusal};
+ghost use Rattle.record_file.specs.Steps.{Aborts, Resumes};
 ghost use Rattle.record_file.specs.declared.fault.AbortFault.{AbortFault};
 ghost use Rattle.record_file.specs.declared.fault.AbortFault.TheVariants as abort_faults;
 ghost use Rattle.record_file.specs.declared.fault.ResumeFault.{ResumeFault};
@@ -93,6 +94,7 @@ fn go_on<T: Table>(file: &mut RecordFile<T>, tx: TxId) -> Result<bool, EndFault>
         × Resumes file.old.file tx.0 answer file.new.file }
     ensures asks { Asks (seen T.TableState file.old) (end_cause result)
         (seen T.TableState file.new) }
+    ensures origin { KeepsOrigin T.TableState file.old file.new }
 {
     resumed(tx, file.resume(tx))
 }
@@ -103,6 +105,7 @@ fn give_up<T: Table>(file: &mut RecordFile<T>, tx: TxId) -> Result<(), EndFault>
         × Aborts file.old.file tx.0 answer file.new.file }
     ensures asks { Asks (seen T.TableState file.old) (end_cause result)
         (seen T.TableState file.new) }
+    ensures origin { KeepsOrigin T.TableState file.old file.new }
 {
     aborted(tx, file.abort(tx))
 }
@@ -114,6 +117,7 @@ fn end_one<T: Table>(file: &mut RecordFile<T>, tx: TxId) -> Result<bool, EndFaul
     ensures number { IfErr result (λ fault. stopped_tx fault ≡ tx.0) }
     ensures asks { Asks (seen T.TableState file.old) (end_cause result)
         (seen T.TableState file.new) }
+    ensures origin { KeepsOrigin T.TableState file.old file.new }
 {
     let _begun = file.begun();
     if !go_on(file, tx)? {
@@ -138,6 +142,7 @@ pub fn end_all<T: Table>(file: &mut RecordFile<T>) -> Result<u32, EndFault>
     ensures stopped { IfErr result (λ fault. StopsEnding file.old.file fault file.new.file) }
     ensures asks { Asks (seen T.TableState file.old) (end_cause result)
         (seen T.TableState file.new) }
+    ensures origin { KeepsOrigin T.TableState file.old file.new }
     ensures records { IsTrue (T.sound file.old.table)
         → OnOk result (T.contents file.new.table ≡ replay file.old.file.opening
         (rest_of (open_of file.old.file) file.old.file.history)) }

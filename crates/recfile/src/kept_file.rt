@@ -44,9 +44,10 @@ fn give_back<D: Disk + Drop>(table: TreeTable<KeptStore<D>>) -> D
 // Closes the file of a table: the pages that it writes over are kept aside, then it writes, then they are given up.
 fn close_table<D: Disk + Drop>(table: TreeTable<KeptStore<D>>) -> (D, Result<(), FileFault>)
     ensures any_moment { IsTrue table.pages.steady
-        → LeavesEither D.DiskState (recovered D.began) (table_contents table) result.0 }
+        → LeavesEither D.DiskState (recovered D.began) table.tree.order (table_contents table)
+        result.0 }
     ensures closed { IsTrue table.pages.steady
-        → OnOk result.1 (IsKept D.DiskState (table_contents table) result.0) }
+        → OnOk result.1 (IsKept D.DiskState table.tree.order (table_contents table) result.0) }
     ensures fault { IfErr result.1 IsOutsideFile }
 {
     let mut table = table;
@@ -70,7 +71,7 @@ fn close_kept<D: Disk + Drop, E: Write>(
 ) -> DiskEnd<D>
     ensures opened { result.unopened ≡ None }
     ensures closed { IsTrue table.pages.steady → ClosesSafely D.DiskState (recovered D.began)
-        result.disk result.unclosed (table_contents table) }
+        result.disk result.unclosed table.tree.order (table_contents table) }
     ensures fault { IfSome result.unclosed IsOutsideFile }
     ensures status { result.status ≡ status_of false (is_some result.unclosed) script_fault }
 {
@@ -102,7 +103,8 @@ fn run_table<D: Disk + Drop, R: Read, W: Write, E: Write>(
         → EndsFile manner (R.remaining reader.old) (R.remaining reader.new)
         (W.contents out.old) (W.contents out.new)
         (opened_file (table_contents table) limits table.pages.failures)
-        (ClosesSafely D.DiskState (recovered D.began) result.disk result.unclosed)
+        (ClosesSafely D.DiskState (recovered D.began) result.disk result.unclosed
+        table.tree.order)
         result.unclosed result.status }
     ensures stopped { IsTrue table.pages.steady → table.refusals ≡ 0 → table.damages ≡ no_damage
         → result.status ≡ 4 → LeavesOld D.DiskState (recovered D.began) result.disk }
@@ -172,7 +174,7 @@ fn run_stored<D: Disk + Drop, R: Read, W: Write, E: Write>(
         → MatchOption result.unopened (EndsFile manner (R.remaining reader.old)
         (R.remaining reader.new) (W.contents out.old) (W.contents out.new)
         (opened_file contents limits 0)
-        (ClosesSafely D.DiskState (recovered D.began) result.disk result.unclosed)
+        (ClosesSafely D.DiskState (recovered D.began) result.disk result.unclosed tree.order)
         result.unclosed result.status)
         IsOutsideFile }
 {
@@ -223,7 +225,7 @@ pub fn run_kept<D: Disk + Drop, R: Read, W: Write, E: Write>(
         → MatchOption result.unopened (EndsFile manner (R.remaining reader.old)
         (R.remaining reader.new) (W.contents out.old) (W.contents out.new)
         (opened_file contents limits 0)
-        (ClosesSafely D.DiskState (recovered D.began) result.disk result.unclosed)
+        (ClosesSafely D.DiskState (recovered D.began) result.disk result.unclosed tree.order)
         result.unclosed result.status)
         (IsOutsideDisk D.began) }
 {

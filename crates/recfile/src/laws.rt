@@ -7,6 +7,10 @@ ghost use Rattle.rec_types.specs.LimitBounds.{Bounds};
 ghost use Rattle.rec_types.specs.Table.{greatest_count};
 ghost use Rattle.record_file.specs.Abstract.{File, new_file, open_of};
 ghost use Rattle.record_file.specs.Runs.{Seen};
+ghost use Rattle.page_store.specs.Journal.{Journal, noted};
+ghost use Rattle.page_store.specs.declared.step.Step.TheVariants as steps;
+ghost use Rattle.btree_delete.specs.Closing.{closing};
+ghost use Rattle.btree_delete.specs.TableView.{TableView};
 ghost use Rattle.command_text.specs.Dump.{dump_text, CanBePut};
 ghost use Rattle.command_text.specs.Refusals.{is_refusal};
 ghost use Rattle.command_text.specs.Script.{entries_of};
@@ -15,9 +19,11 @@ ghost use Rattle.recfile.specs.Ending.{EndsAll, without};
 ghost use Rattle.recfile.specs.Examples.{four_changes, two_taken_back};
 ghost use Rattle.recfile.specs.Room.{HasRoomFor, was_kept};
 ghost use Rattle.recfile.specs.Run.{Session};
+ghost use Rattle.recfile.specs.StoreSession.{WritesBack};
 ghost use Rattle.recfile.specs.WholeSession.{EndsFile, IsSession};
 ghost use Rattle.recfile.specs.declared.endings.EndFault.{EndFault};
 ghost use Rattle.recfile.specs.declared.file_fault.FileFault.{FileFault};
+ghost use Rattle.recfile.specs.declared.file_fault.FileFault.TheVariants as faults;
 ghost use Rattle.recfile.specs.declared.manner.Manner.{Manner};
 ghost use Rattle.recfile.specs.declared.script.RunFault.{RunFault};
 
@@ -68,4 +74,21 @@ pub fn dumps_have_room()
         → Session old (entries_of (dump_text (maps.entries records))) replies new
         → All (λ r. was_kept r ≡ false) replies → All (λ r. is_refusal r ≡ false) replies }
     ensures fewer { (limits : Bounds) → limits.records ≡ 1 → HasRoomFor 2 limits → ⊥ }
+{}
+
+/// A table that was changed is closed by writing it back once: not by writing nothing, nor by writing it back twice, and a
+/// closing that stopped hasn't begun by telling the device to keep what there was. One that wasn't changed is closed by
+/// writing nothing, and so is one that found no memory.
+pub fn closings_write_back_once()
+    ensures nothing { (old : Journal) (t : TableView) → t.pages.changed ≡ true
+        → WritesBack (Some old) t None (Some old) → ⊥ }
+    ensures twice { (old : Journal) (t : TableView) → t.pages.changed ≡ true
+        → WritesBack (Some old) t None (noted (noted (Some old) (closing t)) (closing t)) → ⊥ }
+    ensures kept_first { (old : Journal) (t : TableView) (fault : FileFault) → old.steps ≡ []
+        → t.pages.changed ≡ true
+        → WritesBack (Some old) t (Some fault) (noted (Some old) (steps.Sync ∷ [])) → ⊥ }
+    ensures unchanged { (old new : Journal) (t : TableView) → t.pages.changed ≡ false
+        → WritesBack (Some old) t None (Some new) → new.steps ≡ old.steps }
+    ensures no_memory { (old new : Option Journal) (t : TableView)
+        → WritesBack old t (Some faults.Memory) new → new ≡ old }
 {}

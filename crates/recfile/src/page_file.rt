@@ -1,4 +1,4 @@
-ghost use Rattle.std.specs.Prelude.{◌≡◌, ◌≤◌, ℕ, None, false, is_some, length, IsTrue, IfOk, IfErr, IfSome, OnOk, MatchOption, MatchResult};
+ghost use Rattle.std.specs.Prelude.{◌≡◌, ◌≤◌, ℕ, None, true, false, is_some, length, IsTrue, IfOk, IfErr, IfSome, OnOk, MatchOption, MatchResult};
 ghost use Rattle.std.specs.FinMap as maps;
 ghost use Rattle.std.specs.String.{string_bytes};
 ghost use Rattle.std.specs.Io.KnownBytes.{Appends};
@@ -10,11 +10,12 @@ ghost use Rattle.btree_node.specs.Layout.{second_version};
 ghost use Rattle.btree_insert.specs.declared.tree.Tree.{Tree as TreeValue};
 ghost use Rattle.btree_delete.specs.CleanFile.{IsFirst, IsOutside, is_device_fault};
 ghost use Rattle.btree_delete.specs.Created.{IsOrder};
+ghost use Rattle.btree_delete.specs.Origins.{opened_in, origin_of};
 ghost use Rattle.btree_delete.specs.TableView.{IsClosed, table_contents};
 ghost use Rattle.recfile.specs.Dumped.{CanBeOpened, DumpStops, IsDumpFault, IsOutsideFile, IsSilent, is_device_dump};
 ghost use Rattle.recfile.specs.FileFaults.{IsMakingFault, IsRefusal, by_device, is_device_answer};
 ghost use Rattle.recfile.specs.Statuses.{status_of};
-ghost use Rattle.recfile.specs.StoreSession.{ClosesIn, RunsIn};
+ghost use Rattle.recfile.specs.StoreSession.{ClosesIn, MakesIn, RunsIn, WritesBack, asks_shape};
 ghost use Rattle.recfile.specs.Tasks.{IsLine, Writes};
 ghost use Rattle.recfile.specs.TreeLine.{counts_in, counts_line};
 ghost use Rattle.recfile.specs.WholeSession.{EndsFile, opened_file};
@@ -48,6 +49,8 @@ pub fn create_in<S: Store>(
     ensures fault { IfErr result.1 (IsMakingFault (S.pages store) (S.tail store) order) }
     ensures refused { IfErr result.1
         (λ fault. IsRefusal fault → StaysStore S.StoreState store result.0) }
+    ensures written { MakesIn S.StoreState store order result.1 result.0 }
+    ensures asked { S.shapes result.0 ≡ counted (S.shapes store) (asks_shape result.1) }
     ensures device { S.failures result.0
         ≡ counted (S.failures store) (is_device_answer result.1) }
     ensures steady { S.steady result.0 ≡ S.steady store }
@@ -146,6 +149,7 @@ pub fn check_in<S: Store, W: Write>(
         (counts_line (counts_in tree contents (length (S.pages store))))) }
     ensures written { Writes IsLine (W.contents out.old) (W.contents out.new) result.1 }
     ensures stays { StaysStore S.StoreState store result.0 }
+    ensures asked { S.shapes result.0 ≡ counted (S.shapes store) true }
     ensures device { S.failures result.0
         ≡ counted (S.failures store) (is_device_dump result.1) }
 {
@@ -173,8 +177,12 @@ pub struct FileEnd<S: Store> {
 // Closes the file of a table, and answers the end of the session. A fault has its line.
 fn close_in<S: Store, E: Write>(table: TreeTable<S>, script_fault: bool, err: &mut E) -> FileEnd<S>
     ensures opened { result.unopened ≡ None }
-    ensures closed { IsTrue table.pages.steady
-        → ClosesIn S.StoreState result.store result.unclosed (table_contents table) }
+    ensures closed { IsTrue table.pages.steady → result.unclosed ≡ None
+        → IsClosed second_version (S.pages result.store) (S.tail result.store) table.tree
+        (table_contents table) }
+    ensures written { WritesBack table.pages.journal table result.unclosed
+        (S.journal result.store) }
+    ensures asked { S.shapes result.store ≡ table.pages.shapes }
     ensures fault { IfSome result.unclosed IsOutsideFile }
     ensures status { result.status ≡ status_of false (is_some result.unclosed) script_fault }
     ensures device { S.failures result.store
@@ -200,7 +208,8 @@ fn close_in<S: Store, E: Write>(table: TreeTable<S>, script_fault: bool, err: &m
     }
 }
 
-// Runs a session over the table of a page file, and closes the file.
+// Runs a session over the table of a page file, and closes the file. What it leaves is told of any store that the table
+// was made of.
 fn run_opened<S: Store, R: Read, W: Write, E: Write>(
     alloc: Global,
     table: TreeTable<S>,
@@ -212,14 +221,20 @@ fn run_opened<S: Store, R: Read, W: Write, E: Write>(
 ) -> FileEnd<S>
     requires limit { table.limit ≡ limits.records }
     ensures opened { result.unopened ≡ None }
-    ensures ran { RunsIn S.StoreState result.store manner limits (R.remaining reader.old)
+    ensures asked { S.shapes result.store ≡ table.pages.shapes }
+    ensures ran { (store : S) → origin_of table ≡ opened_in S.StoreState table.tree.order store
+        → RunsIn S.StoreState store result.store manner limits (R.remaining reader.old)
         (R.remaining reader.new) (W.contents out.old) (W.contents out.new)
         result.unclosed result.status }
-    ensures session { IsTrue table.pages.steady → table.refusals ≡ 0 → table.damages ≡ no_damage
+    ensures stopped { (store : S) → origin_of table ≡ opened_in S.StoreState table.tree.order store
+        → result.status ≡ 4 → StaysStore S.StoreState store result.store }
+    ensures session { (store : S) → origin_of table ≡ opened_in S.StoreState table.tree.order store
+        → IsTrue table.pages.steady → table.refusals ≡ 0 → table.damages ≡ no_damage
         → EndsFile manner (R.remaining reader.old) (R.remaining reader.new)
         (W.contents out.old) (W.contents out.new)
         (opened_file (table_contents table) limits table.pages.failures)
-        (ClosesIn S.StoreState result.store result.unclosed) result.unclosed result.status }
+        (ClosesIn S.StoreState store result.store result.unclosed table.tree.order)
+        result.unclosed result.status }
 {
     let mut file = RecordFile::new(alloc, table, limits);
     let end = run_session(alloc, manner, &mut file, reader, out, err);
@@ -253,20 +268,23 @@ pub fn run_in<S: Store, R: Read, W: Write, E: Write>(
         × (reader.new ≡ reader.old) × (out.new ≡ out.old)) }
     ensures untouched { IfSome result.unopened (λ fault. StaysStore S.StoreState store result.store
         × (S.failures result.store ≡ counted (S.failures store) (is_device_fault fault))) }
+    ensures asked { S.shapes result.store ≡ counted (S.shapes store) true }
     ensures closed { IsTrue (S.steady store) → result.unopened ≡ None
         → CanBeOpened (S.pages store) (S.tail store) limits.records }
     ensures first { IsTrue (S.steady store) → IfSome result.unopened
         (IsFirst (S.pages store) (S.tail store) limits.records) }
-    ensures ran { result.unopened ≡ None → RunsIn S.StoreState result.store manner limits
+    ensures ran { result.unopened ≡ None → RunsIn S.StoreState store result.store manner limits
         (R.remaining reader.old) (R.remaining reader.new)
         (W.contents out.old) (W.contents out.new) result.unclosed result.status }
+    ensures stopped { result.status ≡ 4 → StaysStore S.StoreState store result.store }
     ensures session { IsTrue (S.steady store) → (tree : TreeValue) → (contents : Contents)
         → (version : ℕ) → IsClosed version (S.pages store) (S.tail store) tree contents
         → tree.count ≤ limits.records
         → MatchOption result.unopened (EndsFile manner (R.remaining reader.old) (R.remaining reader.new)
         (W.contents out.old) (W.contents out.new)
         (opened_file contents limits (S.failures store))
-        (ClosesIn S.StoreState result.store result.unclosed) result.unclosed result.status)
+        (ClosesIn S.StoreState store result.store result.unclosed tree.order)
+        result.unclosed result.status)
         IsOutside }
 {
     match TreeTable::open_from(alloc, store, limits) {

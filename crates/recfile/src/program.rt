@@ -1,86 +1,64 @@
-ghost use Rattle.std.specs.Prelude.{◌≡◌, ◌⊎◌, OnOk, if◌then◌else◌};
+ghost use Rattle.std.specs.Prelude.{◌≡◌, ◌⊎◌, if◌then◌else◌};
 ghost use Rattle.std.specs.Result.{is_err};
-ghost use Rattle.btree_delete.specs.Created.{IsOrder};
+ghost use Rattle.rec_types.specs.LimitBounds.{most_records};
+ghost use Rattle.recfile.specs.FilesAt.{Creates, Tells, TellsRecords, TellsTree};
 ghost use Rattle.recfile.specs.Tasks.{Does, DoesAny, IsDump, IsLine, Writes, text_status};
 
 use crate::dump::{DumpFault, dump_in};
-use crate::explain::explain_file;
 use crate::file_fault::FileFault;
 use crate::kept_file::run_kept;
 use crate::limits::greatest_limits;
 use crate::page_file::{check_in, create_in};
+use crate::page_files::PageFiles;
 use crate::session::run_memory;
 use crate::statuses::exit_status;
 use crate::tell::tell;
 use crate::words::{Task, UsageFault, read_words};
-use page_journal::{FileDisk, has_side_file};
-use page_store::{FileStore, Lock};
 use std::alloc::Global;
-use std::fs::OpenFile;
 use std::io::{Read, Write};
-use std::os::unix::fs::FileExt;
-use std::rt::Files;
 
 // The status where the words ask for nothing.
 const USAGE: u8 = 2;
 
-// Makes a page file at a path where there is none. A side file of that name is of another file, and stays; then no file is
-// made.
-fn create<F: OpenFile + FileExt + Lock + Drop, H: Files<File = F>>(
-    rt: &H,
-    alloc: Global,
-    order: u16,
-    path: &str,
-) -> Result<(), FileFault>
-    ensures { OnOk result (IsOrder order) }
+// Makes a page file at a path where there is none.
+fn create<P: PageFiles>(files: &P, alloc: Global, order: u16, path: &str) -> Result<(), FileFault>
+    ensures { Creates P.Pages.StoreState order result }
 {
-    let store = FileStore::create_new(rt, path)?;
-    if has_side_file(rt, alloc, path)? {
-        rt.remove_file(path)?;
-        return Err(FileFault::BadJournal);
-    }
+    let store = files.create(alloc, path)?;
     let (_store, made) = create_in(alloc, store, order, greatest_limits());
     made
 }
 
-// Opens the page file at a path to read it. Where a side file stands beside it a closing was stopped, and it isn't
-// clean: putting the old pages back would write.
-fn open_clean<F: OpenFile + FileExt + Lock + Drop, H: Files<File = F>>(
-    rt: &H,
-    alloc: Global,
-    path: &str,
-) -> Result<FileStore<F>, FileFault> {
-    let store = FileStore::open_to_read(rt, path)?;
-    if has_side_file(rt, alloc, path)? {
-        return Err(FileFault::NotClean);
-    }
-    Ok(store)
-}
-
 // Tells of the tree of the page file at a path.
-fn check<F: OpenFile + FileExt + Lock + Drop, H: Files<File = F>, W: Write>(
-    rt: &H,
+fn check<P: PageFiles, W: Write>(
+    files: &P,
     alloc: Global,
     path: &str,
     out: &mut W,
 ) -> Result<(), DumpFault>
-    ensures { Writes IsLine (W.contents out.old) (W.contents out.new) result }
+    ensures line { Writes IsLine (W.contents out.old) (W.contents out.new) result }
+    ensures told { Tells P.Pages.StoreState (P.at files.now path.now) most_records
+        (TellsTree (W.contents out.old) (W.contents out.new))
+        (W.contents out.old) (W.contents out.new) result }
 {
-    let store = open_clean(rt, alloc, path)?;
+    let store = files.open_clean(alloc, path)?;
     let (_store, told) = check_in(alloc, store, greatest_limits(), out);
     told
 }
 
 // Writes the records of the page file at a path as a script.
-fn dump<F: OpenFile + FileExt + Lock + Drop, H: Files<File = F>, W: Write>(
-    rt: &H,
+fn dump<P: PageFiles, W: Write>(
+    files: &P,
     alloc: Global,
     path: &str,
     out: &mut W,
 ) -> Result<(), DumpFault>
-    ensures { Writes IsDump (W.contents out.old) (W.contents out.new) result }
+    ensures script { Writes IsDump (W.contents out.old) (W.contents out.new) result }
+    ensures told { Tells P.Pages.StoreState (P.at files.now path.now) most_records
+        (TellsRecords (W.contents out.old) (W.contents out.new))
+        (W.contents out.old) (W.contents out.new) result }
 {
-    let store = open_clean(rt, alloc, path)?;
+    let store = files.open_clean(alloc, path)?;
     let (_store, dumped) = dump_in(alloc, store, greatest_limits(), out);
     dumped
 }
@@ -132,23 +110,24 @@ fn show<W: Write, E: Write>(fault: UsageFault, out: &mut W, err: &mut E) -> u8
 }
 
 // Does a task, and answers the status.
-fn run_task<F: OpenFile + FileExt + Lock + Drop, H: Files<File = F>, R: Read, W: Write, E: Write>(
-    rt: &H,
+fn run_task<P: PageFiles, R: Read, W: Write, E: Write>(
+    files: &P,
     alloc: Global,
     task: Task<'_>,
     reader: &mut R,
     out: &mut W,
     err: &mut E,
 ) -> u8
-    ensures { Does task.entry (R.remaining reader.old) (R.remaining reader.new)
+    ensures { Does P.Device.DiskState P.Pages.StoreState (P.at files.now) task.entry
+        (R.remaining reader.old) (R.remaining reader.new)
         (W.contents out.old) (W.contents out.new) result }
 {
     match task {
-        Task::Create { order, path } => file_status(err, create(rt, alloc, order, path)),
-        Task::Check { path } => text_status(err, check(rt, alloc, path, out)),
-        Task::Dump { path } => text_status(err, dump(rt, alloc, path, out)),
+        Task::Create { order, path } => file_status(err, create(files, alloc, order, path)),
+        Task::Check { path } => text_status(err, check(files, alloc, path, out)),
+        Task::Dump { path } => text_status(err, dump(files, alloc, path, out)),
         Task::Explain { path } => {
-            let whole = explain_file(rt, alloc, path, out);
+            let whole = files.explain(alloc, path, out);
             exit_status(false, !whole, false)
         }
         Task::Memory { limits, manner } => run_memory(alloc, limits, manner, reader, out, err),
@@ -156,9 +135,9 @@ fn run_task<F: OpenFile + FileExt + Lock + Drop, H: Files<File = F>, R: Read, W:
             limits,
             manner,
             path,
-        } => match FileDisk::open(rt, alloc, path) {
+        } => match files.open(alloc, path) {
             Ok(disk) => run_kept(alloc, disk, limits, manner, reader, out, err).status,
-            Err(fault) => file_status(err, Err(fault.into())),
+            Err(fault) => file_status(err, Err(fault)),
         },
     }
 }
@@ -175,18 +154,20 @@ fn run_task<F: OpenFile + FileExt + Lock + Drop, H: Files<File = F>, R: Read, W:
 /// - `dump FILE` writes the records of a page file as a script that puts them, and writes nothing to it.
 /// - `explain FILE` tells what a file is, and what is wrong with it; it only reads the file. Its status is that of `check`.
 /// - `memory [--records N] [--log N] [--begins N] [--strict]` runs the script over an empty file in memory, as no word does.
-pub fn run_words<
-    F: OpenFile + FileExt + Lock + Drop,
-    H: Files<File = F>,
-    R: Read,
-    W: Write,
-    E: Write,
->(rt: &H, alloc: Global, words: &[&str], reader: &mut R, out: &mut W, err: &mut E) -> u8
-    ensures { DoesAny (R.remaining reader.old) (R.remaining reader.new)
+pub fn run_words<P: PageFiles, R: Read, W: Write, E: Write>(
+    files: &P,
+    alloc: Global,
+    words: &[&str],
+    reader: &mut R,
+    out: &mut W,
+    err: &mut E,
+) -> u8
+    ensures { DoesAny P.Device.DiskState P.Pages.StoreState (P.at files.now)
+        (R.remaining reader.old) (R.remaining reader.new)
         (W.contents out.old) (W.contents out.new) result }
 {
     match read_words(alloc, words) {
-        Ok(task) => run_task(rt, alloc, task, reader, out, err),
+        Ok(task) => run_task(files, alloc, task, reader, out, err),
         Err(fault) => show(fault, out, err),
     }
 }

@@ -1,3 +1,4 @@
+ghost use Rattle.record_file.specs.TableCalls.{KeepsOrigin};
 ghost use Rattle.std.specs.Prelude.{◌≡◌, ◌+◌, ◌<◌, ◌≤◌, List, length, take, IfOk, IfErr, OnOk};
 ghost use Rattle.std.specs.List.{flat_map};
 ghost use Rattle.std.specs.Io.KnownBytes.{Appends};
@@ -108,6 +109,7 @@ pub fn run_script<T: Table, R: Read, W: Write>(
     ensures faulted { IfErr result (Faulted (R.remaining reader.old) (R.remaining reader.new)
         (W.contents writer.old) (W.contents writer.new)
         (seen T.TableState file.old) (seen T.TableState file.new)) }
+    ensures origin { KeepsOrigin T.TableState file.old file.new }
 {
     unrefused(run_script_as(alloc, false, reader, writer, file))
 }
@@ -121,9 +123,10 @@ pub fn run_script_as<T: Table, R: Read, W: Write>(
     writer: &mut W,
     file: &mut RecordFile<T>,
 ) -> Result<u32, RunFault>
-    ensures { Ran strict (R.remaining reader.old) (R.remaining reader.new)
+    ensures ran { Ran strict (R.remaining reader.old) (R.remaining reader.new)
         (W.contents writer.old) (W.contents writer.new)
         (seen T.TableState file.old) (seen T.TableState file.new) result }
+    ensures origin { KeepsOrigin T.TableState file.old file.new }
 {
     run_from::<Brand, T, R, W>(alloc, strict, reader, writer, file, Blank::new(1))
 }
@@ -140,9 +143,10 @@ fn run_from<L: Ledger, T: Table, R: Read, W: Write>(
     requires name { blank.name ≡ L.name }
     requires parts { blank.parts ≡ L.parts }
     requires some { 0 < L.parts }
-    ensures { Ran strict (R.remaining reader.old) (R.remaining reader.new)
+    ensures ran { Ran strict (R.remaining reader.old) (R.remaining reader.new)
         (W.contents writer.old) (W.contents writer.new)
         (seen T.TableState file.old) (seen T.TableState file.new) result }
+    ensures origin { KeepsOrigin T.TableState file.old file.new }
 {
     let mut reads = Reads::<L>::new(blank);
     run_counted(alloc, strict, reader, writer, file, &mut reads)
@@ -163,6 +167,7 @@ pub fn run_script_counted<L: Ledger, T: Table, R: CountedRead<L>, W: Write>(
     ensures faulted { IfErr result (Faulted (R.left reader.old) (R.left reader.new)
         (W.contents writer.old) (W.contents writer.new)
         (seen T.TableState file.old) (seen T.TableState file.new)) }
+    ensures origin { KeepsOrigin T.TableState file.old file.new }
     ensures reads { reads.new ≤ reads.old + (longest_script + 2) }
 {
     unrefused(run_counted(alloc, false, reader, writer, file, reads))
@@ -192,6 +197,7 @@ fn run_counted<L: Ledger, T: Table, R: CountedRead<L>, W: Write>(
     ensures ran { Ran strict (R.left reader.old) (R.left reader.new)
         (W.contents writer.old) (W.contents writer.new)
         (seen T.TableState file.old) (seen T.TableState file.new) result }
+    ensures origin { KeepsOrigin T.TableState file.old file.new }
     ensures reads { reads.new ≤ reads.old + (longest_script + 2) }
 {
     let script = read_script(alloc, reader, reads)?;
@@ -214,6 +220,7 @@ fn run_lines<T: Table, W: Write>(
         × (done ≡ commands (entries_of script.now)) × AcceptedIf strict replies) }
     ensures stops { IfErr result (LinesStop strict (W.contents writer.old) (W.contents writer.new)
         (seen T.TableState file.old) (seen T.TableState file.new) script.now) }
+    ensures origin { KeepsOrigin T.TableState file.old file.new }
 {
     let mut rest = script;
     let mut done = 0;

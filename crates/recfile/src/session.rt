@@ -1,4 +1,5 @@
-ghost use Rattle.std.specs.Prelude.{None};
+ghost use Rattle.record_file.specs.TableCalls.{KeepsOrigin};
+ghost use Rattle.std.specs.Prelude.{◌≡◌, None};
 ghost use Rattle.record_file.specs.Runs.{Seen, seen};
 ghost use Rattle.recfile.specs.Whole.{empty_file};
 ghost use Rattle.recfile.specs.WholeSession.{IsSession, RanAs, RunsFile};
@@ -30,9 +31,10 @@ fn run_feed<T: Table, R: Read, W: Write>(
     writer: &mut W,
     file: &mut RecordFile<T>,
 ) -> Result<u32, RunFault>
-    ensures { RanAs manner (R.remaining reader.old) (R.remaining reader.new)
+    ensures ran { RanAs manner (R.remaining reader.old) (R.remaining reader.new)
         (W.contents writer.old) (W.contents writer.new)
         (seen T.TableState file.old) (seen T.TableState file.new) result }
+    ensures origin { KeepsOrigin T.TableState file.old file.new }
 {
     match manner.feed {
         Feed::Script => run_script_as(alloc, manner.strict, reader, writer, file),
@@ -51,9 +53,10 @@ pub fn run_session<T: Table, R: Read, W: Write, E: Write>(
     out: &mut W,
     err: &mut E,
 ) -> SessionEnd
-    ensures { (mid : Seen) × IsSession manner (R.remaining reader.old) (R.remaining reader.new)
+    ensures session { (mid : Seen) × IsSession manner (R.remaining reader.old) (R.remaining reader.new)
         (W.contents out.old) (W.contents out.new) (seen T.TableState file.old) mid
         result.script result.ended (seen T.TableState file.new) }
+    ensures origin { KeepsOrigin T.TableState file.old file.new }
 {
     let script = run_feed(alloc, manner, reader, out, file);
     tell_fault_of(err, &script);

@@ -1,3 +1,4 @@
+ghost use Rattle.record_file.specs.TableCalls.{KeepsOrigin};
 ghost use Rattle.std.specs.Prelude.{◌≡◌, ◌+◌, ◌++◌, ℕ, List, Option, OnOk, IfErr, MatchResult, if◌then◌else◌};
 ghost use Rattle.std.specs.Io.{ReadsAtMost};
 ghost use Rattle.std.specs.Io.KnownBytes.{ReadConsumes};
@@ -52,9 +53,10 @@ pub fn run_shell<T: Table, R: Read, W: Write>(
     writer: &mut W,
     file: &mut RecordFile<T>,
 ) -> Result<u32, RunFault>
-    ensures { RanLines strict (R.remaining reader.old) (R.remaining reader.new)
+    ensures ran { RanLines strict (R.remaining reader.old) (R.remaining reader.new)
         (W.contents writer.old) (W.contents writer.new)
         (seen T.TableState file.old) (seen T.TableState file.new) result }
+    ensures origin { KeepsOrigin T.TableState file.old file.new }
 {
     run_answered(alloc, strict, reader, writer, file)
 }
@@ -74,9 +76,10 @@ fn run_answered<T: Table, R: Read, W: Write>(
       held = W.contents writer.old;
       old = seen T.TableState file.old;
     } }
-    ensures { RanLines strict (R.remaining reader.old) (R.remaining reader.new)
+    ensures ran { RanLines strict (R.remaining reader.old) (R.remaining reader.new)
         (W.contents writer.old) (W.contents writer.new)
         (seen T.TableState file.old) (seen T.TableState file.new) result }
+    ensures origin { KeepsOrigin T.TableState file.old file.new }
 {
     let mut part = PartLine::new(alloc).map_err(|_| ScriptFault::Memory { done: 0 })?;
     let mut counts = Counts { done: 0, lines: 0 };
@@ -125,7 +128,7 @@ fn answer_lines<T: Table, W: Write>(
     writer: &mut W,
     file: &mut RecordFile<T>,
 ) -> Result<(), RunFault>
-    ensures { (held : Option (List ℕ)) (old : Seen) (taken : List ℕ)
+    ensures answered { (held : Option (List ℕ)) (old : Seen) (taken : List ℕ)
         → AnsweredSoFar strict held (W.contents writer.old) old (seen T.TableState file.old)
         taken part.old counts.old
         → MatchResult result
@@ -133,6 +136,7 @@ fn answer_lines<T: Table, W: Write>(
         (taken ++ bytes.now) part.new counts.new)
         (λ fault. StopsAt strict held (W.contents writer.new) old (seen T.TableState file.new)
         (ended_lines (taken ++ bytes.now)) fault) }
+    ensures origin { KeepsOrigin T.TableState file.old file.new }
 {
     let mut rest = bytes;
     while let Some((last, after)) = cut_line(rest) {
@@ -154,7 +158,7 @@ fn answer_last<T: Table, W: Write>(
     writer: &mut W,
     file: &mut RecordFile<T>,
 ) -> Result<u32, RunFault>
-    ensures { (held : Option (List ℕ)) (old : Seen) (taken : List ℕ)
+    ensures answered { (held : Option (List ℕ)) (old : Seen) (taken : List ℕ)
         → AnsweredSoFar strict held (W.contents writer.old) old (seen T.TableState file.old)
         taken part.old counts
         → MatchResult result
@@ -163,6 +167,7 @@ fn answer_last<T: Table, W: Write>(
         × (done ≡ counted_to (commands (bounded_entries_in (lines_of taken)))))
         (λ fault. StopsAt strict held (W.contents writer.new) old (seen T.TableState file.new)
         (lines_of taken) fault) }
+    ensures origin { KeepsOrigin T.TableState file.old file.new }
 {
     if part.is_new() {
         return Ok(counts.done);
@@ -190,6 +195,7 @@ fn answer_line<T: Table, W: Write>(
     ensures stops { IfErr result (LineStops strict (W.contents writer.old) (W.contents writer.new)
         (seen T.TableState file.old) said (seen T.TableState file.new)
         counts.new.done counts.new.lines) }
+    ensures origin { KeepsOrigin T.TableState file.old file.new }
 {
     counts.add(&said);
     let Some(reply) = reply_to(file, said) else {

@@ -1,7 +1,7 @@
 //! The program: `run_words` over the words that it is called with and the standard streams.
 #![tactic(auto)]
 
-use recfile::run_words;
+use recfile::{SystemFiles, run_words};
 use std::process::ExitCode;
 use std::{env, io};
 
@@ -16,7 +16,7 @@ fn main(rt: HostRuntime) -> io::Result<ExitCode> {
         words.push(text.as_str())?;
     }
     let status = run_words(
-        &rt,
+        &SystemFiles::new(&rt),
         alloc,
         &words,
         &mut rt.stdin(),

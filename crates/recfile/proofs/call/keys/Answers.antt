@@ -4,8 +4,8 @@ use Rattle.record_file.specs.Steps.{KeysOfStep, listed}
 use Rattle.recfile.proofs.CallRunLemmas.{quiet}
 use Rattle.recfile.proofs.call.keys.Goals as goal
 
-pub returns : goal.returns
-returns g c = λ was is.
+pub returns-clause-told : goal.returns-clause-told
+returns-clause-told g c = λ was is.
     let old = seen g.T.TableState c.args.file.now in
     let mapped : c.map.result ≡ listed c.keys_of.result = search rules in
     let step = subst (KeysOfStep c.args.file.now.file c.args.tx.0) (sym mapped) c.keys_of.ensures in

@@ -3,7 +3,8 @@ use Rattle.rec_types.specs.declared.transaction.Entry.{Entry}
 use Rattle.command_text.specs.declared.command.Command.TheVariants as commands
 use Rattle.command_text.specs.declared.reply.Reply.TheVariants as replies
 use Rattle.record_file.specs.declared.fault.EntriesFault.{EntriesFault}
-use Rattle.record_file.specs.Outside.{entries_cause, by_device, by_memory, named_by, NeverDamaged}
+use Rattle.record_file.specs.Outside.{by_device, by_memory, named_by, NeverDamaged}
+use Rattle.record_file.specs.Refusals.{entries_refusal, cause_by}
 use Rattle.record_file.specs.Runs.{seen, Entries}
 use Rattle.record_file.specs.Steps.{listed}
 use Rattle.record_file.proofs.CallStepLemmas.{listed_cause}
@@ -12,15 +13,15 @@ use Rattle.recfile.specs.Run.{HasReply}
 use Rattle.recfile.proofs.CallRunLemmas.{asks}
 use Rattle.recfile.proofs.call.list.Goals as goal
 
-pub returns : goal.returns
-returns g c = λ was is.
+pub returns-clause-told : goal.returns-clause-told
+returns-clause-told g c = λ was is.
     let old = seen g.T.TableState c.args.file.now in
     let new = seen g.T.TableState c.entries.new.self in
     let told = c.entries.ensures in
     let answer = listed c.entries.result in
     let mapped : c.map.result ≡ answer = search rules in
     let cause = listed_cause c.entries.result in
-    let failed = by_device (entries_cause c.entries.result) in
+    let failed = by_device (cause_by entries_refusal c.entries.result) in
     subst (λ (r : Result (List Entry) EntriesFault). HasReply old (Ok commands.List) (replies.List r) new) (sym mapped)
     (record {
       events = record { called = Entries answer; failed = failed; refused = told.memory.0 } ∷ [];

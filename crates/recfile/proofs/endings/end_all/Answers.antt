@@ -1,4 +1,4 @@
-use Rattle.std.proofs.Common.{◌≡◌, ℕ, ◌+◌, Some, None, subst, ◌∙◌, arith}
+use Rattle.std.proofs.Common.{◌≡◌, ℕ, ◌+◌, Some, None, refl, subst, ◌∙◌, arith}
 use Rattle.std.proofs.lemmas.Result.{err_from_is_err_and}
 use Rattle.rec_types.specs.History.{replay}
 use Rattle.record_file.specs.Abstract.{open_of}
@@ -15,6 +15,7 @@ loop-number-init g c = record {
   asks = asks_nothing (seen g.T.TableState c.args.file.now);
   count = omega arith;
   few = omega arith;
+  origin = refl;
 }
 
 pub returns-in_err-end_one-clause-stopped : goal.returns-in_err-end_one-clause-stopped
@@ -35,6 +36,7 @@ loop-number-preserved g c =
       asks = asks_on (seen g.T.TableState c.args.file.now) (seen g.T.TableState c.loop-number.file) (seen g.T.TableState c.end_one.new.file) None known.asks c.in_ok-end_one.ensures.asks;
       count = count_next c.loop-number.file.file c.end_one.new.file.file (c.loop-number.number + 1) c.loop-number.ended c.one_if.result _ c.in_ok-end_one.field-0 known.count c.in_ok-end_one.ensures.ended c.one_if.ensures;
       few = few_next c.loop-number.number c.loop-number.ended c.one_if.result c.in_ok-end_one.field-0 known.few c.one_if.ensures;
+      origin = c.end_one.ensures.origin ∙ known.origin;
     }
 
 pub returns-clause-ended : goal.returns-clause-ended

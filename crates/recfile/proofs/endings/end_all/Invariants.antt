@@ -11,4 +11,5 @@ invariant-loop-number g l = record {
   asks : Asks (seen g.T.TableState l.fn.file) None (seen g.T.TableState l.file);
   count : l.ended + maps.len l.file.file.txs ≡ maps.len l.fn.file.file.txs;
   few : l.ended ≤ l.number;
+  origin : g.T.TableState.origin l.file.table ≡ g.T.TableState.origin l.fn.file.table;
 }

@@ -1,7 +1,9 @@
 use Rattle.std.proofs.Common.{◌≡◌, false, is_some, Ok, Err, IsTrue, refl, sym, ap, subst, ◌∙◌}
 use Rattle.rec_types.specs.Table.{no_damage}
+use Rattle.btree_delete.specs.Origins.{Origin}
 use Rattle.btree_delete.specs.TableView.{TableView, table_contents}
 use Rattle.page_journal.specs.Files.{recovered}
+use Rattle.record_file.specs.Abstract.{OpenFile}
 use Rattle.record_file.specs.Runs.{Seen, seen}
 use Rattle.recfile.specs.WholeSession.{IsSession, opened_file}
 use Rattle.recfile.proofs.SoundRunLemmas.{sound_ran}
@@ -15,17 +17,20 @@ use Rattle.recfile.proofs.kept_file.run_table.Goals.{After-abandon-table}
 -- what the session was, over the file that was opened, and that its table is sound
 module _ (g : given.Over) (c : After-abandon-table g) where
   session : IsTrue c.args.table.pages.steady → c.args.table.refusals ≡ 0 → c.args.table.damages ≡ no_damage
-      → IsSession c.args.manner (g.R.Read.remaining c.args.reader.now) (g.R.Read.remaining c.run_session-end.new.reader) (g.W.Write.contents c.args.out.now) (g.W.Write.contents c.run_session-end.new.out) (opened_file (table_contents c.args.table) c.args.limits c.args.table.pages.failures) c.run_session-end.ensures.0 c.run_session-end.result.script c.run_session-end.result.ended (seen treed c.run_session-end.new.file)
+      → IsSession c.args.manner (g.R.Read.remaining c.args.reader.now) (g.R.Read.remaining c.run_session-end.new.reader) (g.W.Write.contents c.args.out.now) (g.W.Write.contents c.run_session-end.new.out) (opened_file (table_contents c.args.table) c.args.limits c.args.table.pages.failures) c.run_session-end.ensures.session.0 c.run_session-end.result.script c.run_session-end.result.ended (seen treed c.run_session-end.new.file)
   session steady refusals damages =
-      subst (λ (s : Seen). IsSession c.args.manner (g.R.Read.remaining c.args.reader.now) (g.R.Read.remaining c.run_session-end.new.reader) (g.W.Write.contents c.args.out.now) (g.W.Write.contents c.run_session-end.new.out) s c.run_session-end.ensures.0 c.run_session-end.result.script c.run_session-end.result.ended (seen treed c.run_session-end.new.file)) (fresh c.new-file.result c.args.table c.args.limits c.new-file.ensures steady refusals damages) c.run_session-end.ensures.1
+      subst (λ (s : Seen). IsSession c.args.manner (g.R.Read.remaining c.args.reader.now) (g.R.Read.remaining c.run_session-end.new.reader) (g.W.Write.contents c.args.out.now) (g.W.Write.contents c.run_session-end.new.out) s c.run_session-end.ensures.session.0 c.run_session-end.result.script c.run_session-end.result.ended (seen treed c.run_session-end.new.file)) (fresh c.new-file.result c.args.table c.args.limits c.new-file.ensures steady refusals damages) c.run_session-end.ensures.session.1
 
-  sound : IsTrue c.args.table.pages.steady → c.args.table.refusals ≡ 0 → c.args.table.damages ≡ no_damage → IsTrue c.run_session-end.ensures.0.sound
+  sound : IsTrue c.args.table.pages.steady → c.args.table.refusals ≡ 0 → c.args.table.damages ≡ no_damage → IsTrue c.run_session-end.ensures.session.0.sound
   sound steady refusals damages =
-      sound_ran c.args.manner c.run_session-end.result.script _ _ _ _ (opened_file (table_contents c.args.table) c.args.limits c.args.table.pages.failures) c.run_session-end.ensures.0 (session steady refusals damages).script
+      sound_ran c.args.manner c.run_session-end.result.script _ _ _ _ (opened_file (table_contents c.args.table) c.args.limits c.args.table.pages.failures) c.run_session-end.ensures.session.0 (session steady refusals damages).script
 
   table_steady : IsTrue c.args.table.pages.steady → c.args.table.refusals ≡ 0 → c.args.table.damages ≡ no_damage → IsTrue c.abandon-table.result.pages.steady
   table_steady steady refusals damages =
       ap (λ (t : TableView). t.pages.steady) c.abandon-table.ensures ∙ (session steady refusals damages).asks.sound ∙ sound steady refusals damages
+
+  same_order : c.run_session-end.new.file.table.tree.order ≡ c.args.table.tree.order
+  same_order = ap (λ (o : Origin). o.order) c.run_session-end.ensures.origin ∙ ap (λ (f : OpenFile TableView). f.table.tree.order) c.new-file.ensures
 
 pub returns-in-Ok-clause-ran : goal.returns-in-Ok-clause-ran
 returns-in-Ok-clause-ran g c = (
@@ -34,9 +39,9 @@ returns-in-Ok-clause-ran g c = (
   record {
     answer = c.run_session-end.result.script;
     ended = Ok c.in-Ok.field-0;
-    mid = c.run_session-end.ensures.0;
+    mid = c.run_session-end.ensures.session.0;
     new = seen treed c.run_session-end.new.file;
-    session = subst (λ e. IsSession c.args.manner (g.R.Read.remaining c.args.reader.now) (g.R.Read.remaining c.run_session-end.new.reader) (g.W.Write.contents c.args.out.now) (g.W.Write.contents c.run_session-end.new.out) (seen treed c.new-file.result) c.run_session-end.ensures.0 c.run_session-end.result.script e (seen treed c.run_session-end.new.file)) c.in-Ok.is c.run_session-end.ensures.1;
+    session = subst (λ e. IsSession c.args.manner (g.R.Read.remaining c.args.reader.now) (g.R.Read.remaining c.run_session-end.new.reader) (g.W.Write.contents c.args.out.now) (g.W.Write.contents c.run_session-end.new.out) (seen treed c.new-file.result) c.run_session-end.ensures.session.0 c.run_session-end.result.script e (seen treed c.run_session-end.new.file)) c.in-Ok.is c.run_session-end.ensures.session.1;
     status_is = c.close_kept.ensures.status ∙ ap (status_of false (is_some c.close_kept.result.unclosed)) c.is_err-script_fault.ensures.value;
     fault = c.close_kept.ensures.fault;
     untried = tt;
@@ -50,9 +55,9 @@ returns-in-Err-clause-ran g c = (
   record {
     answer = c.run_session-end.result.script;
     ended = Err c.in-Err.field-0;
-    mid = c.run_session-end.ensures.0;
+    mid = c.run_session-end.ensures.session.0;
     new = seen treed c.run_session-end.new.file;
-    session = subst (λ e. IsSession c.args.manner (g.R.Read.remaining c.args.reader.now) (g.R.Read.remaining c.run_session-end.new.reader) (g.W.Write.contents c.args.out.now) (g.W.Write.contents c.run_session-end.new.out) (seen treed c.new-file.result) c.run_session-end.ensures.0 c.run_session-end.result.script e (seen treed c.run_session-end.new.file)) c.in-Err.is c.run_session-end.ensures.1;
+    session = subst (λ e. IsSession c.args.manner (g.R.Read.remaining c.args.reader.now) (g.R.Read.remaining c.run_session-end.new.reader) (g.W.Write.contents c.args.out.now) (g.W.Write.contents c.run_session-end.new.out) (seen treed c.new-file.result) c.run_session-end.ensures.session.0 c.run_session-end.result.script e (seen treed c.run_session-end.new.file)) c.in-Err.is c.run_session-end.ensures.session.1;
     status_is = c.exit_status.ensures;
     fault = tt;
     untried = refl;
@@ -67,15 +72,15 @@ returns-in-Ok-clause-session g c steady refusals damages =
       run = record {
         answer = c.run_session-end.result.script;
         ended = Ok c.in-Ok.field-0;
-        mid = c.run_session-end.ensures.0;
+        mid = c.run_session-end.ensures.session.0;
         new = seen treed c.run_session-end.new.file;
-        session = subst (λ e. IsSession c.args.manner (g.R.Read.remaining c.args.reader.now) (g.R.Read.remaining c.run_session-end.new.reader) (g.W.Write.contents c.args.out.now) (g.W.Write.contents c.run_session-end.new.out) old c.run_session-end.ensures.0 c.run_session-end.result.script e (seen treed c.run_session-end.new.file)) c.in-Ok.is (session g here steady refusals damages);
+        session = subst (λ e. IsSession c.args.manner (g.R.Read.remaining c.args.reader.now) (g.R.Read.remaining c.run_session-end.new.reader) (g.W.Write.contents c.args.out.now) (g.W.Write.contents c.run_session-end.new.out) old c.run_session-end.ensures.session.0 c.run_session-end.result.script e (seen treed c.run_session-end.new.file)) c.in-Ok.is (session g here steady refusals damages);
         status_is = c.close_kept.ensures.status ∙ ap (status_of false (is_some c.close_kept.result.unclosed)) c.is_err-script_fault.ensures.value;
         fault = c.close_kept.ensures.fault;
         untried = tt;
       };
       sound = sound g here steady refusals damages;
-      closes = safely g.D.DiskState (recovered g.D.DiskState.began) c.close_kept.result.disk c.close_kept.result.unclosed c.abandon-table.result c.run_session-end.new.file.table c.abandon-table.ensures (c.close_kept.ensures.closed (table_steady g here steady refusals damages));
+      closes = safely g.D.DiskState (recovered g.D.DiskState.began) c.close_kept.result.disk c.close_kept.result.unclosed c.abandon-table.result c.run_session-end.new.file.table c.args.table.tree.order c.abandon-table.ensures (same_order g here) (c.close_kept.ensures.closed (table_steady g here steady refusals damages));
     }
 
 pub returns-in-Err-clause-session : goal.returns-in-Err-clause-session
@@ -86,9 +91,9 @@ returns-in-Err-clause-session g c steady refusals damages =
       run = record {
         answer = c.run_session-end.result.script;
         ended = Err c.in-Err.field-0;
-        mid = c.run_session-end.ensures.0;
+        mid = c.run_session-end.ensures.session.0;
         new = seen treed c.run_session-end.new.file;
-        session = subst (λ e. IsSession c.args.manner (g.R.Read.remaining c.args.reader.now) (g.R.Read.remaining c.run_session-end.new.reader) (g.W.Write.contents c.args.out.now) (g.W.Write.contents c.run_session-end.new.out) old c.run_session-end.ensures.0 c.run_session-end.result.script e (seen treed c.run_session-end.new.file)) c.in-Err.is (session g here steady refusals damages);
+        session = subst (λ e. IsSession c.args.manner (g.R.Read.remaining c.args.reader.now) (g.R.Read.remaining c.run_session-end.new.reader) (g.W.Write.contents c.args.out.now) (g.W.Write.contents c.run_session-end.new.out) old c.run_session-end.ensures.session.0 c.run_session-end.result.script e (seen treed c.run_session-end.new.file)) c.in-Err.is (session g here steady refusals damages);
         status_is = c.exit_status.ensures;
         fault = tt;
         untried = refl;

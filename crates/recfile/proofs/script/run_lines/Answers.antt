@@ -13,23 +13,24 @@ both_ways : (b : Bool) → b ≡ true → b ≡ false → ⊥
 both_ways b is isnt = absurd (cc)
 
 pub loop-rest-init : goal.loop-rest-init
-loop-rest-init g c = ([], walked_none c.args.script.now _, written-none (g.W.Write.contents c.args.writer.now), omega (arith, c.requires), omega (arith, c.requires), λ strict. All-nil _)
+loop-rest-init g c = ([], walked_none c.args.script.now _, written-none (g.W.Write.contents c.args.writer.now), omega (arith, c.requires), omega (arith, c.requires), λ strict. All-nil _, refl)
 
 pub loop-rest-preserved-in_default : goal.loop-rest-preserved-in_default
 loop-rest-preserved-in_default g c =
     let known = c.loop-rest.invariant in (
       known.0,
-      walked-on c.args.script.now c.loop-rest.rest.now c.next_line.result.1.now c.next_line.result.0.now _ _ _ known.0 c.loop-rest.done c.loop-rest.lines c.read_line-said.result known.1 c.next_line.ensures.cut c.read_line-said.ensures c.in_default.ensures.0 c.in_default.ensures.1,
+      walked-on c.args.script.now c.loop-rest.rest.now c.next_line.result.1.now c.next_line.result.0.now _ _ _ known.0 c.loop-rest.done c.loop-rest.lines c.read_line-said.result known.1 c.next_line.ensures.cut c.read_line-said.ensures c.in_default.ensures.told.0 c.in_default.ensures.told.1,
       known.2,
       omega (arith, known.3, c.next_line.ensures.shorter),
       lines_fit c.loop-rest.lines _ _ _ known.4 c.next_line.ensures.shorter,
       known.5,
+      c.reply_to.ensures.origin ∙ known.6,
     )
 
 pub returns-in_err-send-clause-stops : goal.returns-in_err-send-clause-stops
 returns-in_err-send-clause-stops g c =
     let known = c.loop-rest.invariant in
-    let more = walked-more c.args.script.now c.loop-rest.rest.now c.next_line.result.1.now c.next_line.result.0.now _ _ _ known.0 c.loop-rest.done (c.loop-rest.done + c.command_count-count.result) c.loop-rest.lines c.read_line-said.result c.in-Some.reply known.1 c.next_line.ensures.cut c.read_line-said.ensures c.in-Some.ensures (ap (λ n. c.loop-rest.done + n) c.command_count-count.ensures) in
+    let more = walked-more c.args.script.now c.loop-rest.rest.now c.next_line.result.1.now c.next_line.result.0.now _ _ _ known.0 c.loop-rest.done (c.loop-rest.done + c.command_count-count.result) c.loop-rest.lines c.read_line-said.result c.in-Some.reply known.1 c.next_line.ensures.cut c.read_line-said.ensures c.in-Some.ensures.told (ap (λ n. c.loop-rest.done + n) c.command_count-count.ensures) in
     let told = err_from_is_err_and c.from_residual.result c.from_residual.ensures.1 in
     subst (λ (r : Result ℕ RunFault). IfErr r (LinesStop c.args.strict (g.W.Write.contents c.args.writer.now) (g.W.Write.contents c.send.new.writer) (seen g.T.TableState c.args.file.now) (seen g.T.TableState c.reply_to.new.file) c.args.script.now)) (sym (told.1 ∙ ap Err told.2))
     (stops_at c.args.strict (g.W.Write.contents c.args.writer.now) (g.W.Write.contents c.loop-rest.writer) (g.W.Write.contents c.send.new.writer) _ _ c.args.script.now c.next_line.result.1.now known.0 c.in-Some.reply (c.loop-rest.done + c.command_count-count.result) c.in_err-send.field-0.0
@@ -39,7 +40,7 @@ pub returns-then-refused-clause-stops : goal.returns-then-refused-clause-stops
 returns-then-refused-clause-stops g c =
     let known = c.loop-rest.invariant in (
       c.if-strict.true,
-      refused_at (g.W.Write.contents c.args.writer.now) (g.W.Write.contents c.send.new.writer) c.args.script.now c.loop-rest.rest.now c.next_line.result.1.now c.next_line.result.0.now _ _ _ known.0 c.loop-rest.done c.loop-rest.lines c.read_line-said.result c.in-Some.reply known.1 c.next_line.ensures.cut c.read_line-said.ensures c.in-Some.ensures (known.5 c.if-strict.true) (sym c.is_refusal-refused.ensures ∙ c.if-refused.true)
+      refused_at (g.W.Write.contents c.args.writer.now) (g.W.Write.contents c.send.new.writer) c.args.script.now c.loop-rest.rest.now c.next_line.result.1.now c.next_line.result.0.now _ _ _ known.0 c.loop-rest.done c.loop-rest.lines c.read_line-said.result c.in-Some.reply known.1 c.next_line.ensures.cut c.read_line-said.ensures c.in-Some.ensures.told (known.5 c.if-strict.true) (sym c.is_refusal-refused.ensures ∙ c.if-refused.true)
           (written-more (g.W.Write.contents c.args.writer.now) (g.W.Write.contents c.loop-rest.writer) (g.W.Write.contents c.send.new.writer) known.0 c.in-Some.reply _ known.2 c.in_ok-send.ensures.ok refl),
     )
 
@@ -51,11 +52,12 @@ loop-rest-preserved g c =
       | else-strict-via-else-strict w ↦ absurd (both_ways c.args.strict strict w.if-strict.false)
     ] in (
       known.0 ++ c.in-Some.reply ∷ [],
-      walked-more c.args.script.now c.loop-rest.rest.now c.next_line.result.1.now c.next_line.result.0.now _ _ _ known.0 c.loop-rest.done (c.loop-rest.done + c.command_count-count.result) c.loop-rest.lines c.read_line-said.result c.in-Some.reply known.1 c.next_line.ensures.cut c.read_line-said.ensures c.in-Some.ensures (ap (λ n. c.loop-rest.done + n) c.command_count-count.ensures),
+      walked-more c.args.script.now c.loop-rest.rest.now c.next_line.result.1.now c.next_line.result.0.now _ _ _ known.0 c.loop-rest.done (c.loop-rest.done + c.command_count-count.result) c.loop-rest.lines c.read_line-said.result c.in-Some.reply known.1 c.next_line.ensures.cut c.read_line-said.ensures c.in-Some.ensures.told (ap (λ n. c.loop-rest.done + n) c.command_count-count.ensures),
       written-more (g.W.Write.contents c.args.writer.now) (g.W.Write.contents c.loop-rest.writer) (g.W.Write.contents c.send.new.writer) known.0 c.in-Some.reply _ known.2 c.in_ok-send.ensures.ok refl,
       count_fits (says_command c.read_line-said.result) c.loop-rest.done c.command_count-count.result _ _ _ c.command_count-count.ensures known.3 c.next_line.ensures.shorter,
       lines_fit c.loop-rest.lines _ _ _ known.4 c.next_line.ensures.shorter,
       accepted-more c.args.strict known.0 c.in-Some.reply known.5 accepted,
+      c.reply_to.ensures.origin ∙ known.6,
     )
 
 pub returns-clause-finished : goal.returns-clause-finished

@@ -1,4 +1,4 @@
-use Rattle.std.proofs.Common.{◌+◌, ◌≤◌, List, length}
+use Rattle.std.proofs.Common.{◌≡◌, ◌+◌, ◌≤◌, List, length}
 use Rattle.std.specs.List.{flat_map}
 use Rattle.std.specs.Io.KnownBytes.{Appends}
 use Rattle.command_text.specs.declared.reply.Reply.{Reply}
@@ -20,3 +20,4 @@ invariant-loop-rest g l =
     × (l.done + length l.rest ≤ 1048576)
     × (l.lines + length l.rest ≤ 1048576)
     × AcceptedIf l.fn.strict replies
+    × (g.T.TableState.origin l.file.table ≡ g.T.TableState.origin l.fn.file.table)

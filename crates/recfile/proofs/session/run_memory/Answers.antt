@@ -13,7 +13,7 @@ use Rattle.recfile.proofs.session.run_memory.Goals as goal
 
 -- what a sorted table shows
 abbrev sorted : Ghosts SortedState
-sorted = record { contents = λ t. t.contents; record_limit = λ t. t.limit; sound = λ _. true; device_failures = λ _. 0; memory_refusals = λ t. t.refusals; damages = λ _. no_damage; calls = λ t. t.calls; origin = λ _. None }
+sorted = record { contents = λ t. t.contents; record_limit = λ t. t.limit; sound = λ _. true; device_failures = λ _. 0; memory_refusals = λ t. t.refusals; damages = λ _. no_damage; calls = λ t. t.calls; Source = Unit {0}; origin = λ _. tt }
 
 -- what a run sees of a new file over an empty table
 fresh : {T : Type 0} (t : Ghosts T) (f : OpenFile T) (table : T) (limits : Bounds) → f ≡ record { table = table; file = new_file (t.contents table) limits; log = [] }
@@ -37,11 +37,11 @@ untried (Err fault) unclosed none = none
 pub returns : goal.returns
 returns g c =
     let start : seen sorted c.new-file.result ≡ empty_file c.args.limits = fresh sorted c.new-file.result c.new.result c.args.limits c.new-file.ensures (ap (λ (s : SortedState). s.contents) c.new.ensures) refl refl (ap (λ (s : SortedState). s.refusals) c.new.ensures) refl in
-    let known = subst (λ (s : Seen). IsSession c.args.manner (g.R.Read.remaining c.args.reader.now) (g.R.Read.remaining c.run_session-end.new.reader) (g.W.Write.contents c.args.out.now) (g.W.Write.contents c.run_session-end.new.out) s c.run_session-end.ensures.0 c.run_session-end.result.script c.run_session-end.result.ended (seen sorted c.run_session-end.new.file)) start c.run_session-end.ensures.1 in
+    let known = subst (λ (s : Seen). IsSession c.args.manner (g.R.Read.remaining c.args.reader.now) (g.R.Read.remaining c.run_session-end.new.reader) (g.W.Write.contents c.args.out.now) (g.W.Write.contents c.run_session-end.new.out) s c.run_session-end.ensures.session.0 c.run_session-end.result.script c.run_session-end.result.ended (seen sorted c.run_session-end.new.file)) start c.run_session-end.ensures.session.1 in
     record {
       answer = c.run_session-end.result.script;
       ended = c.run_session-end.result.ended;
-      mid = c.run_session-end.ensures.0;
+      mid = c.run_session-end.ensures.session.0;
       new = seen sorted c.run_session-end.new.file;
       session = known;
       status_is = c.exit_status.ensures ∙ (λ i. if c.is_err.ensures.value i then 4 else (if c.is_err-2.ensures.value i then 3 else 0));

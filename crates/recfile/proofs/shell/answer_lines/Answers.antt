@@ -15,26 +15,32 @@ regrouped : (front last after : List ℕ) → front ++ (last ++ 10 ∷ after) �
 regrouped front last after = ap (λ (text : List ℕ). front ++ text) (sym (append_assoc last (10 ∷ []) after)) ∙ sym (append_assoc front (last ++ 10 ∷ []) after)
 
 pub loop-last-init : goal.loop-last-init
-loop-last-init g c held old taken so_far = (
-  [],
-  refl,
-  subst (λ (text : List ℕ). AnsweredSoFar c.args.strict held (g.W.Write.contents c.args.writer.now) old (seen g.T.TableState c.args.file.now) text c.args.part.now c.args.counts.now) (sym (append-nil taken)) so_far,
-)
+loop-last-init g c = record {
+  answered = λ held old taken so_far. (
+    [],
+    refl,
+    subst (λ (text : List ℕ). AnsweredSoFar c.args.strict held (g.W.Write.contents c.args.writer.now) old (seen g.T.TableState c.args.file.now) text c.args.part.now c.args.counts.now) (sym (append-nil taken)) so_far,
+  );
+  origin = refl;
+}
 
 pub loop-last-preserved : goal.loop-last-preserved
-loop-last-preserved g c held old taken so_far =
-    let known = c.loop-last.invariant held old taken so_far in
-    let last : List ℕ = c.in-Some.last.now in
-    let after : List ℕ = c.in-Some.after.now in (
-      known.0 ++ (last ++ 10 ∷ []),
-      cut_off c.args.bytes.now known.0 c.loop-last.rest.now last after known.1 c.in-Some.ensures.0 ∙ regrouped known.0 last after,
-      subst (λ (text : List ℕ). AnsweredSoFar c.args.strict held (g.W.Write.contents c.answer_line.new.writer) old (seen g.T.TableState c.answer_line.new.file) text c.end-said.new.self c.answer_line.new.counts) (append_assoc taken known.0 (last ++ 10 ∷ []))
-          (so_far_ended c.args.strict held (g.W.Write.contents c.loop-last.writer) (g.W.Write.contents c.answer_line.new.writer) old _ _ (taken ++ known.0) last c.loop-last.part c.end-said.new.self c.loop-last.counts c.answer_line.new.counts c.end-said.result known.2 c.in-Some.ensures.1 c.end-said.ensures.said c.end-said.ensures.next c.in_ok-answer_line.ensures.answered c.answer_line.ensures.done c.answer_line.ensures.lines),
-    )
+loop-last-preserved g c = record {
+  answered = λ held old taken so_far.
+      let known = c.loop-last.invariant.answered held old taken so_far in
+      let last : List ℕ = c.in-Some.last.now in
+      let after : List ℕ = c.in-Some.after.now in (
+        known.0 ++ (last ++ 10 ∷ []),
+        cut_off c.args.bytes.now known.0 c.loop-last.rest.now last after known.1 c.in-Some.ensures.0 ∙ regrouped known.0 last after,
+        subst (λ (text : List ℕ). AnsweredSoFar c.args.strict held (g.W.Write.contents c.answer_line.new.writer) old (seen g.T.TableState c.answer_line.new.file) text c.end-said.new.self c.answer_line.new.counts) (append_assoc taken known.0 (last ++ 10 ∷ []))
+            (so_far_ended c.args.strict held (g.W.Write.contents c.loop-last.writer) (g.W.Write.contents c.answer_line.new.writer) old _ _ (taken ++ known.0) last c.loop-last.part c.end-said.new.self c.loop-last.counts c.answer_line.new.counts c.end-said.result known.2 c.in-Some.ensures.1 c.end-said.ensures.said c.end-said.ensures.next c.in_ok-answer_line.ensures.answered c.answer_line.ensures.done c.answer_line.ensures.lines),
+      );
+  origin = c.answer_line.ensures.origin ∙ c.loop-last.invariant.origin;
+}
 
-pub returns-in_err-answer_line : goal.returns-in_err-answer_line
-returns-in_err-answer_line g c held old taken so_far =
-    let known = c.loop-last.invariant held old taken so_far in
+pub returns-in_err-answer_line-clause-answered : goal.returns-in_err-answer_line-clause-answered
+returns-in_err-answer_line-clause-answered g c held old taken so_far =
+    let known = c.loop-last.invariant.answered held old taken so_far in
     let last : List ℕ = c.in-Some.last.now in
     let after : List ℕ = c.in-Some.after.now in
     let told = err_from_is_err_and c.from_residual.result c.from_residual.ensures.1 in
@@ -43,8 +49,8 @@ returns-in_err-answer_line g c held old taken so_far =
     (ap (λ (text : List ℕ). taken ++ text) (cut_off c.args.bytes.now known.0 c.loop-last.rest.now last after known.1 c.in-Some.ensures.0) ∙ sym (append_assoc taken known.0 (last ++ 10 ∷ after)))
     c.in_err-answer_line.ensures.stops c.answer_line.ensures.done c.answer_line.ensures.lines)
 
-pub returns : goal.returns
-returns g c held old taken so_far =
-    let known = c.loop-last.invariant held old taken so_far in
+pub returns-clause-answered : goal.returns-clause-answered
+returns-clause-answered g c held old taken so_far =
+    let known = c.loop-last.invariant.answered held old taken so_far in
     subst (λ (text : List ℕ). AnsweredSoFar c.args.strict held (g.W.Write.contents c.loop-last.writer) old (seen g.T.TableState c.loop-last.file) text c.push.new.self c.loop-last.counts) (append_assoc taken known.0 c.loop-last.rest.now ∙ ap (λ (text : List ℕ). taken ++ text) (sym known.1))
     (so_far_on c.args.strict held (g.W.Write.contents c.loop-last.writer) old (seen g.T.TableState c.loop-last.file) (taken ++ known.0) c.loop-last.rest.now c.loop-last.part c.push.new.self c.loop-last.counts known.2 c.in_default.ensures c.push.ensures)

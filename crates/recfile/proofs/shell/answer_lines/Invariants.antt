@@ -9,7 +9,10 @@ decreases-loop-last g l = length l.rest
 -- whatever was read before, the lines that end before the rest are answered
 abbrev pub invariant-loop-last : goal.invariant-loop-last
 invariant-loop-last g l =
-    (held : Option (List ℕ)) (old : Seen) (taken : List ℕ)
-    → AnsweredSoFar l.fn.strict held (g.W.Write.contents l.fn.writer) old (seen g.T.TableState l.fn.file) taken l.fn.part l.fn.counts
-    → (front : List ℕ) × (l.fn.bytes ≡ front ++ l.rest)
-    × AnsweredSoFar l.fn.strict held (g.W.Write.contents l.writer) old (seen g.T.TableState l.file) (taken ++ front) l.part l.counts
+    record {
+      answered : (held : Option (List ℕ)) (old : Seen) (taken : List ℕ)
+          → AnsweredSoFar l.fn.strict held (g.W.Write.contents l.fn.writer) old (seen g.T.TableState l.fn.file) taken l.fn.part l.fn.counts
+          → (front : List ℕ) × (l.fn.bytes ≡ front ++ l.rest)
+          × AnsweredSoFar l.fn.strict held (g.W.Write.contents l.writer) old (seen g.T.TableState l.file) (taken ++ front) l.part l.counts;
+      origin : g.T.TableState.origin l.file.table ≡ g.T.TableState.origin l.fn.file.table;
+    }

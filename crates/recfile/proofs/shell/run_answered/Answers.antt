@@ -21,8 +21,8 @@ read_answered-requires g c = λ κs lives. (
   (lives.1, is_answered g.start c.args.strict (g.R.Read.remaining c.args.reader.now) (g.R.Read.remaining c.loop-turn.reader) (g.W.Write.contents c.args.writer.now) (g.W.Write.contents c.loop-turn.writer) (seen g.T.TableState c.args.file.now) (seen g.T.TableState c.loop-turn.file) c.loop-turn.invariant.0 c.loop-turn.part c.loop-turn.counts c.requires.1.1.1 c.loop-turn.invariant.1 c.loop-turn.invariant.2),
 )
 
-pub returns-in-Err : goal.returns-in-Err
-returns-in-Err g c =
+pub returns-in-Err-clause-ran : goal.returns-in-Err-clause-ran
+returns-in-Err-clause-ran g c =
     let known = c.loop-turn.invariant in
     inl (
       known.2.passed,
@@ -30,23 +30,23 @@ returns-in-Err g c =
       known.2.answered,
     )
 
-pub returns-in-Ok-eq0 : goal.returns-in-Ok-eq0
-returns-in-Ok-eq0 g c =
+pub returns-in-Ok-eq0-clause-ran : goal.returns-in-Ok-eq0-clause-ran
+returns-in-Ok-eq0-clause-ran g c =
     let known = c.loop-turn.invariant in
     let none : c.in-Ok-eq0.field-0 ≡ 0 = c.in-Ok-eq0.field-0-test in
     let room : 0 < length c.read_answered.new.to = omega arith in
     ran_last c.args.strict (g.R.Read.remaining c.args.reader.now) (g.R.Read.remaining c.loop-turn.reader) (g.R.Read.remaining c.read_answered.new.reader) (g.W.Write.contents c.args.writer.now) (g.W.Write.contents c.answer_last.new.writer) _ _ known.0 (take c.in-Ok-eq0.field-0 c.read_answered.new.to) c.answer_last.result known.1 c.in-Ok-eq0.ensures.bytes.0 (none_taken c.in-Ok-eq0.field-0 c.read_answered.new.to none) (c.in-Ok-eq0.ensures.bytes.1 none room)
-    (c.answer_last.ensures (g.W.Write.contents c.args.writer.now) (seen g.T.TableState c.args.file.now) known.0 known.2)
+    (c.answer_last.ensures.answered (g.W.Write.contents c.args.writer.now) (seen g.T.TableState c.args.file.now) known.0 known.2)
 
-pub returns-in_err-answer_lines-in-Ok : goal.returns-in_err-answer_lines-in-Ok
-returns-in_err-answer_lines-in-Ok g c =
+pub returns-in_err-answer_lines-in-Ok-clause-ran : goal.returns-in_err-answer_lines-in-Ok-clause-ran
+returns-in_err-answer_lines-in-Ok-clause-ran g c =
     let known = c.loop-turn.invariant in
     let told = err_from_is_err_and c.from_residual-in_err-answer_lines-in-Ok.result c.from_residual-in_err-answer_lines-in-Ok.ensures.1 in
     ran_to c.args.strict (g.R.Read.remaining c.args.reader.now) (g.R.Read.remaining c.loop-turn.reader) (g.R.Read.remaining c.read_answered.new.reader) (g.W.Write.contents c.args.writer.now) (g.W.Write.contents c.answer_lines.new.writer) _ _ known.0 (take c.in-Ok.n c.read_answered.new.to) c.from_residual-in_err-answer_lines-in-Ok.result c.in_err-answer_lines-in-Ok.field-0.0 (told.1 ∙ ap Err told.2) known.1 c.in-Ok.ensures.bytes.0
-    (c.in_err-answer_lines-in-Ok.ensures (g.W.Write.contents c.args.writer.now) (seen g.T.TableState c.args.file.now) known.0 known.2)
+    (c.in_err-answer_lines-in-Ok.ensures.answered (g.W.Write.contents c.args.writer.now) (seen g.T.TableState c.args.file.now) known.0 known.2)
 
-pub returns : goal.returns
-returns g c =
+pub returns-clause-ran : goal.returns-clause-ran
+returns-clause-ran g c =
     let known = c.loop-turn.invariant in
     inl (
       known.2.passed,
@@ -61,6 +61,7 @@ loop-turn-init g c = (
   Consumes-nil (g.R.Read.remaining c.args.reader.now),
   none_so_far c.args.strict (g.W.Write.contents c.args.writer.now) _ c.in_ok-part.part _ (search rules) refl,
   omega arith,
+  refl,
 )
 
 pub loop-turn-preserved : goal.loop-turn-preserved
@@ -69,6 +70,7 @@ loop-turn-preserved g c =
     let bytes : List ℕ = take c.in-Ok.n c.read_answered.new.to in (
       known.0 ++ bytes,
       Consumes-trans (g.R.Read.remaining c.args.reader.now) (g.R.Read.remaining c.loop-turn.reader) (g.R.Read.remaining c.read_answered.new.reader) known.0 bytes known.1 c.in-Ok.ensures.bytes.0,
-      c.in_ok-answer_lines-in-Ok.ensures (g.W.Write.contents c.args.writer.now) (seen g.T.TableState c.args.file.now) known.0 known.2,
+      c.in_ok-answer_lines-in-Ok.ensures.answered (g.W.Write.contents c.args.writer.now) (seen g.T.TableState c.args.file.now) known.0 known.2,
       turns_on c.loop-turn.turn c.in-Ok.n known.0 bytes known.3 (taken_length c.in-Ok.n c.read_answered.new.to (omega (arith, c.in-Ok.ensures.bound))) (omega (arith, c.in-Ok.n-test.1)),
+      c.answer_lines.ensures.origin ∙ known.4,
     )

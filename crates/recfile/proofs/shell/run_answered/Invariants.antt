@@ -1,4 +1,4 @@
-use Rattle.std.proofs.Common.{◌≤◌, ℕ, List, length}
+use Rattle.std.proofs.Common.{◌≡◌, ◌≤◌, ℕ, List, length}
 use Rattle.std.specs.Io.KnownBytes.{Consumes}
 use Rattle.record_file.specs.Runs.{seen}
 use Rattle.recfile.specs.Shell.{AnsweredSoFar}
@@ -14,3 +14,4 @@ invariant-loop-turn g l =
     × Consumes (g.R.Read.remaining l.fn.reader) (g.R.Read.remaining l.reader) taken
     × AnsweredSoFar l.fn.strict (g.W.Write.contents l.fn.writer) (g.W.Write.contents l.writer) (seen g.T.TableState l.fn.file) (seen g.T.TableState l.file) taken l.part l.counts
     × (l.turn ≤ length taken)
+    × (g.T.TableState.origin l.file.table ≡ g.T.TableState.origin l.fn.file.table)

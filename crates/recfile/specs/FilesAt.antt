@@ -1,0 +1,104 @@
+-- What is found at a path, and what a task of the program leaves of it.
+use Rattle.std.specs.Prelude.{◌≡◌, ◌⊎◌, ℕ, ◌≤◌, List, length, Option, None, Result, Err, IsErr, IfSome, IfErr, OnOk, MatchOption, MatchResult, IsTrue}
+use Rattle.std.specs.FinMap as maps
+use Rattle.std.specs.Io.KnownBytes.{Appends}
+use Rattle.rec_types.specs.Contents.{Contents}
+use Rattle.rec_types.specs.LimitBounds.{Bounds}
+use Rattle.page_store.specs.StoreCalls.{StaysStore}
+use Rattle.page_store.specs.declared.store_state.StoreState.{Ghosts as StoreGhosts}
+use Rattle.page_journal.specs.Files.{Files, recovered}
+use Rattle.page_journal.specs.declared.disk_state.DiskState.{Ghosts as DiskGhosts}
+use Rattle.btree_node.specs.Layout.{second_version}
+use Rattle.btree_insert.specs.declared.tree.Tree.{Tree}
+use Rattle.btree_delete.specs.Created.{IsEmpty, IsOrder}
+use Rattle.btree_delete.specs.TableView.{IsClosed}
+use Rattle.command_text.specs.Dump.{dump_text}
+use Rattle.recfile.specs.Dumped.{CanBeOpened, DumpStops, Dumps, IsDumpFault, IsSilent}
+use Rattle.recfile.specs.FileFaults.{IsMakingFault}
+use Rattle.recfile.specs.Kept.{ClosesSafely, IsOutsideDisk, IsUnopened, LeavesOld}
+use Rattle.recfile.specs.StoreSession.{MakesIn}
+use Rattle.recfile.specs.TreeLine.{counts_in, counts_line}
+use Rattle.recfile.specs.WholeSession.{EndsFile, RunsAny, opened_file}
+use Rattle.recfile.specs.declared.dump.DumpFault.{DumpFault}
+use Rattle.recfile.specs.declared.dump.DumpFault.TheVariants.{File}
+use Rattle.recfile.specs.declared.file_fault.FileFault.{FileFault}
+use Rattle.recfile.specs.declared.manner.Manner.{Manner}
+
+-- these pages are the file of a path by itself: no side file stands beside it
+pub record IsCleanAt (At : Files → Type 0) (pages : List (List ℕ)) (tail : ℕ) : Type 0 where
+  pub files : Files
+  pub at : At files
+  pub main : files.main ≡ record { pages = pages; tail = tail }
+  pub alone : files.side ≡ None
+
+-- A session over a disk that was just opened, and what it leaves of what the reader has and the writer holds, of the
+-- disk, and as status. A crash at any moment of it leaves the old file or the one that the session closes.
+pub record KeptSession {D : Type 0} (g : DiskGhosts D) (manner : Manner) (limits : Bounds)
+    (left leaves held holds : Option (List ℕ)) (opened : D) (unopened unclosed : Option FileFault) (disk : D) (status : ℕ) : Type 0 where
+  pub unread : IfSome unopened (λ _. (status ≡ 1) × (unclosed ≡ None) × (leaves ≡ left) × (holds ≡ held))
+  pub ran : unopened ≡ None → RunsAny manner limits left leaves held holds unclosed status
+  pub closed : IsTrue (g.steady opened) → unopened ≡ None → CanBeOpened (recovered g.began).pages (recovered g.began).tail limits.records
+  pub first : IsTrue (g.steady opened) → IfSome unopened (IsUnopened g.began limits.records)
+  pub untouched : IsTrue (g.steady opened) → IfSome unopened (λ _. LeavesOld g (recovered g.began) disk)
+  pub stopped : IsTrue (g.steady opened) → status ≡ 4 → LeavesOld g (recovered g.began) disk
+  pub session : IsTrue (g.steady opened) → (tree : Tree) → (contents : Contents) → (version : ℕ)
+      → IsClosed version (recovered g.began).pages (recovered g.began).tail tree contents → tree.count ≤ limits.records
+      → MatchOption unopened (EndsFile manner left leaves held holds (opened_file contents limits 0)
+      (ClosesSafely g (recovered g.began) disk unclosed tree.order) unclosed status) (IsOutsideDisk g.began)
+
+-- a session over the disk that was opened at a path
+pub record RunsAt {D : Type 0} (g : DiskGhosts D) (At : Files → Type 0) (manner : Manner) (limits : Bounds)
+    (left leaves held holds : Option (List ℕ)) (status : ℕ) : Type 0 where
+  pub opened : D
+  pub found : IsTrue (g.steady opened) → At g.began
+  pub unopened : Option FileFault
+  pub unclosed : Option FileFault
+  pub disk : D
+  pub session : KeptSession g manner limits left leaves held holds opened unopened unclosed disk status
+
+-- A text about the file that was opened to be read at a path. The text is whole only of a closed file within the limit,
+-- and is Told of its tree and its records; else its fault says why. Nothing is written to the file.
+pub record ReadsAt {S : Type 0} (g : StoreGhosts S) (At : Files → Type 0) (limit : ℕ) (Told : Tree → Contents → ℕ → Result (Unit {0}) DumpFault → Type 0)
+    (held holds : Option (List ℕ)) (done : Result (Unit {0}) DumpFault) : Type 0 where
+  pub opened : S
+  pub found : IsTrue (g.steady opened) → IsCleanAt At (g.pages opened) (g.tail opened)
+  pub store : S
+  pub closed : IsTrue (g.steady opened) → OnOk done (CanBeOpened (g.pages opened) (g.tail opened) limit)
+  pub first : IsTrue (g.steady opened) → IfErr done (IsDumpFault (g.pages opened) (g.tail opened) limit)
+  pub silent : IfErr done (IsSilent held holds)
+  pub told : IsTrue (g.steady opened) → (tree : Tree) → (contents : Contents) → (version : ℕ)
+      → IsClosed version (g.pages opened) (g.tail opened) tree contents → tree.count ≤ limit
+      → Told tree contents (length (g.pages opened)) done
+  pub stays : StaysStore g opened store
+
+-- the line of a check, or why it isn't whole
+abbrev pub TellsTree : Option (List ℕ) → Option (List ℕ) → Tree → Contents → ℕ → Result (Unit {0}) DumpFault → Type 0
+TellsTree held holds tree contents pages done =
+    MatchResult done (λ _. Appends held holds (counts_line (counts_in tree contents pages)))
+    (DumpStops held holds (counts_line (counts_in tree contents pages)))
+
+-- the script of a dump, or why it isn't whole
+abbrev pub TellsRecords : Option (List ℕ) → Option (List ℕ) → Tree → Contents → ℕ → Result (Unit {0}) DumpFault → Type 0
+TellsRecords held holds tree contents pages done =
+    MatchResult done (λ _. Dumps held holds (maps.entries contents))
+    (DumpStops held holds (dump_text (maps.entries contents)))
+
+-- An empty file was made at a path, and a tree of that order without records in it, or the fault says why not.
+pub record MakesAt {S : Type 0} (g : StoreGhosts S) (order : ℕ) (made : Result (Unit {0}) FileFault) : Type 0 where
+  pub empty : S
+  pub was_empty : IsEmpty (g.pages empty) (g.tail empty)
+  pub store : S
+  pub closed : IsTrue (g.steady empty) → OnOk made ((tree : Tree) × (tree.order ≡ order)
+      × IsClosed second_version (g.pages store) (g.tail store) tree maps.empty)
+  pub of_order : OnOk made (IsOrder order)
+  pub fault : IfErr made (IsMakingFault (g.pages empty) (g.tail empty) order)
+  pub written : MakesIn g empty order made store
+
+-- nothing was made at the path, or a file was
+abbrev pub Creates : {S : Type 0} → StoreGhosts S → ℕ → Result (Unit {0}) FileFault → Type 0
+Creates g order made = IsErr made ⊎ MakesAt g order made
+
+-- no file is found at the path and nothing is written, or a text tells of it
+abbrev pub Tells : {S : Type 0} → StoreGhosts S → (Files → Type 0) → ℕ → (Tree → Contents → ℕ → Result (Unit {0}) DumpFault → Type 0) → Option (List ℕ) → Option (List ℕ) → Result (Unit {0}) DumpFault → Type 0
+Tells g At limit Told held holds done =
+    ((fault : FileFault) × (done ≡ Err (File fault)) × (holds ≡ held)) ⊎ ReadsAt g At limit Told held holds done

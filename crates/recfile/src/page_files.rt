@@ -1,0 +1,49 @@
+ghost use Rattle.std.specs.Prelude.{◌≡◌, ℕ, List, None, IsTrue, IfOk};
+ghost use Rattle.btree_delete.specs.Created.{IsEmpty};
+ghost use Rattle.page_journal.specs.Crash.{IsAtRest};
+ghost use Rattle.page_journal.specs.Files.{Files};
+ghost use Rattle.recfile.specs.FilesAt.{IsCleanAt};
+
+use crate::file_fault::FileFault;
+use page_journal::Disk;
+use page_store::Store;
+use std::alloc::Global;
+use std::io::Write;
+
+/// Where page files are found by their paths. A program hands in the one over the files that it has; so what is said of
+/// its tasks is said of every kind of file.
+pub trait PageFiles {
+    /// A page file that is opened to be written, with the side file beside it.
+    type Device: Disk + Drop;
+    /// A page file that is opened to be read, or that is new.
+    type Pages: Store;
+
+    /// Whether these are the files at a path: the page file, and the side file beside it.
+    ghost at: { Self → List ℕ → Files → Type 0 };
+
+    /// Opens the page file at the path to write it, as no other opening may meanwhile. A side file that doesn't belong
+    /// to it is BadJournal, which changes nothing. Faults: Device, as where there is no file; BadJournal; Memory.
+    fn open(&self, alloc: Global, path: &str) -> Result<Self::Device, FileFault>
+        ensures found { IfOk result (λ disk. IsTrue (Self.Device.steady disk)
+            → Self.at self.now path.now Self.Device.began) }
+        ensures rest { IfOk result (IsAtRest Self.Device.DiskState) }
+        ensures began { IfOk result (λ disk. IsTrue (Self.Device.steady disk)
+            → Self.Device.seen disk ≡ Self.Device.began) }
+        ensures moment { IfOk result (λ disk. Self.Device.moment disk ≡ 0) };
+
+    /// Opens the page file at the path to read it. Where a side file stands beside it a closing was stopped, and it isn't
+    /// clean: putting the old pages back would write. Faults: Device, as where there is no file; NotClean; Memory.
+    fn open_clean(&self, alloc: Global, path: &str) -> Result<Self::Pages, FileFault>
+        ensures found { IfOk result (λ store. IsTrue (Self.Pages.steady store)
+            → IsCleanAt (Self.at self.now path.now) (Self.Pages.pages store) (Self.Pages.tail store)) };
+
+    /// Makes a page file without pages at the path, where there is none. A side file of that name is of another file, and
+    /// stays; then no file is made. Faults: Device, as where there is a file; BadJournal; Memory.
+    fn create(&self, alloc: Global, path: &str) -> Result<Self::Pages, FileFault>
+        ensures empty { IfOk result
+            (λ store. IsEmpty (Self.Pages.pages store) (Self.Pages.tail store)) };
+
+    /// Tells what the file at the path is and what is wrong with it, and answers whether a check of it finds no fault. It
+    /// only reads the file.
+    fn explain<W: Write>(&self, alloc: Global, path: &str, out: &mut W) -> bool;
+}
