@@ -1,5 +1,5 @@
 -- Closes that are tried again.
-use Rattle.std.proofs.Common.{◌≡◌, ℕ, ◌+◌, ◌-◌, ◌<◌, ◌≤◌, ◌++◌, ⊎_elim, List, [], ◌∷◌, length, take, Option, Some, None, zero, suc, refl, sym, ap, ◌∙◌, subst, inl, inr, arith, append-nil, unwrap_or}
+use Rattle.std.proofs.Common.{◌≡◌, ℕ, ◌+◌, ◌-◌, ◌<◌, ◌≤◌, ◌++◌, ⊎_elim, List, [], ◌∷◌, length, take, Option, Some, None, zero, suc, refl, sym, ap, ◌∙◌, subst, inl, inr, arith, append-nil, unwrap_or, true}
 use Rattle.std.proofs.lemmas.List.{append_assoc, take-append-le}
 use Rattle.std.proofs.Math.Seq.{take-append-add, take-append_seam, take-length}
 use Rattle.std.proofs.lemmas.Bool.{cases_lt}
@@ -9,8 +9,10 @@ use Rattle.page_store.specs.Journal.{Journal, carried, noted, opened_before, unt
 use Rattle.page_store.specs.declared.step.Step.{Step}
 use Rattle.page_store.proofs.TryLemmas.{carried-append}
 use Rattle.btree_delete.specs.Closing.{closing, IsNewOrFile, IsEither}
-use Rattle.btree_delete.specs.TableView.{TableView}
-use Rattle.recfile_c.specs.Paged.{HasNoStep, HasTried, IsTriedAgain, MakesPages, OpensPages, Settles}
+use Rattle.btree_delete.specs.Origins.{Origin, origin_of as table_origin}
+use Rattle.btree_delete.specs.TableView.{TableView, IsClosed, table_contents}
+use Rattle.rec_types.specs.Contents.{Contents}
+use Rattle.recfile_c.specs.Paged.{HasNoStep, HasTried, KeepsTable, IsTriedAgain, MakesPages, OpensPages, Settles}
 use Rattle.recfile_c.specs.FileTables.{origin_of}
 use Rattle.recfile_c.specs.declared.file_table.FileTable.TheVariants.{Paged}
 use Rattle.recfile_c.specs.Steps.{JournalView, pages_of, journal_of}
@@ -24,6 +26,11 @@ opened_is pages (s ∷ steps) opened is = absurd (cc)
 untouched_is : (j : Option Journal) (opened : List (List ℕ)) → untouched j ≡ Some opened → j ≡ Some (record { opened = opened; steps = [] })
 untouched_is None opened is = absurd (cc)
 untouched_is (Some j) opened is = ap (λ (x : Journal). Some x) (opened_is j.opened j.steps opened is)
+
+-- the journal of a store that a table was made of
+abbrev journal_in : Option Origin → Option Journal
+journal_in None = None
+journal_in (Some o) = o.journal
 
 -- no try yet
 pub none_tried : (t : TableView) (opened : List (List ℕ)) → HasNoStep t opened → HasTried t opened []
@@ -107,12 +114,46 @@ pub tries_again : (n : ℕ) (old new : TableView) (opened : List (List ℕ)) (ks
 tries_again zero old new opened ks same has = (ks, subst (λ (t : TableView). HasTried t opened ks) (sym same) has)
 tries_again (suc n) old new opened ks tries has = let next = tries.1.tries opened ks has in tries_again n tries.0 new opened (ks ++ next.0 ∷ []) tries.2 next.1
 
+order_kept : (new old : TableView) → KeepsTable old new → new.tree.order ≡ old.tree.order
+order_kept new old kept = λ i. (kept.tree i).order
+
+made_of : (order : ℕ) (limits : Bounds) (t : TableView) → MakesPages order limits t → t.tree.order ≡ order
+made_of order limits t makes = λ i. (makes.created.tree i).order
+
+-- the table that is closed at last has the order and the records of the first
+again_same : (n : ℕ) (old new : TableView) → IsTriedAgain n old new → (new.tree.order ≡ old.tree.order) × (table_contents new ≡ table_contents old) × (new.pages.steady ≡ old.pages.steady)
+again_same zero old new same = (ap (λ (t : TableView). t.tree.order) same, ap table_contents same, ap (λ (t : TableView). t.pages.steady) same)
+again_same (suc n) old new tries =
+    let later = again_same n tries.0 new tries.2 in
+    (later.0 ∙ order_kept tries.0 old tries.1, later.1 ∙ tries.1.contents, later.2 ∙ tries.1.steady)
+
+-- and the file that is left the order of its tree
+of_order : (order : ℕ) (made now last : TableView) (n : ℕ) (j : JournalView) → made.tree.order ≡ order → made.pages.steady ≡ true
+    → origin_of (Paged now) ≡ origin_of (Paged made) → IsTriedAgain n now last → Settles last j
+    → (last.tree.order ≡ order) × IsClosed 2 (pages_of j) 0 last.tree (table_contents now)
+of_order order made now last n j is steady same tries settles =
+    let tried = again_same n now last tries in
+    let origin : table_origin now ≡ table_origin made = ap (λ (o : Option Origin). unwrap_or o (table_origin now)) same in (
+      tried.0 ∙ ap (λ (o : Origin). o.order) origin ∙ is,
+      subst (λ (m : Contents). IsClosed 2 (pages_of j) 0 last.tree m) tried.1 (settles.closed (tried.2 ∙ ap (λ (o : Origin). o.steady) origin ∙ steady)),
+    )
+
+pub opened_order : (pages : List (List ℕ)) (limits : Bounds) (made now last : TableView) (n : ℕ) (j : JournalView) → OpensPages pages limits made
+    → origin_of (Paged now) ≡ origin_of (Paged made) → IsTriedAgain n now last → Settles last j
+    → (last.tree.order ≡ made.tree.order) × IsClosed 2 (pages_of j) 0 last.tree (table_contents now)
+opened_order pages limits made now last n j opens = of_order made.tree.order made now last n j refl opens.steady
+
+pub made_order : (order : ℕ) (limits : Bounds) (made now last : TableView) (n : ℕ) (j : JournalView) → MakesPages order limits made
+    → origin_of (Paged now) ≡ origin_of (Paged made) → IsTriedAgain n now last → Settles last j
+    → (last.tree.order ≡ order) × IsClosed 2 (pages_of j) 0 last.tree (table_contents now)
+made_order order limits made now last n j makes = of_order order made now last n j (made_of order limits made makes) makes.steady
+
 -- from the pages of a new file or of an opened one to the steps that are handed out
 from_pages : (pages : List (List ℕ)) (made now last : TableView) (n : ℕ) (j : JournalView) → HasNoStep made pages → IsNewOrFile pages
     → origin_of (Paged now) ≡ origin_of (Paged made) → IsTriedAgain n now last → Settles last j
     → (j.opened ≡ pages) × ((k : ℕ) → IsEither pages (pages_of j) (carried pages (take k j.steps)))
 from_pages pages made now last n j none file same tries settles =
-    let has = tries_again n now last pages [] tries (none_tried now pages (same ∙ none)) in
+    let has = tries_again n now last pages [] tries (none_tried now pages (ap (λ (o : Option Origin). untouched (journal_in o)) same ∙ none)) in
     let is = settles.opened pages has.0 has.1 in (
       is,
       λ k. subst (λ (ps : List (List ℕ)). IsEither ps (pages_of j) (carried ps (take k j.steps))) is

@@ -1,8 +1,9 @@
 -- What an answer has, and else nothing.
-use Rattle.std.specs.Prelude.{◌≡◌, ℕ, List, Option, Some, None, Result, Ok, Err}
+use Rattle.std.specs.Prelude.{◌≡◌, ℕ, ℤ, List, Option, Some, None, Result, Ok, Err}
 use Rattle.rec_types.specs.declared.transaction.TxId.{TxId}
 use Rattle.record_file.specs.declared.fault.StatusFault.{StatusFault}
 use Rattle.record_file.specs.declared.fault.Status.{Status}
+use Rattle.recfile_c.specs.declared.outcome.Outcome.{Outcome}
 use Rattle.recfile_c.specs.declared.shown.TxStatus.{TxStatus}
 use Rattle.recfile_c.specs.Shown.{status_shown, no_status}
 
@@ -25,3 +26,7 @@ tx_in (Err fault) = 0
 abbrev pub TellsStatus : Result Status StatusFault → TxStatus → Type 0
 TellsStatus (Ok status) told = status_shown told ≡ status
 TellsStatus (Err fault) told = told ≡ no_status
+
+-- a status is the one that is told beside it
+abbrev pub IsStatusOf : ℤ → Outcome → Type 0
+IsStatusOf status told = status ≡ told.status

@@ -30,7 +30,8 @@ use Rattle.recfile_c.specs.declared.outcome.Outcome.{Outcome}
 use Rattle.recfile_c.specs.declared.shown.TxStatus.{TxStatus}
 use Rattle.recfile_c.specs.FileTables.{contents_of, is_sound, failures_of, refusals_of, origin_of}
 use Rattle.recfile_c.specs.Answers.{found_in, taken_in, number_in, tx_in, TellsStatus}
-use Rattle.recfile_c.specs.Outcomes.{just, empty_key, long_key, long_record, begin_outcome, put_outcome, claim_outcome, remove_outcome, get_outcome, savepoint_outcome, release_outcome, rollback_to_outcome, abort_outcome, resume_outcome, commit_outcome, status_outcome, ok}
+use Rattle.record_file.specs.Refusals.{begin_refusal, put_refusal, claim_refusal, remove_refusal, get_refusal, savepoint_refusal, release_refusal, rollback_refusal, abort_refusal, resume_refusal, commit_refusal, status_refusal}
+use Rattle.recfile_c.specs.Outcomes.{just, empty_key, long_key, long_record, ok, outcome_by}
 
 abbrev pub FileState : Type 0
 FileState = OpenFile FileTable
@@ -79,12 +80,12 @@ Spares old new = (new.table ≡ old.table) × (new.log ≡ old.log)
 
 abbrev pub Begin : ℤ → ℕ → FileState → FileState → Type 0
 Begin status tx old new =
-    (answer : Result TxId BeginFault) × (status ≡ (begin_outcome answer).status) × (tx ≡ tx_in answer)
+    (answer : Result TxId BeginFault) × (status ≡ (outcome_by begin_refusal answer).status) × (tx ≡ tx_in answer)
     × BeginStep old.file answer new.file × Spares old new
 
 abbrev pub Put : TxId → List ℕ → List ℕ → Outcome → Option (List ℕ) → FileState → FileState → Type 0
 Put t x r told before old new =
-    (answer : Result (Option (List ℕ)) PutFault) × (told ≡ put_outcome answer) × (before ≡ found_in answer)
+    (answer : Result (Option (List ℕ)) PutFault) × (told ≡ outcome_by put_refusal answer) × (before ≡ found_in answer)
     × Sure old (PutStep old.file t.0 x r (failed old new) answer new.file) × Keeps old new
 
 -- bytes that are no key, and bytes that are no record
@@ -96,7 +97,7 @@ PutBytes t (Ok x) (Ok r) told before old new = Put t x r told before old new
 
 abbrev pub Claim : TxId → List ℕ → Outcome → Option (List ℕ) → FileState → FileState → Type 0
 Claim t x told seen old new =
-    (answer : Result (Option (List ℕ)) ClaimFault) × (told ≡ claim_outcome answer) × (seen ≡ found_in answer)
+    (answer : Result (Option (List ℕ)) ClaimFault) × (told ≡ outcome_by claim_refusal answer) × (seen ≡ found_in answer)
     × Sure old (ClaimStep old.file t.0 x (failed old new) answer new.file) × Keeps old new
 
 abbrev pub ClaimBytes : TxId → Result (List ℕ) KeyFault → Outcome → Option (List ℕ) → FileState → FileState → Type 0
@@ -106,7 +107,7 @@ ClaimBytes t (Ok x) told seen old new = Claim t x told seen old new
 
 abbrev pub Remove : TxId → List ℕ → Outcome → Option (List ℕ) → FileState → FileState → Type 0
 Remove t x told taken old new =
-    (answer : Result (List ℕ) RemoveFault) × (told ≡ remove_outcome answer) × (taken ≡ taken_in answer)
+    (answer : Result (List ℕ) RemoveFault) × (told ≡ outcome_by remove_refusal answer) × (taken ≡ taken_in answer)
     × Sure old (RemoveStep old.file t.0 x (failed old new) answer new.file) × Keeps old new
 
 abbrev pub RemoveBytes : TxId → Result (List ℕ) KeyFault → Outcome → Option (List ℕ) → FileState → FileState → Type 0
@@ -116,7 +117,7 @@ RemoveBytes t (Ok x) told taken old new = Remove t x told taken old new
 
 abbrev pub Get : TxId → List ℕ → Outcome → Option (List ℕ) → FileState → FileState → Type 0
 Get t x told found old new =
-    (answer : Result (Option (List ℕ)) GetFault) × (told ≡ get_outcome answer) × (found ≡ found_in answer)
+    (answer : Result (Option (List ℕ)) GetFault) × (told ≡ outcome_by get_refusal answer) × (found ≡ found_in answer)
     × Sure old (GetStep old.file t.0 x (failed old new) answer new.file)
     × SameGround old new × (contents_of new.table ≡ contents_of old.table) × (new.log ≡ old.log)
 
@@ -127,39 +128,39 @@ GetBytes t (Ok x) told found old new = Get t x told found old new
 
 abbrev pub Savepoint : TxId → ℤ → ℕ → FileState → FileState → Type 0
 Savepoint t status n old new =
-    (answer : Result ℕ SavepointFault) × (status ≡ (savepoint_outcome answer).status) × (n ≡ number_in answer)
+    (answer : Result ℕ SavepointFault) × (status ≡ (outcome_by savepoint_refusal answer).status) × (n ≡ number_in answer)
     × SavepointStep old.file t.0 answer new.file × Spares old new
 
 abbrev pub Release : TxId → ℕ → ℤ → FileState → FileState → Type 0
 Release t n status old new =
-    (answer : Result (Unit {0}) ReleaseFault) × (status ≡ (release_outcome answer).status)
+    (answer : Result (Unit {0}) ReleaseFault) × (status ≡ (outcome_by release_refusal answer).status)
     × ReleaseStep old.file t.0 n answer new.file × Spares old new
 
 abbrev pub RollbackTo : TxId → ℕ → Outcome → ℕ → FileState → FileState → Type 0
 RollbackTo t n told undone old new =
-    (answer : Result ℕ RollbackToFault) × (told ≡ rollback_to_outcome answer) × (undone ≡ number_in answer)
+    (answer : Result ℕ RollbackToFault) × (told ≡ outcome_by rollback_refusal answer) × (undone ≡ number_in answer)
     × Sure old (RollbackToStep old.file t.0 n (failed old new) (refused old new) answer new.file) × Keeps old new
 
 abbrev pub Abort : TxId → Outcome → ℕ → FileState → FileState → Type 0
 Abort t told undone old new =
-    (answer : Result ℕ AbortFault) × (told ≡ abort_outcome answer) × (undone ≡ number_in answer)
+    (answer : Result ℕ AbortFault) × (told ≡ outcome_by abort_refusal answer) × (undone ≡ number_in answer)
     × Sure old (AbortStep old.file t.0 (failed old new) (refused old new) answer new.file) × Keeps old new
 
 abbrev pub Resume : TxId → Outcome → ℕ → FileState → FileState → Type 0
 Resume t told undone old new =
-    (answer : Result ℕ ResumeFault) × (told ≡ resume_outcome answer) × (undone ≡ number_in answer)
+    (answer : Result ℕ ResumeFault) × (told ≡ outcome_by resume_refusal answer) × (undone ≡ number_in answer)
     × Sure old (ResumeStep old.file t.0 (failed old new) (refused old new) answer new.file) × Keeps old new
 
 abbrev pub Commit : TxId → ℤ → FileState → FileState → Type 0
 Commit t status old new =
-    (answer : Result (Unit {0}) CommitFault) × (status ≡ (commit_outcome answer).status)
+    (answer : Result (Unit {0}) CommitFault) × (status ≡ (outcome_by commit_refusal answer).status)
     × CommitStep old.file t.0 answer new.file × Spares old new
 
 -- looks
 
 abbrev pub StatusOf : TxId → ℤ → TxStatus → FileState → FileState → Type 0
 StatusOf t status told old new =
-    (status ≡ (status_outcome (status_of old.file t.0)).status) × TellsStatus (status_of old.file t.0) told × (new ≡ old)
+    (status ≡ (outcome_by status_refusal (status_of old.file t.0)).status) × TellsStatus (status_of old.file t.0) told × (new ≡ old)
 
 abbrev pub Charged : ℤ → ℕ → FileState → FileState → Type 0
 Charged status n old new =

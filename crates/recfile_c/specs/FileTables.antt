@@ -1,9 +1,9 @@
 -- A table of one of two kinds, as one table.
-use Rattle.std.specs.Prelude.{ℕ, Bool, true, None}
+use Rattle.std.specs.Prelude.{ℕ, Bool, true, Option, Some, None}
 use Rattle.rec_types.specs.Contents.{Contents}
-use Rattle.rec_types.specs.Table.{Damages, no_damage, Origin}
+use Rattle.rec_types.specs.Table.{Damages, no_damage}
 use Rattle.rec_types.specs.declared.table_calls.TableCalls.{TableCalls}
-use Rattle.page_store.specs.Journal.{untouched}
+use Rattle.btree_delete.specs.Origins.{Origin, origin_of as table_origin}
 use Rattle.btree_delete.specs.TableView.{table_contents}
 use Rattle.recfile_c.specs.declared.file_table.FileTable.{FileTable}
 use Rattle.recfile_c.specs.declared.file_table.FileTable.TheVariants.{Memory, Paged}
@@ -36,7 +36,7 @@ abbrev pub calls_of : FileTable → TableCalls
 calls_of (Memory table) = table.calls
 calls_of (Paged table) = table.calls
 
--- the pages that were handed in
-abbrev pub origin_of : FileTable → Origin
+-- what a table in pages was made of
+abbrev pub origin_of : FileTable → Option Origin
 origin_of (Memory table) = None
-origin_of (Paged table) = untouched table.pages.journal
+origin_of (Paged table) = Some (table_origin table)

@@ -10,7 +10,8 @@ use Rattle.recfile_c.specs.declared.outcome.Outcome.{Outcome}
 use Rattle.recfile_c.specs.declared.shown.ListedEntry.{ListedEntry}
 use Rattle.recfile_c.specs.FileTables.{contents_of}
 use Rattle.recfile_c.specs.Shown.{Shows, IsNoEntry}
-use Rattle.recfile_c.specs.Outcomes.{entries_outcome, keys_of_outcome, ok, no_such_entry}
+use Rattle.record_file.specs.Refusals.{entries_refusal, keys_of_refusal}
+use Rattle.recfile_c.specs.Outcomes.{ok, no_such_entry, outcome_by}
 use Rattle.recfile_c.specs.Calls.{Sure, SameGround, failed}
 
 -- the list that an answer has, and else none
@@ -21,7 +22,7 @@ list_in (Err fault) = []
 -- the records are listed, and the list is kept; the keys listed last stay
 abbrev pub ListsEntries : Outcome → ℕ → Session → Session → Type 0
 ListsEntries told n old new =
-    (answer : Result (List Entry) EntriesFault) × (told ≡ entries_outcome answer) × (n ≡ length (list_in answer))
+    (answer : Result (List Entry) EntriesFault) × (told ≡ outcome_by entries_refusal answer) × (n ≡ length (list_in answer))
     × Sure old.file (EntriesStep old.file.file (failed old.file new.file) answer new.file.file)
     × SameGround old.file new.file × (contents_of new.file.table ≡ contents_of old.file.table)
     × (new.file.log ≡ old.file.log) × (new.entries.items ≡ list_in answer) × (new.keys ≡ old.keys)
@@ -29,7 +30,7 @@ ListsEntries told n old new =
 -- the keys of a transaction are listed, and the list is kept; the records listed last stay
 abbrev pub ListsKeys : TxId → ℤ → ℕ → Session → Session → Type 0
 ListsKeys t status n old new =
-    (answer : Result (List (List ℕ)) KeysOfFault) × (status ≡ (keys_of_outcome answer).status) × (n ≡ length (list_in answer))
+    (answer : Result (List (List ℕ)) KeysOfFault) × (status ≡ (outcome_by keys_of_refusal answer).status) × (n ≡ length (list_in answer))
     × KeysOfStep old.file.file t.0 answer × (new.file ≡ old.file)
     × (new.keys.items ≡ list_in answer) × (new.entries ≡ old.entries)
 

@@ -1,44 +1,17 @@
 -- What a call answers to C: its status, and what the status carries.
 use Rattle.std.specs.Prelude.{ℕ, pos, Result, Ok, Err}
-use Rattle.btree_delete.specs.declared.open_fault.OpenFault.{OpenFault}
-use Rattle.btree_delete.specs.declared.open_fault.OpenFault.TheVariants as open_faults
-use Rattle.btree_delete.specs.declared.tree_table.CreateFault.{CreateFault}
-use Rattle.btree_delete.specs.declared.tree_table.CreateFault.TheVariants as create_faults
+use Rattle.btree_delete.specs.declared.opening.open_fault.OpenFault.{OpenFault}
+use Rattle.btree_delete.specs.declared.opening.open_fault.OpenFault.TheVariants as open_faults
+use Rattle.btree_delete.specs.declared.table.tree_table.CreateFault.{CreateFault}
+use Rattle.btree_delete.specs.declared.table.tree_table.CreateFault.TheVariants as create_faults
 use Rattle.rec_types.specs.declared.key.KeyFault.{KeyFault}
 use Rattle.rec_types.specs.declared.key.KeyFault.TheVariants.{Empty, TooLong}
 use Rattle.rec_types.specs.declared.limits.LimitFault.{LimitFault}
 use Rattle.rec_types.specs.declared.limits.LimitFault.TheVariants.{Records, Log, Begins}
-use Rattle.rec_types.specs.declared.transaction.TxId.{TxId}
-use Rattle.tx_log.specs.declared.phase.BeginFault.{BeginFault}
-use Rattle.tx_log.specs.declared.phase.BeginFault.TheVariants as begin_faults
 use Rattle.record_file.specs.declared.fault.Cause.{Cause}
 use Rattle.record_file.specs.declared.fault.Cause.TheVariants as causes
-use Rattle.record_file.specs.declared.fault.PutFault.{PutFault}
-use Rattle.record_file.specs.declared.fault.PutFault.TheVariants as put_faults
-use Rattle.record_file.specs.declared.fault.ClaimFault.{ClaimFault}
-use Rattle.record_file.specs.declared.fault.ClaimFault.TheVariants as claim_faults
-use Rattle.record_file.specs.declared.fault.RemoveFault.{RemoveFault}
-use Rattle.record_file.specs.declared.fault.RemoveFault.TheVariants as remove_faults
-use Rattle.record_file.specs.declared.fault.GetFault.{GetFault}
-use Rattle.record_file.specs.declared.fault.GetFault.TheVariants as get_faults
-use Rattle.record_file.specs.declared.fault.SavepointFault.{SavepointFault}
-use Rattle.record_file.specs.declared.fault.SavepointFault.TheVariants as savepoint_faults
-use Rattle.record_file.specs.declared.fault.ReleaseFault.{ReleaseFault}
-use Rattle.record_file.specs.declared.fault.ReleaseFault.TheVariants as release_faults
-use Rattle.record_file.specs.declared.fault.RollbackToFault.{RollbackToFault}
-use Rattle.record_file.specs.declared.fault.RollbackToFault.TheVariants as rollback_to_faults
-use Rattle.record_file.specs.declared.fault.AbortFault.{AbortFault}
-use Rattle.record_file.specs.declared.fault.AbortFault.TheVariants as abort_faults
-use Rattle.record_file.specs.declared.fault.ResumeFault.{ResumeFault}
-use Rattle.record_file.specs.declared.fault.ResumeFault.TheVariants as resume_faults
-use Rattle.record_file.specs.declared.fault.CommitFault.{CommitFault}
-use Rattle.record_file.specs.declared.fault.CommitFault.TheVariants as commit_faults
-use Rattle.record_file.specs.declared.fault.EntriesFault.{EntriesFault}
-use Rattle.record_file.specs.declared.fault.EntriesFault.TheVariants as entries_faults
-use Rattle.record_file.specs.declared.fault.KeysOfFault.{KeysOfFault}
-use Rattle.record_file.specs.declared.fault.KeysOfFault.TheVariants as keys_of_faults
-use Rattle.record_file.specs.declared.fault.StatusFault.{StatusFault}
-use Rattle.record_file.specs.declared.fault.StatusFault.TheVariants as status_faults
+use Rattle.record_file.specs.declared.refusal.Refusal.{Refusal}
+use Rattle.record_file.specs.declared.refusal.Refusal.TheVariants as refusals
 use Rattle.recfile_c.specs.declared.outcome.Outcome.{Outcome}
 
 -- the statuses
@@ -185,111 +158,29 @@ create_outcome create_faults.BadOrder = just bad_order
 create_outcome create_faults.Device = just device
 create_outcome create_faults.NotEmpty = just bad_length
 
--- a key that another transaction holds
-abbrev pub held_by : TxId → Outcome
-held_by t = record (just held) { owner = t.0 }
+-- why a device or memory failed
+abbrev pub cause_outcome : Cause → Outcome
+cause_outcome causes.Device = just device
+cause_outcome (causes.Damaged n) = at_page n
+cause_outcome causes.Memory = just memory
 
--- a rollback that stopped
-abbrev pub stopped_by : ℕ → ℕ → Cause → Outcome
-stopped_by undone left causes.Device = record (just stopped) { undone = undone; left = left; cause = pos device }
-stopped_by undone left (causes.Damaged n) = record (just stopped) { page = n; undone = undone; left = left; cause = pos damaged }
-stopped_by undone left causes.Memory = record (just stopped) { undone = undone; left = left; cause = pos memory }
+-- why a call did nothing, or how far a rollback came that was stopped, and why it was
+abbrev pub refusal_outcome : Refusal → Outcome
+refusal_outcome refusals.BeginsSpent = just begins_spent
+refusal_outcome refusals.NoSuchTx = just no_such_tx
+refusal_outcome refusals.Rolling = just rolling
+refusal_outcome refusals.NotRolling = just not_rolling
+refusal_outcome (refusals.Held t) = record (just held) { owner = t.0 }
+refusal_outcome refusals.LogFull = just log_full
+refusal_outcome refusals.Full = just full
+refusal_outcome refusals.Absent = just absent
+refusal_outcome refusals.TooDeep = just too_deep
+refusal_outcome refusals.NoSuchSave = just no_such_save
+refusal_outcome (refusals.Failed cause) = cause_outcome cause
+refusal_outcome (refusals.Stopped undone left cause) =
+    record (cause_outcome cause) { status = pos stopped; undone = undone; left = left; cause = (cause_outcome cause).status }
 
--- the outcome of each call
-
-abbrev pub begin_outcome : {A : Type 0} → Result A BeginFault → Outcome
-begin_outcome (Ok answer) = just ok
-begin_outcome (Err begin_faults.BeginsSpent) = just begins_spent
-begin_outcome (Err begin_faults.Memory) = just memory
-
-abbrev pub put_outcome : {A : Type 0} → Result A PutFault → Outcome
-put_outcome (Ok answer) = just ok
-put_outcome (Err put_faults.NoSuchTx) = just no_such_tx
-put_outcome (Err put_faults.Rolling) = just rolling
-put_outcome (Err (put_faults.Held t)) = held_by t
-put_outcome (Err put_faults.LogFull) = just log_full
-put_outcome (Err put_faults.Device) = just device
-put_outcome (Err (put_faults.Damaged n)) = at_page n
-put_outcome (Err put_faults.Full) = just full
-put_outcome (Err put_faults.Memory) = just memory
-
-abbrev pub claim_outcome : {A : Type 0} → Result A ClaimFault → Outcome
-claim_outcome (Ok answer) = just ok
-claim_outcome (Err claim_faults.NoSuchTx) = just no_such_tx
-claim_outcome (Err claim_faults.Rolling) = just rolling
-claim_outcome (Err (claim_faults.Held t)) = held_by t
-claim_outcome (Err claim_faults.LogFull) = just log_full
-claim_outcome (Err claim_faults.Device) = just device
-claim_outcome (Err (claim_faults.Damaged n)) = at_page n
-claim_outcome (Err claim_faults.Full) = just full
-claim_outcome (Err claim_faults.Memory) = just memory
-
-abbrev pub remove_outcome : {A : Type 0} → Result A RemoveFault → Outcome
-remove_outcome (Ok answer) = just ok
-remove_outcome (Err remove_faults.NoSuchTx) = just no_such_tx
-remove_outcome (Err remove_faults.Rolling) = just rolling
-remove_outcome (Err (remove_faults.Held t)) = held_by t
-remove_outcome (Err remove_faults.LogFull) = just log_full
-remove_outcome (Err remove_faults.Device) = just device
-remove_outcome (Err (remove_faults.Damaged n)) = at_page n
-remove_outcome (Err remove_faults.Absent) = just absent
-remove_outcome (Err remove_faults.Memory) = just memory
-
-abbrev pub get_outcome : {A : Type 0} → Result A GetFault → Outcome
-get_outcome (Ok answer) = just ok
-get_outcome (Err get_faults.NoSuchTx) = just no_such_tx
-get_outcome (Err get_faults.Rolling) = just rolling
-get_outcome (Err (get_faults.Held t)) = held_by t
-get_outcome (Err get_faults.Device) = just device
-get_outcome (Err (get_faults.Damaged n)) = at_page n
-
-abbrev pub savepoint_outcome : {A : Type 0} → Result A SavepointFault → Outcome
-savepoint_outcome (Ok answer) = just ok
-savepoint_outcome (Err savepoint_faults.NoSuchTx) = just no_such_tx
-savepoint_outcome (Err savepoint_faults.Rolling) = just rolling
-savepoint_outcome (Err savepoint_faults.TooDeep) = just too_deep
-
-abbrev pub release_outcome : {A : Type 0} → Result A ReleaseFault → Outcome
-release_outcome (Ok answer) = just ok
-release_outcome (Err release_faults.NoSuchTx) = just no_such_tx
-release_outcome (Err release_faults.Rolling) = just rolling
-release_outcome (Err release_faults.NoSuchSave) = just no_such_save
-
-abbrev pub rollback_to_outcome : {A : Type 0} → Result A RollbackToFault → Outcome
-rollback_to_outcome (Ok answer) = just ok
-rollback_to_outcome (Err rollback_to_faults.NoSuchTx) = just no_such_tx
-rollback_to_outcome (Err rollback_to_faults.Rolling) = just rolling
-rollback_to_outcome (Err rollback_to_faults.NoSuchSave) = just no_such_save
-rollback_to_outcome (Err (rollback_to_faults.Stopped undone left cause)) = stopped_by undone left cause
-
-abbrev pub abort_outcome : {A : Type 0} → Result A AbortFault → Outcome
-abort_outcome (Ok answer) = just ok
-abort_outcome (Err abort_faults.NoSuchTx) = just no_such_tx
-abort_outcome (Err abort_faults.Rolling) = just rolling
-abort_outcome (Err (abort_faults.Stopped undone left cause)) = stopped_by undone left cause
-
-abbrev pub resume_outcome : {A : Type 0} → Result A ResumeFault → Outcome
-resume_outcome (Ok answer) = just ok
-resume_outcome (Err resume_faults.NoSuchTx) = just no_such_tx
-resume_outcome (Err resume_faults.NotRolling) = just not_rolling
-resume_outcome (Err (resume_faults.Stopped undone left cause)) = stopped_by undone left cause
-
-abbrev pub commit_outcome : {A : Type 0} → Result A CommitFault → Outcome
-commit_outcome (Ok answer) = just ok
-commit_outcome (Err commit_faults.NoSuchTx) = just no_such_tx
-commit_outcome (Err commit_faults.Rolling) = just rolling
-
-abbrev pub entries_outcome : {A : Type 0} → Result A EntriesFault → Outcome
-entries_outcome (Ok answer) = just ok
-entries_outcome (Err entries_faults.Device) = just device
-entries_outcome (Err (entries_faults.Damaged n)) = at_page n
-entries_outcome (Err entries_faults.Memory) = just memory
-
-abbrev pub keys_of_outcome : {A : Type 0} → Result A KeysOfFault → Outcome
-keys_of_outcome (Ok answer) = just ok
-keys_of_outcome (Err keys_of_faults.NoSuchTx) = just no_such_tx
-keys_of_outcome (Err keys_of_faults.Memory) = just memory
-
-abbrev pub status_outcome : {A : Type 0} → Result A StatusFault → Outcome
-status_outcome (Ok answer) = just ok
-status_outcome (Err status_faults.NoSuchTx) = just no_such_tx
+-- the outcome of a call
+abbrev pub outcome_by : {A F : Type 0} → (F → Refusal) → Result A F → Outcome
+outcome_by refusal_of (Ok answer) = just ok
+outcome_by refusal_of (Err fault) = refusal_outcome (refusal_of fault)

@@ -7,10 +7,10 @@ use Rattle.page_store.specs.Fronts.{tried}
 use Rattle.page_store.specs.Journal.{carried, noted, untouched, NotesFront}
 use Rattle.rec_types.specs.declared.limits.LimitFault.{LimitFault}
 use Rattle.btree_node.specs.Layout.{second_version}
-use Rattle.btree_delete.specs.declared.open_fault.OpenFault.{OpenFault}
-use Rattle.btree_delete.specs.declared.open_fault.OpenFault.TheVariants as open_faults
-use Rattle.btree_delete.specs.declared.tree_table.CreateFault.{CreateFault}
-use Rattle.btree_delete.specs.declared.tree_table.CreateFault.TheVariants as create_faults
+use Rattle.btree_delete.specs.declared.opening.open_fault.OpenFault.{OpenFault}
+use Rattle.btree_delete.specs.declared.opening.open_fault.OpenFault.TheVariants as open_faults
+use Rattle.btree_delete.specs.declared.table.tree_table.CreateFault.{CreateFault}
+use Rattle.btree_delete.specs.declared.table.tree_table.CreateFault.TheVariants as create_faults
 use Rattle.btree_delete.specs.CleanFile.{IsFirst, Opens}
 use Rattle.btree_delete.specs.Closing.{closing, IsNewOrFile, IsEither}
 use Rattle.btree_delete.specs.Created.{IsCreated, IsCreateFault}

@@ -9,6 +9,7 @@ pub record JournalView : Type 0 where
   pub opened : List (List ℕ)
   pub steps : List Step
   pub reads : ℕ
+  pub shapes : ℕ
   pub writes : ℕ
   pub failures : ℕ
 

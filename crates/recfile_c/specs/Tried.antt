@@ -18,6 +18,7 @@ table_over opened steps = record {
     tail = 0;
     steady = true;
     reads = 0;
+    shapes = 0;
     writes = 0;
     failures = 0;
     journal = Some (record { opened = opened; steps = steps });

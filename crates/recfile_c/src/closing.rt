@@ -5,6 +5,7 @@ ghost use Rattle.recfile_c.specs.Shown.{no_step};
 ghost use Rattle.recfile_c.specs.Outcomes.{just, closed, still_open_by};
 ghost use Rattle.recfile_c.specs.Paged.{OnHeld, Closes, ClosesKind, ClosesTable, CountsSteps, StepAt};
 ghost use Rattle.recfile_c.specs.declared.held.Held.TheVariants.{Open};
+ghost use Rattle.recfile_c.specs.Answers.{IsStatusOf};
 
 use crate::file_table::FileTable;
 use crate::handle::RecFile;
@@ -85,7 +86,7 @@ fn close(alloc: Global, held: &mut Held) -> Outcome
 pub extern "C" fn recfile_close(alloc: Global, file: &mut RecFile, detail: &mut Outcome) -> i32
     ensures step { OnHeld (detail.new ≡ just closed) file.old.slot.value file.new.slot.value
         (Closes detail.new) }
-    ensures status { result ≡ detail.new.status }
+    ensures status { IsStatusOf result detail.new }
 {
     let Some(mut held) = file.take(alloc) else {
         *detail = Outcome::just(CLOSED);

@@ -10,6 +10,8 @@ pub enum FileTable {
 }
 
 impl TableState for FileTable {
+    ghost use Rattle.std.specs.Prelude.{Option};
+    ghost use Rattle.btree_delete.specs.Origins.{Origin};
     ghost use Rattle.recfile_c.specs.FileTables.{contents_of, limit_of, is_sound, failures_of, refusals_of, damages_of, calls_of, origin_of};
 
     ghost contents = { contents_of };
@@ -25,6 +27,8 @@ impl TableState for FileTable {
     ghost damages = { damages_of };
 
     ghost calls = { calls_of };
+
+    ghost Source = { Option Origin };
 
     ghost origin = { origin_of };
 }

@@ -19,6 +19,7 @@ pub struct JournalStore {
     steps: Vec<Step>,
     count: u64,
     reads: u64,
+    shapes: u64,
     writes: u64,
     failures: u64,
 }
@@ -34,6 +35,7 @@ impl Model for JournalStore {
       opened = s.opened.items;
       steps = s.steps.items;
       reads = s.reads;
+      shapes = s.shapes;
       writes = s.writes;
       failures = s.failures;
     } };
@@ -90,6 +92,7 @@ impl JournalStore {
           opened = pages.items;
           steps = [];
           reads = 0;
+          shapes = 0;
           writes = 0;
           failures = 0;
         } }
@@ -99,6 +102,7 @@ impl JournalStore {
             opened: pages,
             steps: Vec::new(alloc),
             reads: 0,
+            shapes: 0,
             writes: 0,
             failures: 0,
         }
@@ -160,6 +164,8 @@ impl StoreState for JournalStore {
 
     ghost reads = { λ s. s.reads };
 
+    ghost shapes = { λ s. s.shapes };
+
     ghost writes = { λ s. s.writes };
 
     ghost failures = { λ s. s.failures };
@@ -169,6 +175,7 @@ impl StoreState for JournalStore {
 
 impl Store for JournalStore {
     fn shape(&mut self) -> Result<Shape, StoreFault> {
+        self.shapes = self.shapes.saturating_add(1);
         Ok(Shape {
             pages: self.count,
             tail: 0,

@@ -1,8 +1,9 @@
 //! Facts of the definitions that contracts of this crate cite. The functions do nothing: their contracts
 //! are the laws.
 ghost use Rattle.std.specs.Prelude.{◌≡◌, ◌≢◌, ℕ, List, [], ◌∷◌, All, take};
+ghost use Rattle.btree_node.specs.Layout.{second_version};
 ghost use Rattle.btree_delete.specs.Closing.{IsEither};
-ghost use Rattle.btree_delete.specs.TableView.{TableView};
+ghost use Rattle.btree_delete.specs.TableView.{TableView, IsClosed, table_contents};
 ghost use Rattle.page_journal.specs.Carrying.{LeavesOf, WritesKept};
 ghost use Rattle.page_journal.specs.Crash.{Gathered};
 ghost use Rattle.page_journal.specs.Files.{Kept, restored};
@@ -54,6 +55,22 @@ pub fn steps_of_a_new_file_are_for_no_page()
         → MakesPages order limits made → origin_of (Paged now) ≡ origin_of (Paged made)
         → IsTriedAgain n now last → Settles last j → (j.opened ≡ [])
         × ((k : ℕ) → IsEither [] (pages_of j) (carried [] (take k j.steps))) }
+{}
+
+/// A file keeps its order: it was opened or made, calls were made, each of which keeps what its table was made of, and it was
+/// closed. Then the steps leave a closed file with the table's records, and its tree has the order of the tree that was
+/// opened, or the order that was asked for.
+pub fn the_order_stays()
+    ensures opened { (pages : List (List ℕ)) (limits : Bounds) (made now last : TableView) (n : ℕ)
+        → (j : JournalView) → OpensPages pages limits made
+        → origin_of (Paged now) ≡ origin_of (Paged made) → IsTriedAgain n now last → Settles last j
+        → (last.tree.order ≡ made.tree.order)
+        × IsClosed second_version (pages_of j) 0 last.tree (table_contents now) }
+    ensures made { (order : ℕ) (limits : Bounds) (made now last : TableView) (n : ℕ)
+        → (j : JournalView) → MakesPages order limits made
+        → origin_of (Paged now) ≡ origin_of (Paged made) → IsTriedAgain n now last → Settles last j
+        → (last.tree.order ≡ order)
+        × IsClosed second_version (pages_of j) 0 last.tree (table_contents now) }
 {}
 
 /// Steps are carried out in their order. Of two pages page 0 and page 1 are written. It fails where the

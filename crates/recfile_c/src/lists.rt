@@ -5,6 +5,7 @@ ghost use Rattle.recfile_c.specs.Outcomes.{just, closed};
 ghost use Rattle.recfile_c.specs.Calls.{OnHandle, OnSession};
 ghost use Rattle.recfile_c.specs.Lists.{ListsEntries, ListsKeys, EntryAt, KeyAt, list_in};
 ghost use Rattle.record_file.specs.Steps.{listed};
+ghost use Rattle.recfile_c.specs.Answers.{IsStatusOf};
 
 use crate::handle::RecFile;
 use crate::held::Held;
@@ -49,7 +50,7 @@ pub extern "C" fn recfile_entries(
     ensures step { OnHandle ((detail.new ≡ just closed) × (n.new ≡ 0))
         file.old.slot.value file.new.slot.value
         (ListsEntries detail.new n.new) }
-    ensures status { result ≡ detail.new.status }
+    ensures status { IsStatusOf result detail.new }
 {
     let Some(mut held) = file.take(alloc) else {
         *n = 0;

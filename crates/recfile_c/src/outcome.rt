@@ -3,10 +3,7 @@ ghost use Rattle.recfile_c.specs.Outcomes as outcomes;
 
 use btree_delete::{CreateFault, OpenFault};
 use rec_types::{KeyFault, LimitFault, TxId};
-use record_file::{
-    AbortFault, BeginFault, Cause, ClaimFault, CommitFault, EntriesFault, GetFault, KeysOfFault,
-    PutFault, ReleaseFault, RemoveFault, ResumeFault, RollbackToFault, SavepointFault, StatusFault,
-};
+use record_file::{Cause, Refusal, ToRefusal};
 
 /// The call did what it was asked.
 pub const OK: i32 = 0;
@@ -127,34 +124,6 @@ impl Outcome {
             ..Outcome::just(DAMAGED)
         }
     }
-
-    // A key that another transaction holds.
-    fn held_by(owner: TxId) -> Outcome
-        ensures { result ≡ outcomes.held_by owner }
-    {
-        Outcome {
-            owner: owner.0,
-            ..Outcome::just(HELD)
-        }
-    }
-
-    // A rollback that stopped.
-    fn stopped_by(undone: u32, left: u32, cause: Cause) -> Outcome
-        ensures { result ≡ outcomes.stopped_by undone left cause }
-    {
-        let (cause, page) = match cause {
-            Cause::Device => (DEVICE, 0),
-            Cause::Damaged(page) => (DAMAGED, page),
-            Cause::Memory => (MEMORY, 0),
-        };
-        Outcome {
-            page,
-            undone,
-            left,
-            cause,
-            ..Outcome::just(STOPPED)
-        }
-    }
 }
 
 impl From<KeyFault> for Outcome {
@@ -231,271 +200,77 @@ impl From<CreateFault> for Outcome {
     }
 }
 
-impl<A> From<&Result<A, BeginFault>> for Outcome {
+impl From<Cause> for Outcome {
     ghost use Rattle.std.specs.Prelude.{◌≡◌};
-    ghost use Rattle.recfile_c.specs.Outcomes.{begin_outcome};
+    ghost use Rattle.recfile_c.specs.Outcomes.{cause_outcome};
 
-    ghost from_gives = { λ answer told. told ≡ begin_outcome answer.now };
+    ghost from_gives = { λ cause told. told ≡ cause_outcome cause };
 
-    /// The outcome of `begin`.
-    fn from(answer: &Result<A, BeginFault>) -> Outcome {
-        match answer {
-            Ok(_) => Outcome::just(OK),
-            Err(BeginFault::BeginsSpent) => Outcome::just(BEGINS_SPENT),
-            Err(BeginFault::Memory) => Outcome::just(MEMORY),
+    /// Why a device or memory failed.
+    #[inline]
+    fn from(cause: Cause) -> Outcome {
+        match cause {
+            Cause::Device => Outcome::just(DEVICE),
+            Cause::Damaged(page) => Outcome::at_page(page),
+            Cause::Memory => Outcome::just(MEMORY),
         }
     }
 }
 
-impl<A> From<&Result<A, PutFault>> for Outcome {
+impl From<Refusal> for Outcome {
     ghost use Rattle.std.specs.Prelude.{◌≡◌};
-    ghost use Rattle.recfile_c.specs.Outcomes.{put_outcome};
+    ghost use Rattle.recfile_c.specs.Outcomes.{refusal_outcome};
 
-    ghost from_gives = { λ answer told. told ≡ put_outcome answer.now };
+    ghost from_gives = { λ refusal told. told ≡ refusal_outcome refusal };
 
-    /// The outcome of `put`.
-    fn from(answer: &Result<A, PutFault>) -> Outcome {
-        match answer {
-            Ok(_) => Outcome::just(OK),
-            Err(PutFault::NoSuchTx) => Outcome::just(NO_SUCH_TX),
-            Err(PutFault::Rolling) => Outcome::just(ROLLING),
-            Err(PutFault::Held(owner)) => Outcome::held_by(*owner),
-            Err(PutFault::LogFull) => Outcome::just(LOG_FULL),
-            Err(PutFault::Device) => Outcome::just(DEVICE),
-            Err(PutFault::Damaged(page)) => Outcome::at_page(*page),
-            Err(PutFault::Full) => Outcome::just(FULL),
-            Err(PutFault::Memory) => Outcome::just(MEMORY),
-        }
-    }
-}
-
-impl<A> From<&Result<A, ClaimFault>> for Outcome {
-    ghost use Rattle.std.specs.Prelude.{◌≡◌};
-    ghost use Rattle.recfile_c.specs.Outcomes.{claim_outcome};
-
-    ghost from_gives = { λ answer told. told ≡ claim_outcome answer.now };
-
-    /// The outcome of `claim`.
-    fn from(answer: &Result<A, ClaimFault>) -> Outcome {
-        match answer {
-            Ok(_) => Outcome::just(OK),
-            Err(ClaimFault::NoSuchTx) => Outcome::just(NO_SUCH_TX),
-            Err(ClaimFault::Rolling) => Outcome::just(ROLLING),
-            Err(ClaimFault::Held(owner)) => Outcome::held_by(*owner),
-            Err(ClaimFault::LogFull) => Outcome::just(LOG_FULL),
-            Err(ClaimFault::Device) => Outcome::just(DEVICE),
-            Err(ClaimFault::Damaged(page)) => Outcome::at_page(*page),
-            Err(ClaimFault::Full) => Outcome::just(FULL),
-            Err(ClaimFault::Memory) => Outcome::just(MEMORY),
-        }
-    }
-}
-
-impl<A> From<&Result<A, RemoveFault>> for Outcome {
-    ghost use Rattle.std.specs.Prelude.{◌≡◌};
-    ghost use Rattle.recfile_c.specs.Outcomes.{remove_outcome};
-
-    ghost from_gives = { λ answer told. told ≡ remove_outcome answer.now };
-
-    /// The outcome of `remove`.
-    fn from(answer: &Result<A, RemoveFault>) -> Outcome {
-        match answer {
-            Ok(_) => Outcome::just(OK),
-            Err(RemoveFault::NoSuchTx) => Outcome::just(NO_SUCH_TX),
-            Err(RemoveFault::Rolling) => Outcome::just(ROLLING),
-            Err(RemoveFault::Held(owner)) => Outcome::held_by(*owner),
-            Err(RemoveFault::LogFull) => Outcome::just(LOG_FULL),
-            Err(RemoveFault::Device) => Outcome::just(DEVICE),
-            Err(RemoveFault::Damaged(page)) => Outcome::at_page(*page),
-            Err(RemoveFault::Absent) => Outcome::just(ABSENT),
-            Err(RemoveFault::Memory) => Outcome::just(MEMORY),
-        }
-    }
-}
-
-impl<A> From<&Result<A, GetFault>> for Outcome {
-    ghost use Rattle.std.specs.Prelude.{◌≡◌};
-    ghost use Rattle.recfile_c.specs.Outcomes.{get_outcome};
-
-    ghost from_gives = { λ answer told. told ≡ get_outcome answer.now };
-
-    /// The outcome of `get`.
-    fn from(answer: &Result<A, GetFault>) -> Outcome {
-        match answer {
-            Ok(_) => Outcome::just(OK),
-            Err(GetFault::NoSuchTx) => Outcome::just(NO_SUCH_TX),
-            Err(GetFault::Rolling) => Outcome::just(ROLLING),
-            Err(GetFault::Held(owner)) => Outcome::held_by(*owner),
-            Err(GetFault::Device) => Outcome::just(DEVICE),
-            Err(GetFault::Damaged(page)) => Outcome::at_page(*page),
-        }
-    }
-}
-
-impl<A> From<&Result<A, SavepointFault>> for Outcome {
-    ghost use Rattle.std.specs.Prelude.{◌≡◌};
-    ghost use Rattle.recfile_c.specs.Outcomes.{savepoint_outcome};
-
-    ghost from_gives = { λ answer told. told ≡ savepoint_outcome answer.now };
-
-    /// The outcome of `savepoint`.
-    fn from(answer: &Result<A, SavepointFault>) -> Outcome {
-        match answer {
-            Ok(_) => Outcome::just(OK),
-            Err(SavepointFault::NoSuchTx) => Outcome::just(NO_SUCH_TX),
-            Err(SavepointFault::Rolling) => Outcome::just(ROLLING),
-            Err(SavepointFault::TooDeep) => Outcome::just(TOO_DEEP),
-        }
-    }
-}
-
-impl<A> From<&Result<A, ReleaseFault>> for Outcome {
-    ghost use Rattle.std.specs.Prelude.{◌≡◌};
-    ghost use Rattle.recfile_c.specs.Outcomes.{release_outcome};
-
-    ghost from_gives = { λ answer told. told ≡ release_outcome answer.now };
-
-    /// The outcome of `release`.
-    fn from(answer: &Result<A, ReleaseFault>) -> Outcome {
-        match answer {
-            Ok(_) => Outcome::just(OK),
-            Err(ReleaseFault::NoSuchTx) => Outcome::just(NO_SUCH_TX),
-            Err(ReleaseFault::Rolling) => Outcome::just(ROLLING),
-            Err(ReleaseFault::NoSuchSave) => Outcome::just(NO_SUCH_SAVE),
-        }
-    }
-}
-
-impl<A> From<&Result<A, RollbackToFault>> for Outcome {
-    ghost use Rattle.std.specs.Prelude.{◌≡◌};
-    ghost use Rattle.recfile_c.specs.Outcomes.{rollback_to_outcome};
-
-    ghost from_gives = { λ answer told. told ≡ rollback_to_outcome answer.now };
-
-    /// The outcome of `rollback_to`.
-    fn from(answer: &Result<A, RollbackToFault>) -> Outcome {
-        match answer {
-            Ok(_) => Outcome::just(OK),
-            Err(RollbackToFault::NoSuchTx) => Outcome::just(NO_SUCH_TX),
-            Err(RollbackToFault::Rolling) => Outcome::just(ROLLING),
-            Err(RollbackToFault::NoSuchSave) => Outcome::just(NO_SUCH_SAVE),
-            Err(
-                RollbackToFault::Stopped {
+    /// Why a call did nothing, or how far a rollback came that was stopped, and why it was.
+    #[inline]
+    fn from(refusal: Refusal) -> Outcome {
+        match refusal {
+            Refusal::BeginsSpent => Outcome::just(BEGINS_SPENT),
+            Refusal::NoSuchTx => Outcome::just(NO_SUCH_TX),
+            Refusal::Rolling => Outcome::just(ROLLING),
+            Refusal::NotRolling => Outcome::just(NOT_ROLLING),
+            Refusal::Held(TxId(owner)) => Outcome {
+                owner,
+                ..Outcome::just(HELD)
+            },
+            Refusal::LogFull => Outcome::just(LOG_FULL),
+            Refusal::Full => Outcome::just(FULL),
+            Refusal::Absent => Outcome::just(ABSENT),
+            Refusal::TooDeep => Outcome::just(TOO_DEEP),
+            Refusal::NoSuchSave => Outcome::just(NO_SUCH_SAVE),
+            Refusal::Failed(cause) => Outcome::from(cause),
+            Refusal::Stopped {
+                undone,
+                left,
+                cause,
+            } => {
+                let why = Outcome::from(cause);
+                Outcome {
+                    status: STOPPED,
                     undone,
                     left,
-                    cause,
-                },
-            ) => Outcome::stopped_by(*undone, *left, *cause),
+                    cause: why.status,
+                    ..why
+                }
+            }
         }
     }
 }
 
-impl<A> From<&Result<A, AbortFault>> for Outcome {
+impl<A, F: ToRefusal> From<&Result<A, F>> for Outcome {
     ghost use Rattle.std.specs.Prelude.{◌≡◌};
-    ghost use Rattle.recfile_c.specs.Outcomes.{abort_outcome};
+    ghost use Rattle.recfile_c.specs.Outcomes.{outcome_by};
 
-    ghost from_gives = { λ answer told. told ≡ abort_outcome answer.now };
+    ghost from_gives = { λ answer told. told ≡ outcome_by F.refusal_of answer.now };
 
-    /// The outcome of `abort`.
-    fn from(answer: &Result<A, AbortFault>) -> Outcome {
+    /// The outcome of a call.
+    #[inline]
+    fn from(answer: &Result<A, F>) -> Outcome {
         match answer {
             Ok(_) => Outcome::just(OK),
-            Err(AbortFault::NoSuchTx) => Outcome::just(NO_SUCH_TX),
-            Err(AbortFault::Rolling) => Outcome::just(ROLLING),
-            Err(
-                AbortFault::Stopped {
-                    undone,
-                    left,
-                    cause,
-                },
-            ) => Outcome::stopped_by(*undone, *left, *cause),
-        }
-    }
-}
-
-impl<A> From<&Result<A, ResumeFault>> for Outcome {
-    ghost use Rattle.std.specs.Prelude.{◌≡◌};
-    ghost use Rattle.recfile_c.specs.Outcomes.{resume_outcome};
-
-    ghost from_gives = { λ answer told. told ≡ resume_outcome answer.now };
-
-    /// The outcome of `resume`.
-    fn from(answer: &Result<A, ResumeFault>) -> Outcome {
-        match answer {
-            Ok(_) => Outcome::just(OK),
-            Err(ResumeFault::NoSuchTx) => Outcome::just(NO_SUCH_TX),
-            Err(ResumeFault::NotRolling) => Outcome::just(NOT_ROLLING),
-            Err(
-                ResumeFault::Stopped {
-                    undone,
-                    left,
-                    cause,
-                },
-            ) => Outcome::stopped_by(*undone, *left, *cause),
-        }
-    }
-}
-
-impl<A> From<&Result<A, CommitFault>> for Outcome {
-    ghost use Rattle.std.specs.Prelude.{◌≡◌};
-    ghost use Rattle.recfile_c.specs.Outcomes.{commit_outcome};
-
-    ghost from_gives = { λ answer told. told ≡ commit_outcome answer.now };
-
-    /// The outcome of `commit`.
-    fn from(answer: &Result<A, CommitFault>) -> Outcome {
-        match answer {
-            Ok(_) => Outcome::just(OK),
-            Err(CommitFault::NoSuchTx) => Outcome::just(NO_SUCH_TX),
-            Err(CommitFault::Rolling) => Outcome::just(ROLLING),
-        }
-    }
-}
-
-impl<A> From<&Result<A, EntriesFault>> for Outcome {
-    ghost use Rattle.std.specs.Prelude.{◌≡◌};
-    ghost use Rattle.recfile_c.specs.Outcomes.{entries_outcome};
-
-    ghost from_gives = { λ answer told. told ≡ entries_outcome answer.now };
-
-    /// The outcome of `entries`.
-    fn from(answer: &Result<A, EntriesFault>) -> Outcome {
-        match answer {
-            Ok(_) => Outcome::just(OK),
-            Err(EntriesFault::Device) => Outcome::just(DEVICE),
-            Err(EntriesFault::Damaged(page)) => Outcome::at_page(*page),
-            Err(EntriesFault::Memory) => Outcome::just(MEMORY),
-        }
-    }
-}
-
-impl<A> From<&Result<A, KeysOfFault>> for Outcome {
-    ghost use Rattle.std.specs.Prelude.{◌≡◌};
-    ghost use Rattle.recfile_c.specs.Outcomes.{keys_of_outcome};
-
-    ghost from_gives = { λ answer told. told ≡ keys_of_outcome answer.now };
-
-    /// The outcome of `keys_of`.
-    fn from(answer: &Result<A, KeysOfFault>) -> Outcome {
-        match answer {
-            Ok(_) => Outcome::just(OK),
-            Err(KeysOfFault::NoSuchTx) => Outcome::just(NO_SUCH_TX),
-            Err(KeysOfFault::Memory) => Outcome::just(MEMORY),
-        }
-    }
-}
-
-impl<A> From<&Result<A, StatusFault>> for Outcome {
-    ghost use Rattle.std.specs.Prelude.{◌≡◌};
-    ghost use Rattle.recfile_c.specs.Outcomes.{status_outcome};
-
-    ghost from_gives = { λ answer told. told ≡ status_outcome answer.now };
-
-    /// The outcome of `status`.
-    fn from(answer: &Result<A, StatusFault>) -> Outcome {
-        match answer {
-            Ok(_) => Outcome::just(OK),
-            Err(StatusFault::NoSuchTx) => Outcome::just(NO_SUCH_TX),
+            Err(fault) => Outcome::from(fault.to_refusal()),
         }
     }
 }

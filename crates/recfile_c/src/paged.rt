@@ -4,6 +4,7 @@ ghost use Rattle.rec_types.specs.Limits.{limits_of};
 ghost use Rattle.recfile_c.specs.Opening.{IsOpened};
 ghost use Rattle.recfile_c.specs.Outcomes.{just, memory};
 ghost use Rattle.recfile_c.specs.Paged.{paged_file, OnImage, AddsPage, OpensFrom, CreatesOf, BecomesOpen, OpensImage, CreatesImage, TakesImage};
+ghost use Rattle.recfile_c.specs.Answers.{IsStatusOf};
 
 use crate::file_table::FileTable;
 use crate::handle::RecFile;
@@ -158,7 +159,7 @@ pub extern "C" fn recfile_open(
 ) -> i32
     ensures step { OnImage (detail.new ≡ just memory) file.old.slot.value file.new.slot.value
         (OpensImage (limits_of records log_records begins) detail.new) }
-    ensures status { result ≡ detail.new.status }
+    ensures status { IsStatusOf result detail.new }
 {
     let Some(mut held) = take_image(alloc, file) else {
         *detail = Outcome::just(MEMORY);
@@ -211,7 +212,7 @@ pub extern "C" fn recfile_create(
 ) -> i32
     ensures step { OnImage (detail.new ≡ just memory) file.old.slot.value file.new.slot.value
         (CreatesImage order (limits_of records log_records begins) detail.new) }
-    ensures status { result ≡ detail.new.status }
+    ensures status { IsStatusOf result detail.new }
 {
     let Some(mut held) = take_image(alloc, file) else {
         *detail = Outcome::just(MEMORY);

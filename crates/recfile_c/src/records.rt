@@ -5,6 +5,7 @@ ghost use Rattle.rec_types.specs.Record.{record_of};
 ghost use Rattle.recfile_c.specs.Shown.{shown, tx_shown};
 ghost use Rattle.recfile_c.specs.Outcomes.{just, closed};
 ghost use Rattle.recfile_c.specs.Calls.{OnHandle, OnSession, InFile, PutBytes, ClaimBytes, RemoveBytes, GetBytes};
+ghost use Rattle.recfile_c.specs.Answers.{IsStatusOf};
 
 use crate::handle::RecFile;
 use crate::held::Held;
@@ -52,7 +53,7 @@ pub extern "C" fn recfile_put(
         file.old.slot.value file.new.slot.value
         (InFile (PutBytes (tx_shown tx) (key_of key.now) (record_of value.now) detail.new
         (shown before.new))) }
-    ensures status { result ≡ detail.new.status }
+    ensures status { IsStatusOf result detail.new }
 {
     let Some(mut held) = file.take(alloc) else {
         *before = Found::default();
@@ -98,7 +99,7 @@ pub extern "C" fn recfile_claim(
     ensures step { OnHandle ((detail.new ≡ just closed) × (shown seen.new ≡ None))
         file.old.slot.value file.new.slot.value
         (InFile (ClaimBytes (tx_shown tx) (key_of key.now) detail.new (shown seen.new))) }
-    ensures status { result ≡ detail.new.status }
+    ensures status { IsStatusOf result detail.new }
 {
     let Some(mut held) = file.take(alloc) else {
         *seen = Found::default();
@@ -144,7 +145,7 @@ pub extern "C" fn recfile_remove(
     ensures step { OnHandle ((detail.new ≡ just closed) × (shown taken.new ≡ None))
         file.old.slot.value file.new.slot.value
         (InFile (RemoveBytes (tx_shown tx) (key_of key.now) detail.new (shown taken.new))) }
-    ensures status { result ≡ detail.new.status }
+    ensures status { IsStatusOf result detail.new }
 {
     let Some(mut held) = file.take(alloc) else {
         *taken = Found::default();
@@ -190,7 +191,7 @@ pub extern "C" fn recfile_get(
     ensures step { OnHandle ((detail.new ≡ just closed) × (shown found.new ≡ None))
         file.old.slot.value file.new.slot.value
         (InFile (GetBytes (tx_shown tx) (key_of key.now) detail.new (shown found.new))) }
-    ensures status { result ≡ detail.new.status }
+    ensures status { IsStatusOf result detail.new }
 {
     let Some(mut held) = file.take(alloc) else {
         *found = Found::default();

@@ -1,6 +1,6 @@
 // Transactions, from C.
 ghost use Rattle.std.specs.Prelude.{◌≡◌, pos};
-ghost use Rattle.recfile_c.specs.Answers.{number_in, tx_in};
+ghost use Rattle.recfile_c.specs.Answers.{number_in, tx_in, IsStatusOf};
 ghost use Rattle.recfile_c.specs.Shown.{tx_shown};
 ghost use Rattle.recfile_c.specs.Outcomes.{just, closed};
 ghost use Rattle.recfile_c.specs.Calls.{OnHandle, OnSession, InFile, Begin, Savepoint, Release, RollbackTo, Abort, Resume, Commit};
@@ -147,7 +147,7 @@ pub extern "C" fn recfile_rollback_to(
     ensures step { OnHandle ((detail.new ≡ just closed) × (undone.new ≡ 0))
         file.old.slot.value file.new.slot.value
         (InFile (RollbackTo (tx_shown tx) n detail.new undone.new)) }
-    ensures status { result ≡ detail.new.status }
+    ensures status { IsStatusOf result detail.new }
 {
     let Some(mut held) = file.take(alloc) else {
         *undone = 0;
@@ -187,7 +187,7 @@ pub extern "C" fn recfile_abort(
     ensures step { OnHandle ((detail.new ≡ just closed) × (undone.new ≡ 0))
         file.old.slot.value file.new.slot.value
         (InFile (Abort (tx_shown tx) detail.new undone.new)) }
-    ensures status { result ≡ detail.new.status }
+    ensures status { IsStatusOf result detail.new }
 {
     let Some(mut held) = file.take(alloc) else {
         *undone = 0;
@@ -227,7 +227,7 @@ pub extern "C" fn recfile_resume(
     ensures step { OnHandle ((detail.new ≡ just closed) × (undone.new ≡ 0))
         file.old.slot.value file.new.slot.value
         (InFile (Resume (tx_shown tx) detail.new undone.new)) }
-    ensures status { result ≡ detail.new.status }
+    ensures status { IsStatusOf result detail.new }
 {
     let Some(mut held) = file.take(alloc) else {
         *undone = 0;
