@@ -12,7 +12,7 @@ use std::alloc::{AllocError, Global};
 use std::process::Abort;
 
 /// The disk whose file has two pages, filled with 1 and 2.
-struct TwoPages;
+pub(crate) struct TwoPages;
 
 impl Beginning for TwoPages {
     ghost files = { two_pages };
@@ -25,7 +25,7 @@ impl Beginning for Restarted {
     ghost files = { two_pages };
 }
 
-fn filled(with: u8) -> [u8; PAGE_WIDTH]
+pub(crate) fn filled(with: u8) -> [u8; PAGE_WIDTH]
     ensures { result ≡ filled_page with }
 {
     [with; PAGE_WIDTH]

@@ -10,6 +10,8 @@ mod fault_texts;
 #[cfg(test)]
 mod file_disks;
 #[cfg(test)]
+mod files_in_memory;
+#[cfg(test)]
 mod logs;
 #[cfg(test)]
 mod nodes;

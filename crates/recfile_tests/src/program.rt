@@ -1,6 +1,6 @@
 use crate::expect_named;
 use page_store::Lock;
-use recfile::run_words;
+use recfile::{SystemFiles, run_words};
 use std::alloc::{Alloc, Global};
 use std::fs;
 use std::fs::OpenFile;
@@ -65,7 +65,14 @@ fn run<F: OpenFile + FileExt + Lock + Drop, H: Files<File = F> + Abort>(
     }
     let mut reader = script.as_bytes();
     let (mut out, mut err) = (Vec::new(alloc), Vec::new(alloc));
-    let status = run_words(rt, alloc, &list, &mut reader, &mut out, &mut err);
+    let status = run_words(
+        &SystemFiles::new(rt),
+        alloc,
+        &list,
+        &mut reader,
+        &mut out,
+        &mut err,
+    );
     (
         status,
         String::from_utf8(out).expect(rt, "no text"),

@@ -60,6 +60,8 @@ impl StoreState for ScarceStore {
 
     ghost reads = { λ s. s.inner.reads };
 
+    ghost shapes = { λ s. s.inner.shapes };
+
     ghost writes = { λ s. s.writes };
 
     ghost failures = { λ _. 0 };

@@ -89,6 +89,8 @@ impl<T: Table> TableState for LyingTable<T> {
 
     ghost calls = { λ t. t.calls };
 
+    ghost Source = { T.Source };
+
     ghost origin = { λ t. T.origin t.inner };
 }
 

@@ -27,6 +27,8 @@ impl<S: Store> StoreState for StrangeStore<S> {
 
     ghost reads = { λ s. S.reads s.inner };
 
+    ghost shapes = { λ s. S.shapes s.inner };
+
     ghost writes = { λ s. S.writes s.inner };
 
     ghost failures = { λ s. S.failures s.inner };

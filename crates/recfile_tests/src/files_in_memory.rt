@@ -1,0 +1,71 @@
+// The program's tasks over files in memory, which are steady: what the tasks are proved to do says something of them.
+use crate::crashes::{TwoPages, filled};
+use crate::expect_text;
+use page_journal::MemDisk;
+use page_store::MemStore;
+use recfile::{FileFault, PageFiles, run_words};
+use std::alloc::Global;
+use std::io::Write;
+use std::process::Abort;
+
+/// The same file at every path.
+struct OneFile;
+
+impl PageFiles for OneFile {
+    ghost use Rattle.std.specs.Prelude.{◌≡◌};
+    ghost use Rattle.recfile_tests.specs.TwoPages.{two_pages};
+
+    type Device = MemDisk<TwoPages>;
+
+    type Pages = MemStore;
+
+    ghost at = { λ _ _ files. files ≡ two_pages };
+
+    fn open(&self, alloc: Global, _path: &str) -> Result<MemDisk<TwoPages>, FileFault> {
+        match MemDisk::new(alloc, &[filled(1), filled(2)], 0) {
+            Ok(disk) => Ok(disk),
+            Err(_) => Err(FileFault::Memory),
+        }
+    }
+
+    fn open_clean(&self, alloc: Global, _path: &str) -> Result<MemStore, FileFault> {
+        match Vec::from_array(alloc, [filled(1), filled(2)]) {
+            Ok(pages) => Ok(MemStore::new(pages, 0)),
+            Err(_) => Err(FileFault::Memory),
+        }
+    }
+
+    fn create(&self, alloc: Global, _path: &str) -> Result<MemStore, FileFault> {
+        Ok(MemStore::new(Vec::new(alloc), 0))
+    }
+
+    fn explain<W: Write>(&self, _alloc: Global, _path: &str, _out: &mut W) -> bool {
+        false
+    }
+}
+
+/// The status of these words, and what was written, with a stroke before what stands on standard error.
+fn answer_to(rt: &impl Abort, alloc: Global, words: &[&str]) -> String {
+    let mut reader = "begin\n".as_bytes();
+    let (mut out, mut err) = (Vec::new(alloc), Vec::new(alloc));
+    let status = run_words(&OneFile, alloc, words, &mut reader, &mut out, &mut err);
+    let out = String::from_utf8(out).expect(rt, "no text");
+    let err = String::from_utf8(err).expect(rt, "no text");
+    format!(in alloc; "{status} {out}|{err}").expect(rt, "no memory")
+}
+
+/// Each task finds the file, which is no record file, and `create` makes one.
+#[test]
+fn tasks_find_what_is_handed_in(rt: HostRuntime) {
+    let alloc = rt.alloc();
+    for (command, wanted) in [
+        ("run", "1 |recfile: BadMagic\n"),
+        ("check", "1 |recfile: BadMagic\n"),
+        ("dump", "1 |recfile: BadMagic\n"),
+    ] {
+        let text = answer_to(&rt, alloc, &["recfile", command, "file"]);
+        expect_text(&rt, text.as_str(), wanted);
+    }
+    let text = answer_to(&rt, alloc, &["recfile", "create", "--order", "2", "file"]);
+    expect_text(&rt, text.as_str(), "0 |");
+}
