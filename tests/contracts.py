@@ -1,0 +1,65 @@
+"""The contracts stay readable: what several functions say is a word. A clause that is more than a word, one definition
+applied to what the function has, stands word for word at no more than five functions; and a function of a crate's own, which
+is neither public nor a method of a trait, has at most ten clauses."""
+import collections
+import pathlib
+import re
+import sys
+
+MOST_FUNCTIONS, MOST_CLAUSES = 5, 10
+FUNCTION = re.compile(r"^(?P<indent> *)(?P<visibility>pub(?:\([a-z]+\))? )?(?:unsafe )?(?:extern \"C\" )?fn (?P<name>\w+)", re.M)
+CLAUSE = re.compile(r"\s*(?:ensures|requires)\s*(?:\w+\s*)?\{")
+BLOCK = re.compile(r"^(?:unsafe )?(?P<head>(?:pub )?trait |impl)(?P<rest>[^{]*)\{", re.M)
+WORD = re.compile(r"[\w.' ()⟦⟧<>,]+")
+
+
+def closing(text, start):
+    """The place behind the brace that closes the one before `start`."""
+    depth = 1
+    while depth:
+        depth += {"{": 1, "}": -1}.get(text[start], 0)
+        start += 1
+    return start
+
+
+def clauses_of(text, place):
+    """The texts of the clauses of the function whose name ends at `place`."""
+    found, depth = [], 0
+    while True:
+        clause = CLAUSE.match(text, place) if depth == 0 else None
+        if clause:
+            place = closing(text, clause.end())
+            found.append(" ".join(text[clause.end() : place - 1].split()))
+        elif depth == 0 and text[place] in "{;":
+            return found
+        else:
+            depth += {"(": 1, "[": 1, ")": -1, "]": -1}.get(text[place], 0)
+            place += 1
+
+
+def is_method_of_trait(text, function):
+    """Whether the function stands in a trait, or in an `impl` of one."""
+    if not function["indent"]:
+        return False
+    block = [head for head in BLOCK.finditer(text) if head.start() < function.start()][-1]
+    return "trait" in block["head"] or " for " in block["rest"]
+
+
+root = pathlib.Path(__file__).resolve().parent.parent
+places, faults = collections.defaultdict(list), []
+for path in sorted(root.glob("crates/*/src/**/*.rt")):
+    text = path.read_text()
+    for function in FUNCTION.finditer(text):
+        clauses = clauses_of(text, function.end())
+        for clause in clauses:
+            places[clause].append(f"{path.relative_to(root).parts[1]} {function['name']}")
+        own = function["visibility"] != "pub " and not is_method_of_trait(text, function)
+        if own and len(clauses) > MOST_CLAUSES:
+            faults.append(f"{path.relative_to(root)}: {function['name']} has {len(clauses)} clauses")
+for clause, functions in places.items():
+    if len(functions) > MOST_FUNCTIONS and not WORD.fullmatch(clause):
+        faults.append(f"{len(functions)} functions say: {clause} ({', '.join(functions)})")
+for fault in faults:
+    print(f"contracts: {fault}")
+print(f"contracts: {sum(map(len, places.values()))} clauses, {len(faults)} to mend")
+sys.exit(bool(faults))
