@@ -1,13 +1,15 @@
 -- The records of a log in little memory: what stays as bytes and entries are added.
 use Rattle.std.proofs.Common.{◌≡◌, ℕ, ◌≤◌, ◌<◌, ◌-◌, Bool, true, false, if◌then◌else◌, zero, suc, List, [], ◌∷◌, ◌++◌, length, take, drop, map, Option, Some, None, option_map, slice_get, get_or, reverse, refl, sym, ap, subst, ◌∙◌, arith}
+use Rattle.std.specs.List.{filter}
 use Rattle.std.proofs.lemmas.List.{take-append-le, drop-append-le, length-drop}
 use Rattle.std.proofs.lemmas.Option.{slice_get-get_or}
 use Rattle.rec_types.specs.declared.transaction.TxId.{TxId}
 use Rattle.tx_log.specs.Compact.{read, IsWithin, told_as, back_kind, record_in}
-use Rattle.tx_log.specs.Log.{back_record, back_in, key_of, prev_of, chain, IsNumbered}
+use Rattle.tx_log.specs.Log.{back_record, back_in, lsn_of, key_of, prev_of, chain, IsNumbered}
 use Rattle.tx_log.specs.Marks.{first_lsn}
-use Rattle.tx_log.specs.Walks.{change_in, link_of, newest_in}
+use Rattle.tx_log.specs.Walks.{change_in, link_of, newest_in, is_after, step_to}
 use Rattle.tx_log.proofs.MarkLemmas.{first_there}
+use Rattle.tx_log.proofs.WalkSteps.{walk_step, stops_at, first_above}
 use Rattle.tx_log.specs.declared.log_record.LogRecord.{LogRecord}
 use Rattle.tx_log.specs.declared.log_record.LogRecord.TheVariants as logged
 use Rattle.tx_log.specs.declared.records.Span.{Span}
@@ -76,5 +78,39 @@ pub link-there : (log : List LogRecord) (from at : ℕ) → IsNumbered (reverse 
 link-there log from at numbered is some within = twice (slice_get log (at - 1)) ∙ ap (option_map link_of) (newest-there log from at numbered is some within)
   where
     twice : (o : Option LogRecord) → option_map (λ u. link_of (change_in u)) o ≡ option_map link_of (option_map change_in o)
+    twice None = refl
+    twice (Some u) = refl
+
+-- a first change that isn't above a place has none after it that is
+pub none_above : (rs : List LogRecord) (from at to : ℕ) → IsNumbered rs → at ≡ first_lsn (chain rs from) → at ≤ to → None ≡ option_map step_to (newest_in (filter (is_after to) (chain rs from)))
+none_above rs from at to numbered is low = of (chain rs from) refl
+  where
+    of : (us : List LogRecord) → chain rs from ≡ us → None ≡ option_map step_to (newest_in (filter (is_after to) (chain rs from)))
+    of [] e = sym (ap (λ us. option_map step_to (newest_in (filter (is_after to) us))) e)
+    of (u ∷ us) e =
+        let step = walk_step rs from (change_in u) numbered (ap newest_in e) in
+        let under : lsn_of u ≤ to = omega (arith, is, ap first_lsn e, low) in
+        sym (ap (λ us. option_map step_to (newest_in us)) (stops_at rs from (change_in u) to numbered step under))
+
+-- a first change above a place is the newest there
+first_of : (rs : List LogRecord) (from to : ℕ) → IsNumbered rs → to < first_lsn (chain rs from) → newest_in (chain rs from) ≡ newest_in (filter (is_after to) (chain rs from))
+first_of rs from to numbered above = of (chain rs from) refl
+  where
+    of : (us : List LogRecord) → chain rs from ≡ us → newest_in (chain rs from) ≡ newest_in (filter (is_after to) (chain rs from))
+    of [] e = ap newest_in e ∙ sym (ap (λ us. newest_in (filter (is_after to) us)) e)
+    of (u ∷ us) e =
+        let step = walk_step rs from (change_in u) numbered (ap newest_in e) in
+        let over : to < lsn_of u = omega (arith, above, ap first_lsn e) in
+        ap newest_in e ∙ first_above rs from to (change_in u) step over
+
+-- the number leads to what takes that change back
+pub step-there : (log : List LogRecord) (from at to : ℕ) → IsNumbered (reverse log) → at ≡ first_lsn (chain (reverse log) from) → to < at → at ≤ length log → option_map (λ u. step_to (change_in u)) (slice_get log (at - 1)) ≡ option_map step_to (newest_in (filter (is_after to) (chain (reverse log) from)))
+step-there log from at to numbered is above within =
+    let rs = reverse log in
+    twice (slice_get log (at - 1))
+    ∙ ap (option_map step_to) (newest-there log from at numbered is (omega (arith, above)) within)
+    ∙ ap (option_map step_to) (first_of rs from to numbered (omega (arith, is, above)))
+  where
+    twice : (o : Option LogRecord) → option_map (λ u. step_to (change_in u)) o ≡ option_map step_to (option_map change_in o)
     twice None = refl
     twice (Some u) = refl

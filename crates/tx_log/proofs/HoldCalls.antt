@@ -5,7 +5,7 @@ use Rattle.std.proofs.lemmas.List.{length-reverse}
 use Rattle.rec_types.specs.Kept.{history_of}
 use Rattle.rec_types.specs.declared.transaction.TxId.{TxId}
 use Rattle.tx_log.proofs.HoldingLemmas.{any_counted, held_grown, accepted_hold, compensated_hold, IsHoldStep, IsHolding, holding_of, mine_alone, own_absent, own_or_none}
-use Rattle.tx_log.proofs.HoldSteps.{held_put, busy_placed, lowered_busy}
+use Rattle.tx_log.proofs.HoldSteps.{held_put, busy_placed, busy_now, lowered_busy}
 use Rattle.tx_log.proofs.KeptLogLemmas.{stack-le}
 use Rattle.tx_log.proofs.OpenTxLemmas.{opens_is}
 use Rattle.tx_log.proofs.OpenTxReadLemmas.{entry_chain}
@@ -43,6 +43,7 @@ some_hold (Some x) h = (x, refl)
 pub record IsFree (l : Inside) (t : ℕ) (key : List ℕ) (e : OpenTx) : Type 0 where
   pub hold : Holding
   pub there : held l.holdings key ≡ Some hold
+  pub over : l.over ≡ Some key
   pub mine : 0 < hold.live → hold.owner.0 ≡ t
   pub lacks : hold.absent ≡ absent_at key (chain (reverse l.records.items) e.last)
   pub some : list_any (is_at key) (chain (reverse l.records.items) e.last) ≡ not (eqb hold.live 0)
@@ -58,7 +59,8 @@ free_key l is s view t key e room free found =
     let kept = is.log_kept in
     let opened : is_open t ≡ true = ap is_some found in
     let room_is : l.room ≡ Some key = ap (λ (x : LogState). x.room) view ∙ room in
-    let hold = some_hold (holds key) (subst (λ (o : Option (List ℕ)). IfSome o (λ k. is_some (holds k) ≡ true)) room_is is.reserved) in
+    let reserved = subst (λ (o : Option (List ℕ)). IfSome o (λ k. (is_some (holds k) ≡ true) × (l.over ≡ Some k))) room_is is.reserved in
+    let hold = some_hold (holds key) reserved.0 in
     let alone : holder_of is_open (history_of (kept_of rs)) t key ≡ None = ap (λ (o : ℕ → Bool). holder_of o (history_of (kept_of rs)) t key) (sym (opens_is (kept_of rs) l.txs.entries)) ∙ ap (λ (x : LogState). holder_of (open_in x) (history_in x) t key) view ∙ free in
     let mine : 0 < hold.0.live → hold.0.owner.0 ≡ t = mine_alone rs is_open holds key hold.0 t kept.owned is.holding hold.1 alone in
     let many : live_at key (stack t rs) ≡ hold.0.live = is.holding.counted t key opened ∙ ap (live_of t) hold.1 ∙ own_or_none hold.0 t mine in
@@ -66,6 +68,7 @@ free_key l is s view t key e room free found =
     record {
       hold = hold.0;
       there = hold.1;
+      over = reserved.1;
       mine = mine;
       lacks = own_absent rs is_open holds key hold.0 t is.holding hold.1 mine opened ∙ ap (absent_at key) (sym whole);
       some = ap (list_any (is_at key)) whole ∙ any_counted key (stack t rs) ∙ ap (λ (n : ℕ). not (eqb n 0)) many;
@@ -94,7 +97,7 @@ will_be_told r lsn prev tx key before after us is =
     ∙ sym (ap (λ (b : Bool). cond b (is_out (says (new_of r) (list_any (is_at key) us) (old_of r)) (absent_at key us)) (absent_at key us)) (same_key-of (key_of r) key is.key_is))
 
 -- what is kept of keys after a change
-pub accepted_keys : (r : LogRecord) (l : Inside) → IsTxLog l → (tx : TxId) (key : List ℕ) (e new : OpenTx) (free : IsFree l tx.0 key e) (txs_new : Txs) (holds_new : HoldsKey) (lsn prev : ℕ) (before : Option (List ℕ)) (after : Option (Option (List ℕ))) (absent : Bool) → IsChangeOf r lsn prev tx key before after → finding l.txs.entries tx.0 ≡ Some e → PutsAt (finding l.txs.entries) txs_new tx.0 (Some new) → absent ≡ absent_at key (r ∷ chain (reverse l.records.items) e.last) → Places (held l.holdings) holds_new key (Some (record { owner = tx; live = free.hold.live + 1; absent = absent })) → AreHeld (r ∷ reverse l.records.items) txs_new holds_new l.over
+pub accepted_keys : (r : LogRecord) (l : Inside) → IsTxLog l → (tx : TxId) (key : List ℕ) (e new : OpenTx) (free : IsFree l tx.0 key e) (txs_new : Txs) (holds_new : HoldsKey) (lsn prev : ℕ) (before : Option (List ℕ)) (after : Option (Option (List ℕ))) (absent : Bool) → IsChangeOf r lsn prev tx key before after → finding l.txs.entries tx.0 ≡ Some e → PutsAt (finding l.txs.entries) txs_new tx.0 (Some new) → absent ≡ absent_at key (r ∷ chain (reverse l.records.items) e.last) → Places (held l.holdings) holds_new key (Some (record { owner = tx; live = free.hold.live + 1; absent = absent })) → AreHeld (r ∷ reverse l.records.items) txs_new holds_new None
 accepted_keys r l is tx key e new free txs_new holds_new lsn prev before after absent told found puts absent_is places =
     let rs = reverse l.records.items in
     let txs = finding l.txs.entries in
@@ -103,7 +106,7 @@ accepted_keys r l is tx key e new free txs_new holds_new lsn prev before after a
     let grown = held_grown r rs (opens txs) (held l.holdings) holds_new tx.0 key w is.holding step places in
     record {
       holding = held_put (r ∷ rs) txs txs_new holds_new tx.0 e new puts found grown;
-      busy_keys = busy_placed (held l.holdings) holds_new key w l.over places (omega arith) is.busy_keys;
+      busy_keys = busy_now (held l.holdings) holds_new key _ l.over free.over places (omega arith) is.busy_keys;
     }
 
 -- the key of the change that is to be taken back

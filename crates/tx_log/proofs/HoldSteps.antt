@@ -2,7 +2,8 @@
 use Rattle.std.proofs.Common.{◌≡◌, ℕ, ◌+◌, ◌-◌, ◌<◌, Bool, true, false, cond, eqb, List, [], Option, Some, None, IfSome, is_some, refl, sym, ap, subst, ◌∙◌, arith, eq-eqb}
 use Rattle.std.specs.List.{list_any}
 use Rattle.std.proofs.lemmas.Bool.Decides.{nat_tests}
-use Rattle.tx_log.proofs.HoldingLemmas.{held_begun, held_ended, Freed}
+use Rattle.tx_log.proofs.HoldingLemmas.{held_begun, held_ended, Freed, same_bytes-key}
+use Rattle.rec_types.proofs.ContentsLemmas.{same_key-of}
 use Rattle.tx_log.proofs.OpenTxLemmas.{opens-put, opens-remove, begun_of}
 use Rattle.tx_log.specs.Finds.{Txs, PutsAt}
 use Rattle.tx_log.specs.Fits.{AllFit}
@@ -54,6 +55,21 @@ busy_placed old new k w over places some is = λ q. subst (λ (o : Option Holdin
     never : (o : Option Holding) → IfSome o (λ h. 0 < h.live) → (q : List ℕ) → IfSome o (λ h. h.live ≡ 0 → over ≡ Some q)
     never None h q = tt
     never (Some x) h q = λ none. absurd (omega (arith, h, none))
+
+-- the key left over has a live change then: none is left over
+pub busy_now : (old new : HoldsKey) (k : List ℕ) (h : Holding) (over : Option (List ℕ)) → over ≡ Some k → Places old new k (Some h) → 0 < h.live → AllBusy old over → AllBusy new None
+busy_now old new k h over at places some is = λ q. subst (λ (o : Option Holding). IfSome o (λ x. x.live ≡ 0 → None ≡ Some q)) (sym (places q)) (of q (same_bytes k q) refl)
+  where
+    other : (q : List ℕ) → same_bytes k q ≡ false → (o : Option Holding) → IfSome o (λ x. x.live ≡ 0 → over ≡ Some q) → IfSome o (λ x. x.live ≡ 0 → None ≡ Some q)
+    other q apart None known = tt
+    other q apart (Some x) known = λ none.
+        let same : k ≡ q = cc (sym at ∙ known none) in
+        let met : same_bytes k k ≡ true = same_bytes-key k k ∙ same_key-of k k refl in
+        absurd (cc (sym met ∙ ap (same_bytes k) same ∙ apart))
+
+    of : (q : List ℕ) (b : Bool) → same_bytes k q ≡ b → IfSome (cond b (Some h) (old q)) (λ x. x.live ≡ 0 → None ≡ Some q)
+    of q true met = λ none. absurd (omega (arith, some, none))
+    of q false apart = other q apart (old q) (is q)
 
 -- keys are taken out: still only the key left over has no live change
 busy_freed : (old new : HoldsKey) (us : List LogRecord) (over : Option (List ℕ)) → Freed old new us → AllBusy old over → AllBusy new over

@@ -18,15 +18,14 @@ use Rattle.tx_log.specs.Finds.{finding}
 use Rattle.tx_log.specs.Fits.{left_above}
 use Rattle.tx_log.specs.Log.{kept_of, stack, chain, noted, IsNumbered}
 use Rattle.tx_log.specs.LogFields.{IsKept}
-use Rattle.tx_log.specs.LogState.{phase_of, undo_of, step_of, undo_step, rollback_phase}
+use Rattle.tx_log.specs.LogState.{phase_of, undo_of, undo_step, rollback_phase}
 use Rattle.tx_log.specs.Places.{place_at}
 use Rattle.tx_log.specs.OpenTxs.{rollback_at, tx_at, txs_of}
 use Rattle.tx_log.specs.Transactions.{Tx, depth_of, live_in, left_in}
-use Rattle.tx_log.specs.Walks.{change_in, newest_in, is_after}
+use Rattle.tx_log.specs.Walks.{change_in, newest_in, is_after, step_to}
 use Rattle.tx_log.specs.declared.log_record.LogRecord.{LogRecord}
 use Rattle.tx_log.specs.declared.open_tx.OpenTx.{OpenTx}
 use Rattle.tx_log.specs.declared.phase.Rollback.{Rollback}
-use Rattle.tx_log.specs.declared.phase.UndoStep.{UndoStep}
 use Rattle.tx_log.specs.declared.undo_chain.LiveChange.{LiveChange}
 
 -- a transaction that isn't in the map isn't in the state
@@ -134,19 +133,10 @@ undo_is rs es begun pending gone t r e kept found stage =
     ∙ newest_from-place t r.to cs (length rs) (kept_rises rs kept.numbered)
     ∙ ap first (above_is rs t r.to)
 
--- a live change as an undo step
-abbrev pub undo_step_of : LiveChange → UndoStep
-undo_step_of c = step_of c.key (option_map (λ _. c.before) c.after)
-
--- the newest of some updates is the next undo step
-pub undo_case : (us : List LogRecord) (change : LiveChange) → Some change ≡ newest_in us → Some (undo_step_of change) ≡ option_map undo_step (first (map noted us))
-undo_case [] change h = absurd (cc)
-undo_case (u ∷ us) change h = let told : change_in u ≡ change = cc in ap (λ (c : LiveChange). Some (undo_step_of c)) (sym told)
-
--- where there is none, there is no step
-pub no_undo_case : (us : List LogRecord) → None ≡ newest_in us → None ≡ option_map undo_step (first (map noted us))
-no_undo_case [] h = refl
-no_undo_case (u ∷ us) h = absurd (cc)
+-- the newest of some changes is the next undo step
+pub undo_case : (us : List LogRecord) → option_map step_to (newest_in us) ≡ option_map undo_step (first (map noted us))
+undo_case [] = refl
+undo_case (u ∷ us) = refl
 
 -- ---- a change that is to be taken back
 

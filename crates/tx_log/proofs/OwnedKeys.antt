@@ -21,11 +21,12 @@ use Rattle.rec_types.specs.Kept.{Kept, change_of, history_of, is_own}
 use Rattle.tx_log.proofs.Chains.{same_number}
 use Rattle.tx_log.proofs.KeyLemmas.{get-set_to}
 use Rattle.tx_log.proofs.Lives.{single, lives, stack_is_lives}
-use Rattle.tx_log.proofs.OpenTxLemmas.{opens_is, found_fits}
-use Rattle.tx_log.proofs.LogStepLemmas.{chain_of}
+use Rattle.tx_log.proofs.OpenTxLemmas.{opens_is}
+use Rattle.tx_log.proofs.HoldingLemmas.{same_bytes-key}
+use Rattle.tx_log.proofs.KeyListLemmas.{changed_are_held}
 use Rattle.tx_log.specs.Finds.{finding}
-use Rattle.tx_log.specs.Log.{key_of, kept_of, stack, chain, noted}
-use Rattle.tx_log.specs.LogFields.{IsKept}
+use Rattle.tx_log.specs.Log.{key_of, kept_of, stack, noted}
+use Rattle.tx_log.specs.Holdings.{HoldsKey, same_bytes, IsHeld, AreHeld}
 use Rattle.tx_log.specs.Owners.{charged, keys_owned}
 use Rattle.tx_log.specs.OpenTxs.{txs_of, opens}
 use Rattle.tx_log.specs.Transactions.{is_open}
@@ -151,17 +152,21 @@ keys_noted : (us : List LogRecord) → keys_in (map noted us) ≡ map key_of us
 keys_noted [] = refl
 keys_noted (u ∷ us) = ap (λ ks. key_of u ∷ ks) (keys_noted us)
 
--- the sorted keys of a transaction's chain, each once, are those that it owns
-pub owned_keys : (rs : List LogRecord) (es : List (TxId × OpenTx)) (begun pending gone t : ℕ) (e : OpenTx) (ks ps out : List (List ℕ)) → IsKept rs (finding es) begun pending gone → finding es t ≡ Some e → ks ≡ map key_of (chain rs e.last) → IsPermutation ks ps → IsSorted (slice_cmp nat_cmp) ps → out ≡ dedup (pointwise eqb) ps → out ≡ keys_owned (is_open (txs_of (kept_of rs) es)) (history_of (kept_of rs)) t
-owned_keys rs es begun pending gone t e ks ps out kept found are moved up out_is =
+same_among : (q : List ℕ) (ks : List (List ℕ)) → among q ks ≡ list_any (same_bytes q) ks
+same_among q ks = ap (λ (test : List ℕ → Bool). list_any test ks) (λ i y. sym (same_bytes-key q y) i)
+
+-- the sorted keys that a transaction holds, each once, are those that it owns
+pub owned_keys : (rs : List LogRecord) (es : List (TxId × OpenTx)) (holds : HoldsKey) (t : ℕ) (e : OpenTx) (ks ps out : List (List ℕ)) → IsHeld rs (opens (finding es)) holds → finding es t ≡ Some e → AreHeld holds t ks → IsPermutation ks ps → IsSorted (slice_cmp nat_cmp) ps → out ≡ dedup (pointwise eqb) ps → out ≡ keys_owned (is_open (txs_of (kept_of rs) es)) (history_of (kept_of rs)) t
+owned_keys rs es holds t e ks ps out is found are moved up out_is =
     let cs = kept_of rs in
     let opened : opens (finding es) t ≡ true = ap is_some found in
-    let there = chain_of rs t e.last kept.numbered kept.written ((found_fits rs begun t (finding es) e kept.fit found).last) in
-    let live_keys : keys_in (lives t cs) ≡ ks = ap keys_in (sym (stack_is_lives t rs)) ∙ keys_noted (stack t rs) ∙ ap (map key_of) (sym there) ∙ sym are in
+    let live_keys : keys_in (lives t cs) ≡ map key_of (stack t rs) = ap keys_in (sym (stack_is_lives t rs)) ∙ keys_noted (stack t rs) in
+    let same : (q : List ℕ) → among q (keys_in (lives t cs)) ≡ among q ks = λ q.
+    ap (among q) live_keys ∙ same_among q (map key_of (stack t rs)) ∙ changed_are_held rs (opens (finding es)) holds t is opened q ∙ sym (are q) ∙ sym (same_among q ks) in
     let strict : IsStrictlySortedBy (slice_cmp nat_cmp) (dedup (pointwise eqb) ps) = IsStrictlySortedBy-dedup nat_list_cmp_total texts_ties ps up in
     let m = charged (owns t (opens (finding es))) (history_of cs) maps.empty in
     let has : (q : List ℕ) → maps.get m q ≡ told (among q (dedup (pointwise eqb) ps)) = λ q.
-    get_owned (opens (finding es)) t cs q opened ∙ ap (λ xs. told (among q xs)) live_keys ∙ ap told (sym (among_sorted ks ps q moved)) in
+    get_owned (opens (finding es)) t cs q opened ∙ ap told (same q) ∙ ap told (sym (among_sorted ks ps q moved)) in
     out_is ∙ sym (keys_are m (dedup (pointwise eqb) ps) strict has) ∙ ap (λ (o : ℕ → Bool). keys_owned o (history_of cs) t) (sym (opens_is cs es))
 
 no_order : IsStrictlySortedBy (slice_cmp nat_cmp) []

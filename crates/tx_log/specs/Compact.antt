@@ -1,5 +1,5 @@
 -- The records of a log in little memory: numbers, keys, and spans of one list of bytes.
-use Rattle.std.specs.Prelude.{◌≡◌, ℕ, ◌+◌, ◌-◌, ◌*◌, ◌≤◌, if◌then◌else◌, List, take, drop, map, Option, Some, None, slice_get, vec_len}
+use Rattle.std.specs.Prelude.{◌≡◌, Bool, true, false, ℕ, ◌+◌, ◌-◌, ◌*◌, ◌≤◌, if◌then◌else◌, List, take, drop, map, Option, Some, None, slice_get, vec_len}
 use Rattle.std.specs.Vec.{vec_capacity}
 use Rattle.rec_types.specs.Widths.{widest_record}
 use Rattle.rec_types.specs.declared.transaction.TxId.{TxId}
@@ -38,6 +38,13 @@ back_kind Update = Compensation
 back_kind Compensation = Compensation
 back_kind Claim = Unclaim
 back_kind Unclaim = Unclaim
+
+-- whether a kind of record tells of a claim, or of taking one back
+abbrev pub is_claim_kind : Kind → Bool
+is_claim_kind Update = false
+is_claim_kind Compensation = false
+is_claim_kind Claim = true
+is_claim_kind Unclaim = true
 
 -- the record that an entry stands for
 abbrev pub record_in : List ℕ → Entry → LogRecord

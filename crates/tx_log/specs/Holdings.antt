@@ -1,6 +1,6 @@
 -- Who holds a key, as the log keeps it.
-use Rattle.std.specs.Prelude.{◌≡◌, ℕ, ◌-◌, ◌<◌, ◌==◌, nat_lt, Bool, true, false, List, Option, Some, None, IfSome, slice_get, length, if◌then◌else◌}
-use Rattle.std.specs.List.{filter}
+use Rattle.std.specs.Prelude.{◌≡◌, ℕ, ◌-◌, ◌<◌, ◌==◌, nat_lt, Bool, true, false, List, [], ◌∷◌, Option, Some, None, IfSome, slice_get, length, if◌then◌else◌}
+use Rattle.std.specs.List.{filter, list_any}
 use Rattle.std.specs.Cmp.Lexicographic.{pointwise}
 use Rattle.indexmap.specs.IndexMap.{IndexMap, get, IsUnique}
 use Rattle.rec_types.specs.declared.transaction.TxId.{TxId}
@@ -37,7 +37,16 @@ abbrev pub absent_of : ℕ → Option Holding → Bool
 absent_of t None = false
 absent_of t (Some h) = if h.owner.0 == t then h.absent else false
 
--- the same of the live changes themselves
+-- the keys of the entries that the transaction owns
+abbrev pub owned_in : ℕ → List (List ℕ × Holding) → List (List ℕ)
+owned_in t [] = []
+owned_in t (e ∷ es) = if nat_lt 0 (live_of t (Some e.1)) then e.0 ∷ owned_in t es else owned_in t es
+
+-- the keys that the transaction holds, each once or more, and no others
+abbrev pub AreHeld : HoldsKey → ℕ → List (List ℕ) → Type 0
+AreHeld holds t ks = (q : List ℕ) → list_any (same_bytes q) ks ≡ nat_lt 0 (live_of t (holds q))
+
+-- how many live changes are at a key
 abbrev pub live_at : List ℕ → List LogRecord → ℕ
 live_at k us = length (filter (is_at k) us)
 

@@ -1,5 +1,5 @@
 -- How a log lies in its fields.
-use Rattle.std.specs.Prelude.{◌≡◌, ℕ, ◌+◌, ◌*◌, ◌≤◌, List, length, filter, reverse, true, Option, IfSome, is_some, vec_len}
+use Rattle.std.specs.Prelude.{◌≡◌, ℕ, ◌+◌, ◌*◌, ◌≤◌, List, length, filter, reverse, true, Option, Some, IfSome, is_some, vec_len}
 use Rattle.std.specs.Vec.{vec_capacity}
 use Rattle.std.specs.FinMap as maps
 use Rattle.rec_types.specs.History.{is_pending}
@@ -54,7 +54,7 @@ pub record IsTxLog (l : Inside) : Type 0 where
   pub marked : AreMarked (reverse l.records.items) (reverse l.marks.items)
   pub holding : IsHeld (reverse l.records.items) (opens (found l.txs)) (held l.holdings)
   pub busy_keys : AllBusy (held l.holdings) l.over
-  pub reserved : IfSome l.room (λ k. is_some (held l.holdings k) ≡ true)
+  pub reserved : IfSome l.room (λ k. (is_some (held l.holdings k) ≡ true) × (l.over ≡ Some k))
   pub bounded : IsBounded (length l.records.items) l.pending l.begun l.limits
   pub records_room : HasRoom (length l.records.items) l.pending l.records.room l.room
   -- the bytes of a change's records have room where a key has

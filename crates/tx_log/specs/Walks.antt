@@ -1,9 +1,11 @@
 -- Changes that aren't taken back, as they are met along a chain.
-use Rattle.std.specs.Prelude.{ℕ, Bool, false, not, nat_lt, if◌then◌else◌, List, [], ◌∷◌, Option, Some, None, is_some}
+use Rattle.std.specs.Prelude.{ℕ, Bool, false, not, nat_lt, if◌then◌else◌, List, [], ◌∷◌, Option, Some, None, is_some, option_map}
 use Rattle.std.specs.List.{list_any}
 use Rattle.rec_types.specs.Contents.{same_key}
 use Rattle.tx_log.specs.Log.{lsn_of, prev_of, key_of, old_of, new_of}
+use Rattle.tx_log.specs.LogState.{step_of}
 use Rattle.tx_log.specs.Owners.{says}
+use Rattle.tx_log.specs.declared.phase.UndoStep.{UndoStep}
 use Rattle.tx_log.specs.declared.log_record.LogRecord.{LogRecord}
 use Rattle.tx_log.specs.declared.undo_chain.LiveChange.{LiveChange}
 use Rattle.tx_log.specs.declared.undo_chain.Link.{Link}
@@ -18,6 +20,10 @@ newest_in (u ∷ us) = Some (change_in u)
 -- a change without its records
 abbrev pub link_of : LiveChange → Link
 link_of c = record { lsn = c.lsn; prev = c.prev; key = c.key }
+
+-- what a rollback does to take a change back
+abbrev pub step_to : LiveChange → UndoStep
+step_to c = step_of c.key (option_map (λ _. c.before) c.after)
 
 abbrev pub is_at : List ℕ → LogRecord → Bool
 is_at x u = same_key (key_of u) x

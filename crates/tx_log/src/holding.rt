@@ -1,18 +1,20 @@
-ghost use Rattle.std.specs.Prelude.{◌≡◌, ℕ, ◌+◌, ◌^◌, ◌-◌, ◌<◌, Bool, ◌||◌, ◌==◌, List, IsSome, IsTrue, None, Some, false, length, reverse, OnOk, OnErr, if◌then◌else◌};
+ghost use Rattle.std.specs.Prelude.{◌≡◌, ℕ, ◌+◌, ◌^◌, ◌-◌, ◌<◌, Bool, ◌||◌, ◌==◌, List, IsSome, IsTrue, None, Some, false, length, reverse, map, IfOk, OnOk, OnErr, if◌then◌else◌};
 ghost use Rattle.std.specs.List.{list_any};
 ghost use Rattle.indexmap.specs.IndexMap.{index_map_len};
-ghost use Rattle.tx_log.specs.Log.{chain};
+ghost use Rattle.tx_log.specs.Log.{chain, key_of};
 ghost use Rattle.tx_log.specs.Walks.{is_at};
 ghost use Rattle.tx_log.specs.Marks.{CanWalk};
-ghost use Rattle.tx_log.specs.Holdings.{held, Places, HeldAt, holder, lowered, busy, or_idle, idle, IsHeld, AllBusy};
+ghost use Rattle.tx_log.specs.Holdings.{held, Places, HeldAt, holder, live_of, owned_in, lowered, busy, or_idle, idle, IsHeld, AreHeld, AllBusy};
 ghost use Rattle.tx_log.specs.declared.holding.Holding.{Holding};
 ghost use Rattle.tx_log.specs.declared.log_record.LogRecord.{LogRecord};
 
 use crate::mark::Mark;
+use crate::open_tx::OpenTx;
 use crate::records::Records;
-use crate::undo_chain::newest_link;
+use crate::undo_chain::{changed_keys, newest_link};
 use indexmap::IndexMap;
 use rec_types::{Key, Memory, TxId};
+use std::alloc::Global;
 
 /// What is kept of a key at which changes of an open transaction are live.
 #[derive(Clone, Copy, Debug)]
@@ -29,6 +31,13 @@ pub struct Holding {
 pub type Holdings = IndexMap<Key, Holding>;
 
 impl Holding {
+    /// How many changes of the transaction are live.
+    fn live_of(&self, tx: TxId) -> u32
+        ensures { result ≡ live_of tx.0 (Some self.now) }
+    {
+        if self.owner == tx { self.live } else { 0 }
+    }
+
     /// No change is live.
     pub fn idle() -> Holding
         ensures { result ≡ idle }
@@ -57,6 +66,41 @@ pub fn find_holder(holdings: &Holdings, key: &Key) -> Option<TxId>
             }
         }
         None => None,
+    }
+}
+
+/// The keys of the transaction, in the order in which they stand. Fault: Memory.
+fn owned_in(alloc: Global, holdings: &Holdings, tx: TxId) -> Result<Vec<Key>, Memory>
+    ensures { IfOk result (λ keys. keys.items ≡ owned_in tx.0 holdings.now.entries) }
+{
+    let mut keys = Vec::with_capacity(alloc, holdings.len())?;
+    for (key, holding) in holdings {
+        if holding.live_of(tx) > 0 {
+            keys.push(*key)?;
+        }
+    }
+    Ok(keys)
+}
+
+/// The keys that an open transaction holds, some of them more than once: those of its changes, or those that are kept
+/// where they are no more. Fault: Memory.
+pub fn held_keys(
+    alloc: Global,
+    holdings: &Holdings,
+    log: &Records,
+    marks: &[Mark],
+    tx: TxId,
+    open_tx: &OpenTx,
+) -> Result<Vec<Key>, Memory>
+    requires walk { CanWalk log.now.items marks.now open_tx.now.last }
+    requires told { AreHeld (held holdings.now) tx.0
+        (map key_of (chain (reverse log.now.items) open_tx.now.last)) }
+    ensures { IfOk result (λ keys. AreHeld (held holdings.now) tx.0 keys.items) }
+{
+    if holdings.len() <= open_tx.live as usize {
+        owned_in(alloc, holdings, tx)
+    } else {
+        changed_keys(alloc, log, marks, open_tx.last, open_tx.live)
     }
 }
 

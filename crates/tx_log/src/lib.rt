@@ -2,6 +2,7 @@
 #![tactic(auto)]
 
 mod holding;
+mod key_order;
 pub mod laws;
 mod log;
 mod log_record;

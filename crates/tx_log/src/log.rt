@@ -7,13 +7,14 @@ ghost use Rattle.tx_log.specs.Transactions.{depth_of, live_in, left_in, fresh, m
 ghost use Rattle.tx_log.specs.Owners.{owner_of, holder_of, keys_owned, absent};
 ghost use Rattle.tx_log.specs.LogState.{new_log, history_in, open_in, tx_in, use_in, phase_in, undo_in, undo_step, places_in, active_with, rolling_to, finished, with_txs, with_update, with_compensation, IsRolling, IsLog, IsActive};
 
-use crate::holding::{Holdings, find_holder, free_held, lower, make_room, raise};
+use crate::holding::{Holdings, find_holder, free_held, held_keys, lower, make_room, raise};
+use crate::key_order::arranged;
 use crate::mark::{Mark, is_absent_below, newest_number};
 use crate::open_tx::{OpenTx, OpenTxs, find_open, place_of, recount, take_out};
 use crate::phase::Rollback;
 use crate::records::Records;
-use crate::told::{is_lacking, undo_step};
-use crate::undo_chain::{changed_keys, count_changes, newest_above, newest_change};
+use crate::told::is_lacking;
+use crate::undo_chain::{count_changes, newest_above, newest_change};
 use crate::{BeginFault, LogRecord, Phase, UndoStep};
 use rec_types::{Key, Limits, Memory, Record, TxId};
 use std::alloc::Global;
@@ -141,10 +142,7 @@ impl TxLog {
         let Some(rollback) = open_tx.rollback else {
             return None;
         };
-        match newest_above(&self.records, &self.marks, open_tx.last, rollback.to) {
-            Some(change) => Some(undo_step(&change)),
-            None => None,
-        }
+        newest_above(&self.records, &self.marks, open_tx.last, rollback.to)
     }
 
     /// The record of the log with the number: none for 0 and above the length.
@@ -196,13 +194,15 @@ impl TxLog {
         let Some(open_tx) = find_open(&self.txs, tx) else {
             return Ok(Vec::new(self.alloc));
         };
-        let mut keys = changed_keys(
+        let held = held_keys(
             self.alloc,
+            &self.holdings,
             &self.records,
             &self.marks,
-            open_tx.last,
-            open_tx.live,
+            tx,
+            open_tx,
         )?;
+        let mut keys = arranged(self.alloc, held)?;
         keys.sort_unstable();
         keys.dedup();
         Ok(keys)
@@ -311,6 +311,7 @@ impl TxLog {
             absent: out.0,
         });
         self.room = None;
+        self.over = None;
         self.pending += 1;
         self.gone = recount(self.gone, out.0, out.1);
         let open_tx = &mut self.txs[at];

@@ -2,14 +2,14 @@ ghost use Rattle.std.specs.Prelude.{◌≡◌, ℕ, ◌+◌, ◌*◌, ◌<◌, �
 ghost use Rattle.std.specs.Vec.{vec_capacity};
 ghost use Rattle.rec_types.specs.LimitBounds.{most_log_records};
 ghost use Rattle.rec_types.specs.Widths.{widest_record};
-ghost use Rattle.tx_log.specs.Compact.{read, IsWithin, back_kind, told_as};
+ghost use Rattle.tx_log.specs.Compact.{read, IsWithin, back_kind, is_claim_kind, told_as};
 ghost use Rattle.tx_log.specs.Log.{change_record, back_record, back_in, key_of, prev_of};
 ghost use Rattle.rec_types.specs.declared.transaction.TxId.{TxId};
-ghost use Rattle.tx_log.specs.Walks.{change_in, link_of};
+ghost use Rattle.tx_log.specs.Walks.{change_in, link_of, step_to};
 ghost use Rattle.tx_log.specs.declared.log_record.LogRecord.{LogRecord};
 
-use crate::LogRecord;
 use crate::undo_chain::{Link, LiveChange};
+use crate::{LogRecord, UndoStep};
 use rec_types::{Key, Memory, RECORD_WIDTH, Record, TxId};
 use std::alloc::Global;
 use std::marker::Model;
@@ -70,6 +70,16 @@ impl Kind {
         match self {
             Kind::Update | Kind::Compensation => Kind::Compensation,
             Kind::Claim | Kind::Unclaim => Kind::Unclaim,
+        }
+    }
+
+    // Whether it tells of a claim, or of taking one back.
+    fn is_claim(self) -> bool
+        ensures { result ≡ is_claim_kind self }
+    {
+        match self {
+            Kind::Update | Kind::Compensation => false,
+            Kind::Claim | Kind::Unclaim => true,
         }
     }
 }
@@ -231,6 +241,20 @@ impl Records {
             key: entry.key,
             before: seen,
             after,
+        })
+    }
+
+    /// What takes back the change that it tells of.
+    pub fn undo_step(&self, i: usize) -> Option<UndoStep>
+        ensures { result ≡ option_map (λ u. step_to (change_in u)) (slice_get self.now.items i) }
+    {
+        let entry = self.entries.get(i)?;
+        if entry.kind.is_claim() {
+            return Some(UndoStep::Unclaim { key: entry.key });
+        }
+        Some(UndoStep::Restore {
+            key: entry.key,
+            before: record_at(&self.bytes, entry.before),
         })
     }
 

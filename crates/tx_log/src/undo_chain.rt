@@ -2,8 +2,9 @@ ghost use Rattle.std.specs.Prelude.{◌≡◌, ℕ, ◌+◌, ◌<◌, length, re
 ghost use Rattle.std.specs.List.{filter};
 ghost use Rattle.tx_log.specs.Log.{chain, key_of};
 ghost use Rattle.tx_log.specs.Marks.{CanWalk};
-ghost use Rattle.tx_log.specs.Walks.{link_of, newest_in, is_after};
+ghost use Rattle.tx_log.specs.Walks.{link_of, newest_in, is_after, step_to};
 
+use crate::UndoStep;
 use crate::mark::{Mark, newest_number};
 use crate::records::Records;
 use rec_types::{Key, Memory, Record};
@@ -53,16 +54,18 @@ pub fn newest_link(log: &Records, marks: &[Mark], from: u32) -> Option<Link>
     log.link((at - 1) as usize)
 }
 
-/// The newest change that isn't taken back, on the way down from the record with the number `from`, if its own number
-/// is above `to`.
-pub fn newest_above(log: &Records, marks: &[Mark], from: u32, to: u32) -> Option<LiveChange>
+/// What takes back the newest change that isn't taken back, on the way down from the record with the number `from`, if
+/// its own number is above `to`.
+pub fn newest_above(log: &Records, marks: &[Mark], from: u32, to: u32) -> Option<UndoStep>
     requires { CanWalk log.now.items marks.now from }
-    ensures { result ≡ newest_in (filter (is_after to) (chain (reverse log.now.items) from)) }
+    ensures { result ≡ option_map step_to
+        (newest_in (filter (is_after to) (chain (reverse log.now.items) from))) }
 {
-    match newest_change(log, marks, from) {
-        Some(change) => { if change.lsn > to { Some(change) } else { None } }
-        None => None,
+    let at = newest_number(marks, from);
+    if at <= to {
+        return None;
     }
+    log.undo_step((at - 1) as usize)
 }
 
 /// How many changes with numbers above `to` aren't taken back, on the way down from the record with the number

@@ -1,20 +1,20 @@
-use Rattle.std.proofs.Common.{reverse, sym, ap}
-use Rattle.std.specs.List.{filter}
-use Rattle.tx_log.proofs.WalkSteps.{walk_step, walk_end, stops_at, first_above}
-use Rattle.tx_log.specs.Walks.{newest_in, is_after}
+use Rattle.std.proofs.Common.{reverse, ◌∙◌, arith}
+use Rattle.tx_log.proofs.MarkLemmas.{as_many, within_log}
+use Rattle.tx_log.proofs.CompactLemmas.{step-there, none_above}
 use Rattle.tx_log.proofs.undo_chain.newest_above.Goals as goal
 
-pub returns-then-change-to : goal.returns-then-change-to
-returns-then-change-to c =
-    let rs = reverse c.args.log.now.items in
-    first_above rs c.args.from c.args.to c.in-Some.change (walk_step rs c.args.from c.in-Some.change c.requires.numbered (sym c.in-Some.ensures)) c.if-change-to.true
+pub newest_number-at-requires : goal.newest_number-at-requires
+newest_number-at-requires c = omega (arith, c.requires.within, as_many c.args.log.now.items c.args.marks.now c.requires.marked)
 
-pub returns-else-change-to : goal.returns-else-change-to
-returns-else-change-to c =
+pub returns-then-at-to : goal.returns-then-at-to
+returns-then-at-to c =
     let rs = reverse c.args.log.now.items in
-    sym (ap newest_in (stops_at rs c.args.from c.in-Some.change c.args.to c.requires.numbered (walk_step rs c.args.from c.in-Some.change c.requires.numbered (sym c.in-Some.ensures)) c.if-change-to.false))
+    none_above rs c.args.from c.newest_number-at.result c.args.to c.requires.numbered (c.newest_number-at.ensures rs c.requires.numbered c.requires.marked) c.if-at-to.true
 
-pub returns-in-None : goal.returns-in-None
-returns-in-None c =
-    let rs = reverse c.args.log.now.items in
-    sym (ap (λ us. newest_in (filter (is_after c.args.to) us)) (walk_end rs c.args.from (sym c.in-None.ensures)))
+pub returns : goal.returns
+returns c =
+    let log = c.args.log.now.items in
+    let rs = reverse log in
+    let number = c.newest_number-at.ensures rs c.requires.numbered c.requires.marked in
+    let above = c.if-at-to.false in
+    c.undo_step.ensures ∙ step-there log c.args.from c.newest_number-at.result c.args.to c.requires.numbered number (omega (arith, above)) (omega (arith, within_log log c.args.from c.newest_number-at.result c.requires.numbered number))

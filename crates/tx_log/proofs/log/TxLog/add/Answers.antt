@@ -115,7 +115,7 @@ recount-open_tx-requires-clause-most c =
     omega (arith, absent_is, now.size.absent_part, now.size.gone_keys, c.self.invariant.bounded.fits, c.self.invariant.bounded.most_records)
 
 -- the record that was pushed, its mark, and the transaction's new entry, with the table
-module _ (c : goal.After-self-4-1) where
+module _ (c : goal.After-self-5-1) where
   abbrev record_pushed : LogRecord
   record_pushed = change_record (c.len.result + 1) c.index.result.now.last c.args.tx c.args.key c.args.before c.args.after
 
@@ -185,7 +185,7 @@ module _ (c : goal.After-self-4-1) where
       }
 
 -- its mark
-new_marked : (c : goal.After-self-4-1) → IsMet c.self.inside c.args.tx.0 c.args.key c.index.result.now → c.raise-out.result.0 ≡ absent_at c.args.key (below c) → IsMarked (record_pushed c) (reverse c.self.inside.records.items) (record { newest = c.len.result + 1; absent = c.raise-out.result.0 })
+new_marked : (c : goal.After-self-5-1) → IsMet c.self.inside c.args.tx.0 c.args.key c.index.result.now → c.raise-out.result.0 ≡ absent_at c.args.key (below c) → IsMarked (record_pushed c) (reverse c.self.inside.records.items) (record { newest = c.len.result + 1; absent = c.raise-out.result.0 })
 new_marked c now was =
     let rs = reverse c.self.inside.records.items in
     let is = told c in

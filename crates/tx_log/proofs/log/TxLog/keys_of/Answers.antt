@@ -1,9 +1,16 @@
-use Rattle.std.proofs.Common.{rules, ℕ, ◌≤◌, reverse, sym, ap, subst, ◌∙◌}
+use Rattle.std.proofs.Common.{rules, ℕ, ◌≤◌, is_some, map, reverse, sym, ap, subst, ◌∙◌}
 use Rattle.std.proofs.lemmas.List.{length-reverse}
 use Rattle.std.proofs.lemmas.List.Filters.{dedup_is}
+use Rattle.std.proofs.lemmas.List.Sorted.{IsPermutation-trans}
 use Rattle.tx_log.proofs.KeptLogLemmas.{sized}
+use Rattle.tx_log.proofs.KeyListLemmas.{changed_are_held}
+use Rattle.tx_log.proofs.LogStepLemmas.{chain_of}
+use Rattle.tx_log.proofs.OpenTxLemmas.{found_fits}
 use Rattle.tx_log.proofs.OwnedKeys.{owned_keys, unowned_keys}
-use Rattle.tx_log.specs.Log.{kept_of}
+use Rattle.tx_log.specs.Finds.{finding}
+use Rattle.tx_log.specs.Holdings.{held, AreHeld}
+use Rattle.tx_log.specs.Log.{kept_of, key_of}
+use Rattle.tx_log.specs.OpenTxs.{opens}
 use Rattle.tx_log.specs.LogState.{LogState, open_in, history_in}
 use Rattle.tx_log.specs.Owners.{keys_owned}
 use Rattle.tx_log.proofs.log.TxLog.keys_of.Goals as goal
@@ -15,8 +22,8 @@ returns-in_default c =
     let none = sym c.in_default.ensures in
     c.new.ensures.items ∙ unowned_keys (kept_of (reverse l.records.items)) l.txs.entries t none ∙ ap (λ (s : LogState). keys_owned (open_in s) (history_in s) t) c.self.view_is
 
-pub changed_keys-requires : goal.changed_keys-requires
-changed_keys-requires c =
+pub held_keys-requires-clause-walk : goal.held_keys-requires-clause-walk
+held_keys-requires-clause-walk c =
     let l = c.self.inside in
     let t = c.args.tx.0 in
     let e = c.in-Some.open_tx.now in
@@ -27,12 +34,21 @@ changed_keys-requires c =
       within = subst (λ (n : ℕ). e.last ≤ n) (length-reverse l.records.items) size.last;
     }
 
+pub held_keys-requires-clause-told : goal.held_keys-requires-clause-told
+held_keys-requires-clause-told c =
+    let l = c.self.inside in
+    let rs = reverse l.records.items in
+    let t = c.args.tx.0 in
+    let e = c.in-Some.open_tx.now in
+    let kept = c.self.invariant.log_kept in
+    let found = sym c.in-Some.ensures in
+    let there = chain_of rs t e.last kept.numbered kept.written ((found_fits rs l.begun t (finding l.txs.entries) e kept.fit found).last) in
+    subst (λ us. AreHeld (held l.holdings) t (map key_of us)) (sym there) (changed_are_held rs (opens (finding l.txs.entries)) (held l.holdings) t c.self.invariant.holding (ap is_some found))
+
 pub returns : goal.returns
 returns c =
     let l = c.self.inside in
     let t = c.args.tx.0 in
     let e = c.in-Some.open_tx.now in
-    let found = sym c.in-Some.ensures in
-    let are = c.in_ok-keys.ensures in
-    owned_keys (reverse l.records.items) l.txs.entries l.begun l.pending l.gone t e c.in_ok-keys.keys.items c.sort_unstable.new.self.items c.dedup.new.self.items c.self.invariant.log_kept found are c.sort_unstable.ensures.permutation c.sort_unstable.ensures.sorted (dedup_is _ _ _ c.dedup.ensures.filtered)
+    owned_keys (reverse l.records.items) l.txs.entries (held l.holdings) t e c.in_ok-held.held.items c.sort_unstable.new.self.items c.dedup.new.self.items c.self.invariant.holding (sym c.in-Some.ensures) c.in_ok-held.ensures (IsPermutation-trans _ _ _ c.in_ok-keys.ensures c.sort_unstable.ensures.permutation) c.sort_unstable.ensures.sorted (dedup_is _ _ _ c.dedup.ensures.filtered)
     ∙ ap (λ (s : LogState). keys_owned (open_in s) (history_in s) t) c.self.view_is

@@ -1,8 +1,8 @@
-use Rattle.std.proofs.Common.{rules, ◌≡◌, ℕ, ◌≤◌, List, map, reverse, Some, option_map, sym, ap, subst, ◌∙◌}
+use Rattle.std.proofs.Common.{rules, ◌≡◌, ℕ, ◌≤◌, List, map, reverse, option_map, sym, ap, subst, ◌∙◌}
 use Rattle.std.specs.List.{filter}
 use Rattle.std.proofs.lemmas.List.{length-reverse}
 use Rattle.tx_log.proofs.KeptLogLemmas.{sized}
-use Rattle.tx_log.proofs.OpenTxReadLemmas.{entry_chain, undo_is, undo_none, undo_case, no_undo_case, tx_none}
+use Rattle.tx_log.proofs.OpenTxReadLemmas.{entry_chain, undo_is, undo_none, undo_case, tx_none}
 use Rattle.tx_log.proofs.Lives.{first}
 use Rattle.tx_log.specs.Log.{kept_of, chain, noted}
 use Rattle.tx_log.specs.LogState.{LogState, undo_in, undo_of, undo_step}
@@ -52,12 +52,7 @@ returns-in_default-rollback c =
     let found = sym c.in-Some.ensures in
     sym (ap (option_map undo_step) (undo_none (kept_of (reverse l.records.items)) l.txs.entries t c.in-Some.open_tx.now found c.in_default-rollback.is)) ∙ ap (λ (s : LogState). option_map undo_step (undo_in s t)) c.self.view_is
 
-pub returns-in-Some-newest_above : goal.returns-in-Some-newest_above
-returns-in-Some-newest_above c =
-    let place = (goal.at.returns-in-Some-newest_above c).After-deref in
-    ap Some c.undo_step.ensures ∙ undo_case (above place) c.in-Some-newest_above.change c.in-Some-newest_above.ensures ∙ answer_is place
-
-pub returns-in-None : goal.returns-in-None
-returns-in-None c =
-    let place = (goal.at.returns-in-None c).After-deref in
-    no_undo_case (above place) c.in-None.ensures ∙ answer_is place
+pub returns : goal.returns
+returns c =
+    let place = (goal.at.returns c).After-deref in
+    c.newest_above.ensures ∙ undo_case (above place) ∙ answer_is place
