@@ -132,7 +132,3 @@ started_stop f now new t n ends stop is step =
 pub started_rolls : (f now new : File) (t n : ℕ) (ends : Bool) (answer : Result ℕ Stop) → now ≡ started f t n ends → RollsBack now t answer new → RollsFrom f t n ends answer new
 started_rolls f now new t n ends (Ok undone) is step = started_back f now new t n undone ends is step
 started_rolls f now new t n ends (Err stop) is step = started_stop f now new t n ends stop is step
-
--- starting a rollback leaves the opening contents
-pub started_opening : (f now new : File) (t n : ℕ) (ends : Bool) → now ≡ started f t n ends → new.opening ≡ now.opening → new.opening ≡ f.opening
-started_opening f now new t n ends is same = same ∙ ap (λ (g : File). g.opening) is

@@ -78,6 +78,10 @@ pub record OpenFile (T : Type 0) : Type 0 where
 abbrev pub coded_open_file : {T : Type 0} → Coded T → Coded (OpenFile T)
 coded_open_file {T} t = code_by (T × (File × List LogRecord)) (coded× t (coded× coded_file (coded_list coded_log_record))) (λ s. (s.table, (s.file, s.log))) (λ p. record { table = p.0; file = p.1.0; log = p.1.1 }) (λ _. refl)
 
+-- the open file with other transactions
+abbrev pub with_txs : {T : Type 0} → OpenFile T → Transactions → OpenFile T
+with_txs f txs = record { table = f.table; file = record f.file { txs = txs }; log = f.log }
+
 -- the contents that the records of a log leave, in order: an update puts the new record at its key, a compensation the
 -- old one, and a claim and an unclaim leave them
 abbrev pub written : Contents → List LogRecord → Contents

@@ -31,6 +31,10 @@ use Rattle.record_file.specs.declared.fault.KeysOfFault.{KeysOfFault}
 use Rattle.record_file.specs.declared.fault.KeysOfFault.TheVariants as keys_faults
 use Rattle.record_file.specs.declared.fault.StatusFault.{StatusFault}
 use Rattle.record_file.specs.declared.fault.StatusFault.TheVariants as status_faults
+use Rattle.record_file.specs.declared.file.refusals.LookRefusal.{LookRefusal}
+use Rattle.record_file.specs.declared.file.refusals.LookRefusal.TheVariants as look_refusals
+use Rattle.record_file.specs.declared.file.refusals.ChangeRefusal.{ChangeRefusal}
+use Rattle.record_file.specs.declared.file.refusals.ChangeRefusal.TheVariants as change_refusals
 use Rattle.record_file.specs.declared.refusal.Refusal.{Refusal}
 use Rattle.record_file.specs.declared.refusal.Refusal.TheVariants as refusals
 
@@ -116,6 +120,19 @@ keys_of_refusal keys_faults.Memory = refusals.Failed causes.Memory
 
 abbrev pub status_refusal : StatusFault → Refusal
 status_refusal status_faults.NoSuchTx = refusals.NoSuchTx
+
+-- what the file alone refuses a call at a key for, before the call tells of it
+
+abbrev pub look_refusal : LookRefusal → Refusal
+look_refusal look_refusals.NoSuchTx = refusals.NoSuchTx
+look_refusal look_refusals.Rolling = refusals.Rolling
+look_refusal (look_refusals.Held owner) = refusals.Held owner
+
+abbrev pub change_refusal : ChangeRefusal → Refusal
+change_refusal change_refusals.NoSuchTx = refusals.NoSuchTx
+change_refusal change_refusals.Rolling = refusals.Rolling
+change_refusal (change_refusals.Held owner) = refusals.Held owner
+change_refusal change_refusals.LogFull = refusals.LogFull
 
 -- a stop, before a call tells of it
 abbrev pub stop_refusal : Stop → Refusal

@@ -26,11 +26,12 @@ pub record LeavesTable {T : Type 0} (t : Ghosts T) (old : OpenFile T) (cause : O
   pub device : t.device_failures new.table ≡ counted (t.device_failures old.table) (by_device cause)
   pub damages : t.damages new.table ≡ named_by (t.damages old.table) cause
 
--- a call that may change records, and the log with them
+-- a call that may change records, and the log with them: the opening contents stay
 pub record ChangesTable {T : Type 0} (t : Ghosts T) (old : OpenFile T) (cause : Option Cause) (new : OpenFile T) : Type 0 where
   pub told : Tells (t.sound old.table) (t.contents old.table) old.log (t.contents new.table) new.log
   pub soundness : t.sound new.table ≡ t.sound old.table
   pub origin : t.origin new.table ≡ t.origin old.table
+  pub opening : IsTrue (t.sound old.table) → new.file.opening ≡ old.file.opening
   pub device : t.device_failures new.table ≡ counted (t.device_failures old.table) (by_device cause)
   pub damages : TellsDamage (t.damages old.table) cause (t.damages new.table)
 
@@ -38,9 +39,6 @@ pub record ChangesTable {T : Type 0} (t : Ghosts T) (old : OpenFile T) (cause : 
 
 abbrev pub KeepsOrigin : {T : Type 0} → Ghosts T → OpenFile T → OpenFile T → Type 0
 KeepsOrigin t old new = t.origin new.table ≡ t.origin old.table
-
-abbrev pub KeepsOpening : {T : Type 0} → Ghosts T → OpenFile T → OpenFile T → Type 0
-KeepsOpening t old new = IsTrue (t.sound old.table) → new.file.opening ≡ old.file.opening
 
 abbrev pub KeepsTable : {T : Type 0} → OpenFile T → OpenFile T → Type 0
 KeepsTable old new = new.table ≡ old.table

@@ -6,7 +6,7 @@ ghost use Rattle.record_file.specs.Abstract.{is_full, records_of};
 ghost use Rattle.record_file.specs.Asked.{Asks, MayPut, MayRemove, looked_unless, may_be_full};
 ghost use Rattle.record_file.specs.Outside.{AsksMemory, NeverDamaged, named_by};
 ghost use Rattle.record_file.specs.Refusals.{put_refusal, claim_refusal, remove_refusal, refusal_by, cause_by, by_file};
-ghost use Rattle.record_file.specs.TableCalls.{KeepsOpening, ChangesTable};
+ghost use Rattle.record_file.specs.TableCalls.{ChangesTable};
 ghost use Rattle.record_file.specs.Steps.{rose, key_refusal, Accepts, key_change, PutStep, ClaimStep, RemoveStep};
 
 use super::RecordFile;
@@ -30,7 +30,6 @@ impl<T: Table> RecordFile<T> {
             (key_change tx key before (Some (Some value))) self.new.file self.new.log) }
         ensures err { OnErr result ((T.contents self.new.table ≡ T.contents self.old.table)
             × (self.new.file ≡ self.old.file) × (self.new.log ≡ self.old.log)) }
-        ensures opening { KeepsOpening T.TableState self.old self.new }
         ensures table { ChangesTable T.TableState self.old (cause_by put_refusal result) self.new }
         ensures memory { AsksMemory (T.memory_refusals self.old.table) (cause_by put_refusal result)
             (T.memory_refusals self.new.table) }
@@ -38,9 +37,7 @@ impl<T: Table> RecordFile<T> {
         ensures asks { Asks T.TableState (MayPut (T.sound self.old.table) self.old.file key result)
             self.old (cause_by put_refusal result) self.new }
     {
-        if let Some(fault) = self.put_refusal(tx, &key) {
-            return Err(fault);
-        }
+        self.allow_change(tx, &key)?;
         if self.is_full(&key)? {
             return Err(PutFault::Full);
         }
@@ -67,7 +64,6 @@ impl<T: Table> RecordFile<T> {
             (key_change tx key seen None) self.new.file self.new.log) }
         ensures err { OnErr result ((T.contents self.new.table ≡ T.contents self.old.table)
             × (self.new.file ≡ self.old.file) × (self.new.log ≡ self.old.log)) }
-        ensures opening { KeepsOpening T.TableState self.old self.new }
         ensures table { ChangesTable T.TableState self.old (cause_by claim_refusal result) self.new }
         ensures memory { AsksMemory (T.memory_refusals self.old.table) (cause_by claim_refusal result)
             (T.memory_refusals self.new.table) }
@@ -77,9 +73,7 @@ impl<T: Table> RecordFile<T> {
         ensures named { T.damages self.new.table
             ≡ named_by (T.damages self.old.table) (cause_by claim_refusal result) }
     {
-        if let Some(fault) = self.claim_refusal(tx, &key) {
-            return Err(fault);
-        }
+        self.allow_change(tx, &key)?;
         let full = self.is_full_if_absent(&key);
         let seen = self.table.get(&key)?;
         if full && seen.is_none() {
@@ -107,7 +101,6 @@ impl<T: Table> RecordFile<T> {
             (key_change tx key (Some before) (Some None)) self.new.file self.new.log) }
         ensures err { OnErr result ((T.contents self.new.table ≡ T.contents self.old.table)
             × (self.new.file ≡ self.old.file) × (self.new.log ≡ self.old.log)) }
-        ensures opening { KeepsOpening T.TableState self.old self.new }
         ensures table { ChangesTable T.TableState self.old (cause_by remove_refusal result) self.new }
         ensures memory { AsksMemory (T.memory_refusals self.old.table) (cause_by remove_refusal result)
             (T.memory_refusals self.new.table) }
@@ -116,9 +109,7 @@ impl<T: Table> RecordFile<T> {
             (MayRemove (is_some (key_refusal true self.old.file tx.0 key)) result)
             self.old (cause_by remove_refusal result) self.new }
     {
-        if let Some(fault) = self.remove_refusal(tx, &key) {
-            return Err(fault);
-        }
+        self.allow_change(tx, &key)?;
         if self.table.get(&key)?.is_none() {
             return Err(RemoveFault::Absent);
         }

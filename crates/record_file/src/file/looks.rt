@@ -37,9 +37,7 @@ impl<T: Table> RecordFile<T> {
             ≡ looked_unless (is_some (key_refusal false self.old.file tx.0 key.now))
             (T.calls self.old.table) }
     {
-        if let Some(fault) = self.get_refusal(tx, key) {
-            return Err(fault);
-        }
+        self.allow_look(tx, key)?;
         Ok(self.table.get(key)?)
     }
 

@@ -3,13 +3,13 @@ ghost use Rattle.std.specs.FinMap as maps;
 ghost use Rattle.rec_types.specs.History.{undo_last};
 ghost use Rattle.rec_types.specs.Table.{counted, greatest_count};
 ghost use Rattle.rec_types.specs.Answered.{Answered};
-ghost use Rattle.record_file.specs.Abstract.{tx_of, phase_at};
+ghost use Rattle.record_file.specs.Abstract.{tx_of, phase_at, with_txs};
 ghost use Rattle.tx_log.specs.Transactions.{depth_of, left_in};
 ghost use Rattle.tx_log.specs.LogState.{rolling_to, finished, IsRolling};
 ghost use Rattle.record_file.specs.Outside.{by_memory, NeverDamaged};
 ghost use Rattle.record_file.specs.Refusals.{rollback_refusal, abort_refusal, resume_refusal, stop_refusal, refusal_by, cause_by};
 ghost use Rattle.record_file.specs.declared.refusal.Refusal.TheVariants.{Failed};
-ghost use Rattle.record_file.specs.TableCalls.{KeepsLog, KeepsTable, KeepsOpening, ChangesTable, undone_by, step_key};
+ghost use Rattle.record_file.specs.TableCalls.{ChangesTable, undone_by, step_key};
 ghost use Rattle.record_file.specs.Asked.{UndoAsks, StepAsks, restores};
 ghost use Rattle.record_file.specs.Steps.{rose, RollsBackTo, RollbackToStep, Aborts, AbortStep, Resumes, ResumeStep, tx_refusal, returning_refusal, resuming_refusal, RollsBack, RollsFrom, EndsBy, places_at};
 
@@ -31,7 +31,6 @@ impl<T: Table> RecordFile<T> {
             (rose (T.memory_refusals self.old.table) (T.memory_refusals self.new.table))
             result self.new.file }
         ensures rolled { RollsBackTo self.old.file tx.0 n result self.new.file }
-        ensures opening { KeepsOpening T.TableState self.old self.new }
         ensures refused { IfSome (returning_refusal self.old.file tx.0 n)
             (λ refusal. (refusal_by rollback_refusal result ≡ Some refusal) × (self.new ≡ self.old)) }
         ensures table { ChangesTable T.TableState self.old (cause_by rollback_refusal result) self.new }
@@ -63,7 +62,6 @@ impl<T: Table> RecordFile<T> {
             (rose (T.memory_refusals self.old.table) (T.memory_refusals self.new.table))
             result self.new.file }
         ensures rolled { Aborts self.old.file tx.0 result self.new.file }
-        ensures opening { KeepsOpening T.TableState self.old self.new }
         ensures refused { IfSome (tx_refusal self.old.file tx.0 None)
             (λ refusal. (refusal_by abort_refusal result ≡ Some refusal) × (self.new ≡ self.old)) }
         ensures table { ChangesTable T.TableState self.old (cause_by abort_refusal result) self.new }
@@ -90,7 +88,6 @@ impl<T: Table> RecordFile<T> {
             (rose (T.memory_refusals self.old.table) (T.memory_refusals self.new.table))
             result self.new.file }
         ensures rolled { Resumes self.old.file tx.0 result self.new.file }
-        ensures opening { KeepsOpening T.TableState self.old self.new }
         ensures refused { IfSome (resuming_refusal self.old.file tx.0)
             (λ refusal. (refusal_by resume_refusal result ≡ Some refusal) × (self.new ≡ self.old)) }
         ensures table { ChangesTable T.TableState self.old (cause_by resume_refusal result) self.new }
@@ -112,7 +109,6 @@ impl<T: Table> RecordFile<T> {
         requires within { n ≤ depth_of (tx_of self.old.file tx.0) }
         requires whole { IsTrue ends → n ≡ 0 }
         ensures rolled { RollsFrom self.old.file tx.0 n ends result self.new.file }
-        ensures opening { KeepsOpening T.TableState self.old self.new }
         ensures ended { IsTrue (T.sound self.old.table)
             → T.device_failures self.old.table < greatest_count
             → T.memory_refusals self.old.table < greatest_count
@@ -134,12 +130,8 @@ impl<T: Table> RecordFile<T> {
         requires active { phase_at self.old.file tx.0 ≡ Some Phase.Active }
         requires within { n ≤ depth_of (tx_of self.old.file tx.0) }
         requires whole { IsTrue ends → n ≡ 0 }
-        ensures file { self.new.file ≡ record self.old.file {
-          txs = maps.insert self.old.file.txs tx.0
-              (rolling_to (places_at self.old.file tx.0) n ends);
-        } }
-        ensures table { KeepsTable self.old self.new }
-        ensures log { KeepsLog self.old self.new }
+        ensures { self.new ≡ with_txs self.old (maps.insert self.old.file.txs tx.0
+            (rolling_to (places_at self.old.file tx.0) n ends)) }
     {
         self.log.start_rollback(tx, n, ends);
     }
@@ -148,7 +140,6 @@ impl<T: Table> RecordFile<T> {
     fn take_back(&mut self, tx: TxId) -> Result<u32, Stop>
         requires { IsRolling (phase_at self.old.file tx.0) }
         ensures rolled { RollsBack self.old.file tx.0 result self.new.file }
-        ensures opening { KeepsOpening T.TableState self.old self.new }
         ensures damaged { NeverDamaged (T.sound self.old.table) (cause_by stop_refusal result) }
         ensures asks { UndoAsks T.TableState self.old (cause_by stop_refusal result) self.new }
         ensures table { ChangesTable T.TableState self.old (cause_by stop_refusal result) self.new }
@@ -177,7 +168,6 @@ impl<T: Table> RecordFile<T> {
           opening = self.new.file.opening;
           history = undo_last tx.0 self.old.file.history;
         }) }
-        ensures opening { KeepsOpening T.TableState self.old self.new }
         ensures err { OnErr result (self.new.file ≡ self.old.file) }
         ensures damaged { NeverDamaged (T.sound self.old.table) (cause_by Failed result) }
         ensures asks { UndoAsks T.TableState self.old (cause_by Failed result) self.new }
@@ -202,11 +192,8 @@ impl<T: Table> RecordFile<T> {
     fn finish(&mut self, tx: TxId)
         requires rolling { IsRolling (phase_at self.old.file tx.0) }
         requires done { left_in self.old.file.history tx.0 (tx_of self.old.file tx.0) ≡ 0 }
-        ensures file { self.new.file ≡ record self.old.file {
-          txs = finished self.old.file.txs tx.0 (tx_of self.old.file tx.0);
-        } }
-        ensures table { KeepsTable self.old self.new }
-        ensures log { KeepsLog self.old self.new }
+        ensures { self.new ≡ with_txs self.old
+            (finished self.old.file.txs tx.0 (tx_of self.old.file tx.0)) }
     {
         self.log.finish(tx);
     }

@@ -1,11 +1,10 @@
-use Rattle.std.proofs.Common.{ℕ, ◌&&◌, true, option_map, not, is_some, is_none, false, List, Option, ◌≡◌, ◌≤◌, ◌+◌, None, IsTrue, ap, sym, subst, [], ◌∷◌, ◌++◌, ◌∙◌}
+use Rattle.std.proofs.Common.{ℕ, ◌&&◌, true, not, is_some, is_none, false, List, Option, ◌≡◌, ◌≤◌, ◌+◌, None, IsTrue, ap, sym, subst, [], ◌∷◌, ◌++◌, ◌∙◌}
 use Rattle.std.specs.FinMap as maps
 use Rattle.tx_log.specs.LogState.{LogState, use_in, update_in}
 use Rattle.tx_log.specs.declared.log_record.LogRecord.{LogRecord}
 use Rattle.record_file.specs.Abstract.{File, OpenFile, file_of, is_full, records_of, with_change}
-use Rattle.record_file.specs.Refusals.{claim_refusal}
 use Rattle.record_file.specs.Steps.{key_refusal, Accepts, key_change}
-use Rattle.record_file.proofs.FaultLemmas.{none_by, rose_same}
+use Rattle.record_file.proofs.FaultLemmas.{rose_same}
 use Rattle.record_file.proofs.FullnessLemmas.{change_fits, room_now, stands_not_full}
 use Rattle.record_file.proofs.InvariantLemmas.{change_kept, change_file, change_accepted}
 use Rattle.record_file.proofs.TableCallLemmas.{changes_set}
@@ -22,7 +21,7 @@ module _ (g : given.Over) (c : After-reserve g) where
   sound_is = ap (λ (s : OpenFile _). g.T.TableState.sound s.table) c.self.view_is
 
   none : key_refusal true c.args.self.now.file c.args.tx.0 c.args.key ≡ None
-  none = sym c.claim_refusal.ensures ∙ ap (option_map claim_refusal) (none_by c.claim_refusal.result c.in_default.not-Some)
+  none = sym c.in_ok-allow_change.ensures
 
   stood : IsTrue (g.T.TableState.sound c.args.self.now.table) → c.in_ok-seen.seen ≡ maps.get (records_of c.args.self.now.file) c.args.key
   stood sound =
@@ -76,13 +75,9 @@ returns-clause-accepted g c =
     (subst (λ (f : File). Accepts f c.self.inside.log.records (key_change c.args.tx c.args.key c.copied-told.result None) F c.accept_claim-lsn.new.self.records) (link g place)
     (change_accepted _ _ _ c.self.inside.log c.self.invariant c.in_ok-reserve.ensures.kept (g.T.TableState.contents c.get.new.self) c.reserve.new.self c.accept_claim-lsn.new.self c.args.tx c.args.key c.copied-told.result None c.in_ok-reserve.ensures.ok c.accept_claim-lsn.ensures.after)))
 
-pub returns-clause-opening : goal.returns-clause-opening
-returns-clause-opening g c = λ sound.
-    let place = (goal.at.returns-clause-opening g c).After-reserve in
-    ap (λ (f : File). f.opening) (change_file _ _ _ c.self.inside.log c.self.invariant c.in_ok-reserve.ensures.kept (g.T.TableState.contents c.get.new.self) c.reserve.new.self c.accept_claim-lsn.new.self c.args.tx c.args.key c.in_ok-seen.seen c.copied-told.result _ c.in_ok-reserve.ensures.ok c.in_ok-seen.ensures.same (c.in_ok-seen.ensures.value (sound_is g place ∙ sound)) (c.copied-told.ensures ∙ c.as_ref.ensures.value) c.accept_claim-lsn.ensures.after ∙ ap (λ (f : File). with_change f c.args.tx.0 c.args.key None) (link g place))
-
 pub returns-clause-table : goal.returns-clause-table
 returns-clause-table g c =
     (changes_set g.T.TableState _ _ _ _ _ c.self.view_is c.in_ok-seen.ensures.answered
     (ap (λ (s : LogState). s.records) c.accept_claim-lsn.ensures.after ∙ ap (λ (s : LogState). s.records ++ update_in s c.args.tx c.args.key c.copied-told.result None ∷ []) c.in_ok-reserve.ensures.ok)
-    (λ _. c.in_ok-seen.ensures.same))
+    (λ _. c.in_ok-seen.ensures.same)
+    (λ here. ap (λ (f : File). f.opening) (change_file _ _ _ c.self.inside.log c.self.invariant c.in_ok-reserve.ensures.kept (g.T.TableState.contents c.get.new.self) c.reserve.new.self c.accept_claim-lsn.new.self c.args.tx c.args.key c.in_ok-seen.seen c.copied-told.result _ c.in_ok-reserve.ensures.ok c.in_ok-seen.ensures.same (c.in_ok-seen.ensures.value here) (c.copied-told.ensures ∙ c.as_ref.ensures.value) c.accept_claim-lsn.ensures.after)))

@@ -1,4 +1,4 @@
-use Rattle.std.proofs.Common.{ℕ, Bool, false, List, Option, option_map, not, true, refl, Ok, Err, ◌≡◌, ◌≤◌, ◌+◌, Some, None, IsTrue, ap, sym, subst, [], ◌∷◌, ◌++◌, ◌∙◌, rules, arith}
+use Rattle.std.proofs.Common.{ℕ, Bool, false, List, Option, not, true, refl, Ok, Err, ◌≡◌, ◌≤◌, ◌+◌, Some, None, IsTrue, ap, sym, subst, [], ◌∷◌, ◌++◌, ◌∙◌, rules, arith}
 use Rattle.std.specs.FinMap as maps
 use Rattle.tx_log.specs.LogState.{LogState, use_in, update_in}
 use Rattle.tx_log.specs.declared.log_record.LogRecord.{LogRecord}
@@ -10,10 +10,10 @@ use Rattle.std.proofs.lemmas.Result.{err_from_is_err_and}
 use Rattle.rec_types.specs.Table.{is_device, counted, damaged_by}
 use Rattle.rec_types.specs.declared.table.TableFault.TheVariants as table_faults
 use Rattle.record_file.specs.declared.refusal.Refusal.{Refusal}
-use Rattle.record_file.specs.Refusals.{put_refusal}
+use Rattle.record_file.specs.Refusals.{change_refusal}
 use Rattle.record_file.specs.Steps.{rose, key_refusal, RefusedFor, Accepts, key_change}
 use Rattle.record_file.proofs.AskedLemmas.{looking, looked_is, set_after, told_named, told_lost, put_loses_none, never_full, without_cause}
-use Rattle.record_file.proofs.FaultLemmas.{none_by, rose_same, refused_by_table, untold}
+use Rattle.record_file.proofs.FaultLemmas.{rose_same, refused_by_table, untold}
 use Rattle.record_file.proofs.FileLemmas.{put_has_room}
 use Rattle.record_file.proofs.FullnessLemmas.{change_fits, room_now}
 use Rattle.record_file.proofs.InvariantLemmas.{change_kept, change_file, change_accepted}
@@ -31,7 +31,7 @@ module _ (g : given.Over) (c : After-reserve g) where
   sound_is = ap (λ (s : OpenFile _). g.T.TableState.sound s.table) c.self.view_is ∙ c.is_full.ensures.answered.soundness
 
   none : key_refusal true c.args.self.now.file c.args.tx.0 c.args.key ≡ None
-  none = sym c.put_refusal.ensures ∙ ap (option_map put_refusal) (none_by c.put_refusal.result c.in_default.not-Some)
+  none = sym c.in_ok-allow_change.ensures
 
   not_full : IsTrue (g.T.TableState.sound c.args.self.now.table) → is_full c.args.self.now.file c.args.key ≡ false
   not_full sound = sym (c.in_ok-is_full.ensures.value sound) ∙ c.if-branch.false
@@ -89,22 +89,17 @@ returns-clause-accepted g c =
     (subst (λ (f : File). Accepts f c.self.inside.log.records (key_change c.args.tx c.args.key c.copied-told.result (Some (Some c.args.value))) F c.accept-lsn.new.self.records) (link g place)
     (change_accepted _ _ _ c.self.inside.log c.self.invariant c.in_ok-reserve.ensures.kept (g.T.TableState.contents c.set.new.self) c.reserve.new.self c.accept-lsn.new.self c.args.tx c.args.key c.copied-told.result (Some (Some c.args.value)) c.in_ok-reserve.ensures.ok c.accept-lsn.ensures.after)))
 
-pub returns-clause-opening : goal.returns-clause-opening
-returns-clause-opening g c = λ sound.
-    let place = (goal.at.returns-clause-opening g c).After-reserve in
-    let here = sound_is g place ∙ sound in
-    ap (λ (f : File). f.opening) (change_file _ _ _ c.self.inside.log c.self.invariant c.in_ok-reserve.ensures.kept (g.T.TableState.contents c.set.new.self) c.reserve.new.self c.accept-lsn.new.self c.args.tx c.args.key c.in_ok-before.before c.copied-told.result _ c.in_ok-reserve.ensures.ok (c.in_ok-before.ensures.ok here) (c.in_ok-before.ensures.value here) (c.copied-told.ensures ∙ c.as_ref.ensures.value) c.accept-lsn.ensures.after ∙ ap (λ (f : File). with_change f c.args.tx.0 c.args.key (Some (Some c.args.value))) (link g place))
-
 pub returns-clause-err : goal.returns-clause-err
 returns-clause-err g c = tt
 
 pub returns-clause-table : goal.returns-clause-table
 returns-clause-table g c =
     changes_then g.T.TableState _ c.is_full.new.self _ None
-    (changes_asked g.T.TableState _ _ _ c.in_ok-is_full.ensures.answered c.is_full.ensures.same.0 c.is_full.ensures.same.2)
+    (changes_asked g.T.TableState _ _ _ c.in_ok-is_full.ensures.answered c.is_full.ensures.same)
     (changes_set g.T.TableState _ _ _ _ _ c.self.view_is c.in_ok-before.ensures.answered
     (ap (λ (s : LogState). s.records) c.accept-lsn.ensures.after ∙ ap (λ (s : LogState). s.records ++ update_in s c.args.tx c.args.key c.copied-told.result (Some (Some c.args.value)) ∷ []) c.in_ok-reserve.ensures.ok)
-    c.in_ok-before.ensures.ok)
+    c.in_ok-before.ensures.ok
+    (λ here. ap (λ (f : File). f.opening) (change_file _ _ _ c.self.inside.log c.self.invariant c.in_ok-reserve.ensures.kept (g.T.TableState.contents c.set.new.self) c.reserve.new.self c.accept-lsn.new.self c.args.tx c.args.key c.in_ok-before.before c.copied-told.result _ c.in_ok-reserve.ensures.ok (c.in_ok-before.ensures.ok here) (c.in_ok-before.ensures.value here) (c.copied-told.ensures ∙ c.as_ref.ensures.value) c.accept-lsn.ensures.after)))
 
 -- the log has no room
 pub returns-in_err-reserve-clause-step : goal.returns-in_err-reserve-clause-step
@@ -148,17 +143,19 @@ returns-in_err-before-clause-damaged g c = λ sound page.
 
 -- what was asked of the table
 
-pub returns-in-Some-clause-asks : goal.returns-in-Some-clause-asks
-returns-in-Some-clause-asks g c = record {
-  asked = looking false;
-  allowed = record { accepted = tt; full = λ _. refl; looks = λ _ looked. absurd (cc) };
-  calls = refl;
-  lost = sym (ap (named_by (g.T.TableState.damages c.args.self.now.table)) (without_cause true c.args.self.now.file c.args.tx.0 c.args.key (put_refusal c.in-Some.fault) (sym c.put_refusal.ensures ∙ ap (option_map put_refusal) c.in-Some.is)));
-}
+pub returns-in_err-allow_change-clause-asks : goal.returns-in_err-allow_change-clause-asks
+returns-in_err-allow_change-clause-asks g c =
+    let told = err_from_is_err_and c.from_residual.result c.from_residual.ensures.1 in
+    rw (told.1, told.2) (record {
+      asked = looking false;
+      allowed = record { accepted = tt; full = λ _. refl; looks = λ _ looked. absurd (cc) };
+      calls = refl;
+      lost = sym (ap (named_by (g.T.TableState.damages c.args.self.now.table)) (without_cause true c.args.self.now.file c.args.tx.0 c.args.key (change_refusal c.in_err-allow_change.field-0.0) (sym c.in_err-allow_change.ensures)));
+    })
 
 pub returns-in_err-is_full-clause-asks : goal.returns-in_err-is_full-clause-asks
 returns-in_err-is_full-clause-asks g c =
-    let told = err_from_is_err_and c.from_residual.result c.from_residual.ensures.1 in
+    let told = err_from_is_err_and c.from_residual-in_err-is_full.result c.from_residual-in_err-is_full.ensures.1 in
     let fault = c.in_err-is_full.field-0.0 in
     let looks = c.is_full.ensures.looks in
     rw (told.1, told.2) (record {

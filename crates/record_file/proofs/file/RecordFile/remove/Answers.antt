@@ -1,4 +1,4 @@
-use Rattle.std.proofs.Common.{rules, ℕ, List, Option, option_map, true, false, not, is_some, refl, Ok, Err, Some, None, ◌≤◌, ◌+◌, ap, sym, subst, [], ◌∷◌, ◌++◌, ◌≡◌, IsTrue, ◌∙◌}
+use Rattle.std.proofs.Common.{rules, ℕ, List, Option, true, false, not, is_some, refl, Ok, Err, Some, None, ◌≤◌, ◌+◌, ap, sym, subst, [], ◌∷◌, ◌++◌, ◌≡◌, IsTrue, ◌∙◌}
 use Rattle.std.specs.FinMap as maps
 use Rattle.rec_types.specs.Contents.{set_to}
 use Rattle.tx_log.specs.LogState.{LogState, use_in, update_in, open_in, history_in}
@@ -8,10 +8,10 @@ use Rattle.std.proofs.lemmas.Result.{err_from_is_err_and}
 use Rattle.rec_types.specs.Calls.{with_get, is_no_room, is_miss}
 use Rattle.rec_types.specs.Table.{damaged_by}
 use Rattle.record_file.specs.Abstract.{File, OpenFile, file_of, records_of, with_change}
-use Rattle.record_file.specs.Refusals.{remove_refusal}
+use Rattle.record_file.specs.Refusals.{change_refusal}
 use Rattle.record_file.specs.Steps.{key_refusal, Accepts, key_change}
 use Rattle.record_file.proofs.AskedLemmas.{looking, set_after, told_named, told_lost, found_loses_none, none_is_lost, never_absent, without_cause}
-use Rattle.record_file.proofs.FaultLemmas.{none_by, rose_same}
+use Rattle.record_file.proofs.FaultLemmas.{rose_same}
 use Rattle.record_file.proofs.FullnessLemmas.{change_fits, present_charged}
 use Rattle.record_file.proofs.InvariantLemmas.{change_kept, change_file, change_accepted}
 use Rattle.record_file.proofs.TableCallLemmas.{answered_then, changes_set}
@@ -30,50 +30,45 @@ module _ (g : given.Over) (c : After-accept-lsn g) where
 pub accept-lsn-requires-clause-fits : goal.accept-lsn-requires-clause-fits
 accept-lsn-requires-clause-fits g c =
     let link = ap (λ (s : OpenFile _). s.file) c.self.view_is in
-    let none = ap (λ (f : File). key_refusal true f c.args.tx.0 c.args.key) link ∙ sym c.remove_refusal.ensures ∙ ap (option_map remove_refusal) (none_by c.remove_refusal.result c.in_default.not-Some) in
+    let none = ap (λ (f : File). key_refusal true f c.args.tx.0 c.args.key) link ∙ sym c.in_ok-allow_change.ensures in
     subst (λ (s : LogState). use_in s + 2 ≤ s.limits.log_records) (sym c.in_ok-reserve.ensures.ok) (change_fits (file_of c.self.inside.log (g.T.TableState.contents c.self.inside.table)) c.args.tx.0 c.args.key none)
 
-pub invariant_of-self-in-Some-2 : goal.invariant_of-self-in-Some-2
-invariant_of-self-in-Some-2 g c =
+pub invariant_of-self-in-Some : goal.invariant_of-self-in-Some
+invariant_of-self-in-Some g c =
     let key = c.args.key in
-    let place = (goal.at.invariant_of-self-in-Some-2 g c).After-accept-lsn in
+    let place = (goal.at.invariant_of-self-in-Some g c).After-accept-lsn in
     change_kept _ _ _ c.self.inside.log c.self.invariant c.in_ok-reserve.ensures.kept
-    _ _ _ c.reserve.new.self c.accept-lsn.new.self c.args.tx key c.in_ok-taken.field-0 (Some c.in-Some-2.taken) (Some None)
-    (c.in_ok-taken.ensures.answered.soundness ∙ c.in_ok-get.ensures.answered.soundness) (c.in_ok-taken.ensures.answered.limit ∙ c.in_ok-get.ensures.answered.limit) c.in_ok-reserve.ensures.ok (put g place) (stood g place) (sym c.in-Some-2.is) c.accept-lsn.ensures.after
+    _ _ _ c.reserve.new.self c.accept-lsn.new.self c.args.tx key c.in_ok-taken.field-0 (Some c.in-Some.taken) (Some None)
+    (c.in_ok-taken.ensures.answered.soundness ∙ c.in_ok-get.ensures.answered.soundness) (c.in_ok-taken.ensures.answered.limit ∙ c.in_ok-get.ensures.answered.limit) c.in_ok-reserve.ensures.ok (put g place) (stood g place) (sym c.in-Some.is) c.accept-lsn.ensures.after
     (λ sound absent. absurd (present_charged (open_in c.self.inside.log) (history_in c.self.inside.log) (g.T.TableState.contents c.self.inside.table) key c.in_ok-get.field-0 (c.in_ok-get.ensures.value sound) c.if-is_none.ensures absent))
 
-pub returns-in-Some-2-clause-step : goal.returns-in-Some-2-clause-step
-returns-in-Some-2-clause-step g c = λ sound lt.
+pub returns-in-Some-clause-step : goal.returns-in-Some-clause-step
+returns-in-Some-clause-step g c = λ sound lt.
     let key = c.args.key in
     let link = ap (λ (s : OpenFile _). s.file) c.self.view_is in
     let here = ap (λ (s : OpenFile _). g.T.TableState.sound s.table) c.self.view_is ∙ sound in
-    let none = sym c.remove_refusal.ensures ∙ ap (option_map remove_refusal) (none_by c.remove_refusal.result c.in_default.not-Some) in
+    let none = sym c.in_ok-allow_change.ensures in
     let counts = c.in_ok-taken.ensures.answered.device ∙ c.in_ok-get.ensures.answered.device ∙ ap (λ (s : OpenFile _). g.T.TableState.device_failures s.table) c.self.view_is in
-    let place = (goal.at.returns-in-Some-2-clause-step g c).After-accept-lsn in (
+    let place = (goal.at.returns-in-Some-clause-step g c).After-accept-lsn in (
       none,
       rose_same (g.T.TableState.device_failures c.args.self.now.table) (g.T.TableState.device_failures c.set.new.self) counts,
-      sym (sym c.in-Some-2.is ∙ stood g place here ∙ ap (λ m. maps.get m key) (c.self.invariant.fits here).replayed ∙ ap (λ (f : File). maps.get (records_of f) key) link),
-      change_file _ _ _ c.self.inside.log c.self.invariant c.in_ok-reserve.ensures.kept (g.T.TableState.contents c.set.new.self) c.reserve.new.self c.accept-lsn.new.self c.args.tx key c.in_ok-taken.field-0 (Some c.in-Some-2.taken) (Some None) c.in_ok-reserve.ensures.ok (put g place here) (stood g place here) (sym c.in-Some-2.is) c.accept-lsn.ensures.after
+      sym (sym c.in-Some.is ∙ stood g place here ∙ ap (λ m. maps.get m key) (c.self.invariant.fits here).replayed ∙ ap (λ (f : File). maps.get (records_of f) key) link),
+      change_file _ _ _ c.self.inside.log c.self.invariant c.in_ok-reserve.ensures.kept (g.T.TableState.contents c.set.new.self) c.reserve.new.self c.accept-lsn.new.self c.args.tx key c.in_ok-taken.field-0 (Some c.in-Some.taken) (Some None) c.in_ok-reserve.ensures.ok (put g place here) (stood g place here) (sym c.in-Some.is) c.accept-lsn.ensures.after
           ∙ ap (λ (f : File). with_change f c.args.tx.0 key (Some None)) link,
     )
 
-pub returns-in-Some-2-clause-opening : goal.returns-in-Some-2-clause-opening
-returns-in-Some-2-clause-opening g c = λ sound.
-    let key = c.args.key in
-    let here = ap (λ (s : OpenFile _). g.T.TableState.sound s.table) c.self.view_is ∙ sound in
-    let place = (goal.at.returns-in-Some-2-clause-opening g c).After-accept-lsn in
-    ap (λ (f : File). f.opening) (change_file _ _ _ c.self.inside.log c.self.invariant c.in_ok-reserve.ensures.kept (g.T.TableState.contents c.set.new.self) c.reserve.new.self c.accept-lsn.new.self c.args.tx key c.in_ok-taken.field-0 (Some c.in-Some-2.taken) (Some None) c.in_ok-reserve.ensures.ok (put g place here) (stood g place here) (sym c.in-Some-2.is) c.accept-lsn.ensures.after ∙ ap (λ (f : File). with_change f c.args.tx.0 key (Some None)) (ap (λ (s : OpenFile _). s.file) c.self.view_is))
+pub returns-in-Some-clause-accepted : goal.returns-in-Some-clause-accepted
+returns-in-Some-clause-accepted g c =
+    subst (λ (s : OpenFile _). Accepts s.file s.log (key_change c.args.tx c.args.key (Some c.in-Some.taken) (Some None)) (file_of c.accept-lsn.new.self (g.T.TableState.contents c.set.new.self)) c.accept-lsn.new.self.records) c.self.view_is
+    (change_accepted _ _ _ c.self.inside.log c.self.invariant c.in_ok-reserve.ensures.kept (g.T.TableState.contents c.set.new.self) c.reserve.new.self c.accept-lsn.new.self c.args.tx c.args.key (Some c.in-Some.taken) (Some None) c.in_ok-reserve.ensures.ok c.accept-lsn.ensures.after)
 
-pub returns-in-Some-2-clause-accepted : goal.returns-in-Some-2-clause-accepted
-returns-in-Some-2-clause-accepted g c =
-    subst (λ (s : OpenFile _). Accepts s.file s.log (key_change c.args.tx c.args.key (Some c.in-Some-2.taken) (Some None)) (file_of c.accept-lsn.new.self (g.T.TableState.contents c.set.new.self)) c.accept-lsn.new.self.records) c.self.view_is
-    (change_accepted _ _ _ c.self.inside.log c.self.invariant c.in_ok-reserve.ensures.kept (g.T.TableState.contents c.set.new.self) c.reserve.new.self c.accept-lsn.new.self c.args.tx c.args.key (Some c.in-Some-2.taken) (Some None) c.in_ok-reserve.ensures.ok c.accept-lsn.ensures.after)
-
-pub returns-in-Some-2-clause-table : goal.returns-in-Some-2-clause-table
-returns-in-Some-2-clause-table g c =
+pub returns-in-Some-clause-table : goal.returns-in-Some-clause-table
+returns-in-Some-clause-table g c =
+    let place = (goal.at.returns-in-Some-clause-table g c).After-accept-lsn in
     changes_set g.T.TableState _ _ _ _ _ c.self.view_is (answered_then g.T.TableState _ _ _ _ _ c.in_ok-get.ensures.answered c.in_ok-taken.ensures.answered)
-    (ap (λ (s : LogState). s.records) c.accept-lsn.ensures.after ∙ ap (λ (s : LogState). s.records ++ update_in s c.args.tx c.args.key (Some c.in-Some-2.taken) (Some None) ∷ []) c.in_ok-reserve.ensures.ok)
-    (put g (goal.at.returns-in-Some-2-clause-table g c).After-accept-lsn)
+    (ap (λ (s : LogState). s.records) c.accept-lsn.ensures.after ∙ ap (λ (s : LogState). s.records ++ update_in s c.args.tx c.args.key (Some c.in-Some.taken) (Some None) ∷ []) c.in_ok-reserve.ensures.ok)
+    (put g place)
+    (λ here. ap (λ (f : File). f.opening) (change_file _ _ _ c.self.inside.log c.self.invariant c.in_ok-reserve.ensures.kept (g.T.TableState.contents c.set.new.self) c.reserve.new.self c.accept-lsn.new.self c.args.tx c.args.key c.in_ok-taken.field-0 (Some c.in-Some.taken) (Some None) c.in_ok-reserve.ensures.ok (put g place here) (stood g place here) (sym c.in-Some.is) c.accept-lsn.ensures.after))
 
 pub returns-then-is_none-clause-step : goal.returns-then-is_none-clause-step
 returns-then-is_none-clause-step g c = search rules
@@ -91,7 +86,7 @@ returns-in-None-clause-err g c = search rules
 
 module _ (g : given.Over) (c : After-get g) where
   unrefused : key_refusal true c.args.self.now.file c.args.tx.0 c.args.key ≡ None
-  unrefused = sym c.remove_refusal.ensures ∙ ap (option_map remove_refusal) (none_by c.remove_refusal.result c.in_default.not-Some)
+  unrefused = sym c.in_ok-allow_change.ensures
 
   looked : true ≡ not (is_some (key_refusal true c.args.self.now.file c.args.tx.0 c.args.key))
   looked = sym (ap (λ o. not (is_some o)) unrefused)
@@ -102,18 +97,20 @@ module _ (g : given.Over) (c : After-get g) where
   named : g.T.TableState.damages c.self.inside.table ≡ g.T.TableState.damages c.args.self.now.table
   named = ap (λ (s : OpenFile _). g.T.TableState.damages s.table) c.self.view_is
 
-pub returns-in-Some-clause-asks : goal.returns-in-Some-clause-asks
-returns-in-Some-clause-asks g c = record {
-  asked = looking false;
-  allowed = record { accepted = tt; absent = λ _. refl; looks = ap (λ o. not (is_some o)) (ap (option_map remove_refusal) (sym c.in-Some.is) ∙ c.remove_refusal.ensures) };
-  calls = refl;
-  lost = sym (ap (named_by (g.T.TableState.damages c.args.self.now.table)) (without_cause true c.args.self.now.file c.args.tx.0 c.args.key (remove_refusal c.in-Some.fault) (sym c.remove_refusal.ensures ∙ ap (option_map remove_refusal) c.in-Some.is)));
-}
+pub returns-in_err-allow_change-clause-asks : goal.returns-in_err-allow_change-clause-asks
+returns-in_err-allow_change-clause-asks g c =
+    let told = err_from_is_err_and c.from_residual.result c.from_residual.ensures.1 in
+    rw (told.1, told.2) (record {
+      asked = looking false;
+      allowed = record { accepted = tt; absent = λ _. refl; looks = ap (λ o. not (is_some o)) c.in_err-allow_change.ensures };
+      calls = refl;
+      lost = sym (ap (named_by (g.T.TableState.damages c.args.self.now.table)) (without_cause true c.args.self.now.file c.args.tx.0 c.args.key (change_refusal c.in_err-allow_change.field-0.0) (sym c.in_err-allow_change.ensures)));
+    })
 
 pub returns-in_err-get-clause-asks : goal.returns-in_err-get-clause-asks
 returns-in_err-get-clause-asks g c =
     let place = (goal.at.returns-in_err-get-clause-asks g c).After-get in
-    let told = err_from_is_err_and c.from_residual.result c.from_residual.ensures.1 in
+    let told = err_from_is_err_and c.from_residual-in_err-get.result c.from_residual-in_err-get.ensures.1 in
     let fault = c.in_err-get.field-0.0 in
     rw (told.1, told.2) (record {
       asked = looking true;
@@ -155,14 +152,14 @@ returns-in_err-taken-clause-asks g c =
       lost = told_lost (Option (List ℕ)) fault _ _ (c.in_err-taken.ensures.answered.damages ∙ ap (λ d. damaged_by {A = Option (List ℕ)} d (Err fault)) (c.in_ok-get.ensures.answered.damages ∙ named g place));
     })
 
-pub returns-in-Some-2-clause-asks : goal.returns-in-Some-2-clause-asks
-returns-in-Some-2-clause-asks g c =
-    let place = (goal.at.returns-in-Some-2-clause-asks g c).After-get in
+pub returns-in-Some-clause-asks : goal.returns-in-Some-clause-asks
+returns-in-Some-clause-asks g c =
+    let place = (goal.at.returns-in-Some-clause-asks g c).After-get in
     record {
       asked = record { looks = true; sets = true; no_room = false; lost = is_miss true (Ok c.in_ok-taken.field-0) };
       allowed = record { accepted = refl; absent = λ is. absurd (cc); looks = looked g place };
       calls = set_after true true (g.T.TableState.calls c.args.self.now.table) (g.T.TableState.calls c.get.new.self) (g.T.TableState.calls c.set.new.self) (Ok c.in_ok-taken.field-0) (seen g place) c.in_ok-taken.ensures.calls;
-      lost = found_loses_none c.in_ok-taken.field-0 c.in-Some-2.taken _ _ c.in-Some-2.is (c.in_ok-taken.ensures.answered.damages ∙ c.in_ok-get.ensures.answered.damages ∙ named g place);
+      lost = found_loses_none c.in_ok-taken.field-0 c.in-Some.taken _ _ c.in-Some.is (c.in_ok-taken.ensures.answered.damages ∙ c.in_ok-get.ensures.answered.damages ∙ named g place);
     }
 
 pub returns-in-None-clause-asks : goal.returns-in-None-clause-asks

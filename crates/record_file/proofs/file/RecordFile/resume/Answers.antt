@@ -20,7 +20,7 @@ returns-in_ok-take_back-in-Some-Rolling-clause-rolled g c = (goes_on g (goal.at.
 pub returns-in_ok-take_back-in-Some-Rolling-clause-step : goal.returns-in_ok-take_back-in-Some-Rolling-clause-step
 returns-in_ok-take_back-in-Some-Rolling-clause-step g c = λ sound few fewer.
     let told = c.in_ok-take_back-in-Some-Rolling.ensures in
-    (returns-in_ok-take_back-in-Some-Rolling-clause-rolled g c, told.opening sound, ends_by None _ _ _ _ few fewer told.table.device told.memory (told.damaged sound))
+    (returns-in_ok-take_back-in-Some-Rolling-clause-rolled g c, told.table.opening sound, ends_by None _ _ _ _ few fewer told.table.device told.memory (told.damaged sound))
 
 pub returns-in_err-take_back-in-Some-Rolling-clause-rolled : goal.returns-in_err-take_back-in-Some-Rolling-clause-rolled
 returns-in_err-take_back-in-Some-Rolling-clause-rolled g c =
@@ -33,7 +33,7 @@ returns-in_err-take_back-in-Some-Rolling-clause-step g c = λ sound few fewer.
     let p = err_from_is_err_and c.from_residual.result c.from_residual.ensures.1 in
     let told = c.in_err-take_back-in-Some-Rolling.ensures in (
       returns-in_err-take_back-in-Some-Rolling-clause-rolled g c,
-      told.opening sound,
+      told.table.opening sound,
       rw (p.1, p.2) (ends_by (Some c.in_err-take_back-in-Some-Rolling.field-0.0.cause) _ _ _ _ few fewer told.table.device told.memory (told.damaged sound)),
     )
 

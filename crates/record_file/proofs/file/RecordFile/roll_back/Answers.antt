@@ -1,35 +1,33 @@
 use Rattle.std.proofs.Common.{ap, ◌∙◌}
 use Rattle.rec_types.specs.Table.{counted}
 use Rattle.record_file.specs.Refusals.{stop_refusal, cause_by}
+use Rattle.record_file.specs.Abstract.{OpenFile}
 use Rattle.record_file.specs.Outside.{by_device, by_memory}
 use Rattle.record_file.proofs.AskedLemmas.{undo_none, undo_then}
-use Rattle.record_file.proofs.RollbackLemmas.{is_rolling, started_rolls, started_opening, ends_by}
+use Rattle.record_file.proofs.RollbackLemmas.{is_rolling, started_rolls, ends_by}
 use Rattle.record_file.proofs.TableCallLemmas.{changes_none, changes_then}
 use Rattle.record_file.proofs.file.RecordFile.roll_back.Goals as goal
 
 pub take_back-requires : goal.take_back-requires
-take_back-requires g c = is_rolling c.args.self.now.file c.start_rollback.new.self.file c.args.tx.0 c.args.n c.args.ends c.start_rollback.ensures.file
+take_back-requires g c = is_rolling c.args.self.now.file c.start_rollback.new.self.file c.args.tx.0 c.args.n c.args.ends (ap (λ (s : OpenFile _). s.file) c.start_rollback.ensures)
 
 pub returns-clause-rolled : goal.returns-clause-rolled
-returns-clause-rolled g c = started_rolls c.args.self.now.file c.start_rollback.new.self.file c.take_back.new.self.file c.args.tx.0 c.args.n c.args.ends c.take_back.result c.start_rollback.ensures.file c.take_back.ensures.rolled
-
-pub returns-clause-opening : goal.returns-clause-opening
-returns-clause-opening g c = λ sound. started_opening c.args.self.now.file c.start_rollback.new.self.file c.take_back.new.self.file c.args.tx.0 c.args.n c.args.ends c.start_rollback.ensures.file (c.take_back.ensures.opening (ap (λ t. g.T.TableState.sound t) c.start_rollback.ensures.table ∙ sound))
+returns-clause-rolled g c = started_rolls c.args.self.now.file c.start_rollback.new.self.file c.take_back.new.self.file c.args.tx.0 c.args.n c.args.ends c.take_back.result (ap (λ (s : OpenFile _). s.file) c.start_rollback.ensures) c.take_back.ensures.rolled
 
 pub returns-clause-table : goal.returns-clause-table
-returns-clause-table g c = changes_then g.T.TableState c.args.self.now c.start_rollback.new.self c.take_back.new.self (cause_by stop_refusal c.take_back.result) (changes_none g.T.TableState c.args.self.now c.start_rollback.new.self c.start_rollback.ensures.table c.start_rollback.ensures.log) c.take_back.ensures.table
+returns-clause-table g c = changes_then g.T.TableState c.args.self.now c.start_rollback.new.self c.take_back.new.self (cause_by stop_refusal c.take_back.result) (changes_none g.T.TableState c.args.self.now c.start_rollback.new.self _ c.start_rollback.ensures) c.take_back.ensures.table
 
 pub returns-clause-memory : goal.returns-clause-memory
-returns-clause-memory g c = c.take_back.ensures.memory ∙ ap (λ t. counted (g.T.TableState.memory_refusals t) (by_memory (cause_by stop_refusal c.take_back.result))) c.start_rollback.ensures.table
+returns-clause-memory g c = c.take_back.ensures.memory ∙ ap (λ (s : OpenFile _). counted (g.T.TableState.memory_refusals s.table) (by_memory (cause_by stop_refusal c.take_back.result))) c.start_rollback.ensures
 
 pub returns-clause-damaged : goal.returns-clause-damaged
-returns-clause-damaged g c = λ sound. c.take_back.ensures.damaged (ap (λ t. g.T.TableState.sound t) c.start_rollback.ensures.table ∙ sound)
+returns-clause-damaged g c = λ sound. c.take_back.ensures.damaged (ap (λ (s : OpenFile _). g.T.TableState.sound s.table) c.start_rollback.ensures ∙ sound)
 
 pub returns-clause-ended : goal.returns-clause-ended
 returns-clause-ended g c = λ sound few fewer. ends_by (cause_by stop_refusal c.take_back.result) _ _ _ _ few fewer
-    (c.take_back.ensures.table.device ∙ ap (λ t. counted (g.T.TableState.device_failures t) (by_device (cause_by stop_refusal c.take_back.result))) c.start_rollback.ensures.table)
+    (c.take_back.ensures.table.device ∙ ap (λ (s : OpenFile _). counted (g.T.TableState.device_failures s.table) (by_device (cause_by stop_refusal c.take_back.result))) c.start_rollback.ensures)
     (returns-clause-memory g c)
     (returns-clause-damaged g c sound)
 
 pub returns-clause-asks : goal.returns-clause-asks
-returns-clause-asks g c = undo_then g.T.TableState c.args.self.now c.start_rollback.new.self c.take_back.new.self (cause_by stop_refusal c.take_back.result) (undo_none g.T.TableState c.args.self.now c.start_rollback.new.self c.start_rollback.ensures.table c.start_rollback.ensures.log) c.take_back.ensures.asks
+returns-clause-asks g c = undo_then g.T.TableState c.args.self.now c.start_rollback.new.self c.take_back.new.self (cause_by stop_refusal c.take_back.result) (undo_none g.T.TableState c.args.self.now c.start_rollback.new.self (ap (λ (s : OpenFile _). s.table) c.start_rollback.ensures) (ap (λ (s : OpenFile _). s.log) c.start_rollback.ensures)) c.take_back.ensures.asks

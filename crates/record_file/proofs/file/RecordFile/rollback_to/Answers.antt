@@ -23,7 +23,7 @@ returns-in_ok-roll_back-in-Some-Active-clause-rolled g c =
 
 pub returns-in_ok-roll_back-in-Some-Active-clause-step : goal.returns-in_ok-roll_back-in-Some-Active-clause-step
 returns-in_ok-roll_back-in-Some-Active-clause-step g c = λ sound few fewer.
-    (returns-in_ok-roll_back-in-Some-Active-clause-rolled g c, c.in_ok-roll_back-in-Some-Active.ensures.opening sound, c.in_ok-roll_back-in-Some-Active.ensures.ended sound few fewer)
+    (returns-in_ok-roll_back-in-Some-Active-clause-rolled g c, c.in_ok-roll_back-in-Some-Active.ensures.table.opening sound, c.in_ok-roll_back-in-Some-Active.ensures.ended sound few fewer)
 
 pub returns-in_err-roll_back-in-Some-Active-clause-rolled : goal.returns-in_err-roll_back-in-Some-Active-clause-rolled
 returns-in_err-roll_back-in-Some-Active-clause-rolled g c =
@@ -35,7 +35,7 @@ pub returns-in_err-roll_back-in-Some-Active-clause-step : goal.returns-in_err-ro
 returns-in_err-roll_back-in-Some-Active-clause-step g c = λ sound few fewer.
     let p = err_from_is_err_and c.from_residual.result c.from_residual.ensures.1 in (
       returns-in_err-roll_back-in-Some-Active-clause-rolled g c,
-      c.in_err-roll_back-in-Some-Active.ensures.opening sound,
+      c.in_err-roll_back-in-Some-Active.ensures.table.opening sound,
       rw (p.1, p.2) (c.in_err-roll_back-in-Some-Active.ensures.ended sound few fewer),
     )
 

@@ -1,4 +1,4 @@
-use Rattle.std.proofs.Common.{◌≡◌, None, IsTrue}
+use Rattle.std.proofs.Common.{◌≡◌, None}
 use Rattle.rec_types.specs.History.{take_newest}
 use Rattle.tx_log.specs.Transactions.{left_in}
 use Rattle.record_file.specs.Abstract.{tx_of}
@@ -13,7 +13,6 @@ invariant-loop-undone g l = record {
   file : l.self.file ≡ record l.fn.self.file { opening = l.self.file.opening; history = take_newest l.fn.self.file.history l.tx.0 (rolling_place (tx_of l.fn.self.file l.tx.0)) l.undone };
   total : l.total ≡ left_in l.fn.self.file.history l.tx.0 (tx_of l.fn.self.file l.tx.0);
   refusals : g.T.TableState.memory_refusals l.self.table ≡ g.T.TableState.memory_refusals l.fn.self.table;
-  opening : IsTrue (g.T.TableState.sound l.fn.self.table) → l.self.file.opening ≡ l.fn.self.file.opening;
   changes : ChangesTable g.T.TableState l.fn.self None l.self;
   asks : UndoAsks g.T.TableState l.fn.self None l.self;
 }

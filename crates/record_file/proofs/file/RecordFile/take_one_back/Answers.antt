@@ -50,15 +50,6 @@ returns-clause-ok g c =
     undo_becomes _ _ _ c.self.inside.log c.self.invariant c.compensate-lsn.ensures.kept (g.T.TableState.contents c.put_back.new.table) c.compensate-lsn.new.self c.args.tx c.compensate-lsn.ensures.after
     ∙ ap (λ (s : OpenFile _). let f : File = record s.file { opening = (file_of c.compensate-lsn.new.self (g.T.TableState.contents c.put_back.new.table)).opening; history = undo_last c.args.tx.0 s.file.history } in f) c.self.view_is
 
-pub returns-clause-opening : goal.returns-clause-opening
-returns-clause-opening g c = λ sound.
-    let places = goal.at.returns-clause-opening g c in
-    let u = newest g places.After-next_undo in
-    let here = ap (λ (s : OpenFile _). g.T.TableState.sound s.table) c.self.view_is ∙ sound in
-    ap (λ (f : File). f.opening) (undo_file_is _ _ _ c.self.inside.log c.self.invariant c.compensate-lsn.ensures.kept (g.T.TableState.contents c.put_back.new.table) c.compensate-lsn.new.self c.args.tx u.0 c.unwrap-step.result u.2
-    (step_of g places.After-put_back-arg-1 u.0 u.1) (c.in_ok-put_back.ensures.ok here) c.compensate-lsn.ensures.after)
-    ∙ ap (λ (s : OpenFile _). s.file.opening) c.self.view_is
-
 -- taking back never wants room that isn't there
 pub returns-in_err-put_back-clause-damaged : goal.returns-in_err-put_back-clause-damaged
 returns-in_err-put_back-clause-damaged g c = λ sound.
@@ -82,6 +73,8 @@ returns-clause-table g c =
     changes_set g.T.TableState _ _ _ _ _ c.self.view_is c.in_ok-put_back.ensures.answered
     (undo_record _ _ _ c.self.inside.log c.self.invariant c.compensate-lsn.ensures.kept c.compensate-lsn.new.self c.args.tx u.0 u.1 c.compensate-lsn.ensures.after)
     (λ sound. c.in_ok-put_back.ensures.ok sound ∙ ap (undone_by (g.T.TableState.contents c.self.inside.table)) (step_of g places.After-put_back-arg-1 u.0 u.1) ∙ undone_is (g.T.TableState.contents c.self.inside.table) u.0.key (back_of u.0) ∙ sym (back_written (g.T.TableState.contents c.self.inside.table) _ _ c.args.tx u.0.key (back_of u.0) _))
+    (λ here. ap (λ (f : File). f.opening) (undo_file_is _ _ _ c.self.inside.log c.self.invariant c.compensate-lsn.ensures.kept (g.T.TableState.contents c.put_back.new.table) c.compensate-lsn.new.self c.args.tx u.0 c.unwrap-step.result u.2
+    (step_of g places.After-put_back-arg-1 u.0 u.1) (c.in_ok-put_back.ensures.ok here) c.compensate-lsn.ensures.after))
 
 -- what was asked of the table
 
