@@ -21,10 +21,8 @@ use Rattle.btree_insert.proofs.SonsAroundLemmas.{Focus}
 use Rattle.btree_insert.proofs.ElementMapLemmas.{lookup-between, lookup-here}
 use Rattle.btree_insert.proofs.Membership.{in_left, in_right, Apart-right, Apart-across, each_in, in_each}
 use Rattle.btree_insert.proofs.HeadNodeLemmas.{Top, find_here, find_no_more}
-use Rattle.btree_delete.specs.declared.deletion.delete_below.Shrunk.{Shrunk}
-use Rattle.btree_delete.specs.declared.deletion.delete_below.Shrunk.TheVariants.{Whole, Underfull}
 use Rattle.btree_delete.specs.Treatment.{element_at, son_at}
-use Rattle.btree_delete.specs.Shrinking.{MayBeUnderfull, WritesOrHandsUp, Loses, gone, StaysUnvisited, Drops, RemovesBelow, unsettled}
+use Rattle.btree_delete.specs.Shrinking.{MayBeUnderfull, WritesOrHandsUp, Loses, gone, StaysUnvisited, Drops, RemovesBelow, unsettled, Removal, Whole, Underfull}
 use Rattle.btree_delete.specs.Tidy.{is_visited, Untouched, visits}
 use Rattle.btree_delete.specs.Subtrees.{head_page}
 use Rattle.btree_delete.specs.PagesLeft.{pages_freed}
@@ -98,14 +96,14 @@ beside_son old mid lo hi p us upre mine upost vs us_is apart_us loses =
       loses = subst (λ (xs : List ℕ). Loses old mid lo hi xs (p ∷ (upre ++ (vs ++ upost)))) (sym us_is) (loses_around old mid lo hi (p ∷ upre) mine vs upost apart loses);
     }
 
-found_gone : (k p : ℕ) (ws ws2 : List (ℕ × List ℕ)) (e x : Element) (m : Node) (g : Shrunk) (key : List ℕ) (es : List Element) → WritesOrHandsUp k ws ws2 p e m g → e ≡ x → lookup_in key es ≡ Some x.1 → lookup_in key es ≡ Some (gone g).1
+found_gone : (k p : ℕ) (ws ws2 : List (ℕ × List ℕ)) (e x : Element) (m : Node) (g : Removal) (key : List ℕ) (es : List Element) → WritesOrHandsUp k ws ws2 p e m g → e ≡ x → lookup_in key es ≡ Some x.1 → lookup_in key es ≡ Some (gone g).1
 found_gone k p ws ws2 e x m g key es done e_is found = found ∙ ap (λ (y : Element). Some y.1) (sym (settled_gone k p ws ws2 e m g done ∙ e_is))
 
-key_gone : (k p : ℕ) (ws ws2 : List (ℕ × List ℕ)) (e x : Element) (m : Node) (g : Shrunk) (key : List ℕ) → WritesOrHandsUp k ws ws2 p e m g → e ≡ x → x.0 ≡ key → (gone g).0 ≡ key
+key_gone : (k p : ℕ) (ws ws2 : List (ℕ × List ℕ)) (e x : Element) (m : Node) (g : Removal) (key : List ℕ) → WritesOrHandsUp k ws ws2 p e m g → e ≡ x → x.0 ≡ key → (gone g).0 ≡ key
 key_gone k p ws ws2 e x m g key done e_is key_is = ap (λ (y : Element). y.0) (settled_gone k p ws ws2 e m g done ∙ e_is) ∙ key_is
 
 -- out of a leaf
-pub drop_leaf : (k : ℕ) (old : PageMap) (ws ws2 : List (ℕ × List ℕ)) (fs : List ℕ) (least height h p : ℕ) (es : List Element) (us : List ℕ) (b c : Bounds) (n m : Node) (i : ℕ) (e : Element) (g : Shrunk) (visited : List ℕ) → h ≡ 0 → 1 ≤ k → least ≤ k → ws ≡ [] → fs ≡ [] → Apart us → Between b es → Top k old least height h p es us b n
+pub drop_leaf : (k : ℕ) (old : PageMap) (ws ws2 : List (ℕ × List ℕ)) (fs : List ℕ) (least height h p : ℕ) (es : List Element) (us : List ℕ) (b c : Bounds) (n m : Node) (i : ℕ) (e : Element) (g : Removal) (visited : List ℕ) → h ≡ 0 → 1 ≤ k → least ≤ k → ws ≡ [] → fs ≡ [] → Apart us → Between b es → Top k old least height h p es us b n
     → MayBeUnderfull k height c m → Ascends n.elements.items → i < length n.elements.items → e ≡ element_at n i → m.kind ≡ n.kind → m.elements.items ≡ remove n.elements.items i → WritesOrHandsUp k ws ws2 p e m g
     → RemovesBelow (head_page k least h p) (pages_freed old (after old ws2 fs) 0 (length fs)) es us (visits visited visited) (element_at n i).0 (Some g)
 drop_leaf k old ws ws2 fs least height (suc h) p es us b c n m i e g visited is order low no_writes none_freed apart between head may_be_underfull up within e_is kind_is els_is done = absurd (omega arith)
@@ -136,7 +134,7 @@ inner_body k pages h n m sons els es us inner kind_is els_is sons_is fan = (
 )
 
 -- an element in an inner page gives way to the next greater one, and no son is underfull
-pub next_whole : (k : ℕ) (old : PageMap) (ws ws2 : List (ℕ × List ℕ)) (fs : List ℕ) (least height h p : ℕ) (es : List Element) (us : List ℕ) (b c : Bounds) (n m : Node) (i : ℕ) (e nx : Element) (g : Shrunk) (visited visited2 : List ℕ) → 1 ≤ k → least ≤ k → Apart us → Between b es → (head : Top k old least height (suc h) p es us b n)
+pub next_whole : (k : ℕ) (old : PageMap) (ws ws2 : List (ℕ × List ℕ)) (fs : List ℕ) (least height h p : ℕ) (es : List Element) (us : List ℕ) (b c : Bounds) (n m : Node) (i : ℕ) (e nx : Element) (g : Removal) (visited visited2 : List ℕ) → 1 ≤ k → least ≤ k → Apart us → Between b es → (head : Top k old least height (suc h) p es us b n)
     → (at : Next (TreeAt k old k (suc h)) (TreeAt k (after old ws fs) k (suc h)) (λ q. after old ws fs q ≡ old q) n.sons.items n.elements.items es head.below (element_at n i).0 i b (element_at n i))
     → Takes k old (after old ws fs) 0 (length fs) k h (son_at n (suc i)) at.xs at.mine visited visited2 (Whole nx)
     → MayBeUnderfull k height c m → e ≡ element_at n i → m.kind ≡ n.kind → m.elements.items ≡ set n.elements.items i nx → m.sons.items ≡ n.sons.items → Untouched ws fs p → WritesOrHandsUp k ws ws2 p e m g
@@ -182,7 +180,7 @@ next_broken k old ws fs least height h p es us b n m i nx son visited visited2 a
     }
 
 -- a page whose underfull son was treated, where the key was found
-pub drop_treated : (k : ℕ) (old : PageMap) (ws ws3 : List (ℕ × List ℕ)) (fs fs2 : List ℕ) (least height h p s : ℕ) (es : List Element) (us : List ℕ) (b : Bounds) (F son : Node) (e x : Element) (g : Shrunk) (visited2 visited3 key : List ℕ) → 1 ≤ k → least ≤ k
+pub drop_treated : (k : ℕ) (old : PageMap) (ws ws3 : List (ℕ × List ℕ)) (fs fs2 : List ℕ) (least height h p s : ℕ) (es : List Element) (us : List ℕ) (b : Bounds) (F son : Node) (e x : Element) (g : Removal) (visited2 visited3 key : List ℕ) → 1 ≤ k → least ≤ k
     → (broken : Broken k old (after old ws fs) visited2 0 (length fs) h p s son F (set_in key None es) us) → (done : SettledSon k height b old (after old ws fs) (length fs) h p (set_in key None es) visited2 visited3 broken.mids e ws3 fs2 g)
     → kind_of_level height ≡ Inner → e ≡ x → x.0 ≡ key → lookup_in key es ≡ Some x.1
     → Drops (head_page k least (suc h) p) (pages_freed old (after old ws3 fs2) 0 (length fs2)) es us key (Some g)
@@ -264,7 +262,7 @@ pub each_mid : (P : ℕ → Type 0) (us upre mine upost : List ℕ) → us ≡ u
 each_mid P us upre mine upost us_is each = each_in P mine (λ q is. in_each P us q each (subst (IsIn q) (sym us_is) (in_right q upre (mine ++ upost) (in_left q mine upost is))))
 
 -- what was said of the page that was visited just now
-pub removed_top : (k : ℕ) (ps ps2 : List (Option (List ℕ))) (ws : List (ℕ × List ℕ)) (fs : List ℕ) (least h p : ℕ) (es : List Element) (us m m2 visited key key2 : List ℕ) (g : Option Shrunk) → ps2 ≡ ps → m2 ≡ m ++ p ∷ [] → key2 ≡ key → IsIn p us
+pub removed_top : (k : ℕ) (ps ps2 : List (Option (List ℕ))) (ws : List (ℕ × List ℕ)) (fs : List ℕ) (least h p : ℕ) (es : List Element) (us m m2 visited key key2 : List ℕ) (g : Option Removal) → ps2 ≡ ps → m2 ≡ m ++ p ∷ [] → key2 ≡ key → IsIn p us
     → RemovesBelow (head_page k least h p) (pages_freed (at ps2) (after (at ps2) ws fs) 0 (length fs)) es us (visits m2 visited) key2 g → RemovesBelow (head_page k least h p) (pages_freed (at ps) (after (at ps) ws fs) 0 (length fs)) es us (visits m visited) key g
 removed_top k ps ps2 ws fs least h p es us m m2 visited key key2 g ps_is m_is key_is p_in removed =
     let here = subst (λ (x : List (Option (List ℕ))). RemovesBelow (head_page k least h p) (pages_freed (at x) (after (at x) ws fs) 0 (length fs)) es us (visits (m ++ p ∷ []) visited) key g) ps_is

@@ -8,9 +8,8 @@ use Rattle.btree_insert.specs.declared.bounds.Bounds.{Bounds}
 use Rattle.btree_insert.specs.Bounds.{AreWithin, Between, son_bounds}
 use Rattle.btree_insert.specs.PageTrees.{IsIn, Fan, Spells, kind_of_level}
 use Rattle.btree_insert.proofs.Membership.{in_left, in_right}
-use Rattle.btree_delete.specs.declared.deletion.delete_below.Shrunk.{Shrunk}
 use Rattle.btree_delete.specs.Treatment.{son_at, brothers}
-use Rattle.btree_delete.specs.Shrinking.{MayBeUnderfull, WritesOrHandsUp, Loses, TreatsAndSettles, StaysUnvisited, unsettled}
+use Rattle.btree_delete.specs.Shrinking.{MayBeUnderfull, WritesOrHandsUp, Loses, TreatsAndSettles, StaysUnvisited, unsettled, Removal}
 use Rattle.btree_delete.specs.Tidy.{is_visited, Untouched, done_so_far}
 use Rattle.btree_delete.proofs.BrotherLemmas.{right_brother, treated_right, left_brother, treated_left}
 use Rattle.btree_delete.proofs.SonsLemmas.{Kin}
@@ -60,7 +59,7 @@ ask X k old mid visited lo hi h level p s node F es us b i level_is some low s_i
         left j i_is (omega (arith, low, more)) br.n br.spells (br.head.kind ∙ ap kind_of_level level_is) br.head.within br.beside.unvisited
 
 -- the same, and the page was settled
-pub record SettledSon (k height : ℕ) (b : Bounds) (old mid : PageMap) (lo h p : ℕ) (es : List Element) (visited visited2 mids : List ℕ) (e : Element) (ws3 : List (ℕ × List ℕ)) (fs2 : List ℕ) (g : Shrunk) : Type 0 where
+pub record SettledSon (k height : ℕ) (b : Bounds) (old mid : PageMap) (lo h p : ℕ) (es : List Element) (visited visited2 mids : List ℕ) (e : Element) (ws3 : List (ℕ × List ℕ)) (fs2 : List ℕ) (g : Removal) : Type 0 where
   pub G : Node
   pub son : TreatedSon k old mid (after old (unsettled g ws3) fs2) lo (length fs2) h G es visited visited2 mids
   pub may_be_underfull : MayBeUnderfull k height b G
@@ -68,11 +67,11 @@ pub record SettledSon (k height : ℕ) (b : Bounds) (old mid : PageMap) (lo h p 
   pub settles : WritesOrHandsUp k (unsettled g ws3) ws3 p e G g
 
 -- what comes of a father whose underfull son was treated
-abbrev pub Answer : ℕ → ℕ → Bounds → ℕ → Node → ℕ → Node → Node → Element → List (ℕ × List ℕ) → List (ℕ × List ℕ) → List ℕ → List ℕ → List ℕ → List ℕ → Shrunk → ℕ → Type 0
+abbrev pub Answer : ℕ → ℕ → Bounds → ℕ → Node → ℕ → Node → Node → Element → List (ℕ × List ℕ) → List (ℕ × List ℕ) → List ℕ → List ℕ → List ℕ → List ℕ → Removal → ℕ → Type 0
 Answer k height b p F i L R e ws ws3 fs fs2 visited visited2 g t = (visited2 ≡ visited ++ t ∷ []) × TreatsAndSettles (record { order = k; height = height; page = p; bounds = b }) F (brothers i L R) e (done_so_far ws fs) (done_so_far ws3 fs2) g
 
 -- an underfull son treated, and its father settled
-pub treat_son : (k height : ℕ) (old : PageMap) (visited visited2 : List ℕ) (lo h level p s : ℕ) (node F : Node) (e : Element) (g : Shrunk) (ws ws3 : List (ℕ × List ℕ)) (fs fs2 : List ℕ) (es : List Element) (us : List ℕ) (b : Bounds) (i : ℕ) → 1 ≤ k → suc h ≡ level → 0 < length F.elements.items → i ≤ length F.elements.items → s ≡ son_at F i → Between b es
+pub treat_son : (k height : ℕ) (old : PageMap) (visited visited2 : List ℕ) (lo h level p s : ℕ) (node F : Node) (e : Element) (g : Removal) (ws ws3 : List (ℕ × List ℕ)) (fs fs2 : List ℕ) (es : List Element) (us : List ℕ) (b : Bounds) (i : ℕ) → 1 ≤ k → suc h ≡ level → 0 < length F.elements.items → i ≤ length F.elements.items → s ≡ son_at F i → Between b es
     → Untouched ws fs (son_at F i) → ((q : ℕ) → is_visited visited q ≡ false → Untouched ws fs q) → (broken : Broken k old (after old ws fs) visited lo (length fs) h p s node F es us)
     → AskRight k old level visited b F i (λ n. Answer k height b p F i node n e ws ws3 fs fs2 visited visited2 g (son_at F (suc i))) → AskLeft k old level visited b F i (λ j n. Answer k height b p F j n node e ws ws3 fs fs2 visited visited2 g (son_at F j))
     → SettledSon k height b old (after old ws fs) (length fs) h p es visited visited2 broken.mids e ws3 fs2 g

@@ -13,10 +13,9 @@ use Rattle.btree_insert.specs.PageTrees.{IsIn, Fan, Body, TreeAt}
 use Rattle.btree_insert.proofs.DistinctPageLemmas.{irreflexive}
 use Rattle.btree_insert.proofs.ElementMapLemmas.{lookup-here}
 use Rattle.btree_insert.proofs.Membership.{each_in, in_each}
-use Rattle.btree_delete.specs.declared.deletion.delete_below.Shrunk.{Shrunk}
 use Rattle.btree_delete.specs.declared.deletion.subtree.Subtree.{Subtree}
 use Rattle.btree_delete.specs.Treatment.{element_at}
-use Rattle.btree_delete.specs.Shrinking.{MayBeUnderfull, UnderfullGoesUp, MayGoUp, LeavesTree, RemovesBelow, StaysUnvisited, gone, sought}
+use Rattle.btree_delete.specs.Shrinking.{MayBeUnderfull, UnderfullGoesUp, MayGoUp, LeavesTree, RemovesBelow, StaysUnvisited, gone, sought, Removal}
 use Rattle.btree_delete.specs.Subtrees.{behind, left_bounds, head_page}
 use Rattle.btree_delete.specs.Tidy.{is_visited, visits, done_so_far}
 use Rattle.btree_delete.specs.PagesLeft.{pages_freed}
@@ -30,7 +29,7 @@ more_visited visited p us out unvisited =
     each_in (λ u. is_visited (visited ++ p ∷ []) u ≡ false) us (λ u is. unvisited_push visited p u (in_each (λ x. is_visited visited x ≡ false) us u unvisited is) (λ e. out (subst (λ (x : ℕ). IsIn x us) e is)))
 
 -- the first element was taken out below page p, and the rest is left
-pub record Takes (k : ℕ) (old new : PageMap) (lo hi least h p : ℕ) (es : List Element) (us visited visited2 : List ℕ) (g : Shrunk) : Type 0 where
+pub record Takes (k : ℕ) (old new : PageMap) (lo hi least h p : ℕ) (es : List Element) (us visited visited2 : List ℕ) (g : Removal) : Type 0 where
   pub rest : List Element
   pub first : es ≡ gone g ∷ rest
   pub leaves : LeavesTree (head_page k least h p) (pages_freed old new lo hi) us rest g
@@ -42,7 +41,7 @@ record_of None = []
 record_of (Some r) = r
 
 -- where no key was given, the first element went
-pub took_of : (k : ℕ) (old new : PageMap) (lo hi least h p : ℕ) (es : List Element) (us visited visited2 : List ℕ) (g : Shrunk) → 0 < length es → RemovesBelow (head_page k least h p) (pages_freed old new lo hi) es us (visits visited visited2) (sought None es) (Some g) → Takes k old new lo hi least h p es us visited visited2 g
+pub took_of : (k : ℕ) (old new : PageMap) (lo hi least h p : ℕ) (es : List Element) (us visited visited2 : List ℕ) (g : Removal) → 0 < length es → RemovesBelow (head_page k least h p) (pages_freed old new lo hi) es us (visits visited visited2) (sought None es) (Some g) → Takes k old new lo hi least h p es us visited visited2 g
 took_of k old new lo hi least h p [] us visited visited2 g some removed = absurd (omega arith)
 took_of k old new lo hi least h p (x ∷ es) us visited visited2 g some removed =
     let value_is : x.1 ≡ (gone g).1 = ap record_of (sym (lookup-here x.0 [] x es tt refl) ∙ removed.drops.1) in
@@ -139,18 +138,18 @@ pub some_around : (es pre xs post : List Element) → es ≡ pre ++ (xs ++ post)
 some_around es pre xs post es_is some = omega (arith, ap length es_is, length-append pre (xs ++ post), length-append xs post, some)
 
 -- what goes up behind an element
-pub goes_left : (key : Option (List ℕ)) (k height n : ℕ) (b : Bounds) (e : Element) (ws : List (ℕ × List ℕ)) (fs : List ℕ) (g : Shrunk) → UnderfullGoesUp k height b n ws fs g → (key ≡ None → UnderfullGoesUp k height (behind e b) n ws fs g) → UnderfullGoesUp k height (left_bounds key e b) n ws fs g
+pub goes_left : (key : Option (List ℕ)) (k height n : ℕ) (b : Bounds) (e : Element) (ws : List (ℕ × List ℕ)) (fs : List ℕ) (g : Removal) → UnderfullGoesUp k height b n ws fs g → (key ≡ None → UnderfullGoesUp k height (behind e b) n ws fs g) → UnderfullGoesUp k height (left_bounds key e b) n ws fs g
 goes_left (Some given) k height n b e ws fs g goes first = goes
 goes_left None k height n b e ws fs g goes first = first refl
 
 -- the parts of what went up from a son
-pub record WentUp (k height : ℕ) (b : Bounds) (key : Option (List ℕ)) (n : ℕ) (ws : List (ℕ × List ℕ)) (fs : List ℕ) (g : Shrunk) : Type 0 where
+pub record WentUp (k height : ℕ) (b : Bounds) (key : Option (List ℕ)) (n : ℕ) (ws : List (ℕ × List ℕ)) (fs : List ℕ) (g : Removal) : Type 0 where
   pub fits : IsElement (gone g)
   pub within : IsWithin b (gone g).0
   pub goes : UnderfullGoesUp k height (left_bounds key (gone g) b) n ws fs g
 
 -- what a call on the same tree hands up
-pub went_up : (t t2 : Subtree) (key : Option (List ℕ)) (ws : List (ℕ × List ℕ)) (fs : List ℕ) (r : Option Shrunk) (g : Shrunk) → t2 ≡ t → r ≡ Some g → MayGoUp t2 key (done_so_far ws fs) r → WentUp t.order t.height t.bounds key t.page ws fs g
+pub went_up : (t t2 : Subtree) (key : Option (List ℕ)) (ws : List (ℕ × List ℕ)) (fs : List ℕ) (r : Option Removal) (g : Removal) → t2 ≡ t → r ≡ Some g → MayGoUp t2 key (done_so_far ws fs) r → WentUp t.order t.height t.bounds key t.page ws fs g
 went_up t t2 key ws fs r g t_is r_is up =
     let (fits, within, goes) = subst (MayGoUp t key (done_so_far ws fs)) r_is (subst (λ (x : Subtree). MayGoUp x key (done_so_far ws fs) r) t_is up) in
     record { fits = fits; within = within; goes = goes }

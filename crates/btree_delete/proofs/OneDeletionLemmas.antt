@@ -15,9 +15,8 @@ use Rattle.btree_insert.specs.PageTrees.{TreeAt, Apart, kind_of_level}
 use Rattle.btree_insert.proofs.BoundLemmas.{Between-all}
 use Rattle.btree_insert.proofs.HeadNodeLemmas.{Top}
 use Rattle.btree_insert.proofs.SonsAroundLemmas.{Focus}
-use Rattle.btree_delete.specs.declared.deletion.delete_below.Shrunk.TheVariants.{Whole}
 use Rattle.btree_delete.specs.Treatment.{element_at, son_at}
-use Rattle.btree_delete.specs.Shrinking.{MayBeUnderfull, Drops}
+use Rattle.btree_delete.specs.Shrinking.{MayBeUnderfull, Drops, Whole}
 use Rattle.btree_delete.specs.Subtrees.{head_page}
 use Rattle.btree_delete.specs.PagesLeft.{pages_freed}
 use Rattle.btree_delete.proofs.DeletionLemmas.{drop_leaf, drop_whole}

@@ -15,9 +15,8 @@ use Rattle.btree_insert.specs.PageTrees.{IsIn, Fan, Body, TreeAt, RootAt, Holds}
 use Rattle.btree_insert.proofs.ChangedTreeLemmas.{body_move, tree_move}
 use Rattle.btree_insert.proofs.Membership.{each_in}
 use Rattle.btree_insert.proofs.SettledTreeLemmas.{write_here, write_other}
-use Rattle.btree_delete.specs.declared.deletion.delete_below.Shrunk.TheVariants.{Whole, Underfull}
 use Rattle.btree_delete.specs.Deleted.{Deleted}
-use Rattle.btree_delete.specs.Shrinking.{MayBeUnderfull, Loses, LeavesTree, ShrinksRoot}
+use Rattle.btree_delete.specs.Shrinking.{MayBeUnderfull, Loses, LeavesTree, ShrinksRoot, Whole, Underfull}
 use Rattle.btree_delete.specs.Tidy.{is_visited, Untouched, IsTidy}
 use Rattle.btree_delete.specs.Subtrees.{head_page}
 use Rattle.btree_delete.specs.PagesLeft.{pages_freed}

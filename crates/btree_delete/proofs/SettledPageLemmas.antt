@@ -11,10 +11,8 @@ use Rattle.btree_insert.specs.PageTrees.{IsIn, Apart, Body, TreeAt}
 use Rattle.btree_insert.proofs.ChangedTreeLemmas.{body_move}
 use Rattle.btree_insert.proofs.Membership.{in_left, in_right, Apart-right, Apart-across, each_in, in_each}
 use Rattle.btree_insert.proofs.SettledTreeLemmas.{write_here, write_other}
-use Rattle.btree_delete.specs.declared.deletion.delete_below.Shrunk.{Shrunk}
-use Rattle.btree_delete.specs.declared.deletion.delete_below.Shrunk.TheVariants.{Whole, Underfull}
 use Rattle.btree_delete.specs.Treatment.{Treats, brothers}
-use Rattle.btree_delete.specs.Shrinking.{MayBeUnderfull, WritesOrHandsUp, UnderfullGoesUp, Loses, LeavesTree, TreatsAndSettles, gone, StaysUnvisited, unsettled}
+use Rattle.btree_delete.specs.Shrinking.{MayBeUnderfull, WritesOrHandsUp, UnderfullGoesUp, Loses, LeavesTree, TreatsAndSettles, gone, StaysUnvisited, unsettled, Removal, Whole, Underfull}
 use Rattle.btree_delete.specs.Tidy.{is_visited, Untouched, IsTidy, IsVisit, done_so_far}
 use Rattle.btree_delete.specs.Subtrees.{head_page}
 use Rattle.btree_delete.specs.PagesLeft.{pages_freed}
@@ -25,18 +23,18 @@ use Rattle.btree_delete.proofs.UnderflowLemmas.{Treated}
 use Rattle.btree_delete.proofs.EditLemmas.{tidy_write, untouched_write, visited_here, visited_stays, visited_differs}
 
 -- what settling tells of the element that went
-pub settled_gone : (k n : ℕ) (ws ws2 : List (ℕ × List ℕ)) (removed : Element) (node : Node) (g : Shrunk) → WritesOrHandsUp k ws ws2 n removed node g → gone g ≡ removed
+pub settled_gone : (k n : ℕ) (ws ws2 : List (ℕ × List ℕ)) (removed : Element) (node : Node) (g : Removal) → WritesOrHandsUp k ws ws2 n removed node g → gone g ≡ removed
 settled_gone k n ws ws2 removed node (Whole e) done = done.0
 settled_gone k n ws ws2 removed node (Underfull e underfull) done = done.0
 
 -- what a settled page hands up
-pub settled_up : (k height n : ℕ) (b : Bounds) (ws ws2 : List (ℕ × List ℕ)) (fs : List ℕ) (removed : Element) (node : Node) (g : Shrunk) → MayBeUnderfull k height b node → Untouched ws fs n → WritesOrHandsUp k ws ws2 n removed node g → UnderfullGoesUp k height b n ws2 fs g
+pub settled_up : (k height n : ℕ) (b : Bounds) (ws ws2 : List (ℕ × List ℕ)) (fs : List ℕ) (removed : Element) (node : Node) (g : Removal) → MayBeUnderfull k height b node → Untouched ws fs n → WritesOrHandsUp k ws ws2 n removed node g → UnderfullGoesUp k height b n ws2 fs g
 settled_up k height n b ws ws2 fs removed node (Whole e) may_be_underfull untouched done = tt
 settled_up k height n b ws ws2 fs removed node (Underfull e underfull) may_be_underfull untouched (e_is, few, same, ws_is) =
     rw (same, ws_is) (may_be_underfull, few, untouched)
 
 -- settling a visited page leaves the edit tidy
-pub settled_tidy : (pages : List (Option (List ℕ))) (visited : List ℕ) (k n : ℕ) (ws ws2 : List (ℕ × List ℕ)) (fs : List ℕ) (removed : Element) (node : Node) (g : Shrunk) → IsSome (at pages n) → is_visited visited n ≡ true → Untouched ws fs n
+pub settled_tidy : (pages : List (Option (List ℕ))) (visited : List ℕ) (k n : ℕ) (ws ws2 : List (ℕ × List ℕ)) (fs : List ℕ) (removed : Element) (node : Node) (g : Removal) → IsSome (at pages n) → is_visited visited n ≡ true → Untouched ws fs n
     → WritesOrHandsUp k ws ws2 n removed node g → IsTidy pages visited ws fs → IsTidy pages visited ws2 fs
 settled_tidy pages visited k n ws ws2 fs removed node (Whole e) used visited_is untouched (e_is, many, ws_is) tidy =
     subst (λ (vs : List (ℕ × List ℕ)). IsTidy pages visited vs fs) (sym ws_is) (tidy_write pages visited ws fs n (spelling node k) used visited_is untouched.kept tidy)
@@ -44,7 +42,7 @@ settled_tidy pages visited k n ws ws2 fs removed node (Underfull e underfull) us
     subst (λ (vs : List (ℕ × List ℕ)). IsTidy pages visited vs fs) (sym ws_is) tidy
 
 -- and other pages untouched
-pub settled_others : (q k n : ℕ) (ws ws2 : List (ℕ × List ℕ)) (fs : List ℕ) (removed : Element) (node : Node) (g : Shrunk) → (q ≡ n → ⊥) → WritesOrHandsUp k ws ws2 n removed node g → Untouched ws fs q → Untouched ws2 fs q
+pub settled_others : (q k n : ℕ) (ws ws2 : List (ℕ × List ℕ)) (fs : List ℕ) (removed : Element) (node : Node) (g : Removal) → (q ≡ n → ⊥) → WritesOrHandsUp k ws ws2 n removed node g → Untouched ws fs q → Untouched ws2 fs q
 settled_others q k n ws ws2 fs removed node (Whole e) other (e_is, many, ws_is) is =
     subst (λ (vs : List (ℕ × List ℕ)). Untouched vs fs q) (sym ws_is) (untouched_write ws fs n (spelling node k) q is other)
 settled_others q k n ws ws2 fs removed node (Underfull e underfull) other (e_is, few, same, ws_is) is =
@@ -55,7 +53,7 @@ pub may_be_underfull_stands : (k height : ℕ) (b : Bounds) (n : Node) → MayBe
 may_be_underfull_stands k height b n may_be_underfull some = record { some = some; most = may_be_underfull.most; fit = may_be_underfull.fit; ascends = may_be_underfull.ascends; sons = may_be_underfull.sons }
 
 -- what is left below a page that was settled
-pub settled_leaves : (k : ℕ) (old : PageMap) (least height h p lo hi : ℕ) (b : Bounds) (ws ws2 : List (ℕ × List ℕ)) (fs us below : List ℕ) (es : List Element) (removed : Element) (node : Node) (g : Shrunk) → 1 ≤ k → least ≤ k → MayBeUnderfull k height b node → Untouched ws fs p
+pub settled_leaves : (k : ℕ) (old : PageMap) (least height h p lo hi : ℕ) (b : Bounds) (ws ws2 : List (ℕ × List ℕ)) (fs us below : List ℕ) (es : List Element) (removed : Element) (node : Node) (g : Removal) → 1 ≤ k → least ≤ k → MayBeUnderfull k height b node → Untouched ws fs p
     → Body (TreeAt k (after old ws fs) k h) h node es below → Loses old (after old ws fs) lo hi us (p ∷ below) → WritesOrHandsUp k ws ws2 p removed node g → LeavesTree (head_page k least h p) (pages_freed old (after old ws2 fs) lo hi) us es g
 settled_leaves k old least height h p lo hi b ws ws2 fs us below es removed node (Whole e) order low may_be_underfull untouched body loses (e_is, many, ws_is) =
     let mid = after old ws fs in
@@ -104,7 +102,7 @@ around_son old mid visited visited2 lo hi p s us upre mine upost vs us_is apart_
     }
 
 -- what is left below a page whose underfull son was treated
-pub treated_leaves : (k : ℕ) (old : PageMap) (least height h p lo : ℕ) (b : Bounds) (ws ws2 ws3 : List (ℕ × List ℕ)) (fs fs2 us mids : List ℕ) (es : List Element) (removed : Element) (G : Node) (g : Shrunk) → 1 ≤ k → least ≤ k → MayBeUnderfull k height b G → G.kind ≡ Inner → Untouched ws2 fs2 p
+pub treated_leaves : (k : ℕ) (old : PageMap) (least height h p lo : ℕ) (b : Bounds) (ws ws2 ws3 : List (ℕ × List ℕ)) (fs fs2 us mids : List ℕ) (es : List Element) (removed : Element) (G : Node) (g : Removal) → 1 ≤ k → least ≤ k → MayBeUnderfull k height b G → G.kind ≡ Inner → Untouched ws2 fs2 p
     → Loses old (after old ws fs) lo (length fs) us (p ∷ mids) → Treated k (after old ws fs) (after old ws2 fs2) (length fs) (length fs2) h G es mids → WritesOrHandsUp k ws2 ws3 p removed G g
     → LeavesTree (head_page k least (suc h) p) (pages_freed old (after old ws3 fs2) lo (length fs2)) us es g
 treated_leaves k old least height h p lo b ws ws2 ws3 fs fs2 us mids es removed G g order low may_be_underfull inner untouched loses treated done =
@@ -169,12 +167,12 @@ last_off ws w =
     let size : length (ws ++ w ∷ []) - 1 ≡ length ws = omega (arith, length-append ws (w ∷ [])) in
     ap (λ (n : ℕ). take n (ws ++ w ∷ [])) size ∙ take-append_seam ws (w ∷ [])
 
-unsettled_is : (k n : ℕ) (ws ws2 : List (ℕ × List ℕ)) (removed : Element) (node : Node) (g : Shrunk) → WritesOrHandsUp k ws ws2 n removed node g → unsettled g ws2 ≡ ws
+unsettled_is : (k n : ℕ) (ws ws2 : List (ℕ × List ℕ)) (removed : Element) (node : Node) (g : Removal) → WritesOrHandsUp k ws ws2 n removed node g → unsettled g ws2 ≡ ws
 unsettled_is k n ws ws2 removed node (Whole e) (e_is, many, ws_is) = ap (λ (vs : List (ℕ × List ℕ)). take (length vs - 1) vs) ws_is ∙ last_off ws (n, spelling node k)
 unsettled_is k n ws ws2 removed node (Underfull e underfull) (e_is, few, same, ws_is) = ws_is
 
 -- a father that was treated, and settled then
-pub treated_settled : (k height n i : ℕ) (b : Bounds) (F G L R : Node) (e : Element) (ws ws2 ws3 : List (ℕ × List ℕ)) (fs fs2 fs3 : List ℕ) (g : Shrunk) → MayBeUnderfull k height b G → Untouched ws2 fs2 n → WritesOrHandsUp k ws2 ws3 n e G g → fs3 ≡ fs2 → Treats k F G (brothers i L R) (done_so_far ws fs) (done_so_far ws2 fs2)
+pub treated_settled : (k height n i : ℕ) (b : Bounds) (F G L R : Node) (e : Element) (ws ws2 ws3 : List (ℕ × List ℕ)) (fs fs2 fs3 : List ℕ) (g : Removal) → MayBeUnderfull k height b G → Untouched ws2 fs2 n → WritesOrHandsUp k ws2 ws3 n e G g → fs3 ≡ fs2 → Treats k F G (brothers i L R) (done_so_far ws fs) (done_so_far ws2 fs2)
     → TreatsAndSettles (record { order = k; height = height; page = n; bounds = b }) F (brothers i L R) e (done_so_far ws fs) (done_so_far ws3 fs3) g
 treated_settled k height n i b F G L R e ws ws2 ws3 fs fs2 fs3 g may_be_underfull kept done freed treats =
     let ws_is : ws2 ≡ unsettled g ws3 = sym (unsettled_is k n ws2 ws3 e G g done) in

@@ -13,9 +13,8 @@ use Rattle.btree_insert.specs.PageTrees.{IsIn, Apart, TreeAt, Body, Spells}
 use Rattle.btree_insert.proofs.SonsAroundLemmas.{Stands, Focus, focus}
 use Rattle.btree_insert.proofs.HeadNodeLemmas.{Top}
 use Rattle.btree_insert.proofs.VisitedLemmas.{unvisited_below, apart_below}
-use Rattle.btree_delete.specs.declared.deletion.delete_below.Shrunk.{Shrunk}
 use Rattle.btree_delete.specs.declared.deletion.subtree.Subtree.{Subtree}
-use Rattle.btree_delete.specs.Shrinking.{MayBeUnderfull, RemovesBelow, StaysUnvisited, sought}
+use Rattle.btree_delete.specs.Shrinking.{MayBeUnderfull, RemovesBelow, StaysUnvisited, sought, Removal}
 use Rattle.btree_delete.specs.Tidy.{is_visited, visits}
 use Rattle.btree_delete.specs.Treatment.{element_at, son_at}
 use Rattle.btree_delete.specs.Subtrees.{head_page, son_tree, left_bounds}
@@ -41,7 +40,7 @@ known_there ps ps2 t t2 g xs mine m m2 ps_is t_is m_is height_is known =
     (subst (λ (x : ℕ). Known t.order ps x t.page xs mine m t.bounds) (sym height_is) known)))
 
 -- what the call took out, in the words of the caller
-pub removed_here : (ps ps2 : List (Option (List ℕ))) (ws : List (ℕ × List ℕ)) (fs : List ℕ) (t t2 : Subtree) (g : ℕ) (xs : List Element) (mine m m2 visited key key2 : List ℕ) (r r2 : Option Shrunk) → ps2 ≡ ps → t2 ≡ t → m2 ≡ m → t.height ≡ suc g → key2 ≡ key → r ≡ r2
+pub removed_here : (ps ps2 : List (Option (List ℕ))) (ws : List (ℕ × List ℕ)) (fs : List ℕ) (t t2 : Subtree) (g : ℕ) (xs : List Element) (mine m m2 visited key key2 : List ℕ) (r r2 : Option Removal) → ps2 ≡ ps → t2 ≡ t → m2 ≡ m → t.height ≡ suc g → key2 ≡ key → r ≡ r2
     → RemovesBelow (head_page t2.order t2.order (t2.height - 1) t2.page) (pages_freed (at ps2) (after (at ps2) ws fs) 0 (length fs)) xs mine (visits m2 visited) key2 r → RemovesBelow (head_page t.order t.order g t.page) (pages_freed (at ps) (after (at ps) ws fs) 0 (length fs)) xs mine (visits m visited) key r2
 removed_here ps ps2 ws fs t t2 g xs mine m m2 visited key key2 r r2 ps_is t_is m_is height_is key_is r_is removed =
     let low_is : t.height - 1 ≡ g = omega (arith, height_is) in
@@ -49,7 +48,7 @@ removed_here ps ps2 ws fs t t2 g xs mine m m2 visited key key2 r r2 ps_is t_is m
     (subst (λ (x : List ℕ). RemovesBelow (head_page t.order t.order g t.page) (pages_freed (at ps2) (after (at ps2) ws fs) 0 (length fs)) xs mine (visits x visited) key r2) m_is
     (subst (λ (x : ℕ). RemovesBelow (head_page t.order t.order x t.page) (pages_freed (at ps2) (after (at ps2) ws fs) 0 (length fs)) xs mine (visits m2 visited) key r2) low_is
     (subst (λ (x : List ℕ). RemovesBelow (head_page t.order t.order (t.height - 1) t.page) (pages_freed (at ps2) (after (at ps2) ws fs) 0 (length fs)) xs mine (visits m2 visited) x r2) key_is
-    (subst (λ (x : Option Shrunk). RemovesBelow (head_page t.order t.order (t.height - 1) t.page) (pages_freed (at ps2) (after (at ps2) ws fs) 0 (length fs)) xs mine (visits m2 visited) key2 x) r_is
+    (subst (λ (x : Option Removal). RemovesBelow (head_page t.order t.order (t.height - 1) t.page) (pages_freed (at ps2) (after (at ps2) ws fs) 0 (length fs)) xs mine (visits m2 visited) key2 x) r_is
     (subst (λ (x : Subtree). RemovesBelow (head_page x.order x.order (x.height - 1) x.page) (pages_freed (at ps2) (after (at ps2) ws fs) 0 (length fs)) xs mine (visits m2 visited) key2 r) t_is removed)))))
 
 -- what a deletion answers below the head of a tree
@@ -79,7 +78,7 @@ answered t t2 pages pages2 visited visited2 h xs mine X called removing =
     removing called.steady t2.order xs mine (omega arith) there.tree there.between there.apart there.unvisited
 
 -- what the call took out
-pub called_removed : (t t2 : Subtree) (pages pages2 : PagesView) (visited visited2 visited3 : List ℕ) (h : ℕ) (xs : List Element) (mine : List ℕ) (ws : List (ℕ × List ℕ)) (fs : List ℕ) (key : Option (List ℕ)) (sought_key : List ℕ) (r r2 : Option Shrunk)
+pub called_removed : (t t2 : Subtree) (pages pages2 : PagesView) (visited visited2 visited3 : List ℕ) (h : ℕ) (xs : List Element) (mine : List ℕ) (ws : List (ℕ × List ℕ)) (fs : List ℕ) (key : Option (List ℕ)) (sought_key : List ℕ) (r r2 : Option Removal)
     → Called t t2 pages pages2 visited visited2 h xs mine → sought key xs ≡ sought_key → r ≡ r2
     → Removing t2 pages2 visited2 (λ least es us. RemovesBelow (head_page t2.order least (t2.height - 1) t2.page) (pages_freed (at pages2.pages) (after (at pages2.pages) ws fs) 0 (length fs)) es us (visits visited2 visited3) (sought key es) r)
     → RemovesBelow (head_page t.order t.order h t.page) (pages_freed (at pages.pages) (after (at pages.pages) ws fs) 0 (length fs)) xs mine (visits visited visited3) sought_key r2

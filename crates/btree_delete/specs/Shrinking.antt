@@ -13,7 +13,7 @@ use Rattle.btree_insert.specs.Growth.{IsWithin}
 use Rattle.btree_insert.specs.PageTrees.{IsIn, Body, TreeAt, kind_of_level}
 use Rattle.btree_delete.specs.declared.deletion.subtree.Subtree.{Subtree}
 use Rattle.btree_delete.specs.declared.deletion.delete_below.Shrunk.{Shrunk}
-use Rattle.btree_delete.specs.declared.deletion.delete_below.Shrunk.TheVariants.{Whole, Underfull}
+use Rattle.btree_delete.specs.declared.deletion.delete_below.Shrunk.TheVariants as shrunk
 use Rattle.btree_delete.specs.PagesLeft.{PagesLeft, PagesFreed}
 use Rattle.btree_delete.specs.Treatment.{son_at, Brothers, Treats}
 use Rattle.btree_delete.specs.Subtrees.{HeadPage, left_bounds}
@@ -88,15 +88,29 @@ pub record VisitsBelow (pages : List (Option (List ℕ))) (visited : Visits) (do
   pub tidy : IsTidy pages visited.now done.writes done.freed
   pub visit : IsVisit visited.before visited.now done.writes done.freed t.height t.page
 
+-- what the removal of an element below a page came to: the element, and the page's node where it is underfull
+pub data Removal : Type 0 where
+  Whole : Element → Removal
+  Underfull : Element → Node → Removal
+
+-- the same of what a call answered and of the node that it left
+abbrev pub removal : Node → Shrunk → Removal
+removal node (shrunk.Whole e) = Whole e
+removal node (shrunk.Underfull e) = Underfull e node
+
+abbrev pub removal_if : Node → Option Shrunk → Option Removal
+removal_if node None = None
+removal_if node (Some g) = Some (removal node g)
+
 -- the node was written as page n, or it is underfull
-abbrev pub WritesOrHandsUp : ℕ → List (ℕ × List ℕ) → List (ℕ × List ℕ) → ℕ → Element → Node → Shrunk → Type 0
+abbrev pub WritesOrHandsUp : ℕ → List (ℕ × List ℕ) → List (ℕ × List ℕ) → ℕ → Element → Node → Removal → Type 0
 WritesOrHandsUp k writes writes' n removed node (Whole e) =
     (e ≡ removed) × (k ≤ length node.elements.items) × (writes' ≡ writes ++ (n, spelling node k) ∷ [])
 WritesOrHandsUp k writes writes' n removed node (Underfull e underfull) =
     (e ≡ removed) × (length node.elements.items < k) × (underfull ≡ node) × (writes' ≡ writes)
 
 -- an underfull node goes up, its page is not touched
-abbrev pub UnderfullGoesUp : ℕ → ℕ → Bounds → ℕ → List (ℕ × List ℕ) → List ℕ → Shrunk → Type 0
+abbrev pub UnderfullGoesUp : ℕ → ℕ → Bounds → ℕ → List (ℕ × List ℕ) → List ℕ → Removal → Type 0
 UnderfullGoesUp k height bounds n writes freed (Whole e) = Unit {0}
 UnderfullGoesUp k height bounds n writes freed (Underfull e node) =
     MayBeUnderfull k height bounds node × (length node.elements.items < k) × Untouched writes freed n
@@ -107,7 +121,7 @@ pub record Loses (old new : PageMap) (lo hi : ℕ) (us vs : List ℕ) : Type 0 w
   pub count : length vs + hi ≡ length us + lo
 
 -- the elements es are left below the page, or below its underfull node, whose page is as it was; before, the pages were us
-abbrev pub LeavesTree : HeadPage → PagesFreed → List ℕ → List Element → Shrunk → Type 0
+abbrev pub LeavesTree : HeadPage → PagesFreed → List ℕ → List Element → Removal → Type 0
 LeavesTree head change us es (Whole e) =
     (vs : List ℕ) × TreeAt head.order change.new head.least (suc head.levels) head.page es vs × Loses change.old change.new change.lo change.hi us vs
 LeavesTree head change us es (Underfull e node) =
@@ -115,12 +129,12 @@ LeavesTree head change us es (Underfull e node) =
     × (change.new head.page ≡ change.old head.page) × Loses change.old change.new change.lo change.hi us (head.page ∷ below)
 
 -- the element that went
-abbrev pub gone : Shrunk → Element
+abbrev pub gone : Removal → Element
 gone (Whole e) = e
 gone (Underfull e node) = e
 
 -- the record that stood at the key, if one went
-abbrev pub record_gone : Option Shrunk → Option (List ℕ)
+abbrev pub record_gone : Option Removal → Option (List ℕ)
 record_gone None = None
 record_gone (Some g) = Some (gone g).1
 
@@ -134,30 +148,30 @@ sought None es = (slice_index_or es 0 ([], [])).0
 sought (Some key) es = key
 
 -- of the elements es and the pages us below the page, the key was taken out, or was not there
-abbrev pub Drops : HeadPage → PagesFreed → List Element → List ℕ → List ℕ → Option Shrunk → Type 0
+abbrev pub Drops : HeadPage → PagesFreed → List Element → List ℕ → List ℕ → Option Removal → Type 0
 Drops head change es us key None = lookup_in key es ≡ None
 Drops head change es us key (Some g) =
     ((gone g).0 ≡ key) × (lookup_in key es ≡ Some (gone g).1) × LeavesTree head change us (set_in key None es) g
 
 -- the same, and only pages below the page were visited
-pub record RemovesBelow (head : HeadPage) (change : PagesFreed) (es : List Element) (us : List ℕ) (visited : Visits) (key : List ℕ) (g : Option Shrunk) : Type 0 where
+pub record RemovesBelow (head : HeadPage) (change : PagesFreed) (es : List Element) (us : List ℕ) (visited : Visits) (key : List ℕ) (g : Option Removal) : Type 0 where
   pub drops : Drops head change es us key g
   pub unvisited : StaysUnvisited visited.before visited.now us
 
 -- what goes up from a deletion: the element that went, and an underfull node of what is left; only a given key may be absent
-abbrev pub MayGoUp : Subtree → Option (List ℕ) → DoneSoFar → Option Shrunk → Type 0
+abbrev pub MayGoUp : Subtree → Option (List ℕ) → DoneSoFar → Option Removal → Type 0
 MayGoUp tree key done None = IsSome key
 MayGoUp tree key done (Some g) =
     IsElement (gone g) × IsWithin tree.bounds (gone g).0
     × UnderfullGoesUp tree.order tree.height (left_bounds key (gone g) tree.bounds) tree.page done.writes done.freed g
 
 -- what was written before a page was settled
-abbrev pub unsettled : Shrunk → List (ℕ × List ℕ) → List (ℕ × List ℕ)
+abbrev pub unsettled : Removal → List (ℕ × List ℕ) → List (ℕ × List ℕ)
 unsettled (Whole e) writes = take (length writes - 1) writes
 unsettled (Underfull e node) writes = writes
 
 -- a father at the head of a tree was treated with a brother of its underfull son, and was written or is underfull
-pub record TreatsAndSettles (tree : Subtree) (father : Node) (pair : Brothers) (removed : Element) (old new : DoneSoFar) (g : Shrunk) : Type 0 where
+pub record TreatsAndSettles (tree : Subtree) (father : Node) (pair : Brothers) (removed : Element) (old new : DoneSoFar) (g : Removal) : Type 0 where
   pub treated : Node
   pub treats : Treats tree.order father treated pair old (done_so_far (unsettled g new.writes) new.freed)
   pub may_be_underfull : MayBeUnderfull tree.order tree.height tree.bounds treated

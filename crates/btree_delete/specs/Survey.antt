@@ -10,7 +10,7 @@ use Rattle.btree_insert.specs.declared.tree.Tree.{Tree}
 use Rattle.btree_insert.specs.Bounds.{AreWithin, Between}
 use Rattle.btree_insert.specs.PageTrees.{IsIn, Apart, Fan, SpellsIn, Spells, TreeIn, RootIn, HoldsIn}
 use Rattle.btree_insert.specs.Spelt.{AreSpeltIn}
-use Rattle.btree_node.specs.Layout.{first_version}
+use Rattle.btree_node.specs.Layout.{first_version, IsOrder}
 use Rattle.btree_node.specs.Spelling.{CanStandIn}
 use Rattle.btree_node.specs.declared.layout.Layout.{Layout}
 use Rattle.btree_node.specs.declared.node.Node.{Node}
@@ -134,6 +134,10 @@ pub record AreFresh (v : PagesView) : Type 0 where
   pub whole : length v.pages ≡ length v.stored
   pub same : (n : ℕ) → at v.pages n ≡ stored_page v n
   pub none : (n : ℕ) → is_in_memory v n ≡ false
+
+-- the trees in pages that are the store's can be surveyed, of an order that a tree can have
+abbrev pub CanSurvey : ℕ → PagesView → Type 0
+CanSurvey order pages = IsOrder order × AreFresh pages
 
 -- the store's page spells a node, and its newest bytes spell that node as it is written
 pub record IsRespelt (layout : Layout) (k : ℕ) (v : PagesView) (q : ℕ) : Type 0 where

@@ -10,7 +10,7 @@ ghost use Rattle.btree_insert.specs.Contents.{lookup_in, set_in};
 ghost use Rattle.page_store.specs.CanStage.{CanStage};
 ghost use Rattle.btree_delete.specs.Deleted.{Deleted, MayStop, IsNoLarger};
 ghost use Rattle.btree_delete.specs.Treatment.{son_at};
-ghost use Rattle.btree_delete.specs.Shrinking.{MayBeUnderfull, UnderfullGoesUp, LeavesTree, ShrinksRoot, gone};
+ghost use Rattle.btree_delete.specs.Shrinking.{MayBeUnderfull, UnderfullGoesUp, LeavesTree, ShrinksRoot, gone, removal};
 ghost use Rattle.btree_insert.specs.declared.bounds.Bounds.{Bounds};
 ghost use Rattle.btree_delete.specs.Tidy.{is_visited, IsTidy};
 ghost use Rattle.btree_delete.specs.Subtrees.{head_page};
@@ -84,23 +84,25 @@ fn shrink_root(edit: &mut PageEdit, tree: &Tree, node: &Node) -> Result<Tree, Me
     Ok(*tree)
 }
 
-/// The tree and what stood at the key, after an element was taken out below the root. Faults: Memory;
-/// Damaged with the root where the tree says that it has no key, or fewer pages than are freed.
+/// The tree and what stood at the key, after an element was taken out below the root, whose node is given where it is
+/// underfull. Faults: Memory; Damaged with the root where the tree says that it has no key, or fewer pages than are
+/// freed.
 fn shrink_tree(
     edit: &mut PageEdit,
     tree: &Tree,
     shrunk: Shrunk,
+    node: &Node,
 ) -> Result<(Tree, Option<Record>), TreeFault>
     requires order { IsOrder tree.now.order }
     requires height { 0 < tree.now.height }
     requires up { UnderfullGoesUp tree.now.order tree.now.height
         (record { low = None; high = None }) tree.now.root
-        edit.old.writes.items edit.old.freed.items shrunk }
+        edit.old.writes.items edit.old.freed.items (removal node.now shrunk) }
     requires none_taken { edit.old.taken ≡ 0 }
     ensures deleted { (pages : PageMap) (es : List Element) (us key : List ℕ)
-        → Holds pages tree.now es us → lookup_in key es ≡ Some (gone shrunk).1
+        → Holds pages tree.now es us → lookup_in key es ≡ Some (gone (removal node.now shrunk)).1
         → LeavesTree (head_page tree.now.order 1 (tree.now.height - 1) tree.now.root)
-        (with_edit pages edit.old) us (set_in key None es) shrunk
+        (with_edit pages edit.old) us (set_in key None es) (removal node.now shrunk)
         → MatchResult result
         (λ r. Deleted pages (after pages edit.new.writes.items edit.new.freed.items)
         tree.now es us key r)
@@ -110,7 +112,7 @@ fn shrink_tree(
         → IsTidy pages visited edit.old.writes.items edit.old.freed.items
         → OnOk result (CanStage pages edit.new.writes.items edit.new.taken edit.new.freed.items) }
     ensures edit { TakesNone tree.now.order edit.old result edit.new }
-    ensures answer { IfOk result (λ r. r.1 ≡ Some (gone shrunk).1) }
+    ensures answer { IfOk result (λ r. r.1 ≡ Some (gone (removal node.now shrunk)).1) }
     ensures smaller { IfOk result (λ r. IsNoLarger tree.now r.0) }
     ensures no_device { is_device result ≡ false }
 {
@@ -119,8 +121,8 @@ fn shrink_tree(
             let next = fewer(tree, tree.root, edit.freed.len())?;
             Ok((next, Some(removed.1)))
         }
-        Shrunk::Underfull(removed, node) => {
-            let shrunk = shrink_root(edit, tree, &node)?;
+        Shrunk::Underfull(removed) => {
+            let shrunk = shrink_root(edit, tree, node)?;
             let next = fewer(&shrunk, tree.root, edit.freed.len())?;
             Ok((next, Some(removed.1)))
         }
@@ -175,11 +177,19 @@ pub fn delete<S: Store>(
         },
     };
     let mut visited = ArrayVec::new();
-    let shrunk = delete_below(pages, &mut edit, &mut visited, &whole, &Some(*key))?;
+    let mut node = Node::blank();
+    let shrunk = delete_below(
+        pages,
+        &mut edit,
+        &mut visited,
+        &whole,
+        &Some(*key),
+        &mut node,
+    )?;
     let Some(shrunk) = shrunk else {
         return Ok((*tree, None));
     };
-    let shrunk = shrink_tree(&mut edit, tree, shrunk)?;
+    let shrunk = shrink_tree(&mut edit, tree, shrunk, &node)?;
     pages.stage(edit)?;
     Ok(shrunk)
 }

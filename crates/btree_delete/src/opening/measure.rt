@@ -4,13 +4,13 @@ ghost use Rattle.std.specs.Ordering.{nat_cmp};
 ghost use Rattle.page_store.specs.FreeNumbers.{greatest_page_count};
 ghost use Rattle.page_store.specs.PageMap.{at};
 ghost use Rattle.btree_node.specs.Lists.{Element};
-ghost use Rattle.btree_node.specs.Layout.{layout_of, IsOrder};
+ghost use Rattle.btree_node.specs.Layout.{layout_of};
 ghost use Rattle.btree_insert.specs.Sizes.{greatest_height, greatest_size};
 ghost use Rattle.btree_insert.specs.Faults.{is_device};
 ghost use Rattle.btree_insert.specs.Growth.{IsOutside};
 ghost use Rattle.btree_insert.specs.PageTrees.{HoldsIn};
 ghost use Rattle.btree_insert.specs.declared.tree.Tree.{Tree as TreeOf};
-ghost use Rattle.btree_delete.specs.Survey.{AreFresh, AreKept, height_of, seen_of, IsRooted, WentThrough, Measured, LeavesFile, Surveys};
+ghost use Rattle.btree_delete.specs.Survey.{CanSurvey, AreKept, height_of, seen_of, IsRooted, WentThrough, Measured, LeavesFile, Surveys};
 
 use crate::opening::free_numbers::free_numbers;
 use crate::opening::survey::{Above, Survey, survey_page};
@@ -29,8 +29,7 @@ pub(crate) fn measure_tree<S: Store>(
     order: u16,
     root: u32,
 ) -> Result<(Tree, BTreeSet<u32>), TreeFault>
-    requires order { IsOrder order }
-    requires fresh { AreFresh pages.old }
+    requires { CanSurvey order pages.old }
     ensures found { IsTrue pages.old.steady → IfOk result
         (λ r. Measured (layout_of version) order pages.old.pages root r.0
         (contains nat_cmp r.1) pages.old.reads pages.new.reads) }
@@ -75,8 +74,7 @@ fn survey_root<S: Store>(
     order: u16,
     root: u32,
 ) -> Result<Survey, TreeFault>
-    requires order { IsOrder order }
-    requires fresh { AreFresh pages.old }
+    requires { CanSurvey order pages.old }
     ensures found { IsTrue pages.old.steady → IfOk result (λ new. WentThrough (layout_of version) order
         (at pages.old.pages) (length pages.old.pages) root new pages.old.reads pages.new.reads) }
     ensures exact { IsTrue pages.old.steady → (height : ℕ) (es : List Element) (us : List ℕ)

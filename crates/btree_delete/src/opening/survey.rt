@@ -7,12 +7,12 @@ ghost use Rattle.btree_node.specs.Spelling.{CanStandIn, spelling_in};
 ghost use Rattle.btree_node.specs.declared.node.Node.{Node};
 ghost use Rattle.btree_node.specs.Layout.{first_version, layout_of, most_keys, IsSmallOrder};
 ghost use Rattle.btree_insert.specs.Bounds.{AreWithin, Between};
-ghost use Rattle.btree_insert.specs.Faults.{is_device, AsksNoMemory};
+ghost use Rattle.btree_insert.specs.Faults.{is_device};
 ghost use Rattle.btree_insert.specs.PageTrees.{SpellsIn, Spells};
 ghost use Rattle.btree_insert.specs.Growth.{IsOutside};
 ghost use Rattle.btree_insert.specs.Spelt.{AreSpeltIn};
 ghost use Rattle.btree_delete.specs.Survey.{SeenSoFar, unreached, AreKept, stored_page, after, below_page, below_sons, Sound, Surveyed, allowed, StandsWithin, Surveys};
-ghost use Rattle.btree_insert.specs.Edits.{Reads};
+ghost use Rattle.btree_insert.specs.Edits.{ReadsOnce};
 
 use btree_insert::{Bounds, TreeFault, are_within};
 use btree_node::{FIRST_VERSION, Node, NodeKind, decode_version, encode};
@@ -158,9 +158,7 @@ fn read_page<S: Store>(
     ensures spells { IsTrue pages.old.steady
         → OnOk result (SpellsIn (layout_of version) order (at pages.old.pages) n node.new) }
     ensures in_use { OnOk result (IsSome (at pages.old.pages n)) }
-    ensures no_memory { AsksNoMemory result }
-    ensures reading { Reads 1 pages.old result pages.new }
-    ensures one_read { OnOk result (pages.new.reads ≡ counted pages.old.reads true) }
+    ensures reading { ReadsOnce pages.old result pages.new }
 {
     let mut page = [0; PAGE_WIDTH];
     match pages.fetch(n, &mut page) {

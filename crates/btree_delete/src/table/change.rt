@@ -5,10 +5,10 @@ ghost use Rattle.page_store.specs.PageMap.{at};
 ghost use Rattle.page_store.specs.PagesView.{OnlyReads};
 ghost use Rattle.btree_node.specs.Lists.{Element};
 ghost use Rattle.btree_node.specs.Layout.{IsOrder};
-ghost use Rattle.btree_insert.specs.Sizes.{IsTree, greatest_height};
+ghost use Rattle.btree_insert.specs.Sizes.{greatest_height};
 ghost use Rattle.btree_insert.specs.Contents.{lookup_in};
 ghost use Rattle.btree_insert.specs.PageTrees.{Holds};
-ghost use Rattle.btree_insert.specs.Spelt.{AreSpeltIn};
+ghost use Rattle.btree_insert.specs.Spelt.{AreSpeltIn, IsSpeltTree};
 ghost use Rattle.btree_delete.specs.TableView.{Fills};
 ghost use Rattle.btree_delete.specs.TableAnswers.{IsSet, MayRefuse, KeepsLimits, StagesSet, ReadsToSet, TellsChange};
 
@@ -59,9 +59,8 @@ fn put<S: Store>(
     key: Key,
     value: Record,
 ) -> Result<(Tree, Option<Record>), TableFault>
-    requires tree { IsTree tree.now }
+    requires tree { IsSpeltTree tree.now pages.old }
     requires limit { limit ≤ most_records }
-    requires spelt { AreSpeltIn tree.now.order pages.old }
     ensures set { IsTrue pages.old.steady → (es : List Element) (us : List ℕ)
         → Fills pages.old.pages tree.now es us → tree.now.count ≤ limit
         → MatchResult result (λ r. IsSet pages.new.pages r.0 limit es key (Some value) r.1)
@@ -89,9 +88,8 @@ pub(crate) fn change<S: Store>(
     key: Key,
     to: Option<Record>,
 ) -> Result<(Tree, Option<Record>), TableFault>
-    requires tree { IsTree tree.now }
+    requires tree { IsSpeltTree tree.now pages.old }
     requires limit { limit ≤ most_records }
-    requires spelt { AreSpeltIn tree.now.order pages.old }
     ensures set { IsTrue pages.old.steady → (es : List Element) (us : List ℕ)
         → Fills pages.old.pages tree.now es us → tree.now.count ≤ limit
         → MatchResult result (λ r. IsSet pages.new.pages r.0 limit es key to r.1)

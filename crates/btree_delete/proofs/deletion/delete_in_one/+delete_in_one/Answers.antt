@@ -15,8 +15,7 @@ use Rattle.btree_insert.proofs.SettledTreeLemmas.{focus_of}
 use Rattle.btree_insert.proofs.HeadNodeLemmas.{Top}
 use Rattle.btree_insert.proofs.StepNodeLemmas.{spelt_top}
 use Rattle.btree_insert.proofs.OnePageLemmas.{if_some}
-use Rattle.btree_delete.specs.declared.deletion.delete_below.Shrunk.TheVariants.{Whole}
-use Rattle.btree_delete.specs.Shrinking.{Drops}
+use Rattle.btree_delete.specs.Shrinking.{Drops, Whole}
 use Rattle.btree_delete.specs.Subtrees.{head_page}
 use Rattle.btree_delete.specs.PagesLeft.{pages_freed, with_edit}
 use Rattle.btree_delete.proofs.DeletionLemmas.{found_some, some_below, either}

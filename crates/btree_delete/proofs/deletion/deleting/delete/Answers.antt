@@ -12,12 +12,11 @@ use Rattle.btree_insert.proofs.ReachLemmas.{leads_from, leads_from_none}
 use Rattle.btree_insert.proofs.VisitedLemmas.{unvisited_none}
 use Rattle.btree_insert.proofs.SpeltLemmas.{spelt_staged, spelt_unchanged}
 use Rattle.btree_insert.proofs.HeadNodeLemmas.{root_tree}
-use Rattle.btree_delete.specs.declared.deletion.delete_below.Shrunk.{Shrunk}
 use Rattle.btree_delete.specs.declared.deletion.subtree.Subtree.{Subtree}
 use Rattle.btree_insert.specs.Bounds.{unbounded}
 use Rattle.btree_insert.specs.Contents.{lookup_in, set_in}
 use Rattle.btree_delete.specs.Deleted.{MayStop}
-use Rattle.btree_delete.specs.Shrinking.{LeavesTree, RemovesBelow, record_gone}
+use Rattle.btree_delete.specs.Shrinking.{LeavesTree, RemovesBelow, record_gone, Removal, removal, removal_if}
 use Rattle.btree_delete.specs.Subtrees.{head_page, head_of}
 use Rattle.btree_delete.specs.PagesLeft.{pages_freed, with_edit}
 use Rattle.btree_delete.specs.Tidy.{visits}
@@ -40,10 +39,10 @@ module _ (g : given.Over) (c : After-delete_below g) where
         let T = c.args.tree.now in
         removing steady 1 es us c.requires.tree.order.0 (root_tree T.order (at c.args.pages.now.pages) T.height T.root es us (omega arith) holds.tree) (Between-all es holds.ascends) holds.apart (unvisited_none c.new-visited.result.items us c.new-visited.ensures)
 
-    abbrev Removed : ℕ → List Element → List ℕ → Option Shrunk → Type 0
+    abbrev Removed : ℕ → List Element → List ℕ → Option Removal → Type 0
     Removed least xs vs r = RemovesBelow (head_of whole least) (with_edit (at c.args.pages.now.pages) c.delete_below.new.edit) xs vs (visits c.new-visited.result.items c.delete_below.new.visited.items) c.args.key.now r
 
-    removed : (r r2 : Option Shrunk) → r ≡ r2 → Removing whole c.args.pages.now c.new-visited.result.items (λ least xs vs. Removed least xs vs r) → Removed 1 es us r2
+    removed : (r r2 : Option Removal) → r ≡ r2 → Removing whole c.args.pages.now c.new-visited.result.items (λ least xs vs. Removed least xs vs r) → Removed 1 es us r2
     removed r r2 is removing = subst (Removed 1 es us) is (asked (λ least xs vs. Removed least xs vs r) removing)
 
 pub returns-in_err-shrunk-clause-deleted : goal.returns-in_err-shrunk-clause-deleted
@@ -53,13 +52,13 @@ returns-in_err-shrunk-clause-deleted g c = λ steady es us holds.
 
 pub returns-in_default-clause-deleted : goal.returns-in_default-clause-deleted
 returns-in_default-clause-deleted g c = λ steady es us holds.
-    let none = removed g (goal.at.returns-in_default-clause-deleted g c).After-delete_below steady es us holds c.in_ok-shrunk.shrunk None c.in_default.is c.in_ok-shrunk.ensures.removes in
+    let none = removed g (goal.at.returns-in_default-clause-deleted g c).After-delete_below steady es us holds (removal_if c.delete_below.new.node c.in_ok-shrunk.shrunk) None (ap (removal_if c.delete_below.new.node) c.in_default.is) c.in_ok-shrunk.ensures.removes in
     deleted_none (at c.args.pages.now.pages) (at c.delete_below.new.pages.pages) c.args.tree.now es us c.args.key.now (ap (λ (v : PagesView). at v.pages) c.delete_below.ensures.reading.unchanged) holds none.drops
 
 pub shrink_tree-requires-clause-up : goal.shrink_tree-requires-clause-up
 shrink_tree-requires-clause-up g c =
     let sub = whole g (goal.at.shrink_tree-requires-clause-up g c).After-delete_below in
-    (went_up sub sub (Some c.args.key.now) c.delete_below.new.edit.writes.items c.delete_below.new.edit.freed.items c.in_ok-shrunk.shrunk c.in-Some.shrunk refl c.in-Some.is c.in_ok-shrunk.ensures.up).goes
+    (went_up sub sub (Some c.args.key.now) c.delete_below.new.edit.writes.items c.delete_below.new.edit.freed.items (removal_if c.delete_below.new.node c.in_ok-shrunk.shrunk) (removal c.delete_below.new.node c.in-Some.shrunk) refl (ap (removal_if c.delete_below.new.node) c.in-Some.is) c.in_ok-shrunk.ensures.up).goes
 
 pub stage-requires : goal.stage-requires
 stage-requires g c =
@@ -70,13 +69,13 @@ stage-requires g c =
 pub returns-in_err-shrunk-2-clause-deleted : goal.returns-in_err-shrunk-2-clause-deleted
 returns-in_err-shrunk-2-clause-deleted g c = λ steady es us holds.
     let p = err_from_is_err_and c.from_residual-in_err-shrunk-2.result c.from_residual-in_err-shrunk-2.ensures.1 in
-    let some = removed g (goal.at.returns-in_err-shrunk-2-clause-deleted g c).After-delete_below steady es us holds c.in_ok-shrunk.shrunk (Some c.in-Some.shrunk) c.in-Some.is c.in_ok-shrunk.ensures.removes in
+    let some = removed g (goal.at.returns-in_err-shrunk-2-clause-deleted g c).After-delete_below steady es us holds (removal_if c.delete_below.new.node c.in_ok-shrunk.shrunk) (Some (removal c.delete_below.new.node c.in-Some.shrunk)) (ap (removal_if c.delete_below.new.node) c.in-Some.is) c.in_ok-shrunk.ensures.removes in
     rw (p.1, p.2) (outside_stops (lookup_in c.args.key.now es) c.in_err-shrunk-2.field-0.0 (ap is_some some.drops.1) (c.in_err-shrunk-2.ensures.deleted (at c.args.pages.now.pages) es us c.args.key.now holds some.drops.1 some.drops.2))
 
 pub returns-in_err-stage-clause-deleted : goal.returns-in_err-stage-clause-deleted
 returns-in_err-stage-clause-deleted g c = λ steady es us holds.
     let p = err_from_is_err_and c.from_residual-in_err-stage.result c.from_residual-in_err-stage.ensures.1 in
-    let some = removed g (goal.at.returns-in_err-stage-clause-deleted g c).After-delete_below steady es us holds c.in_ok-shrunk.shrunk (Some c.in-Some.shrunk) c.in-Some.is c.in_ok-shrunk.ensures.removes in
+    let some = removed g (goal.at.returns-in_err-stage-clause-deleted g c).After-delete_below steady es us holds (removal_if c.delete_below.new.node c.in_ok-shrunk.shrunk) (Some (removal c.delete_below.new.node c.in-Some.shrunk)) (ap (removal_if c.delete_below.new.node) c.in-Some.is) c.in_ok-shrunk.ensures.removes in
     rw (p.1, p.2) (ap is_some some.drops.1)
 
 pub returns-clause-deleted : goal.returns-clause-deleted
@@ -86,9 +85,9 @@ returns-clause-deleted g c = λ steady es us holds.
     let ws = c.delete_below.new.edit.writes.items in
     let fs = c.delete_below.new.edit.freed.items in
     let pages_is = ap (λ (v : PagesView). v.pages) c.delete_below.ensures.reading.unchanged in
-    let some = removed g (goal.at.returns-clause-deleted g c).After-delete_below steady es us holds c.in_ok-shrunk.shrunk (Some c.in-Some.shrunk) c.in-Some.is c.in_ok-shrunk.ensures.removes in
+    let some = removed g (goal.at.returns-clause-deleted g c).After-delete_below steady es us holds (removal_if c.delete_below.new.node c.in_ok-shrunk.shrunk) (Some (removal c.delete_below.new.node c.in-Some.shrunk)) (ap (removal_if c.delete_below.new.node) c.in-Some.is) c.in_ok-shrunk.ensures.removes in
     let there = subst (λ (ps : List (Option (List ℕ))). Holds (at ps) T es us) (sym pages_is) holds in
-    let leaves = subst (λ (ps : List (Option (List ℕ))). LeavesTree (head_page T.order 1 (T.height - 1) T.root) (pages_freed (at ps) (after (at ps) ws fs) 0 (length fs)) us (set_in c.args.key.now None es) c.in-Some.shrunk) (sym pages_is) some.drops.2 in
+    let leaves = subst (λ (ps : List (Option (List ℕ))). LeavesTree (head_page T.order 1 (T.height - 1) T.root) (pages_freed (at ps) (after (at ps) ws fs) 0 (length fs)) us (set_in c.args.key.now None es) (removal c.delete_below.new.node c.in-Some.shrunk)) (sym pages_is) some.drops.2 in
     let done = c.in_ok-shrunk-2.ensures.deleted (at c.delete_below.new.pages.pages) es us c.args.key.now there some.drops.1 leaves in
     deleted_at P (at c.delete_below.new.pages.pages) (after (at c.delete_below.new.pages.pages) c.shrink_tree.new.edit.writes.items c.shrink_tree.new.edit.freed.items) (at c.stage.new.self.pages) T c.in_ok-shrunk-2.shrunk.0 es us c.args.key.now c.in_ok-shrunk-2.shrunk.1 (ap (λ (v : PagesView). at v.pages) c.delete_below.ensures.reading.unchanged) c.in_ok-stage.ensures.pages done
 
@@ -106,21 +105,21 @@ returns-then-tree-eq0-clause-led g c = λ steady.
 
 -- the key leads from the root to what went below it
 module _ (g : given.Over) (c : After-delete_below g) where
-  led_from : (r r2 : Option Shrunk) → r ≡ r2 → IsTrue c.args.pages.now.steady
+  led_from : (r r2 : Option Removal) → r ≡ r2 → IsTrue c.args.pages.now.steady
       → (IsTrue c.args.pages.now.steady → (k : List ℕ) → Some c.args.key.now ≡ Some k → Leads (Spells c.args.tree.now.order (at c.args.pages.now.pages)) k c.args.tree.now.height c.args.tree.now.root unbounded (record_gone r))
       → LeadsFrom (Spells c.args.tree.now.order (at c.args.pages.now.pages)) c.args.key.now c.args.tree.now.height c.args.tree.now.root (record_gone r2)
   led_from r r2 is steady led =
       let T = c.args.tree.now in
       let spells = Spells T.order (at c.args.pages.now.pages) in
       leads_from spells c.args.key.now T.height (T.height - 1) T.root (record_gone r2) (omega (arith, c.if-tree-eq0.false))
-      (subst (λ (o : Option Shrunk). Leads spells c.args.key.now T.height T.root unbounded (record_gone o)) is (led steady c.args.key.now refl))
+      (subst (λ (o : Option Removal). Leads spells c.args.key.now T.height T.root unbounded (record_gone o)) is (led steady c.args.key.now refl))
 
 pub returns-in_default-clause-led : goal.returns-in_default-clause-led
 returns-in_default-clause-led g c = λ steady.
-    led_from g (goal.at.returns-in_default-clause-led g c).After-delete_below c.in_ok-shrunk.shrunk None c.in_default.is steady c.in_ok-shrunk.ensures.led
+    led_from g (goal.at.returns-in_default-clause-led g c).After-delete_below (removal_if c.delete_below.new.node c.in_ok-shrunk.shrunk) None (ap (removal_if c.delete_below.new.node) c.in_default.is) steady c.in_ok-shrunk.ensures.led
 
 pub returns-clause-led : goal.returns-clause-led
 returns-clause-led g c = λ steady.
     let T = c.args.tree.now in
     subst (LeadsFrom (Spells T.order (at c.args.pages.now.pages)) c.args.key.now T.height T.root) (sym c.in_ok-shrunk-2.ensures.answer)
-    (led_from g (goal.at.returns-clause-led g c).After-delete_below c.in_ok-shrunk.shrunk (Some c.in-Some.shrunk) c.in-Some.is steady c.in_ok-shrunk.ensures.led)
+    (led_from g (goal.at.returns-clause-led g c).After-delete_below (removal_if c.delete_below.new.node c.in_ok-shrunk.shrunk) (Some (removal c.delete_below.new.node c.in-Some.shrunk)) (ap (removal_if c.delete_below.new.node) c.in-Some.is) steady c.in_ok-shrunk.ensures.led)

@@ -9,8 +9,7 @@ use Rattle.btree_insert.specs.Bounds.{unbounded}
 use Rattle.btree_insert.proofs.BoundLemmas.{Between-all}
 use Rattle.btree_insert.proofs.ReachLemmas.{leads_from}
 use Rattle.btree_insert.proofs.HeadNodeLemmas.{root_tree}
-use Rattle.btree_delete.specs.declared.deletion.delete_below.Shrunk.TheVariants.{Whole}
-use Rattle.btree_delete.specs.Shrinking.{Drops}
+use Rattle.btree_delete.specs.Shrinking.{Drops, Whole}
 use Rattle.btree_delete.specs.Subtrees.{head_page}
 use Rattle.btree_delete.specs.PagesLeft.{with_edit}
 use Rattle.btree_delete.proofs.RootLemmas.{Shrank, shrank_whole, shrank_deleted, shrank_enough}

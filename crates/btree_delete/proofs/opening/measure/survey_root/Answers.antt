@@ -24,14 +24,14 @@ module _ (g : given.Over) (c : Else-root-eq0 g) where
 -- the pages are the file's, so far
 module _ (g : given.Over) (c : Else-root-eq0 g) where
   pages_are : at c.args.pages.now.pages ≡ stored_page c.args.pages.now
-  pages_are = λ i n. c.requires.fresh.same n i
+  pages_are = λ i n. c.requires.1.same n i
 
   from_stored : (h : ℕ) (es : List Element) (us : List ℕ) → Sound (below_page (layout_of c.args.version) c.args.order (at c.args.pages.now.pages) 1 c.args.root) (allowed 18 unbounded) c.new-survey.result h (18 - h) es us → Sound (below_page (layout_of c.args.version) c.args.order (stored_page c.args.pages.now) 1 c.args.root) (allowed 18 unbounded) c.new-survey.result h (18 - h) es us
   from_stored h es us sound = subst (λ (pages : PageMap). Sound (below_page (layout_of c.args.version) c.args.order pages 1 c.args.root) (allowed 18 unbounded) c.new-survey.result h (18 - h) es us) pages_are sound
 
 pub survey_page-requires-clause-kept : goal.survey_page-requires-clause-kept
 survey_page-requires-clause-kept g c =
-    nothing_kept (layout_of c.args.version) c.args.order c.args.pages.now (length c.args.pages.now.pages) c.new-survey.result.reached c.requires.fresh (ap (λ (s : SeenSoFar). s.reached) (start_is g (goal.at.survey_page-requires-clause-kept g c).Else-root-eq0))
+    nothing_kept (layout_of c.args.version) c.args.order c.args.pages.now (length c.args.pages.now.pages) c.new-survey.result.reached c.requires.1 (ap (λ (s : SeenSoFar). s.reached) (start_is g (goal.at.survey_page-requires-clause-kept g c).Else-root-eq0))
 
 pub survey_page-requires-clause-room : goal.survey_page-requires-clause-room
 survey_page-requires-clause-room g c =

@@ -34,26 +34,26 @@ module _ (g : given.Over) (t : ℕ) (c : survey_page-After-as_slice-elements g t
   read_spells steady = in_store (layout_of c.args.version) c.args.order c.args.n c.args.pages.now c.args.survey.now.reached c.read_page.new.node c.requires.kept (c.if-not-reach.ensures.unvisited refl) (c.in_ok-read_page.ensures.spells steady)
 
   stays_steady : c.keep_page.new.pages.steady ≡ c.args.pages.now.steady
-  stays_steady = ap (λ (v : PagesView). v.steady) c.keep_page.ensures.stays ∙ ap (λ (v : PagesView). v.steady) c.read_page.ensures.reading.unchanged
+  stays_steady = ap (λ (v : PagesView). v.steady) c.keep_page.ensures.stays ∙ ap (λ (v : PagesView). v.steady) c.read_page.ensures.reading.0.unchanged
 
   counted_read : c.keep_page.new.pages.reads ≡ counted c.args.pages.now.reads true
-  counted_read = ap (λ (v : PagesView). v.reads) c.keep_page.ensures.stays ∙ c.in_ok-read_page.ensures.one_read
+  counted_read = ap (λ (v : PagesView). v.reads) c.keep_page.ensures.stays ∙ c.in_ok-read_page.ensures.reading.2
 
   -- the page is kept
   kept_page : AreKept (layout_of c.args.version) c.args.order c.keep_page.new.pages c.reach.new.self.reached
   kept_page =
       kept_more (layout_of c.args.version) c.args.order c.args.n c.args.pages.now c.keep_page.new.pages c.args.survey.now.reached c.reach.new.self.reached c.read_page.new.node c.requires.kept
       (c.if-not-reach.ensures.unvisited refl) (ap (λ (s : SeenSoFar). s.reached) (c.if-not-reach.ensures.reached refl))
-      (c.in_ok-keep_page.ensures.count ∙ ap (λ (v : PagesView). length v.pages) c.read_page.ensures.reading.unchanged) (ap (λ (v : PagesView). v.stored) c.keep_page.ensures.stays ∙ ap (λ (v : PagesView). v.stored) c.read_page.ensures.reading.unchanged) stays_steady
+      (c.in_ok-keep_page.ensures.count ∙ ap (λ (v : PagesView). length v.pages) c.read_page.ensures.reading.0.unchanged) (ap (λ (v : PagesView). v.stored) c.keep_page.ensures.stays ∙ ap (λ (v : PagesView). v.stored) c.read_page.ensures.reading.0.unchanged) stays_steady
       (λ q other.
       let o = c.in_ok-keep_page.ensures.others q other in
-      (o.0 ∙ ap (λ (v : PagesView). at v.pages q) c.read_page.ensures.reading.unchanged, o.1 ∙ ap (λ (v : PagesView). is_in_memory v q) c.read_page.ensures.reading.unchanged))
+      (o.0 ∙ ap (λ (v : PagesView). at v.pages q) c.read_page.ensures.reading.0.unchanged, o.1 ∙ ap (λ (v : PagesView). is_in_memory v q) c.read_page.ensures.reading.0.unchanged))
       c.in_ok-read_page.ensures.spells
-      (λ steady. c.in_ok-keep_page.ensures.here (ap (λ (v : PagesView). at v.pages c.args.n) c.read_page.ensures.reading.unchanged ∙ (c.in_ok-read_page.ensures.spells steady).page))
-      (c.in_ok-keep_page.ensures.spelt (subst (AreSpeltIn c.args.order) (sym c.read_page.ensures.reading.unchanged) c.requires.kept.spelt))
+      (λ steady. c.in_ok-keep_page.ensures.here (ap (λ (v : PagesView). at v.pages c.args.n) c.read_page.ensures.reading.0.unchanged ∙ (c.in_ok-read_page.ensures.spells steady).page))
+      (c.in_ok-keep_page.ensures.spelt (subst (AreSpeltIn c.args.order) (sym c.read_page.ensures.reading.0.unchanged) c.requires.kept.spelt))
 
   pages_read : stored_page c.keep_page.new.pages ≡ stored_page c.args.pages.now
-  pages_read = ap (λ (v : PagesView). stored_page v) c.keep_page.ensures.stays ∙ ap (λ (v : PagesView). stored_page v) c.read_page.ensures.reading.unchanged
+  pages_read = ap (λ (v : PagesView). stored_page v) c.keep_page.ensures.stays ∙ ap (λ (v : PagesView). stored_page v) c.read_page.ensures.reading.0.unchanged
 
 -- a leaf at the head is the whole tree
 module _ (g : given.Over) (t : ℕ) (c : survey_page-In-Leaf g t) where

@@ -24,5 +24,5 @@ returns-clause-set g c = λ steady es us fills few.
     omega (arith, low) in
     let count = c.page_count-count.ensures in
     subst (λ (r : Result (Tree × Option (List ℕ)) TableFault). MatchResult r (λ x. IsSet Q x.0 c.args.limit es c.args.key (Some c.args.value) x.1) (MayRefuse c.args.limit T.count es c.args.key (Some c.args.value))) (sym c.told.ensures)
-    (put_answer P Q T es us c.args.key c.args.value c.args.limit c.insert_in_place.result c.requires.tree.order.0 (omega (arith, long, count.value, count.some)) (omega (arith, long, count.value, count.most)) (ap (λ (ps : List (Option (List ℕ))). at ps 0) pages_is ∙ count.header) c.requires.limit
+    (put_answer P Q T es us c.args.key c.args.value c.args.limit c.insert_in_place.result c.requires.tree.0.order.0 (omega (arith, long, count.value, count.some)) (omega (arith, long, count.value, count.most)) (ap (λ (ps : List (Option (List ℕ))). at ps 0) pages_is ∙ count.header) c.requires.limit
     there few room (c.insert_in_place.ensures.inserted (ap (λ (v : PagesView). v.steady) same ∙ steady) es us there.holds))
