@@ -14,4 +14,4 @@ pub use command::{Command, LineFault};
 pub use dump::write_dump;
 pub use list::{EntryList, KeyList};
 pub use reading::{LONGEST_LINE, read_bounded_line, read_line};
-pub use reply::{Reply, write_reply};
+pub use reply::{Reply, append_reply, write_reply};

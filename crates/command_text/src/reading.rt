@@ -139,14 +139,15 @@ fn file_command(name: &[u8], rest: &[u8]) -> Result<Option<Command>, LineFault>
     ensures { result ≡ read_as Some (file_command_of name.now (words_of rest.now)) }
 {
     if name == b"list".as_slice() {
-        alone(rest, Command::List)
-    } else if name == b"keys".as_slice() {
-        keys(rest)
-    } else if name == b"log".as_slice() {
-        alone(rest, Command::Log)
-    } else {
-        Err(LineFault::UnknownCommand)
+        return alone(rest, Command::List);
     }
+    if name == b"keys".as_slice() {
+        return keys(rest);
+    }
+    if name == b"log".as_slice() {
+        return alone(rest, Command::Log);
+    }
+    Err(LineFault::UnknownCommand)
 }
 
 // A command on a transaction, or one on the whole file.
@@ -156,22 +157,27 @@ fn tx_command(name: &[u8], rest: &[u8]) -> Result<Option<Command>, LineFault>
     ensures { result ≡ read_as Some (tx_command_of name.now (words_of rest.now)) }
 {
     if name == b"begin".as_slice() {
-        alone(rest, Command::Begin)
-    } else if name == b"save".as_slice() {
-        save(rest)
-    } else if name == b"release".as_slice() {
-        release(rest)
-    } else if name == b"back".as_slice() {
-        back(rest)
-    } else if name == b"resume".as_slice() {
-        resume(rest)
-    } else if name == b"abort".as_slice() {
-        abort(rest)
-    } else if name == b"commit".as_slice() {
-        commit(rest)
-    } else {
-        file_command(name, rest)
+        return alone(rest, Command::Begin);
     }
+    if name == b"save".as_slice() {
+        return save(rest);
+    }
+    if name == b"release".as_slice() {
+        return release(rest);
+    }
+    if name == b"back".as_slice() {
+        return back(rest);
+    }
+    if name == b"resume".as_slice() {
+        return resume(rest);
+    }
+    if name == b"abort".as_slice() {
+        return abort(rest);
+    }
+    if name == b"commit".as_slice() {
+        return commit(rest);
+    }
+    file_command(name, rest)
 }
 
 // The command of a name and the words after it: those on a key first, which are most lines of a script.
@@ -180,16 +186,18 @@ fn command(name: &[u8], rest: &[u8]) -> Result<Option<Command>, LineFault>
     ensures { result ≡ read_as Some (command_of name.now (words_of rest.now)) }
 {
     if name == b"put".as_slice() {
-        put(rest)
-    } else if name == b"del".as_slice() {
-        del(rest)
-    } else if name == b"get".as_slice() {
-        get(rest)
-    } else if name == b"claim".as_slice() {
-        claim(rest)
-    } else {
-        tx_command(name, rest)
+        return put(rest);
     }
+    if name == b"del".as_slice() {
+        return del(rest);
+    }
+    if name == b"get".as_slice() {
+        return get(rest);
+    }
+    if name == b"claim".as_slice() {
+        return claim(rest);
+    }
+    tx_command(name, rest)
 }
 
 /// The command that a script line says; a blank line and a comment say none. The line comes without its LF, and one

@@ -261,20 +261,27 @@ fn push_reply(text: &mut String, reply: &Reply) -> Result<(), AllocError>
     }
 }
 
-// The text of a reply.
-fn reply_text(alloc: Global, reply: &Reply) -> Result<String, AllocError>
-    ensures { IfOk result (λ text. string_bytes text ≡ text_of reply.now) }
+// Appends a reply, each of its lines with its end.
+fn push_lines(text: &mut String, reply: &Reply) -> Result<(), AllocError>
+    ensures { OnOk result (string_bytes text.new ≡ string_bytes text.old ++ text_of reply.now) }
 {
-    let mut text = String::with_capacity(alloc, LINE_ROOM)?;
-    push_reply(&mut text, reply)?;
-    text.push('\n')?;
-    Ok(text)
+    push_reply(text, reply)?;
+    text.push('\n')
+}
+
+/// Appends the text of a reply, each of its lines with its end. It takes memory only where the text has no room for it.
+/// Fault: Memory.
+pub fn append_reply(text: &mut String, reply: &Reply) -> Result<(), Memory>
+    ensures { OnOk result (string_bytes text.new ≡ string_bytes text.old ++ text_of reply.now) }
+{
+    push_lines(text, reply).map_err(|_| Memory)
 }
 
 /// The text of a reply, each of its lines with its end. A reply of one line takes one allocation. Fault: Memory.
 pub fn write_reply(alloc: Global, reply: &Reply) -> Result<Vec<u8>, Memory>
     ensures { IfOk result (λ text. text.items ≡ text_of reply.now) }
 {
-    let text = reply_text(alloc, reply).map_err(|_| Memory)?;
+    let mut text = String::with_capacity(alloc, LINE_ROOM).map_err(|_| Memory)?;
+    append_reply(&mut text, reply)?;
     Ok(text.into_bytes())
 }

@@ -47,21 +47,22 @@ fn ask<T: Table>(file: &mut RecordFile<T>, command: Command) -> Reply
         (seen T.TableState file.new) }
     ensures origin { KeepsOrigin T.TableState file.old file.new }
 {
+    // Each answer goes out from its arm, so that none is moved where the arms meet.
     match command {
-        Command::Begin => Reply::Begin(file.begin()),
-        Command::Put(tx, key, value) => Reply::Put(file.put(tx, key, value)),
-        Command::Claim(tx, key) => Reply::Claim(file.claim(tx, key)),
-        Command::Del(tx, key) => Reply::Del(file.remove(tx, key)),
-        Command::Get(tx, key) => Reply::Get(file.get(tx, &key)),
-        Command::Save(tx) => Reply::Save(file.savepoint(tx)),
-        Command::Release(tx, n) => Reply::Release(file.release(tx, n)),
-        Command::Back(tx, n) => Reply::Back(file.rollback_to(tx, n)),
-        Command::Resume(tx) => Reply::Resume(file.resume(tx)),
-        Command::Abort(tx) => Reply::Abort(file.abort(tx)),
-        Command::Commit(tx) => Reply::Commit(file.commit(tx)),
-        Command::List => list(file),
-        Command::Keys(tx) => keys(file, tx),
-        Command::Log => Reply::Log(file.log_len(), file.log_use()),
+        Command::Begin => return Reply::Begin(file.begin()),
+        Command::Put(tx, key, value) => return Reply::Put(file.put(tx, key, value)),
+        Command::Claim(tx, key) => return Reply::Claim(file.claim(tx, key)),
+        Command::Del(tx, key) => return Reply::Del(file.remove(tx, key)),
+        Command::Get(tx, key) => return Reply::Get(file.get(tx, &key)),
+        Command::Save(tx) => return Reply::Save(file.savepoint(tx)),
+        Command::Release(tx, n) => return Reply::Release(file.release(tx, n)),
+        Command::Back(tx, n) => return Reply::Back(file.rollback_to(tx, n)),
+        Command::Resume(tx) => return Reply::Resume(file.resume(tx)),
+        Command::Abort(tx) => return Reply::Abort(file.abort(tx)),
+        Command::Commit(tx) => return Reply::Commit(file.commit(tx)),
+        Command::List => return list(file),
+        Command::Keys(tx) => return keys(file, tx),
+        Command::Log => return Reply::Log(file.log_len(), file.log_use()),
     }
 }
 
@@ -87,8 +88,8 @@ pub fn reply_to<T: Table>(
     ensures origin { KeepsOrigin T.TableState file.old file.new }
 {
     match said {
-        Ok(None) => None,
-        Ok(Some(command)) => Some(call(file, command)),
-        Err(fault) => Some(Reply::Bad(fault)),
+        Ok(None) => return None,
+        Ok(Some(command)) => return Some(call(file, command)),
+        Err(fault) => return Some(Reply::Bad(fault)),
     }
 }

@@ -12,7 +12,7 @@ ghost use Rattle.command_text.specs.declared.reply.Reply.{Reply};
 use crate::call::{command_count, reply_to};
 use crate::next_line::next_line;
 use crate::reads::{CountedRead, Reads};
-use command_text::{Reply, read_line, write_reply};
+use command_text::{Reply, append_reply, read_line};
 use rec_types::Table;
 use record_file::RecordFile;
 use std::alloc::Global;
@@ -222,6 +222,7 @@ fn run_lines<T: Table, W: Write>(
         (seen T.TableState file.old) (seen T.TableState file.new) script.now) }
     ensures origin { KeepsOrigin T.TableState file.old file.new }
 {
+    let mut text = String::new(alloc);
     let mut rest = script;
     let mut done = 0;
     let mut lines = 0;
@@ -236,7 +237,7 @@ fn run_lines<T: Table, W: Write>(
         };
         done += count;
         let refused = reply.is_refusal();
-        send(alloc, writer, reply, done)?;
+        send(&mut text, writer, reply, done)?;
         if strict && refused {
             return Err(RunFault::Refused { line: lines });
         }
@@ -244,9 +245,9 @@ fn run_lines<T: Table, W: Write>(
     Ok(done)
 }
 
-/// Writes a reply, after `done` commands. Faults: Memory, WriteFault.
+/// Writes a reply, after `done` commands; `text` is for its text, whatever it has. Faults: Memory, WriteFault.
 pub fn send<W: Write>(
-    alloc: Global,
+    text: &mut String,
     writer: &mut W,
     reply: Reply,
     done: u32,
@@ -256,8 +257,9 @@ pub fn send<W: Write>(
     ensures err { IfErr result
         (IsUnsent (W.contents writer.old) (W.contents writer.new) done (text_of reply)) }
 {
-    let text = write_reply(alloc, &reply).map_err(|_| ScriptFault::Memory { done })?;
-    write_text(writer, &text).map_err(|_| ScriptFault::WriteFault { done })
+    text.clear();
+    append_reply(text, &reply).map_err(|_| ScriptFault::Memory { done })?;
+    write_text(writer, text.as_bytes()).map_err(|_| ScriptFault::WriteFault { done })
 }
 
 /// Writes a text whole. At a write that fails, or takes nothing, it answers how many bytes are written.

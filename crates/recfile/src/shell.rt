@@ -82,14 +82,15 @@ fn run_answered<T: Table, R: Read, W: Write>(
     ensures origin { KeepsOrigin T.TableState file.old file.new }
 {
     let mut part = PartLine::new(alloc).map_err(|_| ScriptFault::Memory { done: 0 })?;
+    let mut text = String::new(alloc);
     let mut counts = Counts { done: 0, lines: 0 };
     let mut chunk = [0; CHUNK];
     for turn in 0..u64::MAX {
         match read_answered(reader, writer, &mut chunk) {
             Err(_) => return Err(RunFault::Script(ScriptFault::ReadFault)),
-            Ok(0) => return answer_last(alloc, strict, &mut part, counts, writer, file),
+            Ok(0) => return answer_last(&mut text, strict, &mut part, counts, writer, file),
             Ok(n) => answer_lines(
-                alloc,
+                &mut text,
                 strict,
                 &chunk[..n],
                 &mut part,
@@ -120,7 +121,7 @@ pub fn read_answered<R: Read, W: Write>(
 // Runs each line that ends in these bytes, which come after what was read before. What follows the last LF begins a
 // line, or goes on with one. Faults: those of `answer_line`.
 fn answer_lines<T: Table, W: Write>(
-    alloc: Global,
+    text: &mut String,
     strict: bool,
     bytes: &[u8],
     part: &mut PartLine,
@@ -142,7 +143,7 @@ fn answer_lines<T: Table, W: Write>(
     while let Some((last, after)) = cut_line(rest) {
         rest = after;
         let said = part.end(last);
-        answer_line(alloc, strict, said, counts, writer, file)?;
+        answer_line(text, strict, said, counts, writer, file)?;
     }
     part.push(rest);
     Ok(())
@@ -151,7 +152,7 @@ fn answer_lines<T: Table, W: Write>(
 // Runs the last line, which has no LF, where it has a byte; answers how many commands there were. Faults: those of
 // `answer_line`.
 fn answer_last<T: Table, W: Write>(
-    alloc: Global,
+    text: &mut String,
     strict: bool,
     part: &mut PartLine,
     counts: Counts,
@@ -174,13 +175,13 @@ fn answer_last<T: Table, W: Write>(
     }
     let mut counts = counts;
     let said = part.end(&[]);
-    answer_line(alloc, strict, said, &mut counts, writer, file)?;
+    answer_line(text, strict, said, &mut counts, writer, file)?;
     Ok(counts.done)
 }
 
 // Runs a line that says this, and writes its reply. Faults: Memory, WriteFault; Refused, where it is strict.
 fn answer_line<T: Table, W: Write>(
-    alloc: Global,
+    text: &mut String,
     strict: bool,
     said: Result<Option<Command>, LineFault>,
     counts: &mut Counts,
@@ -202,7 +203,7 @@ fn answer_line<T: Table, W: Write>(
         return Ok(());
     };
     let refused = reply.is_refusal();
-    send(alloc, writer, reply, counts.done)?;
+    send(text, writer, reply, counts.done)?;
     if strict && refused {
         return Err(RunFault::Refused { line: counts.lines });
     }

@@ -63,7 +63,7 @@ returns-in-Put-clause-told g c = λ was is.
     (record {
       events = record { called = Put c.in-Put.tx c.in-Put.key c.in-Put.value c.put.result; failed = by_device (cause_by put_refusal c.put.result); refused = c.put.ensures.memory.0 } ∷ [];
       told = refl;
-      ran = asks old new (Put c.in-Put.tx c.in-Put.key c.in-Put.value c.put.result) (by_device (cause_by put_refusal c.put.result)) c.put.ensures.memory.0 c.put.ensures.table.device c.put.ensures.memory.1 c.put.ensures.table.soundness (c.put.ensures.table.told) c.put.ensures.damaged was is ((refl, c.put.ensures.memory.2), record { step = c.put.ensures.step; refused = refused_seen g.T.TableState c.args.file.now c.put.new.self (key_refusal true c.args.file.now.file c.in-Put.tx.0 c.in-Put.key) (refusal_by put_refusal c.put.result) c.put.ensures.refused; refused_only = c.put.ensures.refused_only; accepted = c.put.ensures.accepted; opening = c.put.ensures.opening; err = c.put.ensures.err; damages = c.put.ensures.table.damages });
+      ran = asks old new (Put c.in-Put.tx c.in-Put.key c.in-Put.value c.put.result) (by_device (cause_by put_refusal c.put.result)) c.put.ensures.memory.0 c.put.ensures.table.device c.put.ensures.memory.1 c.put.ensures.table.soundness (c.put.ensures.table.told) c.put.ensures.damaged was is ((refl, c.put.ensures.memory.2), record { step = c.put.ensures.step; refused = refused_seen g.T.TableState c.args.file.now c.put.new.self (key_refusal true c.args.file.now.file c.in-Put.tx.0 c.in-Put.key) (refusal_by put_refusal c.put.result) c.put.ensures.refused; refused_only = c.put.ensures.refused_only; accepted = c.put.ensures.accepted; opening = c.put.ensures.table.opening; err = c.put.ensures.err; damages = c.put.ensures.table.damages });
     })
 
 pub returns-in-Claim-clause-told : goal.returns-in-Claim-clause-told
@@ -74,7 +74,7 @@ returns-in-Claim-clause-told g c = λ was is.
     (record {
       events = record { called = Claim c.in-Claim.tx c.in-Claim.key c.claim.result; failed = by_device (cause_by claim_refusal c.claim.result); refused = c.claim.ensures.memory.0 } ∷ [];
       told = refl;
-      ran = asks old new (Claim c.in-Claim.tx c.in-Claim.key c.claim.result) (by_device (cause_by claim_refusal c.claim.result)) c.claim.ensures.memory.0 c.claim.ensures.table.device c.claim.ensures.memory.1 c.claim.ensures.table.soundness (c.claim.ensures.table.told) c.claim.ensures.damaged was is ((refl, c.claim.ensures.memory.2), record { step = c.claim.ensures.step; refused = refused_seen g.T.TableState c.args.file.now c.claim.new.self (key_refusal true c.args.file.now.file c.in-Claim.tx.0 c.in-Claim.key) (refusal_by claim_refusal c.claim.result) c.claim.ensures.refused; refused_only = c.claim.ensures.refused_only; accepted = c.claim.ensures.accepted; opening = c.claim.ensures.opening; err = c.claim.ensures.err; damages = c.claim.ensures.table.damages });
+      ran = asks old new (Claim c.in-Claim.tx c.in-Claim.key c.claim.result) (by_device (cause_by claim_refusal c.claim.result)) c.claim.ensures.memory.0 c.claim.ensures.table.device c.claim.ensures.memory.1 c.claim.ensures.table.soundness (c.claim.ensures.table.told) c.claim.ensures.damaged was is ((refl, c.claim.ensures.memory.2), record { step = c.claim.ensures.step; refused = refused_seen g.T.TableState c.args.file.now c.claim.new.self (key_refusal true c.args.file.now.file c.in-Claim.tx.0 c.in-Claim.key) (refusal_by claim_refusal c.claim.result) c.claim.ensures.refused; refused_only = c.claim.ensures.refused_only; accepted = c.claim.ensures.accepted; opening = c.claim.ensures.table.opening; err = c.claim.ensures.err; damages = c.claim.ensures.table.damages });
     })
 
 pub returns-in-Del-clause-told : goal.returns-in-Del-clause-told
@@ -85,7 +85,7 @@ returns-in-Del-clause-told g c = λ was is.
     (record {
       events = record { called = Remove c.in-Del.tx c.in-Del.key c.remove.result; failed = by_device (cause_by remove_refusal c.remove.result); refused = c.remove.ensures.memory.0 } ∷ [];
       told = refl;
-      ran = asks old new (Remove c.in-Del.tx c.in-Del.key c.remove.result) (by_device (cause_by remove_refusal c.remove.result)) c.remove.ensures.memory.0 c.remove.ensures.table.device c.remove.ensures.memory.1 c.remove.ensures.table.soundness (c.remove.ensures.table.told) c.remove.ensures.damaged was is ((refl, c.remove.ensures.memory.2), record { step = c.remove.ensures.step; refused = refused_seen g.T.TableState c.args.file.now c.remove.new.self (key_refusal true c.args.file.now.file c.in-Del.tx.0 c.in-Del.key) (refusal_by remove_refusal c.remove.result) c.remove.ensures.refused; refused_only = c.remove.ensures.refused_only; accepted = c.remove.ensures.accepted; opening = c.remove.ensures.opening; err = c.remove.ensures.err; damages = c.remove.ensures.table.damages });
+      ran = asks old new (Remove c.in-Del.tx c.in-Del.key c.remove.result) (by_device (cause_by remove_refusal c.remove.result)) c.remove.ensures.memory.0 c.remove.ensures.table.device c.remove.ensures.memory.1 c.remove.ensures.table.soundness (c.remove.ensures.table.told) c.remove.ensures.damaged was is ((refl, c.remove.ensures.memory.2), record { step = c.remove.ensures.step; refused = refused_seen g.T.TableState c.args.file.now c.remove.new.self (key_refusal true c.args.file.now.file c.in-Del.tx.0 c.in-Del.key) (refusal_by remove_refusal c.remove.result) c.remove.ensures.refused; refused_only = c.remove.ensures.refused_only; accepted = c.remove.ensures.accepted; opening = c.remove.ensures.table.opening; err = c.remove.ensures.err; damages = c.remove.ensures.table.damages });
     })
 
 pub returns-in-Get-clause-told : goal.returns-in-Get-clause-told
@@ -107,7 +107,7 @@ returns-in-Back-clause-told g c = λ was is.
     (record {
       events = record { called = RollbackTo c.in-Back.tx c.in-Back.n c.rollback_to.result; failed = by_device (cause_by rollback_refusal c.rollback_to.result); refused = (by_memory (cause_by rollback_refusal c.rollback_to.result)) } ∷ [];
       told = refl;
-      ran = asks old new (RollbackTo c.in-Back.tx c.in-Back.n c.rollback_to.result) (by_device (cause_by rollback_refusal c.rollback_to.result)) (by_memory (cause_by rollback_refusal c.rollback_to.result)) c.rollback_to.ensures.table.device c.rollback_to.ensures.memory c.rollback_to.ensures.table.soundness (c.rollback_to.ensures.table.told) c.rollback_to.ensures.damaged was is ((refl, refl), record { step = c.rollback_to.ensures.step; rolled = c.rollback_to.ensures.rolled; opening = c.rollback_to.ensures.opening; refused = refused_seen g.T.TableState c.args.file.now c.rollback_to.new.self (returning_refusal c.args.file.now.file c.in-Back.tx.0 c.in-Back.n) (refusal_by rollback_refusal c.rollback_to.result) c.rollback_to.ensures.refused; damages = c.rollback_to.ensures.table.damages });
+      ran = asks old new (RollbackTo c.in-Back.tx c.in-Back.n c.rollback_to.result) (by_device (cause_by rollback_refusal c.rollback_to.result)) (by_memory (cause_by rollback_refusal c.rollback_to.result)) c.rollback_to.ensures.table.device c.rollback_to.ensures.memory c.rollback_to.ensures.table.soundness (c.rollback_to.ensures.table.told) c.rollback_to.ensures.damaged was is ((refl, refl), record { step = c.rollback_to.ensures.step; rolled = c.rollback_to.ensures.rolled; opening = c.rollback_to.ensures.table.opening; refused = refused_seen g.T.TableState c.args.file.now c.rollback_to.new.self (returning_refusal c.args.file.now.file c.in-Back.tx.0 c.in-Back.n) (refusal_by rollback_refusal c.rollback_to.result) c.rollback_to.ensures.refused; damages = c.rollback_to.ensures.table.damages });
     })
 
 pub returns-in-Abort-clause-told : goal.returns-in-Abort-clause-told
@@ -118,7 +118,7 @@ returns-in-Abort-clause-told g c = λ was is.
     (record {
       events = record { called = Abort c.in-Abort.tx c.abort.result; failed = by_device (cause_by abort_refusal c.abort.result); refused = (by_memory (cause_by abort_refusal c.abort.result)) } ∷ [];
       told = refl;
-      ran = asks old new (Abort c.in-Abort.tx c.abort.result) (by_device (cause_by abort_refusal c.abort.result)) (by_memory (cause_by abort_refusal c.abort.result)) c.abort.ensures.table.device c.abort.ensures.memory c.abort.ensures.table.soundness (c.abort.ensures.table.told) c.abort.ensures.damaged was is ((refl, refl), record { step = c.abort.ensures.step; rolled = c.abort.ensures.rolled; opening = c.abort.ensures.opening; refused = refused_seen g.T.TableState c.args.file.now c.abort.new.self (tx_refusal c.args.file.now.file c.in-Abort.tx.0 None) (refusal_by abort_refusal c.abort.result) c.abort.ensures.refused; damages = c.abort.ensures.table.damages });
+      ran = asks old new (Abort c.in-Abort.tx c.abort.result) (by_device (cause_by abort_refusal c.abort.result)) (by_memory (cause_by abort_refusal c.abort.result)) c.abort.ensures.table.device c.abort.ensures.memory c.abort.ensures.table.soundness (c.abort.ensures.table.told) c.abort.ensures.damaged was is ((refl, refl), record { step = c.abort.ensures.step; rolled = c.abort.ensures.rolled; opening = c.abort.ensures.table.opening; refused = refused_seen g.T.TableState c.args.file.now c.abort.new.self (tx_refusal c.args.file.now.file c.in-Abort.tx.0 None) (refusal_by abort_refusal c.abort.result) c.abort.ensures.refused; damages = c.abort.ensures.table.damages });
     })
 
 pub returns-in-Resume-clause-told : goal.returns-in-Resume-clause-told
@@ -129,7 +129,7 @@ returns-in-Resume-clause-told g c = λ was is.
     (record {
       events = record { called = Resume c.in-Resume.tx c.resume.result; failed = by_device (cause_by resume_refusal c.resume.result); refused = (by_memory (cause_by resume_refusal c.resume.result)) } ∷ [];
       told = refl;
-      ran = asks old new (Resume c.in-Resume.tx c.resume.result) (by_device (cause_by resume_refusal c.resume.result)) (by_memory (cause_by resume_refusal c.resume.result)) c.resume.ensures.table.device c.resume.ensures.memory c.resume.ensures.table.soundness (c.resume.ensures.table.told) c.resume.ensures.damaged was is ((refl, refl), record { step = c.resume.ensures.step; rolled = c.resume.ensures.rolled; opening = c.resume.ensures.opening; refused = refused_seen g.T.TableState c.args.file.now c.resume.new.self (resuming_refusal c.args.file.now.file c.in-Resume.tx.0) (refusal_by resume_refusal c.resume.result) c.resume.ensures.refused; damages = c.resume.ensures.table.damages });
+      ran = asks old new (Resume c.in-Resume.tx c.resume.result) (by_device (cause_by resume_refusal c.resume.result)) (by_memory (cause_by resume_refusal c.resume.result)) c.resume.ensures.table.device c.resume.ensures.memory c.resume.ensures.table.soundness (c.resume.ensures.table.told) c.resume.ensures.damaged was is ((refl, refl), record { step = c.resume.ensures.step; rolled = c.resume.ensures.rolled; opening = c.resume.ensures.table.opening; refused = refused_seen g.T.TableState c.args.file.now c.resume.new.self (resuming_refusal c.args.file.now.file c.in-Resume.tx.0) (refusal_by resume_refusal c.resume.result) c.resume.ensures.refused; damages = c.resume.ensures.table.damages });
     })
 
 pub returns-in-Log-clause-told : goal.returns-in-Log-clause-told
