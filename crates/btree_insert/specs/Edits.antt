@@ -1,12 +1,15 @@
 -- What calls that go through a tree leave of its pages, and of an edit.
-use Rattle.std.specs.Prelude.{◌≡◌, ℕ, ◌+◌, ◌<◌, ◌≤◌, List, [], length, Option, IsSome, Result, OnOk, OnErr}
+use Rattle.std.specs.Prelude.{◌≡◌, ℕ, ◌+◌, ◌<◌, ◌≤◌, Bool, true, List, [], length, Option, IsSome, Result, OnOk, OnErr}
 use Rattle.rec_types.specs.Table.{counted}
 use Rattle.page_store.specs.PageMap.{at}
 use Rattle.page_store.specs.PagesView.{PagesView, OnlyReads, OnlyStages}
 use Rattle.page_store.specs.declared.page_edit.PageEdit.{PageEdit}
-use Rattle.btree_node.specs.Spelling.{AreSpelt}
+use Rattle.btree_node.specs.Lists.{Element}
+use Rattle.btree_node.specs.Spelling.{AreSpelt, IsElement}
+use Rattle.btree_insert.specs.Spelt.{IsTreeIn}
+use Rattle.btree_insert.specs.declared.tree.Tree.{Tree}
 use Rattle.btree_insert.specs.declared.tree.TreeFault.{TreeFault}
-use Rattle.btree_insert.specs.Faults.{is_device}
+use Rattle.btree_insert.specs.Faults.{is_device, AsksNoMemory}
 use Rattle.btree_insert.specs.Growth.{WritesFit}
 use Rattle.btree_insert.specs.Sizes.{greatest_height}
 
@@ -21,7 +24,15 @@ pub record Reads {A : Type 0} (most : ℕ) (old : PagesView) (answer : Result A 
   pub device : new.failures ≡ counted old.failures (is_device answer)
   pub reads : new.reads ≤ old.reads + most
 
--- the same, and an edit was staged unless there is a fault
+-- the same of a call that asks for no memory
+abbrev pub Looks : {A : Type 0} → ℕ → PagesView → Result A TreeFault → PagesView → Type 0
+Looks most old answer new = Reads most old answer new × AsksNoMemory answer
+
+-- one page is read, and no memory asked for
+abbrev pub ReadsOnce : {A : Type 0} → PagesView → Result A TreeFault → PagesView → Type 0
+ReadsOnce old answer new = Reads 1 old answer new × AsksNoMemory answer × OnOk answer (new.reads ≡ counted old.reads true)
+
+-- pages were read, at most so often, and an edit was staged unless there is a fault
 pub record Stages {A : Type 0} (most : ℕ) (old : PagesView) (answer : Result A TreeFault) (new : PagesView) : Type 0 where
   pub store : OnlyStages old new
   pub err : OnErr answer (OnlyReads old new)
@@ -32,6 +43,12 @@ pub record Stages {A : Type 0} (most : ℕ) (old : PagesView) (answer : Result A
 pub record IsNewEdit (edit : PageEdit) : Type 0 where
   pub unwritten : edit.writes.items ≡ []
   pub none_taken : edit.taken ≡ 0
+
+-- an element may be put into the tree by an edit
+pub record CanGrow (in_place : Bool) (tree : Tree) (pages : PagesView) (element : Element) (edit : PageEdit) : Type 0 where
+  pub tree_is : IsTreeIn in_place tree pages
+  pub fits : IsElement element
+  pub new_edit : IsNewEdit edit
 
 -- what an edit writes spells nodes of the order, if it did before; it takes and frees no other numbers
 pub record OnlyWrites {A F : Type 0} (k : ℕ) (old : PageEdit) (answer : Result A F) (new : PageEdit) : Type 0 where

@@ -1,11 +1,12 @@
 -- Where the search for a key goes from a page.
-use Rattle.std.specs.Prelude.{◌≡◌, ℕ, ◌<◌, Bool, true, false, ◌&&◌, List, Some, IsTrue, slice_index_or}
+use Rattle.std.specs.Prelude.{◌≡◌, ℕ, ◌<◌, ◌≤◌, Bool, true, false, ◌&&◌, List, Some, IsTrue, slice_index_or}
 use Rattle.page_store.specs.PageMap.{at}
 use Rattle.page_store.specs.PagesView.{PagesView, is_in_memory}
 use Rattle.btree_node.specs.declared.node.Node.{Node}
 use Rattle.btree_node.specs.Layout.{IsSmallOrder}
 use Rattle.btree_node.specs.Lists.{Element, IsAt, IsPlace}
-use Rattle.btree_node.specs.Spelling.{spelling, CanStand}
+use Rattle.btree_node.specs.Reading.{count_at}
+use Rattle.btree_node.specs.Spelling.{spelling, CanStand, IsSpelt}
 use Rattle.btree_insert.specs.declared.bounds.Bounds.{Bounds}
 use Rattle.btree_insert.specs.declared.step.Spot.{Spot}
 use Rattle.btree_insert.specs.declared.step.Step.{Step}
@@ -19,6 +20,10 @@ pub record CanSearch (k : ℕ) (spot : Spot) (in_place : Bool) (pages : PagesVie
   pub order : IsSmallOrder k
   pub level : 0 < spot.level
   pub spelt : IsTrue in_place → AreSpeltIn k pages
+
+-- the page spells a node that has a place i for a son: before, between or behind its keys
+abbrev pub HasSonAt : ℕ → List ℕ → ℕ → Type 0
+HasSonAt k page i = IsSmallOrder k × IsSpelt k page × (i ≤ count_at page)
 
 -- where the search goes from a node at a level: to the record of the key, no further, or to the son between whose neighbours the key lies
 abbrev pub Steps : ℕ → Node → Bounds → List ℕ → Step → Type 0

@@ -3,13 +3,12 @@ ghost use Rattle.page_store.specs.PageMap.{at};
 ghost use Rattle.btree_node.specs.Lists.{Element};
 ghost use Rattle.btree_insert.specs.Bounds.{Between};
 ghost use Rattle.btree_insert.specs.Contents.{lookup_in};
-ghost use Rattle.btree_insert.specs.Faults.{AsksNoMemory};
 ghost use Rattle.btree_insert.specs.PageTrees.{Spells, TreeAt, Holds};
 ghost use Rattle.btree_insert.specs.Reached.{Leads, LeadsFrom};
 ghost use Rattle.btree_insert.specs.Spelt.{AreSpeltIn};
 ghost use Rattle.btree_node.specs.Layout.{IsOrder};
 ghost use Rattle.btree_insert.specs.Sizes.{greatest_height};
-ghost use Rattle.btree_insert.specs.Edits.{Reads};
+ghost use Rattle.btree_insert.specs.Edits.{Looks};
 ghost use Rattle.btree_insert.specs.Steps.{CanSearch};
 
 use crate::bounds::Bounds;
@@ -40,8 +39,7 @@ pub fn find<S: Store>(
         → LeadsFrom (Spells tree.now.order (at pages.old.pages)) key.now tree.now.height
         tree.now.root led → MatchResult result (λ found. found ≡ led)
         (λ fault. fault ≡ TreeFault.Device) }
-    ensures no_memory { AsksNoMemory result }
-    ensures reading { Reads tree.now.height pages.old result pages.new }
+    ensures reading { Looks tree.now.height pages.old result pages.new }
 {
     if tree.height == 0 {
         return Ok(None);
@@ -69,8 +67,7 @@ pub fn look_up<S: Store>(
         → LeadsFrom (Spells tree.now.order (at pages.old.pages)) key.now tree.now.height
         tree.now.root led → MatchResult result (λ found. found ≡ led)
         (λ fault. fault ≡ TreeFault.Device) }
-    ensures no_memory { AsksNoMemory result }
-    ensures reading { Reads tree.now.height pages.old result pages.new }
+    ensures reading { Looks tree.now.height pages.old result pages.new }
 {
     if tree.height == 0 {
         return Ok(None);
@@ -116,8 +113,7 @@ fn look_up_below<S: Store>(
         → Leads (Spells order (at pages.old.pages)) key.now spot.now.level spot.now.page
         spot.now.bounds led → MatchResult result (λ found. found ≡ led)
         (λ fault. fault ≡ TreeFault.Device) }
-    ensures no_memory { AsksNoMemory result }
-    ensures reading { Reads spot.now.level pages.old result pages.new }
+    ensures reading { Looks spot.now.level pages.old result pages.new }
 {
     let Some(lies) = pages.in_memory(spot.page) else {
         return read_below(pages, order, spot, key, true);
@@ -157,8 +153,7 @@ fn read_below<S: Store>(
         → Leads (Spells order (at pages.old.pages)) key.now spot.now.level spot.now.page
         spot.now.bounds led → MatchResult result (λ found. found ≡ led)
         (λ fault. fault ≡ TreeFault.Device) }
-    ensures no_memory { AsksNoMemory result }
-    ensures reading { Reads spot.now.level pages.old result pages.new }
+    ensures reading { Looks spot.now.level pages.old result pages.new }
 {
     let mut node = Node::blank();
     find_below(pages, order, spot, key, in_place, &mut node)
@@ -186,8 +181,7 @@ fn find_below<S: Store>(
         → Leads (Spells order (at pages.old.pages)) key.now spot.now.level spot.now.page
         spot.now.bounds led → MatchResult result (λ found. found ≡ led)
         (λ fault. fault ≡ TreeFault.Device) }
-    ensures no_memory { AsksNoMemory result }
-    ensures reading { Reads spot.now.level pages.old result pages.new }
+    ensures reading { Looks spot.now.level pages.old result pages.new }
 {
     match take_step(pages, order, spot, key, in_place, node)? {
         Step::Found(_, value) => Ok(Some(value)),

@@ -1,9 +1,8 @@
 ghost use Rattle.std.specs.Prelude.{◌≡◌, ◌*◌, ◌<◌, ◌∷◌, ◌++◌, [], ℕ, List, Some, None, Ok, length, IsSome, IfOk, IfSome, OnOk, slice_set, true};
 ghost use Rattle.std.specs.List.{insert};
 ghost use Rattle.page_store.specs.PageMap.{at};
-ghost use Rattle.btree_node.specs.Layout.{IsSmallOrder};
 ghost use Rattle.btree_node.specs.Lists.{Element, IsAt, IsPlace};
-ghost use Rattle.btree_node.specs.Spelling.{spelling, CanStand, IsElement, IsSpelt};
+ghost use Rattle.btree_node.specs.Spelling.{spelling, CanStand, IsElement, IsSpelt, IsNodePage};
 ghost use Rattle.btree_node.specs.declared.node.Node.{Node};
 ghost use Rattle.btree_node.specs.declared.node.NodeKind.TheVariants.{Leaf};
 ghost use Rattle.btree_insert.specs.Bounds.{Between};
@@ -98,9 +97,8 @@ fn write_replaced(
     i: usize,
     element: (Key, Record),
 ) -> Result<(), Memory>
-    requires order { IsSmallOrder order }
+    requires page { IsNodePage order page.now }
     requires element { IsElement element }
-    requires spelt { IsSpelt order page.now }
     requires found { (m : Node) → CanStand m order → page.now ≡ spelling m order
         → IsAt m.elements.items element.0 i }
     ensures writes { (m : Node) → CanStand m order → page.now ≡ spelling m order
@@ -138,9 +136,8 @@ fn write_inserted(
     i: usize,
     element: (Key, Record),
 ) -> Result<(), Memory>
-    requires order { IsSmallOrder order }
+    requires page { IsNodePage order page.now }
     requires element { IsElement element }
-    requires spelt { IsSpelt order page.now }
     requires leaf { (m : Node) → CanStand m order → page.now ≡ spelling m order
         → (m.kind ≡ Leaf) × IsPlace m.elements.items element.0 i
         × (length m.elements.items < 2 * order) }

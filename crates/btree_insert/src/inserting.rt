@@ -1,4 +1,4 @@
-ghost use Rattle.std.specs.Prelude.{◌≡◌, ◌+◌, ◌-◌, ◌<◌, ◌≤◌, ◌↔◌, ◌∷◌, ◌++◌, [], ℕ, List, None, true, IsTrue, Ok, IfOk, IfSome, OnOk, MatchResult, length};
+ghost use Rattle.std.specs.Prelude.{◌≡◌, ◌+◌, ◌-◌, ◌<◌, ◌≤◌, ◌↔◌, ◌∷◌, ◌++◌, [], ℕ, List, None, true, false, IsTrue, Ok, IfOk, IfSome, OnOk, MatchResult, length};
 ghost use Rattle.page_store.specs.FreeNumbers.{candidate, count_after};
 ghost use Rattle.page_store.specs.PageMap.{at};
 ghost use Rattle.btree_node.specs.Lists.{Element};
@@ -7,11 +7,11 @@ ghost use Rattle.btree_insert.specs.Growth.{IsOutside, WritesFit, TakesNumbers, 
 ghost use Rattle.btree_insert.specs.Inserted.{leaf_of, root_of, Inserted, IsSmall, IsRefused};
 ghost use Rattle.btree_insert.specs.PageTrees.{Spells, Holds, tree_below};
 ghost use Rattle.btree_insert.specs.Reached.{LeadsFrom};
-ghost use Rattle.btree_insert.specs.Spelt.{AreSpeltIn};
+ghost use Rattle.btree_insert.specs.Spelt.{AreSpeltIn, IsSpeltTree, IsTreeIn};
 ghost use Rattle.btree_node.specs.Layout.{IsSmallOrder};
 ghost use Rattle.btree_insert.specs.Sizes.{IsTree, greatest_size, greatest_height, IsPlanted, IsNext};
 ghost use Rattle.btree_insert.specs.PagesGrown.{edited, taking};
-ghost use Rattle.btree_insert.specs.Edits.{IsInUse, IsNewEdit, Reads, Stages, WritesAndTakes};
+ghost use Rattle.btree_insert.specs.Edits.{CanGrow, IsInUse, Reads, Stages, WritesAndTakes};
 
 use crate::bounds::Bounds;
 use crate::insert_below::{Grown, insert_below, write_node};
@@ -105,10 +105,7 @@ fn grow_tree<S: Store>(
     element: (Key, Record),
     in_place: bool,
 ) -> Result<Changed, TreeFault>
-    requires tree { IsTree tree.now }
-    requires element { IsElement element }
-    requires new_edit { IsNewEdit edit.old }
-    requires spelt { IsTrue in_place → AreSpeltIn tree.now.order pages.old }
+    requires { CanGrow in_place tree.now pages.old element edit.old }
     ensures grew { IsTrue pages.old.steady → (es : List Element) (us : List ℕ)
         → Holds (at pages.old.pages) tree.now es us
         → MatchResult result
@@ -143,10 +140,8 @@ fn grow_below<S: Store>(
     element: (Key, Record),
     in_place: bool,
 ) -> Result<Changed, TreeFault>
-    requires tree { IsPlanted tree.now }
-    requires element { IsElement element }
-    requires new_edit { IsNewEdit edit.old }
-    requires spelt { IsTrue in_place → AreSpeltIn tree.now.order pages.old }
+    requires height { 0 < tree.now.height }
+    requires grow { CanGrow in_place tree.now pages.old element edit.old }
     ensures grew { IsTrue pages.old.steady → (es : List Element) (us : List ℕ)
         → Holds (at pages.old.pages) tree.now es us
         → MatchResult result
@@ -191,10 +186,8 @@ fn grow_in_one<S: Store>(
     tree: &Tree,
     element: (Key, Record),
 ) -> Result<Option<Changed>, Memory>
-    requires tree { IsPlanted tree.now }
-    requires element { IsElement element }
-    requires new_edit { IsNewEdit edit.old }
-    requires spelt { AreSpeltIn tree.now.order pages.now }
+    requires height { 0 < tree.now.height }
+    requires grow { CanGrow true tree.now pages.now element edit.old }
     ensures grew { (es : List Element) (us : List ℕ) → Holds (at pages.now.pages) tree.now es us
         → IfOk result (λ r. IfSome r (λ changed. Inserted (edited pages.now.pages 0 edit.new)
         tree.now es us element.0 element.1 (changed.tree, changed.old))) }
@@ -289,10 +282,8 @@ fn plant<S: Store>(
     tree: &Tree,
     element: (Key, Record),
 ) -> Result<Changed, Memory>
-    requires tree { IsTree tree.now }
     requires height { tree.now.height ≡ 0 }
-    requires element { IsElement element }
-    requires new_edit { IsNewEdit edit.old }
+    requires grow { CanGrow false tree.now pages.now element edit.old }
     ensures grew { (es : List Element) (us : List ℕ) → Holds (at pages.now.pages) tree.now es us
         → IfOk result
         (λ changed. Inserted (edited pages.now.pages 0 edit.new) tree.now es us
@@ -384,8 +375,7 @@ pub fn insert_in_place<S: Store>(
     key: Key,
     value: Record,
 ) -> Result<(Tree, Option<Record>), TreeFault>
-    requires tree { IsTree tree.now }
-    requires spelt { AreSpeltIn tree.now.order pages.old }
+    requires { IsSpeltTree tree.now pages.old }
     ensures inserted { IsTrue pages.old.steady → (es : List Element) (us : List ℕ)
         → Holds (at pages.old.pages) tree.now es us
         → MatchResult result
@@ -415,8 +405,7 @@ fn insert_from_root<S: Store>(
     value: Record,
     in_place: bool,
 ) -> Result<(Tree, Option<Record>), TreeFault>
-    requires tree { IsTree tree.now }
-    requires spelt { IsTrue in_place → AreSpeltIn tree.now.order pages.old }
+    requires { IsTreeIn in_place tree.now pages.old }
     ensures inserted { IsTrue pages.old.steady → (es : List Element) (us : List ℕ)
         → Holds (at pages.old.pages) tree.now es us
         → MatchResult result

@@ -1,13 +1,11 @@
 ghost use Rattle.std.specs.Prelude.{◌≡◌, ◌<◌, ◌≤◌, ◌⊎◌, ◌↔◌, length, IsTrue, IsOk, IfOk, IfErr, OnOk, MatchResult};
 ghost use Rattle.page_store.specs.PageMap.{at};
-ghost use Rattle.btree_node.specs.Layout.{IsSmallOrder};
 ghost use Rattle.btree_node.specs.Lists.{Ascends};
-ghost use Rattle.btree_node.specs.Reading.{count_at};
-ghost use Rattle.btree_node.specs.Spelling.{spelling, CanStand, SonsFit, IsSpelt};
+ghost use Rattle.btree_node.specs.Spelling.{spelling, CanStand, SonsFit, IsNodePage};
 ghost use Rattle.btree_node.specs.declared.node.Node.{Node};
 ghost use Rattle.btree_insert.specs.Bounds.{AreWithin, low_at, high_at, son_bounds};
 ghost use Rattle.btree_insert.specs.PageTrees.{Spells, kind_of_level};
-ghost use Rattle.btree_insert.specs.Steps.{Steps, Belongs, Stepped, CanSearch};
+ghost use Rattle.btree_insert.specs.Steps.{Steps, Belongs, Stepped, CanSearch, HasSonAt};
 ghost use Rattle.btree_insert.specs.Edits.{IsInUse, Reads};
 
 use crate::bounds::{Bounds, bounds_of_son, is_over, is_under};
@@ -100,9 +98,8 @@ pub fn step_in_page(
     spot: &Spot,
     key: &Key,
 ) -> Result<Step, TreeFault>
-    requires order { IsSmallOrder order }
+    requires page { IsNodePage order page.now }
     requires level { 0 < spot.now.level }
-    requires spelt { IsSpelt order page.now }
     ensures steps { (m : Node) → CanStand m order → page.now ≡ spelling m order
         → IfOk result (λ step. Belongs spot.now m
         × Steps spot.now.level m spot.now.bounds key.now step) }
@@ -127,8 +124,7 @@ pub fn step_in_page(
 
 /// Whether the keys of the node that the page spells are within the bounds.
 fn is_within(page: &[u8; PAGE_WIDTH], order: u16, bounds: &Bounds) -> bool
-    requires order { IsSmallOrder order }
-    requires spelt { IsSpelt order page.now }
+    requires { IsNodePage order page.now }
     ensures { (m : Node) → CanStand m order → page.now ≡ spelling m order
         → IsTrue result ↔ AreWithin bounds.now m.elements.items }
 {
@@ -139,9 +135,7 @@ fn is_within(page: &[u8; PAGE_WIDTH], order: u16, bounds: &Bounds) -> bool
 
 /// The bounds of son i of the node that the page spells: the same as `bounds_of_son` of its elements.
 fn bounds_in(page: &[u8; PAGE_WIDTH], order: u16, bounds: &Bounds, i: usize) -> Bounds
-    requires order { IsSmallOrder order }
-    requires spelt { IsSpelt order page.now }
-    requires index { i ≤ count_at page.now }
+    requires { HasSonAt order page.now i }
     ensures { (m : Node) → CanStand m order → page.now ≡ spelling m order
         → result ≡ son_bounds m.elements.items i bounds.now }
 {
@@ -152,9 +146,7 @@ fn bounds_in(page: &[u8; PAGE_WIDTH], order: u16, bounds: &Bounds, i: usize) -> 
 }
 
 fn low_in(page: &[u8; PAGE_WIDTH], order: u16, low: &Option<Key>, i: usize) -> Option<Key>
-    requires order { IsSmallOrder order }
-    requires spelt { IsSpelt order page.now }
-    requires index { i ≤ count_at page.now }
+    requires { HasSonAt order page.now i }
     ensures { (m : Node) → CanStand m order → page.now ≡ spelling m order
         → result ≡ low_at m.elements.items i low.now }
 {
@@ -166,9 +158,7 @@ fn low_in(page: &[u8; PAGE_WIDTH], order: u16, low: &Option<Key>, i: usize) -> O
 }
 
 fn high_in(page: &[u8; PAGE_WIDTH], order: u16, high: &Option<Key>, i: usize) -> Option<Key>
-    requires order { IsSmallOrder order }
-    requires spelt { IsSpelt order page.now }
-    requires index { i ≤ count_at page.now }
+    requires { HasSonAt order page.now i }
     ensures { (m : Node) → CanStand m order → page.now ≡ spelling m order
         → result ≡ high_at m.elements.items i high.now }
 {

@@ -58,6 +58,18 @@ head_width = 8
 abbrev pub IsNarrow : Layout → Type 0
 IsNarrow layout = layout.record_width ≤ widest_record
 
+-- a page of the layout has room for so many keys
+abbrev pub CanHoldKeys : Layout → ℕ → Type 0
+CanHoldKeys layout count = IsNarrow layout × IsKeyCount count
+
+-- it has room for the places and sons of order k
+abbrev pub CanHoldOrder : Layout → ℕ → Type 0
+CanHoldOrder layout k = IsNarrow layout × IsSmallOrder k
+
+-- it has room for so many sons behind the places of order k
+abbrev pub CanHoldSons : Layout → ℕ → ℕ → Type 0
+CanHoldSons layout k count = IsNarrow layout × IsSmallOrder k × (count ≤ most_keys + 1)
+
 -- where the record's length stands in a place, behind the key's length and the key
 abbrev pub record_at : ℕ
 record_at = 1 + key_width

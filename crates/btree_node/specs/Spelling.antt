@@ -8,7 +8,7 @@ use Rattle.btree_node.specs.declared.layout.Layout.{Layout}
 use Rattle.btree_node.specs.declared.node.Node.{Node}
 use Rattle.btree_node.specs.declared.node.NodeKind.{NodeKind}
 use Rattle.btree_node.specs.declared.node.NodeKind.TheVariants.{Leaf, Inner}
-use Rattle.btree_node.specs.Layout.{second_layout, sons_start}
+use Rattle.btree_node.specs.Layout.{second_layout, sons_start, IsSmallOrder}
 use Rattle.btree_node.specs.Lists.{Element, Each, Ascends}
 
 -- the bytes behind their number, padded to a width
@@ -75,6 +75,10 @@ CanStand n k = CanStandIn second_layout n k
 -- the page spells some node of the order
 abbrev pub IsSpelt : ℕ → List ℕ → Type 0
 IsSpelt k page = (node : Node) × CanStand node k × (page ≡ spelling node k)
+
+-- a page of a tree of order k that spells a node
+abbrev pub IsNodePage : ℕ → List ℕ → Type 0
+IsNodePage k page = IsSmallOrder k × IsSpelt k page
 
 -- each page that is written spells a node of the order
 abbrev pub AreSpelt : ℕ → List (ℕ × List ℕ) → Type 0

@@ -1,8 +1,8 @@
 ghost use Rattle.std.specs.Prelude.{◌≡◌, ◌+◌, ◌*◌, ◌<◌, ◌≤◌, length, replicate, slice_set};
 ghost use Rattle.std.specs.List.{insert, remove};
-ghost use Rattle.btree_node.specs.Layout.{second_layout, place_width, IsSmallOrder};
+ghost use Rattle.btree_node.specs.Layout.{second_layout, place_width};
 ghost use Rattle.btree_node.specs.Reading.{count_at};
-ghost use Rattle.btree_node.specs.Spelling.{field, place, spelling, CanStand, IsElement, IsSpelt};
+ghost use Rattle.btree_node.specs.Spelling.{field, place, spelling, CanStand, IsElement, IsNodePage};
 ghost use Rattle.btree_node.specs.Written.{put_at, with_elements};
 ghost use Rattle.byteorder.specs.Endian.{big_bytes};
 ghost use Rattle.rec_types.specs.Widths.{page_width};
@@ -20,8 +20,7 @@ const COUNT_AT: usize = 2;
 /// Puts another element in the place of element i of the node that the page spells, in a tree of order
 /// `k`.
 pub fn replace_in(page: &mut [u8; PAGE_WIDTH], k: u16, i: usize, element: &(Key, Record))
-    requires order { IsSmallOrder k }
-    requires spelt { IsSpelt k page.old }
+    requires page { IsNodePage k page.old }
     requires element { IsElement element.now }
     requires index { i < count_at page.old }
     ensures { (node : Node) → CanStand node k → page.old ≡ spelling node k
@@ -40,9 +39,8 @@ pub fn insert_in(
     i: usize,
     element: &(Key, Record),
 )
-    requires order { IsSmallOrder k }
+    requires page { IsNodePage k page.old }
     requires copy { was.now ≡ page.old }
-    requires spelt { IsSpelt k page.old }
     requires element { IsElement element.now }
     requires index { i ≤ count_at page.old }
     requires room { count_at page.old < 2 * k }
@@ -64,9 +62,8 @@ pub fn insert_in(
 /// Takes element i out of the node that the page spells, in a tree of order `k`; `was` is a copy of the
 /// page, to move places from.
 pub fn remove_in(page: &mut [u8; PAGE_WIDTH], was: &[u8; PAGE_WIDTH], k: u16, i: usize)
-    requires order { IsSmallOrder k }
+    requires page { IsNodePage k page.old }
     requires copy { was.now ≡ page.old }
-    requires spelt { IsSpelt k page.old }
     requires index { i < count_at page.old }
     ensures { (node : Node) → CanStand node k → page.old ≡ spelling node k
         → page.new ≡ spelling (with_elements node (remove node.elements.items i)) k }

@@ -1,6 +1,6 @@
 ghost use Rattle.std.specs.Prelude.{◌≡◌, ℕ, ◌+◌, ◌*◌, ◌^◌, ◌<◌, ◌≤◌, ◌↔◌, [], Ok, IfOk, IfErr, OnOk, IsOk, MatchResult, length, All, IsTrue};
 ghost use Rattle.rec_types.specs.Widths.{key_width, widest_record};
-ghost use Rattle.btree_node.specs.Layout.{first_layout, layout_of, record_at, place_width, sons_start, most_keys, IsSmallOrder, IsNarrow, IsKeyCount};
+ghost use Rattle.btree_node.specs.Layout.{first_layout, second_layout, layout_of, record_at, place_width, sons_start, most_keys, IsSmallOrder, IsNarrow, CanHoldKeys, CanHoldOrder, CanHoldSons};
 ghost use Rattle.btree_node.specs.Lists.{Below, Ascends};
 ghost use Rattle.btree_node.specs.Spelling.{spelling, spelling_in, CanStand, CanStandIn};
 ghost use Rattle.btree_node.specs.Reading.{kind_at, count_at, place_at, element_in, elements_at, son_at, sons_at, sons_of_kind, kind_read, node_at, key_length, record_length, KeyLengths, RecordLengths, PassesBefore, FirstFault, FirstFaultIn};
@@ -54,7 +54,7 @@ pub fn decode_into(page: &[u8; PAGE_WIDTH], k: u16, node: &mut Node) -> Result<(
 #[cold]
 #[inline(never)]
 fn decode_by_tests(page: &[u8; PAGE_WIDTH], k: u16, node: &mut Node) -> Result<(), NodeFault>
-    requires { IsSmallOrder k }
+    requires { CanHoldOrder second_layout k }
     ensures found { OnOk result (CanStand node.new k × (page.now ≡ spelling node.new k)) }
     ensures only { (n : Node) → CanStand n k → page.now ≡ spelling n k
         → IsOk result × (node.new ≡ n) }
@@ -101,8 +101,7 @@ pub fn decode_version(
 
 /// The node that the page spells in a layout.
 fn decode_in(layout: Layout, page: &[u8; PAGE_WIDTH], k: u16) -> Result<Node, NodeFault>
-    requires width { IsNarrow layout }
-    requires order { IsSmallOrder k }
+    requires { CanHoldOrder layout k }
     ensures found { IfOk result (λ n. CanStandIn layout n k × (page.now ≡ spelling_in layout n k)) }
     ensures only { (n : Node) → CanStandIn layout n k → page.now ≡ spelling_in layout n k
         → result ≡ Ok n }
@@ -119,8 +118,7 @@ fn decode_in(layout: Layout, page: &[u8; PAGE_WIDTH], k: u16) -> Result<Node, No
 /// The node that stands at the fixed places of the page.
 #[tactic(auto, unfolding(crate::specs::Reading::Passes, crate::specs::Reading::node_at))]
 fn node_of(layout: Layout, page: &[u8; PAGE_WIDTH], k: u16) -> Result<Node, NodeFault>
-    requires width { IsNarrow layout }
-    requires order { IsSmallOrder k }
+    requires { CanHoldOrder layout k }
     ensures value { IfOk result (λ n. n ≡ node_at layout k page.now) }
     ensures passes { IfOk result (λ _. PassesBefore layout k page.now NotZero) }
     ensures fault { IfErr result (λ e. FirstFaultIn layout k page.now e) }
@@ -174,7 +172,6 @@ pub(crate) fn count_of(page: &[u8; PAGE_WIDTH]) -> usize
 
 /// Whether a page of the order may have so many keys.
 pub(crate) fn count_fits(count: usize, k: u16) -> bool
-    requires { IsSmallOrder k }
     ensures { IsTrue result ↔ ((0 < count) × (count ≤ 2 * k)) }
 {
     0 < count && count <= 2 * k as usize
@@ -192,8 +189,7 @@ pub(crate) fn place_of_page(layout: Layout, page: &[u8; PAGE_WIDTH], i: usize) -
 
 #[tactic(auto, unfolding(crate::specs::Reading::key_length))]
 fn key_lengths_fit(layout: Layout, page: &[u8; PAGE_WIDTH], count: usize) -> bool
-    requires width { IsNarrow layout }
-    requires count { IsKeyCount count }
+    requires { CanHoldKeys layout count }
     ensures { IsTrue result ↔ KeyLengths layout page.now count }
 {
     for i in 0..count {
@@ -207,8 +203,7 @@ fn key_lengths_fit(layout: Layout, page: &[u8; PAGE_WIDTH], count: usize) -> boo
 
 #[tactic(auto, unfolding(crate::specs::Reading::record_length))]
 fn record_lengths_fit(layout: Layout, page: &[u8; PAGE_WIDTH], count: usize) -> bool
-    requires width { IsNarrow layout }
-    requires count { IsKeyCount count }
+    requires { CanHoldKeys layout count }
     ensures { IsTrue result ↔ RecordLengths layout page.now count }
 {
     for i in 0..count {
@@ -226,8 +221,7 @@ fn elements_of(
     page: &[u8; PAGE_WIDTH],
     count: usize,
 ) -> ArrayVec<(Key, Record), ELEMENT_ROOM>
-    requires width { IsNarrow layout }
-    requires count { IsKeyCount count }
+    requires room { CanHoldKeys layout count }
     requires keys { KeyLengths layout page.now count }
     requires records { RecordLengths layout page.now count }
     ensures { result.items ≡ elements_at layout page.now count }
@@ -279,9 +273,7 @@ fn sons_of(
     kind: NodeKind,
     count: usize,
 ) -> ArrayVec<u32, SON_ROOM>
-    requires width { IsNarrow layout }
-    requires order { IsSmallOrder k }
-    requires count { IsKeyCount count }
+    requires { CanHoldSons layout k (count + 1) }
     ensures { result.items ≡ sons_of_kind kind layout k page.now count }
 {
     match kind {
@@ -296,9 +288,7 @@ fn numbers_of(
     k: u16,
     count: usize,
 ) -> ArrayVec<u32, SON_ROOM>
-    requires width { IsNarrow layout }
-    requires order { IsSmallOrder k }
-    requires count { count ≤ most_keys + 1 }
+    requires { CanHoldSons layout k count }
     ensures { result.items ≡ sons_at layout k page.now count }
 {
     let mut sons = ArrayVec::new();
@@ -315,9 +305,7 @@ pub(crate) fn push_sons(
     count: usize,
     sons: &mut ArrayVec<u32, SON_ROOM>,
 )
-    requires width { IsNarrow layout }
-    requires order { IsSmallOrder k }
-    requires count { count ≤ most_keys + 1 }
+    requires room { CanHoldSons layout k count }
     requires empty { sons.old.items ≡ [] }
     ensures { sons.new.items ≡ sons_at layout k page.now count }
 {

@@ -2,7 +2,7 @@ ghost use Rattle.std.specs.Prelude.{◌≡◌, ◌+◌, ◌*◌, ◌≤◌, ◌+
 ghost use Rattle.std.specs.List.{flat_map};
 ghost use Rattle.rec_types.specs.Padded.{padded};
 ghost use Rattle.rec_types.specs.Widths.{page_width};
-ghost use Rattle.btree_node.specs.Layout.{place_width, IsSmallOrder, IsNarrow};
+ghost use Rattle.btree_node.specs.Layout.{place_width, IsSmallOrder, IsNarrow, CanHoldOrder};
 ghost use Rattle.btree_node.specs.Lists.{Each};
 ghost use Rattle.btree_node.specs.Spelling.{head, place, sons_bytes, spelling, spelling_in, ElementFits, CanStand, CanStandIn};
 
@@ -23,8 +23,7 @@ pub fn encode(node: &Node, k: u16) -> [u8; PAGE_WIDTH]
 /// Writes the page that spells the node in a layout.
 #[tactic(auto, using(crate::proofs::ElementOrderLemmas::sons_most), unfolding(crate::specs::Spelling::spelling_in))]
 pub fn spell(layout: Layout, node: &Node, k: u16) -> PageWriter
-    requires width { IsNarrow layout }
-    requires order { IsSmallOrder k }
+    requires order { CanHoldOrder layout k }
     requires stands { CanStandIn layout node.now k }
     ensures { padded page_width result ≡ spelling_in layout node.now k }
 {

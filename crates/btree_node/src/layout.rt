@@ -1,6 +1,6 @@
 ghost use Rattle.std.specs.Prelude.{◌≡◌, ◌+◌, ◌*◌, ◌≤◌};
 ghost use Rattle.rec_types.specs.Widths.{page_width};
-ghost use Rattle.btree_node.specs.Layout.{place_width, place_start, sons_start, most_keys, IsSmallOrder, IsNarrow, IsKeyCount};
+ghost use Rattle.btree_node.specs.Layout.{place_width, place_start, sons_start, most_keys, IsNarrow, CanHoldKeys, CanHoldOrder};
 
 use rec_types::{KEY_WIDTH, RECORD_WIDTH};
 
@@ -48,8 +48,7 @@ impl Layout {
 
     /// Where place `i` begins.
     pub fn place_start(self, i: usize) -> usize
-        requires width { IsNarrow self }
-        requires index { IsKeyCount i }
+        requires { CanHoldKeys self i }
         ensures value { result ≡ place_start self i }
         ensures within { result + 4 * (most_keys + 1) ≤ page_width }
     {
@@ -58,8 +57,7 @@ impl Layout {
 
     /// Where the sons begin in a page of order `k`: behind its places.
     pub fn sons_start(self, k: u16) -> usize
-        requires width { IsNarrow self }
-        requires order { IsSmallOrder k }
+        requires { CanHoldOrder self k }
         ensures value { result ≡ sons_start self k }
         ensures within { result + 4 * (most_keys + 1) ≤ page_width }
     {

@@ -1,5 +1,5 @@
 ghost use Rattle.std.specs.Prelude.{◌≡◌, ℕ, ◌+◌, ◌-◌, ◌*◌, ◌<◌, ◌≤◌, List, [], ◌∷◌, ◌++◌, IsTrue, length, drop};
-ghost use Rattle.btree_node.specs.Layout.{second_layout, place_width, place_start, sons_start, most_keys, IsSmallOrder, IsKeyCount};
+ghost use Rattle.btree_node.specs.Layout.{second_layout, place_width, place_start, sons_start, IsKeyCount, CanHoldOrder, CanHoldSons};
 ghost use Rattle.btree_node.specs.Lists.{Ascends};
 ghost use Rattle.btree_node.specs.Reading.{part, place_at, elements_at, sons_of_kind, node_at, IsZero, IsGoodPlace, Passes, PassesBefore};
 ghost use Rattle.btree_node.specs.declared.node.NodeFault.TheVariants.{NotZero};
@@ -18,7 +18,7 @@ use rec_types::{Key, PAGE_WIDTH, Record};
 /// Its widths are constants, so that fields are copied by moves.
 #[tactic(auto, unfolding(crate::specs::Reading::node_at))]
 pub(crate) fn read_first(page: &[u8; PAGE_WIDTH], k: u16, node: &mut Node) -> bool
-    requires order { IsSmallOrder k }
+    requires { CanHoldOrder second_layout k }
     ensures before { IsTrue result → PassesBefore second_layout k page.now NotZero }
     ensures padding { IsTrue result → Passes second_layout k page.now NotZero }
     ensures value { IsTrue result → node.new ≡ node_at second_layout k page.now }
@@ -111,8 +111,7 @@ fn fill_sons(
     count: usize,
     sons: &mut ArrayVec<u32, SON_ROOM>,
 )
-    requires order { IsSmallOrder k }
-    requires count { IsKeyCount count }
+    requires { CanHoldSons second_layout k (count + 1) }
     ensures { sons.new.items ≡ sons_of_kind kind second_layout k page.now count }
 {
     sons.clear();
@@ -132,9 +131,8 @@ fn head_is_zero(page: &[u8; PAGE_WIDTH]) -> bool
 
 /// Whether the places behind `count` places and the bytes behind `sons` sons are zero.
 fn rest_is_zero(page: &[u8; PAGE_WIDTH], k: u16, count: usize, sons: usize) -> bool
-    requires order { IsSmallOrder k }
+    requires room { CanHoldSons second_layout k sons }
     requires count { count ≤ 2 * k }
-    requires sons { sons ≤ most_keys + 1 }
     ensures places { IsTrue result → IsZero (part (place_start second_layout count)
         (place_width second_layout * (2 * k - count)) page.now) }
     ensures rest { IsTrue result

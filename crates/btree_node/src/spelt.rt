@@ -1,9 +1,9 @@
 ghost use Rattle.std.specs.Prelude.{◌≡◌, ◌+◌, ◌-◌, ◌*◌, ◌<◌, ◌≤◌, ℕ, length, MatchResult, slice_index_or, take};
 ghost use Rattle.btree_node.specs.Lists.{Element, Each, Below, IsAt, IsPlace};
 ghost use Rattle.btree_node.specs.Reading.{count_at};
-ghost use Rattle.btree_node.specs.Spelling.{spelling, CanStand, IsSpelt};
+ghost use Rattle.btree_node.specs.Spelling.{spelling, CanStand, IsNodePage};
 ghost use Rattle.btree_node.specs.declared.node.Node.{Node};
-ghost use Rattle.btree_node.specs.Layout.{greatest_order, IsSmallOrder, IsKeyCount};
+ghost use Rattle.btree_node.specs.Layout.{greatest_order, second_layout, CanHoldSons};
 
 use crate::decoding::{count_of, is_below, kind_of, place_of_page};
 use crate::layout::{RECORD_AT, SECOND_LAYOUT, SON_WIDTH};
@@ -32,8 +32,7 @@ pub fn count_in(page: &[u8; PAGE_WIDTH]) -> usize
 
 /// Key i of the node that the page spells, in a tree of order `k`.
 pub fn key_in(page: &[u8; PAGE_WIDTH], k: u16, i: usize) -> Key
-    requires order { IsSmallOrder k }
-    requires spelt { IsSpelt k page.now }
+    requires page { IsNodePage k page.now }
     requires index { i < count_at page.now }
     ensures { (node : Node) (other : Element) → CanStand node k → page.now ≡ spelling node k
         → result ≡ (slice_index_or node.elements.items i other).0 }
@@ -44,8 +43,7 @@ pub fn key_in(page: &[u8; PAGE_WIDTH], k: u16, i: usize) -> Key
 
 /// Record i of the node that the page spells, in a tree of order `k`.
 pub fn record_in(page: &[u8; PAGE_WIDTH], k: u16, i: usize) -> Record
-    requires order { IsSmallOrder k }
-    requires spelt { IsSpelt k page.now }
+    requires page { IsNodePage k page.now }
     requires index { i < count_at page.now }
     ensures { (node : Node) (other : Element) → CanStand node k → page.now ≡ spelling node k
         → result ≡ (slice_index_or node.elements.items i other).1 }
@@ -57,8 +55,7 @@ pub fn record_in(page: &[u8; PAGE_WIDTH], k: u16, i: usize) -> Record
 /// Son j of the node that the page spells, in a tree of order `k`, where j is at most its number of
 /// keys. The node is no leaf.
 pub fn son_in(page: &[u8; PAGE_WIDTH], k: u16, j: usize) -> u32
-    requires order { IsSmallOrder k }
-    requires index { IsKeyCount j }
+    requires { CanHoldSons second_layout k (j + 1) }
     ensures { (node : Node) (other : ℕ) → CanStand node k → page.now ≡ spelling node k
         → j < length node.sons.items → result ≡ slice_index_or node.sons.items j other }
 {
@@ -68,8 +65,7 @@ pub fn son_in(page: &[u8; PAGE_WIDTH], k: u16, j: usize) -> u32
 /// The place of the key among the keys of the node that the page spells, in a tree of order `k`, and
 /// else the number of smaller keys there: the same as `place_of` of the node.
 pub fn place_in(page: &[u8; PAGE_WIDTH], k: u16, key: &Key) -> Result<usize, usize>
-    requires order { IsSmallOrder k }
-    requires spelt { IsSpelt k page.now }
+    requires { IsNodePage k page.now }
     ensures within { MatchResult result (λ i. i < count_at page.now) (λ i. i ≤ count_at page.now) }
     ensures found { (node : Node) → CanStand node k → page.now ≡ spelling node k
         → MatchResult result (IsAt node.elements.items key.now)
@@ -90,8 +86,7 @@ pub fn place_in(page: &[u8; PAGE_WIDTH], k: u16, key: &Key) -> Result<usize, usi
 /// How many keys from the first on, in fours, are smaller. Steps of equal width let the processor read
 /// ahead of what it compares.
 fn fours_below(page: &[u8; PAGE_WIDTH], k: u16, key: &Key) -> usize
-    requires order { IsSmallOrder k }
-    requires spelt { IsSpelt k page.now }
+    requires { IsNodePage k page.now }
     ensures within { result ≤ count_at page.now }
     ensures below { (node : Node) → CanStand node k → page.now ≡ spelling node k
         → Each (λ e. Below e.0 key.now) (take result node.elements.items) }

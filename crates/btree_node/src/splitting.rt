@@ -1,7 +1,6 @@
 ghost use Rattle.std.specs.Prelude.{◌≡◌, ◌+◌, ◌*◌, ◌≤◌, length, drop, slice_index_or};
 ghost use Rattle.btree_node.specs.Cut.{SonsCount, left_of, right_of};
 ghost use Rattle.btree_node.specs.Lists.{Element};
-ghost use Rattle.btree_node.specs.Layout.{IsSmallOrder};
 
 use crate::node::Node;
 use arrayvec::ArrayVec;
@@ -11,7 +10,6 @@ use rec_types::{Key, Record};
 /// last `k` go to a right node, and the one between them is for the father. The first `k + 1` sons
 /// stay, the others go to the right node. Answers the left node, the middle element, the right node.
 pub fn split(mut node: Node, k: u16) -> (Node, (Key, Record), Node)
-    requires order { IsSmallOrder k }
     requires full { length node.elements.items ≡ 2 * k + 1 }
     requires sons { SonsCount node.kind (2 * k + 1) node.sons.items }
     ensures left { result.0 ≡ left_of k node }

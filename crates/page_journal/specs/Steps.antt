@@ -1,5 +1,5 @@
 -- What a call may do to the files, and what a crash may leave of it.
-use Rattle.std.specs.Prelude.{◌≡◌, ◌≢◌, ◌⊎◌, ℕ, ◌≤◌, List, [], ◌∷◌, ◌++◌, Option, Some, None, Result, Err, length, take, slice_get, slice_set}
+use Rattle.std.specs.Prelude.{◌≡◌, ◌≢◌, ◌⊎◌, ℕ, ◌≤◌, List, [], ◌∷◌, ◌++◌, Option, Some, None, Result, Err, OnOk, length, take, slice_get, slice_set}
 use Rattle.rec_types.specs.Table.{counted}
 use Rattle.page_store.specs.StoreFaults.{is_failed}
 use Rattle.page_store.specs.declared.store_fault.StoreFault.{StoreFault}
@@ -89,3 +89,15 @@ StaysSteady g old new = g.steady new ≡ g.steady old
 pub record CountsFault {D A : Type 0} (g : Ghosts D) (old : D) (answer : Result A StoreFault) (new : D) : Type 0 where
   pub failures : g.failures new ≡ counted (g.failures old) (is_failed answer)
   pub no_memory : answer ≢ Err Memory
+
+-- a call of the disk does a step, and its fault is counted
+abbrev pub CallDoes : {D A : Type 0} → Ghosts D → (Files → Files → Type 0) → D → Result A StoreFault → D → Type 0
+CallDoes g step old answer new = Does g step old new × CountsFault g old answer new
+
+-- a call of the disk has the device keep a part of the files, and does nothing else
+abbrev pub CallSyncs : {D A P : Type 0} → Ghosts D → (Files → P) → D → Result A StoreFault → D → Type 0
+CallSyncs g part old answer new = OnOk answer ((c : Files) → g.may_leave new c → part c ≡ part (g.seen old)) × Stays g old new × CountsFault g old answer new
+
+-- what is left of several calls of the disk, of which the last may have failed
+abbrev pub CallsLeave : {D A : Type 0} → Ghosts D → D → Result A StoreFault → D → Type 0
+CallsLeave g old answer new = StaysSteady g old new × CountsFault g old answer new

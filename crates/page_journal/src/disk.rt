@@ -2,7 +2,7 @@ ghost use Rattle.std.specs.Prelude.{◌≡◌, ◌<◌, ◌≤◌, ◌-◌, ◌+
 ghost use Rattle.rec_types.specs.Widths.{page_width};
 ghost use Rattle.page_store.specs.Blank.{blanks};
 ghost use Rattle.page_journal.specs.Files.{Files};
-ghost use Rattle.page_journal.specs.Steps.{Does, Stays, CountsFault, TornAt, GrowsUpTo, CutsTo, Fresh, Names, Removes, nothing_kept, kept_more, side_shape, kept_at};
+ghost use Rattle.page_journal.specs.Steps.{CallDoes, CallSyncs, Nothing, TornAt, GrowsUpTo, CutsTo, Fresh, Names, Removes, nothing_kept, kept_more, side_shape, kept_at};
 
 use crate::disk_state::DiskState;
 use crate::side_shape::SideShape;
@@ -23,24 +23,21 @@ pub trait Disk: DiskState {
             (λ shape. shape.pages ≡ length (Self.seen self.old).main.pages) }
         ensures tail { IfOk result (λ shape. shape.tail ≡ (Self.seen self.old).main.tail) }
         ensures short_tail { OnOk result ((Self.seen self.old).main.tail < page_width) }
-        ensures does { Stays Self.DiskState self.old self.new }
-        ensures fault { CountsFault Self.DiskState self.old result self.new };
+        ensures does { CallDoes Self.DiskState Nothing self.old result self.new };
 
     /// Reads page n, which is there. Fault: Failed.
     fn read(&mut self, n: u32, to: &mut [u8; PAGE_WIDTH]) -> Result<(), StoreFault>
         requires { n < length (Self.seen self.old).main.pages }
         ensures page { IsTrue (Self.steady self.old)
             → OnOk result (slice_get (Self.seen self.old).main.pages n ≡ Some to.new) }
-        ensures does { Stays Self.DiskState self.old self.new }
-        ensures fault { CountsFault Self.DiskState self.old result self.new };
+        ensures does { CallDoes Self.DiskState Nothing self.old result self.new };
 
     /// Writes page n, which is there. Fault: Failed; the page then has any bytes.
     fn write(&mut self, n: u32, from: &[u8; PAGE_WIDTH]) -> Result<(), StoreFault>
         requires { n < length (Self.seen self.old).main.pages }
         ensures page { IsTrue (Self.steady self.old) → OnOk result ((Self.seen self.new).main.pages
             ≡ slice_set (Self.seen self.old).main.pages n from.now) }
-        ensures does { Does Self.DiskState (TornAt n) self.old self.new }
-        ensures fault { CountsFault Self.DiskState self.old result self.new };
+        ensures does { CallDoes Self.DiskState (TornAt n) self.old result self.new };
 
     /// Makes the file n pages long, which is no fewer than it has. New pages are zero, and the tail is gone. Fault:
     /// Failed; there are at most n pages then.
@@ -50,80 +47,63 @@ pub trait Disk: DiskState {
             ≡ (Self.seen self.old).main.pages ++ blanks
             (n - length (Self.seen self.old).main.pages)) }
         ensures tail { OnOk result ((Self.seen self.new).main.tail ≡ 0) }
-        ensures does { Does Self.DiskState (GrowsUpTo n) self.old self.new }
-        ensures fault { CountsFault Self.DiskState self.old result self.new };
+        ensures does { CallDoes Self.DiskState (GrowsUpTo n) self.old result self.new };
 
     /// Makes the file n pages long, which is no more than it has. The tail is gone. Fault: Failed.
     fn cut(&mut self, n: u32) -> Result<(), StoreFault>
         requires { n ≤ length (Self.seen self.old).main.pages }
         ensures long { OnOk result (length (Self.seen self.new).main.pages ≡ n) }
         ensures tail { OnOk result ((Self.seen self.new).main.tail ≡ 0) }
-        ensures does { Does Self.DiskState (CutsTo n) self.old self.new }
-        ensures fault { CountsFault Self.DiskState self.old result self.new };
+        ensures does { CallDoes Self.DiskState (CutsTo n) self.old result self.new };
 
     /// Has the device keep the file, and nothing else. Fault: Failed.
     fn sync(&mut self) -> Result<(), StoreFault>
-        ensures durable { OnOk result ((c : Files) → Self.may_leave self.new c
-            → c.main ≡ (Self.seen self.old).main) }
-        ensures does { Stays Self.DiskState self.old self.new }
-        ensures fault { CountsFault Self.DiskState self.old result self.new };
+        ensures { CallSyncs Self.DiskState (λ f. f.main) self.old result self.new };
 
     /// Begins a side file for a file of so many pages, under the name that no opening looks for. One that was begun
     /// there is gone. Fault: Failed; what has that name is anything then.
     fn start(&mut self, long: u32) -> Result<(), StoreFault>
         ensures fresh { IsTrue (Self.steady self.old)
             → OnOk result ((Self.seen self.new).fresh ≡ nothing_kept long) }
-        ensures does { Does Self.DiskState Fresh self.old self.new }
-        ensures fault { CountsFault Self.DiskState self.old result self.new };
+        ensures does { CallDoes Self.DiskState Fresh self.old result self.new };
 
     /// Adds an old page to it, the page of number n. Fault: Failed; what has that name is anything then.
     fn keep(&mut self, n: u32, page: &[u8; PAGE_WIDTH]) -> Result<(), StoreFault>
         ensures fresh { IsTrue (Self.steady self.old) → OnOk result ((Self.seen self.new).fresh
             ≡ kept_more (Self.seen self.old).fresh n page.now) }
-        ensures does { Does Self.DiskState Fresh self.old self.new }
-        ensures fault { CountsFault Self.DiskState self.old result self.new };
+        ensures does { CallDoes Self.DiskState Fresh self.old result self.new };
 
     /// Has the device keep the side file that is being made, and nothing else. Fault: Failed.
     fn sync_fresh(&mut self) -> Result<(), StoreFault>
-        ensures durable { OnOk result ((c : Files) → Self.may_leave self.new c
-            → c.fresh ≡ (Self.seen self.old).fresh) }
-        ensures does { Stays Self.DiskState self.old self.new }
-        ensures fault { CountsFault Self.DiskState self.old result self.new };
+        ensures { CallSyncs Self.DiskState (λ f. f.fresh) self.old result self.new };
 
     /// Gives the side file that was made the name that an opening looks for, at once or not at all. Fault: Failed.
     fn name(&mut self) -> Result<(), StoreFault>
         ensures named { IsTrue (Self.steady self.old)
             → OnOk result ((Self.seen self.new).side ≡ Some (Self.seen self.old).fresh) }
-        ensures does { Does Self.DiskState Names self.old self.new }
-        ensures fault { CountsFault Self.DiskState self.old result self.new };
+        ensures does { CallDoes Self.DiskState Names self.old result self.new };
 
     /// Takes the side file of that name away, at once or not at all. Fault: Failed.
     fn remove(&mut self) -> Result<(), StoreFault>
         ensures gone { OnOk result ((Self.seen self.new).side ≡ None) }
-        ensures does { Does Self.DiskState Removes self.old self.new }
-        ensures fault { CountsFault Self.DiskState self.old result self.new };
+        ensures does { CallDoes Self.DiskState Removes self.old result self.new };
 
     /// Has the device keep whether a side file has that name, and nothing of what it says. Fault: Failed.
     fn sync_names(&mut self) -> Result<(), StoreFault>
-        ensures durable { OnOk result ((c : Files) → Self.may_leave self.new c
-            → is_some c.side ≡ is_some (Self.seen self.old).side) }
-        ensures does { Stays Self.DiskState self.old self.new }
-        ensures fault { CountsFault Self.DiskState self.old result self.new };
+        ensures { CallSyncs Self.DiskState (λ f. is_some f.side) self.old result self.new };
 
     /// What the side file of that name says of its length, where there is one. Fault: Failed.
     fn side(&mut self) -> Result<Option<SideShape>, StoreFault>
         ensures shape { IsTrue (Self.steady self.old)
             → IfOk result (λ found. found ≡ side_shape (Self.seen self.old).side) }
-        ensures does { Stays Self.DiskState self.old self.new }
-        ensures fault { CountsFault Self.DiskState self.old result self.new };
+        ensures does { CallDoes Self.DiskState Nothing self.old result self.new };
 
     /// Reads the i-th of its old pages, from 0, and answers the number of that page. Fault: Failed, as where there
     /// are no more than i.
     fn kept(&mut self, i: u32, to: &mut [u8; PAGE_WIDTH]) -> Result<u32, StoreFault>
         ensures page { IsTrue (Self.steady self.old)
             → IfOk result (λ n. kept_at (Self.seen self.old).side i ≡ Some (n, to.new)) }
-        ensures does { Stays Self.DiskState self.old self.new }
-        ensures fault { CountsFault Self.DiskState self.old result self.new };
+        ensures does { CallDoes Self.DiskState Nothing self.old result self.new };
 
     /// At this moment a crash leaves nothing but what it may leave now.
     ghost only_now: { (disk : Self) (c : Files)

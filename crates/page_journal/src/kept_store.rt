@@ -4,8 +4,8 @@ ghost use Rattle.rec_types.specs.Table.{counted};
 ghost use Rattle.rec_types.specs.Widths.{page_width};
 ghost use Rattle.page_store.specs.Blank.{blanks};
 ghost use Rattle.page_store.specs.Growth.{GrowsTo};
-ghost use Rattle.page_store.specs.StoreCalls.{LeavesStore, ChangesStore};
-ghost use Rattle.page_store.specs.StoreFaults.{is_failed, AsksNoMemory};
+ghost use Rattle.page_store.specs.StoreCalls.{SealsStore, ChangesStore};
+ghost use Rattle.page_store.specs.StoreFaults.{is_failed};
 ghost use Rattle.page_store.specs.declared.step.Step.{Step};
 ghost use Rattle.page_journal.specs.Files.{Files, recovered};
 ghost use Rattle.page_journal.specs.Crash.{IsSettled, IsAtRest, StandsFor, IsEither};
@@ -294,7 +294,6 @@ impl<D: Disk + Drop> Store for KeptStore<D> {
             ≡ slice_set (D.seen self.old.disk).main.pages n from.now) }
         ensures other_pages { (page : List ℕ) × ((D.seen self.new.disk).main.pages
             ≡ slice_set (D.seen self.old.disk).main.pages n page) }
-        ensures no_memory { AsksNoMemory result }
         ensures same_tail { (D.seen self.new.disk).main.tail ≡ (D.seen self.old.disk).main.tail }
         ensures changes { ChangesStore ⟦<KeptStore<D> as StoreState>⟧ (Step.Write n from.now)
             self.old result self.new }
@@ -350,7 +349,7 @@ impl<D: Disk + Drop> SealStore for KeptStore<D> {
     /// Keeps the pages of these numbers aside, once. Faults: Failed, where pages were kept or a sealing failed before,
     /// the store has a tail or more than 1,000,001 pages, or the disk failed; Memory.
     fn seal(&mut self, numbers: &[u32]) -> Result<(), StoreFault>
-        ensures leaves { LeavesStore ⟦<KeptStore<D> as StoreState>⟧ true
+        ensures leaves { SealsStore ⟦<KeptStore<D> as StoreState>⟧
             self.old result self.new }
         ensures sealed { OnOk result ((self.new.state ≡ SealState.Sealed) × ((n : ℕ)
             → n < length (D.seen self.old.disk).main.pages

@@ -7,7 +7,7 @@ ghost use Rattle.page_journal.specs.History.{MayLeave, all_done, with_call, fail
 ghost use Rattle.page_journal.specs.Fates.{first_calls};
 ghost use Rattle.page_journal.specs.declared.fate.Fate.{Fate};
 ghost use Rattle.page_journal.specs.declared.disk_call.DiskCall.{DiskCall};
-ghost use Rattle.page_store.specs.StoreFaults.{AsksNoMemory};
+ghost use Rattle.page_store.specs.StoreFaults.{OnlyFails};
 
 use crate::disk::Disk;
 use crate::disk_call::DiskCall;
@@ -114,7 +114,7 @@ impl<B> MemDisk<B> {
     fn note(&mut self, call: DiskCall) -> Result<(), StoreFault>
         ensures ok { OnOk result (self.new ≡ with_call self.old call) }
         ensures err { OnErr result (self.new ≡ failed_more self.old) }
-        ensures no_memory { AsksNoMemory result }
+        ensures fault { OnlyFails result }
     {
         if self.take(call).is_err() {
             return Err(self.fail());

@@ -1,7 +1,7 @@
 ghost use Rattle.std.specs.Prelude.{◌≡◌, ◌<◌, ◌≤◌, ℕ, List, Some, Err, length, IsErr, IsTrue, OnOk, slice_set};
 ghost use Rattle.rec_types.specs.Table.{counted};
 ghost use Rattle.page_journal.specs.Files.{Kept, recovered, restored};
-ghost use Rattle.page_journal.specs.Steps.{CountsFault, TornAt, side_shape, StaysSteady};
+ghost use Rattle.page_journal.specs.Steps.{CallDoes, CallsLeave, TornAt, side_shape, StaysSteady};
 ghost use Rattle.page_journal.specs.Crash.{LeavesOnly, IsSettled, IsSealed, IsAtRest, StandsFor, IsEither, MayWrite, PutsBack};
 ghost use Rattle.page_journal.specs.Recovery.{is_device, IsTooShort};
 
@@ -20,14 +20,12 @@ pub(crate) fn overwrite<D: Disk>(
     page: &[u8; PAGE_WIDTH],
 ) -> Result<(), StoreFault>
     requires { n < length (D.seen disk.old).main.pages }
-    ensures steady { StaysSteady D.DiskState disk.old disk.new }
+    ensures does { CallDoes D.DiskState (TornAt n) disk.old result disk.new }
     ensures page { IsTrue (D.steady disk.old) → OnOk result ((D.seen disk.new).main.pages
         ≡ slice_set (D.seen disk.old).main.pages n page.now) }
-    ensures torn { TornAt n (D.seen disk.old) (D.seen disk.new) }
     ensures sealed { (kept : Kept) (base : List (List ℕ)) → IsSealed D.DiskState kept base disk.old
         → MayWrite kept n → IsSealed D.DiskState kept base disk.new
         × LeavesOnly D.DiskState (StandsFor (restored kept base)) disk.old disk.new }
-    ensures fault { CountsFault D.DiskState disk.old result disk.new }
 {
     disk.write(n, page)
 }
@@ -36,7 +34,7 @@ pub(crate) fn overwrite<D: Disk>(
 /// crash leaves the new file. Until then it leaves the old one. Fault: Failed; no page has changed then, and the
 /// side file may be there or not.
 pub fn commit<D: Disk>(disk: &mut D) -> Result<(), StoreFault>
-    ensures steady { StaysSteady D.DiskState disk.old disk.new }
+    ensures calls { CallsLeave D.DiskState disk.old result disk.new }
     ensures same { (D.seen disk.new).main ≡ (D.seen disk.old).main }
     ensures committed { (kept : Kept) (base : List (List ℕ))
         → IsSealed D.DiskState kept base disk.old
@@ -44,7 +42,6 @@ pub fn commit<D: Disk>(disk: &mut D) -> Result<(), StoreFault>
     ensures any_moment { (kept : Kept) (base : List (List ℕ))
         → IsSealed D.DiskState kept base disk.old → LeavesOnly D.DiskState
         (IsEither (restored kept base) (D.seen disk.old).main) disk.old disk.new }
-    ensures fault { CountsFault D.DiskState disk.old result disk.new }
 {
     disk.sync()?;
     disk.remove()?;
@@ -55,12 +52,11 @@ pub fn commit<D: Disk>(disk: &mut D) -> Result<(), StoreFault>
 // Puts the old pages of the side file back, of which there are so many. The file has as many pages as it had then.
 fn put_pages<D: Disk>(disk: &mut D, long: u32, count: u32) -> Result<(), StoreFault>
     requires long { long ≡ length (D.seen disk.old).main.pages }
-    ensures steady { StaysSteady D.DiskState disk.old disk.new }
+    ensures calls { CallsLeave D.DiskState disk.old result disk.new }
     ensures tail { (D.seen disk.new).main.tail ≡ (D.seen disk.old).main.tail }
     ensures put { IsTrue (D.steady disk.old) → (kept : Kept) (base : List (List ℕ))
         → kept.long ≡ long → length kept.pages ≡ count → IsSealed D.DiskState kept base disk.old
         → PutsBack D.DiskState kept base result disk.old disk.new }
-    ensures fault { CountsFault D.DiskState disk.old result disk.new }
 {
     let mut page = blank_page();
     for i in 0..count {
@@ -76,14 +72,13 @@ fn put_pages<D: Disk>(disk: &mut D, long: u32, count: u32) -> Result<(), StoreFa
 // was.
 fn put_back<D: Disk>(disk: &mut D, side: SideShape) -> Result<(), StoreFault>
     requires long { side.long ≤ length (D.seen disk.old).main.pages }
-    ensures steady { StaysSteady D.DiskState disk.old disk.new }
+    ensures calls { CallsLeave D.DiskState disk.old result disk.new }
     ensures restored { IsTrue (D.steady disk.old) → (kept : Kept) (base : List (List ℕ))
         → side_shape (Some kept) ≡ Some side → IsSealed D.DiskState kept base disk.old
         → OnOk result (IsSettled D.DiskState (restored kept base) disk.new) }
     ensures any_moment { IsTrue (D.steady disk.old) → (kept : Kept) (base : List (List ℕ))
         → side_shape (Some kept) ≡ Some side → IsSealed D.DiskState kept base disk.old
         → LeavesOnly D.DiskState (StandsFor (restored kept base)) disk.old disk.new }
-    ensures fault { CountsFault D.DiskState disk.old result disk.new }
 {
     disk.cut(side.long)?;
     put_pages(disk, side.long, side.kept)?;

@@ -1,7 +1,7 @@
 ghost use Rattle.std.specs.Prelude.{◌≡◌, ◌≤◌, ℕ, List, [], Some, length, All, IsTrue, OnOk, slice_get};
 ghost use Rattle.page_store.specs.FreeNumbers.{greatest_page_count};
 ghost use Rattle.page_journal.specs.Files.{Kept, restored};
-ghost use Rattle.page_journal.specs.Steps.{CountsFault, nothing_kept, StaysSteady};
+ghost use Rattle.page_journal.specs.Steps.{CallsLeave, nothing_kept};
 ghost use Rattle.page_journal.specs.Crash.{LeavesOnly, IsSettled, IsSealed, StandsFor, Gathered, AreKept};
 
 use crate::blank::blank_page;
@@ -14,7 +14,7 @@ fn gather<D: Disk>(disk: &mut D, long: u32, numbers: &[u32]) -> Result<(), Store
     requires settled { IsTrue (D.steady disk.old)
         → IsSettled D.DiskState (D.seen disk.old).main disk.old }
     requires fresh { IsTrue (D.steady disk.old) → (D.seen disk.old).fresh ≡ nothing_kept long }
-    ensures steady { StaysSteady D.DiskState disk.old disk.new }
+    ensures calls { CallsLeave D.DiskState disk.old result disk.new }
     ensures same { (D.seen disk.new).main ≡ (D.seen disk.old).main }
     ensures settled { IsTrue (D.steady disk.old)
         → IsSettled D.DiskState (D.seen disk.old).main disk.new }
@@ -24,7 +24,6 @@ fn gather<D: Disk>(disk: &mut D, long: u32, numbers: &[u32]) -> Result<(), Store
         → OnOk result (Gathered (D.seen disk.old).main.pages (D.seen disk.new).fresh) }
     ensures numbers { IsTrue (D.steady disk.old)
         → OnOk result (AreKept numbers.now (D.seen disk.new).fresh) }
-    ensures fault { CountsFault D.DiskState disk.old result disk.new }
 {
     let mut page = blank_page();
     for n in numbers {
@@ -47,7 +46,7 @@ pub fn seal<D: Disk>(disk: &mut D, numbers: &[u32]) -> Result<(), StoreFault>
     requires no_tail { (D.seen disk.old).main.tail ≡ 0 }
     requires settled { IsTrue (D.steady disk.old)
         → IsSettled D.DiskState (D.seen disk.old).main disk.old }
-    ensures steady { StaysSteady D.DiskState disk.old disk.new }
+    ensures calls { CallsLeave D.DiskState disk.old result disk.new }
     ensures same { (D.seen disk.new).main ≡ (D.seen disk.old).main }
     ensures sealed { IsTrue (D.steady disk.old) → OnOk result ((kept : Kept)
         × IsSealed D.DiskState kept (D.seen disk.old).main.pages disk.new
@@ -55,7 +54,6 @@ pub fn seal<D: Disk>(disk: &mut D, numbers: &[u32]) -> Result<(), StoreFault>
         × (kept.long ≡ length (D.seen disk.old).main.pages) × AreKept numbers.now kept) }
     ensures any_moment { IsTrue (D.steady disk.old) → LeavesOnly D.DiskState
         (StandsFor (D.seen disk.old).main) disk.old disk.new }
-    ensures fault { CountsFault D.DiskState disk.old result disk.new }
 {
     let long = disk.shape()?.pages as u32;
     disk.start(long)?;

@@ -2,8 +2,9 @@
 use Rattle.std.specs.Prelude.{◌≡◌, Bool, true, not, [], ◌∷◌, Result, OnOk, OnErr}
 use Rattle.rec_types.specs.Table.{counted}
 use Rattle.page_store.specs.Journal.{noted}
-use Rattle.page_store.specs.StoreFaults.{is_failed}
+use Rattle.page_store.specs.StoreFaults.{is_failed, AsksNoMemory}
 use Rattle.page_store.specs.declared.step.Step.{Step}
+use Rattle.page_store.specs.declared.step.Step.TheVariants.{SetPages, Write, Sync}
 use Rattle.page_store.specs.declared.store_fault.StoreFault.{StoreFault}
 use Rattle.page_store.specs.declared.store_state.StoreState.{Ghosts}
 
@@ -21,6 +22,20 @@ pub record LeavesStore {S A : Type 0} (s : Ghosts S) (read : Bool) (old : S) (an
   pub reads : s.reads new ≡ counted (s.reads old) read
   pub shapes : s.shapes new ≡ counted (s.shapes old) (not read)
   pub failures : s.failures new ≡ counted (s.failures old) (is_failed answer)
+  pub no_memory : AsksNoMemory answer
+
+-- a call that keeps old pages aside: it counts as a read, and may ask for memory
+pub record SealsStore {S A : Type 0} (s : Ghosts S) (old : S) (answer : Result A StoreFault) (new : S) : Type 0 where
+  pub stays : StaysStore s old new
+  pub reads : s.reads new ≡ counted (s.reads old) true
+  pub shapes : s.shapes new ≡ s.shapes old
+  pub failures : s.failures new ≡ counted (s.failures old) (is_failed answer)
+
+-- only the step that makes the store longer may ask for memory
+abbrev pub AsksToGrow : {A : Type 0} → Step → Result A StoreFault → Type 0
+AsksToGrow (SetPages n) answer = Unit {0}
+AsksToGrow (Write n page) answer = AsksNoMemory answer
+AsksToGrow Sync answer = AsksNoMemory answer
 
 -- a changing call, and the step that it is
 pub record ChangesStore {S A : Type 0} (s : Ghosts S) (step : Step) (old : S) (answer : Result A StoreFault) (new : S) : Type 0 where
@@ -29,5 +44,6 @@ pub record ChangesStore {S A : Type 0} (s : Ghosts S) (step : Step) (old : S) (a
   pub shapes : s.shapes new ≡ s.shapes old
   pub writes : s.writes new ≡ counted (s.writes old) true
   pub failures : s.failures new ≡ counted (s.failures old) (is_failed answer)
+  pub memory : AsksToGrow step answer
   pub journal : OnOk answer (s.journal new ≡ noted (s.journal old) (step ∷ []))
   pub same_journal : OnErr answer (s.journal new ≡ s.journal old)

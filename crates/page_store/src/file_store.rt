@@ -1,6 +1,7 @@
 ghost use Rattle.std.specs.Prelude.{◌≡◌, ◌*◌, ◌<◌, ◌↔◌, [], IfOk, IsOk};
 ghost use Rattle.rec_types.specs.Table.{counted};
 ghost use Rattle.rec_types.specs.Widths.{page_width};
+ghost use Rattle.page_store.specs.OpenedFile.{Opens};
 ghost use Rattle.page_store.specs.StoreFaults.{is_failed, OnlyFails};
 
 use crate::count::count_up;
@@ -58,11 +59,7 @@ impl<F: OpenFile + FileExt + Lock + Drop> FileStore<F> {
     /// Opens the file of that path to read and write it, and takes the lock that no other opening shares. Fault: Failed,
     /// as where there is no file or another opening has a lock.
     pub fn open_path<R: Files<File = F>>(rt: &R, path: &str) -> Result<FileStore<F>, StoreFault>
-        ensures counts { IfOk result
-            (λ store. (store.reads ≡ 0) × (store.shapes ≡ 0) × (store.writes ≡ 0)
-            × (store.failures ≡ 0)) }
-        ensures tail { IfOk result (λ store. store.tail < page_width) }
-        ensures fault { OnlyFails result }
+        ensures { Opens result }
     {
         let file = OpenOptions::new().read(true).write(true).open(rt, path)?;
         file.try_lock()?;
@@ -72,11 +69,7 @@ impl<F: OpenFile + FileExt + Lock + Drop> FileStore<F> {
     /// Opens the file of that path to read it, and takes the lock that other readers share; writes to the store fail.
     /// Fault: Failed, as where there is no file or a writer has a lock.
     pub fn open_to_read<R: Files<File = F>>(rt: &R, path: &str) -> Result<FileStore<F>, StoreFault>
-        ensures counts { IfOk result
-            (λ store. (store.reads ≡ 0) × (store.shapes ≡ 0) × (store.writes ≡ 0)
-            × (store.failures ≡ 0)) }
-        ensures tail { IfOk result (λ store. store.tail < page_width) }
-        ensures fault { OnlyFails result }
+        ensures { Opens result }
     {
         let file = OpenOptions::new().read(true).open(rt, path)?;
         file.try_lock_shared()?;
@@ -116,11 +109,7 @@ impl<F: OpenFile + FileExt + Lock + Drop> FileStore<F> {
 
     // A store over a file that was opened. Fault: Failed.
     fn over(file: F) -> Result<FileStore<F>, StoreFault>
-        ensures counts { IfOk result
-            (λ store. (store.reads ≡ 0) × (store.shapes ≡ 0) × (store.writes ≡ 0)
-            × (store.failures ≡ 0)) }
-        ensures tail { IfOk result (λ store. store.tail < page_width) }
-        ensures fault { OnlyFails result }
+        ensures { Opens result }
     {
         let len = file.metadata()?.len();
         Ok(FileStore {

@@ -5,7 +5,7 @@ ghost use Rattle.page_store.specs.Blank.{blanks};
 ghost use Rattle.page_store.specs.Growth.{GrowsTo};
 ghost use Rattle.page_store.specs.StoreCalls.{LeavesStore, ChangesStore};
 ghost use Rattle.page_store.specs.declared.step.Step.{Step};
-ghost use Rattle.page_store.specs.StoreFaults.{is_failed, AsksNoMemory};
+ghost use Rattle.page_store.specs.StoreFaults.{is_failed};
 ghost use Rattle.page_store.specs.FlakyStored.{read_fails, write_fails, with_read, with_write, reads_of, writes_of, failures_of};
 
 use crate::store::Store;
@@ -124,7 +124,6 @@ impl<S: Store> Store for FlakyStore<S> {
         ensures pages { IfOk result (λ shape. shape.pages ≡ length (S.pages self.old.inner)) }
         ensures tail { IfOk result (λ shape. shape.tail ≡ S.tail self.old.inner) }
         ensures short_tail { OnOk result (S.tail self.old.inner < page_width) }
-        ensures no_memory { AsksNoMemory result }
         ensures leaves { LeavesStore ⟦<FlakyStore<S> as StoreState>⟧ false
             self.old result self.new }
         ensures passes { S.failures self.new.inner
@@ -143,7 +142,6 @@ impl<S: Store> Store for FlakyStore<S> {
         requires { n < length (S.pages self.old.inner) }
         ensures page { IsTrue (S.steady self.old.inner)
             → OnOk result (slice_get (S.pages self.old.inner) n ≡ Some to.new) }
-        ensures no_memory { AsksNoMemory result }
         ensures leaves { LeavesStore ⟦<FlakyStore<S> as StoreState>⟧ true
             self.old result self.new }
         ensures fails { IsTrue (read_fails self.old) → (result ≡ Err StoreFault.Failed)
@@ -171,7 +169,6 @@ impl<S: Store> Store for FlakyStore<S> {
             → OnOk result (S.pages self.new.inner ≡ slice_set (S.pages self.old.inner) n from.now) }
         ensures other_pages { (page : List ℕ)
             × (S.pages self.new.inner ≡ slice_set (S.pages self.old.inner) n page) }
-        ensures no_memory { AsksNoMemory result }
         ensures same_tail { S.tail self.new.inner ≡ S.tail self.old.inner }
         ensures changes { ChangesStore ⟦<FlakyStore<S> as StoreState>⟧ (Step.Write n from.now)
             self.old result self.new }
@@ -224,7 +221,6 @@ impl<S: Store> Store for FlakyStore<S> {
     /// Has the device keep what was written. Fault: Failed, at the chosen calls and where the store
     /// below fails; no page has changed then.
     fn sync(&mut self) -> Result<(), StoreFault>
-        ensures no_memory { AsksNoMemory result }
         ensures same_pages { S.pages self.new.inner ≡ S.pages self.old.inner }
         ensures same_tail { S.tail self.new.inner ≡ S.tail self.old.inner }
         ensures changes { ChangesStore ⟦<FlakyStore<S> as StoreState>⟧ Step.Sync

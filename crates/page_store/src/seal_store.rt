@@ -1,5 +1,4 @@
-ghost use Rattle.std.specs.Prelude.{true};
-ghost use Rattle.page_store.specs.StoreCalls.{LeavesStore};
+ghost use Rattle.page_store.specs.StoreCalls.{SealsStore};
 
 use crate::store::Store;
 use crate::store_fault::StoreFault;
@@ -11,5 +10,5 @@ pub trait SealStore: Store {
     /// is counted as a read. Faults: Failed, as where the store has a tail or more than 1,000,001 pages, Memory; nothing
     /// may be written over then.
     fn seal(&mut self, numbers: &[u32]) -> Result<(), StoreFault>
-        ensures leaves { LeavesStore Self.StoreState true self.old result self.new };
+        ensures leaves { SealsStore Self.StoreState self.old result self.new };
 }

@@ -4,7 +4,6 @@ ghost use Rattle.page_store.specs.Blank.{blanks};
 ghost use Rattle.page_store.specs.Growth.{GrowsTo};
 ghost use Rattle.page_store.specs.StoreCalls.{LeavesStore, ChangesStore};
 ghost use Rattle.page_store.specs.declared.step.Step.{Step};
-ghost use Rattle.page_store.specs.StoreFaults.{AsksNoMemory};
 
 use crate::store_fault::{Shape, StoreFault};
 use crate::store_state::StoreState;
@@ -24,7 +23,6 @@ pub trait Store: StoreState + Drop {
         ensures pages { IfOk result (λ shape. shape.pages ≡ length (Self.pages self.old)) }
         ensures tail { IfOk result (λ shape. shape.tail ≡ Self.tail self.old) }
         ensures short_tail { OnOk result (Self.tail self.old < page_width) }
-        ensures no_memory { AsksNoMemory result }
         ensures leaves { LeavesStore Self.StoreState false self.old result self.new };
 
     /// Reads page n, which is there. Fault: Failed; no page has changed then.
@@ -32,7 +30,6 @@ pub trait Store: StoreState + Drop {
         requires { n < length (Self.pages self.old) }
         ensures page { IsTrue (Self.steady self.old)
             → OnOk result (slice_get (Self.pages self.old) n ≡ Some to.new) }
-        ensures no_memory { AsksNoMemory result }
         ensures leaves { LeavesStore Self.StoreState true self.old result self.new };
 
     /// Writes page n, which is there. Fault: Failed; the page then has any bytes, and the other pages
@@ -43,7 +40,6 @@ pub trait Store: StoreState + Drop {
             → OnOk result (Self.pages self.new ≡ slice_set (Self.pages self.old) n from.now) }
         ensures other_pages { (page : List ℕ)
             × (Self.pages self.new ≡ slice_set (Self.pages self.old) n page) }
-        ensures no_memory { AsksNoMemory result }
         ensures same_tail { Self.tail self.new ≡ Self.tail self.old }
         ensures changes { ChangesStore Self.StoreState (Step.Write n from.now)
             self.old result self.new };
@@ -61,7 +57,6 @@ pub trait Store: StoreState + Drop {
 
     /// Has the device keep what was written. Fault: Failed; no page has changed then.
     fn sync(&mut self) -> Result<(), StoreFault>
-        ensures no_memory { AsksNoMemory result }
         ensures same_pages { Self.pages self.new ≡ Self.pages self.old }
         ensures same_tail { Self.tail self.new ≡ Self.tail self.old }
         ensures changes { ChangesStore Self.StoreState Step.Sync self.old result self.new };

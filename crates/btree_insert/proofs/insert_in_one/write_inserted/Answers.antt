@@ -26,19 +26,19 @@ insert_in-requires-clause-copy c =
 
 pub insert_in-requires-clause-index : goal.insert_in-requires-clause-index
 insert_in-requires-clause-index c =
-    let n = c.requires.spelt.0 in
-    let can = c.requires.spelt.1 in
-    let is = c.requires.spelt.2 in
+    let n = c.requires.page.1.0 in
+    let can = c.requires.page.1.1 in
+    let is = c.requires.page.1.2 in
     let place = (c.requires.leaf n can is).1 in
-    omega (arith, count_spelt c.args.order c.index_mut.result.now.1 n c.requires.order can (bytes (goal.at.insert_in-requires-clause-index c).After-element-1 ∙ is), place.within)
+    omega (arith, count_spelt c.args.order c.index_mut.result.now.1 n c.requires.page.0 can (bytes (goal.at.insert_in-requires-clause-index c).After-element-1 ∙ is), place.within)
 
 pub insert_in-requires-clause-room : goal.insert_in-requires-clause-room
 insert_in-requires-clause-room c =
-    let n = c.requires.spelt.0 in
-    let can = c.requires.spelt.1 in
-    let is = c.requires.spelt.2 in
+    let n = c.requires.page.1.0 in
+    let can = c.requires.page.1.1 in
+    let is = c.requires.page.1.2 in
     let room = (c.requires.leaf n can is).2 in
-    omega (arith, count_spelt c.args.order c.index_mut.result.now.1 n c.requires.order can (bytes (goal.at.insert_in-requires-clause-room c).After-element-1 ∙ is), room)
+    omega (arith, count_spelt c.args.order c.index_mut.result.now.1 n c.requires.page.0 can (bytes (goal.at.insert_in-requires-clause-room c).After-element-1 ∙ is), room)
 
 pub returns-clause-writes : goal.returns-clause-writes
 returns-clause-writes c = λ n can is.
@@ -56,9 +56,9 @@ returns-clause-writes c = λ n can is.
 
 pub returns-clause-edit : goal.returns-clause-edit
 returns-clause-edit c =
-    let n = c.requires.spelt.0 in
-    let can = c.requires.spelt.1 in
-    let is = c.requires.spelt.2 in
+    let n = c.requires.page.1.0 in
+    let can = c.requires.page.1.1 in
+    let is = c.requires.page.1.2 in
     let changed = returns-clause-writes c n can is in record {
       spelt = spelt_more c.args.order c.args.n c.args.edit.now.writes.items _ changed.node changed.stands changed.written;
       taken = c.in_ok-write_page.ensures.edit.taken;

@@ -22,11 +22,11 @@ module _ (c : After-element-1) where
 
 pub replace_in-requires-clause-index : goal.replace_in-requires-clause-index
 replace_in-requires-clause-index c =
-    let n = c.requires.spelt.0 in
-    let can = c.requires.spelt.1 in
-    let is = c.requires.spelt.2 in
+    let n = c.requires.page.1.0 in
+    let can = c.requires.page.1.1 in
+    let is = c.requires.page.1.2 in
     let found = c.requires.found n can is in
-    omega (arith, count_spelt c.args.order c.index_mut.result.now.1 n c.requires.order can (bytes (goal.at.replace_in-requires-clause-index c).After-element-1 ∙ is), found.within)
+    omega (arith, count_spelt c.args.order c.index_mut.result.now.1 n c.requires.page.0 can (bytes (goal.at.replace_in-requires-clause-index c).After-element-1 ∙ is), found.within)
 
 pub returns-clause-writes : goal.returns-clause-writes
 returns-clause-writes c = λ n can is.
@@ -43,9 +43,9 @@ returns-clause-writes c = λ n can is.
 
 pub returns-clause-edit : goal.returns-clause-edit
 returns-clause-edit c =
-    let n = c.requires.spelt.0 in
-    let can = c.requires.spelt.1 in
-    let is = c.requires.spelt.2 in
+    let n = c.requires.page.1.0 in
+    let can = c.requires.page.1.1 in
+    let is = c.requires.page.1.2 in
     let changed = returns-clause-writes c n can is in record {
       spelt = spelt_more c.args.order c.args.n c.args.edit.now.writes.items _ changed.node changed.stands changed.written;
       taken = c.in_ok-write_page.ensures.edit.taken;

@@ -5,12 +5,12 @@ use Rattle.btree_insert.proofs.step.is_within.Goals as goal
 
 pub key_in-first-requires-clause-index : goal.key_in-first-requires-clause-index
 key_in-first-requires-clause-index c =
-    let spelt = c.requires.spelt in
-    omega (arith, count_spelt c.args.order c.args.page.now spelt.0 c.requires.order spelt.1 spelt.2, spelt.1.some)
+    let spelt = c.requires.1 in
+    omega (arith, count_spelt c.args.order c.args.page.now spelt.0 c.requires.0 spelt.1 spelt.2, spelt.1.some)
 
 pub returns-then-is_over : goal.returns-then-is_over
 returns-then-is_over c = λ m can is.
-    let size = c.count_in.ensures.node c.args.order m c.requires.order can is in
+    let size = c.count_in.ensures.node c.args.order m c.requires.0 can is in
     last_tells c.args.bounds.now m.elements.items ([], []) ([], []) c.key_in-first.result c.key_in-last.result c.is_under.result can.some can.ascends (c.key_in-first.ensures m ([], []) can is)
     (c.key_in-last.ensures m ([], []) can is ∙ ap (λ n. (get_or m.elements.items (n - 1) ([], [])).0) size) (c.is_over.ensures.0 c.if-is_over.true) c.is_under.ensures
 

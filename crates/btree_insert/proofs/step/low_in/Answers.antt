@@ -12,6 +12,6 @@ returns-then-i-eq0 c = λ m can is.
 pub returns-else-i-eq0 : goal.returns-else-i-eq0
 returns-else-i-eq0 c = λ m can is.
     let next_is : suc (c.args.i - 1) ≡ c.args.i = omega arith in
-    let size = count_spelt c.args.order c.args.page.now m c.requires.order can is in
+    let size = count_spelt c.args.order c.args.page.now m c.requires.0 can is in
     ap Some (c.key_in.ensures m ([], []) can is)
-    ∙ sym (low_next m.elements.items (c.args.i - 1) ([], []) c.args.low.now (omega (arith, size, c.requires.index))) ∙ ap (λ i. low_at m.elements.items i c.args.low.now) next_is
+    ∙ sym (low_next m.elements.items (c.args.i - 1) ([], []) c.args.low.now (omega (arith, size, c.requires.2))) ∙ ap (λ i. low_at m.elements.items i c.args.low.now) next_is

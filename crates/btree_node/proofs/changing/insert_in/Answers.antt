@@ -12,11 +12,11 @@ pub returns : goal.returns
 returns c = λ n can is.
     let i = c.args.i in
     let page = c.args.page.now in
-    let count = count_spelt c.args.k page n c.requires.order can is in
+    let count = count_spelt c.args.k page n c.requires.page.0 can is in
     let told = c.count_of-count.ensures ∙ count in
     let start = c.place_start-start.ensures.value in
     let end = c.place_start-end.ensures.value ∙ ap (λ m. 8 + 118 * m) told in
-    inserted_spelt c.args.k i n c.args.element.now page c.part_of.result.now c.put_place.new.page c.put_bytes.new.page c.put_count.new.page can c.requires.element is c.told-page c.requires.order
+    inserted_spelt c.args.k i n c.args.element.now page c.part_of.result.now c.put_place.new.page c.put_bytes.new.page c.put_count.new.page can c.requires.element is c.told-page c.requires.page.0
     (omega (arith, count, c.requires.index)) (omega (arith, count, c.requires.room))
     (c.part_of.ensures.value ∙ ap (part c.place_start-start.result (c.place_start-end.result - c.place_start-start.result)) c.requires.copy ∙ ap (λ at. part at (c.place_start-end.result - at) page) start ∙ ap (λ to. part (8 + 118 * i) (to - (8 + 118 * i)) page) end)
     (c.put_place.ensures ∙ ap (λ at. put_at at (place second_layout c.args.element.now) page) start)

@@ -12,24 +12,24 @@ use Rattle.btree_node.proofs.changing.remove_in.Goals as goal
 few : (k : ℕ) (page : List ℕ) → k ≤ 16 → IsSpelt k page → count_at page ≤ 32
 few k page small spelt = omega (arith, count_spelt k page spelt.0 small spelt.1 spelt.2, spelt.1.most)
 
-pub place_start-start-requires-clause-index : goal.place_start-start-requires-clause-index
-place_start-start-requires-clause-index c = omega (arith, few c.args.k c.args.page.now c.requires.order c.requires.spelt, c.requires.index)
+pub place_start-start-requires : goal.place_start-start-requires
+place_start-start-requires c = (omega arith, omega (arith, few c.args.k c.args.page.now c.requires.page.0 c.requires.page.1, c.requires.index))
 
-pub place_start-end-requires-clause-index : goal.place_start-end-requires-clause-index
-place_start-end-requires-clause-index c =
-    omega (arith, few c.args.k c.args.page.now c.requires.order c.requires.spelt, c.requires.index, c.count_of-left.ensures)
+pub place_start-end-requires : goal.place_start-end-requires
+place_start-end-requires c =
+    (omega arith, omega (arith, few c.args.k c.args.page.now c.requires.page.0 c.requires.page.1, c.requires.index, c.count_of-left.ensures))
 
 pub returns : goal.returns
 returns c = λ n can is.
     let i = c.args.i in
     let page = c.args.page.now in
     let none : Element = ([], []) in
-    let count = count_spelt c.args.k page n c.requires.order can is in
+    let count = count_spelt c.args.k page n c.requires.page.0 can is in
     let told = c.count_of-left.ensures ∙ count in
     let start = c.place_start-start.ensures.value in
     let last = ap (λ m. m - 1) told in
     let end = c.place_start-end.ensures.value ∙ ap (λ m. 8 + 118 * m) (omega (arith, c.requires.index, told, count)) in
-    removed_spelt c.args.k i n none page c.part_of.result.now c.put_bytes.new.page c.put_zeros.new.page c.put_count.new.page can is c.told-page c.requires.order
+    removed_spelt c.args.k i n none page c.part_of.result.now c.put_bytes.new.page c.put_zeros.new.page c.put_count.new.page can is c.told-page c.requires.page.0
     (omega (arith, count, c.requires.index))
     (c.part_of.ensures.value ∙ ap (part c.place_start-start.result (c.place_start-end.result - c.place_start-start.result)) c.requires.copy ∙ ap (λ at. part at (c.place_start-end.result - at) page) start ∙ ap (λ to. part (8 + 118 * (i + 1)) (to - (8 + 118 * (i + 1))) page) end)
     (c.put_bytes.ensures ∙ ap (λ at. put_at at c.part_of.result.now page) c.place_start.ensures.value)

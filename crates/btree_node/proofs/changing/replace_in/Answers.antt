@@ -6,11 +6,11 @@ use Rattle.btree_node.proofs.ChangedPageLemmas.{replaced_spelt}
 use Rattle.btree_node.proofs.SpeltPageLemmas.{count_spelt, few_places}
 use Rattle.btree_node.proofs.changing.replace_in.Goals as goal
 
-pub place_start-requires-clause-index : goal.place_start-requires-clause-index
-place_start-requires-clause-index c = omega (arith, few_places c.args.k c.args.page.now c.requires.order c.requires.spelt, c.requires.index)
+pub place_start-requires : goal.place_start-requires
+place_start-requires c = (omega arith, omega (arith, few_places c.args.k c.args.page.now c.requires.page.0 c.requires.page.1, c.requires.index))
 
 pub returns : goal.returns
 returns c = λ n can is.
     c.put_place.ensures
     ∙ ap (λ at. put_at at (place second_layout c.args.element.now) c.args.page.now) c.place_start.ensures.value
-    ∙ replaced_spelt c.args.k c.args.i n c.args.element.now c.args.page.now can c.requires.element is (omega (arith, count_spelt c.args.k c.args.page.now n c.requires.order can is, c.requires.index))
+    ∙ replaced_spelt c.args.k c.args.i n c.args.element.now c.args.page.now can c.requires.element is (omega (arith, count_spelt c.args.k c.args.page.now n c.requires.page.0 can is, c.requires.index))

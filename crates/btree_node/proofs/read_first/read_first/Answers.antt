@@ -6,10 +6,10 @@ use Rattle.btree_node.proofs.QuickPassLemmas.{Accepted, passes_before, passes_la
 use Rattle.btree_node.proofs.SpellingLemmas.{length-sons}
 use Rattle.btree_node.proofs.read_first.read_first.Goals as goal
 
-pub rest_is_zero-requires-clause-sons : goal.rest_is_zero-requires-clause-sons
-rest_is_zero-requires-clause-sons c =
+pub rest_is_zero-requires-clause-room : goal.rest_is_zero-requires-clause-room
+rest_is_zero-requires-clause-room c =
     let fits = c.count_fits.ensures.0 c.if-not-count_fits.false in
-    omega (arith, c.requires.order, fits.1, c.len.ensures.value, ap length c.fill_sons.ensures, length-sons c.in-Some.kind second_layout c.args.k c.args.page.now c.count_of-count.result)
+    (omega arith, c.requires.1, omega (arith, c.requires.1, fits.1, c.len.ensures.value, ap length c.fill_sons.ensures, length-sons c.in-Some.kind second_layout c.args.k c.args.page.now c.count_of-count.result))
 
 -- what was found on the way
 module _ (c : goal.After-rest_is_zero) where

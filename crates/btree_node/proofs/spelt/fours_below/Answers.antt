@@ -11,6 +11,6 @@ loop-at-preserved c =
     record {
       within = omega arith;
       below = λ node can is. subst (λ n. Each (λ e. Below e.0 c.args.key.now) (take n node.elements.items)) next
-          (below_to node.elements.items c.args.key.now m ([], []) can.ascends (omega (arith, count_spelt c.args.k c.args.page.now node c.requires.order can is))
+          (below_to node.elements.items c.args.key.now m ([], []) can.ascends (omega (arith, count_spelt c.args.k c.args.page.now node c.requires.0 can is))
           (subst (λ k. Below k c.args.key.now) (c.key_in.ensures node ([], []) can is) (c.is_below.ensures.0 c.if-is_below.true)));
     }

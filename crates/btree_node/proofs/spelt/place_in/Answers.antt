@@ -15,18 +15,18 @@ loop-at-preserved c =
     record {
       within = omega arith;
       below = λ node can is. subst (λ n. Each (λ e. Below e.0 c.args.key.now) (take n node.elements.items)) next
-          (below_to node.elements.items c.args.key.now m ([], []) can.ascends (omega (arith, count_spelt c.args.k c.args.page.now node c.requires.order can is))
+          (below_to node.elements.items c.args.key.now m ([], []) can.ascends (omega (arith, count_spelt c.args.k c.args.page.now node c.requires.0 can is))
           (subst (λ k. Below k c.args.key.now) (c.key_in.ensures node ([], []) can is) (sym c.cmp.ensures ∙ c.in-Less.is)));
     }
 
 pub returns-in-Equal-clause-found : goal.returns-in-Equal-clause-found
 returns-in-Equal-clause-found c = λ node can is.
-    found_at node.elements.items c.args.key.now c.loop-at.at ([], []) can.ascends (omega (arith, count_spelt c.args.k c.args.page.now node c.requires.order can is))
+    found_at node.elements.items c.args.key.now c.loop-at.at ([], []) can.ascends (omega (arith, count_spelt c.args.k c.args.page.now node c.requires.0 can is))
     (sym (c.key_in.ensures node ([], []) can is) ∙ exact_bytes _ _ (sym c.cmp.ensures ∙ c.in-Equal.is))
 
 pub returns-in-Greater-clause-found : goal.returns-in-Greater-clause-found
 returns-in-Greater-clause-found c = λ node can is.
-    let low = count_spelt c.args.k c.args.page.now node c.requires.order can is in
+    let low = count_spelt c.args.k c.args.page.now node c.requires.0 can is in
     record {
       within = omega (arith, low);
       below = c.loop-at.invariant.below node can is;

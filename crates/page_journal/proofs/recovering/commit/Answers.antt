@@ -7,33 +7,33 @@ pub returns-in_err-sync-clause-any_moment : goal.returns-in_err-sync-clause-any_
 returns-in_err-sync-clause-any_moment g c = λ kept base sealed.
     let d = g.D.DiskState in
     let old = c.args.disk.now in
-    let holds = holds_stays d kept base old old c.sync.new.self (holds_begin d kept base old (g.met.D.Disk.only_now old) sealed) c.sync.ensures.does in
+    let holds = holds_stays d kept base old old c.sync.new.self (holds_begin d kept base old (g.met.D.Disk.only_now old) sealed) c.sync.ensures.1 in
     either_old d kept base (d.seen old).main old c.sync.new.self holds
 
 pub returns-in_err-remove-clause-any_moment : goal.returns-in_err-remove-clause-any_moment
 returns-in_err-remove-clause-any_moment g c = λ kept base sealed.
     let d = g.D.DiskState in
     let old = c.args.disk.now in
-    let holds = holds_stays d kept base old old c.sync.new.self (holds_begin d kept base old (g.met.D.Disk.only_now old) sealed) c.sync.ensures.does in
-    remove_time d kept base (d.seen old).main old c.sync.new.self c.remove.new.self holds c.in_ok-sync.ensures.durable c.remove.ensures.does
+    let holds = holds_stays d kept base old old c.sync.new.self (holds_begin d kept base old (g.met.D.Disk.only_now old) sealed) c.sync.ensures.1 in
+    remove_time d kept base (d.seen old).main old c.sync.new.self c.remove.new.self holds c.in_ok-sync.ensures.0 c.remove.ensures.does.0
 
 pub returns-in_err-sync_names-clause-any_moment : goal.returns-in_err-sync_names-clause-any_moment
 returns-in_err-sync_names-clause-any_moment g c = λ kept base sealed.
     let d = g.D.DiskState in
     let old = c.args.disk.now in
-    let holds = holds_stays d kept base old old c.sync.new.self (holds_begin d kept base old (g.met.D.Disk.only_now old) sealed) c.sync.ensures.does in
-    removes_time d kept base (d.seen old).main old c.sync.new.self c.remove.new.self c.sync_names.new.self holds c.in_ok-sync.ensures.durable c.remove.ensures.does c.sync_names.ensures.does
+    let holds = holds_stays d kept base old old c.sync.new.self (holds_begin d kept base old (g.met.D.Disk.only_now old) sealed) c.sync.ensures.1 in
+    removes_time d kept base (d.seen old).main old c.sync.new.self c.remove.new.self c.sync_names.new.self holds c.in_ok-sync.ensures.0 c.remove.ensures.does.0 c.sync_names.ensures.1
 
 pub returns-clause-committed : goal.returns-clause-committed
 returns-clause-committed g c = λ kept base sealed.
     let d = g.D.DiskState in
     let old = c.args.disk.now in
-    let holds = holds_stays d kept base old old c.sync.new.self (holds_begin d kept base old (g.met.D.Disk.only_now old) sealed) c.sync.ensures.does in
-    now_settled d kept base (d.seen old).main old c.sync.new.self c.remove.new.self c.sync_names.new.self holds c.in_ok-sync.ensures.durable (ap (λ (f : Files). f.main) c.sync.ensures.does.seen) c.remove.ensures.does c.in_ok-remove.ensures.gone c.sync_names.ensures.does c.in_ok-sync_names.ensures.durable
+    let holds = holds_stays d kept base old old c.sync.new.self (holds_begin d kept base old (g.met.D.Disk.only_now old) sealed) c.sync.ensures.1 in
+    now_settled d kept base (d.seen old).main old c.sync.new.self c.remove.new.self c.sync_names.new.self holds c.in_ok-sync.ensures.0 (ap (λ (f : Files). f.main) c.sync.ensures.1.seen) c.remove.ensures.does.0 c.in_ok-remove.ensures.gone c.sync_names.ensures.1 c.in_ok-sync_names.ensures.0
 
 pub returns-clause-any_moment : goal.returns-clause-any_moment
 returns-clause-any_moment g c = λ kept base sealed.
     let d = g.D.DiskState in
     let old = c.args.disk.now in
-    let holds = holds_stays d kept base old old c.sync.new.self (holds_begin d kept base old (g.met.D.Disk.only_now old) sealed) c.sync.ensures.does in
-    removes_time d kept base (d.seen old).main old c.sync.new.self c.remove.new.self c.sync_names.new.self holds c.in_ok-sync.ensures.durable c.remove.ensures.does c.sync_names.ensures.does
+    let holds = holds_stays d kept base old old c.sync.new.self (holds_begin d kept base old (g.met.D.Disk.only_now old) sealed) c.sync.ensures.1 in
+    removes_time d kept base (d.seen old).main old c.sync.new.self c.remove.new.self c.sync_names.new.self holds c.in_ok-sync.ensures.0 c.remove.ensures.does.0 c.sync_names.ensures.1

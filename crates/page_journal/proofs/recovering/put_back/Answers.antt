@@ -14,13 +14,13 @@ module _ (g : given.Over) (c : After-cut g) (kept : Kept) (base : List (List ℕ
   cut_down =
       let d = g.D.DiskState in
       let old = c.args.disk.now in
-      holds_cut d kept base c.args.side.long old old c.cut.new.self (holds_begin d kept base old (g.met.D.Disk.only_now old) sealed) (omega (arith, (shape_parts kept c.args.side shape).0)) c.cut.ensures.does
+      holds_cut d kept base c.args.side.long old old c.cut.new.self (holds_begin d kept base old (g.met.D.Disk.only_now old) sealed) (omega (arith, (shape_parts kept c.args.side shape).0)) c.cut.ensures.does.0
 
 module _ (g : given.Over) (c : After-put_pages g) (st : IsTrue (g.D.DiskState.steady c.args.disk.now)) (kept : Kept) (base : List (List ℕ)) (shape : side_shape (Some kept) ≡ Some c.args.side) (cut : Holds g.D.DiskState kept base c.args.disk.now c.cut.new.self) where
   put_down : Holds g.D.DiskState kept base c.args.disk.now c.put_pages.new.disk
   put_down =
       let parts = shape_parts kept c.args.side shape in
-      let put = c.put_pages.ensures.put (c.cut.ensures.does.steady ∙ st) kept base parts.0 parts.1 cut.sealed in
+      let put = c.put_pages.ensures.put (c.cut.ensures.does.0.steady ∙ st) kept base parts.0 parts.1 cut.sealed in
       holds_then g.D.DiskState kept base c.args.disk.now c.cut.new.self c.put_pages.new.disk cut put.sealed put.time
 
 -- what is seen when all are put back is the old file
@@ -30,9 +30,9 @@ module _ (g : given.Over) (c : In_ok-put_pages g) (st : IsTrue (g.D.DiskState.st
       let d = g.D.DiskState in
       let was = (d.seen c.args.disk.now).main.pages in
       let parts = shape_parts kept c.args.side shape in
-      let put = c.in_ok-put_pages.ensures.put (c.cut.ensures.does.steady ∙ st) kept base parts.0 parts.1 cut.sealed in
+      let put = c.in_ok-put_pages.ensures.put (c.cut.ensures.does.0.steady ∙ st) kept base parts.0 parts.1 cut.sealed in
       let is_cut : (d.seen c.cut.new.self).main.pages ≡ take kept.long was =
-      cut_is c.args.side.long c.cut.ensures.does.seen.to was (d.seen c.cut.new.self).main.pages c.cut.ensures.does.seen.least c.cut.ensures.does.seen.pages c.in_ok-cut.ensures.long ∙ ap (λ n. take n was) (sym parts.0) in
+      cut_is c.args.side.long c.cut.ensures.does.0.seen.to was (d.seen c.cut.new.self).main.pages c.cut.ensures.does.0.seen.least c.cut.ensures.does.0.seen.pages c.in_ok-cut.ensures.long ∙ ap (λ n. take n was) (sym parts.0) in
       let pages : (d.seen c.put_pages.new.disk).main.pages ≡ put_back kept.pages (take kept.long was) = put.put ∙ ap (put_back kept.pages) is_cut in
       let tail : (d.seen c.put_pages.new.disk).main.tail ≡ 0 = c.in_ok-put_pages.ensures.tail ∙ c.in_ok-cut.ensures.tail in
       let same : (d.seen c.put_pages.new.disk).main ≡ restored kept was = λ i. record { pages = pages i; tail = tail i } in

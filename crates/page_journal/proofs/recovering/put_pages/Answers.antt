@@ -21,14 +21,14 @@ loop-i-init g c = record {
 
 pub returns-in_err-n-clause-put : goal.returns-in_err-n-clause-put
 returns-in_err-n-clause-put g c = λ st kept base long count sealed.
-    let p = puts_read g.D.DiskState kept base c.loop-i.i c.args.disk.now c.loop-i.disk c.kept.new.self (c.loop-i.invariant.put st kept base long count sealed) c.kept.ensures.does in
+    let p = puts_read g.D.DiskState kept base c.loop-i.i c.args.disk.now c.loop-i.disk c.kept.new.self (c.loop-i.invariant.put st kept base long count sealed) c.kept.ensures.does.0 in
     record { sealed = p.holds.sealed; time = p.holds.time; put = search rules }
 
 pub returns-in_err-overwrite-clause-put : goal.returns-in_err-overwrite-clause-put
 returns-in_err-overwrite-clause-put g c = λ st kept base long count sealed.
     let d = g.D.DiskState in
     let mid = c.loop-i.invariant.put st kept base long count sealed in
-    let p = puts_read d kept base c.loop-i.i c.args.disk.now c.loop-i.disk c.kept.new.self mid c.kept.ensures.does in
+    let p = puts_read d kept base c.loop-i.i c.args.disk.now c.loop-i.disk c.kept.new.self mid c.kept.ensures.does.0 in
     let may = may_of kept (d.seen c.loop-i.disk).side c.loop-i.i (c.in_ok-n.n, c.kept.new.to) mid.holds.sealed.side (c.in_ok-n.ensures.page (c.loop-i.invariant.steady ∙ st)) in
     let now = c.overwrite.ensures.sealed kept base p.holds.sealed may in
     let holds = holds_then d kept base c.args.disk.now c.kept.new.self c.overwrite.new.disk p.holds now.0 now.1 in
@@ -38,33 +38,33 @@ pub loop-i-preserved : goal.loop-i-preserved
 loop-i-preserved g c =
     let d = g.D.DiskState in
     let old = c.args.disk.now in
-    let same = ap (λ (f : Files). length f.main.pages) c.kept.ensures.does.seen in
-    let same_tail = ap (λ (f : Files). f.main.tail) c.kept.ensures.does.seen in
+    let same = ap (λ (f : Files). length f.main.pages) c.kept.ensures.does.0.seen in
+    let same_tail = ap (λ (f : Files). f.main.tail) c.kept.ensures.does.0.seen in
     record {
       long = elim c.if-n-long.branch [
-        | then-n-long+in_ok-overwrite w ↦ c.loop-i.invariant.long ∙ sym same ∙ sym (long_torn c.in_ok-n.n _ _ w.overwrite.ensures.torn) ∙ sym (ap (λ e. length (d.seen e).main.pages) w.disk-is)
+        | then-n-long+in_ok-overwrite w ↦ c.loop-i.invariant.long ∙ sym same ∙ sym (long_torn c.in_ok-n.n _ _ w.overwrite.ensures.does.0.seen) ∙ sym (ap (λ e. length (d.seen e).main.pages) w.disk-is)
         | else-n-long w ↦ c.loop-i.invariant.long ∙ sym same ∙ sym (ap (λ e. length (d.seen e).main.pages) w.disk-is)
       ];
       steady = elim c.if-n-long.branch [
-        | then-n-long+in_ok-overwrite w ↦ ap (λ e. d.steady e) w.disk-is ∙ w.overwrite.ensures.steady ∙ c.kept.ensures.does.steady ∙ c.loop-i.invariant.steady
-        | else-n-long w ↦ ap (λ e. d.steady e) w.disk-is ∙ c.kept.ensures.does.steady ∙ c.loop-i.invariant.steady
+        | then-n-long+in_ok-overwrite w ↦ ap (λ e. d.steady e) w.disk-is ∙ w.overwrite.ensures.does.0.steady ∙ c.kept.ensures.does.0.steady ∙ c.loop-i.invariant.steady
+        | else-n-long w ↦ ap (λ e. d.steady e) w.disk-is ∙ c.kept.ensures.does.0.steady ∙ c.loop-i.invariant.steady
       ];
       tail = elim c.if-n-long.branch [
-        | then-n-long+in_ok-overwrite w ↦ ap (λ e. (d.seen e).main.tail) w.disk-is ∙ tail_torn c.in_ok-n.n _ _ w.overwrite.ensures.torn ∙ same_tail ∙ c.loop-i.invariant.tail
+        | then-n-long+in_ok-overwrite w ↦ ap (λ e. (d.seen e).main.tail) w.disk-is ∙ tail_torn c.in_ok-n.n _ _ w.overwrite.ensures.does.0.seen ∙ same_tail ∙ c.loop-i.invariant.tail
         | else-n-long w ↦ ap (λ e. (d.seen e).main.tail) w.disk-is ∙ same_tail ∙ c.loop-i.invariant.tail
       ];
       failures = elim c.if-n-long.branch [
-        | then-n-long+in_ok-overwrite w ↦ ap (λ e. d.failures e) w.disk-is ∙ w.in_ok-overwrite.ensures.fault.failures ∙ c.in_ok-n.ensures.fault.failures ∙ c.loop-i.invariant.failures
-        | else-n-long w ↦ ap (λ e. d.failures e) w.disk-is ∙ c.in_ok-n.ensures.fault.failures ∙ c.loop-i.invariant.failures
+        | then-n-long+in_ok-overwrite w ↦ ap (λ e. d.failures e) w.disk-is ∙ w.in_ok-overwrite.ensures.does.1.failures ∙ c.in_ok-n.ensures.does.1.failures ∙ c.loop-i.invariant.failures
+        | else-n-long w ↦ ap (λ e. d.failures e) w.disk-is ∙ c.in_ok-n.ensures.does.1.failures ∙ c.loop-i.invariant.failures
       ];
       put = λ st kept base long count sealed.
           let mid = c.loop-i.invariant.put st kept base long count sealed in
-          let p = puts_read d kept base c.loop-i.i old c.loop-i.disk c.kept.new.self mid c.kept.ensures.does in
+          let p = puts_read d kept base c.loop-i.i old c.loop-i.disk c.kept.new.self mid c.kept.ensures.does.0 in
           let found = c.in_ok-n.ensures.page (c.loop-i.invariant.steady ∙ st) in
           let there : slice_get kept.pages c.loop-i.i ≡ Some (c.in_ok-n.n, c.kept.new.to) = ap (λ s. kept_at s c.loop-i.i) (sym mid.holds.sealed.side) ∙ found in
           let may = may_of kept (d.seen c.loop-i.disk).side c.loop-i.i (c.in_ok-n.n, c.kept.new.to) mid.holds.sealed.side found in
           elim c.if-n-long.branch [
-            | then-n-long+in_ok-overwrite w ↦ subst (λ e. Puts d kept base (c.loop-i.i + 1) old e) (sym w.disk-is) (puts_change d kept base c.loop-i.i c.in_ok-n.n c.kept.new.to old c.kept.new.self w.overwrite.new.disk p (w.overwrite.ensures.sealed kept base p.holds.sealed may) (w.in_ok-overwrite.ensures.page (c.kept.ensures.does.steady ∙ c.loop-i.invariant.steady ∙ st)) there)
+            | then-n-long+in_ok-overwrite w ↦ subst (λ e. Puts d kept base (c.loop-i.i + 1) old e) (sym w.disk-is) (puts_change d kept base c.loop-i.i c.in_ok-n.n c.kept.new.to old c.kept.new.self w.overwrite.new.disk p (w.overwrite.ensures.sealed kept base p.holds.sealed may) (w.in_ok-overwrite.ensures.page (c.kept.ensures.does.0.steady ∙ c.loop-i.invariant.steady ∙ st)) there)
             | else-n-long w ↦ subst (λ e. Puts d kept base (c.loop-i.i + 1) old e) (sym w.disk-is) (puts_skip d kept base c.loop-i.i c.in_ok-n.n c.kept.new.to old c.kept.new.self p (omega (arith, w.if-n-long.false, c.loop-i.invariant.long, same)) there)
           ];
     }

@@ -13,22 +13,22 @@ loop-n-preserved g c =
     let i = c.loop-n.n-index in
     record {
       steady = elim c.if-n-long.branch [
-        | then-n-long+in_ok-read+in_ok-keep w ↦ ap (λ e. d.steady e) w.disk-is ∙ w.keep.ensures.does.steady ∙ w.read.ensures.does.steady ∙ c.loop-n.invariant.steady
+        | then-n-long+in_ok-read+in_ok-keep w ↦ ap (λ e. d.steady e) w.disk-is ∙ w.keep.ensures.does.0.steady ∙ w.read.ensures.does.0.steady ∙ c.loop-n.invariant.steady
         | else-n-long w ↦ ap (λ e. d.steady e) w.disk-is ∙ c.loop-n.invariant.steady
       ];
       same = elim c.if-n-long.branch [
-        | then-n-long+in_ok-read+in_ok-keep w ↦ ap (λ e. (d.seen e).main) w.disk-is ∙ w.keep.ensures.does.seen.main ∙ ap (λ (f : Files). f.main) w.read.ensures.does.seen ∙ c.loop-n.invariant.same
+        | then-n-long+in_ok-read+in_ok-keep w ↦ ap (λ e. (d.seen e).main) w.disk-is ∙ w.keep.ensures.does.0.seen.main ∙ ap (λ (f : Files). f.main) w.read.ensures.does.0.seen ∙ c.loop-n.invariant.same
         | else-n-long w ↦ ap (λ e. (d.seen e).main) w.disk-is ∙ c.loop-n.invariant.same
       ];
       failures = elim c.if-n-long.branch [
-        | then-n-long+in_ok-read+in_ok-keep w ↦ ap (λ e. d.failures e) w.disk-is ∙ w.in_ok-keep.ensures.fault.failures ∙ w.in_ok-read.ensures.fault.failures ∙ c.loop-n.invariant.failures
+        | then-n-long+in_ok-read+in_ok-keep w ↦ ap (λ e. d.failures e) w.disk-is ∙ w.in_ok-keep.ensures.does.1.failures ∙ w.in_ok-read.ensures.does.1.failures ∙ c.loop-n.invariant.failures
         | else-n-long w ↦ ap (λ e. d.failures e) w.disk-is ∙ c.loop-n.invariant.failures
       ];
       had = λ st.
           let mid = c.loop-n.invariant.had st in
           let still = c.loop-n.invariant.steady ∙ st in
           elim c.if-n-long.branch [
-            | then-n-long+in_ok-read+in_ok-keep w ↦ subst (λ e. Gathers d main ns (i + 1) old e) (sym w.disk-is) (gathers_keep d main ns i w.read.new.to old w.read.new.self w.keep.new.self (gathers_read d main ns i old c.loop-n.disk w.read.new.self mid w.read.ensures.does) c.loop-n-test.true w.keep.ensures.does (ap (λ (m : PageFile). slice_get m.pages (get_or ns i 0)) (sym c.loop-n.invariant.same) ∙ w.in_ok-read.ensures.page still) (w.in_ok-keep.ensures.fresh (w.read.ensures.does.steady ∙ still)))
+            | then-n-long+in_ok-read+in_ok-keep w ↦ subst (λ e. Gathers d main ns (i + 1) old e) (sym w.disk-is) (gathers_keep d main ns i w.read.new.to old w.read.new.self w.keep.new.self (gathers_read d main ns i old c.loop-n.disk w.read.new.self mid w.read.ensures.does.0) c.loop-n-test.true w.keep.ensures.does.0 (ap (λ (m : PageFile). slice_get m.pages (get_or ns i 0)) (sym c.loop-n.invariant.same) ∙ w.in_ok-read.ensures.page still) (w.in_ok-keep.ensures.fresh (w.read.ensures.does.0.steady ∙ still)))
             | else-n-long w ↦ subst (λ e. Gathers d main ns (i + 1) old e) (sym w.disk-is) (gathers_skip d main ns i old c.loop-n.disk mid c.loop-n-test.true (omega (arith, w.if-n-long.false, c.requires.long)))
           ];
     }

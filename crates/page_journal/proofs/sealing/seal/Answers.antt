@@ -14,35 +14,35 @@ module _ (g : given.Over) (c : After-name g) where
       let d = g.D.DiskState in
       let old = c.args.disk.now in
       let main = (d.seen old).main in
-      let first = quiet_stays d main old old c.shape.new.self (quiet_begin d main old (g.met.D.Disk.only_now old) (c.requires.settled st)) c.shape.ensures.does in
-      let begun = quiet_fresh d main old c.shape.new.self c.start.new.self first c.start.ensures.does in
-      let steady = c.start.ensures.does.steady ∙ c.shape.ensures.does.steady ∙ st in
+      let first = quiet_stays d main old old c.shape.new.self (quiet_begin d main old (g.met.D.Disk.only_now old) (c.requires.settled st)) c.shape.ensures.does.0 in
+      let begun = quiet_fresh d main old c.shape.new.self c.start.new.self first c.start.ensures.does.0 in
+      let steady = c.start.ensures.does.0.steady ∙ c.shape.ensures.does.0.steady ∙ st in
       let all = quiet_then d main old c.start.new.self c.gather.new.disk begun (c.gather.ensures.settled steady) (c.gather.ensures.any_moment steady) in
-      ready d main old c.gather.new.disk c.sync_fresh.new.self (d.seen c.start.new.self).main all begun.settled.seen (c.in_ok-gather.ensures.kept steady) c.sync_fresh.ensures.does c.in_ok-sync_fresh.ensures.durable
+      ready d main old c.gather.new.disk c.sync_fresh.new.self (d.seen c.start.new.self).main all begun.settled.seen (c.in_ok-gather.ensures.kept steady) c.sync_fresh.ensures.1 c.in_ok-sync_fresh.ensures.0
 
 pub returns-in_err-name-clause-any_moment : goal.returns-in_err-name-clause-any_moment
 returns-in_err-name-clause-any_moment g c = λ st.
-    name_time g.D.DiskState _ _ _ _ c.requires.no_tail (at g (goal.at.returns-in_err-name-clause-any_moment g c).After-name st) c.name.ensures.does
+    name_time g.D.DiskState _ _ _ _ c.requires.no_tail (at g (goal.at.returns-in_err-name-clause-any_moment g c).After-name st) c.name.ensures.does.0
 
 pub returns-in_err-sync_names-clause-any_moment : goal.returns-in_err-sync_names-clause-any_moment
 returns-in_err-sync_names-clause-any_moment g c = λ st.
-    names_time g.D.DiskState _ _ _ _ _ c.requires.no_tail (at g (goal.at.returns-in_err-sync_names-clause-any_moment g c).After-name st) c.name.ensures.does c.sync_names.ensures.does
+    names_time g.D.DiskState _ _ _ _ _ c.requires.no_tail (at g (goal.at.returns-in_err-sync_names-clause-any_moment g c).After-name st) c.name.ensures.does.0 c.sync_names.ensures.1
 
 pub returns-clause-any_moment : goal.returns-clause-any_moment
 returns-clause-any_moment g c = λ st.
-    names_time g.D.DiskState _ _ _ _ _ c.requires.no_tail (at g (goal.at.returns-clause-any_moment g c).After-name st) c.name.ensures.does c.sync_names.ensures.does
+    names_time g.D.DiskState _ _ _ _ _ c.requires.no_tail (at g (goal.at.returns-clause-any_moment g c).After-name st) c.name.ensures.does.0 c.sync_names.ensures.1
 
 pub returns-clause-sealed : goal.returns-clause-sealed
 returns-clause-sealed g c = λ st.
     let d = g.D.DiskState in
     let main = (d.seen c.args.disk.now).main in
-    let before = c.start.ensures.does.steady ∙ c.shape.ensures.does.steady ∙ st in
-    let after = c.sync_fresh.ensures.does.steady ∙ c.gather.ensures.steady ∙ before in
+    let before = c.start.ensures.does.0.steady ∙ c.shape.ensures.does.0.steady ∙ st in
+    let after = c.sync_fresh.ensures.1.steady ∙ c.gather.ensures.calls.0 ∙ before in
     let all = at g (goal.at.returns-clause-sealed g c).After-name st in
     let kept = (d.seen c.sync_fresh.new.self).fresh in
-    let same : kept ≡ (d.seen c.gather.new.disk).fresh = ap (λ (f : Files). f.fresh) c.sync_fresh.ensures.does.seen in (
+    let same : kept ≡ (d.seen c.gather.new.disk).fresh = ap (λ (f : Files). f.fresh) c.sync_fresh.ensures.1.seen in (
       kept,
-      now_sealed d main c.args.disk.now c.sync_fresh.new.self c.name.new.self c.sync_names.new.self all c.name.ensures.does (c.in_ok-name.ensures.named after) c.sync_names.ensures.does c.in_ok-sync_names.ensures.durable,
+      now_sealed d main c.args.disk.now c.sync_fresh.new.self c.name.new.self c.sync_names.new.self all c.name.ensures.does.0 (c.in_ok-name.ensures.named after) c.sync_names.ensures.1 c.in_ok-sync_names.ensures.0,
       restored_itself main kept c.requires.no_tail all.gathered.long all.gathered.pages_there,
       all.gathered.long,
       subst (λ (k : Kept). AreKept c.args.numbers.now k) (sym same) (c.in_ok-gather.ensures.numbers before),

@@ -1,3 +1,4 @@
+use Rattle.std.proofs.Common.{rules}
 use Rattle.page_journal.proofs.FileDiskLemmas.{at_least, cuts_to, long_seen_then, no_tail_seen, sets_at}
 use Rattle.page_journal.proofs.file_disk.FileDiskDisk.cut.Goals as goal
 
@@ -12,4 +13,4 @@ returns-clause-tail g c = no_tail_seen _ c.set_pages.result c.args.self.now c.se
 pub returns-clause-does : goal.returns-clause-does
 returns-clause-does g c =
     let sets = sets_at _ c.args.n _ _ _ c.from.ensures c.set_pages.ensures in
-    cuts_to c.args.n c.set_pages.result c.args.self.now c.set_pages.new.self (at_least c.args.n c.args.self.now c.requires) sets
+    (cuts_to c.args.n c.set_pages.result c.args.self.now c.set_pages.new.self (at_least c.args.n c.args.self.now c.requires) sets, search rules)

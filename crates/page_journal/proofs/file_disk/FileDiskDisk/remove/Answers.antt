@@ -1,3 +1,4 @@
+use Rattle.std.proofs.Common.{rules}
 use Rattle.page_journal.specs.Steps.{Removes}
 use Rattle.page_journal.proofs.FileDiskLemmas.{does_none, removes_none, no_side_seen, on_ok}
 use Rattle.page_journal.proofs.file_disk.FileDiskDisk.remove.Goals as goal
@@ -6,4 +7,4 @@ pub returns-clause-gone : goal.returns-clause-gone
 returns-clause-gone g c = on_ok _ (no_side_seen _ _ _)
 
 pub returns-clause-does : goal.returns-clause-does
-returns-clause-does g c = does_none Removes _ _ removes_none c.self.view_is _ _ c.count_up.ensures
+returns-clause-does g c = (does_none Removes _ _ removes_none c.self.view_is _ _ c.count_up.ensures, search rules)

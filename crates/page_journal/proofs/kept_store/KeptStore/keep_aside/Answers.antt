@@ -10,12 +10,12 @@ pub invariant_of-self-2 : goal.invariant_of-self-2
 invariant_of-self-2 g c = λ after.
     let d = g.D.DiskState in
     let main = (d.seen c.shape.new.self).main in
-    let mid = sym c.seal.ensures.steady ∙ after in
-    let before = c.self.invariant (sym c.shape.ensures.does.steady ∙ mid) in
+    let mid = sym c.seal.ensures.calls.0 ∙ after in
+    let before = c.self.invariant (sym c.shape.ensures.does.0.steady ∙ mid) in
     let unsealed : IsGuarded d Unsealed c.self.inside.kept.items c.self.inside.disk = subst (λ (s : SealState). IsGuarded d s c.self.inside.kept.items c.self.inside.disk) c.in-Unsealed.is before in
-    let asked = guarded_stays d (g.met.D.Disk.counts_now) Unsealed c.self.inside.kept.items c.self.inside.disk c.shape.new.self unsealed c.shape.ensures.does in
+    let asked = guarded_stays d (g.met.D.Disk.counts_now) Unsealed c.self.inside.kept.items c.self.inside.disk c.shape.new.self unsealed c.shape.ensures.does.0 in
     let sealed = c.in_ok-seal.ensures.sealed mid in
-    let kept_long : sealed.0.long ≡ c.in_ok-shape.shape.pages = sealed.3 ∙ ap (λ (f : Files). length f.main.pages) c.shape.ensures.does.seen ∙ sym c.in_ok-shape.ensures.pages in
+    let kept_long : sealed.0.long ≡ c.in_ok-shape.shape.pages = sealed.3 ∙ ap (λ (f : Files). length f.main.pages) c.shape.ensures.does.0.seen ∙ sym c.in_ok-shape.ensures.pages in
     record {
       so = record {
         kept = sealed.0;

@@ -3,4 +3,4 @@ use Rattle.page_journal.proofs.KeptStoreLemmas.{guarded_grow}
 use Rattle.page_journal.proofs.kept_store.KeptStoreStore.set_pages.Goals as goal
 
 pub invariant_of-self-2 : goal.invariant_of-self-2
-invariant_of-self-2 g c = λ st. guarded_grow g.D.DiskState c.self.inside.state c.self.inside.kept.items c.args.n c.self.inside.disk c.grow-answer.new.self (c.self.invariant (sym c.grow-answer.ensures.does.steady ∙ st)) c.in-Sealed.is c.grow-answer.ensures.does
+invariant_of-self-2 g c = λ st. guarded_grow g.D.DiskState c.self.inside.state c.self.inside.kept.items c.args.n c.self.inside.disk c.grow-answer.new.self (c.self.invariant (sym c.grow-answer.ensures.does.0.steady ∙ st)) c.in-Sealed.is c.grow-answer.ensures.does.0

@@ -11,4 +11,4 @@ returns-then-not-may_write-clause-other_pages g c =
     (get_or pages c.args.n [], ap (λ (s : KeptStored _). (g.D.DiskState.seen s.disk).main.pages) c.self.view_is ∙ sym (set-get_or pages c.args.n []))
 
 pub invariant_of-self-2 : goal.invariant_of-self-2
-invariant_of-self-2 g c = λ st. guarded_write g.D.DiskState c.self.inside.state c.self.inside.kept.items c.args.n c.self.inside.disk c.write-answer.new.self (c.self.invariant (sym c.write-answer.ensures.does.steady ∙ st)) (sym c.may_write.ensures ∙ c.if-not-may_write.false) c.write-answer.ensures.does
+invariant_of-self-2 g c = λ st. guarded_write g.D.DiskState c.self.inside.state c.self.inside.kept.items c.args.n c.self.inside.disk c.write-answer.new.self (c.self.invariant (sym c.write-answer.ensures.does.0.steady ∙ st)) (sym c.may_write.ensures ∙ c.if-not-may_write.false) c.write-answer.ensures.does.0

@@ -4,5 +4,5 @@ use Rattle.page_store.proofs.file_store.FileStore.over.Goals as goal
 pub invariant_of-result : goal.invariant_of-result
 invariant_of-result g c = search rules
 
-pub returns-clause-tail : goal.returns-clause-tail
-returns-clause-tail g c = search rules
+pub returns : goal.returns
+returns g c = search rules
