@@ -1,4 +1,6 @@
-ghost use Rattle.std.specs.Prelude.{◌≡◌, ◌%◌, ◌<◌, ◌≤◌, length, map, IfOk, All, IsPermutation};
+ghost use Rattle.std.specs.Prelude.{◌≡◌, ◌%◌, ◌<◌, ◌≤◌, length, map, IfOk, All, IsPermutation, IsSorted};
+ghost use Rattle.std.specs.Cmp.Lexicographic.{slice_cmp};
+ghost use Rattle.std.specs.Ordering.{nat_cmp};
 ghost use Rattle.tx_log.specs.Tags.{front_of, tag_of, tags_from, told_by};
 
 use rec_types::{Key, Memory};
@@ -56,15 +58,19 @@ fn told_keys(alloc: Global, keys: &[Key], tags: &[u64]) -> Result<Vec<Key>, Memo
     Ok(told)
 }
 
-/// The same keys, in the order of their first six bytes where they are neither few nor very many: it takes a fraction of
-/// the time of a sort to see that they are in order then. Fault: Memory.
-pub fn arranged(alloc: Global, keys: Vec<Key>) -> Result<Vec<Key>, Memory>
-    ensures { IfOk result (λ arranged. IsPermutation keys.items arranged.items) }
+/// The keys in order. Where they are neither few nor very many, they are first put in the order of their first six bytes,
+/// so that a sort has little left to do. Fault: Memory.
+pub fn in_order(alloc: Global, mut keys: Vec<Key>) -> Result<Vec<Key>, Memory>
+    ensures permutation { IfOk result (λ sorted. IsPermutation keys.items sorted.items) }
+    ensures sorted { IfOk result (λ sorted. IsSorted (slice_cmp nat_cmp) sorted.items) }
 {
     if keys.len() <= FEW || keys.len() > PLACES as usize {
+        keys.sort_unstable();
         return Ok(keys);
     }
     let mut tags = tags_of(alloc, &keys)?;
     tags.sort_unstable();
-    told_keys(alloc, &keys, &tags)
+    let mut told = told_keys(alloc, &keys, &tags)?;
+    told.sort_unstable();
+    Ok(told)
 }

@@ -8,7 +8,7 @@ ghost use Rattle.tx_log.specs.Owners.{owner_of, holder_of, keys_owned, absent};
 ghost use Rattle.tx_log.specs.LogState.{new_log, history_in, open_in, tx_in, use_in, phase_in, undo_in, undo_step, places_in, active_with, rolling_to, finished, with_txs, with_update, with_compensation, IsRolling, IsLog, IsActive};
 
 use crate::holding::{Holdings, find_holder, free_held, held_keys, lower, make_room, raise};
-use crate::key_order::arranged;
+use crate::key_order::in_order;
 use crate::mark::{Mark, is_absent_below, newest_number};
 use crate::open_tx::{OpenTx, OpenTxs, find_open, place_of, recount, take_out};
 use crate::phase::Rollback;
@@ -202,8 +202,7 @@ impl TxLog {
             tx,
             open_tx,
         )?;
-        let mut keys = arranged(self.alloc, held)?;
-        keys.sort_unstable();
+        let mut keys = in_order(self.alloc, held)?;
         keys.dedup();
         Ok(keys)
     }

@@ -1,7 +1,6 @@
 use Rattle.std.proofs.Common.{rules, ℕ, ◌≤◌, is_some, map, reverse, sym, ap, subst, ◌∙◌}
 use Rattle.std.proofs.lemmas.List.{length-reverse}
 use Rattle.std.proofs.lemmas.List.Filters.{dedup_is}
-use Rattle.std.proofs.lemmas.List.Sorted.{IsPermutation-trans}
 use Rattle.tx_log.proofs.KeptLogLemmas.{sized}
 use Rattle.tx_log.proofs.KeyListLemmas.{changed_are_held}
 use Rattle.tx_log.proofs.LogStepLemmas.{chain_of}
@@ -50,5 +49,5 @@ returns c =
     let l = c.self.inside in
     let t = c.args.tx.0 in
     let e = c.in-Some.open_tx.now in
-    owned_keys (reverse l.records.items) l.txs.entries (held l.holdings) t e c.in_ok-held.held.items c.sort_unstable.new.self.items c.dedup.new.self.items c.self.invariant.holding (sym c.in-Some.ensures) c.in_ok-held.ensures (IsPermutation-trans _ _ _ c.in_ok-keys.ensures c.sort_unstable.ensures.permutation) c.sort_unstable.ensures.sorted (dedup_is _ _ _ c.dedup.ensures.filtered)
+    owned_keys (reverse l.records.items) l.txs.entries (held l.holdings) t e c.in_ok-held.held.items c.in_ok-keys.keys.items c.dedup.new.self.items c.self.invariant.holding (sym c.in-Some.ensures) c.in_ok-held.ensures c.in_ok-keys.ensures.permutation c.in_ok-keys.ensures.sorted (dedup_is _ _ _ c.dedup.ensures.filtered)
     ∙ ap (λ (s : LogState). keys_owned (open_in s) (history_in s) t) c.self.view_is
