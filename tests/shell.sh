@@ -1,8 +1,8 @@
 #!/bin/sh
 # The word shell of the built program: each script of the examples and of the other tests has the replies that it has as
 # a script, in one piece and byte by byte, with each reply written before more is read; the bound of a line; ends,
-# readers and writers that fail; refusals that end a run; a million lines in little memory; dumps that are loaded; and a
-# session in a terminal.
+# readers and writers that fail; refusals that end a run; a million lines in little memory; dumps that are loaded; keys in
+# order; and a session in a terminal.
 set -eu
 cd "$(dirname "$0")/.."
 program=$(realpath "${1:-crates/recfile_program/out/recfile_program}")
@@ -327,6 +327,28 @@ for order in 1 8; do
     [ "$(sed 's/.*records \([0-9]*\).*/\1/' checked)" = 100000 ] || fail "$(cat checked)"
 done
 rm -f lines out dumped
+
+# The keys of one of two transactions, put from the last to the first, some of them twice, with beginnings in common.
+row="keys in order"
+for count in 1 2 32 33 3000 65536 65537; do
+    awk -v count=$count 'BEGIN {
+        print "begin"
+        print "begin"
+        print "put 2 another =x"
+        for (i = count; i > 0; i--) {
+            key = i % 2 ? sprintf("common%06d", i) : sprintf("%06d", i)
+            print "put 1 " key " =x"
+            if (i % 5 == 0) print "put 1 " key " =y"
+        }
+        print "keys 1"
+    }' > lines
+    sed -n 's/^put 1 \(.*\) =x$/- \1/p' lines | LC_ALL=C sort > want
+    echo "ok $count" >> want
+    shell < lines
+    expect 0 ""
+    tail -n $((count + 1)) out | cmp -s - want || fail "$count keys aren't in order"
+done
+rm -f lines out want
 
 row="a session in a terminal"
 if command -v script > /dev/null; then
