@@ -1,10 +1,13 @@
 -- The words of a line from its first one on.
-use Rattle.std.proofs.Common.{◌≡◌, ℕ, ◌+◌, ◌-◌, ◌<◌, ◌≤◌, zero, suc, Bool, true, false, not, cond, List, [], ◌∷◌, length, take, drop, get_or, Option, Some, None, refl, sym, ap, subst, ◌∙◌, arith}
+use Rattle.std.proofs.Common.{◌≡◌, ℕ, ◌+◌, ◌-◌, ◌<◌, ◌≤◌, zero, suc, Bool, true, false, not, cond, List, [], ◌∷◌, length, take, drop, get_or, Option, Some, None, Ok, codes, if◌then◌else◌, refl, sym, ap, subst, ◌∙◌, arith}
 use Rattle.std.specs.Option.{unwrap_or}
 use Rattle.std.specs.List.{slice_split, onto_first, position, filter}
 use Rattle.std.proofs.lemmas.List.Quantifiers.{position-Some}
 use Rattle.std.proofs.lemmas.List.{drop_all}
-use Rattle.command_text.specs.Grammar.{is_space, is_word, words_of}
+use Rattle.std.specs.Io.BufRead.{strip_last}
+use Rattle.command_text.specs.Grammar.{is_text, tx_key_of, tx_key_record_of, tx_command_of, is_space, is_word, words_of, begins_with_hash, read_as, command_of, line_of_words, line_of}
+use Rattle.rec_types.specs.declared.transaction.TxId.{TxId}
+use Rattle.command_text.specs.declared.command.Command.TheVariants as commands
 use Rattle.command_text.specs.Words.{StartsWord}
 use Rattle.command_text.proofs.TextCutLemmas.{cut_some, cut_none, rest_cut, all_fail}
 
@@ -78,3 +81,25 @@ word_none xs some is =
 -- a line with nothing left has no words
 pub no_words : (xs ys : List ℕ) → words_of ys ≡ words_of xs → ys ≡ [] → words_of xs ≡ []
 no_words xs ys same none = sym same ∙ ap words_of none
+
+-- a line whose first word isn't a comment's says the command of that name
+pub named : (line name : List ℕ) (words : List (List ℕ)) → words_of (strip_last 13 line) ≡ name ∷ words → begins_with_hash name ≡ false → line_of line ≡ read_as Some (command_of name words)
+unfolding line_of
+named line name words is hash = ap line_of_words is ∙ ap (λ (b : Bool). if b then Ok None else read_as Some (command_of name words)) hash
+
+-- the command of each of the names that most lines have, and of the others
+pub said_put : (name : List ℕ) (words : List (List ℕ)) → is_text name (codes "put") ≡ true → command_of name words ≡ read_as (λ (a : TxId × List ℕ × List ℕ). commands.Put a.0 a.1 a.2) (tx_key_record_of words)
+unfolding command_of
+said_put name words put = simp (put)
+
+pub said_del : (name : List ℕ) (words : List (List ℕ)) → is_text name (codes "put") ≡ false → is_text name (codes "del") ≡ true → command_of name words ≡ read_as (λ (a : TxId × List ℕ). commands.Del a.0 a.1) (tx_key_of words)
+unfolding command_of
+said_del name words put del = simp (put, del)
+
+pub said_get : (name : List ℕ) (words : List (List ℕ)) → is_text name (codes "put") ≡ false → is_text name (codes "del") ≡ false → is_text name (codes "get") ≡ true → command_of name words ≡ read_as (λ (a : TxId × List ℕ). commands.Get a.0 a.1) (tx_key_of words)
+unfolding command_of
+said_get name words put del get = simp (put, del, get)
+
+pub said_other : (name : List ℕ) (words : List (List ℕ)) → is_text name (codes "put") ≡ false → is_text name (codes "del") ≡ false → is_text name (codes "get") ≡ false → command_of name words ≡ (if is_text name (codes "claim") then read_as (λ (a : TxId × List ℕ). commands.Claim a.0 a.1) (tx_key_of words) else tx_command_of name words)
+unfolding command_of
+said_other name words put del get = simp (put, del, get)

@@ -2,8 +2,8 @@ ghost use Rattle.std.specs.Prelude.{◌≡◌, ◌-◌, ◌≤◌, true, false, 
 ghost use Rattle.std.specs.List.{list_any};
 ghost use Rattle.std.specs.Option.{IsSome};
 ghost use Rattle.percent_encoding.specs.Percent.{percent_decode};
-ghost use Rattle.command_text.specs.Grammar.{is_digit, number_of, number_at, tx_at, key_at, record_at};
-ghost use Rattle.command_text.specs.Words.{is_percent, key_from, record_from};
+ghost use Rattle.command_text.specs.Grammar.{is_digit, number_of, number_at, tx_at, key_at, record_at, read_as};
+ghost use Rattle.command_text.specs.Words.{is_percent, key_from, record_from, record_after};
 
 use crate::LineFault;
 use arrayvec::ArrayVec;
@@ -67,11 +67,15 @@ fn decoded<const N: usize>(word: &[u8]) -> Option<ArrayVec<u8, N>>
     Some(bytes)
 }
 
-// Whether a word may have an escape.
-fn has_percent(word: &[u8]) -> bool
+/// Whether a word may have an escape. It looks at all bytes, and so at many at a time.
+pub fn has_percent(word: &[u8]) -> bool
     ensures { result ≡ list_any is_percent word.now }
 {
-    word.iter().any(|b| *b == b'%')
+    let mut found = false;
+    for byte in word {
+        found = found | (*byte == b'%');
+    }
+    found
 }
 
 // The key of these bytes. Fault: KeyTooLong.
@@ -100,21 +104,17 @@ pub fn key_at(word: &[u8]) -> Result<Key, LineFault>
     key_of_bytes(&bytes)
 }
 
-// The record whose bytes stand escaped. Fault: RecordTooLong.
-fn escaped_record(escaped: &[u8]) -> Result<Record, LineFault>
+/// The record whose bytes stand escaped. Fault: RecordTooLong.
+pub fn escaped_record(escaped: &[u8]) -> Result<Record, LineFault>
     ensures { result ≡ record_from (percent_decode escaped.now) }
 {
-    if !has_percent(escaped) {
-        return record_of_bytes(escaped);
-    }
     let bytes = decoded::<RECORD_WIDTH>(escaped).ok_or(LineFault::RecordTooLong)?;
     record_of_bytes(&bytes)
 }
 
-/// The record that a word with its mark stands for. Faults: NoRecordMark, RecordTooLong.
-pub fn record_at(word: &[u8]) -> Result<Record, LineFault>
-    ensures { result ≡ record_at word.now }
+/// What comes after the mark with which the word of a record begins. Fault: NoRecordMark.
+pub fn after_mark(word: &[u8]) -> Result<&[u8], LineFault>
+    ensures { record_at word.now ≡ record_after (read_as (λ escaped. escaped.now) result) }
 {
-    let escaped = word.strip_prefix(b"=").ok_or(LineFault::NoRecordMark)?;
-    escaped_record(escaped)
+    word.strip_prefix(b"=").ok_or(LineFault::NoRecordMark)
 }

@@ -1,12 +1,14 @@
-ghost use Rattle.std.specs.Prelude.{◌≡◌, Some};
-ghost use Rattle.command_text.specs.Grammar.{words_of, tx_of_word, tx_number_of, tx_key_of, tx_key_record_of, file_command_of, tx_command_of, command_of, line_of, read_as};
+ghost use Rattle.std.specs.Prelude.{◌≡◌, Some, codes, if◌then◌else◌};
+ghost use Rattle.command_text.specs.Grammar.{words_of, tx_of_word, tx_number_of, tx_key_of, tx_key_record_of, file_command_of, tx_command_of, line_of, is_text, read_as};
+ghost use Rattle.command_text.specs.Words.{record_from};
+ghost use Rattle.percent_encoding.specs.Percent.{percent_decode};
 ghost use Rattle.command_text.specs.Script.{bounded_line_of};
 ghost use Rattle.command_text.specs.declared.command.Command.TheVariants as commands;
 
-use crate::argument::{key_at, number_at, record_at, tx_at};
+use crate::argument::{after_mark, escaped_record, has_percent, key_at, number_at, tx_at};
 use crate::word::{alone, next_word, one_word, three_words, two_words};
 use crate::{Command, LineFault};
-use rec_types::{Key, TxId};
+use rec_types::{Key, Record, TxId};
 
 // The arguments of a command: a transaction, or one and a number or a key. Faults: WordCount,
 // and then those of the arguments from left to right.
@@ -75,6 +77,14 @@ fn keys(rest: &[u8]) -> Result<Option<Command>, LineFault>
 }
 
 #[inline(never)]
+fn put_escaped(tx: TxId, key: Key, escaped: &[u8]) -> Result<Option<Command>, LineFault>
+    ensures { result ≡ read_as Some
+        (read_as (commands.Put tx key) (record_from (percent_decode escaped.now))) }
+{
+    Ok(Some(Command::Put(tx, key, escaped_record(escaped)?)))
+}
+
+#[inline(never)]
 fn put(rest: &[u8]) -> Result<Option<Command>, LineFault>
     ensures { result
         ≡ read_as Some (read_as (λ a. commands.Put a.0 a.1 a.2)
@@ -83,7 +93,15 @@ fn put(rest: &[u8]) -> Result<Option<Command>, LineFault>
     let (first, second, third) = three_words(rest)?;
     let tx = tx_at(first)?;
     let key = key_at(second)?;
-    Ok(Some(Command::Put(tx, key, record_at(third)?)))
+    let escaped = after_mark(third)?;
+    if has_percent(escaped) {
+        return put_escaped(tx, key, escaped);
+    }
+    // Bytes without `%` stand for themselves. The record is made where it is to stand.
+    match Record::new(escaped) {
+        Ok(record) => return Ok(Some(Command::Put(tx, key, record))),
+        Err(_) => return Err(LineFault::RecordTooLong),
+    }
 }
 
 #[inline(never)]
@@ -180,20 +198,13 @@ fn tx_command(name: &[u8], rest: &[u8]) -> Result<Option<Command>, LineFault>
     file_command(name, rest)
 }
 
-// The command of a name and the words after it: those on a key first, which are most lines of a script.
-#[tactic(auto, unfolding(crate::specs::Grammar::command_of))]
-fn command(name: &[u8], rest: &[u8]) -> Result<Option<Command>, LineFault>
-    ensures { result ≡ read_as Some (command_of name.now (words_of rest.now)) }
+// A command that is none of the three that most lines of a script say.
+#[inline(never)]
+fn other_command(name: &[u8], rest: &[u8]) -> Result<Option<Command>, LineFault>
+    ensures { result ≡ read_as Some (if is_text name.now (codes "claim")
+        then read_as (λ a. commands.Claim a.0 a.1) (tx_key_of (words_of rest.now))
+        else tx_command_of name.now (words_of rest.now)) }
 {
-    if name == b"put".as_slice() {
-        return put(rest);
-    }
-    if name == b"del".as_slice() {
-        return del(rest);
-    }
-    if name == b"get".as_slice() {
-        return get(rest);
-    }
     if name == b"claim".as_slice() {
         return claim(rest);
     }
@@ -203,7 +214,7 @@ fn command(name: &[u8], rest: &[u8]) -> Result<Option<Command>, LineFault>
 /// The command that a script line says; a blank line and a comment say none. The line comes without its LF, and one
 /// CR at its end doesn't count. It takes no memory. Faults in order: UnknownCommand; WordCount; then the arguments
 /// from left to right, BadNumber, KeyTooLong, NoRecordMark, RecordTooLong.
-#[tactic(auto, unfolding(crate::specs::Grammar::line_of))]
+#[tactic(auto, unfolding(crate::specs::Grammar::line_of, crate::specs::Grammar::command_of))]
 pub fn read_line(line: &[u8]) -> Result<Option<Command>, LineFault>
     ensures { result ≡ line_of line.now }
 {
@@ -214,7 +225,16 @@ pub fn read_line(line: &[u8]) -> Result<Option<Command>, LineFault>
     if name.starts_with(b"#") {
         return Ok(None);
     }
-    command(name, rest)
+    if name == b"put".as_slice() {
+        return put(rest);
+    }
+    if name == b"del".as_slice() {
+        return del(rest);
+    }
+    if name == b"get".as_slice() {
+        return get(rest);
+    }
+    other_command(name, rest)
 }
 
 /// The bytes of the longest line that `read_bounded_line` reads.

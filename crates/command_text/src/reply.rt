@@ -126,6 +126,16 @@ fn push_refusal(text: &mut String, refusal: Refusal) -> Result<(), AllocError>
     }
 }
 
+// Appends the refusal that a fault is. It is a function of its own in the program too, so that a reply without a fault
+// doesn't pay for one.
+#[inline(never)]
+fn push_fault_of<F: ToRefusal>(text: &mut String, fault: &F) -> Result<(), AllocError>
+    ensures { OnOk result
+        (string_bytes text.new ≡ string_bytes text.old ++ refusal_text (F.refusal_of fault.now)) }
+{
+    push_refusal(text, fault.to_refusal())
+}
+
 // Appends why a line says no command.
 fn push_fault(text: &mut String, fault: LineFault) -> Result<(), AllocError>
     ensures { OnOk result (string_bytes text.new ≡ string_bytes text.old ++ fault_text fault) }
@@ -231,31 +241,31 @@ fn push_reply(text: &mut String, reply: &Reply) -> Result<(), AllocError>
 {
     match reply {
         Reply::Begin(Ok(TxId(number))) => push_number(text, *number),
-        Reply::Begin(Err(fault)) => push_refusal(text, fault.to_refusal()),
+        Reply::Begin(Err(fault)) => push_fault_of(text, fault),
         Reply::Put(Ok(old)) => push_old(text, old),
-        Reply::Put(Err(fault)) => push_refusal(text, fault.to_refusal()),
+        Reply::Put(Err(fault)) => push_fault_of(text, fault),
         Reply::Claim(Ok(seen)) => push_old(text, seen),
-        Reply::Claim(Err(fault)) => push_refusal(text, fault.to_refusal()),
+        Reply::Claim(Err(fault)) => push_fault_of(text, fault),
         Reply::Del(Ok(record)) => push_record(text, record),
-        Reply::Del(Err(fault)) => push_refusal(text, fault.to_refusal()),
+        Reply::Del(Err(fault)) => push_fault_of(text, fault),
         Reply::Get(Ok(value)) => push_old(text, value),
-        Reply::Get(Err(fault)) => push_refusal(text, fault.to_refusal()),
+        Reply::Get(Err(fault)) => push_fault_of(text, fault),
         Reply::Save(Ok(number)) => push_number(text, *number),
-        Reply::Save(Err(fault)) => push_refusal(text, fault.to_refusal()),
+        Reply::Save(Err(fault)) => push_fault_of(text, fault),
         Reply::Release(Ok(())) => text.push_str("ok"),
-        Reply::Release(Err(fault)) => push_refusal(text, fault.to_refusal()),
+        Reply::Release(Err(fault)) => push_fault_of(text, fault),
         Reply::Back(Ok(undone)) => push_number(text, *undone),
-        Reply::Back(Err(fault)) => push_refusal(text, fault.to_refusal()),
+        Reply::Back(Err(fault)) => push_fault_of(text, fault),
         Reply::Resume(Ok(undone)) => push_number(text, *undone),
-        Reply::Resume(Err(fault)) => push_refusal(text, fault.to_refusal()),
+        Reply::Resume(Err(fault)) => push_fault_of(text, fault),
         Reply::Abort(Ok(undone)) => push_number(text, *undone),
-        Reply::Abort(Err(fault)) => push_refusal(text, fault.to_refusal()),
+        Reply::Abort(Err(fault)) => push_fault_of(text, fault),
         Reply::Commit(Ok(())) => text.push_str("ok"),
-        Reply::Commit(Err(fault)) => push_refusal(text, fault.to_refusal()),
+        Reply::Commit(Err(fault)) => push_fault_of(text, fault),
         Reply::List(Ok(entries)) => push_entries(text, entries),
-        Reply::List(Err(fault)) => push_refusal(text, fault.to_refusal()),
+        Reply::List(Err(fault)) => push_fault_of(text, fault),
         Reply::Keys(Ok(keys)) => push_keys(text, keys),
-        Reply::Keys(Err(fault)) => push_refusal(text, fault.to_refusal()),
+        Reply::Keys(Err(fault)) => push_fault_of(text, fault),
         Reply::Log(len, used) => write!(text, "ok {len} {used}"),
         Reply::Bad(fault) => push_fault(text, *fault),
     }

@@ -1,16 +1,14 @@
 -- The contents that a hashed map holds.
-use Rattle.std.proofs.Common.{◌≡◌, ℕ, suc, ◌+◌, Bool, true, false, cond, List, [], ◌∷◌, length, Option, Some, None, Result, Ok, Err, OnOk, IsTrue, ◌&&◌, is_some, get_or, refl, sym, ap, subst, ◌∙◌, arith}
+use Rattle.std.proofs.Common.{◌≡◌, ℕ, suc, ◌+◌, Bool, true, false, cond, List, [], ◌∷◌, length, Option, Some, None, IsTrue, ◌&&◌, is_some, refl, sym, ap, subst, ◌∙◌, arith}
 use Rattle.std.specs.Cmp.Lexicographic.{slice_cmp, texts_ties, nat_list_cmp_total}
 use Rattle.std.specs.Map.{keys_of, lookup}
-use Rattle.std.specs.List.{IsDistinct, AllByRecursion, IsAllAdjacentAnswer, dedup, dedup_from}
+use Rattle.std.specs.List.{IsDistinct, AllByRecursion, dedup, dedup_from}
 use Rattle.std.specs.List.Sorted.{IsSorted, IsStrictlySortedBy}
-use Rattle.std.specs.Ordering.{nat_cmp, is_some_and, is_le, is_lt, ordering_reverse}
-use Rattle.std.specs.declared.cmp.Ordering.{Ordering}
+use Rattle.std.specs.Ordering.{nat_cmp}
 use Rattle.std.specs.FinMap.{get, from_entries, from_sorted, entries, entries-from_sorted, get-from_sorted, get-from_entries, len, len-empty, len-insert}
 use Rattle.std.specs.FinMap.Entries.{find}
 use Rattle.std.proofs.lemmas.List.Kept.{IsStrictlySortedBy-dedup}
 use Rattle.rec_types.specs.Contents.{Contents, set_to, same_key}
-use Rattle.std.specs.declared.cmp.Ordering.TheVariants.{Less, Equal, Greater}
 use Rattle.rec_types.specs.Sorted.{Pairs, same_bytes}
 use Rattle.rec_types.proofs.ContentsLemmas.{get-set_to, same_contents, same_key-sym}
 use Rattle.rec_types.proofs.MapLemmas.{sorted_of}
@@ -71,25 +69,6 @@ pub entries_hashed : (es : Pairs) → IsStrictlySortedBy (slice_cmp nat_cmp) (ke
 entries_hashed es rises = let sorted = sorted_of es rises in
     ap (λ (m : Contents). entries m) (same_contents (from_entries es) (from_sorted es) (λ q. get-from_entries nat_list_cmp_total es q ∙ sym (get-from_sorted (slice_cmp nat_cmp) es q sorted)))
     ∙ entries-from_sorted (slice_cmp nat_cmp) es sorted
-
--- keys none of which is above the next are sorted
-
-not_below : (r : Ordering) → is_le r ≡ true → is_lt (ordering_reverse r) ≡ false
-not_below Less up = refl
-not_below Equal up = refl
-not_below Greater up = absurd (cc)
-
-pub ascending : (ks : List (List ℕ)) (r : Bool) → r ≡ true → IsAllAdjacentAnswer (λ x y b. is_some_and is_le (Some (slice_cmp nat_cmp x y)) ≡ b) ks r → IsSorted (slice_cmp nat_cmp) ks
-ascending ks true is up = λ k d _ within.
-    let x = get_or ks k d in
-    let y = get_or ks (k + 1) d in
-    ap is_lt (nat_list_cmp_total.antisymm y x) ∙ not_below (slice_cmp nat_cmp x y) (up k d within)
-ascending ks false is up = absurd (cc)
-
--- what follows from what holds where a call went well
-pub on_ok : {A E : Type 0} {P Q : Type 0} (r : Result A E) → (P → Q) → OnOk r P → OnOk r Q
-on_ok (Ok a) f p = f p
-on_ok (Err e) f p = p
 
 -- what holds where two tests hold
 pub and_parts : (a b : Bool) → IsTrue (a && b) → IsTrue a × IsTrue b

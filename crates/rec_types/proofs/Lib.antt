@@ -7,5 +7,8 @@ pub mod MapLemmas
 pub mod NumberOrder
 pub mod Padding
 pub mod Sizes
+pub mod SlotLemmas
 pub mod LogUseLemmas
 pub mod ZeroLemmas
+pub mod TagLemmas
+pub mod KeyOrderLemmas

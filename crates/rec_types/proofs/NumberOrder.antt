@@ -9,13 +9,9 @@ use Rattle.std.specs.Cmp.Lexicographic.{slice_cmp}
 use Rattle.byteorder.specs.Endian.{big_from, big_number}
 use Rattle.byteorder.specs.Numbers.{big_from-cons, big_from-lt}
 use Rattle.rec_types.specs.KeyBytes.{bytes_of, IsKey}
-use Rattle.rec_types.specs.Padded.{padded}
+use Rattle.rec_types.specs.Padded.{padded, AreBytes}
 use Rattle.rec_types.specs.Taken.{length_taken}
 use Rattle.rec_types.specs.declared.key.Key.TheInside.{Inside}
-
--- each byte is one
-abbrev pub AreBytes : List ℕ → Type 0
-AreBytes xs = (i : ℕ) → slice_index xs i < 256
 
 -- past the end stands 0, so zeros at the end change nothing
 index-zeros : (m i : ℕ) → slice_index (replicate m 0) i ≡ 0
@@ -34,9 +30,9 @@ same_number i (suc n) xs ys same =
     ap (λ (b : ℕ). b * 256 ^ n + big_from (suc i) n xs) (same i) ∙ ap (λ (r : ℕ). slice_index ys i * 256 ^ n + r) (same_number (suc i) n xs ys same)
 
 -- zeros behind bytes don't change their number
-pub number-padded : (width : ℕ) (xs : List ℕ) → big_number width (padded width xs) ≡ big_number width xs
+pub number-padded : (n width : ℕ) (xs : List ℕ) → big_number n (padded width xs) ≡ big_number n xs
 unfolding padded
-number-padded width xs = same_number 0 width _ xs (index-padded xs _)
+number-padded n width xs = same_number 0 n _ xs (index-padded xs _)
 
 -- where padded bytes are bytes, the bytes are
 pub bytes-padded : (width : ℕ) (xs : List ℕ) → AreBytes (padded width xs) → AreBytes xs
@@ -96,6 +92,14 @@ first_then_rest x y p a b rest m n low high is = at (nat_cmp x y) (ranks x y)
         ∙ ap (ordering_then (nat_cmp (x * p + a) (y * p + b))) (cmp-suc m n)
     at Greater gt = ap (λ (o : Ordering). ordering_then o (nat_cmp (suc m) (suc n))) (nat_cmp_is _ _ Greater (below_by_first y x p b a gt high))
 
+less_first : (x y p a b : ℕ) (rest : Ordering) → a < p → b < p → (a < b → rest ≡ Less) → x * p + a < y * p + b → ordering_then (nat_cmp x y) rest ≡ Less
+less_first x y p a b rest low high is less = at (nat_cmp x y) (ranks x y)
+  where
+    at : (r : Ordering) → MatchOrdering r (x < y) (x ≡ y) (y < x) → ordering_then r rest ≡ Less
+    at Less lt = refl
+    at Equal same = is (omega (arith, less, ap (λ (z : ℕ). z * p) same))
+    at Greater gt = absurd (omega (arith, less, below_by_first y x p b a gt high))
+
 number-cons : (w x : ℕ) (xs : List ℕ) → big_number (suc w) (x ∷ xs) ≡ x * 256 ^ w + big_number w xs
 number-cons w x xs = ap (λ (r : ℕ). x * 256 ^ w + r) (big_from-cons 0 w x xs)
 
@@ -113,11 +117,23 @@ in_numbers (suc w) (x ∷ xs) (y ∷ ys) low high short small =
     ∙ ap (λ (o : Ordering). ordering_then o (nat_cmp (suc (length xs)) (suc (length ys))))
     (λ i. nat_cmp (sym (number-cons w x xs) i) (sym (number-cons w y ys) i))
 
--- a key's fields as its padded bytes: their number, their length, and that they are bytes
-number_of_key : (k : Inside) → IsKey k → big_number 16 k.bytes ≡ big_number 16 (bytes_of k)
-number_of_key k is = ap (big_number 16) (sym is.zeros) ∙ number-padded 16 (bytes_of k)
+-- where the number of the first bytes is less, the list is
+pub less_by_number : (w : ℕ) (xs ys : List ℕ) → AreBytes xs → AreBytes ys → big_number w xs < big_number w ys → slice_cmp nat_cmp xs ys ≡ Less
+less_by_number w [] [] low high less = absurd (omega (arith, less))
+less_by_number w [] (y ∷ ys) low high less = refl
+less_by_number w (x ∷ xs) [] low high less = absurd (omega (arith, less, number-none 0 w))
+less_by_number zero (x ∷ xs) (y ∷ ys) low high less = absurd (omega (arith, less))
+less_by_number (suc w) (x ∷ xs) (y ∷ ys) low high less =
+    less_first x y (256 ^ w) (big_number w xs) (big_number w ys) (slice_cmp nat_cmp xs ys)
+    (big_from-lt 0 w xs (λ i. low (suc i))) (big_from-lt 0 w ys (λ i. high (suc i)))
+    (λ rest. less_by_number w xs ys (λ i. low (suc i)) (λ i. high (suc i)) rest)
+    (omega (arith, less, number-cons w x xs, number-cons w y ys))
 
-bytes_of_key : (k : Inside) → IsKey k → AreBytes k.bytes → AreBytes (bytes_of k)
+-- a key's fields as its padded bytes: their number, their length, and that they are bytes
+pub number_of_key : (n : ℕ) (k : Inside) → IsKey k → big_number n k.bytes ≡ big_number n (bytes_of k)
+number_of_key n k is = ap (big_number n) (sym is.zeros) ∙ number-padded n 16 (bytes_of k)
+
+pub bytes_of_key : (k : Inside) → IsKey k → AreBytes k.bytes → AreBytes (bytes_of k)
 bytes_of_key k is bytes = bytes-padded 16 (bytes_of k) (λ i. omega (arith, bytes i, ap (λ (cells : List ℕ). slice_index cells i) is.zeros))
 
 length_of_key : (k : Inside) → IsKey k → length (bytes_of k) ≡ k.len
@@ -127,5 +143,5 @@ length_of_key k is = length_taken 16 k.len k.bytes is.most is.whole
 pub keys_in_numbers : (k l : Inside) → IsKey k → IsKey l → AreBytes k.bytes → AreBytes l.bytes
     → ordering_then (nat_cmp (big_number 16 k.bytes) (big_number 16 l.bytes)) (nat_cmp k.len l.len) ≡ slice_cmp nat_cmp (bytes_of k) (bytes_of l)
 keys_in_numbers k l is am low high =
-    (λ i. ordering_then (nat_cmp (number_of_key k is i) (number_of_key l am i)) (nat_cmp (sym (length_of_key k is) i) (sym (length_of_key l am) i)))
+    (λ i. ordering_then (nat_cmp (number_of_key 16 k is i) (number_of_key 16 l am i)) (nat_cmp (sym (length_of_key k is) i) (sym (length_of_key l am) i)))
     ∙ sym (in_numbers 16 (bytes_of k) (bytes_of l) (bytes_of_key k is low) (bytes_of_key l am high) (omega (arith, is.most, length_of_key k is)) (omega (arith, am.most, length_of_key l am)))

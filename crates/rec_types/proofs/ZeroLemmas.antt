@@ -5,9 +5,8 @@ use Rattle.std.proofs.lemmas.List.{get_or-drop, get_or-take, get_or_past, length
 use Rattle.std.proofs.lemmas.Nat.{pow-add}
 use Rattle.std.proofs.Math.Nat.{add-mul-div_left, div-div-eq-div-mul, div-eq_of_lt, div-one, pow-suc, pow-succ'}
 use Rattle.byteorder.specs.Endian.{little_from, little_number}
-use Rattle.rec_types.specs.Padded.{padded, IsZeroFrom}
+use Rattle.rec_types.specs.Padded.{padded, IsZeroFrom, AreBytes}
 use Rattle.rec_types.specs.Taken.{length_taken}
-use Rattle.rec_types.proofs.NumberOrder.{AreBytes}
 
 -- a number without its lowest bytes
 shifted : (m n t i : ℕ) (xs : List ℕ) → AreBytes xs → t ≡ m + n → little_from i t xs / 256 ^ m ≡ little_from (i + m) n xs

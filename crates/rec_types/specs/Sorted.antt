@@ -1,5 +1,5 @@
 -- A table in a hashed map.
-use Rattle.std.specs.Prelude.{ℕ, ◌==◌, Bool, T, List, refl}
+use Rattle.std.specs.Prelude.{ℕ, ◌==◌, Bool, T, List, [], slice_index_or, refl}
 use Rattle.std.specs.Coded.{Coded, code_by, coded×, coded_ℕ}
 use Rattle.std.specs.FinMap as maps
 use Rattle.std.specs.Ordering.{nat_cmp}
@@ -27,3 +27,6 @@ is_sorted es = T (maps.is_sorted (slice_cmp nat_cmp) es)
 -- the test of keys that a hashed map goes by
 abbrev pub same_bytes : List ℕ → List ℕ → Bool
 same_bytes a b = pointwise ◌==◌ a b
+
+abbrev pub pair_at : Pairs → ℕ → List ℕ × List ℕ
+pair_at es place = slice_index_or es place ([], [])

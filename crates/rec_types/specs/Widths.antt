@@ -9,6 +9,10 @@ key_width = 16
 abbrev pub widest_record : ℕ
 widest_record = 100
 
+-- the bytes that a short record may take
+abbrev pub short_width : ℕ
+short_width = 32
+
 -- the bytes of a page
 abbrev pub page_width : ℕ
 page_width = 4096

@@ -1,9 +1,10 @@
 ghost use Rattle.std.specs.Prelude.{◌≡◌, ◌<◌, ◌≤◌, ◌↔◌, length, take, Result, Ok, Err, IfSome, IsSome};
+ghost use Rattle.byteorder.specs.Endian.{big_number};
 ghost use Rattle.rec_types.specs.Key.{key_of};
-ghost use Rattle.rec_types.specs.Padded.{IsZeroFrom};
+ghost use Rattle.rec_types.specs.Padded.{IsZeroFrom, AreBytes};
 ghost use Rattle.rec_types.specs.Widths.{key_width};
 
-use crate::number::{is_zero_from, number_of};
+use crate::number::{front_of, is_zero_from, number_of};
 use crate::widths::KEY_WIDTH;
 use std::cmp::Ordering;
 use std::hash::{Hash, Hasher};
@@ -78,6 +79,14 @@ impl Key {
             bytes: *field,
             len: len as u32,
         })
+    }
+
+    /// The first eight bytes as one number, with zeros behind a shorter key.
+    pub(crate) fn front(&self) -> u64
+        ensures value { result ≡ big_number 8 self.now }
+        ensures bytes { AreBytes self.now }
+    {
+        front_of(&self.bytes)
     }
 
     /// The bytes of the key.

@@ -1,12 +1,16 @@
 //! Keys, records, limits and the tables that hold records.
 #![tactic(auto)]
 
+mod compact_map;
 mod flaky_table;
 mod key;
+mod key_order;
+pub mod laws;
 mod limits;
 mod memory;
 mod number;
 mod record;
+mod slot;
 mod sorted_table;
 mod table;
 mod table_calls;
@@ -16,6 +20,7 @@ mod widths;
 
 pub use flaky_table::FlakyTable;
 pub use key::{Key, KeyFault};
+pub use key_order::order_of;
 pub use limits::{LimitFault, Limits, MOST_BEGINS, MOST_LOG_RECORDS, MOST_RECORDS};
 pub use memory::Memory;
 pub use record::{Record, RecordFault};

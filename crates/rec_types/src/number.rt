@@ -1,6 +1,6 @@
 ghost use Rattle.std.specs.Prelude.{◌≡◌, ℕ, ◌+◌, ◌<◌, ◌≤◌, ◌↔◌, slice_index, take, drop, IsTrue};
 ghost use Rattle.byteorder.specs.Endian.{big_number};
-ghost use Rattle.rec_types.specs.Padded.{IsZeroFrom};
+ghost use Rattle.rec_types.specs.Padded.{IsZeroFrom, AreBytes};
 
 use crate::widths::RECORD_WIDTH;
 use byteorder::{BigEndian, ByteOrder, LittleEndian};
@@ -9,9 +9,17 @@ use byteorder::{BigEndian, ByteOrder, LittleEndian};
 /// numbers.
 pub(crate) fn number_of(bytes: &[u8; 16]) -> u128
     ensures value { result ≡ big_number 16 bytes.now }
-    ensures bytes { (i : ℕ) → slice_index bytes.now i < 256 }
+    ensures bytes { AreBytes bytes.now }
 {
     BigEndian::read_u128(bytes)
+}
+
+/// The first eight bytes as one number, the first byte the highest.
+pub(crate) fn front_of(bytes: &[u8; 16]) -> u64
+    ensures value { result ≡ big_number 8 bytes.now }
+    ensures bytes { AreBytes bytes.now }
+{
+    BigEndian::read_u64(bytes)
 }
 
 /// Whether the bytes are zero from place `len` on.

@@ -1,10 +1,10 @@
-ghost use Rattle.std.specs.Prelude.{◌≡◌, ◌≤◌, ◌↔◌, length, take, IfSome, IsSome};
+ghost use Rattle.std.specs.Prelude.{◌≡◌, ◌≤◌, ◌↔◌, length, take, nat_le, IfSome, IsSome};
 ghost use Rattle.rec_types.specs.Padded.{IsZeroFrom};
 ghost use Rattle.rec_types.specs.Record.{record_of};
-ghost use Rattle.rec_types.specs.Widths.{widest_record};
+ghost use Rattle.rec_types.specs.Widths.{widest_record, short_width};
 
 use crate::number::is_zero_behind;
-use crate::widths::RECORD_WIDTH;
+use crate::widths::{RECORD_WIDTH, SHORT_WIDTH};
 use std::marker::Model;
 use thiserror::Error;
 
@@ -73,6 +73,13 @@ impl Record {
         })
     }
 
+    /// Whether the record fits in a short one.
+    pub(crate) fn is_short(&self) -> bool
+        ensures { result ≡ nat_le (length self.now) short_width }
+    {
+        self.len as usize <= SHORT_WIDTH
+    }
+
     /// The bytes of the record.
     pub fn bytes(&self) -> &[u8]
         ensures value { result.now ≡ self.now }
@@ -116,4 +123,57 @@ impl Eq for Record {
     ghost use Rattle.std.proofs.Common.{rules};
 
     ghost laws = { Prim.search (comparing, rules) };
+}
+
+/// A record of at most 32 bytes, in little room. Contracts see its bytes.
+#[derive(Clone, Copy, Debug)]
+pub(crate) struct ShortRecord {
+    bytes: [u8; SHORT_WIDTH],
+    len: u32,
+}
+
+impl Model for ShortRecord {
+    ghost use Rattle.std.specs.Prelude.{List, ℕ};
+    ghost use Rattle.std.specs.Coded.{coded_list, coded_ℕ};
+
+    ghost Value = { List ℕ };
+
+    ghost coded = { coded_list coded_ℕ };
+
+    ghost use Rattle.rec_types.specs.ShortBytes.{bytes_of, IsShortRecord, fields_of, fields_of_bytes};
+
+    ghost view = { bytes_of };
+
+    ghost invariant = { IsShortRecord };
+
+    ghost inverse = { fields_of };
+
+    ghost inverse_ok = { fields_of_bytes };
+}
+
+impl ShortRecord {
+    /// The record in little room.
+    pub(crate) fn of(record: &Record) -> ShortRecord
+        requires { length «record».now ≤ short_width }
+        ensures { result ≡ «record».now }
+    {
+        let mut bytes = [0; SHORT_WIDTH];
+        bytes.copy_from_slice(&record.bytes[..SHORT_WIDTH]);
+        ShortRecord {
+            bytes,
+            len: record.len,
+        }
+    }
+
+    /// The record in full.
+    pub(crate) fn record(&self) -> Record
+        ensures { result ≡ self.now }
+    {
+        let mut bytes = [0; RECORD_WIDTH];
+        bytes[..SHORT_WIDTH].copy_from_slice(&self.bytes);
+        Record {
+            bytes,
+            len: self.len,
+        }
+    }
 }

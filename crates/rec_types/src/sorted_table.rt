@@ -1,26 +1,26 @@
-ghost use Rattle.std.specs.Prelude.{List, IsTrue, IsSorted, ◌≡◌, ◌≢◌, ℕ, ◌≤◌, None, Ok, Err, false, IsOk, IsSome, IfOk, OnOk, OnErr, nat_le, ◌&&◌, is_none};
+ghost use Rattle.std.specs.Prelude.{◌≡◌, ◌<◌, ◌≤◌, length, IsTrue, None, Ok, Err, true, false, map, All, IsOk, IsSome, IfOk, OnOk, OnErr, nat_le, ◌&&◌, is_none, Some, IfErr};
 ghost use Rattle.std.specs.FinMap as maps;
-ghost use Rattle.std.specs.Ordering.{nat_cmp};
-ghost use Rattle.std.specs.Cmp.Lexicographic.{slice_cmp};
-ghost use Rattle.std.specs.List.Sorted.{IsStrictlySortedBy};
 ghost use Rattle.rec_types.specs.Contents.{set_to};
+ghost use Rattle.rec_types.specs.KeyOrder.{IsOrderOf};
 ghost use Rattle.rec_types.specs.Answered.{Answered};
 ghost use Rattle.rec_types.specs.Calls.{no_calls, with_set};
-ghost use Rattle.rec_types.specs.Table.{is_device};
-ghost use Rattle.rec_types.specs.Sorted.{same_bytes};
-ghost use Rattle.indexmap.specs.IndexMap.{get, keys, index_map_len, IsUnique};
+ghost use Rattle.rec_types.specs.Table.{counted, is_device};
+ghost use Rattle.rec_types.specs.Sorted.{pair_at};
 
-use crate::{Key, Limits, NO_CALLS, Record, Table, TableCalls, TableFault, TableState};
-use indexmap::IndexMap;
-use std::alloc::{AllocError, Global};
+use crate::compact_map::CompactMap;
+use crate::key_order::order_of;
+use crate::{Key, Limits, Memory, NO_CALLS, Record, Table, TableCalls, TableFault, TableState};
+use std::alloc::Global;
 use std::marker::Model;
 
 /// A table in a hashed map, whose records are put in order where they are asked for in order. It is
 /// always sound, and never answers Device or Damaged.
 #[derive(Debug, Drop)]
 pub struct SortedTable {
-    records: IndexMap<Key, Record>,
-    /// Whether they are known to stand in the order of their keys.
+    records: CompactMap,
+    /// The places of the records in the order of their keys.
+    places: Vec<u32>,
+    /// Whether the places are those of the records that stand there now.
     in_order: bool,
     alloc: Global,
     limit: u32,
@@ -54,12 +54,87 @@ impl SortedTable {
         } }
     {
         SortedTable {
-            records: IndexMap::new(alloc),
+            records: CompactMap::new(alloc),
+            places: Vec::new(alloc),
             in_order: false,
             alloc,
             limit: limits.records(),
             refusals: 0,
             calls: NO_CALLS,
+        }
+    }
+
+    // The records in the order of their keys. Fault: Memory.
+    fn in_key_order(&mut self) -> Result<Vec<(Key, Record)>, Memory>
+        ensures ok { IfOk result (λ list. list.items ≡ maps.entries self.old.contents) }
+        ensures same { self.new ≡ self.old }
+    {
+        put_in_order(
+            self.alloc,
+            &mut self.places,
+            self.records.keys(),
+            self.in_order,
+        )?;
+        self.in_order = true;
+        copied(self.alloc, &self.records, &self.places)
+    }
+
+    // Takes the key out, and answers what stood there before. Each part of `set` is a function of its own, so that a call
+    // pays for the answer of one alone.
+    fn take_out(&mut self, key: &Key) -> Result<Option<Record>, TableFault>
+        ensures value { result ≡ Ok (maps.get self.old.contents key.now) }
+        ensures nothing { result ≡ Ok None → self.new.contents ≡ self.old.contents }
+        ensures after { self.new ≡ record self.old {
+          contents = set_to self.old.contents key.now None;
+          calls = with_set self.old.calls true result;
+        } }
+    {
+        self.in_order = false;
+        let taken = Ok(self.records.swap_remove(key));
+        self.calls.note_set(true, &taken);
+        taken
+    }
+
+    // Answers that there is no room.
+    fn refuse_room(&mut self) -> Result<Option<Record>, TableFault>
+        ensures value { result ≡ Err TableFault.NoRoom }
+        ensures after { self.new ≡ record self.old { calls = with_set self.old.calls false result } }
+    {
+        let full = Err(TableFault::NoRoom);
+        self.calls.note_set(false, &full);
+        full
+    }
+
+    // Puts a record at the key, and answers what stood there before. Fault: Memory, for a new key only.
+    fn put(&mut self, key: Key, value: &Record) -> Result<Option<Record>, TableFault>
+        requires { (nat_le self.old.limit (maps.len self.old.contents)
+            && is_none (maps.get self.old.contents key)) ≡ false }
+        ensures value { IfOk result (λ before. before ≡ maps.get self.old.contents key) }
+        ensures ok { OnOk result (self.new ≡ record self.old {
+          contents = set_to self.old.contents key (Some value.now);
+          calls = with_set self.old.calls false result;
+        }) }
+        ensures memory { IfErr result (λ fault. (fault ≡ TableFault.Memory)
+            × (maps.get self.old.contents key ≡ None)) }
+        ensures err { OnErr result (self.new ≡ record self.old {
+          refusals = counted self.old.refusals true;
+          calls = with_set self.old.calls false result;
+        }) }
+    {
+        match self.records.insert(key, value) {
+            Ok(before) => {
+                self.in_order = self.in_order & before.is_some();
+                let put = Ok(before);
+                self.calls.note_set(false, &put);
+                return put;
+            }
+            Err(_) => {
+                self.in_order = false;
+                self.refusals = self.refusals.saturating_add(1);
+                let refused = Err(TableFault::Memory);
+                self.calls.note_set(false, &refused);
+                return refused;
+            }
         }
     }
 
@@ -98,7 +173,7 @@ impl TableState for SortedTable {
 impl Table for SortedTable {
     fn get(&mut self, key: &Key) -> Result<Option<Record>, TableFault> {
         self.calls.note_get();
-        Ok(self.records.get(key).copied())
+        Ok(self.records.get(key))
     }
 
     /// Puts a record at the key, or takes the key out, and answers what stood there before. Faults:
@@ -123,43 +198,18 @@ impl Table for SortedTable {
         ensures present { IsSome (maps.get self.old.contents key) → IsOk result }
         ensures taken { to ≡ None → IsOk result }
     {
-        let Some(record) = to else {
-            self.in_order = false;
-            let taken = Ok(self.records.swap_remove(&key));
-            self.calls.note_set(true, &taken);
-            return taken;
+        let Some(record) = &to else {
+            return self.take_out(&key);
         };
         if self.is_full_for(&key) {
-            let full = Err(TableFault::NoRoom);
-            self.calls.note_set(false, &full);
-            return full;
+            return self.refuse_room();
         }
-        match self.records.insert(key, record) {
-            Ok(before) => {
-                self.in_order = self.in_order & before.is_some();
-                let put = Ok(before);
-                self.calls.note_set(false, &put);
-                put
-            }
-            Err(_) => {
-                self.in_order = false;
-                self.refusals = self.refusals.saturating_add(1);
-                let refused = Err(TableFault::Memory);
-                self.calls.note_set(false, &refused);
-                refused
-            }
-        }
+        self.put(key, record)
     }
 
     fn entries(&mut self) -> Result<Vec<(Key, Record)>, TableFault> {
         self.calls.note_list();
-        if let Err(_) = put_in_order(&mut self.records, self.in_order) {
-            self.in_order = false;
-            self.refusals = self.refusals.saturating_add(1);
-            return Err(TableFault::Memory);
-        }
-        self.in_order = true;
-        match copied(self.alloc, &self.records) {
+        match self.in_key_order() {
             Ok(records) => Ok(records),
             Err(_) => {
                 self.refusals = self.refusals.saturating_add(1);
@@ -177,39 +227,32 @@ impl Table for SortedTable {
     }
 }
 
-// Whether the records stand in the order of their keys.
-fn is_in_order(records: &IndexMap<Key, Record>) -> bool
-    ensures { IsTrue result → IsSorted (slice_cmp nat_cmp) (keys records.now) }
+// Makes the places of the keys in their order, where they aren't known. A fault leaves them as they are.
+fn put_in_order(
+    alloc: Global,
+    places: &mut Vec<u32>,
+    keys: &[Key],
+    known: bool,
+) -> Result<(), Memory>
+    requires few { length keys.now ≤ 4294967296 }
+    requires known { IsTrue known → IsOrderOf keys.now places.old.items }
+    ensures ok { OnOk result (IsOrderOf keys.now places.new.items) }
+    ensures err { OnErr result (places.new ≡ places.old) }
 {
-    records.is_sorted()
+    if !known {
+        *places = order_of(alloc, keys)?;
+    }
+    Ok(())
 }
 
-// Puts the records in the order of their keys, where they aren't known to be. A fault leaves them as they are.
-fn put_in_order(records: &mut IndexMap<Key, Record>, in_order: bool) -> Result<(), AllocError>
-    requires known { IsTrue in_order → IsStrictlySortedBy (slice_cmp nat_cmp) (keys records.old) }
-    ensures sorted { OnOk result (IsStrictlySortedBy (slice_cmp nat_cmp) (keys records.new)) }
-    ensures same { (q : List ℕ) → get same_bytes records.new q ≡ get same_bytes records.old q }
-    ensures unique { IsUnique same_bytes records.new }
-    ensures len { index_map_len records.new ≡ index_map_len records.old }
+// The records at the places.
+fn copied(alloc: Global, records: &CompactMap, places: &[u32]) -> Result<Vec<(Key, Record)>, Memory>
+    requires { All (λ place. place < length records.now) places.now }
+    ensures { IfOk result (λ list. list.items ≡ map (pair_at records.now) places.now) }
 {
-    // What this says is that no key stands twice.
-    let _count = records.len();
-    if in_order {
-        return Ok(());
-    }
-    if is_in_order(records) {
-        return Ok(());
-    }
-    records.sort_keys()
-}
-
-// The records in order.
-fn copied(alloc: Global, records: &IndexMap<Key, Record>) -> Result<Vec<(Key, Record)>, AllocError>
-    ensures { IfOk result (λ list. list.items ≡ records.now.entries) }
-{
-    let mut list = Vec::with_capacity(alloc, records.len())?;
-    for (key, record) in records {
-        list.push((*key, *record))?;
+    let mut list = Vec::with_capacity(alloc, places.len())?;
+    for place in places {
+        records.push_at(*place as usize, &mut list)?;
     }
     Ok(list)
 }

@@ -1,8 +1,11 @@
 -- The run of a script over a file: each line that says something has one reply.
-use Rattle.std.specs.Prelude.{◌≡◌, ℕ, ◌+◌, ◌<◌, Bool, true, false, List, [], ◌∷◌, ◌++◌, length, filter, map, take, Option, Some, None, Result, Ok, Err, ◌⊎◌, IsTrue}
+use Rattle.std.specs.Prelude.{◌≡◌, ℕ, ◌+◌, ◌<◌, Bool, true, false, List, [], ◌∷◌, ◌++◌, length, filter, map, take, Option, Some, None, Result, Ok, Err, ◌⊎◌, IsTrue, IfOk}
 use Rattle.std.specs.List.{All, flat_map}
 use Rattle.std.specs.Io.KnownBytes.{Appends}
-use Rattle.record_file.specs.Runs.{Called, Event, Seen, Run, Begin, Put, Claim, Remove, Get, Savepoint, Release, RollbackTo, Abort, Resume, Commit, Entries, KeysOf, LogLen, LogUse}
+use Rattle.rec_types.specs.declared.table_state.TableState.{Ghosts}
+use Rattle.record_file.specs.Abstract.{OpenFile}
+use Rattle.record_file.specs.TableCalls.{KeepsOrigin}
+use Rattle.record_file.specs.Runs.{Called, Event, Seen, IsKeptSeen, seen, Run, Begin, Put, Claim, Remove, Get, Savepoint, Release, RollbackTo, Abort, Resume, Commit, Entries, KeysOf, LogLen, LogUse}
 use Rattle.command_text.specs.declared.command.Command.{Command}
 use Rattle.command_text.specs.declared.command.Command.TheVariants as command
 use Rattle.command_text.specs.declared.reply.Reply.{Reply}
@@ -47,6 +50,21 @@ abbrev pub LineHasReply : Seen → Read (Option Command) → Reply → Seen → 
 LineHasReply old (Ok None) answer new = ⊥
 LineHasReply old (Ok (Some c)) answer new = HasReply old (Ok c) answer new
 LineHasReply old (Err fault) answer new = HasReply old (Err fault) answer new
+
+-- the text of a reply, where it could be made, and whether the reply is a refusal
+abbrev pub Told : {E : Type 0} → Reply → Result Bool E → List ℕ → Type 0
+Told answer made text = IfOk made (λ refused. (text ≡ text_of answer) × (refused ≡ is_refusal answer))
+
+-- Over a file of which what stays true is true, a command has a reply, which is told. What the table was made of stays.
+pub record CommandTold {T E : Type 0} (t : Ghosts T) (old : OpenFile T) (entry : Read Command) (made : Result Bool E) (text : List ℕ) (new : OpenFile T) : Type 0 where
+  pub told : IsKeptSeen (seen t old) → IsKeptSeen (seen t new) → (answer : Reply) × HasReply (seen t old) entry answer (seen t new) × Told answer made text
+  pub origin : KeepsOrigin t old new
+
+-- What a line says has a reply, which is told; a line that says nothing has none.
+abbrev pub LineTold : {E : Type 0} → Seen → Read (Option Command) → Result (Option Bool) E → List ℕ → Seen → Type 0
+LineTold old said (Ok None) text new = (said ≡ Ok None) × (new ≡ old)
+LineTold old said (Ok (Some refused)) text new = (answer : Reply) × LineHasReply old said answer new × (text ≡ text_of answer) × (refused ≡ is_refusal answer)
+LineTold old said (Err fault) text new = (answer : Reply) × LineHasReply old said answer new
 
 -- the entries have these replies, one after another
 abbrev pub Session : Seen → List (Read Command) → List Reply → Seen → Type 0
@@ -101,6 +119,14 @@ pub record IsUnsent (held holds : Option (List ℕ)) (done : ℕ) (text : List �
   pub front : IsFront fault sent text
   pub written : Appends held holds (take sent text)
   pub count : done_of fault ≡ done
+
+-- What a line says has a reply, which is written: the answer is whether it is a refusal. A line that says nothing has none.
+abbrev pub LineSent : Option (List ℕ) → Option (List ℕ) → Seen → Read (Option Command) → Seen → ℕ → Result (Option Bool) ScriptFault → Type 0
+LineSent held holds old said new done (Ok None) = (said ≡ Ok None) × (new ≡ old) × (holds ≡ held)
+LineSent held holds old said new done (Ok (Some refused)) =
+    (answer : Reply) × LineHasReply old said answer new × Appends held holds (text_of answer) × (refused ≡ is_refusal answer)
+LineSent held holds old said new done (Err fault) =
+    (answer : Reply) × LineHasReply old said answer new × IsUnsent held holds done (text_of answer) fault
 
 -- A run that stopped at a reply: the replies before it are written, and a front of it.
 pub record ScriptStopsAt (held holds : Option (List ℕ)) (old new : Seen) (script : List ℕ) (fault : ScriptFault) : Type 0 where

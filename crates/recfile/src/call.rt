@@ -1,68 +1,150 @@
 ghost use Rattle.record_file.specs.TableCalls.{KeepsOrigin};
-ghost use Rattle.std.specs.Prelude.{◌≡◌, MatchOption, Ok, None, if◌then◌else◌};
+ghost use Rattle.std.specs.Prelude.{◌≡◌, Ok, Err, if◌then◌else◌};
+ghost use Rattle.std.specs.String.{string_bytes};
 ghost use Rattle.command_text.specs.declared.command.Command.TheVariants as commands;
-ghost use Rattle.recfile.specs.Run.{HasReply, LineHasReply, says_command};
-ghost use Rattle.record_file.specs.Runs.{IsKeptSeen, seen};
+ghost use Rattle.command_text.specs.declared.reply.Reply.{Reply};
+ghost use Rattle.command_text.specs.declared.reply.Reply.TheVariants as replies;
+ghost use Rattle.recfile.specs.Run.{CommandTold, HasReply, LineTold, Told, says_command};
+ghost use Rattle.record_file.specs.Runs.{seen};
 
-use command_text::{Command, EntryList, KeyList, LineFault, Reply};
-use rec_types::{Table, TxId};
+use command_text::{Command, EntryList, KeyList, LineFault, Reply, append_reply};
+use rec_types::{Key, Memory, Record, Table, TxId};
 use record_file::RecordFile;
 
-// The records of the file, or why there is no list of them.
-fn list<T: Table>(file: &mut RecordFile<T>) -> Reply
-    ensures told { IsKeptSeen (seen T.TableState file.old) → IsKeptSeen (seen T.TableState file.new)
-        → HasReply (seen T.TableState file.old) (Ok commands.List) result
-        (seen T.TableState file.new) }
-    ensures origin { KeepsOrigin T.TableState file.old file.new }
+// Puts the text of a reply in the place of what a text has, and answers whether it is a refusal. Fault: Memory.
+#[inline(never)]
+fn tell(text: &mut String, reply: &Reply) -> Result<bool, Memory>
+    ensures { Told reply.now result (string_bytes text.new) }
 {
-    Reply::List(file.entries().map(EntryList::new))
+    text.clear();
+    append_reply(text, reply)?;
+    Ok(reply.is_refusal())
 }
 
-// The keys that a transaction owns.
-fn keys<T: Table>(file: &mut RecordFile<T>, tx: TxId) -> Reply
-    ensures told { IsKeptSeen (seen T.TableState file.old) → IsKeptSeen (seen T.TableState file.new)
-        → HasReply (seen T.TableState file.old) (Ok (commands.Keys tx)) result
-        (seen T.TableState file.new) }
-    ensures origin { KeepsOrigin T.TableState file.old file.new }
+// Each command is a function of its own, so that a line pays for the reply to one alone.
+
+fn begin<T: Table>(text: &mut String, file: &mut RecordFile<T>) -> Result<bool, Memory>
+    ensures { CommandTold T.TableState file.old (Ok commands.Begin) result
+        (string_bytes text.new) file.new }
 {
-    Reply::Keys(file.keys_of(tx).map(KeyList::new))
+    tell(text, &Reply::Begin(file.begin()))
 }
 
-/// Makes the call that a command asks for.
-pub fn call<T: Table>(file: &mut RecordFile<T>, command: Command) -> Reply
-    ensures told { HasReply (seen T.TableState file.old) (Ok command) result
-        (seen T.TableState file.new) }
-    ensures origin { KeepsOrigin T.TableState file.old file.new }
+fn put<T: Table>(text: &mut String, file: &mut RecordFile<T>, tx: TxId, key: Key, value: Record) -> Result<bool, Memory>
+    ensures { CommandTold T.TableState file.old (Ok (commands.Put tx key value)) result
+        (string_bytes text.new) file.new }
 {
-    let _begun = file.begun();
-    let reply = ask(file, command);
-    let _then_begun = file.begun();
-    reply
+    tell(text, &Reply::Put(file.put(tx, key, value)))
 }
 
-// Makes it on a file of which what stays true is true.
-fn ask<T: Table>(file: &mut RecordFile<T>, command: Command) -> Reply
-    ensures told { IsKeptSeen (seen T.TableState file.old) → IsKeptSeen (seen T.TableState file.new)
-        → HasReply (seen T.TableState file.old) (Ok command) result
-        (seen T.TableState file.new) }
-    ensures origin { KeepsOrigin T.TableState file.old file.new }
+fn claim<T: Table>(text: &mut String, file: &mut RecordFile<T>, tx: TxId, key: Key) -> Result<bool, Memory>
+    ensures { CommandTold T.TableState file.old (Ok (commands.Claim tx key)) result
+        (string_bytes text.new) file.new }
 {
-    // Each answer goes out from its arm, so that none is moved where the arms meet.
+    tell(text, &Reply::Claim(file.claim(tx, key)))
+}
+
+fn remove<T: Table>(text: &mut String, file: &mut RecordFile<T>, tx: TxId, key: Key) -> Result<bool, Memory>
+    ensures { CommandTold T.TableState file.old (Ok (commands.Del tx key)) result
+        (string_bytes text.new) file.new }
+{
+    tell(text, &Reply::Del(file.remove(tx, key)))
+}
+
+fn get<T: Table>(text: &mut String, file: &mut RecordFile<T>, tx: TxId, key: &Key) -> Result<bool, Memory>
+    ensures { CommandTold T.TableState file.old (Ok (commands.Get tx key.now)) result
+        (string_bytes text.new) file.new }
+{
+    tell(text, &Reply::Get(file.get(tx, key)))
+}
+
+fn savepoint<T: Table>(text: &mut String, file: &mut RecordFile<T>, tx: TxId) -> Result<bool, Memory>
+    ensures { CommandTold T.TableState file.old (Ok (commands.Save tx)) result
+        (string_bytes text.new) file.new }
+{
+    tell(text, &Reply::Save(file.savepoint(tx)))
+}
+
+fn release<T: Table>(text: &mut String, file: &mut RecordFile<T>, tx: TxId, n: u32) -> Result<bool, Memory>
+    ensures { CommandTold T.TableState file.old (Ok (commands.Release tx n)) result
+        (string_bytes text.new) file.new }
+{
+    tell(text, &Reply::Release(file.release(tx, n)))
+}
+
+fn rollback_to<T: Table>(text: &mut String, file: &mut RecordFile<T>, tx: TxId, n: u32) -> Result<bool, Memory>
+    ensures { CommandTold T.TableState file.old (Ok (commands.Back tx n)) result
+        (string_bytes text.new) file.new }
+{
+    tell(text, &Reply::Back(file.rollback_to(tx, n)))
+}
+
+fn resume<T: Table>(text: &mut String, file: &mut RecordFile<T>, tx: TxId) -> Result<bool, Memory>
+    ensures { CommandTold T.TableState file.old (Ok (commands.Resume tx)) result
+        (string_bytes text.new) file.new }
+{
+    tell(text, &Reply::Resume(file.resume(tx)))
+}
+
+fn abort<T: Table>(text: &mut String, file: &mut RecordFile<T>, tx: TxId) -> Result<bool, Memory>
+    ensures { CommandTold T.TableState file.old (Ok (commands.Abort tx)) result
+        (string_bytes text.new) file.new }
+{
+    tell(text, &Reply::Abort(file.abort(tx)))
+}
+
+fn commit<T: Table>(text: &mut String, file: &mut RecordFile<T>, tx: TxId) -> Result<bool, Memory>
+    ensures { CommandTold T.TableState file.old (Ok (commands.Commit tx)) result
+        (string_bytes text.new) file.new }
+{
+    tell(text, &Reply::Commit(file.commit(tx)))
+}
+
+fn list<T: Table>(text: &mut String, file: &mut RecordFile<T>) -> Result<bool, Memory>
+    ensures { CommandTold T.TableState file.old (Ok commands.List) result
+        (string_bytes text.new) file.new }
+{
+    tell(text, &Reply::List(file.entries().map(EntryList::new)))
+}
+
+fn keys<T: Table>(text: &mut String, file: &mut RecordFile<T>, tx: TxId) -> Result<bool, Memory>
+    ensures { CommandTold T.TableState file.old (Ok (commands.Keys tx)) result
+        (string_bytes text.new) file.new }
+{
+    tell(text, &Reply::Keys(file.keys_of(tx).map(KeyList::new)))
+}
+
+fn log<T: Table>(text: &mut String, file: &mut RecordFile<T>) -> Result<bool, Memory>
+    ensures { CommandTold T.TableState file.old (Ok commands.Log) result
+        (string_bytes text.new) file.new }
+{
+    tell(text, &Reply::Log(file.log_len(), file.log_use()))
+}
+
+// Makes the call that a command asks for, and tells its reply. Fault: Memory.
+fn call<T: Table>(
+    text: &mut String,
+    file: &mut RecordFile<T>,
+    command: &Command,
+) -> Result<bool, Memory>
+    ensures { CommandTold T.TableState file.old (Ok command.now) result
+        (string_bytes text.new) file.new }
+{
     match command {
-        Command::Begin => return Reply::Begin(file.begin()),
-        Command::Put(tx, key, value) => return Reply::Put(file.put(tx, key, value)),
-        Command::Claim(tx, key) => return Reply::Claim(file.claim(tx, key)),
-        Command::Del(tx, key) => return Reply::Del(file.remove(tx, key)),
-        Command::Get(tx, key) => return Reply::Get(file.get(tx, &key)),
-        Command::Save(tx) => return Reply::Save(file.savepoint(tx)),
-        Command::Release(tx, n) => return Reply::Release(file.release(tx, n)),
-        Command::Back(tx, n) => return Reply::Back(file.rollback_to(tx, n)),
-        Command::Resume(tx) => return Reply::Resume(file.resume(tx)),
-        Command::Abort(tx) => return Reply::Abort(file.abort(tx)),
-        Command::Commit(tx) => return Reply::Commit(file.commit(tx)),
-        Command::List => return list(file),
-        Command::Keys(tx) => return keys(file, tx),
-        Command::Log => return Reply::Log(file.log_len(), file.log_use()),
+        Command::Begin => return begin(text, file),
+        Command::Put(tx, key, value) => return put(text, file, *tx, *key, *value),
+        Command::Claim(tx, key) => return claim(text, file, *tx, *key),
+        Command::Del(tx, key) => return remove(text, file, *tx, *key),
+        Command::Get(tx, key) => return get(text, file, *tx, key),
+        Command::Save(tx) => return savepoint(text, file, *tx),
+        Command::Release(tx, n) => return release(text, file, *tx, *n),
+        Command::Back(tx, n) => return rollback_to(text, file, *tx, *n),
+        Command::Resume(tx) => return resume(text, file, *tx),
+        Command::Abort(tx) => return abort(text, file, *tx),
+        Command::Commit(tx) => return commit(text, file, *tx),
+        Command::List => return list(text, file),
+        Command::Keys(tx) => return keys(text, file, *tx),
+        Command::Log => return log(text, file),
     }
 }
 
@@ -76,20 +158,43 @@ pub fn command_count(said: &Result<Option<Command>, LineFault>) -> u32
     }
 }
 
-/// The reply to a line; one that says nothing has none.
-pub fn reply_to<T: Table>(
+// Tells why a line says no command. Fault: Memory.
+fn bad(text: &mut String, fault: LineFault) -> Result<bool, Memory>
+    ensures { Told (replies.Bad fault) result (string_bytes text.new) }
+{
+    tell(text, &Reply::Bad(fault))
+}
+
+// Runs a command on a file of which what stays true is true.
+fn run_command<T: Table>(
+    text: &mut String,
     file: &mut RecordFile<T>,
-    said: Result<Option<Command>, LineFault>,
-) -> Option<Reply>
-    ensures told { MatchOption result
-        ((said ≡ Ok None) × (seen T.TableState file.new ≡ seen T.TableState file.old))
-        (λ reply. LineHasReply (seen T.TableState file.old) said reply
-        (seen T.TableState file.new)) }
+    command: &Command,
+) -> Result<bool, Memory>
+    ensures told { (reply : Reply) × HasReply (seen T.TableState file.old) (Ok command.now) reply
+        (seen T.TableState file.new) × Told reply result (string_bytes text.new) }
+    ensures origin { KeepsOrigin T.TableState file.old file.new }
+{
+    let _begun = file.begun();
+    let told = call(text, file, command);
+    let _then_begun = file.begun();
+    told
+}
+
+/// Runs what a line says, and puts the text of the reply in the place of what `text` has. Answers whether the reply is a
+/// refusal; a line that says nothing has none. Fault: Memory, by which the command was run.
+pub fn reply_to<T: Table>(
+    text: &mut String,
+    file: &mut RecordFile<T>,
+    said: &Result<Option<Command>, LineFault>,
+) -> Result<Option<bool>, Memory>
+    ensures told { LineTold (seen T.TableState file.old) said.now result (string_bytes text.new)
+        (seen T.TableState file.new) }
     ensures origin { KeepsOrigin T.TableState file.old file.new }
 {
     match said {
-        Ok(None) => return None,
-        Ok(Some(command)) => return Some(call(file, command)),
-        Err(fault) => return Some(Reply::Bad(fault)),
+        Ok(None) => Ok(None),
+        Ok(Some(command)) => Ok(Some(run_command(text, file, command)?)),
+        Err(fault) => Ok(Some(bad(text, *fault)?)),
     }
 }

@@ -5,14 +5,14 @@ ghost use Rattle.std.specs.Io.KnownBytes.{Appends};
 ghost use Rattle.recfile.specs.Whole.{IsWhole, longest_script};
 ghost use Rattle.command_text.specs.Script.{entries_of};
 ghost use Rattle.command_text.specs.Texts.{text_of};
-ghost use Rattle.recfile.specs.Run.{Session, Finished, Faulted, ReadStops, IsUnsent, AcceptedIf, LinesStop, NotRefused, Ran, run_of, commands};
+ghost use Rattle.recfile.specs.Run.{Session, Finished, Faulted, ReadStops, LineSent, AcceptedIf, LinesStop, NotRefused, Ran, run_of, commands};
 ghost use Rattle.record_file.specs.Runs.{seen};
 ghost use Rattle.command_text.specs.declared.reply.Reply.{Reply};
 
 use crate::call::{command_count, reply_to};
 use crate::next_line::next_line;
 use crate::reads::{CountedRead, Reads};
-use command_text::{Reply, append_reply, read_line};
+use command_text::{Command, LineFault, read_line};
 use rec_types::Table;
 use record_file::RecordFile;
 use std::alloc::Global;
@@ -231,13 +231,10 @@ fn run_lines<T: Table, W: Write>(
         rest = after;
         lines += 1;
         let said = read_line(line);
-        let count = command_count(&said);
-        let Some(reply) = reply_to(file, said) else {
+        done += command_count(&said);
+        let Some(refused) = answer(&mut text, writer, file, &said, done)? else {
             continue;
         };
-        done += count;
-        let refused = reply.is_refusal();
-        send(&mut text, writer, reply, done)?;
         if strict && refused {
             return Err(RunFault::Refused { line: lines });
         }
@@ -245,21 +242,25 @@ fn run_lines<T: Table, W: Write>(
     Ok(done)
 }
 
-/// Writes a reply, after `done` commands; `text` is for its text, whatever it has. Faults: Memory, WriteFault.
-pub fn send<W: Write>(
+/// Runs what a line says, which is the `done`th command where it says one, and writes its reply; `text` is for that,
+/// whatever it has. Answers whether the reply is a refusal; a line that says nothing has none. Faults: Memory, WriteFault.
+pub fn answer<T: Table, W: Write>(
     text: &mut String,
     writer: &mut W,
-    reply: Reply,
+    file: &mut RecordFile<T>,
+    said: &Result<Option<Command>, LineFault>,
     done: u32,
-) -> Result<(), ScriptFault>
-    ensures ok { OnOk result
-        (Appends (W.contents writer.old) (W.contents writer.new) (text_of reply)) }
-    ensures err { IfErr result
-        (IsUnsent (W.contents writer.old) (W.contents writer.new) done (text_of reply)) }
+) -> Result<Option<bool>, ScriptFault>
+    ensures sent { LineSent (W.contents writer.old) (W.contents writer.new)
+        (seen T.TableState file.old) said.now (seen T.TableState file.new) done result }
+    ensures origin { KeepsOrigin T.TableState file.old file.new }
 {
-    text.clear();
-    append_reply(text, &reply).map_err(|_| ScriptFault::Memory { done })?;
-    write_text(writer, text.as_bytes()).map_err(|_| ScriptFault::WriteFault { done })
+    let told = reply_to(text, file, said).map_err(|_| ScriptFault::Memory { done })?;
+    let Some(refused) = told else {
+        return Ok(None);
+    };
+    write_text(writer, text.as_bytes()).map_err(|_| ScriptFault::WriteFault { done })?;
+    Ok(Some(refused))
 }
 
 /// Writes a text whole. At a write that fails, or takes nothing, it answers how many bytes are written.

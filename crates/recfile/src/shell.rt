@@ -7,10 +7,10 @@ ghost use Rattle.command_text.specs.Script.{bounded_entries_in, ended_lines, lin
 ghost use Rattle.recfile.specs.Run.{commands, says_command};
 ghost use Rattle.recfile.specs.Shell.{Answered, AnsweredSoFar, IsAnswered, LineAnswered, LineStops, RanLines, Start, StopsAt, counted_to};
 
-use crate::call::{command_count, reply_to};
+use crate::call::command_count;
 use crate::next_line::cut_line;
 use crate::part_line::PartLine;
-use crate::script::{RunFault, ScriptFault, send};
+use crate::script::{RunFault, ScriptFault, answer};
 use command_text::{Command, LineFault};
 use rec_types::Table;
 use record_file::RecordFile;
@@ -199,11 +199,9 @@ fn answer_line<T: Table, W: Write>(
     ensures origin { KeepsOrigin T.TableState file.old file.new }
 {
     counts.add(&said);
-    let Some(reply) = reply_to(file, said) else {
+    let Some(refused) = answer(text, writer, file, &said, counts.done)? else {
         return Ok(());
     };
-    let refused = reply.is_refusal();
-    send(text, writer, reply, counts.done)?;
     if strict && refused {
         return Err(RunFault::Refused { line: counts.lines });
     }

@@ -1,10 +1,11 @@
 -- The records of a log in little memory: what stays as bytes and entries are added.
-use Rattle.std.proofs.Common.{◌≡◌, ℕ, ◌≤◌, ◌<◌, ◌-◌, Bool, true, false, if◌then◌else◌, zero, suc, List, [], ◌∷◌, ◌++◌, length, take, drop, map, Option, Some, None, option_map, slice_get, get_or, reverse, refl, sym, ap, subst, ◌∙◌, arith}
+use Rattle.std.proofs.Common.{◌≡◌, ℕ, ◌≤◌, ◌<◌, ◌-◌, Bool, true, false, if◌then◌else◌, zero, suc, List, [], ◌∷◌, ◌++◌, length, take, drop, map, Option, Some, None, option_map, slice_get, get_or, reverse, leb, leb-true, refl, sym, ap, subst, ◌∙◌, arith}
 use Rattle.std.specs.List.{filter}
 use Rattle.std.proofs.lemmas.List.{take-append-le, drop-append-le, length-drop}
 use Rattle.std.proofs.lemmas.Option.{slice_get-get_or}
+use Rattle.rec_types.specs.Widths.{widest_record}
 use Rattle.rec_types.specs.declared.transaction.TxId.{TxId}
-use Rattle.tx_log.specs.Compact.{read, IsWithin, told_as, back_kind, record_in}
+use Rattle.tx_log.specs.Compact.{read, IsWithin, before_in, after_in, told_as, back_kind, record_in}
 use Rattle.tx_log.specs.Log.{back_record, back_in, lsn_of, key_of, prev_of, chain, IsNumbered}
 use Rattle.tx_log.specs.Marks.{first_lsn}
 use Rattle.tx_log.specs.Walks.{change_in, link_of, newest_in, is_after, step_to}
@@ -19,31 +20,32 @@ use Rattle.tx_log.specs.declared.records.Entry.{Entry}
 
 -- a span reads the same once there are more bytes
 pub read-more : (xs ys : List ℕ) (s : Span) → IsWithin (length xs) s → read (xs ++ ys) s ≡ read xs s
-read-more xs ys s within = at s.is_there
+read-more xs ys s within = at (leb s.len widest_record) refl
   where
-    same : take s.len (drop s.at (xs ++ ys)) ≡ take s.len (drop s.at xs)
-    same =
-        let starts : s.at ≤ length xs = omega (arith, within.fits) in
-        let ends : s.len ≤ length (drop s.at xs) = omega (arith, within.fits, length-drop s.at xs) in
+    same : s.len ≤ widest_record → take s.len (drop s.at (xs ++ ys)) ≡ take s.len (drop s.at xs)
+    same short =
+        let fits = within.fits short in
+        let starts : s.at ≤ length xs = omega (arith, fits) in
+        let ends : s.len ≤ length (drop s.at xs) = omega (arith, fits, length-drop s.at xs) in
         ap (take s.len) (drop-append-le s.at xs ys starts) ∙ take-append-le s.len (drop s.at xs) ys ends
 
-    at : (there : Bool) → (if there then Some (take s.len (drop s.at (xs ++ ys))) else None) ≡ (if there then Some (take s.len (drop s.at xs)) else None)
-    at true = ap Some same
-    at false = refl
+    at : (there : Bool) → leb s.len widest_record ≡ there → (if there then Some (take s.len (drop s.at (xs ++ ys))) else None) ≡ (if there then Some (take s.len (drop s.at xs)) else None)
+    at true e = ap Some (same (leb-true s.len widest_record e))
+    at false e = refl
 
 -- the same of all entries
 pub records-more : (xs ys : List ℕ) (es : List Entry)
-    → ((i : ℕ) (e : Entry) → slice_get es i ≡ Some e → IsWithin (length xs) e.before)
-    → ((i : ℕ) (e : Entry) → slice_get es i ≡ Some e → IsWithin (length xs) e.after)
+    → ((i : ℕ) (e : Entry) → slice_get es i ≡ Some e → IsWithin (length xs) (before_in e))
+    → ((i : ℕ) (e : Entry) → slice_get es i ≡ Some e → IsWithin (length xs) (after_in e))
     → map (record_in (xs ++ ys)) es ≡ map (record_in xs) es
 records-more xs ys [] before after = refl
 records-more xs ys (e ∷ es) before after =
-    (λ i. told_as e.kind e.lsn e.prev e.tx e.key (read-more xs ys e.before (before 0 e refl) i) (read-more xs ys e.after (after 0 e refl) i) e.undo_next
+    (λ i. told_as e.kind e.lsn e.prev e.tx e.key (read-more xs ys (before_in e) (before 0 e refl) i) (read-more xs ys (after_in e) (after 0 e refl) i) e.rest
     ∷ records-more xs ys es (λ j. before (suc j)) (λ j. after (suc j)) i)
 
 -- spans that lie in some bytes lie in more
 pub within-more : (n m : ℕ) (s : Span) → n ≤ m → IsWithin n s → IsWithin m s
-within-more n m s more within = record { fits = omega (arith, within.fits, more); short = within.short }
+within-more n m s more within = record { fits = λ short. let fits = within.fits short in omega (arith, fits, more) }
 
 -- after one entry more each of them has a span in the bytes
 pub within-push : (n : ℕ) (span : Entry → Span) (es : List Entry) (new : Entry)

@@ -11,9 +11,9 @@ use Rattle.tx_log.proofs.OpenTxLemmas.{opens_is}
 use Rattle.tx_log.proofs.OpenTxReadLemmas.{entry_chain}
 use Rattle.tx_log.proofs.WalkSteps.{IsStep}
 use Rattle.tx_log.specs.Finds.{Txs, finding, PutsAt}
-use Rattle.tx_log.specs.Holdings.{HoldsKey, held, Places, lowered, live_of, live_at, IsHeld, AllBusy}
+use Rattle.tx_log.specs.Holdings.{HoldsKey, held, HeldAt, Places, lowered, live_of, live_at, IsHeld, AllBusy}
 use Rattle.tx_log.specs.Log.{tx_of_record, key_of, old_of, new_of, is_change, kept_of, stack, chain}
-use Rattle.tx_log.specs.LogFields.{state_of, IsTxLog}
+use Rattle.tx_log.specs.LogFields.{room_in, state_of, IsTxLog}
 use Rattle.tx_log.specs.LogState.{LogState, open_in, history_in}
 use Rattle.tx_log.specs.OpenTxs.{opens}
 use Rattle.tx_log.specs.Owners.{holder_of, says}
@@ -35,15 +35,25 @@ live_le k (u ∷ us) = le_case (is_at k u) (live_le k us)
     le_case true h = omega arith
     le_case false h = omega arith
 
-some_hold : (o : Option Holding) → is_some o ≡ true → (h : Holding) × (o ≡ Some h)
-some_hold None h = absurd (let wrong : false ≡ true = h in cc)
-some_hold (Some x) h = (x, refl)
-
--- the key that has room
-pub record IsFree (l : Inside) (t : ℕ) (key : List ℕ) (e : OpenTx) : Type 0 where
-  pub hold : Holding
-  pub there : held l.holdings key ≡ Some hold
+-- the key that has room stands at the place
+pub record IsRoom (l : Inside) (key : List ℕ) (place : ℕ) : Type 0 where
   pub over : l.over ≡ Some key
+  pub stands : HeldAt l.holdings key place
+
+-- a key that has room has a place
+pub room_placed : (room_at : Option ℕ) (over : Option (List ℕ)) (key : List ℕ) → room_in room_at over ≡ Some key → is_some room_at ≡ true
+room_placed None over key room = absurd (cc)
+room_placed (Some i) over key room = refl
+
+-- it stands there
+pub room_held : (l : Inside) → IsTxLog l → (s : LogState) → state_of l ≡ s → (key : List ℕ) (place : ℕ) → l.room_at ≡ Some place → s.room ≡ Some key → IsRoom l key place
+room_held l is s view key place at room =
+    let over : l.over ≡ Some key = ap (λ (o : Option ℕ). room_in o l.over) (sym at) ∙ ap (λ (x : LogState). x.room) view ∙ room in
+    let placed = subst (λ (o : Option ℕ). IfSome o (λ i. IfSome l.over (λ k. HeldAt l.holdings k i))) at is.reserved in
+    record { over = over; stands = subst (λ (o : Option (List ℕ)). IfSome o (λ k. HeldAt l.holdings k place)) over placed }
+
+-- what is kept of the key that has room
+pub record IsFree (l : Inside) (t : ℕ) (key : List ℕ) (e : OpenTx) (hold : Holding) : Type 0 where
   pub mine : 0 < hold.live → hold.owner.0 ≡ t
   pub lacks : hold.absent ≡ absent_at key (chain (reverse l.records.items) e.last)
   pub some : list_any (is_at key) (chain (reverse l.records.items) e.last) ≡ not (eqb hold.live 0)
@@ -51,26 +61,22 @@ pub record IsFree (l : Inside) (t : ℕ) (key : List ℕ) (e : OpenTx) : Type 0 
   pub few : hold.live ≤ length l.records.items
 
 -- a key that nobody else holds, with room in the map
-pub free_key : (l : Inside) → IsTxLog l → (s : LogState) → state_of l ≡ s → (t : ℕ) (key : List ℕ) (e : OpenTx) → s.room ≡ Some key → holder_of (open_in s) (history_in s) t key ≡ None → finding l.txs.entries t ≡ Some e → IsFree l t key e
-free_key l is s view t key e room free found =
+pub free_key : (l : Inside) → IsTxLog l → (s : LogState) → state_of l ≡ s → (t : ℕ) (key : List ℕ) (e : OpenTx) (place : ℕ) (room : IsRoom l key place) → holder_of (open_in s) (history_in s) t key ≡ None → finding l.txs.entries t ≡ Some e → IsFree l t key e room.stands.hold
+free_key l is s view t key e place room free found =
     let rs = reverse l.records.items in
     let is_open = opens (finding l.txs.entries) in
     let holds = held l.holdings in
     let kept = is.log_kept in
     let opened : is_open t ≡ true = ap is_some found in
-    let room_is : l.room ≡ Some key = ap (λ (x : LogState). x.room) view ∙ room in
-    let reserved = subst (λ (o : Option (List ℕ)). IfSome o (λ k. (is_some (holds k) ≡ true) × (l.over ≡ Some k))) room_is is.reserved in
-    let hold = some_hold (holds key) reserved.0 in
+    let hold = room.stands.hold in
+    let there : holds key ≡ Some hold = room.stands.there in
     let alone : holder_of is_open (history_of (kept_of rs)) t key ≡ None = ap (λ (o : ℕ → Bool). holder_of o (history_of (kept_of rs)) t key) (sym (opens_is (kept_of rs) l.txs.entries)) ∙ ap (λ (x : LogState). holder_of (open_in x) (history_in x) t key) view ∙ free in
-    let mine : 0 < hold.0.live → hold.0.owner.0 ≡ t = mine_alone rs is_open holds key hold.0 t kept.owned is.holding hold.1 alone in
-    let many : live_at key (stack t rs) ≡ hold.0.live = is.holding.counted t key opened ∙ ap (live_of t) hold.1 ∙ own_or_none hold.0 t mine in
+    let mine : 0 < hold.live → hold.owner.0 ≡ t = mine_alone rs is_open holds key hold t kept.owned is.holding there alone in
+    let many : live_at key (stack t rs) ≡ hold.live = is.holding.counted t key opened ∙ ap (live_of t) there ∙ own_or_none hold t mine in
     let whole : chain rs e.last ≡ stack t rs = entry_chain rs l.txs.entries l.begun l.pending l.gone t e kept found in
     record {
-      hold = hold.0;
-      there = hold.1;
-      over = reserved.1;
       mine = mine;
-      lacks = own_absent rs is_open holds key hold.0 t is.holding hold.1 mine opened ∙ ap (absent_at key) (sym whole);
+      lacks = own_absent rs is_open holds key hold t is.holding there mine opened ∙ ap (absent_at key) (sym whole);
       some = ap (list_any (is_at key)) whole ∙ any_counted key (stack t rs) ∙ ap (λ (n : ℕ). not (eqb n 0)) many;
       whole = whole;
       few = omega (arith, many, live_le key (stack t rs), stack-le t rs, length-reverse l.records.items);
@@ -97,16 +103,16 @@ will_be_told r lsn prev tx key before after us is =
     ∙ sym (ap (λ (b : Bool). cond b (is_out (says (new_of r) (list_any (is_at key) us) (old_of r)) (absent_at key us)) (absent_at key us)) (same_key-of (key_of r) key is.key_is))
 
 -- what is kept of keys after a change
-pub accepted_keys : (r : LogRecord) (l : Inside) → IsTxLog l → (tx : TxId) (key : List ℕ) (e new : OpenTx) (free : IsFree l tx.0 key e) (txs_new : Txs) (holds_new : HoldsKey) (lsn prev : ℕ) (before : Option (List ℕ)) (after : Option (Option (List ℕ))) (absent : Bool) → IsChangeOf r lsn prev tx key before after → finding l.txs.entries tx.0 ≡ Some e → PutsAt (finding l.txs.entries) txs_new tx.0 (Some new) → absent ≡ absent_at key (r ∷ chain (reverse l.records.items) e.last) → Places (held l.holdings) holds_new key (Some (record { owner = tx; live = free.hold.live + 1; absent = absent })) → AreHeld (r ∷ reverse l.records.items) txs_new holds_new None
-accepted_keys r l is tx key e new free txs_new holds_new lsn prev before after absent told found puts absent_is places =
+pub accepted_keys : (r : LogRecord) (l : Inside) → IsTxLog l → (tx : TxId) (key : List ℕ) (e new : OpenTx) (place : ℕ) (room : IsRoom l key place) → IsFree l tx.0 key e room.stands.hold → (txs_new : Txs) (holds_new : HoldsKey) (lsn prev : ℕ) (before : Option (List ℕ)) (after : Option (Option (List ℕ))) (absent : Bool) → IsChangeOf r lsn prev tx key before after → finding l.txs.entries tx.0 ≡ Some e → PutsAt (finding l.txs.entries) txs_new tx.0 (Some new) → absent ≡ absent_at key (r ∷ chain (reverse l.records.items) e.last) → Places (held l.holdings) holds_new key (Some (record { owner = tx; live = room.stands.hold.live + 1; absent = absent })) → AreHeld (r ∷ reverse l.records.items) txs_new holds_new None
+accepted_keys r l is tx key e new place room free txs_new holds_new lsn prev before after absent told found puts absent_is places =
     let rs = reverse l.records.items in
     let txs = finding l.txs.entries in
-    let w : Option Holding = Some (record { owner = tx; live = free.hold.live + 1; absent = absent }) in
-    let step = accepted_hold r tx key rs (opens txs) (held l.holdings) free.hold absent told.up told.tx_is told.key_is is.holding free.there free.mine (ap is_some found) (absent_is ∙ ap (λ us. absent_at key (r ∷ us)) free.whole) in
+    let w : Option Holding = Some (record { owner = tx; live = room.stands.hold.live + 1; absent = absent }) in
+    let step = accepted_hold r tx key rs (opens txs) (held l.holdings) room.stands.hold absent told.up told.tx_is told.key_is is.holding room.stands.there free.mine (ap is_some found) (absent_is ∙ ap (λ us. absent_at key (r ∷ us)) free.whole) in
     let grown = held_grown r rs (opens txs) (held l.holdings) holds_new tx.0 key w is.holding step places in
     record {
       holding = held_put (r ∷ rs) txs txs_new holds_new tx.0 e new puts found grown;
-      busy_keys = busy_now (held l.holdings) holds_new key _ l.over free.over places (omega arith) is.busy_keys;
+      busy_keys = busy_now (held l.holdings) holds_new key _ l.over room.over places (omega arith) is.busy_keys;
     }
 
 -- the key of the change that is to be taken back

@@ -1,5 +1,5 @@
 -- The keys that a transaction holds.
-use Rattle.std.proofs.Common.{◌≡◌, ℕ, Bool, true, false, cond, not, eqb, ltb, ◌||◌, List, [], ◌∷◌, map, Option, Some, None, refl, sym, ap, subst, ◌∙◌, arith}
+use Rattle.std.proofs.Common.{◌≡◌, ℕ, ◌≤◌, length, Bool, true, false, cond, not, eqb, ltb, ◌||◌, List, [], ◌∷◌, map, Option, Some, None, refl, sym, ap, subst, ◌∙◌, arith}
 use Rattle.std.specs.List.{list_any, AllByRecursion, IsDistinct}
 use Rattle.std.specs.Map.{keys_of, lookup}
 use Rattle.std.proofs.lemmas.Bool.Decides.{nat_tests}
@@ -32,6 +32,15 @@ listed_are_held t (e ∷ es) q h = at (same_bytes q e.0) refl (ltb 0 (live_of t 
         rest ∙ ap (λ (o : Option Holding). ltb 0 (live_of t o)) (none_there q es others) ∙ sym none
     at false apart true some rest = ap (λ b. b || list_any (same_bytes q) (owned_in t es)) apart ∙ rest
     at false apart false none rest = rest
+
+-- there are at most as many as entries
+pub owned_few : (t : ℕ) (es : List (List ℕ × Holding)) → length (owned_in t es) ≤ length es
+owned_few t [] = omega arith
+owned_few t (e ∷ es) = at (ltb 0 (live_of t (Some e.1))) (owned_few t es)
+  where
+    at : (b : Bool) → length (owned_in t es) ≤ length es → length (cond b (e.0 ∷ owned_in t es) (owned_in t es)) ≤ length (e ∷ es)
+    at true few = omega (arith, few)
+    at false few = omega (arith, few)
 
 -- ---- of changes
 

@@ -1,9 +1,10 @@
 -- Where a key stands, and what is written there.
-use Rattle.std.proofs.Common.{◌≡◌, ℕ, zero, suc, Bool, true, false, cond, List, [], ◌∷◌, slice_get, Option, Some, None, IfSome, eq-eqb, refl, sym, ap, subst, ◌∙◌}
+use Rattle.std.proofs.Common.{◌≡◌, ℕ, ◌+◌, zero, suc, Bool, true, false, not, cond, List, [], ◌∷◌, slice_get, Option, Some, None, IfSome, eq-eqb, refl, sym, ap, subst, ◌∙◌, arith}
 use Rattle.std.specs.Cmp.{IsEquivalence}
 use Rattle.std.proofs.lemmas.Cmp.{nat_eq_equiv, lists_equiv}
-use Rattle.std.specs.Map.{lookup_key, values_of}
-use Rattle.indexmap.specs.IndexMap.{IndexMap, with_value_at, IsUnique, Updates}
+use Rattle.std.specs.List.{position_or_len}
+use Rattle.std.specs.Map.{lookup_key, keys_of, values_of}
+use Rattle.indexmap.specs.IndexMap.{IndexMap, insert_entry, insert_index, with_value_at, IsUnique, Updates}
 use Rattle.indexmap.proofs.CallerLemmas.{updates-with_value_at}
 use Rattle.tx_log.proofs.HoldingLemmas.{same_bytes-key}
 use Rattle.tx_log.specs.Holdings.{held, same_bytes, Places, HeldAt, busy}
@@ -40,6 +41,31 @@ value_there : (es : List (List ℕ × Holding)) (i : ℕ) (k : List ℕ) (h d : 
 value_there [] i k h d at value = absurd (cc)
 value_there (x ∷ es) zero k h d at value = let same : x ≡ (k, h) = cc in let here : x.1 ≡ d = cc in sym here ∙ ap (λ (y : List ℕ × Holding). y.1) same
 value_there (x ∷ es) (suc i) k h d at value = value_there es i k h d at value
+
+inserted_case : (k x : List ℕ) (v w : Holding) (es rest : List (List ℕ × Holding)) (n : ℕ) → slice_get rest n ≡ Some (k, w) → (b : Bool) → same_bytes k x ≡ b → slice_get (cond b ((x, w) ∷ es) ((x, v) ∷ rest)) (cond (not b) (1 + n) 0) ≡ Some (k, w)
+inserted_case k x v w es rest n there true f = ap (λ (y : List ℕ). Some (y, w)) (sym (same_bytes-is k x f))
+inserted_case k x v w es rest n there false f = ap (slice_get ((x, v) ∷ rest)) (one_more n) ∙ there
+  where
+    one_more : (a : ℕ) → 1 + a ≡ suc a
+    one_more a = omega arith
+
+-- a key that is put in stands where it is told
+inserted_there : (es : List (List ℕ × Holding)) (k : List ℕ) (w : Holding) → slice_get (insert_entry same_bytes es k w) (position_or_len (same_bytes k) (keys_of es)) ≡ Some (k, w)
+inserted_there [] k w = refl
+inserted_there (e ∷ es) k w = inserted_case k e.0 e.1 w es (insert_entry same_bytes es k w) (position_or_len (same_bytes k) (keys_of es)) (inserted_there es k w) (same_bytes k e.0) refl
+
+-- and is held there
+pub held_new : {S : Type 0} (m n : IndexMap (List ℕ) Holding S) (k : List ℕ) (i : ℕ) (w : Holding) → i ≡ insert_index same_bytes m k → Updates same_bytes m n k (Some w) → n.entries ≡ insert_entry same_bytes m.entries k w → IsUnique same_bytes n → HeldAt n k i
+held_new m n k i w at updates entries unique = record {
+  hold = w;
+  entry = (λ j. slice_get (entries j) (at j)) ∙ inserted_there m.entries k w;
+  there = updates.0 k ∙ ap (λ (b : Bool). cond b (Some w) (held m k)) (same_bytes-equiv.refl k);
+  unique = unique;
+}
+
+-- in the same map it stands in the same place
+pub held_same : {S : Type 0} (m n : IndexMap (List ℕ) Holding S) (k : List ℕ) (i : ℕ) → m ≡ n → HeldAt n k i → HeldAt m k i
+held_same m n k i same stands = subst (λ (x : IndexMap (List ℕ) Holding _). HeldAt x k i) (sym same) stands
 
 -- what is read at the place is what is kept of the key
 pub key_read : {S : Type 0} (m : IndexMap (List ℕ) Holding S) (k : List ℕ) (i : ℕ) (d : Holding) → HeldAt m k i → slice_get (values_of m.entries) i ≡ Some d → held m k ≡ Some d

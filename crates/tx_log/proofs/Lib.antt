@@ -25,5 +25,4 @@ pub mod KeyPlaces
 pub mod HoldSteps
 pub mod HoldCalls
 pub mod MarkLemmas
-pub mod TagLemmas
 pub mod KeyListLemmas

@@ -81,5 +81,5 @@ told_compensation s tx lsn prev change u lsn_is prev_is undo told found =
     ∙ ap (compensations_of s tx) (sym undo)
 
 -- the room is used up
-pub unroomed : (length pending capacity : ℕ) (room : Option (List ℕ)) → HasRoom length pending capacity room → HasRoom length pending capacity None
-unroomed length pending capacity room r = record { held = r.held; spare = tt }
+pub unroomed : (length pending capacity : ℕ) (room_at : Option ℕ) → HasRoom length pending capacity room_at → HasRoom length pending capacity None
+unroomed length pending capacity room_at r = record { held = r.held; spare = tt }

@@ -1,6 +1,7 @@
 -- What is kept beside each record of a log.
 use Rattle.std.proofs.Common.{true, ◌≡◌, ℕ, zero, suc, ◌+◌, ◌-◌, ◌<◌, ◌≤◌, Bool, cond, List, [], ◌∷◌, ◌++◌, length, get_or, slice_get, take, drop, reverse, Some, None, refl, sym, ap, subst, ◌∙◌, arith, eq-eqb}
 use Rattle.std.proofs.lemmas.List.{length-reverse, length-take-le, length-append}
+use Rattle.std.proofs.lemmas.Option.{get_or_from_slice_get}
 use Rattle.tx_log.proofs.Chains.{chain-skip, chain-head, numbered-part, length-part}
 use Rattle.tx_log.proofs.LogIndex.{chain-zero, chain_stands, cut_at, record_of_chain, reverse-push}
 use Rattle.tx_log.specs.Log.{lsn_of, key_of, leads_to, led, is_change, chain, record_at, IsNumbered}
@@ -65,11 +66,11 @@ below_is : (marks : List Mark) (n : ℕ) → n < length marks → length (revers
 below_is marks n within = length-reverse (take n marks) ∙ length-take-le n marks (omega arith)
 
 -- the mark of a record tells the head of the chain from it
-pub newest_read : (marks : List Mark) (rs : List LogRecord) (from : ℕ) (d m : Mark) → IsNumbered rs → AreMarked rs (reverse marks) → 0 < from → from ≤ length marks → get_or marks (from - 1) d ≡ m → m.newest ≡ first_lsn (chain rs from)
-newest_read marks rs from d m is marked some within read =
+pub newest_read : (marks : List Mark) (rs : List LogRecord) (from : ℕ) (m : Mark) → IsNumbered rs → AreMarked rs (reverse marks) → 0 < from → from ≤ length marks → slice_get marks (from - 1) ≡ Some m → m.newest ≡ first_lsn (chain rs from)
+newest_read marks rs from m is marked some within read =
     let n = from - 1 in
     let below = reverse (take n marks) in
-    let cut = cut_at marks n d m (omega arith) read in
+    let cut = cut_at marks n m m (omega arith) (get_or_from_slice_get marks n m m read) in
     let at : length below + 1 ≡ from = omega (arith, below_is marks n (omega arith)) in
     newest_at (reverse (drop (n + 1) marks)) m below rs is (subst (AreMarked rs) cut marked) ∙ ap (λ k. first_lsn (chain rs k)) at
 
@@ -78,11 +79,11 @@ pub none_read : (rs : List LogRecord) (from : ℕ) → IsNumbered rs → from �
 none_read rs from is zero_is = sym (ap (λ k. first_lsn (chain rs k)) zero_is ∙ ap first_lsn (chain-zero rs is))
 
 -- the mark of an update tells whether its key is out below it
-pub absent_read : (marks : List Mark) (rs us : List LogRecord) (n lsn : ℕ) (u : LogRecord) (d m : Mark) → IsNumbered rs → AreMarked rs (reverse marks) → chain rs n ≡ u ∷ us → lsn_of u ≡ lsn → 0 < lsn → lsn ≤ length marks → get_or marks (lsn - 1) d ≡ m → m.absent ≡ absent_at (key_of u) us
-absent_read marks rs us n lsn u d m is marked e at some within read =
+pub absent_read : (marks : List Mark) (rs us : List LogRecord) (n lsn : ℕ) (u : LogRecord) (m : Mark) → IsNumbered rs → AreMarked rs (reverse marks) → chain rs n ≡ u ∷ us → lsn_of u ≡ lsn → 0 < lsn → lsn ≤ length marks → slice_get marks (lsn - 1) ≡ Some m → m.absent ≡ absent_at (key_of u) us
+absent_read marks rs us n lsn u m is marked e at some within read =
     let k = lsn - 1 in
     let below = reverse (take k marks) in
-    let cut = cut_at marks k d m (omega arith) read in
+    let cut = cut_at marks k m m (omega arith) (get_or_from_slice_get marks k m m read) in
     let place : lsn_of u ≡ length below + 1 = omega (arith, at, below_is marks k (omega arith)) in
     absent_at_mark (reverse (drop (k + 1) marks)) m below rs us n u is (subst (AreMarked rs) cut marked) e place
 

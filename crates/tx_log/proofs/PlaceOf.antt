@@ -1,5 +1,5 @@
 -- Where an open transaction stands, and what is written there.
-use Rattle.std.proofs.Common.{◌≡◌, ℕ, zero, suc, Bool, true, false, cond, eqb, List, [], ◌∷◌, slice_get, Option, Some, None, IfSome, option_map, refl, sym, ap, subst, ◌∙◌}
+use Rattle.std.proofs.Common.{◌≡◌, ℕ, zero, suc, Bool, true, false, cond, eqb, eq-eqb, List, [], ◌∷◌, slice_get, Option, Some, None, IfSome, option_map, refl, sym, ap, subst, ◌∙◌}
 use Rattle.std.specs.Cmp.{IsEquivalence}
 use Rattle.std.proofs.lemmas.Cmp.{nat_eq_equiv}
 use Rattle.std.specs.Map.{lookup_key, values_of}
@@ -7,7 +7,7 @@ use Rattle.indexmap.specs.IndexMap.{IndexMap, with_value_at, IsUnique, Updates}
 use Rattle.indexmap.proofs.CallerLemmas.{updates-with_value_at}
 use Rattle.rec_types.specs.declared.transaction.TxId.{TxId}
 use Rattle.tx_log.proofs.Chains.{same_number}
-use Rattle.tx_log.specs.Finds.{found, same_tx, PutsAt, StandsAt}
+use Rattle.tx_log.specs.Finds.{finding, found, same_tx, PutsAt, StandsAt}
 use Rattle.tx_log.specs.declared.open_tx.OpenTx.{OpenTx}
 
 -- the test of transactions is an equivalence
@@ -28,6 +28,23 @@ stands_at m t i k e unique at key value = record {
   tx = e;
   entry = at ∙ ap (λ (x : TxId). Some (x, e)) (found_key t m.entries k key);
   there = sym value;
+  unique = unique;
+}
+
+-- the first in the map is found, if it has the number
+pub first_found : (es : List (TxId × OpenTx)) (t : ℕ) (k : TxId) (e : OpenTx) → Some (k, e) ≡ slice_get es 0 → eqb k.0 t ≡ true → Some e ≡ finding es t
+first_found [] t k e at same = absurd (cc)
+first_found (x ∷ es) t k e at same =
+    let head : (k, e) ≡ x = cc in
+    let number : t ≡ x.0.0 = sym (same_number k.0 t same) ∙ ap (λ (y : TxId × OpenTx). y.0.0) head in
+    ap (λ (y : TxId × OpenTx). Some y.1) head ∙ sym (ap (λ (b : Bool). cond b (Some x.1) (finding es t)) (eq-eqb t x.0.0 number))
+
+-- and stands there
+pub first_stands : {S : Type 0} (m : IndexMap TxId OpenTx S) (t : ℕ) (k : TxId) (e : OpenTx) → IsUnique same_tx m → Some (k, e) ≡ slice_get m.entries 0 → eqb k.0 t ≡ true → StandsAt m t 0
+first_stands m t k e unique at same = record {
+  tx = e;
+  entry = sym at ∙ (λ i. Some (record { 0 = same_number k.0 t same i }, e));
+  there = sym (first_found m.entries t k e at same);
   unique = unique;
 }
 

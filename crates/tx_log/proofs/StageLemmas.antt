@@ -73,7 +73,7 @@ abbrev pub moved_tx : List Kept → ℕ → Option Rollback → List ℕ → Tx
 moved_tx cs t s ss = record { rollback = rollback_at t cs s; places = map (λ k. place_at t k cs) ss }
 
 -- what is known of the fields stays true when the transaction's entry is written
-pub moved_log : (l : Inside) (t at : ℕ) (e d : OpenTx) (s : Option Rollback) (left : ℕ) (ss : List ℕ) → IsTxLog l → found l.txs t ≡ Some e → StandsAt l.txs t at → d ≡ moved e s left ss → IsMove (reverse l.records.items) t s left ss → IsTxLog (record l { txs = with_value_at l.txs at d; room = None })
+pub moved_log : (l : Inside) (t at : ℕ) (e d : OpenTx) (s : Option Rollback) (left : ℕ) (ss : List ℕ) → IsTxLog l → found l.txs t ≡ Some e → StandsAt l.txs t at → d ≡ moved e s left ss → IsMove (reverse l.records.items) t s left ss → IsTxLog (record l { txs = with_value_at l.txs at d; room_at = None })
 moved_log l t at e d s left ss is there stands new_is move =
     let rs = reverse l.records.items in
     let new = found (with_value_at l.txs at d) in
@@ -87,11 +87,10 @@ moved_log l t at e d s left ss is there stands new_is move =
       bounded = is.bounded;
       records_room = unroomed _ _ _ _ is.records_room;
       bytes_room = tt;
-      marks_room = unroomed _ _ _ _ is.marks_room;
     }
 
 -- the state has the entry's transaction then
-pub moved_view : (l : Inside) (t at : ℕ) (e d : OpenTx) (s : Option Rollback) (left : ℕ) (ss : List ℕ) (tx : LogState → List ℕ → Tx) → found l.txs t ≡ Some e → StandsAt l.txs t at → d ≡ moved e s left ss → moved_tx (kept_of (reverse l.records.items)) t s ss ≡ tx (state_of l) (map (λ k. place_at t k (kept_of (reverse l.records.items))) e.saves.items) → (v : LogState) → state_of l ≡ v → state_of (record l { txs = with_value_at l.txs at d; room = None }) ≡ with_txs v (maps.insert v.txs t (tx v (places_in v t)))
+pub moved_view : (l : Inside) (t at : ℕ) (e d : OpenTx) (s : Option Rollback) (left : ℕ) (ss : List ℕ) (tx : LogState → List ℕ → Tx) → found l.txs t ≡ Some e → StandsAt l.txs t at → d ≡ moved e s left ss → moved_tx (kept_of (reverse l.records.items)) t s ss ≡ tx (state_of l) (map (λ k. place_at t k (kept_of (reverse l.records.items))) e.saves.items) → (v : LogState) → state_of l ≡ v → state_of (record l { txs = with_value_at l.txs at d; room_at = None }) ≡ with_txs v (maps.insert v.txs t (tx v (places_in v t)))
 moved_view l t at e d s left ss tx there stands new_is tx_is v view =
     let cs = kept_of (reverse l.records.items) in
     let old = state_of l in

@@ -15,4 +15,3 @@ pub mod Walks
 pub mod Remaining
 pub mod Holdings
 pub mod Marks
-pub mod Tags

@@ -1,6 +1,5 @@
 -- How a log lies in its fields.
-use Rattle.std.specs.Prelude.{◌≡◌, ℕ, ◌+◌, ◌*◌, ◌≤◌, List, length, filter, reverse, true, Option, Some, IfSome, is_some, vec_len}
-use Rattle.std.specs.Vec.{vec_capacity}
+use Rattle.std.specs.Prelude.{◌≡◌, ℕ, ◌+◌, ◌*◌, ◌≤◌, List, length, filter, reverse, Option, None, Some, IfSome}
 use Rattle.std.specs.FinMap as maps
 use Rattle.rec_types.specs.History.{is_pending}
 use Rattle.rec_types.specs.Kept.{history_of, IsOwned, AllBegun}
@@ -9,13 +8,18 @@ use Rattle.rec_types.specs.Widths.{widest_record}
 use Rattle.tx_log.specs.Finds.{Txs, found}
 use Rattle.tx_log.specs.Fits.{AllFit, AllKnown}
 use Rattle.tx_log.specs.Log.{kept_of, IsNumbered, AllWritten}
-use Rattle.tx_log.specs.Holdings.{held, IsHeld, AllBusy}
+use Rattle.tx_log.specs.Holdings.{held, HeldAt, IsHeld, AllBusy}
 use Rattle.tx_log.specs.LogState.{LogState}
 use Rattle.tx_log.specs.Marks.{AreMarked}
 use Rattle.tx_log.specs.Owners.{absent}
 use Rattle.tx_log.specs.OpenTxs.{txs_of, opens}
 use Rattle.tx_log.specs.declared.log_record.LogRecord.{LogRecord}
 use Rattle.tx_log.specs.declared.log.TxLog.TheInside.{Inside}
+
+-- the key that has room: that at which no change may be live, if it is kept where it stands
+abbrev pub room_in : Option ℕ → Option (List ℕ) → Option (List ℕ)
+room_in None over = None
+room_in (Some at) over = over
 
 abbrev pub state_of : Inside → LogState
 state_of l = record {
@@ -24,7 +28,7 @@ state_of l = record {
   txs = txs_of (kept_of (reverse l.records.items)) l.txs.entries;
   begun = l.begun;
   limits = l.limits;
-  room = l.room;
+  room = room_in l.room_at l.over;
 }
 
 -- a log, newest first, beside the open transactions, the number of those begun, and the counts
@@ -45,18 +49,17 @@ pub record IsBounded (length pending begun : ℕ) (limits : Bounds) : Type 0 whe
   pub most_begins : limits.begins ≤ most_begins
 
 -- room without taking memory: for the taking back of each pending change, and for two more where a key has room
-pub record HasRoom (length pending capacity : ℕ) (room : Option (List ℕ)) : Type 0 where
+pub record HasRoom (length pending capacity : ℕ) (room_at : Option ℕ) : Type 0 where
   pub held : length + pending ≤ capacity
-  pub spare : IfSome room (λ _. length + pending + 2 ≤ capacity)
+  pub spare : IfSome room_at (λ _. length + pending + 2 ≤ capacity)
 
 pub record IsTxLog (l : Inside) : Type 0 where
   pub log_kept : IsKept (reverse l.records.items) (found l.txs) l.begun l.pending l.gone
-  pub marked : AreMarked (reverse l.records.items) (reverse l.marks.items)
+  pub marked : AreMarked (reverse l.records.items) (reverse l.records.marks)
   pub holding : IsHeld (reverse l.records.items) (opens (found l.txs)) (held l.holdings)
   pub busy_keys : AllBusy (held l.holdings) l.over
-  pub reserved : IfSome l.room (λ k. (is_some (held l.holdings k) ≡ true) × (l.over ≡ Some k))
+  pub reserved : IfSome l.room_at (λ i. IfSome l.over (λ k. HeldAt l.holdings k i))
   pub bounded : IsBounded (length l.records.items) l.pending l.begun l.limits
-  pub records_room : HasRoom (length l.records.items) l.pending l.records.room l.room
+  pub records_room : HasRoom (length l.records.items) l.pending l.records.room l.room_at
   -- the bytes of a change's records have room where a key has
-  pub bytes_room : IfSome l.room (λ _. 2 * widest_record ≤ l.records.free)
-  pub marks_room : HasRoom (vec_len l.marks) l.pending (vec_capacity l.marks) l.room
+  pub bytes_room : IfSome l.room_at (λ _. 2 * widest_record ≤ l.records.free)

@@ -1,6 +1,6 @@
-ghost use Rattle.std.specs.Prelude.{◌≡◌, ℕ, ◌+◌, ◌^◌, ◌-◌, ◌<◌, Bool, ◌||◌, ◌==◌, List, IsSome, IsTrue, None, Some, false, length, reverse, map, IfOk, OnOk, OnErr, if◌then◌else◌};
+ghost use Rattle.std.specs.Prelude.{◌≡◌, ℕ, ◌+◌, ◌^◌, ◌-◌, ◌<◌, ◌≤◌, Bool, ◌||◌, ◌==◌, List, IsSome, IsTrue, None, Some, false, length, slice_get, reverse, map, IfOk, OnOk, OnErr, if◌then◌else◌};
 ghost use Rattle.std.specs.List.{list_any};
-ghost use Rattle.indexmap.specs.IndexMap.{index_map_len};
+ghost use Rattle.indexmap.specs.IndexMap.{index_map_len, values};
 ghost use Rattle.tx_log.specs.Log.{chain, key_of};
 ghost use Rattle.tx_log.specs.Walks.{is_at};
 ghost use Rattle.tx_log.specs.Marks.{CanWalk};
@@ -8,7 +8,6 @@ ghost use Rattle.tx_log.specs.Holdings.{held, Places, HeldAt, holder, live_of, o
 ghost use Rattle.tx_log.specs.declared.holding.Holding.{Holding};
 ghost use Rattle.tx_log.specs.declared.log_record.LogRecord.{LogRecord};
 
-use crate::mark::Mark;
 use crate::open_tx::OpenTx;
 use crate::records::Records;
 use crate::undo_chain::{changed_keys, newest_link};
@@ -88,19 +87,20 @@ pub fn held_keys(
     alloc: Global,
     holdings: &Holdings,
     log: &Records,
-    marks: &[Mark],
     tx: TxId,
     open_tx: &OpenTx,
 ) -> Result<Vec<Key>, Memory>
-    requires walk { CanWalk log.now.items marks.now open_tx.now.last }
+    requires walk { CanWalk log.now.items log.now.marks open_tx.now.last }
     requires told { AreHeld (held holdings.now) tx.0
         (map key_of (chain (reverse log.now.items) open_tx.now.last)) }
-    ensures { IfOk result (λ keys. AreHeld (held holdings.now) tx.0 keys.items) }
+    requires live { length (chain (reverse log.now.items) open_tx.now.last) ≤ open_tx.now.live }
+    ensures held { IfOk result (λ keys. AreHeld (held holdings.now) tx.0 keys.items) }
+    ensures few { IfOk result (λ keys. length keys.items < 4294967296) }
 {
     if holdings.len() <= open_tx.live as usize {
         owned_in(alloc, holdings, tx)
     } else {
-        changed_keys(alloc, log, marks, open_tx.last, open_tx.live)
+        changed_keys(alloc, log, open_tx.last, open_tx.live)
     }
 }
 
@@ -127,44 +127,29 @@ fn left_out(writes: bool, live: u32, absent: bool, was: bool) -> bool
     if live == 0 { absent } else { was }
 }
 
-/// What is kept of a key after one change more of the transaction.
-fn grown(holding: &Holding, tx: TxId, writes: bool, absent: bool) -> Holding
-    requires { holding.now.live < 2 ^ 32 - 1 }
-    ensures { result ≡ record {
-      owner = tx;
-      live = holding.now.live + 1;
-      absent = (if writes || (holding.now.live == 0) then absent else holding.now.absent);
-    } }
-{
-    Holding {
-        owner: tx,
-        live: holding.live + 1,
-        absent: left_out(writes, holding.live, absent, holding.absent),
-    }
-}
-
-/// Counts one more live change at a key that is there, and answers whether the key was absent, and whether it is now. A
-/// change that writes there says so, and a claim only where no change was live: `absent` is what it says.
+/// Counts one more live change at the key that stands there, and answers whether the key was absent, and whether it is
+/// now. A change that writes there says so, and a claim only where no change was live: `absent` is what it says.
 pub fn raise(
     holdings: &mut Holdings,
-    key: &Key,
+    at: usize,
     tx: TxId,
     writes: bool,
     absent: bool,
 ) -> (bool, bool)
-    requires there { IsSome (held holdings.old key.now) }
-    requires most { (h : Holding) → held holdings.old key.now ≡ Some h → h.live < 2 ^ 32 - 1 }
-    ensures { (h : Holding) → held holdings.old key.now ≡ Some h → (result.0 ≡ h.absent)
-        × (result.1 ≡ (if writes || (h.live == 0) then absent else h.absent))
-        × Places (held holdings.old) (held holdings.new) key.now
-        (Some (record { owner = tx; live = h.live + 1; absent = result.1 })) }
+    requires within { at < index_map_len holdings.old }
+    requires most { (h : Holding) → slice_get (values holdings.old) at ≡ Some h → h.live < 2 ^ 32 - 1 }
+    ensures { (k : List ℕ) (s : HeldAt holdings.old k at) → (result.0 ≡ s.hold.absent)
+        × (result.1 ≡ (if writes || (s.hold.live == 0) then absent else s.hold.absent))
+        × Places (held holdings.old) (held holdings.new) k
+        (Some (record { owner = tx; live = s.hold.live + 1; absent = result.1 })) }
 {
-    let at = place_of_key(holdings, key);
     let holding = &mut holdings[at];
     let was = holding.absent;
-    let next = grown(holding, tx, writes, absent);
-    *holding = next;
-    (was, next.absent)
+    let will = left_out(writes, holding.live, absent, was);
+    holding.owner = tx;
+    holding.live += 1;
+    holding.absent = will;
+    (was, will)
 }
 
 /// Counts one live change less at a key, forgets the key with its last one, and answers whether the key was absent.
@@ -189,14 +174,14 @@ pub fn lower(holdings: &mut Holdings, key: &Key, absent: bool) -> bool
 }
 
 /// Forgets the keys of the changes that aren't taken back, on the way down from the record with the number `from`.
-pub fn free_keys(holdings: &mut Holdings, log: &Records, marks: &[Mark], from: u32)
-    requires { CanWalk log.now.items marks.now from }
+pub fn free_keys(holdings: &mut Holdings, log: &Records, from: u32)
+    requires { CanWalk log.now.items log.now.marks from }
     ensures { (q : List ℕ) → held holdings.new q
         ≡ (if list_any (is_at q) (chain (reverse log.now.items) from) then None
         else held holdings.old q) }
 {
     let mut at = from;
-    while let Some(link) = newest_link(log, marks, at) {
+    while let Some(link) = newest_link(log, at) {
         let _ = holdings.swap_remove(&link.key);
         at = link.prev;
     }
@@ -204,8 +189,8 @@ pub fn free_keys(holdings: &mut Holdings, log: &Records, marks: &[Mark], from: u
 
 /// Forgets the keys of a transaction that ends: all keys where it is the last that is open, and else those of its
 /// changes that aren't taken back, on the way down from the record with the number `from`.
-pub fn free_held(holdings: &mut Holdings, log: &Records, marks: &[Mark], from: u32, is_last: bool)
-    requires { CanWalk log.now.items marks.now from }
+pub fn free_held(holdings: &mut Holdings, log: &Records, from: u32, is_last: bool)
+    requires { CanWalk log.now.items log.now.marks from }
     ensures last { IsTrue is_last → (q : List ℕ) → held holdings.new q ≡ None }
     ensures others { is_last ≡ false → (q : List ℕ) → held holdings.new q
         ≡ (if list_any (is_at q) (chain (reverse log.now.items) from) then None
@@ -215,7 +200,7 @@ pub fn free_held(holdings: &mut Holdings, log: &Records, marks: &[Mark], from: u
         // Takes as long as there are keys; a clear would take as long as there is room.
         holdings.truncate(0);
     } else {
-        free_keys(holdings, log, marks, from);
+        free_keys(holdings, log, from);
     }
 }
 
@@ -233,22 +218,26 @@ fn drop_idle(holdings: &mut Holdings, key: &Key)
     }
 }
 
-/// Puts the key in where it isn't there. Fault: Memory, which changes nothing.
-fn add_idle(holdings: &mut Holdings, key: &Key) -> Result<(), Memory>
+/// Puts the key in where it isn't there, and answers where it stands. Fault: Memory, which changes nothing.
+fn add_idle(holdings: &mut Holdings, key: &Key) -> Result<usize, Memory>
     ensures ok { OnOk result (Places (held holdings.old) (held holdings.new) key.now
         (Some (or_idle (held holdings.old key.now)))) }
+    ensures stands { IfOk result (HeldAt holdings.new key.now) }
     ensures err { OnErr result ((q : List ℕ) → held holdings.new q ≡ held holdings.old q) }
 {
-    holdings.entry(*key)?.or_insert(Holding::idle());
-    Ok(())
+    let entry = holdings.entry(*key)?;
+    let at = entry.index();
+    entry.or_insert(Holding::idle());
+    Ok(at)
 }
 
-/// Puts the key in where it isn't there, and takes out the one that was left over. Fault: Memory.
-pub fn make_room(holdings: &mut Holdings, over: Option<Key>, key: &Key) -> Result<(), Memory>
+/// Puts the key in where it isn't there, and takes out the one that was left over. Answers where the key stands. Fault:
+/// Memory.
+pub fn make_room(holdings: &mut Holdings, over: Option<Key>, key: &Key) -> Result<usize, Memory>
     requires { AllBusy (held holdings.old) over }
     ensures kept { (rs : List LogRecord) (is_open : ℕ → Bool)
         → IsHeld rs is_open (held holdings.old) → IsHeld rs is_open (held holdings.new) }
-    ensures there { OnOk result (IsSome (held holdings.new key.now)) }
+    ensures stands { IfOk result (HeldAt holdings.new key.now) }
     ensures one { OnOk result (AllBusy (held holdings.new) (Some key.now)) }
     ensures still { OnErr result (AllBusy (held holdings.new) over) }
 {

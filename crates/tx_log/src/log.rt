@@ -26,8 +26,6 @@ pub struct TxLog {
     alloc: Global,
     /// Has room for the compensation of each pending change, and for two records more where a key has room.
     records: Records,
-    /// One for each record, and the same room.
-    marks: Vec<Mark>,
     txs: OpenTxs,
     /// The keys of live changes of open transactions, and the key that has room.
     holdings: Holdings,
@@ -35,7 +33,8 @@ pub struct TxLog {
     over: Option<Key>,
     begun: u32,
     limits: Limits,
-    room: Option<Key>,
+    /// Where that key stands, if it has room.
+    room_at: Option<usize>,
     /// How many changes of open transactions are live.
     pending: u32,
     /// How many owned keys have no record now.
@@ -67,13 +66,12 @@ impl TxLog {
         TxLog {
             alloc,
             records: Records::new(alloc),
-            marks: Vec::new(alloc),
             txs: OpenTxs::new(alloc),
             holdings: Holdings::new(alloc),
             over: None,
             begun: 0,
             limits,
-            room: None,
+            room_at: None,
             pending: 0,
             gone: 0,
         }
@@ -133,6 +131,8 @@ impl TxLog {
     }
 
     /// The change that a rollback under way takes back next.
+    // Goes into its callers, so that fewer copies of records are made.
+    #[inline(always)]
     pub fn next_undo(&self, tx: TxId) -> Option<UndoStep>
         ensures { result ≡ option_map undo_step (undo_in self.now tx.0) }
     {
@@ -142,7 +142,7 @@ impl TxLog {
         let Some(rollback) = open_tx.rollback else {
             return None;
         };
-        newest_above(&self.records, &self.marks, open_tx.last, rollback.to)
+        newest_above(&self.records, open_tx.last, rollback.to)
     }
 
     /// The record of the log with the number: none for 0 and above the length.
@@ -194,15 +194,8 @@ impl TxLog {
         let Some(open_tx) = find_open(&self.txs, tx) else {
             return Ok(Vec::new(self.alloc));
         };
-        let held = held_keys(
-            self.alloc,
-            &self.holdings,
-            &self.records,
-            &self.marks,
-            tx,
-            open_tx,
-        )?;
-        let mut keys = in_order(self.alloc, held)?;
+        let held = held_keys(self.alloc, &self.holdings, &self.records, tx, open_tx)?;
+        let mut keys = in_order(self.alloc, &held)?;
         keys.dedup();
         Ok(keys)
     }
@@ -224,7 +217,7 @@ impl TxLog {
         ensures kept { IsLog self.old }
     {
         let most = self.limits.begins();
-        self.room = None;
+        self.room_at = None;
         if self.begun >= most {
             return Err(BeginFault::BeginsSpent);
         }
@@ -241,17 +234,18 @@ impl TxLog {
         ensures err { OnErr result (self.new ≡ record self.old { room = None }) }
         ensures kept { IsLog self.old }
     {
-        self.room = None;
+        self.room_at = None;
         let needed = self.pending as usize + 2;
         self.records.reserve(needed)?;
-        self.marks.reserve(needed)?;
-        make_room(&mut self.holdings, self.over, key)?;
+        let at = make_room(&mut self.holdings, self.over, key)?;
         self.over = Some(*key);
-        self.room = Some(*key);
+        self.room_at = Some(at);
         Ok(())
     }
 
     /// Adds a change of an active transaction, live, and answers its LSN. It takes no memory.
+    // Goes into its callers, so that fewer copies of records are made.
+    #[inline(always)]
     pub fn accept(
         &mut self,
         tx: TxId,
@@ -266,11 +260,13 @@ impl TxLog {
         ensures lsn { result ≡ log_len (history_in self.old) + 1 }
         ensures after { self.new ≡ with_update self.old tx key before (Some after) }
     {
-        self.add(tx, key, before, Some(after))
+        self.add(tx, &key, &before, Some(&after))
     }
 
     /// Adds a claim of an active transaction, live, and answers its LSN; `seen` is what stands at the key. It takes no
     /// memory.
+    // Goes into its callers, so that fewer copies of records are made.
+    #[inline(always)]
     pub fn accept_claim(&mut self, tx: TxId, key: Key, seen: Option<Record>) -> u32
         requires active { IsActive self.old tx.0 }
         requires free { holder_of (open_in self.old) (history_in self.old) tx.0 key ≡ None }
@@ -279,37 +275,34 @@ impl TxLog {
         ensures lsn { result ≡ log_len (history_in self.old) + 1 }
         ensures after { self.new ≡ with_update self.old tx key seen None }
     {
-        self.add(tx, key, seen, None)
+        self.add(tx, &key, &seen, None)
     }
 
     /// Adds a change or a claim.
     fn add(
         &mut self,
         tx: TxId,
-        key: Key,
-        before: Option<Record>,
-        after: Option<Option<Record>>,
+        key: &Key,
+        before: &Option<Record>,
+        after: Option<&Option<Record>>,
     ) -> u32
         requires active { IsActive self.old tx.0 }
-        requires free { holder_of (open_in self.old) (history_in self.old) tx.0 key ≡ None }
+        requires free { holder_of (open_in self.old) (history_in self.old) tx.0 key.now ≡ None }
         requires fits { use_in self.old + 2 ≤ self.old.limits.log_records }
-        requires room { self.old.room ≡ Some key }
+        requires room { self.old.room ≡ Some key.now }
         ensures lsn { result ≡ log_len (history_in self.old) + 1 }
-        ensures after { self.new ≡ with_update self.old tx key before after }
+        ensures after { self.new ≡ with_update self.old tx key.now before.now (option_map (λ w. w.now) after.entry) }
     {
+        let place = self.room_at.unwrap();
         let at = place_of(&self.txs, tx);
         let prev = self.txs[at].last;
-        let lacks = is_lacking(&before, &after);
+        let lacks = is_lacking(before, after);
         let writes = after.is_some();
-        let out = raise(&mut self.holdings, &key, tx, writes, lacks);
+        let out = raise(&mut self.holdings, place, tx, writes, lacks);
         let lsn = self.records.len() as u32 + 1;
         self.records
-            .push_change(lsn, prev, tx, key, &before, &after);
-        let _ = self.marks.push(Mark {
-            newest: lsn,
-            absent: out.0,
-        });
-        self.room = None;
+            .push_change(prev, tx, key, before, after, out.0);
+        self.room_at = None;
         self.over = None;
         self.pending += 1;
         self.gone = recount(self.gone, out.0, out.1);
@@ -332,8 +325,8 @@ impl TxLog {
         let at = place_of(&self.txs, tx);
         let to = self.txs[at].save_at(n);
         let open_tx = &self.txs[at];
-        let left = count_changes(&self.records, &self.marks, open_tx.last, open_tx.live, to);
-        self.room = None;
+        let left = count_changes(&self.records, open_tx.last, open_tx.live, to);
+        self.room_at = None;
         let open_tx = &mut self.txs[at];
         open_tx.turn_back(n, Rollback { to, ends }, left);
     }
@@ -348,19 +341,19 @@ impl TxLog {
     {
         let at = place_of(&self.txs, tx);
         let prev = self.txs[at].last;
-        let newest = newest_change(&self.records, &self.marks, prev);
+        let newest = newest_change(&self.records, prev);
         let change = newest.unwrap();
-        let will = is_absent_below(&self.marks, change.lsn);
+        let will = is_absent_below(&self.records, change.lsn);
         let was = lower(&mut self.holdings, &change.key, will);
-        let below = newest_number(&self.marks, change.prev);
+        let below = newest_number(&self.records, change.prev);
         let lsn = self.records.len() as u32 + 1;
-        self.records
-            .push_back((change.lsn - 1) as usize, lsn, prev, tx);
-        let _ = self.marks.push(Mark {
+        let mark = Mark {
             newest: below,
             absent: will,
-        });
-        self.room = None;
+        };
+        self.records
+            .push_back((change.lsn - 1) as usize, prev, tx, mark);
+        self.room_at = None;
         self.pending -= 1;
         self.gone = recount(self.gone, was, will);
         let open_tx = &mut self.txs[at];
@@ -384,7 +377,7 @@ impl TxLog {
         if self.txs[at].is_ending() {
             return self.close(tx);
         }
-        self.room = None;
+        self.room_at = None;
         let open_tx = &mut self.txs[at];
         open_tx.rollback = None;
     }
@@ -400,7 +393,7 @@ impl TxLog {
     {
         let at = place_of(&self.txs, tx);
         let number = self.txs[at].saves.len() as u32 + 1;
-        self.room = None;
+        self.room_at = None;
         let open_tx = &mut self.txs[at];
         open_tx.save();
         number
@@ -416,7 +409,7 @@ impl TxLog {
         ensures kept { IsLog self.old }
     {
         let at = place_of(&self.txs, tx);
-        self.room = None;
+        self.room_at = None;
         let open_tx = &mut self.txs[at];
         open_tx.keep_saves(n - 1);
     }
@@ -437,16 +430,10 @@ impl TxLog {
         ensures kept { IsLog self.old }
     {
         let at = place_of(&self.txs, tx);
-        self.room = None;
+        self.room_at = None;
         let closed = take_out(&mut self.txs, at);
         let is_last = self.txs.is_empty();
-        free_held(
-            &mut self.holdings,
-            &self.records,
-            &self.marks,
-            closed.last,
-            is_last,
-        );
+        free_held(&mut self.holdings, &self.records, closed.last, is_last);
         self.pending -= closed.live;
         self.gone -= closed.absent;
     }

@@ -2,24 +2,28 @@ ghost use Rattle.std.specs.Prelude.{◌≡◌, ℕ, ◌+◌, ◌*◌, ◌<◌, �
 ghost use Rattle.std.specs.Vec.{vec_capacity};
 ghost use Rattle.rec_types.specs.LimitBounds.{most_log_records};
 ghost use Rattle.rec_types.specs.Widths.{widest_record};
-ghost use Rattle.tx_log.specs.Compact.{read, IsWithin, back_kind, is_claim_kind, told_as};
+ghost use Rattle.tx_log.specs.Compact.{read, IsWithin, before_in, after_in, mark_in, back_kind, is_claim_kind, told_as};
 ghost use Rattle.tx_log.specs.Log.{change_record, back_record, back_in, key_of, prev_of};
 ghost use Rattle.rec_types.specs.declared.transaction.TxId.{TxId};
 ghost use Rattle.tx_log.specs.Walks.{change_in, link_of, step_to};
 ghost use Rattle.tx_log.specs.declared.log_record.LogRecord.{LogRecord};
 
+use crate::mark::Mark;
 use crate::undo_chain::{Link, LiveChange};
 use crate::{LogRecord, UndoStep};
 use rec_types::{Key, Memory, RECORD_WIDTH, Record, TxId};
 use std::alloc::Global;
 use std::marker::Model;
 
-/// Where the bytes of a record stand, if there is one.
+/// A length that no record has: it says that there is no record.
+const NO_RECORD: u8 = 255;
+
+/// Where the bytes of a record stand, and how many they are.
 #[derive(Clone, Copy, Debug)]
 pub struct Span {
     at: u32,
+    /// `NO_RECORD` where there is no record.
     len: u8,
-    is_there: bool,
 }
 
 /// What a log record tells of.
@@ -31,20 +35,25 @@ pub enum Kind {
     Unclaim,
 }
 
-/// A log record in little memory. `before` is what stood at the key, was restored there, or was seen.
+/// A log record and its mark in 48 bytes, for which the fields of one byte stand together. What is before is what stood
+/// at the key, was restored there, or was seen.
 #[derive(Clone, Copy, Debug)]
 pub struct Entry {
     kind: Kind,
+    absent: bool,
+    before_len: u8,
+    after_len: u8,
+    before_at: u32,
+    /// Where the bytes stand that an update wrote; of a compensation or an unclaim, where the undo goes on.
+    rest: u32,
     lsn: u32,
     prev: u32,
     tx: TxId,
-    undo_next: u32,
+    newest: u32,
     key: Key,
-    before: Span,
-    after: Span,
 }
 
-/// The records of a log, oldest first: each in some fifty bytes, and the bytes of all keys' records behind each other.
+/// The records of a log, oldest first: each in an entry, and the bytes of all keys' records behind each other.
 /// A compensation shares those of the change that it takes back.
 #[derive(Drop)]
 pub struct Records {
@@ -85,10 +94,40 @@ impl Kind {
 }
 
 impl Entry {
+    // Where the bytes stand of what is before.
+    fn before(&self) -> Span
+        ensures { result ≡ before_in self.now }
+    {
+        Span {
+            at: self.before_at,
+            len: self.before_len,
+        }
+    }
+
+    // Where the bytes stand of what an update wrote.
+    fn after(&self) -> Span
+        ensures { result ≡ after_in self.now }
+    {
+        Span {
+            at: self.rest,
+            len: self.after_len,
+        }
+    }
+
+    // Its mark.
+    fn mark(&self) -> Mark
+        ensures { result ≡ mark_in self.now }
+    {
+        Mark {
+            newest: self.newest,
+            absent: self.absent,
+        }
+    }
+
     // The log record that it stands for, with these records.
     fn told(&self, before: Option<Record>, after: Option<Record>) -> LogRecord
         ensures { result ≡ told_as self.now.kind self.now.lsn self.now.prev self.now.tx
-            self.now.key before after self.now.undo_next }
+            self.now.key before after self.now.rest }
     {
         let (lsn, prev, tx, key) = (self.lsn, self.prev, self.tx, self.key);
         match self.kind {
@@ -106,7 +145,7 @@ impl Entry {
                 tx,
                 key,
                 restored: before,
-                undo_next: self.undo_next,
+                undo_next: self.rest,
             },
             Kind::Claim => LogRecord::Claim {
                 lsn,
@@ -120,7 +159,7 @@ impl Entry {
                 prev,
                 tx,
                 key,
-                undo_next: self.undo_next,
+                undo_next: self.rest,
             },
         }
     }
@@ -133,8 +172,7 @@ impl Span {
     {
         Span {
             at: 0,
-            len: 0,
-            is_there: false,
+            len: NO_RECORD,
         }
     }
 }
@@ -158,18 +196,17 @@ fn note(bytes: &mut Vec<u8>, noted: &Option<Record>) -> Span
     Span {
         at,
         len: text.len() as u8,
-        is_there: true,
     }
 }
 
 // Adds the bytes of what a change wrote, and tells where they stand, and what its entry tells of: of a claim nothing is
 // added. It takes no memory.
-fn note_written(bytes: &mut Vec<u8>, after: &Option<Option<Record>>) -> (Kind, Span)
+fn note_written(bytes: &mut Vec<u8>, after: Option<&Option<Record>>) -> (Kind, Span)
     requires room { vec_len bytes.old + widest_record ≤ vec_capacity bytes.old }
     requires few { vec_len bytes.old < 2 ^ 32 }
-    ensures told { (lsn prev : ℕ) (tx : TxId) (key : List ℕ) (before : Option (List ℕ))
-        → told_as result.0 lsn prev tx key before (read bytes.new.items result.1) 0
-        ≡ change_record lsn prev tx key before after.now }
+    ensures told { (lsn prev rest : ℕ) (tx : TxId) (key : List ℕ) (before : Option (List ℕ))
+        → told_as result.0 lsn prev tx key before (read bytes.new.items result.1) rest
+        ≡ change_record lsn prev tx key before (option_map (λ w. w.now) after.entry) }
     ensures within { IsWithin (length bytes.new.items) result.1 }
     ensures grown { (more : List ℕ) × (bytes.new.items ≡ bytes.old.items ++ more)
         × (length more ≤ widest_record) }
@@ -186,7 +223,7 @@ fn record_at(bytes: &[u8], span: Span) -> Option<Record>
     requires { IsWithin (length bytes.now) span }
     ensures { result ≡ read bytes.now span }
 {
-    if !span.is_there {
+    if span.len as usize > RECORD_WIDTH {
         return None;
     }
     let at = span.at as usize;
@@ -196,7 +233,8 @@ fn record_at(bytes: &[u8], span: Span) -> Option<Record>
 impl Records {
     /// No records. It takes no memory.
     pub fn new(alloc: Global) -> Records
-        ensures { result.items ≡ [] }
+        ensures items { result.items ≡ [] }
+        ensures marks { result.marks ≡ [] }
     {
         Records {
             entries: Vec::new(alloc),
@@ -211,13 +249,21 @@ impl Records {
         self.entries.len()
     }
 
+    /// What is kept beside the record in that place.
+    pub fn mark(&self, i: usize) -> Mark
+        requires { i < length self.now.marks }
+        ensures { slice_get self.now.marks i ≡ Some result }
+    {
+        self.entries[i].mark()
+    }
+
     /// The record in that place, from 0.
     pub fn get(&self, i: usize) -> Option<LogRecord>
         ensures { result ≡ slice_get self.now.items i }
     {
         let entry = self.entries.get(i)?;
-        let before = record_at(&self.bytes, entry.before);
-        let after = record_at(&self.bytes, entry.after);
+        let before = record_at(&self.bytes, entry.before());
+        let after = record_at(&self.bytes, entry.after());
         Some(entry.told(before, after))
     }
 
@@ -228,10 +274,10 @@ impl Records {
         ensures { result ≡ option_map change_in (slice_get self.now.items i) }
     {
         let entry = self.entries.get(i)?;
-        let before = record_at(&self.bytes, entry.before);
+        let before = record_at(&self.bytes, entry.before());
         let (seen, after) = match entry.kind {
-            Kind::Update => (before, Some(record_at(&self.bytes, entry.after))),
-            Kind::Compensation => (before, Some(record_at(&self.bytes, entry.before))),
+            Kind::Update => (before, Some(record_at(&self.bytes, entry.after()))),
+            Kind::Compensation => (before, Some(record_at(&self.bytes, entry.before()))),
             Kind::Claim => (before, None),
             Kind::Unclaim => (None, None),
         };
@@ -254,7 +300,7 @@ impl Records {
         }
         Some(UndoStep::Restore {
             key: entry.key,
-            before: record_at(&self.bytes, entry.before),
+            before: record_at(&self.bytes, entry.before()),
         })
     }
 
@@ -274,6 +320,7 @@ impl Records {
     /// does what room there was.
     pub fn reserve(&mut self, count: usize) -> Result<(), Memory>
         ensures items { self.new.items ≡ self.old.items }
+        ensures marks { self.new.marks ≡ self.old.marks }
         ensures room { self.old.room ≤ self.new.room }
         ensures ok { OnOk result ((length self.new.items + count ≤ self.new.room)
             × (2 * widest_record ≤ self.new.free)) }
@@ -283,57 +330,70 @@ impl Records {
         Ok(())
     }
 
-    /// Adds the record of a change: of a claim where `after` is none. It takes no memory.
+    /// Adds the record of a change, with its mark: of a claim where `after` is none. `absent` is whether the key is absent
+    /// by the changes below it. It takes no memory.
     pub fn push_change(
         &mut self,
-        lsn: u32,
         prev: u32,
         tx: TxId,
-        key: Key,
+        key: &Key,
         before: &Option<Record>,
-        after: &Option<Option<Record>>,
+        after: Option<&Option<Record>>,
+        absent: bool,
     )
         requires few { length self.old.items < most_log_records }
         requires room { length self.old.items < self.old.room }
         requires free { 2 * widest_record ≤ self.old.free }
         ensures items { self.new.items
-            ≡ self.old.items ++ change_record lsn prev tx key before.now after.now ∷ [] }
+            ≡ self.old.items ++ change_record (length self.old.items + 1) prev tx key.now before.now (option_map (λ w. w.now) after.entry) ∷ [] }
+        ensures marks { self.new.marks
+            ≡ self.old.marks ++ record { newest = length self.old.items + 1; absent = absent } ∷ [] }
         ensures room { self.old.room ≤ self.new.room }
     {
+        let lsn = self.entries.len() as u32 + 1;
         let before = note(&mut self.bytes, before);
         let (kind, after) = note_written(&mut self.bytes, after);
         let _ = self.entries.push(Entry {
             kind,
+            absent,
+            before_len: before.len,
+            after_len: after.len,
+            before_at: before.at,
+            rest: after.at,
             lsn,
             prev,
             tx,
-            undo_next: 0,
-            key,
-            before,
-            after,
+            newest: lsn,
+            key: *key,
         });
     }
 
-    /// Adds the record of taking back the change whose record is in that place. It takes no memory.
-    pub fn push_back(&mut self, of: usize, lsn: u32, prev: u32, tx: TxId)
+    /// Adds the record of taking back the change whose record is in that place, with its mark. It takes no memory.
+    pub fn push_back(&mut self, of: usize, prev: u32, tx: TxId, mark: Mark)
         requires there { of < length self.old.items }
         requires few { length self.old.items < most_log_records }
         requires room { length self.old.items < self.old.room }
         ensures items { (u : LogRecord) → slice_get self.old.items of ≡ Some u
             → self.new.items
-            ≡ self.old.items ++ back_record lsn prev tx (key_of u) (back_in u) (prev_of u) ∷ [] }
+            ≡ self.old.items
+            ++ back_record (length self.old.items + 1) prev tx (key_of u) (back_in u) (prev_of u)
+            ∷ [] }
+        ensures marks { self.new.marks ≡ self.old.marks ++ mark ∷ [] }
         ensures room { self.old.room ≤ self.new.room }
     {
         let taken = self.entries[of];
         let _ = self.entries.push(Entry {
             kind: taken.kind.back(),
-            lsn,
+            absent: mark.absent,
+            before_len: taken.before_len,
+            after_len: NO_RECORD,
+            before_at: taken.before_at,
+            rest: taken.prev,
+            lsn: self.entries.len() as u32 + 1,
             prev,
             tx,
-            undo_next: taken.prev,
+            newest: mark.newest,
             key: taken.key,
-            before: taken.before,
-            after: Span::none(),
         });
     }
 }

@@ -5,7 +5,7 @@ ghost use Rattle.tx_log.specs.Marks.{CanWalk};
 ghost use Rattle.tx_log.specs.Walks.{link_of, newest_in, is_after, step_to};
 
 use crate::UndoStep;
-use crate::mark::{Mark, newest_number};
+use crate::mark::newest_number;
 use crate::records::Records;
 use rec_types::{Key, Memory, Record};
 use std::alloc::Global;
@@ -31,11 +31,11 @@ pub struct Link {
 
 /// The newest change that isn't taken back, on the way down from the record with the number `from`.
 #[inline(always)]
-pub fn newest_change(log: &Records, marks: &[Mark], from: u32) -> Option<LiveChange>
-    requires { CanWalk log.now.items marks.now from }
+pub fn newest_change(log: &Records, from: u32) -> Option<LiveChange>
+    requires { CanWalk log.now.items log.now.marks from }
     ensures { result ≡ newest_in (chain (reverse log.now.items) from) }
 {
-    let at = newest_number(marks, from);
+    let at = newest_number(log, from);
     if at == 0 {
         return None;
     }
@@ -43,11 +43,11 @@ pub fn newest_change(log: &Records, marks: &[Mark], from: u32) -> Option<LiveCha
 }
 
 /// The same change, without its records.
-pub fn newest_link(log: &Records, marks: &[Mark], from: u32) -> Option<Link>
-    requires { CanWalk log.now.items marks.now from }
+pub fn newest_link(log: &Records, from: u32) -> Option<Link>
+    requires { CanWalk log.now.items log.now.marks from }
     ensures { result ≡ option_map link_of (newest_in (chain (reverse log.now.items) from)) }
 {
-    let at = newest_number(marks, from);
+    let at = newest_number(log, from);
     if at == 0 {
         return None;
     }
@@ -56,12 +56,12 @@ pub fn newest_link(log: &Records, marks: &[Mark], from: u32) -> Option<Link>
 
 /// What takes back the newest change that isn't taken back, on the way down from the record with the number `from`, if
 /// its own number is above `to`.
-pub fn newest_above(log: &Records, marks: &[Mark], from: u32, to: u32) -> Option<UndoStep>
-    requires { CanWalk log.now.items marks.now from }
+pub fn newest_above(log: &Records, from: u32, to: u32) -> Option<UndoStep>
+    requires { CanWalk log.now.items log.now.marks from }
     ensures { result ≡ option_map step_to
         (newest_in (filter (is_after to) (chain (reverse log.now.items) from))) }
 {
-    let at = newest_number(marks, from);
+    let at = newest_number(log, from);
     if at <= to {
         return None;
     }
@@ -70,8 +70,8 @@ pub fn newest_above(log: &Records, marks: &[Mark], from: u32, to: u32) -> Option
 
 /// How many changes with numbers above `to` aren't taken back, on the way down from the record with the number
 /// `from`. `live` is how many there are with any number.
-pub fn count_changes(log: &Records, marks: &[Mark], from: u32, live: u32, to: u32) -> u32
-    requires walk { CanWalk log.now.items marks.now from }
+pub fn count_changes(log: &Records, from: u32, live: u32, to: u32) -> u32
+    requires walk { CanWalk log.now.items log.now.marks from }
     requires live { live ≡ length (chain (reverse log.now.items) from) }
     ensures { result ≡ length (filter (is_after to) (chain (reverse log.now.items) from)) }
 {
@@ -81,7 +81,7 @@ pub fn count_changes(log: &Records, marks: &[Mark], from: u32, live: u32, to: u3
     let mut count = 0;
     let mut at = from;
     while at > to {
-        match newest_link(log, marks, at) {
+        match newest_link(log, at) {
             Some(link) => {
                 if link.lsn <= to {
                     return count;
@@ -97,19 +97,13 @@ pub fn count_changes(log: &Records, marks: &[Mark], from: u32, live: u32, to: u3
 
 /// The keys of the changes that aren't taken back, newest first, on the way down from the record with the number
 /// `from`. `count` is how many are expected. Fault: Memory.
-pub fn changed_keys(
-    alloc: Global,
-    log: &Records,
-    marks: &[Mark],
-    from: u32,
-    count: u32,
-) -> Result<Vec<Key>, Memory>
-    requires { CanWalk log.now.items marks.now from }
+pub fn changed_keys(alloc: Global, log: &Records, from: u32, count: u32) -> Result<Vec<Key>, Memory>
+    requires { CanWalk log.now.items log.now.marks from }
     ensures { IfOk result (λ keys. keys.items ≡ map key_of (chain (reverse log.now.items) from)) }
 {
     let mut keys = Vec::with_capacity(alloc, count as usize)?;
     let mut at = from;
-    while let Some(link) = newest_link(log, marks, at) {
+    while let Some(link) = newest_link(log, at) {
         keys.push(link.key)?;
         at = link.prev;
     }

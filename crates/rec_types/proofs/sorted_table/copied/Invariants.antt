@@ -1,6 +1,7 @@
-use Rattle.std.proofs.Common.{◌≡◌, ◌++◌, vec_items}
+use Rattle.std.proofs.Common.{◌≡◌, map, take}
+use Rattle.rec_types.specs.Sorted.{pair_at}
 use Rattle.rec_types.proofs.sorted_table.copied.Given as goal
 
--- the pairs so far, and those that the iterator has left
-abbrev pub invariant-loop-key : goal.invariant-loop-key
-invariant-loop-key l = vec_items l.list ++ l.key-iterator ≡ l.records.entries
+-- the pairs so far
+abbrev pub invariant-loop-place : goal.invariant-loop-place
+invariant-loop-place l = l.list.items ≡ map (pair_at l.records) (take l.place-index l.places)

@@ -1,5 +1,4 @@
-use Rattle.std.proofs.Common.{◌≡◌, Bool, ◌+◌, Some, cond, eqb, ◌||◌, sym, ap, ◌∙◌, arith}
-use Rattle.std.proofs.lemmas.Grind.{elements}
+use Rattle.std.proofs.Common.{◌≡◌, ◌+◌, Some, cond, eqb, ◌||◌, sym, ap, ◌∙◌, arith}
 use Rattle.tx_log.proofs.KeptLogLemmas.{some_of}
 use Rattle.tx_log.proofs.KeyPlaces.{key_read, key_write}
 use Rattle.tx_log.specs.Holdings.{held, same_bytes}
@@ -7,18 +6,17 @@ use Rattle.tx_log.specs.declared.holding.Holding.{Holding}
 use Rattle.tx_log.proofs.holding.raise.Goals as goal
 
 pub returns : goal.returns
-returns c = λ h there.
+returns c = λ k s.
     let m = c.args.holdings.now in
-    let k = c.args.key.now in
-    let at = c.place_of_key-at.result in
+    let at = c.args.at in
+    let h = s.hold in
     let d = c.index_mut-holding.result.now in
-    let stands = c.place_of_key-at.ensures.stands in
-    let same : d ≡ h = some_of d h (sym (key_read m k at d stands c.index_mut-holding.ensures.value) ∙ there) in
-    let next : c.grown-next.result ≡ record { owner = c.args.tx; live = h.live + 1; absent = cond (c.args.writes || eqb h.live 0) c.args.absent h.absent } = c.grown-next.ensures ∙ ap (λ (x : Holding). let y : Holding = record { owner = c.args.tx; live = x.live + 1; absent = cond (c.args.writes || eqb x.live 0) c.args.absent x.absent } in y) same in (
+    let will = c.left_out-will.result in
+    let same : d ≡ h = some_of d h (sym (key_read m k at d s c.index_mut-holding.ensures.value) ∙ s.there) in (
       ap (λ (x : Holding). x.absent) same,
-      ap (λ (x : Holding). x.absent) next,
-      λ q. key_write m k at c.grown-next.result stands q ∙ ap (λ (x : Holding). cond (same_bytes k q) (Some x) (held m q)) (next ∙ ap (λ (b : Bool). let y : Holding = record { owner = c.args.tx; live = h.live + 1; absent = b } in y) (sym (ap (λ (x : Holding). x.absent) next))),
+      c.left_out-will.ensures ∙ ap (λ (x : Holding). cond (c.args.writes || eqb x.live 0) c.args.absent x.absent) same,
+      λ q. key_write m k at (record { owner = c.args.tx; live = d.live + 1; absent = will }) s q ∙ ap (λ (x : Holding). cond (same_bytes k q) (Some (record { owner = c.args.tx; live = x.live + 1; absent = will })) (held m q)) same,
     )
 
-pub grown-next-requires : goal.grown-next-requires
-grown-next-requires c = grind (arith, elements)
+pub overflow_add-holding : goal.overflow_add-holding
+overflow_add-holding c = omega (arith, c.requires.most c.index_mut-holding.result.now c.index_mut-holding.ensures.value)

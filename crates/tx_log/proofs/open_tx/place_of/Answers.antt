@@ -1,6 +1,6 @@
-use Rattle.std.proofs.Common.{sym, arith}
+use Rattle.std.proofs.Common.{sym, ◌∙◌, arith}
 use Rattle.std.proofs.lemmas.Grind.{elements}
-use Rattle.tx_log.proofs.PlaceOf.{at_some, mapped_some, stands_at}
+use Rattle.tx_log.proofs.PlaceOf.{at_some, mapped_some, stands_at, first_stands}
 use Rattle.tx_log.proofs.open_tx.place_of.Goals as goal
 
 pub returns-clause-stands : goal.returns-clause-stands
@@ -11,3 +11,7 @@ returns-clause-stands c =
 
 pub returns-clause-within : goal.returns-clause-within
 returns-clause-within c = grind (arith, elements)
+
+pub returns-then-eq-clause-stands : goal.returns-then-eq-clause-stands
+returns-then-eq-clause-stands c =
+    first_stands c.args.txs.now c.args.tx.0 c.in-Some.first.now c.in-Some.field-0-1.now c.len-count.ensures.unique c.in-Some.ensures.entry (sym c.eq.ensures ∙ c.if-eq.true)

@@ -4,7 +4,7 @@ use Rattle.tx_log.proofs.CompactLemmas.{step-there, none_above}
 use Rattle.tx_log.proofs.undo_chain.newest_above.Goals as goal
 
 pub newest_number-at-requires : goal.newest_number-at-requires
-newest_number-at-requires c = omega (arith, c.requires.within, as_many c.args.log.now.items c.args.marks.now c.requires.marked)
+newest_number-at-requires c = omega (arith, c.requires.within, as_many c.args.log.now.items c.args.log.now.marks c.requires.marked)
 
 pub returns-then-at-to : goal.returns-then-at-to
 returns-then-at-to c =

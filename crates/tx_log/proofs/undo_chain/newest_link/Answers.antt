@@ -6,7 +6,7 @@ use Rattle.tx_log.proofs.CompactLemmas.{link-there}
 use Rattle.tx_log.proofs.undo_chain.newest_link.Goals as goal
 
 pub newest_number-at-requires : goal.newest_number-at-requires
-newest_number-at-requires c = omega (arith, c.requires.within, as_many c.args.log.now.items c.args.marks.now c.requires.marked)
+newest_number-at-requires c = omega (arith, c.requires.within, as_many c.args.log.now.items c.args.log.now.marks c.requires.marked)
 
 pub returns-then-at-eq0 : goal.returns-then-at-eq0
 returns-then-at-eq0 c =

@@ -22,14 +22,14 @@ below_limit false b is = refl
 
 pub returns-then-len-self : goal.returns-then-len-self
 returns-then-len-self c =
-    let counts = c.len.ensures.len ∙ sym (len_hashed c.self.inside.records.entries c.self.invariant.unique) ∙ ap (λ (s : SortedState). maps.len s.contents) c.self.view_is in
-    let stood = sym (at_hash c.self.inside.records.entries c.args.key.now) ∙ ap (λ (s : SortedState). maps.get s.contents c.args.key.now) c.self.view_is in
+    let counts = c.len.ensures ∙ sym (len_hashed c.self.inside.records c.self.invariant.unique) ∙ ap (λ (s : SortedState). maps.len s.contents) c.self.view_is in
+    let stood = sym (at_hash c.self.inside.records c.args.key.now) ∙ ap (λ (s : SortedState). maps.get s.contents c.args.key.now) c.self.view_is in
     at_limit (nat_le c.args.self.now.limit (maps.len c.args.self.now.contents)) c.contains_key.result (maps.get c.args.self.now.contents c.args.key.now)
     (sym (λ i. nat_le (ap (λ (s : SortedState). s.limit) c.self.view_is i) (counts i)) ∙ reaches _ _ c.if-len-self.true)
     (c.contains_key.ensures ∙ ap (λ (o : Option (List ℕ)). is_some o) stood)
 
 pub returns-else-len-self : goal.returns-else-len-self
 returns-else-len-self c =
-    let counts = c.len.ensures.len ∙ sym (len_hashed c.self.inside.records.entries c.self.invariant.unique) ∙ ap (λ (s : SortedState). maps.len s.contents) c.self.view_is in
+    let counts = c.len.ensures ∙ sym (len_hashed c.self.inside.records c.self.invariant.unique) ∙ ap (λ (s : SortedState). maps.len s.contents) c.self.view_is in
     let reached : nat_le c.self.inside.limit c.len.result ≡ nat_le c.args.self.now.limit (maps.len c.args.self.now.contents) = λ i. nat_le (ap (λ (s : SortedState). s.limit) c.self.view_is i) (counts i) in
     reached ∙ below_limit (nat_le c.args.self.now.limit (maps.len c.args.self.now.contents)) (is_none (maps.get c.args.self.now.contents c.args.key.now)) (sym reached ∙ stays_below _ _ c.if-len-self.false)

@@ -5,4 +5,4 @@ use Rattle.rec_types.proofs.HashedLemmas.{len_hashed}
 use Rattle.rec_types.proofs.sorted_table.SortedTableTable.count.Goals as goal
 
 pub returns-clause-value : goal.returns-clause-value
-returns-clause-value c = λ _. c.len.ensures.len ∙ sym (len_hashed c.self.inside.records.entries c.self.invariant.unique) ∙ ap (λ (s : SortedState). maps.len s.contents) c.self.view_is
+returns-clause-value c = λ _. c.len.ensures ∙ sym (len_hashed c.self.inside.records c.self.invariant.unique) ∙ ap (λ (s : SortedState). maps.len s.contents) c.self.view_is

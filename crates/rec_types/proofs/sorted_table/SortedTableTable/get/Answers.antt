@@ -5,4 +5,4 @@ use Rattle.rec_types.proofs.HashedLemmas.{at_hash}
 use Rattle.rec_types.proofs.sorted_table.SortedTableTable.get.Goals as goal
 
 pub returns-clause-value : goal.returns-clause-value
-returns-clause-value c = λ _. c.copied.ensures ∙ c.get.ensures.value ∙ sym (at_hash c.self.inside.records.entries c.args.key.now) ∙ ap (λ (s : SortedState). maps.get s.contents c.args.key.now) c.self.view_is
+returns-clause-value c = λ _. c.get.ensures ∙ sym (at_hash c.self.inside.records c.args.key.now) ∙ ap (λ (s : SortedState). maps.get s.contents c.args.key.now) c.self.view_is

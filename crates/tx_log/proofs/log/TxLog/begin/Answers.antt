@@ -6,6 +6,7 @@ use Rattle.tx_log.proofs.HoldSteps.{held_more}
 use Rattle.tx_log.specs.Holdings.{held}
 use Rattle.tx_log.proofs.KeptLogLemmas.{kept_now}
 use Rattle.tx_log.specs.Finds.{finding, PutsAt}
+use Rattle.tx_log.specs.LogFields.{room_in}
 use Rattle.tx_log.specs.LogState.{LogState}
 use Rattle.tx_log.specs.Transactions.{fresh}
 use Rattle.tx_log.specs.declared.open_tx.OpenTx.{OpenTx}
@@ -34,13 +35,12 @@ invariant_of-self-2 c =
       };
       records_room = record { held = c.self.invariant.records_room.held; spare = tt };
       bytes_room = tt;
-      marks_room = record { held = c.self.invariant.marks_room.held; spare = tt };
     }
 
 pub returns-clause-ok : goal.returns-clause-ok
 returns-clause-ok c =
     let l = c.self.inside in
-    begun_state l.records.items l.txs.entries c.insert.new.self.entries l.begun l.limits l.room (puts_of (goal.at.returns-clause-ok c).In_ok-insert)
+    begun_state l.records.items l.txs.entries c.insert.new.self.entries l.begun l.limits (room_in l.room_at l.over) (puts_of (goal.at.returns-clause-ok c).In_ok-insert)
     ∙ ap (λ (s : LogState). record s { begun = s.begun + 1; txs = maps.insert s.txs (s.begun + 1) fresh; room = None }) c.self.view_is
 
 pub returns-then-self-most-clause-kept : goal.returns-then-self-most-clause-kept

@@ -90,7 +90,6 @@ invariant_of-self c =
       };
       records_room = record { held = omega (arith, c.self.invariant.records_room.held); spare = tt };
       bytes_room = tt;
-      marks_room = record { held = omega (arith, c.self.invariant.marks_room.held); spare = tt };
     }
 
 pub returns-clause-after : goal.returns-clause-after

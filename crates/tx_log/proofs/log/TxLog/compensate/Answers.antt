@@ -1,12 +1,11 @@
-use Rattle.std.proofs.Common.{rules, ◌≡◌, ◌∷◌, [], ◌++◌, cond, refl, ℕ, zero, suc, slice_get, ◌+◌, ◌-◌, ◌<◌, ◌≤◌, Bool, true, List, Some, None, option_map, length, reverse, is_some, vec_len, sym, ap, subst, ◌∙◌, arith}
-use Rattle.std.specs.Vec.{vec_capacity}
+use Rattle.std.proofs.Common.{rules, ◌≡◌, ◌∷◌, [], ◌++◌, refl, ℕ, zero, suc, slice_get, ◌+◌, ◌-◌, ◌<◌, ◌≤◌, true, List, Some, None, option_map, length, reverse, is_some, sym, ap, subst, ◌∙◌, arith}
 use Rattle.std.proofs.lemmas.List.{length-reverse, length-append}
 use Rattle.rec_types.specs.History.{log_len}
 use Rattle.rec_types.specs.Kept.{undone}
 use Rattle.rec_types.specs.declared.transaction.TxId.{TxId}
 use Rattle.tx_log.proofs.HoldCalls.{IsKeyOf, key_of_change, compensated_keys}
 use Rattle.tx_log.specs.Holdings.{held, IsHeld}
-use Rattle.tx_log.specs.Marks.{first_lsn, IsMarked, AreMarked}
+use Rattle.tx_log.specs.Marks.{first_lsn, IsMarked}
 use Rattle.tx_log.specs.OpenTxs.{opens}
 use Rattle.tx_log.specs.declared.holding.Holding.{Holding}
 use Rattle.tx_log.proofs.KeptLogLemmas.{IsSized, IsCounted, sized, some_of, recounted, counted_key, counted_change, kept_now}
@@ -21,15 +20,15 @@ use Rattle.tx_log.proofs.LogStateLemmas.{state, compensate_state, told_compensat
 use Rattle.tx_log.proofs.WalkSteps.{IsStep, walk_step}
 use Rattle.tx_log.specs.Finds.{finding, PutsAt}
 use Rattle.tx_log.specs.Log.{back_record, record_at, lsn_of, key_of, leads_to, led, kept_of, chain}
+use Rattle.tx_log.specs.LogFields.{room_in}
 use Rattle.tx_log.specs.LogState.{LogState, history_in, undo_in, compensations_in}
 use Rattle.tx_log.specs.Walks.{absent_at}
 use Rattle.tx_log.specs.declared.log.TxLog.TheInside.{Inside}
 use Rattle.tx_log.specs.declared.log_record.LogRecord.{LogRecord}
-use Rattle.tx_log.specs.declared.mark.Mark.{Mark}
 use Rattle.tx_log.specs.declared.open_tx.OpenTx.{OpenTx}
 use Rattle.tx_log.specs.declared.undo_chain.LiveChange.{LiveChange}
 use Rattle.tx_log.proofs.log.TxLog.compensate.Goals as goal
-use Rattle.tx_log.proofs.log.TxLog.compensate.Goals.{After-index, After-deref-2, After-lower-was, After-index_mut-open_tx}
+use Rattle.tx_log.proofs.log.TxLog.compensate.Goals.{After-index, After-unwrap-change, After-lower-was, After-index_mut-open_tx}
 use Rattle.tx_log.proofs.Counts.{log_len_is}
 
 -- a record stands one place below its number
@@ -54,7 +53,7 @@ record IsNext (l : Inside) (t : ℕ) (e : OpenTx) (change : LiveChange) : Type 0
   pub counted : IsCounted l.pending change e
   pub at : IsKeyOf l t change step.update step.rest
 
-module _ (c : After-deref-2) where
+module _ (c : After-unwrap-change) where
   next : IsNext c.self.inside c.args.tx.0 c.index.result.now c.unwrap-change.result
   next =
       let l = c.self.inside in
@@ -110,59 +109,55 @@ unwrap-change-requires c =
 
 pub overflow_sub-change : goal.overflow_sub-change
 overflow_sub-change c =
-    omega (arith, (next (goal.at.overflow_sub-change c).After-deref-2).step.falls)
+    omega (arith, (next (goal.at.overflow_sub-change c).After-unwrap-change).step.falls)
 
 pub push_back-requires-clause-there : goal.push_back-requires-clause-there
 push_back-requires-clause-there c =
-    let step = (next (goal.at.push_back-requires-clause-there c).After-deref-2).step in
+    let step = (next (goal.at.push_back-requires-clause-there c).After-unwrap-change).step in
     omega (arith, step.falls, step.within, length-reverse c.self.inside.records.items)
 
 pub push_back-requires-clause-few : goal.push_back-requires-clause-few
 push_back-requires-clause-few c =
     let bounded = c.self.invariant.bounded in
-    omega (arith, (next (goal.at.push_back-requires-clause-few c).After-deref-2).counted.waits, bounded.fits, bounded.most_records)
+    omega (arith, (next (goal.at.push_back-requires-clause-few c).After-unwrap-change).counted.waits, bounded.fits, bounded.most_records)
 
 pub push_back-requires-clause-room : goal.push_back-requires-clause-room
 push_back-requires-clause-room c =
-    omega (arith, (next (goal.at.push_back-requires-clause-room c).After-deref-2).counted.waits, c.self.invariant.records_room.held)
+    omega (arith, (next (goal.at.push_back-requires-clause-room c).After-unwrap-change).counted.waits, c.self.invariant.records_room.held)
 
 pub is_absent_below-will-requires-clause-some : goal.is_absent_below-will-requires-clause-some
 is_absent_below-will-requires-clause-some c =
-    omega (arith, (next (goal.at.is_absent_below-will-requires-clause-some c).After-deref-2).step.falls)
+    omega (arith, (next (goal.at.is_absent_below-will-requires-clause-some c).After-unwrap-change).step.falls)
 
 pub is_absent_below-will-requires-clause-within : goal.is_absent_below-will-requires-clause-within
 is_absent_below-will-requires-clause-within c =
     let l = c.self.inside in
-    let change = c.unwrap-change.result in
-    let low : change.lsn ≤ length l.marks.items = omega (arith, (next (goal.at.is_absent_below-will-requires-clause-within c).After-deref-2).step.within, length-reverse l.records.items, as_many l.records.items l.marks.items c.self.invariant.marked) in
-    subst (λ (k : ℕ). change.lsn ≤ k) (ap length (sym c.deref-2.ensures.value)) low
+    omega (arith, (next (goal.at.is_absent_below-will-requires-clause-within c).After-unwrap-change).step.within, length-reverse l.records.items, as_many l.records.items l.records.marks c.self.invariant.marked)
 
 pub newest_number-below-requires : goal.newest_number-below-requires
 newest_number-below-requires c =
     let l = c.self.inside in
-    let change = c.unwrap-change.result in
-    let step = (next (goal.at.newest_number-below-requires c).After-deref-2).step in
-    let low : change.prev ≤ length l.marks.items = omega (arith, step.falls, step.within, length-reverse l.records.items, as_many l.records.items l.marks.items c.self.invariant.marked) in
-    subst (λ (k : ℕ). change.prev ≤ k) (ap length (sym c.deref-3.ensures.value)) low
+    let step = (next (goal.at.newest_number-below-requires c).After-unwrap-change).step in
+    omega (arith, step.falls, step.within, length-reverse l.records.items, as_many l.records.items l.records.marks c.self.invariant.marked)
 
 pub lower-was-requires-clause-there : goal.lower-was-requires-clause-there
 lower-was-requires-clause-there c =
-    ap is_some (next (goal.at.lower-was-requires-clause-there c).After-deref-2).at.there
+    ap is_some (next (goal.at.lower-was-requires-clause-there c).After-unwrap-change).at.there
 
 pub lower-was-requires-clause-some : goal.lower-was-requires-clause-some
 lower-was-requires-clause-some c = λ h there.
-    let at = (next (goal.at.lower-was-requires-clause-some c).After-deref-2).at in
+    let at = (next (goal.at.lower-was-requires-clause-some c).After-unwrap-change).at in
     let live_is : h.live ≡ at.hold.hold.live = ap (λ (x : Holding). x.live) (some_of h at.hold.hold (sym there ∙ at.there)) in
     omega (arith, live_is, at.hold.live)
 
 pub overflow_sub-self : goal.overflow_sub-self
 overflow_sub-self c =
-    omega (arith, (next (goal.at.overflow_sub-self c).After-deref-2).counted.waits)
+    omega (arith, (next (goal.at.overflow_sub-self c).After-unwrap-change).counted.waits)
 
 pub recount-self-inside-requires-clause-some : goal.recount-self-inside-requires-clause-some
 recount-self-inside-requires-clause-some c = λ was.
     let size = met_sizes (goal.at.recount-self-inside-requires-clause-some c).After-index in
-    let some = was_counted (goal.at.recount-self-inside-requires-clause-some c).After-lower-was (next (goal.at.recount-self-inside-requires-clause-some c).After-deref-2) was in
+    let some = was_counted (goal.at.recount-self-inside-requires-clause-some c).After-lower-was (next (goal.at.recount-self-inside-requires-clause-some c).After-unwrap-change) was in
     omega (arith, some, size.absent_part)
 
 pub recount-self-inside-requires-clause-most : goal.recount-self-inside-requires-clause-most
@@ -179,12 +174,12 @@ overflow_sub-open_tx-2 c =
 
 pub overflow_sub-open_tx : goal.overflow_sub-open_tx
 overflow_sub-open_tx c =
-    let now = next (goal.at.overflow_sub-open_tx c).After-deref-2 in
+    let now = next (goal.at.overflow_sub-open_tx c).After-unwrap-change in
     subst (λ (x : OpenTx). 0 < x.live) (sym (same_entry (goal.at.overflow_sub-open_tx c).After-index_mut-open_tx now.found)) now.counted.live
 
 pub recount-open_tx-requires-clause-some : goal.recount-open_tx-requires-clause-some
 recount-open_tx-requires-clause-some c = λ was.
-    let now = next (goal.at.recount-open_tx-requires-clause-some c).After-deref-2 in
+    let now = next (goal.at.recount-open_tx-requires-clause-some c).After-unwrap-change in
     subst (λ (x : OpenTx). 0 < x.absent) (sym (same_entry (goal.at.recount-open_tx-requires-clause-some c).After-index_mut-open_tx now.found)) (was_counted (goal.at.recount-open_tx-requires-clause-some c).After-lower-was now was)
 
 pub recount-open_tx-requires-clause-most : goal.recount-open_tx-requires-clause-most
@@ -218,14 +213,8 @@ module _ (c : goal.After-self-4-1) where
       let lsn_is : lsn_of u ≡ c.unwrap-change.result.lsn = ap (λ (x : LiveChange). x.lsn) now.step.told in
       let there = record_of_chain l.records.items c.index.result.now.last u now.step.rest c.self.invariant.log_kept.numbered now.step.is in
       c.push_back.ensures.items u (place_below l.records.items (lsn_of u) c.unwrap-change.result.lsn u lsn_is there)
-      ∙ ap (λ (x : LiveChange). l.records.items ++ back_record (c.len.result + 1) c.index.result.now.last c.args.tx x.key (option_map (λ _. x.before) x.after) x.prev ∷ []) now.step.told
-
-  mark_pushed : 0 < c.self.inside.pending → c.push.new.self.items ≡ c.self.inside.marks.items ++ record { newest = c.newest_number-below.result; absent = c.is_absent_below-will.result } ∷ []
-  mark_pushed waits =
-      let l = c.self.inside in
-      let m : Mark = record { newest = c.newest_number-below.result; absent = c.is_absent_below-will.result } in
-      let ok = c.push.ensures.succeeds (omega (arith, waits, c.self.invariant.marks_room.held)) in
-      c.push.ensures.items ∙ ap (λ (b : Bool). cond b (l.marks.items ++ m ∷ []) l.marks.items) ok
+      ∙ ap (λ (x : LiveChange). l.records.items ++ back_record (length l.records.items + 1) c.index.result.now.last c.args.tx x.key (option_map (λ _. x.before) x.after) x.prev ∷ []) now.step.told
+      ∙ ap (λ n. let x = c.unwrap-change.result in l.records.items ++ back_record (n + 1) c.index.result.now.last c.args.tx x.key (option_map (λ _. x.before) x.after) x.prev ∷ []) (sym c.len.ensures)
 
   -- whether the changes that are left take its key out
   will_is : (step : IsStep (reverse c.self.inside.records.items) c.index.result.now.last c.unwrap-change.result) → c.is_absent_below-will.result ≡ absent_at c.unwrap-change.result.key step.rest
@@ -234,7 +223,7 @@ module _ (c : goal.After-self-4-1) where
       let rs = reverse l.records.items in
       let lsn_is : lsn_of step.update ≡ c.unwrap-change.result.lsn = ap (λ (x : LiveChange). x.lsn) step.told in
       let key_is : key_of step.update ≡ c.unwrap-change.result.key = ap (λ (x : LiveChange). x.key) step.told in
-      c.is_absent_below-will.ensures rs step.rest c.index.result.now.last step.update c.self.invariant.log_kept.numbered (subst (λ (ms : List Mark). AreMarked rs (reverse ms)) (sym c.deref-2.ensures.value) c.self.invariant.marked) step.is lsn_is
+      c.is_absent_below-will.ensures rs step.rest c.index.result.now.last step.update c.self.invariant.log_kept.numbered c.self.invariant.marked step.is lsn_is
       ∙ ap (λ k. absent_at k step.rest) key_is
 
   taken_back : IsNext c.self.inside c.args.tx.0 c.index.result.now c.unwrap-change.result → c.lower-was.result ≡ absent_at c.unwrap-change.result.key (chain (reverse c.self.inside.records.items) c.index.result.now.last) → c.index_mut-open_tx.result.now ≡ c.index.result.now
@@ -281,7 +270,7 @@ invariant_of-self c =
     let rs = reverse l.records.items in
     let e = c.index.result.now in
     let places = goal.at.invariant_of-self c in
-    let now = next places.After-deref-2 in
+    let now = next places.After-unwrap-change in
     let change = c.unwrap-change.result in
     let turned : reverse c.push_back.new.self.items ≡ record_pushed c ∷ rs = ap reverse (pushed c now) ∙ reverse-push l.records.items _ in
     let back = taken_back c now (was_is places.After-lower-was now) (same_entry places.After-index_mut-open_tx now.found) in
@@ -291,13 +280,11 @@ invariant_of-self c =
     let wider : l.records.room ≤ c.push_back.new.self.room = c.push_back.ensures.room in
     let one = back.pending_one in
     let will = will_is c now.step in
-    let below : c.newest_number-below.result ≡ first_lsn (chain rs change.prev) = c.newest_number-below.ensures rs c.self.invariant.log_kept.numbered (subst (λ (ms : List Mark). AreMarked rs (reverse ms)) (sym c.deref-3.ensures.value) c.self.invariant.marked) in
-    let more_marks : vec_len c.push.new.self ≤ vec_len l.marks + 1 = c.push.ensures.upper_bound in
-    let marks_wider : vec_capacity l.marks ≤ vec_capacity c.push.new.self = c.push.ensures.capacity in
+    let below : c.newest_number-below.result ≡ first_lsn (chain rs change.prev) = c.newest_number-below.ensures rs c.self.invariant.log_kept.numbered c.self.invariant.marked in
     let keys = compensated_keys (record_pushed c) l c.self.invariant c.args.tx e (entry_left c) change now.step.update now.step.rest now.at (finding (table_left c)) (held c.lower-was.new.holdings) c.is_absent_below-will.result (told_back c).down (told_back c).tx_is now.found (puts_entry c) will (c.lower-was.ensures now.at.hold.hold now.at.there).1 in
     record {
       log_kept = kept_turned _ _ _ _ _ _ turned kept;
-      marked = marked_more l.records.items c.push_back.new.self.items l.marks.items c.push.new.self.items _ _ turned (mark_pushed c now.counted.waits) (back_marked c now.step below will) c.self.invariant.marked;
+      marked = marked_more l.records.items c.push_back.new.self.items l.records.marks c.push_back.new.self.marks _ _ turned c.push_back.ensures.marks (back_marked c now.step below will) c.self.invariant.marked;
       holding = subst (λ (xs : List LogRecord). IsHeld xs (opens (finding (table_left c))) (held c.lower-was.new.holdings)) (sym turned) keys.holding;
       busy_keys = keys.busy_keys;
       reserved = tt;
@@ -309,7 +296,6 @@ invariant_of-self c =
       };
       records_room = record { held = omega (arith, c.self.invariant.records_room.held); spare = tt };
       bytes_room = tt;
-      marks_room = record { held = omega (arith, c.self.invariant.marks_room.held); spare = tt };
     }
 
 pub returns-clause-lsn : goal.returns-clause-lsn
@@ -323,7 +309,7 @@ returns-clause-after c =
     let rs = reverse l.records.items in
     let e = c.index.result.now in
     let places = goal.at.returns-clause-after c in
-    let now = next places.After-deref-2 in
+    let now = next places.After-unwrap-change in
     let change = c.unwrap-change.result in
     let t = c.args.tx.0 in
     let kept = c.self.invariant.log_kept in
@@ -332,8 +318,8 @@ returns-clause-after c =
     let back = taken_back c now (was_is places.After-lower-was now) (same_entry places.After-index_mut-open_tx now.found) in
     let stay = txs_stay (record_pushed c) rs l.begun t l.txs.entries (table_left c) (entry_left c) e ((told_back c).lsn_is ∙ back.lsn_is) kept.fit (puts_entry c) now.found back.rollback_same back.saves_same in
     let undo = undo_told rs l.txs.entries l.begun l.pending l.gone t e change kept now.found (ap (λ (s : LogState). is_some (undo_in s t)) c.self.view_is ∙ c.requires) step in
-    let told = told_compensation (state l.records.items l.txs.entries l.begun l.limits l.room) c.args.tx (c.len.result + 1) e.last change step.update (back.lsn_is ∙ ap (λ k. k + 1) (length-reverse l.records.items)) (fits.last) undo step.told (record_of_chain l.records.items e.last step.update step.rest kept.numbered step.is) in
-    compensate_state (record_pushed c) l.records.items c.push_back.new.self.items l.txs.entries (table_left c) l.begun l.limits l.room (c.len.result + 1) e.last c.args.tx change.key _ change.prev (told_back c) (pushed c now) told stay
+    let told = told_compensation (state l.records.items l.txs.entries l.begun l.limits (room_in l.room_at l.over)) c.args.tx (c.len.result + 1) e.last change step.update (back.lsn_is ∙ ap (λ k. k + 1) (length-reverse l.records.items)) (fits.last) undo step.told (record_of_chain l.records.items e.last step.update step.rest kept.numbered step.is) in
+    compensate_state (record_pushed c) l.records.items c.push_back.new.self.items l.txs.entries (table_left c) l.begun l.limits (room_in l.room_at l.over) (c.len.result + 1) e.last c.args.tx change.key _ change.prev (told_back c) (pushed c now) told stay
     ∙ ap (λ (s : LogState). record s { records = s.records ++ compensations_in s c.args.tx; changes = undone t s.changes; room = None }) c.self.view_is
 
 pub returns-clause-kept : goal.returns-clause-kept

@@ -9,10 +9,10 @@ use Rattle.tx_log.specs.LogState.{LogState, undo_in, undo_of, undo_step}
 use Rattle.tx_log.specs.Walks.{is_after}
 use Rattle.tx_log.specs.declared.log_record.LogRecord.{LogRecord}
 use Rattle.tx_log.proofs.log.TxLog.next_undo.Goals as goal
-use Rattle.tx_log.proofs.log.TxLog.next_undo.Goals.{After-deref}
+use Rattle.tx_log.proofs.log.TxLog.next_undo.Goals.{In-Some-rollback}
 
 -- the transaction's live changes that the rollback is to take back, read from its chain
-module _ (c : After-deref) where
+module _ (c : In-Some-rollback) where
   abbrev above : List LogRecord
   above = filter (is_after c.in-Some-rollback.rollback.to) (chain (reverse c.self.inside.records.items) c.in-Some.open_tx.now.last)
 
@@ -54,5 +54,5 @@ returns-in_default-rollback c =
 
 pub returns : goal.returns
 returns c =
-    let place = (goal.at.returns c).After-deref in
+    let place = (goal.at.returns c).In-Some-rollback in
     c.newest_above.ensures ∙ undo_case (above place) ∙ answer_is place

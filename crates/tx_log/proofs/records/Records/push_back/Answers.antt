@@ -1,7 +1,7 @@
-use Rattle.std.proofs.Common.{◌≡◌, ℕ, List, [], ◌∷◌, ◌++◌, cond, length, map, Some, option_map, unwrap_or, slice_get, vec_len, Bool, refl, sym, ap, subst, ◌∙◌, arith}
+use Rattle.std.proofs.Common.{◌≡◌, ℕ, ◌+◌, List, [], ◌∷◌, ◌++◌, cond, length, map, Some, None, option_map, unwrap_or, slice_get, vec_len, Bool, refl, sym, ap, subst, ◌∙◌, arith}
 use Rattle.std.proofs.lemmas.List.{map-append, length-map}
 use Rattle.std.proofs.lemmas.Option.{slice_get-map, slice_get_read}
-use Rattle.tx_log.specs.Compact.{RecordsView, read, IsWithin, told_as, record_in}
+use Rattle.tx_log.specs.Compact.{RecordsView, read, IsWithin, before_in, after_in, mark_in, told_as, record_in}
 use Rattle.tx_log.specs.Log.{back_record, back_in, key_of, prev_of}
 use Rattle.tx_log.specs.declared.log_record.LogRecord.{LogRecord}
 use Rattle.tx_log.specs.declared.records.Kind.{Kind}
@@ -18,10 +18,13 @@ module _ (c : goal.After-push) where
   told = record_in c.self.inside.bytes.items
 
   abbrev pushed : Entry
-  pushed = record { kind = c.back.result; lsn = c.args.lsn; prev = c.args.prev; tx = c.args.tx; undo_next = taken.prev; key = taken.key; before = taken.before; after = c.none.result }
+  pushed = record { kind = c.back.result; absent = c.args.mark.absent; before_len = taken.before_len; after_len = 255; before_at = taken.before_at; rest = taken.prev; lsn = c.len.result + 1; prev = c.args.prev; tx = c.args.tx; newest = c.args.mark.newest; key = taken.key }
 
   many : length c.args.self.now.items ≡ vec_len c.self.inside.entries
   many = omega (arith, ap (λ (v : RecordsView). length v.items) c.self.view_is, length-map c.self.inside.entries.items told, c.self.inside.entries.ok.0)
+
+  length_is : c.len.result ≡ length c.args.self.now.items
+  length_is = c.len.ensures ∙ sym many
 
   there : slice_get c.self.inside.entries.items c.args.of ≡ Some taken
   there = slice_get_read c.self.inside.entries.items (length c.self.inside.entries.items) c.args.of taken refl (omega (arith, c.requires.there, many, c.self.inside.entries.ok.0)) c.index-taken.ensures
@@ -37,10 +40,10 @@ pub invariant_of-self : goal.invariant_of-self
 invariant_of-self c =
     let l = c.self.inside in
     record {
-      before = subst (λ (es : List Entry). (i : ℕ) (e : Entry) → slice_get es i ≡ Some e → IsWithin (vec_len l.bytes) e.before) (sym (entries_are c))
-          (within-push (vec_len l.bytes) (λ e. e.before) l.entries.items (pushed c) c.self.invariant.before (c.self.invariant.before c.args.of (taken c) (there c)));
-      after = subst (λ (es : List Entry). (i : ℕ) (e : Entry) → slice_get es i ≡ Some e → IsWithin (vec_len l.bytes) e.after) (sym (entries_are c))
-          (within-push (vec_len l.bytes) (λ e. e.after) l.entries.items (pushed c) c.self.invariant.after (subst (λ n. IsWithin n c.none.result) (omega (arith, l.bytes.ok.0)) (c.none.ensures l.bytes.items).1));
+      before = subst (λ (es : List Entry). (i : ℕ) (e : Entry) → slice_get es i ≡ Some e → IsWithin (vec_len l.bytes) (before_in e)) (sym (entries_are c))
+          (within-push (vec_len l.bytes) before_in l.entries.items (pushed c) c.self.invariant.before (c.self.invariant.before c.args.of (taken c) (there c)));
+      after = subst (λ (es : List Entry). (i : ℕ) (e : Entry) → slice_get es i ≡ Some e → IsWithin (vec_len l.bytes) (after_in e)) (sym (entries_are c))
+          (within-push (vec_len l.bytes) after_in l.entries.items (pushed c) c.self.invariant.after (record { fits = λ short. absurd (omega arith) }));
       few = omega (arith, c.self.invariant.few, c.push.ensures.lower_bound);
     }
 
@@ -50,7 +53,14 @@ returns-clause-items c = λ u found.
     let items : map (told c) l.entries.items ≡ c.args.self.now.items = ap (λ (v : RecordsView). v.items) c.self.view_is in
     let is : told c (taken c) ≡ u = ap (λ o. unwrap_or o u) (sym (ap (option_map (told c)) (there c)) ∙ sym (slice_get-map (told c) l.entries.items c.args.of) ∙ ap (λ (rs : List LogRecord). slice_get rs c.args.of) items ∙ found) in
     let t = taken c in
-    let back = ap (λ (k : Kind). told_as k c.args.lsn c.args.prev c.args.tx t.key (read l.bytes.items t.before) (read l.bytes.items c.none.result) t.prev) c.back.ensures
-    ∙ back-told t.kind c.args.lsn c.args.prev c.args.tx t.lsn t.prev t.tx t.key (read l.bytes.items t.before) (read l.bytes.items t.after) (read l.bytes.items c.none.result) t.undo_next in
-    subst (λ (v : LogRecord). map (told c) c.push.new.self.items ≡ c.args.self.now.items ++ back_record c.args.lsn c.args.prev c.args.tx (key_of v) (back_in v) (prev_of v) ∷ []) is
+    let lsn = c.len.result + 1 in
+    let back = ap (λ (k : Kind). told_as k lsn c.args.prev c.args.tx t.key (read l.bytes.items (before_in t)) None t.prev) c.back.ensures
+    ∙ back-told t.kind lsn c.args.prev c.args.tx t.lsn t.prev t.tx t.key (read l.bytes.items (before_in t)) (read l.bytes.items (after_in t)) None t.rest
+    ∙ (let u = told c t in ap (λ n. back_record (n + 1) c.args.prev c.args.tx (key_of u) (back_in u) (prev_of u)) (length_is c)) in
+    subst (λ (v : LogRecord). map (told c) c.push.new.self.items ≡ c.args.self.now.items ++ back_record (length c.args.self.now.items + 1) c.args.prev c.args.tx (key_of v) (back_in v) (prev_of v) ∷ []) is
     (ap (map (told c)) (entries_are c) ∙ map-append (told c) l.entries.items (pushed c ∷ []) ∙ (λ i. items i ++ back i ∷ []))
+
+pub returns-clause-marks : goal.returns-clause-marks
+returns-clause-marks c =
+    let marks = ap (λ (v : RecordsView). v.marks) c.self.view_is in
+    ap (map mark_in) (entries_are c) ∙ map-append mark_in c.self.inside.entries.items (pushed c ∷ []) ∙ ap (λ ms. ms ++ c.args.mark ∷ []) marks

@@ -1,6 +1,7 @@
-use Rattle.std.proofs.Common.{◌≡◌, ℕ, ◌+◌, ◌≤◌, List, [], ◌∷◌, ◌++◌, cond, length, map, Some, slice_get, vec_len, Bool, sym, ap, subst, ◌∙◌, arith}
+use Rattle.std.proofs.Common.{◌≡◌, ℕ, ◌+◌, ◌≤◌, List, [], ◌∷◌, ◌++◌, cond, length, map, option_map, Some, slice_get, vec_len, Bool, sym, ap, subst, ◌∙◌, arith}
 use Rattle.std.proofs.lemmas.List.{map-append, length-map, length-append, append_assoc}
-use Rattle.tx_log.specs.Compact.{RecordsView, read, IsWithin, told_as, record_in}
+use Rattle.tx_log.specs.Compact.{RecordsView, read, IsWithin, before_in, after_in, mark_in, told_as, record_in}
+use Rattle.tx_log.specs.Log.{change_record}
 use Rattle.tx_log.specs.declared.records.Span.{Span}
 use Rattle.tx_log.specs.declared.records.Entry.{Entry}
 use Rattle.tx_log.proofs.CompactLemmas.{read-more, records-more, within-more, within-push}
@@ -24,10 +25,13 @@ module _ (c : goal.After-push) where
   last_is = c.note_written-kind.ensures.grown.1
 
   abbrev pushed : Entry
-  pushed = record { kind = c.note_written-kind.result.0; lsn = c.args.lsn; prev = c.args.prev; tx = c.args.tx; undo_next = 0; key = c.args.key; before = c.note-before.result; after = c.note_written-kind.result.1 }
+  pushed = record { kind = c.note_written-kind.result.0; absent = c.args.absent; before_len = c.note-before.result.len; after_len = c.note_written-kind.result.1.len; before_at = c.note-before.result.at; rest = c.note_written-kind.result.1.at; lsn = c.len.result + 1; prev = c.args.prev; tx = c.args.tx; newest = c.len.result + 1; key = c.args.key.now }
 
   many : length c.args.self.now.items ≡ vec_len c.self.inside.entries
   many = omega (arith, ap (λ (v : RecordsView). length v.items) c.self.view_is, length-map c.self.inside.entries.items (record_in first), c.self.inside.entries.ok.0)
+
+  length_is : c.len.result ≡ length c.args.self.now.items
+  length_is = c.len.ensures ∙ sym many
 
   entries_are : c.push.new.self.items ≡ c.self.inside.entries.items ++ pushed ∷ []
   entries_are =
@@ -50,11 +54,11 @@ pub invariant_of-self : goal.invariant_of-self
 invariant_of-self c =
     let last = length c.note_written-kind.new.bytes.items in
     let whole : length c.note_written-kind.new.bytes.items ≡ vec_len c.note_written-kind.new.bytes = omega (arith, c.note_written-kind.new.bytes.ok.0) in
-    let before_in = within-more (length c.note-before.new.bytes.items) (vec_len c.note_written-kind.new.bytes) c.note-before.result (omega (arith, ap length (last_is c), length-append c.note-before.new.bytes.items (second c), c.note_written-kind.new.bytes.ok.0)) c.note-before.ensures.within in
-    let after_in = within-more last (vec_len c.note_written-kind.new.bytes) c.note_written-kind.result.1 (omega (arith, whole)) c.note_written-kind.ensures.within in
+    let first_within = within-more (length c.note-before.new.bytes.items) (vec_len c.note_written-kind.new.bytes) c.note-before.result (omega (arith, ap length (last_is c), length-append c.note-before.new.bytes.items (second c), c.note_written-kind.new.bytes.ok.0)) c.note-before.ensures.within in
+    let last_within = within-more last (vec_len c.note_written-kind.new.bytes) c.note_written-kind.result.1 (omega (arith, whole)) c.note_written-kind.ensures.within in
     record {
-      before = within c (λ e. e.before) c.self.invariant.before before_in;
-      after = within c (λ e. e.after) c.self.invariant.after after_in;
+      before = within c before_in c.self.invariant.before first_within;
+      after = within c after_in c.self.invariant.after last_within;
       few = omega (arith, c.self.invariant.few, longer c, whole, c.self.inside.bytes.ok.0, c.note-before.ensures.grown.2, c.note_written-kind.ensures.grown.2, ap length (entries_are c), length-append c.self.inside.entries.items (pushed c ∷ []), c.self.inside.entries.ok.0, c.push.new.self.ok.0);
     }
 
@@ -66,7 +70,15 @@ returns-clause-items c =
     let rest = more c ++ second c in
     let all_is : all ≡ xs ++ rest = last_is c ∙ ap (λ ys. ys ++ second c) (mid_is c) ∙ append_assoc xs (more c) (second c) in
     let few : length xs ≡ vec_len l.bytes = omega (arith, l.bytes.ok.0) in
-    let stay = ap (λ ys. map (record_in ys) l.entries.items) all_is ∙ records-more xs rest l.entries.items (subst (λ n. (i : ℕ) (e : Entry) → slice_get l.entries.items i ≡ Some e → IsWithin n e.before) (sym few) c.self.invariant.before) (subst (λ n. (i : ℕ) (e : Entry) → slice_get l.entries.items i ≡ Some e → IsWithin n e.after) (sym few) c.self.invariant.after) ∙ ap (λ (v : RecordsView). v.items) c.self.view_is in
+    let stay = ap (λ ys. map (record_in ys) l.entries.items) all_is ∙ records-more xs rest l.entries.items (subst (λ n. (i : ℕ) (e : Entry) → slice_get l.entries.items i ≡ Some e → IsWithin n (before_in e)) (sym few) c.self.invariant.before) (subst (λ n. (i : ℕ) (e : Entry) → slice_get l.entries.items i ≡ Some e → IsWithin n (after_in e)) (sym few) c.self.invariant.after) ∙ ap (λ (v : RecordsView). v.items) c.self.view_is in
     let before_read = ap (λ ys. read ys c.note-before.result) (last_is c) ∙ read-more c.note-before.new.bytes.items (second c) c.note-before.result c.note-before.ensures.within ∙ c.note-before.ensures.read in
-    let told = ap (λ o. told_as c.note_written-kind.result.0 c.args.lsn c.args.prev c.args.tx c.args.key o (read all c.note_written-kind.result.1) 0) before_read ∙ c.note_written-kind.ensures.told c.args.lsn c.args.prev c.args.tx c.args.key c.args.before.now in
+    let lsn = c.len.result + 1 in
+    let told = ap (λ o. told_as c.note_written-kind.result.0 lsn c.args.prev c.args.tx c.args.key.now o (read all c.note_written-kind.result.1) c.note_written-kind.result.1.at) before_read ∙ c.note_written-kind.ensures.told lsn c.args.prev c.note_written-kind.result.1.at c.args.tx c.args.key.now c.args.before.now
+    ∙ ap (λ n. change_record (n + 1) c.args.prev c.args.tx c.args.key.now c.args.before.now (option_map (λ w. w.now) c.args.after)) (length_is c) in
     ap (map (record_in all)) (entries_are c) ∙ map-append (record_in all) l.entries.items (pushed c ∷ []) ∙ (λ i. stay i ++ told i ∷ [])
+
+pub returns-clause-marks : goal.returns-clause-marks
+returns-clause-marks c =
+    let marks = ap (λ (v : RecordsView). v.marks) c.self.view_is in
+    ap (map mark_in) (entries_are c) ∙ map-append mark_in c.self.inside.entries.items (pushed c ∷ [])
+    ∙ (λ i. marks i ++ record { newest = length_is c i + 1; absent = c.args.absent } ∷ [])
