@@ -40,7 +40,7 @@ pub put_by_record : (words : List (List ℕ)) (w : List ℕ × List ℕ × List 
 put_by_record words w t k r is tx key rec =
     let make = read_as (λ (a : TxId × List ℕ × List ℕ). commands.Put a.0 a.1 a.2) in
     let read = ap (λ (x : Read (List ℕ × List ℕ × List ℕ)). make (x >>= λ v. tx_at v.0 >>= λ u. key_at v.1 >>= λ q. record_at v.2 >>= λ bytes. Ok (u, q, bytes))) is
-        ∙ ap (λ (x : Read TxId). make (x >>= λ u. key_at w.1 >>= λ q. record_at w.2 >>= λ bytes. Ok (u, q, bytes))) tx
-        ∙ ap (λ (x : Read (List ℕ)). make (x >>= λ q. record_at w.2 >>= λ bytes. Ok (t, q, bytes))) key
-        ∙ ap (λ (x : Read (List ℕ)). make (x >>= λ bytes. Ok (t, k, bytes))) rec in
+    ∙ ap (λ (x : Read TxId). make (x >>= λ u. key_at w.1 >>= λ q. record_at w.2 >>= λ bytes. Ok (u, q, bytes))) tx
+    ∙ ap (λ (x : Read (List ℕ)). make (x >>= λ q. record_at w.2 >>= λ bytes. Ok (t, q, bytes))) key
+    ∙ ap (λ (x : Read (List ℕ)). make (x >>= λ bytes. Ok (t, k, bytes))) rec in
     read ∙ made t k r

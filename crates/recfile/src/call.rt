@@ -30,49 +30,84 @@ fn begin<T: Table>(text: &mut String, file: &mut RecordFile<T>) -> Result<bool, 
     tell(text, &Reply::Begin(file.begin()))
 }
 
-fn put<T: Table>(text: &mut String, file: &mut RecordFile<T>, tx: TxId, key: Key, value: Record) -> Result<bool, Memory>
+fn put<T: Table>(
+    text: &mut String,
+    file: &mut RecordFile<T>,
+    tx: TxId,
+    key: Key,
+    value: Record,
+) -> Result<bool, Memory>
     ensures { CommandTold T.TableState file.old (Ok (commands.Put tx key value)) result
         (string_bytes text.new) file.new }
 {
     tell(text, &Reply::Put(file.put(tx, key, value)))
 }
 
-fn claim<T: Table>(text: &mut String, file: &mut RecordFile<T>, tx: TxId, key: Key) -> Result<bool, Memory>
+fn claim<T: Table>(
+    text: &mut String,
+    file: &mut RecordFile<T>,
+    tx: TxId,
+    key: Key,
+) -> Result<bool, Memory>
     ensures { CommandTold T.TableState file.old (Ok (commands.Claim tx key)) result
         (string_bytes text.new) file.new }
 {
     tell(text, &Reply::Claim(file.claim(tx, key)))
 }
 
-fn remove<T: Table>(text: &mut String, file: &mut RecordFile<T>, tx: TxId, key: Key) -> Result<bool, Memory>
+fn remove<T: Table>(
+    text: &mut String,
+    file: &mut RecordFile<T>,
+    tx: TxId,
+    key: Key,
+) -> Result<bool, Memory>
     ensures { CommandTold T.TableState file.old (Ok (commands.Del tx key)) result
         (string_bytes text.new) file.new }
 {
     tell(text, &Reply::Del(file.remove(tx, key)))
 }
 
-fn get<T: Table>(text: &mut String, file: &mut RecordFile<T>, tx: TxId, key: &Key) -> Result<bool, Memory>
+fn get<T: Table>(
+    text: &mut String,
+    file: &mut RecordFile<T>,
+    tx: TxId,
+    key: &Key,
+) -> Result<bool, Memory>
     ensures { CommandTold T.TableState file.old (Ok (commands.Get tx key.now)) result
         (string_bytes text.new) file.new }
 {
     tell(text, &Reply::Get(file.get(tx, key)))
 }
 
-fn savepoint<T: Table>(text: &mut String, file: &mut RecordFile<T>, tx: TxId) -> Result<bool, Memory>
+fn savepoint<T: Table>(
+    text: &mut String,
+    file: &mut RecordFile<T>,
+    tx: TxId,
+) -> Result<bool, Memory>
     ensures { CommandTold T.TableState file.old (Ok (commands.Save tx)) result
         (string_bytes text.new) file.new }
 {
     tell(text, &Reply::Save(file.savepoint(tx)))
 }
 
-fn release<T: Table>(text: &mut String, file: &mut RecordFile<T>, tx: TxId, n: u32) -> Result<bool, Memory>
+fn release<T: Table>(
+    text: &mut String,
+    file: &mut RecordFile<T>,
+    tx: TxId,
+    n: u32,
+) -> Result<bool, Memory>
     ensures { CommandTold T.TableState file.old (Ok (commands.Release tx n)) result
         (string_bytes text.new) file.new }
 {
     tell(text, &Reply::Release(file.release(tx, n)))
 }
 
-fn rollback_to<T: Table>(text: &mut String, file: &mut RecordFile<T>, tx: TxId, n: u32) -> Result<bool, Memory>
+fn rollback_to<T: Table>(
+    text: &mut String,
+    file: &mut RecordFile<T>,
+    tx: TxId,
+    n: u32,
+) -> Result<bool, Memory>
     ensures { CommandTold T.TableState file.old (Ok (commands.Back tx n)) result
         (string_bytes text.new) file.new }
 {

@@ -11,10 +11,14 @@ returns g c =
     let mapped : c.map.result ≡ listed c.keys_of.result = search rules in
     let step = subst (KeysOfStep c.args.file.now.file c.args.tx.0) (sym mapped) c.keys_of.ensures in
     record {
-      told = λ was is. (replies.Keys c.map.result, record {
-        events = record { called = KeysOf c.args.tx c.map.result; failed = false; refused = false } ∷ [];
-        told = refl;
-        ran = quiet old old (KeysOf c.args.tx c.map.result) refl was was refl ((refl, refl, refl), step);
-      }, c.tell.ensures);
+      told = λ was is. (
+        replies.Keys c.map.result,
+        record {
+          events = record { called = KeysOf c.args.tx c.map.result; failed = false; refused = false } ∷ [];
+          told = refl;
+          ran = quiet old old (KeysOf c.args.tx c.map.result) refl was was refl ((refl, refl, refl), step);
+        },
+        c.tell.ensures,
+      );
       origin = refl;
     }

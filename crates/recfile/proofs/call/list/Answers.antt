@@ -23,14 +23,18 @@ returns g c =
     let cause = listed_cause c.entries.result in
     let failed = by_device (cause_by entries_refusal c.entries.result) in
     record {
-      told = λ was is. (replies.List c.map.result, subst (λ (r : Result (List Entry) EntriesFault). HasReply old (Ok commands.List) (replies.List r) new) (sym mapped)
-          (record {
-            events = record { called = Entries answer; failed = failed; refused = told.memory.0 } ∷ [];
-            told = refl;
-            ran = asks old new (Entries answer) failed told.memory.0 told.table.device told.memory.1 told.table.soundness
-                (tells_none old.sound old.records new.records old.log new.log told.table.same.0 told.table.same.2)
-                (subst (NeverDamaged old.sound) cause told.damaged) was is
-                ((ap by_device cause, λ refused. subst (λ x. IsTrue (by_memory x)) cause (told.memory.2 refused)), record { step = told.step; same = told.table.same; damages = told.table.damages ∙ ap (named_by old.damages) cause });
-          }), c.tell.ensures);
+      told = λ was is. (
+        replies.List c.map.result,
+        subst (λ (r : Result (List Entry) EntriesFault). HasReply old (Ok commands.List) (replies.List r) new) (sym mapped)
+            (record {
+              events = record { called = Entries answer; failed = failed; refused = told.memory.0 } ∷ [];
+              told = refl;
+              ran = asks old new (Entries answer) failed told.memory.0 told.table.device told.memory.1 told.table.soundness
+                  (tells_none old.sound old.records new.records old.log new.log told.table.same.0 told.table.same.2)
+                  (subst (NeverDamaged old.sound) cause told.damaged) was is
+                  ((ap by_device cause, λ refused. subst (λ x. IsTrue (by_memory x)) cause (told.memory.2 refused)), record { step = told.step; same = told.table.same; damages = told.table.damages ∙ ap (named_by old.damages) cause });
+            }),
+        c.tell.ensures,
+      );
       origin = told.table.origin;
     }

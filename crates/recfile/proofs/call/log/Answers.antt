@@ -8,14 +8,18 @@ pub returns : goal.returns
 returns g c =
     let old = seen g.T.TableState c.args.file.now in
     record {
-      told = λ was is. (replies.Log c.log_len.result c.log_use.result, record {
-        events = record { called = LogLen c.log_len.result; failed = false; refused = false } ∷ record { called = LogUse c.log_use.result; failed = false; refused = false } ∷ [];
-        told = refl;
-      ran = (
-        old,
-        quiet_step old old (LogLen c.log_len.result) refl was was refl ((refl, refl, refl), c.log_len.ensures),
-        quiet old old (LogUse c.log_use.result) refl was was refl ((refl, refl, refl), c.log_use.ensures),
+      told = λ was is. (
+        replies.Log c.log_len.result c.log_use.result,
+        record {
+          events = record { called = LogLen c.log_len.result; failed = false; refused = false } ∷ record { called = LogUse c.log_use.result; failed = false; refused = false } ∷ [];
+          told = refl;
+          ran = (
+            old,
+            quiet_step old old (LogLen c.log_len.result) refl was was refl ((refl, refl, refl), c.log_len.ensures),
+            quiet old old (LogUse c.log_use.result) refl was was refl ((refl, refl, refl), c.log_use.ensures),
+          );
+        },
+        c.tell.ensures,
       );
-      }, c.tell.ensures);
       origin = refl;
     }
