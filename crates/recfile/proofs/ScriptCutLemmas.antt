@@ -1,8 +1,10 @@
 -- Where a script is cut at its first LF.
-use Rattle.std.proofs.Common.{◌≡◌, ℕ, ◌+◌, ◌-◌, ◌<◌, Bool, true, false, cond, nat_lt, List, [], ◌∷◌, ◌++◌, length, take, drop, Some, None, refl, sym, ap, subst, ◌∙◌, arith}
+use Rattle.std.proofs.Common.{◌≡◌, ℕ, ◌+◌, ◌-◌, ◌<◌, ◌≤◌, Bool, true, false, cond, nat_lt, List, [], ◌∷◌, ◌++◌, length, take, drop, get_or, Option, Some, None, ⊎_elim, refl, sym, ap, subst, ◌∙◌, arith}
 use Rattle.std.proofs.lemmas.Grind.{common_steps}
 use Rattle.std.proofs.lemmas.Bool.Decides.{nat_tests}
 use Rattle.std.specs.List.{slice_split, position, position_or_len}
+use Rattle.std.proofs.lemmas.Bool.{cases_lt}
+use Rattle.memchr.specs.Find.{IsFirstByte, is_byte}
 use Rattle.std.proofs.lemmas.List.Sums.{split_at_first, fails_before_first, passes_at_first}
 use Rattle.std.proofs.lemmas.List.{drop_all}
 use Rattle.std.proofs.lemmas.List.Splits.{length-slice_split}
@@ -63,3 +65,19 @@ pub no_cut : (text : List ℕ) → position is_lf text ≡ None → HasNoLf text
 no_cut text is k d lt =
     let none = none_is (nat_lt (position_or_len is_lf text) (length text)) (position_or_len is_lf text) is in
     fails_before_first is_lf text k d (grind (arith, nat_tests, none))
+
+not_found : (b : Bool) (n : ℕ) → (b ≡ true → ⊥) → None ≡ cond b (Some n) None
+not_found true n never = absurd (never refl)
+not_found false n never = refl
+
+-- What a search of bytes finds is the first LF.
+pub first_found : (text : List ℕ) (r : Option ℕ) → IsFirstByte (is_byte 10) text r → r ≡ position is_lf text
+first_found text None nowhere =
+    let at : ℕ = position_or_len is_lf text in
+    not_found (nat_lt at (length text)) at (λ is. let lt : at < length text = grind (arith, nat_tests, is) in nowhere at (omega arith) lt (passes_at_first is_lf text 0 lt))
+first_found text (Some k) found =
+    let at : ℕ = position_or_len is_lf text in
+    let low : k ≤ at = ⊎_elim (λ (lt : at < k). absurd (found.0.before at (omega arith) lt (passes_at_first is_lf text 0 (omega (arith, found.0.high))))) (λ (le : k ≤ at). le) (cases_lt at k) in
+    let high : at ≤ k = ⊎_elim (λ (lt : k < at). let fails : is_lf (get_or text k 0) ≡ false = fails_before_first is_lf text k 0 lt in absurd (cc (sym fails ∙ found.1))) (λ (le : at ≤ k). le) (cases_lt k at) in
+    let same : at ≡ k = omega arith in
+    subst (λ (n : ℕ). Some n ≡ cond (nat_lt at (length text)) (Some at) None) same (grind (arith, nat_tests, found.0.high))

@@ -1,11 +1,13 @@
 ghost use Rattle.std.specs.Prelude.{◌≡◌, ◌∷◌, ◌++◌, ◌<◌, length, position, MatchOption};
 ghost use Rattle.command_text.specs.Script.{HasNoLf, is_lf, lines_of};
 
+use memchr::memchr;
+
 // The first LF.
 fn first_lf(text: &[u8]) -> Option<usize>
     ensures { result ≡ position is_lf text.now }
 {
-    text.iter().position(|b| *b == b'\n')
+    memchr(b'\n', text)
 }
 
 /// The bytes before the first LF of a text, and those after it.
