@@ -30,7 +30,7 @@ fn put(held: &mut Held, tx: TxId, key: &[u8], value: &[u8], before: &mut Found) 
                 return Outcome::just(LONG_RECORD);
             };
             let answer = session.file.put(tx, key, value);
-            *before = Found::from(&answer);
+            before.show_found(&answer);
             Outcome::from(&answer)
         }
         Held::Image(_) | Held::Unclosed(_) | Held::Closed(_) => Outcome::just(CLOSED),
@@ -78,7 +78,7 @@ fn claim(held: &mut Held, tx: TxId, key: &[u8], seen: &mut Found) -> Outcome
                 Err(fault) => return Outcome::from(fault),
             };
             let answer = session.file.claim(tx, key);
-            *seen = Found::from(&answer);
+            seen.show_found(&answer);
             Outcome::from(&answer)
         }
         Held::Image(_) | Held::Unclosed(_) | Held::Closed(_) => Outcome::just(CLOSED),
@@ -124,7 +124,7 @@ fn remove(held: &mut Held, tx: TxId, key: &[u8], taken: &mut Found) -> Outcome
                 Err(fault) => return Outcome::from(fault),
             };
             let answer = session.file.remove(tx, key);
-            *taken = Found::from(&answer);
+            taken.show_taken(&answer);
             Outcome::from(&answer)
         }
         Held::Image(_) | Held::Unclosed(_) | Held::Closed(_) => Outcome::just(CLOSED),
@@ -170,7 +170,7 @@ fn get(held: &mut Held, tx: TxId, key: &[u8], found: &mut Found) -> Outcome
                 Err(fault) => return Outcome::from(fault),
             };
             let answer = session.file.get(tx, &key);
-            *found = Found::from(&answer);
+            found.show_found(&answer);
             Outcome::from(&answer)
         }
         Held::Image(_) | Held::Unclosed(_) | Held::Closed(_) => Outcome::just(CLOSED),

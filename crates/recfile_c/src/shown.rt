@@ -1,6 +1,7 @@
 // What a caller reads. No field has a value that C may not leave in memory.
-ghost use Rattle.std.specs.Prelude.{◌≡◌, if◌then◌else◌};
-ghost use Rattle.recfile_c.specs.Shown.{step_shown, page_left};
+ghost use Rattle.std.specs.Prelude.{◌≡◌, None, Some, if◌then◌else◌};
+ghost use Rattle.recfile_c.specs.Shown.{shown, step_shown, page_left};
+ghost use Rattle.recfile_c.specs.Answers.{found_in, taken_in};
 
 use page_store::Step;
 use rec_types::{Entry, KEY_WIDTH, Key, PAGE_WIDTH, RECORD_WIDTH, Record};
@@ -153,34 +154,34 @@ impl From<&Option<Record>> for Found {
     }
 }
 
-impl<E> From<&Result<Option<Record>, E>> for Found {
-    ghost use Rattle.std.specs.Prelude.{◌≡◌};
-    ghost use Rattle.recfile_c.specs.Shown.{shown};
-    ghost use Rattle.recfile_c.specs.Answers.{found_in};
+impl Found {
+    // Shows a record in the place of what was shown.
+    fn show(&mut self, value: &Record)
+        ensures { shown self.new ≡ Some value.now }
+    {
+        let from = value.bytes();
+        self.bytes[..from.len()].copy_from_slice(from);
+        self.len = from.len() as u8;
+        self.is_there = 1;
+    }
 
-    ghost from_gives = { λ answer told. shown told ≡ found_in answer.now };
-
-    /// The record that an answer found.
-    fn from(answer: &Result<Option<Record>, E>) -> Found {
-        match answer {
-            Ok(found) => Found::from(found),
-            Err(_) => Found::default(),
+    /// Shows the record that an answer found, where nothing was shown.
+    pub(crate) fn show_found<E>(&mut self, answer: &Result<Option<Record>, E>)
+        requires { shown self.old ≡ None }
+        ensures { shown self.new ≡ found_in answer.now }
+    {
+        if let Ok(Some(value)) = answer {
+            self.show(value);
         }
     }
-}
 
-impl<E> From<&Result<Record, E>> for Found {
-    ghost use Rattle.std.specs.Prelude.{◌≡◌};
-    ghost use Rattle.recfile_c.specs.Shown.{shown};
-    ghost use Rattle.recfile_c.specs.Answers.{taken_in};
-
-    ghost from_gives = { λ answer told. shown told ≡ taken_in answer.now };
-
-    /// The record that an answer took out.
-    fn from(answer: &Result<Record, E>) -> Found {
-        match answer {
-            Ok(taken) => Found::from(taken),
-            Err(_) => Found::default(),
+    /// Shows the record that an answer took out, where nothing was shown.
+    pub(crate) fn show_taken<E>(&mut self, answer: &Result<Record, E>)
+        requires { shown self.old ≡ None }
+        ensures { shown self.new ≡ taken_in answer.now }
+    {
+        if let Ok(value) = answer {
+            self.show(value);
         }
     }
 }
