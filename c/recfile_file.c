@@ -19,9 +19,19 @@
 #include <sys/stat.h>
 #include <unistd.h>
 
-enum { PAGE = 4096, HEADER = 32, ENTRY = 4100, SUM_AT = 24, LONG_AT = 12, KEPT_AT = 16, MOST_PAGES = 1000001 };
+enum { PAGE = 4096, HEADER = 40, OLD_HEADER = 32, ENTRY = 4100, MOST_PAGES = 1000001, MOST_NAME = 255 };
 
-static const uint8_t magic[12] = {'B', 'M', 'K', 'R', 'J', 'R', 'N', 'L', 0, 1, 0, 0};
+/* Where the fields of a side file's header stand; the first version has its sum where the second says the rest. */
+enum { VERSION_AT = 8, LONG_AT = 12, KEPT_AT = 16, REST_AT = 24, OLD_SUM_AT = 24, SUM_AT = 32, VERSION = 2 };
+
+static const uint8_t magic[8] = {'B', 'M', 'K', 'R', 'J', 'R', 'N', 'L'};
+
+/* What a side file says: its version, how many pages the file had, how many of them are kept, and the sum over the others. */
+typedef struct {
+    uint16_t version;
+    uint32_t length, kept;
+    uint64_t rest;
+} side_shape;
 
 static const uint64_t sum_start = 0xcbf29ce484222325u, sum_prime = 0x100000001b3u;
 
@@ -109,6 +119,10 @@ static uint32_t number_at(const uint8_t *bytes) {
     return (uint32_t)bytes[0] << 24 | (uint32_t)bytes[1] << 16 | (uint32_t)bytes[2] << 8 | bytes[3];
 }
 
+static uint64_t long_number_at(const uint8_t *bytes) {
+    return (uint64_t)number_at(bytes) << 32 | number_at(bytes + 4);
+}
+
 static void put_number(uint8_t *bytes, uint64_t number, int width) {
     for (int i = 0; i < width; i++)
         bytes[i] = (uint8_t)(number >> 8 * (width - 1 - i));
@@ -121,6 +135,12 @@ static uint64_t sum_on(uint64_t sum, const uint8_t *bytes, size_t count) {
     return sum;
 }
 
+/* Whether the name at the end of a path leaves no room for those of a side file. */
+static int is_too_long(const char *path) {
+    const char *slash = strrchr(path, '/');
+    return strlen(slash ? slash + 1 : path) + strlen("-journal-new") > MOST_NAME;
+}
+
 /* The names of an open file, whose path still leads to it. OK, DEVICE. They are to be freed. */
 static int32_t find_names(names *to, const char *path, int descriptor, recfile_failure *failure) {
     struct stat opened, named;
@@ -128,10 +148,15 @@ static int32_t find_names(names *to, const char *path, int descriptor, recfile_f
     if (to->file == NULL)
         return failed(failure, "realpath");
     if (fstat(descriptor, &opened) != 0 || stat(to->file, &named) != 0 || opened.st_dev != named.st_dev
-        || opened.st_ino != named.st_ino) {
+        || opened.st_ino != named.st_ino || opened.st_nlink != 1 || !S_ISREG(opened.st_mode)) {
         free(to->file);
         errno = ESTALE;
         return failed(failure, "stat");
+    }
+    if (is_too_long(to->file)) {
+        free(to->file);
+        errno = ENAMETOOLONG;
+        return failed(failure, "realpath");
     }
     snprintf(to->side, sizeof to->side, "%s-journal", to->file);
     snprintf(to->fresh, sizeof to->fresh, "%s-journal-new", to->file);
@@ -150,42 +175,80 @@ static int32_t sync_names(const names *at, recfile_failure *failure) {
     return status;
 }
 
-/* The header of a side file for a file of so many pages, of which so many are kept, with that sum over them. */
-static void spell_header(uint8_t header[HEADER], uint32_t length, uint32_t kept, uint64_t sum) {
-    memset(header, 0, HEADER);
-    memcpy(header, magic, sizeof magic);
-    put_number(header + LONG_AT, length, 4);
-    put_number(header + KEPT_AT, kept, 4);
-    put_number(header + SUM_AT, sum_on(sum, header, SUM_AT), 8);
+/* How many bytes stand before the pages of a side file. */
+static off_t header_width(const side_shape *shape) {
+    return shape->version == VERSION ? HEADER : OLD_HEADER;
 }
 
-/* Looks at a side file of a file that has so many pages, and says how many it had and how many are kept. OK, DEVICE,
+/* The header of a side file that says this, with that sum over the pages that are kept. */
+static void spell_header(uint8_t header[HEADER], const side_shape *shape, uint64_t sum) {
+    int sum_at = shape->version == VERSION ? SUM_AT : OLD_SUM_AT;
+    memset(header, 0, HEADER);
+    memcpy(header, magic, sizeof magic);
+    put_number(header + VERSION_AT, shape->version, 2);
+    put_number(header + LONG_AT, shape->length, 4);
+    put_number(header + KEPT_AT, shape->kept, 4);
+    if (shape->version == VERSION)
+        put_number(header + REST_AT, shape->rest, 8);
+    put_number(header + sum_at, sum_on(sum, header, (size_t)sum_at), 8);
+}
+
+/* What a header says; what is no second version is held to be a first one. */
+static side_shape shape_of(const uint8_t header[HEADER]) {
+    side_shape shape = {.version = 1, .length = number_at(header + LONG_AT), .kept = number_at(header + KEPT_AT)};
+    if (header[VERSION_AT] == 0 && header[VERSION_AT + 1] == VERSION) {
+        shape.version = VERSION;
+        shape.rest = long_number_at(header + REST_AT);
+    }
+    return shape;
+}
+
+/* The sum goes on over the pages of a file from one to below another. 0, or -1 with errno. */
+static int sum_pages(int descriptor, uint32_t from, uint32_t to, uint64_t *sum) {
+    uint8_t page[PAGE];
+    for (uint32_t n = from; n < to; n++) {
+        if (move(descriptor, page, PAGE, (off_t)n * PAGE, 0) != 0)
+            return -1;
+        *sum = sum_on(*sum, page, PAGE);
+    }
+    return 0;
+}
+
+/* Looks at a side file beside an open file that has so many pages: whether it is whole, and one of this file. OK, DEVICE,
  * BAD_JOURNAL. */
-static int32_t look_at_side(int side, uint64_t pages, uint32_t *length, uint32_t *kept, recfile_failure *failure) {
+static int32_t look_at_side(int side, int descriptor, uint64_t pages, side_shape *shape, recfile_failure *failure) {
     struct stat about;
     uint8_t header[HEADER], wanted[HEADER], entry[ENTRY];
-    uint64_t sum = sum_start;
+    uint64_t sum = sum_start, rest = sum_start;
+    uint32_t least = 0;
     if (fstat(side, &about) != 0)
         return failed(failure, "fstat");
     if (about.st_size < HEADER)
         return RECFILE_BAD_JOURNAL;
     if (move(side, header, HEADER, 0, 0) != 0)
         return failed(failure, "pread");
-    *length = number_at(header + LONG_AT);
-    *kept = number_at(header + KEPT_AT);
-    if (about.st_size != HEADER + (off_t)*kept * ENTRY || *kept == 0 || *length > MOST_PAGES || pages < *length)
+    *shape = shape_of(header);
+    off_t width = header_width(shape);
+    if (about.st_size != width + (off_t)shape->kept * ENTRY || shape->kept == 0 || shape->length > MOST_PAGES
+        || pages < shape->length)
         return RECFILE_BAD_JOURNAL;
-    for (uint32_t i = 0, least = 0; i < *kept; i++) {
-        if (move(side, entry, ENTRY, HEADER + (off_t)i * ENTRY, 0) != 0)
+    for (uint32_t i = 0; i < shape->kept; i++) {
+        if (move(side, entry, ENTRY, width + (off_t)i * ENTRY, 0) != 0)
             return failed(failure, "pread");
         uint32_t n = number_at(entry);
-        if (n < least || n >= *length || (i == 0 && n != 0))
+        if (n < least || n >= shape->length || (i == 0 && n != 0))
             return RECFILE_BAD_JOURNAL;
+        if (shape->version == VERSION && sum_pages(descriptor, least, n, &rest) != 0)
+            return failed(failure, "pread");
         least = n + 1;
         sum = sum_on(sum, entry, ENTRY);
     }
-    spell_header(wanted, *length, *kept, sum);
-    return memcmp(header, wanted, HEADER) == 0 ? RECFILE_OK : RECFILE_BAD_JOURNAL;
+    if (shape->version == VERSION && sum_pages(descriptor, least, shape->length, &rest) != 0)
+        return failed(failure, "pread");
+    spell_header(wanted, shape, sum);
+    if (memcmp(header, wanted, (size_t)width) != 0 || (shape->version == VERSION && rest != shape->rest))
+        return RECFILE_BAD_JOURNAL;
+    return RECFILE_OK;
 }
 
 /* Takes the side file away. */
@@ -196,13 +259,12 @@ static int32_t remove_side(const names *at, recfile_failure *failure) {
 }
 
 /* Cuts the file to its old length, puts the old pages back, and takes the side file away. */
-static int32_t put_back(const names *at, int descriptor, int side, uint32_t length, uint32_t kept,
-                        recfile_failure *failure) {
+static int32_t put_back(const names *at, int descriptor, int side, const side_shape *shape, recfile_failure *failure) {
     uint8_t entry[ENTRY];
-    if (ftruncate(descriptor, (off_t)length * PAGE) != 0)
+    if (ftruncate(descriptor, (off_t)shape->length * PAGE) != 0)
         return failed(failure, "ftruncate");
-    for (uint32_t i = 0; i < kept; i++) {
-        if (move(side, entry, ENTRY, HEADER + (off_t)i * ENTRY, 0) != 0)
+    for (uint32_t i = 0; i < shape->kept; i++) {
+        if (move(side, entry, ENTRY, header_width(shape) + (off_t)i * ENTRY, 0) != 0)
             return failed(failure, "pread");
         if (move(descriptor, entry + 4, PAGE, (off_t)number_at(entry) * PAGE, 1) != 0)
             return failed(failure, "pwrite");
@@ -212,18 +274,54 @@ static int32_t put_back(const names *at, int descriptor, int side, uint32_t leng
     return remove_side(at, failure);
 }
 
+/* Opens the side file, which must be a regular one; one that a stop left with the mode of its making gets that of the file.
+ * -1 with errno. */
+static int open_side(const names *at, int descriptor) {
+    struct stat side, about;
+    if (stat(at->side, &side) != 0 || fstat(descriptor, &about) != 0)
+        return -1;
+    if (!S_ISREG(side.st_mode)) {
+        errno = EINVAL;
+        return -1;
+    }
+    if ((side.st_mode & 0777) == 0 && chmod(at->side, about.st_mode & 0777) != 0)
+        return -1;
+    return open(at->side, O_RDONLY | O_CLOEXEC);
+}
+
+/* Removes what a stop left of a side file that was being made: what is empty, what nobody may open, and what begins as a
+ * side file does. OK, DEVICE, BAD_JOURNAL. */
+static int32_t remove_fresh(const names *at, recfile_failure *failure) {
+    struct stat about;
+    uint8_t bytes[sizeof magic];
+    if (lstat(at->fresh, &about) != 0)
+        return errno == ENOENT ? RECFILE_OK : failed(failure, "lstat");
+    if (!S_ISREG(about.st_mode))
+        return RECFILE_BAD_JOURNAL;
+    if (about.st_size > 0 && (about.st_mode & 0777) != 0) {
+        int fresh = open(at->fresh, O_RDONLY | O_CLOEXEC);
+        if (fresh < 0)
+            return failed(failure, "open");
+        ssize_t count = pread(fresh, bytes, sizeof bytes, 0);
+        close(fresh);
+        if (count != (ssize_t)sizeof bytes || memcmp(bytes, magic, sizeof magic) != 0)
+            return RECFILE_BAD_JOURNAL;
+    }
+    return unlink(at->fresh) == 0 ? RECFILE_OK : failed(failure, "unlink");
+}
+
 /* Puts the old pages back where there is a side file. */
 static int32_t put_back_named(const names *at, int descriptor, recfile_failure *failure) {
     struct stat about;
-    uint32_t length, kept;
-    int side = open(at->side, O_RDONLY | O_CLOEXEC);
+    side_shape shape;
+    int side = open_side(at, descriptor);
     if (side < 0)
         return errno == ENOENT ? RECFILE_OK : failed(failure, "open");
     int32_t status = fstat(descriptor, &about) == 0
-                         ? look_at_side(side, (uint64_t)about.st_size / PAGE, &length, &kept, failure)
+                         ? look_at_side(side, descriptor, (uint64_t)about.st_size / PAGE, &shape, failure)
                          : failed(failure, "fstat");
     if (status == RECFILE_OK)
-        status = fsync(side) == 0 ? put_back(at, descriptor, side, length, kept, failure) : failed(failure, "fsync");
+        status = fsync(side) == 0 ? put_back(at, descriptor, side, &shape, failure) : failed(failure, "fsync");
     close(side);
     return status;
 }
@@ -232,8 +330,9 @@ static int32_t restore_at(const names *at, int descriptor, recfile_failure *fail
     int32_t status = put_back_named(at, descriptor, failure);
     if (status != RECFILE_OK)
         return status;
-    if (unlink(at->fresh) != 0 && errno != ENOENT)
-        return failed(failure, "unlink");
+    status = remove_fresh(at, failure);
+    if (status != RECFILE_OK)
+        return status;
     if (fsync(descriptor) != 0)
         return failed(failure, "fsync");
     return sync_names(at, failure);
@@ -308,19 +407,21 @@ static int32_t find_written(recfile *file, uint64_t length, uint8_t *written) {
 static int32_t fill_side(int side, int descriptor, uint32_t length, const uint8_t *written, recfile_failure *failure) {
     uint8_t header[HEADER], entry[ENTRY];
     uint64_t sum = sum_start;
-    uint32_t kept = 0;
+    side_shape shape = {.version = VERSION, .length = length, .kept = 0, .rest = sum_start};
     for (uint32_t n = 0; n < length; n++) {
-        if (!written[n])
-            continue;
         put_number(entry, n, 4);
         if (move(descriptor, entry + 4, PAGE, (off_t)n * PAGE, 0) != 0)
             return failed(failure, "pread");
-        if (move(side, entry, ENTRY, HEADER + (off_t)kept * ENTRY, 1) != 0)
+        if (!written[n]) {
+            shape.rest = sum_on(shape.rest, entry + 4, PAGE);
+            continue;
+        }
+        if (move(side, entry, ENTRY, HEADER + (off_t)shape.kept * ENTRY, 1) != 0)
             return failed(failure, "pwrite");
         sum = sum_on(sum, entry, ENTRY);
-        kept++;
+        shape.kept++;
     }
-    spell_header(header, length, kept, sum);
+    spell_header(header, &shape, sum);
     if (move(side, header, HEADER, 0, 1) != 0)
         return failed(failure, "pwrite");
     return fsync(side) == 0 ? RECFILE_OK : failed(failure, "fsync");
@@ -329,11 +430,19 @@ static int32_t fill_side(int side, int descriptor, uint32_t length, const uint8_
 /* Makes the side file, and gives it its name. */
 static int32_t make_side(const names *at, int descriptor, const struct stat *about, const uint8_t *written,
                          recfile_failure *failure) {
-    int side = open(at->fresh, O_RDWR | O_CREAT | O_TRUNC | O_CLOEXEC, about->st_mode & 0777);
+    struct stat named;
+    int side = open(at->fresh, O_RDWR | O_CREAT | O_EXCL | O_CLOEXEC, 0);
     if (side < 0)
         return failed(failure, "open");
     int32_t status = fill_side(side, descriptor, (uint32_t)(about->st_size / PAGE), written, failure);
+    if (status == RECFILE_OK && fchmod(side, about->st_mode & 0777) != 0)
+        status = failed(failure, "fchmod");
     close(side);
+    if (status == RECFILE_OK
+        && (stat(at->file, &named) != 0 || named.st_dev != about->st_dev || named.st_ino != about->st_ino)) {
+        errno = ESTALE;
+        status = failed(failure, "stat");
+    }
     if (status == RECFILE_OK && rename(at->fresh, at->side) != 0)
         status = failed(failure, "rename");
     if (status != RECFILE_OK) {
@@ -356,6 +465,19 @@ static int32_t carry_out_at(recfile *file, const names *at, int descriptor, cons
     return status;
 }
 
+/* Carries the steps of a new file out, and has the device keep its name. */
+static int32_t carry_out_new(recfile *file, const char *path, int descriptor, recfile_failure *failure) {
+    names at;
+    int32_t status = find_names(&at, path, descriptor, failure);
+    if (status != RECFILE_OK)
+        return status;
+    status = recfile_carry_out(file, descriptor, failure);
+    if (status == RECFILE_OK)
+        status = sync_names(&at, failure);
+    free(at.file);
+    return status;
+}
+
 int32_t recfile_carry_out_kept(recfile *file, const char *path, int descriptor, recfile_failure *failure) {
     names at;
     struct stat about;
@@ -367,7 +489,7 @@ int32_t recfile_carry_out_kept(recfile *file, const char *path, int descriptor, 
     if (fstat(descriptor, &about) != 0)
         return failed(failure, "fstat");
     if (about.st_size == 0)
-        return recfile_carry_out(file, descriptor, failure);
+        return carry_out_new(file, path, descriptor, failure);
     uint8_t *written = calloc((size_t)(about.st_size / PAGE) + 1, 1);
     if (written == NULL)
         return RECFILE_MEMORY;
@@ -425,7 +547,9 @@ int32_t recfile_create_path(recfile *file, const char *path, uint16_t order, uin
     int32_t status = recfile_create(file, order, records, log_records, begins, detail);
     if (status != RECFILE_OK)
         return status;
-    *descriptor = open(path, O_RDWR | O_CREAT | O_EXCL | O_CLOEXEC, 0666);
+    errno = ENAMETOOLONG;
+    if (!is_too_long(path))
+        *descriptor = open(path, O_RDWR | O_CREAT | O_EXCL | O_CLOEXEC, 0666);
     if (*descriptor < 0) {
         recfile_discard(file);
         return told(detail, failed(failure, "open"));

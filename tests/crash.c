@@ -1,7 +1,8 @@
 // Preloaded into the program by crashes.sh: the program ends before one of the calls that change a file or a name, and
 // the device then loses what it wasn't asked to keep.
 //
-//   STOP_AT=N   before which of these calls, from 1: pwrite, a write to a file, ftruncate, fsync, rename, unlink
+//   STOP_AT=N   before which of these calls, from 1: the making of a file, pwrite, a write to a file, ftruncate, fsync, rename,
+//               unlink; -1: when the program has ended
 //   FATE=killed   what was done stays: the program ended, and not the machine
 //   FATE=lost     nothing that wasn't synced is done
 //   FATE=noise    each write that wasn't synced leaves any bytes, and names are changed
@@ -12,12 +13,14 @@
 //
 //   FAIL_AT=N     that call fails, and the program goes on; nothing is lost
 //   FAIL_FROM=N   that call and all later ones fail
+//   DO_AT=N       before that call the shell does DO
 //
 // Where the call is met, the file of the path MET is made.
 
 #define _GNU_SOURCE
 #include <errno.h>
 #include <fcntl.h>
+#include <stdarg.h>
 #include <stdio.h>
 #include <stdlib.h>
 #include <string.h>
@@ -27,7 +30,7 @@
 
 enum { STOPPED = 99, MOST_CALLS = 512, MOST_BYTES = 32768, MOST_FILES = 16, MOST_PATH = 600 };
 
-enum kind { WRITE, LENGTH, RENAME, UNLINK };
+enum kind { WRITE, LENGTH, MAKE, RENAME, UNLINK };
 
 // A call that the device wasn't asked to keep.
 struct call {
@@ -43,7 +46,7 @@ static struct call calls[MOST_CALLS];
 static int call_count;
 static struct { dev_t device; ino_t inode; int descriptor; } files[MOST_FILES];
 static int file_count;
-static long changes, stopped_at, failed_at, failed_from;
+static long changes, stopped_at, failed_at, failed_from, done_at;
 static int spares;
 
 static void give_up(const char *why)
@@ -63,6 +66,7 @@ __attribute__((constructor)) static void start(void)
     stopped_at = number_of("STOP_AT");
     failed_at = number_of("FAIL_AT");
     failed_from = number_of("FAIL_FROM");
+    done_at = number_of("DO_AT");
 }
 
 static void mark(void)
@@ -98,6 +102,8 @@ static int file_of(int descriptor)
             return files[i].descriptor;
     snprintf(path, sizeof path, "/proc/self/fd/%d", descriptor);
     int own = (int)syscall(SYS_openat, AT_FDCWD, path, O_RDWR | O_CLOEXEC, 0);
+    if (own < 0)
+        own = fcntl(descriptor, F_DUPFD_CLOEXEC, 3);
     if (own < 0 || file_count == MOST_FILES)
         give_up("a file can't be opened again");
     files[file_count].device = about.st_dev;
@@ -139,6 +145,9 @@ static void undo(struct call *call)
         syscall(SYS_ftruncate, call->file, call->old_length);
         put(call->file, call->old_bytes, call->old_count, call->place);
         break;
+    case MAKE:
+        name(call->from, call->spare);
+        break;
     case RENAME:
         name(call->to, call->from);
         if (call->spare[0])
@@ -148,6 +157,15 @@ static void undo(struct call *call)
         name(call->spare, call->from);
         break;
     }
+}
+
+// Where a file is that has no name since its making is undone, or its name.
+static const char *place_of(const char *path)
+{
+    for (int i = 0; i < call_count; i++)
+        if (calls[i].kind == MAKE && !strcmp(calls[i].from, path) && access(calls[i].spare, F_OK) == 0)
+            return calls[i].spare;
+    return path;
 }
 
 enum fate { DONE, LOST, HALF, NOISE };
@@ -181,9 +199,13 @@ static void redo(struct call *call, enum fate fate)
     case LENGTH:
         syscall(SYS_ftruncate, call->file, call->new_length);
         break;
+    case MAKE:
+        if (fate != HALF)
+            name(call->spare, call->from);
+        break;
     case RENAME:
         if (fate != HALF)
-            name(call->from, call->to);
+            name(place_of(call->from), call->to);
         break;
     case UNLINK:
         if (fate != HALF)
@@ -208,11 +230,23 @@ static void crash(void)
     _exit(STOPPED);
 }
 
+__attribute__((destructor)) static void end(void)
+{
+    if (stopped_at == -1)
+        crash();
+}
+
 // Counts a call. Whether it fails.
 static int fails(void)
 {
     if (++changes == stopped_at)
         crash();
+    if (changes == done_at) {
+        mark();
+        unsetenv("LD_PRELOAD");
+        if (system(getenv("DO")) != 0)
+            give_up("the shell failed");
+    }
     if (changes != failed_at && !(failed_from && changes >= failed_from))
         return 0;
     mark();
@@ -226,9 +260,9 @@ static void keep(int descriptor)
     int names = is_folder(descriptor), file = names ? -1 : file_of(descriptor), kept = 0;
     for (int i = 0; i < call_count; i++) {
         struct call *call = &calls[i];
-        int is_name = call->kind == RENAME || call->kind == UNLINK;
+        int is_name = call->kind == MAKE || call->kind == RENAME || call->kind == UNLINK;
         if (is_name ? names : !names && call->file == file) {
-            if (is_name && call->spare[0])
+            if (is_name && call->kind != MAKE && call->spare[0])
                 syscall(SYS_unlink, call->spare);
             continue;
         }
@@ -318,6 +352,38 @@ int fsync(int file)
 int fdatasync(int file)
 {
     return fsync(file);
+}
+
+static int opened(const char *path, int flags, int mode)
+{
+    int makes = (flags & O_CREAT) && access(path, F_OK) != 0;
+    if (makes && fails())
+        return -1;
+    int file = (int)syscall(SYS_openat, AT_FDCWD, path, flags, mode);
+    if (!makes || file < 0)
+        return file;
+    struct call *call = another(MAKE);
+    snprintf(call->from, sizeof call->from, "%s", path);
+    snprintf(call->spare, sizeof call->spare, "%.500s.spare%d.%d", path, (int)getpid(), spares++);
+    return file;
+}
+
+int open(const char *path, int flags, ...)
+{
+    va_list more;
+    va_start(more, flags);
+    int mode = va_arg(more, int);
+    va_end(more);
+    return opened(path, flags, mode);
+}
+
+int open64(const char *path, int flags, ...)
+{
+    va_list more;
+    va_start(more, flags);
+    int mode = va_arg(more, int);
+    va_end(more);
+    return opened(path, flags, mode);
 }
 
 // Another name for a file that is going to lose this one.

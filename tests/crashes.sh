@@ -7,7 +7,8 @@
 set -eu
 cd "$(dirname "$0")/.."
 program=${PROGRAM:-$PWD/crates/recfile_program/out/recfile_program}
-room=$(mktemp -d)
+# In memory where the system has such a folder, since each session syncs.
+room=$(mktemp -d -p /dev/shm 2> /dev/null || mktemp -d)
 trap 'rm -rf "$room"' EXIT
 [ -x "$program" ] || {
     echo "crashes: there is no $program: rt ci makes it, and so does rt run in crates/recfile_program"
@@ -148,6 +149,7 @@ for fate in killed lost noise halves 1 2 3; do
         "$program" check file > out 2> err && continue
         case $(cat err) in
         'recfile: BadLength' | 'recfile: BadMagic' | 'recfile: NotClean') ;;
+        'recfile: Device') [ ! -e file ] || fail "stopped at $number, $fate" ;;
         *) fail "stopped at $number, $fate" ;;
         esac
     done
@@ -269,13 +271,15 @@ leave_side_file
 cp file-journal whole_journal
 again() { cp whole_journal file-journal; }
 put_bytes 0 X; expect_bad "another text"; again
-put_bytes 9 '\002'; expect_bad "another version"; again
+put_bytes 9 '\003'; expect_bad "another version"; again
+put_bytes 9 '\001'; expect_bad "the first version"; again
 put_bytes 15 '\377'; expect_bad "another length"; again
 put_bytes 19 '\377'; expect_bad "another count"; again
-put_bytes 24 '\252\125\252'; expect_bad "another sum"; again
-put_bytes 35 '\200'; expect_bad "another number"; again
-put_bytes 40 '\252\125\252'; expect_bad "another page"; again
-head -c 31 whole_journal > file-journal; expect_bad "less than a header"
+put_bytes 24 '\252\125\252'; expect_bad "another sum over the rest"; again
+put_bytes 32 '\252\125\252'; expect_bad "another sum"; again
+put_bytes 43 '\200'; expect_bad "another number"; again
+put_bytes 48 '\252\125\252'; expect_bad "another page"; again
+head -c 39 whole_journal > file-journal; expect_bad "less than a header"
 head -c 4000 whole_journal > file-journal; expect_bad "cut in a page"
 : > file-journal; expect_bad "empty"
 again; printf x >> file-journal; expect_bad "a byte more"; again
@@ -313,7 +317,7 @@ else
     chmod 555 closed
     status=0
     printf 'list\n' | $as ./recfile run closed/file > out 2> err || status=$?
-    [ $status = 0 ] && cmp out old_list || fail "a session that changes nothing: status $status"
+    [ "$status:$(cat err)" = "1:recfile: Device" ] && [ ! -s out ] || fail "a session that changes nothing: status $status"
     status=0
     $as ./recfile run closed/file < filled_more > out 2> err || status=$?
     [ "$status:$(cat err)" = "1:recfile: Device" ] && cmp closed/file four || fail "a session: status $status"

@@ -6,7 +6,8 @@
 set -eu
 cd "$(dirname "$0")/.."
 program=$(realpath "${1:-crates/recfile_program/out/recfile_program}")
-room=$(mktemp -d)
+# In memory where the system has such a folder, since each session syncs.
+room=$(mktemp -d -p /dev/shm 2> /dev/null || mktemp -d)
 trap 'rm -rf "$room"' EXIT
 cd "$room"
 runs=0

@@ -4,8 +4,9 @@
 # changes nothing.
 set -eu
 cd "$(dirname "$0")/.."
+here=$PWD
 program=$(realpath "${1:-crates/recfile_program/out/recfile_program}")
-room=$(mktemp -d)
+room=$(realpath "$(mktemp -d)")
 trap 'rm -rf "$room"' EXIT
 cd "$room"
 runs=0
@@ -90,6 +91,150 @@ damaged three.rec 12539 '\004' "page 3, byte 248: 4 stands there; expected is a 
 damaged old.rec 12403 '\003' "page 3, byte 112: 3 stands there; expected is a page from 1 to below 4 that nothing else leads to"
 damaged old.rec 12403 '\004' "page 3, byte 112: 4 stands there; expected is a page from 1 to below 4 that nothing else leads to"
 
+# What the header says by itself is compared with the file, above it and below it: page and record counts that are too low.
+row="counts that are too low"
+for file in three.rec old.rec; do
+    damaged $file 15 '\003' "page 0, byte 12: 3 stands there; expected is 4, the pages that the file has"
+    damaged $file 15 '\000' "page 0, byte 12: 0 stands there; expected is 4, the pages that the file has"
+    damaged $file 23 '\002' "page 0, byte 20: 2 stands there; expected is 3, the keys that the tree has"
+    damaged $file 23 '\000' "page 0, byte 20: 0 stands there; expected is 3, the keys that the tree has"
+done
+
+# A file of order 1 whose inner pages lead to a leaf and to the next inner page, or the other way round, and the last one
+# to two leaves: as many levels as asked for, of which each but the first has a leaf.
+chain() { # LEVELS FIRST: whether the leaf or the inner page comes first
+    perl -e '
+        my ($levels, $first) = @ARGV;
+        sub page { my $page = shift; return $page . "\0" x (4096 - length $page) }
+        sub node {
+            my ($kind, $key, @sons) = @_;
+            my $text = pack("CCnN", $kind, 0, 1, 0) . pack("Ca16Ca100", 2, pack("n", $key), 0, "");
+            return page($text . "\0" x (244 - length $text) . pack("N*", @sons));
+        }
+        print page("BMKRFILE" . pack("nnNNNC", 2, 1, 2 * $levels, 1, 2 * $levels - 1, 1));
+        # Page 2i - 1 is the inner page of level i, and page 2i the leaf below it.
+        for my $i (1 .. $levels - 1) {
+            my ($key, $leaf, @sons) = $first eq "leaf"
+                ? (2 * $i, 2 * $i - 1, 2 * $i, 2 * $i + 1)
+                : (2 * ($levels - $i), 2 * ($levels - $i) + 1, 2 * $i + 1, 2 * $i);
+            print node(2, $key, @sons), node(1, $leaf);
+        }
+        print node(1, $first eq "leaf" ? 2 * $levels - 1 : 1);
+    ' "$@"
+}
+
+row="leaves of several levels, and trees that are too high"
+for first in leaf inner; do
+    chain 2 $first > chain.rec
+    expect chain.rec 0 "the tree: levels 2, keys 3, pages 3, and 0 pages are free"
+done
+chain 3 leaf > chain.rec
+expect chain.rec 1 "page 4, byte 0: 1 stands there; expected is a leaf at level 2, as the first one"
+chain 12 inner > chain.rec
+expect chain.rec 1 "page 20, byte 0: 1 stands there; expected is a leaf at level 12, as the first one"
+chain 19 inner > chain.rec
+expect chain.rec 1 "page 34, byte 0: 1 stands there; expected is a leaf at level 19, as the first one"
+chain 20 inner > chain.rec
+expect chain.rec 1 "page 37, byte 0: 2 stands there; expected is no inner page as deep as that"
+
+high() { # LEVELS: a tree of that many levels whose inner pages have one key
+    perl -e '
+        my $levels = shift;
+        my (@pages, $count);
+        sub page { my $page = shift; return $page . "\0" x (4096 - length $page) }
+        sub node {
+            my ($kind, $key, @sons) = @_;
+            my $text = pack("CCnN", $kind, 0, 1, 0) . pack("Ca16Ca100", 4, pack("N", $key), 0, "");
+            return page($text . "\0" x (244 - length $text) . pack("N*", @sons));
+        }
+        sub tree {
+            my ($level, $low, $high) = @_;
+            my $number = ++$count;
+            my $middle = int(($low + $high) / 2);
+            if ($level == $levels) { $pages[$number] = node(1, $middle); return $number }
+            my $left = tree($level + 1, $low, $middle);
+            $pages[$number] = node(2, $middle, $left, tree($level + 1, $middle, $high));
+            return $number;
+        }
+        my $root = tree(1, 0, 2 ** 30);
+        print page("BMKRFILE" . pack("nnNNNC", 2, 1, $count + 1, $root, $count, 1)), @pages[1 .. $count];
+    ' "$1"
+}
+high 12 > high.rec
+expect high.rec 0 "the tree: levels 12, keys 4095, pages 4095, and 0 pages are free"
+expect high.rec 0 "  level 12: pages 2048, keys 2048, 50 of 100 places taken"
+
+# Words that stand in the text, whatever else does.
+explains() { # PATH STATUS LINE
+    runs=$((runs + 1))
+    status=0
+    timeout 10 "$program" explain "$1" > out 2> err || status=$?
+    [ $status = "$2" ] || fail "$1 has status $status"
+    grep -qxF -- "$3" out || fail "there is no line '$3'"
+    [ ! -s err ] || fail "standard error isn't empty"
+}
+
+row="more records than a session may have"
+perl -e '
+    my $keys = 1000001;
+    sub page { my $page = shift; return $page . "\0" x (4096 - length $page) }
+    my $count = 0;
+    # Leaves of 32 keys with a key between two, and so on up; what is left over goes into the last ones.
+    sub node {
+        my ($kind, $keys, @sons) = @_;
+        my $text = pack("CCnN", $kind, 0, scalar @$keys, 0);
+        $text .= pack("Ca16Ca100", 4, pack("N", $_), 0, "") for @$keys;
+        print page($text . "\0" x (8 + 236 * 16 - length $text) . pack("N*", @sons));
+        return ++$count;
+    }
+    my $pages = int(($keys + 33) / 33);
+    open my $head, ">", "head" or die;
+    open my $body, ">", "body" or die;
+    select $body;
+    my (@nodes, @between);
+    my $from = 0;
+    for my $i (0 .. $pages - 1) {
+        my $upto = int(($keys - $pages + 1) * ($i + 1) / $pages) + $i;
+        push @nodes, node(1, [$from .. $upto - 1]);
+        push @between, $upto if $i < $pages - 1;
+        $from = $upto + 1;
+    }
+    while (@nodes > 1) {
+        my $parents = int((@between + 33) / 33);
+        my (@up, @keys, $at);
+        $at = 0;
+        for my $i (0 .. $parents - 1) {
+            my $upto = int((@between - $parents + 1) * ($i + 1) / $parents) + $i;
+            push @up, node(2, [@between[$at .. $upto - 1]], @nodes[$at .. $upto]);
+            push @keys, $between[$upto] if $i < $parents - 1;
+            $at = $upto + 1;
+        }
+        @nodes = @up;
+        @between = @keys;
+    }
+    print $head page("BMKRFILE" . pack("nnNNNC", 2, 16, $count + 1, $nodes[0], $keys, 1));
+    close $head; close $body;
+'
+cat head body > full.rec
+rm head body
+explains full.rec 1 "a session may have at most 1000000 records"
+"$program" check full.rec > out 2> err || [ "$(cat err)" = "recfile: TooManyRecords" ] || fail "a check says $(cat err)"
+rm full.rec
+
+row="what can be done"
+advised() { # PLACE BYTES LINE: of a file with these bytes
+    cp three.rec damaged.rec
+    put_bytes damaged.rec "$1" "$2"
+    explains damaged.rec 1 "$3"
+}
+advised 0 '\000' "This is no page file: look for the path of one."
+advised 9 '\011' "A later program may have written this file: open it with that one."
+advised 24 '\002' "A closing was stopped: with a side file beside it, an empty run puts the file right; else take a copy from before it."
+advised 24 '\003' "A closing was stopped: with a side file beside it, an empty run puts the file right; else take a copy from before it."
+advised 11 '\000' "The file was changed by something else, or its device failed: take a copy from before it, or dump an older one."
+advised 4096 '\003' "The file was changed by something else, or its device failed: take a copy from before it, or dump an older one."
+advised 23 '\004' "The file was changed by something else, or its device failed: take a copy from before it, or dump an older one."
+
 row="files of another length"
 head -c 8191 three.rec > short.rec
 expect short.rec 1 "a page file has 1 to 1000001 pages and no bytes after them: it was cut, or it is none"
@@ -98,28 +243,117 @@ expect empty.rec 1 "the length: 0 bytes, 0 pages of 4096 and 0 bytes more"
 head -c 8192 three.rec > fewer.rec
 expect fewer.rec 1 "page 0, byte 12: 4 stands there; expected is 2, the pages that the file has"
 
-row="files that aren't opened"
-for path in missing.rec .; do
+row="a file that may not be written"
+explains three.rec 0 "three.rec is opened to be read and written"
+as=
+if [ "$(id -u)" = 0 ]; then
+    command -v setpriv > /dev/null && as="setpriv --reuid 65534 --regid 65534 --clear-groups"
+    chmod 755 "$room"
+fi
+if [ "$(id -u)" != 0 ] || [ -n "$as" ]; then
+    cp "$program" ./recfile
+    chmod 755 recfile
+    chmod 444 three.rec
     runs=$((runs + 1))
     status=0
-    "$program" explain $path > out 2> err || status=$?
-    [ $status = 1 ] && grep -q "$path" out || fail "$path has status $status"
-done
+    $as ./recfile explain three.rec > out 2> err || status=$?
+    [ $status = 0 ] || fail "status $status"
+    grep -qxF "three.rec is opened to be read, but not to be written: Permission denied (os error 13)" out || fail "the file is called writable"
+    chmod 000 three.rec
+    runs=$((runs + 1))
+    status=0
+    $as ./recfile explain three.rec > out 2> err || status=$?
+    [ $status = 1 ] || fail "status $status"
+    grep -qxF "the system doesn't open three.rec: Permission denied (os error 13)" out || fail "the rights aren't named"
+    grep -q "^you have no rights to read it" out || fail "nothing is advised"
+    chmod 644 three.rec
+    rm recfile
+fi
 
+row="files that aren't opened"
+explains missing.rec 1 "the system doesn't open missing.rec: No such file or directory (os error 2)"
+explains missing.rec 1 "there is no such file in .: recfile create missing.rec makes one"
+explains "$room/missing.rec" 1 "there is no such file in $room: recfile create $room/missing.rec makes one"
+explains nowhere/missing.rec 1 "there is no such folder: nowhere"
+explains three.rec/missing.rec 1 "the system doesn't open three.rec/missing.rec: Not a directory (os error 20)"
+ln -s missing.rec dangling.rec
+explains dangling.rec 1 "dangling.rec is a link to a file that isn't there"
+explains . 1 ". is a folder, and no page file: it isn't opened"
+explains /dev/null 1 "/dev/null is a device, and no page file: it isn't opened"
+mkfifo pipe.rec
+explains pipe.rec 1 "pipe.rec is a pipe, and no page file: it isn't opened"
+
+row="another name"
+ln three.rec twin.rec
+explains three.rec 0 "three.rec is one of 2 names of the file: each has a side file of its own, so keep one of them"
+rm twin.rec
+
+# What stands beside a file is what a session over it would say.
 row="a side file"
+beside() { # LINE: of three.rec with what stands in its side file's place, over which a session is BadJournal
+    explains three.rec 1 "$1"
+    if grep -qx "the file is whole" out; then fail "the file is called whole"; fi
+    cp three.rec before.rec
+    status=0
+    "$program" run three.rec < /dev/null > out 2> err || status=$?
+    [ $status = 1 ] && [ "$(cat err)" = "recfile: BadJournal" ] || fail "a session has status $status: $(cat err)"
+    cmp -s three.rec before.rec || fail "the session changed the file"
+}
+stray="beside it stands $room/three.rec-journal, and it isn't the whole side file of this file: a session answers BadJournal. Bring back the file that it belongs to, or take it away"
 : > three.rec-journal
+beside "$stray"
+echo rubbish > three.rec-journal
+beside "$stray"
+head -c 4132 /dev/zero > three.rec-journal
+beside "$stray"
+printf 'BMKRJRNL' | dd of=three.rec-journal conv=notrunc status=none
+beside "$stray"
+ln -s three.rec link.rec
+explains link.rec 1 "beside it stands $room/three.rec-journal, and it isn't the whole side file of this file: a session answers BadJournal. Bring back the file that it belongs to, or take it away"
+rm three.rec-journal
+explains link.rec 0 "the file is whole"
+: > link.rec-journal
+explains link.rec 0 "the file is whole"
+
+# A session that is stopped before each of its calls that change a file, until one leaves a side file.
+row="the side file of a stop"
+cc -O2 -shared -fPIC -o crash.so "$here/tests/crash.c"
+number=0
+while [ ! -e stopped.rec-journal ]; do
+    number=$((number + 1))
+    [ $number -lt 50 ] || fail "no stop leaves a side file"
+    rm -f stopped.rec*
+    cp three.rec stopped.rec
+    printf 'begin\nput 1 d =w\ncommit 1\n' | env STOP_AT=$number FATE=killed MET="$room/met" LD_PRELOAD="$room/crash.so" \
+        "$program" run stopped.rec > out 2> err || true
+done
+explains stopped.rec 1 "beside it stands $room/stopped.rec-journal: a session was stopped while it closed the file, and the next one puts the old pages back"
+explains stopped.rec 1 "the file is whole by itself, and not with what stands beside it"
+cp stopped.rec-journal whole-journal
+for place in 0 9 10 15 19 23 31 35 40 4131; do
+    cp whole-journal stopped.rec-journal
+    put_bytes stopped.rec-journal $place '\377'
+    explains stopped.rec 1 "beside it stands $room/stopped.rec-journal, and it isn't the whole side file of this file: a session answers BadJournal. Bring back the file that it belongs to, or take it away"
+    status=0
+    "$program" run stopped.rec < /dev/null > out 2> err || status=$?
+    [ $status = 1 ] && [ "$(cat err)" = "recfile: BadJournal" ] || fail "a session has status $status: $(cat err)"
+done
+cp whole-journal stopped.rec-journal
+"$program" run stopped.rec < /dev/null
+explains stopped.rec 0 "the file is whole"
+
+row="a text that can't be written"
 runs=$((runs + 1))
 status=0
-"$program" explain three.rec > out 2> err || status=$?
-[ $status = 1 ] && grep -q "^beside it stands three.rec-journal" out || fail "the side file isn't named"
-rm three.rec-journal
+"$program" explain three.rec > /dev/full 2> err || status=$?
+[ $status = 3 ] && [ "$(cat err)" = "recfile: WriteFault" ] || fail "status $status: $(cat err)"
 
 row="a file that another program has open"
 if command -v flock > /dev/null; then
     runs=$((runs + 1))
     status=0
     flock three.rec "$program" explain three.rec > out 2> err || status=$?
-    [ $status = 1 ] && grep -q "^another program has three.rec open" out || fail "the other program isn't named"
+    [ $status = 1 ] && grep -qx "another program has three.rec open: ask again when it has ended" out || fail "the other program isn't named"
 fi
 
 echo "explain: $runs passed, 0 failed"

@@ -5,17 +5,20 @@
 # Where memory is refused: the status and the fault are among those that the README names; every command that was run has
 # its reply, but the one whose reply found no memory; the file is as it was, byte for byte, where it wasn't opened or closed
 # or the session couldn't be ended, it is what a session without commands leaves where no script was read, and else it opens and
-# has the records that the accepted commands leave by themselves.
+# has the records that the accepted commands leave by themselves. A line that is answered Memory is sent again, and a rollback
+# that Memory stops is resumed (again.py): the session ends as one in which nothing is refused.
 set -eu
 cd "$(dirname "$0")/.."
-program=$PWD/crates/recfile_program/out/recfile_program
-room=$(mktemp -d)
+program=${PROGRAM:-$PWD/crates/recfile_program/out/recfile_program}
+# In memory where the system has such a folder, since each session syncs.
+room=$(mktemp -d -p /dev/shm 2> /dev/null || mktemp -d)
 trap 'rm -rf "$room"' EXIT
 [ -x "$program" ] || {
     echo "refusals: there is no $program: rt ci makes it, and so does rt run in crates/recfile_program"
     exit 1
 }
 cc -O2 -shared -fPIC -o "$room/refuse.so" tests/refuse.c
+cp tests/again.py "$room"
 cd "$room"
 runs=0
 
@@ -93,7 +96,7 @@ expect_refused_run() {
         expect_replies "$commands"
         expect_accepted 0
         ;;
-    1:'Error: Kind(OutOfMemory);' | 1:'recfile: Device;' | 2:'error: out of memory;')
+    2:'recfile: Memory;' | 1:'recfile: Device;' | 2:'error: out of memory;')
         expect_replies 0
         expect_old
         ;;
@@ -162,6 +165,7 @@ session() {
     "$program" run $options unchanged < /dev/null || fail "a session without commands failed"
     refuse_in_turn REFUSE_GROWTH
     refuse_in_turn REFUSE_FROM
+    python3 again.py "$program" ./refuse.so script old file $options || fail "asked again"
     cp old new
     "$program" run $options new < script > whole || fail "the session failed"
 }

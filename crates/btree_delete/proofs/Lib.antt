@@ -1,3 +1,4 @@
+pub mod RespellLemmas
 pub mod EditLemmas
 pub mod EditedPagesLemmas
 pub mod PagesLeftLemmas

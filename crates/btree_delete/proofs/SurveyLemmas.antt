@@ -1,7 +1,6 @@
 -- What a walk that looks at each page once has seen.
-use Rattle.std.proofs.Common.{◌≡◌, ℕ, zero, suc, ◌+◌, ◌-◌, ◌<◌, ◌≤◌, ◌⊎◌, inl, inr, Bool, true, false, Option, Some, None, Result, Ok, Err, MatchResult, List, [], ◌∷◌, ◌++◌, length, eqb, get_or, set, drop, refl, ap, sym, ◌∙◌, subst, arith, length-append}
+use Rattle.std.proofs.Common.{◌≡◌, ℕ, zero, suc, ◌+◌, ◌-◌, ◌<◌, ◌≤◌, ◌⊎◌, inl, inr, Bool, true, false, Option, Some, None, Result, Ok, Err, MatchResult, List, [], ◌∷◌, ◌++◌, length, get_or, set, drop, refl, ap, sym, ◌∙◌, subst, arith, length-append}
 use Rattle.std.proofs.lemmas.List.{get_or_default}
-use Rattle.std.proofs.lemmas.Bool.Decides.{nat_tests}
 use Rattle.rec_types.specs.Table.{counted}
 use Rattle.page_store.specs.PageMap.{PageMap}
 use Rattle.page_store.specs.Calls.{counted_times}
@@ -198,10 +197,6 @@ inner_exact layout k pages least left p b n old reached (suc h) level es us kind
   };
   back = λ new is. is ∙ ap (λ (s : SeenSoFar). after level es top.below s) reached_is ∙ ap (λ (vs : List ℕ). after level es vs old) (sym top.us_is);
 }
-
--- a list that is told to be empty is
-pub empty : (els : List Element) (b : Bool) → b ≡ eqb (length els) 0 → b ≡ true → length els ≡ 0
-empty els b is none = grind (arith, nat_tests)
 
 -- the last son was gone through
 pub last_found : (layout : Layout) (k : ℕ) (pages : PageMap) (left : ℕ) (b : Bounds) (sons : List ℕ) (els : List Element) (old new : SeenSoFar) (reads reads' : ℕ) → length els ≡ 0 → length sons ≡ length els + 1

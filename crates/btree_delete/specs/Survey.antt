@@ -1,5 +1,5 @@
 -- What a walk that looks at each page of a tree once goes through.
-use Rattle.std.specs.Prelude.{◌≡◌, ◌≢◌, ℕ, zero, suc, ◌+◌, ◌-◌, ◌<◌, ◌≤◌, ◌↔◌, Bool, true, false, ◌⊎◌, List, [], ◌∷◌, length, replicate, Option, Some, None, slice_index_or, slice_set, IsTrue}
+use Rattle.std.specs.Prelude.{◌≡◌, ◌≢◌, ℕ, zero, suc, ◌+◌, ◌-◌, ◌<◌, ◌≤◌, ◌↔◌, Bool, true, false, ◌⊎◌, List, [], ◌∷◌, length, drop, replicate, Option, Some, None, slice_index_or, slice_set, IsTrue}
 use Rattle.rec_types.specs.Table.{counted}
 use Rattle.page_store.specs.PageMap.{PageMap, at}
 use Rattle.page_store.specs.Calls.{counted_times}
@@ -10,8 +10,9 @@ use Rattle.btree_insert.specs.declared.tree.Tree.{Tree}
 use Rattle.btree_insert.specs.Bounds.{AreWithin, Between}
 use Rattle.btree_insert.specs.PageTrees.{IsIn, Apart, Fan, SpellsIn, Spells, TreeIn, RootIn, HoldsIn}
 use Rattle.btree_insert.specs.Spelt.{AreSpeltIn}
-use Rattle.btree_node.specs.Layout.{first_version, IsOrder}
-use Rattle.btree_node.specs.Spelling.{CanStandIn}
+use Rattle.btree_node.specs.Layout.{second_layout, first_version, IsOrder}
+use Rattle.btree_node.specs.Reading.{node_at}
+use Rattle.btree_node.specs.Spelling.{spelling, spelling_in, CanStandIn}
 use Rattle.btree_node.specs.declared.layout.Layout.{Layout}
 use Rattle.btree_node.specs.declared.node.Node.{Node}
 use Rattle.page_store.specs.PagesView.{PagesView, is_in_memory, OnlyReads, OnlyStages}
@@ -42,6 +43,22 @@ unreached (false ∷ reached) = suc (unreached reached)
 -- what was seen after a tree with these elements and pages whose leaves stand at a level
 abbrev pub after : ℕ → List Element → List ℕ → SeenSoFar → SeenSoFar
 after level es us old = record { reached = mark us old.reached; leaf = Some level; keys = old.keys + length es }
+
+-- the node that the bytes of a page spell as it is written, and what of it stands from a place on
+abbrev pub node_in : ℕ → List ℕ → Node
+node_in k page = node_at second_layout k page
+
+abbrev pub sons_from : ℕ → List ℕ → ℕ → List ℕ
+sons_from k page i = drop i (node_in k page).sons.items
+
+abbrev pub elements_from : ℕ → List ℕ → ℕ → List Element
+elements_from k page i = drop i (node_in k page).elements.items
+
+-- bytes that spell a node in a layout, and those that spell it as it is written
+pub record Respells (layout : Layout) (k : ℕ) (old new : List ℕ) : Type 0 where
+  pub stands : CanStandIn layout (node_in k new) k
+  pub was : old ≡ spelling_in layout (node_in k new) k
+  pub now : new ≡ spelling (node_in k new) k
 
 -- the trees below a page by the levels below it, and below its sons
 abbrev pub below_page : Layout → ℕ → PageMap → ℕ → ℕ → ℕ → List Element → List ℕ → Type 0

@@ -17,6 +17,11 @@ pub if_some : {X : Type 0} (o : Option X) (P Q : X → Type 0) → ((x : X) → 
 if_some (Some x) P Q follows is = follows x is
 if_some None P Q follows is = tt
 
+-- what holds of a value that is there
+pub from_some : {X : Type 0} (o : Option X) (Q : X → Type 0) → ((x : X) → o ≡ Some x → Q x) → IfSome o Q
+from_some (Some x) Q holds = holds x refl
+from_some None Q holds = tt
+
 -- no page is split
 pub never_split : (old : Option (List ℕ)) (m : Element) (r : ℕ) → in_one old ≡ Split m r → ⊥
 never_split (Some value) m r is = absurd (cc)
@@ -51,3 +56,11 @@ last_rewritten ws items w x page page2 i is at here changed =
     ∙ set_at ws w [] (x.0, page) i (sym at)
     ∙ ap (λ (n : ℕ). ws ++ (n, page) ∷ []) (ap (λ (v : ℕ × List ℕ). v.0) here)
     ∙ ap (λ (bytes : List ℕ). ws ++ (w.0, bytes) ∷ []) changed
+
+-- two nodes of the same parts
+pub same_parts : (n m : Node) → n.kind ≡ m.kind → n.elements.items ≡ m.elements.items → n.sons.items ≡ m.sons.items → n ≡ m
+same_parts n m kind els sons = λ i. record {
+  kind = kind i;
+  elements = record { items = els i };
+  sons = record { items = sons i };
+}

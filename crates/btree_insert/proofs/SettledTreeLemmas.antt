@@ -282,3 +282,17 @@ grow_replaced k old ws ws2 fresh lo hi2 least height h p es us b n m key value i
       grows = subst (λ (new : PageMap). Whole (tree_below k least (suc h) p) (pages_change old new fresh lo hi2) us (set_in key (Some value) es)) (sym new_is)
           (subst (λ (y : ℕ). Whole (tree_below k least (suc h) p) (pages_change old (write_page old p (spelling m k)) fresh lo y) us (set_in key (Some value) es)) (sym hi_is) whole);
     })
+
+-- what an insertion into a leaf that has room comes to
+pub grow_inserted : (k : ℕ) (old : PageMap) (fresh : ℕ → ℕ) (least height h p : ℕ) (es : List Element) (us : List ℕ) (b : Bounds) (n m : Node) (key value : List ℕ) (i : ℕ)
+    → suc h ≡ height → h ≡ 0 → IsFree old fresh → InUse old us → Apart us → (head : Top k old least height h p es us b n) → IsPlace n.elements.items key i
+    → CanStand m k → least ≤ length m.elements.items → m.kind ≡ n.kind → m.elements.items ≡ insert n.elements.items i (key, value)
+    → Grew (tree_below k least height p) (pages_change old (write_page old p (spelling m k)) fresh 0 0) es us key value Fits
+grow_inserted k old fresh least height (suc h) p es us b n m key value i is zero_is free used apart head place stands least_is kind_is els_is = absurd (omega arith)
+grow_inserted k old fresh least height zero p es us b n m key value i is zero_is free used apart head place stands least_is kind_is els_is =
+    let es_is = ap (set_in key (Some value)) head.body.1 ∙ put_is_insert key value n.elements.items i place ∙ sym els_is in
+    let here : PagesGrown old old fresh 0 0 us (p ∷ head.below) = subst (λ (vs : List ℕ). PagesGrown old old fresh 0 0 us vs) head.us_is (kept_none old fresh 0 us apart) in
+    subst (λ (x : ℕ). Grew (tree_below k least x p) (pages_change old (write_page old p (spelling m k)) fresh 0 0) es us key value Fits) is (record {
+      told = sym (find_no_more (TreeAt k old k 0) 0 n es head.below key i refl head.body place);
+      grows = settle_whole k old old fresh 0 0 least 0 p us head.below (set_in key (Some value) es) m stands (subst (IsIn p) (sym head.us_is) (inl refl)) free used here (kind_is ∙ head.body.0, es_is, head.body.2) least_is;
+    })

@@ -64,6 +64,15 @@ spelt_staged k old new ws fs pages in_memory writes spelt n page here there =
     by_case false true d written kept here is = spelt_over k (at old.pages) ws n page (λ p there. spelt n p kept there) writes is
     by_case false false d written kept here is = absurd (cc)
 
+-- the pages in memory after one of them was written over
+pub spelt_written_over : (k : ℕ) (old new : PagesView) (n : ℕ) (page : List ℕ) → ((q : ℕ) → at new.pages q ≡ write_page (at old.pages) n page q) → ((q : ℕ) → is_in_memory new q ≡ is_in_memory old q) → IsSpelt k page → AreSpeltIn k old → AreSpeltIn k new
+spelt_written_over k old new n page pages in_memory written spelt q bytes here there =
+    by_case (eqb q n) (sym (pages q) ∙ there)
+  where
+    by_case : (b : Bool) → cond b (Some page) (at old.pages q) ≡ Some bytes → IsSpelt k bytes
+    by_case true is = same_bytes k page bytes is written
+    by_case false is = spelt q bytes (sym (in_memory q) ∙ here) is
+
 -- the pages in memory after calls that changed none
 pub spelt_unchanged : (k : ℕ) (old new : PagesView) → OnlyReads old new → AreSpeltIn k old → AreSpeltIn k new
 spelt_unchanged k old new same spelt n page here there =

@@ -62,6 +62,12 @@ pub record WritesAndTakes {A F : Type 0} (k : ℕ) (pages : List (Option (List �
   pub spelt : AreSpelt k old.writes.items → OnOk answer (AreSpelt k new.writes.items)
   pub freed : new.freed ≡ old.freed
 
+-- page n is in use, and an edit may write it and take a number more
+pub record CanSettle (pages : List (Option (List ℕ))) (edit : PageEdit) (n : ℕ) : Type 0 where
+  pub taken : edit.taken ≤ 100
+  pub in_use : IsSome (at pages n)
+  pub fits : WritesFit pages edit.writes.items edit.taken
+
 -- a way down has room for so many levels, and an edit for what is written on it
 pub record HasRoom (pages : List (Option (List ℕ))) (edit : PageEdit) (visited : List ℕ) (level : ℕ) : Type 0 where
   pub levels : length visited + level ≤ greatest_height

@@ -1,15 +1,16 @@
 -- What an insertion below a page comes to.
-use Rattle.std.specs.Prelude.{◌≡◌, ℕ, ◌+◌, ◌*◌, ◌<◌, ◌≤◌, ◌⊎◌, Bool, true, List, [], ◌∷◌, ◌++◌, length, Option, Some, None, IsSome, slice_index_or}
-use Rattle.std.specs.List.{AllByRecursion}
+use Rattle.std.specs.Prelude.{◌≡◌, ℕ, suc, ◌+◌, ◌*◌, ◌<◌, ◌≤◌, ◌⊎◌, Bool, true, List, [], ◌∷◌, ◌++◌, length, Option, Some, None, IsSome, slice_index_or}
+use Rattle.std.specs.List.{AllByRecursion, insert}
 use Rattle.page_store.specs.PageMap.{at, is_written}
 use Rattle.page_store.specs.FreeNumbers.{candidate}
 use Rattle.page_store.specs.PagesView.{PagesView}
 use Rattle.page_store.specs.declared.page_edit.PageEdit.{PageEdit}
 use Rattle.page_store.specs.CanStage.{IsTaken}
 use Rattle.btree_node.specs.declared.node.Node.{Node}
+use Rattle.btree_node.specs.declared.node.NodeKind.TheVariants.{Leaf, Inner}
 use Rattle.btree_node.specs.Cut.{left_of, right_of}
 use Rattle.btree_node.specs.Layout.{IsOrder}
-use Rattle.btree_node.specs.Lists.{Element, Each, Ascends}
+use Rattle.btree_node.specs.Lists.{Element, Each, Ascends, IsPlace}
 use Rattle.btree_node.specs.Spelling.{spelling, CanStand, IsElement, IsSon, SonsFit}
 use Rattle.btree_insert.specs.declared.bounds.Bounds.{Bounds}
 use Rattle.btree_insert.specs.declared.insert_below.Grown.{Grown}
@@ -47,6 +48,21 @@ pub record MayBeOverfull (k : ℕ) (n : Node) : Type 0 where
   pub fit : Each (IsElement) n.elements.items
   pub ascends : Ascends n.elements.items
   pub sons : SonsFit n.kind (length n.elements.items) n.sons.items
+
+-- a leaf in which an element has its place at i
+pub record MayGain (n : Node) (i : ℕ) (e : Element) : Type 0 where
+  pub leaf : n.kind ≡ Leaf
+  pub place : IsPlace n.elements.items e.0 i
+
+-- an inner node in which an element has its place at i, with a son to stand behind it
+pub record MayGainSon (n : Node) (i : ℕ) (e : Element) (son : ℕ) : Type 0 where
+  pub inner : n.kind ≡ Inner
+  pub place : IsPlace n.elements.items e.0 i
+  pub can_be : IsSon son
+
+-- the node with an element before element i, and a son behind son i
+abbrev pub with_son : Node → ℕ → Element → ℕ → Node
+with_son n i e son = record { kind = n.kind; elements = record { items = insert n.elements.items i e }; sons = record { items = insert n.sons.items (suc i) son } }
 
 -- what is written is in use or taken, and each taken number is written
 pub record WritesFit (pages : List (Option (List ℕ))) (writes : List (ℕ × List ℕ)) (taken : ℕ) : Type 0 where

@@ -36,14 +36,14 @@ pub record Belongs (spot : Spot) (n : Node) : Type 0 where
   pub kind : n.kind ≡ kind_of_level spot.level
   pub within : AreWithin spot.bounds n.elements.items
 
--- the node of page p, which can stand: where the page was searched in memory, its bytes there spell the node; any other page was read into «read»
-pub record IsKnown (k : ℕ) (pages : PagesView) (p : ℕ) (in_place : Bool) (read n : Node) : Type 0 where
+-- the node of page p, which can stand: where the page was searched in memory, its bytes there spell the node; any other page was read, and its bytes are «read»
+pub record IsKnown (k : ℕ) (pages : PagesView) (p : ℕ) (in_place : Bool) (read : List ℕ) (n : Node) : Type 0 where
   pub stands : CanStand n k
   pub lies : in_place ≡ true → is_in_memory pages p ≡ true → at pages.pages p ≡ Some (spelling n k)
-  pub was_read : (in_place && is_in_memory pages p) ≡ false → read ≡ n
+  pub was_read : (in_place && is_in_memory pages p) ≡ false → read ≡ spelling n k
 
 -- a node at a spot from which the search took a step, which over a steady store its page spells
-pub record Stepped (k : ℕ) (pages : PagesView) (spot : Spot) (key : List ℕ) (in_place : Bool) (read : Node) (step : Step) : Type 0 where
+pub record Stepped (k : ℕ) (pages : PagesView) (spot : Spot) (key : List ℕ) (in_place : Bool) (read : List ℕ) (step : Step) : Type 0 where
   pub node : Node
   pub known : IsKnown k pages spot.page in_place read node
   pub belongs : Belongs spot node

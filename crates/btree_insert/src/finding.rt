@@ -14,9 +14,8 @@ ghost use Rattle.btree_insert.specs.Steps.{CanSearch};
 use crate::bounds::Bounds;
 use crate::step::{Spot, Step, step_in_page, take_step};
 use crate::tree::{Tree, TreeFault};
-use btree_node::Node;
 use page_store::{Pages, Store};
-use rec_types::{Key, Record};
+use rec_types::{Key, PAGE_WIDTH, Record};
 
 /// The record at the key. It reads one page per level from the root until it meets the key. The
 /// conditions are an order from 1 to 16 and a height of at most 19. Faults: Device; Damaged with the
@@ -132,8 +131,8 @@ fn look_up_below<S: Store>(
     }
 }
 
-/// The record at the key in the tree below the page at a spot, with a node into which pages are read. It
-/// is made here, so that a look-up in memory has no room for it.
+/// The record at the key in the tree below the page at a spot, with bytes into which pages are read. They
+/// are made here, so that a look-up in memory has no room for them.
 fn read_below<S: Store>(
     pages: &mut Pages<S>,
     order: u16,
@@ -155,19 +154,19 @@ fn read_below<S: Store>(
         (λ fault. fault ≡ TreeFault.Device) }
     ensures reading { Looks spot.now.level pages.old result pages.new }
 {
-    let mut node = Node::blank();
-    find_below(pages, order, spot, key, in_place, &mut node)
+    let mut bytes = [0; PAGE_WIDTH];
+    find_below(pages, order, spot, key, in_place, &mut bytes)
 }
 
 /// The record at the key in the tree below the page at a spot. Each page on the way that is not searched
-/// where it lies is read into the one node.
+/// where it lies is read into the bytes.
 fn find_below<S: Store>(
     pages: &mut Pages<S>,
     order: u16,
     spot: &Spot,
     key: &Key,
     in_place: bool,
-    node: &mut Node,
+    bytes: &mut [u8; PAGE_WIDTH],
 ) -> Result<Option<Record>, TreeFault>
     requires search { CanSearch order spot.now in_place pages.old }
     ensures found { IsTrue pages.old.steady → (least : ℕ) (es : List Element) (us : List ℕ)
@@ -183,7 +182,7 @@ fn find_below<S: Store>(
         (λ fault. fault ≡ TreeFault.Device) }
     ensures reading { Looks spot.now.level pages.old result pages.new }
 {
-    match take_step(pages, order, spot, key, in_place, node)? {
+    match take_step(pages, order, spot, key, in_place, bytes)? {
         Step::Found(_, value) => Ok(Some(value)),
         Step::Ends(_) => Ok(None),
         Step::Goes(_, page, bounds) => {
@@ -192,7 +191,7 @@ fn find_below<S: Store>(
                 level: spot.level - 1,
                 bounds,
             };
-            find_below(pages, order, &below, key, in_place, node)
+            find_below(pages, order, &below, key, in_place, bytes)
         }
     }
 }

@@ -1,25 +1,27 @@
-ghost use Rattle.std.specs.Prelude.{◌≡◌, ◌+◌, ◌*◌, ◌<◌, ◌≤◌, ◌∷◌, ◌++◌, [], ℕ, List, ◌==◌, false, length, IsTrue, IsSome, IfOk, OnOk, MatchResult, slice_index_or, slice_set};
-ghost use Rattle.std.specs.List.{list_any};
+ghost use Rattle.std.specs.Prelude.{◌≡◌, ◌+◌, ◌*◌, ◌<◌, ◌≤◌, ◌∷◌, ◌++◌, [], ℕ, List, ◌==◌, false, length, IsTrue, IsSome, IfOk, OnOk, MatchResult};
+ghost use Rattle.std.specs.List.{insert, list_any};
 ghost use Rattle.page_store.specs.FreeNumbers.{candidate};
 ghost use Rattle.page_store.specs.PageMap.{at};
 ghost use Rattle.btree_node.specs.Lists.{Element, Each};
-ghost use Rattle.btree_node.specs.Spelling.{spelling, CanStand};
+ghost use Rattle.btree_node.specs.Spelling.{spelling, CanStand, IsElement, IsSpelt};
+ghost use Rattle.btree_node.specs.Written.{with_elements};
 ghost use Rattle.btree_insert.specs.Bounds.{AreWithin, Between};
 ghost use Rattle.btree_insert.specs.declared.bounds.Bounds.{Bounds};
-ghost use Rattle.btree_insert.specs.Growth.{IsOutside, MayBeOverfull, WritesFit, TakesNumbers, SplitGoesUp, WritesOrSplits, Grew, replaced, CanInsert, GrowsWithin};
+ghost use Rattle.btree_insert.specs.Growth.{IsOutside, MayBeOverfull, WritesFit, TakesNumbers, SplitGoesUp, WritesOrSplits, Grew, replaced, CanInsert, GrowsWithin, MayGain, MayGainSon, with_son};
 ghost use Rattle.btree_insert.specs.PageTrees.{Spells, TreeAt, Apart, tree_below};
 ghost use Rattle.btree_insert.specs.Reached.{Leads};
 ghost use Rattle.btree_node.specs.Layout.{IsOrder, IsSmallOrder};
 ghost use Rattle.btree_insert.specs.Steps.{IsKnown};
 ghost use Rattle.btree_insert.specs.PagesGrown.{edited};
-ghost use Rattle.btree_insert.specs.Edits.{IsInUse, Reads, OnlyWrites, WritesAndTakes, HasRoom};
+ghost use Rattle.btree_insert.specs.Edits.{CanSettle, IsInUse, Reads, OnlyWrites, WritesAndTakes, HasRoom};
 
+use crate::insert_in_one::{write_inserted, write_replaced};
 use crate::step::{Spot, Step, take_step};
 use crate::tree::{PATH_ROOM, TreeFault};
 use arrayvec::ArrayVec;
-use btree_node::{Node, decode_into, encode, split};
+use btree_node::{Node, count_in, decode_into, encode, split};
 use page_store::{PageEdit, Pages, Store};
-use rec_types::{Key, Memory, Record};
+use rec_types::{Key, Memory, PAGE_WIDTH, Record};
 
 /// What an insertion below a page came to.
 #[derive(Drop)]
@@ -85,23 +87,98 @@ pub fn was_visited(visited: &[u32], n: u32) -> bool
     visited.contains(&n)
 }
 
-/// Fills the node with what page n spells, after a step from there: where the page was searched in
-/// memory it is read now, and any other page is in the node already.
-fn fill_node<S: Store>(pages: &Pages<S>, order: u16, n: u32, in_place: bool, node: &mut Node)
-    requires order { IsSmallOrder order }
-    ensures known { (m : Node) → IsKnown order pages.now n in_place node.old m → node.new ≡ m }
+/// The bytes of page n after a step from there: where it lies in memory if it was searched there, else
+/// those that were read.
+fn bytes_at<'a, S: Store>(
+    pages: &'a Pages<S>,
+    n: u32,
+    in_place: bool,
+    read: &'a [u8; PAGE_WIDTH],
+) -> &'a [u8; PAGE_WIDTH]
+    ensures { (k : ℕ) (m : Node) → IsKnown k pages.now n in_place read.now m
+        → result.now ≡ spelling m k }
 {
     if in_place {
         if let Some(page) = pages.in_memory(n) {
-            let _ = decode_into(page, order, node);
+            return page;
         }
     }
+    read
+}
+
+/// Puts an element at its place in page n, a leaf, and splits the page where it is full: only then it
+/// becomes a node.
+fn put_in_leaf<S: Store>(
+    pages: &Pages<S>,
+    edit: &mut PageEdit,
+    order: u16,
+    n: u32,
+    page: &[u8; PAGE_WIDTH],
+    i: usize,
+    element: (Key, Record),
+) -> Result<Grown, Memory>
+    requires order { IsOrder order }
+    requires page { IsSpelt order page.now }
+    requires element { IsElement element }
+    requires leaf { (m : Node) → CanStand m order → page.now ≡ spelling m order
+        → MayGain m i element }
+    requires room { CanSettle pages.now.pages edit.old n }
+    ensures settles { (m : Node) → CanStand m order → page.now ≡ spelling m order
+        → IfOk result (WritesOrSplits order (candidate pages.now.pages edit.old.taken) edit.old
+        edit.new n (with_elements m (insert m.elements.items i element))) }
+    ensures edit { WritesAndTakes order pages.now.pages edit.old result edit.new }
+    ensures takes { IfOk result (TakesNumbers 1 edit.old.taken edit.new.taken) }
+    ensures goes_up { (m : Node) → CanStand m order → page.now ≡ spelling m order
+        → (bounds : Bounds) → AreWithin bounds (insert m.elements.items i element)
+        → IfOk result (SplitGoesUp bounds) }
+{
+    if count_in(page) < 2 * order as usize {
+        write_inserted(edit, order, n, page, i, element)?;
+        return Ok(Grown::Fits);
+    }
+    let mut node = Node::blank();
+    let _ = decode_into(page, order, &mut node);
+    node.elements.insert(i, element);
+    settle(pages, edit, order, n, node)
+}
+
+/// Puts into page n what a split of its son i left, and splits the page where it is full.
+fn put_in_father<S: Store>(
+    pages: &Pages<S>,
+    edit: &mut PageEdit,
+    order: u16,
+    n: u32,
+    page: &[u8; PAGE_WIDTH],
+    i: usize,
+    middle: (Key, Record),
+    right: u32,
+) -> Result<Grown, Memory>
+    requires order { IsOrder order }
+    requires page { IsSpelt order page.now }
+    requires element { IsElement middle }
+    requires father { (m : Node) → CanStand m order → page.now ≡ spelling m order
+        → MayGainSon m i middle right }
+    requires room { CanSettle pages.now.pages edit.old n }
+    ensures settles { (m : Node) → CanStand m order → page.now ≡ spelling m order
+        → IfOk result (WritesOrSplits order (candidate pages.now.pages edit.old.taken) edit.old
+        edit.new n (with_son m i middle right)) }
+    ensures edit { WritesAndTakes order pages.now.pages edit.old result edit.new }
+    ensures takes { IfOk result (TakesNumbers 1 edit.old.taken edit.new.taken) }
+    ensures goes_up { (m : Node) → CanStand m order → page.now ≡ spelling m order
+        → (bounds : Bounds) → AreWithin bounds (insert m.elements.items i middle)
+        → IfOk result (SplitGoesUp bounds) }
+{
+    let mut node = Node::blank();
+    let _ = decode_into(page, order, &mut node);
+    node.elements.insert(i, middle);
+    node.sons.insert(i + 1, right);
+    settle(pages, edit, order, n, node)
 }
 
 /// Puts the record at the key in the tree below the page at a spot, and collects the pages to write.
 /// `visited` gains the pages that were visited. Where `in_place`, a page in memory is searched where it
-/// lies, and is read into a node only where it changes. Faults: Device, Memory, and Damaged as in
-/// `take_step` and where a page is visited twice.
+/// lies. Only a page that is split, or whose son is, becomes a node. Faults: Device, Memory, and Damaged
+/// as in `take_step` and where a page is visited twice.
 pub(crate) fn insert_below<S: Store>(
     pages: &mut Pages<S>,
     edit: &mut PageEdit,
@@ -136,18 +213,16 @@ pub(crate) fn insert_below<S: Store>(
         return Err(TreeFault::Damaged(n));
     }
     visited.push(n);
-    let mut node = Node::blank();
-    match take_step(pages, order, spot, &element.0, in_place, &mut node)? {
-        Step::Found(i, _) => {
-            fill_node(pages, order, n, in_place, &mut node);
-            let old = replace(&mut node, i, element);
-            write_node(edit, order, n, &node)?;
+    let mut read = [0; PAGE_WIDTH];
+    match take_step(pages, order, spot, &element.0, in_place, &mut read)? {
+        Step::Found(i, old) => {
+            let page = bytes_at(pages, n, in_place, &read);
+            write_replaced(edit, order, n, page, i, element)?;
             Ok(Grown::Replaced(old))
         }
         Step::Ends(i) => {
-            fill_node(pages, order, n, in_place, &mut node);
-            node.elements.insert(i, element);
-            Ok(settle(pages, edit, order, n, node)?)
+            let page = bytes_at(pages, n, in_place, &read);
+            Ok(put_in_leaf(pages, edit, order, n, page, i, element)?)
         }
         Step::Goes(i, page, bounds) => {
             let below = Spot {
@@ -157,26 +232,11 @@ pub(crate) fn insert_below<S: Store>(
             };
             match insert_below(pages, edit, visited, order, &below, element, in_place)? {
                 Grown::Split(middle, right) => {
-                    fill_node(pages, order, n, in_place, &mut node);
-                    node.elements.insert(i, middle);
-                    node.sons.insert(i + 1, right);
-                    Ok(settle(pages, edit, order, n, node)?)
+                    let father = bytes_at(pages, n, in_place, &read);
+                    Ok(put_in_father(pages, edit, order, n, father, i, middle, right)?)
                 }
                 done => Ok(done),
             }
         }
     }
-}
-
-/// Puts an element in the place of another, and answers that one's record.
-fn replace(node: &mut Node, i: usize, element: (Key, Record)) -> Record
-    requires { i < length node.old.elements.items }
-    ensures old { (d : Element) → result ≡ (slice_index_or node.old.elements.items i d).1 }
-    ensures kind { node.new.kind ≡ node.old.kind }
-    ensures elements { node.new.elements.items ≡ slice_set node.old.elements.items i element }
-    ensures sons { node.new.sons ≡ node.old.sons }
-{
-    let old = node.elements[i].1;
-    node.elements.as_mut_slice()[i] = element;
-    old
 }

@@ -1,23 +1,24 @@
-ghost use Rattle.std.specs.Prelude.{◌≡◌, ◌*◌, ◌<◌, ◌∷◌, ◌++◌, [], ℕ, List, Some, None, Ok, length, IsSome, IfOk, IfSome, OnOk, slice_set, true};
+ghost use Rattle.std.specs.Prelude.{◌≡◌, ◌*◌, ◌<◌, ◌∷◌, ◌++◌, [], ℕ, List, length, IsSome, IfSome, OnOk, slice_set, true};
 ghost use Rattle.std.specs.List.{insert};
 ghost use Rattle.page_store.specs.PageMap.{at};
+ghost use Rattle.page_store.specs.PagesView.{is_in_memory};
 ghost use Rattle.btree_node.specs.Lists.{Element, IsAt, IsPlace};
 ghost use Rattle.btree_node.specs.Spelling.{spelling, CanStand, IsElement, IsSpelt, IsNodePage};
 ghost use Rattle.btree_node.specs.declared.node.Node.{Node};
 ghost use Rattle.btree_node.specs.declared.node.NodeKind.TheVariants.{Leaf};
 ghost use Rattle.btree_insert.specs.Bounds.{Between};
-ghost use Rattle.btree_insert.specs.Growth.{WritesFit, TakesNumbers, Grew, WritesAs, in_one, CanInsert};
+ghost use Rattle.btree_insert.specs.Growth.{Grew, WritesAs, in_one, CanInsert};
 ghost use Rattle.btree_insert.specs.PageTrees.{Spells, TreeAt, Apart, tree_below};
 ghost use Rattle.btree_insert.specs.Reached.{Leads};
-ghost use Rattle.btree_insert.specs.PagesGrown.{edited};
-ghost use Rattle.btree_insert.specs.Edits.{IsInUse, OnlyWrites, WritesAndTakes};
+ghost use Rattle.btree_insert.specs.PagesGrown.{written_over};
+ghost use Rattle.btree_insert.specs.Edits.{OnlyWrites};
 
 use crate::step::{Spot, Step, step_in_page};
 use btree_node::{count_in, insert_in, replace_in};
 use page_store::{PageEdit, Pages, Store};
 use rec_types::{Key, Memory, PAGE_WIDTH, Record};
 
-/// The one page that an insertion changed.
+/// The one page that an insertion changes.
 #[derive(Clone, Copy)]
 pub(crate) struct Placed {
     /// Its number.
@@ -26,56 +27,51 @@ pub(crate) struct Placed {
     pub old: Option<Record>,
 }
 
-/// Puts the record at the key in the tree below the page at a spot where that changes one page alone and
-/// all pages on the way are in memory, and answers that page with what stood at the key. None where it
-/// is not so, or a page does not belong on the way: the edit is as it was then. Fault: Memory.
+/// Finds the page that an insertion into the tree below a spot changes, where it changes one alone and all
+/// pages on the way are in memory; `bytes` are then those of the page with the record at the key. None
+/// where it is not so, or a page does not belong on the way: `bytes` may then be any.
 pub(crate) fn insert_in_one<S: Store>(
     pages: &Pages<S>,
-    edit: &mut PageEdit,
     order: u16,
     spot: &Spot,
     element: (Key, Record),
-) -> Result<Option<Placed>, Memory>
-    requires can { CanInsert order spot.now true pages.now element }
-    requires fits { WritesFit pages.now.pages edit.old.writes.items edit.old.taken }
-    ensures grew { edit.old.writes.items ≡ []
-        → (least : ℕ) (es : List Element) (us : List ℕ)
+    bytes: &mut [u8; PAGE_WIDTH],
+) -> Option<Placed>
+    requires { CanInsert order spot.now true pages.now element }
+    ensures grew { (least : ℕ) (es : List Element) (us : List ℕ)
         → TreeAt order (at pages.now.pages) least spot.now.level spot.now.page es us
         → Between spot.now.bounds es → Apart us
-        → IfOk result (λ r. IfSome r (λ placed.
-        Grew (tree_below order least spot.now.level spot.now.page)
-        (edited pages.now.pages edit.old.taken edit.new) es us element.0 element.1
-        (in_one placed.old))) }
-    ensures led { IfOk result (λ r. IfSome r (λ placed. Leads
-        (Spells order (at pages.now.pages)) element.0 spot.now.level spot.now.page spot.now.bounds
-        placed.old)) }
-    ensures none { result ≡ Ok None → edit.new ≡ edit.old }
-    ensures edit { WritesAndTakes order pages.now.pages edit.old result edit.new }
-    ensures takes { IfOk result (λ r. IfSome r (λ placed.
-        TakesNumbers spot.now.level edit.old.taken edit.new.taken (in_one placed.old))) }
-    ensures in_use { IfOk result (λ r. IsSome r → IsInUse pages.now.pages spot.now.page) }
+        → IfSome result (λ placed. Grew (tree_below order least spot.now.level spot.now.page)
+        (written_over pages.now.pages placed.page bytes.new) es us element.0 element.1
+        (in_one placed.old)) }
+    ensures led { IfSome result (λ placed. Leads (Spells order (at pages.now.pages)) element.0
+        spot.now.level spot.now.page spot.now.bounds placed.old) }
+    ensures spelt { IsSome result → IsSpelt order bytes.new }
+    ensures lies { IfSome result (λ placed. is_in_memory pages.now placed.page ≡ true) }
 {
     let n = spot.page;
     let Some(page) = pages.in_memory(n) else {
-        return Ok(None);
+        return None;
     };
     let Ok(step) = step_in_page(page, order, spot, &element.0) else {
-        return Ok(None);
+        return None;
     };
     match step {
         Step::Found(i, old) => {
-            write_replaced(edit, order, n, page, i, element)?;
-            Ok(Some(Placed {
+            *bytes = *page;
+            replace_in(bytes, order, i, &element);
+            Some(Placed {
                 page: n,
                 old: Some(old),
-            }))
+            })
         }
         Step::Ends(i) => {
             if count_in(page) >= 2 * order as usize {
-                return Ok(None);
+                return None;
             }
-            write_inserted(edit, order, n, page, i, element)?;
-            Ok(Some(Placed { page: n, old: None }))
+            *bytes = *page;
+            insert_in(bytes, page, order, i, &element);
+            Some(Placed { page: n, old: None })
         }
         Step::Goes(_, son, bounds) => {
             let below = Spot {
@@ -83,13 +79,13 @@ pub(crate) fn insert_in_one<S: Store>(
                 level: spot.level - 1,
                 bounds,
             };
-            insert_in_one(pages, edit, order, &below, element)
+            insert_in_one(pages, order, &below, element, bytes)
         }
     }
 }
 
 /// Writes page n with the element in the place of the one that has its key.
-fn write_replaced(
+pub(crate) fn write_replaced(
     edit: &mut PageEdit,
     order: u16,
     n: u32,
@@ -128,7 +124,7 @@ fn write_page(
 }
 
 /// Writes page n, a leaf that has room, with the element at its place.
-fn write_inserted(
+pub(crate) fn write_inserted(
     edit: &mut PageEdit,
     order: u16,
     n: u32,

@@ -1,9 +1,10 @@
-ghost use Rattle.std.specs.Prelude.{◌≡◌, ◌+◌, ◌-◌, ◌<◌, ◌≤◌, ◌↔◌, ◌∷◌, ◌++◌, [], ℕ, List, None, true, false, IsTrue, Ok, IfOk, IfSome, OnOk, MatchResult, length};
+ghost use Rattle.std.specs.Prelude.{◌≡◌, ◌+◌, ◌-◌, ◌<◌, ◌≤◌, ◌↔◌, ◌∷◌, ◌++◌, [], ℕ, List, None, true, false, IsTrue, IsSome, IfOk, IfSome, OnOk, MatchResult, length};
 ghost use Rattle.page_store.specs.FreeNumbers.{candidate, count_after};
 ghost use Rattle.page_store.specs.PageMap.{at};
+ghost use Rattle.page_store.specs.PagesView.{OnlyStages};
 ghost use Rattle.btree_node.specs.Lists.{Element};
 ghost use Rattle.btree_node.specs.Spelling.{spelling, CanStand, IsElement};
-ghost use Rattle.btree_insert.specs.Growth.{IsOutside, WritesFit, TakesNumbers, SplitGoesUp, Grew, in_one, replaced};
+ghost use Rattle.btree_insert.specs.Growth.{IsOutside, WritesFit, TakesNumbers, SplitGoesUp, Grew, replaced};
 ghost use Rattle.btree_insert.specs.Inserted.{leaf_of, root_of, Inserted, IsSmall, IsRefused};
 ghost use Rattle.btree_insert.specs.PageTrees.{Spells, Holds, tree_below};
 ghost use Rattle.btree_insert.specs.Reached.{LeadsFrom};
@@ -21,7 +22,7 @@ use crate::tree::{GREATEST_COUNT, GREATEST_HEIGHT, GREATEST_PAGE_COUNT, Tree, Tr
 use arrayvec::ArrayVec;
 use btree_node::{Node, NodeKind};
 use page_store::{PageEdit, Pages, Store};
-use rec_types::{KEY_WIDTH, Key, Memory, RECORD_WIDTH, Record};
+use rec_types::{KEY_WIDTH, Key, Memory, PAGE_WIDTH, RECORD_WIDTH, Record};
 use std::alloc::Global;
 
 /// A tree after an insertion that is not in place yet.
@@ -97,7 +98,7 @@ fn is_small<S: Store>(pages: &Pages<S>, tree: &Tree, taken: u32) -> bool
 }
 
 /// Puts the record at the key of a tree, and collects the pages to write. Where `in_place`, a page in
-/// memory is searched where it lies, and where one page changes alone no other becomes a node.
+/// memory is searched where it lies.
 fn grow_tree<S: Store>(
     pages: &mut Pages<S>,
     edit: &mut PageEdit,
@@ -123,13 +124,7 @@ fn grow_tree<S: Store>(
     if tree.height == 0 {
         return Ok(plant(pages, edit, tree, element)?);
     }
-    if !in_place {
-        return grow_below(pages, edit, tree, element, false);
-    }
-    match grow_in_one(pages, edit, tree, element)? {
-        Some(changed) => Ok(changed),
-        None => grow_below(pages, edit, tree, element, true),
-    }
+    grow_below(pages, edit, tree, element, in_place)
 }
 
 /// Puts the record at the key of a tree that has a root, level by level.
@@ -176,50 +171,6 @@ fn grow_below<S: Store>(
     )?;
     let leaf = visited[visited.len() - 1];
     Ok(changed_tree(pages, edit, tree, grown, leaf)?)
-}
-
-/// Puts the record at the key of a tree that has a root, where that changes one page alone and all pages
-/// on the way are in memory. None where it is not so: the edit is as it was then.
-fn grow_in_one<S: Store>(
-    pages: &Pages<S>,
-    edit: &mut PageEdit,
-    tree: &Tree,
-    element: (Key, Record),
-) -> Result<Option<Changed>, Memory>
-    requires height { 0 < tree.now.height }
-    requires grow { CanGrow true tree.now pages.now element edit.old }
-    ensures grew { (es : List Element) (us : List ℕ) → Holds (at pages.now.pages) tree.now es us
-        → IfOk result (λ r. IfSome r (λ changed. Inserted (edited pages.now.pages 0 edit.new)
-        tree.now es us element.0 element.1 (changed.tree, changed.old))) }
-    ensures led { IfOk result (λ r. IfSome r (λ changed. LeadsFrom
-        (Spells tree.now.order (at pages.now.pages)) element.0 tree.now.height tree.now.root
-        changed.old)) }
-    ensures none { result ≡ Ok None → edit.new ≡ edit.old }
-    ensures edit { WritesAndTakes tree.now.order pages.now.pages edit.old result edit.new }
-    ensures few { OnOk result (edit.new.taken ≤ greatest_height + 1) }
-    ensures next { IfOk result (λ r. IfSome r (λ changed.
-        IsNext tree.now edit.new.taken changed.tree)) }
-{
-    let root = Spot {
-        page: tree.root,
-        level: tree.height,
-        bounds: Bounds {
-            low: None,
-            high: None,
-        },
-    };
-    let Some(placed) = insert_in_one(pages, edit, tree.order, &root, element)? else {
-        return Ok(None);
-    };
-    let changed = changed_tree(pages, edit, tree, grown_in_one(placed.old), placed.page)?;
-    Ok(Some(changed))
-}
-
-/// What an insertion that changed one page came to.
-fn grown_in_one(old: Option<Record>) -> Grown
-    ensures { result ≡ in_one old }
-{
-    old.map_or(Grown::Fits, Grown::Replaced)
 }
 
 /// The tree after an insertion below its root. Where the root was split, a new root stands above its
@@ -367,7 +318,7 @@ pub fn insert<S: Store>(
 }
 
 /// The same as `insert`, where each page in memory is known to spell a node of the order: it is searched
-/// where it lies, and only the pages that change are read into nodes.
+/// where it lies, and where that page changes alone it is written over there.
 pub fn insert_in_place<S: Store>(
     alloc: Global,
     pages: &mut Pages<S>,
@@ -392,7 +343,61 @@ pub fn insert_in_place<S: Store>(
     ensures spelt { AreSpeltIn tree.now.order pages.new }
     ensures stages { Stages tree.now.height pages.old result pages.new }
 {
+    if let Some(done) = insert_where_it_lies(pages, tree, element_of(key, value)) {
+        return Ok(done);
+    }
     insert_from_root(alloc, pages, tree, key, value, true)
+}
+
+/// Puts the record at the key where that changes one page alone and all pages on the way are in memory:
+/// the page is written over, and no memory is asked for. None where it is not so, or where the tree might
+/// pass a limit; no page has changed then.
+fn insert_where_it_lies<S: Store>(
+    pages: &mut Pages<S>,
+    tree: &Tree,
+    element: (Key, Record),
+) -> Option<(Tree, Option<Record>)>
+    requires tree { IsSpeltTree tree.now pages.old }
+    requires element { IsElement element }
+    ensures inserted { (es : List Element) (us : List ℕ) → Holds (at pages.old.pages) tree.now es us
+        → IfSome result (λ r. Inserted (taking pages.old.pages (at pages.new.pages) 0)
+        tree.now es us element.0 element.1 r) }
+    ensures led { IfSome result (λ r. LeadsFrom (Spells tree.now.order (at pages.old.pages))
+        element.0 tree.now.height tree.now.root r.1) }
+    ensures grown { IfSome result (λ r. IsSmall r.0 (length pages.new.pages)
+        × (r.0.order ≡ tree.now.order)) }
+    ensures page_count { IfSome result (λ r. (tree.now.used ≤ r.0.used)
+        × (length pages.new.pages ≡ count_after pages.old.pages (r.0.used - tree.now.used))) }
+    ensures changed { IsSome result → pages.new.changed ≡ true }
+    ensures spelt { AreSpeltIn tree.now.order pages.new }
+    ensures store { OnlyStages pages.old pages.new
+        × (pages.new.failures ≡ pages.old.failures) × (pages.new.reads ≡ pages.old.reads) }
+    ensures none { result ≡ None → pages.new ≡ pages.old }
+{
+    if tree.height == 0 {
+        return None;
+    }
+    let grown = grown_tree(tree, tree.root, tree.height, 0);
+    if !is_small(pages, &grown, 0) {
+        return None;
+    }
+    let root = Spot {
+        page: tree.root,
+        level: tree.height,
+        bounds: Bounds {
+            low: None,
+            high: None,
+        },
+    };
+    let mut bytes = [0; PAGE_WIDTH];
+    let Some(placed) = insert_in_one(pages, tree.order, &root, element, &mut bytes) else {
+        return None;
+    };
+    pages.write_over(placed.page, &bytes);
+    match placed.old {
+        Some(old) => Some((*tree, Some(old))),
+        None => Some((grown, None)),
+    }
 }
 
 /// Puts the record at the key, and answers the new tree and the record that stood there. Where

@@ -1,6 +1,6 @@
-ghost use Rattle.std.specs.Prelude.{◌≡◌, ◌<◌, ◌⊎◌, IsTrue, IfErr, OnOk, IsOk, MatchResult};
+ghost use Rattle.std.specs.Prelude.{◌≡◌, ◌<◌, ◌⊎◌, Some, None, IsTrue, IfErr, OnOk, IsOk, MatchResult};
 ghost use Rattle.page_store.specs.PageMap.{at};
-ghost use Rattle.btree_node.specs.Spelling.{spelling, CanStand};
+ghost use Rattle.btree_node.specs.Spelling.{spelling, CanStand, IsSpelt};
 ghost use Rattle.btree_node.specs.declared.node.Node.{Node};
 ghost use Rattle.btree_insert.specs.Bounds.{AreWithin};
 ghost use Rattle.btree_insert.specs.PageTrees.{Spells, kind_of_level};
@@ -9,7 +9,7 @@ ghost use Rattle.btree_insert.specs.Edits.{IsInUse, Reads};
 
 use crate::bounds::{Bounds, are_within};
 use crate::tree::TreeFault;
-use btree_node::{Node, NodeKind, decode_into};
+use btree_node::{Node, NodeKind, decode_into, is_node_page};
 use page_store::{FetchFault, Pages, Store};
 use rec_types::PAGE_WIDTH;
 
@@ -43,10 +43,57 @@ pub fn read_into<S: Store>(
         return take_into(page, order, kind, n, bounds, node);
     }
     let mut page = [0; PAGE_WIDTH];
-    match pages.fetch(n, &mut page) {
-        Ok(()) => take_into(&page, order, kind, n, bounds, node),
+    fetch_page(pages, n, &mut page)?;
+    take_into(&page, order, kind, n, bounds, node)
+}
+
+/// Reads page n. Faults: Device, and Damaged(n) where the page is not in use.
+fn fetch_page<S: Store>(
+    pages: &mut Pages<S>,
+    n: u32,
+    page: &mut [u8; PAGE_WIDTH],
+) -> Result<(), TreeFault>
+    ensures page { IsTrue pages.old.steady
+        → OnOk result (at pages.old.pages n ≡ Some page.new) }
+    ensures fault { IfErr result (λ fault. (fault ≡ TreeFault.Device)
+        ⊎ ((fault ≡ TreeFault.Damaged n) × (at pages.old.pages n ≡ None))) }
+    ensures in_use { OnOk result (IsInUse pages.old.pages n) }
+    ensures reading { Reads 1 pages.old result pages.new }
+{
+    match pages.fetch(n, page) {
+        Ok(()) => Ok(()),
         Err(FetchFault::Device) => Err(TreeFault::Device),
         Err(FetchFault::OutOfRange) => Err(TreeFault::Damaged(n)),
+    }
+}
+
+/// Reads page n, which spells a node of the order: no node is made. The condition is an order of at most
+/// 16. Faults: Device, and Damaged(n) where the page is not in use or spells no node; the bytes may then
+/// be any. No page changes.
+pub(crate) fn read_bytes<S: Store>(
+    pages: &mut Pages<S>,
+    order: u16,
+    n: u32,
+    page: &mut [u8; PAGE_WIDTH],
+) -> Result<(), TreeFault>
+    requires { IsSmallOrder order }
+    ensures exact { IsTrue pages.old.steady → (m : Node)
+        → Spells order (at pages.old.pages) n m
+        → MatchResult result (λ _. page.new ≡ spelling m order)
+        (λ fault. fault ≡ TreeFault.Device) }
+    ensures spelt { OnOk result (IsSpelt order page.new) }
+    ensures page { IsTrue pages.old.steady
+        → OnOk result (at pages.old.pages n ≡ Some page.new) }
+    ensures fault { IfErr result
+        (λ fault. (fault ≡ TreeFault.Device) ⊎ (fault ≡ TreeFault.Damaged n)) }
+    ensures in_use { OnOk result (IsInUse pages.old.pages n) }
+    ensures reading { Reads 1 pages.old result pages.new }
+{
+    fetch_page(pages, n, page)?;
+    if is_node_page(page, order) {
+        Ok(())
+    } else {
+        Err(TreeFault::Damaged(n))
     }
 }
 

@@ -1,17 +1,16 @@
-ghost use Rattle.std.specs.Prelude.{◌≡◌, ◌<◌, ◌≤◌, ◌⊎◌, ◌↔◌, length, IsTrue, IsOk, IfOk, IfErr, OnOk, MatchResult};
+ghost use Rattle.std.specs.Prelude.{◌≡◌, ◌<◌, ◌≤◌, ◌⊎◌, ◌↔◌, IsTrue, IsOk, IfOk, IfErr, OnOk, MatchResult};
 ghost use Rattle.page_store.specs.PageMap.{at};
-ghost use Rattle.btree_node.specs.Lists.{Ascends};
-ghost use Rattle.btree_node.specs.Spelling.{spelling, CanStand, SonsFit, IsNodePage};
+ghost use Rattle.btree_node.specs.Spelling.{spelling, CanStand, IsNodePage};
 ghost use Rattle.btree_node.specs.declared.node.Node.{Node};
 ghost use Rattle.btree_insert.specs.Bounds.{AreWithin, low_at, high_at, son_bounds};
-ghost use Rattle.btree_insert.specs.PageTrees.{Spells, kind_of_level};
+ghost use Rattle.btree_insert.specs.PageTrees.{Spells};
 ghost use Rattle.btree_insert.specs.Steps.{Steps, Belongs, Stepped, CanSearch, HasSonAt};
 ghost use Rattle.btree_insert.specs.Edits.{IsInUse, Reads};
 
-use crate::bounds::{Bounds, bounds_of_son, is_over, is_under};
-use crate::reading::{kind_of_level, read_into};
+use crate::bounds::{Bounds, is_over, is_under};
+use crate::reading::{kind_of_level, read_bytes};
 use crate::tree::TreeFault;
-use btree_node::{Node, count_in, key_in, kind_in, place_in, place_of, record_in, son_in};
+use btree_node::{count_in, key_in, kind_in, place_in, record_in, son_in};
 use page_store::{Pages, Store};
 use rec_types::{Key, PAGE_WIDTH, Record};
 
@@ -38,15 +37,15 @@ pub enum Step {
 }
 
 /// Takes the step of the search for a key from the page at a spot. Where `in_place`, a page in memory is
-/// searched where it lies; any other is read into the node. Faults: Device, and Damaged with the page
-/// where it is not in use or no node that belongs at the spot. No page changes.
+/// searched where it lies; any other is read into the bytes, and searched there. Faults: Device, and
+/// Damaged with the page where it is not in use or no node that belongs at the spot. No page changes.
 pub(crate) fn take_step<S: Store>(
     pages: &mut Pages<S>,
     order: u16,
     spot: &Spot,
     key: &Key,
     in_place: bool,
-    node: &mut Node,
+    bytes: &mut [u8; PAGE_WIDTH],
 ) -> Result<Step, TreeFault>
     requires search { CanSearch order spot.now in_place pages.old }
     ensures exact { IsTrue pages.old.steady → (m : Node)
@@ -54,7 +53,7 @@ pub(crate) fn take_step<S: Store>(
         → MatchResult result (Steps spot.now.level m spot.now.bounds key.now)
         (λ fault. fault ≡ TreeFault.Device) }
     ensures stepped { IfOk result
-        (Stepped order pages.old spot.now key.now in_place node.new) }
+        (Stepped order pages.old spot.now key.now in_place bytes.new) }
     ensures in_use { OnOk result (IsInUse pages.old.pages spot.now.page) }
     ensures fault { IfErr result
         (λ fault. (fault ≡ TreeFault.Device) ⊎ (fault ≡ TreeFault.Damaged spot.now.page)) }
@@ -65,29 +64,8 @@ pub(crate) fn take_step<S: Store>(
             return step_in_page(page, order, spot, key);
         }
     }
-    let kind = kind_of_level(spot.level);
-    read_into(pages, order, kind, spot.page, &spot.bounds, node)?;
-    Ok(step_in_node(node, spot, key))
-}
-
-/// The step from a node.
-fn step_in_node(node: &Node, spot: &Spot, key: &Key) -> Step
-    requires level { 0 < spot.now.level }
-    requires ascends { Ascends node.now.elements.items }
-    requires sons { SonsFit (kind_of_level spot.now.level) (length node.now.elements.items)
-        node.now.sons.items }
-    ensures { Steps spot.now.level node.now spot.now.bounds key.now result }
-{
-    match place_of(node, key) {
-        Ok(i) => Step::Found(i, node.elements[i].1),
-        Err(i) => {
-            if spot.level == 1 {
-                return Step::Ends(i);
-            }
-            let below = bounds_of_son(&spot.bounds, node.elements.as_slice(), i);
-            Step::Goes(i, node.sons[i], below)
-        }
-    }
+    read_bytes(pages, order, spot.page, bytes)?;
+    step_in_page(bytes, order, spot, key)
 }
 
 /// The step from a page that spells a node. Fault: Damaged with the page where the node does not belong at
@@ -107,7 +85,7 @@ pub fn step_in_page(
         → Belongs spot.now m → IsOk result }
     ensures fault { IfErr result (λ fault. fault ≡ TreeFault.Damaged spot.now.page) }
 {
-    if kind_in(page) != kind_of_level(spot.level) || !is_within(page, order, &spot.bounds) {
+    if kind_in(page) != kind_of_level(spot.level) || !is_page_within(page, order, &spot.bounds) {
         return Err(TreeFault::Damaged(spot.page));
     }
     match place_in(page, order, key) {
@@ -122,8 +100,8 @@ pub fn step_in_page(
     }
 }
 
-/// Whether the keys of the node that the page spells are within the bounds.
-fn is_within(page: &[u8; PAGE_WIDTH], order: u16, bounds: &Bounds) -> bool
+/// Whether the keys of the node that the page spells are within the bounds, in a tree of that order.
+pub fn is_page_within(page: &[u8; PAGE_WIDTH], order: u16, bounds: &Bounds) -> bool
     requires { IsNodePage order page.now }
     ensures { (m : Node) → CanStand m order → page.now ≡ spelling m order
         → IsTrue result ↔ AreWithin bounds.now m.elements.items }

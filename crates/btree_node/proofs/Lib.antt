@@ -1,4 +1,5 @@
 pub mod QuickPassLemmas
+pub mod NodePageLemmas
 pub mod PagePartLemmas
 pub mod SplitLemmas
 pub mod HeaderLemmas

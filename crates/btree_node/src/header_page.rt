@@ -20,18 +20,23 @@ const CLEAN: u8 = 1;
 /// The state of a file that is being written.
 const WRITING: u8 = 2;
 
-/// Where the fields stand behind the magic.
-const VERSION_AT: usize = 8;
+/// Where the version stands, behind the magic.
+pub const VERSION_AT: usize = 8;
 
-const ORDER_AT: usize = 10;
+/// Where the order of the tree stands.
+pub const ORDER_AT: usize = 10;
 
-const PAGES_AT: usize = 12;
+/// Where the number of pages stands.
+pub const PAGES_AT: usize = 12;
 
-const ROOT_AT: usize = 16;
+/// Where the root's page number stands.
+pub const ROOT_AT: usize = 16;
 
-const COUNT_AT: usize = 20;
+/// Where the number of records stands.
+pub const COUNT_AT: usize = 20;
 
-const STATE_AT: usize = 24;
+/// Where the state stands, which is the last field.
+pub const STATE_AT: usize = 24;
 
 /// The header that the page spells, of a file that was closed. The faults in their order: BadMagic,
 /// BadVersion with the version of the page, BadOrder, NotClean, BadHeader.

@@ -1,11 +1,14 @@
 ghost use Rattle.std.specs.Prelude.{◌≡◌, ◌+◌, ◌*◌, ◌≤◌};
 ghost use Rattle.rec_types.specs.Widths.{page_width};
-ghost use Rattle.btree_node.specs.Layout.{place_width, place_start, sons_start, most_keys, IsNarrow, CanHoldKeys, CanHoldOrder};
+ghost use Rattle.btree_node.specs.Layout.{layout_of, place_width, place_start, sons_start, most_keys, IsNarrow, CanHoldKeys, CanHoldOrder};
 
 use rec_types::{KEY_WIDTH, RECORD_WIDTH};
 
 /// The greatest order of a tree: a page of it has room for its places and sons.
 pub const GREATEST_ORDER: u16 = 16;
+
+/// The most keys of a page, of any order.
+pub const MOST_KEYS: usize = 32;
 
 /// Where the record's length stands in a place, behind the key's length and the key.
 pub const RECORD_AT: usize = 1 + KEY_WIDTH;
@@ -36,6 +39,18 @@ pub const FIRST_LAYOUT: Layout = Layout { record_width: 32 };
 pub const SECOND_LAYOUT: Layout = Layout {
     record_width: RECORD_WIDTH,
 };
+
+/// The layout of the node pages of a file of that version.
+pub fn layout_of(version: u16) -> Layout
+    ensures value { result ≡ layout_of version }
+    ensures narrow { IsNarrow result }
+{
+    if version == FIRST_VERSION {
+        FIRST_LAYOUT
+    } else {
+        SECOND_LAYOUT
+    }
+}
 
 impl Layout {
     /// The bytes of a place: a key and a record, each behind its length.

@@ -122,7 +122,7 @@ fn fill_sons(
 }
 
 /// Whether the bytes of the head that belong to no field are zero.
-fn head_is_zero(page: &[u8; PAGE_WIDTH]) -> bool
+pub(crate) fn head_is_zero(page: &[u8; PAGE_WIDTH]) -> bool
     ensures second { IsTrue result → IsZero (part 1 1 page.now) }
     ensures head { IsTrue result → IsZero (part 4 4 page.now) }
 {
@@ -130,7 +130,7 @@ fn head_is_zero(page: &[u8; PAGE_WIDTH]) -> bool
 }
 
 /// Whether the places behind `count` places and the bytes behind `sons` sons are zero.
-fn rest_is_zero(page: &[u8; PAGE_WIDTH], k: u16, count: usize, sons: usize) -> bool
+pub(crate) fn rest_is_zero(page: &[u8; PAGE_WIDTH], k: u16, count: usize, sons: usize) -> bool
     requires room { CanHoldSons second_layout k sons }
     requires count { count ≤ 2 * k }
     ensures places { IsTrue result → IsZero (part (place_start second_layout count)

@@ -1,16 +1,17 @@
 -- Outcomes of the examples, and why there are no others.
 use Rattle.std.proofs.Common.{◌≡◌, ◌≢◌, ◌⊎◌, ⊎_elim, inl, inr, ℕ, zero, suc, ◌<◌, true, false, List, [], ◌∷◌, ◌++◌, get_or, set, slice_get, Option, Some, None, unwrap_or, All, is_some, refl, sym, ◌∙◌, ap, arith}
-use Rattle.page_journal.specs.Files.{PageFile, Kept, Files, Agree, is_kept, restored, recovered, recovered_by}
+use Rattle.page_journal.specs.Files.{PageFile, Kept, Files, Agree, IsOf, is_kept, restored, recovered}
+use Rattle.page_journal.specs.Sums.{sum_start}
 use Rattle.page_journal.specs.Crash.{StandsFor, IsEither, Gathered}
 use Rattle.page_journal.specs.History.{MayLeave}
-use Rattle.page_journal.specs.Examples.{pages_of_two, alone, old_file, page_1_kept, page_1_written, both_written, both_writes, side_made, side_named, named_early, bad_side, page_1_steps, both_steps}
+use Rattle.page_journal.specs.Examples.{pages_of_two, alone, old_file, word, words, word_kept, page_1_kept, page_1_written, both_written, both_writes, side_made, side_named, named_early, bad_side, page_1_steps, both_steps}
 use Rattle.page_journal.specs.declared.disk_call.DiskCall.TheVariants.{Write, Name, Remove, SyncNames}
 use Rattle.page_store.specs.Journal.{carried}
 use Rattle.page_store.specs.declared.step.Step.TheVariants as steps
 use Rattle.page_journal.specs.Carrying.{WritesKept}
 use Rattle.page_journal.proofs.MemDiskLemmas.{ghosts_of}
-use Rattle.page_journal.proofs.RestoreLemmas.{restores_same, agree_itself, agree_put}
-use Rattle.page_journal.proofs.SealedLemmas.{named_so, named_stands}
+use Rattle.page_journal.proofs.RestoreLemmas.{agree_itself, agree_put}
+use Rattle.page_journal.proofs.SealedLemmas.{named_so, named_stands, kept_stands}
 
 pub page_1_agrees : Agree page_1_kept old_file.pages page_1_written
 page_1_agrees = record { first_long = omega arith; long = omega arith; same = at }
@@ -58,7 +59,7 @@ never_other left =
     omega (arith, there, was)
 
 abbrev both_kept : Kept
-both_kept = record { long = 2; pages = (0, 1 ∷ []) ∷ (1, 2 ∷ []) ∷ [] }
+both_kept = record { long = 2; rest = Some sum_start; pages = (0, 1 ∷ []) ∷ (1, 2 ∷ []) ∷ [] }
 
 both_gathered : Gathered old_file.pages both_kept
 both_gathered = record { long = refl; pages_there = at }
@@ -67,6 +68,19 @@ both_gathered = record { long = refl; pages_there = at }
     at zero d below = refl
     at (suc zero) d below = refl
     at (suc (suc k)) d below = absurd (omega (arith, below))
+
+both_own : IsOf both_kept old_file.pages
+both_own = record { long = omega arith; rest = ((omega arith, omega arith, (omega arith, omega arith, tt)), refl) }
+
+-- whose side file it is
+pub word_own : (b : ℕ) → IsOf word_kept (words 1 b)
+word_own b = record { long = omega arith; rest = ((omega arith, omega arith, tt), refl) }
+
+pub word_other : IsOf word_kept (words 7 2) → ⊥
+word_other own = omega (arith, own.rest.1)
+
+pub word_short : IsOf word_kept (word 1 ∷ []) → ⊥
+word_short own = omega (arith, own.long)
 
 -- the side file that the device keeps, beside the old file
 made : (d : Files) → MayLeave (alone old_file) side_made d → (d.main ≡ old_file) × (d.side ≡ None) × (d.fresh ≡ both_kept)
@@ -83,7 +97,7 @@ named c left =
     (left.2.main ∙ was.0, ⊎_elim (λ stays. inl (stays ∙ was.1)) (λ now. inr (now ∙ ap (λ (k : Kept). Some k) was.2)) left.2.side)
 
 pub named_old : (c : Files) → MayLeave (alone old_file) (Name ∷ side_made) c → StandsFor old_file c
-named_old c left = named_stands (ghosts_of (alone old_file)) old_file both_kept refl both_gathered c (named c left)
+named_old c left = named_stands (ghosts_of (alone old_file)) old_file both_kept refl both_gathered both_own c (named c left)
 
 -- it has the name
 side_there : (c : Files) → MayLeave (alone old_file) side_named c → (c.main ≡ old_file) × (c.side ≡ Some both_kept)
@@ -96,17 +110,17 @@ sealed_old c left =
     let was = side_there left.1.0 left.1.1 in
     let first : Agree both_kept old_file.pages left.0.main.pages = agree_put both_kept old_file.pages old_file.pages left.0.main.pages 0 left.1.2.page (agree_itself both_kept old_file.pages (omega arith)) (ap (λ (m : PageFile). m.pages) left.1.2.main ∙ ap (λ (m : PageFile). set m.pages 0 left.1.2.page) was.0) (inl refl) in
     let second : Agree both_kept old_file.pages c.main.pages = agree_put both_kept old_file.pages left.0.main.pages c.main.pages 1 left.2.page first (ap (λ (m : PageFile). m.pages) left.2.main) (inl refl) in
-    ap (λ side. recovered_by side c.main) (left.2.side ∙ left.1.2.side ∙ was.1) ∙ restores_same both_kept old_file.pages c.main.pages second
+    kept_stands both_kept old_file.pages c (left.2.side ∙ left.1.2.side ∙ was.1) second both_own
 
 abbrev bad_kept : Kept
-bad_kept = record { long = 2; pages = (0, 5 ∷ []) ∷ [] }
+bad_kept = record { long = 2; rest = None; pages = (0, 5 ∷ []) ∷ [] }
 
 pub never_named_early : ((c : Files) → MayLeave (alone old_file) named_early c → StandsFor old_file c) → ⊥
 never_named_early all =
     let begun : Files = record { main = old_file; fresh = bad_kept; side = None } in
     let left : MayLeave (alone old_file) named_early bad_side =
     (bad_side, (begun, (alone old_file, (alone old_file, (alone old_file, refl, record { main = refl; side = refl }), record { main = refl; side = refl }), record { main = refl; side = refl }), record { main = refl; side = inr refl }), (refl, refl)) in
-    omega (arith, ap (λ (m : PageFile). get_or (get_or m.pages 0 []) 0 0) (all bad_side left))
+    omega (arith, ap (λ (m : PageFile). get_or (get_or m.pages 0 []) 0 0) (all bad_side left).1)
 
 -- an outcome with the side file made and nothing lost
 abbrev ready : PageFile → Option Kept → Files
@@ -120,7 +134,7 @@ never_written_early all =
     let c = ready (pages_of_two 7 2) None in
     let left : MayLeave (alone old_file) (both_writes ++ Name ∷ side_made) c =
     (c, (ready old_file None, (ready old_file None, ready_left, record { main = refl; side = inl refl }), record { page = 7 ∷ []; main = refl; fresh = refl; side = refl }), record { page = 2 ∷ []; main = refl; fresh = refl; side = refl }) in
-    omega (arith, ap (λ (m : PageFile). get_or (get_or m.pages 0 []) 0 0) (all c left))
+    omega (arith, ap (λ (m : PageFile). get_or (get_or m.pages 0 []) 0 0) (all c left).1)
 
 pub never_removed_early : ((c : Files) → MayLeave (alone old_file) (SyncNames ∷ Remove ∷ both_writes ++ side_named) c → IsEither old_file (pages_of_two 7 9) c) → ⊥
 never_removed_early all =
@@ -129,6 +143,6 @@ never_removed_early all =
     let c = ready (pages_of_two 7 2) None in
     let left : MayLeave (alone old_file) (SyncNames ∷ Remove ∷ both_writes ++ side_named) c =
     (c, (part, (part, (there, (there, (ready old_file None, ready_left, record { main = refl; side = inr refl }), (refl, refl)), record { page = 7 ∷ []; main = refl; fresh = refl; side = refl }), record { page = 2 ∷ []; main = refl; fresh = refl; side = refl }), record { main = refl; side = inr refl }), (refl, refl)) in
-    ⊎_elim (λ (is : recovered c ≡ old_file). omega (arith, ap (λ (m : PageFile). get_or (get_or m.pages 0 []) 0 0) is))
-    (λ (is : recovered c ≡ pages_of_two 7 9). omega (arith, ap (λ (m : PageFile). get_or (get_or m.pages 1 []) 0 0) is))
+    ⊎_elim (λ (is : StandsFor old_file c). omega (arith, ap (λ (m : PageFile). get_or (get_or m.pages 0 []) 0 0) is.1))
+    (λ (is : StandsFor (pages_of_two 7 9) c). omega (arith, ap (λ (m : PageFile). get_or (get_or m.pages 1 []) 0 0) is.1))
     (all c left)

@@ -38,7 +38,7 @@ main_kept first (Grow n ∷ earlier) c left =
     (d, main_kept first earlier left.0 left.1, record { more = grows.more; pages = refl; fits = grows.fits; fresh = left.2.fresh; side = left.2.side })
 main_kept first (Cut n ∷ earlier) c left = (record left.0 { main = (all_done first earlier).main }, main_kept first earlier left.0 left.1, record { to = n; least = omega arith; pages = refl; fresh = left.2.fresh; side = left.2.side })
 main_kept first (Sync ∷ earlier) c left = (record left.0 { main = (all_done first earlier).main }, main_kept first earlier left.0 left.1, (ap (λ (f : Files). record f { main = (all_done first earlier).main }) left.2.0, refl))
-main_kept first (Start long ∷ earlier) c left = (record left.0 { main = (all_done first earlier).main }, main_kept first earlier left.0 left.1, record { main = refl; side = left.2.side })
+main_kept first (Start long rest ∷ earlier) c left = (record left.0 { main = (all_done first earlier).main }, main_kept first earlier left.0 left.1, record { main = refl; side = left.2.side })
 main_kept first (Keep n page ∷ earlier) c left = (record left.0 { main = (all_done first earlier).main }, main_kept first earlier left.0 left.1, record { main = refl; side = left.2.side })
 main_kept first (SyncFresh ∷ earlier) c left = (record left.0 { main = (all_done first earlier).main }, main_kept first earlier left.0 left.1, (ap (λ (f : Files). record f { main = (all_done first earlier).main }) left.2.0, left.2.1))
 main_kept first (Name ∷ earlier) c left = (record left.0 { main = (all_done first earlier).main }, main_kept first earlier left.0 left.1, record { main = refl; side = left.2.side })
@@ -52,7 +52,7 @@ fresh_kept first (Write n page ∷ earlier) c left = (record left.0 { fresh = (a
 fresh_kept first (Grow n ∷ earlier) c left = (record left.0 { fresh = (all_done first earlier).fresh }, fresh_kept first earlier left.0 left.1, record { more = left.2.more; pages = left.2.pages; fits = left.2.fits; fresh = refl; side = left.2.side })
 fresh_kept first (Cut n ∷ earlier) c left = (record left.0 { fresh = (all_done first earlier).fresh }, fresh_kept first earlier left.0 left.1, record { to = left.2.to; least = left.2.least; pages = left.2.pages; fresh = refl; side = left.2.side })
 fresh_kept first (Sync ∷ earlier) c left = (record left.0 { fresh = (all_done first earlier).fresh }, fresh_kept first earlier left.0 left.1, (ap (λ (f : Files). record f { fresh = (all_done first earlier).fresh }) left.2.0, left.2.1))
-fresh_kept first (Start long ∷ earlier) c left = (left.0, left.1, record { main = left.2.main; side = left.2.side })
+fresh_kept first (Start long rest ∷ earlier) c left = (left.0, left.1, record { main = left.2.main; side = left.2.side })
 fresh_kept first (Keep n page ∷ earlier) c left = (left.0, left.1, record { main = left.2.main; side = left.2.side })
 fresh_kept first (SyncFresh ∷ earlier) c left = (record left.0 { fresh = (all_done first earlier).fresh }, fresh_kept first earlier left.0 left.1, (ap (λ (f : Files). record f { fresh = (all_done first earlier).fresh }) left.2.0, refl))
 fresh_kept first (Name ∷ earlier) c left = (left.0, left.1, record { main = left.2.main; side = left.2.side })
@@ -72,9 +72,9 @@ may_fated first earlier (Cut n) Torn d left agree = (d, left, cut_none n d)
 may_fated first earlier Sync Done d left agree = (record d { main = (all_done first earlier).main }, main_kept first earlier d left, (refl, refl))
 may_fated first earlier Sync Lost d left agree = (record d { main = (all_done first earlier).main }, main_kept first earlier d left, (refl, refl))
 may_fated first earlier Sync Torn d left agree = (record d { main = (all_done first earlier).main }, main_kept first earlier d left, (refl, refl))
-may_fated first earlier (Start long) Done d left agree = (d, left, record { main = refl; side = refl })
-may_fated first earlier (Start long) Lost d left agree = (d, left, record { main = refl; side = refl })
-may_fated first earlier (Start long) Torn d left agree = (d, left, record { main = refl; side = refl })
+may_fated first earlier (Start long rest) Done d left agree = (d, left, record { main = refl; side = refl })
+may_fated first earlier (Start long rest) Lost d left agree = (d, left, record { main = refl; side = refl })
+may_fated first earlier (Start long rest) Torn d left agree = (d, left, record { main = refl; side = refl })
 may_fated first earlier (Keep n page) Done d left agree = (d, left, record { main = refl; side = refl })
 may_fated first earlier (Keep n page) Lost d left agree = (d, left, record { main = refl; side = refl })
 may_fated first earlier (Keep n page) Torn d left agree = (d, left, record { main = refl; side = refl })
@@ -109,7 +109,7 @@ kept_itself (Write n page) f = refl
 kept_itself (Grow n) f = refl
 kept_itself (Cut n) f = refl
 kept_itself Sync f = refl
-kept_itself (Start long) f = refl
+kept_itself (Start long rest) f = refl
 kept_itself (Keep n page) f = refl
 kept_itself SyncFresh f = refl
 kept_itself Name f = refl
@@ -137,7 +137,7 @@ names_itself (Write n page) f = tt
 names_itself (Grow n) f = tt
 names_itself (Cut n) f = tt
 names_itself Sync f = tt
-names_itself (Start long) f = tt
+names_itself (Start long rest) f = tt
 names_itself (Keep n page) f = tt
 names_itself SyncFresh f = tt
 names_itself Name f = tt

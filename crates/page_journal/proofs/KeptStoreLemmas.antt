@@ -1,15 +1,21 @@
 -- Which calls leave a store that stands for the old file so.
-use Rattle.std.proofs.Common.{◌≡◌, ◌≢◌, ◌||◌, ⊎_elim, inr, ℕ, ◌<◌, ◌≤◌, Bool, true, eqb, List, [], ◌∷◌, length, All, Result, Ok, Err, OnOk, zero, suc, refl, sym, ◌∙◌, ap, subst, arith}
-use Rattle.std.specs.List.{list_any}
-use Rattle.std.proofs.lemmas.Bool.{cases_lt, cases_eq, false≢true, ne_eqb}
-use Rattle.page_journal.specs.Files.{PageFile, Kept, Files, restored, recovered}
+use Rattle.std.proofs.Common.{◌≡◌, ⊎_elim, inl, inr, ℕ, ◌<◌, ◌≤◌, Bool, true, false, List, length, get_or, Option, unwrap_or, Result, Ok, Err, OnOk, refl, sym, ◌∙◌, ap, subst, arith}
+use Rattle.std.proofs.lemmas.Bool.{cases_lt, false≢true}
+use Rattle.std.proofs.lemmas.Option.{slice_get-get_or}
+use Rattle.page_journal.specs.Files.{PageFile, Kept, Files, BelongsTo, restored, recovered}
+use Rattle.page_journal.specs.Recovery.{IsForeign}
 use Rattle.page_journal.specs.Steps.{Does, Stays, TornAt, GrowsUpTo}
-use Rattle.page_journal.specs.Crash.{LeavesOnly, IsSettled, IsSealed, StandsFor, MayWrite, AreKept}
+use Rattle.page_journal.specs.Crash.{LeavesOnly, IsSettled, IsSealed, StandsFor, MayWrite, KeepsMarked}
 use Rattle.page_journal.specs.KeptStores.{is_open, may_write_in, IsHeld, IsGuarded}
 use Rattle.page_journal.specs.declared.disk_state.DiskState.{Ghosts}
 use Rattle.page_journal.specs.declared.seal_state.SealState.{SealState}
 use Rattle.page_journal.specs.declared.seal_state.SealState.TheVariants.{Unsealed, Sealed, Stopped}
+use Rattle.page_journal.proofs.RestoreLemmas.{of_agree}
 use Rattle.page_journal.proofs.SealedLemmas.{settled_stays, settled_stands, sealed_stays, sealed_stands, sealed_write, sealed_grow}
+
+-- what stands for a file stands for one that is the same
+stands_so : (main other : PageFile) (c : Files) → main ≡ other → StandsFor main c → StandsFor other c
+stands_so main other c is stands = (stands.0, stands.1 ∙ is)
 
 module _ {D : Type 0} (g : Ghosts D) where
   -- one call more, after which a crash leaves the old file
@@ -17,7 +23,7 @@ module _ {D : Type 0} (g : Ghosts D) where
   time_more step old new time does now c left = ⊎_elim (time c) (now c) (does.nothing_else 0 c (omega arith) left)
 
   held_stands : (flags : List Bool) (disk : D) → IsHeld g flags disk → (c : Files) → g.may_leave disk c → StandsFor (recovered g.began) c
-  held_stands flags disk held c left = sealed_stands g held.kept held.base disk held.sealed c left ∙ held.began
+  held_stands flags disk held c left = stands_so (restored held.kept held.base) (recovered g.began) c held.began (sealed_stands g held.kept held.base disk held.sealed c left)
 
   held_more : (flags : List Bool) (old new : D) → (held : IsHeld g flags old) → IsSealed g held.kept held.base new → IsHeld g flags new
   held_more flags old new held sealed = record { kept = held.kept; base = held.base; sealed = sealed; flags_kept = held.flags_kept; began = held.began }
@@ -66,20 +72,21 @@ module _ {D : Type 0} (g : Ghosts D) where
   pub taken_time : (state : SealState) (flags : List Bool) (old new : D) → IsGuarded g state flags old → state ≡ Sealed → ((kept : Kept) (base : List (List ℕ)) → IsSealed g kept base old → LeavesOnly g (StandsFor (restored kept base)) old new) → (c : Files) → g.left_since new 0 c → StandsFor (recovered g.began) c
   taken_time state flags old new guarded is taken c left =
       let held : IsHeld g flags old = (subst (λ s. IsGuarded g s flags old) is guarded).so in
-      ⊎_elim (guarded.time c) (λ stands. stands ∙ held.began) ((taken held.kept held.base held.sealed).before 0 c (omega arith) left)
+      ⊎_elim (guarded.time c) (stands_so (restored held.kept held.base) (recovered g.began) c held.began) ((taken held.kept held.base held.sealed).before 0 c (omega arith) left)
+
+  -- its side file is one of the file
+  pub never_foreign : (state : SealState) (flags : List Bool) (disk : D) → IsGuarded g state flags disk → state ≡ Sealed → IsForeign (g.seen disk) → ⊥
+  never_foreign state flags disk guarded is foreign =
+      let held : IsHeld g flags disk = (subst (λ s. IsGuarded g s flags disk) is guarded).so in
+      foreign (subst (λ (s : Option Kept). BelongsTo s (g.seen disk).main.pages) (sym held.sealed.side) (of_agree held.kept held.base (g.seen disk).main.pages held.sealed.main held.sealed.own))
 
   -- a run of calls over a file that stands for what there was
   pub run_time : (main : PageFile) (old new : D) → ((c : Files) → g.left_since old 0 c → StandsFor (recovered g.began) c) → main ≡ recovered g.began → LeavesOnly g (StandsFor main) old new → (c : Files) → g.left_since new 0 c → StandsFor (recovered g.began) c
-  run_time main old new time is run c left = ⊎_elim (time c) (λ stands. stands ∙ is) (run.before 0 c (omega arith) left)
+  run_time main old new time is run c left = ⊎_elim (time c) (stands_so main (recovered g.began) c is) (run.before 0 c (omega arith) left)
 
--- flags of pages that were kept
-pub flags_may : (kept : Kept) (numbers : List ℕ) (flags : List Bool) (long : ℕ) → AreKept numbers kept → length flags ≡ long → kept.long ≡ long → ((n : ℕ) → n < long → is_open flags n ≡ list_any (λ m. eqb n m) numbers) → (n : ℕ) → is_open flags n ≡ true → MayWrite kept n
-flags_may kept numbers flags long all flags_long kept_long so n here =
-    ⊎_elim (λ (inside : n < long). among numbers all (sym (so n inside) ∙ here)) (λ (past : long ≤ n). inr (omega (arith, past, kept_long))) (cases_lt n long)
-  where
-    among : (ns : List ℕ) → All (λ m. MayWrite kept m) ns → list_any (λ m. eqb n m) ns ≡ true → MayWrite kept n
-    among [] all is = absurd (false≢true is)
-    among (m ∷ ns) all is =
-        ⊎_elim (λ (here : n ≡ m). subst (λ k. MayWrite kept k) (sym here) (all zero 0 (omega arith)))
-        (λ (other : n ≢ m). among ns (λ k d below. all (suc k) d (omega (arith, below))) (sym (ap (λ (b : Bool). b || list_any (λ m. eqb n m) ns) (ne_eqb n m other)) ∙ is))
-        (cases_eq n m)
+-- marks of pages that were kept
+pub flags_may : (kept : Kept) (flags : List Bool) → KeepsMarked flags kept → kept.long ≡ length flags → (n : ℕ) → is_open flags n ≡ true → MayWrite kept n
+flags_may kept flags keeps long n here =
+    ⊎_elim (λ (inside : n < length flags). inl (keeps n inside ∙ ap (λ (o : Option Bool). unwrap_or o false) (sym (slice_get-get_or flags n false inside) ∙ slice_get-get_or flags n true inside) ∙ here))
+    (λ (past : length flags ≤ n). inr (omega (arith, past, long)))
+    (cases_lt n (length flags))

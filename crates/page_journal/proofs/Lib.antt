@@ -1,3 +1,4 @@
+mod BelongLemmas
 pub mod CarryingLemmas
 mod ExampleLemmas
 mod FateLemmas

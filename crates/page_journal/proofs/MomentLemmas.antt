@@ -1,7 +1,7 @@
 -- How a run of calls goes on.
-use Rattle.std.proofs.Common.{inl, inr, ⊎_elim, arith}
+use Rattle.std.proofs.Common.{inl, inr, ⊎_elim, ℕ, ◌≤◌, refl, subst, sym, ◌∙◌, arith}
 use Rattle.page_journal.specs.Files.{Files}
-use Rattle.page_journal.specs.Steps.{Does}
+use Rattle.page_journal.specs.Steps.{Does, Stays}
 use Rattle.page_journal.specs.Crash.{LeavesOnly}
 use Rattle.page_journal.specs.declared.disk_state.DiskState.{Ghosts}
 
@@ -32,4 +32,27 @@ module _ {D : Type 0} (g : Ghosts D) where
     later = run.later;
     each = λ c left. implies c (run.each c left);
     before = λ t c le left. ⊎_elim (λ was. inl was) (λ p. inr (implies c p)) (run.before t c le left);
+  }
+
+  -- no call at all, and calls that change nothing one after another
+  pub stays_itself : (old : D) → Stays g old old
+  stays_itself old = record { seen = refl; steady = refl; crash = λ c left. (c, left, refl); later = omega arith; nothing_else = λ t c le left. inl left; keeps = λ t c le left. left }
+
+  pub stays_then : ((disk : D) (t : ℕ) (c : Files) → t ≤ g.moment disk → g.may_leave disk c → g.left_since disk t c) → (old mid new : D) → Stays g old mid → Stays g mid new → Stays g old new
+  stays_then counts old mid new first second = record {
+    seen = second.seen ∙ first.seen;
+    steady = second.steady ∙ first.steady;
+    crash = λ c left.
+        let from = second.crash c left in
+        let before = first.crash from.0 from.1 in
+        (before.0, before.1, from.2 ∙ before.2);
+    later = omega (arith, first.later, second.later);
+    nothing_else = λ t c le left. ⊎_elim
+        (λ was. ⊎_elim (λ long_ago. inl long_ago) (λ now.
+        let from = first.crash c now in
+        inl (subst (g.left_since old t) (sym from.2) (counts old t from.0 le from.1)))
+        (first.nothing_else t c le was))
+        (λ now. inr now)
+        (second.nothing_else t c (omega (arith, le, first.later)) left);
+    keeps = λ t c le left. second.keeps t c (omega (arith, le, first.later)) (first.keeps t c le left);
   }

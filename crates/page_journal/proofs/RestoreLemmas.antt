@@ -1,9 +1,10 @@
 -- Old pages put back: what they leave depends on no page that is kept, and on nothing past the old end.
-use Rattle.std.proofs.Common.{◌≡◌, ◌≢◌, ◌⊎◌, inl, inr, ⊎_elim, ℕ, zero, suc, ◌<◌, ◌≤◌, Bool, true, false, ◌||◌, eqb, List, [], ◌∷◌, ◌++◌, length, take, Option, Some, All, slice_get, set, unwrap_or, refl, sym, ◌∙◌, ap, subst, arith, length-set, length-append, get_or-set_same, get_or-set_other, get_or-take}
+use Rattle.std.proofs.Common.{◌≡◌, ◌≢◌, ◌⊎◌, inl, inr, ⊎_elim, ℕ, zero, suc, ◌<◌, ◌≤◌, Bool, true, false, cond, ◌||◌, eqb, List, [], ◌∷◌, ◌++◌, length, take, Option, Some, None, All, slice_get, get_or, set, unwrap_or, refl, sym, ◌∙◌, ap, subst, arith, length-set, length-append, get_or-set_same, get_or-set_other, get_or-take}
 use Rattle.std.proofs.lemmas.List.{length-take-le, take-take, take_all, get_or_append_left}
 use Rattle.std.proofs.lemmas.Option.{slice_get-get_or, slice_get_past}
 use Rattle.std.proofs.lemmas.Bool.{cases_lt, cases_eq, false≢true, ne_eqb}
-use Rattle.page_journal.specs.Files.{PageFile, Kept, is_kept, put_back, restored, Agree}
+use Rattle.page_journal.specs.Files.{PageFile, Kept, IsOf, SaysRest, is_kept, put_back, restored, Agree}
+use Rattle.page_journal.specs.Sums.{sum_on, sum_without}
 
 pub kept_beside : (old : List (List ℕ)) (n k : ℕ) (page : List ℕ) → k ≢ n → slice_get (set old n page) k ≡ slice_get old k
 kept_beside old n k page other =
@@ -122,3 +123,44 @@ agree_cut kept a b c to agree least is = at (cases_lt to (length b))
 -- a file cut to that length, whatever it was cut to
 pub cut_is : (n to : ℕ) (d c : List (List ℕ)) → n ≤ to → c ≡ take to d → length c ≡ n → c ≡ take n d
 cut_is n to d c least is long = sym (take_all n c (omega (arith, long))) ∙ ap (λ (l : List (List ℕ)). take n l) is ∙ take-take n to d least
+
+-- the sum over the pages that aren't left out is the same where they are
+pub sum_same : (out : ℕ → Bool) (n : ℕ) (a b : List (List ℕ)) → ((k : ℕ) → k < n → out k ≡ false → get_or b k [] ≡ get_or a k []) → sum_without out n b ≡ sum_without out n a
+sum_same out zero a b same = refl
+sum_same out (suc n) a b same = at (out n) refl (sum_same out n a b (λ k below none. same k (omega (arith, below)) none))
+  where
+    at : (o : Bool) → out n ≡ o → sum_without out n b ≡ sum_without out n a → cond (out n) (sum_without out n b) (sum_on (sum_without out n b) (get_or b n [])) ≡ cond (out n) (sum_without out n a) (sum_on (sum_without out n a) (get_or a n []))
+    at true is ih =
+        ap (λ (o : Bool). cond o (sum_without out n b) (sum_on (sum_without out n b) (get_or b n []))) is
+        ∙ ih
+        ∙ sym (ap (λ (o : Bool). cond o (sum_without out n a) (sum_on (sum_without out n a) (get_or a n []))) is)
+    at false is ih =
+        ap (λ (o : Bool). cond o (sum_without out n b) (sum_on (sum_without out n b) (get_or b n []))) is
+        ∙ ap (λ (s : ℕ). sum_on s (get_or b n [])) ih
+        ∙ ap (λ (p : List ℕ). sum_on (sum_without out n a) p) (same n (omega arith) is)
+        ∙ sym (ap (λ (o : Bool). cond o (sum_without out n a) (sum_on (sum_without out n a) (get_or a n []))) is)
+
+-- and where the same are left out
+pub sum_alike : (out other : ℕ → Bool) (n : ℕ) (pages : List (List ℕ)) → ((k : ℕ) → k < n → out k ≡ other k) → sum_without out n pages ≡ sum_without other n pages
+sum_alike out other zero pages same = refl
+sum_alike out other (suc n) pages same =
+    ap (λ (o : Bool). cond o (sum_without out n pages) (sum_on (sum_without out n pages) (get_or pages n []))) (same n (omega arith))
+    ∙ ap (λ (s : ℕ). cond (other n) s (sum_on s (get_or pages n []))) (sum_alike out other n pages (λ k below. same k (omega (arith, below))))
+
+-- one page more
+pub sum_in : (out : ℕ → Bool) (n : ℕ) (pages : List (List ℕ)) → out n ≡ false → sum_without out (suc n) pages ≡ sum_on (sum_without out n pages) (get_or pages n [])
+sum_in out n pages is = ap (λ (o : Bool). cond o (sum_without out n pages) (sum_on (sum_without out n pages) (get_or pages n []))) is
+
+pub sum_out : (out : ℕ → Bool) (n : ℕ) (pages : List (List ℕ)) → out n ≡ true → sum_without out (suc n) pages ≡ sum_without out n pages
+sum_out out n pages is = ap (λ (o : Bool). cond o (sum_without out n pages) (sum_on (sum_without out n pages) (get_or pages n []))) is
+
+-- a side file of a file is one of each that is the same but for the pages that it keeps
+pub of_agree : (kept : Kept) (a b : List (List ℕ)) → Agree kept a b → IsOf kept a → IsOf kept b
+of_agree kept a b agree own = record { long = agree.long; rest = says kept.rest own.rest }
+  where
+    got : (k : ℕ) → k < kept.long → is_kept kept.pages k ≡ false → get_or b k [] ≡ get_or a k []
+    got k below none = ap (λ (o : Option (List ℕ)). unwrap_or o []) (sym (slice_get-get_or b k [] (omega (arith, below, agree.long))) ∙ agree.same k below none ∙ slice_get-get_or a k [] (omega (arith, below, agree.first_long)))
+
+    says : (o : Option ℕ) → SaysRest kept a o → SaysRest kept b o
+    says None was = tt
+    says (Some rest) was = (was.0, was.1 ∙ sym (sum_same (is_kept kept.pages) kept.long a b got))

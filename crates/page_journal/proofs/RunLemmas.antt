@@ -1,6 +1,6 @@
 -- Runs of calls over a settled file, and over a sealed one.
 use Rattle.std.proofs.Common.{◌≡◌, inl, ⊎_elim, ℕ, ◌≤◌, List, Some, None, is_some, sym, ◌∙◌, ap, subst}
-use Rattle.page_journal.specs.Files.{PageFile, Kept, Files, restored}
+use Rattle.page_journal.specs.Files.{PageFile, Kept, Files, IsOf, restored}
 use Rattle.page_journal.specs.Steps.{Does, Stays, TornAt, CutsTo, Fresh, Names, Removes}
 use Rattle.page_journal.specs.Crash.{LeavesOnly, IsSettled, IsSealed, StandsFor, IsEither, MayWrite, Gathered}
 use Rattle.page_journal.specs.declared.disk_state.DiskState.{Ghosts}
@@ -38,27 +38,29 @@ module _ {D : Type 0} (g : Ghosts D) where
     pub quiet : Quiet main old new
     pub durable : (c : Files) → g.may_leave new c → c.fresh ≡ (g.seen new).fresh
     pub gathered : Gathered main.pages (g.seen new).fresh
+    pub own : IsOf (g.seen new).fresh main.pages
 
-  pub ready : (main : PageFile) (old mid new : D) (seen : PageFile) → Quiet main old mid → seen ≡ main → Gathered seen.pages (g.seen mid).fresh → Stays g mid new → ((c : Files) → g.may_leave new c → c.fresh ≡ (g.seen mid).fresh) → Ready main old new
-  ready main old mid new seen quiet is gathered does durable =
+  pub ready : (main : PageFile) (old mid new : D) (seen : PageFile) → Quiet main old mid → seen ≡ main → Gathered seen.pages (g.seen mid).fresh → IsOf (g.seen mid).fresh main.pages → Stays g mid new → ((c : Files) → g.may_leave new c → c.fresh ≡ (g.seen mid).fresh) → Ready main old new
+  ready main old mid new seen quiet is gathered own does durable =
       let same : (g.seen new).fresh ≡ (g.seen mid).fresh = ap (λ (f : Files). f.fresh) does.seen in
       record {
         quiet = quiet_stays main old mid new quiet does;
         durable = λ c left. durable c left ∙ sym same;
         gathered = subst (λ (k : Kept). Gathered main.pages k) (sym same) (subst (λ (m : PageFile). Gathered m.pages (g.seen mid).fresh) is gathered);
+        own = subst (λ (k : Kept). IsOf k main.pages) (sym same) own;
       }
 
   -- it gets the name
   pub name_time : (main : PageFile) (old mid new : D) → main.tail ≡ 0 → Ready main old mid → Does g Names mid new → LeavesOnly g (StandsFor main) old new
-  name_time main old mid new no_tail at does = goes_on g (StandsFor main) _ old mid new at.quiet.time does (λ c left. named_stands g main (g.seen mid).fresh no_tail at.gathered c (naming g main mid new at.quiet.settled at.durable does c left))
+  name_time main old mid new no_tail at does = goes_on g (StandsFor main) _ old mid new at.quiet.time does (λ c left. named_stands g main (g.seen mid).fresh no_tail at.gathered at.own c (naming g main mid new at.quiet.settled at.durable does c left))
 
   pub names_time : (main : PageFile) (old mid new last : D) → main.tail ≡ 0 → Ready main old mid → Does g Names mid new → Stays g new last → LeavesOnly g (StandsFor main) old last
   names_time main old mid new last no_tail at does stays =
-      let stands : (c : Files) → g.may_leave new c → StandsFor main c = λ c left. named_stands g main (g.seen mid).fresh no_tail at.gathered c (naming g main mid new at.quiet.settled at.durable does c left) in
+      let stands : (c : Files) → g.may_leave new c → StandsFor main c = λ c left. named_stands g main (g.seen mid).fresh no_tail at.gathered at.own c (naming g main mid new at.quiet.settled at.durable does c left) in
       goes_on g (StandsFor main) _ old new last (name_time main old mid new no_tail at does) stays (still g (StandsFor main) new last stands stays)
 
   pub now_sealed : (main : PageFile) (old mid new last : D) → Ready main old mid → Does g Names mid new → (g.seen new).side ≡ Some (g.seen mid).fresh → Stays g new last → ((c : Files) → g.may_leave last c → is_some c.side ≡ is_some (g.seen new).side) → IsSealed g (g.seen mid).fresh main.pages last
-  now_sealed main old mid new last at does named stays durable = named_sealed g main (g.seen mid).fresh new last (naming g main mid new at.quiet.settled at.durable does) (does.seen.main ∙ at.quiet.settled.seen) named at.gathered.long durable stays
+  now_sealed main old mid new last at does named stays durable = named_sealed g main (g.seen mid).fresh new last (naming g main mid new at.quiet.settled at.durable does) (does.seen.main ∙ at.quiet.settled.seen) named at.own durable stays
 
   -- the file stayed sealed, and each crash left the old one
   pub record Holds (kept : Kept) (base : List (List ℕ)) (old new : D) : Type 0 where
@@ -88,12 +90,12 @@ module _ {D : Type 0} (g : Ghosts D) where
   either_old kept base main old new holds = weaker g (StandsFor (restored kept base)) (IsEither (restored kept base) main) old new (λ c stands. inl stands) holds.time
 
   pub remove_time : (kept : Kept) (base : List (List ℕ)) (main : PageFile) (old mid new : D) → Holds kept base old mid → ((c : Files) → g.may_leave mid c → c.main ≡ main) → Does g Removes mid new → LeavesOnly g (IsEither (restored kept base) main) old new
-  remove_time kept base main old mid new holds durable does = goes_on g (IsEither (restored kept base) main) _ old mid new (either_old kept base main old mid holds) does (λ c left. removed_stands g kept base main c (removed g kept base main mid new holds.sealed durable does c left))
+  remove_time kept base main old mid new holds durable does = goes_on g (IsEither (restored kept base) main) _ old mid new (either_old kept base main old mid holds) does (λ c left. removed_stands g kept base main holds.sealed.own c (removed g kept base main mid new holds.sealed durable does c left))
 
   pub removes_time : (kept : Kept) (base : List (List ℕ)) (main : PageFile) (old mid new last : D) → Holds kept base old mid → ((c : Files) → g.may_leave mid c → c.main ≡ main) → Does g Removes mid new → Stays g new last → LeavesOnly g (IsEither (restored kept base) main) old last
   removes_time kept base main old mid new last holds durable does stays =
       let P = IsEither (restored kept base) main in
-      let stands : (c : Files) → g.may_leave new c → P c = λ c left. removed_stands g kept base main c (removed g kept base main mid new holds.sealed durable does c left) in
+      let stands : (c : Files) → g.may_leave new c → P c = λ c left. removed_stands g kept base main holds.sealed.own c (removed g kept base main mid new holds.sealed durable does c left) in
       goes_on g P _ old new last (remove_time kept base main old mid new holds durable does) stays (still g P new last stands stays)
 
   pub now_settled : (kept : Kept) (base : List (List ℕ)) (main : PageFile) (old mid new last : D) → Holds kept base old mid → ((c : Files) → g.may_leave mid c → c.main ≡ main) → (g.seen mid).main ≡ main → Does g Removes mid new → (g.seen new).side ≡ None → Stays g new last → ((c : Files) → g.may_leave last c → is_some c.side ≡ is_some (g.seen new).side) → IsSettled g main last
@@ -101,4 +103,4 @@ module _ {D : Type 0} (g : Ghosts D) where
 
   -- a commitment behind a run that put the old file back: it is the old one either way
   pub back_time : (kept : Kept) (base : List (List ℕ)) (seen : PageFile) (old mid new : D) → seen ≡ restored kept base → LeavesOnly g (StandsFor (restored kept base)) old mid → LeavesOnly g (IsEither (restored kept base) seen) mid new → LeavesOnly g (StandsFor (restored kept base)) old new
-  back_time kept base seen old mid new same before after = then_runs g (StandsFor (restored kept base)) old mid new before (weaker g (IsEither (restored kept base) seen) (StandsFor (restored kept base)) mid new (λ c either. ⊎_elim (λ is. is) (λ is. is ∙ same) either) after)
+  back_time kept base seen old mid new same before after = then_runs g (StandsFor (restored kept base)) old mid new before (weaker g (IsEither (restored kept base) seen) (StandsFor (restored kept base)) mid new (λ c either. ⊎_elim (λ is. is) (λ is. (is.0, is.1 ∙ same)) either) after)

@@ -1,6 +1,6 @@
 -- What a crash at any moment leaves.
-use Rattle.std.specs.Prelude.{◌≡◌, ◌⊎◌, ℕ, ◌≤◌, true, List, Some, None, Result, OnOk, length, All, slice_get}
-use Rattle.page_journal.specs.Files.{PageFile, Kept, Files, Agree, is_kept, recovered, restored, put_back}
+use Rattle.std.specs.Prelude.{◌≡◌, ◌⊎◌, ℕ, ◌<◌, ◌≤◌, Bool, true, false, List, Some, None, Result, OnOk, length, All, slice_get, slice_index_or}
+use Rattle.page_journal.specs.Files.{PageFile, Kept, Files, Agree, IsOf, Belongs, is_kept, recovered, restored, put_back}
 use Rattle.page_journal.specs.declared.disk_state.DiskState.{Ghosts}
 
 -- A crash at any moment since old leaves files that have P.
@@ -16,8 +16,9 @@ pub record IsSettled {D : Type 0} (g : Ghosts D) (main : PageFile) (disk : D) : 
   pub no_side : (g.seen disk).side ≡ None
   pub crash : (c : Files) → g.may_leave disk c → (c.main ≡ main) × (c.side ≡ None)
 
--- this side file has the name, and the file is the base but for pages that it keeps, as reads see it and in each outcome of a crash
+-- this side file of the base has the name, and the file is the base but for pages that it keeps, as reads see it and in each outcome of a crash
 pub record IsSealed {D : Type 0} (g : Ghosts D) (kept : Kept) (base : List (List ℕ)) (disk : D) : Type 0 where
+  pub own : IsOf kept base
   pub side : (g.seen disk).side ≡ Some kept
   pub main : Agree kept base (g.seen disk).main.pages
   pub crash : (c : Files) → g.may_leave disk c → (c.side ≡ Some kept) × Agree kept base c.main.pages
@@ -26,21 +27,25 @@ pub record IsSealed {D : Type 0} (g : Ghosts D) (kept : Kept) (base : List (List
 abbrev pub IsAtRest : {D : Type 0} → Ghosts D → D → Type 0
 IsAtRest g disk = (c : Files) → g.may_leave disk c → (c.main ≡ (g.seen disk).main) × (c.side ≡ (g.seen disk).side)
 
--- the files stand for this file
+-- the files stand for this file: it is what an opening makes of them
 abbrev pub StandsFor : PageFile → Files → Type 0
-StandsFor main c = recovered c ≡ main
+StandsFor main c = Belongs c × (recovered c ≡ main)
+
+-- the files stand for what these stood for, and for nothing where these didn't
+abbrev pub StandsAs : Files → Files → Type 0
+StandsAs old c = (Belongs old → Belongs c) × (recovered c ≡ recovered old)
 
 -- the files stand for the one or the other
 abbrev pub IsEither : PageFile → PageFile → Files → Type 0
-IsEither old new c = (recovered c ≡ old) ⊎ (recovered c ≡ new)
+IsEither old new c = StandsFor old c ⊎ StandsFor new c
 
 -- a page that may be written over: it is kept, or past the old end
 abbrev pub MayWrite : Kept → ℕ → Type 0
 MayWrite kept n = (is_kept kept.pages n ≡ true) ⊎ (kept.long ≤ n)
 
--- each of these pages may be written over
-abbrev pub AreKept : List ℕ → Kept → Type 0
-AreKept numbers kept = All (λ n. MayWrite kept n) numbers
+-- those of its pages that are marked are kept, and no others
+abbrev pub KeepsMarked : List Bool → Kept → Type 0
+KeepsMarked marks kept = (n : ℕ) → n < length marks → is_kept kept.pages n ≡ slice_index_or marks n false
 
 -- the old length, and pages as they are in the file
 pub record Gathered (pages : List (List ℕ)) (fresh : Kept) : Type 0 where

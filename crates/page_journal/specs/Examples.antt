@@ -2,6 +2,7 @@
 use Rattle.std.specs.Prelude.{ℕ, List, [], ◌∷◌, None, Some}
 use Rattle.page_journal.specs.Files.{PageFile, Kept, Files}
 use Rattle.page_journal.specs.Steps.{nothing_kept}
+use Rattle.page_journal.specs.Sums.{sum_start, sum_on}
 use Rattle.page_store.specs.declared.step.Step.{Step}
 use Rattle.page_store.specs.declared.step.Step.TheVariants as steps
 use Rattle.page_journal.specs.declared.disk_call.DiskCall.{DiskCall}
@@ -20,7 +21,18 @@ old_file = pages_of_two 1 2
 
 -- page 1 as it was
 abbrev pub page_1_kept : Kept
-page_1_kept = record { long = 2; pages = (1, 2 ∷ []) ∷ [] }
+page_1_kept = record { long = 2; rest = None; pages = (1, 2 ∷ []) ∷ [] }
+
+-- a page of four bytes, and a file of two such
+abbrev pub word : ℕ → List ℕ
+word a = 0 ∷ 0 ∷ 0 ∷ a ∷ []
+
+abbrev pub words : ℕ → ℕ → List (List ℕ)
+words a b = word a ∷ word b ∷ []
+
+-- its page 1 as it was, and the sum over its page 0
+abbrev pub word_kept : Kept
+word_kept = record { long = 2; rest = Some (sum_on sum_start (word 1)); pages = (1, word 2) ∷ [] }
 
 -- page 1 written over, and a page added
 abbrev pub page_1_written : List (List ℕ)
@@ -36,7 +48,7 @@ both_writes = Write 1 (9 ∷ []) ∷ Write 0 (7 ∷ []) ∷ []
 
 -- both pages kept in a side file that the device keeps
 abbrev pub side_made : List DiskCall
-side_made = SyncFresh ∷ Keep 1 (2 ∷ []) ∷ Keep 0 (1 ∷ []) ∷ Start 2 ∷ []
+side_made = SyncFresh ∷ Keep 1 (2 ∷ []) ∷ Keep 0 (1 ∷ []) ∷ Start 2 sum_start ∷ []
 
 -- which then gets the name, and the device keeps that
 abbrev pub side_named : List DiskCall
@@ -44,11 +56,11 @@ side_named = SyncNames ∷ Name ∷ side_made
 
 -- the same with a side file that the device doesn't keep
 abbrev pub named_early : List DiskCall
-named_early = SyncNames ∷ Name ∷ Keep 1 (2 ∷ []) ∷ Keep 0 (1 ∷ []) ∷ Start 2 ∷ []
+named_early = SyncNames ∷ Name ∷ Keep 1 (2 ∷ []) ∷ Keep 0 (1 ∷ []) ∷ Start 2 sum_start ∷ []
 
 -- a side file that has another page 0
 abbrev pub bad_side : Files
-bad_side = record { main = old_file; fresh = nothing_kept 0; side = Some (record { long = 2; pages = (0, 5 ∷ []) ∷ [] }) }
+bad_side = record { main = old_file; fresh = nothing_kept 0; side = Some (record { long = 2; rest = None; pages = (0, 5 ∷ []) ∷ [] }) }
 
 -- the page that is kept is written, and one is added
 abbrev pub page_1_steps : List Step

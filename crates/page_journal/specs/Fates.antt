@@ -2,6 +2,7 @@
 use Rattle.std.specs.Prelude.{◌≡◌, ℕ, ◌-◌, List, ◌++◌, length, drop, replicate, is_some, ⊤}
 use Rattle.rec_types.specs.Widths.{page_width}
 use Rattle.page_journal.specs.Files.{Files}
+use Rattle.page_journal.specs.Steps.{nothing_kept}
 use Rattle.page_journal.specs.History.{done}
 use Rattle.page_journal.specs.declared.disk_call.DiskCall.{DiskCall}
 use Rattle.page_journal.specs.declared.disk_call.DiskCall.TheVariants.{Write, Grow, Cut, Sync, Start, Keep, SyncFresh, Name, Remove, SyncNames}
@@ -22,7 +23,7 @@ torn (Write n page) f = done (Write n noise) f
 torn (Grow n) f = grown n noise f
 torn (Cut n) f = f
 torn Sync f = f
-torn (Start long) f = done (Start 0) f
+torn (Start long rest) f = record f { fresh = nothing_kept 0 }
 torn (Keep n page) f = done (Keep n noise) f
 torn SyncFresh f = f
 torn Name f = f
@@ -35,7 +36,7 @@ kept_by (Write n page) seen f = f
 kept_by (Grow n) seen f = f
 kept_by (Cut n) seen f = f
 kept_by Sync seen f = record f { main = seen.main }
-kept_by (Start long) seen f = f
+kept_by (Start long rest) seen f = f
 kept_by (Keep n page) seen f = f
 kept_by SyncFresh seen f = record f { fresh = seen.fresh }
 kept_by Name seen f = f
@@ -54,7 +55,7 @@ NamesAgree (Write n page) seen f = ⊤
 NamesAgree (Grow n) seen f = ⊤
 NamesAgree (Cut n) seen f = ⊤
 NamesAgree Sync seen f = ⊤
-NamesAgree (Start long) seen f = ⊤
+NamesAgree (Start long rest) seen f = ⊤
 NamesAgree (Keep n page) seen f = ⊤
 NamesAgree SyncFresh seen f = ⊤
 NamesAgree Name seen f = ⊤

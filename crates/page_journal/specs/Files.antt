@@ -1,14 +1,16 @@
 -- A page file, and the side file of old pages that may stand beside it.
-use Rattle.std.specs.Prelude.{◌≡◌, ℕ, ◌<◌, ◌≤◌, Bool, false, ◌||◌, ◌==◌, List, [], ◌∷◌, Option, Some, None, length, take, slice_get, slice_set}
+use Rattle.std.specs.Prelude.{◌≡◌, ℕ, suc, ◌<◌, ◌≤◌, Bool, false, ◌||◌, ◌==◌, List, [], ◌∷◌, Option, Some, None, length, take, slice_get, slice_set, ⊤}
+use Rattle.page_journal.specs.Sums.{sum_without}
 
 -- whole pages, and how many bytes there are after the last
 pub record PageFile : Type 0 where
   pub pages : List (List ℕ)
   pub tail : ℕ
 
--- what a side file says: how many pages the file had, and old pages with their numbers
+-- what a side file says: how many pages the file had, the sum over those that it doesn't keep, and old pages with their numbers; the first version says no sum
 pub record Kept : Type 0 where
   pub long : ℕ
+  pub rest : Option ℕ
   pub pages : List (ℕ × List ℕ)
 
 -- the file, the side file that is being made, and the side file that has the name that an opening looks for
@@ -21,6 +23,30 @@ pub record Files : Type 0 where
 abbrev pub is_kept : List (ℕ × List ℕ) → ℕ → Bool
 is_kept [] n = false
 is_kept (p ∷ kept) n = n == p.0 || is_kept kept n
+
+-- their numbers ascend from the least on, and are below the end
+abbrev pub AscendBelow : ℕ → ℕ → List (ℕ × List ℕ) → Type 0
+AscendBelow least end [] = ⊤
+AscendBelow least end (p ∷ kept) = (least ≤ p.0) × (p.0 < end) × AscendBelow (suc p.0) end kept
+
+-- where a sum is said, it is that over the pages that aren't kept
+abbrev pub SaysRest : Kept → List (List ℕ) → Option ℕ → Type 0
+SaysRest kept pages None = ⊤
+SaysRest kept pages (Some rest) = AscendBelow 0 kept.long kept.pages × (rest ≡ sum_without (is_kept kept.pages) kept.long pages)
+
+-- a side file is one of a file that is no shorter than it says, and whose other pages are those that were there
+pub record IsOf (kept : Kept) (pages : List (List ℕ)) : Type 0 where
+  pub long : kept.long ≤ length pages
+  pub rest : SaysRest kept pages kept.rest
+
+-- so is none of any file
+abbrev pub BelongsTo : Option Kept → List (List ℕ) → Type 0
+BelongsTo None pages = ⊤
+BelongsTo (Some kept) pages = IsOf kept pages
+
+-- the side file, where there is one, is one of the file
+abbrev pub Belongs : Files → Type 0
+Belongs f = BelongsTo f.side f.main.pages
 
 -- these pages put over the others, the first of them first
 abbrev pub put_back : List (ℕ × List ℕ) → List (List ℕ) → List (List ℕ)

@@ -5,7 +5,7 @@ use Rattle.std.proofs.Math.Nat.{not-suc-le_self}
 use Rattle.rec_types.specs.Table.{counted}
 use Rattle.page_store.specs.Blank.{blanks}
 use Rattle.page_journal.specs.Files.{Files}
-use Rattle.page_journal.specs.Steps.{nothing_kept, kept_more, TornAt, GrowsUpTo, CutsTo, Fresh, Names, Removes}
+use Rattle.page_journal.specs.Steps.{nothing_kept, begun, kept_more, TornAt, GrowsUpTo, CutsTo, Fresh, Names, Removes}
 use Rattle.page_journal.specs.declared.disk_call.DiskCall.{DiskCall}
 use Rattle.page_journal.specs.declared.disk_call.DiskCall.TheVariants.{Write, Grow, Cut, Sync, Start, Keep, SyncFresh, Name, Remove, SyncNames}
 
@@ -15,7 +15,7 @@ done (Write n page) f = record f { main = record { pages = slice_set f.main.page
 done (Grow n) f = record f { main = record { pages = f.main.pages ++ blanks (n - length f.main.pages); tail = 0 } }
 done (Cut n) f = record f { main = record { pages = take n f.main.pages; tail = 0 } }
 done Sync f = f
-done (Start long) f = record f { fresh = nothing_kept long }
+done (Start long rest) f = record f { fresh = begun long rest }
 done (Keep n page) f = record f { fresh = kept_more f.fresh n page }
 done SyncFresh f = f
 done Name f = record f { fresh = nothing_kept 0; side = Some f.fresh }
@@ -28,7 +28,7 @@ leads (Write n page) seen d c = TornAt n d c
 leads (Grow n) seen d c = GrowsUpTo n d c
 leads (Cut n) seen d c = CutsTo n d c
 leads Sync seen d c = (c ≡ d) × (c.main ≡ seen.main)
-leads (Start long) seen d c = Fresh d c
+leads (Start long rest) seen d c = Fresh d c
 leads (Keep n page) seen d c = Fresh d c
 leads SyncFresh seen d c = (c ≡ d) × (c.fresh ≡ seen.fresh)
 leads Name seen d c = Names d c

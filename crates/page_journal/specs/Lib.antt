@@ -8,4 +8,6 @@ pub mod History
 pub mod KeptStores
 pub mod Recovery
 pub mod SideBytes
+pub mod StandsBeside
 pub mod Steps
+pub mod Sums

@@ -1,6 +1,6 @@
 -- Which faults a recovery answers.
-use Rattle.std.specs.Prelude.{◌≡◌, ◌<◌, Bool, true, false, Some, Result, Ok, Err, length}
-use Rattle.page_journal.specs.Files.{Kept, Files}
+use Rattle.std.specs.Prelude.{Bool, true, false, Result, Ok, Err}
+use Rattle.page_journal.specs.Files.{Files, Belongs}
 use Rattle.page_journal.specs.declared.recovery_fault.RecoveryFault.{RecoveryFault}
 use Rattle.page_journal.specs.declared.recovery_fault.RecoveryFault.TheVariants.{Device, BadJournal}
 
@@ -14,8 +14,6 @@ abbrev pub is_device : {X : Type 0} → Result X RecoveryFault → Bool
 is_device (Ok x) = false
 is_device (Err fault) = is_device_fault fault
 
--- the file is shorter than its side file says that it was
-pub record IsTooShort (f : Files) : Type 0 where
-  pub kept : Kept
-  pub side : f.side ≡ Some kept
-  pub short : length f.main.pages < kept.long
+-- the side file is of another file
+abbrev pub IsForeign : Files → Type 0
+IsForeign f = Belongs f → ⊥

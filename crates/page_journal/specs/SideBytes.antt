@@ -1,9 +1,10 @@
 -- The bytes of a side file: a header, and then each old page behind its number. Numbers have their highest byte first.
-use Rattle.std.specs.Prelude.{◌≡◌, ℕ, ◌+◌, ◌*◌, ◌/◌, ◌%◌, ◌^◌, ◌<◌, ◌≤◌, zero, suc, List, [], ◌∷◌, ◌++◌, length, take, drop, replicate, bit_xor, ⊤}
+use Rattle.std.specs.Prelude.{◌≡◌, ℕ, ◌+◌, ◌^◌, ◌<◌, ◌≤◌, ◌==◌, zero, suc, List, [], ◌∷◌, ◌++◌, length, take, drop, replicate, cond, Option, Some, None, IfSome, ⊤}
 use Rattle.byteorder.specs.Endian.{big_bytes, big_number}
 use Rattle.rec_types.specs.Widths.{page_width}
 use Rattle.page_store.specs.FreeNumbers.{greatest_page_count}
 use Rattle.page_journal.specs.Files.{Kept}
+use Rattle.page_journal.specs.Sums.{sum_start, sum_on}
 
 -- the text BMKRJRNL
 abbrev pub side_magic : List ℕ
@@ -13,29 +14,23 @@ side_magic = 0x42 ∷ 0x4d ∷ 0x4b ∷ 0x52 ∷ 0x4a ∷ 0x52 ∷ 0x4e ∷ 0x4c
 abbrev pub entry_width : ℕ
 entry_width = 4100
 
--- FNV-1a of 64 bits over words of four bytes in the place of bytes: what it begins with, and one word more
-abbrev pub sum_start : ℕ
-sum_start = 0xcbf29ce484222325
+-- the text, the version and two zeros, how long the file was, how many pages are kept, and four zeros
+abbrev pub fields_bytes : ℕ → ℕ → ℕ → List ℕ
+fields_bytes version long kept = side_magic ++ big_bytes 2 version ++ replicate 2 0 ++ big_bytes 4 long ++ big_bytes 4 kept ++ replicate 4 0
 
-abbrev pub sum_more : ℕ → ℕ → ℕ
-sum_more sum word = (bit_xor sum word * 0x100000001b3) % 2 ^ 64
-
--- the sum goes on over the first words of these bytes
-abbrev pub sum_words : ℕ → ℕ → List ℕ → ℕ
-sum_words zero sum bytes = sum
-sum_words (suc i) sum bytes = sum_more (sum_words i sum bytes) (big_number 4 (drop (4 * i) bytes))
-
--- and over all of them
-abbrev pub sum_on : ℕ → List ℕ → ℕ
-sum_on sum bytes = sum_words (length bytes / 4) sum bytes
-
--- the text, version 1 and two zeros, how long the file was, how many pages are kept, and four zeros
-abbrev pub front_bytes : ℕ → ℕ → List ℕ
-front_bytes long kept = side_magic ++ big_bytes 2 1 ++ replicate 2 0 ++ big_bytes 4 long ++ big_bytes 4 kept ++ replicate 4 0
+-- in version 2 that and the sum over the pages that aren't kept
+abbrev pub front_bytes : ℕ → ℕ → Option ℕ → List ℕ
+front_bytes long kept None = fields_bytes 1 long kept
+front_bytes long kept (Some rest) = fields_bytes 2 long kept ++ big_bytes 8 rest
 
 -- that, and the sum
-abbrev pub side_header : ℕ → ℕ → ℕ → List ℕ
-side_header long kept sum = front_bytes long kept ++ big_bytes 8 sum
+abbrev pub side_header : ℕ → ℕ → Option ℕ → ℕ → List ℕ
+side_header long kept rest sum = front_bytes long kept rest ++ big_bytes 8 sum
+
+-- how many bytes it has
+abbrev pub header_width : Option ℕ → ℕ
+header_width None = 32
+header_width (Some rest) = 40
 
 -- an old page behind its number
 abbrev pub entry_bytes : ℕ → List ℕ → List ℕ
@@ -52,11 +47,11 @@ sum_pages sum (p ∷ pages) = sum_pages (sum_on sum (entry_bytes p.0 p.1)) pages
 
 -- over all old pages, and then over the header up to the sum
 abbrev pub side_sum : Kept → ℕ
-side_sum kept = sum_on (sum_pages sum_start kept.pages) (front_bytes kept.long (length kept.pages))
+side_sum kept = sum_on (sum_pages sum_start kept.pages) (front_bytes kept.long (length kept.pages) kept.rest)
 
 -- the bytes of the side file
 abbrev pub side_bytes : Kept → List ℕ
-side_bytes kept = side_header kept.long (length kept.pages) (side_sum kept) ++ entries_bytes kept.pages
+side_bytes kept = side_header kept.long (length kept.pages) kept.rest (side_sum kept) ++ entries_bytes kept.pages
 
 -- whole pages whose numbers ascend from the least on, and are below the end
 abbrev pub Ascend : ℕ → ℕ → List (ℕ × List ℕ) → Type 0
@@ -67,8 +62,13 @@ abbrev pub BeginsWithPage0 : List (ℕ × List ℕ) → Type 0
 BeginsWithPage0 [] = ⊥
 BeginsWithPage0 (p ∷ pages) = p.0 ≡ 0
 
+-- where a sum is said, it has 64 bits
+abbrev pub IsSum : Option ℕ → Type 0
+IsSum rest = IfSome rest (λ sum. sum < 2 ^ 64)
+
 -- what a side file can say: page 0 is kept, and the file had no more pages than there can be
 pub record IsSideFile (kept : Kept) : Type 0 where
+  pub rest : IsSum kept.rest
   pub most : kept.long ≤ greatest_page_count
   pub page_0 : BeginsWithPage0 kept.pages
   pub ascend : Ascend 0 kept.long kept.pages
@@ -78,23 +78,32 @@ abbrev pub read_entries : ℕ → List ℕ → List (ℕ × List ℕ)
 read_entries zero bytes = []
 read_entries (suc m) bytes = (big_number 4 bytes, take page_width (drop 4 bytes)) ∷ read_entries m (drop entry_width bytes)
 
+-- the sum over the other pages, which version 2 says
+abbrev pub read_rest : List ℕ → Option ℕ
+read_rest bytes = cond (big_number 2 (drop 8 bytes) == 2) (Some (big_number 8 (drop 24 bytes))) None
+
 -- what the bytes of a side file say
 abbrev pub read_side : List ℕ → Kept
-read_side bytes = record { long = big_number 4 (drop 12 bytes); pages = read_entries (big_number 4 (drop 16 bytes)) (drop 32 bytes) }
+read_side bytes = record {
+  long = big_number 4 (drop 12 bytes);
+  rest = read_rest bytes;
+  pages = read_entries (big_number 4 (drop 16 bytes)) (drop (header_width (read_rest bytes)) bytes);
+}
 
--- what is known of a side file whose entries are met one after another: how long the file was, how many entries there were, the least number that may come next, and the sum over them
+-- what is known of a side file whose entries are met one after another: how long the file was, the sum over the other pages, how many entries there were, the least number that may come next, and the sum over them
 pub record Tally : Type 0 where
   pub long : ℕ
+  pub rest : Option ℕ
   pub kept : ℕ
   pub least : ℕ
   pub sum : ℕ
 
-abbrev pub first_tally : ℕ → Tally
-first_tally long = record { long = long; kept = 0; least = 0; sum = sum_start }
+abbrev pub first_tally : ℕ → Option ℕ → Tally
+first_tally long rest = record { long = long; rest = rest; kept = 0; least = 0; sum = sum_start }
 
 -- one entry more, of page n
 abbrev pub tally_more : Tally → ℕ → List ℕ → Tally
-tally_more t n entry = record { long = t.long; kept = t.kept + 1; least = n + 1; sum = sum_on t.sum entry }
+tally_more t n entry = record { long = t.long; rest = t.rest; kept = t.kept + 1; least = n + 1; sum = sum_on t.sum entry }
 
 -- whether page n may come next
 pub record MayCome (t : Tally) (n : ℕ) : Type 0 where
@@ -109,7 +118,7 @@ pub record MayEnd (t : Tally) : Type 0 where
 
 -- the header of a side file that has these entries
 abbrev pub tally_header : Tally → List ℕ
-tally_header t = side_header t.long t.kept (sum_on t.sum (front_bytes t.long t.kept))
+tally_header t = side_header t.long t.kept t.rest (sum_on t.sum (front_bytes t.long t.kept t.rest))
 
 -- all of these entries
 abbrev pub tally_on : Tally → List (ℕ × List ℕ) → Tally
@@ -123,6 +132,7 @@ MayComeAll t (p ∷ pages) = MayCome t p.0 × (length p.1 ≡ page_width) × May
 
 -- bytes that are read one entry after another and taken: the entries may come, there may be no more, and the header is the one that they have
 pub record IsTaken (kept : Kept) (bytes : List ℕ) : Type 0 where
-  pub come : MayComeAll (first_tally kept.long) kept.pages
-  pub end : MayEnd (tally_on (first_tally kept.long) kept.pages)
-  pub spelt : bytes ≡ tally_header (tally_on (first_tally kept.long) kept.pages) ++ entries_bytes kept.pages
+  pub rest : IsSum kept.rest
+  pub come : MayComeAll (first_tally kept.long kept.rest) kept.pages
+  pub end : MayEnd (tally_on (first_tally kept.long kept.rest) kept.pages)
+  pub spelt : bytes ≡ tally_header (tally_on (first_tally kept.long kept.rest) kept.pages) ++ entries_bytes kept.pages

@@ -8,18 +8,22 @@ use Rattle.page_journal.specs.Files.{Kept, Files}
 use Rattle.page_journal.specs.declared.disk_state.DiskState.{Ghosts}
 use Rattle.page_journal.specs.declared.side_shape.SideShape.{SideShape}
 
--- a side file with no page yet
+-- a side file with no page, which says nothing of the others
 abbrev pub nothing_kept : ℕ → Kept
-nothing_kept long = record { long = long; pages = [] }
+nothing_kept long = record { long = long; rest = None; pages = [] }
+
+-- a side file with no page yet, and what the sum over the others is
+abbrev pub begun : ℕ → ℕ → Kept
+begun long rest = record { long = long; rest = Some rest; pages = [] }
 
 -- a side file with one page more
 abbrev pub kept_more : Kept → ℕ → List ℕ → Kept
-kept_more kept n page = record { long = kept.long; pages = kept.pages ++ (n, page) ∷ [] }
+kept_more kept n page = record { long = kept.long; rest = kept.rest; pages = kept.pages ++ (n, page) ∷ [] }
 
--- how many pages the file had, and how many of them a side file has
+-- how many pages the file had, how many of them a side file has, and the sum over the others
 abbrev pub side_shape : Option Kept → Option SideShape
 side_shape None = None
-side_shape (Some kept) = Some (record { long = kept.long; kept = length kept.pages })
+side_shape (Some kept) = Some (record { long = kept.long; kept = length kept.pages; rest = kept.rest })
 
 -- the i-th old page of a side file with its number
 abbrev pub kept_at : Option Kept → ℕ → Option (ℕ × List ℕ)

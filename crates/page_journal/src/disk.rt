@@ -2,7 +2,7 @@ ghost use Rattle.std.specs.Prelude.{◌≡◌, ◌<◌, ◌≤◌, ◌-◌, ◌+
 ghost use Rattle.rec_types.specs.Widths.{page_width};
 ghost use Rattle.page_store.specs.Blank.{blanks};
 ghost use Rattle.page_journal.specs.Files.{Files};
-ghost use Rattle.page_journal.specs.Steps.{CallDoes, CallSyncs, Nothing, TornAt, GrowsUpTo, CutsTo, Fresh, Names, Removes, nothing_kept, kept_more, side_shape, kept_at};
+ghost use Rattle.page_journal.specs.Steps.{CallDoes, CallSyncs, Nothing, TornAt, GrowsUpTo, CutsTo, Fresh, Names, Removes, begun, kept_more, side_shape, kept_at};
 
 use crate::disk_state::DiskState;
 use crate::side_shape::SideShape;
@@ -60,11 +60,11 @@ pub trait Disk: DiskState {
     fn sync(&mut self) -> Result<(), StoreFault>
         ensures { CallSyncs Self.DiskState (λ f. f.main) self.old result self.new };
 
-    /// Begins a side file for a file of so many pages, under the name that no opening looks for. One that was begun
-    /// there is gone. Fault: Failed; what has that name is anything then.
-    fn start(&mut self, long: u32) -> Result<(), StoreFault>
+    /// Begins a side file for a file of so many pages, of which those that it won't keep have that sum, under the name
+    /// that no opening looks for. Fault: Failed; what has that name is anything then.
+    fn start(&mut self, long: u32, rest: u64) -> Result<(), StoreFault>
         ensures fresh { IsTrue (Self.steady self.old)
-            → OnOk result ((Self.seen self.new).fresh ≡ nothing_kept long) }
+            → OnOk result ((Self.seen self.new).fresh ≡ begun long rest) }
         ensures does { CallDoes Self.DiskState Fresh self.old result self.new };
 
     /// Adds an old page to it, the page of number n. Fault: Failed; what has that name is anything then.
@@ -92,7 +92,7 @@ pub trait Disk: DiskState {
     fn sync_names(&mut self) -> Result<(), StoreFault>
         ensures { CallSyncs Self.DiskState (λ f. is_some f.side) self.old result self.new };
 
-    /// What the side file of that name says of its length, where there is one. Fault: Failed.
+    /// What the side file of that name says of its length and of the other pages, where there is one. Fault: Failed.
     fn side(&mut self) -> Result<Option<SideShape>, StoreFault>
         ensures shape { IsTrue (Self.steady self.old)
             → IfOk result (λ found. found ≡ side_shape (Self.seen self.old).side) }

@@ -11,8 +11,8 @@ pub enum DiskCall {
     Cut(u32),
     /// The device kept the file.
     Sync,
-    /// A side file for a file of so many pages was begun.
-    Start(u32),
+    /// A side file for a file of so many pages was begun, of which those that it won't keep have that sum.
+    Start(u32, u64),
     /// The old page of that number was added to it.
     Keep(u32, [u8; PAGE_WIDTH]),
     /// The device kept the side file that is being made.

@@ -3,21 +3,22 @@ ghost use Rattle.rec_types.specs.Widths.{page_width};
 ghost use Rattle.page_journal.specs.Crash.{IsAtRest};
 ghost use Rattle.page_journal.specs.FileDisks.{SetsLength};
 
+use crate::beside::Beside;
 use crate::disk::Disk;
 use crate::disk_state::DiskState;
 use crate::noted::{count_up, noted_call};
 use crate::opening_fault::OpeningFault;
+use crate::recovering::look_beside;
 use crate::side_files::SideFiles;
 use crate::side_names::SideNames;
 use crate::side_shape::SideShape;
-use page_store::{Lock, Shape, StoreFault};
+use file_system::{System, SystemFile};
+use page_store::{Shape, StoreFault};
 use rec_types::PAGE_WIDTH;
 use std::alloc::Global;
-use std::fs::{OpenFile, OpenOptions};
 use std::io;
 use std::marker::Model;
-use std::os::unix::fs::{FileExt, MetadataExt};
-use std::rt::Files;
+use std::os::unix::fs::FileExt;
 
 /// The bytes of a page, counted as a file's are.
 const PAGE_BYTES: u64 = PAGE_WIDTH as u64;
@@ -60,12 +61,12 @@ fn page_start(n: u32) -> u64
     u64::from(n) * PAGE_BYTES
 }
 
-impl<H: Files<File = F> + Drop, F: OpenFile + FileExt + Lock + Drop> FileDisk<H, F> {
+impl<H: System<File = F> + Drop, F: SystemFile + Drop> FileDisk<H, F> {
     /// Opens the file of that path to read and write it, and takes the lock that no other opening shares. What a stop
     /// left beside it is looked at: a side file that was being made is removed, and one that has the name stays, for
-    /// `KeptStore::open`. The device then keeps all that is read. Faults: Device, as where there is no file, it may not be
-    /// written, or another opening has a lock; BadJournal, where a side file isn't one of this file, and nothing has changed
-    /// then; Memory.
+    /// `KeptStore::open`. The device then keeps all that is read, and what a closing will need was tried. Faults: Device,
+    /// as where there is no file, it or its folder may not be written, it has a second name, or another opening has a
+    /// lock; BadJournal, where what has a side file's name is none of this file, and nothing has changed then; Memory.
     pub fn open(rt: H, alloc: Global, path: &str) -> Result<FileDisk<H, F>, OpeningFault>
         ensures rest { IfOk result (λ d. IsAtRest ⟦<FileDisk<H, F> as DiskState>⟧ d) }
         ensures began { IfOk result (λ d. IsTrue (⟦<FileDisk<H, F> as DiskState>⟧.steady d)
@@ -74,24 +75,48 @@ impl<H: Files<File = F> + Drop, F: OpenFile + FileExt + Lock + Drop> FileDisk<H,
         ensures failures { IfOk result (λ d. d.failures ≡ 0) }
     {
         let names = SideNames::of(&rt, alloc, path)?;
-        let file = OpenOptions::new()
-            .read(true)
-            .write(true)
-            .open(&rt, names.main.as_str())?;
+        let file = rt.open_update(names.main.as_str())?;
         file.try_lock()?;
-        let metadata = file.metadata()?;
-        let pages = metadata.len() / PAGE_BYTES;
-        let beside = SideFiles::open(rt, names, metadata.mode() & 0o777, pages)?;
+        let opened = file.facts()?;
+        let pages = opened.len / PAGE_BYTES;
+        let beside = SideFiles::open(rt, names, opened, pages)?;
         file.sync_all()?;
         beside.sync_names()?;
         Ok(FileDisk {
             file,
             beside,
             pages,
-            tail: (metadata.len() % PAGE_BYTES) as u16,
+            tail: (opened.len % PAGE_BYTES) as u16,
             calls: 0,
             failures: 0,
         })
+    }
+
+    /// What stands beside the file of that path under the name of its side file. Nothing is changed. Faults: Device, as
+    /// where there is no file, a writer has a lock, or what stands beside it can't be read; Memory.
+    pub fn beside(rt: H, alloc: Global, path: &str) -> Result<Beside, OpeningFault> {
+        let names = SideNames::of(&rt, alloc, path)?;
+        let file = rt.open_read(names.main.as_str())?;
+        file.try_lock_shared()?;
+        let opened = file.facts()?;
+        let pages = opened.len / PAGE_BYTES;
+        let beside = match SideFiles::look(rt, names, opened, pages) {
+            Ok(beside) => beside,
+            Err(OpeningFault::BadJournal) => return Ok(Beside::Stray),
+            Err(fault) => return Err(fault),
+        };
+        let mut disk = FileDisk {
+            file,
+            beside,
+            pages,
+            tail: (opened.len % PAGE_BYTES) as u16,
+            calls: 0,
+            failures: 0,
+        };
+        match look_beside(&mut disk) {
+            Ok(found) => Ok(found),
+            Err(_) => Err(OpeningFault::Device),
+        }
     }
 
     // Makes the file n pages long, with no tail. Fault: Failed; it is as long as it was then.
@@ -119,18 +144,25 @@ impl<H: Files<File = F> + Drop, F: OpenFile + FileExt + Lock + Drop> FileDisk<H,
     }
 }
 
+/// The name that an opening looks for beside the file of that path, without links. Faults: Device, as where there is no
+/// file; Memory.
+pub fn side_name<H: System>(rt: &H, alloc: Global, path: &str) -> Result<String, OpeningFault> {
+    let SideNames { side, .. } = SideNames::of(rt, alloc, path)?;
+    Ok(side)
+}
+
 /// Whether a side file stands beside the file of that path, by the name that an opening looks for. Faults: Device, as where
 /// there is no file; Memory.
-pub fn has_side_file<H: Files>(rt: &H, alloc: Global, path: &str) -> Result<bool, OpeningFault> {
+pub fn has_side_file<H: System>(rt: &H, alloc: Global, path: &str) -> Result<bool, OpeningFault> {
     let names = SideNames::of(rt, alloc, path)?;
-    match rt.symlink_metadata(names.side.as_str()) {
+    match rt.facts_here(names.side.as_str()) {
         Ok(_) => Ok(true),
         Err(error) if error.kind() == io::ErrorKind::NotFound => Ok(false),
         Err(_) => Err(OpeningFault::Device),
     }
 }
 
-impl<H: Files<File = F> + Drop, F: OpenFile + FileExt + Lock + Drop> DiskState for FileDisk<H, F> {
+impl<H: System<File = F> + Drop, F: SystemFile + Drop> DiskState for FileDisk<H, F> {
     ghost use Rattle.page_store.specs.FileValues.{gives_back};
     ghost use Rattle.page_journal.specs.FileDisks.{files_seen, files_at_opening, may_be_left, left_since_in_files};
 
@@ -149,7 +181,7 @@ impl<H: Files<File = F> + Drop, F: OpenFile + FileExt + Lock + Drop> DiskState f
     ghost failures = { λ d. d.failures };
 }
 
-impl<H: Files<File = F> + Drop, F: OpenFile + FileExt + Lock + Drop> Disk for FileDisk<H, F> {
+impl<H: System<File = F> + Drop, F: SystemFile + Drop> Disk for FileDisk<H, F> {
     ghost use Rattle.page_journal.specs.FileDisks.{only_left_at_once, left_at_once};
 
     ghost only_now = { λ d c left. only_left_at_once d.calls c left };
@@ -190,9 +222,9 @@ impl<H: Files<File = F> + Drop, F: OpenFile + FileExt + Lock + Drop> Disk for Fi
         noted_call(&mut self.failures, answer)
     }
 
-    fn start(&mut self, long: u32) -> Result<(), StoreFault> {
+    fn start(&mut self, long: u32, rest: u64) -> Result<(), StoreFault> {
         count_up(&mut self.calls);
-        let answer = self.beside.start(long);
+        let answer = self.beside.start(long, rest);
         noted_call(&mut self.failures, answer)
     }
 

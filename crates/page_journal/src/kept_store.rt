@@ -7,9 +7,9 @@ ghost use Rattle.page_store.specs.Growth.{GrowsTo};
 ghost use Rattle.page_store.specs.StoreCalls.{SealsStore, ChangesStore};
 ghost use Rattle.page_store.specs.StoreFaults.{is_failed};
 ghost use Rattle.page_store.specs.declared.step.Step.{Step};
-ghost use Rattle.page_journal.specs.Files.{Files, recovered};
-ghost use Rattle.page_journal.specs.Crash.{IsSettled, IsAtRest, StandsFor, IsEither};
-ghost use Rattle.page_journal.specs.Recovery.{IsTooShort, is_device, is_device_fault};
+ghost use Rattle.page_journal.specs.Files.{Files, Belongs, recovered};
+ghost use Rattle.page_journal.specs.Crash.{IsSettled, IsAtRest, StandsAs, StandsFor, IsEither};
+ghost use Rattle.page_journal.specs.Recovery.{IsForeign, is_device, is_device_fault};
 ghost use Rattle.page_journal.specs.KeptStores.{KeptStored, CanBeSealed, is_open, may_write_in};
 
 use crate::disk::Disk;
@@ -135,12 +135,12 @@ impl<D: Disk + Drop> KeptStore<D> {
         }) }
         ensures steady { IfOk result (λ s. D.steady s.disk ≡ D.steady disk) }
         ensures failures { IfOk result (λ s. D.failures s.disk ≡ D.failures disk) }
-        ensures file { IsTrue (D.steady disk)
-            → IfOk result (λ s. (D.seen s.disk).main ≡ recovered D.began) }
+        ensures file { IsTrue (D.steady disk) → IfOk result (λ s. Belongs D.began
+            × ((D.seen s.disk).main ≡ recovered D.began)) }
         ensures stopped { IsTrue (D.steady disk) → IfErr result (λ stop. (c : Files)
-            → D.left_since stop.0 0 c → StandsFor (recovered D.began) c) }
+            → D.left_since stop.0 0 c → StandsAs D.began c) }
         ensures bad_journal { IsTrue (D.steady disk) → IfErr result (λ stop.
-            stop.1 ≡ RecoveryFault.BadJournal → IsTooShort D.began) }
+            stop.1 ≡ RecoveryFault.BadJournal → IsForeign D.began) }
         ensures device { IfErr result (λ stop. D.failures stop.0
             ≡ counted (D.failures disk) (is_device_fault stop.1)) }
     {
@@ -192,7 +192,7 @@ impl<D: Disk + Drop> KeptStore<D> {
             return Err(StoreFault::Memory);
         };
         self.state = SealState::Stopped;
-        seal(&mut self.disk, numbers)?;
+        seal(&mut self.disk, &kept)?;
         self.kept = kept;
         self.state = SealState::Sealed;
         Ok(())
@@ -233,6 +233,7 @@ impl<D: Disk + Drop> KeptStore<D> {
             → OnOk result.1 ((D.seen result.0).main ≡ recovered D.began) }
         ensures any_moment { IsTrue (D.steady self.disk) → (c : Files) → D.left_since result.0 0 c
             → StandsFor (recovered D.began) c }
+        ensures fault { IsTrue (D.steady self.disk) → result.1 ≢ Err RecoveryFault.BadJournal }
         ensures steady { D.steady result.0 ≡ D.steady self.disk }
         ensures device { D.failures result.0
             ≡ counted (D.failures self.disk) (is_device result.1) }

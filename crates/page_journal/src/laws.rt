@@ -1,14 +1,15 @@
 //! Facts of the definitions that contracts of this crate cite.
-ghost use Rattle.std.specs.Prelude.{◌≡◌, ◌≢◌, ℕ, List, [], ◌∷◌, ◌++◌, All, take};
+ghost use Rattle.std.specs.Prelude.{◌≡◌, ◌≢◌, ℕ, List, [], ◌∷◌, ◌++◌, Some, None, All, take};
 ghost use Rattle.page_store.specs.Journal.{carried};
 ghost use Rattle.page_store.specs.declared.step.Step.{Step};
 ghost use Rattle.page_journal.specs.Carrying.{LeavesOf, WritesKept};
-ghost use Rattle.page_journal.specs.Files.{PageFile, Kept, Files, Agree, restored, recovered};
+ghost use Rattle.page_journal.specs.Files.{PageFile, Kept, Files, Agree, IsOf, restored, recovered};
 ghost use Rattle.page_journal.specs.Crash.{StandsFor, IsEither, Gathered};
 ghost use Rattle.page_journal.specs.History.{all_done, MayLeave, LeftSince};
-ghost use Rattle.page_journal.specs.Examples.{pages_of_two, alone, old_file, page_1_kept, page_1_written, both_written, both_writes, side_made, side_named, named_early, page_1_steps, both_steps};
+ghost use Rattle.page_journal.specs.Examples.{pages_of_two, alone, old_file, word, words, word_kept, page_1_kept, page_1_written, both_written, both_writes, side_made, side_named, named_early, page_1_steps, both_steps};
 ghost use Rattle.page_store.specs.Blank.{blank};
-ghost use Rattle.page_journal.specs.SideBytes.{sum_start, sum_on, side_header, entry_bytes, side_bytes, read_side, IsSideFile, IsTaken};
+ghost use Rattle.page_journal.specs.Sums.{sum_start, sum_on};
+ghost use Rattle.page_journal.specs.SideBytes.{side_header, entry_bytes, side_bytes, read_side, IsSideFile, IsTaken};
 ghost use Rattle.page_journal.specs.declared.disk_call.DiskCall.{DiskCall};
 
 /// What old pages leave that are put back depends on no page that was kept, and on nothing past the old end. In the
@@ -21,6 +22,17 @@ pub fn old_pages_put_back()
     ensures example { restored page_1_kept page_1_written ≡ old_file }
     ensures disagree { Agree page_1_kept old_file.pages both_written → ⊥ }
     ensures not_kept { restored page_1_kept both_written ≢ old_file }
+{}
+
+/// A side file of a file is one of each whose pages are the same but for those that it keeps, whatever a stop made of these.
+/// In the example page 1 of two was kept, and page 0 has a sum. A copy whose page 0 is another's, and one that is shorter,
+/// have no part in it; a side file of the first version says nothing of page 0.
+pub fn whose_side_file_it_is()
+    ensures same { (kept : Kept) (a b : List (List ℕ)) → Agree kept a b → IsOf kept a → IsOf kept b }
+    ensures own { (b : ℕ) → IsOf word_kept (words 1 b) }
+    ensures other { IsOf word_kept (words 7 2) → ⊥ }
+    ensures shorter { IsOf word_kept (word 1 ∷ []) → ⊥ }
+    ensures first_version { IsOf page_1_kept both_written }
 {}
 
 /// Steps that write over no page but those that were kept, and past the old end: however many of them are carried out,
@@ -81,7 +93,7 @@ pub fn naming_by_example()
 
 /// What the bytes of a side file say is what they were made of, and bytes are taken where they are those of a side file and
 /// nowhere else. In the examples four bytes have a sum, which others than they don't have; a header is of a file of three pages of
-/// which two are kept, with the sum 7. Pages that don't ascend, and pages without page 0, are no side file's.
+/// which two are kept, with the sum 5 over the third and the sum 7; in the first version the third has none. Pages that don't ascend, and pages without page 0, are no side file's.
 pub fn side_file_by_bytes()
     ensures read { (kept : Kept) → IsSideFile kept → read_side (side_bytes kept) ≡ kept }
     ensures taken { (kept : Kept) → IsSideFile kept → IsTaken kept (side_bytes kept) }
@@ -89,12 +101,25 @@ pub fn side_file_by_bytes()
         → IsSideFile kept × (bytes ≡ side_bytes kept) }
     ensures sum { sum_on sum_start (0x61 ∷ 0x62 ∷ 0x63 ∷ 0x64 ∷ []) ≡ 0xcd80d9f18c2d2e73 }
     ensures other_order { sum_on sum_start (0x64 ∷ 0x63 ∷ 0x62 ∷ 0x61 ∷ []) ≢ 0xcd80d9f18c2d2e73 }
-    ensures header { side_header 3 2 7 ≡ 0x42 ∷ 0x4d ∷ 0x4b ∷ 0x52 ∷ 0x4a ∷ 0x52 ∷ 0x4e ∷ 0x4c
+    ensures header { side_header 3 2 (Some 5) 7
+        ≡ 0x42 ∷ 0x4d ∷ 0x4b ∷ 0x52 ∷ 0x4a ∷ 0x52 ∷ 0x4e ∷ 0x4c
+        ∷ 0 ∷ 2 ∷ 0 ∷ 0 ∷ 0 ∷ 0 ∷ 0 ∷ 3 ∷ 0 ∷ 0 ∷ 0 ∷ 2 ∷ 0 ∷ 0 ∷ 0 ∷ 0
+        ∷ 0 ∷ 0 ∷ 0 ∷ 0 ∷ 0 ∷ 0 ∷ 0 ∷ 5 ∷ 0 ∷ 0 ∷ 0 ∷ 0 ∷ 0 ∷ 0 ∷ 0 ∷ 7 ∷ [] }
+    ensures old_header { side_header 3 2 None 7
+        ≡ 0x42 ∷ 0x4d ∷ 0x4b ∷ 0x52 ∷ 0x4a ∷ 0x52 ∷ 0x4e ∷ 0x4c
         ∷ 0 ∷ 1 ∷ 0 ∷ 0 ∷ 0 ∷ 0 ∷ 0 ∷ 3 ∷ 0 ∷ 0 ∷ 0 ∷ 2 ∷ 0 ∷ 0 ∷ 0 ∷ 0
         ∷ 0 ∷ 0 ∷ 0 ∷ 0 ∷ 0 ∷ 0 ∷ 0 ∷ 7 ∷ [] }
     ensures entry { entry_bytes 258 (9 ∷ 8 ∷ []) ≡ 0 ∷ 0 ∷ 1 ∷ 2 ∷ 9 ∷ 8 ∷ [] }
-    ensures order { IsSideFile (record { long = 2; pages = (0, blank) ∷ (0, blank) ∷ [] }) → ⊥ }
-    ensures no_page_0 { IsSideFile (record { long = 2; pages = (1, blank) ∷ [] }) → ⊥ }
-    ensures past_the_end { IsSideFile (record { long = 1; pages = (0, blank) ∷ (1, blank) ∷ [] })
+    ensures order { IsSideFile (record {
+      long = 2;
+      rest = None;
+      pages = (0, blank) ∷ (0, blank) ∷ [];
+    }) → ⊥ }
+    ensures no_page_0 { IsSideFile (record { long = 2; rest = None; pages = (1, blank) ∷ [] }) → ⊥ }
+    ensures past_the_end { IsSideFile (record {
+      long = 1;
+      rest = None;
+      pages = (0, blank) ∷ (1, blank) ∷ [];
+    })
         → ⊥ }
 {}

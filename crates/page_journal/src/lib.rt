@@ -2,6 +2,7 @@
 //! that a crash at any moment leaves the old file or the new one.
 #![tactic(auto)]
 
+mod beside;
 mod blank;
 mod disk;
 mod disk_call;
@@ -12,6 +13,7 @@ mod fresh_side;
 mod kept_side;
 mod kept_store;
 pub mod laws;
+mod making;
 mod mem_disk;
 mod mem_files;
 mod noted;
@@ -26,12 +28,14 @@ mod side_names;
 mod side_shape;
 mod side_tally;
 
+pub use beside::Beside;
 pub use disk::Disk;
 pub use disk_call::DiskCall;
 pub use disk_state::DiskState;
 pub use fate::Fate;
-pub use file_disk::{FileDisk, has_side_file};
+pub use file_disk::{FileDisk, has_side_file, side_name};
 pub use kept_store::KeptStore;
+pub use making::{keep_made, make_file, take_away};
 pub use mem_disk::{Beginning, MemDisk};
 pub use opening_fault::OpeningFault;
 pub use recovering::{commit, recover};

@@ -197,8 +197,8 @@ impl<B: Beginning> Disk for MemDisk<B> {
         self.note(DiskCall::Sync)
     }
 
-    fn start(&mut self, long: u32) -> Result<(), StoreFault> {
-        self.note(DiskCall::Start(long))
+    fn start(&mut self, long: u32, rest: u64) -> Result<(), StoreFault> {
+        self.note(DiskCall::Start(long, rest))
     }
 
     fn keep(&mut self, n: u32, page: &[u8; PAGE_WIDTH]) -> Result<(), StoreFault> {
@@ -225,11 +225,15 @@ impl<B: Beginning> Disk for MemDisk<B> {
         let Some(kept) = &self.seen.side else {
             return Ok(None);
         };
-        let long = kept.long;
+        let (long, rest) = (kept.long, kept.rest);
         let Ok(count) = u32::try_from(kept.pages.len()) else {
             return Err(self.fail());
         };
-        Ok(Some(SideShape { long, kept: count }))
+        Ok(Some(SideShape {
+            long,
+            kept: count,
+            rest,
+        }))
     }
 
     fn kept(&mut self, i: u32, to: &mut [u8; PAGE_WIDTH]) -> Result<u32, StoreFault> {

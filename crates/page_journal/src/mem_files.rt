@@ -1,6 +1,6 @@
 ghost use Rattle.std.specs.Prelude.{◌≡◌, ◌<◌, IsTrue, IfOk, OnOk, OnErr};
 ghost use Rattle.rec_types.specs.Widths.{page_width};
-ghost use Rattle.page_journal.specs.Steps.{nothing_kept, kept_more};
+ghost use Rattle.page_journal.specs.Steps.{nothing_kept, begun, kept_more};
 ghost use Rattle.page_journal.specs.History.{done};
 ghost use Rattle.page_journal.specs.Fates.{grown, torn, kept_by, fated, NamesAgree};
 ghost use Rattle.page_journal.specs.declared.disk_call.DiskCall.{DiskCall};
@@ -33,10 +33,11 @@ fn copy_of(
     Ok(pages.to_vec(alloc)?)
 }
 
-/// Old pages of a file with their numbers, and how long the file was.
+/// Old pages of a file with their numbers, how long the file was, and the sum over its other pages, where it is known.
 #[derive(Drop)]
 pub(crate) struct OldPages {
     pub(crate) long: u32,
+    pub(crate) rest: Option<u64>,
     pub(crate) pages: Vec<(u32, [u8; PAGE_WIDTH])>,
 }
 
@@ -45,7 +46,7 @@ impl Model for OldPages {
 
     ghost Value = { Kept };
 
-    ghost view = { λ k. record { long = k.long; pages = k.pages.items } };
+    ghost view = { λ k. record { long = k.long; rest = k.rest; pages = k.pages.items } };
 }
 
 impl OldPages {
@@ -55,6 +56,18 @@ impl OldPages {
     {
         OldPages {
             long,
+            rest: None,
+            pages: Vec::new(alloc),
+        }
+    }
+
+    /// None yet of a file of so many pages, of which the others have that sum.
+    fn begun(alloc: Global, long: u32, rest: u64) -> OldPages
+        ensures { result ≡ begun long rest }
+    {
+        OldPages {
+            long,
+            rest: Some(rest),
             pages: Vec::new(alloc),
         }
     }
@@ -65,6 +78,7 @@ impl OldPages {
     {
         Ok(OldPages {
             long: self.long,
+            rest: self.rest,
             pages: copy_of(alloc, &self.pages)?,
         })
     }
@@ -106,7 +120,7 @@ impl MemFiles {
             DiskCall::Write(n, page) => self.put(n, page),
             DiskCall::Grow(n) => self.grow(n, &blank_page())?,
             DiskCall::Cut(n) => self.cut(n),
-            DiskCall::Start(long) => self.fresh = OldPages::new(self.alloc, long),
+            DiskCall::Start(long, rest) => self.fresh = OldPages::begun(self.alloc, long, rest),
             DiskCall::Keep(n, page) => self.fresh.pages.push((n, page))?,
             DiskCall::Name => self.name(),
             DiskCall::Remove => self.side = None,
@@ -195,7 +209,7 @@ impl MemFiles {
         match *call {
             DiskCall::Write(n, _) => self.put(n, noise_page()),
             DiskCall::Grow(n) => self.grow(n, &noise_page())?,
-            DiskCall::Start(_) => self.fresh = OldPages::new(self.alloc, 0),
+            DiskCall::Start(..) => self.fresh = OldPages::new(self.alloc, 0),
             DiskCall::Keep(n, _) => self.fresh.pages.push((n, noise_page()))?,
             DiskCall::Cut(_) | DiskCall::Name | DiskCall::Remove => {}
             DiskCall::Sync | DiskCall::SyncFresh | DiskCall::SyncNames => {}
@@ -214,7 +228,7 @@ impl MemFiles {
             }
             DiskCall::SyncFresh => self.fresh = seen.fresh.copy(self.alloc)?,
             DiskCall::Write(..) | DiskCall::Grow(_) | DiskCall::Cut(_) => {}
-            DiskCall::Start(_) | DiskCall::Keep(..) => {}
+            DiskCall::Start(..) | DiskCall::Keep(..) => {}
             DiskCall::Name | DiskCall::Remove | DiskCall::SyncNames => {}
         }
         Ok(())

@@ -1,14 +1,19 @@
-ghost use Rattle.std.specs.Prelude.{◌≡◌, ◌<◌, ◌≤◌, ℕ, List, Some, Err, length, IsErr, IsTrue, OnOk, slice_set};
+ghost use Rattle.std.specs.Prelude.{◌≡◌, ◌≢◌, ◌↔◌, ◌<◌, ◌≤◌, ℕ, List, Some, Err, length, take, IsTrue, IfOk, IfSome, MatchOption, OnOk, slice_set};
 ghost use Rattle.rec_types.specs.Table.{counted};
-ghost use Rattle.page_journal.specs.Files.{Kept, recovered, restored};
-ghost use Rattle.page_journal.specs.Steps.{CallDoes, CallsLeave, TornAt, side_shape, StaysSteady};
-ghost use Rattle.page_journal.specs.Crash.{LeavesOnly, IsSettled, IsSealed, IsAtRest, StandsFor, IsEither, MayWrite, PutsBack};
-ghost use Rattle.page_journal.specs.Recovery.{is_device, IsTooShort};
+ghost use Rattle.page_journal.specs.Files.{Kept, IsOf, Belongs, AscendBelow, is_kept, recovered, restored};
+ghost use Rattle.page_journal.specs.Sums.{SumsOn, sum_without};
+ghost use Rattle.page_journal.specs.Steps.{CallDoes, CallsLeave, CountsFault, Stays, TornAt, side_shape, StaysSteady};
+ghost use Rattle.page_journal.specs.Crash.{LeavesOnly, IsSettled, IsSealed, IsAtRest, StandsAs, StandsFor, IsEither, MayWrite, PutsBack};
+ghost use Rattle.page_journal.specs.Recovery.{is_device, IsForeign};
+ghost use Rattle.page_journal.specs.StandsBeside.{StandsBeside};
 
+use crate::beside::Beside;
 use crate::blank::blank_page;
 use crate::disk::Disk;
 use crate::recovery_fault::RecoveryFault;
+use crate::side_bytes::sum_on;
 use crate::side_shape::SideShape;
+use crate::side_tally::SUM_START;
 use page_store::StoreFault;
 use rec_types::PAGE_WIDTH;
 
@@ -86,19 +91,99 @@ fn put_back<D: Disk>(disk: &mut D, side: SideShape) -> Result<(), StoreFault>
     Ok(())
 }
 
+// A sum over the pages up to one goes on up to another. They are there.
+fn sum_pages<D: Disk>(disk: &mut D, sum: u64, from: u32, to: u32) -> Result<u64, StoreFault>
+    requires there { to ≤ length (D.seen disk.old).main.pages }
+    requires order { from ≤ to }
+    ensures stays { Stays D.DiskState disk.old disk.new }
+    ensures fault { CountsFault D.DiskState disk.old result disk.new }
+    ensures sum { IsTrue (D.steady disk.old) → IfOk result
+        (λ more. SumsOn (D.seen disk.old).main.pages from to sum more) }
+{
+    let mut page = blank_page();
+    let mut sum = sum;
+    for n in from..to {
+        disk.read(n, &mut page)?;
+        sum = sum_on(sum, &page);
+    }
+    Ok(sum)
+}
+
+// The sum over the pages below the old end that a side file doesn't keep, or none where the numbers of those that it
+// keeps don't ascend below it. The file is no shorter than it was.
+fn sum_of_others<D: Disk>(disk: &mut D, side: SideShape) -> Result<Option<u64>, StoreFault>
+    requires long { side.long ≤ length (D.seen disk.old).main.pages }
+    ensures stays { Stays D.DiskState disk.old disk.new }
+    ensures fault { CountsFault D.DiskState disk.old result disk.new }
+    ensures sum { IsTrue (D.steady disk.old) → (kept : Kept)
+        → (D.seen disk.old).side ≡ Some kept → side_shape (Some kept) ≡ Some side
+        → IfOk result (λ found. MatchOption found (AscendBelow 0 kept.long kept.pages → ⊥)
+        (λ sum. AscendBelow 0 kept.long kept.pages
+        × (sum ≡ sum_without (is_kept kept.pages) kept.long (D.seen disk.old).main.pages))) }
+{
+    let mut page = blank_page();
+    let mut sum = SUM_START;
+    let mut next = 0;
+    for i in 0..side.kept {
+        let n = disk.kept(i, &mut page)?;
+        if n < next || n >= side.long {
+            return Ok(None);
+        }
+        sum = sum_pages(disk, sum, next, n)?;
+        next = n + 1;
+    }
+    let sum = sum_pages(disk, sum, next, side.long)?;
+    Ok(Some(sum))
+}
+
+// Whether a side file of that shape is one of the file.
+fn belongs<D: Disk>(disk: &mut D, side: SideShape) -> Result<bool, StoreFault>
+    ensures stays { Stays D.DiskState disk.old disk.new }
+    ensures fault { CountsFault D.DiskState disk.old result disk.new }
+    ensures long { IfOk result (λ own. IsTrue own
+        → side.long ≤ length (D.seen disk.old).main.pages) }
+    ensures own { IsTrue (D.steady disk.old) → (kept : Kept)
+        → (D.seen disk.old).side ≡ Some kept → side_shape (Some kept) ≡ Some side
+        → IfOk result (λ own. IsTrue own ↔ IsOf kept (D.seen disk.old).main.pages) }
+{
+    if disk.shape()?.pages < u64::from(side.long) {
+        return Ok(false);
+    }
+    let Some(rest) = side.rest else {
+        return Ok(true);
+    };
+    Ok(sum_of_others(disk, side)? == Some(rest))
+}
+
+/// What stands beside the file, which is only read. Fault: Failed.
+pub(crate) fn look_beside<D: Disk>(disk: &mut D) -> Result<Beside, StoreFault>
+    ensures stays { Stays D.DiskState disk.old disk.new }
+    ensures told { IsTrue (D.steady disk.old)
+        → IfOk result (StandsBeside (D.seen disk.old)) }
+{
+    let Some(side) = disk.side()? else {
+        return Ok(Beside::Nothing);
+    };
+    if !belongs(disk, side)? {
+        return Ok(Beside::Stray);
+    }
+    Ok(Beside::OldPages)
+}
+
 /// Makes the file that the two files stand for: where a side file has the name, cuts the file to its old length, puts
 /// the old pages back and takes the side file away. A crash at any moment of it leaves files that stand for the
 /// same file, so it may be stopped and called again, any number of times.
 ///
 /// It may be called after a restart, when what is read is what the device keeps, and at once after calls that failed
 /// over a file whose old pages are kept aside. Faults: Device, where a call of the disk failed; BadJournal, where the
-/// file has fewer pages than the side file says that it had, which no closing leaves: nothing has changed then.
+/// side file isn't one of the file, which has fewer pages than it had or others in the place of those that weren't kept:
+/// no closing leaves that, and nothing has changed then.
 pub fn recover<D: Disk>(disk: &mut D) -> Result<(), RecoveryFault>
     ensures steady { StaysSteady D.DiskState disk.old disk.new }
     ensures recovered { IsTrue (D.steady disk.old) → IsAtRest D.DiskState disk.old → OnOk result
         (IsSettled D.DiskState (recovered (D.seen disk.old)) disk.new) }
     ensures any_moment { IsTrue (D.steady disk.old) → IsAtRest D.DiskState disk.old
-        → LeavesOnly D.DiskState (StandsFor (recovered (D.seen disk.old))) disk.old disk.new }
+        → LeavesOnly D.DiskState (StandsAs (D.seen disk.old)) disk.old disk.new }
     ensures taken_back { IsTrue (D.steady disk.old) → (kept : Kept) (base : List (List ℕ))
         → IsSealed D.DiskState kept base disk.old
         → OnOk result (IsSettled D.DiskState (restored kept base) disk.new) }
@@ -107,15 +192,15 @@ pub fn recover<D: Disk>(disk: &mut D) -> Result<(), RecoveryFault>
         → LeavesOnly D.DiskState (StandsFor (restored kept base)) disk.old disk.new }
     ensures device { D.failures disk.new ≡ counted (D.failures disk.old) (is_device result) }
     ensures bad_journal { IsTrue (D.steady disk.old) → result ≡ Err RecoveryFault.BadJournal
-        → IsTooShort (D.seen disk.old) }
-    ensures too_short { IsTrue (D.steady disk.old) → IsTooShort (D.seen disk.old) → IsErr result }
+        → IsForeign (D.seen disk.old) }
+    ensures belongs { IsTrue (D.steady disk.old) → OnOk result (Belongs (D.seen disk.old)) }
     ensures untouched { result ≡ Err RecoveryFault.BadJournal
         → D.seen disk.new ≡ D.seen disk.old }
 {
     let Some(side) = disk.side()? else {
         return Ok(());
     };
-    if disk.shape()?.pages < u64::from(side.long) {
+    if !belongs(disk, side)? {
         return Err(RecoveryFault::BadJournal);
     }
     put_back(disk, side)?;

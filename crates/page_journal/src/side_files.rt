@@ -1,16 +1,17 @@
 ghost use Rattle.std.specs.Prelude.{◌≡◌, ◌≤◌, IfOk, IfSome};
 ghost use Rattle.std.specs.Option.{option_map};
+ghost use Rattle.file_system.specs.Facts.{IsAlone};
 
-use crate::fresh_side::FreshSide;
+use crate::fresh_side::{BEING_MADE, FreshSide};
 use crate::kept_side::{KeptSide, no_such_call};
 use crate::opening_fault::OpeningFault;
+use crate::side_bytes::begins_side_file;
 use crate::side_names::SideNames;
 use crate::side_shape::SideShape;
+use file_system::{FileFacts, FileKind, System, SystemFile};
 use rec_types::PAGE_WIDTH;
-use std::fs::{OpenFile, OpenOptions};
 use std::io;
 use std::os::unix::fs::FileExt;
-use std::rt::Files;
 
 /// What stands beside a file: a side file that is being made, one that has the name that an opening looks for, and the
 /// folder that they are in.
@@ -19,43 +20,122 @@ pub(crate) struct SideFiles<H, F> {
     rt: H,
     names: SideNames,
     folder: F,
-    mode: u32,
+    /// What the file was when it was opened.
+    opened: FileFacts,
     fresh: Option<FreshSide<F>>,
     side: Option<KeptSide<F>>,
 }
 
-// Removes a file of that name, where there is one.
-fn remove_left<H: Files>(rt: &H, name: &str) -> io::Result<()> {
-    match rt.remove_file(name) {
-        Err(error) if error.kind() != io::ErrorKind::NotFound => Err(error),
-        _ => Ok(()),
+// Fails where the name leads to another file than that which was opened, or that has another name, too: under each of two
+// names a side file would stand that the other doesn't know.
+fn expect_alone<H: System>(rt: &H, name: &str, opened: &FileFacts) -> io::Result<FileFacts>
+    ensures { IfOk result (λ found. IsAlone opened.now found) }
+{
+    let found = rt.facts_of(name)?;
+    if found.is_same_file(opened) && found.links == 1 {
+        Ok(found)
+    } else {
+        Err(no_such_call())
     }
 }
 
-impl<H: Files<File = F> + Drop, F: OpenFile + FileExt + Drop> SideFiles<H, F> {
+// Gives the side file of a file that was found to be the one that was opened the name that an opening looks for.
+fn give_name<H: System>(
+    rt: &H,
+    names: &SideNames,
+    opened: &FileFacts,
+    found: &FileFacts,
+) -> io::Result<()>
+    requires { IsAlone opened.now found.now }
+{
+    rt.rename(names.fresh.as_str(), names.side.as_str())
+}
+
+// Whether what has that name may be a side file that a stop left while it was being made: it is empty, nobody may open
+// it, or it begins as a side file does.
+fn may_be_left<H: System>(rt: &H, name: &str, found: &FileFacts) -> io::Result<bool> {
+    if found.kind != FileKind::File {
+        return Ok(false);
+    }
+    if found.len == 0 || found.mode == BEING_MADE {
+        return Ok(true);
+    }
+    if found.len < 8 {
+        return Ok(false);
+    }
+    let mut bytes = [0; 8];
+    rt.open_read(name)?.read_exact_at(&mut bytes, 0)?;
+    Ok(begins_side_file(&bytes))
+}
+
+// Removes what a stop left of that name. Faults: Device; BadJournal, where something else has the name, and it stays.
+fn remove_left<H: System>(rt: &H, name: &str) -> Result<(), OpeningFault> {
+    let found = match rt.facts_here(name) {
+        Ok(found) => found,
+        Err(error) if error.kind() == io::ErrorKind::NotFound => return Ok(()),
+        Err(_) => return Err(OpeningFault::Device),
+    };
+    if !may_be_left(rt, name, &found)? {
+        return Err(OpeningFault::BadJournal);
+    }
+    rt.remove(name)?;
+    Ok(())
+}
+
+impl<H: System<File = F> + Drop, F: SystemFile + Drop> SideFiles<H, F> {
     /// Looks at what stands beside a file of so many pages: opens the side file that has the name, and removes one that was
-    /// being made. New side files will have that mode. Faults: Device; BadJournal, where nothing has changed.
+    /// being made. What a closing will need is tried: to make a file beside it. Faults: Device; BadJournal, where nothing
+    /// has changed.
     pub(crate) fn open(
         rt: H,
         names: SideNames,
-        mode: u32,
+        opened: FileFacts,
         pages: u64,
     ) -> Result<SideFiles<H, F>, OpeningFault>
         ensures { IfOk result (λ beside. IfSome beside.side (λ side. side.shape.long ≤ pages)) }
     {
-        let side = KeptSide::open(&rt, names.side.as_str(), pages)?;
+        expect_alone(&rt, names.main.as_str(), &opened)?;
+        let side = KeptSide::open(&rt, names.side.as_str(), opened.mode, pages)?;
         remove_left(&rt, names.fresh.as_str())?;
-        let folder = OpenOptions::new()
-            .read(true)
-            .open(&rt, names.folder.as_str())?;
+        let folder = rt.open_folder(names.folder.as_str())?;
+        rt.make_new(names.fresh.as_str(), BEING_MADE)?;
+        rt.remove(names.fresh.as_str())?;
         Ok(SideFiles {
             rt,
             names,
             folder,
-            mode,
+            opened,
             fresh: None,
             side,
         })
+    }
+
+    /// Looks at what stands beside a file of so many pages, and changes nothing. Faults: Device; BadJournal.
+    pub(crate) fn look(
+        rt: H,
+        names: SideNames,
+        opened: FileFacts,
+        pages: u64,
+    ) -> Result<SideFiles<H, F>, OpeningFault>
+        ensures { IfOk result (λ beside. IfSome beside.side (λ side. side.shape.long ≤ pages)) }
+    {
+        let side = KeptSide::look(&rt, names.side.as_str(), pages)?;
+        let folder = rt.open_folder(names.folder.as_str())?;
+        Ok(SideFiles {
+            rt,
+            names,
+            folder,
+            opened,
+            fresh: None,
+            side,
+        })
+    }
+
+    // Fails where the path leads to another file than that which was opened, or the file has another name, too.
+    fn still_leads(&self) -> io::Result<FileFacts>
+        ensures { IfOk result (λ found. IsAlone self.now.opened found) }
+    {
+        expect_alone(&self.rt, self.names.main.as_str(), &self.opened)
     }
 
     /// Has the device keep the names in the folder.
@@ -63,9 +143,12 @@ impl<H: Files<File = F> + Drop, F: OpenFile + FileExt + Drop> SideFiles<H, F> {
         self.folder.sync_all()
     }
 
-    /// Begins a side file for the old pages of a file of so many.
-    pub(crate) fn start(&mut self, long: u32) -> io::Result<()> {
-        let fresh = FreshSide::create(&self.rt, self.names.fresh.as_str(), self.mode, long)?;
+    /// Begins a side file for the old pages of a file of so many, of which the others have that sum, where the path still
+    /// leads to the file.
+    pub(crate) fn start(&mut self, long: u32, rest: u64) -> io::Result<()> {
+        let found = self.still_leads()?;
+        let name = self.names.fresh.as_str();
+        let fresh = FreshSide::create(&self.rt, name, &self.opened, &found, long, rest)?;
         self.fresh = Some(fresh);
         Ok(())
     }
@@ -82,13 +165,14 @@ impl<H: Files<File = F> + Drop, F: OpenFile + FileExt + Drop> SideFiles<H, F> {
     /// Has the device keep it. Where that fails, it is removed.
     pub(crate) fn finish(&mut self) -> io::Result<()> {
         let answer = match &mut self.fresh {
-            Some(fresh) => fresh.finish(),
+            Some(fresh) => fresh.finish(self.opened.mode),
             None => Err(no_such_call()),
         };
         self.left(answer)
     }
 
-    /// Gives it the name that an opening looks for. Where that fails, it is removed.
+    /// Gives it the name that an opening looks for, where the path still leads to the file and nothing has that name. Where
+    /// that fails, it is removed.
     pub(crate) fn name(&mut self) -> io::Result<()> {
         let answer = self.rename();
         self.left(answer)
@@ -100,24 +184,34 @@ impl<H: Files<File = F> + Drop, F: OpenFile + FileExt + Drop> SideFiles<H, F> {
             return Err(no_such_call());
         };
         let side = fresh.whole()?;
-        self.rt
-            .rename(self.names.fresh.as_str(), self.names.side.as_str())?;
+        self.expect_no_side()?;
+        let found = self.still_leads()?;
+        give_name(&self.rt, &self.names, &self.opened, &found)?;
         self.side = Some(side);
         Ok(())
+    }
+
+    // Fails where something has the name that an opening looks for.
+    fn expect_no_side(&self) -> io::Result<()> {
+        match self.rt.facts_here(self.names.side.as_str()) {
+            Err(error) if error.kind() == io::ErrorKind::NotFound => Ok(()),
+            Err(error) => Err(error),
+            Ok(_) => Err(no_such_call()),
+        }
     }
 
     // The answer of a call; where it failed, the side file that was being made is removed, as far as the system does that.
     fn left(&mut self, answer: io::Result<()>) -> io::Result<()> {
         if answer.is_err() {
             self.fresh = None;
-            let _ = self.rt.remove_file(self.names.fresh.as_str());
+            let _ = self.rt.remove(self.names.fresh.as_str());
         }
         answer
     }
 
     /// Takes the side file of that name away.
     pub(crate) fn remove(&mut self) -> io::Result<()> {
-        self.rt.remove_file(self.names.side.as_str())?;
+        self.rt.remove(self.names.side.as_str())?;
         self.side = None;
         Ok(())
     }

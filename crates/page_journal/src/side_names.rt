@@ -1,7 +1,16 @@
 use crate::opening_fault::OpeningFault;
+use file_system::System;
 use rec_types::Memory;
 use std::alloc::Global;
-use std::rt::Files;
+use std::path::Path;
+
+/// What the side file's name has behind the file's, and what it has besides while it is made.
+const SIDE: &str = "-journal";
+
+const NEW: &str = "-new";
+
+/// How many bytes a name in a folder may have.
+const MOST_NAME: usize = 255;
 
 /// Where a file and what stands beside it are, without links.
 #[derive(Drop)]
@@ -15,20 +24,48 @@ pub(crate) struct SideNames {
 }
 
 impl SideNames {
-    /// The names for the file at a path. Faults: Device, as where there is no file; Memory.
-    pub(crate) fn of<H: Files>(
+    /// The names for the file at a path. Faults: Device, as where there is no file, or its name is too long for that of a
+    /// side file; Memory.
+    pub(crate) fn of<H: System>(
         rt: &H,
         alloc: Global,
         path: &str,
     ) -> Result<SideNames, OpeningFault> {
-        let main = rt.canonicalize(alloc, path)?;
-        let Some(folder) = main.as_path().parent() else {
+        let main = rt.true_path(alloc, path)?;
+        let Some(folder) = Path::new(main.as_str()).parent() else {
             return Err(OpeningFault::Device);
         };
         let folder = longer(alloc, folder.as_str(), "")?;
-        let main = main.into_string();
-        let side = longer(alloc, main.as_str(), "-journal")?;
-        let fresh = longer(alloc, side.as_str(), "-new")?;
+        SideNames::in_folder(alloc, folder, main)
+    }
+
+    /// The names for a file that is to be made at a path. Faults as of `of`, but for the file itself.
+    pub(crate) fn of_new<H: System>(
+        rt: &H,
+        alloc: Global,
+        path: &str,
+    ) -> Result<SideNames, OpeningFault> {
+        let path = Path::new(path);
+        let (Some(name), Some(folder)) = (path.file_name(), path.parent()) else {
+            return Err(OpeningFault::Device);
+        };
+        let folder = match folder.as_str() {
+            "" => rt.true_path(alloc, ".")?,
+            named => rt.true_path(alloc, named)?,
+        };
+        let within = longer(alloc, folder.as_str(), "/")?;
+        let main = longer(alloc, within.as_str(), name)?;
+        SideNames::in_folder(alloc, folder, main)
+    }
+
+    // Those of a file in that folder. Faults: Device, where the name is too long; Memory.
+    fn in_folder(alloc: Global, folder: String, main: String) -> Result<SideNames, OpeningFault> {
+        let side = longer(alloc, main.as_str(), SIDE)?;
+        let fresh = longer(alloc, side.as_str(), NEW)?;
+        match Path::new(fresh.as_str()).file_name() {
+            Some(name) if name.len() <= MOST_NAME => {}
+            _ => return Err(OpeningFault::Device),
+        }
         Ok(SideNames {
             main,
             side,

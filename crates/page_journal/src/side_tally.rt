@@ -1,19 +1,22 @@
-ghost use Rattle.std.specs.Prelude.{◌≡◌, ◌≤◌, ◌↔◌, IsSome, IfSome, IsTrue, IsFalse};
+ghost use Rattle.std.specs.Prelude.{◌≡◌, ◌≤◌, ◌↔◌, take, IsSome, IfSome, IsTrue, IsFalse};
 ghost use Rattle.byteorder.specs.Endian.{big_number};
-ghost use Rattle.page_journal.specs.SideBytes.{first_tally, tally_more, tally_header, MayCome, MayEnd};
+ghost use Rattle.page_journal.specs.SideBytes.{first_tally, tally_more, tally_header, header_width, MayCome, MayEnd};
 
 use crate::kept_store::MOST_PAGES;
-use crate::side_bytes::{ENTRY_WIDTH, HEADER_WIDTH, header_of, number_of, sum_on};
+use crate::side_bytes::{
+    ENTRY_WIDTH, HEADER_WIDTH, OLD_HEADER_WIDTH, header_of, number_of, old_header_of, sum_on,
+};
 use crate::side_shape::SideShape;
 use std::marker::Model;
 
 /// What the sum of no bytes is.
-const SUM_START: u64 = 0xcbf2_9ce4_8422_2325;
+pub(crate) const SUM_START: u64 = 0xcbf2_9ce4_8422_2325;
 
 /// What is known of a side file whose old pages are met one after another.
 #[derive(Drop)]
 pub(crate) struct SideTally {
     long: u32,
+    rest: Option<u64>,
     kept: u32,
     least: u32,
     sum: u64,
@@ -25,31 +28,43 @@ impl Model for SideTally {
 
     ghost Value = { Tally };
 
-    ghost view = { λ t. record { long = t.long; kept = t.kept; least = t.least; sum = t.sum } };
+    ghost view = { λ t. record {
+      long = t.long;
+      rest = t.rest;
+      kept = t.kept;
+      least = t.least;
+      sum = t.sum;
+    } };
 
     ghost invariant = { λ t. t.kept ≤ t.least };
 }
 
 impl SideTally {
-    /// No old page yet, of a file of so many pages.
-    pub(crate) fn new(long: u32) -> SideTally
-        ensures { result ≡ first_tally long }
+    /// No old page yet, of a file of so many pages of which the others have that sum.
+    pub(crate) fn new(long: u32, rest: Option<u64>) -> SideTally
+        ensures { result ≡ first_tally long rest }
     {
         SideTally {
             long,
+            rest,
             kept: 0,
             least: 0,
             sum: SUM_START,
         }
     }
 
-    /// How many pages the file had, and how many old pages there are so far.
+    /// How many pages the file had, how many old pages there are so far, and the sum over the others.
     pub(crate) fn shape(&self) -> SideShape
-        ensures { result ≡ record { long = self.now.long; kept = self.now.kept } }
+        ensures { result ≡ record {
+          long = self.now.long;
+          kept = self.now.kept;
+          rest = self.now.rest;
+        } }
     {
         SideShape {
             long: self.long,
             kept: self.kept,
+            rest: self.rest,
         }
     }
 
@@ -77,21 +92,51 @@ impl SideTally {
         true
     }
 
-    /// The header of the side file that has these old pages, where there may be no more.
-    pub(crate) fn header(&self) -> Option<[u8; HEADER_WIDTH]>
-        ensures may { IsSome result ↔ MayEnd self.now }
-        ensures header { IfSome result (λ header. header ≡ tally_header self.now) }
+    // Whether there may be no more of them.
+    fn may_end(&self) -> bool
+        ensures { IsTrue result ↔ MayEnd self.now }
     {
-        if self.kept == 0 || u64::from(self.long) > MOST_PAGES {
-            return None;
-        }
-        Some(header_of(self.long, self.kept, self.sum))
+        self.kept > 0 && u64::from(self.long) <= MOST_PAGES
     }
 
-    /// Whether these old pages are all that a side file of that header has.
-    pub(crate) fn ends(&self, header: &[u8; HEADER_WIDTH]) -> bool
-        ensures { IsTrue result ↔ MayEnd self.now × (header.now ≡ tally_header self.now) }
+    /// The header of the side file that has these old pages, where there may be no more and the sum over the others is
+    /// known.
+    pub(crate) fn header(&self) -> Option<[u8; HEADER_WIDTH]>
+        ensures may { IsSome result ↔ MayEnd self.now × IsSome self.now.rest }
+        ensures header { IfSome result (λ header. header ≡ tally_header self.now) }
     {
-        self.header() == Some(*header)
+        match self.rest {
+            Some(rest) if self.may_end() => Some(header_of(self.long, self.kept, rest, self.sum)),
+            _ => None,
+        }
     }
+
+    // Whether these bytes begin with the header of a side file that has these old pages.
+    fn is_spelt(&self, bytes: &[u8; HEADER_WIDTH]) -> bool
+        ensures { IsTrue result
+            ↔ (take (header_width self.now.rest) bytes.now ≡ tally_header self.now) }
+    {
+        match self.rest {
+            Some(rest) => is_same(bytes, &header_of(self.long, self.kept, rest, self.sum)),
+            None => {
+                let old = old_header_of(self.long, self.kept, self.sum);
+                is_same(&bytes[..OLD_HEADER_WIDTH], &old)
+            }
+        }
+    }
+
+    /// Whether these old pages are all that a side file has which begins with these bytes.
+    pub(crate) fn ends(&self, bytes: &[u8; HEADER_WIDTH]) -> bool
+        ensures { IsTrue result ↔ MayEnd self.now
+            × (take (header_width self.now.rest) bytes.now ≡ tally_header self.now) }
+    {
+        self.may_end() && self.is_spelt(bytes)
+    }
+}
+
+// Whether the one are the other.
+fn is_same(one: &[u8], other: &[u8]) -> bool
+    ensures { IsTrue result ↔ (one.now ≡ other.now) }
+{
+    one == other
 }

@@ -16,3 +16,4 @@ pub mod Totals
 pub mod TryExamples
 pub mod TryLemmas
 pub mod WriteBackLemmas
+pub mod WrittenOverLemmas

@@ -5,16 +5,17 @@ ghost use Rattle.page_store.specs.OpenedFile.{Opens};
 ghost use Rattle.page_store.specs.StoreFaults.{is_failed, OnlyFails};
 
 use crate::count::count_up;
-use crate::lock::Lock;
 use crate::store::Store;
 use crate::store_fault::{Shape, StoreFault};
 use crate::store_state::StoreState;
+use file_system::{System, SystemFile};
 use rec_types::PAGE_WIDTH;
-use std::fs::{OpenFile, OpenOptions};
 use std::io;
 use std::marker::Model;
 use std::os::unix::fs::FileExt;
-use std::rt::Files;
+
+/// Who may read and write a new file, before the process takes away what it takes from each.
+const NEW_MODE: u32 = 0o666;
 
 /// The bytes of a page, counted as a file's are.
 const PAGE_BYTES: u64 = PAGE_WIDTH as u64;
@@ -55,30 +56,30 @@ impl<F> Model for FileStore<F> {
     ghost invariant = { λ s. s.tail < page_width };
 }
 
-impl<F: OpenFile + FileExt + Lock + Drop> FileStore<F> {
+impl<F: SystemFile + Drop> FileStore<F> {
     /// Opens the file of that path to read and write it, and takes the lock that no other opening shares. Fault: Failed,
     /// as where there is no file or another opening has a lock.
-    pub fn open_path<R: Files<File = F>>(rt: &R, path: &str) -> Result<FileStore<F>, StoreFault>
+    pub fn open_path<R: System<File = F>>(rt: &R, path: &str) -> Result<FileStore<F>, StoreFault>
         ensures { Opens result }
     {
-        let file = OpenOptions::new().read(true).write(true).open(rt, path)?;
+        let file = rt.open_update(path)?;
         file.try_lock()?;
         FileStore::over(file)
     }
 
     /// Opens the file of that path to read it, and takes the lock that other readers share; writes to the store fail.
     /// Fault: Failed, as where there is no file or a writer has a lock.
-    pub fn open_to_read<R: Files<File = F>>(rt: &R, path: &str) -> Result<FileStore<F>, StoreFault>
+    pub fn open_to_read<R: System<File = F>>(rt: &R, path: &str) -> Result<FileStore<F>, StoreFault>
         ensures { Opens result }
     {
-        let file = OpenOptions::new().read(true).open(rt, path)?;
+        let file = rt.open_read(path)?;
         file.try_lock_shared()?;
         FileStore::over(file)
     }
 
     /// Makes a new file at that path, of no pages, and takes the lock that no other opening shares. Fault: Failed, as
-    /// where there is a file.
-    pub fn create_new<R: Files<File = F>>(rt: &R, path: &str) -> Result<FileStore<F>, StoreFault>
+    /// where there is a file; none was made then.
+    pub fn create_new<R: System<File = F>>(rt: &R, path: &str) -> Result<FileStore<F>, StoreFault>
         ensures created { IfOk result (λ store. store ≡ record {
           pages = [];
           tail = 0;
@@ -90,12 +91,11 @@ impl<F: OpenFile + FileExt + Lock + Drop> FileStore<F> {
         }) }
         ensures fault { OnlyFails result }
     {
-        let file = OpenOptions::new()
-            .read(true)
-            .write(true)
-            .create_new(true)
-            .open(rt, path)?;
-        file.try_lock()?;
+        let file = rt.make_new(path, NEW_MODE)?;
+        if file.try_lock().is_err() {
+            rt.remove(path)?;
+            return Err(StoreFault::Failed);
+        }
         Ok(FileStore {
             file,
             pages: 0,
@@ -107,11 +107,19 @@ impl<F: OpenFile + FileExt + Lock + Drop> FileStore<F> {
         })
     }
 
+    /// Whether the path leads to this file.
+    pub fn is_at<R: System<File = F>>(&self, rt: &R, path: &str) -> bool {
+        match (rt.facts_of(path), self.file.facts()) {
+            (Ok(found), Ok(opened)) => found.is_same_file(&opened),
+            _ => false,
+        }
+    }
+
     // A store over a file that was opened. Fault: Failed.
     fn over(file: F) -> Result<FileStore<F>, StoreFault>
         ensures { Opens result }
     {
-        let len = file.metadata()?.len();
+        let len = file.facts()?.len;
         Ok(FileStore {
             file,
             pages: len / PAGE_BYTES,
@@ -144,7 +152,7 @@ fn noted(failures: &mut u64, answer: io::Result<()>) -> Result<(), StoreFault>
     Ok(())
 }
 
-impl<F: OpenFile + FileExt + Drop> StoreState for FileStore<F> {
+impl<F: SystemFile + Drop> StoreState for FileStore<F> {
     ghost use Rattle.std.specs.Prelude.{None};
 
     ghost pages = { λ s. s.pages };
@@ -164,7 +172,7 @@ impl<F: OpenFile + FileExt + Drop> StoreState for FileStore<F> {
     ghost journal = { λ _. None };
 }
 
-impl<F: OpenFile + FileExt + Drop> Store for FileStore<F> {
+impl<F: SystemFile + Drop> Store for FileStore<F> {
     fn shape(&mut self) -> Result<Shape, StoreFault> {
         count_up(&mut self.shapes);
         Ok(Shape {

@@ -7,7 +7,6 @@ mod file_store;
 mod flaky_store;
 mod free_numbers;
 pub mod laws;
-mod lock;
 mod mem_store;
 mod page_edit;
 mod pages;
@@ -21,7 +20,6 @@ mod write_back;
 
 pub use file_store::FileStore;
 pub use flaky_store::FlakyStore;
-pub use lock::Lock;
 pub use mem_store::MemStore;
 pub use page_edit::{FetchFault, PageEdit, WriteFault};
 pub use pages::Pages;

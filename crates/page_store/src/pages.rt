@@ -2,7 +2,7 @@ ghost use Rattle.std.specs.Prelude.{◌≡◌, ℕ, ◌≢◌, ◌+◌, ◌-◌,
 ghost use Rattle.std.specs.Ordering.{nat_cmp};
 ghost use Rattle.std.specs.BTreeSet.{contains};
 ghost use Rattle.rec_types.specs.Table.{counted};
-ghost use Rattle.page_store.specs.PageMap.{at, after, is_written, is_freed};
+ghost use Rattle.page_store.specs.PageMap.{at, after, write_page, is_written, is_freed};
 ghost use Rattle.page_store.specs.Journal.{noted, NotesFront, writing_back};
 ghost use Rattle.page_store.specs.PagesView.{OnlyReads, is_in_memory, is_read, memory_pages};
 ghost use Rattle.page_store.specs.Calls.{counted_times, CountedUpTo, how_many};
@@ -19,7 +19,8 @@ mod sealing;
 use crate::free_numbers::{add_all, nth_number};
 use crate::page_edit::{FetchFault, PageEdit, WriteFault};
 use crate::slot::{
-    Slot, boxed, changed_page, drop_pages, is_in_use, make_slots, slots_needed, write_pages,
+    Slot, boxed, changed_page, drop_pages, is_in_use, make_slots, slots_needed, write_one_over,
+    write_pages,
 };
 use crate::store::Store;
 use crate::write_back::{told, write_out};
@@ -177,6 +178,24 @@ impl<S: Store> Pages<S> {
         self.count = count;
         self.edited = true;
         Ok(())
+    }
+
+    /// Writes over page n, which is in memory: the same as an edit that writes it alone, and no memory is
+    /// asked for.
+    pub fn write_over(&mut self, n: u32, page: &[u8; PAGE_WIDTH])
+        requires { is_in_memory self.old n ≡ true }
+        ensures pages { (q : ℕ) → at self.new.pages q
+            ≡ write_page (at self.old.pages) n page.now q }
+        ensures count { length self.new.pages ≡ length self.old.pages }
+        ensures in_memory { (q : ℕ) → is_in_memory self.new q ≡ is_in_memory self.old q }
+        ensures changed { self.new.changed ≡ true }
+        ensures store { self.new ≡ record self.old {
+          pages = self.new.pages;
+          changed = self.new.changed;
+          in_memory = self.new.in_memory;
+        } }
+    {
+        write_one_over(&mut self.changed, n, page);
     }
 
     /// The number of pages, page 0 included.

@@ -118,7 +118,7 @@ fn write_over(changed: &mut Vec<Slot>, free: &mut BTreeSet<u32>, writes: &[(u32,
 }
 
 /// Writes over the page of that number, which is in memory.
-fn write_one_over(changed: &mut Vec<Slot>, n: u32, page: &[u8; PAGE_WIDTH])
+pub(crate) fn write_one_over(changed: &mut Vec<Slot>, n: u32, page: &[u8; PAGE_WIDTH])
     requires { IsSome (at (slots_of changed.old.items) n) }
     ensures { slots_of changed.new.items
         ≡ slice_set (slots_of changed.old.items) n (Some page.now) }

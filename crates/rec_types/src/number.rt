@@ -32,9 +32,19 @@ pub(crate) fn is_zero_from(bytes: &[u8; 16], len: u8) -> bool
     LittleEndian::read_u128(bytes) >> (8 * len as u32) == 0
 }
 
-/// Whether the bytes are zero from place `len` on. Sixteen are looked at at a time, and the last sixteen
-/// begin within those before them.
+/// Whether the bytes are zero from place `len` on. Behind a short record all widths but one are constants.
 pub(crate) fn is_zero_behind(bytes: &[u8; RECORD_WIDTH], len: u8) -> bool
+    ensures { IsTrue result ↔ IsZeroFrom len bytes.now }
+{
+    if len > 16 {
+        return is_zero_past(bytes, len);
+    }
+    is_zero_from(&sixteen(bytes, 0), len) && is_zero_past(bytes, 16)
+}
+
+/// The same. Sixteen bytes are looked at at a time, and the last sixteen begin within those before them.
+#[inline(always)]
+fn is_zero_past(bytes: &[u8; RECORD_WIDTH], len: u8) -> bool
     ensures { IsTrue result ↔ IsZeroFrom len bytes.now }
 {
     for i in 0..6 {

@@ -1,4 +1,4 @@
-ghost use Rattle.std.specs.Prelude.{◌≡◌, ◌≤◌, ◌↔◌, length, take, nat_le, IfSome, IsSome};
+ghost use Rattle.std.specs.Prelude.{◌≡◌, ◌≤◌, ◌↔◌, length, take, nat_le, IfSome, IsSome, IsTrue};
 ghost use Rattle.rec_types.specs.Padded.{IsZeroFrom};
 ghost use Rattle.rec_types.specs.Record.{record_of};
 ghost use Rattle.rec_types.specs.Widths.{widest_record, short_width};
@@ -71,6 +71,14 @@ impl Record {
             bytes: *field,
             len: len as u32,
         })
+    }
+
+    /// Whether a field of the greatest length has a record of that length in it: whether `in_field` finds
+    /// one. None is made.
+    pub fn is_in_field(field: &[u8; RECORD_WIDTH], len: u8) -> bool
+        ensures { IsTrue result ↔ ((len ≤ widest_record) × IsZeroFrom len field.now) }
+    {
+        len as usize <= RECORD_WIDTH && is_zero_behind(field, len)
     }
 
     /// Whether the record fits in a short one.

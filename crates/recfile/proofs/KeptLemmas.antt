@@ -5,7 +5,7 @@ use Rattle.rec_types.specs.Contents.{Contents}
 use Rattle.btree_delete.specs.TableView.{TableView, IsClosed, table_contents}
 use Rattle.page_journal.specs.Files.{PageFile, Files}
 use Rattle.page_journal.specs.Crash.{IsSettled}
-use Rattle.page_journal.specs.Recovery.{IsTooShort}
+use Rattle.page_journal.specs.Recovery.{IsForeign}
 use Rattle.page_journal.specs.declared.disk_state.DiskState.{Ghosts}
 use Rattle.page_journal.specs.declared.recovery_fault.RecoveryFault.{RecoveryFault}
 use Rattle.page_journal.specs.declared.recovery_fault.RecoveryFault.TheVariants as recovering
@@ -42,9 +42,9 @@ pub wider : {A : Type 0} (o : Option A) (P : Type 0) (Q R : A → Type 0) → ((
 wider None P Q R more known = known
 wider (Some x) P Q R more known = more x known
 
-pub not_recovered : (files : Files) (fault : RecoveryFault) (named : FileFault) → named ≡ fault_of_recovery fault → (fault ≡ recovering.BadJournal → IsTooShort files) → IsOutsideDisk files named
-not_recovered files recovering.Device named is short = inl (inl is)
-not_recovered files recovering.BadJournal named is short = inr (is, short refl)
+pub not_recovered : (files : Files) (fault : RecoveryFault) (named : FileFault) → named ≡ fault_of_recovery fault → (fault ≡ recovering.BadJournal → IsForeign files) → IsOutsideDisk files named
+not_recovered files recovering.Device named is foreign = inl (inl is)
+not_recovered files recovering.BadJournal named is foreign = inr (is, foreign refl)
 
 pub at_some : {A : Type 0} (o : Option A) (x : A) (P : Type 0) (Q : A → Type 0) → o ≡ Some x → Q x → MatchOption o P Q
 at_some o x P Q is known = subst (λ y. MatchOption y P Q) (sym is) known

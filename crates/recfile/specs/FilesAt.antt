@@ -6,7 +6,7 @@ use Rattle.rec_types.specs.Contents.{Contents}
 use Rattle.rec_types.specs.LimitBounds.{Bounds}
 use Rattle.page_store.specs.StoreCalls.{StaysStore}
 use Rattle.page_store.specs.declared.store_state.StoreState.{Ghosts as StoreGhosts}
-use Rattle.page_journal.specs.Files.{Files, recovered}
+use Rattle.page_journal.specs.Files.{Files, Belongs, recovered}
 use Rattle.page_journal.specs.declared.disk_state.DiskState.{Ghosts as DiskGhosts}
 use Rattle.btree_node.specs.Layout.{second_version}
 use Rattle.btree_insert.specs.declared.tree.Tree.{Tree}
@@ -15,7 +15,7 @@ use Rattle.btree_delete.specs.TableView.{IsClosed}
 use Rattle.command_text.specs.Dump.{dump_text}
 use Rattle.recfile.specs.Dumped.{CanBeOpened, DumpStops, Dumps, IsDumpFault, IsSilent}
 use Rattle.recfile.specs.FileFaults.{IsMakingFault}
-use Rattle.recfile.specs.Kept.{ClosesSafely, IsOutsideDisk, IsUnopened, LeavesOld}
+use Rattle.recfile.specs.Kept.{ClosesSafely, IsOutsideDisk, IsUnopened, LeavesAs, LeavesOld}
 use Rattle.recfile.specs.StoreSession.{MakesIn}
 use Rattle.recfile.specs.TreeLine.{counts_in, counts_line}
 use Rattle.recfile.specs.WholeSession.{EndsFile, RunsAny, opened_file}
@@ -37,9 +37,10 @@ pub record KeptSession {D : Type 0} (g : DiskGhosts D) (manner : Manner) (limits
     (left leaves held holds : Option (List ℕ)) (opened : D) (unopened unclosed : Option FileFault) (disk : D) (status : ℕ) : Type 0 where
   pub unread : IfSome unopened (λ _. (status ≡ 1) × (unclosed ≡ None) × (leaves ≡ left) × (holds ≡ held))
   pub ran : unopened ≡ None → RunsAny manner limits left leaves held holds unclosed status
+  pub own : IsTrue (g.steady opened) → unopened ≡ None → Belongs g.began
   pub closed : IsTrue (g.steady opened) → unopened ≡ None → CanBeOpened (recovered g.began).pages (recovered g.began).tail limits.records
   pub first : IsTrue (g.steady opened) → IfSome unopened (IsUnopened g.began limits.records)
-  pub untouched : IsTrue (g.steady opened) → IfSome unopened (λ _. LeavesOld g (recovered g.began) disk)
+  pub untouched : IsTrue (g.steady opened) → IfSome unopened (λ _. LeavesAs g disk)
   pub stopped : IsTrue (g.steady opened) → status ≡ 4 → LeavesOld g (recovered g.began) disk
   pub session : IsTrue (g.steady opened) → (tree : Tree) → (contents : Contents) → (version : ℕ)
       → IsClosed version (recovered g.began).pages (recovered g.began).tail tree contents → tree.count ≤ limits.records

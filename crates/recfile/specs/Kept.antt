@@ -4,9 +4,9 @@ use Rattle.rec_types.specs.Contents.{Contents}
 use Rattle.btree_node.specs.Layout.{second_version}
 use Rattle.btree_insert.specs.declared.tree.Tree.{Tree}
 use Rattle.btree_delete.specs.TableView.{IsClosed}
-use Rattle.page_journal.specs.Files.{PageFile, Files, recovered}
-use Rattle.page_journal.specs.Crash.{IsSettled, StandsFor}
-use Rattle.page_journal.specs.Recovery.{IsTooShort}
+use Rattle.page_journal.specs.Files.{PageFile, Files, Belongs, recovered}
+use Rattle.page_journal.specs.Crash.{IsSettled, StandsAs, StandsFor}
+use Rattle.page_journal.specs.Recovery.{IsForeign}
 use Rattle.page_journal.specs.declared.disk_state.DiskState.{Ghosts}
 use Rattle.recfile.specs.Dumped.{IsFirstOrOutside, IsOutsideFile}
 use Rattle.recfile.specs.declared.file_fault.FileFault.{FileFault}
@@ -22,7 +22,11 @@ LeavesOld g old disk = (c : Files) → g.left_since disk 0 c → StandsFor old c
 
 -- or for one that is closed and has these records, in a tree of this order
 abbrev pub LeavesEither : {D : Type 0} → Ghosts D → PageFile → ℕ → Contents → D → Type 0
-LeavesEither g old order records disk = (c : Files) → g.left_since disk 0 c → StandsFor old c ⊎ HasRecords order records (recovered c)
+LeavesEither g old order records disk = (c : Files) → g.left_since disk 0 c → StandsFor old c ⊎ (Belongs c × HasRecords order records (recovered c))
+
+-- a crash at any moment since the disk was opened leaves files that stand for what they stood for then
+abbrev pub LeavesAs : {D : Type 0} → Ghosts D → D → Type 0
+LeavesAs g disk = (c : Files) → g.left_since disk 0 c → StandsAs g.began c
 
 -- the file is closed, has these records in a tree of this order, and the device keeps it with no side file
 pub record IsKept {D : Type 0} (g : Ghosts D) (order : ℕ) (records : Contents) (disk : D) : Type 0 where
@@ -34,11 +38,11 @@ pub record ClosesSafely {D : Type 0} (g : Ghosts D) (old : PageFile) (disk : D) 
   pub any_moment : LeavesEither g old order records disk
   pub kept : unclosed ≡ None → IsKept g order records disk
 
--- a fault from outside, or a side file of a longer file
+-- a fault from outside, or a side file of another file
 abbrev pub IsOutsideDisk : Files → FileFault → Type 0
-IsOutsideDisk files fault = IsOutsideFile fault ⊎ ((fault ≡ BadJournal) × IsTooShort files)
+IsOutsideDisk files fault = IsOutsideFile fault ⊎ ((fault ≡ BadJournal) × IsForeign files)
 
--- why a file wasn't opened: its side file is of a longer file, or the file that the two stand for has a fault
+-- why a file wasn't opened: its side file is of another file, or the file that the two stand for has a fault
 abbrev pub IsUnopened : Files → ℕ → FileFault → Type 0
 IsUnopened files limit fault =
-    ((fault ≡ BadJournal) × IsTooShort files) ⊎ IsFirstOrOutside (recovered files).pages (recovered files).tail limit fault
+    ((fault ≡ BadJournal) × IsForeign files) ⊎ IsFirstOrOutside (recovered files).pages (recovered files).tail limit fault

@@ -1,5 +1,5 @@
 -- What doing a task of the program leaves, and its status.
-use Rattle.std.specs.Prelude.{◌≡◌, ◌⊎◌, ℕ, ◌<◌, List, length, take, Option, None, Result, Ok, Err, if◌then◌else◌}
+use Rattle.std.specs.Prelude.{◌≡◌, ◌⊎◌, ℕ, Bool, ◌<◌, List, length, take, Option, None, Result, Ok, Err, if◌then◌else◌}
 use Rattle.std.specs.Result.{is_err}
 use Rattle.std.specs.Io.KnownBytes.{Appends}
 use Rattle.rec_types.specs.Contents.{Contents}
@@ -44,9 +44,10 @@ abbrev pub WritesText : {S : Type 0} → (List ℕ → Type 0) → StoreGhosts S
 WritesText Is g At Told held holds status =
     (done : Result (Unit {0}) DumpFault) × Writes Is held holds done × Tells g At most_records Told held holds done × (status ≡ text_status done)
 
--- the status where only a file was asked for
-abbrev pub IsFileStatus : ℕ → Type 0
-IsFileStatus status = (status ≡ 0) ⊎ (status ≡ 1)
+-- the status where it was asked whether a file is whole
+abbrev pub told_status : Result Bool DumpFault → ℕ
+told_status (Ok whole) = if whole then 0 else 1
+told_status (Err fault) = text_status (Err fault)
 
 -- What doing a task leaves of what the reader has and of what the writer holds, and its status: a file is made, opened and
 -- read at the path that was asked for, or there is none, and nothing is read and written then; a session has the limits
@@ -62,7 +63,7 @@ Does disks stores at (tasks.Check path) left leaves held holds status =
     (leaves ≡ left) × WritesText IsLine stores (at path.now) (TellsTree held holds) held holds status
 Does disks stores at (tasks.Dump path) left leaves held holds status =
     (leaves ≡ left) × WritesText IsDump stores (at path.now) (TellsRecords held holds) held holds status
-Does disks stores at (tasks.Explain path) left leaves held holds status = (leaves ≡ left) × IsFileStatus status
+Does disks stores at (tasks.Explain path) left leaves held holds status = (leaves ≡ left) × ((told : Result Bool DumpFault) × (status ≡ told_status told))
 Does disks stores at (tasks.Memory limits manner) left leaves held holds status =
     RunsFile manner left leaves held holds (empty_file limits) None status
 

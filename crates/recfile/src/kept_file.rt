@@ -3,10 +3,10 @@ ghost use Rattle.rec_types.specs.Contents.{Contents};
 ghost use Rattle.rec_types.specs.Table.{no_damage};
 ghost use Rattle.btree_insert.specs.declared.tree.Tree.{Tree as TreeValue};
 ghost use Rattle.btree_delete.specs.TableView.{IsClosed, table_contents};
-ghost use Rattle.page_journal.specs.Files.{recovered};
+ghost use Rattle.page_journal.specs.Files.{Belongs, recovered};
 ghost use Rattle.page_journal.specs.Crash.{IsAtRest};
 ghost use Rattle.recfile.specs.Dumped.{CanBeOpened, IsFirstOrOutside, IsOutsideFile};
-ghost use Rattle.recfile.specs.Kept.{LeavesOld, LeavesEither, IsKept, ClosesSafely, IsOutsideDisk, IsUnopened};
+ghost use Rattle.recfile.specs.Kept.{LeavesAs, LeavesOld, LeavesEither, IsKept, ClosesSafely, IsOutsideDisk, IsUnopened};
 ghost use Rattle.recfile.specs.Statuses.{status_of};
 ghost use Rattle.recfile.specs.WholeSession.{EndsFile, RunsAny, opened_file};
 
@@ -192,7 +192,8 @@ fn run_stored<D: Disk + Drop, R: Read, W: Write, E: Write>(
 /// is that of `exit_status`; a fault of the file has a line on `err` when it is met. The disk comes back.
 ///
 /// A crash at any moment of it leaves files that stand for the file that there was when the disk was opened or for the
-/// file that the session closes, whole. Where the file can't be opened no script is read. Where a call of the closing
+/// file that the session closes, whole. Old pages are put back over the file that they were kept of, and over no other.
+/// Where the file can't be opened no script is read. Where a call of the closing
 /// fails, and where a transaction can't be ended, the old file is put back at once.
 pub fn run_kept<D: Disk + Drop, R: Read, W: Write, E: Write>(
     alloc: Global,
@@ -211,12 +212,13 @@ pub fn run_kept<D: Disk + Drop, R: Read, W: Write, E: Write>(
     ensures ran { result.unopened ≡ None → RunsAny manner limits (R.remaining reader.old)
         (R.remaining reader.new) (W.contents out.old) (W.contents out.new)
         result.unclosed result.status }
+    ensures own { IsTrue (D.steady disk) → result.unopened ≡ None → Belongs D.began }
     ensures closed { IsTrue (D.steady disk) → result.unopened ≡ None
         → CanBeOpened (recovered D.began).pages (recovered D.began).tail limits.records }
     ensures first { IsTrue (D.steady disk)
         → IfSome result.unopened (IsUnopened D.began limits.records) }
     ensures untouched { IsTrue (D.steady disk) → IfSome result.unopened
-        (λ _. LeavesOld D.DiskState (recovered D.began) result.disk) }
+        (λ _. LeavesAs D.DiskState result.disk) }
     ensures stopped { IsTrue (D.steady disk) → result.status ≡ 4
         → LeavesOld D.DiskState (recovered D.began) result.disk }
     ensures session { IsTrue (D.steady disk) → (tree : TreeValue) → (contents : Contents)

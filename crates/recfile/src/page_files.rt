@@ -1,9 +1,10 @@
-ghost use Rattle.std.specs.Prelude.{◌≡◌, ℕ, List, None, IsTrue, IfOk};
+ghost use Rattle.std.specs.Prelude.{◌≡◌, ◌⊎◌, ℕ, List, None, IsTrue, IfOk, IsErr};
 ghost use Rattle.btree_delete.specs.Created.{IsEmpty};
 ghost use Rattle.page_journal.specs.Crash.{IsAtRest};
 ghost use Rattle.page_journal.specs.Files.{Files};
 ghost use Rattle.recfile.specs.FilesAt.{IsCleanAt};
 
+use crate::dump::DumpFault;
 use crate::file_fault::FileFault;
 use page_journal::Disk;
 use page_store::Store;
@@ -38,12 +39,23 @@ pub trait PageFiles {
             → IsCleanAt (Self.at self.now path.now) (Self.Pages.pages store) (Self.Pages.tail store)) };
 
     /// Makes a page file without pages at the path, where there is none. A side file of that name is of another file, and
-    /// stays; then no file is made. Faults: Device, as where there is a file; BadJournal; Memory.
+    /// stays. Faults: Device, as where there is a file; BadJournal; Memory. No file is made then.
     fn create(&self, alloc: Global, path: &str) -> Result<Self::Pages, FileFault>
         ensures empty { IfOk result
             (λ store. IsEmpty (Self.Pages.pages store) (Self.Pages.tail store)) };
 
+    /// Ends the making of a file at a path: where its pages were written, the device keeps its name, and else the file is
+    /// taken away. Faults: that of the writing; else Device, Memory, and no file stays.
+    fn settle(
+        &self,
+        alloc: Global,
+        path: &str,
+        store: &Self::Pages,
+        made: Result<(), FileFault>,
+    ) -> Result<(), FileFault>
+        ensures { IsErr result ⊎ (result ≡ made) };
+
     /// Tells what the file at the path is and what is wrong with it, and answers whether a check of it finds no fault. It
-    /// only reads the file.
-    fn explain<W: Write>(&self, alloc: Global, path: &str, out: &mut W) -> bool;
+    /// only reads the file. Faults: Memory; Write, where the text can't be written whole.
+    fn explain<W: Write>(&self, alloc: Global, path: &str, out: &mut W) -> Result<bool, DumpFault>;
 }

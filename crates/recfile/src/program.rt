@@ -2,7 +2,7 @@ ghost use Rattle.std.specs.Prelude.{◌≡◌, ◌⊎◌, if◌then◌else◌};
 ghost use Rattle.std.specs.Result.{is_err};
 ghost use Rattle.rec_types.specs.LimitBounds.{most_records};
 ghost use Rattle.recfile.specs.FilesAt.{Creates, Tells, TellsRecords, TellsTree};
-ghost use Rattle.recfile.specs.Tasks.{Does, DoesAny, IsDump, IsLine, Writes, text_status};
+ghost use Rattle.recfile.specs.Tasks.{Does, DoesAny, IsDump, IsLine, Writes, text_status, told_status};
 
 use crate::dump::{DumpFault, dump_in};
 use crate::file_fault::FileFault;
@@ -17,16 +17,16 @@ use crate::words::{Task, UsageFault, read_words};
 use std::alloc::Global;
 use std::io::{Read, Write};
 
-// The status where the words ask for nothing.
-const USAGE: u8 = 2;
+/// The status where the words ask for nothing, or can't be read.
+pub(crate) const USAGE: u8 = 2;
 
 // Makes a page file at a path where there is none.
 fn create<P: PageFiles>(files: &P, alloc: Global, order: u16, path: &str) -> Result<(), FileFault>
     ensures { Creates P.Pages.StoreState order result }
 {
     let store = files.create(alloc, path)?;
-    let (_store, made) = create_in(alloc, store, order, greatest_limits());
-    made
+    let (store, made) = create_in(alloc, store, order, greatest_limits());
+    files.settle(alloc, path, &store, made)
 }
 
 // Tells of the tree of the page file at a path.
@@ -73,6 +73,16 @@ fn text_status<E: Write>(err: &mut E, done: Result<(), DumpFault>) -> u8
             tell(err, &fault);
             exit_status(false, fault != DumpFault::Write, fault == DumpFault::Write)
         }
+    }
+}
+
+// The status where it was asked whether a file is whole; a fault of the text is named.
+fn told_status<E: Write>(err: &mut E, told: Result<bool, DumpFault>) -> u8
+    ensures { result ≡ told_status told }
+{
+    match told {
+        Ok(whole) => exit_status(false, !whole, false),
+        Err(fault) => text_status(err, Err(fault)),
     }
 }
 
@@ -126,10 +136,7 @@ fn run_task<P: PageFiles, R: Read, W: Write, E: Write>(
         Task::Create { order, path } => file_status(err, create(files, alloc, order, path)),
         Task::Check { path } => text_status(err, check(files, alloc, path, out)),
         Task::Dump { path } => text_status(err, dump(files, alloc, path, out)),
-        Task::Explain { path } => {
-            let whole = files.explain(alloc, path, out);
-            exit_status(false, !whole, false)
-        }
+        Task::Explain { path } => told_status(err, files.explain(alloc, path, out)),
         Task::Memory { limits, manner } => run_memory(alloc, limits, manner, reader, out, err),
         Task::Run {
             limits,

@@ -1,12 +1,15 @@
 ghost use Rattle.std.specs.Prelude.{◌≡◌};
 
-use crate::explain::explain_file;
+use crate::dump::DumpFault;
 use crate::file_fault::FileFault;
 use crate::page_files::PageFiles;
-use page_journal::{FileDisk, has_side_file};
-use page_store::{FileStore, Lock};
+use file_system::{HostFile, HostSystem, Lock};
+use page_journal::{FileDisk, has_side_file, keep_made, make_file, take_away};
+use page_looks::explain_file;
+use page_store::FileStore;
 use std::alloc::Global;
 use std::fs::OpenFile;
+use std::io;
 use std::io::Write;
 use std::os::unix::fs::FileExt;
 use std::rt::Files;
@@ -24,36 +27,66 @@ impl<'a, H> SystemFiles<'a, H> {
     }
 }
 
-impl<'a, F: OpenFile + FileExt + Lock + Drop, H: Files<File = F>> PageFiles for SystemFiles<'a, H> {
-    type Device = FileDisk<&'a H, F>;
+// Why a text about a file isn't whole.
+fn text_fault(error: io::Error) -> DumpFault {
+    match error.kind() {
+        io::ErrorKind::OutOfMemory => DumpFault::File(FileFault::Memory),
+        _ => DumpFault::Write,
+    }
+}
 
-    type Pages = FileStore<F>;
+impl<'a, F: OpenFile + FileExt + Lock + Drop, H: Files<File = F>> PageFiles for SystemFiles<'a, H> {
+    type Device = FileDisk<HostSystem<'a, H>, HostFile<F>>;
+
+    type Pages = FileStore<HostFile<F>>;
 
     // Which files a system finds at a path no clause can say.
     ghost at = { λ _ _ _. Unit {0} };
 
-    fn open(&self, alloc: Global, path: &str) -> Result<FileDisk<&'a H, F>, FileFault> {
-        Ok(FileDisk::open(self.rt, alloc, path)?)
+    fn open(
+        &self,
+        alloc: Global,
+        path: &str,
+    ) -> Result<FileDisk<HostSystem<'a, H>, HostFile<F>>, FileFault> {
+        Ok(FileDisk::open(HostSystem::new(self.rt), alloc, path)?)
     }
 
-    fn open_clean(&self, alloc: Global, path: &str) -> Result<FileStore<F>, FileFault> {
-        let store = FileStore::open_to_read(self.rt, path)?;
-        if has_side_file(self.rt, alloc, path)? {
+    fn open_clean(&self, alloc: Global, path: &str) -> Result<FileStore<HostFile<F>>, FileFault> {
+        let system = HostSystem::new(self.rt);
+        let store = FileStore::open_to_read(&system, path)?;
+        if has_side_file(&system, alloc, path)? {
             return Err(FileFault::NotClean);
         }
         Ok(store)
     }
 
-    fn create(&self, alloc: Global, path: &str) -> Result<FileStore<F>, FileFault> {
-        let store = FileStore::create_new(self.rt, path)?;
-        if has_side_file(self.rt, alloc, path)? {
-            self.rt.remove_file(path)?;
-            return Err(FileFault::BadJournal);
-        }
-        Ok(store)
+    fn create(&self, alloc: Global, path: &str) -> Result<FileStore<HostFile<F>>, FileFault> {
+        Ok(make_file(&HostSystem::new(self.rt), alloc, path)?)
     }
 
-    fn explain<W: Write>(&self, alloc: Global, path: &str, out: &mut W) -> bool {
-        explain_file(self.rt, alloc, path, out)
+    fn settle(
+        &self,
+        alloc: Global,
+        path: &str,
+        store: &FileStore<HostFile<F>>,
+        made: Result<(), FileFault>,
+    ) -> Result<(), FileFault> {
+        let system = HostSystem::new(self.rt);
+        let kept = match made {
+            Ok(()) => keep_made(&system, alloc, path),
+            Err(fault) => {
+                take_away(&system, alloc, path, store)?;
+                return Err(fault);
+            }
+        };
+        if let Err(fault) = kept {
+            take_away(&system, alloc, path, store)?;
+            return Err(FileFault::from(fault));
+        }
+        Ok(())
+    }
+
+    fn explain<W: Write>(&self, alloc: Global, path: &str, out: &mut W) -> Result<bool, DumpFault> {
+        explain_file(self.rt, alloc, path, out).map_err(text_fault)
     }
 }

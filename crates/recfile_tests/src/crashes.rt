@@ -119,7 +119,7 @@ enum Part {
 fn part_of(call: &DiskCall) -> Part {
     match *call {
         DiskCall::Write(..) | DiskCall::Grow(_) | DiskCall::Cut(_) | DiskCall::Sync => Part::File,
-        DiskCall::Start(_) | DiskCall::Keep(..) | DiskCall::SyncFresh => Part::Fresh,
+        DiskCall::Start(..) | DiskCall::Keep(..) | DiskCall::SyncFresh => Part::Fresh,
         DiskCall::Name | DiskCall::Remove | DiskCall::SyncNames => Part::Names,
     }
 }

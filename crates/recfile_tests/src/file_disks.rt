@@ -1,6 +1,7 @@
 // A disk over files: closings that stop, side files that aren't taken, locks, and what stands beside a file.
 use crate::stores::{Stop, is_text, path_of};
-use page_journal::{Disk, FileDisk, KeptStore, OpeningFault, has_side_file};
+use file_system::HostSystem;
+use page_journal::{Disk, FileDisk, KeptStore, OpeningFault, RecoveryFault, has_side_file};
 use page_store::{FileStore, SealStore, Store, StoreFault};
 use std::alloc::Alloc;
 use std::fs;
@@ -8,7 +9,7 @@ use std::fs::Permissions;
 use std::os::unix::fs::{PermissionsExt, symlink};
 
 /// How many bytes a side file of two pages has.
-const WHOLE: usize = 8232;
+const WHOLE: usize = 8240;
 
 fn filled(with: u8) -> [u8; 4096] {
     [with; 4096]
@@ -80,9 +81,11 @@ fn leave<D: Disk + Drop>(store: KeptStore<D>, until: Until) -> Result<(), StoreF
 
 /// Opens a file as a session does, and closes it as far as that.
 fn session(rt: &HostRuntime, name: &str, until: Until) -> Result<(), OpeningFault> {
-    let disk = FileDisk::open(rt, rt.alloc(), name)?;
-    let Ok(store) = KeptStore::open(rt.alloc(), disk) else {
-        return Err(OpeningFault::Device);
+    let disk = FileDisk::open(HostSystem::new(rt), rt.alloc(), name)?;
+    let store = match KeptStore::open(rt.alloc(), disk) {
+        Ok(store) => store,
+        Err((_, RecoveryFault::Device)) => return Err(OpeningFault::Device),
+        Err((_, RecoveryFault::BadJournal)) => return Err(OpeningFault::BadJournal),
     };
     match leave(store, until) {
         Ok(()) => Ok(()),
@@ -100,7 +103,7 @@ fn push_file(rt: &HostRuntime, name: &str, text: &mut String) -> Result<(), Stop
             text.push_str(" mixed")?;
         }
     }
-    if has_side_file(rt, rt.alloc(), name) == Ok(true) {
+    if has_side_file(&HostSystem::new(rt), rt.alloc(), name) == Ok(true) {
         text.push_str(" side")?;
     }
     let fresh = format!(in rt.alloc(); "{name}-journal-new")?;
@@ -167,7 +170,7 @@ struct SideRow<'a> {
 /// The sum of the bytes of a side file.
 fn sum_of(bytes: &[u8]) -> u64 {
     let mut sum: u64 = 0xcbf2_9ce4_8422_2325;
-    for part in [bytes.get(32..), bytes.get(..24)] {
+    for part in [bytes.get(40..), bytes.get(..32)] {
         for word in part.unwrap_or(&[]).chunks_exact(4) {
             let mut number: u64 = 0;
             for byte in word {
@@ -189,8 +192,8 @@ fn change(bytes: &mut Vec<u8>, row: &SideRow<'_>) -> Result<(), Stop> {
     }
     if row.summed {
         let sum = sum_of(bytes).to_be_bytes();
-        if bytes.len() >= 32 {
-            bytes[24..32].copy_from_slice(&sum);
+        if bytes.len() >= 40 {
+            bytes[32..40].copy_from_slice(&sum);
         }
     }
     Ok(())
@@ -248,23 +251,25 @@ fn side_files_that_are_not_taken(rt: HostRuntime) {
         unsummed(WHOLE, &[], PUT_BACK),
         summed(&[], PUT_BACK),
         unsummed(0, &[], BAD),
-        unsummed(31, &[], BAD),
-        unsummed(4132, &[], BAD),
-        unsummed(8231, &[], BAD),
-        unsummed(8233, &[], BAD),
-        unsummed(12332, &[], BAD),
-        unsummed(WHOLE, &[(40, 9)], BAD),
-        summed(&[(40, 9)], "Ok(()) Ok(()) mixed 2"),
+        unsummed(39, &[], BAD),
+        unsummed(4140, &[], BAD),
+        unsummed(8239, &[], BAD),
+        unsummed(8241, &[], BAD),
+        unsummed(12340, &[], BAD),
+        unsummed(WHOLE, &[(48, 9)], BAD),
+        summed(&[(48, 9)], "Ok(()) Ok(()) mixed 2"),
         summed(&[(0, 0x43)], BAD),
-        summed(&[(9, 2)], BAD),
+        summed(&[(9, 1)], BAD),
+        summed(&[(9, 3)], BAD),
+        summed(&[(31, 0)], BAD),
         summed(&[(11, 1)], BAD),
         summed(&[(23, 1)], BAD),
         summed(&[(15, 1)], BAD),
         summed(&[(15, 4)], BAD),
         summed(&[(19, 1)], BAD),
-        summed(&[(35, 1), (4135, 0)], BAD),
-        summed(&[(4135, 0)], BAD),
-        summed(&[(15, 3), (35, 1), (4135, 2)], BAD),
+        summed(&[(43, 1), (4143, 0)], BAD),
+        summed(&[(4143, 0)], BAD),
+        summed(&[(15, 3), (43, 1), (4143, 2)], BAD),
     ] {
         assert!(rt; is_side(&rt, name, row));
     }
@@ -280,18 +285,42 @@ fn is_side(rt: &HostRuntime, name: &str, row: &SideRow<'_>) -> bool {
 fn lock_text(rt: &HostRuntime, name: &str) -> Result<String, Stop> {
     let mut text = String::new(rt.alloc());
     make(rt, name)?;
-    let disk = FileDisk::open(rt, rt.alloc(), name);
+    let disk = FileDisk::open(HostSystem::new(rt), rt.alloc(), name);
     write!(text, "{}", disk.is_ok())?;
-    write!(text, " {}", FileDisk::open(rt, rt.alloc(), name).is_ok())?;
-    write!(text, " {}", FileStore::open_path(rt, name).is_ok())?;
-    write!(text, " {}", FileStore::open_to_read(rt, name).is_ok())?;
+    write!(
+        text,
+        " {}",
+        FileDisk::open(HostSystem::new(rt), rt.alloc(), name).is_ok()
+    )?;
+    write!(
+        text,
+        " {}",
+        FileStore::open_path(&HostSystem::new(rt), name).is_ok()
+    )?;
+    write!(
+        text,
+        " {}",
+        FileStore::open_to_read(&HostSystem::new(rt), name).is_ok()
+    )?;
     drop(disk);
-    let first = FileStore::open_to_read(rt, name);
+    let first = FileStore::open_to_read(&HostSystem::new(rt), name);
     write!(text, " {}", first.is_ok())?;
-    write!(text, " {}", FileStore::open_to_read(rt, name).is_ok())?;
-    write!(text, " {}", FileDisk::open(rt, rt.alloc(), name).is_ok())?;
+    write!(
+        text,
+        " {}",
+        FileStore::open_to_read(&HostSystem::new(rt), name).is_ok()
+    )?;
+    write!(
+        text,
+        " {}",
+        FileDisk::open(HostSystem::new(rt), rt.alloc(), name).is_ok()
+    )?;
     drop(first);
-    write!(text, " {}", FileDisk::open(rt, rt.alloc(), name).is_ok())?;
+    write!(
+        text,
+        " {}",
+        FileDisk::open(HostSystem::new(rt), rt.alloc(), name).is_ok()
+    )?;
     Ok(text)
 }
 
@@ -321,13 +350,25 @@ fn beside_text(rt: &HostRuntime, name: &str, link: &str) -> Result<String, Stop>
     symlink(rt, name, link)?;
     write!(text, "{:?}", session(rt, link, Until::Half))?;
     let mode = fs::metadata(rt, side.as_str())?.permissions().mode() & 0o777;
-    write!(text, " {mode:o} {:?}", has_side_file(rt, rt.alloc(), link))?;
-    fs::write(rt, fresh.as_str(), b"begun")?;
+    write!(
+        text,
+        " {mode:o} {:?}",
+        has_side_file(&HostSystem::new(rt), rt.alloc(), link)
+    )?;
+    fs::write(rt, fresh.as_str(), b"BMKRJRNL")?;
     push_file(rt, link, &mut text)?;
     write!(text, " {:?}", session(rt, name, Until::Nothing))?;
     push_file(rt, name, &mut text)?;
-    write!(text, " {:?}", has_side_file(rt, rt.alloc(), link))?;
-    write!(text, " {:?}", has_side_file(rt, rt.alloc(), side.as_str()))?;
+    write!(
+        text,
+        " {:?}",
+        has_side_file(&HostSystem::new(rt), rt.alloc(), link)
+    )?;
+    write!(
+        text,
+        " {:?}",
+        has_side_file(&HostSystem::new(rt), rt.alloc(), side.as_str())
+    )?;
     Ok(text)
 }
 

@@ -3,7 +3,7 @@ use crate::crashes::{TwoPages, filled};
 use crate::expect_text;
 use page_journal::MemDisk;
 use page_store::MemStore;
-use recfile::{FileFault, PageFiles, run_words};
+use recfile::{DumpFault, FileFault, PageFiles, run_words};
 use std::alloc::Global;
 use std::io::Write;
 use std::process::Abort;
@@ -39,8 +39,23 @@ impl PageFiles for OneFile {
         Ok(MemStore::new(Vec::new(alloc), 0))
     }
 
-    fn explain<W: Write>(&self, _alloc: Global, _path: &str, _out: &mut W) -> bool {
-        false
+    fn settle(
+        &self,
+        _alloc: Global,
+        _path: &str,
+        _store: &MemStore,
+        made: Result<(), FileFault>,
+    ) -> Result<(), FileFault> {
+        made
+    }
+
+    fn explain<W: Write>(
+        &self,
+        _alloc: Global,
+        _path: &str,
+        _out: &mut W,
+    ) -> Result<bool, DumpFault> {
+        Ok(false)
     }
 }
 

@@ -1,5 +1,5 @@
 use crate::expect_named;
-use page_store::Lock;
+use file_system::Lock;
 use recfile::{SystemFiles, run_words};
 use std::alloc::{Alloc, Global};
 use std::fs;

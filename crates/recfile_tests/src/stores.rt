@@ -2,6 +2,7 @@ ghost use Rattle.std.specs.Prelude.{◌≡◌, true};
 ghost use Rattle.page_store.specs.CanStage.{CanStage};
 ghost use Rattle.rec_types.specs.Table.{counted};
 
+use file_system::HostSystem;
 use page_store::{
     FetchFault, FileStore, FlakyStore, MemStore, PageEdit, Pages, Shape, Store, StoreFault,
     StoreState, WriteFault,
@@ -713,16 +714,22 @@ pub(crate) fn path_of(rt: &HostRuntime, name: &str) -> Result<PathBuf, Stop> {
 /// twice, and one that isn't there is opened.
 fn new_file_text(rt: &HostRuntime, name: &str, calls: &[Call]) -> Result<String, Stop> {
     let mut text = String::new(rt.alloc());
-    if matches!(FileStore::open_path(rt, name), Err(StoreFault::Failed)) {
+    if matches!(
+        FileStore::open_path(&HostSystem::new(rt), name),
+        Err(StoreFault::Failed)
+    ) {
         text.push_str(" missing")?;
     }
-    let mut store = FileStore::create_new(rt, name)?;
+    let mut store = FileStore::create_new(&HostSystem::new(rt), name)?;
     call_store(&mut store, calls, &mut text)?;
     drop(store);
-    if matches!(FileStore::create_new(rt, name), Err(StoreFault::Failed)) {
+    if matches!(
+        FileStore::create_new(&HostSystem::new(rt), name),
+        Err(StoreFault::Failed)
+    ) {
         text.push_str(" there")?;
     }
-    let mut store = FileStore::open_path(rt, name)?;
+    let mut store = FileStore::open_path(&HostSystem::new(rt), name)?;
     call_store(
         &mut store,
         &[Call::Shape, Call::Read(0), Call::Read(1)],
@@ -759,7 +766,7 @@ fn a_file_of_two_pages(rt: HostRuntime) {
 fn tail_text(rt: &HostRuntime, name: &str) -> Result<String, Stop> {
     let mut text = String::new(rt.alloc());
     fs::write(rt, name, [7; 5000].as_slice())?;
-    let mut store = FileStore::open_path(rt, name)?;
+    let mut store = FileStore::open_path(&HostSystem::new(rt), name)?;
     call_store(
         &mut store,
         &[Call::Shape, Call::Write(0, 8), Call::Sync],
@@ -772,7 +779,7 @@ fn tail_text(rt: &HostRuntime, name: &str) -> Result<String, Stop> {
     if bytes.as_slice() == wanted.as_slice() {
         text.push_str(" kept")?;
     }
-    let mut store = FileStore::open_path(rt, name)?;
+    let mut store = FileStore::open_path(&HostSystem::new(rt), name)?;
     call_store(
         &mut store,
         &[Call::SetPages(2), Call::Shape, Call::Read(1)],

@@ -1,9 +1,11 @@
 -- A key has one owner.
-use Rattle.std.proofs.Common.{◌≡◌, ℕ, ◌≤◌, Bool, true, false, cond, ◌&&◌, ◌||◌, ◌==◌, eqb, List, [], ◌∷◌, Some, refl, sym, ap, subst, ◌∙◌, arith}
+use Rattle.std.proofs.Common.{◌≡◌, ℕ, ◌≤◌, Bool, true, false, cond, ◌&&◌, ◌||◌, ◌==◌, eqb, List, [], ◌∷◌, map, Some, refl, sym, ap, subst, ◌∙◌, arith}
 use Rattle.std.proofs.lemmas.Bool.Decides.{nat_tests}
 use Rattle.std.specs.List.{list_any}
 use Rattle.rec_types.specs.Contents.{same_key}
+use Rattle.rec_types.specs.History.{Change}
 use Rattle.rec_types.specs.Kept.{Kept, history_of, OnlyOf, IsOwned}
+use Rattle.rec_types.specs.declared.transaction.Entry.{Entry}
 use Rattle.rec_types.specs.Contents.{Contents}
 use Rattle.rec_types.proofs.ContentsLemmas.{same_key-is}
 use Rattle.std.specs.FinMap as maps
@@ -11,6 +13,7 @@ use Rattle.tx_log.specs.Owners.{claims, owner_of, charged}
 use Rattle.tx_log.specs.LogState.{LogState, IsLog, open_in, history_in}
 use Rattle.tx_log.specs.LogLaws.{IsChained}
 use Rattle.record_file.specs.Abstract.{IsRecordFile, IsKeptFile, file_of}
+use Rattle.record_file.specs.Steps.{entry_with}
 
 -- another's change at a key that only one transaction changes
 only_owns : (is_open : ℕ → Bool) (cs : List Kept) (t u : ℕ) (x : List ℕ) → OnlyOf t x cs → list_any (λ c. claims is_open x c && (c.tx == u)) (history_of cs) ≡ true → u ≡ t
@@ -51,3 +54,8 @@ kept_file sound now limit log is kept chained = record {
   depths = kept.depths;
   whole = is.whole;
 }
+
+-- entries that are made of records with their owners tell of them
+pub tell_owners : (is_open : ℕ → Bool) (h : List Change) (rs : List (List ℕ × List ℕ)) → map (entry_with is_open h) rs ≡ map (λ (e : Entry). entry_with is_open h (e.key, e.value)) (map (entry_with is_open h) rs)
+tell_owners is_open h [] = refl
+tell_owners is_open h (r ∷ rs) = ap (λ (es : List Entry). entry_with is_open h r ∷ es) (tell_owners is_open h rs)

@@ -260,6 +260,10 @@ entry_of f = entry_with (open_of f) f.history
 abbrev pub entries_of : File → List Entry
 entries_of f = map (entry_of f) (maps.entries (records_of f))
 
+-- Each entry tells of the owner of its key, whatever its record is.
+abbrev pub TellOwners : File → List Entry → Type 0
+TellOwners f entries = entries ≡ map (λ e. entry_of f (e.key, e.value)) entries
+
 -- the list in a vector
 abbrev pub listed : {X E : Type 0} → Result (Vec X) E → Result (List X) E
 listed (Ok v) = Ok v.items

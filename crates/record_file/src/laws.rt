@@ -8,7 +8,7 @@ ghost use Rattle.rec_types.specs.LimitBounds.{Bounds};
 ghost use Rattle.rec_types.specs.Table.{greatest_count};
 ghost use Rattle.rec_types.specs.declared.transaction.TxId.{TxId};
 ghost use Rattle.tx_log.specs.Log.{last_of};
-ghost use Rattle.tx_log.specs.Owners.{keys_owned};
+ghost use Rattle.tx_log.specs.Owners.{keys_owned, owner_of};
 ghost use Rattle.tx_log.specs.Transactions.{fresh, place_in};
 ghost use Rattle.record_file.specs.Abstract.{File, held_by, new_file, open_of, phase_at, records_of, tx_of, use_of};
 ghost use Rattle.record_file.specs.Exact.{IsExact, CompensatesOnce, one};
@@ -18,7 +18,7 @@ ghost use Rattle.record_file.specs.Undo.{Starts, old_records, quiet, wrote, clai
 ghost use Rattle.record_file.specs.Runs.{Seen, Event, Step, Run, IsKeptSeen, Begin, Put, Claim, Remove, Savepoint, RollbackTo, Abort, Resume, Commit, Entries};
 ghost use Rattle.tx_log.specs.declared.log_record.LogRecord.TheVariants.{Update, Compensation, Unclaim};
 ghost use Rattle.tx_log.specs.declared.log_record.LogRecord.TheVariants as records;
-ghost use Rattle.record_file.specs.Steps.{rose, key_refusal, places_at, rolling_place};
+ghost use Rattle.record_file.specs.Steps.{rose, key_refusal, places_at, rolling_place, TellOwners};
 ghost use Rattle.record_file.specs.declared.fault.Cause.TheVariants as causes;
 ghost use Rattle.record_file.specs.declared.refusal.Refusal.TheVariants as refusals;
 ghost use Rattle.tx_log.specs.declared.phase.Phase.TheVariants.{Active};
@@ -124,6 +124,15 @@ pub fn key_refusals()
         → phase_at f t ≡ Some Active → held_by f t x ≡ None
         → f.limits.log_records < use_of f + 2
         → (key_refusal true f t x ≡ Some refusals.LogFull) × (key_refusal false f t x ≡ None) }
+{}
+
+/// What a list of entries tells of owners: of a key that is held the transaction that holds it. An entry that tells of
+/// none there is no entry of the file.
+pub fn entries_tell_owners()
+    ensures held { (f : File) (t : ℕ) (x r : List ℕ) → owner_of (open_of f) f.history x ≡ Some t
+        → TellOwners f (record { key = x; value = r; owner = Some (record { 0 = t }) } ∷ []) }
+    ensures free { (f : File) (t : ℕ) (x r : List ℕ) → owner_of (open_of f) f.history x ≡ Some t
+        → TellOwners f (record { key = x; value = r; owner = None } ∷ []) → ⊥ }
 {}
 
 /// No two faults of a call are the same refusal, so a refusal tells which fault a call has.

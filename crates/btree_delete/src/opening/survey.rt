@@ -3,21 +3,23 @@ ghost use Rattle.rec_types.specs.Table.{counted};
 ghost use Rattle.page_store.specs.PageMap.{at};
 ghost use Rattle.page_store.specs.PagesView.{is_in_memory};
 ghost use Rattle.btree_node.specs.Lists.{Element};
-ghost use Rattle.btree_node.specs.Spelling.{CanStandIn, spelling_in};
+ghost use Rattle.btree_node.specs.Spelling.{CanStandIn, spelling, spelling_in, IsNodePage};
 ghost use Rattle.btree_node.specs.declared.node.Node.{Node};
-ghost use Rattle.btree_node.specs.Layout.{first_version, layout_of, most_keys, IsSmallOrder};
+ghost use Rattle.btree_node.specs.Layout.{first_layout, first_version, layout_of, most_keys, IsSmallOrder};
 ghost use Rattle.btree_insert.specs.Bounds.{AreWithin, Between};
 ghost use Rattle.btree_insert.specs.Faults.{is_device};
 ghost use Rattle.btree_insert.specs.PageTrees.{SpellsIn, Spells};
 ghost use Rattle.btree_insert.specs.Growth.{IsOutside};
 ghost use Rattle.btree_insert.specs.Spelt.{AreSpeltIn};
-ghost use Rattle.btree_delete.specs.Survey.{SeenSoFar, unreached, AreKept, stored_page, after, below_page, below_sons, Sound, Surveyed, allowed, StandsWithin, Surveys};
+ghost use Rattle.btree_delete.specs.Survey.{SeenSoFar, unreached, AreKept, stored_page, after, below_page, below_sons, Sound, Surveyed, allowed, StandsWithin, Surveys, node_in, Respells, sons_from, elements_from};
 ghost use Rattle.btree_insert.specs.Edits.{ReadsOnce};
 
-use btree_insert::{Bounds, TreeFault, are_within};
-use btree_node::{FIRST_VERSION, Node, NodeKind, decode_version, encode};
+use btree_insert::{Bounds, TreeFault, is_page_within};
+use btree_node::{
+    FIRST_VERSION, NodeKind, count_in, decode_old, encode, is_node_page, key_in, kind_in, son_in,
+};
 use page_store::{FetchFault, PageEdit, Pages, Store};
-use rec_types::{Key, PAGE_WIDTH, Record};
+use rec_types::PAGE_WIDTH;
 use std::alloc::Global;
 use std::marker::Model;
 
@@ -135,9 +137,9 @@ pub(crate) struct Above {
     pub bounds: Bounds,
 }
 
-/// Fills the node with that of page n, which has at least so many keys, all within the bounds. Faults:
-/// Device, and Damaged(n) where the page is not in use or spells no such node; the node may then be any.
-/// No page changes.
+/// Reads page n, whose node has at least so many keys, all within the bounds, and makes its bytes those
+/// that spell the node as it is written. Faults: Device, and Damaged(n) where the page is not in use or
+/// spells no such node; the bytes may then be any. No page changes.
 fn read_page<S: Store>(
     pages: &mut Pages<S>,
     version: u16,
@@ -145,53 +147,89 @@ fn read_page<S: Store>(
     least: u16,
     n: u32,
     bounds: &Bounds,
-    node: &mut Node,
+    page: &mut [u8; PAGE_WIDTH],
 ) -> Result<(), TreeFault>
     requires order { IsSmallOrder order }
     requires unread { is_in_memory pages.old n ≡ false }
     ensures exact { IsTrue pages.old.steady → (m : Node)
         → SpellsIn (layout_of version) order (at pages.old.pages) n m → least ≤ length m.elements.items
         → AreWithin bounds.now m.elements.items
-        → MatchResult result (λ _. node.new ≡ m) (λ fault. fault ≡ TreeFault.Device) }
+        → MatchResult result (λ _. node_in order page.new ≡ m) (λ fault. fault ≡ TreeFault.Device) }
     ensures stands { OnOk result
-        (StandsWithin (layout_of version) order least bounds.now node.new) }
-    ensures spells { IsTrue pages.old.steady
-        → OnOk result (SpellsIn (layout_of version) order (at pages.old.pages) n node.new) }
+        (StandsWithin (layout_of version) order least bounds.now (node_in order page.new)) }
+    ensures written { OnOk result (page.new ≡ spelling (node_in order page.new) order) }
+    ensures spells { IsTrue pages.old.steady → OnOk result
+        (SpellsIn (layout_of version) order (at pages.old.pages) n (node_in order page.new)) }
     ensures in_use { OnOk result (IsSome (at pages.old.pages n)) }
     ensures reading { ReadsOnce pages.old result pages.new }
 {
-    let mut page = [0; PAGE_WIDTH];
-    match pages.fetch(n, &mut page) {
+    match pages.fetch(n, page) {
         Ok(()) => {}
         Err(FetchFault::Device) => return Err(TreeFault::Device),
         Err(FetchFault::OutOfRange) => return Err(TreeFault::Damaged(n)),
     }
-    decode_version(version, &page, order, node).map_err(|_| TreeFault::Damaged(n))?;
-    let elements = node.elements.as_slice();
-    if elements.len() < least as usize || !are_within(bounds, elements) {
+    if !respell(version, order, page) {
+        return Err(TreeFault::Damaged(n));
+    }
+    if count_in(page) < least as usize || !is_page_within(page, order, bounds) {
         return Err(TreeFault::Damaged(n));
     }
     Ok(())
 }
 
-/// Puts the node of page n in memory in the spelling that is written, where it was read in another. Fault:
-/// Memory; no page changes then.
+/// Whether the page of a file of that version spells a node. Its bytes are then those that spell the node
+/// as it is written.
+fn respell(version: u16, order: u16, page: &mut [u8; PAGE_WIDTH]) -> bool
+    requires { IsSmallOrder order }
+    ensures spelt { IsTrue result → Respells (layout_of version) order page.old page.new }
+    ensures only { (m : Node) → CanStandIn (layout_of version) m order
+        → page.old ≡ spelling_in (layout_of version) m order → IsTrue result }
+{
+    if version == FIRST_VERSION {
+        respell_old(order, page)
+    } else {
+        is_node_page(page, order)
+    }
+}
+
+/// The same in a file of the first version. It is never inlined, so that no room for a node is made where
+/// there is none to make.
+#[cold]
+#[inline(never)]
+fn respell_old(order: u16, page: &mut [u8; PAGE_WIDTH]) -> bool
+    requires { IsSmallOrder order }
+    ensures spelt { IsTrue result → Respells first_layout order page.old page.new }
+    ensures only { (m : Node) → CanStandIn first_layout m order
+        → page.old ≡ spelling_in first_layout m order → IsTrue result }
+{
+    match decode_old(page, order) {
+        Ok(node) => {
+            *page = encode(&node, order);
+            true
+        }
+        Err(_) => false,
+    }
+}
+
+/// Puts the bytes of page n in memory, where they were read in another spelling. Fault: Memory; no page
+/// changes then.
 fn keep_page<S: Store>(
     alloc: Global,
     pages: &mut Pages<S>,
     version: u16,
     order: u16,
     n: u32,
-    node: &Node,
+    page: &[u8; PAGE_WIDTH],
 ) -> Result<(), TreeFault>
-    requires order { IsSmallOrder order }
-    requires stands { CanStandIn (layout_of version) node.now order }
+    requires stands { CanStandIn (layout_of version) (node_in order page.now) order }
+    requires written { page.now ≡ spelling (node_in order page.now) order }
     requires in_use { IsSome (at pages.old.pages n) }
     ensures others { OnOk result ((q : ℕ) → q ≢ n
         → (at pages.new.pages q ≡ at pages.old.pages q)
         × (is_in_memory pages.new q ≡ is_in_memory pages.old q)) }
-    ensures here { at pages.old.pages n ≡ Some (spelling_in (layout_of version) node.now order)
-        → OnOk result (Spells order (at pages.new.pages) n node.now) }
+    ensures here { at pages.old.pages n
+        ≡ Some (spelling_in (layout_of version) (node_in order page.now) order)
+        → OnOk result (Spells order (at pages.new.pages) n (node_in order page.now)) }
     ensures count { OnOk result (length pages.new.pages ≡ length pages.old.pages) }
     ensures spelt { AreSpeltIn order pages.old → OnOk result (AreSpeltIn order pages.new) }
     ensures memory { IfErr result (λ fault. fault ≡ TreeFault.Memory) }
@@ -210,7 +248,7 @@ fn keep_page<S: Store>(
         taken: 0,
         freed: Vec::new(alloc),
     };
-    match edit.writes.push((n, encode(node, order))) {
+    match edit.writes.push((n, *page)) {
         Ok(()) => {}
         Err(_) => return Err(TreeFault::Memory),
     }
@@ -254,13 +292,12 @@ pub(crate) fn survey_page<S: Store>(
     if !survey.reach(n) {
         return Err(TreeFault::Damaged(above.from));
     }
-    let mut node = Node::blank();
-    read_page(pages, version, order, least, n, &above.bounds, &mut node)?;
-    keep_page(alloc, pages, version, order, n, &node)?;
-    let elements = node.elements.as_slice();
-    match node.kind {
+    let mut page = [0; PAGE_WIDTH];
+    read_page(pages, version, order, least, n, &above.bounds, &mut page)?;
+    keep_page(alloc, pages, version, order, n, &page)?;
+    match kind_in(&page) {
         NodeKind::Leaf => {
-            if survey.add_leaf(above.left, elements.len() as u32) {
+            if survey.add_leaf(above.left, count_in(&page) as u32) {
                 Ok(())
             } else {
                 Err(TreeFault::Damaged(n))
@@ -275,21 +312,12 @@ pub(crate) fn survey_page<S: Store>(
                 left: above.left - 1,
                 bounds: above.bounds,
             };
-            survey_sons(
-                alloc,
-                pages,
-                survey,
-                version,
-                order,
-                node.sons.as_slice(),
-                elements,
-                &below,
-            )
+            survey_sons(alloc, pages, survey, version, order, &page, 0, &below)
         }
     }
 }
 
-/// Goes through the trees below the sons of a page, with the keys between them. Faults: as in
+/// Goes through the trees below the sons of a page from son i on, with the keys between them. Faults: as in
 /// `survey_page`.
 #[cycle(surveying)]
 fn survey_sons<S: Store>(
@@ -298,63 +326,57 @@ fn survey_sons<S: Store>(
     survey: &mut Survey,
     version: u16,
     order: u16,
-    sons: &[u32],
-    elements: &[(Key, Record)],
+    page: &[u8; PAGE_WIDTH],
+    i: usize,
     above: &Above,
 ) -> Result<(), TreeFault>
-    requires order { IsSmallOrder order }
     requires kept { AreKept (layout_of version) order pages.old survey.old.reached }
-    requires sons { length sons.now ≡ length elements.now + 1 }
-    requires room { survey.old.keys + length elements.now + most_keys * unreached survey.old.reached
-        < 2 ^ 32 }
-    ensures found { IsTrue pages.old.steady → Between above.now.bounds elements.now → OnOk result
-        (Surveyed (below_sons (layout_of version) order (stored_page pages.old) sons.now elements.now)
+    requires page { IsNodePage order page.now }
+    requires sons { length (sons_from order page.now i)
+        ≡ length (elements_from order page.now i) + 1 }
+    requires room { survey.old.keys + length (elements_from order page.now i)
+        + most_keys * unreached survey.old.reached < 2 ^ 32 }
+    ensures found { IsTrue pages.old.steady → Between above.now.bounds (elements_from order page.now i)
+        → OnOk result (Surveyed (below_sons (layout_of version) order (stored_page pages.old)
+        (sons_from order page.now i) (elements_from order page.now i))
         (allowed above.now.left above.now.bounds) survey.old survey.new
         pages.old.reads pages.new.reads) }
     ensures exact { IsTrue pages.old.steady → (h level : ℕ) (es : List Element) (us : List ℕ)
-        → Sound (below_sons (layout_of version) order (stored_page pages.old) sons.now elements.now)
+        → Sound (below_sons (layout_of version) order (stored_page pages.old)
+        (sons_from order page.now i) (elements_from order page.now i))
         (allowed above.now.left above.now.bounds) survey.old h level es us
         → MatchResult result (λ _. survey.new ≡ after level es us survey.old)
         IsOutside }
     ensures kept { OnOk result
         (AreKept (layout_of version) order pages.new survey.new.reached) }
     ensures room { OnOk result (survey.new.keys + most_keys * unreached survey.new.reached
-        ≤ survey.old.keys + length elements.now + most_keys * unreached survey.old.reached) }
+        ≤ survey.old.keys + length (elements_from order page.now i)
+        + most_keys * unreached survey.old.reached) }
     ensures long { length survey.new.reached ≡ length survey.old.reached }
     ensures surveys { Surveys version (is_device result) pages.old pages.new }
 {
-    if elements.is_empty() {
-        return survey_page(alloc, pages, survey, version, order, order, sons[0], above);
+    let son = son_in(page, order, i);
+    if i == count_in(page) {
+        return survey_page(alloc, pages, survey, version, order, order, son, above);
     }
-    let middle = elements[0];
+    let middle = key_in(page, order, i);
     let before = Above {
         from: above.from,
         left: above.left,
         bounds: Bounds {
             low: above.bounds.low,
-            high: Some(middle.0),
+            high: Some(middle),
         },
     };
-    survey_page(
-        alloc, pages, survey, version, order, order, sons[0], &before,
-    )?;
+    survey_page(alloc, pages, survey, version, order, order, son, &before)?;
     survey.add_key();
     let behind = Above {
         from: above.from,
         left: above.left,
         bounds: Bounds {
-            low: Some(middle.0),
+            low: Some(middle),
             high: above.bounds.high,
         },
     };
-    survey_sons(
-        alloc,
-        pages,
-        survey,
-        version,
-        order,
-        &sons[1..],
-        &elements[1..],
-        &behind,
-    )
+    survey_sons(alloc, pages, survey, version, order, page, i + 1, &behind)
 }

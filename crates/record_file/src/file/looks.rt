@@ -10,7 +10,7 @@ ghost use Rattle.record_file.specs.Refusals.{get_refusal, entries_refusal, refus
 ghost use Rattle.record_file.specs.TableCalls.{LeavesTable};
 ghost use Rattle.record_file.specs.Asked.{looked_unless};
 ghost use Rattle.rec_types.specs.Calls.{with_list};
-ghost use Rattle.record_file.specs.Steps.{rose, key_refusal, GetStep, EntriesStep, KeysOfStep, entry_with, listed, status_of};
+ghost use Rattle.record_file.specs.Steps.{rose, key_refusal, GetStep, EntriesStep, TellOwners, KeysOfStep, entry_with, listed, status_of};
 
 use super::RecordFile;
 use crate::fault::{EntriesFault, GetFault, KeysOfFault, Status, StatusFault};
@@ -49,6 +49,7 @@ impl<T: Table> RecordFile<T> {
             → EntriesStep self.old.file
             (rose (T.device_failures self.old.table) (T.device_failures self.new.table))
             (listed result) self.new.file }
+        ensures owners { IfOk result (λ entries. TellOwners self.old.file entries.items) }
         ensures table { LeavesTable T.TableState self.old (cause_by entries_refusal result) self.new }
         ensures memory { AsksMemory (T.memory_refusals self.old.table) (cause_by entries_refusal result)
             (T.memory_refusals self.new.table) }

@@ -10,6 +10,7 @@ returns c = record {
   sum = refl;
   other_order = λ is. absurd (omega (arith, is));
   header = refl;
+  old_header = refl;
   entry = refl;
   order = λ is. absurd (omega (arith, is.ascend.3.0));
   no_page_0 = λ is. absurd (omega (arith, is.page_0));

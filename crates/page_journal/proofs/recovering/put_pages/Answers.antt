@@ -1,5 +1,6 @@
-use Rattle.std.proofs.Common.{◌≡◌, ◌+◌, ◌∙◌, ap, sym, subst, refl, rules, arith, length, Some, slice_get}
+use Rattle.std.proofs.Common.{◌≡◌, ◌+◌, ◌∙◌, ap, sym, subst, refl, rules, arith, length, Some, OnOk, slice_get}
 use Rattle.std.proofs.lemmas.List.{take_all}
+use Rattle.std.proofs.lemmas.Result.{err_from_is_err_and}
 use Rattle.page_journal.specs.Files.{Files, put_back}
 use Rattle.page_journal.specs.Steps.{kept_at}
 use Rattle.page_journal.proofs.RunLemmas.{holds_begin, holds_then}
@@ -32,7 +33,8 @@ returns-in_err-overwrite-clause-put g c = λ st kept base long count sealed.
     let may = may_of kept (d.seen c.loop-i.disk).side c.loop-i.i (c.in_ok-n.n, c.kept.new.to) mid.holds.sealed.side (c.in_ok-n.ensures.page (c.loop-i.invariant.steady ∙ st)) in
     let now = c.overwrite.ensures.sealed kept base p.holds.sealed may in
     let holds = holds_then d kept base c.args.disk.now c.kept.new.self c.overwrite.new.disk p.holds now.0 now.1 in
-    record { sealed = holds.sealed; time = holds.time; put = search rules }
+    let failed = err_from_is_err_and c.from_residual-in_err-overwrite.result c.from_residual-in_err-overwrite.ensures.1 in
+    record { sealed = holds.sealed; time = holds.time; put = subst (λ r. OnOk r ((d.seen c.overwrite.new.disk).main.pages ≡ put_back kept.pages (d.seen c.args.disk.now).main.pages)) (sym failed.1) tt }
 
 pub loop-i-preserved : goal.loop-i-preserved
 loop-i-preserved g c =

@@ -1,4 +1,4 @@
-use Rattle.std.proofs.Common.{◌≡◌, IsTrue}
+use Rattle.std.proofs.Common.{◌≡◌, ◌≤◌, length, IsTrue}
 use Rattle.page_journal.proofs.PuttingLemmas.{Gathers}
 use Rattle.page_journal.proofs.sealing.gather.Given as goal
 
@@ -7,5 +7,6 @@ invariant-loop-n g l = record {
   steady : g.D.DiskState.steady l.disk ≡ g.D.DiskState.steady l.fn.disk;
   same : (g.D.DiskState.seen l.disk).main ≡ (g.D.DiskState.seen l.fn.disk).main;
   failures : g.D.DiskState.failures l.disk ≡ g.D.DiskState.failures l.fn.disk;
-  had : IsTrue (g.D.DiskState.steady l.fn.disk) → Gathers g.D.DiskState (g.D.DiskState.seen l.fn.disk).main l.numbers l.n-index l.fn.disk l.disk;
+  inside : l.n ≤ length l.marks;
+  had : IsTrue (g.D.DiskState.steady l.fn.disk) → Gathers g.D.DiskState (g.D.DiskState.seen l.fn.disk).main l.marks l.n l.fn.disk l.disk;
 }

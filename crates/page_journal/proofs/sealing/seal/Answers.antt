@@ -1,7 +1,8 @@
 use Rattle.std.proofs.Common.{◌≡◌, ◌∙◌, ap, sym, subst}
-use Rattle.page_journal.specs.Files.{Kept, Files}
-use Rattle.page_journal.specs.Crash.{AreKept}
+use Rattle.page_journal.specs.Files.{PageFile, Kept, Files}
+use Rattle.page_journal.specs.Crash.{Gathered, KeepsMarked}
 use Rattle.page_journal.proofs.RestoreLemmas.{restored_itself}
+use Rattle.page_journal.proofs.PuttingLemmas.{own_of}
 use Rattle.page_journal.proofs.RunLemmas.{Ready, quiet_begin, quiet_stays, quiet_fresh, quiet_then, ready, name_time, names_time, now_sealed}
 use Rattle.page_journal.proofs.sealing.seal.Given as given
 use Rattle.page_journal.proofs.sealing.seal.Goals as goal
@@ -14,11 +15,16 @@ module _ (g : given.Over) (c : After-name g) where
       let d = g.D.DiskState in
       let old = c.args.disk.now in
       let main = (d.seen old).main in
-      let first = quiet_stays d main old old c.shape.new.self (quiet_begin d main old (g.met.D.Disk.only_now old) (c.requires.settled st)) c.shape.ensures.does.0 in
-      let begun = quiet_fresh d main old c.shape.new.self c.start.new.self first c.start.ensures.does.0 in
-      let steady = c.start.ensures.does.0.steady ∙ c.shape.ensures.does.0.steady ∙ st in
+      let first = quiet_stays d main old old c.sum_of_rest.new.disk (quiet_begin d main old (g.met.D.Disk.only_now old) (c.requires.settled st)) c.sum_of_rest.ensures.stays in
+      let before = c.sum_of_rest.ensures.stays.steady ∙ st in
+      let begun = quiet_fresh d main old c.sum_of_rest.new.disk c.start.new.self first c.start.ensures.does.0 in
+      let steady = c.start.ensures.does.0.steady ∙ before in
       let all = quiet_then d main old c.start.new.self c.gather.new.disk begun (c.gather.ensures.settled steady) (c.gather.ensures.any_moment steady) in
-      ready d main old c.gather.new.disk c.sync_fresh.new.self (d.seen c.start.new.self).main all begun.settled.seen (c.in_ok-gather.ensures.kept steady) c.sync_fresh.ensures.1 c.in_ok-sync_fresh.ensures.0
+      let got = c.in_ok-gather.ensures.kept steady in
+      let fresh = c.in_ok-start.ensures.fresh before in
+      let gathered : Gathered main.pages (d.seen c.gather.new.disk).fresh = subst (λ (m : PageFile). Gathered m.pages (d.seen c.gather.new.disk).fresh) begun.settled.seen got.0 in
+      let own = own_of main.pages c.args.marks.now (d.seen c.gather.new.disk).fresh c.in_ok-rest.rest c.requires.long gathered got.1 got.2 (got.3 ∙ ap (λ (f : Kept). f.rest) fresh) (c.in_ok-rest.ensures.sum st) in
+      ready d main old c.gather.new.disk c.sync_fresh.new.self (d.seen c.start.new.self).main all begun.settled.seen got.0 own c.sync_fresh.ensures.1 c.in_ok-sync_fresh.ensures.0
 
 pub returns-in_err-name-clause-any_moment : goal.returns-in_err-name-clause-any_moment
 returns-in_err-name-clause-any_moment g c = λ st.
@@ -36,7 +42,7 @@ pub returns-clause-sealed : goal.returns-clause-sealed
 returns-clause-sealed g c = λ st.
     let d = g.D.DiskState in
     let main = (d.seen c.args.disk.now).main in
-    let before = c.start.ensures.does.0.steady ∙ c.shape.ensures.does.0.steady ∙ st in
+    let before = c.start.ensures.does.0.steady ∙ c.sum_of_rest.ensures.stays.steady ∙ st in
     let after = c.sync_fresh.ensures.1.steady ∙ c.gather.ensures.calls.0 ∙ before in
     let all = at g (goal.at.returns-clause-sealed g c).After-name st in
     let kept = (d.seen c.sync_fresh.new.self).fresh in
@@ -45,5 +51,5 @@ returns-clause-sealed g c = λ st.
       now_sealed d main c.args.disk.now c.sync_fresh.new.self c.name.new.self c.sync_names.new.self all c.name.ensures.does.0 (c.in_ok-name.ensures.named after) c.sync_names.ensures.1 c.in_ok-sync_names.ensures.0,
       restored_itself main kept c.requires.no_tail all.gathered.long all.gathered.pages_there,
       all.gathered.long,
-      subst (λ (k : Kept). AreKept c.args.numbers.now k) (sym same) (c.in_ok-gather.ensures.numbers before),
+      subst (λ (k : Kept). KeepsMarked c.args.marks.now k) (sym same) (c.in_ok-gather.ensures.kept before).1,
     )

@@ -7,7 +7,7 @@ pub returns-in-Ok-clause-any_moment : goal.returns-in-Ok-clause-any_moment
 returns-in-Ok-clause-any_moment g c steady left since =
     let sealed : IsTrue c.seal.new.self.pages.steady = ap (λ (t : TableView). t.pages.steady) c.seal.ensures.same ∙ steady in
     ⊎_elim (λ old. inl old)
-    (λ new. inr (has_records c.seal.new.self c.args.table (g.D.DiskState.seen c.in-Ok.store.disk).main _ (ap (λ (t : TableView). t.tree.order) c.seal.ensures.same) (ap table_contents c.seal.ensures.same) new (c.in-Ok.ensures.closed sealed)))
+    (λ new. inr (new.0, has_records c.seal.new.self c.args.table (g.D.DiskState.seen c.in-Ok.store.disk).main _ (ap (λ (t : TableView). t.tree.order) c.seal.ensures.same) (ap table_contents c.seal.ensures.same) new.1 (c.in-Ok.ensures.closed sealed)))
     (c.finish-disk.ensures.any_moment (c.in-Ok.ensures.steady ∙ sealed) left since)
 
 pub returns-in-Ok-clause-closed : goal.returns-in-Ok-clause-closed

@@ -23,6 +23,7 @@ returns-in-Ok g c =
       session = record {
         unread = unread c.run_kept.result.unopened g.R.Read.remaining g.W.Write.contents c.args.reader.now c.run_kept.new.reader c.args.out.now c.run_kept.new.out c.run_kept.result.status c.run_kept.result.unclosed c.run_kept.ensures.unread;
         ran = c.run_kept.ensures.ran;
+        own = c.run_kept.ensures.own;
         closed = c.run_kept.ensures.closed;
         first = c.run_kept.ensures.first;
         untouched = c.run_kept.ensures.untouched;

@@ -1,4 +1,5 @@
-use Rattle.std.proofs.Common.{◌≡◌, ◌∙◌, sym, ap, subst, length}
+use Rattle.std.proofs.Common.{◌≡◌, ◌∙◌, sym, ap, subst, length, List, Bool}
+use Rattle.page_journal.specs.Crash.{KeepsMarked}
 use Rattle.page_journal.specs.Files.{Files}
 use Rattle.page_journal.specs.KeptStores.{IsGuarded}
 use Rattle.page_journal.specs.declared.seal_state.SealState.{SealState}
@@ -21,7 +22,7 @@ invariant_of-self-2 g c = λ after.
         kept = sealed.0;
         base = main.pages;
         sealed = sealed.1;
-        flags_kept = flags_may sealed.0 c.args.numbers.now c.in-Ok.kept.items c.in_ok-shape.shape.pages sealed.4 c.in-Ok.ensures.long kept_long c.in-Ok.ensures.flags;
+        flags_kept = flags_may sealed.0 c.in-Ok.kept.items (subst (λ (m : List Bool). KeepsMarked m sealed.0) c.deref.ensures.value sealed.4) (kept_long ∙ sym c.in-Ok.ensures.long);
         began = sealed.2 ∙ asked.so.seen;
       };
       time = run_time d main c.shape.new.self c.seal.new.disk asked.time asked.so.seen (c.seal.ensures.any_moment mid);

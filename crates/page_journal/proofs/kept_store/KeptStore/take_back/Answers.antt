@@ -1,7 +1,7 @@
 use Rattle.std.proofs.Common.{◌≡◌, ◌∙◌, ap, sym, subst, OnOk}
 use Rattle.page_journal.specs.Files.{recovered}
 use Rattle.page_journal.specs.KeptStores.{KeptStored}
-use Rattle.page_journal.proofs.KeptStoreLemmas.{unsealed_main, taken_old, taken_time}
+use Rattle.page_journal.proofs.KeptStoreLemmas.{never_foreign, unsealed_main, taken_old, taken_time}
 use Rattle.page_journal.proofs.kept_store.KeptStore.take_back.Goals as goal
 use Rattle.page_journal.proofs.kept_store.KeptStore.take_back.Goals.{in_default, in-Sealed}
 
@@ -23,4 +23,14 @@ returns-clause-any_moment g c = λ st f left.
     elim c.match-state.branch [
       | in-Sealed w ↦ taken_time d c.self.inside.state c.self.inside.kept.items c.self.inside.disk w.recover-done.new.disk i w.in-Sealed.is (w.recover-done.ensures.taken_back_at_any_moment steady) f (subst (λ e. d.left_since e 0 f) w.disk-is left)
       | in_default w ↦ i.time f (subst (λ e. d.left_since e 0 f) w.disk-is left)
+    ]
+
+pub returns-clause-fault : goal.returns-clause-fault
+returns-clause-fault g c = λ st bad.
+    let d = g.D.DiskState in
+    let steady = ap (λ (s : KeptStored _). d.steady s.disk) c.self.view_is ∙ st in
+    let i = c.self.invariant steady in
+    elim c.match-state.branch [
+      | in-Sealed w ↦ never_foreign d c.self.inside.state c.self.inside.kept.items c.self.inside.disk i w.in-Sealed.is (w.recover-done.ensures.bad_journal steady (sym w.done-is ∙ bad))
+      | in_default w ↦ absurd (cc)
     ]

@@ -1,0 +1,137 @@
+#!/bin/sh
+# The words load and dump with a form, of the built program, and create without an order: what each form writes, and reads
+# again; that a load puts all records or none; and each line that it refuses, by its number.
+set -eu
+cd "$(dirname "$0")/.."
+program=$(realpath "${1:-crates/recfile_program/out/recfile_program}")
+room=$(mktemp -d)
+trap 'rm -rf "$room"' EXIT
+cd "$room"
+runs=0
+
+fail() {
+    echo "loads: FAILED: $row: $*"
+    cat out err
+    exit 1
+}
+
+# Runs the program with these words, and standard input: what it writes, its faults and its status.
+run() {
+    runs=$((runs + 1))
+    status=0
+    "$program" "$@" > out 2> err || status=$?
+}
+
+expect() { # STATUS FAULT: nothing is written, and this is told
+    [ $status = "$1" ] || fail "status $status"
+    [ ! -s out ] || fail "something is written"
+    [ "$(cat err)" = "$2" ] || fail "that is told"
+}
+
+row="an order that isn't asked for"
+run create usual.rec
+expect 0 ""
+run check usual.rec
+[ "$(cat out)" = "order 16 height 0 records 0 pages 1 free 0" ] || fail "the order is another"
+
+# Each byte that one of the forms writes in another way, and some that none does.
+row="each form"
+"$program" create any.rec
+printf 'begin\nput 1 apple =dark%%20red\nput 1 %%09%%0A%%0D\\ =%%00%%1F%%7F%%80%%FF\nput 1 "a,b" ="\nput 1 last =\ncommit 1\n' | "$program" run any.rec > out
+run dump --tsv any.rec
+printf '\\t\\n\\r\\\\\t\000\037\177\200\377\n"a,b"\t"\napple\tdark red\nlast\t\n' | cmp -s - out || fail "lines of tabs"
+run dump --csv any.rec
+printf '"\t\n\r\\","\000\037\177\200\377"\n"""a,b""",""""\n"apple","dark red"\n"last",""\n' | cmp -s - out || fail "lines of commas"
+run dump --json any.rec
+python3 - out <<'END' || fail "lines of JSON"
+import json
+import sys
+
+wanted = [("\t\n\r\\", "\0\x1f\x7f\x80\xff"), ('"a,b"', '"'), ("apple", "dark red"), ("last", "")]
+lines = [json.loads(line) for line in open(sys.argv[1], encoding="ascii")]
+sys.exit([(line["key"], line["record"]) for line in lines] != wanted)
+END
+run dump --csv any.rec
+python3 - out <<'END' || fail "another reader of commas"
+import csv
+import sys
+
+wanted = [["\t\n\r\\", "\0\x1f\x7f\x80\xff"], ['"a,b"', '"'], ["apple", "dark red"], ["last", ""]]
+sys.exit(list(csv.reader(open(sys.argv[1], encoding="latin-1", newline=""))) != wanted)
+END
+
+row="what is written is read again"
+"$program" dump any.rec > wanted
+for form in tsv csv; do
+    "$program" dump --$form any.rec > lines
+    rm -f again.rec
+    "$program" create --order 1 again.rec
+    case $form in csv) run load --csv again.rec < lines ;; tsv) run load again.rec < lines ;; esac
+    expect 0 ""
+    "$program" dump again.rec | cmp -s - wanted || fail "$form gives other records"
+done
+
+row="lines as others write them"
+"$program" create plain.rec
+printf 'cherry\tdark red\r\n\nlime\tgreen' > lines
+run load plain.rec < lines
+expect 0 ""
+printf 'plum,blue\r\n"fig, dried",brown\n' > lines
+run load --csv plain.rec < lines
+expect 0 ""
+printf 'cherry\tbright red\n' > lines
+run load plain.rec < lines
+expect 0 ""
+run dump --tsv plain.rec
+printf 'cherry\tbright red\nfig, dried\tbrown\nlime\tgreen\nplum\tblue\n' | cmp -s - out || fail "other records"
+: > lines
+run load plain.rec < lines
+expect 0 ""
+
+row="lines that are refused"
+cp plain.rec before.rec
+refused() { # LINES FAULT [OPTION]: the file is as it was
+    printf "$1" > lines
+    run load ${3:-} plain.rec < lines
+    expect 3 "recfile: $2"
+    cmp -s plain.rec before.rec || fail "the file was changed"
+}
+refused 'a\tb\nfig green\n' "FieldCount in line 2"
+refused 'a\tb\n\n\nc\td\te\n' "FieldCount in line 4"
+refused '\tb\n' "KeyEmpty in line 1"
+refused 'a\tb\nabcdefghijklmnopq\tb\n' "KeyTooLong in line 2"
+refused "a\tb\nb\t$(printf '%101s' x)\n" "RecordTooLong in line 2"
+refused 'a\t\\x\n' "BadEscape in line 1"
+refused 'a\tb\\\n' "BadEscape in line 1"
+refused 'a,b\nc\n' "FieldCount in line 2" --csv
+refused '"a\nb",c\nd,e,f\n' "FieldCount in line 3" --csv
+refused 'abcdefghijklmnopq,b\n' "KeyTooLong in line 1" --csv
+
+row="more records than a file may have"
+perl -e 'printf "%07d\tx\n\n", $_ for 1 .. 1000001' > lines
+run load plain.rec < lines
+expect 3 "recfile: Full in line 1999993"
+"$program" dump before.rec > wanted
+"$program" dump plain.rec | cmp -s - wanted || fail "the records were changed"
+
+row="a file that isn't opened"
+printf 'a\tb\n' > lines
+run load missing.rec < lines
+expect 1 "recfile: Device"
+printf x > short.rec
+run load short.rec < lines
+expect 1 "recfile: BadLength"
+run load plain.rec < .
+expect 3 "recfile: ReadFault"
+
+row="words that don't go together"
+run dump --tsv --csv plain.rec
+expect 2 "recfile: one of --tsv, --csv and --json"
+run dump --csv plain.rec > /dev/full
+runs=$((runs + 1))
+status=0
+"$program" dump --json plain.rec > /dev/full 2> err || status=$?
+: > out
+expect 3 "recfile: WriteFault"
+
+echo "loads: $runs passed, 0 failed"
