@@ -1,11 +1,14 @@
 ghost use Rattle.std.specs.Prelude.{◌≡◌, [], IfOk};
 
+use crate::blank::blank_page;
+use crate::fresh_side::BEING_MADE;
 use crate::opening_fault::OpeningFault;
 use crate::side_names::SideNames;
 use file_system::{System, SystemFile};
 use page_store::FileStore;
 use std::alloc::Global;
 use std::io;
+use std::os::unix::fs::FileExt;
 
 // Whether nothing has the name, not even a link. Fault: Device.
 fn is_free<H: System>(rt: &H, name: &str) -> Result<bool, OpeningFault> {
@@ -58,4 +61,38 @@ pub fn take_away<H: System<File = F>, F: SystemFile + Drop>(
         rt.remove(names.main.as_str())?;
     }
     Ok(())
+}
+
+// Has the device keep a page of a file.
+fn keep_page<F: SystemFile>(file: &F) -> io::Result<()> {
+    file.write_all_at(&blank_page(), 0)?;
+    file.sync_all()
+}
+
+// Makes a file of a page under a name that nothing has, and takes it away again.
+fn try_making<H: System<File = F>, F: SystemFile + Drop>(rt: &H, name: &str) -> io::Result<()> {
+    let file = rt.make_new(name, BEING_MADE)?;
+    let kept = keep_page(&file);
+    if rt.facts_here(name)?.is_same_file(&file.facts()?) {
+        rt.remove(name)?;
+    }
+    kept
+}
+
+/// What keeps the system from what a file that is made at a path, and a closing of one that is there, need: a file of a page
+/// in its folder. One is made for that, and taken away again. Nothing is tried where something has the name of a side file
+/// that is being made. Faults: Device, as where there is no such folder, or its name is too long; Memory.
+pub fn refused_beside<H: System<File = F>, F: SystemFile + Drop>(
+    rt: &H,
+    alloc: Global,
+    path: &str,
+) -> Result<Option<io::Error>, OpeningFault> {
+    let names = match rt.facts_of(path) {
+        Ok(_) => SideNames::of(rt, alloc, path)?,
+        Err(_) => SideNames::of_new(rt, alloc, path)?,
+    };
+    match try_making(rt, names.fresh.as_str()) {
+        Err(error) if error.kind() != io::ErrorKind::AlreadyExists => Ok(Some(error)),
+        _ => Ok(None),
+    }
 }

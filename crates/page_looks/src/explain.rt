@@ -7,7 +7,7 @@ use btree_node::{
     COUNT_AT, Header, HeaderFault, ORDER_AT, PAGES_AT, ROOT_AT, STATE_AT, VERSION_AT, read_header,
 };
 use file_system::{HostSystem, Lock};
-use page_journal::{Beside, FileDisk, OpeningFault, side_name};
+use page_journal::{Beside, FileDisk, OpeningFault, refused_beside, side_name};
 use rec_types::{MOST_RECORDS, PAGE_WIDTH};
 use std::alloc::Global;
 use std::fs::{OpenFile, OpenOptions};
@@ -283,6 +283,22 @@ fn tell_beside<F: OpenFile + FileExt + Lock + Drop, H: Files<File = F>, W: Write
     Ok(true)
 }
 
+// Tells whether the system refuses what is made in the folder of a path, by a closing or by `create`, behind what then
+// can't be done.
+fn tell_room<F: OpenFile + FileExt + Lock + Drop, H: Files<File = F>, W: Write>(
+    rt: &H,
+    alloc: Global,
+    path: &str,
+    what: &str,
+    out: &mut W,
+) -> io::Result<()> {
+    match refused_beside(&HostSystem::new(rt), alloc, path) {
+        Ok(Some(error)) => writeln!(out, "{what}: {error}"),
+        Err(OpeningFault::Memory) => Err(no_memory()),
+        _ => Ok(()),
+    }
+}
+
 // Tells of an open file, and of what stands beside it, and answers whether it is whole and alone.
 fn explain_open<F: OpenFile + FileExt + Lock + Drop, H: Files<File = F>, W: Write>(
     rt: &H,
@@ -300,6 +316,8 @@ fn explain_open<F: OpenFile + FileExt + Lock + Drop, H: Files<File = F>, W: Writ
     };
     tell_opened(rt, path, out)?;
     tell_names(path, metadata.nlink(), out)?;
+    let what = "no session can close it, since the system makes no file beside it";
+    tell_room(rt, alloc, path, what, out)?;
     let stopped = tell_beside(rt, alloc, path, out)?;
     if !explain_length(alloc, file, metadata.len(), out)? {
         return Ok(false);
@@ -333,10 +351,10 @@ pub(crate) fn tell_locked<W: Write>(
 
 /// Tells what the file of a path is, in words, and answers whether it is a whole page file: whether the system opens it,
 /// or what keeps it from that; whether another program has it open; its other names; what stands beside it under the name
-/// of its side file; its length, each field of its header, and the shape of its tree; or the first check that fails, with
-/// the place, what stands there, what was expected, and what can be done. It only reads the file, and waits for nothing: a
-/// folder, a pipe and a device are named and not opened. Errors are those of the writer, behind which a front of the text
-/// is written, and want of memory.
+/// of its side file; whether the system makes a file in its folder, as a closing and `create` need; its length, each field
+/// of its header, and the shape of its tree; or the first check that fails, with the place, what stands there, what was
+/// expected, and what can be done. It only reads the file, and waits for nothing: a folder, a pipe and a device are named
+/// and not opened. Errors are those of the writer, behind which a front of the text is written, and want of memory.
 pub fn explain_file<F: OpenFile + FileExt + Lock + Drop, H: Files<File = F>, W: Write>(
     rt: &H,
     alloc: Global,
@@ -347,6 +365,9 @@ pub fn explain_file<F: OpenFile + FileExt + Lock + Drop, H: Files<File = F>, W: 
         Ok(file) => file,
         Err(fault) => {
             tell_unopened(rt, path, &fault, out)?;
+            if fault.is_missing() {
+                tell_room(rt, alloc, path, "none can be made there", out)?;
+            }
             return Ok(false);
         }
     };

@@ -25,6 +25,16 @@ pub enum Unopened {
     System(io::Error),
 }
 
+impl Unopened {
+    /// Whether nothing was found at the path.
+    pub fn is_missing(&self) -> bool {
+        match self {
+            Unopened::Other(_) => false,
+            Unopened::System(error) => error.kind() == io::ErrorKind::NotFound,
+        }
+    }
+}
+
 impl From<io::Error> for Unopened {
     fn from(error: io::Error) -> Unopened {
         Unopened::System(error)
