@@ -267,6 +267,12 @@ if [ "$(id -u)" != 0 ] || [ -n "$as" ]; then
     grep -qxF "the system doesn't open three.rec: Permission denied (os error 13)" out || fail "the rights aren't named"
     grep -q "^you have no rights to read it" out || fail "nothing is advised"
     chmod 644 three.rec
+    # In a folder that may not be written nothing is made beside a file, and no file.
+    for line in "three.rec no session can close it, since the system makes no file beside it" "missing.rec none can be made there"; do
+        runs=$((runs + 1))
+        $as ./recfile explain "${line%% *}" > out 2> err || true
+        grep -qxF "${line#* }: Permission denied (os error 13)" out || fail "the folder's rights aren't named"
+    done
     rm recfile
 fi
 
@@ -282,6 +288,24 @@ explains . 1 ". is a folder, and no page file: it isn't opened"
 explains /dev/null 1 "/dev/null is a device, and no page file: it isn't opened"
 mkfifo pipe.rec
 explains pipe.rec 1 "pipe.rec is a pipe, and no page file: it isn't opened"
+
+row="a full file system"
+mkdir small
+if mount -t tmpfs -o size=20k none small 2> /dev/null; then
+    cp three.rec small/three.rec
+    explains small/three.rec 0 "the file is whole"
+    if grep -q "no session can close it" out; then fail "there is room"; fi
+    explains small/missing.rec 1 "there is no such file in small: recfile create small/missing.rec makes one"
+    if grep -q "none can be made there" out; then fail "there is room"; fi
+    head -c 4096 /dev/zero > small/filler
+    explains small/three.rec 0 "no session can close it, since the system makes no file beside it: No space left on device (os error 28)"
+    explains small/missing.rec 1 "none can be made there: No space left on device (os error 28)"
+    [ "$(ls small)" = "filler
+three.rec" ] || fail "something is left: $(ls small)"
+    umount small
+else
+    echo "explain: $row: left out, since nothing can be mounted"
+fi
 
 row="another name"
 ln three.rec twin.rec
