@@ -1,4 +1,4 @@
-//! The tests: each crate by its public contract, scripts over every table, and the program over files.
+//! The tests: each crate by its public contract, and scripts over every table.
 #![tactic(auto)]
 
 #[cfg(test)]
@@ -8,15 +8,11 @@ mod crashes;
 #[cfg(test)]
 mod fault_texts;
 #[cfg(test)]
-mod file_disks;
-#[cfg(test)]
 mod files_in_memory;
 #[cfg(test)]
 mod logs;
 #[cfg(test)]
 mod nodes;
-#[cfg(test)]
-mod program;
 #[cfg(test)]
 mod running;
 #[cfg(test)]

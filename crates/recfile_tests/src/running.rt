@@ -1,5 +1,4 @@
 mod answers;
-mod large_scripts;
 mod long_scripts;
 mod lying;
 mod rows;

@@ -17,7 +17,7 @@ use thiserror::Error;
 
 /// Why a row has no text: memory was refused, or a file.
 #[derive(Debug, Drop, Error)]
-pub(crate) enum Stop {
+enum Stop {
     #[error("out of memory")]
     Alloc(#[from(alloc)] AllocError),
     #[error("out of memory")]
@@ -220,7 +220,7 @@ struct StoreRow {
 }
 
 /// Whether this is the text.
-pub(crate) fn is_text(found: &Result<String, Stop>, wanted: &str) -> bool {
+fn is_text(found: &Result<String, Stop>, wanted: &str) -> bool {
     matches!(found, Ok(text) if text.as_str() == wanted)
 }
 
@@ -705,7 +705,7 @@ fn a_writing_back_stops_where_a_call_fails(rt: HostRuntime) {
 }
 
 /// A path of this test's own for files.
-pub(crate) fn path_of(rt: &HostRuntime, name: &str) -> Result<PathBuf, Stop> {
+fn path_of(rt: &HostRuntime, name: &str) -> Result<PathBuf, Stop> {
     let name = format!(in rt.alloc(); "page_store_{}_{name}", process::id(rt.process()))?;
     Ok(env::temp_dir(rt)?.join(rt.alloc(), name.as_str())?)
 }
