@@ -163,6 +163,14 @@ pub enum KeysOfFault {
     Memory,
 }
 
+/// Why what a transaction wrote wasn't told.
+#[derive(Clone, Copy, Debug, PartialEq, Eq)]
+pub enum ChangesFault {
+    NoSuchTx,
+    Rolling,
+    Memory,
+}
+
 /// Why there is no status.
 #[derive(Clone, Copy, Debug, PartialEq, Eq, Error)]
 #[error("{}", self.to_refusal())]
@@ -289,6 +297,16 @@ impl From<Memory> for EntriesFault {
 
     fn from(_memory: Memory) -> EntriesFault {
         EntriesFault::Memory
+    }
+}
+
+impl From<Memory> for ChangesFault {
+    ghost use Rattle.record_file.specs.declared.fault.ChangesFault.TheVariants as faults;
+
+    ghost from_gives = { λ _ fault. fault ≡ faults.Memory };
+
+    fn from(_memory: Memory) -> ChangesFault {
+        ChangesFault::Memory
     }
 }
 

@@ -1,5 +1,7 @@
 ghost use Rattle.record_file.specs.TableCalls.{KeepsLog, KeepsTable};
-ghost use Rattle.std.specs.Prelude.{[], ◌≡◌, ◌≢◌, ◌<◌, Some, None, Ok, Err, MatchResult};
+ghost use Rattle.record_file.specs.Durable.{Keeps};
+ghost use Rattle.record_file.specs.Runs.{Commit};
+ghost use Rattle.std.specs.Prelude.{ℕ, List, Option, ◌++◌, OnOk, OnErr, [], ◌≡◌, ◌≢◌, ◌<◌, Some, None, Ok, Err, MatchResult};
 ghost use Rattle.std.specs.FinMap as maps;
 ghost use Rattle.record_file.specs.Abstract.{new_file};
 ghost use Rattle.record_file.specs.Runs.{GivesTable};
@@ -11,6 +13,7 @@ mod refusals;
 mod rollbacks;
 
 use crate::fault::{CommitFault, ReleaseFault, SavepointFault};
+use crate::keeper::{KeepFault, Keeper};
 use rec_types::{Limits, Memory, Table, TxId};
 use std::alloc::Global;
 use std::marker::Model;
@@ -151,5 +154,25 @@ impl<T: Table> RecordFile<T> {
                 Ok(())
             }
         }
+    }
+
+    /// Ends a transaction once a keeper has kept what its live changes write. A fault leaves everything unchanged.
+    pub fn commit_kept<K: Keeper>(&mut self, tx: TxId, keeper: &mut K) -> Result<(), KeepFault>
+        ensures step { OnOk result (CommitStep self.old.file tx.0 (Ok tt) self.new.file) }
+        ensures kept { OnOk result ((es : List (List ℕ × Option (List ℕ)))
+            × Keeps self.old.file (Commit tx (Ok tt)) es
+            × (K.kept keeper.new ≡ K.kept keeper.old ++ es)) }
+        ensures err { OnErr result ((self.new ≡ self.old) × (K.kept keeper.new ≡ K.kept keeper.old)) }
+        ensures table { KeepsTable self.old self.new }
+        ensures log { KeepsLog self.old self.new }
+    {
+        let Ok(changes) = self.changes_of(tx) else {
+            return Err(KeepFault);
+        };
+        let Ok(()) = keeper.keep(&changes) else {
+            return Err(KeepFault);
+        };
+        self.log.end(tx);
+        Ok(())
     }
 }

@@ -11,6 +11,8 @@ ghost use Rattle.tx_log.specs.Log.{last_of};
 ghost use Rattle.tx_log.specs.Owners.{keys_owned, owner_of};
 ghost use Rattle.tx_log.specs.Transactions.{fresh, place_in};
 ghost use Rattle.record_file.specs.Abstract.{File, held_by, new_file, open_of, phase_at, records_of, tx_of, use_of};
+ghost use Rattle.tx_log.specs.Written.{writes};
+ghost use Rattle.record_file.specs.Durable.{CommitsKept, committed, overlay};
 ghost use Rattle.record_file.specs.Exact.{IsExact, CompensatesOnce, one};
 ghost use Rattle.record_file.specs.Resumed.{StopsFirst, Finishes, TakesWhole, CompensatesTake};
 ghost use Rattle.record_file.specs.Remaining.{NothingFails, remaining};
@@ -298,4 +300,20 @@ pub fn resumed_whole()
     ensures half { (old new : Seen) → old.file.history ≡ wrote 1 97 120 ∷ wrote 1 98 120 ∷ []
         → new.file.history ≡ wrote 1 97 120 ∷ taken_back (wrote 1 98 120) ∷ []
         → TakesWhole old 1 0 new → ⊥ }
+{}
+
+/// What is kept of the commits makes the records. After every run from a start, over the records that it began with,
+/// what was kept of each accepted commit when it was made, one after another, makes the records without the changes of
+/// transactions that haven't ended; where none is open, that is the records. It does so when it is done again over what
+/// it has made. Each commit has something to be kept.
+pub fn commits_kept()
+    ensures replayed { (old new : Seen) (events : List Event)
+        → (kept : List (List ℕ × Option (List ℕ))) → Starts old → CommitsKept old events new kept
+        → overlay old.records kept ≡ committed new.file }
+    ensures each { (old new : Seen) (events : List Event) → Run old events new
+        → (kept : List (List ℕ × Option (List ℕ))) × CommitsKept old events new kept }
+    ensures all_ended { (f : File) → ((t : ℕ) → open_of f t ≡ false) → committed f ≡ records_of f }
+    ensures again { (m : Contents) (kept : List (List ℕ × Option (List ℕ)))
+        → overlay (overlay m kept) kept ≡ overlay m kept }
+    ensures some { (m : Contents) (h : List Change) → overlay m (writes h) ≡ replay m h }
 {}

@@ -2,6 +2,8 @@ ghost use Rattle.std.specs.Prelude.{◌≡◌, ℕ, ◌+◌, ◌<◌, length, re
 ghost use Rattle.std.specs.List.{filter};
 ghost use Rattle.tx_log.specs.Log.{chain, key_of};
 ghost use Rattle.tx_log.specs.Marks.{CanWalk};
+ghost use Rattle.std.specs.Prelude.{◌++◌, [], List, Option, Some, true, OnOk};
+ghost use Rattle.tx_log.specs.Written.{written_by, writes_if};
 ghost use Rattle.tx_log.specs.Walks.{link_of, newest_in, is_after, step_to};
 
 use crate::UndoStep;
@@ -108,4 +110,40 @@ pub fn changed_keys(alloc: Global, log: &Records, from: u32, count: u32) -> Resu
         at = link.prev;
     }
     Ok(keys)
+}
+
+// Adds what a change writes, where it writes anything. Fault: Memory.
+fn push_write(
+    written: &mut Vec<(Key, Option<Record>)>,
+    key: Key,
+    after: Option<Option<Record>>,
+) -> Result<(), Memory>
+    ensures { OnOk result (written.new.items ≡ written.old.items ++ writes_if true key after []) }
+{
+    match after {
+        Some(after) => {
+            written.push((key, after))?;
+            Ok(())
+        }
+        None => Ok(()),
+    }
+}
+
+/// What the changes that aren't taken back write, newest first, on the way down from the record with the number `from`.
+/// Fault: Memory.
+pub fn changed_records(
+    alloc: Global,
+    log: &Records,
+    from: u32,
+) -> Result<Vec<(Key, Option<Record>)>, Memory>
+    requires { CanWalk log.now.items log.now.marks from }
+    ensures { IfOk result (λ v. v.items ≡ written_by (chain (reverse log.now.items) from)) }
+{
+    let mut written = Vec::new(alloc);
+    let mut at = from;
+    while let Some(change) = newest_change(log, at) {
+        push_write(&mut written, change.key, change.after)?;
+        at = change.prev;
+    }
+    Ok(written)
 }
