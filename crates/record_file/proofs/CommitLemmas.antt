@@ -1,6 +1,7 @@
 -- What the commits of a run make of the records that it began with.
 use Rattle.std.proofs.Common.{◌≡◌, ◌⊎◌, inl, inr, ℕ, ◌+◌, ◌≤◌, zero, suc, Bool, true, false, cond, not, ◌&&◌, if◌then◌else◌, nat_lt, eqb, List, [], ◌∷◌, ◌++◌, filter, Option, Some, None, Ok, Err, refl, sym, ap, subst, ◌∙◌, IsTrue, arith}
 use Rattle.std.proofs.lemmas.Bool.Decides.{nat_tests}
+use Rattle.std.proofs.lemmas.List.{append-nil}
 use Rattle.std.specs.FinMap as maps
 use Rattle.std.specs.FinMap.{get}
 use Rattle.rec_types.specs.Contents.{Contents, set_to, write_to, same_key}
@@ -11,7 +12,8 @@ use Rattle.tx_log.specs.Transactions.{Transactions, is_open, fresh}
 use Rattle.record_file.specs.Abstract.{File, open_of, tx_of, with_change}
 use Rattle.record_file.specs.Steps.{active_refusal, key_refusal}
 use Rattle.record_file.specs.Runs.{Called, Event, Seen, Run, Begin, Put, Claim, Remove, Get, Savepoint, Release, RollbackTo, Abort, Resume, Commit, Entries, KeysOf, StatusOf, Charged, Begun, LogLen, LogUse, RecordAt, IntoTable}
-use Rattle.record_file.specs.Undo.{Starts, old_record}
+use Rattle.rec_types.specs.declared.transaction.TxId.{TxId}
+use Rattle.record_file.specs.Undo.{Starts, old_record, quiet}
 use Rattle.record_file.specs.Remaining.{begins_or_commits}
 use Rattle.tx_log.specs.Written.{own, writes, writes_if}
 use Rattle.record_file.specs.Durable.{overlay, has_ended, ended, committed, Keeps, CommitsKept}
@@ -298,3 +300,32 @@ all_kept old new (e ∷ es) ran =
     let first = kept_by old.file e.called in
     let rest = all_kept ran.0 new es ran.2 in
     (first.0 ++ rest.0, (ran.0, ran.1, first.0, rest.0, refl, first.1, rest.1))
+
+itself : (n : ℕ) → eqb n n ≡ true
+itself n = at (eqb n n) refl
+  where
+    at : (b : Bool) → eqb n n ≡ b → eqb n n ≡ true
+    at true is = is
+    at false is = absurd (grind (arith, nat_tests))
+
+-- What is kept of a transaction that puts one record: nothing, until it commits.
+pub begun_kept : (old new : Seen) (t : TxId) (x r : List ℕ) (kept : Writes) → CommitsKept old (quiet (Begin (Ok t)) ∷ quiet (Put t x r (Ok None)) ∷ []) new kept → kept ≡ []
+begun_kept old new t x r kept ran =
+    let put = ran.6 in
+    ran.4 ∙ ap (λ (es : Writes). es ++ ran.3) ran.5 ∙ put.4 ∙ ap (λ (es : Writes). es ++ put.3) put.5 ∙ put.6.1
+
+pub put_kept : (old new : Seen) (t : TxId) (x r : List ℕ) (kept : Writes) → Starts old → CommitsKept old (quiet (Begin (Ok t)) ∷ quiet (Put t x r (Ok None)) ∷ quiet (Commit t (Ok tt)) ∷ []) new kept → overlay old.records kept ≡ set_to old.records x (Some r)
+put_kept old new t x r kept start ran =
+    let put = ran.6 in
+    let commit = put.6 in
+    let none : ran.0.file.history ≡ [] = ap (λ (f : File). f.history) (ran.1.answer.1.2 ∙ ap (λ (f : File). record f { begun = old.file.begun + 1; txs = maps.insert old.file.txs (old.file.begun + 1) fresh }) start.file) in
+    let one : put.0.file.history ≡ record { tx = t.0; key = x; after = Some (Some r); live = true } ∷ [] =
+        ap (λ (f : File). f.history) put.1.answer.1.accepted.history ∙ ap (λ (h : List Change). h ++ record { tx = t.0; key = x; after = Some (Some r); live = true } ∷ []) none in
+    let same : kept ≡ commit.2 =
+        ran.4 ∙ ap (λ (es : Writes). es ++ ran.3) ran.5
+        ∙ put.4 ∙ ap (λ (es : Writes). es ++ put.3) put.5
+        ∙ commit.4 ∙ ap (λ (es : Writes). commit.2 ++ es) commit.6.1 ∙ append-nil commit.2 in
+    ap (λ (es : Writes). overlay old.records es) same
+    ∙ commit.5 old.records
+    ∙ ap (λ (h : List Change). replay old.records (own t.0 h)) one
+    ∙ ap (λ (b : Bool). replay old.records (cond (b && true) (record { tx = t.0; key = x; after = Some (Some r); live = true } ∷ []) [])) (itself t.0)

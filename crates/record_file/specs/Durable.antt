@@ -1,9 +1,17 @@
 -- What the commits of a run make of the records that it began with, without the transactions that haven't committed.
-use Rattle.std.specs.Prelude.{◌≡◌, ℕ, Bool, not, List, [], ◌∷◌, ◌++◌, filter, Option, Ok}
+use Rattle.std.specs.Prelude.{◌≡◌, ℕ, Bool, not, List, [], ◌∷◌, ◌++◌, filter, Option, Some, None, Result, Ok, Err}
 use Rattle.rec_types.specs.Contents.{Contents, set_to}
 use Rattle.rec_types.specs.History.{Change, replay}
-use Rattle.tx_log.specs.Written.{own}
+use Rattle.tx_log.specs.Written.{own, writes}
+use Rattle.record_file.specs.declared.fault.ChangesFault.{ChangesFault}
+use Rattle.record_file.specs.declared.fault.ChangesFault.TheVariants as changes_faults
+use Rattle.record_file.specs.declared.fault.CommitFault.TheVariants as commit_faults
+use Rattle.record_file.specs.declared.keeper.KeepFault.{KeepFault}
+use Rattle.record_file.specs.declared.keeper.KeepFault.TheVariants as keep_faults
+use Rattle.record_file.specs.declared.keeper.KeeperFault.{KeeperFault}
 use Rattle.record_file.specs.Abstract.{File, open_of}
+use Rattle.record_file.specs.Refusals.{changes_refusal}
+use Rattle.record_file.specs.Steps.{tx_refusal, CommitStep}
 use Rattle.record_file.specs.Runs.{Called, Event, Seen, Step, Commit}
 
 -- keys with the record that is put there, or with none where the key is taken out: one after another over the contents
@@ -34,3 +42,30 @@ CommitsKept old [] new kept = (new ≡ old) × (kept ≡ [])
 CommitsKept old (e ∷ es) new kept =
     (mid : Seen) × Step old e mid × (first : List (List ℕ × Option (List ℕ))) × (rest : List (List ℕ × Option (List ℕ)))
     × (kept ≡ first ++ rest) × Keeps old.file e.called first × CommitsKept mid es new rest
+
+-- What a transaction writes is told where a commit of it is accepted: what its live changes write, in order. It is refused
+-- exactly as a commit is, and else for memory alone.
+abbrev pub ChangesStep : File → ℕ → Result (List (List ℕ × Option (List ℕ))) ChangesFault → Type 0
+ChangesStep f t (Ok es) = (tx_refusal f t None ≡ None) × (es ≡ writes (own t f.history))
+ChangesStep f t (Err changes_faults.Memory) = tx_refusal f t None ≡ None
+ChangesStep f t (Err fault) = tx_refusal f t None ≡ Some (changes_refusal fault)
+
+-- A commit that a keeper has to keep is refused exactly as a commit is; at any other fault a commit would be accepted, and
+-- the file is as it was.
+abbrev pub KeptStep : File → ℕ → Result (Unit {0}) KeepFault → File → Type 0
+KeptStep old t (Ok done) new = CommitStep old t (Ok done) new
+KeptStep old t (Err (keep_faults.Refused fault)) new = CommitStep old t (Err fault) new
+KeptStep old t (Err fault) new = (tx_refusal old t None ≡ None) × (new ≡ old)
+
+-- The keeper is asked to keep these writes, and the answer is its own; where the commit is refused or memory is wanting, it
+-- isn't asked.
+abbrev pub AsksKeeper : {K : Type 0} → (K → List (List ℕ × Option (List ℕ)) → Result (Unit {0}) KeeperFault → K → Type 0) → List (List ℕ × Option (List ℕ)) → K → Result (Unit {0}) KeepFault → K → Type 0
+AsksKeeper answers es old (Ok done) new = answers old es (Ok done) new
+AsksKeeper answers es old (Err (keep_faults.Unkept fault)) new = answers old es (Err fault) new
+AsksKeeper answers es old (Err fault) new = new ≡ old
+
+-- what ends a commit before the keeper is asked
+abbrev pub unasked : ChangesFault → KeepFault
+unasked changes_faults.NoSuchTx = keep_faults.Refused commit_faults.NoSuchTx
+unasked changes_faults.Rolling = keep_faults.Refused commit_faults.Rolling
+unasked changes_faults.Memory = keep_faults.Memory

@@ -163,8 +163,9 @@ pub enum KeysOfFault {
     Memory,
 }
 
-/// Why what a transaction wrote wasn't told.
-#[derive(Clone, Copy, Debug, PartialEq, Eq)]
+/// Why what a transaction writes wasn't told.
+#[derive(Clone, Copy, Debug, PartialEq, Eq, Error)]
+#[error("{}", self.to_refusal())]
 pub enum ChangesFault {
     NoSuchTx,
     Rolling,
@@ -303,7 +304,7 @@ impl From<Memory> for EntriesFault {
 impl From<Memory> for ChangesFault {
     ghost use Rattle.record_file.specs.declared.fault.ChangesFault.TheVariants as faults;
 
-    ghost from_gives = { λ _ fault. fault ≡ faults.Memory };
+    ghost from_gives = { λ _ told. told ≡ faults.Memory };
 
     fn from(_memory: Memory) -> ChangesFault {
         ChangesFault::Memory

@@ -1,18 +1,72 @@
-ghost use Rattle.std.specs.Prelude.{◌≡◌, ◌++◌, ℕ, List, Option, OnOk, OnErr};
+ghost use Rattle.std.specs.Prelude.{◌≡◌, ◌++◌, ℕ, List, Option, Result, OnOk, OnErr};
+ghost use Rattle.record_file.specs.declared.keeper.KeeperFault.{KeeperFault};
+ghost use Rattle.record_file.specs.Durable.{unasked};
 
+use crate::fault::{ChangesFault, CommitFault};
 use rec_types::{Key, Record};
+use thiserror::Error;
 
-/// A commit's writes weren't kept.
-#[derive(Clone, Copy, Debug, PartialEq, Eq)]
-pub struct KeepFault;
+/// Why a keeper didn't keep the writes of a commit.
+#[derive(Clone, Copy, Debug, PartialEq, Eq, Error)]
+pub enum KeeperFault {
+    /// Nothing was written: they are found after no stop, and a later commit may be kept.
+    #[error("there is no room to keep the commit")]
+    Room,
+    /// It isn't known whether they were written: they may be found after a stop, all or none of them. Until the keeper
+    /// has ended the doubt, it keeps no other commit.
+    #[error("it isn't known whether the commit is kept")]
+    Doubt,
+}
 
-/// What keeps the writes of commits before they are answered.
+/// Why a transaction wasn't committed. The file and what was kept are as they were: an active transaction stays so,
+/// and can be rolled back, or committed by another try.
+#[derive(Clone, Copy, Debug, PartialEq, Eq, Error)]
+pub enum KeepFault {
+    /// What any commit of it is refused for. The keeper wasn't asked.
+    #[error("{0}")]
+    Refused(CommitFault),
+    /// There was no memory for the list of its writes. The keeper wasn't asked.
+    #[error("out of memory")]
+    Memory,
+    /// What the keeper answered. After a doubt a stop may yet find the transaction committed.
+    #[error("{0}")]
+    Unkept(KeeperFault),
+}
+
+/// What keeps the writes of commits before the commits are answered.
 pub trait Keeper {
-    /// What is kept, in the order of the commits.
+    /// The writes of all commits that it answered to be kept, in the order of the commits. Those of a commit in doubt
+    /// aren't among them.
     ghost kept: { Self → List (List ℕ × Option (List ℕ)) };
 
-    /// Keeps the writes of a commit, all or none of them.
-    fn keep(&mut self, writes: &[(Key, Option<Record>)]) -> Result<(), KeepFault>
-        ensures ok { OnOk result (Self.kept self.new ≡ Self.kept self.old ++ writes.now) }
-        ensures err { OnErr result (Self.kept self.new ≡ Self.kept self.old) };
+    /// Asked to keep these writes, it may answer so, and is then the second one.
+    ghost answers: { Self → List (List ℕ × Option (List ℕ)) → Result (Unit {0}) KeeperFault → Self → Type 0 };
+
+    /// Keeps the writes of a commit, all of them or none. Faults: Room or Doubt.
+    fn keep(&mut self, writes: &[(Key, Option<Record>)]) -> Result<(), KeeperFault>
+        ensures answer { answers self.old writes.now result self.new }
+        ensures ok { OnOk result (kept self.new ≡ kept self.old ++ writes.now) }
+        ensures err { OnErr result (kept self.new ≡ kept self.old) };
+}
+
+impl From<ChangesFault> for KeepFault {
+    ghost from_gives = { λ fault told. told ≡ unasked fault };
+
+    fn from(fault: ChangesFault) -> KeepFault {
+        match fault {
+            ChangesFault::NoSuchTx => KeepFault::Refused(CommitFault::NoSuchTx),
+            ChangesFault::Rolling => KeepFault::Refused(CommitFault::Rolling),
+            ChangesFault::Memory => KeepFault::Memory,
+        }
+    }
+}
+
+impl From<KeeperFault> for KeepFault {
+    ghost use Rattle.record_file.specs.declared.keeper.KeepFault.TheVariants as faults;
+
+    ghost from_gives = { λ fault told. told ≡ faults.Unkept fault };
+
+    fn from(fault: KeeperFault) -> KeepFault {
+        KeepFault::Unkept(fault)
+    }
 }

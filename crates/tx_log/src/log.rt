@@ -1,4 +1,4 @@
-ghost use Rattle.std.specs.Prelude.{◌≡◌, ℕ, ◌+◌, ◌-◌, ◌<◌, ◌≤◌, ◌↔◌, [], ◌∷◌, ◌++◌, take, option_map, IfOk, OnOk, OnErr, IsTrue, IsSome};
+ghost use Rattle.std.specs.Prelude.{◌≡◌, ℕ, ◌+◌, ◌-◌, ◌<◌, ◌≤◌, ◌↔◌, [], ◌∷◌, ◌++◌, take, option_map, false, IfOk, IsOkAnd, OnOk, OnErr, IsTrue, IsSome};
 ghost use Rattle.std.specs.FinMap as maps;
 ghost use Rattle.rec_types.specs.History.{log_len, own_count};
 ghost use Rattle.tx_log.specs.Log.{record_at};
@@ -201,10 +201,12 @@ impl TxLog {
         Ok(keys)
     }
 
-    /// What the live changes of an open transaction write, in order. Fault: Memory.
+    /// What the live changes of an open transaction write, oldest first: each key with the record that is put there, or
+    /// with none. A claim writes nothing, nor does a transaction that isn't open. Fault: Memory.
     pub fn changes_of(&self, tx: TxId) -> Result<Vec<(Key, Option<Record>)>, Memory>
-        ensures { IsTrue (open_in self.now tx.0)
-            → IfOk result (λ v. v.items ≡ writes (own tx.0 (history_in self.now))) }
+        ensures open { IsTrue (open_in self.now tx.0)
+            → IfOk result (λ written. written.items ≡ writes (own tx.0 (history_in self.now))) }
+        ensures absent { open_in self.now tx.0 ≡ false → IsOkAnd result (λ written. written.items ≡ []) }
     {
         let Some(open_tx) = find_open(&self.txs, tx) else {
             return Ok(Vec::new(self.alloc));

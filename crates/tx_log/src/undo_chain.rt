@@ -1,10 +1,9 @@
-ghost use Rattle.std.specs.Prelude.{◌≡◌, ℕ, ◌+◌, ◌<◌, length, reverse, map, option_map, cond, IfOk};
+ghost use Rattle.std.specs.Prelude.{◌≡◌, ℕ, ◌+◌, ◌<◌, true, [], ◌++◌, List, length, reverse, map, Option, option_map, Some, cond, IfOk, OnOk};
 ghost use Rattle.std.specs.List.{filter};
 ghost use Rattle.tx_log.specs.Log.{chain, key_of};
 ghost use Rattle.tx_log.specs.Marks.{CanWalk};
-ghost use Rattle.std.specs.Prelude.{◌++◌, [], List, Option, Some, true, OnOk};
-ghost use Rattle.tx_log.specs.Written.{written_by, writes_if};
 ghost use Rattle.tx_log.specs.Walks.{link_of, newest_in, is_after, step_to};
+ghost use Rattle.tx_log.specs.Written.{written_by, writes_if};
 
 use crate::UndoStep;
 use crate::mark::newest_number;
@@ -137,7 +136,7 @@ pub fn changed_records(
     from: u32,
 ) -> Result<Vec<(Key, Option<Record>)>, Memory>
     requires { CanWalk log.now.items log.now.marks from }
-    ensures { IfOk result (λ v. v.items ≡ written_by (chain (reverse log.now.items) from)) }
+    ensures { IfOk result (λ written. written.items ≡ written_by (chain (reverse log.now.items) from)) }
 {
     let mut written = Vec::new(alloc);
     let mut at = from;

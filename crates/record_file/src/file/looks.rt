@@ -10,10 +10,9 @@ ghost use Rattle.record_file.specs.Refusals.{get_refusal, entries_refusal, refus
 ghost use Rattle.record_file.specs.TableCalls.{LeavesTable};
 ghost use Rattle.record_file.specs.Asked.{looked_unless};
 ghost use Rattle.rec_types.specs.Calls.{with_list};
-ghost use Rattle.tx_log.specs.Written.{own, writes};
-ghost use Rattle.record_file.specs.Durable.{Keeps};
+ghost use Rattle.record_file.specs.Durable.{ChangesStep, Keeps};
 ghost use Rattle.record_file.specs.Runs.{Commit};
-ghost use Rattle.record_file.specs.Steps.{rose, tx_refusal, key_refusal, GetStep, EntriesStep, TellOwners, KeysOfStep, entry_with, listed, status_of};
+ghost use Rattle.record_file.specs.Steps.{rose, key_refusal, GetStep, EntriesStep, TellOwners, KeysOfStep, entry_with, listed, status_of};
 
 use super::RecordFile;
 use crate::fault::{ChangesFault, EntriesFault, GetFault, KeysOfFault, Status, StatusFault};
@@ -74,12 +73,12 @@ impl<T: Table> RecordFile<T> {
         Ok(self.log.keys_of(tx)?)
     }
 
-    /// What the live changes of an active transaction write, in order: what a commit of it has to keep. Faults: NoSuchTx,
-    /// Rolling, Memory.
+    /// What the live changes of an active transaction write, oldest first, which a commit of it would have to keep: each
+    /// key with the record that is put there, or with none. A claim writes nothing. Faults: NoSuchTx or Rolling, as of a
+    /// commit; Memory.
     pub fn changes_of(&self, tx: TxId) -> Result<Vec<(Key, Option<Record>)>, ChangesFault>
-        ensures changes { IfOk result (λ v. v.items ≡ writes (own tx.0 self.now.file.history)) }
-        ensures keeps { IfOk result (λ v. Keeps self.now.file (Commit tx (Ok tt)) v.items) }
-        ensures accepted { OnOk result (tx_refusal self.now.file tx.0 None ≡ None) }
+        ensures step { ChangesStep self.now.file tx.0 (listed result) }
+        ensures keeps { IfOk result (λ written. Keeps self.now.file (Commit tx (Ok tt)) written.items) }
     {
         match self.log.phase(tx) {
             None => Err(ChangesFault::NoSuchTx),
