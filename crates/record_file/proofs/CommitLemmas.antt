@@ -5,7 +5,7 @@ use Rattle.std.proofs.lemmas.List.{append-nil}
 use Rattle.std.specs.FinMap as maps
 use Rattle.std.specs.FinMap.{get}
 use Rattle.rec_types.specs.Contents.{Contents, set_to, write_to, same_key}
-use Rattle.rec_types.specs.History.{Change, applied, replay, live_from, taken_back, take_back, take_newest}
+use Rattle.rec_types.specs.History.{Change, applied, replay, live_of, live_from, taken_back, take_back, take_newest}
 use Rattle.rec_types.specs.Kept.{Kept, change_of, history_of, OnlyOf, IsOwned, AllBegun}
 use Rattle.rec_types.proofs.ContentsLemmas.{same_contents, get-set_to-here, get-set_to-there, same_key-is}
 use Rattle.tx_log.specs.Transactions.{Transactions, is_open, fresh}
@@ -314,18 +314,56 @@ begun_kept old new t x r kept ran =
     let put = ran.6 in
     ran.4 ∙ ap (λ (es : Writes). es ++ ran.3) ran.5 ∙ put.4 ∙ ap (λ (es : Writes). es ++ put.3) put.5 ∙ put.6.1
 
-pub put_kept : (old new : Seen) (t : TxId) (x r : List ℕ) (kept : Writes) → Starts old → CommitsKept old (quiet (Begin (Ok t)) ∷ quiet (Put t x r (Ok None)) ∷ quiet (Commit t (Ok tt)) ∷ []) new kept → overlay old.records kept ≡ set_to old.records x (Some r)
-put_kept old new t x r kept start ran =
+abbrev put_by : TxId → List ℕ → List ℕ → Change
+put_by t x r = record { tx = t.0; key = x; after = Some (Some r); live = true }
+
+-- What the first commit keeps, and what the later ones do.
+pub record FirstKept (old : Seen) (t : TxId) (x r : List ℕ) (more : List Event) (new : Seen) (kept : Writes) : Type 0 where
+  pub mid : Seen
+  pub first : Writes
+  pub rest : Writes
+  pub is : kept ≡ first ++ rest
+  pub makes : (m : Contents) → overlay m first ≡ replay m (own t.0 (old.file.history ++ put_by t x r ∷ []))
+  pub later : CommitsKept mid more new rest
+
+pub first_kept : (old new : Seen) (t : TxId) (x r : List ℕ) (before : Option (List ℕ)) (more : List Event) (kept : Writes) → CommitsKept old (quiet (Begin (Ok t)) ∷ quiet (Put t x r (Ok before)) ∷ quiet (Commit t (Ok tt)) ∷ more) new kept → FirstKept old t x r more new kept
+first_kept old new t x r before more kept ran =
     let put = ran.6 in
     let commit = put.6 in
-    let none : ran.0.file.history ≡ [] = ap (λ (f : File). f.history) (ran.1.answer.1.2 ∙ ap (λ (f : File). record f { begun = old.file.begun + 1; txs = maps.insert old.file.txs (old.file.begun + 1) fresh }) start.file) in
-    let one : put.0.file.history ≡ record { tx = t.0; key = x; after = Some (Some r); live = true } ∷ [] =
-        ap (λ (f : File). f.history) put.1.answer.1.accepted.history ∙ ap (λ (h : List Change). h ++ record { tx = t.0; key = x; after = Some (Some r); live = true } ∷ []) none in
-    let same : kept ≡ commit.2 =
-        ran.4 ∙ ap (λ (es : Writes). es ++ ran.3) ran.5
-        ∙ put.4 ∙ ap (λ (es : Writes). es ++ put.3) put.5
-        ∙ commit.4 ∙ ap (λ (es : Writes). commit.2 ++ es) commit.6.1 ∙ append-nil commit.2 in
-    ap (λ (es : Writes). overlay old.records es) same
-    ∙ commit.5 old.records
-    ∙ ap (λ (h : List Change). replay old.records (own t.0 h)) one
-    ∙ ap (λ (b : Bool). replay old.records (cond (b && true) (record { tx = t.0; key = x; after = Some (Some r); live = true } ∷ []) [])) (itself t.0)
+    let grown : put.0.file.history ≡ old.file.history ++ put_by t x r ∷ [] =
+    ap (λ (f : File). f.history) put.1.answer.1.accepted.history ∙ ap (λ (f : File). f.history ++ put_by t x r ∷ []) ran.1.answer.1.2 in
+    record {
+      mid = commit.0;
+      first = commit.2;
+      rest = commit.3;
+      is = ran.4 ∙ ap (λ (es : Writes). es ++ ran.3) ran.5 ∙ put.4 ∙ ap (λ (es : Writes). es ++ put.3) put.5 ∙ commit.4;
+      makes = λ m. commit.5 m ∙ ap (λ (h : List Change). replay m (own t.0 h)) grown;
+      later = commit.6;
+    }
+
+pub put_kept : (old new : Seen) (t : TxId) (x r : List ℕ) (kept : Writes) → Starts old → CommitsKept old (quiet (Begin (Ok t)) ∷ quiet (Put t x r (Ok None)) ∷ quiet (Commit t (Ok tt)) ∷ []) new kept → overlay old.records kept ≡ set_to old.records x (Some r)
+put_kept old new t x r kept start ran =
+    let one = first_kept old new t x r None [] kept ran in
+    ap (λ (es : Writes). overlay old.records es) (one.is ∙ ap (λ (es : Writes). one.first ++ es) one.later.1 ∙ append-nil one.first)
+    ∙ one.makes old.records
+    ∙ ap (λ (f : File). replay old.records (own t.0 (f.history ++ put_by t x r ∷ []))) start.file
+    ∙ ap (λ (b : Bool). replay old.records (cond (b && true) (put_by t x r ∷ []) [])) (itself t.0)
+
+-- the newest change of a transaction decides what is at its key
+newest_wins : (t : TxId) (x r : List ℕ) (h : List Change) (m : Contents) → get (replay m (own t.0 (h ++ put_by t x r ∷ []))) x ≡ Some r
+newest_wins t x r [] m = ap (λ (b : Bool). get (replay m (cond (b && true) (put_by t x r ∷ []) [])) x) (itself t.0) ∙ get-set_to-here m x (Some r)
+newest_wins t x r (c ∷ h) m = at (live_of t.0 c) (newest_wins t x r h)
+  where
+    at : (b : Bool) → ((n : Contents) → get (replay n (own t.0 (h ++ put_by t x r ∷ []))) x ≡ Some r) → get (replay m (cond b (c ∷ own t.0 (h ++ put_by t x r ∷ [])) (own t.0 (h ++ put_by t x r ∷ [])))) x ≡ Some r
+    at true ih = ih (applied c m)
+    at false ih = ih m
+
+-- of two commits the last one decides
+pub last_commit : (old new : Seen) (t u : TxId) (x r s : List ℕ) (before found : Option (List ℕ)) (kept : Writes) (m : Contents) → CommitsKept old (quiet (Begin (Ok t)) ∷ quiet (Put t x r (Ok before)) ∷ quiet (Commit t (Ok tt)) ∷ quiet (Begin (Ok u)) ∷ quiet (Put u x s (Ok found)) ∷ quiet (Commit u (Ok tt)) ∷ []) new kept → get (overlay m kept) x ≡ Some s
+last_commit old new t u x r s before found kept m ran =
+    let one = first_kept old new t x r before (quiet (Begin (Ok u)) ∷ quiet (Put u x s (Ok found)) ∷ quiet (Commit u (Ok tt)) ∷ []) kept ran in
+    let two = first_kept one.mid new u x s found [] one.rest one.later in
+    let rest : one.rest ≡ two.first = two.is ∙ ap (λ (es : Writes). two.first ++ es) two.later.1 ∙ append-nil two.first in
+    ap (λ (es : Writes). get (overlay m es) x) (one.is ∙ ap (λ (es : Writes). one.first ++ es) rest)
+    ∙ ap (λ (n : Contents). get n x) (overlay-append one.first two.first m ∙ two.makes (overlay m one.first))
+    ∙ newest_wins u x s one.mid.file.history (overlay m one.first)

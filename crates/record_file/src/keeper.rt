@@ -9,7 +9,7 @@ use thiserror::Error;
 /// Why a keeper didn't keep the writes of a commit.
 #[derive(Clone, Copy, Debug, PartialEq, Eq, Error)]
 pub enum KeeperFault {
-    /// Nothing was written: they are found after no stop, and a later commit may be kept.
+    /// None of them was written: they are found after no stop, and a later commit may be kept.
     #[error("there is no room to keep the commit")]
     Room,
     /// It isn't known whether they were written: they may be found after a stop, all or none of them. Until the keeper
@@ -33,7 +33,8 @@ pub enum KeepFault {
     Unkept(KeeperFault),
 }
 
-/// What keeps the writes of commits before the commits are answered.
+/// What keeps the writes of commits before the commits are answered. What a stop leaves of them no clause here says; a
+/// keeper's `answers` may.
 pub trait Keeper {
     /// The writes of all commits that it answered to be kept, in the order of the commits. Those of a commit in doubt
     /// aren't among them.

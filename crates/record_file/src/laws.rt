@@ -308,7 +308,8 @@ pub fn resumed_whole()
 /// what was kept of each accepted commit when it was made, one after another, makes the records without the changes of
 /// transactions that haven't ended; where none is open, that is the records. It does so when it is done again over what
 /// it has made. Each commit has something to be kept: what its live changes write, for one. Changes of others, changes
-/// that were taken back, or the newest first, are something else; of a transaction without a commit nothing is kept.
+/// that were taken back, or the newest first, are something else, and so is what is kept in another order of the
+/// commits; of a transaction without a commit nothing is kept.
 pub fn commits_kept()
     ensures replayed { (old new : Seen) (events : List Event)
         → (kept : List (List ℕ × Option (List ℕ))) → Starts old → CommitsKept old events new kept
@@ -343,4 +344,13 @@ pub fn commits_kept()
     ensures newest_first { (f : File) → f.history ≡ wrote 1 97 120 ∷ wrote 1 97 121 ∷ []
         → Keeps f (Commit one (Ok tt))
         ((97 ∷ [], Some (121 ∷ [])) ∷ (97 ∷ [], Some (120 ∷ [])) ∷ []) → ⊥ }
+    ensures other_order { (old new : Seen) (t u : TxId) → CommitsKept old (
+        quiet (Begin (Ok t))
+        ∷ quiet (Put t (97 ∷ []) (120 ∷ []) (Ok None))
+        ∷ quiet (Commit t (Ok tt))
+        ∷ quiet (Begin (Ok u))
+        ∷ quiet (Put u (97 ∷ []) (121 ∷ []) (Ok (Some (120 ∷ []))))
+        ∷ quiet (Commit u (Ok tt))
+        ∷ []
+        ) new ((97 ∷ [], Some (121 ∷ [])) ∷ (97 ∷ [], Some (120 ∷ [])) ∷ []) → ⊥ }
 {}

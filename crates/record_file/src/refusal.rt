@@ -3,8 +3,8 @@ ghost use Rattle.record_file.specs.declared.refusal.Refusal.{Refusal};
 ghost use Rattle.record_file.specs.Refusals.{begin_refusal, put_refusal, claim_refusal, remove_refusal, get_refusal, savepoint_refusal, release_refusal, rollback_refusal, abort_refusal, resume_refusal, commit_refusal, entries_refusal, keys_of_refusal, changes_refusal, status_refusal};
 
 use crate::fault::{
-    AbortFault, Cause, ChangesFault, ClaimFault, CommitFault, EntriesFault, GetFault, KeysOfFault, PutFault,
-    ReleaseFault, RemoveFault, ResumeFault, RollbackToFault, SavepointFault, StatusFault,
+    AbortFault, Cause, ChangesFault, ClaimFault, CommitFault, EntriesFault, GetFault, KeysOfFault,
+    PutFault, ReleaseFault, RemoveFault, ResumeFault, RollbackToFault, SavepointFault, StatusFault,
 };
 use rec_types::TxId;
 use thiserror::Error;

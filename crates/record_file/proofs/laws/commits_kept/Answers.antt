@@ -6,10 +6,9 @@ use Rattle.std.specs.Ordering.{nat_cmp}
 use Rattle.rec_types.specs.Contents.{Contents, set_to}
 use Rattle.rec_types.specs.History.{Change, replay}
 use Rattle.rec_types.proofs.ContentsLemmas.{get-set_to-here, get-set_to-there, set_to-twice}
-use Rattle.record_file.specs.Abstract.{File, open_of}
-use Rattle.record_file.specs.Undo.{wrote}
+use Rattle.record_file.specs.Abstract.{open_of}
 use Rattle.tx_log.specs.Written.{own}
-use Rattle.record_file.proofs.CommitLemmas.{overlay-again, writes-replay, ended-all, start_commits, all_kept, put_kept, begun_kept}
+use Rattle.record_file.proofs.CommitLemmas.{overlay-again, writes-replay, ended-all, start_commits, all_kept, put_kept, begun_kept, last_commit}
 use Rattle.record_file.proofs.laws.commits_kept.Goals as goal
 
 abbrev first_byte : Option (List ℕ) → ℕ
@@ -58,19 +57,24 @@ returns-clause-others c = λ f is keeps.
     let b : List ℕ = 98 ∷ [] in
     let first : Contents = set_to maps.empty a (Some (120 ∷ [])) in
     absurd (cc (sym (get-set_to-here first b (Some (121 ∷ [])))
-        ∙ ap (λ (m : Contents). get m b) (keeps maps.empty ∙ ap (λ (h : List Change). replay maps.empty (own 1 h)) is)
-        ∙ get-set_to-there maps.empty a (Some (120 ∷ [])) b refl
-        ∙ get-empty (slice_cmp nat_cmp) b))
+    ∙ ap (λ (m : Contents). get m b) (keeps maps.empty ∙ ap (λ (h : List Change). replay maps.empty (own 1 h)) is)
+    ∙ get-set_to-there maps.empty a (Some (120 ∷ [])) b refl
+    ∙ get-empty (slice_cmp nat_cmp) b))
 
 pub returns-clause-gone_back : goal.returns-clause-gone_back
 returns-clause-gone_back c = λ f is keeps.
     let first : Contents = set_to maps.empty a (Some (120 ∷ [])) in
     two_apart (sym (get-set_to-here first a (Some (121 ∷ [])))
-        ∙ ap (λ (m : Contents). get m a) (keeps maps.empty ∙ ap (λ (h : List Change). replay maps.empty (own 1 h)) is)
-        ∙ get-set_to-here maps.empty a (Some (120 ∷ [])))
+    ∙ ap (λ (m : Contents). get m a) (keeps maps.empty ∙ ap (λ (h : List Change). replay maps.empty (own 1 h)) is)
+    ∙ get-set_to-here maps.empty a (Some (120 ∷ [])))
 
 pub returns-clause-newest_first : goal.returns-clause-newest_first
 returns-clause-newest_first c = λ f is keeps.
     two_apart (sym (get-set_to-here (set_to maps.empty a (Some (120 ∷ []))) a (Some (121 ∷ [])))
-        ∙ sym (ap (λ (m : Contents). get m a) (keeps maps.empty ∙ ap (λ (h : List Change). replay maps.empty (own 1 h)) is))
-        ∙ get-set_to-here (set_to maps.empty a (Some (121 ∷ []))) a (Some (120 ∷ [])))
+    ∙ sym (ap (λ (m : Contents). get m a) (keeps maps.empty ∙ ap (λ (h : List Change). replay maps.empty (own 1 h)) is))
+    ∙ get-set_to-here (set_to maps.empty a (Some (121 ∷ []))) a (Some (120 ∷ [])))
+
+pub returns-clause-other_order : goal.returns-clause-other_order
+returns-clause-other_order c = λ old new t u ran.
+    two_apart (sym (last_commit old new t u a (120 ∷ []) (121 ∷ []) None (Some (120 ∷ [])) ((a, Some (121 ∷ [])) ∷ (a, Some (120 ∷ [])) ∷ []) maps.empty ran)
+    ∙ get-set_to-here (set_to maps.empty a (Some (121 ∷ []))) a (Some (120 ∷ [])))
