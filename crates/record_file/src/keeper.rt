@@ -41,9 +41,10 @@ pub trait Keeper {
     ghost kept: { Self → List (List ℕ × Option (List ℕ)) };
 
     /// Asked to keep these writes, it may answer so, and is then the second one.
-    ghost answers: { Self → List (List ℕ × Option (List ℕ)) → Result (Unit {0}) KeeperFault → Self → Type 0 };
+    ghost answers: { Self → List (List ℕ × Option (List ℕ))
+        → Result (Unit {0}) KeeperFault → Self → Type 0 };
 
-    /// Keeps the writes of a commit, all of them or none. Faults: Room or Doubt.
+    /// Keeps the writes of a commit, all of them or none. Faults: Room or Doubt, at which they don't count as kept.
     fn keep(&mut self, writes: &[(Key, Option<Record>)]) -> Result<(), KeeperFault>
         ensures answer { answers self.old writes.now result self.new }
         ensures ok { OnOk result (kept self.new ≡ kept self.old ++ writes.now) }
