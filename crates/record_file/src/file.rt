@@ -166,7 +166,8 @@ impl<T: Table> RecordFile<T> {
             × (K.kept keeper.new ≡ K.kept keeper.old ++ es)) }
         ensures asked { AsksKeeper K.answers (writes (own tx.0 self.old.file.history))
             keeper.old result keeper.new }
-        ensures err { OnErr result ((self.new ≡ self.old) × (K.kept keeper.new ≡ K.kept keeper.old)) }
+        ensures err { OnErr result
+            ((self.new ≡ self.old) × (K.kept keeper.new ≡ K.kept keeper.old)) }
         ensures table { KeepsTable self.old self.new }
         ensures log { KeepsLog self.old self.new }
     {

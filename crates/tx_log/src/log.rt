@@ -206,7 +206,8 @@ impl TxLog {
     pub fn changes_of(&self, tx: TxId) -> Result<Vec<(Key, Option<Record>)>, Memory>
         ensures open { IsTrue (open_in self.now tx.0)
             → IfOk result (λ written. written.items ≡ writes (own tx.0 (history_in self.now))) }
-        ensures absent { open_in self.now tx.0 ≡ false → IsOkAnd result (λ written. written.items ≡ []) }
+        ensures absent { open_in self.now tx.0 ≡ false
+            → IsOkAnd result (λ written. written.items ≡ []) }
     {
         let Some(open_tx) = find_open(&self.txs, tx) else {
             return Ok(Vec::new(self.alloc));

@@ -136,7 +136,8 @@ pub fn changed_records(
     from: u32,
 ) -> Result<Vec<(Key, Option<Record>)>, Memory>
     requires { CanWalk log.now.items log.now.marks from }
-    ensures { IfOk result (λ written. written.items ≡ written_by (chain (reverse log.now.items) from)) }
+    ensures { IfOk result
+        (λ written. written.items ≡ written_by (chain (reverse log.now.items) from)) }
 {
     let mut written = Vec::new(alloc);
     let mut at = from;

@@ -78,7 +78,8 @@ impl<T: Table> RecordFile<T> {
     /// commit; Memory.
     pub fn changes_of(&self, tx: TxId) -> Result<Vec<(Key, Option<Record>)>, ChangesFault>
         ensures step { ChangesStep self.now.file tx.0 (listed result) }
-        ensures keeps { IfOk result (λ written. Keeps self.now.file (Commit tx (Ok tt)) written.items) }
+        ensures keeps { IfOk result
+            (λ written. Keeps self.now.file (Commit tx (Ok tt)) written.items) }
     {
         match self.log.phase(tx) {
             None => Err(ChangesFault::NoSuchTx),
