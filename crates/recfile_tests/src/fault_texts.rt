@@ -7,8 +7,9 @@ use page_store::{FetchFault, StoreFault, WriteFault};
 use rec_types::{KeyFault, LimitFault, RecordFault, TableFault, TxId};
 use recfile::{EndFault, RunFault, ScriptFault};
 use record_file::{
-    AbortFault, BeginFault, Cause, ClaimFault, CommitFault, EntriesFault, GetFault, KeysOfFault,
-    PutFault, ReleaseFault, RemoveFault, ResumeFault, RollbackToFault, SavepointFault, StatusFault,
+    AbortFault, BeginFault, Cause, ChangesFault, ClaimFault, CommitFault, EntriesFault, GetFault,
+    KeepFault, KeeperFault, KeysOfFault, PutFault, ReleaseFault, RemoveFault, ResumeFault,
+    RollbackToFault, SavepointFault, StatusFault,
 };
 use std::alloc::Global;
 use std::fmt::Display;
@@ -187,6 +188,31 @@ const ENTRIES_FAULTS: [(EntriesFault, &str); 3] = [
 const KEYS_OF_FAULTS: [(KeysOfFault, &str); 2] = [
     (KeysOfFault::NoSuchTx, "no such open transaction"),
     (KeysOfFault::Memory, "out of memory"),
+];
+
+const CHANGES_FAULTS: [(ChangesFault, &str); 3] = [
+    (ChangesFault::NoSuchTx, "no such open transaction"),
+    (
+        ChangesFault::Rolling,
+        "the transaction is being rolled back",
+    ),
+    (ChangesFault::Memory, "out of memory"),
+];
+
+const KEEP_FAULTS: [(KeepFault, &str); 4] = [
+    (
+        KeepFault::Refused(CommitFault::Rolling),
+        "the transaction is being rolled back",
+    ),
+    (KeepFault::Memory, "out of memory"),
+    (
+        KeepFault::Unkept(KeeperFault::Room),
+        "there is no room to keep the commit",
+    ),
+    (
+        KeepFault::Unkept(KeeperFault::Doubt),
+        "it isn't known whether the commit is kept",
+    ),
 ];
 
 const STATUS_FAULTS: [(StatusFault, &str); 1] = [(
@@ -369,6 +395,8 @@ fn texts_of_the_file(rt: HostRuntime) {
     expect_texts(&rt, alloc, &COMMIT_FAULTS);
     expect_texts(&rt, alloc, &ENTRIES_FAULTS);
     expect_texts(&rt, alloc, &KEYS_OF_FAULTS);
+    expect_texts(&rt, alloc, &CHANGES_FAULTS);
+    expect_texts(&rt, alloc, &KEEP_FAULTS);
     expect_texts(&rt, alloc, &STATUS_FAULTS)
 }
 

@@ -11,6 +11,7 @@ pub mod TableCallLemmas
 pub mod LogGrowthLemmas
 pub mod OwnerLemmas
 pub mod CallKindLemmas
+pub mod CommitLemmas
 pub mod RunLemmas
 pub mod UndoLemmas
 pub mod HistoryLeadLemmas

@@ -8,6 +8,7 @@ pub mod Undo
 pub mod Remaining
 pub mod Leads
 pub mod Calls
+pub mod Durable
 pub mod Exact
 pub mod Asked
 pub mod Resumed

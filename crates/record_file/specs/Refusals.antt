@@ -29,6 +29,8 @@ use Rattle.record_file.specs.declared.fault.EntriesFault.{EntriesFault}
 use Rattle.record_file.specs.declared.fault.EntriesFault.TheVariants as entries_faults
 use Rattle.record_file.specs.declared.fault.KeysOfFault.{KeysOfFault}
 use Rattle.record_file.specs.declared.fault.KeysOfFault.TheVariants as keys_faults
+use Rattle.record_file.specs.declared.fault.ChangesFault.{ChangesFault}
+use Rattle.record_file.specs.declared.fault.ChangesFault.TheVariants as changes_faults
 use Rattle.record_file.specs.declared.fault.StatusFault.{StatusFault}
 use Rattle.record_file.specs.declared.fault.StatusFault.TheVariants as status_faults
 use Rattle.record_file.specs.declared.file.refusals.LookRefusal.{LookRefusal}
@@ -117,6 +119,11 @@ entries_refusal entries_faults.Memory = refusals.Failed causes.Memory
 abbrev pub keys_of_refusal : KeysOfFault → Refusal
 keys_of_refusal keys_faults.NoSuchTx = refusals.NoSuchTx
 keys_of_refusal keys_faults.Memory = refusals.Failed causes.Memory
+
+abbrev pub changes_refusal : ChangesFault → Refusal
+changes_refusal changes_faults.NoSuchTx = refusals.NoSuchTx
+changes_refusal changes_faults.Rolling = refusals.Rolling
+changes_refusal changes_faults.Memory = refusals.Failed causes.Memory
 
 abbrev pub status_refusal : StatusFault → Refusal
 status_refusal status_faults.NoSuchTx = refusals.NoSuchTx

@@ -163,6 +163,15 @@ pub enum KeysOfFault {
     Memory,
 }
 
+/// Why what a transaction writes wasn't told.
+#[derive(Clone, Copy, Debug, PartialEq, Eq, Error)]
+#[error("{}", self.to_refusal())]
+pub enum ChangesFault {
+    NoSuchTx,
+    Rolling,
+    Memory,
+}
+
 /// Why there is no status.
 #[derive(Clone, Copy, Debug, PartialEq, Eq, Error)]
 #[error("{}", self.to_refusal())]
@@ -289,6 +298,16 @@ impl From<Memory> for EntriesFault {
 
     fn from(_memory: Memory) -> EntriesFault {
         EntriesFault::Memory
+    }
+}
+
+impl From<Memory> for ChangesFault {
+    ghost use Rattle.record_file.specs.declared.fault.ChangesFault.TheVariants as faults;
+
+    ghost from_gives = { λ _ told. told ≡ faults.Memory };
+
+    fn from(_memory: Memory) -> ChangesFault {
+        ChangesFault::Memory
     }
 }
 

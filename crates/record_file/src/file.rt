@@ -1,9 +1,11 @@
-ghost use Rattle.record_file.specs.TableCalls.{KeepsLog, KeepsTable};
-ghost use Rattle.std.specs.Prelude.{[], ◌≡◌, ◌≢◌, ◌<◌, Some, None, Ok, Err, MatchResult};
+ghost use Rattle.std.specs.Prelude.{ℕ, List, Option, ◌++◌, OnOk, OnErr, [], ◌≡◌, ◌≢◌, ◌<◌, Some, None, Ok, Err, MatchResult};
 ghost use Rattle.std.specs.FinMap as maps;
 ghost use Rattle.record_file.specs.Abstract.{new_file};
-ghost use Rattle.record_file.specs.Runs.{GivesTable};
+ghost use Rattle.record_file.specs.Durable.{AsksKeeper, Keeps, KeptStep};
+ghost use Rattle.record_file.specs.Runs.{Commit, GivesTable};
 ghost use Rattle.record_file.specs.Steps.{BeginStep, SavepointStep, ReleaseStep, CommitStep};
+ghost use Rattle.record_file.specs.TableCalls.{KeepsLog, KeepsTable};
+ghost use Rattle.tx_log.specs.Written.{own, writes};
 
 mod changes;
 mod looks;
@@ -11,6 +13,7 @@ mod refusals;
 mod rollbacks;
 
 use crate::fault::{CommitFault, ReleaseFault, SavepointFault};
+use crate::keeper::{KeepFault, Keeper};
 use rec_types::{Limits, Memory, Table, TxId};
 use std::alloc::Global;
 use std::marker::Model;
@@ -151,5 +154,26 @@ impl<T: Table> RecordFile<T> {
                 Ok(())
             }
         }
+    }
+
+    /// Ends a transaction once a keeper has kept what its live changes write; its changes stay. Faults: Refused, where a
+    /// commit is refused; Memory; Unkept, with what the keeper answered. A fault leaves the file as it was, and nothing
+    /// more is kept; though of a Doubt the writes may be found after a stop.
+    pub fn commit_kept<K: Keeper>(&mut self, tx: TxId, keeper: &mut K) -> Result<(), KeepFault>
+        ensures step { KeptStep self.old.file tx.0 result self.new.file }
+        ensures kept { OnOk result ((es : List (List ℕ × Option (List ℕ)))
+            × Keeps self.old.file (Commit tx (Ok tt)) es
+            × (K.kept keeper.new ≡ K.kept keeper.old ++ es)) }
+        ensures asked { AsksKeeper K.answers (writes (own tx.0 self.old.file.history))
+            keeper.old result keeper.new }
+        ensures err { OnErr result
+            ((self.new ≡ self.old) × (K.kept keeper.new ≡ K.kept keeper.old)) }
+        ensures table { KeepsTable self.old self.new }
+        ensures log { KeepsLog self.old self.new }
+    {
+        let changes = self.changes_of(tx)?;
+        keeper.keep(&changes)?;
+        self.log.end(tx);
+        Ok(())
     }
 }

@@ -11,6 +11,8 @@ ghost use Rattle.tx_log.specs.Log.{last_of};
 ghost use Rattle.tx_log.specs.Owners.{keys_owned, owner_of};
 ghost use Rattle.tx_log.specs.Transactions.{fresh, place_in};
 ghost use Rattle.record_file.specs.Abstract.{File, held_by, new_file, open_of, phase_at, records_of, tx_of, use_of};
+ghost use Rattle.tx_log.specs.Written.{writes};
+ghost use Rattle.record_file.specs.Durable.{CommitsKept, Keeps, committed, overlay};
 ghost use Rattle.record_file.specs.Exact.{IsExact, CompensatesOnce, one};
 ghost use Rattle.record_file.specs.Resumed.{StopsFirst, Finishes, TakesWhole, CompensatesTake};
 ghost use Rattle.record_file.specs.Remaining.{NothingFails, remaining};
@@ -35,8 +37,9 @@ ghost use Rattle.record_file.specs.declared.fault.ResumeFault.{ResumeFault};
 ghost use Rattle.record_file.specs.declared.fault.CommitFault.{CommitFault};
 ghost use Rattle.record_file.specs.declared.fault.EntriesFault.{EntriesFault};
 ghost use Rattle.record_file.specs.declared.fault.KeysOfFault.{KeysOfFault};
+ghost use Rattle.record_file.specs.declared.fault.ChangesFault.{ChangesFault};
 ghost use Rattle.record_file.specs.declared.fault.PutFault.TheVariants as put_faults;
-ghost use Rattle.record_file.specs.Refusals.{begin_refusal, put_refusal, claim_refusal, remove_refusal, get_refusal, savepoint_refusal, release_refusal, rollback_refusal, abort_refusal, resume_refusal, commit_refusal, entries_refusal, keys_of_refusal};
+ghost use Rattle.record_file.specs.Refusals.{begin_refusal, put_refusal, claim_refusal, remove_refusal, get_refusal, savepoint_refusal, release_refusal, rollback_refusal, abort_refusal, resume_refusal, commit_refusal, entries_refusal, keys_of_refusal, changes_refusal};
 ghost use Rattle.record_file.specs.declared.fault.RollbackToFault.TheVariants as rollback_faults;
 ghost use Rattle.record_file.specs.declared.fault.EntriesFault.TheVariants as entries_faults;
 
@@ -150,6 +153,7 @@ pub fn faults_are_told_apart()
     ensures commit { (a b : CommitFault) → commit_refusal a ≡ commit_refusal b → a ≡ b }
     ensures entries { (a b : EntriesFault) → entries_refusal a ≡ entries_refusal b → a ≡ b }
     ensures keys_of { (a b : KeysOfFault) → keys_of_refusal a ≡ keys_of_refusal b → a ≡ b }
+    ensures changes_of { (a b : ChangesFault) → changes_refusal a ≡ changes_refusal b → a ≡ b }
 {}
 
 /// Undo commutes. After every run from a start the old record that a live change's call answered is
@@ -298,4 +302,55 @@ pub fn resumed_whole()
     ensures half { (old new : Seen) → old.file.history ≡ wrote 1 97 120 ∷ wrote 1 98 120 ∷ []
         → new.file.history ≡ wrote 1 97 120 ∷ taken_back (wrote 1 98 120) ∷ []
         → TakesWhole old 1 0 new → ⊥ }
+{}
+
+/// What is kept of the commits makes the records. After every run from a start, over the records that it began with,
+/// what was kept of each accepted commit when it was made, one after another, makes the records without the changes of
+/// transactions that haven't ended; where none is open, that is the records. It does so when it is done again over what
+/// it has made. Each commit has something to be kept: what its live changes write, for one. Changes of others, changes
+/// that were taken back, or the newest first, are something else, and so is what is kept in another order of the
+/// commits; of a transaction without a commit nothing is kept.
+pub fn commits_kept()
+    ensures replayed { (old new : Seen) (events : List Event)
+        → (kept : List (List ℕ × Option (List ℕ))) → Starts old → CommitsKept old events new kept
+        → overlay old.records kept ≡ committed new.file }
+    ensures each { (old new : Seen) (events : List Event) → Run old events new
+        → (kept : List (List ℕ × Option (List ℕ))) × CommitsKept old events new kept }
+    ensures all_ended { (f : File) → ((t : ℕ) → open_of f t ≡ false) → committed f ≡ records_of f }
+    ensures again { (m : Contents) (kept : List (List ℕ × Option (List ℕ)))
+        → overlay (overlay m kept) kept ≡ overlay m kept }
+    ensures some { (m : Contents) (h : List Change) → overlay m (writes h) ≡ replay m h }
+    ensures written { writes (wrote 1 97 120 ∷ claimed 1 98 ∷ taken_back (wrote 1 97 121) ∷ [])
+        ≡ (97 ∷ [], Some (120 ∷ [])) ∷ [] }
+    ensures last_wins { (m : Contents)
+        → overlay m ((97 ∷ [], Some (120 ∷ [])) ∷ (97 ∷ [], None) ∷ []) ≡ set_to m (97 ∷ []) None }
+    ensures example { (old new : Seen) (t : TxId) (kept : List (List ℕ × Option (List ℕ)))
+        → Starts old → CommitsKept old (
+        quiet (Begin (Ok t))
+        ∷ quiet (Put t (97 ∷ []) (120 ∷ []) (Ok None))
+        ∷ quiet (Commit t (Ok tt))
+        ∷ []
+        ) new kept → overlay old.records kept ≡ set_to old.records (97 ∷ []) (Some (120 ∷ [])) }
+    ensures uncommitted { (old new : Seen) (t : TxId) (kept : List (List ℕ × Option (List ℕ)))
+        → CommitsKept old (
+        quiet (Begin (Ok t)) ∷ quiet (Put t (97 ∷ []) (120 ∷ []) (Ok None)) ∷ []
+        ) new kept → kept ≡ [] }
+    ensures others { (f : File) → f.history ≡ wrote 1 97 120 ∷ wrote 2 98 121 ∷ []
+        → Keeps f (Commit one (Ok tt))
+        ((97 ∷ [], Some (120 ∷ [])) ∷ (98 ∷ [], Some (121 ∷ [])) ∷ []) → ⊥ }
+    ensures gone_back { (f : File) → f.history ≡ wrote 1 97 120 ∷ taken_back (wrote 1 97 121) ∷ []
+        → Keeps f (Commit one (Ok tt))
+        ((97 ∷ [], Some (120 ∷ [])) ∷ (97 ∷ [], Some (121 ∷ [])) ∷ []) → ⊥ }
+    ensures newest_first { (f : File) → f.history ≡ wrote 1 97 120 ∷ wrote 1 97 121 ∷ []
+        → Keeps f (Commit one (Ok tt))
+        ((97 ∷ [], Some (121 ∷ [])) ∷ (97 ∷ [], Some (120 ∷ [])) ∷ []) → ⊥ }
+    ensures other_order { (old new : Seen) (t u : TxId) → CommitsKept old (
+        quiet (Begin (Ok t))
+        ∷ quiet (Put t (97 ∷ []) (120 ∷ []) (Ok None))
+        ∷ quiet (Commit t (Ok tt))
+        ∷ quiet (Begin (Ok u))
+        ∷ quiet (Put u (97 ∷ []) (121 ∷ []) (Ok (Some (120 ∷ []))))
+        ∷ quiet (Commit u (Ok tt))
+        ∷ []
+        ) new ((97 ∷ [], Some (121 ∷ [])) ∷ (97 ∷ [], Some (120 ∷ [])) ∷ []) → ⊥ }
 {}

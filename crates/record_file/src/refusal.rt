@@ -1,10 +1,10 @@
 ghost use Rattle.std.specs.Prelude.{◌≡◌};
 ghost use Rattle.record_file.specs.declared.refusal.Refusal.{Refusal};
-ghost use Rattle.record_file.specs.Refusals.{begin_refusal, put_refusal, claim_refusal, remove_refusal, get_refusal, savepoint_refusal, release_refusal, rollback_refusal, abort_refusal, resume_refusal, commit_refusal, entries_refusal, keys_of_refusal, status_refusal};
+ghost use Rattle.record_file.specs.Refusals.{begin_refusal, put_refusal, claim_refusal, remove_refusal, get_refusal, savepoint_refusal, release_refusal, rollback_refusal, abort_refusal, resume_refusal, commit_refusal, entries_refusal, keys_of_refusal, changes_refusal, status_refusal};
 
 use crate::fault::{
-    AbortFault, Cause, ClaimFault, CommitFault, EntriesFault, GetFault, KeysOfFault, PutFault,
-    ReleaseFault, RemoveFault, ResumeFault, RollbackToFault, SavepointFault, StatusFault,
+    AbortFault, Cause, ChangesFault, ClaimFault, CommitFault, EntriesFault, GetFault, KeysOfFault,
+    PutFault, ReleaseFault, RemoveFault, ResumeFault, RollbackToFault, SavepointFault, StatusFault,
 };
 use rec_types::TxId;
 use thiserror::Error;
@@ -256,6 +256,19 @@ impl ToRefusal for KeysOfFault {
         match self {
             KeysOfFault::NoSuchTx => Refusal::NoSuchTx,
             KeysOfFault::Memory => Refusal::Failed(Cause::Memory),
+        }
+    }
+}
+
+impl ToRefusal for ChangesFault {
+    ghost refusal_of = { changes_refusal };
+
+    #[inline]
+    fn to_refusal(self) -> Refusal {
+        match self {
+            ChangesFault::NoSuchTx => Refusal::NoSuchTx,
+            ChangesFault::Rolling => Refusal::Rolling,
+            ChangesFault::Memory => Refusal::Failed(Cause::Memory),
         }
     }
 }

@@ -26,3 +26,4 @@ pub mod HoldSteps
 pub mod HoldCalls
 pub mod MarkLemmas
 pub mod KeyListLemmas
+pub mod WrittenLemmas

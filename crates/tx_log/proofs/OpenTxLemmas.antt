@@ -44,6 +44,10 @@ some_map f (Some x) = refl
 pub opens_is : (cs : List Kept) (es : List (TxId × OpenTx)) → is_open (txs_of cs es) ≡ opens (finding es)
 opens_is cs es = λ i t. (ap is_some (get-txs_of cs es t) ∙ some_map (tx_at t cs) (finding es t)) i
 
+-- a transaction that is found is open
+pub found_open : (cs : List Kept) (es : List (TxId × OpenTx)) (t : ℕ) (e : OpenTx) → finding es t ≡ Some e → is_open (txs_of cs es) t ≡ true
+found_open cs es t e found = ap (λ (o : ℕ → Bool). o t) (opens_is cs es) ∙ ap is_some found
+
 -- ---- writes
 
 same_txs : (m n : Transactions) → ((q : ℕ) → maps.get m q ≡ maps.get n q) → m ≡ n

@@ -15,3 +15,4 @@ pub mod Walks
 pub mod Remaining
 pub mod Holdings
 pub mod Marks
+pub mod Written

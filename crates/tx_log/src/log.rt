@@ -1,10 +1,11 @@
-ghost use Rattle.std.specs.Prelude.{◌≡◌, ℕ, ◌+◌, ◌-◌, ◌<◌, ◌≤◌, ◌↔◌, [], ◌∷◌, ◌++◌, take, option_map, IfOk, OnOk, OnErr, IsTrue, IsSome};
+ghost use Rattle.std.specs.Prelude.{◌≡◌, ℕ, ◌+◌, ◌-◌, ◌<◌, ◌≤◌, ◌↔◌, [], ◌∷◌, ◌++◌, take, option_map, false, IfOk, IsOkAnd, OnOk, OnErr, IsTrue, IsSome};
 ghost use Rattle.std.specs.FinMap as maps;
 ghost use Rattle.rec_types.specs.History.{log_len, own_count};
 ghost use Rattle.tx_log.specs.Log.{record_at};
 ghost use Rattle.tx_log.specs.LogLaws.{IsChained};
 ghost use Rattle.tx_log.specs.Transactions.{depth_of, live_in, left_in, fresh, most_savepoints};
 ghost use Rattle.tx_log.specs.Owners.{owner_of, holder_of, keys_owned, absent};
+ghost use Rattle.tx_log.specs.Written.{own, writes};
 ghost use Rattle.tx_log.specs.LogState.{new_log, history_in, open_in, tx_in, use_in, phase_in, undo_in, undo_step, places_in, active_with, rolling_to, finished, with_txs, with_update, with_compensation, IsRolling, IsLog, IsActive};
 
 use crate::holding::{Holdings, find_holder, free_held, held_keys, lower, make_room, raise};
@@ -14,7 +15,7 @@ use crate::open_tx::{OpenTx, OpenTxs, find_open, place_of, recount, take_out};
 use crate::phase::Rollback;
 use crate::records::Records;
 use crate::told::is_lacking;
-use crate::undo_chain::{count_changes, newest_above, newest_change};
+use crate::undo_chain::{changed_records, count_changes, newest_above, newest_change};
 use crate::{BeginFault, LogRecord, Phase, UndoStep};
 use rec_types::{Key, Limits, Memory, Record, TxId};
 use std::alloc::Global;
@@ -198,6 +199,22 @@ impl TxLog {
         let mut keys = in_order(self.alloc, &held)?;
         keys.dedup();
         Ok(keys)
+    }
+
+    /// What the live changes of an open transaction write, oldest first: each key with the record that is put there, or
+    /// with none. A claim writes nothing, nor does a transaction that isn't open. Fault: Memory.
+    pub fn changes_of(&self, tx: TxId) -> Result<Vec<(Key, Option<Record>)>, Memory>
+        ensures open { IsTrue (open_in self.now tx.0)
+            → IfOk result (λ written. written.items ≡ writes (own tx.0 (history_in self.now))) }
+        ensures absent { open_in self.now tx.0 ≡ false
+            → IsOkAnd result (λ written. written.items ≡ []) }
+    {
+        let Some(open_tx) = find_open(&self.txs, tx) else {
+            return Ok(Vec::new(self.alloc));
+        };
+        let mut written = changed_records(self.alloc, &self.records, open_tx.last)?;
+        written.reverse();
+        Ok(written)
     }
 
     /// Begins a transaction, active and without savepoints; its number is the count of those begun.

@@ -1,8 +1,9 @@
-ghost use Rattle.std.specs.Prelude.{◌≡◌, ℕ, ◌+◌, ◌<◌, length, reverse, map, option_map, cond, IfOk};
+ghost use Rattle.std.specs.Prelude.{◌≡◌, ℕ, ◌+◌, ◌<◌, true, [], ◌++◌, List, length, reverse, map, Option, option_map, Some, cond, IfOk, OnOk};
 ghost use Rattle.std.specs.List.{filter};
 ghost use Rattle.tx_log.specs.Log.{chain, key_of};
 ghost use Rattle.tx_log.specs.Marks.{CanWalk};
 ghost use Rattle.tx_log.specs.Walks.{link_of, newest_in, is_after, step_to};
+ghost use Rattle.tx_log.specs.Written.{written_by, writes_if};
 
 use crate::UndoStep;
 use crate::mark::newest_number;
@@ -108,4 +109,41 @@ pub fn changed_keys(alloc: Global, log: &Records, from: u32, count: u32) -> Resu
         at = link.prev;
     }
     Ok(keys)
+}
+
+// Adds what a change writes, where it writes anything. Fault: Memory.
+fn push_write(
+    written: &mut Vec<(Key, Option<Record>)>,
+    key: Key,
+    after: Option<Option<Record>>,
+) -> Result<(), Memory>
+    ensures { OnOk result (written.new.items ≡ written.old.items ++ writes_if true key after []) }
+{
+    match after {
+        Some(after) => {
+            written.push((key, after))?;
+            Ok(())
+        }
+        None => Ok(()),
+    }
+}
+
+/// What the changes that aren't taken back write, newest first, on the way down from the record with the number `from`.
+/// Fault: Memory.
+pub fn changed_records(
+    alloc: Global,
+    log: &Records,
+    from: u32,
+) -> Result<Vec<(Key, Option<Record>)>, Memory>
+    requires { CanWalk log.now.items log.now.marks from }
+    ensures { IfOk result
+        (λ written. written.items ≡ written_by (chain (reverse log.now.items) from)) }
+{
+    let mut written = Vec::new(alloc);
+    let mut at = from;
+    while let Some(change) = newest_change(log, at) {
+        push_write(&mut written, change.key, change.after)?;
+        at = change.prev;
+    }
+    Ok(written)
 }

@@ -1,4 +1,5 @@
 mod engine;
+mod keeping;
 mod remaining;
 mod turns;
 

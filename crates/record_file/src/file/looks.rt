@@ -1,4 +1,4 @@
-ghost use Rattle.std.specs.Prelude.{◌≡◌, ◌+◌, ◌<◌, true, false, is_some, Option, Some, None, Ok, Err, IsTrue, IfOk, IfErr, IfSome, map};
+ghost use Rattle.std.specs.Prelude.{◌≡◌, ◌+◌, ◌<◌, true, false, is_some, Option, Some, None, Ok, Err, IsTrue, IfOk, IfErr, IfSome, OnOk, map};
 ghost use Rattle.std.specs.FinMap as maps;
 ghost use Rattle.rec_types.specs.History.{log_len};
 ghost use Rattle.tx_log.specs.Log.{record_at};
@@ -10,10 +10,12 @@ ghost use Rattle.record_file.specs.Refusals.{get_refusal, entries_refusal, refus
 ghost use Rattle.record_file.specs.TableCalls.{LeavesTable};
 ghost use Rattle.record_file.specs.Asked.{looked_unless};
 ghost use Rattle.rec_types.specs.Calls.{with_list};
+ghost use Rattle.record_file.specs.Durable.{ChangesStep, Keeps};
+ghost use Rattle.record_file.specs.Runs.{Commit};
 ghost use Rattle.record_file.specs.Steps.{rose, key_refusal, GetStep, EntriesStep, TellOwners, KeysOfStep, entry_with, listed, status_of};
 
 use super::RecordFile;
-use crate::fault::{EntriesFault, GetFault, KeysOfFault, Status, StatusFault};
+use crate::fault::{ChangesFault, EntriesFault, GetFault, KeysOfFault, Status, StatusFault};
 use rec_types::{Entry, Key, Memory, Record, Table, TxId};
 use std::alloc::Global;
 use tx_log::{LogRecord, Phase, TxLog};
@@ -69,6 +71,21 @@ impl<T: Table> RecordFile<T> {
             return Err(KeysOfFault::NoSuchTx);
         }
         Ok(self.log.keys_of(tx)?)
+    }
+
+    /// What the live changes of an active transaction write, oldest first, which a commit of it would have to keep: each
+    /// key with the record that is put there, or with none. A claim writes nothing. Faults: NoSuchTx or Rolling, as of a
+    /// commit; Memory.
+    pub fn changes_of(&self, tx: TxId) -> Result<Vec<(Key, Option<Record>)>, ChangesFault>
+        ensures step { ChangesStep self.now.file tx.0 (listed result) }
+        ensures keeps { IfOk result
+            (λ written. Keeps self.now.file (Commit tx (Ok tt)) written.items) }
+    {
+        match self.log.phase(tx) {
+            None => Err(ChangesFault::NoSuchTx),
+            Some(Phase::Rolling { .. }) => Err(ChangesFault::Rolling),
+            Some(Phase::Active) => Ok(self.log.changes_of(tx)?),
+        }
     }
 
     /// What an open transaction is doing. Fault: NoSuchTx. It takes no memory.

@@ -1,4 +1,4 @@
-use Rattle.std.proofs.Common.{◌≡◌, ℕ, List, [], ◌∷◌, Option, Some, None, option_map, ap, sym, ◌∙◌}
+use Rattle.std.proofs.Common.{◌≡◌, ℕ, List, [], ◌∷◌, Option, Some, None, option_map, ap, sym}
 use Rattle.rec_types.specs.declared.transaction.Entry.{Entry}
 use Rattle.rec_types.specs.declared.transaction.TxId.{TxId}
 use Rattle.record_file.proofs.laws.entries_tell_owners.Goals as goal

@@ -1,0 +1,71 @@
+-- What the commits of a run make of the records that it began with, without the transactions that haven't committed.
+use Rattle.std.specs.Prelude.{◌≡◌, ℕ, Bool, not, List, [], ◌∷◌, ◌++◌, filter, Option, Some, None, Result, Ok, Err}
+use Rattle.rec_types.specs.Contents.{Contents, set_to}
+use Rattle.rec_types.specs.History.{Change, replay}
+use Rattle.tx_log.specs.Written.{own, writes}
+use Rattle.record_file.specs.declared.fault.ChangesFault.{ChangesFault}
+use Rattle.record_file.specs.declared.fault.ChangesFault.TheVariants as changes_faults
+use Rattle.record_file.specs.declared.fault.CommitFault.TheVariants as commit_faults
+use Rattle.record_file.specs.declared.keeper.KeepFault.{KeepFault}
+use Rattle.record_file.specs.declared.keeper.KeepFault.TheVariants as keep_faults
+use Rattle.record_file.specs.declared.keeper.KeeperFault.{KeeperFault}
+use Rattle.record_file.specs.Abstract.{File, open_of}
+use Rattle.record_file.specs.Refusals.{changes_refusal}
+use Rattle.record_file.specs.Steps.{tx_refusal, CommitStep}
+use Rattle.record_file.specs.Runs.{Called, Event, Seen, Step, Commit}
+
+-- keys with the record that is put there, or with none where the key is taken out: one after another over the contents
+abbrev pub overlay : Contents → List (List ℕ × Option (List ℕ)) → Contents
+overlay m [] = m
+overlay m (e ∷ es) = overlay (set_to m e.0 e.1) es
+
+abbrev pub has_ended : (ℕ → Bool) → Change → Bool
+has_ended is_open c = not (is_open c.tx)
+
+-- the changes of transactions that have ended
+abbrev pub ended : (ℕ → Bool) → List Change → List Change
+ended is_open h = filter (has_ended is_open) h
+
+-- The records with the changes of each transaction left out that hasn't ended. Of one that was aborted nothing is live.
+abbrev pub committed : File → Contents
+committed f = replay f.opening (ended (open_of f) f.history)
+
+-- what a call has to keep: an accepted commit what does the same as the live changes of its transaction, whatever stood
+-- there before; any other call nothing
+abbrev pub Keeps : File → Called → List (List ℕ × Option (List ℕ)) → Type 0
+Keeps f (Commit t (Ok done)) es = (m : Contents) → overlay m es ≡ replay m (own t.0 f.history)
+Keeps f called es = es ≡ []
+
+-- a run whose commits are kept, each when it is made
+abbrev pub CommitsKept : Seen → List Event → Seen → List (List ℕ × Option (List ℕ)) → Type 0
+CommitsKept old [] new kept = (new ≡ old) × (kept ≡ [])
+CommitsKept old (e ∷ es) new kept =
+    (mid : Seen) × Step old e mid × (first : List (List ℕ × Option (List ℕ))) × (rest : List (List ℕ × Option (List ℕ)))
+    × (kept ≡ first ++ rest) × Keeps old.file e.called first × CommitsKept mid es new rest
+
+-- What a transaction writes is told where a commit of it is accepted: what its live changes write, in order. It is refused
+-- exactly as a commit is, and else for memory alone.
+abbrev pub ChangesStep : File → ℕ → Result (List (List ℕ × Option (List ℕ))) ChangesFault → Type 0
+ChangesStep f t (Ok es) = (tx_refusal f t None ≡ None) × (es ≡ writes (own t f.history))
+ChangesStep f t (Err changes_faults.Memory) = tx_refusal f t None ≡ None
+ChangesStep f t (Err fault) = tx_refusal f t None ≡ Some (changes_refusal fault)
+
+-- A commit that a keeper has to keep is refused exactly as a commit is; at any other fault a commit would be accepted, and
+-- the file is as it was.
+abbrev pub KeptStep : File → ℕ → Result (Unit {0}) KeepFault → File → Type 0
+KeptStep old t (Ok done) new = CommitStep old t (Ok done) new
+KeptStep old t (Err (keep_faults.Refused fault)) new = CommitStep old t (Err fault) new
+KeptStep old t (Err fault) new = (tx_refusal old t None ≡ None) × (new ≡ old)
+
+-- The keeper is asked to keep these writes, and the answer is its own; where the commit is refused or memory is wanting, it
+-- isn't asked.
+abbrev pub AsksKeeper : {K : Type 0} → (K → List (List ℕ × Option (List ℕ)) → Result (Unit {0}) KeeperFault → K → Type 0) → List (List ℕ × Option (List ℕ)) → K → Result (Unit {0}) KeepFault → K → Type 0
+AsksKeeper answers es old (Ok done) new = answers old es (Ok done) new
+AsksKeeper answers es old (Err (keep_faults.Unkept fault)) new = answers old es (Err fault) new
+AsksKeeper answers es old (Err fault) new = new ≡ old
+
+-- what ends a commit before the keeper is asked
+abbrev pub unasked : ChangesFault → KeepFault
+unasked changes_faults.NoSuchTx = keep_faults.Refused commit_faults.NoSuchTx
+unasked changes_faults.Rolling = keep_faults.Refused commit_faults.Rolling
+unasked changes_faults.Memory = keep_faults.Memory
