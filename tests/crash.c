@@ -9,15 +9,20 @@
 //   FATE=halves   each write that wasn't synced is done half, and names aren't changed
 //   FATE=N        each such call has one of these fates, or is done, by the seed N
 //
-// A sync of a file keeps its bytes and its length, a sync of a folder the names in it.
+// A sync of a file keeps its bytes and its length, a sync of a folder the names in it. What a program that was killed, or
+// ended, didn't ask to keep is noted in the file of the path PENDING, and what is noted there is lost with the rest by a
+// program that begins with it.
 //
 //   FAIL_AT=N     that call fails, and the program goes on; nothing is lost
 //   FAIL_FROM=N   that call and all later ones fail
 //   DO_AT=N       before that call the shell does DO
+//   SHORT_AT=N    the N-th read or write, also of a standard stream, moves one byte (SHORT=one), half of its bytes
+//                 (SHORT=half), or none, since a signal comes (SHORT=again)
 //
 // Where the call is met, the file of the path MET is made.
 
 #define _GNU_SOURCE
+#include <dirent.h>
 #include <errno.h>
 #include <fcntl.h>
 #include <stdarg.h>
@@ -38,6 +43,9 @@ struct call {
     int file;
     off_t place, old_length, new_length;
     size_t count, old_count;
+    // Of a name, its folder.
+    dev_t folder_device;
+    ino_t folder_inode;
     char old_bytes[MOST_BYTES], new_bytes[MOST_BYTES];
     char from[MOST_PATH], to[MOST_PATH], spare[MOST_PATH];
 };
@@ -46,8 +54,10 @@ static struct call calls[MOST_CALLS];
 static int call_count;
 static struct { dev_t device; ino_t inode; int descriptor; } files[MOST_FILES];
 static int file_count;
-static long changes, stopped_at, failed_at, failed_from, done_at;
+static long changes, stopped_at, failed_at, failed_from, done_at, moves, short_at;
 static int spares;
+
+static void load_pending(const char *path);
 
 static void give_up(const char *why)
 {
@@ -67,6 +77,9 @@ __attribute__((constructor)) static void start(void)
     failed_at = number_of("FAIL_AT");
     failed_from = number_of("FAIL_FROM");
     done_at = number_of("DO_AT");
+    short_at = number_of("SHORT_AT");
+    if (getenv("PENDING"))
+        load_pending(getenv("PENDING"));
 }
 
 static void mark(void)
@@ -110,6 +123,110 @@ static int file_of(int descriptor)
     files[file_count].inode = about.st_ino;
     files[file_count++].descriptor = own;
     return own;
+}
+
+// The folder of a path, which is one that the program was given, or without links.
+static void folder_of(const char *path, char *folder)
+{
+    const char *end = strrchr(path, '/');
+    snprintf(folder, MOST_PATH, "%.*s", end ? (int)(end - path) + 1 : 1, end ? path : ".");
+}
+
+static void note_folder(struct call *call)
+{
+    char folder[MOST_PATH];
+    struct stat about;
+    folder_of(call->from, folder);
+    if (stat(folder, &about) != 0)
+        give_up("stat");
+    call->folder_device = about.st_dev;
+    call->folder_inode = about.st_ino;
+}
+
+// A name in its folder that an open file has, or none.
+static void name_of(int descriptor, char *path)
+{
+    char link[64], folder[MOST_PATH];
+    struct stat about, there;
+    snprintf(link, sizeof link, "/proc/self/fd/%d", descriptor);
+    ssize_t length = readlink(link, path, MOST_PATH - 1);
+    if (length < 0 || fstat(descriptor, &about) != 0)
+        give_up("readlink");
+    path[length] = 0;
+    folder_of(path, folder);
+    path[0] = 0;
+    DIR *all = opendir(folder);
+    for (struct dirent *one = all ? readdir(all) : NULL; one && !path[0]; one = readdir(all))
+        if (one->d_ino == about.st_ino && fstatat(dirfd(all), one->d_name, &there, AT_SYMLINK_NOFOLLOW) == 0 && there.st_dev == about.st_dev)
+            snprintf(path, MOST_PATH, "%.250s%.250s", folder, one->d_name);
+    if (all)
+        closedir(all);
+}
+
+static int index_of(int descriptor)
+{
+    for (int i = 0; i < file_count; i++)
+        if (files[i].descriptor == descriptor)
+            return i;
+    return -1;
+}
+
+static void save_pending(const char *path)
+{
+    char name[MOST_PATH];
+    FILE *to = fopen(path, "w");
+    if (!to)
+        give_up("what is pending can't be noted");
+    fwrite(&file_count, sizeof file_count, 1, to);
+    fwrite(&call_count, sizeof call_count, 1, to);
+    for (int i = 0; i < file_count; i++) {
+        name_of(files[i].descriptor, name);
+        fwrite(name, sizeof name, 1, to);
+    }
+    for (int i = 0; i < call_count; i++) {
+        calls[i].file = index_of(calls[i].file);
+        fwrite(&calls[i], sizeof calls[i], 1, to);
+    }
+    if (fclose(to) != 0)
+        give_up("what is pending can't be noted");
+}
+
+static int open_again(const char *path)
+{
+    struct stat about;
+    int own = path[0] ? (int)syscall(SYS_openat, AT_FDCWD, path, O_RDWR | O_CLOEXEC, 0) : -1;
+    if (own < 0 || fstat(own, &about) != 0 || file_count == MOST_FILES)
+        return -1;
+    files[file_count].device = about.st_dev;
+    files[file_count].inode = about.st_ino;
+    files[file_count++].descriptor = own;
+    return own;
+}
+
+// Of a file that is gone nothing is left to be lost.
+static void load_pending(const char *path)
+{
+    char name[MOST_PATH];
+    int names = 0, count = 0, descriptors[MOST_FILES];
+    FILE *from = fopen(path, "r");
+    if (!from)
+        return;
+    if (fread(&names, sizeof names, 1, from) != 1 || fread(&count, sizeof count, 1, from) != 1)
+        give_up("what is pending can't be read");
+    for (int i = 0; i < names; i++)
+        descriptors[i] = fread(name, sizeof name, 1, from) == 1 ? open_again(name) : -1;
+    for (int i = 0; i < count; i++) {
+        struct call *call = &calls[call_count];
+        if (fread(call, sizeof *call, 1, from) != 1)
+            give_up("what is pending can't be read");
+        int is_name = call->kind == MAKE || call->kind == RENAME || call->kind == UNLINK;
+        if (!is_name)
+            call->file = call->file < 0 ? -1 : descriptors[call->file];
+        if (is_name || call->file >= 0)
+            call_count++;
+    }
+    memset(&calls[call_count], 0, sizeof calls[0]);
+    fclose(from);
 }
 
 static struct call *another(enum kind kind)
@@ -219,6 +336,10 @@ static void crash(void)
     const char *fate = getenv("FATE");
     unsigned seed = fate ? (unsigned)atol(fate) : 0;
     mark();
+    if (getenv("PENDING") && fate && !strcmp(fate, "killed")) {
+        save_pending(getenv("PENDING"));
+        _exit(STOPPED);
+    }
     srand(seed + (unsigned)stopped_at);
     for (int i = call_count - 1; i >= 0; i--)
         undo(&calls[i]);
@@ -234,6 +355,8 @@ __attribute__((destructor)) static void end(void)
 {
     if (stopped_at == -1)
         crash();
+    if (getenv("PENDING"))
+        save_pending(getenv("PENDING"));
 }
 
 // Counts a call. Whether it fails.
@@ -254,14 +377,18 @@ static int fails(void)
     return 1;
 }
 
-// Forgets the calls that a sync keeps: of this file, or of names where it is a folder.
+// Forgets the calls that a sync keeps: of this file, or of the names in it where it is a folder.
 static void keep(int descriptor)
 {
+    struct stat about;
     int names = is_folder(descriptor), file = names ? -1 : file_of(descriptor), kept = 0;
+    if (fstat(descriptor, &about) != 0)
+        give_up("fstat");
     for (int i = 0; i < call_count; i++) {
         struct call *call = &calls[i];
         int is_name = call->kind == MAKE || call->kind == RENAME || call->kind == UNLINK;
-        if (is_name ? names : !names && call->file == file) {
+        int is_within = call->folder_device == about.st_dev && call->folder_inode == about.st_ino;
+        if (is_name ? names && is_within : !names && call->file == file) {
             if (is_name && call->kind != MAKE && call->spare[0])
                 syscall(SYS_unlink, call->spare);
             continue;
@@ -274,10 +401,43 @@ static void keep(int descriptor)
     call_count = kept;
 }
 
+// How many bytes a read or a write is to move, or -1 where a signal comes first.
+static ssize_t moved(size_t count)
+{
+    if (++moves != short_at || count == 0)
+        return (ssize_t)count;
+    const char *how = getenv("SHORT");
+    mark();
+    if (how && !strcmp(how, "again")) {
+        errno = EINTR;
+        return -1;
+    }
+    return how && !strcmp(how, "half") && count > 1 ? (ssize_t)(count / 2) : 1;
+}
+
+ssize_t read(int file, void *bytes, size_t count)
+{
+    ssize_t most = moved(count);
+    return most < 0 ? -1 : syscall(SYS_read, file, bytes, (size_t)most);
+}
+
+ssize_t pread(int file, void *bytes, size_t count, off_t place)
+{
+    ssize_t most = moved(count);
+    return most < 0 ? -1 : syscall(SYS_pread64, file, bytes, (size_t)most, place);
+}
+
+ssize_t pread64(int file, void *bytes, size_t count, off64_t place)
+{
+    return pread(file, bytes, count, place);
+}
+
 static ssize_t written(int descriptor, const void *bytes, size_t count, off_t place)
 {
-    if (fails())
+    ssize_t most = moved(count);
+    if (most < 0 || fails())
         return -1;
+    count = (size_t)most;
     if (count > MOST_BYTES)
         give_up("a long write");
     struct call *call = another(WRITE);
@@ -303,8 +463,10 @@ ssize_t pwrite64(int file, const void *bytes, size_t count, off64_t place)
 
 ssize_t write(int file, const void *bytes, size_t count)
 {
-    if (file <= 2)
-        return syscall(SYS_write, file, bytes, count);
+    if (file <= 2) {
+        ssize_t most = moved(count);
+        return most < 0 ? -1 : syscall(SYS_write, file, bytes, (size_t)most);
+    }
     off_t place = lseek(file, 0, SEEK_CUR);
     ssize_t done = written(file, bytes, count, place);
     if (done > 0)
@@ -365,6 +527,7 @@ static int opened(const char *path, int flags, int mode)
     struct call *call = another(MAKE);
     snprintf(call->from, sizeof call->from, "%s", path);
     snprintf(call->spare, sizeof call->spare, "%.500s.spare%d.%d", path, (int)getpid(), spares++);
+    note_folder(call);
     return file;
 }
 
@@ -401,6 +564,7 @@ int rename(const char *from, const char *to)
     struct call *call = another(RENAME);
     snprintf(call->from, sizeof call->from, "%s", from);
     snprintf(call->to, sizeof call->to, "%s", to);
+    note_folder(call);
     spare(call, to);
     int done = (int)syscall(SYS_rename, from, to);
     if (done != 0)
@@ -414,6 +578,7 @@ int unlink(const char *path)
         return -1;
     struct call *call = another(UNLINK);
     snprintf(call->from, sizeof call->from, "%s", path);
+    note_folder(call);
     spare(call, path);
     int done = (int)syscall(SYS_unlink, path);
     if (done != 0)
