@@ -276,13 +276,14 @@ static void undo(struct call *call)
     }
 }
 
-// Where a file is that has no name since its making is undone, or its name.
-static const char *place_of(const char *path)
+// Where the file is that a call gives another name: it has none since its making, which was an earlier call, is undone, or
+// it has its name.
+static const char *place_of(const struct call *renaming)
 {
-    for (int i = 0; i < call_count; i++)
-        if (calls[i].kind == MAKE && !strcmp(calls[i].from, path) && access(calls[i].spare, F_OK) == 0)
-            return calls[i].spare;
-    return path;
+    for (const struct call *call = renaming - 1; call >= calls; call--)
+        if (call->kind == MAKE && !strcmp(call->from, renaming->from))
+            return access(call->spare, F_OK) == 0 ? call->spare : renaming->from;
+    return renaming->from;
 }
 
 enum fate { DONE, LOST, HALF, NOISE };
@@ -322,7 +323,7 @@ static void redo(struct call *call, enum fate fate)
         break;
     case RENAME:
         if (fate != HALF)
-            name(place_of(call->from), call->to);
+            name(place_of(call), call->to);
         break;
     case UNLINK:
         if (fate != HALF)

@@ -1,9 +1,11 @@
 #!/bin/sh
 # Closings that are cut short. The built program is ended before each call by which it changes a file or a name, in a
 # closing and in the opening after it, and the device then loses, tears or keeps what wasn't synced: the next session
-# finds the records of the old file or those of the new one, and nothing stands beside it. Each such call fails, alone and
-# with all later ones: the file is the old one, or was closed. And what else may stand in the way of a closing: a folder
-# that may not be written, a full file system, a link, a file that is held, a side file that was changed.
+# finds the records of the old file or those of the new one, and nothing stands beside it. What a program that was killed
+# left unsynced may be lost as late as in the session after it. Each such call fails, alone and with all later ones: the file
+# is the old one, or was closed. Each read and write is short once, or interrupted: nothing else comes out. And what else may
+# stand in the way of a closing: a folder that may not be written, a full file system, a link, a file that is held, a side
+# file that was changed or can't be read.
 set -eu
 cd "$(dirname "$0")/.."
 program=${PROGRAM:-$PWD/crates/recfile_program/out/recfile_program}
@@ -56,15 +58,32 @@ put_back() { rm -f file*; cp -p saved/* .; }
 # Stops the session that puts the old pages back, at each call, and the one after it, too.
 stop_the_next() {
     save
-    for fate in killed lost noise 7; do
-        number=0
-        while number=$((number + 1)); do
+    for later in killed lost noise 7; do
+        next=0
+        while next=$((next + 1)); do
             put_back
-            met empty STOP_AT=$number FATE=$fate || break
-            met empty STOP_AT=$number FATE=halves || true
-            expect_either "opening stopped at $number, $fate"
+            met empty STOP_AT=$next FATE=$later || break
+            met empty STOP_AT=$next FATE=halves || true
+            expect_either "opening stopped at $next, $later"
         done
     done
+}
+
+# Stops the session behind one that was killed: what neither has asked the device to keep is lost then.
+stop_after_killed() {
+    save
+    for later in lost noise 1; do
+        next=0
+        while next=$((next + 1)); do
+            put_back
+            met empty STOP_AT=$next FATE=$later PENDING="$room/file-pending" || break
+            rm -f file-pending
+            expect_either "killed, and stopped at $next of the next session, $later"
+        done
+        [ "$status" = 0 ] || fail "the session after one that was killed has status $status"
+    done
+    put_back
+    rm -f file-pending file*.spare*
 }
 
 # Where a side file stands beside the file, a check says so, and changes nothing.
@@ -83,8 +102,11 @@ stop_in_turn() {
         while number=$((number + 1)); do
             rm -f file*
             cp old file
-            met session STOP_AT=$number FATE=$fate || break
+            pending=
+            [ $fate != killed ] || pending="$room/file-pending"
+            met session STOP_AT=$number FATE=$fate ${pending:+PENDING="$pending"} || break
             [ "$status" = 99 ] || fail "the program wasn't stopped"
+            [ $fate != killed ] || stop_after_killed
             if [ -e file-journal ]; then
                 case $fate in
                 killed) expect_unclean ;;
@@ -115,6 +137,22 @@ fail_in_turn() {
     echo "crashes: $row: $((number - 1)) calls failed"
 }
 
+# Lets each read and write of the row's session move one byte or half of its bytes, or be interrupted.
+cut_in_turn() {
+    for how in one half again; do
+        number=0
+        while number=$((number + 1)); do
+            rm -f file*
+            cp old file
+            met session SHORT_AT=$number SHORT=$how || break
+            [ "$status" = 0 ] && [ ! -s err ] && cmp -s out whole && cmp -s file new \
+                || fail "a read or write that moves $how, $number: status $status"
+        done
+        [ $number -gt 10 ] || fail "there are $number reads and writes"
+    done
+    echo "crashes: $row: $((number - 1)) reads and writes cut"
+}
+
 # Runs a row: its name, the file that it begins with, and its script on standard input.
 session() {
     row=$1
@@ -126,6 +164,7 @@ session() {
     list_of new > new_list
     stop_in_turn
     fail_in_turn
+    cut_in_turn
 }
 
 : > empty
@@ -285,6 +324,18 @@ head -c 4000 whole_journal > file-journal; expect_bad "cut in a page"
 again; printf x >> file-journal; expect_bad "a byte more"; again
 head -c 4096 four > file; expect_bad "a file that is shorter"; cp saved/file file
 "$program" run file < empty 2> err || status=$?
+
+row="a side file that can't be read"
+leave_side_file
+save
+mv file-journal aside
+mkdir file-journal
+status=0
+"$program" run file < empty > out 2> err || status=$?
+[ "$status:$(cat err)" = "1:recfile: Device" ] && cmp file saved/file || fail "a folder: status $status: $(cat err)"
+rmdir file-journal
+mv aside file-journal
+"$program" run file < empty 2> err && cmp file four || fail "it isn't put back"
 
 row="a side file beside no file"
 leave_side_file

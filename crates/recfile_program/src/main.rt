@@ -2,8 +2,51 @@
 #![tactic(auto)]
 
 use recfile::{SystemFiles, run_words, unread_words};
+use std::io::{Read, Write};
 use std::process::ExitCode;
 use std::{env, io};
+
+/// A standard stream, which is read and written again where a signal interrupted that.
+#[derive(Drop)]
+struct Uninterrupted<S> {
+    stream: S,
+}
+
+// Whether a signal interrupted it.
+fn is_interrupted(answer: &io::Result<usize>) -> bool {
+    match answer {
+        Ok(_) => false,
+        Err(error) => error.kind() == io::ErrorKind::Interrupted,
+    }
+}
+
+impl<S: Read> Read for Uninterrupted<S> {
+    fn read(&mut self, to: &mut [u8]) -> io::Result<usize> {
+        for _ in 0..u64::MAX {
+            let answer = self.stream.read(to);
+            if !is_interrupted(&answer) {
+                return answer;
+            }
+        }
+        Err(io::Error::from(io::ErrorKind::Interrupted))
+    }
+}
+
+impl<S: Write> Write for Uninterrupted<S> {
+    fn write(&mut self, from: &[u8]) -> io::Result<usize> {
+        for _ in 0..u64::MAX {
+            let answer = self.stream.write(from);
+            if !is_interrupted(&answer) {
+                return answer;
+            }
+        }
+        Err(io::Error::from(io::ErrorKind::Interrupted))
+    }
+
+    fn flush(&mut self) -> io::Result<()> {
+        self.stream.flush()
+    }
+}
 
 fn run(rt: &HostRuntime) -> io::Result<u8> {
     let alloc = rt.alloc();
@@ -15,12 +58,16 @@ fn run(rt: &HostRuntime) -> io::Result<u8> {
     for text in &texts {
         words.push(text.as_str())?;
     }
+    let mut lines = Uninterrupted { stream: rt.stdin() };
+    let mut out = Uninterrupted {
+        stream: rt.stdout(),
+    };
     let status = run_words(
         &SystemFiles::new(rt),
         alloc,
         &words,
-        &mut rt.stdin(),
-        &mut rt.stdout(),
+        &mut lines,
+        &mut out,
         &mut rt.stderr(),
     );
     Ok(status)
