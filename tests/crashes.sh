@@ -220,6 +220,39 @@ put 1 f =y
 commit 1
 END
 
+# Another program's writes may be lost until an opening has had the device keep them; then none of them are.
+row="a copy that wasn't synced"
+cp four old
+cp filled_more session
+cp four new
+"$program" run new < session > out
+list_of old > old_list
+list_of new > new_list
+rm -f file*
+cp four file
+opening=0
+while met empty STOP_AT=$((opening + 1)) FATE=killed; do opening=$((opening + 1)); done
+rm -f file*
+env PENDING="$room/file-pending" LD_PRELOAD="$room/crash.so" python3 -c '
+import os
+to = os.open("file", os.O_CREAT | os.O_RDWR, 0o644)
+for place, page in enumerate(iter(lambda source=open("old", "rb"): source.read(4096), b"")):
+    os.pwrite(to, page, 4096 * place)
+'
+cmp file old && [ -s file-pending ] || fail "nothing is pending"
+save
+for later in lost noise 1 2; do
+    next=$opening
+    while next=$((next + 1)); do
+        put_back
+        met session STOP_AT=$next FATE=$later PENDING="$room/file-pending" || break
+        rm -f file-pending
+        expect_either "stopped at $next, $later"
+    done
+    [ $next -gt $((opening + 9)) ] || fail "the session was stopped at $next, and $opening belong to the opening"
+done
+rm -f file*
+
 row="nothing is changed"
 rm -f file*
 cp four file
