@@ -1,8 +1,9 @@
-/* Preloaded by test_memory.py: refuses memory to the package's module alone, where `from` isn't 0 its growths (malloc,
- * calloc, realloc) with the numbers `from` to `to`, counted in `growths` from 1. */
+/* Preloaded by test_memory.py: refuses memory to the package's module alone, or else to the object in whose path REFUSE_TO
+ * stands. Where `from` isn't 0, its growths (malloc, calloc, realloc) with the numbers `from` to `to` find none, counted in
+ * `growths` from 1. */
 #define _GNU_SOURCE
 #include <dlfcn.h>
-#include <stddef.h>
+#include <stdlib.h>
 #include <string.h>
 
 extern void *__libc_malloc(size_t size);
@@ -13,11 +14,14 @@ unsigned long from, to, growths;
 
 static int is_refused(void *caller) {
     static int is_asking; /* dladdr may itself ask for memory */
+    const char *name = getenv("REFUSE_TO");
     Dl_info place;
+    if (name == NULL)
+        name = "/_recfile.";
     if (from == 0 || is_asking)
         return 0;
     is_asking = 1;
-    int is_ours = dladdr(caller, &place) != 0 && place.dli_fname != NULL && strstr(place.dli_fname, "/_recfile.");
+    int is_ours = dladdr(caller, &place) != 0 && place.dli_fname != NULL && strstr(place.dli_fname, name);
     is_asking = 0;
     if (!is_ours)
         return 0;
