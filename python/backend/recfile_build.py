@@ -81,7 +81,8 @@ def build_sdist(sdist_directory, config_settings=None):
     held = io.BytesIO()
     with tarfile.open(fileobj=held, mode="w", format=tarfile.PAX_FORMAT) as archive:
         add(archive, "PKG-INFO", metadata())
-        for pattern in ("README.md", "pyproject.toml", "backend/*.py", "src/recfile/*.[cp]*", "tests/*.[cp]*", "bench/*.py"):
+        for pattern in ("README.md", "pyproject.toml", "backend/*.py", "src/recfile/*.[cp]*", "tests/*.[cp]*",
+                        "bench/*.py", "examples/*.py"):
             for path in sorted(HERE.glob(pattern)):
                 add(archive, path.relative_to(HERE).as_posix(), path.read_bytes())
     name = f"{NAME}.tar.gz"
