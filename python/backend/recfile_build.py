@@ -2,9 +2,9 @@
 
     python3 -m pip wheel --no-deps .
 
-The C library is the one that ./install put into a folder: that of RECFILE_PREFIX, or else the one that pkg-config finds. The
-wheel carries it, and needs nothing but the C library of the system; with RECFILE_SHARED=1 it is linked to librecfile.so
-instead, as a distribution wants it. One wheel serves Python 3.9 and all later ones; it is the same bytes each time.
+The C library is the one that ./install put into a folder: that of RECFILE_PREFIX, or else the one that pkg-config finds.
+The wheel carries it, and needs nothing but the system's libc; with RECFILE_SHARED=1 it is linked to librecfile.so instead,
+as a distribution wants it. One wheel serves Python 3.9 and all later ones; it is the same bytes each time.
 """
 
 import base64
@@ -30,6 +30,8 @@ NAME = f"recfile-{VERSION}"
 PLATFORM = re.sub(r"[-.]", "_", sysconfig.get_platform())
 TAG = f"cp39-abi3-{PLATFORM}"
 EPOCH = int(os.environ.get("SOURCE_DATE_EPOCH", "315532800"))  # the first moment that a zip archive can tell
+SOURCES = ("README.md", "pyproject.toml", "backend/*.py", "src/recfile/*.c", "src/recfile/*.py*", "src/recfile/py.typed",
+           "tests/*.[cp]*", "bench/*.py", "examples/*.py")
 
 METADATA = f"""\
 Metadata-Version: 2.1
@@ -81,8 +83,7 @@ def build_sdist(sdist_directory, config_settings=None):
     held = io.BytesIO()
     with tarfile.open(fileobj=held, mode="w", format=tarfile.PAX_FORMAT) as archive:
         add(archive, "PKG-INFO", metadata())
-        for pattern in ("README.md", "pyproject.toml", "backend/*.py", "src/recfile/*.[cp]*", "tests/*.[cp]*",
-                        "bench/*.py", "examples/*.py"):
+        for pattern in SOURCES:
             for path in sorted(HERE.glob(pattern)):
                 add(archive, path.relative_to(HERE).as_posix(), path.read_bytes())
     name = f"{NAME}.tar.gz"
