@@ -85,6 +85,7 @@ test_python() { # PYTHON: over the wheel as it is installed
 # Random calls beside a model; the same under valgrind, which may say nothing of the package; and its types.
 test_further() { # PYTHON
     environment/bin/python "$top/python/tests/fuzz.py" 10
+    quietly environment/bin/python "$top/python/bench/calls.py" 1
     if command -v valgrind >out; then
         PYTHONMALLOC=malloc valgrind --log-file=found environment/bin/python "$top/python/tests/fuzz.py" 5 >out
         grep -q 'ERROR SUMMARY' found
