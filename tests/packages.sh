@@ -82,10 +82,13 @@ test_python() { # PYTHON: over the wheel as it is installed
     same_stock python environment/bin/python "$top/python/examples/stock.py"
 }
 
-# Random calls beside a model; the same under valgrind, which may say nothing of the package; and its types.
+# Random calls beside a model, the same under valgrind, which may say nothing of the package, stops and failing calls, and
+# the types.
 test_further() { # PYTHON
     environment/bin/python "$top/python/tests/fuzz.py" 10
     quietly environment/bin/python "$top/python/bench/calls.py" 1
+    quietly cc -O2 -shared -fPIC -o crash.so "$top/tests/crash.c"
+    environment/bin/python "$top/tests/package_stops.py" crash.so
     if command -v valgrind >out; then
         PYTHONMALLOC=malloc valgrind --log-file=found environment/bin/python "$top/python/tests/fuzz.py" 5 >out
         grep -q 'ERROR SUMMARY' found
