@@ -40,10 +40,10 @@ int32_t recfile_create_path(recfile *file, const char *path, uint16_t order, uin
                             uint32_t begins, int *descriptor, recfile_detail *detail, recfile_failure *failure);
 
 /* Closes a file of which every transaction has ended, so that it is the old one or the new one wherever it is stopped, and
- * gives the lock up. After STILL_OPEN, MEMORY, CLOSED or NOT_CLOSED nothing has changed, and it can be closed again. After
- * DEVICE the old file is put back, at once or by the next opening; only where the last call failed, by which the device
- * was to keep that the old pages are gone, it may be the new one. The handle is closed then, too. OK, CLOSED, STILL_OPEN,
- * MEMORY, DEVICE. */
+ * gives the lock up. After STILL_OPEN, CLOSED or NOT_CLOSED nothing has changed, and it can be closed again; after MEMORY too,
+ * but where that answers CLOSED: then the handle is closed, and the file is the old one. After DEVICE the old file is put
+ * back, at once or by the next opening; only where the last call failed, by which the device was to keep that the old pages
+ * are gone, it may be the new one. The handle is closed then, too. OK, CLOSED, STILL_OPEN, MEMORY, DEVICE. */
 int32_t recfile_close_path(recfile *file, const char *path, int descriptor, recfile_detail *detail,
                            recfile_failure *failure);
 

@@ -17,7 +17,7 @@ missing() { # WHAT
     echo "documents: $1 is named, and isn't there"
     exit 1
 }
-for path in $(cat README.md docs/*.md crates/*/README.md | grep -oE '`(docs|tests|examples|include|bench|c|crates)/[A-Za-z_./]+`' | tr -d '`' | sort -u); do
+for path in $(cat README.md docs/*.md crates/*/README.md | grep -oE '`(docs|tests|examples|include|bench|c|crates|python|rust|release)/[A-Za-z_./]+`' | tr -d '`' | sort -u); do
     [ -e "$path" ] || missing "$path"
 done
 for law in $(cat README.md docs/*.md | grep -oE '`laws::[a-z_]+`' | tr -d '`' | sed 's/laws:://' | sort -u); do

@@ -54,7 +54,7 @@ for document in "$@"; do
     for command in "$parts"/*.sh "$parts"/*.console; do echo "$command"; done | sort >"$room/commands"
     while read -r command; do
         [ -e "$command" ] || continue
-        for tool in cc pkg-config python3 rustc; do
+        for tool in cc pkg-config python3 cargo; do
             if grep -q -w -e "$tool" "$command" && ! command -v "$tool" >"$room/got"; then
                 echo "readme: left out, since there is no $tool:"
                 cat "$command"
