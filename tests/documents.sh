@@ -7,7 +7,8 @@ most() { # WHAT NUMBER LIMIT
     [ "$2" -le "$3" ] || { echo "documents: $1: $2, and at most $3"; exit 1; }
 }
 most "lines of README.md" "$(wc -l <README.md)" 130
-most "words of docs/" "$(cat docs/*.md | wc -w)" 16000
+# The bars of tables are no words.
+most "words of docs/" "$(cat docs/*.md | tr -d "|" | wc -w)" 15500
 most "words of docs/PROVING.md" "$(wc -w <docs/PROVING.md)" 4000
 for crate in crates/*/; do
     most "lines of ${crate}README.md" "$(wc -l <"${crate}README.md")" 20
