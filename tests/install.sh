@@ -16,7 +16,7 @@ fi
 printf 'begin\nput 1 a =x\n' | "$home/bin/recfile" >"$room/replies"
 printf 'ok 1\nok none\n' | cmp - "$room/replies"
 # Each word and option stands in the man page.
-for word in create run shell check explain dump memory --records --log --begins --strict; do
+for word in create run shell check explain show rescue dump load memory --records --log --begins --strict --tsv --csv --json --svg; do
     grep -q -e "^.B $word" "$home/share/man/man1/recfile.1" || { echo "install: no $word in the man page"; exit 1; }
 done
 

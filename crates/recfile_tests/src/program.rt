@@ -80,6 +80,18 @@ fn run<F: OpenFile + FileExt + Lock + Drop, H: Files<File = F> + Abort>(
     )
 }
 
+/// The fault behind which lines say why.
+const DEVICE: &str = "recfile: Device\n";
+
+/// Expects this text of faults.
+fn expect_fault(rt: &impl Abort, words: &str, err: &str, text: &str) {
+    if text == DEVICE {
+        assert!(rt; err.starts_with(text));
+    } else {
+        expect_named(rt, words, err, text);
+    }
+}
+
 /// Expects that of the call.
 fn expect_call<F: OpenFile + FileExt + Lock + Drop, H: Files<File = F> + Abort>(
     rt: &H,
@@ -90,7 +102,7 @@ fn expect_call<F: OpenFile + FileExt + Lock + Drop, H: Files<File = F> + Abort>(
     assert_eq!(rt; (call.words, status), (call.words, call.status));
     match call.err {
         Some(text) => {
-            expect_named(rt, call.words, err.as_str(), text);
+            expect_fault(rt, call.words, err.as_str(), text);
             expect_named(rt, call.words, out.as_str(), call.out);
         }
         None => {
@@ -133,12 +145,7 @@ fn two_sessions() -> [Call<'static>; 7] {
             "",
             "order 2 height 1 records 1 pages 2 free 0\n",
         ),
-        bad(
-            "recfile create --order 2 two.rec",
-            "",
-            "recfile: Device\n",
-            1,
-        ),
+        bad("recfile create --order 2 two.rec", "", DEVICE, 1),
         good("recfile shell two.rec", "list", "- m =keep\nok 1\n"),
     ]
 }
@@ -385,15 +392,15 @@ fn files_that_are_not_opened(rt: HostRuntime) {
     fs::write(&rt, "empty.rec", "").expect(&rt, "no file");
     fs::write(&rt, "short.rec", "BMKRFILE").expect(&rt, "no file");
     for (words, err) in [
-        ("recfile run none.rec", "recfile: Device\n"),
-        ("recfile shell none.rec", "recfile: Device\n"),
-        ("recfile check none.rec", "recfile: Device\n"),
-        ("recfile run .", "recfile: Device\n"),
-        ("recfile check .", "recfile: Device\n"),
+        ("recfile run none.rec", DEVICE),
+        ("recfile shell none.rec", DEVICE),
+        ("recfile check none.rec", DEVICE),
+        ("recfile run .", DEVICE),
+        ("recfile check .", DEVICE),
         ("recfile run empty.rec", "recfile: BadLength\n"),
         ("recfile shell empty.rec", "recfile: BadLength\n"),
         ("recfile check empty.rec", "recfile: BadLength\n"),
-        ("recfile dump none.rec", "recfile: Device\n"),
+        ("recfile dump none.rec", DEVICE),
         ("recfile dump empty.rec", "recfile: BadLength\n"),
         ("recfile run short.rec", "recfile: BadLength\n"),
         ("recfile check short.rec", "recfile: BadLength\n"),
@@ -539,12 +546,7 @@ fn calls_that_change_nothing<'a>(long: &'a str) -> [Call<'a>; 7] {
             claims,
             "ok 1\nok 2\nok =x\nok none\nok\nok =x\n",
         ),
-        bad(
-            "recfile create --order 3 stays.rec",
-            "",
-            "recfile: Device\n",
-            1,
-        ),
+        bad("recfile create --order 3 stays.rec", "", DEVICE, 1),
         refused(
             "recfile run --strict stays.rec",
             "# a batch\n\nbegin\nput 1 a =w\nput 2 b =w\ncommit 1\n",
