@@ -1,9 +1,30 @@
 //! The program: `run_words` over the words that it is called with and the standard streams.
 #![tactic(auto)]
 
+use line_prompt::Prompted;
 use recfile::{SystemFiles, run_words, unread_words};
+use std::io::IsTerminal;
 use std::process::ExitCode;
 use std::{env, io};
+
+// Whether a person types the lines, and sees what is told beside their replies.
+fn is_typed(rt: &HostRuntime) -> bool {
+    rt.stdin().is_terminal() && rt.stderr().is_terminal()
+}
+
+// What the program is, where a person asks for nothing.
+fn tell_help(rt: &HostRuntime) -> u8 {
+    let files = SystemFiles::new(rt);
+    let words = ["recfile", "--help"];
+    run_words(
+        &files,
+        rt.alloc(),
+        &words,
+        &mut rt.stdin(),
+        &mut rt.stderr(),
+        &mut rt.stderr(),
+    )
+}
 
 fn run(rt: &HostRuntime) -> io::Result<u8> {
     let alloc = rt.alloc();
@@ -15,11 +36,17 @@ fn run(rt: &HostRuntime) -> io::Result<u8> {
     for text in &texts {
         words.push(text.as_str())?;
     }
+    let typed = is_typed(rt);
+    if typed && words.len() < 2 {
+        return Ok(tell_help(rt));
+    }
+    let is_shell = words.get(1).is_some_and(|word| *word == "shell");
+    let mut lines = Prompted::new(rt.stdin(), rt.stderr(), typed && is_shell);
     let status = run_words(
         &SystemFiles::new(rt),
         alloc,
         &words,
-        &mut rt.stdin(),
+        &mut lines,
         &mut rt.stdout(),
         &mut rt.stderr(),
     );
