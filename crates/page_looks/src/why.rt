@@ -151,6 +151,6 @@ pub fn tell_why<F: OpenFile + FileExt + Lock + Drop, H: Files<File = F>, E: Writ
     }
     writeln!(
         err,
-        "a call of the system for {path} failed, and would not now: its device may be full or fail at times"
+        "a call of the system for {path} failed, and now nothing is found that keeps it: its device may be full, or fail at times"
     )
 }

@@ -83,7 +83,7 @@ fn rescue<P: PageFiles, W: Write, E: Write>(
     rescue_in(alloc, &mut store, reach.header, &reach.seen, out)
 }
 
-// The status where a text about a file that was wanted was asked for; its fault is named.
+// The status where a text about the file at a path was asked for; its fault is named.
 fn text_status<P: PageFiles, E: Write>(
     files: &P,
     alloc: Global,

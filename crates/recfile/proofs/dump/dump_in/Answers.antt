@@ -17,3 +17,6 @@ dumped form (Err fault) items answer held holds es outside none known = subst (Î
 pub returns-clause-dumped : goal.returns-clause-dumped
 returns-clause-dumped g c steady tree contents version closed few =
     dumped c.args.form c.list_in-store.result.1 (Î» records. records.items) c.write_listed-dumped.result _ _ (maps.entries contents) (c.list_in-store.ensures.listed steady tree contents version closed few) c.write_listed-dumped.ensures.dumped c.write_listed-dumped.ensures.fault
+
+pub returns-clause-written : goal.returns-clause-written
+returns-clause-written g c = c.write_listed-dumped.ensures.written
