@@ -3,7 +3,7 @@
 
 use line_prompt::Prompted;
 use recfile::{SystemFiles, run_words, unread_words};
-use std::io::IsTerminal;
+use std::io::{IsTerminal, Write};
 use std::process::ExitCode;
 use std::{env, io};
 
@@ -12,18 +12,23 @@ fn is_typed(rt: &HostRuntime) -> bool {
     rt.stdin().is_terminal() && rt.stderr().is_terminal()
 }
 
-// What the program is, where a person asks for nothing.
+// Tells what the program is and how to begin, where a person asks for nothing.
 fn tell_help(rt: &HostRuntime) -> u8 {
-    let files = SystemFiles::new(rt);
+    let (mut out, mut err) = (rt.stderr(), rt.stderr());
     let words = ["recfile", "--help"];
-    run_words(
-        &files,
+    let status = run_words(
+        &SystemFiles::new(rt),
         rt.alloc(),
         &words,
         &mut rt.stdin(),
-        &mut rt.stderr(),
-        &mut rt.stderr(),
-    )
+        &mut out,
+        &mut err,
+    );
+    let _ = writeln!(
+        err,
+        "\nTo begin: recfile create a.rec, and then recfile shell a.rec"
+    );
+    status
 }
 
 fn run(rt: &HostRuntime) -> io::Result<u8> {
