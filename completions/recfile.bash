@@ -1,7 +1,7 @@
 # Completion of recfile in bash, as share/bash-completion/completions/recfile.
 _recfile() {
     local word=${COMP_WORDS[COMP_CWORD]} before=${COMP_WORDS[COMP_CWORD - 1]} command=${COMP_WORDS[1]}
-    local commands="create run shell check explain dump memory help" options=--help
+    local commands="create run shell check explain show rescue dump load memory help" options=--help
     COMPREPLY=()
     if [ "$COMP_CWORD" = 1 ]; then
         COMPREPLY=($(compgen -W "$commands --help --version" -- "$word"))
@@ -14,6 +14,9 @@ _recfile() {
     case $command in
     create) options="--order --help" ;;
     run | shell | memory) options="--records --log --begins --strict --help" ;;
+    show) options="--svg --help" ;;
+    dump) options="--tsv --csv --json --help" ;;
+    load) options="--csv --records --help" ;;
     esac
     case $word,$command in
     -*) COMPREPLY=($(compgen -W "$options" -- "$word")) ;;

@@ -128,7 +128,7 @@ fail_in_turn() {
             rm -f file*
             cp old file
             met session $variable=$number || break
-            [ "$status:$(cat err)" = "1:recfile: Device" ] || fail "$variable $number: status $status: $(cat err)"
+            [ "$status:$(head -n 1 err)" = "1:recfile: Device" ] || fail "$variable $number: status $status: $(cat err)"
             [ $variable = FAIL_FROM ] || [ -e file-journal ] || cmp -s file old || cmp -s file new \
                 || fail "$variable $number: the file is neither the old one nor the new one"
             expect_either "$variable $number"
@@ -186,7 +186,7 @@ for fate in killed lost noise halves 1 2 3; do
             "$program" create --order 1 file > out 2> err || status=$?
         [ -e met ] || break
         "$program" check file > out 2> err && continue
-        case $(cat err) in
+        case $(head -n 1 err) in
         'recfile: BadLength' | 'recfile: BadMagic' | 'recfile: NotClean') ;;
         'recfile: Device') [ ! -e file ] || fail "stopped at $number, $fate" ;;
         *) fail "stopped at $number, $fate" ;;
@@ -280,12 +280,12 @@ if command -v flock > /dev/null; then
     for word in run check dump; do
         status=0
         flock file "$program" "$word" file < filled > out 2> err || status=$?
-        [ "$status:$(cat err)" = "1:recfile: Device" ] && cmp file four || fail "$word: status $status"
+        [ "$status:$(head -n 1 err)" = "1:recfile: Device" ] && cmp file four || fail "$word: status $status"
     done
     flock --shared file "$program" check file > out || fail "a check beside a reader"
     status=0
     flock --shared file "$program" run file < filled > out 2> err || status=$?
-    [ "$status:$(cat err)" = "1:recfile: Device" ] && cmp file four || fail "run beside a reader"
+    [ "$status:$(head -n 1 err)" = "1:recfile: Device" ] && cmp file four || fail "run beside a reader"
 else
     echo "crashes: $row: left out, since there is no flock"
 fi
@@ -304,7 +304,7 @@ for pause in 0 1 2 3 4 5 6 7 8 9 10 11 12 13 14 15 16 17 18 19; do
     list_of file > listed 2> err || fail "the file isn't opened"
     for one in first second; do
         eval "status=\$${one}_status"
-        case $status:$(cat ${one}_err) in
+        case $status:$(head -n 1 ${one}_err) in
         0:) grep -q "^- $one =1\$" listed || fail "a commit is lost" ;;
         1:'recfile: Device') ! grep -q "^- $one" listed || fail "a program that answers Device has changed the file" ;;
         *) fail "$one: status $status" ;;
@@ -365,7 +365,7 @@ mv file-journal aside
 mkdir file-journal
 status=0
 "$program" run file < empty > out 2> err || status=$?
-[ "$status:$(cat err)" = "1:recfile: Device" ] && cmp file saved/file || fail "a folder: status $status: $(cat err)"
+[ "$status:$(head -n 1 err)" = "1:recfile: Device" ] && cmp file saved/file || fail "a folder: status $status: $(cat err)"
 rmdir file-journal
 mv aside file-journal
 "$program" run file < empty 2> err && cmp file four || fail "it isn't put back"
@@ -401,13 +401,13 @@ else
     chmod 555 closed
     status=0
     printf 'list\n' | $as ./recfile run closed/file > out 2> err || status=$?
-    [ "$status:$(cat err)" = "1:recfile: Device" ] && [ ! -s out ] || fail "a session that changes nothing: status $status"
+    [ "$status:$(head -n 1 err)" = "1:recfile: Device" ] && [ ! -s out ] || fail "a session that changes nothing: status $status"
     status=0
     $as ./recfile run closed/file < filled_more > out 2> err || status=$?
-    [ "$status:$(cat err)" = "1:recfile: Device" ] && cmp closed/file four || fail "a session: status $status"
+    [ "$status:$(head -n 1 err)" = "1:recfile: Device" ] && cmp closed/file four || fail "a session: status $status"
     status=0
     $as ./recfile run closed/stopped < empty > out 2> err || status=$?
-    [ "$status:$(cat err)" = "1:recfile: Device" ] && [ -e closed/stopped-journal ] || fail "a stopped file: status $status"
+    [ "$status:$(head -n 1 err)" = "1:recfile: Device" ] && [ -e closed/stopped-journal ] || fail "a stopped file: status $status"
     chmod 755 closed
     "$program" run closed/stopped < empty 2> err && cmp closed/stopped four || fail "the stopped file isn't put back"
 fi
@@ -419,7 +419,7 @@ if mount -t tmpfs -o size=48k none small 2> /dev/null; then
     awk 'BEGIN { print "begin"; for (i = 0; i < 400; i++) printf "put 1 k%d =%0100d\n", i, i; print "commit 1" }' > much
     status=0
     "$program" run small/file < much > out 2> err || status=$?
-    [ "$status:$(cat err)" = "1:recfile: Device" ] && cmp small/file four && [ ! -e small/file-journal ] || fail "status $status"
+    [ "$status:$(head -n 1 err)" = "1:recfile: Device" ] && cmp small/file four && [ ! -e small/file-journal ] || fail "status $status"
     umount small
 else
     echo "crashes: $row: left out, since nothing can be mounted"

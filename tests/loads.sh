@@ -22,10 +22,10 @@ run() {
     "$program" "$@" > out 2> err || status=$?
 }
 
-expect() { # STATUS FAULT: nothing is written, and this is told
+expect() { # STATUS FAULT: nothing is written, and this is told first
     [ $status = "$1" ] || fail "status $status"
     [ ! -s out ] || fail "something is written"
-    [ "$(cat err)" = "$2" ] || fail "that is told"
+    [ "$(head -n 1 err)" = "$2" ] || fail "that is told"
 }
 
 row="an order that isn't asked for"
@@ -125,9 +125,10 @@ run load plain.rec < .
 expect 3 "recfile: ReadFault"
 
 row="words that don't go together"
-run dump --tsv --csv plain.rec
-expect 2 "recfile: one of --tsv, --csv and --json"
-run dump --csv plain.rec > /dev/full
+for words in "--tsv --csv" "--csv --json" "--json --tsv"; do
+    run dump $words plain.rec
+    [ $status = 2 ] && grep -q "^error: the argument '--.*' cannot be used with '--" err || fail "that is told"
+done
 runs=$((runs + 1))
 status=0
 "$program" dump --json plain.rec > /dev/full 2> err || status=$?

@@ -28,10 +28,12 @@ def run(words, script=""):
 
 
 def expect(words, script="", out="", err="", status=0):
-    """Expects that of the call, whose faults have a line each."""
-    found = run(words, script)
-    if found != (status, out, err):
-        fail(words, f"{found}, and not {(status, out, err)}")
+    """Expects that of the call. Behind Device, and nothing else, stands why, which words.sh compares."""
+    found_status, found_out, found_err = run(words, script)
+    named, end, why = found_err.partition("\n")
+    found = (found_status, found_out, named + end)
+    if found != (status, out, err) or bool(why) != (err == "recfile: Device\n"):
+        fail(words, f"{found} and {why!r}, and not {(status, out, err)}")
 
 
 def expect_kept(path, words, script="", out="", err="", status=0):
@@ -117,12 +119,14 @@ def a_dump_copies_a_file():
 
 # Words that ask for nothing.
 FAULTY_WORDS = [
-    "frob", "create no.rec", "create --order 2", "create --order 1 --order 2 no.rec", "run", "run no.rec more", "run --order 2 no.rec", "run --log 9 --log 9 no.rec",
+    "frob", "create", "create --order 2", "create --order 1 --order 2 no.rec", "run", "run no.rec more", "run --order 2 no.rec", "run --log 9 --log 9 no.rec",
     "run --strict --strict no.rec", "shell --order 2", "shell --strict --strict", "shell no.rec no.rec", "check",
     "check --records 1 no.rec", "check --strict no.rec", "dump", "dump --strict no.rec", "explain", "explain --strict no.rec",
-    "memory no.rec",
+    "show", "show --svg --svg no.rec", "show --csv no.rec", "rescue", "rescue --csv no.rec", "load", "load --json no.rec",
+    "dump --tsv --tsv no.rec", "memory no.rec",
 ]
-HELP = ["--help", "create --help", "run --help", "shell --help", "check --help", "dump --help", "explain --help", "memory --help"]
+HELP = ["--help", "create --help", "run --help", "shell --help", "check --help", "dump --help", "explain --help",
+        "show --help", "rescue --help", "load --help", "memory --help"]
 # Numbers beyond the ends of their ranges, and at them.
 BEYOND = ["--records 0", "--records 1000001", "--log 1", "--log 4000001", "--begins 0", "--begins 1000001", "--begins -1", "--begins many"]
 

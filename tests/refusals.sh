@@ -96,7 +96,7 @@ expect_refused_run() {
         expect_replies "$commands"
         expect_accepted 0
         ;;
-    2:'recfile: Memory;' | 1:'recfile: Device;' | 2:'error: out of memory;')
+    2:'recfile: Memory;' | 1:'recfile: Device;'* | 2:'error: out of memory;')
         expect_replies 0
         expect_old
         ;;

@@ -68,7 +68,7 @@ def main():
         expect("the commands", [line.split()[0] for line in screen.split("\n")[1:-1]],
                "begin put del get claim save release back resume abort commit list keys log".split())
         screen, status = screen_of(program, [], [])
-        if "Usage: recfile" not in screen or status != 0:
+        if "Usage: recfile" not in screen or "To begin: recfile create" not in screen or status != 0:
             raise SystemExit(f"terminal: FAILED: no word: {screen!r}, status {status}")
         done = subprocess.run([program, "shell", "a.rec"], input=b"help\nlist\nput 1\n", capture_output=True)
         expect("a pipe", (done.stdout, done.stderr), (b"bad UnknownCommand\n- a =x\nok 1\nbad WordCount\n", b""))

@@ -26,7 +26,7 @@ chmod 000 some.rec
 for word in run check; do
     status=0
     printf 'begin\n' | $as ./recfile "$word" "$room/some.rec" > "$room/out" 2> "$room/err" || status=$?
-    if [ $status != 1 ] || [ -s out ] || [ "$(cat err)" != "recfile: Device" ]; then
+    if [ $status != 1 ] || [ -s out ] || [ "$(head -n 1 err)" != "recfile: Device" ]; then
         echo "unreadable: $word: status $status: $(cat out err)"
         exit 1
     fi

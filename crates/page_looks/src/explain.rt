@@ -226,15 +226,24 @@ fn tell_opened<F: Drop, H: Files<File = F>, W: Write>(
 ) -> io::Result<()> {
     match OpenOptions::new().read(true).write(true).open(rt, path) {
         Ok(_) => writeln!(out, "{path} is opened to be read and written"),
-        Err(error) => writeln!(
-            out,
-            "{path} is opened to be read, but not to be written: {error}"
-        ),
+        Err(error) => tell_unwritten(path, &error, out),
     }
 }
 
+// Tells why a file isn't opened to be written that is opened to be read.
+pub(crate) fn tell_unwritten<W: Write>(
+    path: &str,
+    error: &io::Error,
+    out: &mut W,
+) -> io::Result<()> {
+    writeln!(
+        out,
+        "{path} is opened to be read, but not to be written: {error}"
+    )
+}
+
 // Tells of the other names of a file.
-fn tell_names<W: Write>(path: &str, names: u64, out: &mut W) -> io::Result<()> {
+pub(crate) fn tell_names<W: Write>(path: &str, names: u64, out: &mut W) -> io::Result<()> {
     if names < 2 {
         return Ok(());
     }

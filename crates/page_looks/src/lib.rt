@@ -13,8 +13,10 @@ mod spelt;
 mod tree_look;
 mod tree_walk;
 mod unopened;
+mod why;
 
 pub use explain::explain_file;
 pub use reach::{Reach, reach_file};
 pub use shown::{Drawing, show_file};
 pub use spelt::{Kind, is_whole, kind_of};
+pub use why::{Wanted, tell_why};

@@ -125,21 +125,21 @@ fn reach_open<F: FileExt, E: Write>(
     file: &F,
     len: u64,
     err: &mut E,
-) -> io::Result<Reach> {
+) -> Result<Reach, AllocError> {
     let pages = len / PAGE_WIDTH as u64;
     let tail = len % PAGE_WIDTH as u64;
     if tail != 0 {
-        writeln!(err, "left out: {tail} bytes behind the last page")?;
+        let _ = writeln!(err, "left out: {tail} bytes behind the last page");
     }
     let counted = u32::try_from(pages.min(MOST_PAGES)).unwrap_or(u32::MAX);
     let Some(header) = header_of(file, err) else {
         let seen = unseen(alloc, counted)?;
-        tell_pages(file, None, &seen, err)?;
+        let _ = tell_pages(file, None, &seen, err);
         return Ok(Reach { header: None, seen });
     };
     let found = wrong_pages(&header, pages);
     if let Some(finding) = &found {
-        writeln!(err, "{finding}")?;
+        let _ = writeln!(err, "{finding}");
     }
     let header = Header {
         pages: counted,
@@ -147,7 +147,7 @@ fn reach_open<F: FileExt, E: Write>(
     };
     let (seen, whole) = reach_pages(alloc, file, &header)?;
     if !whole || found.is_some() || tail != 0 {
-        tell_pages(file, Some(&header), &seen, err)?;
+        let _ = tell_pages(file, Some(&header), &seen, err);
     }
     Ok(Reach {
         header: Some(header),
@@ -157,13 +157,13 @@ fn reach_open<F: FileExt, E: Write>(
 
 /// Looks at which pages of the file of a path its tree leads to. Of a file that isn't whole it tells on `err` which pages
 /// are no node and why, and which are one to which the tree doesn't lead; where the file isn't opened, why. It only reads
-/// the file. Errors are those of the writer, and want of memory.
+/// the file. What can't be told isn't. Fault: out of memory.
 pub fn reach_file<F: OpenFile + FileExt + Drop, H: Files<File = F>, E: Write>(
     rt: &H,
     alloc: Global,
     path: &str,
     err: &mut E,
-) -> io::Result<Reach> {
+) -> Result<Reach, AllocError> {
     let nothing = Reach {
         header: None,
         seen: Vec::new(alloc),
@@ -171,7 +171,7 @@ pub fn reach_file<F: OpenFile + FileExt + Drop, H: Files<File = F>, E: Write>(
     let file = match open_regular(rt, path) {
         Ok(file) => file,
         Err(fault) => {
-            tell_unopened(rt, path, &fault, err)?;
+            let _ = tell_unopened(rt, path, &fault, err);
             return Ok(nothing);
         }
     };

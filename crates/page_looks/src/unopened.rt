@@ -59,8 +59,8 @@ pub fn open_regular<F: Drop, H: Files<File = F>>(rt: &H, path: &str) -> Result<F
     Ok(OpenOptions::new().read(true).open(rt, path)?)
 }
 
-// The folder that a path names a file in.
-fn folder_of(path: &str) -> &str {
+/// The folder that a path names a file in.
+pub fn folder_of(path: &str) -> &str {
     match path.rfind('/') {
         Some(0) => "/",
         Some(end) => &path[..end],
@@ -68,19 +68,35 @@ fn folder_of(path: &str) -> &str {
     }
 }
 
+/// Tells whether the folder of a path is missing.
+pub fn tell_missing_folder<H: Files, W: Write>(
+    rt: &H,
+    path: &str,
+    out: &mut W,
+) -> io::Result<bool> {
+    let folder = folder_of(path);
+    match rt.metadata(folder) {
+        Ok(_) => Ok(false),
+        Err(_) => {
+            writeln!(out, "there is no such folder: {folder}")?;
+            Ok(true)
+        }
+    }
+}
+
 // What can be done where nothing is found at a path.
 fn tell_missing<H: Files, W: Write>(rt: &H, path: &str, out: &mut W) -> io::Result<()> {
-    let folder = folder_of(path);
     if rt.symlink_metadata(path).is_ok() {
         return writeln!(out, "{path} is a link to a file that isn't there");
     }
-    match rt.metadata(folder) {
-        Ok(_) => writeln!(
-            out,
-            "there is no such file in {folder}: recfile create {path} makes one"
-        ),
-        Err(_) => writeln!(out, "there is no such folder: {folder}"),
+    if tell_missing_folder(rt, path, out)? {
+        return Ok(());
     }
+    let folder = folder_of(path);
+    writeln!(
+        out,
+        "there is no such file in {folder}: recfile create {path} makes one"
+    )
 }
 
 /// Tells why the file of a path isn't opened, and what can be done.

@@ -14,3 +14,4 @@ pub mod KeptLemmas
 pub mod WritingLemmas
 pub mod RoomLemmas
 pub mod WordLemmas
+pub mod SavedLemmas

@@ -1,5 +1,5 @@
 -- What a dump of a page file writes, and why there is none.
-use Rattle.std.specs.Prelude.{◌≡◌, ℕ, ◌<◌, ◌≤◌, ◌⊎◌, Bool, false, List, length, take, Option, Result, Ok, Err}
+use Rattle.std.specs.Prelude.{◌≡◌, ℕ, ◌<◌, ◌≤◌, ◌⊎◌, Bool, false, List, length, take, Option, Some, None, Result, Ok, Err}
 use Rattle.std.specs.List.{All}
 use Rattle.std.specs.Io.KnownBytes.{Appends}
 use Rattle.rec_types.specs.Contents.{Contents}
@@ -8,6 +8,8 @@ use Rattle.btree_delete.specs.CleanFile.{IsFirst}
 use Rattle.btree_delete.specs.TableView.{IsClosed}
 use Rattle.btree_delete.specs.declared.opening.open_fault.OpenFault.{OpenFault}
 use Rattle.command_text.specs.Dump.{dump_text, CanBePut}
+use Rattle.record_texts.specs.Forms.{records_text}
+use Rattle.record_texts.specs.declared.form.Form.{Form}
 use Rattle.recfile.specs.FileFaults.{fault_of_opening, is_device}
 use Rattle.recfile.specs.declared.dump.DumpFault.{DumpFault}
 use Rattle.recfile.specs.declared.dump.DumpFault.TheVariants.{File, Write}
@@ -34,6 +36,11 @@ is_device_dump (Ok x) = false
 is_device_dump (Err (File fault)) = is_device fault
 is_device_dump (Err Write) = false
 
+-- it isn't the writer that failed
+abbrev pub IsFileFault : DumpFault → Type 0
+IsFileFault (File fault) = Unit {0}
+IsFileFault Write = ⊥
+
 -- the text isn't written where the file has a fault, and not whole where the writer has one
 abbrev pub IsDumpFault : List (List ℕ) → ℕ → ℕ → DumpFault → Type 0
 IsDumpFault stored tail limit (File fault) = IsFirstOrOutside stored tail limit fault
@@ -44,9 +51,19 @@ abbrev pub IsSilent : Option (List ℕ) → Option (List ℕ) → DumpFault → 
 IsSilent held holds (File fault) = holds ≡ held
 IsSilent held holds Write = Unit {0}
 
--- the records are written as a script, and are such as its lines can say
-abbrev pub Dumps : Option (List ℕ) → Option (List ℕ) → List (List ℕ × List ℕ) → Type 0
-Dumps held holds records = Appends held holds (dump_text records) × All CanBePut records
+-- the text of records in a form, or as a script
+abbrev pub text_in : Option Form → List (List ℕ × List ℕ) → List ℕ
+text_in None records = dump_text records
+text_in (Some form) records = records_text form records
+
+-- records are such as the lines of a script can say, where they are written as one
+abbrev pub AreSaidIn : Option Form → List (List ℕ × List ℕ) → Type 0
+AreSaidIn None records = All CanBePut records
+AreSaidIn (Some form) records = Unit {0}
+
+-- the records are written in a form, or as a script, whose lines can say them
+abbrev pub Dumps : Option Form → Option (List ℕ) → Option (List ℕ) → List (List ℕ × List ℕ) → Type 0
+Dumps form held holds records = Appends held holds (text_in form records) × AreSaidIn form records
 
 -- the fault is from outside, or the writer's, and then a front of the text is written
 abbrev pub DumpStops : Option (List ℕ) → Option (List ℕ) → List ℕ → DumpFault → Type 0

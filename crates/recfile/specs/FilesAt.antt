@@ -12,8 +12,8 @@ use Rattle.btree_node.specs.Layout.{second_version}
 use Rattle.btree_insert.specs.declared.tree.Tree.{Tree}
 use Rattle.btree_delete.specs.Created.{IsEmpty, IsOrder}
 use Rattle.btree_delete.specs.TableView.{IsClosed}
-use Rattle.command_text.specs.Dump.{dump_text}
-use Rattle.recfile.specs.Dumped.{CanBeOpened, DumpStops, Dumps, IsDumpFault, IsSilent}
+use Rattle.record_texts.specs.declared.form.Form.{Form}
+use Rattle.recfile.specs.Dumped.{CanBeOpened, DumpStops, Dumps, IsDumpFault, IsSilent, text_in}
 use Rattle.recfile.specs.FileFaults.{IsMakingFault}
 use Rattle.recfile.specs.Kept.{ClosesSafely, IsOutsideDisk, IsUnopened, LeavesAs, LeavesOld}
 use Rattle.recfile.specs.StoreSession.{MakesIn}
@@ -30,6 +30,10 @@ pub record IsCleanAt (At : Files → Type 0) (pages : List (List ℕ)) (tail : �
   pub at : At files
   pub main : files.main ≡ record { pages = pages; tail = tail }
   pub alone : files.side ≡ None
+
+-- these pages are the file of a path, whatever stands beside it
+abbrev pub IsFoundAt : (Files → Type 0) → List (List ℕ) → ℕ → Type 0
+IsFoundAt At pages tail = (files : Files) × At files × (files.main ≡ record { pages = pages; tail = tail })
 
 -- A session over a disk that was just opened, and what it leaves of what the reader has and the writer holds, of the
 -- disk, and as status. A crash at any moment of it leaves the old file or the one that the session closes.
@@ -78,11 +82,11 @@ TellsTree held holds tree contents pages done =
     MatchResult done (λ _. Appends held holds (counts_line (counts_in tree contents pages)))
     (DumpStops held holds (counts_line (counts_in tree contents pages)))
 
--- the script of a dump, or why it isn't whole
-abbrev pub TellsRecords : Option (List ℕ) → Option (List ℕ) → Tree → Contents → ℕ → Result (Unit {0}) DumpFault → Type 0
-TellsRecords held holds tree contents pages done =
-    MatchResult done (λ _. Dumps held holds (maps.entries contents))
-    (DumpStops held holds (dump_text (maps.entries contents)))
+-- the text of a dump, or why it isn't whole
+abbrev pub TellsRecords : Option Form → Option (List ℕ) → Option (List ℕ) → Tree → Contents → ℕ → Result (Unit {0}) DumpFault → Type 0
+TellsRecords form held holds tree contents pages done =
+    MatchResult done (λ _. Dumps form held holds (maps.entries contents))
+    (DumpStops held holds (text_in form (maps.entries contents)))
 
 -- An empty file was made at a path, and a tree of that order without records in it, or the fault says why not.
 pub record MakesAt {S : Type 0} (g : StoreGhosts S) (order : ℕ) (made : Result (Unit {0}) FileFault) : Type 0 where

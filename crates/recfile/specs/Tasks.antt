@@ -1,15 +1,20 @@
 -- What doing a task of the program leaves, and its status.
-use Rattle.std.specs.Prelude.{◌≡◌, ◌⊎◌, ℕ, Bool, ◌<◌, List, length, take, Option, None, Result, Ok, Err, if◌then◌else◌}
+use Rattle.std.specs.Prelude.{◌≡◌, ◌⊎◌, ℕ, Bool, true, ◌<◌, List, length, take, Option, Some, None, Result, Ok, Err, IsTrue, if◌then◌else◌}
 use Rattle.std.specs.Result.{is_err}
 use Rattle.std.specs.Io.KnownBytes.{Appends}
 use Rattle.rec_types.specs.Contents.{Contents}
-use Rattle.rec_types.specs.LimitBounds.{most_records}
+use Rattle.rec_types.specs.LimitBounds.{Bounds, most_records}
+use Rattle.page_store.specs.StoreCalls.{StaysStore}
 use Rattle.page_store.specs.declared.store_state.StoreState.{Ghosts as StoreGhosts}
 use Rattle.page_journal.specs.Files.{Files}
 use Rattle.page_journal.specs.declared.disk_state.DiskState.{Ghosts as DiskGhosts}
 use Rattle.btree_insert.specs.declared.tree.Tree.{Tree}
 use Rattle.command_text.specs.Dump.{dump_text}
-use Rattle.recfile.specs.FilesAt.{Creates, RunsAt, Tells, TellsRecords, TellsTree}
+use Rattle.page_rescue.specs.Rescue.{Saves}
+use Rattle.page_rescue.specs.declared.rescue.Rescued.{Rescued}
+use Rattle.record_texts.specs.declared.form.Form.{Form}
+use Rattle.recfile.specs.Dumped.{text_in}
+use Rattle.recfile.specs.FilesAt.{Creates, IsFoundAt, RunsAt, Tells, TellsRecords, TellsTree}
 use Rattle.recfile.specs.TreeLine.{counts_line}
 use Rattle.recfile.specs.Whole.{empty_file}
 use Rattle.recfile.specs.WholeSession.{RunsFile}
@@ -17,6 +22,8 @@ use Rattle.recfile.specs.declared.dump.DumpFault.{DumpFault}
 use Rattle.recfile.specs.declared.dump.DumpFault.TheVariants.{File, Write}
 use Rattle.recfile.specs.declared.file_fault.FileFault.{FileFault}
 use Rattle.recfile.specs.declared.page_file.TreeCounts.{TreeCounts}
+use Rattle.recfile.specs.declared.manner.Feed.TheVariants.{Lines}
+use Rattle.recfile.specs.declared.manner.Manner.{Manner}
 use Rattle.recfile.specs.declared.words.Task.{Task}
 use Rattle.recfile.specs.declared.words.Task.TheVariants as tasks
 
@@ -24,8 +31,12 @@ use Rattle.recfile.specs.declared.words.Task.TheVariants as tasks
 abbrev pub IsLine : List ℕ → Type 0
 IsLine text = (counts : TreeCounts) × (text ≡ counts_line counts)
 
-abbrev pub IsDump : List ℕ → Type 0
-IsDump text = (records : List (List ℕ × List ℕ)) × (text ≡ dump_text records)
+abbrev pub IsDump : Option Form → List ℕ → Type 0
+IsDump form text = (records : List (List ℕ × List ℕ)) × (text ≡ text_in form records)
+
+-- the script of what is saved of these pages
+abbrev pub IsSaved : List (List ℕ) → List ℕ → Type 0
+IsSaved pages text = (rescued : Rescued) × Saves pages rescued × (text ≡ dump_text rescued.records.items)
 
 -- a text of that kind is written whole; or none, where the file has a fault; or a front of one, where the writer has one
 abbrev pub Writes : (List ℕ → Type 0) → Option (List ℕ) → Option (List ℕ) → Result (Unit {0}) DumpFault → Type 0
@@ -44,6 +55,34 @@ abbrev pub WritesText : {S : Type 0} → (List ℕ → Type 0) → StoreGhosts S
 WritesText Is g At Told held holds status =
     (done : Result (Unit {0}) DumpFault) × Writes Is held holds done × Tells g At most_records Told held holds done × (status ≡ text_status done)
 
+-- What was saved of the file at a path: no file is found there and nothing is written, or what is saved of its pages is.
+-- Nothing is written to the file.
+pub record RescuesAt {S : Type 0} (g : StoreGhosts S) (At : Files → Type 0) (held holds : Option (List ℕ)) (done : Result (Unit {0}) DumpFault) : Type 0 where
+  pub opened : S
+  pub found : IsTrue (g.steady opened) → IsFoundAt At (g.pages opened) (g.tail opened)
+  pub store : S
+  pub saved : IsTrue (g.steady opened) → Writes (IsSaved (g.pages opened)) held holds done
+  pub stays : StaysStore g opened store
+
+abbrev pub Rescues : {S : Type 0} → StoreGhosts S → (Files → Type 0) → Option (List ℕ) → Option (List ℕ) → Result (Unit {0}) DumpFault → Type 0
+Rescues g At held holds done =
+    ((fault : FileFault) × (done ≡ Err (File fault)) × (holds ≡ held)) ⊎ RescuesAt g At held holds done
+
+-- the manner of the session that loads records
+abbrev pub loading : Manner
+loading = record { strict = true; feed = Lines }
+
+-- A session over the file at a path, or there is none and nothing is read and written.
+abbrev pub RunsOver : {D : Type 0} → DiskGhosts D → (Files → Type 0) → Manner → Bounds → Option (List ℕ) → Option (List ℕ) → Option (List ℕ) → Option (List ℕ) → ℕ → Type 0
+RunsOver disks At manner limits left leaves held holds status =
+    ((status ≡ 1) × (leaves ≡ left) × (holds ≡ held)) ⊎ RunsAt disks At manner limits left leaves held holds status
+
+-- Records are loaded into the file at a path: a session runs the script that puts them in one transaction, up to its first
+-- refusal, by which none of them stays. Its replies go nowhere.
+abbrev pub LoadsAt : {D : Type 0} → DiskGhosts D → (Files → Type 0) → Bounds → ℕ → Type 0
+LoadsAt disks At limits status =
+    (records : List (List ℕ × List ℕ)) × (leaves : Option (List ℕ)) × RunsOver disks At loading limits (Some (dump_text records)) leaves None None status
+
 -- the status where it was asked whether a file is whole
 abbrev pub told_status : Result Bool DumpFault → ℕ
 told_status (Ok whole) = if whole then 0 else 1
@@ -57,13 +96,16 @@ abbrev pub Does : {D S : Type 0} → DiskGhosts D → StoreGhosts S → (List �
 Does disks stores at (tasks.Create order path) left leaves held holds status =
     (leaves ≡ left) × (holds ≡ held)
     × ((made : Result (Unit {0}) FileFault) × Creates stores order made × (status ≡ (if is_err made then 1 else 0)))
-Does disks stores at (tasks.Run limits manner path) left leaves held holds status =
-    ((status ≡ 1) × (leaves ≡ left) × (holds ≡ held)) ⊎ RunsAt disks (at path.now) manner limits left leaves held holds status
+Does disks stores at (tasks.Run limits manner path) left leaves held holds status = RunsOver disks (at path.now) manner limits left leaves held holds status
 Does disks stores at (tasks.Check path) left leaves held holds status =
     (leaves ≡ left) × WritesText IsLine stores (at path.now) (TellsTree held holds) held holds status
-Does disks stores at (tasks.Dump path) left leaves held holds status =
-    (leaves ≡ left) × WritesText IsDump stores (at path.now) (TellsRecords held holds) held holds status
-Does disks stores at (tasks.Explain path) left leaves held holds status = (leaves ≡ left) × ((told : Result Bool DumpFault) × (status ≡ told_status told))
+Does disks stores at (tasks.Dump form path) left leaves held holds status =
+    (leaves ≡ left) × WritesText (IsDump form) stores (at path.now) (TellsRecords form held holds) held holds status
+Does disks stores at (tasks.Rescue path) left leaves held holds status =
+    (leaves ≡ left)
+    × ((done : Result (Unit {0}) DumpFault) × Writes (IsDump None) held holds done × Rescues stores (at path.now) held holds done × (status ≡ text_status done))
+Does disks stores at (tasks.Load separator limits path) left leaves held holds status = (holds ≡ held) × ((status ≡ 3) ⊎ LoadsAt disks (at path.now) limits status)
+Does disks stores at (tasks.Tell telling path) left leaves held holds status = (leaves ≡ left) × ((told : Result Bool DumpFault) × (status ≡ told_status told))
 Does disks stores at (tasks.Memory limits manner) left leaves held holds status =
     RunsFile manner left leaves held holds (empty_file limits) None status
 

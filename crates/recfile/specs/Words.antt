@@ -1,11 +1,19 @@
 -- Which task the words after the program's name ask for, by what was found in them.
-use Rattle.std.specs.Prelude.{◌≡◌, ◌≢◌, ◌⊎◌, ℕ, ◌<◌, ◌^◌, true, false, List, [], Option, Some, None, unwrap_or, codes}
+use Rattle.std.specs.Prelude.{◌≡◌, ◌≢◌, ◌⊎◌, ℕ, ◌<◌, ◌^◌, Bool, true, false, List, [], Option, Some, None, unwrap_or, codes}
 use Rattle.std.specs.Str.Parse.{IsNumeral, digits_value, without_leading_plus}
 use Rattle.clap.specs.Walk.{Row, first_of, one_of}
+use Rattle.page_looks.specs.declared.shown.Drawing.{Drawing}
+use Rattle.page_looks.specs.declared.shown.Drawing.TheVariants.{Lines as DrawnLines, Picture}
 use Rattle.rec_types.specs.LimitBounds.{Bounds, most_records, most_log_records, most_begins}
+use Rattle.record_texts.specs.declared.form.Form.{Form}
+use Rattle.record_texts.specs.declared.form.Form.TheVariants.{Tsv, Csv, Json}
+use Rattle.record_texts.specs.declared.reading.Separator.{Separator}
+use Rattle.record_texts.specs.declared.reading.Separator.TheVariants.{Tab, Comma}
 use Rattle.recfile.specs.declared.manner.Feed.{Feed}
 use Rattle.recfile.specs.declared.manner.Feed.TheVariants.{Lines, Script}
 use Rattle.recfile.specs.declared.manner.Manner.{Manner}
+use Rattle.recfile.specs.declared.telling.Telling.{Telling}
+use Rattle.recfile.specs.declared.telling.Telling.TheVariants.{Explanation, Tree}
 use Rattle.recfile.specs.declared.words.Task.{Task}
 use Rattle.recfile.specs.declared.words.Task.TheVariants as tasks
 
@@ -21,12 +29,32 @@ AreLimits rows limits =
     × IsRead 32 (one_of (codes "log") rows) most_log_records limits.log_records
     × IsRead 32 (one_of (codes "begins") rows) most_begins limits.begins
 
+-- whether an option is set
+pub record IsFlag (rows : List Row) (name : List ℕ) (is_set : Bool) : Type 0 where
+  pub none : one_of name rows ≡ None → is_set ≡ false
+  pub set : one_of name rows ≡ Some (codes "true") → is_set ≡ true
+  pub unset : one_of name rows ≡ Some (codes "false") → is_set ≡ false
+
 -- a manner: how lines come, and whether a refusal ends them
-pub record IsManner (rows : List Row) (feed : Feed) (manner : Manner) : Type 0 where
-  pub feed_is : manner.feed ≡ feed
-  pub none : one_of (codes "strict") rows ≡ None → manner.strict ≡ false
-  pub set : one_of (codes "strict") rows ≡ Some (codes "true") → manner.strict ≡ true
-  pub unset : one_of (codes "strict") rows ≡ Some (codes "false") → manner.strict ≡ false
+abbrev pub IsManner : List Row → Feed → Manner → Type 0
+IsManner rows feed manner = (manner.feed ≡ feed) × IsFlag rows (codes "strict") manner.strict
+
+-- the form of a dump: the first of its options that is set
+abbrev pub IsForm : List Row → Option Form → Type 0
+IsForm rows (Some Tsv) = IsFlag rows (codes "tsv") true
+IsForm rows (Some Csv) = IsFlag rows (codes "tsv") false × IsFlag rows (codes "csv") true
+IsForm rows (Some Json) = IsFlag rows (codes "tsv") false × IsFlag rows (codes "csv") false × IsFlag rows (codes "json") true
+IsForm rows None = IsFlag rows (codes "tsv") false × IsFlag rows (codes "csv") false × IsFlag rows (codes "json") false
+
+-- what separates the fields of the lines to be loaded
+abbrev pub IsSeparator : List Row → Separator → Type 0
+IsSeparator rows Comma = IsFlag rows (codes "csv") true
+IsSeparator rows Tab = IsFlag rows (codes "csv") false
+
+-- how a tree is to be drawn
+abbrev pub IsDrawing : List Row → Drawing → Type 0
+IsDrawing rows Picture = IsFlag rows (codes "svg") true
+IsDrawing rows DrawnLines = IsFlag rows (codes "svg") false
 
 abbrev pub file_of : List Row → List ℕ
 file_of rows = unwrap_or (first_of (codes "FILE") rows) []
@@ -34,7 +62,13 @@ file_of rows = unwrap_or (first_of (codes "FILE") rows) []
 -- none of the names of commands that have a file, or may have one
 abbrev pub IsOther : List ℕ → Type 0
 IsOther name =
-    (name ≢ codes "create") × (name ≢ codes "run") × (name ≢ codes "shell") × (name ≢ codes "check") × (name ≢ codes "dump") × (name ≢ codes "explain")
+    (name ≢ codes "create") × (name ≢ codes "run") × (name ≢ codes "shell") × (name ≢ codes "check") × (name ≢ codes "dump") × (name ≢ codes "rescue") × (name ≢ codes "load")
+    × (name ≢ codes "explain") × (name ≢ codes "show")
+
+-- the name of the command by which a file is told of
+abbrev pub IsTelling : List ℕ → List Row → Telling → Type 0
+IsTelling name rows Explanation = name ≡ codes "explain"
+IsTelling name rows (Tree drawing) = (name ≡ codes "show") × IsDrawing rows drawing
 
 -- the task of a shell: a session over the file, or where there is none over an empty one
 abbrev pub IsShell : List Row → Task → Type 0
@@ -42,8 +76,10 @@ IsShell rows (tasks.Create order path) = ⊥
 IsShell rows (tasks.Run limits manner path) =
     AreLimits rows limits × IsManner rows Lines manner × (first_of (codes "FILE") rows ≡ Some path.now)
 IsShell rows (tasks.Check path) = ⊥
-IsShell rows (tasks.Dump path) = ⊥
-IsShell rows (tasks.Explain path) = ⊥
+IsShell rows (tasks.Dump form path) = ⊥
+IsShell rows (tasks.Rescue path) = ⊥
+IsShell rows (tasks.Load separator limits path) = ⊥
+IsShell rows (tasks.Tell telling path) = ⊥
 IsShell rows (tasks.Memory limits manner) =
     AreLimits rows limits × IsManner rows Lines manner × (first_of (codes "FILE") rows ≡ None)
 
@@ -51,13 +87,16 @@ IsShell rows (tasks.Memory limits manner) =
 -- lines
 abbrev pub IsNamed : List ℕ → List Row → Task → Type 0
 IsNamed name rows (tasks.Create order path) =
-    (name ≡ codes "create") × IsRead 16 (one_of (codes "order") rows) 0 order × (path.now ≡ file_of rows)
+    (name ≡ codes "create") × IsRead 16 (one_of (codes "order") rows) 16 order × (path.now ≡ file_of rows)
 IsNamed name rows (tasks.Run limits manner path) =
     ((name ≡ codes "run") × AreLimits rows limits × IsManner rows Script manner × (path.now ≡ file_of rows))
     ⊎ ((name ≡ codes "shell") × IsShell rows (tasks.Run limits manner path))
 IsNamed name rows (tasks.Check path) = (name ≡ codes "check") × (path.now ≡ file_of rows)
-IsNamed name rows (tasks.Dump path) = (name ≡ codes "dump") × (path.now ≡ file_of rows)
-IsNamed name rows (tasks.Explain path) = (name ≡ codes "explain") × (path.now ≡ file_of rows)
+IsNamed name rows (tasks.Dump form path) = (name ≡ codes "dump") × IsForm rows form × (path.now ≡ file_of rows)
+IsNamed name rows (tasks.Rescue path) = (name ≡ codes "rescue") × (path.now ≡ file_of rows)
+IsNamed name rows (tasks.Load separator limits path) =
+    (name ≡ codes "load") × IsSeparator rows separator × AreLimits rows limits × (path.now ≡ file_of rows)
+IsNamed name rows (tasks.Tell telling path) = IsTelling name rows telling × (path.now ≡ file_of rows)
 IsNamed name rows (tasks.Memory limits manner) =
     (IsOther name × AreLimits rows limits × IsManner rows Script manner)
     ⊎ ((name ≡ codes "shell") × IsShell rows (tasks.Memory limits manner))

@@ -2,11 +2,13 @@ ghost use Rattle.std.specs.Prelude.{◌≡◌, ◌⊎◌, ℕ, List, None, IsTru
 ghost use Rattle.btree_delete.specs.Created.{IsEmpty};
 ghost use Rattle.page_journal.specs.Crash.{IsAtRest};
 ghost use Rattle.page_journal.specs.Files.{Files};
-ghost use Rattle.recfile.specs.FilesAt.{IsCleanAt};
+ghost use Rattle.recfile.specs.FilesAt.{IsCleanAt, IsFoundAt};
 
 use crate::dump::DumpFault;
 use crate::file_fault::FileFault;
+use crate::telling::Telling;
 use page_journal::Disk;
+use page_looks::{Reach, Wanted};
 use page_store::Store;
 use std::alloc::Global;
 use std::io::Write;
@@ -38,6 +40,17 @@ pub trait PageFiles {
         ensures found { IfOk result (λ store. IsTrue (Self.Pages.steady store)
             → IsCleanAt (Self.at self.now path.now) (Self.Pages.pages store) (Self.Pages.tail store)) };
 
+    /// Opens the file at the path to read it, whatever it is, and tells which of its pages its tree leads to, with what is
+    /// wrong with the others on `err`. Faults: Device, as where there is no file; Memory.
+    fn open_damaged<E: Write>(
+        &self,
+        alloc: Global,
+        path: &str,
+        err: &mut E,
+    ) -> Result<(Self::Pages, Reach), FileFault>
+        ensures found { IfOk result (λ opened. IsTrue (Self.Pages.steady opened.0)
+            → IsFoundAt (Self.at self.now path.now) (Self.Pages.pages opened.0) (Self.Pages.tail opened.0)) };
+
     /// Makes a page file without pages at the path, where there is none. A side file of that name is of another file, and
     /// stays. Faults: Device, as where there is a file; BadJournal; Memory. No file is made then.
     fn create(&self, alloc: Global, path: &str) -> Result<Self::Pages, FileFault>
@@ -55,7 +68,18 @@ pub trait PageFiles {
     ) -> Result<(), FileFault>
         ensures { IsErr result ⊎ (result ≡ made) };
 
-    /// Tells what the file at the path is and what is wrong with it, and answers whether a check of it finds no fault. It
-    /// only reads the file. Faults: Memory; Write, where the text can't be written whole.
-    fn explain<W: Write>(&self, alloc: Global, path: &str, out: &mut W) -> Result<bool, DumpFault>;
+    /// Tells of the file at the path, whatever it is, and answers whether a check of it finds no fault; what keeps a tree
+    /// from being drawn stands on `err`. It only reads the file. Faults: Memory; Write, where the text can't be written whole.
+    fn tell<W: Write, E: Write>(
+        &self,
+        alloc: Global,
+        telling: Telling,
+        path: &str,
+        out: &mut W,
+        err: &mut E,
+    ) -> Result<bool, DumpFault>;
+
+    /// Tells on `err` why the file at the path isn't made, read or written, as far as it can be told behind a fault of the
+    /// device. It leaves the file as it is.
+    fn tell_why<E: Write>(&self, alloc: Global, wanted: Wanted, path: &str, err: &mut E);
 }

@@ -2,18 +2,21 @@ ghost use Rattle.std.specs.Prelude.{◌≡◌, ◌⊎◌, if◌then◌else◌};
 ghost use Rattle.std.specs.Result.{is_err};
 ghost use Rattle.rec_types.specs.LimitBounds.{most_records};
 ghost use Rattle.recfile.specs.FilesAt.{Creates, Tells, TellsRecords, TellsTree};
-ghost use Rattle.recfile.specs.Tasks.{Does, DoesAny, IsDump, IsLine, Writes, text_status, told_status};
+ghost use Rattle.recfile.specs.Tasks.{Does, DoesAny, IsDump, IsLine, Rescues, Writes, text_status, told_status};
 
-use crate::dump::{DumpFault, dump_in};
+use crate::dump::{DumpFault, dump_in, rescue_in};
 use crate::file_fault::FileFault;
-use crate::kept_file::run_kept;
 use crate::limits::greatest_limits;
+use crate::loading::load;
 use crate::page_file::{check_in, create_in};
 use crate::page_files::PageFiles;
+use crate::path_session::run_at_path;
 use crate::session::run_memory;
 use crate::statuses::exit_status;
-use crate::tell::tell;
+use crate::tell::{tell, tell_device};
 use crate::words::{Task, UsageFault, read_words};
+use page_looks::Wanted;
+use record_texts::Form;
 use std::alloc::Global;
 use std::io::{Read, Write};
 
@@ -46,33 +49,60 @@ fn check<P: PageFiles, W: Write>(
     told
 }
 
-// Writes the records of the page file at a path as a script.
+// Writes the records of the page file at a path in a form, or as a script.
 fn dump<P: PageFiles, W: Write>(
+    files: &P,
+    alloc: Global,
+    form: Option<Form>,
+    path: &str,
+    out: &mut W,
+) -> Result<(), DumpFault>
+    ensures text { Writes (IsDump form) (W.contents out.old) (W.contents out.new) result }
+    ensures told { Tells P.Pages.StoreState (P.at files.now path.now) most_records
+        (TellsRecords form (W.contents out.old) (W.contents out.new))
+        (W.contents out.old) (W.contents out.new) result }
+{
+    let store = files.open_clean(alloc, path)?;
+    let (_store, dumped) = dump_in(alloc, store, greatest_limits(), form, out);
+    dumped
+}
+
+// Writes the records of the whole pages of the file at a path as a script; what is left out is told on `err`.
+fn rescue<P: PageFiles, W: Write, E: Write>(
     files: &P,
     alloc: Global,
     path: &str,
     out: &mut W,
+    err: &mut E,
 ) -> Result<(), DumpFault>
-    ensures script { Writes IsDump (W.contents out.old) (W.contents out.new) result }
-    ensures told { Tells P.Pages.StoreState (P.at files.now path.now) most_records
-        (TellsRecords (W.contents out.old) (W.contents out.new))
+    ensures script { Writes (IsDump None) (W.contents out.old) (W.contents out.new) result }
+    ensures saved { Rescues P.Pages.StoreState (P.at files.now path.now)
         (W.contents out.old) (W.contents out.new) result }
 {
-    let store = files.open_clean(alloc, path)?;
-    let (_store, dumped) = dump_in(alloc, store, greatest_limits(), out);
-    dumped
+    let (mut store, reach) = files.open_damaged(alloc, path, err)?;
+    rescue_in(alloc, &mut store, reach.header, &reach.seen, out)
 }
 
-// The status where a text was asked for; its fault is named.
-fn text_status<E: Write>(err: &mut E, done: Result<(), DumpFault>) -> u8
+// The status where a text about the file at a path was asked for; its fault is named.
+fn text_status<P: PageFiles, E: Write>(
+    files: &P,
+    alloc: Global,
+    path: &str,
+    err: &mut E,
+    done: Result<(), DumpFault>,
+) -> u8
     ensures { result ≡ text_status done }
 {
-    match done {
-        Ok(()) => exit_status(false, false, false),
-        Err(fault) => {
-            tell(err, &fault);
-            exit_status(false, fault != DumpFault::Write, fault == DumpFault::Write)
+    let Err(fault) = done else {
+        return exit_status(false, false, false);
+    };
+    tell(err, &fault);
+    match fault {
+        DumpFault::File(fault) => {
+            tell_device(files, alloc, Wanted::Read, path, Some(fault), err);
+            exit_status(false, true, false)
         }
+        DumpFault::Write => exit_status(false, false, true),
     }
 }
 
@@ -82,18 +112,28 @@ fn told_status<E: Write>(err: &mut E, told: Result<bool, DumpFault>) -> u8
 {
     match told {
         Ok(whole) => exit_status(false, !whole, false),
-        Err(fault) => text_status(err, Err(fault)),
+        Err(fault) => {
+            tell(err, &fault);
+            exit_status(false, fault != DumpFault::Write, fault == DumpFault::Write)
+        }
     }
 }
 
-// The status where only a file was asked for; its fault is named.
-fn file_status<E: Write>(err: &mut E, done: Result<(), FileFault>) -> u8
+// The status where a file was to be made; its fault is named.
+fn made_status<P: PageFiles, E: Write>(
+    files: &P,
+    alloc: Global,
+    path: &str,
+    err: &mut E,
+    done: Result<(), FileFault>,
+) -> u8
     ensures { result ≡ (if is_err done then 1 else 0) }
 {
     match done {
         Ok(()) => exit_status(false, false, false),
         Err(fault) => {
             tell(err, &fault);
+            tell_device(files, alloc, Wanted::Made, path, Some(fault), err);
             exit_status(false, true, false)
         }
     }
@@ -133,33 +173,56 @@ fn run_task<P: PageFiles, R: Read, W: Write, E: Write>(
         (W.contents out.old) (W.contents out.new) result }
 {
     match task {
-        Task::Create { order, path } => file_status(err, create(files, alloc, order, path)),
-        Task::Check { path } => text_status(err, check(files, alloc, path, out)),
-        Task::Dump { path } => text_status(err, dump(files, alloc, path, out)),
-        Task::Explain { path } => told_status(err, files.explain(alloc, path, out)),
+        Task::Create { order, path } => {
+            let made = create(files, alloc, order, path);
+            made_status(files, alloc, path, err, made)
+        }
+        Task::Check { path } => {
+            let told = check(files, alloc, path, out);
+            text_status(files, alloc, path, err, told)
+        }
+        Task::Dump { form, path } => {
+            let dumped = dump(files, alloc, form, path, out);
+            text_status(files, alloc, path, err, dumped)
+        }
+        Task::Rescue { path } => {
+            let saved = rescue(files, alloc, path, out, err);
+            text_status(files, alloc, path, err, saved)
+        }
+        Task::Load {
+            separator,
+            limits,
+            path,
+        } => load(files, alloc, separator, limits, path, reader, err),
+        Task::Tell { telling, path } => {
+            let told = files.tell(alloc, telling, path, out, err);
+            told_status(err, told)
+        }
         Task::Memory { limits, manner } => run_memory(alloc, limits, manner, reader, out, err),
         Task::Run {
             limits,
             manner,
             path,
-        } => match files.open(alloc, path) {
-            Ok(disk) => run_kept(alloc, disk, limits, manner, reader, out, err).status,
-            Err(fault) => file_status(err, Err(fault)),
-        },
+        } => run_at_path(files, alloc, limits, manner, path, reader, out, err),
     }
 }
 
 /// Does what the words ask for, of which the first is the program's name, and answers the status: that of
 /// `exit_status`, or 2 where the words can't be read. Faults have their lines on `err`.
 ///
-/// - `create --order K FILE` makes a page file; one that is there is left alone.
+/// - `create [--order K] FILE` makes a page file; one that is there is left alone.
 /// - `run [--records N] [--log N] [--begins N] [--strict] FILE` runs the script that the reader has over a page file, which
 ///   no other program may open meanwhile, and closes it so that no stop loses it.
 /// - `shell [--records N] [--log N] [--begins N] [--strict] [FILE]` runs the lines that the reader has over a page file
 ///   or in memory, and answers each before it reads on.
 /// - `check FILE` checks a page file, tells of its tree in one line, and writes nothing to it.
-/// - `dump FILE` writes the records of a page file as a script that puts them, and writes nothing to it.
+/// - `dump [--tsv|--csv|--json] FILE` writes the records of a page file in a form, or as a script that puts them, and writes
+///   nothing to it.
+/// - `load [--csv] [--records N] FILE` puts the records that the reader has into a page file, all or none.
 /// - `explain FILE` tells what a file is, and what is wrong with it; it only reads the file. Its status is that of `check`.
+/// - `show [--svg] FILE` draws the tree of a file, and what is wrong with it; it only reads the file.
+/// - `rescue FILE` writes the records of the whole pages of a file as `dump` does, and tells what it left out; it only
+///   reads the file.
 /// - `memory [--records N] [--log N] [--begins N] [--strict]` runs the script over an empty file in memory, as no word does.
 pub fn run_words<P: PageFiles, R: Read, W: Write, E: Write>(
     files: &P,

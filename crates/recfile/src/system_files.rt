@@ -3,9 +3,10 @@ ghost use Rattle.std.specs.Prelude.{◌≡◌};
 use crate::dump::DumpFault;
 use crate::file_fault::FileFault;
 use crate::page_files::PageFiles;
+use crate::telling::Telling;
 use file_system::{HostFile, HostSystem, Lock};
 use page_journal::{FileDisk, has_side_file, keep_made, make_file, take_away};
-use page_looks::explain_file;
+use page_looks::{Reach, Wanted, explain_file, reach_file, show_file, tell_why};
 use page_store::FileStore;
 use std::alloc::Global;
 use std::fs::OpenFile;
@@ -60,6 +61,19 @@ impl<'a, F: OpenFile + FileExt + Lock + Drop, H: Files<File = F>> PageFiles for 
         Ok(store)
     }
 
+    fn open_damaged<E: Write>(
+        &self,
+        alloc: Global,
+        path: &str,
+        err: &mut E,
+    ) -> Result<(FileStore<HostFile<F>>, Reach), FileFault> {
+        let store = FileStore::open_to_read(&HostSystem::new(self.rt), path)?;
+        match reach_file(self.rt, alloc, path, err) {
+            Ok(reach) => Ok((store, reach)),
+            Err(_) => Err(FileFault::Memory),
+        }
+    }
+
     fn create(&self, alloc: Global, path: &str) -> Result<FileStore<HostFile<F>>, FileFault> {
         Ok(make_file(&HostSystem::new(self.rt), alloc, path)?)
     }
@@ -86,7 +100,22 @@ impl<'a, F: OpenFile + FileExt + Lock + Drop, H: Files<File = F>> PageFiles for 
         Ok(())
     }
 
-    fn explain<W: Write>(&self, alloc: Global, path: &str, out: &mut W) -> Result<bool, DumpFault> {
-        explain_file(self.rt, alloc, path, out).map_err(text_fault)
+    fn tell<W: Write, E: Write>(
+        &self,
+        alloc: Global,
+        telling: Telling,
+        path: &str,
+        out: &mut W,
+        err: &mut E,
+    ) -> Result<bool, DumpFault> {
+        let told = match telling {
+            Telling::Explanation => explain_file(self.rt, alloc, path, out),
+            Telling::Tree(drawing) => show_file(self.rt, alloc, path, drawing, out, err),
+        };
+        told.map_err(text_fault)
+    }
+
+    fn tell_why<E: Write>(&self, alloc: Global, wanted: Wanted, path: &str, err: &mut E) {
+        let _ = tell_why(self.rt, alloc, wanted, path, err);
     }
 }

@@ -2,12 +2,15 @@ ghost use Rattle.std.specs.Prelude.{◌≡◌, IfOk, codes};
 ghost use Rattle.clap.specs.Matches.{found_of};
 ghost use Rattle.clap.specs.Simple.{subcommand_rows_of};
 ghost use Rattle.clap.specs.Walk.{one_of, rows_of};
-ghost use Rattle.recfile.specs.Words.{AreLimits, AsksFor, IsManner, IsRead, IsShell, file_of};
+ghost use Rattle.recfile.specs.Words.{AreLimits, AsksFor, IsDrawing, IsFlag, IsForm, IsManner, IsNamed, IsRead, IsSeparator, IsShell, file_of};
 
 use crate::limits::greatest_limits;
 use crate::manner::{Feed, Manner};
+use crate::telling::Telling;
 use clap::{Arg, ArgAction, ArgMatches, Command, Error, value_parser};
+use page_looks::Drawing;
 use rec_types::{LimitFault, Limits, MOST_BEGINS, MOST_LOG_RECORDS, MOST_RECORDS};
+use record_texts::{Form, Separator};
 use std::alloc::{AllocError, Global};
 
 /// Why the words ask for nothing: a fault of the words, or help that was asked for, each with its text; or a limit that
@@ -54,12 +57,24 @@ pub enum Task<'a> {
     Check {
         path: &'a str,
     },
-    /// To write the records of a page file as a script.
+    /// To write the records of a page file in a form, or as a script.
     Dump {
+        form: Option<Form>,
         path: &'a str,
     },
-    /// To tell what a file is.
-    Explain {
+    /// To write the records of the whole pages of a file as a script.
+    Rescue {
+        path: &'a str,
+    },
+    /// To put the records of a text into a page file.
+    Load {
+        separator: Separator,
+        limits: Limits,
+        path: &'a str,
+    },
+    /// To tell of a file.
+    Tell {
+        telling: Telling,
         path: &'a str,
     },
     /// To run a session over an empty file in memory.
@@ -73,8 +88,10 @@ fn order_option<'a>(alloc: Global) -> Arg<'a> {
     Arg::new(alloc, "order")
         .long("order")
         .value_name("K")
-        .help("Keys in half a page, 1 to 16: a page has at most 2K")
-        .required(true)
+        .help(
+            "Keys in half a page, 1 to 16: a page has at most 2K. 40 records put in key order take 77,824 bytes at 2, and 16,384 at 16",
+        )
+        .default_value("16")
         .action(ArgAction::Set)
         .value_parser(value_parser!(u16).range(1..=16))
 }
@@ -113,11 +130,17 @@ fn begins_option<'a>(alloc: Global) -> Arg<'a> {
         .value_parser(value_parser!(u32).range(1..=i64::from(MOST_BEGINS)))
 }
 
-fn strict_option<'a>(alloc: Global) -> Arg<'a> {
-    Arg::new(alloc, "strict")
-        .long("strict")
-        .help("End the script at the first `no`, `bad` or `stopped`, with status 3")
+// An option that is set or not.
+fn flag<'a>(alloc: Global, name: &'a str, help: &'a str) -> Arg<'a> {
+    Arg::new(alloc, name)
+        .long(name)
+        .help(help)
         .action(ArgAction::SetTrue)
+}
+
+fn strict_option<'a>(alloc: Global) -> Arg<'a> {
+    let help = "End the script at the first `no`, `bad` or `stopped`, with status 3";
+    flag(alloc, "strict", help)
 }
 
 fn with_session<'a>(alloc: Global, command: Command<'a>) -> Result<Command<'a>, AllocError> {
@@ -130,7 +153,7 @@ fn with_session<'a>(alloc: Global, command: Command<'a>) -> Result<Command<'a>, 
 
 fn create_command<'a>(alloc: Global) -> Result<Command<'a>, AllocError> {
     Command::new(alloc, "create")
-        .about("Makes a page file with no records, as: recfile create --order 8 a.rec")
+        .about("Makes a page file with no records, as: recfile create a.rec")
         .arg(order_option(alloc))?
         .arg(file_word(
             alloc,
@@ -161,11 +184,56 @@ fn check_command<'a>(alloc: Global) -> Result<Command<'a>, AllocError> {
 }
 
 fn dump_command<'a>(alloc: Global) -> Result<Command<'a>, AllocError> {
+    let tsv = flag(alloc, "tsv", "Write lines of key, tab, record")
+        .conflicts_with("csv")?
+        .conflicts_with("json")?;
+    let csv = flag(
+        alloc,
+        "csv",
+        "Write lines of key, comma, record, each in quotation marks",
+    )
+    .conflicts_with("json")?;
+    let json = flag(
+        alloc,
+        "json",
+        "Write lines of JSON, an object with key and record in each",
+    );
     Command::new(alloc, "dump")
         .about(
             "Writes the records of a page file as a script that puts them in one transaction, as: recfile dump a.rec | recfile shell --strict b.rec",
         )
+        .arg(tsv)?
+        .arg(csv)?
+        .arg(json)?
         .arg(file_word(alloc, "The path of the page file"))
+}
+
+fn rescue_command<'a>(alloc: Global) -> Result<Command<'a>, AllocError> {
+    Command::new(alloc, "rescue")
+        .about(
+            "Writes the records of the whole pages of a damaged file as dump does, and tells what is left out, as: recfile rescue a.rec > saved.txt",
+        )
+        .arg(file_word(alloc, "The path of the file; it is only read"))
+}
+
+fn load_command<'a>(alloc: Global) -> Result<Command<'a>, AllocError> {
+    let csv = flag(alloc, "csv", "Read lines of key, comma, record");
+    Command::new(alloc, "load")
+        .about(
+            "Puts the records of standard input, lines of key, tab, record, into a page file in one transaction: all or none, as: recfile load a.rec < lines.tsv",
+        )
+        .arg(csv)?
+        .arg(records_option(alloc))?
+        .arg(file_word(alloc, "The path of the page file"))
+}
+
+fn show_command<'a>(alloc: Global) -> Result<Command<'a>, AllocError> {
+    Command::new(alloc, "show")
+        .about(
+            "Draws the tree of a page file, and what is wrong with it, as: recfile show --svg a.rec > a.svg",
+        )
+        .arg(flag(alloc, "svg", "Draw a picture that a browser shows"))?
+        .arg(file_word(alloc, "The path of the file; it is only read"))
 }
 
 fn explain_command<'a>(alloc: Global) -> Result<Command<'a>, AllocError> {
@@ -211,7 +279,10 @@ fn program<'a>(alloc: Global) -> Result<Command<'a>, AllocError> {
     let program = with_command(program, shell_command(alloc))?;
     let program = with_command(program, check_command(alloc))?;
     let program = with_command(program, dump_command(alloc))?;
+    let program = with_command(program, load_command(alloc))?;
     let program = with_command(program, explain_command(alloc))?;
+    let program = with_command(program, show_command(alloc))?;
+    let program = with_command(program, rescue_command(alloc))?;
     with_command(program, memory_command(alloc))
 }
 
@@ -233,11 +304,18 @@ fn limits_of(found: &ArgMatches<'_>) -> Result<Limits, LimitFault>
     )
 }
 
-// The order that was asked for, or 0, which is none.
+// The order that was asked for, or 16.
 fn order_of(found: &ArgMatches<'_>) -> u16
-    ensures { IsRead 16 (one_of (codes "order") (rows_of (found_of found.now))) 0 result }
+    ensures { IsRead 16 (one_of (codes "order") (rows_of (found_of found.now))) 16 result }
 {
-    found.get_one::<u16>("order").unwrap_or(0)
+    found.get_one::<u16>("order").unwrap_or(16)
+}
+
+// Whether an option is set.
+fn is_set(found: &ArgMatches<'_>, id: &str) -> bool
+    ensures { IsFlag (rows_of (found_of found.now)) id.now result }
+{
+    found.get_flag(id)
 }
 
 // The manner of a session that was asked for, whose lines come so.
@@ -245,8 +323,50 @@ fn manner_of(found: &ArgMatches<'_>, feed: Feed) -> Manner
     ensures { IsManner (rows_of (found_of found.now)) feed result }
 {
     Manner {
-        strict: found.get_flag("strict"),
+        strict: is_set(found, "strict"),
         feed,
+    }
+}
+
+// The form of a dump that was asked for.
+fn form_of(found: &ArgMatches<'_>) -> Option<Form>
+    ensures { IsForm (rows_of (found_of found.now)) result }
+{
+    let (tsv, csv, json) = (
+        is_set(found, "tsv"),
+        is_set(found, "csv"),
+        is_set(found, "json"),
+    );
+    if tsv {
+        Some(Form::Tsv)
+    } else if csv {
+        Some(Form::Csv)
+    } else if json {
+        Some(Form::Json)
+    } else {
+        None
+    }
+}
+
+// What separates the fields of the lines to be loaded.
+fn separator_of(found: &ArgMatches<'_>) -> Separator
+    ensures { IsSeparator (rows_of (found_of found.now)) result }
+{
+    if is_set(found, "csv") {
+        Separator::Comma
+    } else {
+        Separator::Tab
+    }
+}
+
+// How a tree is to be drawn.
+fn drawing_of(found: &ArgMatches<'_>) -> Drawing
+    ensures { IsDrawing (rows_of (found_of found.now)) result }
+{
+    if is_set(found, "svg") {
+        Drawing::Picture
+    } else {
+        Drawing::Lines
     }
 }
 
@@ -276,34 +396,54 @@ fn path_of<'a>(found: &ArgMatches<'a>) -> &'a str
     }
 }
 
+// What a command of this name asks for, in which this was found.
+fn named<'a>(name: &str, found: &ArgMatches<'a>) -> Result<Task<'a>, UsageFault>
+    ensures { IfOk result (IsNamed name.now (rows_of (found_of found.now))) }
+{
+    let path = path_of(found);
+    match name {
+        "create" => Ok(Task::Create {
+            order: order_of(found),
+            path,
+        }),
+        "run" => Ok(Task::Run {
+            limits: limits_of(found)?,
+            manner: manner_of(found, Feed::Script),
+            path,
+        }),
+        "shell" => shell_of(found),
+        "check" => Ok(Task::Check { path }),
+        "dump" => Ok(Task::Dump {
+            form: form_of(found),
+            path,
+        }),
+        "rescue" => Ok(Task::Rescue { path }),
+        "load" => Ok(Task::Load {
+            separator: separator_of(found),
+            limits: limits_of(found)?,
+            path,
+        }),
+        "explain" => Ok(Task::Tell {
+            telling: Telling::Explanation,
+            path,
+        }),
+        "show" => Ok(Task::Tell {
+            telling: Telling::Tree(drawing_of(found)),
+            path,
+        }),
+        _ => Ok(Task::Memory {
+            limits: limits_of(found)?,
+            manner: manner_of(found, Feed::Script),
+        }),
+    }
+}
+
 // What was asked for: with no command, the same as with memory.
 fn task_of<'a>(matches: &ArgMatches<'a>) -> Result<Task<'a>, UsageFault>
     ensures { IfOk result (AsksFor (subcommand_rows_of matches.now)) }
 {
     match matches.subcommand() {
-        Some(("create", found)) => Ok(Task::Create {
-            order: order_of(found),
-            path: path_of(found),
-        }),
-        Some(("run", found)) => Ok(Task::Run {
-            limits: limits_of(found)?,
-            manner: manner_of(found, Feed::Script),
-            path: path_of(found),
-        }),
-        Some(("shell", found)) => shell_of(found),
-        Some(("check", found)) => Ok(Task::Check {
-            path: path_of(found),
-        }),
-        Some(("dump", found)) => Ok(Task::Dump {
-            path: path_of(found),
-        }),
-        Some(("explain", found)) => Ok(Task::Explain {
-            path: path_of(found),
-        }),
-        Some((_, found)) => Ok(Task::Memory {
-            limits: limits_of(found)?,
-            manner: manner_of(found, Feed::Script),
-        }),
+        Some((name, found)) => named(name, found),
         None => Ok(Task::Memory {
             limits: greatest_limits(),
             manner: Manner {

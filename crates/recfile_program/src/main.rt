@@ -1,51 +1,37 @@
 //! The program: `run_words` over the words that it is called with and the standard streams.
 #![tactic(auto)]
 
+mod uninterrupted;
+
+use crate::uninterrupted::Uninterrupted;
+use line_prompt::Prompted;
 use recfile::{SystemFiles, run_words, unread_words};
-use std::io::{Read, Write};
+use std::io::{IsTerminal, Write};
 use std::process::ExitCode;
 use std::{env, io};
 
-/// A standard stream, which is read and written again where a signal interrupted that.
-#[derive(Drop)]
-struct Uninterrupted<S> {
-    stream: S,
+// Whether a person types the lines, and sees what is told beside their replies.
+fn is_typed(rt: &HostRuntime) -> bool {
+    rt.stdin().is_terminal() && rt.stderr().is_terminal()
 }
 
-// Whether a signal interrupted it.
-fn is_interrupted(answer: &io::Result<usize>) -> bool {
-    match answer {
-        Ok(_) => false,
-        Err(error) => error.kind() == io::ErrorKind::Interrupted,
-    }
-}
-
-impl<S: Read> Read for Uninterrupted<S> {
-    fn read(&mut self, to: &mut [u8]) -> io::Result<usize> {
-        for _ in 0..u64::MAX {
-            let answer = self.stream.read(to);
-            if !is_interrupted(&answer) {
-                return answer;
-            }
-        }
-        Err(io::Error::from(io::ErrorKind::Interrupted))
-    }
-}
-
-impl<S: Write> Write for Uninterrupted<S> {
-    fn write(&mut self, from: &[u8]) -> io::Result<usize> {
-        for _ in 0..u64::MAX {
-            let answer = self.stream.write(from);
-            if !is_interrupted(&answer) {
-                return answer;
-            }
-        }
-        Err(io::Error::from(io::ErrorKind::Interrupted))
-    }
-
-    fn flush(&mut self) -> io::Result<()> {
-        self.stream.flush()
-    }
+// Tells what the program is and how to begin, where a person asks for nothing.
+fn tell_help(rt: &HostRuntime) -> u8 {
+    let (mut out, mut err) = (rt.stderr(), rt.stderr());
+    let words = ["recfile", "--help"];
+    let status = run_words(
+        &SystemFiles::new(rt),
+        rt.alloc(),
+        &words,
+        &mut rt.stdin(),
+        &mut out,
+        &mut err,
+    );
+    let _ = writeln!(
+        err,
+        "\nTo begin: recfile create a.rec, and then recfile shell a.rec"
+    );
+    status
 }
 
 fn run(rt: &HostRuntime) -> io::Result<u8> {
@@ -58,10 +44,14 @@ fn run(rt: &HostRuntime) -> io::Result<u8> {
     for text in &texts {
         words.push(text.as_str())?;
     }
-    let mut lines = Uninterrupted { stream: rt.stdin() };
-    let mut out = Uninterrupted {
-        stream: rt.stdout(),
-    };
+    let typed = is_typed(rt);
+    if typed && words.len() < 2 {
+        return Ok(tell_help(rt));
+    }
+    let is_shell = words.get(1).is_some_and(|word| *word == "shell");
+    let lines = Uninterrupted::new(rt.stdin());
+    let mut lines = Prompted::new(lines, rt.stderr(), typed && is_shell);
+    let mut out = Uninterrupted::new(rt.stdout());
     let status = run_words(
         &SystemFiles::new(rt),
         alloc,

@@ -2,8 +2,9 @@
 use crate::crashes::{TwoPages, filled};
 use crate::expect_text;
 use page_journal::MemDisk;
+use page_looks::{Reach, Wanted};
 use page_store::MemStore;
-use recfile::{DumpFault, FileFault, PageFiles, run_words};
+use recfile::{DumpFault, FileFault, PageFiles, Telling, run_words};
 use std::alloc::Global;
 use std::io::Write;
 use std::process::Abort;
@@ -35,6 +36,22 @@ impl PageFiles for OneFile {
         }
     }
 
+    fn open_damaged<E: Write>(
+        &self,
+        alloc: Global,
+        _path: &str,
+        _err: &mut E,
+    ) -> Result<(MemStore, Reach), FileFault> {
+        let reach = Reach {
+            header: None,
+            seen: Vec::new(alloc),
+        };
+        match Vec::from_array(alloc, [filled(1), filled(2)]) {
+            Ok(pages) => Ok((MemStore::new(pages, 0), reach)),
+            Err(_) => Err(FileFault::Memory),
+        }
+    }
+
     fn create(&self, alloc: Global, _path: &str) -> Result<MemStore, FileFault> {
         Ok(MemStore::new(Vec::new(alloc), 0))
     }
@@ -49,14 +66,18 @@ impl PageFiles for OneFile {
         made
     }
 
-    fn explain<W: Write>(
+    fn tell<W: Write, E: Write>(
         &self,
         _alloc: Global,
+        _telling: Telling,
         _path: &str,
         _out: &mut W,
+        _err: &mut E,
     ) -> Result<bool, DumpFault> {
         Ok(false)
     }
+
+    fn tell_why<E: Write>(&self, _alloc: Global, _wanted: Wanted, _path: &str, _err: &mut E) {}
 }
 
 /// The status of these words, and what was written, with a stroke before what stands on standard error.
@@ -77,6 +98,8 @@ fn tasks_find_what_is_handed_in(rt: HostRuntime) {
         ("run", "1 |recfile: BadMagic\n"),
         ("check", "1 |recfile: BadMagic\n"),
         ("dump", "1 |recfile: BadMagic\n"),
+        ("rescue", "0 begin\ncommit 1\n|"),
+        ("load", "3 |recfile: FieldCount in line 1\n"),
     ] {
         let text = answer_to(&rt, alloc, &["recfile", command, "file"]);
         expect_text(&rt, text.as_str(), wanted);

@@ -357,7 +357,7 @@ fn dump_of_new<W: Write>(rt: &impl Abort, alloc: Global, out: &mut W) -> Result<
     let limits = greatest().expect(rt, "no limits");
     let (store, made) = create_in(alloc, MemStore::new(Vec::new(alloc), 0), 2, limits);
     assert_eq!(rt; made, Ok(()));
-    dump_in(alloc, store, limits, out).1
+    dump_in(alloc, store, limits, None, out).1
 }
 
 #[test]

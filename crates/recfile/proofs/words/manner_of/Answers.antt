@@ -1,9 +1,5 @@
-use Rattle.std.proofs.Common.{refl, ◌∙◌, codes}
-use Rattle.clap.specs.Matches.{found_of}
-use Rattle.clap.proofs.WalkLemmas.{one_text-rows}
+use Rattle.std.proofs.Common.{refl}
 use Rattle.recfile.proofs.words.manner_of.Goals as goal
 
 pub returns : goal.returns
-returns c =
-    let same = one_text-rows (found_of c.args.found.now) (codes "strict") in
-    record { feed_is = refl; none = λ is. c.get_flag.ensures.none (same ∙ is); set = λ is. c.get_flag.ensures.value (same ∙ is); unset = λ is. c.get_flag.ensures.other (same ∙ is) }
+returns c = (refl, c.is_set.ensures)

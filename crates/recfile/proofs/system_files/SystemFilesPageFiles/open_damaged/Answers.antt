@@ -1,0 +1,16 @@
+use Rattle.std.proofs.Common.{None, refl}
+use Rattle.page_journal.specs.Steps.{nothing_kept}
+use Rattle.recfile.proofs.system_files.SystemFilesPageFiles.open_damaged.Goals as goal
+
+pub returns-in-Ok : goal.returns-in-Ok
+returns-in-Ok g c = record {
+  found = λ _. (
+    record {
+      main = record { pages = c.in_ok-store.store.pages; tail = c.in_ok-store.store.tail };
+      fresh = nothing_kept 0;
+      side = None;
+    },
+    record {},
+    refl,
+  );
+}
