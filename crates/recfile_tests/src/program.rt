@@ -159,8 +159,8 @@ fn two_sessions_over_a_file(rt: HostRuntime) {
 
 const FRUIT: &str = "begin\nbegin\nput 1 apple =red\nput 2 pear =yellow\ncommit 1\n";
 
-// The session over a page file that the README shows.
-fn fruit_session() -> [Call<'static>; 7] {
+// The session over a page file that the README shows, with records that are loaded and lines that aren't.
+fn fruit_session() -> [Call<'static>; 10] {
     [
         good("recfile create --order 2 fruit.rec", "", ""),
         good("recfile dump fruit.rec", "", "begin\ncommit 1\n"),
@@ -184,6 +184,18 @@ fn fruit_session() -> [Call<'static>; 7] {
             "recfile check fruit.rec",
             "",
             "order 2 height 1 records 1 pages 2 free 0\n",
+        ),
+        bad(
+            "recfile load fruit.rec",
+            "fig\tgreen\nplum blue\n",
+            "recfile: FieldCount in line 2\n",
+            3,
+        ),
+        good("recfile load fruit.rec", "fig\tgreen\n", ""),
+        good(
+            "recfile dump --json fruit.rec",
+            "",
+            "{\"key\":\"apple\",\"record\":\"red\"}\n{\"key\":\"fig\",\"record\":\"green\"}\n",
         ),
     ]
 }
@@ -294,7 +306,7 @@ fn a_dump_copies_a_file(rt: HostRuntime) {
 fn words_that_ask_for_nothing(rt: HostRuntime) {
     for (words, status) in [
         ("recfile frob", 2),
-        ("recfile create no.rec", 2),
+        ("recfile create", 2),
         ("recfile create --order 2", 2),
         ("recfile create --order 1 --order 2 no.rec", 2),
         ("recfile run", 2),
@@ -306,6 +318,11 @@ fn words_that_ask_for_nothing(rt: HostRuntime) {
         ("recfile memory no.rec", 2),
         ("recfile dump", 2),
         ("recfile dump --strict no.rec", 2),
+        ("recfile dump --tsv --csv no.rec", 2),
+        ("recfile load", 2),
+        ("recfile load --json no.rec", 2),
+        ("recfile rescue", 2),
+        ("recfile show --csv no.rec", 2),
         ("recfile check --strict no.rec", 2),
         ("recfile run --strict --strict no.rec", 2),
         ("recfile --help", 0),
