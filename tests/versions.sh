@@ -26,7 +26,7 @@ fi
 says crates/recfile_c/src/version.rt "const MAJOR: u32 = $major;"
 says crates/recfile_c/src/version.rt "const MINOR: u32 = $minor;"
 says crates/recfile/src/words.rt "const VERSION: &str = \"$major.$minor\";"
-says crates/recfile_tests/src/program.rt "recfile $major.$minor\\n"
+says tests/program.py "recfile $major.$minor\\n"
 says examples/c/recfile.map "RECFILE_$major {"
 says python/src/recfile/__init__.py "__version__ = \"$version\""
 says rust/recfile/Cargo.toml "version = \"$version\""
