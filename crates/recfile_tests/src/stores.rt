@@ -17,7 +17,7 @@ use thiserror::Error;
 
 /// Why a row has no text: memory was refused, or a file.
 #[derive(Debug, Drop, Error)]
-enum Stop {
+pub(crate) enum Stop {
     #[error("out of memory")]
     Alloc(#[from(alloc)] AllocError),
     #[error("out of memory")]
