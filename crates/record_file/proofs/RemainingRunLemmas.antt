@@ -411,7 +411,7 @@ step_alone m answered fs fs2 e g s sound kept step move leads on alone = at move
             accepted = record { history = refl; logged = refl };
             opening = λ here. refl;
             err = tt;
-            damages = inl refl;
+            damages = refl;
           },
         ))
 

@@ -125,7 +125,7 @@ pub record Claims (old : Seen) (t : TxId) (x : List ℕ) (answer : Result (Optio
   pub accepted : IfOk answer (λ seen. Accepts old.file old.log (key_change t x seen None) new.file new.log)
   pub opening : IsTrue old.sound → new.file.opening ≡ old.file.opening
   pub err : OnErr answer (Leaves old new)
-  pub damages : TellsDamage old.damages (cause_by claim_refusal answer) new.damages
+  pub damages : new.damages ≡ named_by old.damages (cause_by claim_refusal answer)
 
 pub record Removes (old : Seen) (t : TxId) (x : List ℕ) (answer : Result (List ℕ) RemoveFault) (new : Seen) : Type 0 where
   pub step : IsTrue old.sound → old.failures < greatest_count → RemoveStep old.file t.0 x (rose old.failures new.failures) answer new.file

@@ -69,7 +69,7 @@ returns-in-Claim g c = λ was is.
     let answered = answer.Claim c.claim.result in
     subst (λ (k : Call). Makes old k answered new) (sym c.in-Claim.is)
     (asks_makes old new (call.Claim c.in-Claim.tx c.in-Claim.key) answered (Claim c.in-Claim.tx c.in-Claim.key c.claim.result) (by_device (cause_by claim_refusal c.claim.result)) told.memory.0 refl told.table.device told.memory.1 told.table.soundness told.table.told told.damaged was is
-    ((refl, told.memory.2), record { step = told.step; refused = refused_seen g.T.TableState c.args.file.now c.claim.new.self (key_refusal true c.args.file.now.file c.in-Claim.tx.0 c.in-Claim.key) (refusal_by claim_refusal c.claim.result) told.refused; refused_only = told.refused_only; accepted = told.accepted; opening = told.table.opening; err = told.err; damages = told.table.damages }))
+    ((refl, told.memory.2), record { step = told.step; refused = refused_seen g.T.TableState c.args.file.now c.claim.new.self (key_refusal true c.args.file.now.file c.in-Claim.tx.0 c.in-Claim.key) (refusal_by claim_refusal c.claim.result) told.refused; refused_only = told.refused_only; accepted = told.accepted; opening = told.table.opening; err = told.err; damages = told.named }))
 
 pub returns-in-Remove : goal.returns-in-Remove
 returns-in-Remove g c = λ was is.
