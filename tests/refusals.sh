@@ -145,15 +145,6 @@ refuse_in_turn() {
     echo "refusals: $row: $variable: $((number - 1)) refused"
 }
 
-# Expects a new file to be refused: it is empty, or its first page is blank or marked.
-expect_unmade() {
-    "$program" check file > check_out 2> check_err && return
-    case $(cat check_err) in
-    'recfile: BadLength' | 'recfile: BadMagic' | 'recfile: NotClean') ;;
-    *) fail "the file is refused as $(cat check_err)" ;;
-    esac
-}
-
 # Runs a row: its name, the file that it begins with, the options of its session, and its script on standard input. The
 # file that it leaves is `new`.
 session() {
@@ -170,7 +161,7 @@ session() {
     "$program" run $options new < script > whole || fail "the session failed"
 }
 
-# Makes a new file of that order for the rows. Where it isn't made whole, it isn't there or is refused.
+# Makes a new file of that order for the rows. Where that fails, no file is left.
 make_file() {
     row="a new file of order $1"
     : > script
@@ -180,7 +171,7 @@ make_file() {
             rm -f file
             disturbed create --order "$1" file
             [ -e met ] || break
-            [ ! -e file ] || expect_unmade
+            [ ! -e file ] || fail "a file is left"
         done
         [ "$status" -eq 0 ] || fail "the last run failed"
         echo "refusals: $row: $variable: $((number - 1)) met"

@@ -49,16 +49,15 @@ pub fn keep_made<H: System>(rt: &H, alloc: Global, path: &str) -> Result<(), Ope
     Ok(())
 }
 
-/// Takes a file away that was made at a path and isn't to stay, where the path still leads to it. Faults: Device, Memory.
+/// Takes a file away that was made at a path and isn't to stay, where the path still leads to it. It needs no memory, which
+/// may be why the file isn't to stay. Fault: Device.
 pub fn take_away<H: System<File = F>, F: SystemFile + Drop>(
     rt: &H,
-    alloc: Global,
     path: &str,
     made: &FileStore<F>,
 ) -> Result<(), OpeningFault> {
-    let names = SideNames::of_new(rt, alloc, path)?;
-    if made.is_at(rt, names.main.as_str()) {
-        rt.remove(names.main.as_str())?;
+    if made.is_at(rt, path) {
+        rt.remove(path)?;
     }
     Ok(())
 }

@@ -89,12 +89,12 @@ impl<'a, F: OpenFile + FileExt + Lock + Drop, H: Files<File = F>> PageFiles for 
         let kept = match made {
             Ok(()) => keep_made(&system, alloc, path),
             Err(fault) => {
-                take_away(&system, alloc, path, store)?;
+                take_away(&system, path, store)?;
                 return Err(fault);
             }
         };
         if let Err(fault) = kept {
-            take_away(&system, alloc, path, store)?;
+            take_away(&system, path, store)?;
             return Err(FileFault::from(fault));
         }
         Ok(())
