@@ -15,3 +15,4 @@ pub mod WritingLemmas
 pub mod RoomLemmas
 pub mod WordLemmas
 pub mod SavedLemmas
+pub mod CopiedLemmas

@@ -4,6 +4,8 @@ use Rattle.page_journal.specs.declared.opening_fault.OpeningFault.{OpeningFault}
 use Rattle.page_journal.specs.declared.opening_fault.OpeningFault.TheVariants as files
 use Rattle.page_journal.specs.declared.recovery_fault.RecoveryFault.{RecoveryFault}
 use Rattle.page_journal.specs.declared.recovery_fault.RecoveryFault.TheVariants as recovering
+use Rattle.page_copy.specs.declared.copying.CopyFault.{CopyFault}
+use Rattle.page_copy.specs.declared.copying.CopyFault.TheVariants as copying
 use Rattle.page_store.specs.declared.store_fault.StoreFault.{StoreFault}
 use Rattle.page_store.specs.declared.store_fault.StoreFault.TheVariants as storing
 use Rattle.page_store.specs.declared.page_edit.WriteFault.{WriteFault}
@@ -15,6 +17,8 @@ use Rattle.btree_delete.specs.declared.opening.open_fault.OpenFault.{OpenFault}
 use Rattle.btree_delete.specs.declared.opening.open_fault.OpenFault.TheVariants as opening
 use Rattle.btree_delete.specs.declared.table.tree_table.CreateFault.{CreateFault}
 use Rattle.btree_delete.specs.declared.table.tree_table.CreateFault.TheVariants as making
+use Rattle.recfile.specs.declared.copying.CopyingFault.{CopyingFault}
+use Rattle.recfile.specs.declared.copying.CopyingFault.TheVariants.{OfFile, OfCopy}
 use Rattle.recfile.specs.declared.file_fault.FileFault.{FileFault}
 use Rattle.recfile.specs.declared.file_fault.FileFault.TheVariants.{Device, NotEmpty, BadLength, BadMagic, BadVersion, BadOrder, NotClean, BadHeader, Damaged, WrongCount, TooManyRecords, Memory, BadJournal}
 
@@ -85,3 +89,14 @@ IsMakingFault stored tail k other = ⊥
 -- a fault by which nothing was written
 abbrev pub IsRefusal : FileFault → Type 0
 IsRefusal fault = (fault ≡ BadOrder) ⊎ (fault ≡ NotEmpty)
+
+-- why a copy wasn't made, by why its pages weren't copied
+abbrev pub fault_of_copying : CopyFault → CopyingFault
+fault_of_copying copying.Source = OfFile Device
+fault_of_copying copying.Length = OfFile BadLength
+fault_of_copying (copying.Copy fault) = OfCopy (fault_of_store fault)
+
+-- its name, of either file
+abbrev pub name_of : CopyingFault → FileFault
+name_of (OfFile fault) = fault
+name_of (OfCopy fault) = fault

@@ -6,6 +6,7 @@ use Rattle.rec_types.specs.Contents.{Contents}
 use Rattle.rec_types.specs.LimitBounds.{Bounds}
 use Rattle.page_store.specs.StoreCalls.{StaysStore}
 use Rattle.page_store.specs.declared.store_state.StoreState.{Ghosts as StoreGhosts}
+use Rattle.page_copy.specs.declared.copying.CopyFault.{CopyFault}
 use Rattle.page_journal.specs.Files.{Files, Belongs, recovered}
 use Rattle.page_journal.specs.declared.disk_state.DiskState.{Ghosts as DiskGhosts}
 use Rattle.btree_node.specs.Layout.{second_version}
@@ -13,12 +14,14 @@ use Rattle.btree_insert.specs.declared.tree.Tree.{Tree}
 use Rattle.btree_delete.specs.Created.{IsEmpty, IsOrder}
 use Rattle.btree_delete.specs.TableView.{IsClosed}
 use Rattle.record_texts.specs.declared.form.Form.{Form}
-use Rattle.recfile.specs.Dumped.{CanBeOpened, DumpStops, Dumps, IsDumpFault, IsSilent, text_in}
-use Rattle.recfile.specs.FileFaults.{IsMakingFault}
+use Rattle.recfile.specs.Dumped.{CanBeOpened, DumpStops, Dumps, IsDumpFault, IsFirstOrOutside, IsSilent, text_in}
+use Rattle.recfile.specs.FileFaults.{IsMakingFault, fault_of_copying}
 use Rattle.recfile.specs.Kept.{ClosesSafely, IsOutsideDisk, IsUnopened, LeavesAs, LeavesOld}
 use Rattle.recfile.specs.StoreSession.{MakesIn}
 use Rattle.recfile.specs.TreeLine.{counts_in, counts_line}
 use Rattle.recfile.specs.WholeSession.{EndsFile, RunsAny, opened_file}
+use Rattle.recfile.specs.declared.copying.CopyingFault.{CopyingFault}
+use Rattle.recfile.specs.declared.copying.CopyingFault.TheVariants.{OfFile, OfCopy}
 use Rattle.recfile.specs.declared.dump.DumpFault.{DumpFault}
 use Rattle.recfile.specs.declared.dump.DumpFault.TheVariants.{File}
 use Rattle.recfile.specs.declared.file_fault.FileFault.{FileFault}
@@ -107,3 +110,35 @@ Creates g order made = IsErr made ⊎ MakesAt g order made
 abbrev pub Tells : {S : Type 0} → StoreGhosts S → (Files → Type 0) → ℕ → (Tree → Contents → ℕ → Result (Unit {0}) DumpFault → Type 0) → Option (List ℕ) → Option (List ℕ) → Result (Unit {0}) DumpFault → Type 0
 Tells g At limit Told held holds done =
     ((fault : FileFault) × (done ≡ Err (File fault)) × (holds ≡ held)) ⊎ ReadsAt g At limit Told held holds done
+
+-- why no copy was made: the file's first check that fails, or a fault from outside; or one of the copy, where the file is whole
+abbrev pub IsCopyingFault : List (List ℕ) → ℕ → ℕ → CopyingFault → Type 0
+IsCopyingFault stored tail limit (OfFile fault) = IsFirstOrOutside stored tail limit fault
+IsCopyingFault stored tail limit (OfCopy fault) = CanBeOpened stored tail limit
+
+abbrev pub IsOfCopy : CopyingFault → Type 0
+IsOfCopy (OfFile fault) = ⊥
+IsOfCopy (OfCopy fault) = Unit {0}
+
+-- a fault of the copy, or that of the copying of its pages
+abbrev pub IsOfCopying : Result (Unit {0}) CopyFault → CopyingFault → Type 0
+IsOfCopying copied fault = IsOfCopy fault ⊎ ((why : CopyFault) × (copied ≡ Err why) × (fault ≡ fault_of_copying why))
+
+-- a store with the pages of another
+abbrev pub IsCopyOf : {S : Type 0} → StoreGhosts S → S → S → Type 0
+IsCopyOf g old copy = (g.pages copy ≡ g.pages old) × (g.tail copy ≡ g.tail old)
+
+-- A copy of the file that was opened to be read at a path. There is one only of a closed file within the limit, and it has
+-- the same pages. Nothing is written to the file.
+pub record CopiesAt {S : Type 0} (g : StoreGhosts S) (At : Files → Type 0) (limit : ℕ) (done : Result (Unit {0}) CopyingFault) : Type 0 where
+  pub opened : S
+  pub found : IsTrue (g.steady opened) → IsCleanAt At (g.pages opened) (g.tail opened)
+  pub closed : IsTrue (g.steady opened) → OnOk done (CanBeOpened (g.pages opened) (g.tail opened) limit)
+  pub copied : OnOk done ((copy : S) × (IsTrue (g.steady opened) → IsTrue (g.steady copy) → IsCopyOf g opened copy))
+  pub fault : IsTrue (g.steady opened) → IfErr done (IsCopyingFault (g.pages opened) (g.tail opened) limit)
+  pub store : S
+  pub stays : StaysStore g opened store
+
+-- no file is found at the path, or a copy of it is made
+abbrev pub Copies : {S : Type 0} → StoreGhosts S → (Files → Type 0) → ℕ → Result (Unit {0}) CopyingFault → Type 0
+Copies g At limit done = ((fault : FileFault) × (done ≡ Err (OfFile fault))) ⊎ CopiesAt g At limit done

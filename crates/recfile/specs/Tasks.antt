@@ -14,10 +14,11 @@ use Rattle.page_rescue.specs.Rescue.{Saves}
 use Rattle.page_rescue.specs.declared.rescue.Rescued.{Rescued}
 use Rattle.record_texts.specs.declared.form.Form.{Form}
 use Rattle.recfile.specs.Dumped.{text_in}
-use Rattle.recfile.specs.FilesAt.{Creates, IsFoundAt, RunsAt, Tells, TellsRecords, TellsTree}
+use Rattle.recfile.specs.FilesAt.{Copies, Creates, IsFoundAt, RunsAt, Tells, TellsRecords, TellsTree}
 use Rattle.recfile.specs.TreeLine.{counts_line}
 use Rattle.recfile.specs.Whole.{empty_file}
 use Rattle.recfile.specs.WholeSession.{RunsFile}
+use Rattle.recfile.specs.declared.copying.CopyingFault.{CopyingFault}
 use Rattle.recfile.specs.declared.dump.DumpFault.{DumpFault}
 use Rattle.recfile.specs.declared.dump.DumpFault.TheVariants.{File, Write}
 use Rattle.recfile.specs.declared.file_fault.FileFault.{FileFault}
@@ -91,7 +92,7 @@ told_status (Err fault) = text_status (Err fault)
 -- What doing a task leaves of what the reader has and of what the writer holds, and its status: a file is made, opened and
 -- read at the path that was asked for, or there is none, and nothing is read and written then; a session has the limits
 -- and the manner that were asked for, and closes its file so that no crash loses it; what a check and a dump write is a
--- line and a script.
+-- line and a script; a copy has the pages of the file.
 abbrev pub Does : {D S : Type 0} → DiskGhosts D → StoreGhosts S → (List ℕ → Files → Type 0) → Task → Option (List ℕ) → Option (List ℕ) → Option (List ℕ) → Option (List ℕ) → ℕ → Type 0
 Does disks stores at (tasks.Create order path) left leaves held holds status =
     (leaves ≡ left) × (holds ≡ held)
@@ -99,6 +100,9 @@ Does disks stores at (tasks.Create order path) left leaves held holds status =
 Does disks stores at (tasks.Run limits manner path) left leaves held holds status = RunsOver disks (at path.now) manner limits left leaves held holds status
 Does disks stores at (tasks.Check path) left leaves held holds status =
     (leaves ≡ left) × WritesText IsLine stores (at path.now) (TellsTree held holds) held holds status
+Does disks stores at (tasks.Copy path to) left leaves held holds status =
+    (leaves ≡ left) × (holds ≡ held)
+    × ((done : Result (Unit {0}) CopyingFault) × Copies stores (at path.now) most_records done × (status ≡ (if is_err done then 1 else 0)))
 Does disks stores at (tasks.Dump form path) left leaves held holds status =
     (leaves ≡ left) × WritesText (IsDump form) stores (at path.now) (TellsRecords form held holds) held holds status
 Does disks stores at (tasks.Rescue path) left leaves held holds status =

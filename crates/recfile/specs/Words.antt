@@ -56,13 +56,17 @@ abbrev pub IsDrawing : List Row → Drawing → Type 0
 IsDrawing rows Picture = IsFlag rows (codes "svg") true
 IsDrawing rows DrawnLines = IsFlag rows (codes "svg") false
 
+-- the word of that name, or none
+abbrev pub word_in : List ℕ → List Row → List ℕ
+word_in name rows = unwrap_or (first_of name rows) []
+
 abbrev pub file_of : List Row → List ℕ
-file_of rows = unwrap_or (first_of (codes "FILE") rows) []
+file_of rows = word_in (codes "FILE") rows
 
 -- none of the names of commands that have a file, or may have one
 abbrev pub IsOther : List ℕ → Type 0
 IsOther name =
-    (name ≢ codes "create") × (name ≢ codes "run") × (name ≢ codes "shell") × (name ≢ codes "check") × (name ≢ codes "dump") × (name ≢ codes "rescue") × (name ≢ codes "load")
+    (name ≢ codes "create") × (name ≢ codes "run") × (name ≢ codes "shell") × (name ≢ codes "check") × (name ≢ codes "copy") × (name ≢ codes "dump") × (name ≢ codes "rescue") × (name ≢ codes "load")
     × (name ≢ codes "explain") × (name ≢ codes "show")
 
 -- the name of the command by which a file is told of
@@ -76,6 +80,7 @@ IsShell rows (tasks.Create order path) = ⊥
 IsShell rows (tasks.Run limits manner path) =
     AreLimits rows limits × IsManner rows Lines manner × (first_of (codes "FILE") rows ≡ Some path.now)
 IsShell rows (tasks.Check path) = ⊥
+IsShell rows (tasks.Copy path to) = ⊥
 IsShell rows (tasks.Dump form path) = ⊥
 IsShell rows (tasks.Rescue path) = ⊥
 IsShell rows (tasks.Load separator limits path) = ⊥
@@ -92,6 +97,7 @@ IsNamed name rows (tasks.Run limits manner path) =
     ((name ≡ codes "run") × AreLimits rows limits × IsManner rows Script manner × (path.now ≡ file_of rows))
     ⊎ ((name ≡ codes "shell") × IsShell rows (tasks.Run limits manner path))
 IsNamed name rows (tasks.Check path) = (name ≡ codes "check") × (path.now ≡ file_of rows)
+IsNamed name rows (tasks.Copy path to) = (name ≡ codes "copy") × (path.now ≡ file_of rows) × (to.now ≡ word_in (codes "TO") rows)
 IsNamed name rows (tasks.Dump form path) = (name ≡ codes "dump") × IsForm rows form × (path.now ≡ file_of rows)
 IsNamed name rows (tasks.Rescue path) = (name ≡ codes "rescue") × (path.now ≡ file_of rows)
 IsNamed name rows (tasks.Load separator limits path) =

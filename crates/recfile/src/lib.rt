@@ -1,7 +1,9 @@
 //! Scripts over a record file, and the program.
 #![tactic(auto)]
 
+mod bar;
 mod call;
+mod copying;
 mod dump;
 mod endings;
 mod file_fault;
@@ -18,6 +20,7 @@ mod path_session;
 mod program;
 mod reads;
 mod replies;
+mod screen;
 mod script;
 mod session;
 mod shell;
@@ -37,6 +40,7 @@ pub use page_file::{FileEnd, check_in, create_in, run_in};
 pub use page_files::PageFiles;
 pub use program::run_words;
 pub use reads::{CountedRead, Reads};
+pub use screen::Screen;
 pub use script::{RunFault, ScriptFault, run_script, run_script_as, run_script_counted};
 pub use session::{SessionEnd, run_memory, run_session};
 pub use shell::{read_answered, run_shell};

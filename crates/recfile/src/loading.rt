@@ -5,7 +5,8 @@ ghost use Rattle.recfile.specs.Tasks.{LoadsAt};
 use crate::manner::{Feed, Manner};
 use crate::page_files::PageFiles;
 use crate::path_session::run_at_path;
-use crate::replies::Replies;
+use crate::replies::{LastReply, Replies};
+use crate::screen::Screen;
 use crate::statuses::exit_status;
 use crate::tell::tell;
 use command_text::write_dump;
@@ -86,12 +87,12 @@ fn read_load<R: Read>(
 }
 
 // The number of the line whose record had the last reply. The first reply is that of the begin.
-fn line_of(lines: &[u64], replies: &Replies) -> Option<u64> {
+fn line_of(lines: &[u64], replies: &LastReply) -> Option<u64> {
     lines.get(replies.count().checked_sub(2)?).copied()
 }
 
 // Tells what a session told, with the line of the text in the place of that of the script where a record was refused.
-fn tell_load<E: Write>(lines: &[u64], replies: &Replies, told: &[u8], err: &mut E) {
+fn tell_load<E: Write>(lines: &[u64], replies: &LastReply, told: &[u8], err: &mut E) {
     let mut rest = told;
     if let (Some(name), Some(line)) = (replies.refused(), line_of(lines, replies)) {
         let _ = writeln!(err, "recfile: {name} in line {line}");
@@ -104,7 +105,7 @@ fn tell_load<E: Write>(lines: &[u64], replies: &Replies, told: &[u8], err: &mut 
 }
 
 // Runs the session that puts records into the file at a path.
-fn run_load<P: PageFiles, E: Write>(
+fn run_load<P: PageFiles, E: Screen>(
     files: &P,
     alloc: Global,
     limits: Limits,
@@ -116,7 +117,9 @@ fn run_load<P: PageFiles, E: Write>(
     ensures { LoadsAt P.Device.DiskState (P.at files.now path.now) limits result }
 {
     let mut script = load.script.as_slice();
-    let (mut replies, mut told) = (Replies::new(), Vec::new(alloc));
+    // One reply for each record, with those of the begin and the commit.
+    let mut replies = Replies::new(err, load.lines.len().saturating_add(2));
+    let mut told = Vec::new(alloc);
     let status = run_at_path(
         files,
         alloc,
@@ -127,14 +130,15 @@ fn run_load<P: PageFiles, E: Write>(
         &mut replies,
         &mut told,
     );
-    tell_load(&load.lines, &replies, &told, err);
+    let last = replies.end();
+    tell_load(&load.lines, &last, &told, err);
     status
 }
 
 /// Puts the records of all that a reader has into the file at a path, in one transaction, all or none, and answers the
-/// status. Faults, each with a line on `err`: those of the text, by which no file is opened; the first record that is
+/// status; a bar on `err` tells a person how far that is. Faults, each with a line on `err`: those of the text, by which no file is opened; the first record that is
 /// refused, by the number of its line; those of the file.
-pub fn load<P: PageFiles, R: Read, E: Write>(
+pub fn load<P: PageFiles, R: Read, E: Screen>(
     files: &P,
     alloc: Global,
     separator: Separator,

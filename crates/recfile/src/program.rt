@@ -1,9 +1,10 @@
 ghost use Rattle.std.specs.Prelude.{◌≡◌, ◌⊎◌, if◌then◌else◌};
 ghost use Rattle.std.specs.Result.{is_err};
 ghost use Rattle.rec_types.specs.LimitBounds.{most_records};
-ghost use Rattle.recfile.specs.FilesAt.{Creates, Tells, TellsRecords, TellsTree};
+ghost use Rattle.recfile.specs.FilesAt.{Copies, Creates, Tells, TellsRecords, TellsTree};
 ghost use Rattle.recfile.specs.Tasks.{Does, DoesAny, IsDump, IsLine, Rescues, Writes, text_status, told_status};
 
+use crate::copying::{CopyingFault, copy_into, open_whole};
 use crate::dump::{DumpFault, dump_in, rescue_in};
 use crate::file_fault::FileFault;
 use crate::limits::greatest_limits;
@@ -11,6 +12,7 @@ use crate::loading::load;
 use crate::page_file::{check_in, create_in};
 use crate::page_files::PageFiles;
 use crate::path_session::run_at_path;
+use crate::screen::Screen;
 use crate::session::run_memory;
 use crate::statuses::exit_status;
 use crate::tell::{tell, tell_device};
@@ -47,6 +49,15 @@ fn check<P: PageFiles, W: Write>(
     let store = files.open_clean(alloc, path)?;
     let (_store, told) = check_in(alloc, store, greatest_limits(), out);
     told
+}
+
+// Makes a copy of the page file at a path at another one.
+fn copy<P: PageFiles>(files: &P, alloc: Global, path: &str, to: &str) -> Result<(), CopyingFault>
+    ensures { Copies P.Pages.StoreState (P.at files.now path.now) most_records result }
+{
+    let store = files.open_clean(alloc, path)?;
+    let mut store = open_whole(alloc, store, greatest_limits())?;
+    copy_into(files, alloc, &mut store, to)
 }
 
 // Writes the records of the page file at a path in a form, or as a script.
@@ -139,6 +150,28 @@ fn made_status<P: PageFiles, E: Write>(
     }
 }
 
+// The status where a copy was to be made; its fault is named, of the file or of the copy.
+fn copied_status<P: PageFiles, E: Write>(
+    files: &P,
+    alloc: Global,
+    path: &str,
+    to: &str,
+    err: &mut E,
+    done: Result<(), CopyingFault>,
+) -> u8
+    ensures { result ≡ (if is_err done then 1 else 0) }
+{
+    match done {
+        Ok(()) => exit_status(false, false, false),
+        Err(CopyingFault::OfFile(fault)) => {
+            tell(err, &fault);
+            tell_device(files, alloc, Wanted::Read, path, Some(fault), err);
+            exit_status(false, true, false)
+        }
+        Err(CopyingFault::OfCopy(fault)) => made_status(files, alloc, to, err, Err(fault)),
+    }
+}
+
 // Shows why the words ask for nothing: a fault on `err`, and help that was asked for on `out`.
 fn show<W: Write, E: Write>(fault: UsageFault, out: &mut W, err: &mut E) -> u8
     ensures { (result ≡ 0) ⊎ (result ≡ 2) }
@@ -160,7 +193,7 @@ fn show<W: Write, E: Write>(fault: UsageFault, out: &mut W, err: &mut E) -> u8
 }
 
 // Does a task, and answers the status.
-fn run_task<P: PageFiles, R: Read, W: Write, E: Write>(
+fn run_task<P: PageFiles, R: Read, W: Write, E: Screen>(
     files: &P,
     alloc: Global,
     task: Task<'_>,
@@ -180,6 +213,10 @@ fn run_task<P: PageFiles, R: Read, W: Write, E: Write>(
         Task::Check { path } => {
             let told = check(files, alloc, path, out);
             text_status(files, alloc, path, err, told)
+        }
+        Task::Copy { path, to } => {
+            let copied = copy(files, alloc, path, to);
+            copied_status(files, alloc, path, to, err, copied)
         }
         Task::Dump { form, path } => {
             let dumped = dump(files, alloc, form, path, out);
@@ -216,6 +253,7 @@ fn run_task<P: PageFiles, R: Read, W: Write, E: Write>(
 /// - `shell [--records N] [--log N] [--begins N] [--strict] [FILE]` runs the lines that the reader has over a page file
 ///   or in memory, and answers each before it reads on.
 /// - `check FILE` checks a page file, tells of its tree in one line, and writes nothing to it.
+/// - `copy FILE TO` checks a page file, and makes a copy of it; it only reads the file, and one that is at TO is left alone.
 /// - `dump [--tsv|--csv|--json] FILE` writes the records of a page file in a form, or as a script that puts them, and writes
 ///   nothing to it.
 /// - `load [--csv] [--records N] FILE` puts the records that the reader has into a page file, all or none.
@@ -224,7 +262,7 @@ fn run_task<P: PageFiles, R: Read, W: Write, E: Write>(
 /// - `rescue FILE` writes the records of the whole pages of a file as `dump` does, and tells what it left out; it only
 ///   reads the file.
 /// - `memory [--records N] [--log N] [--begins N] [--strict]` runs the script over an empty file in memory, as no word does.
-pub fn run_words<P: PageFiles, R: Read, W: Write, E: Write>(
+pub fn run_words<P: PageFiles, R: Read, W: Write, E: Screen>(
     files: &P,
     alloc: Global,
     words: &[&str],

@@ -2,7 +2,7 @@ ghost use Rattle.std.specs.Prelude.{◌≡◌, IfOk, codes};
 ghost use Rattle.clap.specs.Matches.{found_of};
 ghost use Rattle.clap.specs.Simple.{subcommand_rows_of};
 ghost use Rattle.clap.specs.Walk.{one_of, rows_of};
-ghost use Rattle.recfile.specs.Words.{AreLimits, AsksFor, IsDrawing, IsFlag, IsForm, IsManner, IsNamed, IsRead, IsSeparator, IsShell, file_of};
+ghost use Rattle.recfile.specs.Words.{AreLimits, AsksFor, IsDrawing, IsFlag, IsForm, IsManner, IsNamed, IsRead, IsSeparator, IsShell, word_in};
 
 use crate::limits::greatest_limits;
 use crate::manner::{Feed, Manner};
@@ -56,6 +56,11 @@ pub enum Task<'a> {
     /// To open a page file, and tell of its tree.
     Check {
         path: &'a str,
+    },
+    /// To make a copy of a page file.
+    Copy {
+        path: &'a str,
+        to: &'a str,
     },
     /// To write the records of a page file in a form, or as a script.
     Dump {
@@ -183,6 +188,19 @@ fn check_command<'a>(alloc: Global) -> Result<Command<'a>, AllocError> {
         .arg(file_word(alloc, "The path of the page file"))
 }
 
+fn copy_command<'a>(alloc: Global) -> Result<Command<'a>, AllocError> {
+    Command::new(alloc, "copy")
+        .about(
+            "Checks a whole page file, and makes a copy of it, which the device keeps, as: recfile copy a.rec b.rec",
+        )
+        .arg(file_word(alloc, "The path of the page file; it is only read"))?
+        .arg(
+            Arg::new(alloc, "TO")
+                .help("The path of the copy; a file that is there is left alone")
+                .required(true),
+        )
+}
+
 fn dump_command<'a>(alloc: Global) -> Result<Command<'a>, AllocError> {
     let tsv = flag(alloc, "tsv", "Write lines of key, tab, record")
         .conflicts_with("csv")?
@@ -278,6 +296,7 @@ fn program<'a>(alloc: Global) -> Result<Command<'a>, AllocError> {
     let program = with_command(program, run_command(alloc))?;
     let program = with_command(program, shell_command(alloc))?;
     let program = with_command(program, check_command(alloc))?;
+    let program = with_command(program, copy_command(alloc))?;
     let program = with_command(program, dump_command(alloc))?;
     let program = with_command(program, load_command(alloc))?;
     let program = with_command(program, explain_command(alloc))?;
@@ -386,11 +405,11 @@ fn shell_of<'a>(found: &ArgMatches<'a>) -> Result<Task<'a>, UsageFault>
     }
 }
 
-// The path that was asked for.
-fn path_of<'a>(found: &ArgMatches<'a>) -> &'a str
-    ensures { result.now ≡ file_of (rows_of (found_of found.now)) }
+// The path of that name that was asked for.
+fn path_of<'a>(found: &ArgMatches<'a>, id: &str) -> &'a str
+    ensures { result.now ≡ word_in id.now (rows_of (found_of found.now)) }
 {
-    match found.get_str("FILE") {
+    match found.get_str(id) {
         Some(path) => path,
         None => "",
     }
@@ -400,7 +419,7 @@ fn path_of<'a>(found: &ArgMatches<'a>) -> &'a str
 fn named<'a>(name: &str, found: &ArgMatches<'a>) -> Result<Task<'a>, UsageFault>
     ensures { IfOk result (IsNamed name.now (rows_of (found_of found.now))) }
 {
-    let path = path_of(found);
+    let path = path_of(found, "FILE");
     match name {
         "create" => Ok(Task::Create {
             order: order_of(found),
@@ -413,6 +432,10 @@ fn named<'a>(name: &str, found: &ArgMatches<'a>) -> Result<Task<'a>, UsageFault>
         }),
         "shell" => shell_of(found),
         "check" => Ok(Task::Check { path }),
+        "copy" => Ok(Task::Copy {
+            path,
+            to: path_of(found, "TO"),
+        }),
         "dump" => Ok(Task::Dump {
             form: form_of(found),
             path,
