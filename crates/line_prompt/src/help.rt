@@ -2,7 +2,7 @@ use std::io;
 use std::io::Write;
 
 // The forms of the lines, and what they do.
-const FORMS: [(&str, &str, &str); 14] = [
+const FORMS: [(&str, &str, &str); 15] = [
     (
         "begin",
         "begin",
@@ -51,7 +51,12 @@ const FORMS: [(&str, &str, &str); 14] = [
     (
         "log",
         "log",
-        "answers how many records the log has, and how many it may need",
+        "answers how many records the log has, and how many it may need; then as show",
+    ),
+    (
+        "show",
+        "show",
+        "draws the chains of the log; at a terminal alone",
     ),
 ];
 

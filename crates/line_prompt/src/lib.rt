@@ -1,7 +1,15 @@
 //! What a person at a terminal sees beside the replies of a shell: a prompt, help, and the form of a line that has none.
 #![tactic(auto)]
 
+mod chain;
+mod ending;
+mod heard;
 mod help;
+mod picture;
 mod prompted;
+mod watch;
 
+pub use ending::tell_end;
+pub use heard::Heard;
 pub use prompted::Prompted;
+pub use watch::Watch;

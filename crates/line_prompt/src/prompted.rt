@@ -1,23 +1,54 @@
+ghost use Rattle.std.specs.Prelude.{◌≤◌, length, IfOk, IfSome};
+
 use crate::help::tell_forms;
+use crate::picture::draw_chains;
+use crate::watch::Watch;
 use command_text::{LineFault, read_bounded_line};
+use std::cell::RefCell;
 use std::io;
 use std::io::{Read, Write};
 
-/// Lines that a person may type. Where one does, there is a prompt before each read; a line that asks for help is answered
-/// here, and one with an escape sequence is refused here, so that neither is read on; and the form of a line that has too
+/// Lines that a person may type. Where one does, there is a prompt before each read, which tells the open transactions; a
+/// line that asks for help or for the chains of the log is answered here, and one with an escape sequence is refused here,
+/// so that none of them is read on; behind the reply to `log` the chains are drawn; and the form of a line that has too
 /// many or too few words is told. Where none does, the lines come as they are.
 #[derive(Drop)]
-pub struct Prompted<R, E> {
+pub struct Prompted<'a, R, E> {
     lines: R,
     err: E,
+    watch: &'a RefCell<Watch>,
     typed: bool,
 }
 
-impl<R: Read, E: Write> Prompted<R, E> {
-    /// These lines, whether a person types them, and where what is told stands.
-    pub fn new(lines: R, err: E, typed: bool) -> Prompted<R, E> {
-        Prompted { lines, err, typed }
+impl<'a, R: Read, E: Write> Prompted<'a, R, E> {
+    /// These lines, whether a person types them, where what is told stands, and what watches the session.
+    pub fn new(lines: R, err: E, watch: &'a RefCell<Watch>, typed: bool) -> Prompted<'a, R, E> {
+        Prompted {
+            lines,
+            err,
+            watch,
+            typed,
+        }
     }
+}
+
+// The most open transactions that a prompt tells.
+const MOST_OPEN: usize = 8;
+
+// The prompt, with the numbers of the open transactions.
+fn write_prompt<E: Write>(watch: &Watch, err: &mut E) -> io::Result<()> {
+    let open = watch.open();
+    if open.is_empty() || !watch.is_known() {
+        return write!(err, "recfile> ");
+    }
+    write!(err, "recfile [")?;
+    for (index, open) in open.iter().take(MOST_OPEN).enumerate() {
+        let space = if index == 0 { "" } else { " " };
+        let number = open.tx.0;
+        write!(err, "{space}{number}")?;
+    }
+    let more = if open.len() > MOST_OPEN { " .." } else { "" };
+    write!(err, "{more}]> ")
 }
 
 // The first two words of a line.
@@ -38,7 +69,7 @@ fn without_end(line: &[u8]) -> &[u8] {
 }
 
 // Tells of a line what it can: whether it is answered by that.
-fn answers<E: Write>(line: &[u8], err: &mut E) -> io::Result<bool> {
+fn answers<E: Write>(line: &[u8], watch: &Watch, err: &mut E) -> io::Result<bool> {
     if line.contains(&27) {
         writeln!(
             err,
@@ -51,6 +82,10 @@ fn answers<E: Write>(line: &[u8], err: &mut E) -> io::Result<bool> {
         tell_forms(err, second)?;
         return Ok(true);
     }
+    if first == "show" {
+        draw_chains(watch, err)?;
+        return Ok(true);
+    }
     match read_bounded_line(without_end(line)) {
         Err(LineFault::WordCount) => tell_forms(err, first)?,
         Err(LineFault::UnknownCommand) => {
@@ -61,19 +96,40 @@ fn answers<E: Write>(line: &[u8], err: &mut E) -> io::Result<bool> {
     Ok(false)
 }
 
-impl<R: Read, E: Write> Read for Prompted<R, E> {
+// Prompts for a line, reads it, and tells of it what it can: whether it is to be read on.
+fn read_line<R: Read, E: Write>(
+    lines: &mut R,
+    watch: &mut Watch,
+    err: &mut E,
+    to: &mut [u8],
+) -> io::Result<Option<usize>>
+    ensures { IfOk result (λ read. IfSome read (λ count. count ≤ length to.new)) }
+{
+    write_prompt(watch, err)?;
+    err.flush()?;
+    let count = lines.read(to)?;
+    let line = to.get(..count).unwrap_or(b"");
+    if !line.is_empty() && answers(line, watch, err)? {
+        return Ok(None);
+    }
+    watch.hear(line);
+    Ok(Some(count))
+}
+
+impl<'a, R: Read, E: Write> Read for Prompted<'a, R, E> {
     fn read(&mut self, to: &mut [u8]) -> io::Result<usize> {
         if !self.typed {
             return self.lines.read(to);
         }
+        let Ok(mut watch) = self.watch.try_borrow_mut() else {
+            return self.lines.read(to);
+        };
+        let watch = &mut *watch;
+        if watch.take_up() {
+            draw_chains(watch, &mut self.err)?;
+        }
         for _ in 0..u64::MAX {
-            write!(self.err, "recfile> ")?;
-            self.err.flush()?;
-            let count = self.lines.read(to)?;
-            let Some(line) = to.get(..count) else {
-                return Ok(count);
-            };
-            if line.is_empty() || !answers(line, &mut self.err)? {
+            if let Some(count) = read_line(&mut self.lines, watch, &mut self.err, to)? {
                 return Ok(count);
             }
         }

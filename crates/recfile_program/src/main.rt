@@ -4,8 +4,9 @@
 mod uninterrupted;
 
 use crate::uninterrupted::Uninterrupted;
-use line_prompt::Prompted;
+use line_prompt::{Heard, Prompted, Watch, tell_end};
 use recfile::{SystemFiles, run_words, unread_words};
+use std::cell::RefCell;
 use std::io::{IsTerminal, Write};
 use std::process::ExitCode;
 use std::{env, io};
@@ -34,6 +35,24 @@ fn tell_help(rt: &HostRuntime) -> u8 {
     status
 }
 
+// The statuses of a session that was ended, and whose file was closed.
+const WAS_ENDED: [u8; 2] = [0, 3];
+
+// The options of a shell that have a value.
+const VALUED: [&str; 3] = ["--records", "--log", "--begins"];
+
+// Whether the words of a shell name a file.
+fn names_file(words: &[&str]) -> bool {
+    let mut is_value = false;
+    for word in words.iter().skip(2) {
+        if !is_value && !word.starts_with('-') {
+            return true;
+        }
+        is_value = !is_value && VALUED.contains(word);
+    }
+    false
+}
+
 fn run(rt: &HostRuntime) -> io::Result<u8> {
     let alloc = rt.alloc();
     let mut texts: Vec<String> = Vec::new(alloc);
@@ -49,9 +68,11 @@ fn run(rt: &HostRuntime) -> io::Result<u8> {
         return Ok(tell_help(rt));
     }
     let is_shell = words.get(1).is_some_and(|word| *word == "shell");
+    let typed = typed && is_shell;
+    let watch = RefCell::new(Watch::new(alloc));
     let lines = Uninterrupted::new(rt.stdin());
-    let mut lines = Prompted::new(lines, rt.stderr(), typed && is_shell);
-    let mut out = Uninterrupted::new(rt.stdout());
+    let mut lines = Prompted::new(lines, rt.stderr(), &watch, typed);
+    let mut out = Heard::new(Uninterrupted::new(rt.stdout()), &watch, typed);
     let status = run_words(
         &SystemFiles::new(rt),
         alloc,
@@ -60,6 +81,11 @@ fn run(rt: &HostRuntime) -> io::Result<u8> {
         &mut out,
         &mut rt.stderr(),
     );
+    if typed && WAS_ENDED.contains(&status) {
+        if let Ok(mut watch) = watch.try_borrow_mut() {
+            let _ = tell_end(&mut watch, names_file(&words), &mut rt.stderr());
+        }
+    }
     Ok(status)
 }
 
