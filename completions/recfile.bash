@@ -1,7 +1,7 @@
 # Completion of recfile in bash, as share/bash-completion/completions/recfile.
 _recfile() {
     local word=${COMP_WORDS[COMP_CWORD]} before=${COMP_WORDS[COMP_CWORD - 1]} command=${COMP_WORDS[1]}
-    local commands="create run shell check explain show rescue dump load memory help" options=--help
+    local commands="create run shell check copy explain show rescue dump load memory help" options=--help
     COMPREPLY=()
     if [ "$COMP_CWORD" = 1 ]; then
         COMPREPLY=($(compgen -W "$commands --help --version" -- "$word"))

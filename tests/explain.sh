@@ -91,6 +91,12 @@ damaged three.rec 12539 '\004' "page 3, byte 248: 4 stands there; expected is a 
 damaged old.rec 12403 '\003' "page 3, byte 112: 3 stands there; expected is a page from 1 to below 4 that nothing else leads to"
 damaged old.rec 12403 '\004' "page 3, byte 112: 4 stands there; expected is a page from 1 to below 4 that nothing else leads to"
 
+# Two keys in a page: the second one isn't above the first, by being the same and by being lower.
+"$program" create --order 1 two.rec
+printf 'begin\nput 1 b =x\nput 1 d =y\ncommit 1\n' | "$program" run two.rec > out
+damaged two.rec 4223 b "page 1, byte 127: 98 stands there; expected is a key above the one before it"
+damaged two.rec 4223 a "page 1, byte 127: 97 stands there; expected is a key above the one before it"
+
 # What the header says by itself is compared with the file, above it and below it: page and record counts that are too low.
 row="counts that are too low"
 for file in three.rec old.rec; do
@@ -288,6 +294,33 @@ explains . 1 ". is a folder, and no page file: it isn't opened"
 explains /dev/null 1 "/dev/null is a device, and no page file: it isn't opened"
 mkfifo pipe.rec
 explains pipe.rec 1 "pipe.rec is a pipe, and no page file: it isn't opened"
+
+if perl -MIO::Socket::UNIX -e 'IO::Socket::UNIX->new(Local => "socket.rec", Listen => 1) or exit 1' 2> /dev/null; then
+    explains socket.rec 1 "socket.rec is a socket, and no page file: it isn't opened"
+else
+    echo "explain: $row: a socket left out, since none is made"
+fi
+
+# Memory is refused at each growth: the file is told of as it is, or why not, and is never called anything else.
+row="memory that is refused"
+cc -O2 -shared -fPIC -o refuse.so "$here/tests/refuse.c"
+"$program" explain large.rec > whole
+number=0
+unlooked=0
+while number=$((number + 1)); do
+    rm -f met
+    runs=$((runs + 1))
+    status=0
+    env REFUSE_GROWTH=$number MET="$room/met" LD_PRELOAD="$room/refuse.so" "$program" explain large.rec > out 2> err || status=$?
+    [ -e met ] || break
+    if grep -qx "there is no memory to look at the pages" out; then unlooked=$((unlooked + 1)); fi
+    case $status in
+    0) cmp -s out whole || fail "growth $number: another text" ;;
+    1 | 2) if grep -q "the file is whole" out; then fail "growth $number: the file is called whole"; fi ;;
+    *) fail "growth $number: status $status" ;;
+    esac
+done
+[ $unlooked -gt 0 ] || fail "no growth is one of the pages"
 
 row="a full file system"
 mkdir small

@@ -28,7 +28,7 @@ names_below() {
     sed -n "/^##* $1\$/,/^##* /s/^| \(\`[^|]*\) |.*/\1/p" docs/FORMAT.md | grep -o '`[A-Z][A-Za-z0-9]*' | tr -d '`' | sort -u
 }
 manual=$home/share/man
-for word in create run shell check explain show rescue dump load memory --records --log --begins --strict --tsv --csv --json --svg; do
+for word in create run shell check copy explain show rescue dump load memory --records --log --begins --strict --tsv --csv --json --svg; do
     grep -q -e "^.B $word" "$manual/man1/recfile.1" || { echo "install: no $word in the man page"; exit 1; }
 done
 for part in "Lines that can't be read" Refusals "Faults and statuses"; do

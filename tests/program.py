@@ -122,11 +122,11 @@ FAULTY_WORDS = [
     "frob", "create", "create --order 2", "create --order 1 --order 2 no.rec", "run", "run no.rec more", "run --order 2 no.rec", "run --log 9 --log 9 no.rec",
     "run --strict --strict no.rec", "shell --order 2", "shell --strict --strict", "shell no.rec no.rec", "check",
     "check --records 1 no.rec", "check --strict no.rec", "dump", "dump --strict no.rec", "explain", "explain --strict no.rec",
-    "show", "show --svg --svg no.rec", "show --csv no.rec", "rescue", "rescue --csv no.rec", "load", "load --json no.rec",
+    "copy", "copy no.rec", "copy no.rec no.rec no.rec", "copy --csv no.rec no.rec", "show", "show --svg --svg no.rec", "show --csv no.rec", "rescue", "rescue --csv no.rec", "load", "load --json no.rec",
     "dump --tsv --tsv no.rec", "memory no.rec",
 ]
 HELP = ["--help", "create --help", "run --help", "shell --help", "check --help", "dump --help", "explain --help",
-        "show --help", "rescue --help", "load --help", "memory --help"]
+        "copy --help", "show --help", "rescue --help", "load --help", "memory --help"]
 # Numbers beyond the ends of their ranges, and at them.
 BEYOND = ["--records 0", "--records 1000001", "--log 1", "--log 4000001", "--begins 0", "--begins 1000001", "--begins -1", "--begins many"]
 

@@ -38,7 +38,7 @@ expect 0 ""
 for word in begin put del get claim save release back resume abort commit list keys log; do
     grep -q "The lines of a script:.* $word\(,\|$\)" out || fail "$word isn't named"
 done
-for word in create run shell check dump load explain show rescue memory; do
+for word in create run shell check copy dump load explain show rescue memory; do
     grep -q "^  $word  *[A-Z]" out || fail "$word has no line"
 done
 
