@@ -9,7 +9,7 @@ use Rattle.page_journal.specs.declared.disk_call.DiskCall.TheVariants.{Write, Na
 use Rattle.page_store.specs.Journal.{carried}
 use Rattle.page_store.specs.declared.step.Step.TheVariants as steps
 use Rattle.page_journal.specs.Carrying.{WritesKept}
-use Rattle.page_journal.proofs.MemDiskLemmas.{ghosts_of}
+use Rattle.page_journal.proofs.MemDiskLemmas.{mem_ghosts}
 use Rattle.page_journal.proofs.RestoreLemmas.{agree_itself, agree_put}
 use Rattle.page_journal.proofs.SealedLemmas.{named_so, named_stands, kept_stands}
 
@@ -97,7 +97,7 @@ named c left =
     (left.2.main ∙ was.0, ⊎_elim (λ stays. inl (stays ∙ was.1)) (λ now. inr (now ∙ ap (λ (k : Kept). Some k) was.2)) left.2.side)
 
 pub named_old : (c : Files) → MayLeave (alone old_file) (Name ∷ side_made) c → StandsFor old_file c
-named_old c left = named_stands (ghosts_of (alone old_file)) old_file both_kept refl both_gathered both_own c (named c left)
+named_old c left = named_stands mem_ghosts old_file both_kept refl both_gathered both_own c (named c left)
 
 -- it has the name
 side_there : (c : Files) → MayLeave (alone old_file) side_named c → (c.main ≡ old_file) × (c.side ≡ Some both_kept)

@@ -14,7 +14,7 @@ use Rattle.page_journal.specs.declared.disk_state.DiskState.{Ghosts}
 -- what contracts know of a disk in files
 abbrev pub file_ghosts : Ghosts OpenedDisk
 file_ghosts = record {
-  began = files_at_opening;
+  began = λ d. files_at_opening;
   steady = λ d. gives_back;
   seen = λ d. files_seen d.calls d.pages d.tail;
   may_leave = λ d c. may_be_left d.calls c;
@@ -61,6 +61,7 @@ pub does_step : (step : Files → Files → Type 0) (old new : OpenedDisk) → s
 does_step step old new seen later = record {
   seen = seen;
   steady = refl;
+  began = refl;
   crash = λ c left. not_left new.calls c left;
   later = later;
   nothing_else = λ t c le left. not_left_since new.calls t c left;

@@ -11,9 +11,9 @@ use Rattle.page_journal.specs.declared.disk_call.DiskCall.{DiskCall}
 use Rattle.page_journal.specs.declared.disk_call.DiskCall.TheVariants.{Write, Cut}
 
 -- what contracts know of a disk in memory
-abbrev pub ghosts_of : Files → Ghosts History
-ghosts_of began = record {
-  began = began;
+abbrev pub mem_ghosts : Ghosts History
+mem_ghosts = record {
+  began = λ h. h.first;
   steady = λ h. true;
   seen = λ h. all_done h.first h.calls;
   may_leave = λ h c. MayLeave h.first h.calls c;
@@ -22,20 +22,22 @@ ghosts_of began = record {
   failures = λ h. h.failures;
 }
 
-does_call : (began : Files) (step : Files → Files → Type 0) (call : DiskCall) (old : History) → step (all_done old.first old.calls) (done call (all_done old.first old.calls)) → ((d c : Files) → leads call (all_done old.first old.calls) d c → step d c) → Does (ghosts_of began) step old (with_call old call)
-does_call began step call old seen crash = record {
+does_call : (step : Files → Files → Type 0) (call : DiskCall) (old : History) → step (all_done old.first old.calls) (done call (all_done old.first old.calls)) → ((d c : Files) → leads call (all_done old.first old.calls) d c → step d c) → Does mem_ghosts step old (with_call old call)
+does_call step call old seen crash = record {
   seen = seen;
   steady = refl;
+  began = refl;
   crash = λ c left. (left.0, left.1, crash left.0 c left.2);
   later = omega arith;
   nothing_else = λ t c le left. ⊎_elim (λ now. inr now) (λ was. inl was.1) left;
   keeps = λ t c le left. inr (le, left);
 }
 
-does_fail : (began : Files) (step : Files → Files → Type 0) (old : History) → ((d : Files) → step d d) → Does (ghosts_of began) step old (failed_more old)
-does_fail began step old none = record {
+does_fail : (step : Files → Files → Type 0) (old : History) → ((d : Files) → step d d) → Does mem_ghosts step old (failed_more old)
+does_fail step old none = record {
   seen = none (all_done old.first old.calls);
   steady = refl;
+  began = refl;
   crash = λ c left. (c, left, none c);
   later = omega arith;
   nothing_else = λ t c le left. inl left;
@@ -43,9 +45,9 @@ does_fail began step old none = record {
 }
 
 -- a call that is kept, or that failed
-does_either : (began : Files) (step : Files → Files → Type 0) (call : DiskCall) (result : Result (Unit {0}) StoreFault) (old new : History) → OnOk result (new ≡ with_call old call) → OnErr result (new ≡ failed_more old) → Does (ghosts_of began) step old (with_call old call) → Does (ghosts_of began) step old (failed_more old) → Does (ghosts_of began) step old new
-does_either began step call (Ok _) old new ok err kept failed = subst (λ h. Does (ghosts_of began) step old h) (sym ok) kept
-does_either began step call (Err _) old new ok err kept failed = subst (λ h. Does (ghosts_of began) step old h) (sym err) failed
+does_either : (step : Files → Files → Type 0) (call : DiskCall) (result : Result (Unit {0}) StoreFault) (old new : History) → OnOk result (new ≡ with_call old call) → OnErr result (new ≡ failed_more old) → Does mem_ghosts step old (with_call old call) → Does mem_ghosts step old (failed_more old) → Does mem_ghosts step old new
+does_either step call (Ok _) old new ok err kept failed = subst (λ h. Does mem_ghosts step old h) (sym ok) kept
+does_either step call (Err _) old new ok err kept failed = subst (λ h. Does mem_ghosts step old h) (sym err) failed
 
 -- a page that has the bytes that it had
 pub torn_none : (n : ℕ) (d : Files) → TornAt n d d
@@ -65,8 +67,8 @@ cut_none n d = record {
   side = refl;
 }
 
-pub writes : (began : Files) (n : ℕ) (page : List ℕ) (result : Result (Unit {0}) StoreFault) (old new : History) → OnOk result (new ≡ with_call old (Write n page)) → OnErr result (new ≡ failed_more old) → Does (ghosts_of began) (TornAt n) old new
-writes began n page result old new ok err = does_either began (TornAt n) (Write n page) result old new ok err (does_call began (TornAt n) (Write n page) old (record { page = page; main = refl; fresh = refl; side = refl }) (λ d c torn. torn)) (does_fail began (TornAt n) old (torn_none n))
+pub writes : (n : ℕ) (page : List ℕ) (result : Result (Unit {0}) StoreFault) (old new : History) → OnOk result (new ≡ with_call old (Write n page)) → OnErr result (new ≡ failed_more old) → Does mem_ghosts (TornAt n) old new
+writes n page result old new ok err = does_either (TornAt n) (Write n page) result old new ok err (does_call (TornAt n) (Write n page) old (record { page = page; main = refl; fresh = refl; side = refl }) (λ d c torn. torn)) (does_fail (TornAt n) old (torn_none n))
 
-pub cuts : (began : Files) (n : ℕ) (result : Result (Unit {0}) StoreFault) (old new : History) → OnOk result (new ≡ with_call old (Cut n)) → OnErr result (new ≡ failed_more old) → Does (ghosts_of began) (CutsTo n) old new
-cuts began n result old new ok err = does_either began (CutsTo n) (Cut n) result old new ok err (does_call began (CutsTo n) (Cut n) old (record { to = n; least = omega arith; pages = refl; fresh = refl; side = refl }) (λ d c cut. cut)) (does_fail began (CutsTo n) old (cut_none n))
+pub cuts : (n : ℕ) (result : Result (Unit {0}) StoreFault) (old new : History) → OnOk result (new ≡ with_call old (Cut n)) → OnErr result (new ≡ failed_more old) → Does mem_ghosts (CutsTo n) old new
+cuts n result old new ok err = does_either (CutsTo n) (Cut n) result old new ok err (does_call (CutsTo n) (Cut n) old (record { to = n; least = omega arith; pages = refl; fresh = refl; side = refl }) (λ d c cut. cut)) (does_fail (CutsTo n) old (cut_none n))

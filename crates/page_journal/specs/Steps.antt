@@ -76,6 +76,7 @@ pub record Removes (d c : Files) : Type 0 where
 pub record Does {D : Type 0} (g : Ghosts D) (step : Files → Files → Type 0) (old new : D) : Type 0 where
   pub seen : step (g.seen old) (g.seen new)
   pub steady : g.steady new ≡ g.steady old
+  pub began : g.began new ≡ g.began old
   pub crash : (c : Files) → g.may_leave new c → (d : Files) × g.may_leave old d × step d c
   pub later : g.moment old ≤ g.moment new
   pub nothing_else : (t : ℕ) (c : Files) → t ≤ g.moment old → g.left_since new t c → g.left_since old t c ⊎ g.may_leave new c
@@ -88,6 +89,10 @@ Stays g old new = Does g Nothing old new
 -- a disk gives back what it took as it did before
 abbrev pub StaysSteady : {D : Type 0} → Ghosts D → D → D → Type 0
 StaysSteady g old new = g.steady new ≡ g.steady old
+
+-- it was opened over the same files
+abbrev pub StaysBegun : {D : Type 0} → Ghosts D → D → D → Type 0
+StaysBegun g old new = g.began new ≡ g.began old
 
 -- the one fault is Failed, and it is counted
 pub record CountsFault {D A : Type 0} (g : Ghosts D) (old : D) (answer : Result A StoreFault) (new : D) : Type 0 where
@@ -104,4 +109,4 @@ CallSyncs g part old answer new = OnOk answer ((c : Files) → g.may_leave new c
 
 -- what is left of several calls of the disk, of which the last may have failed
 abbrev pub CallsLeave : {D A : Type 0} → Ghosts D → D → Result A StoreFault → D → Type 0
-CallsLeave g old answer new = StaysSteady g old new × CountsFault g old answer new
+CallsLeave g old answer new = StaysSteady g old new × CountsFault g old answer new × StaysBegun g old new

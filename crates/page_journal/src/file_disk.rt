@@ -70,7 +70,7 @@ impl<H: System<File = F> + Drop, F: SystemFile + Drop> FileDisk<H, F> {
     pub fn open(rt: H, alloc: Global, path: &str) -> Result<FileDisk<H, F>, OpeningFault>
         ensures rest { IfOk result (λ d. IsAtRest ⟦<FileDisk<H, F> as DiskState>⟧ d) }
         ensures began { IfOk result (λ d. IsTrue (⟦<FileDisk<H, F> as DiskState>⟧.steady d)
-            → ⟦<FileDisk<H, F> as DiskState>⟧.seen d ≡ ⟦<FileDisk<H, F> as DiskState>⟧.began) }
+            → ⟦<FileDisk<H, F> as DiskState>⟧.seen d ≡ ⟦<FileDisk<H, F> as DiskState>⟧.began d) }
         ensures moment { IfOk result (λ d. d.calls ≡ 0) }
         ensures failures { IfOk result (λ d. d.failures ≡ 0) }
     {
@@ -166,7 +166,7 @@ impl<H: System<File = F> + Drop, F: SystemFile + Drop> DiskState for FileDisk<H,
     ghost use Rattle.page_store.specs.FileValues.{gives_back};
     ghost use Rattle.page_journal.specs.FileDisks.{files_seen, files_at_opening, may_be_left, left_since_in_files};
 
-    ghost began = { files_at_opening };
+    ghost began = { λ _. files_at_opening };
 
     ghost steady = { λ _. gives_back };
 

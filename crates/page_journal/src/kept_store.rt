@@ -44,7 +44,7 @@ pub struct KeptStore<D: Disk + Drop> {
 
 impl<D: Disk + Drop> Model for KeptStore<D> {
     ghost use Rattle.std.specs.Prelude.{IsTrue};
-    ghost use Rattle.page_journal.specs.KeptStores.{KeptStored, IsGuarded, coded_kept_stored};
+    ghost use Rattle.page_journal.specs.KeptStores.{KeptStored, IsGuarded, coded_kept_stored, old_file_of};
 
     ghost Value = { KeptStored D };
 
@@ -61,7 +61,7 @@ impl<D: Disk + Drop> Model for KeptStore<D> {
     } };
 
     ghost invariant = { λ s. IsTrue (D.steady s.disk)
-        → IsGuarded D.DiskState s.state s.kept.items s.disk };
+        → IsGuarded D.DiskState (old_file_of D.DiskState s.disk) s.state s.kept.items s.disk };
 }
 
 // Whether page n was kept or is past the old end.
@@ -92,9 +92,9 @@ impl<D: Disk + Drop> KeptStore<D> {
     /// memory.
     pub fn new(alloc: Global, disk: D) -> KeptStore<D>
         requires settled { IsTrue (D.steady disk)
-            → IsSettled D.DiskState (recovered D.began) disk }
+            → IsSettled D.DiskState (recovered (D.began disk)) disk }
         requires time { IsTrue (D.steady disk) → (c : Files) → D.left_since disk 0 c
-            → StandsFor (recovered D.began) c }
+            → StandsFor (recovered (D.began disk)) c }
         ensures { result ≡ record {
           disk = disk;
           kept = [];
@@ -122,7 +122,7 @@ impl<D: Disk + Drop> KeptStore<D> {
     /// file, also during this call. Faults: Device, where a call of the disk failed; BadJournal. The disk comes back.
     pub fn open(alloc: Global, disk: D) -> Result<KeptStore<D>, (D, RecoveryFault)>
         requires rest { IsAtRest D.DiskState disk }
-        requires began { IsTrue (D.steady disk) → D.seen disk ≡ D.began }
+        requires began { IsTrue (D.steady disk) → D.seen disk ≡ D.began disk }
         requires moment { D.moment disk ≡ 0 }
         ensures opened { IfOk result (λ s. s ≡ record {
           disk = s.disk;
@@ -134,13 +134,14 @@ impl<D: Disk + Drop> KeptStore<D> {
           failures = 0;
         }) }
         ensures steady { IfOk result (λ s. D.steady s.disk ≡ D.steady disk) }
+        ensures began { IfOk result (λ s. D.began s.disk ≡ D.began disk) }
         ensures failures { IfOk result (λ s. D.failures s.disk ≡ D.failures disk) }
-        ensures file { IsTrue (D.steady disk) → IfOk result (λ s. Belongs D.began
-            × ((D.seen s.disk).main ≡ recovered D.began)) }
+        ensures file { IsTrue (D.steady disk) → IfOk result (λ s. Belongs (D.began disk)
+            × ((D.seen s.disk).main ≡ recovered (D.began disk))) }
         ensures stopped { IsTrue (D.steady disk) → IfErr result (λ stop. (c : Files)
-            → D.left_since stop.0 0 c → StandsAs D.began c) }
+            → D.left_since stop.0 0 c → StandsAs (D.began disk) c) }
         ensures bad_journal { IsTrue (D.steady disk) → IfErr result (λ stop.
-            stop.1 ≡ RecoveryFault.BadJournal → IsForeign D.began) }
+            stop.1 ≡ RecoveryFault.BadJournal → IsForeign (D.began disk)) }
         ensures device { IfErr result (λ stop. D.failures stop.0
             ≡ counted (D.failures disk) (is_device_fault stop.1)) }
     {
@@ -165,6 +166,7 @@ impl<D: Disk + Drop> KeptStore<D> {
     fn keep_aside(&mut self, numbers: &[u32]) -> Result<(), StoreFault>
         ensures same { (D.seen self.new.disk).main ≡ (D.seen self.old.disk).main }
         ensures steady { D.steady self.new.disk ≡ D.steady self.old.disk }
+        ensures began { D.began self.new.disk ≡ D.began self.old.disk }
         ensures sealed { OnOk result ((self.new.state ≡ SealState.Sealed) × ((n : ℕ)
             → n < length (D.seen self.old.disk).main.pages
             → is_open self.new.kept n ≡ list_any (λ m. n == m) numbers.now)) }
@@ -206,9 +208,10 @@ impl<D: Disk + Drop> KeptStore<D> {
         ensures settled { IsTrue (D.steady self.disk) → OnOk result.1
             (IsSettled D.DiskState (D.seen self.disk).main result.0) }
         ensures any_moment { IsTrue (D.steady self.disk) → (c : Files) → D.left_since result.0 0 c
-            → IsEither (recovered D.began) (D.seen self.disk).main c }
+            → IsEither (recovered (D.began self.disk)) (D.seen self.disk).main c }
         ensures same { (D.seen result.0).main ≡ (D.seen self.disk).main }
         ensures steady { D.steady result.0 ≡ D.steady self.disk }
+        ensures began { D.began result.0 ≡ D.began self.disk }
         ensures failures { self.state ≢ SealState.Stopped → D.failures result.0
             ≡ counted (D.failures self.disk) (is_failed result.1) }
     {
@@ -230,11 +233,12 @@ impl<D: Disk + Drop> KeptStore<D> {
     /// failed; an opening finds the file then.
     pub fn take_back(self) -> (D, Result<(), RecoveryFault>)
         ensures old { IsTrue (D.steady self.disk)
-            → OnOk result.1 ((D.seen result.0).main ≡ recovered D.began) }
+            → OnOk result.1 ((D.seen result.0).main ≡ recovered (D.began self.disk)) }
         ensures any_moment { IsTrue (D.steady self.disk) → (c : Files) → D.left_since result.0 0 c
-            → StandsFor (recovered D.began) c }
+            → StandsFor (recovered (D.began self.disk)) c }
         ensures fault { IsTrue (D.steady self.disk) → result.1 ≢ Err RecoveryFault.BadJournal }
         ensures steady { D.steady result.0 ≡ D.steady self.disk }
+        ensures began { D.began result.0 ≡ D.began self.disk }
         ensures device { D.failures result.0
             ≡ counted (D.failures self.disk) (is_device result.1) }
     {
@@ -253,12 +257,16 @@ impl<D: Disk + Drop> KeptStore<D> {
 
 impl<D: Disk + Drop> StoreState for KeptStore<D> {
     ghost use Rattle.std.specs.Prelude.{None};
+    ghost use Rattle.page_journal.specs.Files.{recovered};
+    ghost use Rattle.page_journal.specs.KeptStores.{opened_over};
 
     ghost pages = { λ s. (D.seen s.disk).main.pages };
 
     ghost tail = { λ s. (D.seen s.disk).main.tail };
 
     ghost steady = { λ s. D.steady s.disk };
+
+    ghost opening = { λ s. opened_over (recovered (D.began s.disk)) };
 
     ghost reads = { λ s. s.reads };
 

@@ -36,7 +36,7 @@ pub use fate::Fate;
 pub use file_disk::{FileDisk, has_side_file, side_name};
 pub use kept_store::KeptStore;
 pub use making::{keep_made, make_file, refused_beside, take_away};
-pub use mem_disk::{Beginning, MemDisk};
+pub use mem_disk::MemDisk;
 pub use opening_fault::OpeningFault;
 pub use recovering::{commit, recover};
 pub use recovery_fault::RecoveryFault;

@@ -1,7 +1,6 @@
 ghost use Rattle.std.specs.Prelude.{◌≡◌, ◌<◌, ◌≤◌, [], Some, None, Err, length, take, reverse, All, IsTrue, IsSome, IfSome, OnOk, OnErr, IfOk};
 ghost use Rattle.rec_types.specs.Table.{counted};
 ghost use Rattle.rec_types.specs.Widths.{page_width};
-ghost use Rattle.page_journal.specs.Files.{Files};
 ghost use Rattle.page_journal.specs.Steps.{nothing_kept};
 ghost use Rattle.page_journal.specs.History.{MayLeave, all_done, with_call, failed_more};
 ghost use Rattle.page_journal.specs.Fates.{first_calls};
@@ -18,27 +17,20 @@ use crate::side_shape::SideShape;
 use page_store::{Shape, StoreFault};
 use rec_types::{Memory, PAGE_WIDTH};
 use std::alloc::Global;
-use std::marker::{Model, PhantomData};
-
-/// What the files of a disk in memory were at first, as contracts know it. It has no code.
-pub trait Beginning {
-    /// The files.
-    ghost files: { Files };
-}
+use std::marker::Model;
 
 /// A disk in memory, which keeps what its files were at first and each changing call since then. A crash leaves any
 /// of the calls that weren't synced done, not done or torn. It is always steady; its calls fail where there is no
 /// memory, and at nothing else but a side file that isn't there.
 #[derive(Drop)]
-pub struct MemDisk<B> {
+pub struct MemDisk {
     first: MemFiles,
     calls: Vec<DiskCall>,
     seen: MemFiles,
     failures: u64,
-    beginning: PhantomData<B>,
 }
 
-impl<B> Model for MemDisk<B> {
+impl Model for MemDisk {
     ghost use Rattle.std.specs.Prelude.{◌≡◌, reverse};
     ghost use Rattle.page_journal.specs.History.{History, all_done};
 
@@ -53,10 +45,10 @@ impl<B> Model for MemDisk<B> {
     ghost invariant = { λ d. d.seen ≡ all_done d.first (reverse d.calls.items) };
 }
 
-impl<B> MemDisk<B> {
+impl MemDisk {
     /// A disk whose file has these pages and a tail of that many bytes, at most 4,095, with no side file. Fault:
     /// Memory.
-    pub fn new(alloc: Global, pages: &[[u8; PAGE_WIDTH]], tail: u16) -> Result<MemDisk<B>, Memory>
+    pub fn new(alloc: Global, pages: &[[u8; PAGE_WIDTH]], tail: u16) -> Result<MemDisk, Memory>
         requires { tail < page_width }
         ensures { IfOk result (λ d. d ≡ record {
           first = record {
@@ -73,7 +65,6 @@ impl<B> MemDisk<B> {
             calls: Vec::new(alloc),
             seen: mem_files(alloc, pages, tail)?,
             failures: 0,
-            beginning: PhantomData,
         })
     }
 
@@ -94,7 +85,7 @@ impl<B> MemDisk<B> {
     /// The disk after a crash and a restart, which came after as many of the calls as there are fates, and where each of
     /// these calls had its fate, unless it was synced. None where the device kept the names and the fates would have
     /// it lose one. Fault: Memory.
-    pub fn crash<C>(&self, fates: &[Fate]) -> Result<Option<MemDisk<C>>, Memory>
+    pub fn crash(&self, fates: &[Fate]) -> Result<Option<MemDisk>, Memory>
         requires { length fates.now ≤ length self.now.calls }
         ensures left { IfOk result (λ found. IfSome found (λ d. (d.calls ≡ []) × (d.failures ≡ 0)
             × MayLeave self.now.first (first_calls (length fates.now) self.now.calls) d.first)) }
@@ -143,11 +134,11 @@ impl<B> MemDisk<B> {
     }
 }
 
-impl<B: Beginning> DiskState for MemDisk<B> {
+impl DiskState for MemDisk {
     ghost use Rattle.std.specs.Prelude.{true, length};
     ghost use Rattle.page_journal.specs.History.{all_done, MayLeave, LeftSince};
 
-    ghost began = { B.files };
+    ghost began = { λ d. d.first };
 
     ghost steady = { λ _. true };
 
@@ -162,7 +153,7 @@ impl<B: Beginning> DiskState for MemDisk<B> {
     ghost failures = { λ d. d.failures };
 }
 
-impl<B: Beginning> Disk for MemDisk<B> {
+impl Disk for MemDisk {
     ghost use Rattle.page_journal.specs.History.{left_now, only_left_now};
 
     ghost only_now = { λ d c left. only_left_now d.first d.calls c left };
@@ -275,7 +266,7 @@ fn suffer_all(
 }
 
 // A disk that has these files.
-fn restarted<B>(files: MemFiles) -> Result<Option<MemDisk<B>>, Memory>
+fn restarted(files: MemFiles) -> Result<Option<MemDisk>, Memory>
     ensures { IfOk result (λ found. found
         ≡ Some (record { first = files; calls = []; failures = 0 })) }
 {
@@ -286,7 +277,6 @@ fn restarted<B>(files: MemFiles) -> Result<Option<MemDisk<B>>, Memory>
         calls: Vec::new(alloc),
         seen,
         failures: 0,
-        beginning: PhantomData,
     }))
 }
 

@@ -2,7 +2,7 @@ ghost use Rattle.std.specs.Prelude.{◌≡◌, ◌≢◌, ◌↔◌, ◌<◌, �
 ghost use Rattle.rec_types.specs.Table.{counted};
 ghost use Rattle.page_journal.specs.Files.{Kept, IsOf, Belongs, AscendBelow, is_kept, recovered, restored};
 ghost use Rattle.page_journal.specs.Sums.{SumsOn, sum_without};
-ghost use Rattle.page_journal.specs.Steps.{CallDoes, CallsLeave, CountsFault, Stays, TornAt, side_shape, StaysSteady};
+ghost use Rattle.page_journal.specs.Steps.{CallDoes, CallsLeave, CountsFault, Stays, TornAt, side_shape, StaysBegun, StaysSteady};
 ghost use Rattle.page_journal.specs.Crash.{LeavesOnly, IsSettled, IsSealed, IsAtRest, StandsAs, StandsFor, IsEither, MayWrite, PutsBack};
 ghost use Rattle.page_journal.specs.Recovery.{is_device, IsForeign};
 ghost use Rattle.page_journal.specs.StandsBeside.{StandsBeside};
@@ -180,6 +180,7 @@ pub(crate) fn look_beside<D: Disk>(disk: &mut D) -> Result<Beside, StoreFault>
 /// no closing leaves that, and nothing has changed then.
 pub fn recover<D: Disk>(disk: &mut D) -> Result<(), RecoveryFault>
     ensures steady { StaysSteady D.DiskState disk.old disk.new }
+    ensures began { StaysBegun D.DiskState disk.old disk.new }
     ensures recovered { IsTrue (D.steady disk.old) → IsAtRest D.DiskState disk.old → OnOk result
         (IsSettled D.DiskState (recovered (D.seen disk.old)) disk.new) }
     ensures any_moment { IsTrue (D.steady disk.old) → IsAtRest D.DiskState disk.old

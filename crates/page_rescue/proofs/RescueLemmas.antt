@@ -18,6 +18,7 @@ stays_on s a b c first next = record {
   pages = next.pages ∙ first.pages;
   tail = next.tail ∙ first.tail;
   steady = next.steady ∙ first.steady;
+  opening = next.opening ∙ first.opening;
   writes = next.writes ∙ first.writes;
   journal = next.journal ∙ first.journal;
 }

@@ -12,6 +12,7 @@ use Rattle.page_store.specs.declared.store_state.StoreState.{Ghosts}
 -- so many calls were made, and these steps noted; up to the one that failed, where there is a fault
 pub record Carries {S A : Type 0} (s : Ghosts S) (calls : ℕ) (steps : List Step) (old : S) (answer : Result A StoreFault) (new : S) : Type 0 where
   pub steady : s.steady new ≡ s.steady old
+  pub opening : s.opening new ≡ s.opening old
   pub reads : s.reads new ≡ s.reads old
   pub shapes : s.shapes new ≡ s.shapes old
   pub writes : OnOk answer (s.writes new ≡ counted_times (s.writes old) calls)

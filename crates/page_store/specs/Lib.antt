@@ -10,6 +10,7 @@ pub mod Fronts
 pub mod Growth
 pub mod Journal
 pub mod OpenedFile
+pub mod Opening
 pub mod Overlaid
 pub mod PageMap
 pub mod PagesView

@@ -2,6 +2,7 @@
 use Rattle.std.specs.Prelude.{◌≡◌, ℕ, Bool, false, not, ◌&&◌, List, Option, None, is_some, if◌then◌else◌, slice_index_or}
 use Rattle.page_store.specs.PageMap.{PageMap, at}
 use Rattle.page_store.specs.Journal.{Journal}
+use Rattle.page_store.specs.Opening.{Opening}
 
 -- pages: each page's newest bytes, None for page 0 and for free numbers; changed: whether an edit was staged since the beginning or the last writing back; in_memory: of each page whether it is in use and its newest bytes are in memory; the rest is the store's
 pub record PagesView : Type 0 where
@@ -11,6 +12,7 @@ pub record PagesView : Type 0 where
   pub stored : List (List ℕ)
   pub tail : ℕ
   pub steady : Bool
+  pub opening : Opening
   pub reads : ℕ
   pub shapes : ℕ
   pub writes : ℕ

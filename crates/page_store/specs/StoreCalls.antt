@@ -13,6 +13,7 @@ pub record StaysStore {S : Type 0} (s : Ghosts S) (old new : S) : Type 0 where
   pub pages : s.pages new ≡ s.pages old
   pub tail : s.tail new ≡ s.tail old
   pub steady : s.steady new ≡ s.steady old
+  pub opening : s.opening new ≡ s.opening old
   pub writes : s.writes new ≡ s.writes old
   pub journal : s.journal new ≡ s.journal old
 
@@ -40,6 +41,7 @@ AsksToGrow Sync answer = AsksNoMemory answer
 -- a changing call, and the step that it is
 pub record ChangesStore {S A : Type 0} (s : Ghosts S) (step : Step) (old : S) (answer : Result A StoreFault) (new : S) : Type 0 where
   pub steady : s.steady new ≡ s.steady old
+  pub opening : s.opening new ≡ s.opening old
   pub reads : s.reads new ≡ s.reads old
   pub shapes : s.shapes new ≡ s.shapes old
   pub writes : s.writes new ≡ counted (s.writes old) true

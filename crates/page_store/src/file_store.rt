@@ -154,12 +154,15 @@ fn noted(failures: &mut u64, answer: io::Result<()>) -> Result<(), StoreFault>
 
 impl<F: SystemFile + Drop> StoreState for FileStore<F> {
     ghost use Rattle.std.specs.Prelude.{None};
+    ghost use Rattle.page_store.specs.Opening.{untold};
 
     ghost pages = { λ s. s.pages };
 
     ghost tail = { λ s. s.tail };
 
     ghost steady = { λ s. s.steady };
+
+    ghost opening = { λ _. untold };
 
     ghost reads = { λ s. s.reads };
 

@@ -105,6 +105,8 @@ impl<S: Store> StoreState for FlakyStore<S> {
 
     ghost steady = { λ s. S.steady s.inner };
 
+    ghost opening = { λ s. S.opening s.inner };
+
     ghost reads = { λ s. reads_of S.reads s };
 
     ghost shapes = { λ s. S.shapes s.inner };

@@ -69,12 +69,15 @@ impl MemStore {
 
 impl StoreState for MemStore {
     ghost use Rattle.std.specs.Prelude.{true, None};
+    ghost use Rattle.page_store.specs.Opening.{untold};
 
     ghost pages = { λ s. s.pages };
 
     ghost tail = { λ s. s.tail };
 
     ghost steady = { λ _. true };
+
+    ghost opening = { λ _. untold };
 
     ghost reads = { λ s. s.reads };
 

@@ -57,6 +57,7 @@ impl<S: Store> Model for Pages<S> {
       stored = S.pages p.store;
       tail = S.tail p.store;
       steady = S.steady p.store;
+      opening = S.opening p.store;
       reads = S.reads p.store;
       shapes = S.shapes p.store;
       writes = S.writes p.store;
@@ -90,6 +91,7 @@ impl<S: Store> Pages<S> {
           stored = S.pages store;
           tail = S.tail store;
           steady = S.steady store;
+          opening = S.opening store;
           reads = S.reads store;
           shapes = S.shapes store;
           writes = S.writes store;
@@ -323,6 +325,7 @@ impl<S: Store> Pages<S> {
         ensures pages { S.pages result ≡ self.stored }
         ensures tail { S.tail result ≡ self.tail }
         ensures steady { S.steady result ≡ self.steady }
+        ensures opening { S.opening result ≡ self.opening }
         ensures reads { S.reads result ≡ self.reads }
         ensures shapes { S.shapes result ≡ self.shapes }
         ensures writes { S.writes result ≡ self.writes }

@@ -1,5 +1,6 @@
 ghost use Rattle.std.specs.Prelude.{ℕ, Bool, List, Option};
 ghost use Rattle.page_store.specs.Journal.{Journal};
+ghost use Rattle.page_store.specs.Opening.{Opening};
 
 /// What contracts know of a store. It has no code.
 pub trait StoreState {
@@ -11,6 +12,9 @@ pub trait StoreState {
 
     /// Whether what the store reads is what it wrote. No call changes it.
     ghost steady: { Self → Bool };
+
+    /// What the store was opened from, and what was kept beside its pages since then. No call of a store changes it.
+    ghost opening: { Self → Opening };
 
     /// How many reads there were.
     ghost reads: { Self → ℕ };

@@ -41,21 +41,21 @@ pub record KeptSession {D : Type 0} (g : DiskGhosts D) (manner : Manner) (limits
     (left leaves held holds : Option (List ℕ)) (opened : D) (unopened unclosed : Option FileFault) (disk : D) (status : ℕ) : Type 0 where
   pub unread : IfSome unopened (λ _. (status ≡ 1) × (unclosed ≡ None) × (leaves ≡ left) × (holds ≡ held))
   pub ran : unopened ≡ None → RunsAny manner limits left leaves held holds unclosed status
-  pub own : IsTrue (g.steady opened) → unopened ≡ None → Belongs g.began
-  pub closed : IsTrue (g.steady opened) → unopened ≡ None → CanBeOpened (recovered g.began).pages (recovered g.began).tail limits.records
-  pub first : IsTrue (g.steady opened) → IfSome unopened (IsUnopened g.began limits.records)
-  pub untouched : IsTrue (g.steady opened) → IfSome unopened (λ _. LeavesAs g disk)
-  pub stopped : IsTrue (g.steady opened) → status ≡ 4 → LeavesOld g (recovered g.began) disk
+  pub own : IsTrue (g.steady opened) → unopened ≡ None → Belongs (g.began opened)
+  pub closed : IsTrue (g.steady opened) → unopened ≡ None → CanBeOpened (recovered (g.began opened)).pages (recovered (g.began opened)).tail limits.records
+  pub first : IsTrue (g.steady opened) → IfSome unopened (IsUnopened (g.began opened) limits.records)
+  pub untouched : IsTrue (g.steady opened) → IfSome unopened (λ _. LeavesAs g (g.began opened) disk)
+  pub stopped : IsTrue (g.steady opened) → status ≡ 4 → LeavesOld g (recovered (g.began opened)) disk
   pub session : IsTrue (g.steady opened) → (tree : Tree) → (contents : Contents) → (version : ℕ)
-      → IsClosed version (recovered g.began).pages (recovered g.began).tail tree contents → tree.count ≤ limits.records
+      → IsClosed version (recovered (g.began opened)).pages (recovered (g.began opened)).tail tree contents → tree.count ≤ limits.records
       → MatchOption unopened (EndsFile manner left leaves held holds (opened_file contents limits 0)
-      (ClosesSafely g (recovered g.began) disk unclosed tree.order) unclosed status) (IsOutsideDisk g.began)
+      (ClosesSafely g (recovered (g.began opened)) disk unclosed tree.order) unclosed status) (IsOutsideDisk (g.began opened))
 
 -- a session over the disk that was opened at a path
 pub record RunsAt {D : Type 0} (g : DiskGhosts D) (At : Files → Type 0) (manner : Manner) (limits : Bounds)
     (left leaves held holds : Option (List ℕ)) (status : ℕ) : Type 0 where
   pub opened : D
-  pub found : IsTrue (g.steady opened) → At g.began
+  pub found : IsTrue (g.steady opened) → At (g.began opened)
   pub unopened : Option FileFault
   pub unclosed : Option FileFault
   pub disk : D

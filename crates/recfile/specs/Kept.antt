@@ -1,6 +1,7 @@
 -- What a session over a page file that closes safely leaves, and what a crash of it leaves.
 use Rattle.std.specs.Prelude.{◌≡◌, ◌⊎◌, ℕ, Option, None}
 use Rattle.rec_types.specs.Contents.{Contents}
+use Rattle.page_store.specs.Opening.{Opening}
 use Rattle.btree_node.specs.Layout.{second_version}
 use Rattle.btree_insert.specs.declared.tree.Tree.{Tree}
 use Rattle.btree_delete.specs.TableView.{IsClosed}
@@ -11,6 +12,10 @@ use Rattle.page_journal.specs.declared.disk_state.DiskState.{Ghosts}
 use Rattle.recfile.specs.Dumped.{IsFirstOrOutside, IsOutsideFile}
 use Rattle.recfile.specs.declared.file_fault.FileFault.{FileFault}
 use Rattle.recfile.specs.declared.file_fault.FileFault.TheVariants.{BadJournal}
+
+-- the file that a store was opened over
+abbrev pub file_of : Opening → PageFile
+file_of opening = record { pages = opening.pages; tail = opening.tail }
 
 -- the file is closed and has these records, in a tree of this order
 abbrev pub HasRecords : ℕ → Contents → PageFile → Type 0
@@ -24,9 +29,9 @@ LeavesOld g old disk = (c : Files) → g.left_since disk 0 c → StandsFor old c
 abbrev pub LeavesEither : {D : Type 0} → Ghosts D → PageFile → ℕ → Contents → D → Type 0
 LeavesEither g old order records disk = (c : Files) → g.left_since disk 0 c → StandsFor old c ⊎ (Belongs c × HasRecords order records (recovered c))
 
--- a crash at any moment since the disk was opened leaves files that stand for what they stood for then
-abbrev pub LeavesAs : {D : Type 0} → Ghosts D → D → Type 0
-LeavesAs g disk = (c : Files) → g.left_since disk 0 c → StandsAs g.began c
+-- a crash at any moment since the disk was opened leaves files that stand for what these stood for
+abbrev pub LeavesAs : {D : Type 0} → Ghosts D → Files → D → Type 0
+LeavesAs g old disk = (c : Files) → g.left_since disk 0 c → StandsAs old c
 
 -- the file is closed, has these records in a tree of this order, and the device keeps it with no side file
 pub record IsKept {D : Type 0} (g : Ghosts D) (order : ℕ) (records : Contents) (disk : D) : Type 0 where

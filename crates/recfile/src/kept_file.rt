@@ -6,7 +6,7 @@ ghost use Rattle.btree_delete.specs.TableView.{IsClosed, table_contents};
 ghost use Rattle.page_journal.specs.Files.{Belongs, recovered};
 ghost use Rattle.page_journal.specs.Crash.{IsAtRest};
 ghost use Rattle.recfile.specs.Dumped.{CanBeOpened, IsFirstOrOutside, IsOutsideFile};
-ghost use Rattle.recfile.specs.Kept.{LeavesAs, LeavesOld, LeavesEither, IsKept, ClosesSafely, IsOutsideDisk, IsUnopened};
+ghost use Rattle.recfile.specs.Kept.{file_of, LeavesAs, LeavesOld, LeavesEither, IsKept, ClosesSafely, IsOutsideDisk, IsUnopened};
 ghost use Rattle.recfile.specs.Statuses.{status_of};
 ghost use Rattle.recfile.specs.WholeSession.{EndsFile, RunsAny, opened_file};
 
@@ -35,7 +35,7 @@ pub struct DiskEnd<D: Disk + Drop> {
 // The disk of a table that isn't closed, with the old file put back. Where that fails the side file stays, and the next
 // opening puts it back.
 fn give_back<D: Disk + Drop>(table: TreeTable<KeptStore<D>>) -> D
-    ensures { IsTrue table.pages.steady → LeavesOld D.DiskState (recovered D.began) result }
+    ensures { IsTrue table.pages.steady → LeavesOld D.DiskState (file_of table.pages.opening) result }
 {
     let (disk, _put_back) = table.abandon().take_back();
     disk
@@ -44,7 +44,7 @@ fn give_back<D: Disk + Drop>(table: TreeTable<KeptStore<D>>) -> D
 // Closes the file of a table: the pages that it writes over are kept aside, then it writes, then they are given up.
 fn close_table<D: Disk + Drop>(table: TreeTable<KeptStore<D>>) -> (D, Result<(), FileFault>)
     ensures any_moment { IsTrue table.pages.steady
-        → LeavesEither D.DiskState (recovered D.began) table.tree.order (table_contents table)
+        → LeavesEither D.DiskState (file_of table.pages.opening) table.tree.order (table_contents table)
         result.0 }
     ensures closed { IsTrue table.pages.steady
         → OnOk result.1 (IsKept D.DiskState table.tree.order (table_contents table) result.0) }
@@ -70,7 +70,7 @@ fn close_kept<D: Disk + Drop, E: Write>(
     err: &mut E,
 ) -> DiskEnd<D>
     ensures opened { result.unopened ≡ None }
-    ensures closed { IsTrue table.pages.steady → ClosesSafely D.DiskState (recovered D.began)
+    ensures closed { IsTrue table.pages.steady → ClosesSafely D.DiskState (file_of table.pages.opening)
         result.disk result.unclosed table.tree.order (table_contents table) }
     ensures fault { IfSome result.unclosed IsOutsideFile }
     ensures status { result.status ≡ status_of false (is_some result.unclosed) script_fault }
@@ -103,11 +103,11 @@ fn run_table<D: Disk + Drop, R: Read, W: Write, E: Write>(
         → EndsFile manner (R.remaining reader.old) (R.remaining reader.new)
         (W.contents out.old) (W.contents out.new)
         (opened_file (table_contents table) limits table.pages.failures)
-        (ClosesSafely D.DiskState (recovered D.began) result.disk result.unclosed
+        (ClosesSafely D.DiskState (file_of table.pages.opening) result.disk result.unclosed
         table.tree.order)
         result.unclosed result.status }
     ensures stopped { IsTrue table.pages.steady → table.refusals ≡ 0 → table.damages ≡ no_damage
-        → result.status ≡ 4 → LeavesOld D.DiskState (recovered D.began) result.disk }
+        → result.status ≡ 4 → LeavesOld D.DiskState (file_of table.pages.opening) result.disk }
 {
     let mut file = RecordFile::new(alloc, table, limits);
     let end = run_session(alloc, manner, &mut file, reader, out, err);
@@ -153,7 +153,7 @@ fn run_stored<D: Disk + Drop, R: Read, W: Write, E: Write>(
     err: &mut E,
 ) -> DiskEnd<D>
     requires file { IsTrue (D.steady store.disk)
-        → (D.seen store.disk).main ≡ recovered D.began }
+        → (D.seen store.disk).main ≡ recovered (D.began store.disk) }
     requires failures { store.failures ≡ 0 }
     ensures unread { IfSome result.unopened (λ _. (result.status ≡ 1) × (result.unclosed ≡ None)
         × (reader.new ≡ reader.old) × (out.new ≡ out.old)) }
@@ -161,20 +161,20 @@ fn run_stored<D: Disk + Drop, R: Read, W: Write, E: Write>(
         (R.remaining reader.new) (W.contents out.old) (W.contents out.new)
         result.unclosed result.status }
     ensures closed { IsTrue (D.steady store.disk) → result.unopened ≡ None
-        → CanBeOpened (recovered D.began).pages (recovered D.began).tail limits.records }
+        → CanBeOpened (recovered (D.began store.disk)).pages (recovered (D.began store.disk)).tail limits.records }
     ensures first { IsTrue (D.steady store.disk) → IfSome result.unopened
-        (IsFirstOrOutside (recovered D.began).pages (recovered D.began).tail limits.records) }
+        (IsFirstOrOutside (recovered (D.began store.disk)).pages (recovered (D.began store.disk)).tail limits.records) }
     ensures untouched { IsTrue (D.steady store.disk) → IfSome result.unopened
-        (λ _. LeavesOld D.DiskState (recovered D.began) result.disk) }
+        (λ _. LeavesOld D.DiskState (recovered (D.began store.disk)) result.disk) }
     ensures stopped { IsTrue (D.steady store.disk) → result.status ≡ 4
-        → LeavesOld D.DiskState (recovered D.began) result.disk }
+        → LeavesOld D.DiskState (recovered (D.began store.disk)) result.disk }
     ensures session { IsTrue (D.steady store.disk) → (tree : TreeValue) → (contents : Contents)
-        → (version : ℕ) → IsClosed version (recovered D.began).pages (recovered D.began).tail
+        → (version : ℕ) → IsClosed version (recovered (D.began store.disk)).pages (recovered (D.began store.disk)).tail
         tree contents → tree.count ≤ limits.records
         → MatchOption result.unopened (EndsFile manner (R.remaining reader.old)
         (R.remaining reader.new) (W.contents out.old) (W.contents out.new)
         (opened_file contents limits 0)
-        (ClosesSafely D.DiskState (recovered D.began) result.disk result.unclosed tree.order)
+        (ClosesSafely D.DiskState (recovered (D.began store.disk)) result.disk result.unclosed tree.order)
         result.unclosed result.status)
         IsOutsideFile }
 {
@@ -205,31 +205,31 @@ pub fn run_kept<D: Disk + Drop, R: Read, W: Write, E: Write>(
     err: &mut E,
 ) -> DiskEnd<D>
     requires rest { IsAtRest D.DiskState disk }
-    requires began { IsTrue (D.steady disk) → D.seen disk ≡ D.began }
+    requires began { IsTrue (D.steady disk) → D.seen disk ≡ D.began disk }
     requires moment { D.moment disk ≡ 0 }
     ensures unread { IfSome result.unopened (λ _. (result.status ≡ 1) × (result.unclosed ≡ None)
         × (reader.new ≡ reader.old) × (out.new ≡ out.old)) }
     ensures ran { result.unopened ≡ None → RunsAny manner limits (R.remaining reader.old)
         (R.remaining reader.new) (W.contents out.old) (W.contents out.new)
         result.unclosed result.status }
-    ensures own { IsTrue (D.steady disk) → result.unopened ≡ None → Belongs D.began }
+    ensures own { IsTrue (D.steady disk) → result.unopened ≡ None → Belongs (D.began disk) }
     ensures closed { IsTrue (D.steady disk) → result.unopened ≡ None
-        → CanBeOpened (recovered D.began).pages (recovered D.began).tail limits.records }
+        → CanBeOpened (recovered (D.began disk)).pages (recovered (D.began disk)).tail limits.records }
     ensures first { IsTrue (D.steady disk)
-        → IfSome result.unopened (IsUnopened D.began limits.records) }
+        → IfSome result.unopened (IsUnopened (D.began disk) limits.records) }
     ensures untouched { IsTrue (D.steady disk) → IfSome result.unopened
-        (λ _. LeavesAs D.DiskState result.disk) }
+        (λ _. LeavesAs D.DiskState (D.began disk) result.disk) }
     ensures stopped { IsTrue (D.steady disk) → result.status ≡ 4
-        → LeavesOld D.DiskState (recovered D.began) result.disk }
+        → LeavesOld D.DiskState (recovered (D.began disk)) result.disk }
     ensures session { IsTrue (D.steady disk) → (tree : TreeValue) → (contents : Contents)
-        → (version : ℕ) → IsClosed version (recovered D.began).pages (recovered D.began).tail
+        → (version : ℕ) → IsClosed version (recovered (D.began disk)).pages (recovered (D.began disk)).tail
         tree contents → tree.count ≤ limits.records
         → MatchOption result.unopened (EndsFile manner (R.remaining reader.old)
         (R.remaining reader.new) (W.contents out.old) (W.contents out.new)
         (opened_file contents limits 0)
-        (ClosesSafely D.DiskState (recovered D.began) result.disk result.unclosed tree.order)
+        (ClosesSafely D.DiskState (recovered (D.began disk)) result.disk result.unclosed tree.order)
         result.unclosed result.status)
-        (IsOutsideDisk D.began) }
+        (IsOutsideDisk (D.began disk)) }
 {
     match KeptStore::open(alloc, disk) {
         Ok(store) => run_stored(alloc, store, limits, manner, reader, out, err),

@@ -28,10 +28,10 @@ pub trait PageFiles {
     /// to it is BadJournal, which changes nothing. Faults: Device, as where there is no file; BadJournal; Memory.
     fn open(&self, alloc: Global, path: &str) -> Result<Self::Device, FileFault>
         ensures found { IfOk result (λ disk. IsTrue (Self.Device.steady disk)
-            → Self.at self.now path.now Self.Device.began) }
+            → Self.at self.now path.now (Self.Device.began disk)) }
         ensures rest { IfOk result (IsAtRest Self.Device.DiskState) }
         ensures began { IfOk result (λ disk. IsTrue (Self.Device.steady disk)
-            → Self.Device.seen disk ≡ Self.Device.began) }
+            → Self.Device.seen disk ≡ Self.Device.began disk) }
         ensures moment { IfOk result (λ disk. Self.Device.moment disk ≡ 0) };
 
     /// Opens the page file at the path to read it. Where a side file stands beside it a closing was stopped, and it isn't

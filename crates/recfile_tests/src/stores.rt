@@ -52,12 +52,15 @@ struct ScarceStore {
 
 impl StoreState for ScarceStore {
     ghost use Rattle.std.specs.Prelude.{None, true};
+    ghost use Rattle.page_store.specs.Opening.{untold};
 
     ghost pages = { λ s. s.inner.pages };
 
     ghost tail = { λ s. s.inner.tail };
 
     ghost steady = { λ _. true };
+
+    ghost opening = { λ _. untold };
 
     ghost reads = { λ s. s.inner.reads };
 

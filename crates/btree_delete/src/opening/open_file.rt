@@ -163,7 +163,8 @@ fn without_free<S: Store>(
     ensures stays { IfErr result (λ stop. (S.pages stop.store ≡ pages.stored)
         × (S.tail stop.store ≡ pages.tail) × (S.steady stop.store ≡ pages.steady)
         × (S.writes stop.store ≡ pages.writes) × (S.failures stop.store ≡ pages.failures)
-        × (S.journal stop.store ≡ pages.journal) × (S.shapes stop.store ≡ pages.shapes)) }
+        × (S.journal stop.store ≡ pages.journal) × (S.shapes stop.store ≡ pages.shapes)
+        × (S.opening stop.store ≡ pages.opening)) }
 {
     let mut pages = pages;
     let count = pages.page_count();
@@ -206,6 +207,7 @@ pub(crate) fn open_file<S: Store>(
         × (r.0.steady ≡ S.steady store) × (r.0.writes ≡ S.writes store)
         × (r.0.failures ≡ S.failures store)) }
     ensures journal { IfOk result (λ r. r.0.journal ≡ S.journal store) }
+    ensures opening { IfOk result (λ r. r.0.opening ≡ S.opening store) }
     ensures shapes { MatchResult result (λ r. r.0.shapes ≡ counted (S.shapes store) true)
         (λ stop. S.shapes stop.store ≡ counted (S.shapes store) true) }
     ensures stays { IfErr result (λ stop. StaysStore S.StoreState store stop.store) }

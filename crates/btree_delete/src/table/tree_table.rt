@@ -120,6 +120,7 @@ impl<S: Store> TreeTable<S> {
             × (t.pages.reads ≡ S.reads store) × (t.pages.writes ≡ S.writes store)
             × (t.pages.failures ≡ S.failures store)) }
         ensures journal { IfOk result (λ t. t.pages.journal ≡ S.journal store) }
+        ensures opening { IfOk result (λ t. t.pages.opening ≡ S.opening store) }
         ensures limit { IfOk result (λ t. t.limit ≡ limits.records) }
         ensures empty { IfOk result (λ t. table_contents t ≡ maps.empty) }
         ensures in_class { IfOk result (λ t. IsTrue t.pages.steady → HoldsTree t.pages t.tree) }
@@ -190,6 +191,7 @@ impl<S: Store> TreeTable<S> {
             × (t.pages.tail ≡ S.tail store) × (t.pages.steady ≡ S.steady store)
             × (t.pages.writes ≡ S.writes store) × (t.pages.failures ≡ S.failures store)) }
         ensures journal { IfOk result (λ t. t.pages.journal ≡ S.journal store) }
+        ensures opening { IfOk result (λ t. t.pages.opening ≡ S.opening store) }
         ensures shapes { MatchResult result (λ t. t.pages.shapes ≡ counted (S.shapes store) true)
             (λ stop. S.shapes stop.store ≡ counted (S.shapes store) true) }
         ensures stays { IfErr result (λ stop. StaysStore S.StoreState store stop.store) }
@@ -216,6 +218,7 @@ impl<S: Store> TreeTable<S> {
             → IfOk result (λ store. IsClosed second_version (S.pages store) (S.tail store) self.tree
             (table_contents self)) }
         ensures steady { IfOk result (λ store. S.steady store ≡ self.pages.steady) }
+        ensures opening { IfOk result (λ store. S.opening store ≡ self.pages.opening) }
         ensures idle { self.pages.changed ≡ false → IfOk result
             (λ store. (S.pages store ≡ self.pages.stored) × (S.tail store ≡ self.pages.tail)
             × (S.reads store ≡ self.pages.reads) × (S.writes store ≡ self.pages.writes)
@@ -286,6 +289,7 @@ impl<S: Store> TreeTable<S> {
         ensures pages { S.pages result ≡ self.pages.stored }
         ensures tail { S.tail result ≡ self.pages.tail }
         ensures steady { S.steady result ≡ self.pages.steady }
+        ensures opening { S.opening result ≡ self.pages.opening }
         ensures reads { S.reads result ≡ self.pages.reads }
         ensures shapes { S.shapes result ≡ self.pages.shapes }
         ensures writes { S.writes result ≡ self.pages.writes }

@@ -25,6 +25,8 @@ impl<S: Store> StoreState for StrangeStore<S> {
 
     ghost steady = { λ _. false };
 
+    ghost opening = { λ s. S.opening s.inner };
+
     ghost reads = { λ s. S.reads s.inner };
 
     ghost shapes = { λ s. S.shapes s.inner };

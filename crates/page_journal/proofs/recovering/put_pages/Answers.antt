@@ -12,6 +12,7 @@ pub loop-i-init : goal.loop-i-init
 loop-i-init g c = record {
   long = c.requires.long;
   steady = refl;
+  began = refl;
   tail = refl;
   failures = refl;
   put = λ st kept base long count sealed. record {
@@ -50,6 +51,10 @@ loop-i-preserved g c =
       steady = elim c.if-n-long.branch [
         | then-n-long+in_ok-overwrite w ↦ ap (λ e. d.steady e) w.disk-is ∙ w.overwrite.ensures.does.0.steady ∙ c.kept.ensures.does.0.steady ∙ c.loop-i.invariant.steady
         | else-n-long w ↦ ap (λ e. d.steady e) w.disk-is ∙ c.kept.ensures.does.0.steady ∙ c.loop-i.invariant.steady
+      ];
+      began = elim c.if-n-long.branch [
+        | then-n-long+in_ok-overwrite w ↦ ap (λ e. d.began e) w.disk-is ∙ w.overwrite.ensures.does.0.began ∙ c.kept.ensures.does.0.began ∙ c.loop-i.invariant.began
+        | else-n-long w ↦ ap (λ e. d.began e) w.disk-is ∙ c.kept.ensures.does.0.began ∙ c.loop-i.invariant.began
       ];
       tail = elim c.if-n-long.branch [
         | then-n-long+in_ok-overwrite w ↦ ap (λ e. (d.seen e).main.tail) w.disk-is ∙ tail_torn c.in_ok-n.n _ _ w.overwrite.ensures.does.0.seen ∙ same_tail ∙ c.loop-i.invariant.tail

@@ -12,6 +12,7 @@ loop-n-init g c =
     let old = c.args.disk.now in
     record {
       steady = refl;
+      began = refl;
       same = refl;
       failures = refl;
       inside = omega arith;
@@ -29,6 +30,10 @@ loop-n-preserved g c =
       steady = elim c.if-marks-n.branch [
         | then-marks-n+in_ok-read+in_ok-keep w ↦ ap (λ e. d.steady e) w.disk-is ∙ w.keep.ensures.does.0.steady ∙ w.read.ensures.does.0.steady ∙ c.loop-n.invariant.steady
         | else-marks-n w ↦ ap (λ e. d.steady e) w.disk-is ∙ c.loop-n.invariant.steady
+      ];
+      began = elim c.if-marks-n.branch [
+        | then-marks-n+in_ok-read+in_ok-keep w ↦ ap (λ e. d.began e) w.disk-is ∙ w.keep.ensures.does.0.began ∙ w.read.ensures.does.0.began ∙ c.loop-n.invariant.began
+        | else-marks-n w ↦ ap (λ e. d.began e) w.disk-is ∙ c.loop-n.invariant.began
       ];
       same = elim c.if-marks-n.branch [
         | then-marks-n+in_ok-read+in_ok-keep w ↦ ap (λ e. (d.seen e).main) w.disk-is ∙ w.keep.ensures.does.0.seen.main ∙ ap (λ (f : Files). f.main) w.read.ensures.does.0.seen ∙ c.loop-n.invariant.same

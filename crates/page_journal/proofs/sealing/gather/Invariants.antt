@@ -5,6 +5,7 @@ use Rattle.page_journal.proofs.sealing.gather.Given as goal
 abbrev pub invariant-loop-n : goal.invariant-loop-n
 invariant-loop-n g l = record {
   steady : g.D.DiskState.steady l.disk ≡ g.D.DiskState.steady l.fn.disk;
+  began : g.D.DiskState.began l.disk ≡ g.D.DiskState.began l.fn.disk;
   same : (g.D.DiskState.seen l.disk).main ≡ (g.D.DiskState.seen l.fn.disk).main;
   failures : g.D.DiskState.failures l.disk ≡ g.D.DiskState.failures l.fn.disk;
   inside : l.n ≤ length l.marks;

@@ -23,6 +23,7 @@ loop-n-init g c = record {
   pages = λ steady. page_0_left (slots_of c.args.changed.now) c.args.free.now.keys c.args.count (g.S.StoreState.pages c.args.store.now);
   tail = refl;
   steady = refl;
+  opening = refl;
   reads = refl;
   shapes = refl;
   writes = refl;
@@ -49,6 +50,7 @@ loop-n-preserved g c =
       ];
       tail = elim c.match-page_to_write.branch [ in-Some+in_ok-write w ↦ ap g.S.StoreState.tail w.store-is ∙ w.write.ensures.same_tail ∙ c.loop-n.invariant.tail | in_default w ↦ ap g.S.StoreState.tail w.store-is ∙ c.loop-n.invariant.tail ];
       steady = elim c.match-page_to_write.branch [ in-Some+in_ok-write w ↦ ap g.S.StoreState.steady w.store-is ∙ w.write.ensures.changes.steady ∙ c.loop-n.invariant.steady | in_default w ↦ ap g.S.StoreState.steady w.store-is ∙ c.loop-n.invariant.steady ];
+      opening = elim c.match-page_to_write.branch [ in-Some+in_ok-write w ↦ ap g.S.StoreState.opening w.store-is ∙ w.write.ensures.changes.opening ∙ c.loop-n.invariant.opening | in_default w ↦ ap g.S.StoreState.opening w.store-is ∙ c.loop-n.invariant.opening ];
       reads = elim c.match-page_to_write.branch [ in-Some+in_ok-write w ↦ ap g.S.StoreState.reads w.store-is ∙ w.write.ensures.changes.reads ∙ c.loop-n.invariant.reads | in_default w ↦ ap g.S.StoreState.reads w.store-is ∙ c.loop-n.invariant.reads ];
       shapes = elim c.match-page_to_write.branch [ in-Some+in_ok-write w ↦ ap g.S.StoreState.shapes w.store-is ∙ w.write.ensures.changes.shapes ∙ c.loop-n.invariant.shapes | in_default w ↦ ap g.S.StoreState.shapes w.store-is ∙ c.loop-n.invariant.shapes ];
       writes = elim c.match-page_to_write.branch [
@@ -69,6 +71,7 @@ returns-in_err-write-clause-others g c = grind (arith, elements)
 pub returns-in_err-write-clause-carries : goal.returns-in_err-write-clause-carries
 returns-in_err-write-clause-carries g c = record {
   steady = search rules;
+  opening = search rules;
   reads = search rules;
   shapes = search rules;
   writes = search rules;
@@ -88,6 +91,7 @@ returns-in_err-write-clause-carries g c = record {
 pub returns-clause-carries : goal.returns-clause-carries
 returns-clause-carries g c = record {
   steady = search rules;
+  opening = search rules;
   reads = search rules;
   shapes = search rules;
   writes =

@@ -11,6 +11,7 @@ invariant-loop-n g l = record {
   pages : IsTrue (g.S.StoreState.steady l.fn.store) → (n : ℕ) → n < l.n → IsSome (to_write (slots_of l.changed) l.free.keys l.count n) → slice_get (g.S.StoreState.pages l.store) n ≡ to_write (slots_of l.changed) l.free.keys l.count n;
   tail : g.S.StoreState.tail l.store ≡ g.S.StoreState.tail l.fn.store;
   steady : g.S.StoreState.steady l.store ≡ g.S.StoreState.steady l.fn.store;
+  opening : g.S.StoreState.opening l.store ≡ g.S.StoreState.opening l.fn.store;
   reads : g.S.StoreState.reads l.store ≡ g.S.StoreState.reads l.fn.store;
   shapes : g.S.StoreState.shapes l.store ≡ g.S.StoreState.shapes l.fn.store;
   writes : g.S.StoreState.writes l.store ≡ counted_times (g.S.StoreState.writes l.fn.store) (how_many (λ n. is_some (to_write (slots_of l.changed) l.free.keys l.count n)) l.n);

@@ -16,6 +16,7 @@ returns-clause-others g c = grind (arith, elements)
 pub returns-in_err-write-clause-carries : goal.returns-in_err-write-clause-carries
 returns-in_err-write-clause-carries g c = record {
   steady = search rules;
+  opening = search rules;
   reads = search rules;
   shapes = search rules;
   writes = search rules;
@@ -28,6 +29,7 @@ returns-in_err-write-clause-carries g c = record {
 pub returns-clause-carries : goal.returns-clause-carries
 returns-clause-carries g c = record {
   steady = search rules;
+  opening = search rules;
   reads = search rules;
   shapes = search rules;
   writes = search rules;

@@ -79,6 +79,7 @@ returns-in_err-put_header-clause-stopped g c = grind (arith, elements)
 pub returns-in_err-put_header-clause-carries : goal.returns-in_err-put_header-clause-carries
 returns-in_err-put_header-clause-carries g c = record {
   steady = search rules;
+  opening = search rules;
   reads = search rules;
   shapes = search rules;
   writes = search rules;
@@ -97,6 +98,7 @@ returns-in_err-put_header-clause-carries g c = record {
 pub returns-in_err-put_changed-clause-carries : goal.returns-in_err-put_changed-clause-carries
 returns-in_err-put_changed-clause-carries g c = record {
   steady = search rules;
+  opening = search rules;
   reads = search rules;
   shapes = search rules;
   writes = search rules;
@@ -115,6 +117,7 @@ returns-in_err-put_changed-clause-carries g c = record {
 pub returns-in_err-sync-clause-carries : goal.returns-in_err-sync-clause-carries
 returns-in_err-sync-clause-carries g c = record {
   steady = search rules;
+  opening = search rules;
   reads = search rules;
   shapes = search rules;
   writes = search rules;
@@ -134,6 +137,7 @@ returns-in_err-sync-clause-carries g c = record {
 pub returns-clause-carries : goal.returns-clause-carries
 returns-clause-carries g c = record {
   steady = search rules;
+  opening = search rules;
   reads = search rules;
   shapes = search rules;
   writes =

@@ -2,9 +2,10 @@ use Rattle.std.proofs.Common.{◌≡◌, false, is_some, Ok, Err, IsTrue, refl, 
 use Rattle.rec_types.specs.Table.{no_damage}
 use Rattle.btree_delete.specs.Origins.{Origin}
 use Rattle.btree_delete.specs.TableView.{TableView, table_contents}
-use Rattle.page_journal.specs.Files.{recovered}
+use Rattle.page_store.specs.Opening.{Opening}
 use Rattle.record_file.specs.Abstract.{OpenFile}
 use Rattle.record_file.specs.Runs.{Seen, seen}
+use Rattle.recfile.specs.Kept.{ClosesSafely, LeavesOld, file_of}
 use Rattle.recfile.specs.WholeSession.{IsSession, opened_file}
 use Rattle.recfile.proofs.SoundRunLemmas.{sound_ran}
 use Rattle.recfile.specs.Statuses.{status_of}
@@ -28,6 +29,9 @@ module _ (g : given.Over) (c : After-abandon-table g) where
   table_steady : IsTrue c.args.table.pages.steady → c.args.table.refusals ≡ 0 → c.args.table.damages ≡ no_damage → IsTrue c.abandon-table.result.pages.steady
   table_steady steady refusals damages =
       ap (λ (t : TableView). t.pages.steady) c.abandon-table.ensures ∙ (session steady refusals damages).asks.sound ∙ sound steady refusals damages
+
+  same_opening : c.abandon-table.result.pages.opening ≡ c.args.table.pages.opening
+  same_opening = ap (λ (t : TableView). t.pages.opening) c.abandon-table.ensures ∙ ap (λ (o : Origin). o.opening) c.run_session-end.ensures.origin ∙ ap (λ (f : OpenFile TableView). f.table.pages.opening) c.new-file.ensures
 
   same_order : c.run_session-end.new.file.table.tree.order ≡ c.args.table.tree.order
   same_order = ap (λ (o : Origin). o.order) c.run_session-end.ensures.origin ∙ ap (λ (f : OpenFile TableView). f.table.tree.order) c.new-file.ensures
@@ -80,7 +84,8 @@ returns-in-Ok-clause-session g c steady refusals damages =
         untried = tt;
       };
       sound = sound g here steady refusals damages;
-      closes = safely g.D.DiskState (recovered g.D.DiskState.began) c.close_kept.result.disk c.close_kept.result.unclosed c.abandon-table.result c.run_session-end.new.file.table c.args.table.tree.order c.abandon-table.ensures (same_order g here) (c.close_kept.ensures.closed (table_steady g here steady refusals damages));
+      closes = subst (λ (o : Opening). ClosesSafely g.D.DiskState (file_of o) c.close_kept.result.disk c.close_kept.result.unclosed c.args.table.tree.order (table_contents c.run_session-end.new.file.table)) (same_opening g here)
+          (safely g.D.DiskState (file_of c.abandon-table.result.pages.opening) c.close_kept.result.disk c.close_kept.result.unclosed c.abandon-table.result c.run_session-end.new.file.table c.args.table.tree.order c.abandon-table.ensures (same_order g here) (c.close_kept.ensures.closed (table_steady g here steady refusals damages)));
     }
 
 pub returns-in-Err-clause-session : goal.returns-in-Err-clause-session
@@ -108,4 +113,5 @@ returns-in-Ok-clause-stopped g c steady refusals damages stopped =
 
 pub returns-in-Err-clause-stopped : goal.returns-in-Err-clause-stopped
 returns-in-Err-clause-stopped g c steady refusals damages stopped =
-    c.give_back.ensures (table_steady g (goal.at.returns-in-Err-clause-stopped g c).After-abandon-table steady refusals damages)
+    let here = (goal.at.returns-in-Err-clause-stopped g c).After-abandon-table in
+    subst (λ (o : Opening). LeavesOld g.D.DiskState (file_of o) c.give_back.result) (same_opening g here) (c.give_back.ensures (table_steady g here steady refusals damages))

@@ -84,6 +84,7 @@ returns-in-Err-clause-err g c =
       stored = g.S.StoreState.pages c.write_out-written.new.store;
       tail = g.S.StoreState.tail c.write_out-written.new.store;
       steady = (c.write_out-written.ensures.carries.steady ∙ ap (λ (v : PagesView). v.steady) c.self.view_is) i;
+      opening = (c.write_out-written.ensures.carries.opening ∙ ap (λ (v : PagesView). v.opening) c.self.view_is) i;
       reads = (c.write_out-written.ensures.carries.reads ∙ ap (λ (v : PagesView). v.reads) c.self.view_is) i;
       shapes = (c.write_out-written.ensures.carries.shapes ∙ ap (λ (v : PagesView). v.shapes) c.self.view_is) i;
       writes = g.S.StoreState.writes c.write_out-written.new.store;
