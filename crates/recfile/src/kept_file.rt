@@ -1,6 +1,5 @@
 ghost use Rattle.std.specs.Prelude.{◌≡◌, ◌≤◌, ℕ, false, is_some, IsTrue, IfErr, IfSome, OnOk, MatchOption, None, Some, if◌then◌else◌};
 ghost use Rattle.rec_types.specs.Contents.{Contents};
-ghost use Rattle.rec_types.specs.Table.{no_damage};
 ghost use Rattle.btree_insert.specs.declared.tree.Tree.{Tree as TreeValue};
 ghost use Rattle.btree_delete.specs.TableView.{IsClosed, table_contents};
 ghost use Rattle.page_journal.specs.Files.{Belongs, recovered};
@@ -8,7 +7,7 @@ ghost use Rattle.page_journal.specs.Crash.{IsAtRest};
 ghost use Rattle.recfile.specs.Dumped.{CanBeOpened, IsFirstOrOutside, IsOutsideFile};
 ghost use Rattle.recfile.specs.Kept.{file_of, LeavesAs, LeavesOld, LeavesEither, IsKept, ClosesSafely, IsOutsideDisk, IsUnopened};
 ghost use Rattle.recfile.specs.Statuses.{status_of};
-ghost use Rattle.recfile.specs.WholeSession.{EndsFile, RunsAny, opened_file};
+ghost use Rattle.recfile.specs.WholeSession.{EndsFile, IsUncounted, RunsAny, opened_file};
 
 use crate::file_fault::FileFault;
 use crate::manner::Manner;
@@ -99,14 +98,14 @@ fn run_table<D: Disk + Drop, R: Read, W: Write, E: Write>(
     ensures opened { result.unopened ≡ None }
     ensures ran { RunsAny manner limits (R.remaining reader.old) (R.remaining reader.new)
         (W.contents out.old) (W.contents out.new) result.unclosed result.status }
-    ensures session { IsTrue table.pages.steady → table.refusals ≡ 0 → table.damages ≡ no_damage
+    ensures session { IsTrue table.pages.steady → IsUncounted table
         → EndsFile manner (R.remaining reader.old) (R.remaining reader.new)
         (W.contents out.old) (W.contents out.new)
         (opened_file (table_contents table) limits table.pages.failures)
         (ClosesSafely D.DiskState (file_of table.pages.opening) result.disk result.unclosed
         table.tree.order)
         result.unclosed result.status }
-    ensures stopped { IsTrue table.pages.steady → table.refusals ≡ 0 → table.damages ≡ no_damage
+    ensures stopped { IsTrue table.pages.steady → IsUncounted table
         → result.status ≡ 4 → LeavesOld D.DiskState (file_of table.pages.opening) result.disk }
 {
     let mut file = RecordFile::new(alloc, table, limits);

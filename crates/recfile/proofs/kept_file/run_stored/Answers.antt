@@ -20,4 +20,4 @@ returns-in-Ok-clause-session g c steady tree contents version closed few =
     let opened = c.in-Ok.ensures.reopened steady tree contents version there few in
     let same = c.in-Ok.ensures.stored in
     let ends = λ (s : Seen) (order : ℕ). EndsFile c.args.manner (g.R.Read.remaining c.args.reader.now) (g.R.Read.remaining c.run_table.new.reader) (g.W.Write.contents c.args.out.now) (g.W.Write.contents c.run_table.new.out) s (ClosesSafely g.D.DiskState (recovered (g.D.DiskState.began c.args.store.disk)) c.run_table.result.disk c.run_table.result.unclosed order) c.run_table.result.unclosed c.run_table.result.status in
-    subst (λ (o : Option FileFault). MatchOption o (ends (opened_file contents c.args.limits 0) tree.order) IsOutsideFile) (sym c.run_table.ensures.opened) (subst (λ (x : Seen × ℕ). ends x.0 x.1) (λ i. (opened_file (opened.1 i) c.args.limits ((same.4 ∙ c.requires.failures) i), (opened.0 i).order)) (c.run_table.ensures.session (same.2 ∙ steady) c.in-Ok.ensures.no_faults.0 c.in-Ok.ensures.no_faults.1))
+    subst (λ (o : Option FileFault). MatchOption o (ends (opened_file contents c.args.limits 0) tree.order) IsOutsideFile) (sym c.run_table.ensures.opened) (subst (λ (x : Seen × ℕ). ends x.0 x.1) (λ i. (opened_file (opened.1 i) c.args.limits ((same.4 ∙ c.requires.failures) i), (opened.0 i).order)) (c.run_table.ensures.session (same.2 ∙ steady) (c.in-Ok.ensures.no_faults.0, c.in-Ok.ensures.no_faults.1, c.in-Ok.ensures.no_calls)))
