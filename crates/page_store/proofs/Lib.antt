@@ -3,6 +3,7 @@ pub mod CallCountLemmas
 pub mod Candidates
 pub mod FreeNumberLemmas
 pub mod FrontLemmas
+pub mod GuardLemmas
 pub mod JournalLemmas
 pub mod InMemoryLemmas
 mod InPlaceLemmas

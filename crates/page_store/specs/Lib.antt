@@ -8,6 +8,7 @@ pub mod FlakyStored
 pub mod FreeNumbers
 pub mod Fronts
 pub mod Growth
+pub mod Guards
 pub mod Journal
 pub mod OpenedFile
 pub mod Opening

@@ -1,6 +1,7 @@
 -- What contracts see of a store with changed pages in memory.
 use Rattle.std.specs.Prelude.{◌≡◌, ℕ, Bool, false, not, ◌&&◌, List, Option, None, is_some, if◌then◌else◌, slice_index_or}
 use Rattle.page_store.specs.PageMap.{PageMap, at}
+use Rattle.page_store.specs.Guards.{Guard}
 use Rattle.page_store.specs.Journal.{Journal}
 use Rattle.page_store.specs.Opening.{Opening}
 
@@ -18,6 +19,7 @@ pub record PagesView : Type 0 where
   pub writes : ℕ
   pub failures : ℕ
   pub journal : Option Journal
+  pub guard : Guard
 
 -- whether page n is in use and its newest bytes are in memory
 abbrev pub is_in_memory : PagesView → ℕ → Bool

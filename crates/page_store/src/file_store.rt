@@ -155,6 +155,7 @@ fn noted(failures: &mut u64, answer: io::Result<()>) -> Result<(), StoreFault>
 impl<F: SystemFile + Drop> StoreState for FileStore<F> {
     ghost use Rattle.std.specs.Prelude.{None};
     ghost use Rattle.page_store.specs.Opening.{untold};
+    ghost use Rattle.page_store.specs.Guards.{Unguarded};
 
     ghost pages = { λ s. s.pages };
 
@@ -173,6 +174,8 @@ impl<F: SystemFile + Drop> StoreState for FileStore<F> {
     ghost failures = { λ s. s.failures };
 
     ghost journal = { λ _. None };
+
+    ghost guard = { λ _. Unguarded };
 }
 
 impl<F: SystemFile + Drop> Store for FileStore<F> {

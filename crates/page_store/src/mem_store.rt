@@ -70,6 +70,7 @@ impl MemStore {
 impl StoreState for MemStore {
     ghost use Rattle.std.specs.Prelude.{true, None};
     ghost use Rattle.page_store.specs.Opening.{untold};
+    ghost use Rattle.page_store.specs.Guards.{Unguarded};
 
     ghost pages = { λ s. s.pages };
 
@@ -88,6 +89,8 @@ impl StoreState for MemStore {
     ghost failures = { λ _. 0 };
 
     ghost journal = { λ _. None };
+
+    ghost guard = { λ _. Unguarded };
 }
 
 impl Store for MemStore {

@@ -3,6 +3,7 @@ ghost use Rattle.std.specs.Ordering.{nat_cmp};
 ghost use Rattle.std.specs.BTreeSet.{contains};
 ghost use Rattle.rec_types.specs.Table.{counted};
 ghost use Rattle.page_store.specs.PageMap.{at, after, write_page, is_written, is_freed};
+ghost use Rattle.page_store.specs.Guards.{AllowsAll};
 ghost use Rattle.page_store.specs.Journal.{noted, NotesFront, writing_back};
 ghost use Rattle.page_store.specs.PagesView.{OnlyReads, is_in_memory, is_read, memory_pages};
 ghost use Rattle.page_store.specs.Calls.{counted_times, CountedUpTo, how_many};
@@ -63,6 +64,7 @@ impl<S: Store> Model for Pages<S> {
       writes = S.writes p.store;
       failures = S.failures p.store;
       journal = S.journal p.store;
+      guard = S.guard p.store;
     } };
 
     ghost invariant = { λ p.
@@ -97,6 +99,7 @@ impl<S: Store> Pages<S> {
           writes = S.writes store;
           failures = S.failures store;
           journal = S.journal store;
+          guard = S.guard store;
         } }
     {
         Pages {
@@ -281,6 +284,7 @@ impl<S: Store> Pages<S> {
           writes = self.new.writes;
           failures = self.new.failures;
           journal = self.new.journal;
+          guard = self.new.guard;
         } }
         ensures err { OnErr result (self.new ≡ record self.old {
           stored = self.new.stored;
@@ -288,6 +292,7 @@ impl<S: Store> Pages<S> {
           writes = self.new.writes;
           failures = self.new.failures;
           journal = self.new.journal;
+          guard = self.new.guard;
         }) }
         ensures others { KeepsOthers (at self.old.pages) (length self.old.pages)
             self.old.stored self.new.stored }
@@ -300,6 +305,8 @@ impl<S: Store> Pages<S> {
         ensures device { self.new.failures ≡ counted self.old.failures (by_device result) }
         ensures journal { OnOk result (self.new.journal ≡ noted self.old.journal (writing_back
             (memory_pages self.old) (length self.old.pages) writing.now clean.now)) }
+        ensures allowed { AllowsAll self.old.guard (writing_back (memory_pages self.old)
+            (length self.old.pages) writing.now clean.now) → self.new.guard ≡ self.old.guard }
         ensures journal_err { OnErr result (NotesFront (writing_back (memory_pages self.old)
             (length self.old.pages) writing.now clean.now) self.old.journal self.new.journal) }
     {
@@ -331,6 +338,7 @@ impl<S: Store> Pages<S> {
         ensures writes { S.writes result ≡ self.writes }
         ensures failures { S.failures result ≡ self.failures }
         ensures journal { S.journal result ≡ self.journal }
+        ensures guard { S.guard result ≡ self.guard }
     {
         let Pages { store, .. } = self;
         store

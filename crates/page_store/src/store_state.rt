@@ -1,4 +1,5 @@
 ghost use Rattle.std.specs.Prelude.{ℕ, Bool, List, Option};
+ghost use Rattle.page_store.specs.Guards.{Guard};
 ghost use Rattle.page_store.specs.Journal.{Journal};
 ghost use Rattle.page_store.specs.Opening.{Opening};
 
@@ -31,4 +32,7 @@ pub trait StoreState {
     /// The pages that the store was made of and the changing calls since then that succeeded, where it
     /// keeps them.
     ghost journal: { Self → Option Journal };
+
+    /// Which pages the store lets be written over, and how many calls it has refused by itself.
+    ghost guard: { Self → Guard };
 }

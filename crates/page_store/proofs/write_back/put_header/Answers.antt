@@ -1,7 +1,9 @@
 use Rattle.std.proofs.Common.{rules, true, ap, ◌∙◌, arith}
 use Rattle.std.proofs.lemmas.Grind.{common_steps, elements}
 use Rattle.rec_types.specs.Table.{counted}
+use Rattle.page_store.specs.declared.step.Step.TheVariants.{Write, Sync}
 use Rattle.page_store.proofs.CallCountLemmas.{all_calls, on_err}
+use Rattle.page_store.proofs.GuardLemmas.{two_pass}
 use Rattle.page_store.proofs.write_back.put_header.Goals as goal
 
 pub returns-in_err-write-clause-others : goal.returns-in_err-write-clause-others
@@ -24,6 +26,7 @@ returns-in_err-write-clause-carries g c = record {
   failures = search rules;
   journal = search rules;
   journal_err = search rules;
+  guard = λ all. c.write.ensures.changes.guard all.0;
 }
 
 pub returns-clause-carries : goal.returns-clause-carries
@@ -39,4 +42,5 @@ returns-clause-carries g c = record {
   failures = search rules;
   journal = grind (arith, common_steps);
   journal_err = search rules;
+  guard = two_pass (Write 0 c.args.page.now) Sync _ (g.S.StoreState.guard c.write.new.self) _ c.write.ensures.changes.guard c.sync.ensures.changes.guard;
 }

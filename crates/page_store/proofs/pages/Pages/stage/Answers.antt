@@ -4,6 +4,7 @@ use Rattle.page_store.specs.PagesView.{PagesView, is_in_memory}
 use Rattle.page_store.specs.PageMap.{at, after, is_written, is_freed}
 use Rattle.page_store.specs.FreeNumbers.{free_numbers, count_after}
 use Rattle.page_store.specs.CanStage.{CanStage}
+use Rattle.page_store.specs.Guards.{Guard}
 use Rattle.page_store.specs.Journal.{Journal}
 use Rattle.page_store.specs.Opening.{Opening}
 use Rattle.page_store.specs.Overlaid.{slots_of, is_among, pages_of}
@@ -17,11 +18,11 @@ use Rattle.page_store.proofs.pages.Pages.stage.Given as given
 use Rattle.page_store.proofs.pages.Pages.stage.Goals as goal
 use Rattle.page_store.proofs.pages.Pages.stage.Goals.{After-saturating_sub, After-drop_pages}
 
-unchanged_on_err : {A E : Type 0} (r : Result A E) (v : PagesView) (new old : List (Option (List ℕ))) (new_in old_in : List Bool) (changed : Bool) (stored : List (List ℕ)) (tail : ℕ) (steady : Bool) (opening : Opening) (reads shapes writes failures : ℕ) (journal : Option Journal) → new ≡ old → new_in ≡ old_in → ◌≡◌ {A = PagesView} (record { pages = old; changed = changed; in_memory = old_in; stored = stored; tail = tail; steady = steady; opening = opening; reads = reads; shapes = shapes; writes = writes; failures = failures; journal = journal }) v → OnErr r (◌≡◌ {A = PagesView} (record { pages = new; changed = changed; in_memory = new_in; stored = stored; tail = tail; steady = steady; opening = opening; reads = reads; shapes = shapes; writes = writes; failures = failures; journal = journal }) v)
-unchanged_on_err (Ok x) v new old new_in old_in changed stored tail steady opening reads shapes writes failures journal same same_in is = tt
-unchanged_on_err (Err e) v new old new_in old_in changed stored tail steady opening reads shapes writes failures journal same same_in is =
-    let still : ◌≡◌ {A = PagesView} (record { pages = new; changed = changed; in_memory = new_in; stored = stored; tail = tail; steady = steady; opening = opening; reads = reads; shapes = shapes; writes = writes; failures = failures; journal = journal }) (record { pages = old; changed = changed; in_memory = old_in; stored = stored; tail = tail; steady = steady; opening = opening; reads = reads; shapes = shapes; writes = writes; failures = failures; journal = journal }) =
-    λ i. record { pages = same i; changed = changed; in_memory = same_in i; stored = stored; tail = tail; steady = steady; opening = opening; reads = reads; shapes = shapes; writes = writes; failures = failures; journal = journal } in
+unchanged_on_err : {A E : Type 0} (r : Result A E) (v : PagesView) (new old : List (Option (List ℕ))) (new_in old_in : List Bool) (changed : Bool) (stored : List (List ℕ)) (tail : ℕ) (steady : Bool) (opening : Opening) (reads shapes writes failures : ℕ) (journal : Option Journal) (guard : Guard) → new ≡ old → new_in ≡ old_in → ◌≡◌ {A = PagesView} (record { pages = old; changed = changed; in_memory = old_in; stored = stored; tail = tail; steady = steady; opening = opening; reads = reads; shapes = shapes; writes = writes; failures = failures; journal = journal; guard = guard }) v → OnErr r (◌≡◌ {A = PagesView} (record { pages = new; changed = changed; in_memory = new_in; stored = stored; tail = tail; steady = steady; opening = opening; reads = reads; shapes = shapes; writes = writes; failures = failures; journal = journal; guard = guard }) v)
+unchanged_on_err (Ok x) v new old new_in old_in changed stored tail steady opening reads shapes writes failures journal guard same same_in is = tt
+unchanged_on_err (Err e) v new old new_in old_in changed stored tail steady opening reads shapes writes failures journal guard same same_in is =
+    let still : ◌≡◌ {A = PagesView} (record { pages = new; changed = changed; in_memory = new_in; stored = stored; tail = tail; steady = steady; opening = opening; reads = reads; shapes = shapes; writes = writes; failures = failures; journal = journal; guard = guard }) (record { pages = old; changed = changed; in_memory = old_in; stored = stored; tail = tail; steady = steady; opening = opening; reads = reads; shapes = shapes; writes = writes; failures = failures; journal = journal; guard = guard }) =
+    λ i. record { pages = same i; changed = changed; in_memory = same_in i; stored = stored; tail = tail; steady = steady; opening = opening; reads = reads; shapes = shapes; writes = writes; failures = failures; journal = journal; guard = guard } in
     still ∙ is
 
 needed_all : (seen writes : List (ℕ × List ℕ)) (needed count : ℕ) → needed ≡ (if eqb (length seen) 0 then 0 else count) → seen ≡ writes → 0 < length writes → needed ≡ count
@@ -75,7 +76,7 @@ invariant_of-self g c =
 
 pub returns-in_err-make_slots-clause-err : goal.returns-in_err-make_slots-clause-err
 returns-in_err-make_slots-clause-err g c =
-    unchanged_on_err _ c.args.self.now _ _ _ _ _ _ _ _ _ _ _ _ _ _
+    unchanged_on_err _ c.args.self.now _ _ _ _ _ _ _ _ _ _ _ _ _ _ _
     (pages_stay _ _ _ _ _ c.self.invariant (slots_of c.make_slots.new.changed.items) c.self.inside.free.keys c.make_slots.ensures.same (λ _. refl))
     (memory_stays (slots_of c.self.inside.changed.items) (slots_of c.make_slots.new.changed.items) c.self.inside.free.keys c.self.inside.free.keys c.self.inside.count c.make_slots.ensures.same (λ _. refl)) c.self.view_is
 
@@ -105,7 +106,7 @@ write_pages-requires g c =
 
 pub returns-in_err-add_all-clause-err : goal.returns-in_err-add_all-clause-err
 returns-in_err-add_all-clause-err g c =
-    unchanged_on_err _ c.args.self.now _ _ _ _ _ _ _ _ _ _ _ _ _ _
+    unchanged_on_err _ c.args.self.now _ _ _ _ _ _ _ _ _ _ _ _ _ _ _
     (pages_stay _ _ _ _ _ c.self.invariant (slots_of c.make_slots.new.changed.items) c.add_all.new.free.keys c.make_slots.ensures.same c.in_err-add_all.ensures.err)
     (memory_stays (slots_of c.self.inside.changed.items) (slots_of c.make_slots.new.changed.items) c.self.inside.free.keys c.add_all.new.free.keys c.self.inside.count c.make_slots.ensures.same c.in_err-add_all.ensures.err) c.self.view_is
 

@@ -13,6 +13,8 @@ use Rattle.page_store.specs.Growth.{GrowsTo}
 use Rattle.page_store.specs.Overlaid.{slots_of, pages_of}
 use Rattle.page_store.specs.WriteFaults.{by_device, told}
 use Rattle.page_store.specs.WritingBack.{to_write, in_memory_of, AreStored, KeepsOthers, Stopped}
+use Rattle.page_store.specs.Guards.{Guard, AllowsAll}
+use Rattle.page_store.specs.declared.step.Step.{Step}
 use Rattle.page_store.specs.Journal.{noted, NotesFront, writing_back}
 use Rattle.page_store.proofs.JournalLemmas.{writing_alike}
 use Rattle.page_store.proofs.InMemoryLemmas.{none_in_memory, many_in_memory, written_in_memory}
@@ -90,6 +92,7 @@ returns-in-Err-clause-err g c =
       writes = g.S.StoreState.writes c.write_out-written.new.store;
       failures = g.S.StoreState.failures c.write_out-written.new.store;
       journal = g.S.StoreState.journal c.write_out-written.new.store;
+      guard = g.S.StoreState.guard c.write_out-written.new.store;
     }
 
 pub returns-in-Err-clause-others : goal.returns-in-Err-clause-others
@@ -174,6 +177,21 @@ steps_in v stored seen items free count writing clean same pages memory =
     ap (λ (xs : List (Option (Box (List ℕ) Global))). writing_back (to_write (slots_of xs) free count) count writing clean) same
     ∙ writing_alike (to_write (slots_of items) free count) (memory_pages v) count (length v.pages) writing clean (sym (length-pages_of stored (slots_of items) free count) ∙ ap (λ (ps : List (Option (List ℕ))). length ps) pages)
     (λ n. written_in_memory stored (slots_of items) free count n ∙ ap (λ (bs : List Bool). if get_or bs n false then at (pages_of stored (slots_of items) free count) n else None) memory ∙ ap (λ (ps : List (Option (List ℕ))). if get_or v.in_memory n false then at ps n else None) pages)
+
+-- the guard stays where the pages in memory are allowed
+stays_allowed : (v : PagesView) (steps other : List Step) (old new : Guard) → steps ≡ other → old ≡ v.guard → (AllowsAll old steps → new ≡ old) → AllowsAll v.guard other → new ≡ v.guard
+stays_allowed v steps other old new same is passes all =
+    passes (subst (AllowsAll old) (sym same) (subst (λ (k : Guard). AllowsAll k other) (sym is) all)) ∙ is
+
+pub returns-in-Err-clause-allowed : goal.returns-in-Err-clause-allowed
+returns-in-Err-clause-allowed g c =
+    let all = steps_in c.args.self.now (g.S.StoreState.pages c.self.inside.store) _ c.self.inside.changed.items c.self.inside.free.keys c.self.inside.count c.args.writing.now c.args.clean.now c.deref.ensures.value (ap (λ (v : PagesView). v.pages) c.self.view_is) (ap (λ (v : PagesView). v.in_memory) c.self.view_is) in
+    stays_allowed c.args.self.now _ _ _ _ all (ap (λ (v : PagesView). v.guard) c.self.view_is) c.write_out-written.ensures.carries.guard
+
+pub returns-clause-allowed : goal.returns-clause-allowed
+returns-clause-allowed g c =
+    let all = steps_in c.args.self.now (g.S.StoreState.pages c.self.inside.store) _ c.self.inside.changed.items c.self.inside.free.keys c.self.inside.count c.args.writing.now c.args.clean.now c.deref.ensures.value (ap (λ (v : PagesView). v.pages) c.self.view_is) (ap (λ (v : PagesView). v.in_memory) c.self.view_is) in
+    stays_allowed c.args.self.now _ _ _ _ all (ap (λ (v : PagesView). v.guard) c.self.view_is) c.write_out-written.ensures.carries.guard
 
 pub returns-in-Err-clause-journal_err : goal.returns-in-Err-clause-journal_err
 returns-in-Err-clause-journal_err g c =

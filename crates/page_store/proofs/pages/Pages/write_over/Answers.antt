@@ -1,4 +1,4 @@
-use Rattle.std.proofs.Common.{◌≡◌, ℕ, Bool, true, false, List, length, Option, get_or, ap, sym, ◌∙◌, subst}
+use Rattle.std.proofs.Common.{ℕ, false, List, length, Option, get_or, ap, sym, ◌∙◌, subst}
 use Rattle.page_store.specs.PagesView.{PagesView, is_in_memory}
 use Rattle.page_store.specs.PageMap.{at, write_page}
 use Rattle.page_store.specs.Overlaid.{slots_of, ArePages, pages_of}
