@@ -1,6 +1,6 @@
 -- Outcomes of the examples, and why there are no others.
 use Rattle.std.proofs.Common.{◌≡◌, ◌≢◌, ◌⊎◌, ⊎_elim, inl, inr, ℕ, zero, suc, ◌<◌, true, false, List, [], ◌∷◌, ◌++◌, get_or, set, slice_get, Option, Some, None, unwrap_or, All, is_some, refl, sym, ◌∙◌, ap, arith}
-use Rattle.page_journal.specs.Files.{PageFile, Kept, Files, Agree, IsOf, is_kept, restored, recovered}
+use Rattle.page_journal.specs.Files.{PageFile, Kept, Files, Agree, IsOf, is_kept, restored}
 use Rattle.page_journal.specs.Sums.{sum_start}
 use Rattle.page_journal.specs.Crash.{StandsFor, IsEither, Gathered}
 use Rattle.page_journal.specs.History.{MayLeave}

@@ -7,6 +7,7 @@ mod KeptStoreLemmas
 mod MemDiskLemmas
 mod MomentLemmas
 mod PuttingLemmas
+mod RefusalLemmas
 mod RestoreLemmas
 mod RunLemmas
 mod SealedLemmas

@@ -17,11 +17,11 @@ pub record StaysStore {S : Type 0} (s : Ghosts S) (old new : S) : Type 0 where
   pub opening : s.opening new ≡ s.opening old
   pub writes : s.writes new ≡ s.writes old
   pub journal : s.journal new ≡ s.journal old
+  pub guard : s.guard new ≡ s.guard old
 
 -- a call that changes no page: a read, or one that asks for the shape
 pub record LeavesStore {S A : Type 0} (s : Ghosts S) (read : Bool) (old : S) (answer : Result A StoreFault) (new : S) : Type 0 where
   pub stays : StaysStore s old new
-  pub guard : s.guard new ≡ s.guard old
   pub reads : s.reads new ≡ counted (s.reads old) read
   pub shapes : s.shapes new ≡ counted (s.shapes old) (not read)
   pub failures : s.failures new ≡ counted (s.failures old) (is_failed answer)
@@ -29,9 +29,14 @@ pub record LeavesStore {S A : Type 0} (s : Ghosts S) (read : Bool) (old : S) (an
 
 -- a call that keeps old pages aside: it counts as a read, and may ask for memory
 pub record SealsStore {S A : Type 0} (s : Ghosts S) (old : S) (answer : Result A StoreFault) (new : S) : Type 0 where
-  pub stays : StaysStore s old new
+  pub pages : s.pages new ≡ s.pages old
+  pub tail : s.tail new ≡ s.tail old
+  pub steady : s.steady new ≡ s.steady old
+  pub opening : s.opening new ≡ s.opening old
   pub reads : s.reads new ≡ counted (s.reads old) true
   pub shapes : s.shapes new ≡ s.shapes old
+  pub writes : s.writes new ≡ s.writes old
+  pub journal : s.journal new ≡ s.journal old
   pub failures : s.failures new ≡ counted (s.failures old) (is_failed answer)
 
 -- only the step that makes the store longer may ask for memory

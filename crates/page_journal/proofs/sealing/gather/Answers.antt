@@ -1,4 +1,4 @@
-use Rattle.std.proofs.Common.{◌≡◌, ◌+◌, ◌∙◌, ap, sym, subst, refl, arith, slice_get, length, ◌<◌, ℕ}
+use Rattle.std.proofs.Common.{◌+◌, ◌∙◌, ap, sym, subst, refl, arith, slice_get, length}
 use Rattle.page_journal.specs.Files.{PageFile, Files}
 use Rattle.page_journal.proofs.RunLemmas.{quiet_begin}
 use Rattle.page_journal.proofs.PuttingLemmas.{Gathers, gathers_begin, gathers_read, gathers_skip, gathers_keep}

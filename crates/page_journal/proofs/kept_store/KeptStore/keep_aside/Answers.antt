@@ -1,10 +1,12 @@
 use Rattle.std.proofs.Common.{◌≡◌, ◌∙◌, sym, ap, subst, length, List, Bool}
 use Rattle.page_journal.specs.Crash.{KeepsMarked}
 use Rattle.page_journal.specs.Files.{Files}
-use Rattle.page_journal.specs.KeptStores.{IsGuarded, old_file_of}
+use Rattle.page_journal.specs.KeptStores.{IsGuarded, KeptStored, old_file_of}
 use Rattle.page_journal.specs.declared.seal_state.SealState.{SealState}
 use Rattle.page_journal.specs.declared.seal_state.SealState.TheVariants.{Unsealed, Sealed}
 use Rattle.page_journal.proofs.KeptStoreLemmas.{guarded_stays, flags_may, run_time, same_guard}
+use Rattle.std.proofs.lemmas.Result.{err_from_is_err_and}
+use Rattle.page_journal.proofs.RefusalLemmas.{passed_on, refused_on}
 use Rattle.page_journal.proofs.kept_store.KeptStore.keep_aside.Goals as goal
 
 pub invariant_of-self-2 : goal.invariant_of-self-2
@@ -28,3 +30,19 @@ invariant_of-self-2 g c = λ after.
       };
       time = run_time d was main c.shape.new.self c.seal.new.disk asked.time asked.so.seen (c.seal.ensures.any_moment mid);
     })
+
+pub returns-in_default-clause-failures : goal.returns-in_default-clause-failures
+returns-in_default-clause-failures g c = refused_on (g.D.DiskState.failures c.self.inside.disk) c.self.inside.refusals _ _ _ c.count_up.ensures (ap (λ (s : KeptStored _). g.D.DiskState.failures s.disk) c.self.view_is) (ap (λ (s : KeptStored _). s.refusals) c.self.view_is)
+
+pub returns-in_err-shape-clause-failures : goal.returns-in_err-shape-clause-failures
+returns-in_err-shape-clause-failures g c =
+    let told = err_from_is_err_and c.from_residual.result c.from_residual.ensures.1 in
+    rw (told.1, told.2) (passed_on _ _ c.self.inside.refusals _ _ _ c.in_err-shape.ensures.does.1.failures (ap (λ (s : KeptStored _). g.D.DiskState.failures s.disk) c.self.view_is) (ap (λ (s : KeptStored _). s.refusals) c.self.view_is))
+
+pub returns-then-shape-gt0-clause-failures : goal.returns-then-shape-gt0-clause-failures
+returns-then-shape-gt0-clause-failures g c = refused_on (g.D.DiskState.failures c.shape.new.self) c.self.inside.refusals _ _ _ c.count_up-then-shape-gt0.ensures (c.in_ok-shape.ensures.does.1.failures ∙ ap (λ (s : KeptStored _). g.D.DiskState.failures s.disk) c.self.view_is) (ap (λ (s : KeptStored _). s.refusals) c.self.view_is)
+
+pub returns-in_err-seal-clause-failures : goal.returns-in_err-seal-clause-failures
+returns-in_err-seal-clause-failures g c =
+    let told = err_from_is_err_and c.from_residual-in_err-seal.result c.from_residual-in_err-seal.ensures.1 in
+    rw (told.1, told.2) (passed_on _ _ c.self.inside.refusals _ _ _ c.in_err-seal.ensures.calls.1.failures (c.in_ok-shape.ensures.does.1.failures ∙ ap (λ (s : KeptStored _). g.D.DiskState.failures s.disk) c.self.view_is) (ap (λ (s : KeptStored _). s.refusals) c.self.view_is))
