@@ -21,6 +21,7 @@ stays_on s a b c first next = record {
   opening = next.opening ∙ first.opening;
   writes = next.writes ∙ first.writes;
   journal = next.journal ∙ first.journal;
+  guard = next.guard ∙ first.guard;
 }
 
 -- what is true of a steady store before a read is told of it after one

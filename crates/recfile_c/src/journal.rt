@@ -155,6 +155,7 @@ impl JournalStore {
 impl StoreState for JournalStore {
     ghost use Rattle.std.specs.Prelude.{true};
     ghost use Rattle.page_store.specs.Opening.{untold};
+    ghost use Rattle.page_store.specs.Guards.{Unguarded};
     ghost use Rattle.recfile_c.specs.Steps.{pages_of, journal_of};
 
     ghost pages = { pages_of };
@@ -174,6 +175,8 @@ impl StoreState for JournalStore {
     ghost failures = { λ s. s.failures };
 
     ghost journal = { journal_of };
+
+    ghost guard = { λ _. Unguarded };
 }
 
 impl Store for JournalStore {

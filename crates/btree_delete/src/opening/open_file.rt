@@ -164,7 +164,7 @@ fn without_free<S: Store>(
         × (S.tail stop.store ≡ pages.tail) × (S.steady stop.store ≡ pages.steady)
         × (S.writes stop.store ≡ pages.writes) × (S.failures stop.store ≡ pages.failures)
         × (S.journal stop.store ≡ pages.journal) × (S.shapes stop.store ≡ pages.shapes)
-        × (S.opening stop.store ≡ pages.opening)) }
+        × (S.opening stop.store ≡ pages.opening) × (S.guard stop.store ≡ pages.guard)) }
 {
     let mut pages = pages;
     let count = pages.page_count();
@@ -208,6 +208,8 @@ pub(crate) fn open_file<S: Store>(
         × (r.0.failures ≡ S.failures store)) }
     ensures journal { IfOk result (λ r. r.0.journal ≡ S.journal store) }
     ensures opening { IfOk result (λ r. r.0.opening ≡ S.opening store) }
+    ensures guard { IfOk result (λ r. r.0.guard ≡ S.guard store) }
+    ensures no_tail { IfOk result (λ r. r.0.tail ≡ 0) }
     ensures shapes { MatchResult result (λ r. r.0.shapes ≡ counted (S.shapes store) true)
         (λ stop. S.shapes stop.store ≡ counted (S.shapes store) true) }
     ensures stays { IfErr result (λ stop. StaysStore S.StoreState store stop.store) }

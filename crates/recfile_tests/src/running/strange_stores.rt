@@ -36,6 +36,8 @@ impl<S: Store> StoreState for StrangeStore<S> {
     ghost failures = { λ s. S.failures s.inner };
 
     ghost journal = { λ s. S.journal s.inner };
+
+    ghost guard = { λ s. S.guard s.inner };
 }
 
 impl<S: Store> Store for StrangeStore<S> {
