@@ -1,7 +1,7 @@
 -- How often a disk has failed when its file was closed.
-use Rattle.std.proofs.Common.{◌≡◌, ◌⊎◌, ◌∙◌, ⊎_elim, ℕ, Bool, true, false, List, Option, Some, None, is_some, Result, Ok, Err, OnOk, IsOk, is_err, IsTrue, refl, sym, ap, subst}
+use Rattle.std.proofs.Common.{◌≡◌, ◌⊎◌, ◌∙◌, ⊎_elim, ℕ, Bool, true, false, List, Option, Some, IfSome, Result, Ok, Err, OnOk, refl, sym, ap, subst}
 use Rattle.rec_types.specs.Table.{counted}
-use Rattle.page_store.specs.Guards.{Guard, Unguarded, Unsealed, Sealed, Stopped, KeepsExactly, SealsGuard}
+use Rattle.page_store.specs.Guards.{Guard, Unguarded, Unsealed, Sealed, Stopped, SealsGuard}
 use Rattle.page_store.specs.StoreFaults.{is_failed}
 use Rattle.page_store.specs.WriteFaults.{by_device}
 use Rattle.page_store.specs.declared.page_edit.WriteFault.{WriteFault}
@@ -14,8 +14,12 @@ use Rattle.page_journal.specs.declared.seal_state.SealState.TheVariants as state
 use Rattle.btree_delete.specs.CleanFile.{is_close_device_fault, is_device_fault}
 use Rattle.btree_delete.specs.declared.opening.open_fault.OpenFault.{OpenFault}
 use Rattle.btree_delete.specs.declared.opening.open_fault.OpenFault.TheVariants as opening
-use Rattle.recfile.specs.FileFaults.{answer_of_store, fault_of_closing, fault_of_opening, is_device, is_device_answer}
-use Rattle.recfile.specs.Kept.{CountsClosing, is_sealed, refusals_of}
+use Rattle.page_journal.specs.Recovery.{is_device_fault as is_recovery_device}
+use Rattle.page_journal.specs.declared.recovery_fault.RecoveryFault.{RecoveryFault}
+use Rattle.page_journal.specs.declared.recovery_fault.RecoveryFault.TheVariants as recovering
+use Rattle.recfile.specs.FileFaults.{answer_of_store, fault_of_closing, fault_of_opening, fault_of_recovery, is_device, is_device_answer}
+use Rattle.recfile.specs.Kept.{is_sealed, refusals_of}
+use Rattle.recfile.specs.declared.file_fault.FileFault.{FileFault}
 
 refusals_in : (state : SealState) (kept : List Bool) (refusals : ℕ) → refusals_of (guard_of state kept refusals) ≡ refusals
 refusals_in states.Unsealed kept refusals = refl
@@ -40,7 +44,7 @@ seal_refuses F test long old answer new is seals = at answer (subst (λ (k : Gua
     at (Ok done) keeps = ap refusals_of keeps.sealed
     at (Err fault) left = ⊎_elim (λ (same : new ≡ Unsealed 0). ap refusals_of same) (λ (stopped : new ≡ Stopped 0). ap refusals_of stopped) left
 
-pub is_stopped : Guard → Bool
+abbrev pub is_stopped : Guard → Bool
 is_stopped Unguarded = false
 is_stopped (Unsealed refusals) = false
 is_stopped (Sealed kept refusals) = false
@@ -56,8 +60,8 @@ not_stopped state kept refusals guard is going same = absurd (cc (sym going ∙ 
 
 -- a table that was changed or not
 pub by_change : {P : Type 0} (b : Bool) → (b ≡ true → P) → (b ≡ false → P) → P
-by_change true yes no = yes refl
-by_change false yes no = no refl
+by_change true changed idle = changed refl
+by_change false changed idle = idle refl
 
 -- the names of the faults
 pub device_of_closing : (fault : WriteFault) → is_close_device_fault fault ≡ is_device (fault_of_closing fault)
@@ -90,5 +94,10 @@ pub ok_told : (answer : Result (Unit {0}) StoreFault) (P : Type 0) → OnOk answ
 ok_told (Ok done) P known = known
 ok_told (Err fault) P known = tt
 
-pub done_well : (answer : Result (Unit {0}) StoreFault) → is_err (answer_of_store answer) ≡ false → false ≡ false
-done_well answer ok = refl
+pub device_of_recovery : (fault : RecoveryFault) → is_recovery_device fault ≡ is_device (fault_of_recovery fault)
+device_of_recovery recovering.Device = refl
+device_of_recovery recovering.BadJournal = refl
+
+-- what is told of a fault that is there
+pub some_told : (o : Option FileFault) (fault : FileFault) (Q : FileFault → Type 0) → o ≡ Some fault → Q fault → IfSome o Q
+some_told o fault Q is known = subst (λ (p : Option FileFault). IfSome p Q) (sym is) known

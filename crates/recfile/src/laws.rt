@@ -16,6 +16,7 @@ ghost use Rattle.command_text.specs.Refusals.{is_refusal};
 ghost use Rattle.command_text.specs.Script.{entries_of};
 ghost use Rattle.command_text.specs.declared.reply.Reply.{Reply};
 ghost use Rattle.recfile.specs.Ending.{EndsAll, without};
+ghost use Rattle.recfile.specs.Kept.{CountsClosing};
 ghost use Rattle.recfile.specs.Examples.{four_changes, two_taken_back};
 ghost use Rattle.recfile.specs.Room.{HasRoomFor, was_kept};
 ghost use Rattle.recfile.specs.Run.{Session};
@@ -54,6 +55,15 @@ pub fn sessions_by_example()
     ensures unclosed { (manner : Manner) (left leaves held holds : Option (List ℕ)) (old : Seen) (status : ℕ)
         (unclosed : Option FileFault)
         → EndsFile manner left leaves held holds old (λ _. ⊥) unclosed status → status ≡ 4 }
+{}
+
+/// A closing without a fault has no failure of its disk behind it; Device is no fault of a disk that didn't fail; and where
+/// the old pages couldn't be put back either, the disk has failed twice.
+pub fn closings_are_counted()
+    ensures silent { (before after : ℕ) → CountsClosing before false false after → after ≡ before }
+    ensures unfailed { (before : ℕ) → before < greatest_count
+        → CountsClosing before true true before → ⊥ }
+    ensures twice { CountsClosing 3 true true 5 }
 {}
 
 /// A dump that is run over a file without records, with no refusal, gives exactly its records.

@@ -32,7 +32,8 @@ pub trait PageFiles {
         ensures rest { IfOk result (IsAtRest Self.Device.DiskState) }
         ensures began { IfOk result (λ disk. IsTrue (Self.Device.steady disk)
             → Self.Device.seen disk ≡ Self.Device.began disk) }
-        ensures moment { IfOk result (λ disk. Self.Device.moment disk ≡ 0) };
+        ensures moment { IfOk result (λ disk. Self.Device.moment disk ≡ 0) }
+        ensures failures { IfOk result (λ disk. Self.Device.failures disk ≡ 0) };
 
     /// Opens the page file at the path to read it. Where a side file stands beside it a closing was stopped, and it isn't
     /// clean: putting the old pages back would write. Faults: Device, as where there is no file; NotClean; Memory.

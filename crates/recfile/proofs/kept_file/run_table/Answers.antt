@@ -4,7 +4,9 @@ use Rattle.btree_delete.specs.TableView.{TableView, table_contents}
 use Rattle.page_store.specs.Opening.{Opening}
 use Rattle.record_file.specs.Abstract.{OpenFile}
 use Rattle.record_file.specs.Runs.{Seen, seen}
-use Rattle.recfile.specs.Kept.{ClosesSafely, LeavesOld, file_of}
+use Rattle.rec_types.specs.Table.{counted}
+use Rattle.recfile.specs.FileFaults.{by_device}
+use Rattle.recfile.specs.Kept.{ClosesSafely, CountsClosing, LeavesOld, file_of, is_sealed, refusals_of}
 use Rattle.recfile.specs.WholeSession.{IsSession, IsUncounted, opened_file}
 use Rattle.recfile.proofs.SoundRunLemmas.{sound_ran}
 use Rattle.recfile.specs.Statuses.{status_of}
@@ -67,6 +69,39 @@ returns-in-Err-clause-ran g c = (
   },
 )
 
+-- no call was refused in the session, and the file has no tail
+module _ (g : given.Over) (c : After-abandon-table g) where
+  same_guard : c.abandon-table.result.pages.guard ≡ c.args.table.pages.guard
+  same_guard = ap (λ (t : TableView). t.pages.guard) c.abandon-table.ensures ∙ ap (λ (o : Origin). o.guard) c.run_session-end.ensures.origin ∙ ap (λ (f : OpenFile TableView). f.table.pages.guard) c.new-file.ensures
+
+  same_tail : c.abandon-table.result.pages.tail ≡ c.args.table.pages.tail
+  same_tail = ap (λ (t : TableView). t.pages.tail) c.abandon-table.ensures ∙ ap (λ (o : Origin). o.tail) c.run_session-end.ensures.origin ∙ ap (λ (f : OpenFile TableView). f.table.pages.tail) c.new-file.ensures
+
+pub returns-in-Ok-clause-counted : goal.returns-in-Ok-clause-counted
+unfolding returns-in-Ok-clause-ran
+returns-in-Ok-clause-counted g c unsealed tail =
+    let here = (goal.at.returns-in-Ok-clause-counted g c).After-abandon-table in
+    record {
+      run = returns-in-Ok-clause-ran g c;
+      failures = subst (λ n. CountsClosing n (is_some c.close_kept.result.unclosed) (by_device c.close_kept.result.unclosed) (g.D.DiskState.failures c.close_kept.result.disk)) (ap (λ (t : TableView). t.pages.failures) c.abandon-table.ensures)
+          (c.close_kept.ensures.device (same_guard g here ∙ unsealed) (same_tail g here ∙ tail));
+    }
+
+pub returns-in-Err-clause-counted : goal.returns-in-Err-clause-counted
+unfolding returns-in-Err-clause-ran
+returns-in-Err-clause-counted g c unsealed tail =
+    let here = (goal.at.returns-in-Err-clause-counted g c).After-abandon-table in
+    let before = same_guard g here ∙ unsealed in
+    let given_back = c.give_back.ensures.device (ap refusals_of before) in
+    record {
+      run = returns-in-Err-clause-ran g c;
+      failures = record {
+        again = false;
+        failures = given_back.1 ∙ (λ i. counted ((ap (λ (t : TableView). t.pages.failures) c.abandon-table.ensures) i) (given_back.2 (ap is_sealed before) i));
+        once = λ ok. refl;
+      };
+    }
+
 pub returns-in-Ok-clause-session : goal.returns-in-Ok-clause-session
 returns-in-Ok-clause-session g c steady uncounted =
     let old = opened_file (table_contents c.args.table) c.args.limits c.args.table.pages.failures in
@@ -113,4 +148,4 @@ returns-in-Ok-clause-stopped g c steady uncounted stopped =
 pub returns-in-Err-clause-stopped : goal.returns-in-Err-clause-stopped
 returns-in-Err-clause-stopped g c steady uncounted stopped =
     let here = (goal.at.returns-in-Err-clause-stopped g c).After-abandon-table in
-    subst (λ (o : Opening). LeavesOld g.D.DiskState (file_of o) c.give_back.result) (same_opening g here) (c.give_back.ensures (table_steady g here steady uncounted))
+    subst (λ (o : Opening). LeavesOld g.D.DiskState (file_of o) c.give_back.result) (same_opening g here) (c.give_back.ensures.old (table_steady g here steady uncounted))

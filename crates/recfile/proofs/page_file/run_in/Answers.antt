@@ -15,7 +15,7 @@ module _ (g : given.Over) (c : In-Ok g) where
   made : origin_of c.in-Ok.table ≡ opened_in g.S.StoreState c.in-Ok.table.tree.order c.args.store
   made =
       let same = c.in-Ok.ensures.stored in
-      λ i. record { order = c.in-Ok.table.tree.order; stored = same.0 i; tail = same.1 i; steady = same.2 i; opening = c.in-Ok.ensures.opening i; shapes = c.in-Ok.ensures.shapes i; writes = same.3 i; journal = c.in-Ok.ensures.journal i }
+      λ i. record { order = c.in-Ok.table.tree.order; stored = same.0 i; tail = same.1 i; steady = same.2 i; opening = c.in-Ok.ensures.opening i; shapes = c.in-Ok.ensures.shapes i; writes = same.3 i; journal = c.in-Ok.ensures.journal i; guard = c.in-Ok.ensures.guard i }
 
 at_none : {A : Type 0} (o : Option A) (P : A → Type 0) → o ≡ None → IfSome o P
 at_none o P is = subst (λ x. IfSome x P) (sym is) tt

@@ -84,7 +84,7 @@ returns-in-Err-clause-ran g c store is = record {
     },
   );
   failures = c.abandon.ensures.failures ∙ ap (λ (t : TableView). t.pages.failures) c.abandon-table.ensures;
-  written = stays_by g.S.StoreState c.args.table.tree.order store c.abandon.result c.abandon-table.result (made g (goal.at.returns-in-Err-clause-ran g c).After-abandon-table store is) c.abandon.ensures.pages c.abandon.ensures.tail c.abandon.ensures.steady c.abandon.ensures.opening c.abandon.ensures.writes c.abandon.ensures.journal;
+  written = stays_by g.S.StoreState c.args.table.tree.order store c.abandon.result c.abandon-table.result (made g (goal.at.returns-in-Err-clause-ran g c).After-abandon-table store is) c.abandon.ensures.pages c.abandon.ensures.tail c.abandon.ensures.steady c.abandon.ensures.opening c.abandon.ensures.writes c.abandon.ensures.journal c.abandon.ensures.guard;
 }
 
 pub returns-in-Ok-clause-stopped : goal.returns-in-Ok-clause-stopped
@@ -93,7 +93,7 @@ returns-in-Ok-clause-stopped g c store is stopped =
 
 pub returns-in-Err-clause-stopped : goal.returns-in-Err-clause-stopped
 returns-in-Err-clause-stopped g c store is stopped =
-    stays_by g.S.StoreState c.args.table.tree.order store c.abandon.result c.abandon-table.result (made g (goal.at.returns-in-Err-clause-stopped g c).After-abandon-table store is) c.abandon.ensures.pages c.abandon.ensures.tail c.abandon.ensures.steady c.abandon.ensures.opening c.abandon.ensures.writes c.abandon.ensures.journal
+    stays_by g.S.StoreState c.args.table.tree.order store c.abandon.result c.abandon-table.result (made g (goal.at.returns-in-Err-clause-stopped g c).After-abandon-table store is) c.abandon.ensures.pages c.abandon.ensures.tail c.abandon.ensures.steady c.abandon.ensures.opening c.abandon.ensures.writes c.abandon.ensures.journal c.abandon.ensures.guard
 
 pub returns-in-Ok-clause-session : goal.returns-in-Ok-clause-session
 returns-in-Ok-clause-session g c store is steady uncounted =
