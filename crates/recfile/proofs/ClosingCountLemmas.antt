@@ -1,6 +1,5 @@
 -- How often a disk has failed when its file was closed.
-use Rattle.std.proofs.Common.{◌≡◌, ◌⊎◌, ◌∙◌, ⊎_elim, ℕ, Bool, true, false, List, Option, Some, IfSome, Result, Ok, Err, OnOk, refl, sym, ap, subst}
-use Rattle.rec_types.specs.Table.{counted}
+use Rattle.std.proofs.Common.{◌≡◌, ◌∙◌, ⊎_elim, ℕ, Bool, true, false, List, Option, Some, IfSome, Result, Ok, Err, OnOk, refl, sym, ap, subst}
 use Rattle.page_store.specs.Guards.{Guard, Unguarded, Unsealed, Sealed, Stopped, SealsGuard}
 use Rattle.page_store.specs.StoreFaults.{is_failed}
 use Rattle.page_store.specs.WriteFaults.{by_device}

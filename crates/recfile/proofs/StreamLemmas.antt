@@ -1,5 +1,5 @@
 -- Which calls of a reader and a writer failed.
-use Rattle.std.proofs.Common.{◌≡◌, ◌||◌, ℕ, Bool, true, false, Option, Some, None, List, [], ◌++◌, Result, Ok, Err, refl, sym, ap, ◌∙◌, append-nil}
+use Rattle.std.proofs.Common.{◌≡◌, ◌||◌, ℕ, Bool, false, Option, Some, None, List, [], sym, ap, ◌∙◌, append-nil}
 use Rattle.std.specs.Io.KnownBytes.{Appends, Keeps}
 use Rattle.recfile.specs.Streams.{CallsMade, TellsFailed}
 

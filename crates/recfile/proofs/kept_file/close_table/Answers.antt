@@ -1,11 +1,11 @@
-use Rattle.std.proofs.Common.{◌≡◌, ℕ, Bool, true, false, Result, Ok, Err, OnOk, ⊎_elim, inl, inr, IsTrue, refl, sym, ap, subst, ◌∙◌}
+use Rattle.std.proofs.Common.{◌≡◌, false, Result, Ok, Err, OnOk, ⊎_elim, inl, inr, IsTrue, refl, sym, ap, subst, ◌∙◌}
 use Rattle.page_store.specs.Opening.{Opening}
 use Rattle.page_journal.specs.Crash.{StandsFor}
 use Rattle.btree_delete.specs.TableView.{TableView, table_contents}
 use Rattle.rec_types.specs.Table.{counted}
 use Rattle.page_store.specs.Guards.{Unsealed}
 use Rattle.page_store.specs.declared.page_edit.WriteFault.{WriteFault}
-use Rattle.recfile.specs.FileFaults.{fault_of_closing, is_device, is_device_answer}
+use Rattle.recfile.specs.FileFaults.{is_device, is_device_answer}
 use Rattle.recfile.specs.Kept.{IsKept, file_of, refusals_of}
 use Rattle.recfile.specs.declared.file_fault.FileFault.{FileFault}
 use Rattle.recfile.proofs.ClosingCountLemmas.{by_change, device_of_closing, device_of_sealing, device_of_store, is_stopped, not_stopped, ok_told, seal_goes_on, seal_refuses, unrefused}

@@ -1,4 +1,4 @@
-use Rattle.std.proofs.Common.{◌≡◌, ◌∙◌, false, Result, Ok, ap}
+use Rattle.std.proofs.Common.{◌∙◌, Result, ap}
 use Rattle.rec_types.specs.Table.{counted}
 use Rattle.page_journal.specs.Recovery.{is_device}
 use Rattle.page_journal.specs.declared.recovery_fault.RecoveryFault.{RecoveryFault}

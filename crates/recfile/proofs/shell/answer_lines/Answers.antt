@@ -4,7 +4,7 @@ use Rattle.command_text.specs.Script.{ended_lines}
 use Rattle.record_file.specs.Runs.{seen}
 use Rattle.recfile.specs.declared.script.RunFault.{RunFault}
 use Rattle.recfile.specs.Shell.{AnsweredSoFar, StopsAt}
-use Rattle.recfile.specs.Streams.{CallsMade, run_write_fault}
+use Rattle.recfile.specs.Streams.{run_write_fault}
 use Rattle.recfile.proofs.ShellLemmas.{so_far_ended, so_far_on, stops_ended}
 use Rattle.recfile.proofs.shell.answer_lines.Goals as goal
 
