@@ -82,6 +82,15 @@ does_none step inside old none is calls failures counts =
     (subst (λ f. step (files_seen inside.calls inside.pages inside.tail) f) (same_seen calls inside.calls inside.pages inside.tail) (none _))
     (subst (λ k. inside.calls ≤ k) (sym counts) (more_calls inside.calls)))
 
+-- a call before which the device was asked to keep what was there, where that failed, and where it was then made
+pub does_begun : (step : Files → Files → Type 0) (old begun : OpenedDisk) → ((d : Files) → step d d) → (failures : ℕ) → begun ≡ record old { calls = counted old.calls true; failures = failures } → Does file_ghosts step old begun
+does_begun step old begun none failures is =
+    subst (λ (o : OpenedDisk). Does file_ghosts step old o) (sym is) (does_none step old old none refl (counted old.calls true) failures refl)
+
+pub does_then : (step : Files → Files → Type 0) (old begun inside : OpenedDisk) → ((d : Files) → step d d) → (failures : ℕ) → begun ≡ record old { calls = counted old.calls true; failures = failures } → inside ≡ begun → (failures' : ℕ) → Does file_ghosts step old (record inside { failures = failures' })
+does_then step old begun inside none failures is opened failures' =
+    subst (λ (o : OpenedDisk). Does file_ghosts step old (record o { failures = failures' })) (sym (opened ∙ is)) (does_none step old old none refl (counted old.calls true) failures' refl)
+
 pub fresh_none : (d : Files) → Fresh d d
 fresh_none d = record { main = refl; side = refl }
 

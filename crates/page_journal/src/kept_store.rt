@@ -1,4 +1,4 @@
-ghost use Rattle.std.specs.Prelude.{◌≡◌, ◌≢◌, ◌<◌, ◌≤◌, ◌-◌, ◌==◌, ◌++◌, ℕ, Bool, List, [], true, false, Some, None, Err, length, IsTrue, IfOk, IfErr, OnOk, OnErr, slice_get, slice_set};
+ghost use Rattle.std.specs.Prelude.{◌≡◌, ◌≢◌, ◌<◌, ◌≤◌, ◌-◌, ◌==◌, ◌++◌, ℕ, Bool, List, [], true, false, Some, None, Err, length, IsTrue, IsOk, IfOk, IfErr, OnOk, OnErr, slice_get, slice_set};
 ghost use Rattle.std.specs.List.{list_any};
 ghost use Rattle.rec_types.specs.Table.{counted};
 ghost use Rattle.rec_types.specs.Widths.{page_width};
@@ -8,6 +8,7 @@ ghost use Rattle.page_store.specs.StoreCalls.{SealsStore, ChangesStore};
 ghost use Rattle.page_store.specs.StoreFaults.{is_failed};
 ghost use Rattle.page_store.specs.declared.step.Step.{Step};
 ghost use Rattle.page_journal.specs.Files.{Files, Belongs, recovered};
+ghost use Rattle.page_journal.specs.Steps.{CallSyncs};
 ghost use Rattle.page_journal.specs.Crash.{IsSettled, IsAtRest, StandsAs, StandsFor, IsEither};
 ghost use Rattle.page_journal.specs.Recovery.{IsForeign, is_device, is_device_fault};
 ghost use Rattle.page_journal.specs.KeptStores.{KeptStored, CanBeSealed, is_open, may_write_in};
@@ -339,8 +340,24 @@ impl<D: Disk + Drop> Store for KeptStore<D> {
         noted(&mut self.failures, answer)
     }
 
-    fn sync(&mut self) -> Result<(), StoreFault> {
+    /// Has the device keep what was written, where no old pages were kept aside; where they were, what is written counts
+    /// for nothing until `finish` has the device keep it, and the disk isn't called. Fault: Failed, where the disk
+    /// failed; no page has changed then.
+    fn sync(&mut self) -> Result<(), StoreFault>
+        ensures same_pages { (D.seen self.new.disk).main.pages ≡ (D.seen self.old.disk).main.pages }
+        ensures same_tail { (D.seen self.new.disk).main.tail ≡ (D.seen self.old.disk).main.tail }
+        ensures changes { ChangesStore ⟦<KeptStore<D> as StoreState>⟧ Step.Sync
+            self.old result self.new }
+        ensures sealed { self.old.state ≡ SealState.Sealed
+            → IsOk result × (self.new.disk ≡ self.old.disk) }
+        ensures passes { self.old.state ≢ SealState.Sealed
+            → CallSyncs D.DiskState (λ f. f.main) self.old.disk result self.new.disk }
+        ensures stays { (self.new.state ≡ self.old.state) × (self.new.kept ≡ self.old.kept) }
+    {
         self.writes = self.writes.saturating_add(1);
+        if let SealState::Sealed = self.state {
+            return Ok(());
+        }
         let answer = self.disk.sync();
         noted(&mut self.failures, answer)
     }
