@@ -4,6 +4,7 @@ pub mod Candidates
 pub mod FreeNumberLemmas
 pub mod FrontLemmas
 pub mod JournalLemmas
+pub mod KeptPageLemmas
 pub mod InMemoryLemmas
 mod InPlaceLemmas
 pub mod Overlays

@@ -9,6 +9,7 @@ pub mod FreeNumbers
 pub mod Fronts
 pub mod Growth
 pub mod Journal
+pub mod KeptPages
 pub mod OpenedFile
 pub mod Overlaid
 pub mod PageMap

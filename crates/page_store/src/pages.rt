@@ -13,10 +13,12 @@ ghost use Rattle.page_store.specs.Blank.{blanks};
 ghost use Rattle.page_store.specs.Growth.{GrowsTo};
 ghost use Rattle.page_store.specs.WriteFaults.{by_device};
 ghost use Rattle.page_store.specs.WritingBack.{AreStored, KeepsOthers, Stopped};
+ghost use Rattle.btree_node.specs.Spelling.{IsSpelt};
 
 mod sealing;
 
 use crate::free_numbers::{add_all, nth_number};
+use crate::kept_pages::KeptPages;
 use crate::page_edit::{FetchFault, PageEdit, WriteFault};
 use crate::slot::{
     Slot, boxed, changed_page, drop_pages, is_in_use, make_slots, slots_needed, write_one_over,
@@ -36,6 +38,8 @@ use std::marker::Model;
 pub struct Pages<S: Store> {
     store: S,
     changed: Vec<Slot>,
+    /// Pages of the store that were read.
+    kept: KeptPages,
     free: BTreeSet<u32>,
     count: u32,
     edited: bool,
@@ -64,8 +68,12 @@ impl<S: Store> Model for Pages<S> {
       journal = S.journal p.store;
     } };
 
+    ghost use Rattle.std.specs.Prelude.{IsTrue};
+    ghost use Rattle.page_store.specs.KeptPages.{AreOf};
+
     ghost invariant = { λ p.
-        ArePages (S.pages p.store) (slots_of p.changed.items) p.free.keys p.count p.edited };
+        ArePages (S.pages p.store) (slots_of p.changed.items) p.free.keys p.count p.edited
+        × (IsTrue (S.steady p.store) → AreOf (S.pages p.store) p.kept.slots) };
 }
 
 impl<S: Store> Pages<S> {
@@ -100,6 +108,42 @@ impl<S: Store> Pages<S> {
         Pages {
             store,
             changed: Vec::new(alloc),
+            kept: KeptPages::new(alloc),
+            free,
+            count,
+            edited: false,
+            alloc,
+        }
+    }
+
+    /// The pages of the store, without what was changed, with those free numbers; those that are kept stay so. The condition is
+    /// that of `new`.
+    pub fn with_free(self, free: BTreeSet<u32>) -> Pages<S>
+        requires free_fits { (n : ℕ) → IsTrue (contains nat_cmp free n)
+            → (1 ≤ n) × (n < length self.pages) }
+        requires lacking_free { (n : ℕ) → length self.stored ≤ n → 1 ≤ n → n < length self.pages
+            → IsTrue (contains nat_cmp free n) }
+        ensures count { length result.pages ≡ length self.pages }
+        ensures pages { (n : ℕ) → n < length self.pages → at result.pages n
+            ≡ (if n == 0 || contains nat_cmp free n then None else slice_get self.stored n) }
+        ensures in_memory { (n : ℕ) → is_in_memory result n ≡ false }
+        ensures store { result ≡ record self {
+          pages = result.pages;
+          changed = false;
+          in_memory = result.in_memory;
+        } }
+    {
+        let Pages {
+            store,
+            kept,
+            count,
+            alloc,
+            ..
+        } = self;
+        Pages {
+            store,
+            changed: Vec::new(alloc),
+            kept,
             free,
             count,
             edited: false,
@@ -145,6 +189,36 @@ impl<S: Store> Pages<S> {
             return None;
         }
         changed_page(&self.changed, n)
+    }
+
+    /// Keeps page n, which was read and spells a node of that order, so that `recall` has it until pages are written back.
+    /// Fault: Memory. No page changes.
+    pub fn keep(&mut self, order: u16, n: u32, page: &[u8; PAGE_WIDTH]) -> Result<(), Memory>
+        requires in_use { IsSome (at self.old.pages n) }
+        requires spelt { IsSpelt order page.now }
+        requires unchanged { is_in_memory self.old n ≡ false }
+        requires page { IsTrue self.old.steady → at self.old.pages n ≡ Some page.now }
+        ensures { self.new ≡ self.old }
+    {
+        self.kept.put(self.alloc, order, self.count, n, page)
+    }
+
+    /// Page n's newest bytes, where they are the store's and were kept: the store isn't called. None where the page isn't in
+    /// use or was changed.
+    pub fn recall(&self, order: u16, n: u32) -> Option<&[u8; PAGE_WIDTH]>
+        ensures page { IsTrue self.now.steady
+            → IfSome result (λ page. at self.now.pages n ≡ Some page.now) }
+        ensures spelt { IfSome result (λ page. IsSpelt order page.now) }
+        ensures in_use { OnSome result (IsSome (at self.now.pages n)) }
+        ensures number { OnSome result (0 < n) }
+    {
+        if !is_in_use(self.count, &self.free, n) {
+            return None;
+        }
+        match changed_page(&self.changed, n) {
+            Some(_) => None,
+            None => self.kept.get(order, n),
+        }
     }
 
     /// Puts all of an edit in place, in memory: takes the first candidates, writes the pages and frees
@@ -301,6 +375,7 @@ impl<S: Store> Pages<S> {
         ensures journal_err { OnErr result (NotesFront (writing_back (memory_pages self.old)
             (length self.old.pages) writing.now clean.now) self.old.journal self.new.journal) }
     {
+        self.kept = KeptPages::new(self.alloc);
         let written = write_out(
             &mut self.store,
             &self.changed,

@@ -49,7 +49,7 @@ module _ (g : given.Over) (c : In-Err g) where
   stopped_leaves = leaves_in _ _ c.self.inside.free.keys _ _ _ c.deref.ensures.value c.write_out-written.ensures.others
 
   same_pages : pages_of (g.S.StoreState.pages c.write_out-written.new.store) (slots_of c.self.inside.changed.items) c.self.inside.free.keys c.self.inside.count ≡ c.args.self.now.pages
-  same_pages = pages_kept _ _ _ _ _ c.self.invariant _ stopped_leaves ∙ ap (λ (v : PagesView). v.pages) c.self.view_is
+  same_pages = pages_kept _ _ _ _ _ c.self.invariant.0 _ stopped_leaves ∙ ap (λ (v : PagesView). v.pages) c.self.view_is
 
 -- what a whole one leaves
 module _ (g : given.Over) (c : After-clear-arg-1 g) where
@@ -93,12 +93,12 @@ returns-in-Err-clause-err g c =
 
 pub returns-in-Err-clause-others : goal.returns-in-Err-clause-others
 returns-in-Err-clause-others g c =
-    subst (λ (v : PagesView). KeepsOthers (at v.pages) (length v.pages) v.stored (g.S.StoreState.pages c.write_out-written.new.store)) c.self.view_is (leaves_pages _ _ _ _ _ c.self.invariant _ (stopped_leaves g (goal.at.returns-in-Err-clause-others g c).In-Err))
+    subst (λ (v : PagesView). KeepsOthers (at v.pages) (length v.pages) v.stored (g.S.StoreState.pages c.write_out-written.new.store)) c.self.view_is (leaves_pages _ _ _ _ _ c.self.invariant.0 _ (stopped_leaves g (goal.at.returns-in-Err-clause-others g c).In-Err))
 
 pub returns-in-Err-clause-stopped : goal.returns-in-Err-clause-stopped
 returns-in-Err-clause-stopped g c = λ steady.
     let stopped = subst (λ (xs : List (Option (Box (List ℕ) Global))). Stopped (to_write (slots_of xs) c.self.inside.free.keys c.self.inside.count) c.args.writing.now (g.S.StoreState.pages c.self.inside.store) (g.S.StoreState.pages c.write_out-written.new.store)) c.deref.ensures.value (c.in-Err.ensures.stopped (ap (λ (v : PagesView). v.steady) c.self.view_is ∙ steady)) in
-    subst (λ (v : PagesView). Stopped (at v.pages) c.args.writing.now v.stored (g.S.StoreState.pages c.write_out-written.new.store)) c.self.view_is (stopped_pages _ _ _ _ _ c.self.invariant _ (stopped_leaves g (goal.at.returns-in-Err-clause-stopped g c).In-Err) c.args.writing.now stopped)
+    subst (λ (v : PagesView). Stopped (at v.pages) c.args.writing.now v.stored (g.S.StoreState.pages c.write_out-written.new.store)) c.self.view_is (stopped_pages _ _ _ _ _ c.self.invariant.0 _ (stopped_leaves g (goal.at.returns-in-Err-clause-stopped g c).In-Err) c.args.writing.now stopped)
 
 pub returns-in-Err-clause-memory : goal.returns-in-Err-clause-memory
 returns-in-Err-clause-memory g c = λ same.
@@ -114,18 +114,18 @@ returns-clause-count g c =
 pub returns-clause-stored : goal.returns-clause-stored
 returns-clause-stored g c = λ steady.
     let place = (goal.at.returns-clause-stored g c).After-clear-arg-1 in
-    subst (λ (v : PagesView). AreStored (at v.pages) (g.S.StoreState.pages c.write_out-written.new.store)) c.self.view_is (all_stored _ _ _ _ _ c.self.invariant _ (leaves g place) (put g place steady))
+    subst (λ (v : PagesView). AreStored (at v.pages) (g.S.StoreState.pages c.write_out-written.new.store)) c.self.view_is (all_stored _ _ _ _ _ c.self.invariant.0 _ (leaves g place) (put g place steady))
 
 pub returns-clause-unwritten : goal.returns-clause-unwritten
 returns-clause-unwritten g c =
     let same = subst (λ (xs : List (Option (Box (List ℕ) Global))). (n : ℕ) → n ≢ 0 → to_write (slots_of xs) c.self.inside.free.keys c.self.inside.count n ≡ None → slice_get (g.S.StoreState.pages c.write_out-written.new.store) n ≡ slice_get (g.S.StoreState.pages c.self.inside.store ++ blanks (c.self.inside.count - length (g.S.StoreState.pages c.self.inside.store))) n) c.deref.ensures.value c.in_default.ensures.unwritten in
-    subst (λ (v : PagesView). (n : ℕ) → n ≢ 0 → at v.pages n ≡ None → slice_get (g.S.StoreState.pages c.write_out-written.new.store) n ≡ slice_get (v.stored ++ blanks (length v.pages - length v.stored)) n) c.self.view_is (unwritten_pages _ _ _ _ _ c.self.invariant _ (leaves g (goal.at.returns-clause-unwritten g c).After-clear-arg-1) same)
+    subst (λ (v : PagesView). (n : ℕ) → n ≢ 0 → at v.pages n ≡ None → slice_get (g.S.StoreState.pages c.write_out-written.new.store) n ≡ slice_get (v.stored ++ blanks (length v.pages - length v.stored)) n) c.self.view_is (unwritten_pages _ _ _ _ _ c.self.invariant.0 _ (leaves g (goal.at.returns-clause-unwritten g c).After-clear-arg-1) same)
 
 pub returns-clause-pages : goal.returns-clause-pages
 returns-clause-pages g c = λ steady.
     let place = (goal.at.returns-clause-pages g c).After-clear-arg-1 in
     ap (λ (xs : List (Option (Box (List ℕ) Global))). pages_of (g.S.StoreState.pages c.write_out-written.new.store) (slots_of xs) c.self.inside.free.keys c.self.inside.count) c.clear.ensures.items
-    ∙ pages_dropped _ _ _ _ _ c.self.invariant _ (leaves g place) c.in_default.ensures.long.count (put g place steady)
+    ∙ pages_dropped _ _ _ _ _ c.self.invariant.0 _ (leaves g place) c.in_default.ensures.long.count (put g place steady)
     ∙ ap (λ (v : PagesView). v.pages) c.self.view_is
 
 pub returns-clause-same_count : goal.returns-clause-same_count
@@ -135,18 +135,18 @@ returns-clause-same_count g c =
 pub returns-clause-same_free : goal.returns-clause-same_free
 returns-clause-same_free g c =
     ap (λ (xs : List (Option (Box (List ℕ) Global))). free_numbers (pages_of (g.S.StoreState.pages c.write_out-written.new.store) (slots_of xs) c.self.inside.free.keys c.self.inside.count)) c.clear.ensures.items
-    ∙ same_free _ _ _ _ _ c.self.invariant _ (leaves g (goal.at.returns-clause-same_free g c).After-clear-arg-1) c.in_default.ensures.long.count
+    ∙ same_free _ _ _ _ _ c.self.invariant.0 _ (leaves g (goal.at.returns-clause-same_free g c).After-clear-arg-1) c.in_default.ensures.long.count
     ∙ ap (λ (v : PagesView). free_numbers v.pages) c.self.view_is
 
 pub returns-clause-same_use : goal.returns-clause-same_use
 returns-clause-same_use g c = λ n.
     ap (λ (xs : List (Option (Box (List ℕ) Global))). is_some (at (pages_of (g.S.StoreState.pages c.write_out-written.new.store) (slots_of xs) c.self.inside.free.keys c.self.inside.count) n)) c.clear.ensures.items
-    ∙ same_use _ _ _ _ _ c.self.invariant _ (leaves g (goal.at.returns-clause-same_use g c).After-clear-arg-1) c.in_default.ensures.long.count n
+    ∙ same_use _ _ _ _ _ c.self.invariant.0 _ (leaves g (goal.at.returns-clause-same_use g c).After-clear-arg-1) c.in_default.ensures.long.count n
     ∙ ap (λ (v : PagesView). is_some (at v.pages n)) c.self.view_is
 
 pub returns-clause-others : goal.returns-clause-others
 returns-clause-others g c =
-    subst (λ (v : PagesView). KeepsOthers (at v.pages) (length v.pages) v.stored (g.S.StoreState.pages c.write_out-written.new.store)) c.self.view_is (leaves_pages _ _ _ _ _ c.self.invariant _ (leaves g (goal.at.returns-clause-others g c).After-clear-arg-1))
+    subst (λ (v : PagesView). KeepsOthers (at v.pages) (length v.pages) v.stored (g.S.StoreState.pages c.write_out-written.new.store)) c.self.view_is (leaves_pages _ _ _ _ _ c.self.invariant.0 _ (leaves g (goal.at.returns-clause-others g c).After-clear-arg-1))
 
 pub returns-in-Err-clause-writes_err : goal.returns-in-Err-clause-writes_err
 returns-in-Err-clause-writes_err g c =
