@@ -123,6 +123,7 @@ impl<S: Store> Pages<S> {
             → (1 ≤ n) × (n < length self.pages) }
         requires lacking_free { (n : ℕ) → length self.stored ≤ n → 1 ≤ n → n < length self.pages
             → IsTrue (contains nat_cmp free n) }
+        ensures header { at self.pages 0 ≡ None }
         ensures count { length result.pages ≡ length self.pages }
         ensures pages { (n : ℕ) → n < length self.pages → at result.pages n
             ≡ (if n == 0 || contains nat_cmp free n then None else slice_get self.stored n) }

@@ -136,6 +136,7 @@ fn free_old<S: Store>(
     ensures freed { OnOk result (Frees pages.old pages.new (contains nat_cmp free.now)) }
     ensures changed { OnOk result (pages.new.changed ≡ true) }
     ensures err { OnErr result (pages.new ≡ pages.old) }
+    ensures header { at pages.old.pages 0 ≡ None }
 {
     let count = pages.page_count();
     let edit = PageEdit {
@@ -166,9 +167,8 @@ fn without_free<S: Store>(
         × (S.journal stop.store ≡ pages.journal) × (S.shapes stop.store ≡ pages.shapes)) }
 {
     let mut pages = pages;
-    let count = pages.page_count();
     if version != FIRST_VERSION {
-        return Ok(Pages::new(alloc, pages.into_store(), count, free));
+        return Ok(pages.with_free(free));
     }
     match free_old(alloc, &mut pages, &free) {
         Ok(()) => Ok(pages),

@@ -4,7 +4,8 @@ use Rattle.std.specs.Ordering.{nat_cmp}
 use Rattle.std.specs.BTreeSet.{contains}
 use Rattle.page_store.specs.PagesView.{PagesView}
 use Rattle.page_store.specs.Overlaid.{slots_of}
-use Rattle.page_store.proofs.NewestPageLemmas.{length-pages_of, at_below}
+use Rattle.page_store.proofs.NewestPageLemmas.{length-pages_of, at_below, outside}
+use Rattle.page_store.specs.PageMap.{at}
 use Rattle.page_store.proofs.InMemoryLemmas.{none_in_memory}
 use Rattle.page_store.proofs.pages.Pages.with_free.Given as given
 use Rattle.page_store.proofs.pages.Pages.with_free.Goals as goal
@@ -31,6 +32,9 @@ invariant_of-result g c =
       },
       c.self.invariant.1,
     )
+
+pub returns-clause-header : goal.returns-clause-header
+returns-clause-header g c = ap (λ (v : PagesView). at v.pages 0) (sym c.self.view_is) ∙ outside _ _ _ _ 0 (λ h. h.0 refl)
 
 pub returns-clause-count : goal.returns-clause-count
 returns-clause-count g c = length-pages_of _ _ _ _ ∙ long g (goal.at.returns-clause-count g c).After-new
