@@ -47,12 +47,10 @@ fn grow<S: Store>(store: &mut S, n: u32) -> Result<(), StoreFault> {
     store.set_pages(n)
 }
 
-/// The calls of a closing that writes two old pages over and adds one.
+/// The calls of a closing that writes two old pages over and adds one, of which no sync reaches the disk.
 fn close<S: SealStore>(store: &mut S) -> Result<(), StoreFault> {
     store.seal(&[0, 1])?;
     grow(store, 3)?;
-    put(store, 0, 5)?;
-    store.sync()?;
     put(store, 1, 8)?;
     put(store, 2, 9)?;
     store.sync()?;
@@ -362,9 +360,9 @@ fn expect_found(
 #[test]
 fn closing_is_stopped(rt: HostRuntime) {
     let alloc = rt.alloc();
-    let wanted = "78 old, 2 new, 0 neither, 0 changed; 69456 old, 4 new, 0 neither, 0 changed; ";
+    let wanted = "168 old, 2 new, 0 neither, 0 changed; 247836 old, 4 new, 0 neither, 0 changed; ";
     expect_found(&rt, alloc, &closed(&rt, alloc), &[7, 8, 9], wanted);
-    let wanted = "69 old, 2 new, 0 neither, 0 changed; 51618 old, 4 new, 0 neither, 0 changed; ";
+    let wanted = "168 old, 2 new, 0 neither, 0 changed; 247836 old, 4 new, 0 neither, 0 changed; ";
     expect_found(&rt, alloc, &closed_pages(&rt, alloc), &[7, 8], wanted);
     let wanted = "170 old, 0 new, 0 neither, 0 changed; 247840 old, 0 new, 0 neither, 0 changed; ";
     expect_found(&rt, alloc, &taken_back(&rt, alloc), &[], wanted);
