@@ -11,7 +11,7 @@ ghost use Rattle.btree_insert.specs.Faults.{is_device};
 ghost use Rattle.btree_insert.specs.PageTrees.{SpellsIn, Spells};
 ghost use Rattle.btree_insert.specs.Growth.{IsOutside};
 ghost use Rattle.btree_insert.specs.Spelt.{AreSpeltIn};
-ghost use Rattle.btree_delete.specs.Survey.{SeenSoFar, unreached, AreKept, stored_page, after, below_page, below_sons, Sound, Surveyed, allowed, StandsWithin, Surveys, node_in, Respells, sons_from, elements_from};
+ghost use Rattle.btree_delete.specs.Survey.{SeenSoFar, unreached, AreKept, stored_page, after, below_page, below_sons, Sound, Surveyed, allowed, StandsWithin, Surveys, node_in, Respells, WasRead, sons_from, elements_from};
 ghost use Rattle.btree_insert.specs.Edits.{ReadsOnce};
 
 use btree_insert::{Bounds, TreeFault, is_page_within};
@@ -243,12 +243,7 @@ fn keep_page<S: Store>(
     n: u32,
     page: &[u8; PAGE_WIDTH],
 ) -> Result<(), TreeFault>
-    requires stands { CanStandIn (layout_of version) (node_in order page.now) order }
-    requires written { page.now ≡ spelling (node_in order page.now) order }
-    requires in_use { IsSome (at pages.old.pages n) }
-    requires read { version ≢ first_version → IsTrue pages.old.steady
-        → at pages.old.pages n ≡ Some page.now }
-    requires unread { is_in_memory pages.old n ≡ false }
+    requires { WasRead version order pages.old n page.now }
     ensures others { OnOk result ((q : ℕ) → q ≢ n
         → (at pages.new.pages q ≡ at pages.old.pages q)
         × (is_in_memory pages.new q ≡ is_in_memory pages.old q)) }

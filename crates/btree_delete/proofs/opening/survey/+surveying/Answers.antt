@@ -1,4 +1,4 @@
-use Rattle.std.proofs.Common.{◌≡◌, ◌-◌, ◌<◌, ◌≤◌, ◌⊎◌, ℕ, Some, None, List, length, get_or, drop, ◌+◌, ◌∷◌, [], IsTrue, true, refl, ap, sym, ◌∙◌, subst, arith}
+use Rattle.std.proofs.Common.{◌≡◌, ◌-◌, ◌<◌, ◌≤◌, ◌⊎◌, ℕ, Some, None, IsSome, List, length, get_or, drop, ◌+◌, ◌∷◌, [], IsTrue, true, refl, ap, sym, ◌∙◌, subst, arith}
 use Rattle.std.proofs.lemmas.List.{length-drop}
 use Rattle.std.proofs.lemmas.Result.{err_from_is_err_and}
 use Rattle.page_store.specs.PagesView.{PagesView}
@@ -65,16 +65,19 @@ module _ (g : given.Over) (t : ℕ) (c : survey_page-In_ok-keep_page g t) where
   pages_read : stored_page c.keep_page.new.pages ≡ stored_page c.args.pages.now
   pages_read = ap (λ (v : PagesView). stored_page v) c.keep_page.ensures.stays ∙ ap (λ (v : PagesView). stored_page v) c.read_page.ensures.reading.0.unchanged
 
-pub survey_page-keep_page-requires-clause-read : goal.survey_page-keep_page-requires-clause-read
-survey_page-keep_page-requires-clause-read g t c = λ other steady.
-    let told = c.in_ok-read_page.ensures.spells (sym (ap (λ (v : PagesView). v.steady) c.read_page.ensures.reading.0.unchanged) ∙ steady) in
-    ap (λ (v : PagesView). at v.pages c.args.n) c.read_page.ensures.reading.0.unchanged ∙ told.page
-    ∙ ap Some (written_second c.args.version (node_in c.args.order c.read_page.new.page) c.args.order other ∙ sym c.in_ok-read_page.ensures.written)
-
-pub survey_page-keep_page-requires-clause-unread : goal.survey_page-keep_page-requires-clause-unread
-survey_page-keep_page-requires-clause-unread g t c =
-    ap (λ (v : PagesView). is_in_memory v c.args.n) c.read_page.ensures.reading.0.unchanged
-    ∙ (c.requires.kept.unread c.args.n (c.if-not-reach.ensures.unvisited refl)).1
+pub survey_page-keep_page-requires : goal.survey_page-keep_page-requires
+survey_page-keep_page-requires g t c =
+    let same = c.read_page.ensures.reading.0.unchanged in
+    record {
+      stands = c.in_ok-read_page.ensures.stands.stands;
+      written = c.in_ok-read_page.ensures.written;
+      in_use = subst (λ (v : PagesView). IsSome (at v.pages c.args.n)) (sym same) c.in_ok-read_page.ensures.in_use;
+      read = λ other steady.
+          let told = c.in_ok-read_page.ensures.spells (sym (ap (λ (v : PagesView). v.steady) same) ∙ steady) in
+          ap (λ (v : PagesView). at v.pages c.args.n) same ∙ told.page
+          ∙ ap Some (written_second c.args.version (node_in c.args.order c.read_page.new.page) c.args.order other ∙ sym c.in_ok-read_page.ensures.written);
+      unread = ap (λ (v : PagesView). is_in_memory v c.args.n) same ∙ (c.requires.kept.unread c.args.n (c.if-not-reach.ensures.unvisited refl)).1;
+    }
 
 -- a leaf at the head is the whole tree
 module _ (g : given.Over) (t : ℕ) (c : survey_page-In-Leaf g t) where
