@@ -128,7 +128,10 @@ for words in "a.rec" "a.rec b.rec c.rec"; do
     no_copy b.rec
 done
 
-# At each call that changes a file or a name, and then at none.
+# At each call that changes a file or a name, and then at none, of the copy of some twelve pages.
+rm a.rec
+"$program" create --order 2 a.rec
+awk 'BEGIN { for (i = 10; i < 40; i++) printf "%d\tx\n", i }' | "$program" load a.rec
 left() { # the copy is whole, or it is no file that is opened
     if [ -e b.rec ] && ! cmp -s a.rec b.rec; then
         "$program" check b.rec > out 2> err && fail "a part of a copy is opened"
@@ -139,7 +142,7 @@ left() { # the copy is whole, or it is no file that is opened
     fi
     return 0
 }
-for fate in killed lost noise halves 1 2 3 4 5 6 7 8; do
+for fate in killed lost noise halves 1 2 3 4; do
     row="a copy that is stopped, $fate"
     number=0
     while number=$((number + 1)); do
@@ -193,8 +196,8 @@ fi
 
 # A copy takes no more memory than a check: of a file of 40 megabytes.
 row="little memory"
-"$program" create --order 1 large.rec
-awk 'BEGIN { for (i = 0; i < 20000; i++) printf "%06d\tx\n", i }' | "$program" load large.rec
+"$program" create --order 16 large.rec
+awk 'BEGIN { for (i = 0; i < 200000; i++) printf "%06d\tx\n", i }' | "$program" load large.rec
 size=$(stat -c %s large.rec)
 [ "$size" -gt 30000000 ] || fail "the file has $size bytes"
 runs=$((runs + 1))

@@ -19,7 +19,8 @@
 //   SHORT_AT=N    the N-th read or write, also of a standard stream, moves one byte (SHORT=one), half of its bytes
 //                 (SHORT=half), or none, since a signal comes (SHORT=again)
 //
-// Where the call is met, the file of the path MET is made.
+// Where the call is met, the file of the path MET is made. In the file of the path SYNCS stands how many calls of fsync were
+// made by a program that has ended.
 
 #define _GNU_SOURCE
 #include <dirent.h>
@@ -55,7 +56,7 @@ static int call_count;
 static struct { dev_t device; ino_t inode; int descriptor; } files[MOST_FILES];
 static int file_count;
 static long changes, stopped_at, failed_at, failed_from, done_at, moves, short_at;
-static int spares;
+static int spares, syncs;
 
 static void load_pending(const char *path);
 
@@ -332,6 +333,13 @@ static void redo(struct call *call, enum fate fate)
     }
 }
 
+static void drop_spares(void)
+{
+    for (int i = 0; i < call_count; i++)
+        if (calls[i].spare[0])
+            syscall(SYS_unlink, calls[i].spare);
+}
+
 static void crash(void)
 {
     const char *fate = getenv("FATE");
@@ -346,18 +354,27 @@ static void crash(void)
         undo(&calls[i]);
     for (int i = 0; i < call_count; i++)
         redo(&calls[i], fate_of(&seed));
-    for (int i = 0; i < call_count; i++)
-        if (calls[i].spare[0])
-            syscall(SYS_unlink, calls[i].spare);
+    drop_spares();
     _exit(STOPPED);
+}
+
+static void tell_syncs(const char *path)
+{
+    FILE *to = fopen(path, "w");
+    if (!to || fprintf(to, "%d\n", syncs) < 0 || fclose(to) != 0)
+        give_up("the syncs can't be noted");
 }
 
 __attribute__((destructor)) static void end(void)
 {
+    if (getenv("SYNCS"))
+        tell_syncs(getenv("SYNCS"));
     if (stopped_at == -1)
         crash();
     if (getenv("PENDING"))
         save_pending(getenv("PENDING"));
+    else
+        drop_spares();
 }
 
 // Counts a call. Whether it fails.
@@ -508,6 +525,7 @@ int fsync(int file)
     if (fails())
         return -1;
     int done = (int)syscall(SYS_fsync, file);
+    syncs++;
     keep(file);
     return done;
 }

@@ -220,7 +220,8 @@ put 1 f =y
 commit 1
 END
 
-# Another program's writes may be lost until an opening has had the device keep them; then none of them are.
+# Another program's writes may be lost until a closing has begun, which first has the device keep them and the names; then
+# none of them are.
 row="a copy that wasn't synced"
 cp four old
 cp filled_more session
@@ -241,15 +242,16 @@ for place, page in enumerate(iter(lambda source=open("old", "rb"): source.read(4
 '
 cmp file old && [ -s file-pending ] || fail "nothing is pending"
 save
+begun=$((opening + 2))
 for later in lost noise 1 2; do
-    next=$opening
+    next=$begun
     while next=$((next + 1)); do
         put_back
         met session STOP_AT=$next FATE=$later PENDING="$room/file-pending" || break
         rm -f file-pending
         expect_either "stopped at $next, $later"
     done
-    [ $next -gt $((opening + 9)) ] || fail "the session was stopped at $next, and $opening belong to the opening"
+    [ $next -gt $((begun + 9)) ] || fail "the session was stopped at $next, and $begun come before its first change"
 done
 rm -f file*
 
@@ -258,6 +260,30 @@ rm -f file*
 cp four file
 met empty STOP_AT=0 || true
 [ $status = 0 ] && cmp file four
+
+# Expects a session to ask the device so often to keep something.
+expect_syncs() { # COUNT SCRIPT
+    met "$2" SYNCS="$room/syncs" || true
+    [ "$status:$(cat syncs)" = "0:$1" ] || fail "$2: status $status, $(cat syncs) syncs; expected are $1"
+}
+
+row="how often the device is asked to keep something"
+printf 'begin\nget 1 b\nclaim 1 d\nput 1 =none\nabort 1\nlist\n' > read_only
+expect_syncs 0 empty
+expect_syncs 0 read_only
+cmp file four
+# The file and its folder, the side file, its name; the file, and the name again.
+expect_syncs 6 filled_more
+expect_syncs 6 session
+number=0
+cp four file
+until [ -e file-journal ]; do
+    number=$((number + 1))
+    met filled_more STOP_AT=$number FATE=killed || fail "no side file is made"
+done
+# The side file, the file and its folder; the file, and the name that is gone.
+expect_syncs 5 empty
+cmp file four
 
 row="a link"
 rm -f file*

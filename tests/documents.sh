@@ -8,7 +8,7 @@ most() { # WHAT NUMBER LIMIT
 }
 most "lines of README.md" "$(wc -l <README.md)" 130
 # The bars of tables are no words.
-most "words of docs/" "$(cat docs/*.md | tr -d "|" | wc -w)" 16000
+most "words of docs/" "$(cat docs/*.md | tr -d "|" | wc -w)" 16200
 most "words of docs/PROVING.md" "$(wc -w <docs/PROVING.md)" 4000
 for crate in crates/*/; do
     most "lines of ${crate}README.md" "$(wc -l <"${crate}README.md")" 20

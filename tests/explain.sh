@@ -292,6 +292,11 @@ ln -s missing.rec dangling.rec
 explains dangling.rec 1 "dangling.rec is a link to a file that isn't there"
 explains . 1 ". is a folder, and no page file: it isn't opened"
 explains /dev/null 1 "/dev/null is a device, and no page file: it isn't opened"
+long=$(printf '%0246d' 0).rec
+cp three.rec "$long"
+explains "$long" 1 "its name is too long for that of a side file beside it: no session opens it"
+explains "$long" 1 "the file is whole, and no session opens it"
+rm "$long"
 mkfifo pipe.rec
 explains pipe.rec 1 "pipe.rec is a pipe, and no page file: it isn't opened"
 

@@ -354,7 +354,7 @@ row="a session in a terminal"
 if command -v script > /dev/null; then
     printf 'begin\nput 1 apple =red\nfrob\nlist\n\004' > typed
     script -qec "$program shell" /dev/null < typed | tr -d '\r' > seen
-    for reply in "recfile> ok 1" "recfile> ok none" "bad UnknownCommand" "recfile> - apple =red @1"; do
+    for reply in "recfile> ok 1" "recfile [1]> ok none" "bad UnknownCommand" "recfile [1]> - apple =red @1"; do
         grep -qxF -- "$reply" seen || fail "the terminal shows $(cat seen)"
     done
 else

@@ -1,11 +1,13 @@
 -- What a walk keeps of a file's pages, each put in memory as it is written.
-use Rattle.std.proofs.Common.{◌≡◌, ℕ, zero, suc, ◌<◌, length, Bool, true, false, IsTrue, List, [], ◌∷◌, get_or, set, eqb, refl, ap, sym, ◌∙◌, subst, arith}
-use Rattle.std.proofs.lemmas.Bool.Decides.{nat_tests}
+use Rattle.std.proofs.Common.{◌≡◌, ◌≢◌, ℕ, zero, suc, ◌<◌, length, Bool, true, false, cond, ⊎_elim, IsTrue, List, [], ◌∷◌, get_or, set, eqb, refl, ap, sym, ◌∙◌, subst, arith}
+use Rattle.std.proofs.lemmas.Bool.Decides.{nat_tests, eqb_tells}
 use Rattle.std.proofs.lemmas.List.{get_or-set_other}
 use Rattle.page_store.specs.PageMap.{at}
 use Rattle.page_store.specs.PagesView.{PagesView, is_in_memory}
 use Rattle.btree_node.specs.declared.layout.Layout.{Layout}
 use Rattle.btree_node.specs.declared.node.Node.{Node}
+use Rattle.btree_node.specs.Layout.{first_version, first_layout, second_layout, layout_of}
+use Rattle.btree_node.specs.Spelling.{spelling, spelling_in}
 use Rattle.btree_insert.specs.declared.tree.TreeFault.{TreeFault}
 use Rattle.btree_insert.specs.declared.tree.TreeFault.TheVariants.{Device}
 use Rattle.btree_insert.specs.Growth.{IsOutside}
@@ -87,3 +89,11 @@ reached_of [] q low never = absurd (omega (arith, low))
 reached_of (true ∷ bits) zero low never = refl
 reached_of (false ∷ bits) zero low never = absurd (never refl)
 reached_of (b ∷ bits) (suc q) low never = reached_of bits q (omega (arith, low)) never
+
+-- what isn't of the first version is spelt as it is written
+pub written_second : (version : ℕ) (n : Node) (k : ℕ) → version ≢ first_version → spelling_in (layout_of version) n k ≡ spelling n k
+written_second version n k other =
+    ap (λ (layout : Layout). spelling_in layout n k)
+    (⊎_elim (λ (is : (eqb version 1 ≡ true) × (version ≡ 1)). absurd (other is.1))
+    (λ (not : (eqb version 1 ≡ false) × (version ≢ 1)). ap (λ b. cond b first_layout second_layout) not.0)
+    (eqb_tells version 1))

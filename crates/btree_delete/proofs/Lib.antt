@@ -28,3 +28,4 @@ pub mod RespeltTreeLemmas
 pub mod FreedPageLemmas
 pub mod OneDeletionLemmas
 pub mod LedLemmas
+pub mod SealedTableLemmas

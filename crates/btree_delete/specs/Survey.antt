@@ -1,5 +1,5 @@
 -- What a walk that looks at each page of a tree once goes through.
-use Rattle.std.specs.Prelude.{◌≡◌, ◌≢◌, ℕ, zero, suc, ◌+◌, ◌-◌, ◌<◌, ◌≤◌, ◌↔◌, Bool, true, false, ◌⊎◌, List, [], ◌∷◌, length, drop, replicate, Option, Some, None, slice_index_or, slice_set, IsTrue}
+use Rattle.std.specs.Prelude.{◌≡◌, ◌≢◌, ℕ, zero, suc, ◌+◌, ◌-◌, ◌<◌, ◌≤◌, ◌↔◌, Bool, true, false, ◌⊎◌, List, [], ◌∷◌, length, drop, replicate, Option, Some, None, slice_index_or, slice_set, IsTrue, IsSome}
 use Rattle.rec_types.specs.Table.{counted}
 use Rattle.page_store.specs.PageMap.{PageMap, at}
 use Rattle.page_store.specs.Calls.{counted_times}
@@ -10,7 +10,7 @@ use Rattle.btree_insert.specs.declared.tree.Tree.{Tree}
 use Rattle.btree_insert.specs.Bounds.{AreWithin, Between}
 use Rattle.btree_insert.specs.PageTrees.{IsIn, Apart, Fan, SpellsIn, Spells, TreeIn, RootIn, HoldsIn}
 use Rattle.btree_insert.specs.Spelt.{AreSpeltIn}
-use Rattle.btree_node.specs.Layout.{second_layout, first_version, IsOrder}
+use Rattle.btree_node.specs.Layout.{second_layout, first_version, layout_of, IsOrder}
 use Rattle.btree_node.specs.Reading.{node_at}
 use Rattle.btree_node.specs.Spelling.{spelling, spelling_in, CanStandIn}
 use Rattle.btree_node.specs.declared.layout.Layout.{Layout}
@@ -168,6 +168,14 @@ pub record AreKept (layout : Layout) (k : ℕ) (v : PagesView) (reached : List B
   pub unread : (q : ℕ) → slice_index_or reached q true ≡ false → (at v.pages q ≡ stored_page v q) × (is_in_memory v q ≡ false)
   pub respelt : IsTrue v.steady → (q : ℕ) → slice_index_or reached q false ≡ true → IsRespelt layout k v q
   pub spelt : AreSpeltIn k v
+
+-- a page that was read from the store: its bytes spell its node as it is written, and in a file of the second version they are those that are stored
+pub record WasRead (version k : ℕ) (v : PagesView) (n : ℕ) (page : List ℕ) : Type 0 where
+  pub stands : CanStandIn (layout_of version) (node_in k page) k
+  pub written : page ≡ spelling (node_in k page) k
+  pub in_use : IsSome (at v.pages n)
+  pub read : version ≢ first_version → IsTrue v.steady → at v.pages n ≡ Some page
+  pub unread : is_in_memory v n ≡ false
 
 -- a node that was read: it can stand in a page, has at least so many keys, and all of them within the bounds
 pub record StandsWithin (layout : Layout) (k least : ℕ) (bounds : Bounds) (n : Node) : Type 0 where

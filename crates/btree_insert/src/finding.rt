@@ -12,6 +12,7 @@ ghost use Rattle.btree_insert.specs.Edits.{Looks};
 ghost use Rattle.btree_insert.specs.Steps.{CanSearch};
 
 use crate::bounds::Bounds;
+use crate::reading::lies_at;
 use crate::step::{Spot, Step, step_in_page, take_step};
 use crate::tree::{Tree, TreeFault};
 use page_store::{Pages, Store};
@@ -92,7 +93,7 @@ fn root_of(tree: &Tree) -> Spot
     }
 }
 
-/// The record at the key in the tree below the page at a spot. Pages in memory are searched where they
+/// The record at the key in the tree below the page at a spot. Pages in memory, changed or kept, are searched where they
 /// lie, down to the first one that isn't there.
 fn look_up_below<S: Store>(
     pages: &mut Pages<S>,
@@ -114,7 +115,7 @@ fn look_up_below<S: Store>(
         (λ fault. fault ≡ TreeFault.Device) }
     ensures reading { Looks spot.now.level pages.old result pages.new }
 {
-    let Some(lies) = pages.in_memory(spot.page) else {
+    let Some(lies) = lies_at(pages, order, spot.page) else {
         return read_below(pages, order, spot, key, true);
     };
     match step_in_page(lies, order, spot, key)? {

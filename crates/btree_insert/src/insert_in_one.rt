@@ -1,7 +1,6 @@
-ghost use Rattle.std.specs.Prelude.{◌≡◌, ◌*◌, ◌<◌, ◌∷◌, ◌++◌, [], ℕ, List, length, IsSome, IfSome, OnOk, slice_set, true};
+ghost use Rattle.std.specs.Prelude.{◌≡◌, ◌*◌, ◌<◌, ◌∷◌, ◌++◌, [], ℕ, List, length, IsTrue, IsSome, IfSome, OnOk, slice_set, true};
 ghost use Rattle.std.specs.List.{insert};
 ghost use Rattle.page_store.specs.PageMap.{at};
-ghost use Rattle.page_store.specs.PagesView.{is_in_memory};
 ghost use Rattle.btree_node.specs.Lists.{Element, IsAt, IsPlace};
 ghost use Rattle.btree_node.specs.Spelling.{spelling, CanStand, IsElement, IsSpelt, IsNodePage};
 ghost use Rattle.btree_node.specs.declared.node.Node.{Node};
@@ -13,6 +12,7 @@ ghost use Rattle.btree_insert.specs.Reached.{Leads};
 ghost use Rattle.btree_insert.specs.PagesGrown.{written_over};
 ghost use Rattle.btree_insert.specs.Edits.{OnlyWrites};
 
+use crate::reading::lies_at;
 use crate::step::{Spot, Step, step_in_page};
 use btree_node::{count_in, insert_in, replace_in};
 use page_store::{PageEdit, Pages, Store};
@@ -28,8 +28,8 @@ pub(crate) struct Placed {
 }
 
 /// Finds the page that an insertion into the tree below a spot changes, where it changes one alone and all
-/// pages on the way are in memory; `bytes` are then those of the page with the record at the key. None
-/// where it is not so, or a page does not belong on the way: `bytes` may then be any.
+/// pages on the way are in memory, changed or kept; `bytes` are then those of the page with the record at the
+/// key. None where it is not so, or a page does not belong on the way: `bytes` may then be any.
 pub(crate) fn insert_in_one<S: Store>(
     pages: &Pages<S>,
     order: u16,
@@ -38,19 +38,19 @@ pub(crate) fn insert_in_one<S: Store>(
     bytes: &mut [u8; PAGE_WIDTH],
 ) -> Option<Placed>
     requires { CanInsert order spot.now true pages.now element }
-    ensures grew { (least : ℕ) (es : List Element) (us : List ℕ)
+    ensures grew { IsTrue pages.now.steady → (least : ℕ) (es : List Element) (us : List ℕ)
         → TreeAt order (at pages.now.pages) least spot.now.level spot.now.page es us
         → Between spot.now.bounds es → Apart us
         → IfSome result (λ placed. Grew (tree_below order least spot.now.level spot.now.page)
         (written_over pages.now.pages placed.page bytes.new) es us element.0 element.1
         (in_one placed.old)) }
-    ensures led { IfSome result (λ placed. Leads (Spells order (at pages.now.pages)) element.0
-        spot.now.level spot.now.page spot.now.bounds placed.old) }
+    ensures led { IsTrue pages.now.steady → IfSome result (λ placed. Leads
+        (Spells order (at pages.now.pages)) element.0 spot.now.level spot.now.page spot.now.bounds
+        placed.old) }
     ensures spelt { IsSome result → IsSpelt order bytes.new }
-    ensures lies { IfSome result (λ placed. is_in_memory pages.now placed.page ≡ true) }
 {
     let n = spot.page;
-    let Some(page) = pages.in_memory(n) else {
+    let Some(page) = lies_at(pages, order, n) else {
         return None;
     };
     let Ok(step) = step_in_page(page, order, spot, &element.0) else {

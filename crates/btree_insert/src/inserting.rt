@@ -359,11 +359,12 @@ fn insert_where_it_lies<S: Store>(
 ) -> Option<(Tree, Option<Record>)>
     requires tree { IsSpeltTree tree.now pages.old }
     requires element { IsElement element }
-    ensures inserted { (es : List Element) (us : List ℕ) → Holds (at pages.old.pages) tree.now es us
+    ensures inserted { IsTrue pages.old.steady → (es : List Element) (us : List ℕ)
+        → Holds (at pages.old.pages) tree.now es us
         → IfSome result (λ r. Inserted (taking pages.old.pages (at pages.new.pages) 0)
         tree.now es us element.0 element.1 r) }
-    ensures led { IfSome result (λ r. LeadsFrom (Spells tree.now.order (at pages.old.pages))
-        element.0 tree.now.height tree.now.root r.1) }
+    ensures led { IsTrue pages.old.steady → IfSome result (λ r. LeadsFrom
+        (Spells tree.now.order (at pages.old.pages)) element.0 tree.now.height tree.now.root r.1) }
     ensures grown { IfSome result (λ r. IsSmall r.0 (length pages.new.pages)
         × (r.0.order ≡ tree.now.order)) }
     ensures page_count { IfSome result (λ r. (tree.now.used ≤ r.0.used)
@@ -393,6 +394,9 @@ fn insert_where_it_lies<S: Store>(
     let Some(placed) = insert_in_one(pages, tree.order, &root, element, &mut bytes) else {
         return None;
     };
+    if pages.in_memory(placed.page).is_none() {
+        return None;
+    }
     pages.write_over(placed.page, &bytes);
     match placed.old {
         Some(old) => Some((*tree, Some(old))),

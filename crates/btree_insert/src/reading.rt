@@ -1,4 +1,4 @@
-ghost use Rattle.std.specs.Prelude.{◌≡◌, ◌<◌, ◌⊎◌, Some, None, IsTrue, IfErr, OnOk, IsOk, MatchResult};
+ghost use Rattle.std.specs.Prelude.{◌≡◌, ◌<◌, ◌⊎◌, Some, None, IsTrue, IfSome, IfErr, OnOk, IsOk, MatchResult};
 ghost use Rattle.page_store.specs.PageMap.{at};
 ghost use Rattle.btree_node.specs.Spelling.{spelling, CanStand, IsSpelt};
 ghost use Rattle.btree_node.specs.declared.node.Node.{Node};
@@ -6,6 +6,7 @@ ghost use Rattle.btree_insert.specs.Bounds.{AreWithin};
 ghost use Rattle.btree_insert.specs.PageTrees.{Spells, kind_of_level};
 ghost use Rattle.btree_node.specs.Layout.{IsSmallOrder};
 ghost use Rattle.btree_insert.specs.Edits.{IsInUse, Reads};
+ghost use Rattle.btree_insert.specs.Spelt.{AreSpeltIn};
 
 use crate::bounds::{Bounds, are_within};
 use crate::tree::TreeFault;
@@ -67,8 +68,21 @@ fn fetch_page<S: Store>(
     }
 }
 
-/// Reads page n, which spells a node of the order: no node is made. The condition is an order of at most
-/// 16. Faults: Device, and Damaged(n) where the page is not in use or spells no node; the bytes may then
+/// The bytes of page n where they lie in memory, changed or kept.
+pub(crate) fn lies_at<S: Store>(pages: &Pages<S>, order: u16, n: u32) -> Option<&[u8; PAGE_WIDTH]>
+    requires { AreSpeltIn order pages.now }
+    ensures page { IsTrue pages.now.steady
+        → IfSome result (λ page. at pages.now.pages n ≡ Some page.now) }
+    ensures spelt { IfSome result (λ page. IsSpelt order page.now) }
+{
+    match pages.in_memory(n) {
+        Some(page) => Some(page),
+        None => pages.recall(order, n),
+    }
+}
+
+/// Reads page n, which spells a node of the order: no node is made; one that is kept is copied. The condition is an order of
+/// at most 16. Faults: Device, and Damaged(n) where the page is not in use or spells no node; the bytes may then
 /// be any. No page changes.
 pub(crate) fn read_bytes<S: Store>(
     pages: &mut Pages<S>,
@@ -89,6 +103,10 @@ pub(crate) fn read_bytes<S: Store>(
     ensures in_use { OnOk result (IsInUse pages.old.pages n) }
     ensures reading { Reads 1 pages.old result pages.new }
 {
+    if let Some(kept) = pages.recall(order, n) {
+        *page = *kept;
+        return Ok(());
+    }
     fetch_page(pages, n, page)?;
     if is_node_page(page, order) {
         Ok(())

@@ -22,7 +22,7 @@ use Rattle.command_text.specs.Texts.{is_escaped, is_plain, escaped_byte, escaped
 use Rattle.command_text.proofs.EscapeLaws.{read_back, plain}
 
 -- the bytes of a line: plain ones and spaces
-abbrev in_line : ℕ → Bool
+abbrev pub in_line : ℕ → Bool
 in_line b = nat_le 32 b && nat_le b 126
 
 plain_in_line : (b : ℕ) → is_plain b ≡ true → in_line b ≡ true
@@ -34,7 +34,7 @@ no_lf b is = grind (arith, nat_tests, is)
 no_cr : (b : ℕ) → in_line b ≡ true → (b == 13) ≡ false
 no_cr b is = grind (arith, nat_tests, is)
 
-no_space : (b : ℕ) → is_plain b ≡ true → is_space b ≡ false
+pub no_space : (b : ℕ) → is_plain b ≡ true → is_space b ≡ false
 no_space b is = grind (arith, nat_tests, is)
 
 both : (a b : Bool) → a && b ≡ true → (a ≡ true) × (b ≡ true)
@@ -42,13 +42,13 @@ both true b is = (refl, is)
 both false b is = absurd (cc)
 
 -- what holds of each byte that passes a test
-each : (p : ℕ → Bool) (P : ℕ → Type 0) → ((b : ℕ) → p b ≡ true → P b) → (xs : List ℕ) → list_all p xs ≡ true → All P xs
+pub each : (p : ℕ → Bool) (P : ℕ → Type 0) → ((b : ℕ) → p b ≡ true → P b) → (xs : List ℕ) → list_all p xs ≡ true → All P xs
 each p P holds [] all = All-nil P
 each p P holds (b ∷ bs) all =
     let parts = both (p b) (list_all p bs) all in
     All-cons P b bs (holds b parts.0) (each p P holds bs parts.1)
 
-all_in_line : (xs : List ℕ) → list_all is_plain xs ≡ true → list_all in_line xs ≡ true
+pub all_in_line : (xs : List ℕ) → list_all is_plain xs ≡ true → list_all in_line xs ≡ true
 all_in_line [] all = refl
 all_in_line (b ∷ bs) all =
     let parts = both (is_plain b) (list_all is_plain bs) all in
@@ -88,7 +88,7 @@ word_append : (xs ys : List ℕ) → is_word xs ≡ true → is_word (xs ++ ys) 
 word_append [] ys is = absurd (cc)
 word_append (x ∷ xs) ys is = refl
 
-key_word : (key : List ℕ) → key_of key ≡ Ok key → is_word (escaped key) ≡ true
+pub key_word : (key : List ℕ) → key_of key ≡ Ok key → is_word (escaped key) ≡ true
 unfolding escaped
 key_word [] is = absurd (cc)
 key_word (b ∷ bs) is = word_append (escaped_byte b) (flat_map escaped_byte bs) (some_escaped b)
@@ -118,7 +118,7 @@ put_said : (key value : List ℕ) (k r : List ℕ) → key_at key ≡ Ok k → r
 unfolding command_of value_of
 put_said key value k r key_is value_is = λ i. read_as Some (read_as (λ (a : TxId × List ℕ × List ℕ). command.Put a.0 a.1 a.2) (key_is i >>= λ (x : List ℕ). value_is i >>= λ (y : List ℕ). Ok (tx 1, x, y)))
 
-line-of : (text : List ℕ) → list_all in_line text ≡ true → line_of text ≡ line_of_words (words_of text)
+pub line-of : (text : List ℕ) → list_all in_line text ≡ true → line_of text ≡ line_of_words (words_of text)
 unfolding line_of
 line-of text all = ap (λ (xs : List ℕ). line_of_words (words_of xs)) (unstripped text (each in_line (λ b. (b == 13) ≡ false) no_cr text all))
 
@@ -137,7 +137,7 @@ put_line_says e can =
     ∙ ap line_of_words (put_words (escaped e.0) (escaped e.1) (plain e.0 can.key_bytes) (plain e.1 can.record_bytes) (key_word e.0 can.key))
     ∙ put_said (escaped e.0) (escaped e.1) e.0 e.1 key value
 
-begin_says : line_of (codes "begin") ≡ Ok (Some command.Begin)
+pub begin_says : line_of (codes "begin") ≡ Ok (Some command.Begin)
 unfolding line_of command_of tx_command_of
 begin_says = refl
 
@@ -146,7 +146,7 @@ unfolding line_of command_of tx_command_of value_of
 commit_says = refl
 
 -- a line that says a command, and what follows it
-entries_line : (text rest : List ℕ) (c : Command) → list_all in_line text ≡ true → line_of text ≡ Ok (Some c) → entries_of (line text ++ rest) ≡ Ok c ∷ entries_of rest
+pub entries_line : (text rest : List ℕ) (c : Command) → list_all in_line text ≡ true → line_of text ≡ Ok (Some c) → entries_of (line text ++ rest) ≡ Ok c ∷ entries_of rest
 entries_line text rest c all says =
     ap entries_in (lines_line text rest all)
     ∙ ap (λ (l : Read (Option Command)). keep l (entries_of rest)) says

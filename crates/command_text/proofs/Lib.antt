@@ -1,4 +1,5 @@
 pub mod TextCutLemmas
+pub mod UnitLemmas
 pub mod WordLemmas
 pub mod NumberLemmas
 pub mod EscapeLemmas

@@ -1,7 +1,8 @@
-pub mod Grammar
-pub mod Words
-pub mod Script
-pub mod Refusals
-pub mod Texts
-pub mod Examples
 pub mod Dump
+pub mod Examples
+pub mod Grammar
+pub mod Refusals
+pub mod Script
+pub mod Texts
+pub mod Units
+pub mod Words

@@ -9,8 +9,8 @@ use crate::reply::push_escaped;
 use rec_types::{Key, Memory, Record};
 use std::alloc::{AllocError, Global};
 
-// Appends bytes, escaped, which are bytes.
-fn push_bytes(text: &mut String, bytes: &[u8]) -> Result<(), AllocError>
+/// Appends bytes, escaped, which are bytes.
+pub(crate) fn push_bytes(text: &mut String, bytes: &[u8]) -> Result<(), AllocError>
     ensures text { OnOk result (string_bytes text.new ≡ string_bytes text.old ++ escaped bytes.now) }
     ensures bytes { AreBytes bytes.now }
 {

@@ -1,6 +1,7 @@
 //! What holds of lines and texts. The functions do nothing: their contracts are the laws.
 ghost use Rattle.std.specs.Prelude.{◌≡◌, ◌≢◌, ℕ, ◌<◌, ◌≤◌, true, false, List, [], ◌∷◌, ◌++◌, length, nat_lt, if◌then◌else◌, Some, None, Ok, Err, codes};
 ghost use Rattle.std.specs.List.{All, list_all};
+ghost use Rattle.commit_paper.specs.Text.{IsUnit};
 ghost use Rattle.rec_types.specs.Widths.{key_width};
 ghost use Rattle.percent_encoding.specs.Percent.{percent_decode};
 ghost use Rattle.record_file.specs.declared.fault.Cause.TheVariants as causes;
@@ -12,6 +13,7 @@ ghost use Rattle.command_text.specs.Refusals.{begins_refused, is_refusal};
 ghost use Rattle.command_text.specs.Grammar.{is_word, words_of, key_at, line_of};
 ghost use Rattle.command_text.specs.Script.{bounded_entries_in, bounded_line_of, ended_lines, entries_of, lines_of, longest_line};
 ghost use Rattle.command_text.specs.Texts.{escaped, is_plain, text_of, texts_of};
+ghost use Rattle.command_text.specs.Units.{unit_lines};
 ghost use Rattle.command_text.specs.declared.command.Command.TheVariants as command;
 ghost use Rattle.command_text.specs.declared.command.LineFault.TheVariants as faults;
 ghost use Rattle.command_text.specs.declared.reply.Reply.{Reply};
@@ -110,4 +112,13 @@ pub fn dumps()
     ensures empty { dump_text [] ≡ codes "begin" ++ 10 ∷ codes "commit 1" ++ 10 ∷ [] }
     ensures one { dump_text ((10 ∷ 37 ∷ [], codes "a =") ∷ []) ≡ codes "begin" ++ 10
         ∷ codes "put 1 %0A%25 =a%20=" ++ 10 ∷ codes "commit 1" ++ 10 ∷ [] }
+{}
+
+/// What a commit writes is a unit of lines of which the last alone ends it. A claim writes nothing, and its line would end one.
+pub fn units_by_example()
+    ensures lines { unit_lines 3 ((97 ∷ [], Some (120 ∷ [])) ∷ (98 ∷ [], None) ∷ [])
+        ≡ codes "begin" ∷ codes "put 3 a =x" ∷ codes "del 3 b" ∷ codes "commit 3" ∷ [] }
+    ensures unit { IsUnit (codes "begin" ∷ codes "put 3 a =x" ∷ codes "commit 3" ∷ []) }
+    ensures claim { IsUnit (codes "begin" ∷ codes "claim 3 a" ∷ codes "commit 3" ∷ []) → ⊥ }
+    ensures uncommitted { IsUnit (codes "begin" ∷ codes "put 3 a =x" ∷ []) → ⊥ }
 {}

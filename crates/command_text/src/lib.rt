@@ -8,6 +8,7 @@ pub mod laws;
 mod list;
 mod reading;
 mod reply;
+mod unit;
 mod word;
 
 pub use command::{Command, LineFault};
@@ -15,3 +16,4 @@ pub use dump::write_dump;
 pub use list::{EntryList, KeyList};
 pub use reading::{LONGEST_LINE, read_bounded_line, read_line};
 pub use reply::{Reply, append_reply, write_reply};
+pub use unit::write_unit;

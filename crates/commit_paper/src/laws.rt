@@ -1,10 +1,6 @@
 //! What holds of the text of a log. The functions do nothing: their contracts are the laws.
 ghost use Rattle.std.specs.Prelude.{◌≡◌, ◌⊎◌, ◌≤◌, ◌++◌, ◌∷◌, [], List, ℕ, length, codes};
-ghost use Rattle.std.specs.Prelude.{Vec};
-ghost use Rattle.std.specs.declared.alloc.Global.{Global};
-ghost use Rattle.commit_paper.specs.Papers.{MayLeave};
-ghost use Rattle.commit_paper.specs.declared.paper_call.PaperCall.{PaperCall};
-ghost use Rattle.commit_paper.specs.declared.paper_call.PaperCall.TheVariants.{Write, Sync};
+ghost use Rattle.commit_paper.specs.Steps.{Inks};
 ghost use Rattle.commit_paper.specs.Text.{units_of, unit_text, log_text, zeros, IsUnit, AreUnits, Mixes};
 
 /// Behind whole units stands a unit of which each byte is there or is zero still, and then anything: that unit is read
@@ -26,17 +22,10 @@ pub fn torn_units()
         ≡ (codes "commit 1" ∷ []) ∷ [] → ⊥ }
 {}
 
-/// What a crash may leave of a paper in memory, by example: of a write of two bytes that wasn't synced both, either or
-/// none, and no other byte; once it is synced, both, whatever was possible without that.
-pub fn outcomes_by_example()
-    ensures none { (two : Vec ℕ Global) → two.items ≡ 7 ∷ 8 ∷ []
-        → MayLeave (0 ∷ 0 ∷ 0 ∷ []) (Write 0 two ∷ []) (0 ∷ 0 ∷ 0 ∷ []) }
-    ensures second { (two : Vec ℕ Global) → two.items ≡ 7 ∷ 8 ∷ []
-        → MayLeave (0 ∷ 0 ∷ 0 ∷ []) (Write 0 two ∷ []) (0 ∷ 8 ∷ 0 ∷ []) }
-    ensures both { (two : Vec ℕ Global) → two.items ≡ 7 ∷ 8 ∷ []
-        → MayLeave (0 ∷ 0 ∷ 0 ∷ []) (Write 0 two ∷ []) (7 ∷ 8 ∷ 0 ∷ []) }
-    ensures beside { (two : Vec ℕ Global) → two.items ≡ 7 ∷ 8 ∷ []
-        → MayLeave (0 ∷ 0 ∷ 0 ∷ []) (Write 0 two ∷ []) (0 ∷ 0 ∷ 9 ∷ []) → ⊥ }
-    ensures synced { (first : List ℕ) (seen : Vec ℕ Global) (earlier : List PaperCall) (c : List ℕ)
-        → MayLeave first (Sync seen ∷ earlier) c → c ≡ seen.items }
+/// What a crash may leave of a write of two bytes, by example: both, either or none of them, and no other byte changes.
+pub fn writes_by_example()
+    ensures none { Inks 0 (7 ∷ 8 ∷ []) (0 ∷ 0 ∷ 0 ∷ []) (0 ∷ 0 ∷ 0 ∷ []) }
+    ensures second { Inks 0 (7 ∷ 8 ∷ []) (0 ∷ 0 ∷ 0 ∷ []) (0 ∷ 8 ∷ 0 ∷ []) }
+    ensures both { Inks 0 (7 ∷ 8 ∷ []) (0 ∷ 0 ∷ 0 ∷ []) (7 ∷ 8 ∷ 0 ∷ []) }
+    ensures beside { Inks 0 (7 ∷ 8 ∷ []) (0 ∷ 0 ∷ 0 ∷ []) (0 ∷ 0 ∷ 9 ∷ []) → ⊥ }
 {}

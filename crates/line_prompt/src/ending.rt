@@ -2,7 +2,8 @@ use crate::watch::Watch;
 use std::io;
 use std::io::Write;
 
-/// Tells at the end of a session that was ended what is kept of it: whether it was over a file, which is closed. It says nothing of a session that read nothing.
+/// Tells at the end of a session that was ended what is kept of it: whether it was over a file, which is closed. It says
+/// nothing of a session that read nothing.
 pub fn tell_end<E: Write>(watch: &mut Watch, over_file: bool, err: &mut E) -> io::Result<()> {
     watch.take_up();
     if watch.begins() {

@@ -3,6 +3,7 @@ use Rattle.std.specs.Prelude.{◌≡◌, ◌≢◌, ◌⊎◌, ℕ, ◌≤◌, �
 use Rattle.page_store.specs.Blank.{blank}
 use Rattle.page_store.specs.PageMap.{PageMap}
 use Rattle.page_store.specs.Journal.{Journal, noted, NotesFront, writes_below}
+use Rattle.page_store.specs.declared.store_state.StoreState.{Ghosts}
 use Rattle.page_store.specs.declared.step.Step.{Step}
 use Rattle.page_store.specs.declared.step.Step.TheVariants.{SetPages, Write, Sync}
 use Rattle.page_store.specs.declared.store_fault.StoreFault.TheVariants.{Failed, Memory}
@@ -59,3 +60,7 @@ is_copy (Err (Copy Memory)) = false
 -- what a stop leaves: no page, or a page 0 of zeros, or the copy
 abbrev pub IsNoneOrCopy : List (List ℕ) → List (List ℕ) → Type 0
 IsNoneOrCopy pages stored = (stored ≡ []) ⊎ ((slice_get stored 0 ≡ Some blank) ⊎ (stored ≡ pages))
+
+-- a store that is as long as it was, with its tail, and steady as it was
+abbrev pub KeepsShape : {T : Type 0} → Ghosts T → T → T → Type 0
+KeepsShape t old new = (length (t.pages new) ≡ length (t.pages old)) × (t.tail new ≡ t.tail old) × (t.steady new ≡ t.steady old)

@@ -1,6 +1,6 @@
 ghost use Rattle.std.specs.Prelude.{◌≡◌, ◌<◌, ◌≤◌, ◌∷◌, [], length, false, IsTrue, IfOk, IfErr, OnOk, OnErr, Some, slice_get, slice_set};
 ghost use Rattle.rec_types.specs.Table.{counted};
-ghost use Rattle.page_copy.specs.Copying.{IsCopyFault, MakesCalls, behind_first, copying, first_of, is_copy, is_source, last_calls};
+ghost use Rattle.page_copy.specs.Copying.{IsCopyFault, KeepsShape, MakesCalls, behind_first, copying, first_of, is_copy, is_source, last_calls};
 ghost use Rattle.page_store.specs.Journal.{noted, writes_below};
 ghost use Rattle.page_store.specs.StoreCalls.{StaysStore};
 ghost use Rattle.page_store.specs.WritingBack.{AreStored};
@@ -65,19 +65,17 @@ fn copy_page<S: Store, T: Store>(
     n: u32,
     page: &mut [u8; PAGE_WIDTH],
 ) -> Result<(), CopyFault>
-    requires there { n < length (S.pages source.old) }
-    requires long { length (T.pages copy.old) ≡ length (S.pages source.old) }
+    requires there { (n < length (S.pages source.old))
+        × (length (T.pages copy.old) ≡ length (S.pages source.old)) }
     ensures read { IsTrue (S.steady source.old) → OnOk result (slice_get (S.pages source.old) n ≡ Some page.new) }
     ensures put { IsTrue (T.steady copy.old) → OnOk result (T.pages copy.new ≡ slice_set (T.pages copy.old) n page.new) }
-    ensures long { length (T.pages copy.new) ≡ length (T.pages copy.old) }
-    ensures tail { T.tail copy.new ≡ T.tail copy.old }
     ensures call { OnOk result (T.journal copy.new ≡ noted (T.journal copy.old) (Step.Write n page.new ∷ [])) }
     ensures no_call { OnErr result (T.journal copy.new ≡ T.journal copy.old) }
     ensures fault { IfErr result (IsCopyFault (S.pages source.old) (S.tail source.old)) }
     ensures stays { StaysStore S.StoreState source.old source.new }
     ensures fails { S.failures source.new ≡ counted (S.failures source.old) (is_source result) }
     ensures copy_fails { T.failures copy.new ≡ counted (T.failures copy.old) (is_copy result) }
-    ensures steady { T.steady copy.new ≡ T.steady copy.old }
+    ensures shape { KeepsShape T.StoreState copy.old copy.new }
 {
     let Ok(()) = source.read(n, page) else {
         return Err(CopyFault::Source);
@@ -98,8 +96,6 @@ fn copy_rest<S: Store, T: Store>(
     requires long { length (T.pages copy.old) ≡ length (S.pages source.old) }
     ensures put { IsTrue (S.steady source.old) → IsTrue (T.steady copy.old) → OnOk result
         (AreStored (behind_first (S.pages source.old)) (T.pages copy.new)) }
-    ensures long { length (T.pages copy.new) ≡ length (T.pages copy.old) }
-    ensures tail { T.tail copy.new ≡ T.tail copy.old }
     ensures calls { IsTrue (S.steady source.old) → MakesCalls
         (writes_below (behind_first (S.pages source.old)) (length (S.pages source.old)))
         (T.journal copy.old) result (T.journal copy.new) }
@@ -107,7 +103,7 @@ fn copy_rest<S: Store, T: Store>(
     ensures stays { StaysStore S.StoreState source.old source.new }
     ensures fails { S.failures source.new ≡ counted (S.failures source.old) (is_source result) }
     ensures copy_fails { T.failures copy.new ≡ counted (T.failures copy.old) (is_copy result) }
-    ensures steady { T.steady copy.new ≡ T.steady copy.old }
+    ensures shape { KeepsShape T.StoreState copy.old copy.new }
 {
     for n in 1..count {
         copy_page(source, copy, n, page)?;

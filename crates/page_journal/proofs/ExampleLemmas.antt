@@ -1,6 +1,6 @@
 -- Outcomes of the examples, and why there are no others.
 use Rattle.std.proofs.Common.{◌≡◌, ◌≢◌, ◌⊎◌, ⊎_elim, inl, inr, ℕ, zero, suc, ◌<◌, true, false, List, [], ◌∷◌, ◌++◌, get_or, set, slice_get, Option, Some, None, unwrap_or, All, is_some, refl, sym, ◌∙◌, ap, arith}
-use Rattle.page_journal.specs.Files.{PageFile, Kept, Files, Agree, IsOf, is_kept, restored, recovered}
+use Rattle.page_journal.specs.Files.{PageFile, Kept, Files, no_commits, Agree, IsOf, is_kept, restored}
 use Rattle.page_journal.specs.Sums.{sum_start}
 use Rattle.page_journal.specs.Crash.{StandsFor, IsEither, Gathered}
 use Rattle.page_journal.specs.History.{MayLeave}
@@ -9,7 +9,7 @@ use Rattle.page_journal.specs.declared.disk_call.DiskCall.TheVariants.{Write, Na
 use Rattle.page_store.specs.Journal.{carried}
 use Rattle.page_store.specs.declared.step.Step.TheVariants as steps
 use Rattle.page_journal.specs.Carrying.{WritesKept}
-use Rattle.page_journal.proofs.MemDiskLemmas.{ghosts_of}
+use Rattle.page_journal.proofs.MemDiskLemmas.{mem_ghosts}
 use Rattle.page_journal.proofs.RestoreLemmas.{agree_itself, agree_put}
 use Rattle.page_journal.proofs.SealedLemmas.{named_so, named_stands, kept_stands}
 
@@ -40,13 +40,13 @@ pub steps_not_restored : restored page_1_kept (carried old_file.pages both_steps
 steps_not_restored is = omega (arith, ap (λ (m : PageFile). get_or (get_or m.pages 0 []) 0 0) is)
 
 pub one_lost : MayLeave (alone old_file) both_writes (alone (pages_of_two 1 9))
-one_lost = (alone old_file, (alone old_file, refl, record { page = 1 ∷ []; main = refl; fresh = refl; side = refl }), record { page = 9 ∷ []; main = refl; fresh = refl; side = refl })
+one_lost = (alone old_file, (alone old_file, refl, record { page = 1 ∷ []; main = refl; fresh = refl; side = refl; commits = refl }), record { page = 9 ∷ []; main = refl; fresh = refl; side = refl; commits = refl })
 
 pub one_torn : MayLeave (alone old_file) both_writes (alone (pages_of_two 5 9))
-one_torn = (alone (pages_of_two 5 2), (alone old_file, refl, record { page = 5 ∷ []; main = refl; fresh = refl; side = refl }), record { page = 9 ∷ []; main = refl; fresh = refl; side = refl })
+one_torn = (alone (pages_of_two 5 2), (alone old_file, refl, record { page = 5 ∷ []; main = refl; fresh = refl; side = refl; commits = refl }), record { page = 9 ∷ []; main = refl; fresh = refl; side = refl; commits = refl })
 
 pub names_synced : MayLeave (alone old_file) (SyncNames ∷ both_writes) (alone (pages_of_two 1 9))
-names_synced = (alone (pages_of_two 1 9), one_lost, (refl, refl))
+names_synced = (alone (pages_of_two 1 9), one_lost, (refl, refl, refl))
 
 pub never_durable : ((c : Files) → MayLeave (alone old_file) both_writes c → c.main ≡ pages_of_two 7 9) → ⊥
 never_durable all = omega (arith, ap (λ (m : PageFile). get_or (get_or m.pages 0 []) 0 0) (all (alone (pages_of_two 1 9)) one_lost))
@@ -97,7 +97,7 @@ named c left =
     (left.2.main ∙ was.0, ⊎_elim (λ stays. inl (stays ∙ was.1)) (λ now. inr (now ∙ ap (λ (k : Kept). Some k) was.2)) left.2.side)
 
 pub named_old : (c : Files) → MayLeave (alone old_file) (Name ∷ side_made) c → StandsFor old_file c
-named_old c left = named_stands (ghosts_of (alone old_file)) old_file both_kept refl both_gathered both_own c (named c left)
+named_old c left = named_stands mem_ghosts old_file both_kept refl both_gathered both_own c (named c left)
 
 -- it has the name
 side_there : (c : Files) → MayLeave (alone old_file) side_named c → (c.main ≡ old_file) × (c.side ≡ Some both_kept)
@@ -117,23 +117,23 @@ bad_kept = record { long = 2; rest = None; pages = (0, 5 ∷ []) ∷ [] }
 
 pub never_named_early : ((c : Files) → MayLeave (alone old_file) named_early c → StandsFor old_file c) → ⊥
 never_named_early all =
-    let begun : Files = record { main = old_file; fresh = bad_kept; side = None } in
+    let begun : Files = record { main = old_file; fresh = bad_kept; side = None; commits = no_commits } in
     let left : MayLeave (alone old_file) named_early bad_side =
-    (bad_side, (begun, (alone old_file, (alone old_file, (alone old_file, refl, record { main = refl; side = refl }), record { main = refl; side = refl }), record { main = refl; side = refl }), record { main = refl; side = inr refl }), (refl, refl)) in
+    (bad_side, (begun, (alone old_file, (alone old_file, (alone old_file, refl, record { main = refl; side = refl; commits = refl }), record { main = refl; side = refl; commits = refl }), record { main = refl; side = refl; commits = refl }), record { main = refl; side = inr refl; commits = refl }), (refl, refl, refl)) in
     omega (arith, ap (λ (m : PageFile). get_or (get_or m.pages 0 []) 0 0) (all bad_side left).1)
 
 -- an outcome with the side file made and nothing lost
 abbrev ready : PageFile → Option Kept → Files
-ready main side = record { main = main; fresh = both_kept; side = side }
+ready main side = record { main = main; fresh = both_kept; side = side; commits = no_commits }
 
 ready_left : MayLeave (alone old_file) side_made (ready old_file None)
-ready_left = (ready old_file None, (alone old_file, (alone old_file, (alone old_file, refl, record { main = refl; side = refl }), record { main = refl; side = refl }), record { main = refl; side = refl }), (refl, refl))
+ready_left = (ready old_file None, (alone old_file, (alone old_file, (alone old_file, refl, record { main = refl; side = refl; commits = refl }), record { main = refl; side = refl; commits = refl }), record { main = refl; side = refl; commits = refl }), (refl, refl))
 
 pub never_written_early : ((c : Files) → MayLeave (alone old_file) (both_writes ++ Name ∷ side_made) c → StandsFor old_file c) → ⊥
 never_written_early all =
     let c = ready (pages_of_two 7 2) None in
     let left : MayLeave (alone old_file) (both_writes ++ Name ∷ side_made) c =
-    (c, (ready old_file None, (ready old_file None, ready_left, record { main = refl; side = inl refl }), record { page = 7 ∷ []; main = refl; fresh = refl; side = refl }), record { page = 2 ∷ []; main = refl; fresh = refl; side = refl }) in
+    (c, (ready old_file None, (ready old_file None, ready_left, record { main = refl; side = inl refl; commits = refl }), record { page = 7 ∷ []; main = refl; fresh = refl; side = refl; commits = refl }), record { page = 2 ∷ []; main = refl; fresh = refl; side = refl; commits = refl }) in
     omega (arith, ap (λ (m : PageFile). get_or (get_or m.pages 0 []) 0 0) (all c left).1)
 
 pub never_removed_early : ((c : Files) → MayLeave (alone old_file) (SyncNames ∷ Remove ∷ both_writes ++ side_named) c → IsEither old_file (pages_of_two 7 9) c) → ⊥
@@ -142,7 +142,7 @@ never_removed_early all =
     let part = ready (pages_of_two 7 2) (Some both_kept) in
     let c = ready (pages_of_two 7 2) None in
     let left : MayLeave (alone old_file) (SyncNames ∷ Remove ∷ both_writes ++ side_named) c =
-    (c, (part, (part, (there, (there, (ready old_file None, ready_left, record { main = refl; side = inr refl }), (refl, refl)), record { page = 7 ∷ []; main = refl; fresh = refl; side = refl }), record { page = 2 ∷ []; main = refl; fresh = refl; side = refl }), record { main = refl; side = inr refl }), (refl, refl)) in
+    (c, (part, (part, (there, (there, (ready old_file None, ready_left, record { main = refl; side = inr refl; commits = refl }), (refl, refl, refl)), record { page = 7 ∷ []; main = refl; fresh = refl; side = refl; commits = refl }), record { page = 2 ∷ []; main = refl; fresh = refl; side = refl; commits = refl }), record { main = refl; side = inr refl; commits = refl }), (refl, refl, refl)) in
     ⊎_elim (λ (is : StandsFor old_file c). omega (arith, ap (λ (m : PageFile). get_or (get_or m.pages 0 []) 0 0) is.1))
     (λ (is : StandsFor (pages_of_two 7 9) c). omega (arith, ap (λ (m : PageFile). get_or (get_or m.pages 1 []) 0 0) is.1))
     (all c left)

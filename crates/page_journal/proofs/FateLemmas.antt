@@ -10,9 +10,10 @@ use Rattle.rec_types.specs.declared.memory.Memory.{Memory}
 use Rattle.page_journal.specs.History.{History, done, all_done, MayLeave, LeftSince, left_now}
 use Rattle.page_journal.specs.Fates.{noise, grown, kept_by, fated, NamesAgree, first_calls}
 use Rattle.page_journal.specs.declared.disk_call.DiskCall.{DiskCall}
-use Rattle.page_journal.specs.declared.disk_call.DiskCall.TheVariants.{Write, Grow, Cut, Sync, Start, Keep, SyncFresh, Name, Remove, SyncNames}
+use Rattle.page_journal.specs.declared.disk_call.DiskCall.TheVariants.{Write, Grow, Cut, Sync, Start, Keep, SyncFresh, Name, Remove, SyncNames, Commits}
 use Rattle.page_journal.specs.declared.fate.Fate.{Fate}
 use Rattle.page_journal.specs.declared.fate.Fate.TheVariants.{Done, Lost, Torn}
+use Rattle.page_journal.proofs.CommitFateLemmas.{commits_fated, commits_itself}
 use Rattle.page_journal.proofs.MemDiskLemmas.{torn_none, cut_none}
 
 grows_by : (n : ℕ) (page : List ℕ) (d : Files) → GrowsUpTo n d (grown n page d)
@@ -22,74 +23,80 @@ grows_by n page d = record {
   fits = λ le. omega (arith, length-append d.main.pages (replicate (n - length d.main.pages) page), length-replicate (n - length d.main.pages) page);
   fresh = refl;
   side = refl;
+  commits = refl;
 }
 
 grow_none : (n : ℕ) (d : Files) → GrowsUpTo n d d
-grow_none n d = record { more = []; pages = sym (append-nil d.main.pages); fits = λ le. le; fresh = refl; side = refl }
+grow_none n d = record { more = []; pages = sym (append-nil d.main.pages); fits = λ le. le; fresh = refl; side = refl; commits = refl }
 
 -- the file may be all done, whatever became of the rest
 main_kept : (first : Files) (calls : List DiskCall) (c : Files) → MayLeave first calls c → MayLeave first calls (record c { main = (all_done first calls).main })
 unfolding grows_by
-main_kept first [] c left = λ i. record { main = first.main; fresh = (left i).fresh; side = (left i).side }
-main_kept first (Write n page ∷ earlier) c left = (record left.0 { main = (all_done first earlier).main }, main_kept first earlier left.0 left.1, record { page = page; main = refl; fresh = left.2.fresh; side = left.2.side })
+main_kept first [] c left = λ i. record { main = first.main; fresh = (left i).fresh; side = (left i).side; commits = (left i).commits }
+main_kept first (Write n page ∷ earlier) c left = (record left.0 { main = (all_done first earlier).main }, main_kept first earlier left.0 left.1, record { page = page; main = refl; fresh = left.2.fresh; side = left.2.side; commits = left.2.commits })
 main_kept first (Grow n ∷ earlier) c left =
     let d = record left.0 { main = (all_done first earlier).main } in
     let grows = grows_by n blank d in
-    (d, main_kept first earlier left.0 left.1, record { more = grows.more; pages = refl; fits = grows.fits; fresh = left.2.fresh; side = left.2.side })
-main_kept first (Cut n ∷ earlier) c left = (record left.0 { main = (all_done first earlier).main }, main_kept first earlier left.0 left.1, record { to = n; least = omega arith; pages = refl; fresh = left.2.fresh; side = left.2.side })
+    (d, main_kept first earlier left.0 left.1, record { more = grows.more; pages = refl; fits = grows.fits; fresh = left.2.fresh; side = left.2.side; commits = left.2.commits })
+main_kept first (Cut n ∷ earlier) c left = (record left.0 { main = (all_done first earlier).main }, main_kept first earlier left.0 left.1, record { to = n; least = omega arith; pages = refl; fresh = left.2.fresh; side = left.2.side; commits = left.2.commits })
 main_kept first (Sync ∷ earlier) c left = (record left.0 { main = (all_done first earlier).main }, main_kept first earlier left.0 left.1, (ap (λ (f : Files). record f { main = (all_done first earlier).main }) left.2.0, refl))
-main_kept first (Start long rest ∷ earlier) c left = (record left.0 { main = (all_done first earlier).main }, main_kept first earlier left.0 left.1, record { main = refl; side = left.2.side })
-main_kept first (Keep n page ∷ earlier) c left = (record left.0 { main = (all_done first earlier).main }, main_kept first earlier left.0 left.1, record { main = refl; side = left.2.side })
+main_kept first (Start long rest ∷ earlier) c left = (record left.0 { main = (all_done first earlier).main }, main_kept first earlier left.0 left.1, record { main = refl; side = left.2.side; commits = left.2.commits })
+main_kept first (Keep n page ∷ earlier) c left = (record left.0 { main = (all_done first earlier).main }, main_kept first earlier left.0 left.1, record { main = refl; side = left.2.side; commits = left.2.commits })
 main_kept first (SyncFresh ∷ earlier) c left = (record left.0 { main = (all_done first earlier).main }, main_kept first earlier left.0 left.1, (ap (λ (f : Files). record f { main = (all_done first earlier).main }) left.2.0, left.2.1))
-main_kept first (Name ∷ earlier) c left = (record left.0 { main = (all_done first earlier).main }, main_kept first earlier left.0 left.1, record { main = refl; side = left.2.side })
-main_kept first (Remove ∷ earlier) c left = (record left.0 { main = (all_done first earlier).main }, main_kept first earlier left.0 left.1, record { main = refl; side = left.2.side })
-main_kept first (SyncNames ∷ earlier) c left = (record left.0 { main = (all_done first earlier).main }, main_kept first earlier left.0 left.1, (ap (λ (f : Files). record f { main = (all_done first earlier).main }) left.2.0, left.2.1))
+main_kept first (Name ∷ earlier) c left = (record left.0 { main = (all_done first earlier).main }, main_kept first earlier left.0 left.1, record { main = refl; side = left.2.side; commits = left.2.commits })
+main_kept first (Remove ∷ earlier) c left = (record left.0 { main = (all_done first earlier).main }, main_kept first earlier left.0 left.1, record { main = refl; side = left.2.side; commits = left.2.commits })
+main_kept first (SyncNames ∷ earlier) c left = (record left.0 { main = (all_done first earlier).main }, main_kept first earlier left.0 left.1, (ap (λ (f : Files). record f { main = (all_done first earlier).main }) left.2.0, left.2.1, left.2.2))
+main_kept first (Commits call ∷ earlier) c left = (record left.0 { main = (all_done first earlier).main }, main_kept first earlier left.0 left.1, record { main = refl; fresh = left.2.fresh; side = left.2.side; commits = left.2.commits })
 
 -- and so may the side file that is being made
 fresh_kept : (first : Files) (calls : List DiskCall) (c : Files) → MayLeave first calls c → MayLeave first calls (record c { fresh = (all_done first calls).fresh })
-fresh_kept first [] c left = λ i. record { main = (left i).main; fresh = first.fresh; side = (left i).side }
-fresh_kept first (Write n page ∷ earlier) c left = (record left.0 { fresh = (all_done first earlier).fresh }, fresh_kept first earlier left.0 left.1, record { page = left.2.page; main = left.2.main; fresh = refl; side = left.2.side })
-fresh_kept first (Grow n ∷ earlier) c left = (record left.0 { fresh = (all_done first earlier).fresh }, fresh_kept first earlier left.0 left.1, record { more = left.2.more; pages = left.2.pages; fits = left.2.fits; fresh = refl; side = left.2.side })
-fresh_kept first (Cut n ∷ earlier) c left = (record left.0 { fresh = (all_done first earlier).fresh }, fresh_kept first earlier left.0 left.1, record { to = left.2.to; least = left.2.least; pages = left.2.pages; fresh = refl; side = left.2.side })
+fresh_kept first [] c left = λ i. record { main = (left i).main; fresh = first.fresh; side = (left i).side; commits = (left i).commits }
+fresh_kept first (Write n page ∷ earlier) c left = (record left.0 { fresh = (all_done first earlier).fresh }, fresh_kept first earlier left.0 left.1, record { page = left.2.page; main = left.2.main; fresh = refl; side = left.2.side; commits = left.2.commits })
+fresh_kept first (Grow n ∷ earlier) c left = (record left.0 { fresh = (all_done first earlier).fresh }, fresh_kept first earlier left.0 left.1, record { more = left.2.more; pages = left.2.pages; fits = left.2.fits; fresh = refl; side = left.2.side; commits = left.2.commits })
+fresh_kept first (Cut n ∷ earlier) c left = (record left.0 { fresh = (all_done first earlier).fresh }, fresh_kept first earlier left.0 left.1, record { to = left.2.to; least = left.2.least; pages = left.2.pages; fresh = refl; side = left.2.side; commits = left.2.commits })
 fresh_kept first (Sync ∷ earlier) c left = (record left.0 { fresh = (all_done first earlier).fresh }, fresh_kept first earlier left.0 left.1, (ap (λ (f : Files). record f { fresh = (all_done first earlier).fresh }) left.2.0, left.2.1))
-fresh_kept first (Start long rest ∷ earlier) c left = (left.0, left.1, record { main = left.2.main; side = left.2.side })
-fresh_kept first (Keep n page ∷ earlier) c left = (left.0, left.1, record { main = left.2.main; side = left.2.side })
+fresh_kept first (Start long rest ∷ earlier) c left = (left.0, left.1, record { main = left.2.main; side = left.2.side; commits = left.2.commits })
+fresh_kept first (Keep n page ∷ earlier) c left = (left.0, left.1, record { main = left.2.main; side = left.2.side; commits = left.2.commits })
 fresh_kept first (SyncFresh ∷ earlier) c left = (record left.0 { fresh = (all_done first earlier).fresh }, fresh_kept first earlier left.0 left.1, (ap (λ (f : Files). record f { fresh = (all_done first earlier).fresh }) left.2.0, refl))
-fresh_kept first (Name ∷ earlier) c left = (left.0, left.1, record { main = left.2.main; side = left.2.side })
-fresh_kept first (Remove ∷ earlier) c left = (left.0, left.1, record { main = left.2.main; side = left.2.side })
-fresh_kept first (SyncNames ∷ earlier) c left = (record left.0 { fresh = (all_done first earlier).fresh }, fresh_kept first earlier left.0 left.1, (ap (λ (f : Files). record f { fresh = (all_done first earlier).fresh }) left.2.0, left.2.1))
+fresh_kept first (Name ∷ earlier) c left = (left.0, left.1, record { main = left.2.main; side = left.2.side; commits = left.2.commits })
+fresh_kept first (Remove ∷ earlier) c left = (left.0, left.1, record { main = left.2.main; side = left.2.side; commits = left.2.commits })
+fresh_kept first (SyncNames ∷ earlier) c left = (record left.0 { fresh = (all_done first earlier).fresh }, fresh_kept first earlier left.0 left.1, (ap (λ (f : Files). record f { fresh = (all_done first earlier).fresh }) left.2.0, left.2.1, left.2.2))
+fresh_kept first (Commits call ∷ earlier) c left = (record left.0 { fresh = (all_done first earlier).fresh }, fresh_kept first earlier left.0 left.1, record { main = left.2.main; fresh = refl; side = left.2.side; commits = left.2.commits })
 
 may_fated : (first : Files) (earlier : List DiskCall) (call : DiskCall) (fate : Fate) (d : Files) → MayLeave first earlier d → NamesAgree call (all_done first (call ∷ earlier)) d → MayLeave first (call ∷ earlier) (fated call fate (all_done first (call ∷ earlier)) d)
-may_fated first earlier (Write n page) Done d left agree = (d, left, record { page = page; main = refl; fresh = refl; side = refl })
+may_fated first earlier (Write n page) Done d left agree = (d, left, record { page = page; main = refl; fresh = refl; side = refl; commits = refl })
 may_fated first earlier (Write n page) Lost d left agree = (d, left, torn_none n d)
-may_fated first earlier (Write n page) Torn d left agree = (d, left, record { page = noise; main = refl; fresh = refl; side = refl })
+may_fated first earlier (Write n page) Torn d left agree = (d, left, record { page = noise; main = refl; fresh = refl; side = refl; commits = refl })
 may_fated first earlier (Grow n) Done d left agree = (d, left, grows_by n blank d)
 may_fated first earlier (Grow n) Lost d left agree = (d, left, grow_none n d)
 may_fated first earlier (Grow n) Torn d left agree = (d, left, grows_by n noise d)
-may_fated first earlier (Cut n) Done d left agree = (d, left, record { to = n; least = omega arith; pages = refl; fresh = refl; side = refl })
+may_fated first earlier (Cut n) Done d left agree = (d, left, record { to = n; least = omega arith; pages = refl; fresh = refl; side = refl; commits = refl })
 may_fated first earlier (Cut n) Lost d left agree = (d, left, cut_none n d)
 may_fated first earlier (Cut n) Torn d left agree = (d, left, cut_none n d)
 may_fated first earlier Sync Done d left agree = (record d { main = (all_done first earlier).main }, main_kept first earlier d left, (refl, refl))
 may_fated first earlier Sync Lost d left agree = (record d { main = (all_done first earlier).main }, main_kept first earlier d left, (refl, refl))
 may_fated first earlier Sync Torn d left agree = (record d { main = (all_done first earlier).main }, main_kept first earlier d left, (refl, refl))
-may_fated first earlier (Start long rest) Done d left agree = (d, left, record { main = refl; side = refl })
-may_fated first earlier (Start long rest) Lost d left agree = (d, left, record { main = refl; side = refl })
-may_fated first earlier (Start long rest) Torn d left agree = (d, left, record { main = refl; side = refl })
-may_fated first earlier (Keep n page) Done d left agree = (d, left, record { main = refl; side = refl })
-may_fated first earlier (Keep n page) Lost d left agree = (d, left, record { main = refl; side = refl })
-may_fated first earlier (Keep n page) Torn d left agree = (d, left, record { main = refl; side = refl })
+may_fated first earlier (Start long rest) Done d left agree = (d, left, record { main = refl; side = refl; commits = refl })
+may_fated first earlier (Start long rest) Lost d left agree = (d, left, record { main = refl; side = refl; commits = refl })
+may_fated first earlier (Start long rest) Torn d left agree = (d, left, record { main = refl; side = refl; commits = refl })
+may_fated first earlier (Keep n page) Done d left agree = (d, left, record { main = refl; side = refl; commits = refl })
+may_fated first earlier (Keep n page) Lost d left agree = (d, left, record { main = refl; side = refl; commits = refl })
+may_fated first earlier (Keep n page) Torn d left agree = (d, left, record { main = refl; side = refl; commits = refl })
 may_fated first earlier SyncFresh Done d left agree = (record d { fresh = (all_done first earlier).fresh }, fresh_kept first earlier d left, (refl, refl))
 may_fated first earlier SyncFresh Lost d left agree = (record d { fresh = (all_done first earlier).fresh }, fresh_kept first earlier d left, (refl, refl))
 may_fated first earlier SyncFresh Torn d left agree = (record d { fresh = (all_done first earlier).fresh }, fresh_kept first earlier d left, (refl, refl))
-may_fated first earlier Name Done d left agree = (d, left, record { main = refl; side = inr refl })
-may_fated first earlier Name Lost d left agree = (d, left, record { main = refl; side = inl refl })
-may_fated first earlier Name Torn d left agree = (d, left, record { main = refl; side = inl refl })
-may_fated first earlier Remove Done d left agree = (d, left, record { main = refl; side = inr refl })
-may_fated first earlier Remove Lost d left agree = (d, left, record { main = refl; side = inl refl })
-may_fated first earlier Remove Torn d left agree = (d, left, record { main = refl; side = inl refl })
-may_fated first earlier SyncNames Done d left agree = (d, left, (refl, agree))
-may_fated first earlier SyncNames Lost d left agree = (d, left, (refl, agree))
-may_fated first earlier SyncNames Torn d left agree = (d, left, (refl, agree))
+may_fated first earlier Name Done d left agree = (d, left, record { main = refl; side = inr refl; commits = refl })
+may_fated first earlier Name Lost d left agree = (d, left, record { main = refl; side = inl refl; commits = refl })
+may_fated first earlier Name Torn d left agree = (d, left, record { main = refl; side = inl refl; commits = refl })
+may_fated first earlier Remove Done d left agree = (d, left, record { main = refl; side = inr refl; commits = refl })
+may_fated first earlier Remove Lost d left agree = (d, left, record { main = refl; side = inl refl; commits = refl })
+may_fated first earlier Remove Torn d left agree = (d, left, record { main = refl; side = inl refl; commits = refl })
+may_fated first earlier SyncNames Done d left agree = (d, left, (refl, agree.0, agree.1))
+may_fated first earlier SyncNames Lost d left agree = (d, left, (refl, agree.0, agree.1))
+may_fated first earlier SyncNames Torn d left agree = (d, left, (refl, agree.0, agree.1))
+may_fated first earlier (Commits call) Done d left agree = (d, left, record { main = refl; fresh = refl; side = refl; commits = (commits_fated call (all_done first earlier).commits d.commits agree).0 })
+may_fated first earlier (Commits call) Lost d left agree = (d, left, record { main = refl; fresh = refl; side = refl; commits = (commits_fated call (all_done first earlier).commits d.commits agree).1 })
+may_fated first earlier (Commits call) Torn d left agree = (d, left, record { main = refl; fresh = refl; side = refl; commits = (commits_fated call (all_done first earlier).commits d.commits agree).2 })
 
 -- calls taken from the oldest on are calls left out from the newest on
 pub first_of : (calls items : List DiskCall) (k : ℕ) → reverse items ≡ calls → k ≤ length items → reverse (take k items) ≡ first_calls k calls
@@ -115,6 +122,7 @@ kept_itself SyncFresh f = refl
 kept_itself Name f = refl
 kept_itself Remove f = refl
 kept_itself SyncNames f = refl
+kept_itself (Commits call) f = refl
 
 pub all_fated : (call : DiskCall) (fate : Fate) (left seen next new : Files) → fate ≡ Done → left ≡ seen → next ≡ done call seen → new ≡ fated call fate next left → new ≡ next
 all_fated call fate left seen next new is same does gives =
@@ -142,7 +150,8 @@ names_itself (Keep n page) f = tt
 names_itself SyncFresh f = tt
 names_itself Name f = tt
 names_itself Remove f = tt
-names_itself SyncNames f = refl
+names_itself SyncNames f = (refl, refl)
+names_itself (Commits call) f = commits_itself call f.commits
 
 -- what is seen is left where nothing is lost
 pub seen_left : (first : Files) (calls : List DiskCall) → MayLeave first calls (all_done first calls)

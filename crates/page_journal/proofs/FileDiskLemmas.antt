@@ -1,5 +1,5 @@
 -- With these values the clauses of a disk hold over any files. This module is private to the proofs of this crate.
-use Rattle.std.proofs.Common.{◌≡◌, ℕ, true, false, cond, ◌&&◌, Bool, nat_lt, ◌+◌, ◌-◌, ◌≤◌, ◌++◌, IsTrue, List, [], length, None, Result, Ok, Err, OnOk, refl, sym, ap, subst, ◌∙◌, inl, le_trans, arith}
+use Rattle.std.proofs.Common.{◌≡◌, ℕ, true, false, cond, ◌&&◌, Bool, nat_lt, ◌+◌, ◌-◌, ◌≤◌, ◌++◌, IsTrue, List, [], length, Option, None, Result, Ok, Err, OnOk, refl, sym, ap, subst, ◌∙◌, inl, le_trans, arith}
 use Rattle.std.proofs.lemmas.Bool.{false≢true}
 use Rattle.std.proofs.lemmas.List.{length-replicate, take-replicate, take_all, replicate-append-replicate, append-nil}
 use Rattle.rec_types.specs.Table.{counted, greatest_count}
@@ -7,14 +7,14 @@ use Rattle.page_store.specs.Blank.{blank, blanks}
 use Rattle.page_store.specs.FileValues.{gives_back}
 use Rattle.page_store.specs.declared.store_fault.StoreFault.{StoreFault}
 use Rattle.page_journal.specs.Files.{Files}
-use Rattle.page_journal.specs.Steps.{Does, Nothing, GrowsUpTo, CutsTo, Fresh, Names, Removes}
+use Rattle.page_journal.specs.Steps.{Does, Nothing, GrowsUpTo, CutsTo, Fresh, Names, Removes, FreshLog, NamesLog, RemovesLog, OnLog, ChangesLog, InCommits}
 use Rattle.page_journal.specs.FileDisks.{OpenedDisk, SetsLength, files_seen, files_at_opening, may_be_left, left_since_in_files}
 use Rattle.page_journal.specs.declared.disk_state.DiskState.{Ghosts}
 
 -- what contracts know of a disk in files
 abbrev pub file_ghosts : Ghosts OpenedDisk
 file_ghosts = record {
-  began = files_at_opening;
+  began = λ d. files_at_opening;
   steady = λ d. gives_back;
   seen = λ d. files_seen d.calls d.pages d.tail;
   may_leave = λ d c. may_be_left d.calls c;
@@ -52,6 +52,10 @@ pub no_side_seen : (calls pages tail : ℕ) → (files_seen calls pages tail).si
 unfolding files_seen
 no_side_seen calls pages tail = refl
 
+pub no_log_seen : (calls pages tail : ℕ) → (files_seen calls pages tail).commits.log ≡ None
+unfolding files_seen
+no_log_seen calls pages tail = refl
+
 same_seen : (before after pages tail : ℕ) → files_seen after pages tail ≡ files_seen before pages tail
 unfolding files_seen
 same_seen before after pages tail = refl
@@ -61,6 +65,7 @@ pub does_step : (step : Files → Files → Type 0) (old new : OpenedDisk) → s
 does_step step old new seen later = record {
   seen = seen;
   steady = refl;
+  began = refl;
   crash = λ c left. not_left new.calls c left;
   later = later;
   nothing_else = λ t c le left. not_left_since new.calls t c left;
@@ -82,14 +87,43 @@ does_none step inside old none is calls failures counts =
     (subst (λ f. step (files_seen inside.calls inside.pages inside.tail) f) (same_seen calls inside.calls inside.pages inside.tail) (none _))
     (subst (λ k. inside.calls ≤ k) (sym counts) (more_calls inside.calls)))
 
+-- the same of the logs of commits, of which none is seen
+pub does_none_seen : (step : Files → Files → Type 0) (inside old : OpenedDisk) → ((d : Files) → d.commits.log ≡ None → step d d) → inside ≡ old → (calls failures : ℕ) → calls ≡ counted inside.calls true → Does file_ghosts step old (record inside { calls = calls; failures = failures })
+does_none_seen step inside old none is calls failures counts =
+    subst (λ (o : OpenedDisk). Does file_ghosts step o (record inside { calls = calls; failures = failures })) is
+    (does_step step inside (record inside { calls = calls; failures = failures })
+    (subst (λ f. step (files_seen inside.calls inside.pages inside.tail) f) (same_seen calls inside.calls inside.pages inside.tail) (none _ (no_log_seen inside.calls inside.pages inside.tail)))
+    (subst (λ k. inside.calls ≤ k) (sym counts) (more_calls inside.calls)))
+
+pub fresh_log_none : (d : Files) → InCommits FreshLog d d
+fresh_log_none d = record { main = refl; fresh = refl; side = refl; commits = refl }
+
+pub names_log_none : (d : Files) → d.commits.log ≡ None → InCommits NamesLog d d
+names_log_none d none = record { main = refl; fresh = refl; side = refl; commits = inl refl }
+
+pub removes_log_none : (d : Files) → d.commits.log ≡ None → InCommits RemovesLog d d
+removes_log_none d none = record { main = refl; fresh = refl; side = refl; commits = inl refl }
+
+pub changes_none : (step : List ℕ → List ℕ → Type 0) (d : Files) → d.commits.log ≡ None → InCommits (ChangesLog step) d d
+changes_none step d none = record { main = refl; fresh = refl; side = refl; commits = (refl, subst (λ (o : Option (List ℕ)). OnLog step o o) (sym none) refl) }
+
+-- a call before which the device was asked to keep what was there, where that failed, and where it was then made
+pub does_begun : (step : Files → Files → Type 0) (old begun : OpenedDisk) → ((d : Files) → step d d) → (failures : ℕ) → begun ≡ record old { calls = counted old.calls true; failures = failures } → Does file_ghosts step old begun
+does_begun step old begun none failures is =
+    subst (λ (o : OpenedDisk). Does file_ghosts step old o) (sym is) (does_none step old old none refl (counted old.calls true) failures refl)
+
+pub does_then : (step : Files → Files → Type 0) (old begun inside : OpenedDisk) → ((d : Files) → step d d) → (failures : ℕ) → begun ≡ record old { calls = counted old.calls true; failures = failures } → inside ≡ begun → (failures' : ℕ) → Does file_ghosts step old (record inside { failures = failures' })
+does_then step old begun inside none failures is opened failures' =
+    subst (λ (o : OpenedDisk). Does file_ghosts step old (record o { failures = failures' })) (sym (opened ∙ is)) (does_none step old old none refl (counted old.calls true) failures' refl)
+
 pub fresh_none : (d : Files) → Fresh d d
-fresh_none d = record { main = refl; side = refl }
+fresh_none d = record { main = refl; side = refl; commits = refl }
 
 pub names_none : (d : Files) → Names d d
-names_none d = record { main = refl; side = inl refl }
+names_none d = record { main = refl; side = inl refl; commits = refl }
 
 pub removes_none : (d : Files) → Removes d d
-removes_none d = record { main = refl; side = inl refl }
+removes_none d = record { main = refl; side = inl refl; commits = refl }
 
 blanks_more : (few many : ℕ) → few ≤ many → blanks many ≡ blanks few ++ blanks (many - length (blanks few))
 blanks_more few many le =
@@ -118,6 +152,7 @@ grows n calls pages tail calls' le = record {
   fits = λ below. omega (arith, length-replicate n blank);
   fresh = refl;
   side = refl;
+  commits = refl;
 }
 
 -- whatever becomes of the tail
@@ -129,6 +164,7 @@ grows_none n calls pages tail calls' tail' = record {
   fits = λ below. below;
   fresh = refl;
   side = refl;
+  commits = refl;
 }
 
 cuts : (n calls pages tail calls' : ℕ) → n ≤ pages → CutsTo n (files_seen calls pages tail) (files_seen calls' n 0)
@@ -139,6 +175,7 @@ cuts n calls pages tail calls' le = record {
   pages = sym (take-replicate n pages blank le);
   fresh = refl;
   side = refl;
+  commits = refl;
 }
 
 cuts_none : (n calls pages tail calls' tail' : ℕ) → CutsTo n (files_seen calls pages tail) (files_seen calls' pages tail')
@@ -149,6 +186,7 @@ cuts_none n calls pages tail calls' tail' = record {
   pages = sym (take_all (n + length (blanks pages)) (blanks pages) (omega arith));
   fresh = refl;
   side = refl;
+  commits = refl;
 }
 
 -- a file whose length stays

@@ -1,19 +1,20 @@
 -- What a call of a disk in memory does, where it is kept and where it fails.
-use Rattle.std.proofs.Common.{◌≡◌, ⊎_elim, inl, inr, ℕ, ◌+◌, true, List, [], length, Result, Ok, Err, OnOk, OnErr, refl, sym, subst, arith}
+use Rattle.std.proofs.Common.{◌≡◌, ⊎_elim, inl, inr, ℕ, ◌+◌, true, List, [], ◌∷◌, length, Result, Ok, Err, OnOk, OnErr, refl, sym, subst, arith}
 use Rattle.std.proofs.lemmas.List.{set-get_or, take_all}
 use Rattle.std.specs.Prelude.{slice_index_or}
 use Rattle.page_store.specs.declared.store_fault.StoreFault.{StoreFault}
-use Rattle.page_journal.specs.Files.{Files}
-use Rattle.page_journal.specs.Steps.{Does, TornAt, CutsTo}
-use Rattle.page_journal.specs.History.{History, done, leads, all_done, MayLeave, LeftSince, with_call, failed_more}
+use Rattle.page_journal.specs.Files.{CommitFiles, Files}
+use Rattle.page_journal.specs.Steps.{Does, Nothing, InCommits, TornAt, CutsTo}
+use Rattle.page_journal.specs.History.{History, commits_done, commits_lead, done, leads, all_done, MayLeave, LeftSince, with_call, failed_more}
 use Rattle.page_journal.specs.declared.disk_state.DiskState.{Ghosts}
 use Rattle.page_journal.specs.declared.disk_call.DiskCall.{DiskCall}
-use Rattle.page_journal.specs.declared.disk_call.DiskCall.TheVariants.{Write, Cut}
+use Rattle.page_journal.specs.declared.disk_call.DiskCall.TheVariants.{Write, Cut, Commits}
+use Rattle.page_journal.specs.declared.commit_call.CommitCall.{CommitCall}
 
 -- what contracts know of a disk in memory
-abbrev pub ghosts_of : Files → Ghosts History
-ghosts_of began = record {
-  began = began;
+abbrev pub mem_ghosts : Ghosts History
+mem_ghosts = record {
+  began = λ h. h.first;
   steady = λ h. true;
   seen = λ h. all_done h.first h.calls;
   may_leave = λ h c. MayLeave h.first h.calls c;
@@ -22,20 +23,22 @@ ghosts_of began = record {
   failures = λ h. h.failures;
 }
 
-does_call : (began : Files) (step : Files → Files → Type 0) (call : DiskCall) (old : History) → step (all_done old.first old.calls) (done call (all_done old.first old.calls)) → ((d c : Files) → leads call (all_done old.first old.calls) d c → step d c) → Does (ghosts_of began) step old (with_call old call)
-does_call began step call old seen crash = record {
+does_call : (step : Files → Files → Type 0) (call : DiskCall) (old : History) → step (all_done old.first old.calls) (done call (all_done old.first old.calls)) → ((d c : Files) → leads call (all_done old.first old.calls) d c → step d c) → Does mem_ghosts step old (with_call old call)
+does_call step call old seen crash = record {
   seen = seen;
   steady = refl;
+  began = refl;
   crash = λ c left. (left.0, left.1, crash left.0 c left.2);
   later = omega arith;
   nothing_else = λ t c le left. ⊎_elim (λ now. inr now) (λ was. inl was.1) left;
   keeps = λ t c le left. inr (le, left);
 }
 
-does_fail : (began : Files) (step : Files → Files → Type 0) (old : History) → ((d : Files) → step d d) → Does (ghosts_of began) step old (failed_more old)
-does_fail began step old none = record {
+does_fail : (step : Files → Files → Type 0) (old : History) → ((d : Files) → step d d) → Does mem_ghosts step old (failed_more old)
+does_fail step old none = record {
   seen = none (all_done old.first old.calls);
   steady = refl;
+  began = refl;
   crash = λ c left. (c, left, none c);
   later = omega arith;
   nothing_else = λ t c le left. inl left;
@@ -43,9 +46,9 @@ does_fail began step old none = record {
 }
 
 -- a call that is kept, or that failed
-does_either : (began : Files) (step : Files → Files → Type 0) (call : DiskCall) (result : Result (Unit {0}) StoreFault) (old new : History) → OnOk result (new ≡ with_call old call) → OnErr result (new ≡ failed_more old) → Does (ghosts_of began) step old (with_call old call) → Does (ghosts_of began) step old (failed_more old) → Does (ghosts_of began) step old new
-does_either began step call (Ok _) old new ok err kept failed = subst (λ h. Does (ghosts_of began) step old h) (sym ok) kept
-does_either began step call (Err _) old new ok err kept failed = subst (λ h. Does (ghosts_of began) step old h) (sym err) failed
+does_either : (step : Files → Files → Type 0) (call : DiskCall) (result : Result (Unit {0}) StoreFault) (old new : History) → OnOk result (new ≡ with_call old call) → OnErr result (new ≡ failed_more old) → Does mem_ghosts step old (with_call old call) → Does mem_ghosts step old (failed_more old) → Does mem_ghosts step old new
+does_either step call (Ok _) old new ok err kept failed = subst (λ h. Does mem_ghosts step old h) (sym ok) kept
+does_either step call (Err _) old new ok err kept failed = subst (λ h. Does mem_ghosts step old h) (sym err) failed
 
 -- a page that has the bytes that it had
 pub torn_none : (n : ℕ) (d : Files) → TornAt n d d
@@ -54,6 +57,7 @@ torn_none n d = record {
   main = λ i. record { pages = sym (set-get_or d.main.pages n []) i; tail = d.main.tail };
   fresh = refl;
   side = refl;
+  commits = refl;
 }
 
 pub cut_none : (n : ℕ) (d : Files) → CutsTo n d d
@@ -63,10 +67,37 @@ cut_none n d = record {
   pages = sym (take_all (n + length d.main.pages) d.main.pages (omega arith));
   fresh = refl;
   side = refl;
+  commits = refl;
 }
 
-pub writes : (began : Files) (n : ℕ) (page : List ℕ) (result : Result (Unit {0}) StoreFault) (old new : History) → OnOk result (new ≡ with_call old (Write n page)) → OnErr result (new ≡ failed_more old) → Does (ghosts_of began) (TornAt n) old new
-writes began n page result old new ok err = does_either began (TornAt n) (Write n page) result old new ok err (does_call began (TornAt n) (Write n page) old (record { page = page; main = refl; fresh = refl; side = refl }) (λ d c torn. torn)) (does_fail began (TornAt n) old (torn_none n))
+pub writes : (n : ℕ) (page : List ℕ) (result : Result (Unit {0}) StoreFault) (old new : History) → OnOk result (new ≡ with_call old (Write n page)) → OnErr result (new ≡ failed_more old) → Does mem_ghosts (TornAt n) old new
+writes n page result old new ok err = does_either (TornAt n) (Write n page) result old new ok err (does_call (TornAt n) (Write n page) old (record { page = page; main = refl; fresh = refl; side = refl; commits = refl }) (λ d c torn. torn)) (does_fail (TornAt n) old (torn_none n))
 
-pub cuts : (began : Files) (n : ℕ) (result : Result (Unit {0}) StoreFault) (old new : History) → OnOk result (new ≡ with_call old (Cut n)) → OnErr result (new ≡ failed_more old) → Does (ghosts_of began) (CutsTo n) old new
-cuts began n result old new ok err = does_either began (CutsTo n) (Cut n) result old new ok err (does_call began (CutsTo n) (Cut n) old (record { to = n; least = omega arith; pages = refl; fresh = refl; side = refl }) (λ d c cut. cut)) (does_fail began (CutsTo n) old (cut_none n))
+pub cuts : (n : ℕ) (result : Result (Unit {0}) StoreFault) (old new : History) → OnOk result (new ≡ with_call old (Cut n)) → OnErr result (new ≡ failed_more old) → Does mem_ghosts (CutsTo n) old new
+cuts n result old new ok err = does_either (CutsTo n) (Cut n) result old new ok err (does_call (CutsTo n) (Cut n) old (record { to = n; least = omega arith; pages = refl; fresh = refl; side = refl; commits = refl }) (λ d c cut. cut)) (does_fail (CutsTo n) old (cut_none n))
+
+-- a call on the logs of commits
+pub commits_do : (step : CommitFiles → CommitFiles → Type 0) (call : CommitCall) (result : Result (Unit {0}) StoreFault) (old new : History) → OnOk result (new ≡ with_call old (Commits call)) → OnErr result (new ≡ failed_more old) → ((f : CommitFiles) → step f (commits_done call f)) → ((seen d c : CommitFiles) → commits_lead call seen d c → step d c) → ((d : CommitFiles) → step d d) → Does mem_ghosts (InCommits step) old new
+commits_do step call result old new ok err does means none =
+    does_either (InCommits step) (Commits call) result old new ok err
+    (does_call (InCommits step) (Commits call) old (record { main = refl; fresh = refl; side = refl; commits = does (all_done old.first old.calls).commits }) (λ d c lead. record { main = lead.main; fresh = lead.fresh; side = lead.side; commits = means (all_done old.first old.calls).commits d.commits c.commits lead.commits }))
+    (does_fail (InCommits step) old (λ d. record { main = refl; fresh = refl; side = refl; commits = none d.commits }))
+
+pub commits_fail : (step : CommitFiles → CommitFiles → Type 0) (old new : History) → new ≡ failed_more old → ((d : CommitFiles) → step d d) → Does mem_ghosts (InCommits step) old new
+commits_fail step old new is none = subst (λ h. Does mem_ghosts (InCommits step) old h) (sym is) (does_fail (InCommits step) old (λ d. record { main = refl; fresh = refl; side = refl; commits = none d.commits }))
+
+-- a sync of a log
+pub commits_sync : (call : CommitCall) (result : Result (Unit {0}) StoreFault) (old new : History) → OnOk result (new ≡ with_call old (Commits call)) → OnErr result (new ≡ failed_more old) → ((f : CommitFiles) → commits_done call f ≡ f) → ((seen d c : CommitFiles) → commits_lead call seen d c → c ≡ d) → Does mem_ghosts Nothing old new
+commits_sync call result old new ok err does means =
+    does_either Nothing (Commits call) result old new ok err
+    (does_call Nothing (Commits call) old
+    (λ i. record { main = (all_done old.first old.calls).main; fresh = (all_done old.first old.calls).fresh; side = (all_done old.first old.calls).side; commits = does (all_done old.first old.calls).commits i })
+    (λ d c lead i. record { main = lead.main i; fresh = lead.fresh i; side = lead.side i; commits = means (all_done old.first old.calls).commits d.commits c.commits lead.commits i }))
+    (does_fail Nothing old (λ d. refl))
+
+-- and what the device keeps then
+pub commits_kept : (call : CommitCall) (P : CommitFiles → Type 0) (result : Result (Unit {0}) StoreFault) (old new : History) → OnOk result (new ≡ with_call old (Commits call)) → ((d c : CommitFiles) → commits_lead call (all_done old.first old.calls).commits d c → P c) → OnOk result ((c : Files) → MayLeave new.first new.calls c → P c.commits)
+commits_kept call P (Ok _) old new ok so = λ c left.
+    let was : MayLeave old.first (Commits call ∷ old.calls) c = subst (λ (h : History). MayLeave h.first h.calls c) ok left in
+    so was.0.commits c.commits was.2.commits
+commits_kept call P (Err _) old new ok so = tt

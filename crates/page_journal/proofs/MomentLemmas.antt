@@ -36,12 +36,13 @@ module _ {D : Type 0} (g : Ghosts D) where
 
   -- no call at all, and calls that change nothing one after another
   pub stays_itself : (old : D) → Stays g old old
-  stays_itself old = record { seen = refl; steady = refl; crash = λ c left. (c, left, refl); later = omega arith; nothing_else = λ t c le left. inl left; keeps = λ t c le left. left }
+  stays_itself old = record { seen = refl; steady = refl; began = refl; crash = λ c left. (c, left, refl); later = omega arith; nothing_else = λ t c le left. inl left; keeps = λ t c le left. left }
 
   pub stays_then : ((disk : D) (t : ℕ) (c : Files) → t ≤ g.moment disk → g.may_leave disk c → g.left_since disk t c) → (old mid new : D) → Stays g old mid → Stays g mid new → Stays g old new
   stays_then counts old mid new first second = record {
     seen = second.seen ∙ first.seen;
     steady = second.steady ∙ first.steady;
+    began = second.began ∙ first.began;
     crash = λ c left.
         let from = second.crash c left in
         let before = first.crash from.0 from.1 in

@@ -1,15 +1,15 @@
 -- Old pages put back one after another, and gathered one after another.
-use Rattle.std.proofs.Common.{◌≡◌, ◌≢◌, inl, inr, ⊎_elim, ℕ, zero, suc, ◌+◌, ◌<◌, ◌≤◌, Bool, true, false, ◌||◌, eqb, List, [], ◌∷◌, ◌++◌, length, take, Option, Some, None, slice_get, set, get_or, unwrap_or, refl, sym, ◌∙◌, ap, subst, arith, length-set}
+use Rattle.std.proofs.Common.{◌≡◌, ◌≢◌, inl, ⊎_elim, ℕ, zero, suc, ◌+◌, ◌<◌, ◌≤◌, Bool, true, false, ◌||◌, eqb, List, [], ◌∷◌, ◌++◌, length, take, Option, Some, None, slice_get, set, get_or, unwrap_or, refl, sym, ◌∙◌, ap, subst, arith, length-set}
 use Rattle.std.proofs.Math.Numerals.{add-one}
 use Rattle.std.proofs.lemmas.Bool.{cases_eq, eq-eqb, ne_eqb}
 use Rattle.std.proofs.lemmas.List.Elements.{All-push}
 use Rattle.page_journal.specs.Files.{PageFile, Kept, Files, AscendBelow, SaysRest, IsOf, is_kept, put_back, restored}
-use Rattle.page_journal.specs.Sums.{SumsOn, sum_on, sum_without}
+use Rattle.page_journal.specs.Sums.{sum_without}
 use Rattle.page_journal.specs.Steps.{Does, Stays, Fresh, TornAt, begun, kept_at, kept_more, side_shape}
 use Rattle.page_journal.specs.Crash.{IsSealed, LeavesOnly, StandsFor, MayWrite, Gathered, KeepsMarked}
 use Rattle.page_journal.specs.declared.disk_state.DiskState.{Ghosts}
 use Rattle.page_journal.specs.declared.side_shape.SideShape.{SideShape}
-use Rattle.page_journal.proofs.RestoreLemmas.{set_past, sum_alike, sum_in}
+use Rattle.page_journal.proofs.RestoreLemmas.{set_past, sum_alike}
 use Rattle.page_journal.proofs.RunLemmas.{Quiet, Holds, quiet_stays, quiet_fresh, holds_stays, holds_then}
 
 or_true : (b : Bool) → (b || true) ≡ true

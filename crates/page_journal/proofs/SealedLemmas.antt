@@ -1,5 +1,5 @@
 -- Which calls leave a file that is settled or sealed so, and what its outcomes stand for.
-use Rattle.std.proofs.Common.{◌≡◌, ◌⊎◌, inl, inr, ⊎_elim, ℕ, ◌≤◌, true, false, List, length, Option, Some, None, is_some, refl, sym, ◌∙◌, ap, subst, arith}
+use Rattle.std.proofs.Common.{◌≡◌, ◌⊎◌, inl, inr, ⊎_elim, ℕ, ◌≤◌, true, false, List, Option, Some, None, is_some, refl, sym, ◌∙◌, ap, subst, arith}
 use Rattle.std.proofs.lemmas.Bool.{false≢true}
 use Rattle.page_journal.specs.Files.{PageFile, Kept, Files, IsOf, BelongsTo, restored, recovered, recovered_by, Agree}
 use Rattle.page_journal.specs.Steps.{Does, Stays, TornAt, GrowsUpTo, CutsTo, Fresh, Names, Removes}

@@ -8,7 +8,7 @@ use Rattle.rec_types.specs.Widths.{page_width}
 use Rattle.page_store.specs.FreeNumbers.{greatest_page_count}
 use Rattle.page_journal.specs.Files.{Kept}
 use Rattle.page_journal.specs.Sums.{sum_on}
-use Rattle.page_journal.specs.SideBytes.{sum_pages, front_bytes, side_header, header_width, IsSum, read_rest, side_sum, side_bytes, entry_bytes, entries_bytes, Ascend, BeginsWithPage0, IsSideFile, read_entries, read_side, Tally, first_tally, tally_more, tally_header, tally_on, MayComeAll, IsTaken}
+use Rattle.page_journal.specs.SideBytes.{sum_pages, front_bytes, side_header, header_width, IsSum, side_sum, side_bytes, entry_bytes, entries_bytes, Ascend, BeginsWithPage0, IsSideFile, read_entries, read_side, Tally, first_tally, tally_more, tally_header, tally_on, MayComeAll, IsTaken}
 
 -- an entry that was written part by part
 pub entry_put : (n : ℕ) (blank part buf page : List ℕ) → length blank ≡ 4100 → length part ≡ 4 → buf ≡ big_bytes 4 n ++ drop 4 part → put_mid 4 4096 (buf ++ drop 4 blank) page ≡ entry_bytes n page

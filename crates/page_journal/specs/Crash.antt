@@ -1,6 +1,6 @@
 -- What a crash at any moment leaves.
-use Rattle.std.specs.Prelude.{◌≡◌, ◌⊎◌, ℕ, ◌<◌, ◌≤◌, Bool, true, false, List, Some, None, Result, OnOk, length, All, slice_get, slice_index_or}
-use Rattle.page_journal.specs.Files.{PageFile, Kept, Files, Agree, IsOf, Belongs, is_kept, recovered, restored, put_back}
+use Rattle.std.specs.Prelude.{◌≡◌, ◌⊎◌, ℕ, ◌<◌, ◌≤◌, Bool, true, false, List, Option, Some, None, Result, OnOk, length, All, slice_get, slice_index_or}
+use Rattle.page_journal.specs.Files.{PageFile, Kept, CommitFiles, Files, Agree, IsOf, Belongs, is_kept, recovered, restored, put_back}
 use Rattle.page_journal.specs.declared.disk_state.DiskState.{Ghosts}
 
 -- A crash at any moment since old leaves files that have P.
@@ -26,6 +26,31 @@ pub record IsSealed {D : Type 0} (g : Ghosts D) (kept : Kept) (base : List (List
 -- after a restart, what reads see is what the device keeps
 abbrev pub IsAtRest : {D : Type 0} → Ghosts D → D → Type 0
 IsAtRest g disk = (c : Files) → g.may_leave disk c → (c.main ≡ (g.seen disk).main) × (c.side ≡ (g.seen disk).side)
+
+-- a part of the files is that of an outcome of a crash then
+abbrev pub HasPartOf : {D P : Type 0} → Ghosts D → (Files → P) → D → Files → Type 0
+HasPartOf g part old c = (d : Files) × g.may_leave old d × (part c ≡ part d)
+
+-- calls that leave a part of the files as reads see it, and as a crash leaves it
+pub record LeavesPart {D P : Type 0} (g : Ghosts D) (part : Files → P) (old new : D) : Type 0 where
+  pub seen : part (g.seen new) ≡ part (g.seen old)
+  pub now : (c : Files) → g.may_leave new c → HasPartOf g part old c
+  pub time : LeavesOnly g (HasPartOf g part old) old new
+
+-- the logs of commits, and all else
+abbrev pub logs_of : Files → CommitFiles
+logs_of f = f.commits
+
+abbrev pub pages_of : Files → PageFile × (Kept × Option Kept)
+pages_of f = (f.main, (f.fresh, f.side))
+
+-- calls that leave the logs of commits
+abbrev pub LeavesLogs : {D : Type 0} → Ghosts D → D → D → Type 0
+LeavesLogs g old new = LeavesPart g logs_of old new
+
+-- calls that leave all else
+abbrev pub LeavesPages : {D : Type 0} → Ghosts D → D → D → Type 0
+LeavesPages g old new = LeavesPart g pages_of old new
 
 -- the files stand for this file: it is what an opening makes of them
 abbrev pub StandsFor : PageFile → Files → Type 0

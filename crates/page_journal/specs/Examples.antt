@@ -1,12 +1,14 @@
 -- Files and calls that the laws show things by.
-use Rattle.std.specs.Prelude.{ℕ, List, [], ◌∷◌, None, Some}
-use Rattle.page_journal.specs.Files.{PageFile, Kept, Files}
+use Rattle.std.specs.Prelude.{ℕ, List, [], ◌∷◌, None, Some, Vec}
+use Rattle.std.specs.declared.alloc.Global.{Global}
+use Rattle.page_journal.specs.Files.{PageFile, Kept, Files, no_commits}
 use Rattle.page_journal.specs.Steps.{nothing_kept}
 use Rattle.page_journal.specs.Sums.{sum_start, sum_on}
 use Rattle.page_store.specs.declared.step.Step.{Step}
 use Rattle.page_store.specs.declared.step.Step.TheVariants as steps
 use Rattle.page_journal.specs.declared.disk_call.DiskCall.{DiskCall}
-use Rattle.page_journal.specs.declared.disk_call.DiskCall.TheVariants.{Write, Start, Keep, SyncFresh, Name, SyncNames}
+use Rattle.page_journal.specs.declared.disk_call.DiskCall.TheVariants.{Write, Start, Keep, SyncFresh, Name, SyncNames, Commits}
+use Rattle.page_journal.specs.declared.commit_call.CommitCall.TheVariants as commits
 
 -- a file of two pages, whose bytes are not spelt
 abbrev pub pages_of_two : ℕ → ℕ → PageFile
@@ -14,7 +16,7 @@ pages_of_two a b = record { pages = (a ∷ []) ∷ (b ∷ []) ∷ []; tail = 0 }
 
 -- it, with no side file
 abbrev pub alone : PageFile → Files
-alone main = record { main = main; fresh = nothing_kept 0; side = None }
+alone main = record { main = main; fresh = nothing_kept 0; side = None; commits = no_commits }
 
 abbrev pub old_file : PageFile
 old_file = pages_of_two 1 2
@@ -58,9 +60,21 @@ side_named = SyncNames ∷ Name ∷ side_made
 abbrev pub named_early : List DiskCall
 named_early = SyncNames ∷ Name ∷ Keep 1 (2 ∷ []) ∷ Keep 0 (1 ∷ []) ∷ Start 2 sum_start ∷ []
 
+-- a log of these bytes that the device keeps, which then gets the name, and the device keeps that
+abbrev pub log_made : Vec ℕ Global → List DiskCall
+log_made bytes = SyncNames ∷ Commits commits.Name ∷ Commits commits.SyncFresh ∷ Commits (commits.Start bytes) ∷ []
+
+-- the same with a log that the device doesn't keep
+abbrev pub log_named_early : Vec ℕ Global → List DiskCall
+log_named_early bytes = SyncNames ∷ Commits commits.Name ∷ Commits (commits.Start bytes) ∷ []
+
+-- a file beside which a log has these bytes
+abbrev pub with_log : PageFile → List ℕ → Files
+with_log main bytes = record { main = main; fresh = nothing_kept 0; side = None; commits = record { fresh = []; log = Some bytes } }
+
 -- a side file that has another page 0
 abbrev pub bad_side : Files
-bad_side = record { main = old_file; fresh = nothing_kept 0; side = Some (record { long = 2; rest = None; pages = (0, 5 ∷ []) ∷ [] }) }
+bad_side = record { main = old_file; fresh = nothing_kept 0; side = Some (record { long = 2; rest = None; pages = (0, 5 ∷ []) ∷ [] }); commits = no_commits }
 
 -- the page that is kept is written, and one is added
 abbrev pub page_1_steps : List Step

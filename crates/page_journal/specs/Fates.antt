@@ -1,11 +1,13 @@
 -- What a crash makes of the calls of a disk in memory.
-use Rattle.std.specs.Prelude.{◌≡◌, ℕ, ◌-◌, List, ◌++◌, length, drop, replicate, is_some, ⊤}
+use Rattle.std.specs.Prelude.{◌≡◌, ℕ, ◌-◌, List, [], ◌++◌, None, option_map, length, take, drop, replicate, is_some, ⊤}
 use Rattle.rec_types.specs.Widths.{page_width}
-use Rattle.page_journal.specs.Files.{Files}
-use Rattle.page_journal.specs.Steps.{nothing_kept}
+use Rattle.page_journal.specs.Files.{CommitFiles, Files}
+use Rattle.page_journal.specs.Steps.{nothing_kept, written, KeepsLog}
 use Rattle.page_journal.specs.History.{done}
+use Rattle.page_journal.specs.declared.commit_call.CommitCall.{CommitCall}
+use Rattle.page_journal.specs.declared.commit_call.CommitCall.TheVariants as calls
 use Rattle.page_journal.specs.declared.disk_call.DiskCall.{DiskCall}
-use Rattle.page_journal.specs.declared.disk_call.DiskCall.TheVariants.{Write, Grow, Cut, Sync, Start, Keep, SyncFresh, Name, Remove, SyncNames}
+use Rattle.page_journal.specs.declared.disk_call.DiskCall.TheVariants.{Write, Grow, Cut, Sync, Start, Keep, SyncFresh, Name, Remove, SyncNames, Commits}
 use Rattle.page_journal.specs.declared.fate.Fate.{Fate}
 use Rattle.page_journal.specs.declared.fate.Fate.TheVariants.{Done, Lost, Torn}
 
@@ -16,6 +18,30 @@ noise = replicate page_width 255
 -- the files made longer by such pages
 abbrev pub grown : ℕ → List ℕ → Files → Files
 grown n page f = record f { main = record { pages = f.main.pages ++ replicate (n - length f.main.pages) page; tail = 0 } }
+
+-- all but the last
+abbrev pub front_of : List ℕ → List ℕ
+front_of bytes = take (length bytes - 1) bytes
+
+-- of a call on the logs of commits that is torn: of bytes that are written the last isn't there
+abbrev pub commits_torn : CommitCall → CommitFiles → CommitFiles
+commits_torn (calls.Start bytes) f = record f { fresh = [] }
+commits_torn calls.SyncFresh f = f
+commits_torn calls.Name f = f
+commits_torn calls.Remove f = f
+commits_torn (calls.Lengthen at n) f = f
+commits_torn (calls.Write at bytes) f = record f { log = option_map (written at (front_of bytes.items)) f.log }
+commits_torn calls.Sync f = f
+
+-- where the device keeps a log, its bytes are those that are seen
+abbrev pub CommitsAgree : CommitCall → CommitFiles → CommitFiles → Type 0
+CommitsAgree (calls.Start bytes) seen f = ⊤
+CommitsAgree calls.SyncFresh seen f = f.fresh ≡ seen.fresh
+CommitsAgree calls.Name seen f = ⊤
+CommitsAgree calls.Remove seen f = ⊤
+CommitsAgree (calls.Lengthen at n) seen f = ⊤
+CommitsAgree (calls.Write at bytes) seen f = ⊤
+CommitsAgree calls.Sync seen f = KeepsLog seen f
 
 -- the files after a call that is torn: pages are noise, a side file is begun for no pages, and what is done at once or not at all isn't done
 abbrev pub torn : DiskCall → Files → Files
@@ -29,6 +55,7 @@ torn SyncFresh f = f
 torn Name f = f
 torn Remove f = f
 torn SyncNames f = f
+torn (Commits call) f = record f { commits = commits_torn call f.commits }
 
 -- a sync makes its part what is seen; that of the names doesn't say what a side file has
 abbrev pub kept_by : DiskCall → Files → Files → Files
@@ -42,6 +69,7 @@ kept_by SyncFresh seen f = record f { fresh = seen.fresh }
 kept_by Name seen f = f
 kept_by Remove seen f = f
 kept_by SyncNames seen f = f
+kept_by (Commits call) seen f = f
 
 -- what a crash leaves behind a call of that fate, where it would have left these files before it
 abbrev pub fated : DiskCall → Fate → Files → Files → Files
@@ -49,7 +77,7 @@ fated call Done seen f = kept_by call seen (done call f)
 fated call Lost seen f = kept_by call seen f
 fated call Torn seen f = kept_by call seen (torn call f)
 
--- where the device keeps whether a side file has the name, there is one after a crash where one is seen
+-- where the device keeps whether a file has a name, one has it after a crash where one is seen to
 abbrev pub NamesAgree : DiskCall → Files → Files → Type 0
 NamesAgree (Write n page) seen f = ⊤
 NamesAgree (Grow n) seen f = ⊤
@@ -60,7 +88,8 @@ NamesAgree (Keep n page) seen f = ⊤
 NamesAgree SyncFresh seen f = ⊤
 NamesAgree Name seen f = ⊤
 NamesAgree Remove seen f = ⊤
-NamesAgree SyncNames seen f = is_some f.side ≡ is_some seen.side
+NamesAgree SyncNames seen f = (is_some f.side ≡ is_some seen.side) × (is_some f.commits.log ≡ is_some seen.commits.log)
+NamesAgree (Commits call) seen f = CommitsAgree call seen.commits f.commits
 
 -- the first k of these calls, the newest of which stands first
 abbrev pub first_calls : ℕ → List DiskCall → List DiskCall

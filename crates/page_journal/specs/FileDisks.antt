@@ -5,7 +5,7 @@ use Rattle.page_store.specs.Blank.{blanks}
 use Rattle.page_store.specs.StoreFaults.{is_failed}
 use Rattle.page_store.specs.declared.store_fault.StoreFault.{StoreFault}
 use Rattle.page_store.specs.declared.store_fault.StoreFault.TheVariants.{Memory}
-use Rattle.page_journal.specs.Files.{Files}
+use Rattle.page_journal.specs.Files.{Files, no_commits}
 use Rattle.page_journal.specs.Steps.{nothing_kept}
 
 -- what contracts see: the file's length, and how many changing calls and failures there were
@@ -17,7 +17,7 @@ pub record OpenedDisk : Type 0 where
 
 -- what reads see after so many changing calls, of a file of so many pages and that tail
 unfoldable pub files_seen : ℕ → ℕ → ℕ → Files
-files_seen calls pages tail = record { main = record { pages = blanks pages; tail = tail }; fresh = nothing_kept 0; side = None }
+files_seen calls pages tail = record { main = record { pages = blanks pages; tail = tail }; fresh = nothing_kept 0; side = None; commits = no_commits }
 
 -- what the files were when the disk was opened
 unfoldable pub files_at_opening : Files

@@ -1,4 +1,4 @@
--- A page file, and the side file of old pages that may stand beside it.
+-- A page file, and what may stand beside it: a side file of old pages, and a log of commits.
 use Rattle.std.specs.Prelude.{◌≡◌, ℕ, suc, ◌<◌, ◌≤◌, Bool, false, ◌||◌, ◌==◌, List, [], ◌∷◌, Option, Some, None, length, take, slice_get, slice_set, ⊤}
 use Rattle.page_journal.specs.Sums.{sum_without}
 
@@ -13,11 +13,20 @@ pub record Kept : Type 0 where
   pub rest : Option ℕ
   pub pages : List (ℕ × List ℕ)
 
--- the file, the side file that is being made, and the side file that has the name that an opening looks for
+-- the bytes of the log of commits that is being made, and of the one that has the name that an opening looks for
+pub record CommitFiles : Type 0 where
+  pub fresh : List ℕ
+  pub log : Option (List ℕ)
+
+abbrev pub no_commits : CommitFiles
+no_commits = record { fresh = []; log = None }
+
+-- the file, the side file that is being made, the side file that has the name that an opening looks for, and the logs of commits
 pub record Files : Type 0 where
   pub main : PageFile
   pub fresh : Kept
   pub side : Option Kept
+  pub commits : CommitFiles
 
 -- whether a page of that number was kept
 abbrev pub is_kept : List (ℕ × List ℕ) → ℕ → Bool

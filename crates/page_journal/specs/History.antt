@@ -1,13 +1,36 @@
 -- What a disk in memory keeps: what was there at first, and each changing call since then. What a crash leaves follows from that.
-use Rattle.std.specs.Prelude.{◌≡◌, ◌⊎◌, ℕ, ◌-◌, ◌≤◌, List, [], ◌∷◌, ◌++◌, true, Some, None, is_some, length, take, slice_set}
+use Rattle.std.specs.Prelude.{◌≡◌, ◌⊎◌, ℕ, ◌-◌, ◌≤◌, List, [], ◌∷◌, ◌++◌, true, Some, None, option_map, is_some, length, take, slice_set, Result, OnErr}
 use mathlib.Core.Logic.{inl, inr}
 use Rattle.std.proofs.Math.Nat.{not-suc-le_self}
 use Rattle.rec_types.specs.Table.{counted}
 use Rattle.page_store.specs.Blank.{blanks}
-use Rattle.page_journal.specs.Files.{Files}
-use Rattle.page_journal.specs.Steps.{nothing_kept, begun, kept_more, TornAt, GrowsUpTo, CutsTo, Fresh, Names, Removes}
+use Rattle.commit_paper.specs.Steps.{Lengthens, Inks}
+use Rattle.page_journal.specs.Files.{CommitFiles, Files}
+use Rattle.page_journal.specs.Steps.{nothing_kept, begun, kept_more, written, zeroed, TornAt, GrowsUpTo, CutsTo, Fresh, Names, Removes, FreshLog, NamesLog, RemovesLog, ChangesLog, KeepsLog, InCommits}
+use Rattle.page_journal.specs.declared.commit_call.CommitCall.{CommitCall}
+use Rattle.page_journal.specs.declared.commit_call.CommitCall.TheVariants as calls
 use Rattle.page_journal.specs.declared.disk_call.DiskCall.{DiskCall}
-use Rattle.page_journal.specs.declared.disk_call.DiskCall.TheVariants.{Write, Grow, Cut, Sync, Start, Keep, SyncFresh, Name, Remove, SyncNames}
+use Rattle.page_journal.specs.declared.disk_call.DiskCall.TheVariants.{Write, Grow, Cut, Sync, Start, Keep, SyncFresh, Name, Remove, SyncNames, Commits}
+
+-- the logs of commits after a call on them that is done
+abbrev pub commits_done : CommitCall → CommitFiles → CommitFiles
+commits_done (calls.Start bytes) f = record f { fresh = bytes.items }
+commits_done calls.SyncFresh f = f
+commits_done calls.Name f = record { fresh = []; log = Some f.fresh }
+commits_done calls.Remove f = record f { log = None }
+commits_done (calls.Lengthen at n) f = record f { log = option_map (zeroed at n) f.log }
+commits_done (calls.Write at bytes) f = record f { log = option_map (written at bytes.items) f.log }
+commits_done calls.Sync f = f
+
+-- what it may lead to, as of the other calls
+abbrev pub commits_lead : CommitCall → CommitFiles → CommitFiles → CommitFiles → Type 0
+commits_lead (calls.Start bytes) seen d c = FreshLog d c
+commits_lead calls.SyncFresh seen d c = (c ≡ d) × (c.fresh ≡ seen.fresh)
+commits_lead calls.Name seen d c = NamesLog d c
+commits_lead calls.Remove seen d c = RemovesLog d c
+commits_lead (calls.Lengthen at n) seen d c = ChangesLog (Lengthens at) d c
+commits_lead (calls.Write at bytes) seen d c = ChangesLog (Inks at bytes.items) d c
+commits_lead calls.Sync seen d c = (c ≡ d) × KeepsLog seen c
 
 -- the files after a call that is done
 abbrev pub done : DiskCall → Files → Files
@@ -21,6 +44,7 @@ done SyncFresh f = f
 done Name f = record f { fresh = nothing_kept 0; side = Some f.fresh }
 done Remove f = record f { side = None }
 done SyncNames f = f
+done (Commits call) f = record f { commits = commits_done call f.commits }
 
 -- what a call may lead to where a crash may leave d and reads see the files seen: the call is done, not done or torn, and a sync leaves out what isn't seen
 abbrev pub leads : DiskCall → Files → Files → Files → Type 0
@@ -33,7 +57,8 @@ leads (Keep n page) seen d c = Fresh d c
 leads SyncFresh seen d c = (c ≡ d) × (c.fresh ≡ seen.fresh)
 leads Name seen d c = Names d c
 leads Remove seen d c = Removes d c
-leads SyncNames seen d c = (c ≡ d) × (is_some c.side ≡ is_some seen.side)
+leads SyncNames seen d c = (c ≡ d) × (is_some c.side ≡ is_some seen.side) × (is_some c.commits.log ≡ is_some seen.commits.log)
+leads (Commits call) seen d c = InCommits (commits_lead call seen.commits) d c
 
 -- the files after these calls, the newest of which stands first
 abbrev pub all_done : Files → List DiskCall → Files
@@ -73,3 +98,7 @@ only_left_now first (call ∷ earlier) c (inr was) = absurd (not-suc-le_self (le
 -- one failure more
 abbrev pub failed_more : History → History
 failed_more h = record { first = h.first; calls = h.calls; failures = counted h.failures true }
+
+-- a fault leaves all
+abbrev pub StaysOnErr : {A E S : Type 0} → Result A E → S → S → Type 0
+StaysOnErr answer old new = OnErr answer (new ≡ old)

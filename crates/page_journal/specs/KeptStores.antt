@@ -1,14 +1,18 @@
 -- A store over a disk, which may be changed in any way that its calls allow and stands for the old file all the while.
-use Rattle.std.specs.Prelude.{◌≡◌, ℕ, ◌≤◌, Bool, true, false, cond, List, length, slice_index_or, refl}
+use Rattle.std.specs.Prelude.{◌≡◌, ℕ, ◌≤◌, Bool, true, false, cond, List, [], length, slice_index_or, refl}
 use Rattle.std.specs.Coded.{Coded, code_by, coded×, coded_ℕ, coded_bool, coded_list}
+use Rattle.page_store.specs.Calls.{counted_times}
 use Rattle.page_store.specs.FreeNumbers.{greatest_page_count}
+use Rattle.page_store.specs.Guards as guards
+use Rattle.page_store.specs.Guards.{Guard}
+use Rattle.page_store.specs.Opening.{Opening}
 use Rattle.page_journal.specs.Files.{PageFile, Kept, Files, restored, recovered}
 use Rattle.page_journal.specs.Crash.{IsSettled, IsSealed, StandsFor, MayWrite}
 use Rattle.page_journal.specs.declared.disk_state.DiskState.{Ghosts}
 use Rattle.page_journal.specs.declared.seal_state.SealState.{SealState}
 use Rattle.page_journal.specs.declared.seal_state.SealState.TheVariants.{Unsealed, Sealed, Stopped}
 
--- the disk; of each page that the file had when it was sealed whether it was kept; whether it was; and how many reads, calls of the shape, changing calls and failures there were
+-- the disk; of each page that the file had when it was sealed whether it was kept; whether it was; how many reads, calls of the shape and changing calls there were, and how many calls were refused
 pub record KeptStored (D : Type 0) : Type 0 where
   pub disk : D
   pub kept : List Bool
@@ -16,7 +20,7 @@ pub record KeptStored (D : Type 0) : Type 0 where
   pub reads : ℕ
   pub shapes : ℕ
   pub writes : ℕ
-  pub failures : ℕ
+  pub refusals : ℕ
 
 abbrev pub state_code : SealState → Bool × Bool
 state_code Unsealed = (false, false)
@@ -35,7 +39,11 @@ abbrev pub coded_state : Coded SealState
 coded_state = code_by (Bool × Bool) (coded× coded_bool coded_bool) state_code state_of state_back
 
 abbrev pub coded_kept_stored : {D : Type 0} → Coded D → Coded (KeptStored D)
-coded_kept_stored {D} d = code_by (D × (List Bool × (SealState × (ℕ × (ℕ × (ℕ × ℕ)))))) (coded× d (coded× (coded_list coded_bool) (coded× coded_state (coded× coded_ℕ (coded× coded_ℕ (coded× coded_ℕ coded_ℕ)))))) (λ s. (s.disk, (s.kept, (s.state, (s.reads, (s.shapes, (s.writes, s.failures))))))) (λ p. record { disk = p.0; kept = p.1.0; state = p.1.1.0; reads = p.1.1.1.0; shapes = p.1.1.1.1.0; writes = p.1.1.1.1.1.0; failures = p.1.1.1.1.1.1 }) (λ _. refl)
+coded_kept_stored {D} d = code_by (D × (List Bool × (SealState × (ℕ × (ℕ × (ℕ × ℕ)))))) (coded× d (coded× (coded_list coded_bool) (coded× coded_state (coded× coded_ℕ (coded× coded_ℕ (coded× coded_ℕ coded_ℕ)))))) (λ s. (s.disk, (s.kept, (s.state, (s.reads, (s.shapes, (s.writes, s.refusals))))))) (λ p. record { disk = p.0; kept = p.1.0; state = p.1.1.0; reads = p.1.1.1.0; shapes = p.1.1.1.1.0; writes = p.1.1.1.1.1.0; refusals = p.1.1.1.1.1.1 }) (λ _. refl)
+
+-- a store over that file, beside which no commit is kept
+abbrev pub opened_over : PageFile → Opening
+opened_over file = record { pages = file.pages; tail = file.tail; commits = [] }
 
 -- whether page n was kept, or is past the old end
 abbrev pub is_open : List Bool → ℕ → Bool
@@ -47,26 +55,40 @@ may_write_in Unsealed kept n = false
 may_write_in Sealed kept n = is_open kept n
 may_write_in Stopped kept n = false
 
+-- which pages the store lets be written over, and how many calls it has refused
+abbrev pub guard_of : SealState → List Bool → ℕ → Guard
+guard_of Unsealed kept refusals = guards.Unsealed refusals
+guard_of Sealed kept refusals = guards.Sealed kept refusals
+guard_of Stopped kept refusals = guards.Stopped refusals
+
+-- how many calls of the store failed: those of the disk that did, and those that were refused
+abbrev pub failures_with : ℕ → ℕ → ℕ
+failures_with failed refusals = counted_times failed refusals
+
 -- a file that is whole pages, and no more than there can be
 pub record CanBeSealed (main : PageFile) : Type 0 where
   pub no_tail : main.tail ≡ 0
   pub most : length main.pages ≤ greatest_page_count
 
--- it is sealed, and stands for what it was when the disk was opened
-pub record IsHeld {D : Type 0} (g : Ghosts D) (flags : List Bool) (disk : D) : Type 0 where
+-- it is sealed, and stands for the old file
+pub record IsHeld {D : Type 0} (g : Ghosts D) (old : PageFile) (flags : List Bool) (disk : D) : Type 0 where
   pub kept : Kept
   pub base : List (List ℕ)
   pub sealed : IsSealed g kept base disk
   pub flags_kept : (n : ℕ) → is_open flags n ≡ true → MayWrite kept n
-  pub began : restored kept base ≡ recovered g.began
+  pub began : restored kept base ≡ old
 
 -- what holds of the disk in each state
-abbrev pub IsSo : {D : Type 0} → Ghosts D → SealState → List Bool → D → Type 0
-IsSo g Unsealed flags disk = IsSettled g (recovered g.began) disk
-IsSo g Sealed flags disk = IsHeld g flags disk
-IsSo g Stopped flags disk = (g.seen disk).main ≡ recovered g.began
+abbrev pub IsSo : {D : Type 0} → Ghosts D → PageFile → SealState → List Bool → D → Type 0
+IsSo g old Unsealed flags disk = IsSettled g old disk
+IsSo g old Sealed flags disk = IsHeld g old flags disk
+IsSo g old Stopped flags disk = (g.seen disk).main ≡ old
 
--- and each crash since the disk was opened leaves the file that there was then
-pub record IsGuarded {D : Type 0} (g : Ghosts D) (state : SealState) (flags : List Bool) (disk : D) : Type 0 where
-  pub so : IsSo g state flags disk
-  pub time : (c : Files) → g.left_since disk 0 c → StandsFor (recovered g.began) c
+-- and each crash since the disk was opened leaves the old file
+pub record IsGuarded {D : Type 0} (g : Ghosts D) (old : PageFile) (state : SealState) (flags : List Bool) (disk : D) : Type 0 where
+  pub so : IsSo g old state flags disk
+  pub time : (c : Files) → g.left_since disk 0 c → StandsFor old c
+
+-- the file that there was when the disk was opened
+abbrev pub old_file_of : {D : Type 0} → Ghosts D → D → PageFile
+old_file_of g disk = recovered (g.began disk)

@@ -1,11 +1,12 @@
-pub mod Crash
 pub mod Carrying
+pub mod Crash
 pub mod Examples
 pub mod Fates
 pub mod FileDisks
 pub mod Files
 pub mod History
 pub mod KeptStores
+pub mod Logging
 pub mod Recovery
 pub mod SideBytes
 pub mod StandsBeside

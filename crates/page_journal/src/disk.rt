@@ -1,8 +1,10 @@
-ghost use Rattle.std.specs.Prelude.{◌≡◌, ◌<◌, ◌≤◌, ◌-◌, ◌++◌, ℕ, List, Some, None, length, is_some, IsTrue, IfOk, OnOk, slice_get, slice_set};
+ghost use Rattle.std.specs.Prelude.{◌≡◌, ◌<◌, ◌≤◌, ◌-◌, ◌++◌, ℕ, List, Some, None, option_map, length, take, drop, IsTrue, IfOk, OnOk, slice_get, slice_set};
 ghost use Rattle.rec_types.specs.Widths.{page_width};
 ghost use Rattle.page_store.specs.Blank.{blanks};
 ghost use Rattle.page_journal.specs.Files.{Files};
-ghost use Rattle.page_journal.specs.Steps.{CallDoes, CallSyncs, Nothing, TornAt, GrowsUpTo, CutsTo, Fresh, Names, Removes, begun, kept_more, side_shape, kept_at};
+ghost use Rattle.commit_paper.specs.Text.{zeros};
+ghost use Rattle.commit_paper.specs.Steps.{Lengthens, Inks};
+ghost use Rattle.page_journal.specs.Steps.{CallDoes, CallSyncs, Nothing, TornAt, GrowsUpTo, CutsTo, Fresh, Names, Removes, FreshLog, NamesLog, RemovesLog, ChangesLog, KeepsLog, InCommits, begun, kept_more, names_of, side_shape, kept_at, written, zeroed};
 
 use crate::disk_state::DiskState;
 use crate::side_shape::SideShape;
@@ -88,9 +90,10 @@ pub trait Disk: DiskState {
         ensures gone { OnOk result ((Self.seen self.new).side ≡ None) }
         ensures does { CallDoes Self.DiskState Removes self.old result self.new };
 
-    /// Has the device keep whether a side file has that name, and nothing of what it says. Fault: Failed.
+    /// Has the device keep whether a side file has that name, and whether a log of commits has its, and nothing of what they
+    /// say. Fault: Failed.
     fn sync_names(&mut self) -> Result<(), StoreFault>
-        ensures { CallSyncs Self.DiskState (λ f. is_some f.side) self.old result self.new };
+        ensures { CallSyncs Self.DiskState names_of self.old result self.new };
 
     /// What the side file of that name says of its length and of the other pages, where there is one. Fault: Failed.
     fn side(&mut self) -> Result<Option<SideShape>, StoreFault>
@@ -103,6 +106,63 @@ pub trait Disk: DiskState {
     fn kept(&mut self, i: u32, to: &mut [u8; PAGE_WIDTH]) -> Result<u32, StoreFault>
         ensures page { IsTrue (Self.steady self.old)
             → IfOk result (λ n. kept_at (Self.seen self.old).side i ≡ Some (n, to.new)) }
+        ensures does { CallDoes Self.DiskState Nothing self.old result self.new };
+
+    /// Begins a log of commits with these bytes and so many zeros behind them, under the name that no opening looks for.
+    /// Fault: Failed; what has that name is anything then.
+    fn start_log(&mut self, head: &[u8], room: usize) -> Result<(), StoreFault>
+        ensures made { IsTrue (Self.steady self.old) → OnOk result
+            ((Self.seen self.new).commits.fresh ≡ head.now ++ zeros room) }
+        ensures does { CallDoes Self.DiskState (InCommits FreshLog) self.old result self.new };
+
+    /// Has the device keep the log that is being made, and nothing else. Fault: Failed.
+    fn sync_fresh_log(&mut self) -> Result<(), StoreFault>
+        ensures { CallSyncs Self.DiskState (λ f. f.commits.fresh) self.old result self.new };
+
+    /// Gives the log that was made the name that an opening looks for, at once or not at all. Fault: Failed.
+    fn name_log(&mut self) -> Result<(), StoreFault>
+        ensures named { IsTrue (Self.steady self.old) → OnOk result
+            ((Self.seen self.new).commits.log ≡ Some (Self.seen self.old).commits.fresh) }
+        ensures does { CallDoes Self.DiskState (InCommits NamesLog) self.old result self.new };
+
+    /// Takes the log of that name away, at once or not at all. Fault: Failed.
+    fn remove_log(&mut self) -> Result<(), StoreFault>
+        ensures gone { OnOk result ((Self.seen self.new).commits.log ≡ None) }
+        ensures does { CallDoes Self.DiskState (InCommits RemovesLog) self.old result self.new };
+
+    /// Makes what follows a place of the log so many zeros, whatever there was. Fault: Failed; behind that place is
+    /// anything then.
+    fn lengthen_log(&mut self, at: usize, n: usize) -> Result<(), StoreFault>
+        ensures zeros { IsTrue (Self.steady self.old) → OnOk result
+            ((Self.seen self.new).commits.log ≡ option_map (zeroed at n) (Self.seen self.old).commits.log) }
+        ensures does { CallDoes Self.DiskState (InCommits (ChangesLog (Lengthens at)))
+            self.old result self.new };
+
+    /// Writes over what stands at a place of the log. Fault: Failed; of these bytes any are there then.
+    fn write_log(&mut self, at: usize, bytes: &[u8]) -> Result<(), StoreFault>
+        ensures written { IsTrue (Self.steady self.old) → OnOk result
+            ((Self.seen self.new).commits.log
+            ≡ option_map (written at bytes.now) (Self.seen self.old).commits.log) }
+        ensures does { CallDoes Self.DiskState (InCommits (ChangesLog (Inks at bytes.now)))
+            self.old result self.new };
+
+    /// Has the device keep the bytes of the log, and nothing else. Fault: Failed.
+    fn sync_log(&mut self) -> Result<(), StoreFault>
+        ensures kept { OnOk result ((c : Files) → Self.may_leave self.new c
+            → KeepsLog (Self.seen self.old).commits c.commits) }
+        ensures does { CallDoes Self.DiskState Nothing self.old result self.new };
+
+    /// How many bytes the log of that name has, where there is one. Fault: Failed.
+    fn log_length(&mut self) -> Result<Option<u64>, StoreFault>
+        ensures long { IsTrue (Self.steady self.old)
+            → IfOk result (λ long. long ≡ option_map length (Self.seen self.old).commits.log) }
+        ensures does { CallDoes Self.DiskState Nothing self.old result self.new };
+
+    /// Reads bytes of the log from a place on, as many as there is room for. Fault: Failed, as where there are fewer.
+    fn read_log(&mut self, at: usize, to: &mut [u8]) -> Result<(), StoreFault>
+        ensures bytes { IsTrue (Self.steady self.old) → OnOk result
+            (option_map (λ bytes. take (length to.old) (drop at bytes))
+            (Self.seen self.old).commits.log ≡ Some to.new) }
         ensures does { CallDoes Self.DiskState Nothing self.old result self.new };
 
     /// At this moment a crash leaves nothing but what it may leave now.

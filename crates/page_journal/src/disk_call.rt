@@ -1,7 +1,8 @@
+use crate::commit_call::CommitCall;
 use rec_types::PAGE_WIDTH;
 
 /// A changing call of a disk.
-#[derive(Clone, Copy)]
+#[derive(Drop)]
 pub enum DiskCall {
     /// The page of that number was written.
     Write(u32, [u8; PAGE_WIDTH]),
@@ -21,6 +22,8 @@ pub enum DiskCall {
     Name,
     /// The side file of that name was taken away.
     Remove,
-    /// The device kept whether there is one.
+    /// The device kept whether there is one, and a log of commits.
     SyncNames,
+    /// A call on the logs of commits.
+    Commits(CommitCall),
 }

@@ -3,9 +3,8 @@ ghost use Rattle.page_journal.specs.Files.{Files};
 
 /// What contracts know of a page file with a side file on a device. It has no code.
 pub trait DiskState {
-    /// What the files were when the disk was opened. It belongs to the type and not to a value, so that
-    /// it is known behind calls that say nothing of crashes.
-    ghost began: { Files };
+    /// What the files were when the disk was opened. No call changes it.
+    ghost began: { Self → Files };
 
     /// Whether reads give what was written. No call changes it.
     ghost steady: { Self → Bool };

@@ -1,5 +1,7 @@
-ghost use Rattle.std.specs.Prelude.{◌≡◌, ◌*◌, ◌^◌, ◌<◌, IsTrue, IfOk};
+ghost use Rattle.std.specs.Prelude.{◌≡◌, ◌*◌, ◌^◌, ◌<◌, true, IsTrue, IfOk};
+ghost use Rattle.rec_types.specs.Table.{counted};
 ghost use Rattle.rec_types.specs.Widths.{page_width};
+ghost use Rattle.page_store.specs.StoreFaults.{is_failed, OnlyFails};
 ghost use Rattle.page_journal.specs.Crash.{IsAtRest};
 ghost use Rattle.page_journal.specs.FileDisks.{SetsLength};
 
@@ -27,10 +29,16 @@ const PAGE_BYTES: u64 = PAGE_WIDTH as u64;
 /// `FILE-journal-new` while it is made. The file is locked against other openings. Its length is taken once, at opening,
 /// and kept. Each method makes the call of the system that it stands for; contracts tell no more of what is read and of
 /// what a crash leaves than `Disk` does.
+///
+/// What other programs left unsynced is kept by the device before the first call that changes anything, or at opening
+/// where a side file is there. The moments of a crash are counted from then on: one before it leaves what it would have
+/// left without this opening, which has changed nothing.
 #[derive(Drop)]
 pub struct FileDisk<H, F> {
     file: F,
     beside: SideFiles<H, F>,
+    /// Whether the device was asked to keep what was there at opening.
+    settled: bool,
     pages: u64,
     tail: u16,
     calls: u64,
@@ -64,13 +72,14 @@ fn page_start(n: u32) -> u64
 impl<H: System<File = F> + Drop, F: SystemFile + Drop> FileDisk<H, F> {
     /// Opens the file of that path to read and write it, and takes the lock that no other opening shares. What a stop
     /// left beside it is looked at: a side file that was being made is removed, and one that has the name stays, for
-    /// `KeptStore::open`. The device then keeps all that is read, and what a closing will need was tried. Faults: Device,
-    /// as where there is no file, it or its folder may not be written, it has a second name, or another opening has a
-    /// lock; BadJournal, where what has a side file's name is none of this file, and nothing has changed then; Memory.
+    /// `KeptStore::open`; the device then keeps all that is read. To make a file beside it, which a closing will need, was
+    /// tried. Faults: Device, as where there is no file, it or its folder may not be written, it has a second name, or
+    /// another opening has a lock; BadJournal, where what has a side file's name is none of this file, and nothing has
+    /// changed then; Memory.
     pub fn open(rt: H, alloc: Global, path: &str) -> Result<FileDisk<H, F>, OpeningFault>
         ensures rest { IfOk result (λ d. IsAtRest ⟦<FileDisk<H, F> as DiskState>⟧ d) }
         ensures began { IfOk result (λ d. IsTrue (⟦<FileDisk<H, F> as DiskState>⟧.steady d)
-            → ⟦<FileDisk<H, F> as DiskState>⟧.seen d ≡ ⟦<FileDisk<H, F> as DiskState>⟧.began) }
+            → ⟦<FileDisk<H, F> as DiskState>⟧.seen d ≡ ⟦<FileDisk<H, F> as DiskState>⟧.began d) }
         ensures moment { IfOk result (λ d. d.calls ≡ 0) }
         ensures failures { IfOk result (λ d. d.failures ≡ 0) }
     {
@@ -80,16 +89,19 @@ impl<H: System<File = F> + Drop, F: SystemFile + Drop> FileDisk<H, F> {
         let opened = file.facts()?;
         let pages = opened.len / PAGE_BYTES;
         let beside = SideFiles::open(rt, names, opened, pages)?;
-        file.sync_all()?;
-        beside.sync_names()?;
-        Ok(FileDisk {
+        let mut disk = FileDisk {
             file,
             beside,
+            settled: false,
             pages,
             tail: (opened.len % PAGE_BYTES) as u16,
             calls: 0,
             failures: 0,
-        })
+        };
+        if disk.beside.shape().is_some() {
+            disk.settle()?;
+        }
+        Ok(disk)
     }
 
     /// What stands beside the file of that path under the name of its side file. Nothing is changed. Faults: Device, as
@@ -108,6 +120,7 @@ impl<H: System<File = F> + Drop, F: SystemFile + Drop> FileDisk<H, F> {
         let mut disk = FileDisk {
             file,
             beside,
+            settled: false,
             pages,
             tail: (opened.len % PAGE_BYTES) as u16,
             calls: 0,
@@ -119,12 +132,38 @@ impl<H: System<File = F> + Drop, F: SystemFile + Drop> FileDisk<H, F> {
         }
     }
 
+    // Has the device keep what was there at opening, where it wasn't asked to yet.
+    fn settle(&mut self) -> io::Result<()>
+        ensures { self.new ≡ self.old }
+    {
+        if self.settled {
+            return Ok(());
+        }
+        self.file.sync_all()?;
+        self.beside.sync_names()?;
+        self.settled = true;
+        Ok(())
+    }
+
+    // The same before a call that changes something, which counts. Fault: Failed.
+    fn begin_change(&mut self) -> Result<(), StoreFault>
+        ensures counts { self.new ≡ record self.old {
+          calls = counted self.old.calls true;
+          failures = counted self.old.failures (is_failed result);
+        } }
+        ensures fault { OnlyFails result }
+    {
+        count_up(&mut self.calls);
+        let answer = self.settle();
+        noted_call(&mut self.failures, answer)
+    }
+
     // Makes the file n pages long, with no tail. Fault: Failed; it is as long as it was then.
     fn set_pages(&mut self, n: u64) -> Result<(), StoreFault>
         requires { n < 2 ^ 52 }
         ensures { SetsLength n self.old result self.new }
     {
-        count_up(&mut self.calls);
+        self.begin_change()?;
         let answer = self.file.set_len(n * PAGE_BYTES);
         noted_call(&mut self.failures, answer)?;
         self.pages = n;
@@ -166,7 +205,7 @@ impl<H: System<File = F> + Drop, F: SystemFile + Drop> DiskState for FileDisk<H,
     ghost use Rattle.page_store.specs.FileValues.{gives_back};
     ghost use Rattle.page_journal.specs.FileDisks.{files_seen, files_at_opening, may_be_left, left_since_in_files};
 
-    ghost began = { files_at_opening };
+    ghost began = { λ _. files_at_opening };
 
     ghost steady = { λ _. gives_back };
 
@@ -201,7 +240,7 @@ impl<H: System<File = F> + Drop, F: SystemFile + Drop> Disk for FileDisk<H, F> {
     }
 
     fn write(&mut self, n: u32, from: &[u8; PAGE_WIDTH]) -> Result<(), StoreFault> {
-        count_up(&mut self.calls);
+        self.begin_change()?;
         let answer = self.file.write_all_at(from, page_start(n));
         noted_call(&mut self.failures, answer)
     }
@@ -223,7 +262,7 @@ impl<H: System<File = F> + Drop, F: SystemFile + Drop> Disk for FileDisk<H, F> {
     }
 
     fn start(&mut self, long: u32, rest: u64) -> Result<(), StoreFault> {
-        count_up(&mut self.calls);
+        self.begin_change()?;
         let answer = self.beside.start(long, rest);
         noted_call(&mut self.failures, answer)
     }
@@ -255,6 +294,58 @@ impl<H: System<File = F> + Drop, F: SystemFile + Drop> Disk for FileDisk<H, F> {
     fn sync_names(&mut self) -> Result<(), StoreFault> {
         count_up(&mut self.calls);
         let answer = self.beside.sync_names();
+        noted_call(&mut self.failures, answer)
+    }
+
+    fn start_log(&mut self, head: &[u8], room: usize) -> Result<(), StoreFault> {
+        self.begin_change()?;
+        let answer = self.beside.start_log(head, room);
+        noted_call(&mut self.failures, answer)
+    }
+
+    fn sync_fresh_log(&mut self) -> Result<(), StoreFault> {
+        count_up(&mut self.calls);
+        let answer = self.beside.finish_log();
+        noted_call(&mut self.failures, answer)
+    }
+
+    fn name_log(&mut self) -> Result<(), StoreFault> {
+        count_up(&mut self.calls);
+        let answer = self.beside.name_log();
+        noted_call(&mut self.failures, answer)
+    }
+
+    fn remove_log(&mut self) -> Result<(), StoreFault> {
+        count_up(&mut self.calls);
+        let answer = self.beside.remove_log();
+        noted_call(&mut self.failures, answer)
+    }
+
+    fn lengthen_log(&mut self, at: usize, n: usize) -> Result<(), StoreFault> {
+        count_up(&mut self.calls);
+        let answer = self.beside.logs().lengthen(at, n);
+        noted_call(&mut self.failures, answer)
+    }
+
+    fn write_log(&mut self, at: usize, bytes: &[u8]) -> Result<(), StoreFault> {
+        count_up(&mut self.calls);
+        let answer = self.beside.logs().write(at, bytes);
+        noted_call(&mut self.failures, answer)
+    }
+
+    fn sync_log(&mut self) -> Result<(), StoreFault> {
+        count_up(&mut self.calls);
+        let answer = self.beside.logs().sync();
+        noted_call(&mut self.failures, answer)
+    }
+
+    fn log_length(&mut self) -> Result<Option<u64>, StoreFault> {
+        let answer = self.beside.logs().length();
+        noted_call(&mut self.failures, answer)
+    }
+
+    fn read_log(&mut self, at: usize, to: &mut [u8]) -> Result<(), StoreFault> {
+        let answer = self.beside.logs().read(at, to);
         noted_call(&mut self.failures, answer)
     }
 

@@ -1,19 +1,22 @@
-ghost use Rattle.std.specs.Prelude.{◌≡◌, ◌≢◌, ◌<◌, ◌≤◌, ◌-◌, ◌==◌, ◌++◌, ℕ, Bool, List, [], true, false, Some, None, Err, length, IsTrue, IfOk, IfErr, OnOk, OnErr, slice_get, slice_set};
+ghost use Rattle.std.specs.Prelude.{◌≡◌, ◌≢◌, ◌<◌, ◌≤◌, ◌-◌, ◌==◌, ◌++◌, ℕ, Bool, List, [], true, false, Some, None, Ok, Err, length, IsTrue, IsOk, IfOk, IfErr, OnOk, OnErr, slice_get, slice_set};
 ghost use Rattle.std.specs.List.{list_any};
 ghost use Rattle.rec_types.specs.Table.{counted};
 ghost use Rattle.rec_types.specs.Widths.{page_width};
 ghost use Rattle.page_store.specs.Blank.{blanks};
+ghost use Rattle.page_store.specs.FreeNumbers.{greatest_page_count};
 ghost use Rattle.page_store.specs.Growth.{GrowsTo};
+ghost use Rattle.page_store.specs.Guards.{SealsGuard};
 ghost use Rattle.page_store.specs.StoreCalls.{SealsStore, ChangesStore};
 ghost use Rattle.page_store.specs.StoreFaults.{is_failed};
 ghost use Rattle.page_store.specs.declared.step.Step.{Step};
 ghost use Rattle.page_journal.specs.Files.{Files, Belongs, recovered};
+ghost use Rattle.page_journal.specs.Steps.{CallSyncs};
 ghost use Rattle.page_journal.specs.Crash.{IsSettled, IsAtRest, StandsAs, StandsFor, IsEither};
 ghost use Rattle.page_journal.specs.Recovery.{IsForeign, is_device, is_device_fault};
-ghost use Rattle.page_journal.specs.KeptStores.{KeptStored, CanBeSealed, is_open, may_write_in};
+ghost use Rattle.page_journal.specs.KeptStores.{failures_with, guard_of, KeptStored, CanBeSealed, is_open, may_write_in};
 
 use crate::disk::Disk;
-use crate::noted::noted;
+use crate::noted::count_up;
 use crate::recovering::{commit, recover};
 use crate::recovery_fault::RecoveryFault;
 use crate::seal_state::SealState;
@@ -28,8 +31,8 @@ pub(crate) const MOST_PAGES: u64 = 1_000_001;
 
 /// A store over a disk. It refuses to write over a page that wasn't kept aside, so that a crash at any moment leaves the
 /// file that there was when the disk was opened, whatever its callers do, until `finish` gives that up. Contracts see
-/// the disk, which pages were kept, and how many reads, calls of `shape`, changing calls and failures there were; a
-/// refused call is a failure.
+/// the disk, which pages were kept, how many reads, calls of `shape` and changing calls there were, and how many calls
+/// were refused; a refused call is a failure of the store, and none of the disk.
 #[derive(Drop)]
 pub struct KeptStore<D: Disk + Drop> {
     disk: D,
@@ -39,12 +42,12 @@ pub struct KeptStore<D: Disk + Drop> {
     reads: u64,
     shapes: u64,
     writes: u64,
-    failures: u64,
+    refusals: u64,
 }
 
 impl<D: Disk + Drop> Model for KeptStore<D> {
     ghost use Rattle.std.specs.Prelude.{IsTrue};
-    ghost use Rattle.page_journal.specs.KeptStores.{KeptStored, IsGuarded, coded_kept_stored};
+    ghost use Rattle.page_journal.specs.KeptStores.{KeptStored, IsGuarded, coded_kept_stored, old_file_of};
 
     ghost Value = { KeptStored D };
 
@@ -57,11 +60,11 @@ impl<D: Disk + Drop> Model for KeptStore<D> {
       reads = s.reads;
       shapes = s.shapes;
       writes = s.writes;
-      failures = s.failures;
+      refusals = s.refusals;
     } };
 
     ghost invariant = { λ s. IsTrue (D.steady s.disk)
-        → IsGuarded D.DiskState s.state s.kept.items s.disk };
+        → IsGuarded D.DiskState (old_file_of D.DiskState s.disk) s.state s.kept.items s.disk };
 }
 
 // Whether page n was kept or is past the old end.
@@ -92,9 +95,9 @@ impl<D: Disk + Drop> KeptStore<D> {
     /// memory.
     pub fn new(alloc: Global, disk: D) -> KeptStore<D>
         requires settled { IsTrue (D.steady disk)
-            → IsSettled D.DiskState (recovered D.began) disk }
+            → IsSettled D.DiskState (recovered (D.began disk)) disk }
         requires time { IsTrue (D.steady disk) → (c : Files) → D.left_since disk 0 c
-            → StandsFor (recovered D.began) c }
+            → StandsFor (recovered (D.began disk)) c }
         ensures { result ≡ record {
           disk = disk;
           kept = [];
@@ -102,7 +105,7 @@ impl<D: Disk + Drop> KeptStore<D> {
           reads = 0;
           shapes = 0;
           writes = 0;
-          failures = 0;
+          refusals = 0;
         } }
     {
         KeptStore {
@@ -113,7 +116,7 @@ impl<D: Disk + Drop> KeptStore<D> {
             reads: 0,
             shapes: 0,
             writes: 0,
-            failures: 0,
+            refusals: 0,
         }
     }
 
@@ -122,7 +125,7 @@ impl<D: Disk + Drop> KeptStore<D> {
     /// file, also during this call. Faults: Device, where a call of the disk failed; BadJournal. The disk comes back.
     pub fn open(alloc: Global, disk: D) -> Result<KeptStore<D>, (D, RecoveryFault)>
         requires rest { IsAtRest D.DiskState disk }
-        requires began { IsTrue (D.steady disk) → D.seen disk ≡ D.began }
+        requires began { IsTrue (D.steady disk) → D.seen disk ≡ D.began disk }
         requires moment { D.moment disk ≡ 0 }
         ensures opened { IfOk result (λ s. s ≡ record {
           disk = s.disk;
@@ -131,16 +134,17 @@ impl<D: Disk + Drop> KeptStore<D> {
           reads = 0;
           shapes = 0;
           writes = 0;
-          failures = 0;
+          refusals = 0;
         }) }
         ensures steady { IfOk result (λ s. D.steady s.disk ≡ D.steady disk) }
+        ensures began { IfOk result (λ s. D.began s.disk ≡ D.began disk) }
         ensures failures { IfOk result (λ s. D.failures s.disk ≡ D.failures disk) }
-        ensures file { IsTrue (D.steady disk) → IfOk result (λ s. Belongs D.began
-            × ((D.seen s.disk).main ≡ recovered D.began)) }
+        ensures file { IsTrue (D.steady disk) → IfOk result (λ s. Belongs (D.began disk)
+            × ((D.seen s.disk).main ≡ recovered (D.began disk))) }
         ensures stopped { IsTrue (D.steady disk) → IfErr result (λ stop. (c : Files)
-            → D.left_since stop.0 0 c → StandsAs D.began c) }
+            → D.left_since stop.0 0 c → StandsAs (D.began disk) c) }
         ensures bad_journal { IsTrue (D.steady disk) → IfErr result (λ stop.
-            stop.1 ≡ RecoveryFault.BadJournal → IsForeign D.began) }
+            stop.1 ≡ RecoveryFault.BadJournal → IsForeign (D.began disk)) }
         ensures device { IfErr result (λ stop. D.failures stop.0
             ≡ counted (D.failures disk) (is_device_fault stop.1)) }
     {
@@ -165,11 +169,19 @@ impl<D: Disk + Drop> KeptStore<D> {
     fn keep_aside(&mut self, numbers: &[u32]) -> Result<(), StoreFault>
         ensures same { (D.seen self.new.disk).main ≡ (D.seen self.old.disk).main }
         ensures steady { D.steady self.new.disk ≡ D.steady self.old.disk }
+        ensures began { D.began self.new.disk ≡ D.began self.old.disk }
         ensures sealed { OnOk result ((self.new.state ≡ SealState.Sealed) × ((n : ℕ)
             → n < length (D.seen self.old.disk).main.pages
             → is_open self.new.kept n ≡ list_any (λ m. n == m) numbers.now)) }
-        ensures again { self.old.state ≢ SealState.Unsealed
-            → (result ≡ Err StoreFault.Failed) × (self.new ≡ self.old) }
+        ensures again { self.old.state ≢ SealState.Unsealed → (result ≡ Err StoreFault.Failed)
+            × (self.new ≡ record self.old { refusals = counted self.old.refusals true }) }
+        ensures guard { CanBeSealed (D.seen self.old.disk).main → SealsGuard
+            (λ n. list_any (λ m. n == m) numbers.now) (length (D.seen self.old.disk).main.pages)
+            (guard_of self.old.state self.old.kept self.old.refusals) result
+            (guard_of self.new.state self.new.kept self.new.refusals) }
+        ensures failures { failures_with (D.failures self.new.disk) self.new.refusals
+            ≡ counted (failures_with (D.failures self.old.disk) self.old.refusals)
+            (is_failed result) }
         ensures passes { self.old.state ≡ SealState.Unsealed
             → CanBeSealed (D.seen self.old.disk).main → D.failures self.new.disk
             ≡ counted (D.failures self.old.disk) (is_failed result) }
@@ -178,13 +190,16 @@ impl<D: Disk + Drop> KeptStore<D> {
           disk = self.new.disk;
           kept = self.new.kept;
           state = self.new.state;
+          refusals = self.new.refusals;
         } }
     {
         let SealState::Unsealed = self.state else {
+            count_up(&mut self.refusals);
             return Err(StoreFault::Failed);
         };
         let shape = self.disk.shape()?;
         if shape.tail > 0 || shape.pages > MOST_PAGES {
+            count_up(&mut self.refusals);
             return Err(StoreFault::Failed);
         }
         let long = shape.pages as u32;
@@ -206,11 +221,17 @@ impl<D: Disk + Drop> KeptStore<D> {
         ensures settled { IsTrue (D.steady self.disk) → OnOk result.1
             (IsSettled D.DiskState (D.seen self.disk).main result.0) }
         ensures any_moment { IsTrue (D.steady self.disk) → (c : Files) → D.left_since result.0 0 c
-            → IsEither (recovered D.began) (D.seen self.disk).main c }
+            → IsEither (recovered (D.began self.disk)) (D.seen self.disk).main c }
         ensures same { (D.seen result.0).main ≡ (D.seen self.disk).main }
         ensures steady { D.steady result.0 ≡ D.steady self.disk }
+        ensures began { D.began result.0 ≡ D.began self.disk }
         ensures failures { self.state ≢ SealState.Stopped → D.failures result.0
             ≡ counted (D.failures self.disk) (is_failed result.1) }
+        ensures unsealed { self.state ≡ SealState.Unsealed
+            → (result.0 ≡ self.disk) × (result.1 ≡ Ok tt) }
+        ensures stopped { self.state ≡ SealState.Stopped
+            → (result.0 ≡ self.disk) × (result.1 ≡ Err StoreFault.Failed) }
+        ensures no_memory { result.1 ≢ Err StoreFault.Memory }
     {
         let KeptStore {
             mut disk,
@@ -226,15 +247,21 @@ impl<D: Disk + Drop> KeptStore<D> {
     }
 
     /// The disk, with the file put back that there was when it was opened, as after calls that failed. A crash at any
-    /// moment since the disk was opened leaves files that stand for that file. Fault: Device, where a call of the disk
-    /// failed; an opening finds the file then.
+    /// moment since the disk was opened leaves files that stand for that file. Where nothing is kept aside the disk isn't
+    /// called. Faults: Device, where a call of the disk failed; an opening finds the file then. BadJournal, where a disk
+    /// that isn't steady doesn't give back what was kept; nothing has changed then.
     pub fn take_back(self) -> (D, Result<(), RecoveryFault>)
         ensures old { IsTrue (D.steady self.disk)
-            → OnOk result.1 ((D.seen result.0).main ≡ recovered D.began) }
+            → OnOk result.1 ((D.seen result.0).main ≡ recovered (D.began self.disk)) }
         ensures any_moment { IsTrue (D.steady self.disk) → (c : Files) → D.left_since result.0 0 c
-            → StandsFor (recovered D.began) c }
+            → StandsFor (recovered (D.began self.disk)) c }
         ensures fault { IsTrue (D.steady self.disk) → result.1 ≢ Err RecoveryFault.BadJournal }
+        ensures unsealed { self.state ≢ SealState.Sealed
+            → (result.0 ≡ self.disk) × (result.1 ≡ Ok tt) }
+        ensures bad_journal { result.1 ≡ Err RecoveryFault.BadJournal
+            → D.seen result.0 ≡ D.seen self.disk }
         ensures steady { D.steady result.0 ≡ D.steady self.disk }
+        ensures began { D.began result.0 ≡ D.began self.disk }
         ensures device { D.failures result.0
             ≡ counted (D.failures self.disk) (is_device result.1) }
     {
@@ -253,6 +280,8 @@ impl<D: Disk + Drop> KeptStore<D> {
 
 impl<D: Disk + Drop> StoreState for KeptStore<D> {
     ghost use Rattle.std.specs.Prelude.{None};
+    ghost use Rattle.page_journal.specs.Files.{recovered};
+    ghost use Rattle.page_journal.specs.KeptStores.{failures_with, guard_of, opened_over};
 
     ghost pages = { λ s. (D.seen s.disk).main.pages };
 
@@ -260,15 +289,19 @@ impl<D: Disk + Drop> StoreState for KeptStore<D> {
 
     ghost steady = { λ s. D.steady s.disk };
 
+    ghost opening = { λ s. opened_over (recovered (D.began s.disk)) };
+
     ghost reads = { λ s. s.reads };
 
     ghost shapes = { λ s. s.shapes };
 
     ghost writes = { λ s. s.writes };
 
-    ghost failures = { λ s. s.failures };
+    ghost failures = { λ s. failures_with (D.failures s.disk) s.refusals };
 
     ghost journal = { λ _. None };
+
+    ghost guard = { λ s. guard_of s.state s.kept s.refusals };
 }
 
 // A method's clauses stand in place of its trait's, so these are written again before those that tell
@@ -276,14 +309,12 @@ impl<D: Disk + Drop> StoreState for KeptStore<D> {
 impl<D: Disk + Drop> Store for KeptStore<D> {
     fn shape(&mut self) -> Result<Shape, StoreFault> {
         self.shapes = self.shapes.saturating_add(1);
-        let answer = self.disk.shape();
-        noted(&mut self.failures, answer)
+        self.disk.shape()
     }
 
     fn read(&mut self, n: u32, to: &mut [u8; PAGE_WIDTH]) -> Result<(), StoreFault> {
         self.reads = self.reads.saturating_add(1);
-        let answer = self.disk.read(n, to);
-        noted(&mut self.failures, answer)
+        self.disk.read(n, to)
     }
 
     /// Writes page n, which is there. Fault: Failed, where page n mustn't be written over, and nothing has changed then,
@@ -306,10 +337,10 @@ impl<D: Disk + Drop> Store for KeptStore<D> {
     {
         self.writes = self.writes.saturating_add(1);
         if !self.may_write(n) {
-            return noted(&mut self.failures, Err(StoreFault::Failed));
+            count_up(&mut self.refusals);
+            return Err(StoreFault::Failed);
         }
-        let answer = self.disk.write(n, from);
-        noted(&mut self.failures, answer)
+        self.disk.write(n, from)
     }
 
     /// Makes the store n pages long, which is no fewer than it has. New pages are zero, and the tail is gone. Fault:
@@ -333,16 +364,31 @@ impl<D: Disk + Drop> Store for KeptStore<D> {
     {
         self.writes = self.writes.saturating_add(1);
         let SealState::Sealed = self.state else {
-            return noted(&mut self.failures, Err(StoreFault::Failed));
+            count_up(&mut self.refusals);
+            return Err(StoreFault::Failed);
         };
-        let answer = self.disk.grow(n);
-        noted(&mut self.failures, answer)
+        self.disk.grow(n)
     }
 
-    fn sync(&mut self) -> Result<(), StoreFault> {
+    /// Has the device keep what was written, where no old pages were kept aside; where they were, what is written counts
+    /// for nothing until `finish` has the device keep it, and the disk isn't called. Fault: Failed, where the disk
+    /// failed; no page has changed then.
+    fn sync(&mut self) -> Result<(), StoreFault>
+        ensures same_pages { (D.seen self.new.disk).main.pages ≡ (D.seen self.old.disk).main.pages }
+        ensures same_tail { (D.seen self.new.disk).main.tail ≡ (D.seen self.old.disk).main.tail }
+        ensures changes { ChangesStore ⟦<KeptStore<D> as StoreState>⟧ Step.Sync
+            self.old result self.new }
+        ensures sealed { self.old.state ≡ SealState.Sealed
+            → IsOk result × (self.new.disk ≡ self.old.disk) }
+        ensures passes { self.old.state ≢ SealState.Sealed
+            → CallSyncs D.DiskState (λ f. f.main) self.old.disk result self.new.disk }
+        ensures stays { (self.new.state ≡ self.old.state) × (self.new.kept ≡ self.old.kept) }
+    {
         self.writes = self.writes.saturating_add(1);
-        let answer = self.disk.sync();
-        noted(&mut self.failures, answer)
+        if let SealState::Sealed = self.state {
+            return Ok(());
+        }
+        self.disk.sync()
     }
 }
 
@@ -352,6 +398,11 @@ impl<D: Disk + Drop> SealStore for KeptStore<D> {
     fn seal(&mut self, numbers: &[u32]) -> Result<(), StoreFault>
         ensures leaves { SealsStore ⟦<KeptStore<D> as StoreState>⟧
             self.old result self.new }
+        ensures guard { (D.seen self.old.disk).main.tail ≡ 0
+            → length (D.seen self.old.disk).main.pages ≤ greatest_page_count → SealsGuard
+            (λ n. list_any (λ m. n == m) numbers.now) (length (D.seen self.old.disk).main.pages)
+            (guard_of self.old.state self.old.kept self.old.refusals) result
+            (guard_of self.new.state self.new.kept self.new.refusals) }
         ensures sealed { OnOk result ((self.new.state ≡ SealState.Sealed) × ((n : ℕ)
             → n < length (D.seen self.old.disk).main.pages
             → is_open self.new.kept n ≡ list_any (λ m. n == m) numbers.now)) }
@@ -363,7 +414,6 @@ impl<D: Disk + Drop> SealStore for KeptStore<D> {
         ensures refused { OnOk result (CanBeSealed (D.seen self.old.disk).main) }
     {
         self.reads = self.reads.saturating_add(1);
-        let answer = self.keep_aside(numbers);
-        noted(&mut self.failures, answer)
+        self.keep_aside(numbers)
     }
 }

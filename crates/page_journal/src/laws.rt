@@ -6,11 +6,14 @@ ghost use Rattle.page_journal.specs.Carrying.{LeavesOf, WritesKept};
 ghost use Rattle.page_journal.specs.Files.{PageFile, Kept, Files, Agree, IsOf, restored, recovered};
 ghost use Rattle.page_journal.specs.Crash.{StandsFor, IsEither, Gathered};
 ghost use Rattle.page_journal.specs.History.{all_done, MayLeave, LeftSince};
-ghost use Rattle.page_journal.specs.Examples.{pages_of_two, alone, old_file, word, words, word_kept, page_1_kept, page_1_written, both_written, both_writes, side_made, side_named, named_early, page_1_steps, both_steps};
+ghost use Rattle.page_journal.specs.Examples.{pages_of_two, alone, old_file, word, words, word_kept, page_1_kept, page_1_written, both_written, both_writes, side_made, side_named, named_early, log_made, log_named_early, with_log, page_1_steps, both_steps};
 ghost use Rattle.page_store.specs.Blank.{blank};
 ghost use Rattle.page_journal.specs.Sums.{sum_start, sum_on};
 ghost use Rattle.page_journal.specs.SideBytes.{side_header, entry_bytes, side_bytes, read_side, IsSideFile, IsTaken};
+ghost use Rattle.page_journal.specs.declared.commit_call.CommitCall.{CommitCall};
 ghost use Rattle.page_journal.specs.declared.disk_call.DiskCall.{DiskCall};
+ghost use Rattle.std.specs.Prelude.{Vec};
+ghost use Rattle.std.specs.declared.alloc.Global.{Global};
 
 /// What old pages leave that are put back depends on no page that was kept, and on nothing past the old end. In the
 /// example page 1 of two was kept, then it was written over and a page was added. It fails where a page was written
@@ -89,6 +92,23 @@ pub fn naming_by_example()
     ensures removed_early { ((c : Files) → MayLeave (alone old_file)
         (DiskCall.SyncNames ∷ DiskCall.Remove ∷ both_writes ++ side_named) c
         → IsEither old_file (pages_of_two 7 9) c) → ⊥ }
+{}
+
+/// A log of commits that was synced before it got its name, which the device keeps then, is there with its bytes whatever else
+/// a crash takes. It fails where it wasn't synced. A write that isn't synced may be done or lost; once it is synced it is there,
+/// and a sync of the names alone keeps nothing of it. Pages stay as they were.
+pub fn logs_by_example()
+    ensures made { (bytes : Vec ℕ Global) (c : Files) → MayLeave (alone old_file) (log_made bytes) c
+        → (c.commits.log ≡ Some bytes.items) × (c.main ≡ old_file) }
+    ensures named_early { (bytes : Vec ℕ Global) → bytes.items ≡ 7 ∷ []
+        → ((c : Files) → MayLeave (alone old_file) (log_named_early bytes) c
+        → c.commits.log ≡ Some bytes.items) → ⊥ }
+    ensures lost { (bytes : Vec ℕ Global) → bytes.items ≡ 7 ∷ [] → MayLeave (with_log old_file (0 ∷ []))
+        (DiskCall.SyncNames ∷ DiskCall.Commits (CommitCall.Write 0 bytes) ∷ [])
+        (with_log old_file (0 ∷ [])) }
+    ensures synced { (bytes : Vec ℕ Global) (c : Files) → bytes.items ≡ 7 ∷ []
+        → MayLeave (with_log old_file (0 ∷ [])) (DiskCall.Commits CommitCall.Sync
+        ∷ DiskCall.Commits (CommitCall.Write 0 bytes) ∷ []) c → c.commits.log ≡ Some (7 ∷ []) }
 {}
 
 /// What the bytes of a side file say is what they were made of, and bytes are taken where they are those of a side file and

@@ -2,8 +2,10 @@
 //! that a crash at any moment leaves the old file or the new one.
 #![tactic(auto)]
 
+mod append_fault;
 mod beside;
 mod blank;
+mod commit_call;
 mod disk;
 mod disk_call;
 mod disk_state;
@@ -13,7 +15,11 @@ mod fresh_side;
 mod kept_side;
 mod kept_store;
 pub mod laws;
+mod log_files;
+mod log_place;
+mod logging;
 mod making;
+mod mem_commits;
 mod mem_disk;
 mod mem_files;
 mod noted;
@@ -28,15 +34,19 @@ mod side_names;
 mod side_shape;
 mod side_tally;
 
+pub use append_fault::AppendFault;
 pub use beside::Beside;
+pub use commit_call::CommitCall;
 pub use disk::Disk;
 pub use disk_call::DiskCall;
 pub use disk_state::DiskState;
 pub use fate::Fate;
 pub use file_disk::{FileDisk, has_side_file, side_name};
 pub use kept_store::KeptStore;
+pub use log_place::LogPlace;
+pub use logging::{append, begin_log, read_back};
 pub use making::{keep_made, make_file, refused_beside, take_away};
-pub use mem_disk::{Beginning, MemDisk};
+pub use mem_disk::MemDisk;
 pub use opening_fault::OpeningFault;
 pub use recovering::{commit, recover};
 pub use recovery_fault::RecoveryFault;

@@ -1,7 +1,7 @@
 ghost use Rattle.std.specs.Prelude.{◌≡◌, ◌<◌, ◌≤◌, [], Some, None, Err, length, take, reverse, All, IsTrue, IsSome, IfSome, OnOk, OnErr, IfOk};
 ghost use Rattle.rec_types.specs.Table.{counted};
 ghost use Rattle.rec_types.specs.Widths.{page_width};
-ghost use Rattle.page_journal.specs.Files.{Files};
+ghost use Rattle.page_journal.specs.Files.{no_commits};
 ghost use Rattle.page_journal.specs.Steps.{nothing_kept};
 ghost use Rattle.page_journal.specs.History.{MayLeave, all_done, with_call, failed_more};
 ghost use Rattle.page_journal.specs.Fates.{first_calls};
@@ -9,36 +9,31 @@ ghost use Rattle.page_journal.specs.declared.fate.Fate.{Fate};
 ghost use Rattle.page_journal.specs.declared.disk_call.DiskCall.{DiskCall};
 ghost use Rattle.page_store.specs.StoreFaults.{OnlyFails};
 
+use crate::commit_call::CommitCall;
 use crate::disk::Disk;
 use crate::disk_call::DiskCall;
 use crate::disk_state::DiskState;
 use crate::fate::Fate;
+use crate::mem_commits::{MemCommits, zeros_behind};
 use crate::mem_files::{MemFiles, OldPages, copy_of_pages};
 use crate::side_shape::SideShape;
 use page_store::{Shape, StoreFault};
 use rec_types::{Memory, PAGE_WIDTH};
 use std::alloc::Global;
-use std::marker::{Model, PhantomData};
-
-/// What the files of a disk in memory were at first, as contracts know it. It has no code.
-pub trait Beginning {
-    /// The files.
-    ghost files: { Files };
-}
+use std::marker::Model;
 
 /// A disk in memory, which keeps what its files were at first and each changing call since then. A crash leaves any
 /// of the calls that weren't synced done, not done or torn. It is always steady; its calls fail where there is no
 /// memory, and at nothing else but a side file that isn't there.
 #[derive(Drop)]
-pub struct MemDisk<B> {
+pub struct MemDisk {
     first: MemFiles,
     calls: Vec<DiskCall>,
     seen: MemFiles,
     failures: u64,
-    beginning: PhantomData<B>,
 }
 
-impl<B> Model for MemDisk<B> {
+impl Model for MemDisk {
     ghost use Rattle.std.specs.Prelude.{◌≡◌, reverse};
     ghost use Rattle.page_journal.specs.History.{History, all_done};
 
@@ -53,16 +48,17 @@ impl<B> Model for MemDisk<B> {
     ghost invariant = { λ d. d.seen ≡ all_done d.first (reverse d.calls.items) };
 }
 
-impl<B> MemDisk<B> {
+impl MemDisk {
     /// A disk whose file has these pages and a tail of that many bytes, at most 4,095, with no side file. Fault:
     /// Memory.
-    pub fn new(alloc: Global, pages: &[[u8; PAGE_WIDTH]], tail: u16) -> Result<MemDisk<B>, Memory>
+    pub fn new(alloc: Global, pages: &[[u8; PAGE_WIDTH]], tail: u16) -> Result<MemDisk, Memory>
         requires { tail < page_width }
         ensures { IfOk result (λ d. d ≡ record {
           first = record {
             main = record { pages = pages.now; tail = tail };
             fresh = nothing_kept 0;
             side = None;
+            commits = no_commits;
           };
           calls = [];
           failures = 0;
@@ -73,7 +69,6 @@ impl<B> MemDisk<B> {
             calls: Vec::new(alloc),
             seen: mem_files(alloc, pages, tail)?,
             failures: 0,
-            beginning: PhantomData,
         })
     }
 
@@ -94,7 +89,7 @@ impl<B> MemDisk<B> {
     /// The disk after a crash and a restart, which came after as many of the calls as there are fates, and where each of
     /// these calls had its fate, unless it was synced. None where the device kept the names and the fates would have
     /// it lose one. Fault: Memory.
-    pub fn crash<C>(&self, fates: &[Fate]) -> Result<Option<MemDisk<C>>, Memory>
+    pub fn crash(&self, fates: &[Fate]) -> Result<Option<MemDisk>, Memory>
         requires { length fates.now ≤ length self.now.calls }
         ensures left { IfOk result (λ found. IfSome found (λ d. (d.calls ≡ []) × (d.failures ≡ 0)
             × MayLeave self.now.first (first_calls (length fates.now) self.now.calls) d.first)) }
@@ -143,11 +138,11 @@ impl<B> MemDisk<B> {
     }
 }
 
-impl<B: Beginning> DiskState for MemDisk<B> {
+impl DiskState for MemDisk {
     ghost use Rattle.std.specs.Prelude.{true, length};
     ghost use Rattle.page_journal.specs.History.{all_done, MayLeave, LeftSince};
 
-    ghost began = { B.files };
+    ghost began = { λ d. d.first };
 
     ghost steady = { λ _. true };
 
@@ -162,7 +157,7 @@ impl<B: Beginning> DiskState for MemDisk<B> {
     ghost failures = { λ d. d.failures };
 }
 
-impl<B: Beginning> Disk for MemDisk<B> {
+impl Disk for MemDisk {
     ghost use Rattle.page_journal.specs.History.{left_now, only_left_now};
 
     ghost only_now = { λ d c left. only_left_now d.first d.calls c left };
@@ -221,6 +216,57 @@ impl<B: Beginning> Disk for MemDisk<B> {
         self.note(DiskCall::SyncNames)
     }
 
+    fn start_log(&mut self, head: &[u8], room: usize) -> Result<(), StoreFault> {
+        match zeros_behind(self.seen.alloc, head, room) {
+            Ok(bytes) => self.note(DiskCall::Commits(CommitCall::Start(bytes))),
+            Err(Memory) => Err(self.fail()),
+        }
+    }
+
+    fn sync_fresh_log(&mut self) -> Result<(), StoreFault> {
+        self.note(DiskCall::Commits(CommitCall::SyncFresh))
+    }
+
+    fn name_log(&mut self) -> Result<(), StoreFault> {
+        self.note(DiskCall::Commits(CommitCall::Name))
+    }
+
+    fn remove_log(&mut self) -> Result<(), StoreFault> {
+        self.note(DiskCall::Commits(CommitCall::Remove))
+    }
+
+    fn lengthen_log(&mut self, at: usize, n: usize) -> Result<(), StoreFault> {
+        self.note(DiskCall::Commits(CommitCall::Lengthen(at, n)))
+    }
+
+    fn write_log(&mut self, at: usize, bytes: &[u8]) -> Result<(), StoreFault> {
+        match zeros_behind(self.seen.alloc, bytes, 0) {
+            Ok(bytes) => self.note(DiskCall::Commits(CommitCall::Write(at, bytes))),
+            Err(Memory) => Err(self.fail()),
+        }
+    }
+
+    fn sync_log(&mut self) -> Result<(), StoreFault> {
+        self.note(DiskCall::Commits(CommitCall::Sync))
+    }
+
+    fn log_length(&mut self) -> Result<Option<u64>, StoreFault> {
+        match &self.seen.commits.log {
+            Some(log) => Ok(Some(log.bytes.len() as u64)),
+            None => Ok(None),
+        }
+    }
+
+    fn read_log(&mut self, at: usize, to: &mut [u8]) -> Result<(), StoreFault> {
+        match &self.seen.commits.log {
+            Some(log) if at <= log.bytes.len() && to.len() <= log.bytes.len() - at => {
+                to.copy_from_slice(&log.bytes[at..at + to.len()]);
+                Ok(())
+            }
+            _ => Err(self.fail()),
+        }
+    }
+
     fn side(&mut self) -> Result<Option<SideShape>, StoreFault> {
         let Some(kept) = &self.seen.side else {
             return Ok(None);
@@ -275,7 +321,7 @@ fn suffer_all(
 }
 
 // A disk that has these files.
-fn restarted<B>(files: MemFiles) -> Result<Option<MemDisk<B>>, Memory>
+fn restarted(files: MemFiles) -> Result<Option<MemDisk>, Memory>
     ensures { IfOk result (λ found. found
         ≡ Some (record { first = files; calls = []; failures = 0 })) }
 {
@@ -286,7 +332,6 @@ fn restarted<B>(files: MemFiles) -> Result<Option<MemDisk<B>>, Memory>
         calls: Vec::new(alloc),
         seen,
         failures: 0,
-        beginning: PhantomData,
     }))
 }
 
@@ -297,6 +342,7 @@ fn mem_files(alloc: Global, pages: &[[u8; PAGE_WIDTH]], tail: u16) -> Result<Mem
       main = record { pages = pages.now; tail = tail };
       fresh = nothing_kept 0;
       side = None;
+      commits = no_commits;
     }) }
 {
     Ok(MemFiles {
@@ -304,6 +350,7 @@ fn mem_files(alloc: Global, pages: &[[u8; PAGE_WIDTH]], tail: u16) -> Result<Mem
         tail,
         fresh: OldPages::new(alloc, 0),
         side: None,
+        commits: MemCommits::new(alloc),
         alloc,
     })
 }

@@ -8,6 +8,7 @@ ghost use Rattle.page_journal.specs.declared.disk_call.DiskCall.{DiskCall};
 use crate::blank::{blank_page, noise_page};
 use crate::disk_call::DiskCall;
 use crate::fate::Fate;
+use crate::mem_commits::MemCommits;
 use rec_types::{Memory, PAGE_WIDTH};
 use std::alloc::Global;
 use std::marker::Model;
@@ -91,6 +92,7 @@ pub(crate) struct MemFiles {
     pub(crate) tail: u16,
     pub(crate) fresh: OldPages,
     pub(crate) side: Option<OldPages>,
+    pub(crate) commits: MemCommits,
     pub(crate) alloc: Global,
 }
 
@@ -105,6 +107,7 @@ impl Model for MemFiles {
       main = record { pages = f.pages.items; tail = f.tail };
       fresh = f.fresh;
       side = f.side;
+      commits = f.commits;
     } };
 
     ghost invariant = { λ f. f.tail < page_width };
@@ -116,14 +119,15 @@ impl MemFiles {
         ensures ok { OnOk result (self.new ≡ done call.now self.old) }
         ensures err { OnErr result (self.new ≡ self.old) }
     {
-        match *call {
-            DiskCall::Write(n, page) => self.put(n, page),
-            DiskCall::Grow(n) => self.grow(n, &blank_page())?,
-            DiskCall::Cut(n) => self.cut(n),
-            DiskCall::Start(long, rest) => self.fresh = OldPages::begun(self.alloc, long, rest),
-            DiskCall::Keep(n, page) => self.fresh.pages.push((n, page))?,
+        match call {
+            DiskCall::Write(n, page) => self.put(*n, *page),
+            DiskCall::Grow(n) => self.grow(*n, &blank_page())?,
+            DiskCall::Cut(n) => self.cut(*n),
+            DiskCall::Start(long, rest) => self.fresh = OldPages::begun(self.alloc, *long, *rest),
+            DiskCall::Keep(n, page) => self.fresh.pages.push((*n, *page))?,
             DiskCall::Name => self.name(),
             DiskCall::Remove => self.side = None,
+            DiskCall::Commits(call) => self.commits.carry_out(call)?,
             DiskCall::Sync | DiskCall::SyncFresh | DiskCall::SyncNames => {}
         }
         Ok(())
@@ -180,6 +184,7 @@ impl MemFiles {
             tail: self.tail,
             fresh: self.fresh.copy(self.alloc)?,
             side,
+            commits: self.commits.copy()?,
             alloc: self.alloc,
         })
     }
@@ -206,11 +211,12 @@ impl MemFiles {
     fn tear(&mut self, call: &DiskCall) -> Result<(), Memory>
         ensures { OnOk result (self.new ≡ torn call.now self.old) }
     {
-        match *call {
-            DiskCall::Write(n, _) => self.put(n, noise_page()),
-            DiskCall::Grow(n) => self.grow(n, &noise_page())?,
+        match call {
+            DiskCall::Write(n, _) => self.put(*n, noise_page()),
+            DiskCall::Grow(n) => self.grow(*n, &noise_page())?,
             DiskCall::Start(..) => self.fresh = OldPages::new(self.alloc, 0),
-            DiskCall::Keep(n, _) => self.fresh.pages.push((n, noise_page()))?,
+            DiskCall::Keep(n, _) => self.fresh.pages.push((*n, noise_page()))?,
+            DiskCall::Commits(call) => self.commits.tear(call)?,
             DiskCall::Cut(_) | DiskCall::Name | DiskCall::Remove => {}
             DiskCall::Sync | DiskCall::SyncFresh | DiskCall::SyncNames => {}
         }
@@ -221,7 +227,7 @@ impl MemFiles {
     fn keep_part(&mut self, call: &DiskCall, seen: &MemFiles) -> Result<(), Memory>
         ensures { OnOk result (self.new ≡ kept_by call.now seen.now self.old) }
     {
-        match *call {
+        match call {
             DiskCall::Sync => {
                 self.pages = copy_of_pages(self.alloc, &seen.pages)?;
                 self.tail = seen.tail;
@@ -229,18 +235,22 @@ impl MemFiles {
             DiskCall::SyncFresh => self.fresh = seen.fresh.copy(self.alloc)?,
             DiskCall::Write(..) | DiskCall::Grow(_) | DiskCall::Cut(_) => {}
             DiskCall::Start(..) | DiskCall::Keep(..) => {}
-            DiskCall::Name | DiskCall::Remove | DiskCall::SyncNames => {}
+            DiskCall::Name | DiskCall::Remove | DiskCall::SyncNames | DiskCall::Commits(_) => {}
         }
         Ok(())
     }
 
-    /// Whether a sync of the names, where the call is one, lets a crash leave these files where reads see `seen`.
+    /// Whether a sync of the names or of a log, where the call is one, lets a crash leave these files where reads see `seen`.
     pub(crate) fn names_agree(&self, call: &DiskCall, seen: &MemFiles) -> bool
         ensures agree { IsTrue result → NamesAgree call.now seen.now self.now }
         ensures done { done call.now self.now ≡ seen.now → IsTrue result }
     {
-        match *call {
-            DiskCall::SyncNames => self.side.is_some() == seen.side.is_some(),
+        match call {
+            DiskCall::SyncNames => {
+                self.side.is_some() == seen.side.is_some()
+                    && self.commits.log.is_some() == seen.commits.log.is_some()
+            }
+            DiskCall::Commits(call) => self.commits.agree(call, &seen.commits),
             _ => true,
         }
     }

@@ -2,8 +2,8 @@ ghost use Rattle.std.specs.Prelude.{◌≡◌, ◌≢◌, ◌↔◌, ◌<◌, �
 ghost use Rattle.rec_types.specs.Table.{counted};
 ghost use Rattle.page_journal.specs.Files.{Kept, IsOf, Belongs, AscendBelow, is_kept, recovered, restored};
 ghost use Rattle.page_journal.specs.Sums.{SumsOn, sum_without};
-ghost use Rattle.page_journal.specs.Steps.{CallDoes, CallsLeave, CountsFault, Stays, TornAt, side_shape, StaysSteady};
-ghost use Rattle.page_journal.specs.Crash.{LeavesOnly, IsSettled, IsSealed, IsAtRest, StandsAs, StandsFor, IsEither, MayWrite, PutsBack};
+ghost use Rattle.page_journal.specs.Steps.{CallDoes, CallsLeave, CountsFault, Stays, TornAt, side_shape, StaysBegun, StaysSteady};
+ghost use Rattle.page_journal.specs.Crash.{LeavesLogs, LeavesOnly, IsSettled, IsSealed, IsAtRest, StandsAs, StandsFor, IsEither, MayWrite, PutsBack};
 ghost use Rattle.page_journal.specs.Recovery.{is_device, IsForeign};
 ghost use Rattle.page_journal.specs.StandsBeside.{StandsBeside};
 
@@ -40,6 +40,7 @@ pub(crate) fn overwrite<D: Disk>(
 /// side file may be there or not.
 pub fn commit<D: Disk>(disk: &mut D) -> Result<(), StoreFault>
     ensures calls { CallsLeave D.DiskState disk.old result disk.new }
+    ensures logs { LeavesLogs D.DiskState disk.old disk.new }
     ensures same { (D.seen disk.new).main ≡ (D.seen disk.old).main }
     ensures committed { (kept : Kept) (base : List (List ℕ))
         → IsSealed D.DiskState kept base disk.old
@@ -58,6 +59,7 @@ pub fn commit<D: Disk>(disk: &mut D) -> Result<(), StoreFault>
 fn put_pages<D: Disk>(disk: &mut D, long: u32, count: u32) -> Result<(), StoreFault>
     requires long { long ≡ length (D.seen disk.old).main.pages }
     ensures calls { CallsLeave D.DiskState disk.old result disk.new }
+    ensures logs { LeavesLogs D.DiskState disk.old disk.new }
     ensures tail { (D.seen disk.new).main.tail ≡ (D.seen disk.old).main.tail }
     ensures put { IsTrue (D.steady disk.old) → (kept : Kept) (base : List (List ℕ))
         → kept.long ≡ long → length kept.pages ≡ count → IsSealed D.DiskState kept base disk.old
@@ -78,6 +80,7 @@ fn put_pages<D: Disk>(disk: &mut D, long: u32, count: u32) -> Result<(), StoreFa
 fn put_back<D: Disk>(disk: &mut D, side: SideShape) -> Result<(), StoreFault>
     requires long { side.long ≤ length (D.seen disk.old).main.pages }
     ensures calls { CallsLeave D.DiskState disk.old result disk.new }
+    ensures logs { LeavesLogs D.DiskState disk.old disk.new }
     ensures restored { IsTrue (D.steady disk.old) → (kept : Kept) (base : List (List ℕ))
         → side_shape (Some kept) ≡ Some side → IsSealed D.DiskState kept base disk.old
         → OnOk result (IsSettled D.DiskState (restored kept base) disk.new) }
@@ -180,6 +183,8 @@ pub(crate) fn look_beside<D: Disk>(disk: &mut D) -> Result<Beside, StoreFault>
 /// no closing leaves that, and nothing has changed then.
 pub fn recover<D: Disk>(disk: &mut D) -> Result<(), RecoveryFault>
     ensures steady { StaysSteady D.DiskState disk.old disk.new }
+    ensures began { StaysBegun D.DiskState disk.old disk.new }
+    ensures logs { LeavesLogs D.DiskState disk.old disk.new }
     ensures recovered { IsTrue (D.steady disk.old) → IsAtRest D.DiskState disk.old → OnOk result
         (IsSettled D.DiskState (recovered (D.seen disk.old)) disk.new) }
     ensures any_moment { IsTrue (D.steady disk.old) → IsAtRest D.DiskState disk.old

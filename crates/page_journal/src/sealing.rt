@@ -3,7 +3,7 @@ ghost use Rattle.page_store.specs.FreeNumbers.{greatest_page_count};
 ghost use Rattle.page_journal.specs.Files.{Kept, AscendBelow, restored};
 ghost use Rattle.page_journal.specs.Sums.{sum_without};
 ghost use Rattle.page_journal.specs.Steps.{CallsLeave, CountsFault, Stays, begun};
-ghost use Rattle.page_journal.specs.Crash.{LeavesOnly, IsSettled, IsSealed, StandsFor, Gathered, KeepsMarked};
+ghost use Rattle.page_journal.specs.Crash.{LeavesLogs, LeavesOnly, IsSettled, IsSealed, StandsFor, Gathered, KeepsMarked};
 
 use crate::blank::blank_page;
 use crate::disk::Disk;
@@ -41,6 +41,7 @@ fn gather<D: Disk>(disk: &mut D, marks: &[bool]) -> Result<(), StoreFault>
     requires fresh { IsTrue (D.steady disk.old) → (rest : ℕ)
         × ((D.seen disk.old).fresh ≡ begun (length marks.now) rest) }
     ensures calls { CallsLeave D.DiskState disk.old result disk.new }
+    ensures logs { LeavesLogs D.DiskState disk.old disk.new }
     ensures same { (D.seen disk.new).main ≡ (D.seen disk.old).main }
     ensures settled { IsTrue (D.steady disk.old)
         → IsSettled D.DiskState (D.seen disk.old).main disk.new }
@@ -76,6 +77,7 @@ pub fn seal<D: Disk>(disk: &mut D, marks: &[bool]) -> Result<(), StoreFault>
     requires settled { IsTrue (D.steady disk.old)
         → IsSettled D.DiskState (D.seen disk.old).main disk.old }
     ensures calls { CallsLeave D.DiskState disk.old result disk.new }
+    ensures logs { LeavesLogs D.DiskState disk.old disk.new }
     ensures same { (D.seen disk.new).main ≡ (D.seen disk.old).main }
     ensures sealed { IsTrue (D.steady disk.old) → OnOk result ((kept : Kept)
         × IsSealed D.DiskState kept (D.seen disk.old).main.pages disk.new

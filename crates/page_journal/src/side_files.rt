@@ -4,6 +4,7 @@ ghost use Rattle.file_system.specs.Facts.{IsAlone};
 
 use crate::fresh_side::{BEING_MADE, FreshSide};
 use crate::kept_side::{KeptSide, no_such_call};
+use crate::log_files::LogFiles;
 use crate::opening_fault::OpeningFault;
 use crate::side_bytes::begins_side_file;
 use crate::side_names::SideNames;
@@ -24,6 +25,7 @@ pub(crate) struct SideFiles<H, F> {
     opened: FileFacts,
     fresh: Option<FreshSide<F>>,
     side: Option<KeptSide<F>>,
+    logs: LogFiles<F>,
 }
 
 // Fails where the name leads to another file than that which was opened, or that has another name, too: under each of two
@@ -107,6 +109,7 @@ impl<H: System<File = F> + Drop, F: SystemFile + Drop> SideFiles<H, F> {
             opened,
             fresh: None,
             side,
+            logs: LogFiles::new(),
         })
     }
 
@@ -128,6 +131,7 @@ impl<H: System<File = F> + Drop, F: SystemFile + Drop> SideFiles<H, F> {
             opened,
             fresh: None,
             side,
+            logs: LogFiles::new(),
         })
     }
 
@@ -214,6 +218,35 @@ impl<H: System<File = F> + Drop, F: SystemFile + Drop> SideFiles<H, F> {
         self.rt.remove(self.names.side.as_str())?;
         self.side = None;
         Ok(())
+    }
+
+    /// Begins a log of commits with these bytes and so many zeros behind them, where the path still leads to the file.
+    /// Where that fails, it is removed.
+    pub(crate) fn start_log(&mut self, head: &[u8], room: usize) -> io::Result<()> {
+        let found = self.still_leads()?;
+        let name = self.names.fresh_log.as_str();
+        self.logs.start(&self.rt, name, &found, head, room)
+    }
+
+    /// Has the device keep it.
+    pub(crate) fn finish_log(&mut self) -> io::Result<()> {
+        self.logs.finish(self.opened.mode)
+    }
+
+    /// Gives it the name that an opening looks for, where nothing has that name.
+    pub(crate) fn name_log(&mut self) -> io::Result<()> {
+        let SideNames { fresh_log, log, .. } = &self.names;
+        self.logs.name(&self.rt, fresh_log.as_str(), log.as_str())
+    }
+
+    /// Takes the log of that name away.
+    pub(crate) fn remove_log(&mut self) -> io::Result<()> {
+        self.logs.remove(&self.rt, self.names.log.as_str())
+    }
+
+    /// The logs of commits.
+    pub(crate) fn logs(&mut self) -> &mut LogFiles<F> {
+        &mut self.logs
     }
 
     /// What the side file of that name says of its length.

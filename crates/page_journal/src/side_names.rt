@@ -2,10 +2,14 @@ use crate::opening_fault::OpeningFault;
 use file_system::System;
 use rec_types::Memory;
 use std::alloc::Global;
+use std::io;
 use std::path::Path;
 
 /// What the side file's name has behind the file's, and what it has besides while it is made.
 const SIDE: &str = "-journal";
+
+/// And what that of a log of commits has.
+const LOG: &str = "-commits";
 
 const NEW: &str = "-new";
 
@@ -20,6 +24,10 @@ pub(crate) struct SideNames {
     pub(crate) side: String,
     /// The side file that is being made.
     pub(crate) fresh: String,
+    /// The log of commits that an opening looks for.
+    pub(crate) log: String,
+    /// The log that is being made.
+    pub(crate) fresh_log: String,
     pub(crate) folder: String,
 }
 
@@ -31,7 +39,7 @@ impl SideNames {
         alloc: Global,
         path: &str,
     ) -> Result<SideNames, OpeningFault> {
-        let main = rt.true_path(alloc, path)?;
+        let main = whole_path(rt, alloc, path)?;
         let Some(folder) = Path::new(main.as_str()).parent() else {
             return Err(OpeningFault::Device);
         };
@@ -50,8 +58,8 @@ impl SideNames {
             return Err(OpeningFault::Device);
         };
         let folder = match folder.as_str() {
-            "" => rt.true_path(alloc, ".")?,
-            named => rt.true_path(alloc, named)?,
+            "" => whole_path(rt, alloc, ".")?,
+            named => whole_path(rt, alloc, named)?,
         };
         let within = longer(alloc, folder.as_str(), "/")?;
         let main = longer(alloc, within.as_str(), name)?;
@@ -62,6 +70,8 @@ impl SideNames {
     fn in_folder(alloc: Global, folder: String, main: String) -> Result<SideNames, OpeningFault> {
         let side = longer(alloc, main.as_str(), SIDE)?;
         let fresh = longer(alloc, side.as_str(), NEW)?;
+        let log = longer(alloc, main.as_str(), LOG)?;
+        let fresh_log = longer(alloc, log.as_str(), NEW)?;
         match Path::new(fresh.as_str()).file_name() {
             Some(name) if name.len() <= MOST_NAME => {}
             _ => return Err(OpeningFault::Device),
@@ -70,8 +80,19 @@ impl SideNames {
             main,
             side,
             fresh,
+            log,
+            fresh_log,
             folder,
         })
+    }
+}
+
+// A path without links. Faults: Device, Memory.
+fn whole_path<H: System>(rt: &H, alloc: Global, path: &str) -> Result<String, OpeningFault> {
+    match rt.true_path(alloc, path) {
+        Ok(whole) => Ok(whole),
+        Err(error) if error.kind() == io::ErrorKind::OutOfMemory => Err(OpeningFault::Memory),
+        Err(_) => Err(OpeningFault::Device),
     }
 }
 

@@ -258,26 +258,44 @@ fn no_memory() -> io::Error {
     io::Error::from(io::ErrorKind::OutOfMemory)
 }
 
-// Tells of the side file of the file at a path, and answers whether something stands beside it.
+// Tells why there is no name for a side file of the file at a path.
+fn tell_unnamed<F: OpenFile + FileExt + Lock + Drop, H: Files<File = F>, W: Write>(
+    rt: &H,
+    alloc: Global,
+    path: &str,
+    out: &mut W,
+) -> io::Result<()> {
+    match rt.canonicalize(alloc, path) {
+        Ok(_) => writeln!(
+            out,
+            "its name is too long for that of a side file beside it: no session opens it"
+        ),
+        Err(error) if error.kind() == io::ErrorKind::OutOfMemory => Err(error),
+        Err(error) => writeln!(
+            out,
+            "the system doesn't tell the whole path of {path}: {error}"
+        ),
+    }
+}
+
+// Tells of the side file of the file at a path, and answers whether something stands beside it; none where no side file can
+// have a name.
 fn tell_beside<F: OpenFile + FileExt + Lock + Drop, H: Files<File = F>, W: Write>(
     rt: &H,
     alloc: Global,
     path: &str,
     out: &mut W,
-) -> io::Result<bool> {
+) -> io::Result<Option<bool>> {
     let name = match side_name(&HostSystem::new(rt), alloc, path) {
         Ok(name) => name,
         Err(OpeningFault::Memory) => return Err(no_memory()),
         Err(_) => {
-            writeln!(
-                out,
-                "its name is too long for that of a side file beside it: no session opens it"
-            )?;
-            return Ok(false);
+            tell_unnamed(rt, alloc, path, out)?;
+            return Ok(None);
         }
     };
     match FileDisk::beside(HostSystem::new(rt), alloc, path) {
-        Ok(Beside::Nothing) => return Ok(false),
+        Ok(Beside::Nothing) => return Ok(Some(false)),
         Ok(Beside::OldPages) => writeln!(
             out,
             "beside it stands {name}: a session was stopped while it closed the file, and the next one puts the old pages back"
@@ -289,7 +307,7 @@ fn tell_beside<F: OpenFile + FileExt + Lock + Drop, H: Files<File = F>, W: Write
         Err(OpeningFault::Memory) => return Err(no_memory()),
         Err(_) => writeln!(out, "what stands beside it can't be read: {name}")?,
     }
-    Ok(true)
+    Ok(Some(true))
 }
 
 // Tells whether the system refuses what is made in the folder of a path, by a closing or by `create`, behind what then
@@ -332,13 +350,14 @@ fn explain_open<F: OpenFile + FileExt + Lock + Drop, H: Files<File = F>, W: Writ
         return Ok(false);
     }
     match stopped {
-        true => writeln!(
+        Some(true) => writeln!(
             out,
             "the file is whole by itself, and not with what stands beside it"
         )?,
-        false => writeln!(out, "the file is whole")?,
+        Some(false) => writeln!(out, "the file is whole")?,
+        None => writeln!(out, "the file is whole, and no session opens it")?,
     }
-    Ok(!stopped)
+    Ok(stopped == Some(false))
 }
 
 // Tells why the lock of an open file isn't taken. The file may be whole or not.

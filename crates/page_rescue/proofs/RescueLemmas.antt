@@ -18,8 +18,10 @@ stays_on s a b c first next = record {
   pages = next.pages ∙ first.pages;
   tail = next.tail ∙ first.tail;
   steady = next.steady ∙ first.steady;
+  opening = next.opening ∙ first.opening;
   writes = next.writes ∙ first.writes;
   journal = next.journal ∙ first.journal;
+  guard = next.guard ∙ first.guard;
 }
 
 -- what is true of a steady store before a read is told of it after one

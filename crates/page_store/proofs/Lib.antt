@@ -3,7 +3,9 @@ pub mod CallCountLemmas
 pub mod Candidates
 pub mod FreeNumberLemmas
 pub mod FrontLemmas
+pub mod GuardLemmas
 pub mod JournalLemmas
+pub mod KeptPageLemmas
 pub mod InMemoryLemmas
 mod InPlaceLemmas
 pub mod Overlays

@@ -1,12 +1,12 @@
 -- One page in memory written over.
-use Rattle.std.proofs.Common.{◌≡◌, ◌≢◌, ℕ, ◌<◌, ◌≤◌, Bool, true, false, cond, eqb, List, length, get_or, set, Option, Some, None, IsSome, is_some, refl, sym, ap, ◌∙◌, ⊎_elim}
+use Rattle.std.proofs.Common.{◌≡◌, ◌≢◌, ℕ, ◌<◌, ◌≤◌, Bool, true, false, cond, eqb, List, length, get_or, set, Option, Some, None, is_some, refl, sym, ap, ◌∙◌, ⊎_elim}
 use Rattle.std.proofs.lemmas.Bool.{cases_lt, false≢true}
 use Rattle.std.proofs.lemmas.Bool.Decides.{eqb_tells}
 use Rattle.std.proofs.lemmas.List.{get_or_past, get_or-set_same, get_or-set_other}
 use Rattle.page_store.specs.PageMap.{at, write_page}
 use Rattle.page_store.specs.Overlaid.{pages_of, ArePages}
 use Rattle.page_store.specs.WritingBack.{to_write, in_memory_of}
-use Rattle.page_store.proofs.InMemoryLemmas.{InUse, use_of, used_written, unused_written, memory_at, slot_in_memory}
+use Rattle.page_store.proofs.InMemoryLemmas.{InUse, use_of, used_written, unused_written, memory_at}
 use Rattle.page_store.proofs.NewestPageLemmas.{at_below, at_past, from_slot}
 
 -- a page that is in memory is in use, and has a slot

@@ -3,15 +3,17 @@ use Rattle.std.specs.Prelude.{◌≡◌, ℕ, List, length, Result, OnOk, OnErr}
 use Rattle.rec_types.specs.Table.{counted}
 use Rattle.page_store.specs.Calls.{counted_times, CountedUpTo}
 use Rattle.page_store.specs.Growth.{GrowsTo}
+use Rattle.page_store.specs.Guards.{AllowsAll}
 use Rattle.page_store.specs.Journal.{noted, NotesFront}
 use Rattle.page_store.specs.StoreFaults.{is_failed}
 use Rattle.page_store.specs.declared.step.Step.{Step}
 use Rattle.page_store.specs.declared.store_fault.StoreFault.{StoreFault}
 use Rattle.page_store.specs.declared.store_state.StoreState.{Ghosts}
 
--- so many calls were made, and these steps noted; up to the one that failed, where there is a fault
+-- so many calls were made, and these steps noted; up to the one that failed, where there is a fault. Where all of them are allowed none was refused.
 pub record Carries {S A : Type 0} (s : Ghosts S) (calls : ℕ) (steps : List Step) (old : S) (answer : Result A StoreFault) (new : S) : Type 0 where
   pub steady : s.steady new ≡ s.steady old
+  pub opening : s.opening new ≡ s.opening old
   pub reads : s.reads new ≡ s.reads old
   pub shapes : s.shapes new ≡ s.shapes old
   pub writes : OnOk answer (s.writes new ≡ counted_times (s.writes old) calls)
@@ -19,6 +21,7 @@ pub record Carries {S A : Type 0} (s : Ghosts S) (calls : ℕ) (steps : List Ste
   pub failures : s.failures new ≡ counted (s.failures old) (is_failed answer)
   pub journal : OnOk answer (s.journal new ≡ noted (s.journal old) steps)
   pub journal_err : OnErr answer (NotesFront steps (s.journal old) (s.journal new))
+  pub guard : AllowsAll (s.guard old) steps → s.guard new ≡ s.guard old
 
 -- the store has so many pages, and no bytes after them
 pub record IsLong {S : Type 0} (s : Ghosts S) (pages : ℕ) (store : S) : Type 0 where

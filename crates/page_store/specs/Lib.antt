@@ -8,8 +8,11 @@ pub mod FlakyStored
 pub mod FreeNumbers
 pub mod Fronts
 pub mod Growth
+pub mod Guards
 pub mod Journal
+pub mod KeptPages
 pub mod OpenedFile
+pub mod Opening
 pub mod Overlaid
 pub mod PageMap
 pub mod PagesView

@@ -1,7 +1,9 @@
 -- What contracts see of a store with changed pages in memory.
 use Rattle.std.specs.Prelude.{◌≡◌, ℕ, Bool, false, not, ◌&&◌, List, Option, None, is_some, if◌then◌else◌, slice_index_or}
 use Rattle.page_store.specs.PageMap.{PageMap, at}
+use Rattle.page_store.specs.Guards.{Guard}
 use Rattle.page_store.specs.Journal.{Journal}
+use Rattle.page_store.specs.Opening.{Opening}
 
 -- pages: each page's newest bytes, None for page 0 and for free numbers; changed: whether an edit was staged since the beginning or the last writing back; in_memory: of each page whether it is in use and its newest bytes are in memory; the rest is the store's
 pub record PagesView : Type 0 where
@@ -11,11 +13,13 @@ pub record PagesView : Type 0 where
   pub stored : List (List ℕ)
   pub tail : ℕ
   pub steady : Bool
+  pub opening : Opening
   pub reads : ℕ
   pub shapes : ℕ
   pub writes : ℕ
   pub failures : ℕ
   pub journal : Option Journal
+  pub guard : Guard
 
 -- whether page n is in use and its newest bytes are in memory
 abbrev pub is_in_memory : PagesView → ℕ → Bool

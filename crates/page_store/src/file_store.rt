@@ -154,12 +154,16 @@ fn noted(failures: &mut u64, answer: io::Result<()>) -> Result<(), StoreFault>
 
 impl<F: SystemFile + Drop> StoreState for FileStore<F> {
     ghost use Rattle.std.specs.Prelude.{None};
+    ghost use Rattle.page_store.specs.Opening.{untold};
+    ghost use Rattle.page_store.specs.Guards.{Unguarded};
 
     ghost pages = { λ s. s.pages };
 
     ghost tail = { λ s. s.tail };
 
     ghost steady = { λ s. s.steady };
+
+    ghost opening = { λ _. untold };
 
     ghost reads = { λ s. s.reads };
 
@@ -170,6 +174,8 @@ impl<F: SystemFile + Drop> StoreState for FileStore<F> {
     ghost failures = { λ s. s.failures };
 
     ghost journal = { λ _. None };
+
+    ghost guard = { λ _. Unguarded };
 }
 
 impl<F: SystemFile + Drop> Store for FileStore<F> {

@@ -105,6 +105,8 @@ impl<S: Store> StoreState for FlakyStore<S> {
 
     ghost steady = { λ s. S.steady s.inner };
 
+    ghost opening = { λ s. S.opening s.inner };
+
     ghost reads = { λ s. reads_of S.reads s };
 
     ghost shapes = { λ s. S.shapes s.inner };
@@ -114,6 +116,8 @@ impl<S: Store> StoreState for FlakyStore<S> {
     ghost failures = { λ s. failures_of S.failures s };
 
     ghost journal = { λ s. S.journal s.inner };
+
+    ghost guard = { λ s. S.guard s.inner };
 }
 
 // A method's clauses stand in place of its trait's, so these are written again before those that tell

@@ -6,6 +6,7 @@ mod count;
 mod file_store;
 mod flaky_store;
 mod free_numbers;
+mod kept_pages;
 pub mod laws;
 mod mem_store;
 mod page_edit;

@@ -69,12 +69,16 @@ impl MemStore {
 
 impl StoreState for MemStore {
     ghost use Rattle.std.specs.Prelude.{true, None};
+    ghost use Rattle.page_store.specs.Opening.{untold};
+    ghost use Rattle.page_store.specs.Guards.{Unguarded};
 
     ghost pages = { λ s. s.pages };
 
     ghost tail = { λ s. s.tail };
 
     ghost steady = { λ _. true };
+
+    ghost opening = { λ _. untold };
 
     ghost reads = { λ s. s.reads };
 
@@ -85,6 +89,8 @@ impl StoreState for MemStore {
     ghost failures = { λ _. 0 };
 
     ghost journal = { λ _. None };
+
+    ghost guard = { λ _. Unguarded };
 }
 
 impl Store for MemStore {

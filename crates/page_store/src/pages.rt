@@ -3,6 +3,7 @@ ghost use Rattle.std.specs.Ordering.{nat_cmp};
 ghost use Rattle.std.specs.BTreeSet.{contains};
 ghost use Rattle.rec_types.specs.Table.{counted};
 ghost use Rattle.page_store.specs.PageMap.{at, after, write_page, is_written, is_freed};
+ghost use Rattle.page_store.specs.Guards.{AllowsAll};
 ghost use Rattle.page_store.specs.Journal.{noted, NotesFront, writing_back};
 ghost use Rattle.page_store.specs.PagesView.{OnlyReads, is_in_memory, is_read, memory_pages};
 ghost use Rattle.page_store.specs.Calls.{counted_times, CountedUpTo, how_many};
@@ -13,10 +14,12 @@ ghost use Rattle.page_store.specs.Blank.{blanks};
 ghost use Rattle.page_store.specs.Growth.{GrowsTo};
 ghost use Rattle.page_store.specs.WriteFaults.{by_device};
 ghost use Rattle.page_store.specs.WritingBack.{AreStored, KeepsOthers, Stopped};
+ghost use Rattle.btree_node.specs.Spelling.{IsSpelt};
 
 mod sealing;
 
 use crate::free_numbers::{add_all, nth_number};
+use crate::kept_pages::KeptPages;
 use crate::page_edit::{FetchFault, PageEdit, WriteFault};
 use crate::slot::{
     Slot, boxed, changed_page, drop_pages, is_in_use, make_slots, slots_needed, write_one_over,
@@ -36,6 +39,8 @@ use std::marker::Model;
 pub struct Pages<S: Store> {
     store: S,
     changed: Vec<Slot>,
+    /// Pages of the store that were read.
+    kept: KeptPages,
     free: BTreeSet<u32>,
     count: u32,
     edited: bool,
@@ -57,15 +62,21 @@ impl<S: Store> Model for Pages<S> {
       stored = S.pages p.store;
       tail = S.tail p.store;
       steady = S.steady p.store;
+      opening = S.opening p.store;
       reads = S.reads p.store;
       shapes = S.shapes p.store;
       writes = S.writes p.store;
       failures = S.failures p.store;
       journal = S.journal p.store;
+      guard = S.guard p.store;
     } };
 
+    ghost use Rattle.std.specs.Prelude.{IsTrue};
+    ghost use Rattle.page_store.specs.KeptPages.{AreOf};
+
     ghost invariant = { λ p.
-        ArePages (S.pages p.store) (slots_of p.changed.items) p.free.keys p.count p.edited };
+        ArePages (S.pages p.store) (slots_of p.changed.items) p.free.keys p.count p.edited
+        × (IsTrue (S.steady p.store) → AreOf (S.pages p.store) p.kept.slots) };
 }
 
 impl<S: Store> Pages<S> {
@@ -90,16 +101,55 @@ impl<S: Store> Pages<S> {
           stored = S.pages store;
           tail = S.tail store;
           steady = S.steady store;
+          opening = S.opening store;
           reads = S.reads store;
           shapes = S.shapes store;
           writes = S.writes store;
           failures = S.failures store;
           journal = S.journal store;
+          guard = S.guard store;
         } }
     {
         Pages {
             store,
             changed: Vec::new(alloc),
+            kept: KeptPages::new(alloc),
+            free,
+            count,
+            edited: false,
+            alloc,
+        }
+    }
+
+    /// The pages of the store, without what was changed, with those free numbers; those that are kept stay so. The condition is
+    /// that of `new`.
+    pub fn with_free(self, free: BTreeSet<u32>) -> Pages<S>
+        requires free_fits { (n : ℕ) → IsTrue (contains nat_cmp free n)
+            → (1 ≤ n) × (n < length self.pages) }
+        requires lacking_free { (n : ℕ) → length self.stored ≤ n → 1 ≤ n → n < length self.pages
+            → IsTrue (contains nat_cmp free n) }
+        ensures header { at self.pages 0 ≡ None }
+        ensures count { length result.pages ≡ length self.pages }
+        ensures pages { (n : ℕ) → n < length self.pages → at result.pages n
+            ≡ (if n == 0 || contains nat_cmp free n then None else slice_get self.stored n) }
+        ensures in_memory { (n : ℕ) → is_in_memory result n ≡ false }
+        ensures store { result ≡ record self {
+          pages = result.pages;
+          changed = false;
+          in_memory = result.in_memory;
+        } }
+    {
+        let Pages {
+            store,
+            kept,
+            count,
+            alloc,
+            ..
+        } = self;
+        Pages {
+            store,
+            changed: Vec::new(alloc),
+            kept,
             free,
             count,
             edited: false,
@@ -145,6 +195,36 @@ impl<S: Store> Pages<S> {
             return None;
         }
         changed_page(&self.changed, n)
+    }
+
+    /// Keeps page n, which was read and spells a node of that order, so that `recall` has it until pages are written back.
+    /// Fault: Memory. No page changes.
+    pub fn keep(&mut self, order: u16, n: u32, page: &[u8; PAGE_WIDTH]) -> Result<(), Memory>
+        requires in_use { IsSome (at self.old.pages n) }
+        requires spelt { IsSpelt order page.now }
+        requires unchanged { is_in_memory self.old n ≡ false }
+        requires page { IsTrue self.old.steady → at self.old.pages n ≡ Some page.now }
+        ensures { self.new ≡ self.old }
+    {
+        self.kept.put(self.alloc, order, self.count, n, page)
+    }
+
+    /// Page n's newest bytes, where they are the store's and were kept: the store isn't called. None where the page isn't in
+    /// use or was changed.
+    pub fn recall(&self, order: u16, n: u32) -> Option<&[u8; PAGE_WIDTH]>
+        ensures page { IsTrue self.now.steady
+            → IfSome result (λ page. at self.now.pages n ≡ Some page.now) }
+        ensures spelt { IfSome result (λ page. IsSpelt order page.now) }
+        ensures in_use { OnSome result (IsSome (at self.now.pages n)) }
+        ensures number { OnSome result (0 < n) }
+    {
+        if !is_in_use(self.count, &self.free, n) {
+            return None;
+        }
+        match changed_page(&self.changed, n) {
+            Some(_) => None,
+            None => self.kept.get(order, n),
+        }
     }
 
     /// Puts all of an edit in place, in memory: takes the first candidates, writes the pages and frees
@@ -279,6 +359,7 @@ impl<S: Store> Pages<S> {
           writes = self.new.writes;
           failures = self.new.failures;
           journal = self.new.journal;
+          guard = self.new.guard;
         } }
         ensures err { OnErr result (self.new ≡ record self.old {
           stored = self.new.stored;
@@ -286,6 +367,7 @@ impl<S: Store> Pages<S> {
           writes = self.new.writes;
           failures = self.new.failures;
           journal = self.new.journal;
+          guard = self.new.guard;
         }) }
         ensures others { KeepsOthers (at self.old.pages) (length self.old.pages)
             self.old.stored self.new.stored }
@@ -298,9 +380,12 @@ impl<S: Store> Pages<S> {
         ensures device { self.new.failures ≡ counted self.old.failures (by_device result) }
         ensures journal { OnOk result (self.new.journal ≡ noted self.old.journal (writing_back
             (memory_pages self.old) (length self.old.pages) writing.now clean.now)) }
+        ensures allowed { AllowsAll self.old.guard (writing_back (memory_pages self.old)
+            (length self.old.pages) writing.now clean.now) → self.new.guard ≡ self.old.guard }
         ensures journal_err { OnErr result (NotesFront (writing_back (memory_pages self.old)
             (length self.old.pages) writing.now clean.now) self.old.journal self.new.journal) }
     {
+        self.kept = KeptPages::new(self.alloc);
         let written = write_out(
             &mut self.store,
             &self.changed,
@@ -323,11 +408,13 @@ impl<S: Store> Pages<S> {
         ensures pages { S.pages result ≡ self.stored }
         ensures tail { S.tail result ≡ self.tail }
         ensures steady { S.steady result ≡ self.steady }
+        ensures opening { S.opening result ≡ self.opening }
         ensures reads { S.reads result ≡ self.reads }
         ensures shapes { S.shapes result ≡ self.shapes }
         ensures writes { S.writes result ≡ self.writes }
         ensures failures { S.failures result ≡ self.failures }
         ensures journal { S.journal result ≡ self.journal }
+        ensures guard { S.guard result ≡ self.guard }
     {
         let Pages { store, .. } = self;
         store

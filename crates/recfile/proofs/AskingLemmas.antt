@@ -12,6 +12,7 @@ use Rattle.record_file.specs.Outside.{by_device, by_memory, TellsDamage}
 use Rattle.record_file.specs.Refusals.{abort_refusal, resume_refusal, cause_by}
 use Rattle.record_file.specs.Runs.{Seen}
 use Rattle.record_file.specs.Steps.{rose, EndsBy}
+use Rattle.record_file.proofs.AskedLemmas.{undo_nothing, undo_then}
 use Rattle.record_file.proofs.FaultLemmas.{tells_no_damage}
 use Rattle.record_file.proofs.LogGrowthLemmas.{tells_none, tells_on}
 use Rattle.recfile.specs.Ending.{Asks, resumed, aborted, end_cause}
@@ -26,6 +27,7 @@ asks_nothing s = record {
   told = tells_none s.sound s.records s.records s.log s.log refl refl;
   opening = λ _. refl;
   caused = λ sound few fewer. (same s.failures, same s.refusals);
+  asked = undo_nothing s;
 }
   where
     same : (n : ℕ) → nat_lt n n ≡ false
@@ -44,6 +46,7 @@ asks_on old mid new cause first later = record {
       subst (λ (n : ℕ). EndsBy (rose n new.failures) (rose old.refusals new.refusals) cause) first.failures
       (subst (λ (n : ℕ). EndsBy (rose mid.failures new.failures) (rose n new.refusals) cause) first.refusals
       (later.caused (first.sound ∙ sound) (subst (λ (n : ℕ). n < greatest_count) (sym first.failures) few) (subst (λ (n : ℕ). n < greatest_count) (sym first.refusals) fewer)));
+  asked = undo_then old mid new cause first.asked later.asked;
 }
 
 -- the cause of a resumed rollback's stop is the one that ending the transaction tells

@@ -23,8 +23,10 @@ module _ {S : Type 0} (g : Ghosts S) (old mid : S) (stays : StaysStore g old mid
     pages = more.pages ∙ stays.pages;
     tail = more.tail ∙ stays.tail;
     steady = more.steady ∙ stays.steady;
+    opening = more.opening ∙ stays.opening;
     writes = more.writes ∙ stays.writes;
     journal = more.journal ∙ stays.journal;
+    guard = more.guard ∙ stays.guard;
   }
 
   pub still_opened : (limit : ℕ) → CanBeOpened (g.pages old) (g.tail old) limit → CanBeOpened (g.pages mid) (g.tail mid) limit

@@ -1,3 +1,5 @@
+mod ClosingCountLemmas
+mod StreamLemmas
 pub mod AskingLemmas
 pub mod ScriptCutLemmas
 pub mod EndingLemmas

@@ -1,7 +1,6 @@
 -- A session over the table of a page file.
 use Rattle.std.proofs.Common.{◌≡◌, ◌≤◌, ℕ, Bool, true, false, List, [], Result, Ok, Err, MatchResult, IsTrue, refl, sym, ap, subst, ◌∙◌, arith}
 use Rattle.rec_types.specs.LimitBounds.{Bounds}
-use Rattle.rec_types.specs.Table.{no_damage}
 use Rattle.rec_types.specs.declared.table_state.TableState.{Ghosts}
 use Rattle.page_store.specs.PagesView.{PagesView}
 use Rattle.btree_insert.specs.Contents.{contents_of}
@@ -13,7 +12,7 @@ use Rattle.record_file.specs.Abstract.{OpenFile, new_file}
 use Rattle.record_file.specs.Runs.{seen}
 use Rattle.recfile.specs.Dumped.{CanBeOpened}
 use Rattle.recfile.specs.Statuses.{status_of}
-use Rattle.recfile.specs.WholeSession.{opened_file}
+use Rattle.recfile.specs.WholeSession.{IsUncounted, opened_file}
 
 -- what a table in a tree shows
 abbrev pub treed : Ghosts TableView
@@ -21,8 +20,8 @@ treed = record { contents = table_contents; record_limit = λ t. t.limit; sound 
 
 -- what a run sees of a new file over the table of a page file
 pub fresh : (f : OpenFile TableView) (table : TableView) (limits : Bounds) → f ≡ record { table = table; file = new_file (table_contents table) limits; log = [] }
-    → IsTrue table.pages.steady → table.refusals ≡ 0 → table.damages ≡ no_damage → seen treed f ≡ opened_file (table_contents table) limits table.pages.failures
-fresh f table limits is steady refusals damages =
+    → IsTrue table.pages.steady → IsUncounted table → seen treed f ≡ opened_file (table_contents table) limits table.pages.failures
+fresh f table limits is steady uncounted =
     ap (seen treed) is
     ∙ (λ i. record {
       file = new_file (table_contents table) limits;
@@ -30,8 +29,9 @@ fresh f table limits is steady refusals damages =
       records = table_contents table;
       sound = steady i;
       failures = table.pages.failures;
-      refusals = refusals i;
-      damages = damages i;
+      refusals = uncounted.0 i;
+      damages = uncounted.1 i;
+      calls = uncounted.2 i;
     })
 
 -- it is new, with these limits

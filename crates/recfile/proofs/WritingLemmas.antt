@@ -19,14 +19,16 @@ written_over old was new table unclosed same known = subst (λ (j : Option Journ
 
 -- a store that was given up stays as its table was made
 pub stays_by : {S : Type 0} (g : Ghosts S) (order : ℕ) (store given : S) (table : TableView) → origin_of table ≡ opened_in g order store
-    → g.pages given ≡ table.pages.stored → g.tail given ≡ table.pages.tail → g.steady given ≡ table.pages.steady → g.writes given ≡ table.pages.writes → g.journal given ≡ table.pages.journal
+    → g.pages given ≡ table.pages.stored → g.tail given ≡ table.pages.tail → g.steady given ≡ table.pages.steady → g.opening given ≡ table.pages.opening → g.writes given ≡ table.pages.writes → g.journal given ≡ table.pages.journal → g.guard given ≡ table.pages.guard
     → StaysStore g store given
-stays_by g order store given table made pages tail steady writes journal = record {
+stays_by g order store given table made pages tail steady opening writes journal guard = record {
   pages = pages ∙ ap (λ (o : Origin). o.stored) made;
   tail = tail ∙ ap (λ (o : Origin). o.tail) made;
   steady = steady ∙ ap (λ (o : Origin). o.steady) made;
+  opening = opening ∙ ap (λ (o : Origin). o.opening) made;
   writes = writes ∙ ap (λ (o : Origin). o.writes) made;
   journal = journal ∙ ap (λ (o : Origin). o.journal) made;
+  guard = guard ∙ ap (λ (o : Origin). o.guard) made;
 }
 
 -- the steps of a journal

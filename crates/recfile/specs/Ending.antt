@@ -7,6 +7,7 @@ use Rattle.rec_types.specs.declared.transaction.TxId.{TxId}
 use Rattle.tx_log.specs.Transactions.{Transactions, is_open}
 use Rattle.tx_log.specs.LogState.{IsRolling}
 use Rattle.record_file.specs.Abstract.{File, Tells, open_of, phase_at}
+use Rattle.record_file.specs.Asked.{UndoAsks}
 use Rattle.record_file.specs.Outside.{by_device, by_memory, TellsDamage}
 use Rattle.record_file.specs.Runs.{Seen}
 use Rattle.record_file.specs.Steps.{rose, EndsBy, Becomes, Aborts, Resumes}
@@ -83,8 +84,8 @@ end_cause (Ok answer) = None
 end_cause (Err fault) = Some (stop_of fault)
 
 -- What calls one after another asked of the table, where none but the last may have been stopped: its counts tell of
--- the cause and of nothing else, the log of what became of the records, and over a sound table the opening contents
--- stay, and it is known what stopped the call.
+-- the cause and of nothing else, the log of what became of the records and of how often the table was asked, and over a
+-- sound table the opening contents stay, and it is known what stopped the call.
 pub record Asks (old : Seen) (cause : Option Cause) (new : Seen) : Type 0 where
   pub failures : new.failures ≡ counted old.failures (by_device cause)
   pub refusals : new.refusals ≡ counted old.refusals (by_memory cause)
@@ -93,6 +94,7 @@ pub record Asks (old : Seen) (cause : Option Cause) (new : Seen) : Type 0 where
   pub told : Tells old.sound old.records old.log new.records new.log
   pub opening : IsTrue old.sound → new.file.opening ≡ old.file.opening
   pub caused : IsTrue old.sound → old.failures < greatest_count → old.refusals < greatest_count → EndsBy (rose old.failures new.failures) (rose old.refusals new.refusals) cause
+  pub asked : UndoAsks old cause new
 
 -- what ending answers to that of going on with a transaction's rollback: whether the transaction was open
 abbrev pub resumed : TxId → Result ℕ ResumeFault → Result Bool EndFault

@@ -64,6 +64,11 @@ fault_of_listing (listing.Damaged page) = Damaged page
 fault_of_listing listing.NoRoom = Damaged 0
 fault_of_listing listing.Memory = Memory
 
+-- what a store's answer to being closed is for a file
+abbrev pub answer_of_store : Result (Unit {0}) StoreFault → Result (Unit {0}) FileFault
+answer_of_store (Ok done) = Ok done
+answer_of_store (Err fault) = Err (fault_of_store fault)
+
 -- whether the device failed
 abbrev pub is_device : FileFault → Bool
 is_device Device = true

@@ -4,6 +4,7 @@ use Rattle.std.specs.FinMap as maps
 use Rattle.std.specs.Io.KnownBytes.{Appends}
 use Rattle.rec_types.specs.Contents.{Contents}
 use Rattle.rec_types.specs.LimitBounds.{Bounds}
+use Rattle.rec_types.specs.Table.{counted}
 use Rattle.page_store.specs.StoreCalls.{StaysStore}
 use Rattle.page_store.specs.declared.store_state.StoreState.{Ghosts as StoreGhosts}
 use Rattle.page_copy.specs.declared.copying.CopyFault.{CopyFault}
@@ -15,11 +16,11 @@ use Rattle.btree_delete.specs.Created.{IsEmpty, IsOrder}
 use Rattle.btree_delete.specs.TableView.{IsClosed}
 use Rattle.record_texts.specs.declared.form.Form.{Form}
 use Rattle.recfile.specs.Dumped.{CanBeOpened, DumpStops, Dumps, IsDumpFault, IsFirstOrOutside, IsSilent, text_in}
-use Rattle.recfile.specs.FileFaults.{IsMakingFault, fault_of_copying}
-use Rattle.recfile.specs.Kept.{ClosesSafely, IsOutsideDisk, IsUnopened, LeavesAs, LeavesOld}
+use Rattle.recfile.specs.FileFaults.{IsMakingFault, fault_of_copying, is_device}
+use Rattle.recfile.specs.Kept.{ClosesSafely, IsOutsideDisk, IsUnopened, LeavesAs, LeavesOld, RunsOn}
 use Rattle.recfile.specs.StoreSession.{MakesIn}
 use Rattle.recfile.specs.TreeLine.{counts_in, counts_line}
-use Rattle.recfile.specs.WholeSession.{EndsFile, RunsAny, opened_file}
+use Rattle.recfile.specs.WholeSession.{EndsFile, opened_file}
 use Rattle.recfile.specs.declared.copying.CopyingFault.{CopyingFault}
 use Rattle.recfile.specs.declared.copying.CopyingFault.TheVariants.{OfFile, OfCopy}
 use Rattle.recfile.specs.declared.dump.DumpFault.{DumpFault}
@@ -43,22 +44,24 @@ IsFoundAt At pages tail = (files : Files) × At files × (files.main ≡ record 
 pub record KeptSession {D : Type 0} (g : DiskGhosts D) (manner : Manner) (limits : Bounds)
     (left leaves held holds : Option (List ℕ)) (opened : D) (unopened unclosed : Option FileFault) (disk : D) (status : ℕ) : Type 0 where
   pub unread : IfSome unopened (λ _. (status ≡ 1) × (unclosed ≡ None) × (leaves ≡ left) × (holds ≡ held))
-  pub ran : unopened ≡ None → RunsAny manner limits left leaves held holds unclosed status
-  pub own : IsTrue (g.steady opened) → unopened ≡ None → Belongs g.began
-  pub closed : IsTrue (g.steady opened) → unopened ≡ None → CanBeOpened (recovered g.began).pages (recovered g.began).tail limits.records
-  pub first : IsTrue (g.steady opened) → IfSome unopened (IsUnopened g.began limits.records)
-  pub untouched : IsTrue (g.steady opened) → IfSome unopened (λ _. LeavesAs g disk)
-  pub stopped : IsTrue (g.steady opened) → status ≡ 4 → LeavesOld g (recovered g.began) disk
+  pub ran : unopened ≡ None → RunsOn g manner limits left leaves held holds unclosed status disk
+  pub device : IfSome unopened (λ fault. g.failures disk ≡ counted (g.failures opened) (is_device fault))
+  pub own : IsTrue (g.steady opened) → unopened ≡ None → Belongs (g.began opened)
+  pub closed : IsTrue (g.steady opened) → unopened ≡ None → CanBeOpened (recovered (g.began opened)).pages (recovered (g.began opened)).tail limits.records
+  pub first : IsTrue (g.steady opened) → IfSome unopened (IsUnopened (g.began opened) limits.records)
+  pub untouched : IsTrue (g.steady opened) → IfSome unopened (λ _. LeavesAs g (g.began opened) disk)
+  pub stopped : IsTrue (g.steady opened) → status ≡ 4 → LeavesOld g (recovered (g.began opened)) disk
   pub session : IsTrue (g.steady opened) → (tree : Tree) → (contents : Contents) → (version : ℕ)
-      → IsClosed version (recovered g.began).pages (recovered g.began).tail tree contents → tree.count ≤ limits.records
-      → MatchOption unopened (EndsFile manner left leaves held holds (opened_file contents limits 0)
-      (ClosesSafely g (recovered g.began) disk unclosed tree.order) unclosed status) (IsOutsideDisk g.began)
+      → IsClosed version (recovered (g.began opened)).pages (recovered (g.began opened)).tail tree contents → tree.count ≤ limits.records
+      → MatchOption unopened (EndsFile manner left leaves held holds (opened_file contents limits (g.failures opened))
+      (ClosesSafely g (recovered (g.began opened)) disk unclosed tree.order) unclosed status) (IsOutsideDisk (g.began opened))
 
 -- a session over the disk that was opened at a path
 pub record RunsAt {D : Type 0} (g : DiskGhosts D) (At : Files → Type 0) (manner : Manner) (limits : Bounds)
     (left leaves held holds : Option (List ℕ)) (status : ℕ) : Type 0 where
   pub opened : D
-  pub found : IsTrue (g.steady opened) → At g.began
+  pub found : IsTrue (g.steady opened) → At (g.began opened)
+  pub unfailed : g.failures opened ≡ 0
   pub unopened : Option FileFault
   pub unclosed : Option FileFault
   pub disk : D

@@ -1,6 +1,8 @@
 -- What a session over a page file that closes safely leaves, and what a crash of it leaves.
-use Rattle.std.specs.Prelude.{◌≡◌, ◌⊎◌, ℕ, Option, None}
+use Rattle.std.specs.Prelude.{◌≡◌, ◌⊎◌, ℕ, Bool, true, false, List, Option, None, is_some}
 use Rattle.rec_types.specs.Contents.{Contents}
+use Rattle.page_store.specs.Guards.{Guard, Unguarded, Unsealed, Sealed, Stopped}
+use Rattle.page_store.specs.Opening.{Opening}
 use Rattle.btree_node.specs.Layout.{second_version}
 use Rattle.btree_insert.specs.declared.tree.Tree.{Tree}
 use Rattle.btree_delete.specs.TableView.{IsClosed}
@@ -8,9 +10,18 @@ use Rattle.page_journal.specs.Files.{PageFile, Files, Belongs, recovered}
 use Rattle.page_journal.specs.Crash.{IsSettled, StandsAs, StandsFor}
 use Rattle.page_journal.specs.Recovery.{IsForeign}
 use Rattle.page_journal.specs.declared.disk_state.DiskState.{Ghosts}
+use Rattle.rec_types.specs.LimitBounds.{Bounds}
+use Rattle.rec_types.specs.Table.{counted}
 use Rattle.recfile.specs.Dumped.{IsFirstOrOutside, IsOutsideFile}
+use Rattle.recfile.specs.FileFaults.{by_device}
+use Rattle.recfile.specs.WholeSession.{RunsAny}
+use Rattle.recfile.specs.declared.manner.Manner.{Manner}
 use Rattle.recfile.specs.declared.file_fault.FileFault.{FileFault}
 use Rattle.recfile.specs.declared.file_fault.FileFault.TheVariants.{BadJournal}
+
+-- the file that a store was opened over
+abbrev pub file_of : Opening → PageFile
+file_of opening = record { pages = opening.pages; tail = opening.tail }
 
 -- the file is closed and has these records, in a tree of this order
 abbrev pub HasRecords : ℕ → Contents → PageFile → Type 0
@@ -24,9 +35,9 @@ LeavesOld g old disk = (c : Files) → g.left_since disk 0 c → StandsFor old c
 abbrev pub LeavesEither : {D : Type 0} → Ghosts D → PageFile → ℕ → Contents → D → Type 0
 LeavesEither g old order records disk = (c : Files) → g.left_since disk 0 c → StandsFor old c ⊎ (Belongs c × HasRecords order records (recovered c))
 
--- a crash at any moment since the disk was opened leaves files that stand for what they stood for then
-abbrev pub LeavesAs : {D : Type 0} → Ghosts D → D → Type 0
-LeavesAs g disk = (c : Files) → g.left_since disk 0 c → StandsAs g.began c
+-- a crash at any moment since the disk was opened leaves files that stand for what these stood for
+abbrev pub LeavesAs : {D : Type 0} → Ghosts D → Files → D → Type 0
+LeavesAs g old disk = (c : Files) → g.left_since disk 0 c → StandsAs old c
 
 -- the file is closed, has these records in a tree of this order, and the device keeps it with no side file
 pub record IsKept {D : Type 0} (g : Ghosts D) (order : ℕ) (records : Contents) (disk : D) : Type 0 where
@@ -37,6 +48,32 @@ pub record IsKept {D : Type 0} (g : Ghosts D) (order : ℕ) (records : Contents)
 pub record ClosesSafely {D : Type 0} (g : Ghosts D) (old : PageFile) (disk : D) (unclosed : Option FileFault) (order : ℕ) (records : Contents) : Type 0 where
   pub any_moment : LeavesEither g old order records disk
   pub kept : unclosed ≡ None → IsKept g order records disk
+
+-- how many calls a store has refused by itself
+abbrev pub refusals_of : Guard → ℕ
+refusals_of Unguarded = 0
+refusals_of (Unsealed refusals) = refusals
+refusals_of (Sealed kept refusals) = refusals
+refusals_of (Stopped refusals) = refusals
+
+-- old pages are kept aside
+abbrev pub is_sealed : Guard → Bool
+is_sealed Unguarded = false
+is_sealed (Unsealed refusals) = false
+is_sealed (Sealed kept refusals) = true
+is_sealed (Stopped refusals) = false
+
+-- How often a disk has failed after a closing: once more where that is the closing's fault, and where a closing that had a fault was taken back, once more if that failed too.
+pub record CountsClosing (before : ℕ) (failed device : Bool) (after : ℕ) : Type 0 where
+  pub again : Bool
+  pub failures : after ≡ counted (counted before device) again
+  pub once : failed ≡ false → again ≡ false
+
+-- A session over a file with these limits, whatever its records, over a disk: it has failed as often as the session saw, and then as the closing tells.
+pub record RunsOn {D : Type 0} (g : Ghosts D) (manner : Manner) (limits : Bounds) (left leaves held holds : Option (List ℕ))
+    (unclosed : Option FileFault) (status : ℕ) (disk : D) : Type 0 where
+  pub run : RunsAny manner limits left leaves held holds unclosed status
+  pub failures : CountsClosing run.2.new.failures (is_some unclosed) (by_device unclosed) (g.failures disk)
 
 -- a fault from outside, or a side file of another file
 abbrev pub IsOutsideDisk : Files → FileFault → Type 0

@@ -10,6 +10,7 @@ pub mod PartLine
 pub mod Shell
 pub mod Room
 pub mod Statuses
+pub mod Streams
 pub mod TreeLine
 pub mod StoreSession
 pub mod FilesAt

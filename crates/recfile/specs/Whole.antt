@@ -3,6 +3,7 @@ use Rattle.std.specs.Prelude.{◌≡◌, ℕ, ◌+◌, ◌≤◌, true, List, []
 use Rattle.std.specs.FinMap as maps
 use Rattle.std.specs.Io.KnownBytes.{Consumes, IsAtEnd}
 use Rattle.rec_types.specs.LimitBounds.{Bounds}
+use Rattle.rec_types.specs.Calls.{no_calls}
 use Rattle.rec_types.specs.Table.{no_damage}
 use Rattle.record_file.specs.Abstract.{new_file}
 use Rattle.record_file.specs.Runs.{Seen}
@@ -33,4 +34,5 @@ empty_file limits = record {
   failures = 0;
   refusals = 0;
   damages = no_damage;
+  calls = no_calls;
 }

@@ -4,7 +4,9 @@ use Rattle.std.specs.Result.{is_err}
 use Rattle.rec_types.specs.Contents.{Contents}
 use Rattle.rec_types.specs.History.{replay}
 use Rattle.rec_types.specs.LimitBounds.{Bounds}
+use Rattle.rec_types.specs.Calls.{no_calls}
 use Rattle.rec_types.specs.Table.{no_damage}
+use Rattle.btree_delete.specs.TableView.{TableView}
 use Rattle.record_file.specs.Abstract.{new_file, open_of}
 use Rattle.record_file.specs.Runs.{Seen}
 use Rattle.recfile.specs.Ending.{Asks, EndsAll, StopsEnding, end_cause, rest_of}
@@ -49,7 +51,12 @@ opened_file contents limits failures = record {
   failures = failures;
   refusals = 0;
   damages = no_damage;
+  calls = no_calls;
 }
+
+-- the table has counted no fault and no call yet
+abbrev pub IsUncounted : TableView → Type 0
+IsUncounted table = (table.refusals ≡ 0) × (table.damages ≡ no_damage) × (table.calls ≡ no_calls)
 
 -- A session over a file in which nothing was begun; then the file was closed, or a fault from outside stopped that, or a
 -- transaction couldn't be ended, and it wasn't tried. The status tells which.

@@ -1,14 +1,17 @@
-ghost use Rattle.std.specs.Prelude.{◌≡◌, ◌≤◌, ℕ, false, is_some, IsTrue, IfErr, IfSome, OnOk, MatchOption, None, Some, if◌then◌else◌};
+ghost use Rattle.std.specs.Prelude.{◌≡◌, ◌≤◌, ℕ, Bool, false, is_some, IsTrue, IfErr, IfSome, OnOk, MatchOption, None, Some, if◌then◌else◌};
 ghost use Rattle.rec_types.specs.Contents.{Contents};
-ghost use Rattle.rec_types.specs.Table.{no_damage};
+ghost use Rattle.std.specs.Result.{is_err};
+ghost use Rattle.rec_types.specs.Table.{counted};
+ghost use Rattle.page_store.specs.Guards.{Unsealed};
 ghost use Rattle.btree_insert.specs.declared.tree.Tree.{Tree as TreeValue};
 ghost use Rattle.btree_delete.specs.TableView.{IsClosed, table_contents};
 ghost use Rattle.page_journal.specs.Files.{Belongs, recovered};
 ghost use Rattle.page_journal.specs.Crash.{IsAtRest};
 ghost use Rattle.recfile.specs.Dumped.{CanBeOpened, IsFirstOrOutside, IsOutsideFile};
-ghost use Rattle.recfile.specs.Kept.{LeavesAs, LeavesOld, LeavesEither, IsKept, ClosesSafely, IsOutsideDisk, IsUnopened};
+ghost use Rattle.recfile.specs.FileFaults.{answer_of_store, by_device, is_device, is_device_answer};
+ghost use Rattle.recfile.specs.Kept.{CountsClosing, RunsOn, is_sealed, refusals_of, file_of, LeavesAs, LeavesOld, LeavesEither, IsKept, ClosesSafely, IsOutsideDisk, IsUnopened};
 ghost use Rattle.recfile.specs.Statuses.{status_of};
-ghost use Rattle.recfile.specs.WholeSession.{EndsFile, RunsAny, opened_file};
+ghost use Rattle.recfile.specs.WholeSession.{EndsFile, IsUncounted, RunsAny, opened_file};
 
 use crate::file_fault::FileFault;
 use crate::manner::Manner;
@@ -16,7 +19,8 @@ use crate::session::run_session;
 use crate::statuses::exit_status;
 use crate::tell::{tell, tell_fault_of};
 use btree_delete::TreeTable;
-use page_journal::{Disk, KeptStore};
+use page_journal::{Disk, KeptStore, SealState};
+use page_store::StoreFault;
 use rec_types::Limits;
 use record_file::RecordFile;
 use std::alloc::Global;
@@ -35,20 +39,36 @@ pub struct DiskEnd<D: Disk + Drop> {
 // The disk of a table that isn't closed, with the old file put back. Where that fails the side file stays, and the next
 // opening puts it back.
 fn give_back<D: Disk + Drop>(table: TreeTable<KeptStore<D>>) -> D
-    ensures { IsTrue table.pages.steady → LeavesOld D.DiskState (recovered D.began) result }
+    ensures old { IsTrue table.pages.steady → LeavesOld D.DiskState (file_of table.pages.opening) result }
+    ensures device { refusals_of table.pages.guard ≡ 0 → (again : Bool)
+        × (D.failures result ≡ counted table.pages.failures again)
+        × (is_sealed table.pages.guard ≡ false → again ≡ false) }
 {
     let (disk, _put_back) = table.abandon().take_back();
     disk
 }
 
+// The answer of a closing, by that of its store.
+fn told(done: Result<(), StoreFault>) -> Result<(), FileFault>
+    ensures { result ≡ answer_of_store done }
+{
+    match done {
+        Ok(()) => Ok(()),
+        Err(fault) => Err(FileFault::from(fault)),
+    }
+}
+
 // Closes the file of a table: the pages that it writes over are kept aside, then it writes, then they are given up.
 fn close_table<D: Disk + Drop>(table: TreeTable<KeptStore<D>>) -> (D, Result<(), FileFault>)
     ensures any_moment { IsTrue table.pages.steady
-        → LeavesEither D.DiskState (recovered D.began) table.tree.order (table_contents table)
+        → LeavesEither D.DiskState (file_of table.pages.opening) table.tree.order (table_contents table)
         result.0 }
     ensures closed { IsTrue table.pages.steady
         → OnOk result.1 (IsKept D.DiskState table.tree.order (table_contents table) result.0) }
     ensures fault { IfErr result.1 IsOutsideFile }
+    ensures device { table.pages.guard ≡ Unsealed 0 → table.pages.tail ≡ 0
+        → CountsClosing table.pages.failures (is_err result.1) (is_device_answer result.1)
+        (D.failures result.0) }
 {
     let mut table = table;
     if let Err(fault) = table.seal() {
@@ -57,7 +77,7 @@ fn close_table<D: Disk + Drop>(table: TreeTable<KeptStore<D>>) -> (D, Result<(),
     match table.close() {
         Ok(store) => {
             let (disk, done) = store.finish();
-            (disk, done.map_err(FileFault::from))
+            (disk, told(done))
         }
         Err(stop) => (give_back(stop.table), Err(FileFault::from(stop.fault))),
     }
@@ -70,9 +90,12 @@ fn close_kept<D: Disk + Drop, E: Write>(
     err: &mut E,
 ) -> DiskEnd<D>
     ensures opened { result.unopened ≡ None }
-    ensures closed { IsTrue table.pages.steady → ClosesSafely D.DiskState (recovered D.began)
+    ensures closed { IsTrue table.pages.steady → ClosesSafely D.DiskState (file_of table.pages.opening)
         result.disk result.unclosed table.tree.order (table_contents table) }
     ensures fault { IfSome result.unclosed IsOutsideFile }
+    ensures device { table.pages.guard ≡ Unsealed 0 → table.pages.tail ≡ 0
+        → CountsClosing table.pages.failures (is_some result.unclosed) (by_device result.unclosed)
+        (D.failures result.disk) }
     ensures status { result.status ≡ status_of false (is_some result.unclosed) script_fault }
 {
     let (disk, done) = close_table(table);
@@ -99,15 +122,18 @@ fn run_table<D: Disk + Drop, R: Read, W: Write, E: Write>(
     ensures opened { result.unopened ≡ None }
     ensures ran { RunsAny manner limits (R.remaining reader.old) (R.remaining reader.new)
         (W.contents out.old) (W.contents out.new) result.unclosed result.status }
-    ensures session { IsTrue table.pages.steady → table.refusals ≡ 0 → table.damages ≡ no_damage
+    ensures counted { table.pages.guard ≡ Unsealed 0 → table.pages.tail ≡ 0
+        → RunsOn D.DiskState manner limits (R.remaining reader.old) (R.remaining reader.new)
+        (W.contents out.old) (W.contents out.new) result.unclosed result.status result.disk }
+    ensures session { IsTrue table.pages.steady → IsUncounted table
         → EndsFile manner (R.remaining reader.old) (R.remaining reader.new)
         (W.contents out.old) (W.contents out.new)
         (opened_file (table_contents table) limits table.pages.failures)
-        (ClosesSafely D.DiskState (recovered D.began) result.disk result.unclosed
+        (ClosesSafely D.DiskState (file_of table.pages.opening) result.disk result.unclosed
         table.tree.order)
         result.unclosed result.status }
-    ensures stopped { IsTrue table.pages.steady → table.refusals ≡ 0 → table.damages ≡ no_damage
-        → result.status ≡ 4 → LeavesOld D.DiskState (recovered D.began) result.disk }
+    ensures stopped { IsTrue table.pages.steady → IsUncounted table
+        → result.status ≡ 4 → LeavesOld D.DiskState (file_of table.pages.opening) result.disk }
 {
     let mut file = RecordFile::new(alloc, table, limits);
     let end = run_session(alloc, manner, &mut file, reader, out, err);
@@ -153,28 +179,30 @@ fn run_stored<D: Disk + Drop, R: Read, W: Write, E: Write>(
     err: &mut E,
 ) -> DiskEnd<D>
     requires file { IsTrue (D.steady store.disk)
-        → (D.seen store.disk).main ≡ recovered D.began }
-    requires failures { store.failures ≡ 0 }
+        → (D.seen store.disk).main ≡ recovered (D.began store.disk) }
+    requires unused { (store.state ≡ SealState.Unsealed) × (store.refusals ≡ 0) }
     ensures unread { IfSome result.unopened (λ _. (result.status ≡ 1) × (result.unclosed ≡ None)
         × (reader.new ≡ reader.old) × (out.new ≡ out.old)) }
-    ensures ran { result.unopened ≡ None → RunsAny manner limits (R.remaining reader.old)
-        (R.remaining reader.new) (W.contents out.old) (W.contents out.new)
-        result.unclosed result.status }
+    ensures ran { result.unopened ≡ None → RunsOn D.DiskState manner limits
+        (R.remaining reader.old) (R.remaining reader.new) (W.contents out.old) (W.contents out.new)
+        result.unclosed result.status result.disk }
+    ensures device { IfSome result.unopened (λ fault. D.failures result.disk
+        ≡ counted (D.failures store.disk) (is_device fault)) }
     ensures closed { IsTrue (D.steady store.disk) → result.unopened ≡ None
-        → CanBeOpened (recovered D.began).pages (recovered D.began).tail limits.records }
+        → CanBeOpened (recovered (D.began store.disk)).pages (recovered (D.began store.disk)).tail limits.records }
     ensures first { IsTrue (D.steady store.disk) → IfSome result.unopened
-        (IsFirstOrOutside (recovered D.began).pages (recovered D.began).tail limits.records) }
+        (IsFirstOrOutside (recovered (D.began store.disk)).pages (recovered (D.began store.disk)).tail limits.records) }
     ensures untouched { IsTrue (D.steady store.disk) → IfSome result.unopened
-        (λ _. LeavesOld D.DiskState (recovered D.began) result.disk) }
+        (λ _. LeavesOld D.DiskState (recovered (D.began store.disk)) result.disk) }
     ensures stopped { IsTrue (D.steady store.disk) → result.status ≡ 4
-        → LeavesOld D.DiskState (recovered D.began) result.disk }
+        → LeavesOld D.DiskState (recovered (D.began store.disk)) result.disk }
     ensures session { IsTrue (D.steady store.disk) → (tree : TreeValue) → (contents : Contents)
-        → (version : ℕ) → IsClosed version (recovered D.began).pages (recovered D.began).tail
+        → (version : ℕ) → IsClosed version (recovered (D.began store.disk)).pages (recovered (D.began store.disk)).tail
         tree contents → tree.count ≤ limits.records
         → MatchOption result.unopened (EndsFile manner (R.remaining reader.old)
         (R.remaining reader.new) (W.contents out.old) (W.contents out.new)
-        (opened_file contents limits 0)
-        (ClosesSafely D.DiskState (recovered D.began) result.disk result.unclosed tree.order)
+        (opened_file contents limits (D.failures store.disk))
+        (ClosesSafely D.DiskState (recovered (D.began store.disk)) result.disk result.unclosed tree.order)
         result.unclosed result.status)
         IsOutsideFile }
 {
@@ -205,31 +233,33 @@ pub fn run_kept<D: Disk + Drop, R: Read, W: Write, E: Write>(
     err: &mut E,
 ) -> DiskEnd<D>
     requires rest { IsAtRest D.DiskState disk }
-    requires began { IsTrue (D.steady disk) → D.seen disk ≡ D.began }
+    requires began { IsTrue (D.steady disk) → D.seen disk ≡ D.began disk }
     requires moment { D.moment disk ≡ 0 }
     ensures unread { IfSome result.unopened (λ _. (result.status ≡ 1) × (result.unclosed ≡ None)
         × (reader.new ≡ reader.old) × (out.new ≡ out.old)) }
-    ensures ran { result.unopened ≡ None → RunsAny manner limits (R.remaining reader.old)
-        (R.remaining reader.new) (W.contents out.old) (W.contents out.new)
-        result.unclosed result.status }
-    ensures own { IsTrue (D.steady disk) → result.unopened ≡ None → Belongs D.began }
+    ensures ran { result.unopened ≡ None → RunsOn D.DiskState manner limits
+        (R.remaining reader.old) (R.remaining reader.new) (W.contents out.old) (W.contents out.new)
+        result.unclosed result.status result.disk }
+    ensures device { IfSome result.unopened (λ fault. D.failures result.disk
+        ≡ counted (D.failures disk) (is_device fault)) }
+    ensures own { IsTrue (D.steady disk) → result.unopened ≡ None → Belongs (D.began disk) }
     ensures closed { IsTrue (D.steady disk) → result.unopened ≡ None
-        → CanBeOpened (recovered D.began).pages (recovered D.began).tail limits.records }
+        → CanBeOpened (recovered (D.began disk)).pages (recovered (D.began disk)).tail limits.records }
     ensures first { IsTrue (D.steady disk)
-        → IfSome result.unopened (IsUnopened D.began limits.records) }
+        → IfSome result.unopened (IsUnopened (D.began disk) limits.records) }
     ensures untouched { IsTrue (D.steady disk) → IfSome result.unopened
-        (λ _. LeavesAs D.DiskState result.disk) }
+        (λ _. LeavesAs D.DiskState (D.began disk) result.disk) }
     ensures stopped { IsTrue (D.steady disk) → result.status ≡ 4
-        → LeavesOld D.DiskState (recovered D.began) result.disk }
+        → LeavesOld D.DiskState (recovered (D.began disk)) result.disk }
     ensures session { IsTrue (D.steady disk) → (tree : TreeValue) → (contents : Contents)
-        → (version : ℕ) → IsClosed version (recovered D.began).pages (recovered D.began).tail
+        → (version : ℕ) → IsClosed version (recovered (D.began disk)).pages (recovered (D.began disk)).tail
         tree contents → tree.count ≤ limits.records
         → MatchOption result.unopened (EndsFile manner (R.remaining reader.old)
         (R.remaining reader.new) (W.contents out.old) (W.contents out.new)
-        (opened_file contents limits 0)
-        (ClosesSafely D.DiskState (recovered D.began) result.disk result.unclosed tree.order)
+        (opened_file contents limits (D.failures disk))
+        (ClosesSafely D.DiskState (recovered (D.began disk)) result.disk result.unclosed tree.order)
         result.unclosed result.status)
-        (IsOutsideDisk D.began) }
+        (IsOutsideDisk (D.began disk)) }
 {
     match KeptStore::open(alloc, disk) {
         Ok(store) => run_stored(alloc, store, limits, manner, reader, out, err),

@@ -1,5 +1,5 @@
 //! Facts of the definitions that contracts of this crate cite.
-ghost use Rattle.std.specs.Prelude.{◌≡◌, ◌<◌, ℕ, length, List, [], ◌∷◌, Option, Some, None, Result, Ok, IsTrue, true, false};
+ghost use Rattle.std.specs.Prelude.{◌≡◌, ◌⊎◌, ◌<◌, ℕ, length, List, [], ◌∷◌, Option, Some, None, Result, Ok, IsTrue, true, false};
 ghost use Rattle.std.specs.FinMap as maps;
 ghost use Rattle.std.specs.List.{All};
 ghost use Rattle.rec_types.specs.Contents.{Contents};
@@ -9,6 +9,8 @@ ghost use Rattle.record_file.specs.Abstract.{File, new_file, open_of};
 ghost use Rattle.record_file.specs.Runs.{Seen};
 ghost use Rattle.page_store.specs.Journal.{Journal, noted};
 ghost use Rattle.page_store.specs.declared.step.Step.TheVariants as steps;
+ghost use Rattle.page_journal.specs.Files.{PageFile, Files, Belongs, recovered};
+ghost use Rattle.page_journal.specs.History.{History, LeftSince};
 ghost use Rattle.btree_delete.specs.Closing.{closing};
 ghost use Rattle.btree_delete.specs.TableView.{TableView};
 ghost use Rattle.command_text.specs.Dump.{dump_text, CanBePut};
@@ -16,7 +18,9 @@ ghost use Rattle.command_text.specs.Refusals.{is_refusal};
 ghost use Rattle.command_text.specs.Script.{entries_of};
 ghost use Rattle.command_text.specs.declared.reply.Reply.{Reply};
 ghost use Rattle.recfile.specs.Ending.{EndsAll, without};
+ghost use Rattle.recfile.specs.Kept.{CountsClosing};
 ghost use Rattle.recfile.specs.Examples.{four_changes, two_taken_back};
+ghost use Rattle.recfile.specs.Kept.{ClosesSafely, HasRecords};
 ghost use Rattle.recfile.specs.Room.{HasRoomFor, was_kept};
 ghost use Rattle.recfile.specs.Run.{Session};
 ghost use Rattle.recfile.specs.StoreSession.{WritesBack};
@@ -26,6 +30,8 @@ ghost use Rattle.recfile.specs.declared.file_fault.FileFault.{FileFault};
 ghost use Rattle.recfile.specs.declared.file_fault.FileFault.TheVariants as faults;
 ghost use Rattle.recfile.specs.declared.manner.Manner.{Manner};
 ghost use Rattle.recfile.specs.declared.script.RunFault.{RunFault};
+
+use page_journal::{DiskState, MemDisk};
 
 /// Ending takes back the live changes of open transactions and no others; it is no commit.
 pub fn endings_by_example()
@@ -54,6 +60,15 @@ pub fn sessions_by_example()
     ensures unclosed { (manner : Manner) (left leaves held holds : Option (List ℕ)) (old : Seen) (status : ℕ)
         (unclosed : Option FileFault)
         → EndsFile manner left leaves held holds old (λ _. ⊥) unclosed status → status ≡ 4 }
+{}
+
+/// A closing without a fault has no failure of its disk behind it; Device is no fault of a disk that didn't fail; and where
+/// the old pages couldn't be put back either, the disk has failed twice.
+pub fn closings_are_counted()
+    ensures silent { (before after : ℕ) → CountsClosing before false false after → after ≡ before }
+    ensures unfailed { (before : ℕ) → before < greatest_count
+        → CountsClosing before true true before → ⊥ }
+    ensures twice { CountsClosing 3 true true 5 }
 {}
 
 /// A dump that is run over a file without records, with no refusal, gives exactly its records.
@@ -91,4 +106,17 @@ pub fn closings_write_back_once()
         → WritesBack (Some old) t None (Some new) → new.steps ≡ old.steps }
     ensures no_memory { (old new : Option Journal) (t : TableView)
         → WritesBack old t (Some faults.Memory) new → new ≡ old }
+{}
+
+/// A session over a disk in memory, a crash at any moment of it, a session over what that left, and a crash at any moment of
+/// that one: the next opening finds the file that there was at first, or what the one or the other session closes.
+pub fn sessions_and_crashes()
+    ensures { (one two : History) (old : PageFile) (order later : ℕ) (first second : Contents)
+        → (unclosed other : Option FileFault) (left : Files)
+        → ClosesSafely ⟦<MemDisk as DiskState>⟧ old one unclosed order first
+        → LeftSince one.first one.calls 0 two.first
+        → ClosesSafely ⟦<MemDisk as DiskState>⟧ (recovered two.first) two other later second
+        → LeftSince two.first two.calls 0 left
+        → Belongs left × ((recovered left ≡ old) ⊎ HasRecords order first (recovered left)
+        ⊎ HasRecords later second (recovered left)) }
 {}

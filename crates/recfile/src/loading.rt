@@ -136,8 +136,8 @@ fn run_load<P: PageFiles, E: Screen>(
 }
 
 /// Puts the records of all that a reader has into the file at a path, in one transaction, all or none, and answers the
-/// status; a bar on `err` tells a person how far that is. Faults, each with a line on `err`: those of the text, by which no file is opened; the first record that is
-/// refused, by the number of its line; those of the file.
+/// status; a bar on `err` tells a person how far that is. Faults, each with a line on `err`: those of the text, by which
+/// no file is opened; the first record that is refused, by the number of its line; those of the file.
 pub fn load<P: PageFiles, R: Read, E: Screen>(
     files: &P,
     alloc: Global,

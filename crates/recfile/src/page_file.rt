@@ -3,7 +3,7 @@ ghost use Rattle.std.specs.FinMap as maps;
 ghost use Rattle.std.specs.String.{string_bytes};
 ghost use Rattle.std.specs.Io.KnownBytes.{Appends};
 ghost use Rattle.rec_types.specs.Contents.{Contents};
-ghost use Rattle.rec_types.specs.Table.{counted, no_damage};
+ghost use Rattle.rec_types.specs.Table.{counted};
 ghost use Rattle.page_store.specs.FreeNumbers.{free_numbers};
 ghost use Rattle.page_store.specs.StoreCalls.{StaysStore};
 ghost use Rattle.btree_node.specs.Layout.{second_version};
@@ -18,7 +18,7 @@ ghost use Rattle.recfile.specs.Statuses.{status_of};
 ghost use Rattle.recfile.specs.StoreSession.{ClosesIn, MakesIn, RunsIn, WritesBack, asks_shape};
 ghost use Rattle.recfile.specs.Tasks.{IsLine, Writes};
 ghost use Rattle.recfile.specs.TreeLine.{counts_in, counts_line};
-ghost use Rattle.recfile.specs.WholeSession.{EndsFile, opened_file};
+ghost use Rattle.recfile.specs.WholeSession.{EndsFile, IsUncounted, opened_file};
 
 use crate::dump::DumpFault;
 use crate::file_fault::FileFault;
@@ -229,7 +229,7 @@ fn run_opened<S: Store, R: Read, W: Write, E: Write>(
     ensures stopped { (store : S) → origin_of table ≡ opened_in S.StoreState table.tree.order store
         → result.status ≡ 4 → StaysStore S.StoreState store result.store }
     ensures session { (store : S) → origin_of table ≡ opened_in S.StoreState table.tree.order store
-        → IsTrue table.pages.steady → table.refusals ≡ 0 → table.damages ≡ no_damage
+        → IsTrue table.pages.steady → IsUncounted table
         → EndsFile manner (R.remaining reader.old) (R.remaining reader.new)
         (W.contents out.old) (W.contents out.new)
         (opened_file (table_contents table) limits table.pages.failures)

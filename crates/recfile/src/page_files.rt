@@ -28,11 +28,12 @@ pub trait PageFiles {
     /// to it is BadJournal, which changes nothing. Faults: Device, as where there is no file; BadJournal; Memory.
     fn open(&self, alloc: Global, path: &str) -> Result<Self::Device, FileFault>
         ensures found { IfOk result (λ disk. IsTrue (Self.Device.steady disk)
-            → Self.at self.now path.now Self.Device.began) }
+            → Self.at self.now path.now (Self.Device.began disk)) }
         ensures rest { IfOk result (IsAtRest Self.Device.DiskState) }
         ensures began { IfOk result (λ disk. IsTrue (Self.Device.steady disk)
-            → Self.Device.seen disk ≡ Self.Device.began) }
-        ensures moment { IfOk result (λ disk. Self.Device.moment disk ≡ 0) };
+            → Self.Device.seen disk ≡ Self.Device.began disk) }
+        ensures moment { IfOk result (λ disk. Self.Device.moment disk ≡ 0) }
+        ensures failures { IfOk result (λ disk. Self.Device.failures disk ≡ 0) };
 
     /// Opens the page file at the path to read it. Where a side file stands beside it a closing was stopped, and it isn't
     /// clean: putting the old pages back would write. Faults: Device, as where there is no file; NotClean; Memory.

@@ -1,5 +1,7 @@
 ghost use Rattle.record_file.specs.TableCalls.{KeepsOrigin};
-ghost use Rattle.std.specs.Prelude.{◌≡◌, ◌+◌, ◌<◌, ◌≤◌, List, length, take, IfOk, IfErr, OnOk};
+ghost use Rattle.std.specs.Prelude.{◌≡◌, ◌+◌, ◌<◌, ◌≤◌, ◌||◌, false, List, length, take, IfOk, IfErr, OnOk};
+ghost use Rattle.std.specs.Result.{is_err};
+ghost use Rattle.recfile.specs.Streams.{TellsFailed, read_fault, write_fault, run_read_fault, run_write_fault};
 ghost use Rattle.std.specs.List.{flat_map};
 ghost use Rattle.std.specs.Io.KnownBytes.{Appends};
 ghost use Rattle.recfile.specs.Whole.{IsWhole, longest_script};
@@ -11,12 +13,12 @@ ghost use Rattle.command_text.specs.declared.reply.Reply.{Reply};
 
 use crate::call::{command_count, reply_to};
 use crate::next_line::next_line;
-use crate::reads::{CountedRead, Reads};
+use crate::streams::{CountedRead, CountedWrite, StreamCalls};
 use command_text::{Command, LineFault, read_line};
 use rec_types::Table;
 use record_file::RecordFile;
 use std::alloc::Global;
-use std::io::{Read, Write};
+use std::io::Write;
 use std::marker::Brand;
 use std::sync::ledger::{Blank, Ledger};
 use thiserror::Error;
@@ -67,12 +69,14 @@ const CHUNK: usize = 4096;
 fn read_script<L: Ledger, R: CountedRead<L>>(
     alloc: Global,
     reader: &mut R,
-    reads: &mut Reads<L>,
+    calls: &mut StreamCalls<L>,
 ) -> Result<Vec<u8>, ScriptFault>
     ensures whole { IfOk result (λ script. IsWhole (R.left reader.old)
         (R.left reader.new) script.items) }
     ensures stops { IfErr result (ReadStops (R.left reader.old) (R.left reader.new)) }
-    ensures reads { reads.new ≤ reads.old + (longest_script + 2) }
+    ensures reads { calls.new.reads ≤ calls.old.reads + (longest_script + 2) }
+    ensures failed { TellsFailed calls.old (read_fault result) false calls.new }
+    ensures faults { write_fault result ≡ false }
 {
     let mut script = Vec::new(alloc);
     let mut chunk = [0; CHUNK];
@@ -81,7 +85,7 @@ fn read_script<L: Ledger, R: CountedRead<L>>(
         if room == 0 {
             return Err(ScriptFault::ScriptTooLong);
         }
-        match reader.read_on(reads, &mut chunk[..room]) {
+        match reader.read_on(calls, &mut chunk[..room]) {
             Err(_) => return Err(ScriptFault::ReadFault),
             Ok(0) => return Ok(script),
             Ok(n) => {
@@ -96,81 +100,47 @@ fn read_script<L: Ledger, R: CountedRead<L>>(
 
 /// Runs the whole script that a reader has, and answers how many commands it had. Each reply is written
 /// before the next command is run. It makes at most 1,048,578 reads. Faults: ScriptTooLong, where no command is run;
-/// ReadFault, WriteFault and Memory where they are met.
-pub fn run_script<T: Table, R: Read, W: Write>(
+/// ReadFault, exactly where a read failed; WriteFault, exactly where a write failed or took nothing; Memory.
+pub fn run_script<L: Ledger, T: Table, R: CountedRead<L>, W: CountedWrite<L>>(
     alloc: Global,
     reader: &mut R,
     writer: &mut W,
     file: &mut RecordFile<T>,
+    calls: &mut StreamCalls<L>,
 ) -> Result<u32, ScriptFault>
-    ensures finished { IfOk result (Finished (R.remaining reader.old) (R.remaining reader.new)
-        (W.contents writer.old) (W.contents writer.new)
+    ensures finished { IfOk result (Finished (R.left reader.old) (R.left reader.new)
+        (W.held writer.old) (W.held writer.new)
         (seen T.TableState file.old) (seen T.TableState file.new)) }
-    ensures faulted { IfErr result (Faulted (R.remaining reader.old) (R.remaining reader.new)
-        (W.contents writer.old) (W.contents writer.new)
+    ensures faulted { IfErr result (Faulted (R.left reader.old) (R.left reader.new)
+        (W.held writer.old) (W.held writer.new)
         (seen T.TableState file.old) (seen T.TableState file.new)) }
     ensures origin { KeepsOrigin T.TableState file.old file.new }
+    ensures reads { calls.new.reads ≤ calls.old.reads + (longest_script + 2) }
+    ensures failed { TellsFailed calls.old (read_fault result) (write_fault result) calls.new }
 {
-    unrefused(run_script_as(alloc, false, reader, writer, file))
+    unrefused(run_script_as(alloc, false, reader, writer, file, calls))
 }
 
 /// Runs the whole script that a reader has, as `run_script` does; where it is `strict`, the first reply that is a
 /// refusal ends it, once it is written. Faults: those of `run_script`; Refused.
-pub fn run_script_as<T: Table, R: Read, W: Write>(
+pub fn run_script_as<L: Ledger, T: Table, R: CountedRead<L>, W: CountedWrite<L>>(
     alloc: Global,
     strict: bool,
     reader: &mut R,
     writer: &mut W,
     file: &mut RecordFile<T>,
+    calls: &mut StreamCalls<L>,
 ) -> Result<u32, RunFault>
-    ensures ran { Ran strict (R.remaining reader.old) (R.remaining reader.new)
-        (W.contents writer.old) (W.contents writer.new)
+    ensures ran { Ran strict (R.left reader.old) (R.left reader.new)
+        (W.held writer.old) (W.held writer.new)
         (seen T.TableState file.old) (seen T.TableState file.new) result }
     ensures origin { KeepsOrigin T.TableState file.old file.new }
+    ensures reads { calls.new.reads ≤ calls.old.reads + (longest_script + 2) }
+    ensures failed { TellsFailed calls.old (run_read_fault result) (run_write_fault result)
+        calls.new }
 {
-    run_from::<Brand, T, R, W>(alloc, strict, reader, writer, file, Blank::new(1))
-}
-
-// The same, with a count of its own.
-fn run_from<L: Ledger, T: Table, R: Read, W: Write>(
-    alloc: Global,
-    strict: bool,
-    reader: &mut R,
-    writer: &mut W,
-    file: &mut RecordFile<T>,
-    blank: Blank,
-) -> Result<u32, RunFault>
-    requires name { blank.name ≡ L.name }
-    requires parts { blank.parts ≡ L.parts }
-    requires some { 0 < L.parts }
-    ensures ran { Ran strict (R.remaining reader.old) (R.remaining reader.new)
-        (W.contents writer.old) (W.contents writer.new)
-        (seen T.TableState file.old) (seen T.TableState file.new) result }
-    ensures origin { KeepsOrigin T.TableState file.old file.new }
-{
-    let mut reads = Reads::<L>::new(blank);
-    run_counted(alloc, strict, reader, writer, file, &mut reads)
-}
-
-/// Runs the whole script that a reader has, and counts its reads; the rest is as `run_script` says. It can read on that
-/// count alone.
-pub fn run_script_counted<L: Ledger, T: Table, R: CountedRead<L>, W: Write>(
-    alloc: Global,
-    reader: &mut R,
-    writer: &mut W,
-    file: &mut RecordFile<T>,
-    reads: &mut Reads<L>,
-) -> Result<u32, ScriptFault>
-    ensures finished { IfOk result (Finished (R.left reader.old) (R.left reader.new)
-        (W.contents writer.old) (W.contents writer.new)
-        (seen T.TableState file.old) (seen T.TableState file.new)) }
-    ensures faulted { IfErr result (Faulted (R.left reader.old) (R.left reader.new)
-        (W.contents writer.old) (W.contents writer.new)
-        (seen T.TableState file.old) (seen T.TableState file.new)) }
-    ensures origin { KeepsOrigin T.TableState file.old file.new }
-    ensures reads { reads.new ≤ reads.old + (longest_script + 2) }
-{
-    unrefused(run_counted(alloc, false, reader, writer, file, reads))
+    let script = read_script(alloc, reader, calls)?;
+    run_lines(alloc, &script, strict, writer, file, calls)
 }
 
 // The answer where no refusal ends a script.
@@ -185,42 +155,28 @@ fn unrefused(ran: Result<u32, RunFault>) -> Result<u32, ScriptFault>
     }
 }
 
-// Reads a script, and runs it.
-fn run_counted<L: Ledger, T: Table, R: CountedRead<L>, W: Write>(
-    alloc: Global,
-    strict: bool,
-    reader: &mut R,
-    writer: &mut W,
-    file: &mut RecordFile<T>,
-    reads: &mut Reads<L>,
-) -> Result<u32, RunFault>
-    ensures ran { Ran strict (R.left reader.old) (R.left reader.new)
-        (W.contents writer.old) (W.contents writer.new)
-        (seen T.TableState file.old) (seen T.TableState file.new) result }
-    ensures origin { KeepsOrigin T.TableState file.old file.new }
-    ensures reads { reads.new ≤ reads.old + (longest_script + 2) }
-{
-    let script = read_script(alloc, reader, reads)?;
-    run_lines(alloc, &script, strict, writer, file)
-}
-
 // Runs the lines of a script, one after another; where it is strict, up to the first reply that is a refusal.
-fn run_lines<T: Table, W: Write>(
+fn run_lines<L: Ledger, T: Table, W: CountedWrite<L>>(
     alloc: Global,
     script: &[u8],
     strict: bool,
     writer: &mut W,
     file: &mut RecordFile<T>,
+    calls: &mut StreamCalls<L>,
 ) -> Result<u32, RunFault>
     requires { length script.now ≤ longest_script }
     ensures finished { IfOk result (λ done. (replies : List Reply)
         × Session (seen T.TableState file.old) (entries_of script.now) replies
         (seen T.TableState file.new)
-        × Appends (W.contents writer.old) (W.contents writer.new) (flat_map text_of replies)
+        × Appends (W.held writer.old) (W.held writer.new) (flat_map text_of replies)
         × (done ≡ commands (entries_of script.now)) × AcceptedIf strict replies) }
-    ensures stops { IfErr result (LinesStop strict (W.contents writer.old) (W.contents writer.new)
+    ensures stops { IfErr result (LinesStop strict (W.held writer.old) (W.held writer.new)
         (seen T.TableState file.old) (seen T.TableState file.new) script.now) }
     ensures origin { KeepsOrigin T.TableState file.old file.new }
+    ensures failed { calls.new ≡ record calls.old {
+      write_failed = run_write_fault result || calls.old.write_failed;
+    } }
+    ensures faults { run_read_fault result ≡ false }
 {
     let mut text = String::new(alloc);
     let mut rest = script;
@@ -232,7 +188,7 @@ fn run_lines<T: Table, W: Write>(
         lines += 1;
         let said = read_line(line);
         done += command_count(&said);
-        let Some(refused) = answer(&mut text, writer, file, &said, done)? else {
+        let Some(refused) = answer(&mut text, writer, file, &said, done, calls)? else {
             continue;
         };
         if strict && refused {
@@ -244,22 +200,27 @@ fn run_lines<T: Table, W: Write>(
 
 /// Runs what a line says, which is the `done`th command where it says one, and writes its reply; `text` is for that,
 /// whatever it has. Answers whether the reply is a refusal; a line that says nothing has none. Faults: Memory, WriteFault.
-pub fn answer<T: Table, W: Write>(
+pub fn answer<L: Ledger, T: Table, W: CountedWrite<L>>(
     text: &mut String,
     writer: &mut W,
     file: &mut RecordFile<T>,
     said: &Result<Option<Command>, LineFault>,
     done: u32,
+    calls: &mut StreamCalls<L>,
 ) -> Result<Option<bool>, ScriptFault>
-    ensures sent { LineSent (W.contents writer.old) (W.contents writer.new)
+    ensures sent { LineSent (W.held writer.old) (W.held writer.new)
         (seen T.TableState file.old) said.now (seen T.TableState file.new) done result }
     ensures origin { KeepsOrigin T.TableState file.old file.new }
+    ensures failed { calls.new ≡ record calls.old {
+      write_failed = write_fault result || calls.old.write_failed;
+    } }
+    ensures faults { read_fault result ≡ false }
 {
     let told = reply_to(text, file, said).map_err(|_| ScriptFault::Memory { done })?;
     let Some(refused) = told else {
         return Ok(None);
     };
-    write_text(writer, text.as_bytes()).map_err(|_| ScriptFault::WriteFault { done })?;
+    send_text(writer, text.as_bytes(), calls).map_err(|_| ScriptFault::WriteFault { done })?;
     Ok(Some(refused))
 }
 
@@ -269,10 +230,40 @@ pub fn write_text<W: Write>(writer: &mut W, text: &[u8]) -> Result<(), usize>
     ensures err { IfErr result (λ sent. (sent < length text.now)
         × Appends (W.contents writer.old) (W.contents writer.new) (take sent text.now)) }
 {
+    write_alone::<Brand, W>(writer, text, Blank::new(1))
+}
+
+// The same, on a count of its own.
+fn write_alone<L: Ledger, W: Write>(writer: &mut W, text: &[u8], blank: Blank) -> Result<(), usize>
+    requires name { blank.name ≡ L.name }
+    requires parts { blank.parts ≡ L.parts }
+    requires some { 0 < L.parts }
+    ensures ok { OnOk result (Appends (W.contents writer.old) (W.contents writer.new) text.now) }
+    ensures err { IfErr result (λ sent. (sent < length text.now)
+        × Appends (W.contents writer.old) (W.contents writer.new) (take sent text.now)) }
+{
+    let mut calls = StreamCalls::<L>::new(blank);
+    send_text(writer, text, &mut calls)
+}
+
+// Writes a text whole, and notes whether a write failed. At one that fails, or takes nothing, it answers how many bytes
+// are written.
+fn send_text<L: Ledger, W: CountedWrite<L>>(
+    writer: &mut W,
+    text: &[u8],
+    calls: &mut StreamCalls<L>,
+) -> Result<(), usize>
+    ensures ok { OnOk result (Appends (W.held writer.old) (W.held writer.new) text.now) }
+    ensures err { IfErr result (λ sent. (sent < length text.now)
+        × Appends (W.held writer.old) (W.held writer.new) (take sent text.now)) }
+    ensures failed { calls.new ≡ record calls.old {
+      write_failed = is_err result || calls.old.write_failed;
+    } }
+{
     let mut sent = 0;
     while sent < text.len() {
-        match writer.write(&text[sent..]) {
-            Ok(0) | Err(_) => return Err(sent),
+        match writer.write_on(calls, &text[sent..]) {
+            Err(_) => return Err(sent),
             Ok(n) => sent += n,
         }
     }

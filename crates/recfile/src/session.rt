@@ -1,5 +1,5 @@
 ghost use Rattle.record_file.specs.TableCalls.{KeepsOrigin};
-ghost use Rattle.std.specs.Prelude.{◌≡◌, None};
+ghost use Rattle.std.specs.Prelude.{◌≡◌, ◌<◌, None};
 ghost use Rattle.record_file.specs.Runs.{Seen, seen};
 ghost use Rattle.recfile.specs.Whole.{empty_file};
 ghost use Rattle.recfile.specs.WholeSession.{IsSession, RanAs, RunsFile};
@@ -9,11 +9,14 @@ use crate::manner::{Feed, Manner};
 use crate::script::{RunFault, run_script_as};
 use crate::shell::run_shell;
 use crate::statuses::exit_status;
+use crate::streams::StreamCalls;
 use crate::tell::tell_fault_of;
 use rec_types::{Limits, SortedTable, Table};
 use record_file::RecordFile;
 use std::alloc::Global;
 use std::io::{Read, Write};
+use std::marker::Brand;
+use std::sync::ledger::{Blank, Ledger};
 
 /// How a session ended: how many commands its script ran, and how many transactions were open after it and were
 /// ended; or why not.
@@ -23,8 +26,8 @@ pub struct SessionEnd {
     pub ended: Result<u32, EndFault>,
 }
 
-// Runs the lines that a reader has, in that manner.
-fn run_feed<T: Table, R: Read, W: Write>(
+/// Runs the lines that a reader has, in that manner, as `run_script_as` and `run_shell` do.
+pub fn run_feed<T: Table, R: Read, W: Write>(
     alloc: Global,
     manner: Manner,
     reader: &mut R,
@@ -36,9 +39,30 @@ fn run_feed<T: Table, R: Read, W: Write>(
         (seen T.TableState file.old) (seen T.TableState file.new) result }
     ensures origin { KeepsOrigin T.TableState file.old file.new }
 {
+    feed_counted::<Brand, T, R, W>(alloc, manner, reader, writer, file, Blank::new(1))
+}
+
+// The same, on a count of its own.
+fn feed_counted<L: Ledger, T: Table, R: Read, W: Write>(
+    alloc: Global,
+    manner: Manner,
+    reader: &mut R,
+    writer: &mut W,
+    file: &mut RecordFile<T>,
+    blank: Blank,
+) -> Result<u32, RunFault>
+    requires name { blank.name ≡ L.name }
+    requires parts { blank.parts ≡ L.parts }
+    requires some { 0 < L.parts }
+    ensures ran { RanAs manner (R.remaining reader.old) (R.remaining reader.new)
+        (W.contents writer.old) (W.contents writer.new)
+        (seen T.TableState file.old) (seen T.TableState file.new) result }
+    ensures origin { KeepsOrigin T.TableState file.old file.new }
+{
+    let mut calls = StreamCalls::<L>::new(blank);
     match manner.feed {
-        Feed::Script => run_script_as(alloc, manner.strict, reader, writer, file),
-        Feed::Lines => run_shell(alloc, manner.strict, reader, writer, file),
+        Feed::Script => run_script_as(alloc, manner.strict, reader, writer, file, &mut calls),
+        Feed::Lines => run_shell(alloc, manner.strict, reader, writer, file, &mut calls),
     }
 }
 

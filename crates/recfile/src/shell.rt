@@ -1,5 +1,7 @@
 ghost use Rattle.record_file.specs.TableCalls.{KeepsOrigin};
-ghost use Rattle.std.specs.Prelude.{◌≡◌, ◌+◌, ◌++◌, ℕ, List, Option, OnOk, IfErr, MatchResult, if◌then◌else◌};
+ghost use Rattle.std.specs.Prelude.{◌≡◌, ◌+◌, ◌++◌, ◌||◌, ℕ, false, List, Option, OnOk, IfErr, MatchResult, if◌then◌else◌};
+ghost use Rattle.std.specs.Result.{is_err};
+ghost use Rattle.recfile.specs.Streams.{TellsFailed, run_read_fault, run_write_fault};
 ghost use Rattle.std.specs.Io.{ReadsAtMost};
 ghost use Rattle.std.specs.Io.KnownBytes.{ReadConsumes};
 ghost use Rattle.record_file.specs.Runs.{Seen, seen};
@@ -11,12 +13,13 @@ use crate::call::command_count;
 use crate::next_line::cut_line;
 use crate::part_line::PartLine;
 use crate::script::{RunFault, ScriptFault, answer};
+use crate::streams::{CountedRead, CountedWrite, StreamCalls};
 use command_text::{Command, LineFault};
 use rec_types::Table;
 use record_file::RecordFile;
 use std::alloc::Global;
 use std::io;
-use std::io::{Read, Write};
+use std::sync::ledger::Ledger;
 
 // How many bytes are read at a time.
 const CHUNK: usize = 4096;
@@ -44,51 +47,58 @@ impl Counts {
 /// the last LF is a line, where it has a byte. A line has at most 65,536 bytes; of a longer one nothing is kept. It
 /// answers how many commands there were, or 4,294,967,295 where there were more; where it is `strict`, the first reply
 /// that is a refusal ends it, once it is written. It takes 65,536 bytes of memory, and what the calls and replies take.
-/// Faults: Memory { done: 0 }, where nothing is read; ReadFault, WriteFault, Memory and Refused where they are met;
+/// Faults: Memory { done: 0 }, where nothing is read; ReadFault, exactly where a read failed; WriteFault, exactly where
+/// a write failed or took nothing; Memory and Refused where they are met;
 /// ScriptTooLong after 2^64 - 1 reads.
-pub fn run_shell<T: Table, R: Read, W: Write>(
+pub fn run_shell<L: Ledger, T: Table, R: CountedRead<L>, W: CountedWrite<L>>(
     alloc: Global,
     strict: bool,
     reader: &mut R,
     writer: &mut W,
     file: &mut RecordFile<T>,
+    calls: &mut StreamCalls<L>,
 ) -> Result<u32, RunFault>
-    ensures ran { RanLines strict (R.remaining reader.old) (R.remaining reader.new)
-        (W.contents writer.old) (W.contents writer.new)
+    ensures ran { RanLines strict (R.left reader.old) (R.left reader.new)
+        (W.held writer.old) (W.held writer.new)
         (seen T.TableState file.old) (seen T.TableState file.new) result }
     ensures origin { KeepsOrigin T.TableState file.old file.new }
+    ensures failed { TellsFailed calls.old (run_read_fault result) (run_write_fault result)
+        calls.new }
 {
-    run_answered(alloc, strict, reader, writer, file)
+    run_answered(alloc, strict, reader, writer, file, calls)
 }
 
 // The same, with what the reader had and the writer held at the start, and the file.
-fn run_answered<T: Table, R: Read, W: Write>(
+fn run_answered<L: Ledger, T: Table, R: CountedRead<L>, W: CountedWrite<L>>(
     alloc: Global,
     strict: bool,
     reader: &mut R,
     writer: &mut W,
     file: &mut RecordFile<T>,
+    calls: &mut StreamCalls<L>,
 ) -> Result<u32, RunFault>
     ghost start: { Start }
     requires { start ≡ record {
       strict = strict;
-      left = R.remaining reader.old;
-      held = W.contents writer.old;
+      left = R.left reader.old;
+      held = W.held writer.old;
       old = seen T.TableState file.old;
     } }
-    ensures ran { RanLines strict (R.remaining reader.old) (R.remaining reader.new)
-        (W.contents writer.old) (W.contents writer.new)
+    ensures ran { RanLines strict (R.left reader.old) (R.left reader.new)
+        (W.held writer.old) (W.held writer.new)
         (seen T.TableState file.old) (seen T.TableState file.new) result }
     ensures origin { KeepsOrigin T.TableState file.old file.new }
+    ensures failed { TellsFailed calls.old (run_read_fault result) (run_write_fault result)
+        calls.new }
 {
     let mut part = PartLine::new(alloc).map_err(|_| ScriptFault::Memory { done: 0 })?;
     let mut text = String::new(alloc);
     let mut counts = Counts { done: 0, lines: 0 };
     let mut chunk = [0; CHUNK];
     for turn in 0..u64::MAX {
-        match read_answered(reader, writer, &mut chunk) {
+        match read_answered(reader, writer, &mut chunk, calls) {
             Err(_) => return Err(RunFault::Script(ScriptFault::ReadFault)),
-            Ok(0) => return answer_last(&mut text, strict, &mut part, counts, writer, file),
+            Ok(0) => return answer_last(&mut text, strict, &mut part, counts, writer, file, calls),
             Ok(n) => answer_lines(
                 &mut text,
                 strict,
@@ -97,6 +107,7 @@ fn run_answered<T: Table, R: Read, W: Write>(
                 &mut counts,
                 writer,
                 file,
+                calls,
             )?,
         }
     }
@@ -105,22 +116,24 @@ fn run_answered<T: Table, R: Read, W: Write>(
 
 /// Makes one read for a run of lines. Of what the run has read, each line that has its LF is answered by then: the
 /// writer, which is only looked at, holds the replies.
-pub fn read_answered<R: Read, W: Write>(
+pub fn read_answered<L: Ledger, R: CountedRead<L>, W: CountedWrite<L>>(
     reader: &mut R,
     _writer: &W,
     to: &mut [u8],
+    calls: &mut StreamCalls<L>,
 ) -> io::Result<usize>
     ghost start: { Start }
-    requires { IsAnswered start (R.remaining reader.old) (W.contents _writer.now) }
+    requires { IsAnswered start (R.left reader.old) (W.held _writer.now) }
     ensures bound { ReadsAtMost result to.new }
-    ensures bytes { ReadConsumes (R.remaining reader.old) (R.remaining reader.new) result to.new }
+    ensures bytes { ReadConsumes (R.left reader.old) (R.left reader.new) result to.new }
+    ensures failed { TellsFailed calls.old (is_err result) false calls.new }
 {
-    reader.read(to)
+    reader.read_on(calls, to)
 }
 
 // Runs each line that ends in these bytes, which come after what was read before. What follows the last LF begins a
 // line, or goes on with one. Faults: those of `answer_line`.
-fn answer_lines<T: Table, W: Write>(
+fn answer_lines<L: Ledger, T: Table, W: CountedWrite<L>>(
     text: &mut String,
     strict: bool,
     bytes: &[u8],
@@ -128,22 +141,27 @@ fn answer_lines<T: Table, W: Write>(
     counts: &mut Counts,
     writer: &mut W,
     file: &mut RecordFile<T>,
+    calls: &mut StreamCalls<L>,
 ) -> Result<(), RunFault>
     ensures answered { (held : Option (List ℕ)) (old : Seen) (taken : List ℕ)
-        → AnsweredSoFar strict held (W.contents writer.old) old (seen T.TableState file.old)
+        → AnsweredSoFar strict held (W.held writer.old) old (seen T.TableState file.old)
         taken part.old counts.old
         → MatchResult result
-        (λ _. AnsweredSoFar strict held (W.contents writer.new) old (seen T.TableState file.new)
+        (λ _. AnsweredSoFar strict held (W.held writer.new) old (seen T.TableState file.new)
         (taken ++ bytes.now) part.new counts.new)
-        (λ fault. StopsAt strict held (W.contents writer.new) old (seen T.TableState file.new)
+        (λ fault. StopsAt strict held (W.held writer.new) old (seen T.TableState file.new)
         (ended_lines (taken ++ bytes.now)) fault) }
     ensures origin { KeepsOrigin T.TableState file.old file.new }
+    ensures failed { calls.new ≡ record calls.old {
+      write_failed = run_write_fault result || calls.old.write_failed;
+    } }
+    ensures faults { run_read_fault result ≡ false }
 {
     let mut rest = bytes;
     while let Some((last, after)) = cut_line(rest) {
         rest = after;
         let said = part.end(last);
-        answer_line(text, strict, said, counts, writer, file)?;
+        answer_line(text, strict, said, counts, writer, file, calls)?;
     }
     part.push(rest);
     Ok(())
@@ -151,55 +169,65 @@ fn answer_lines<T: Table, W: Write>(
 
 // Runs the last line, which has no LF, where it has a byte; answers how many commands there were. Faults: those of
 // `answer_line`.
-fn answer_last<T: Table, W: Write>(
+fn answer_last<L: Ledger, T: Table, W: CountedWrite<L>>(
     text: &mut String,
     strict: bool,
     part: &mut PartLine,
     counts: Counts,
     writer: &mut W,
     file: &mut RecordFile<T>,
+    calls: &mut StreamCalls<L>,
 ) -> Result<u32, RunFault>
     ensures answered { (held : Option (List ℕ)) (old : Seen) (taken : List ℕ)
-        → AnsweredSoFar strict held (W.contents writer.old) old (seen T.TableState file.old)
+        → AnsweredSoFar strict held (W.held writer.old) old (seen T.TableState file.old)
         taken part.old counts
         → MatchResult result
-        (λ done. Answered strict held (W.contents writer.new) old (lines_of taken)
+        (λ done. Answered strict held (W.held writer.new) old (lines_of taken)
         (seen T.TableState file.new)
         × (done ≡ counted_to (commands (bounded_entries_in (lines_of taken)))))
-        (λ fault. StopsAt strict held (W.contents writer.new) old (seen T.TableState file.new)
+        (λ fault. StopsAt strict held (W.held writer.new) old (seen T.TableState file.new)
         (lines_of taken) fault) }
     ensures origin { KeepsOrigin T.TableState file.old file.new }
+    ensures failed { calls.new ≡ record calls.old {
+      write_failed = run_write_fault result || calls.old.write_failed;
+    } }
+    ensures faults { run_read_fault result ≡ false }
 {
     if part.is_new() {
         return Ok(counts.done);
     }
     let mut counts = counts;
     let said = part.end(&[]);
-    answer_line(text, strict, said, &mut counts, writer, file)?;
+    answer_line(text, strict, said, &mut counts, writer, file, calls)?;
     Ok(counts.done)
 }
 
 // Runs a line that says this, and writes its reply. Faults: Memory, WriteFault; Refused, where it is strict.
-fn answer_line<T: Table, W: Write>(
+fn answer_line<L: Ledger, T: Table, W: CountedWrite<L>>(
     text: &mut String,
     strict: bool,
     said: Result<Option<Command>, LineFault>,
     counts: &mut Counts,
     writer: &mut W,
     file: &mut RecordFile<T>,
+    calls: &mut StreamCalls<L>,
 ) -> Result<(), RunFault>
     ensures done { counts.new.done
         ≡ counted_to (counts.old.done + (if says_command said then 1 else 0)) }
     ensures lines { counts.new.lines ≡ counted_to (counts.old.lines + 1) }
-    ensures answered { OnOk result (LineAnswered strict (W.contents writer.old)
-        (W.contents writer.new) (seen T.TableState file.old) said (seen T.TableState file.new)) }
-    ensures stops { IfErr result (LineStops strict (W.contents writer.old) (W.contents writer.new)
+    ensures answered { OnOk result (LineAnswered strict (W.held writer.old)
+        (W.held writer.new) (seen T.TableState file.old) said (seen T.TableState file.new)) }
+    ensures stops { IfErr result (LineStops strict (W.held writer.old) (W.held writer.new)
         (seen T.TableState file.old) said (seen T.TableState file.new)
         counts.new.done counts.new.lines) }
     ensures origin { KeepsOrigin T.TableState file.old file.new }
+    ensures failed { calls.new ≡ record calls.old {
+      write_failed = run_write_fault result || calls.old.write_failed;
+    } }
+    ensures faults { run_read_fault result ≡ false }
 {
     counts.add(&said);
-    let Some(refused) = answer(text, writer, file, &said, counts.done)? else {
+    let Some(refused) = answer(text, writer, file, &said, counts.done, calls)? else {
         return Ok(());
     };
     if strict && refused {

@@ -3,6 +3,8 @@ use Rattle.std.specs.Prelude.{ℕ, true, false, List, [], ◌∷◌, Some, None}
 use Rattle.rec_types.specs.Calls.{no_calls}
 use Rattle.rec_types.specs.Table.{no_damage}
 use Rattle.page_store.specs.Fronts.{two_pages}
+use Rattle.page_store.specs.Guards.{Unguarded}
+use Rattle.page_store.specs.Opening.{untold}
 use Rattle.page_store.specs.declared.step.Step.{Step}
 use Rattle.page_store.specs.declared.step.Step.TheVariants.{SetPages, Write, Sync}
 use Rattle.btree_delete.specs.TableView.{TableView}
@@ -17,11 +19,13 @@ table_over opened steps = record {
     stored = two_pages;
     tail = 0;
     steady = true;
+    opening = untold;
     reads = 0;
     shapes = 0;
     writes = 0;
     failures = 0;
     journal = Some (record { opened = opened; steps = steps });
+    guard = Unguarded;
   };
   tree = record { order = 1; root = 1; height = 1; count = 1; used = 1 };
   limit = 1;

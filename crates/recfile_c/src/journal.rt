@@ -154,6 +154,8 @@ impl JournalStore {
 
 impl StoreState for JournalStore {
     ghost use Rattle.std.specs.Prelude.{true};
+    ghost use Rattle.page_store.specs.Opening.{untold};
+    ghost use Rattle.page_store.specs.Guards.{Unguarded};
     ghost use Rattle.recfile_c.specs.Steps.{pages_of, journal_of};
 
     ghost pages = { pages_of };
@@ -161,6 +163,8 @@ impl StoreState for JournalStore {
     ghost tail = { λ _. 0 };
 
     ghost steady = { λ _. true };
+
+    ghost opening = { λ _. untold };
 
     ghost reads = { λ s. s.reads };
 
@@ -171,6 +175,8 @@ impl StoreState for JournalStore {
     ghost failures = { λ s. s.failures };
 
     ghost journal = { journal_of };
+
+    ghost guard = { λ _. Unguarded };
 }
 
 impl Store for JournalStore {

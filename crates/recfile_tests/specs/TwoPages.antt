@@ -1,7 +1,7 @@
 -- A file of two pages.
 use Rattle.std.specs.Prelude.{ℕ, List, [], ◌∷◌, None, replicate}
 use Rattle.rec_types.specs.Widths.{page_width}
-use Rattle.page_journal.specs.Files.{Files}
+use Rattle.page_journal.specs.Files.{Files, no_commits}
 use Rattle.page_journal.specs.Steps.{nothing_kept}
 
 -- a page of one byte
@@ -14,4 +14,5 @@ two_pages = record {
   main = record { pages = filled_page 1 ∷ filled_page 2 ∷ []; tail = 0 };
   fresh = nothing_kept 0;
   side = None;
+  commits = no_commits;
 }

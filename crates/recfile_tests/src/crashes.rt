@@ -1,29 +1,15 @@
 // A closing over a disk in memory and the recovery behind it, each stopped after each of its calls, with each of the calls
 // that weren't synced done, lost or torn.
 ghost use Rattle.std.specs.Prelude.{◌≡◌, []};
-ghost use Rattle.recfile_tests.specs.TwoPages.{filled_page, two_pages};
+ghost use Rattle.recfile_tests.specs.TwoPages.{filled_page};
 
 use crate::expect_text;
 use crate::stores::{pages_of, write_page};
-use page_journal::{Beginning, DiskCall, Fate, KeptStore, MemDisk, recover};
+use page_journal::{DiskCall, Fate, KeptStore, MemDisk};
 use page_store::{SealStore, Store, StoreFault};
 use rec_types::PAGE_WIDTH;
 use std::alloc::{AllocError, Global};
 use std::process::Abort;
-
-/// The disk whose file has two pages, filled with 1 and 2.
-pub(crate) struct TwoPages;
-
-impl Beginning for TwoPages {
-    ghost files = { two_pages };
-}
-
-/// Any other disk.
-struct Restarted;
-
-impl Beginning for Restarted {
-    ghost files = { two_pages };
-}
 
 pub(crate) fn filled(with: u8) -> [u8; PAGE_WIDTH]
     ensures { result ≡ filled_page with }
@@ -47,12 +33,10 @@ fn grow<S: Store>(store: &mut S, n: u32) -> Result<(), StoreFault> {
     store.set_pages(n)
 }
 
-/// The calls of a closing that writes two old pages over and adds one.
+/// The calls of a closing that writes two old pages over and adds one, of which no sync reaches the disk.
 fn close<S: SealStore>(store: &mut S) -> Result<(), StoreFault> {
     store.seal(&[0, 1])?;
     grow(store, 3)?;
-    put(store, 0, 5)?;
-    store.sync()?;
     put(store, 1, 8)?;
     put(store, 2, 9)?;
     store.sync()?;
@@ -72,7 +56,7 @@ fn close_pages<S: SealStore>(rt: &impl Abort, alloc: Global, store: S) -> S {
 }
 
 /// A store of two pages, filled with 1 and 2.
-fn opened(rt: &impl Abort, alloc: Global) -> KeptStore<MemDisk<TwoPages>> {
+fn opened(rt: &impl Abort, alloc: Global) -> KeptStore<MemDisk> {
     let disk = MemDisk::new(alloc, &[filled(1), filled(2)], 0).expect(rt, "no memory");
     match KeptStore::open(alloc, disk) {
         Ok(store) => store,
@@ -81,25 +65,25 @@ fn opened(rt: &impl Abort, alloc: Global) -> KeptStore<MemDisk<TwoPages>> {
 }
 
 /// The disk of a store, whose old pages are given up.
-fn ended(rt: &impl Abort, store: KeptStore<MemDisk<TwoPages>>) -> MemDisk<TwoPages> {
+fn ended(rt: &impl Abort, store: KeptStore<MemDisk>) -> MemDisk {
     let (disk, answer) = store.finish();
     answer.expect(rt, "not given up");
     disk
 }
 
 /// The disk behind the first closing, and behind the second.
-fn closed(rt: &impl Abort, alloc: Global) -> MemDisk<TwoPages> {
+fn closed(rt: &impl Abort, alloc: Global) -> MemDisk {
     let mut store = opened(rt, alloc);
     close(&mut store).expect(rt, "not closed");
     ended(rt, store)
 }
 
-fn closed_pages(rt: &impl Abort, alloc: Global) -> MemDisk<TwoPages> {
+fn closed_pages(rt: &impl Abort, alloc: Global) -> MemDisk {
     ended(rt, close_pages(rt, alloc, opened(rt, alloc)))
 }
 
 /// The disk behind a closing that stopped after its first write, whose old file was put back at once.
-fn taken_back(rt: &impl Abort, alloc: Global) -> MemDisk<TwoPages> {
+fn taken_back(rt: &impl Abort, alloc: Global) -> MemDisk {
     let mut store = opened(rt, alloc);
     store.seal(&[0, 1]).expect(rt, "not sealed");
     put(&mut store, 0, 5).expect(rt, "not written");
@@ -114,6 +98,7 @@ enum Part {
     File,
     Fresh,
     Names,
+    Commits,
 }
 
 fn part_of(call: &DiskCall) -> Part {
@@ -121,6 +106,7 @@ fn part_of(call: &DiskCall) -> Part {
         DiskCall::Write(..) | DiskCall::Grow(_) | DiskCall::Cut(_) | DiskCall::Sync => Part::File,
         DiskCall::Start(..) | DiskCall::Keep(..) | DiskCall::SyncFresh => Part::Fresh,
         DiskCall::Name | DiskCall::Remove | DiskCall::SyncNames => Part::Names,
+        DiskCall::Commits(_) => Part::Commits,
     }
 }
 
@@ -183,48 +169,45 @@ fn fates_of(alloc: Global, calls: &[DiskCall], way: u32) -> Result<Vec<Fate>, Al
     Ok(fates)
 }
 
-/// Recovers the file of a disk that was just started again.
-fn recovered(rt: &impl Abort, disk: MemDisk<Restarted>) -> MemDisk<Restarted>
+/// The disk of a session without a change over one that was just started again.
+fn recovered(rt: &impl Abort, alloc: Global, disk: MemDisk) -> MemDisk
     requires { disk.calls ≡ [] }
 {
-    let mut disk = disk;
-    recover(&mut disk).expect(rt, "not recovered");
-    disk
+    match KeptStore::open(alloc, disk) {
+        Ok(store) => ended(rt, store),
+        Err(_) => panic!(rt; "not recovered"),
+    }
 }
 
-/// The disk behind that crash and a recovery, where there is such a crash.
-fn after_crash<B>(
-    rt: &impl Abort,
-    disk: &MemDisk<B>,
-    fates: &[Fate],
-) -> Option<MemDisk<Restarted>> {
+/// The disk behind that crash and the next session, where there is such a crash.
+fn after_crash(rt: &impl Abort, alloc: Global, disk: &MemDisk, fates: &[Fate]) -> Option<MemDisk> {
     if fates.len() > disk.calls().len() {
         return None;
     }
     match disk.crash(fates).expect(rt, "no memory") {
-        Some(left) => Some(recovered(rt, left)),
+        Some(left) => Some(recovered(rt, alloc, left)),
         None => None,
     }
 }
 
-/// Adds the disks behind each crash after so many calls, and a recovery.
-fn add_crashes<B>(
+/// Adds the disks behind each crash after so many calls, and the next session.
+fn add_crashes(
     rt: &impl Abort,
     alloc: Global,
-    disk: &MemDisk<B>,
+    disk: &MemDisk,
     calls: &[DiskCall],
-    disks: &mut Vec<MemDisk<Restarted>>,
+    disks: &mut Vec<MemDisk>,
 ) {
     for way in 0..how_many(calls) {
         let fates = fates_of(alloc, calls, way).expect(rt, "no memory");
-        if let Some(left) = after_crash(rt, disk, &fates) {
+        if let Some(left) = after_crash(rt, alloc, disk, &fates) {
             disks.push(left).expect(rt, "no memory");
         }
     }
 }
 
-/// The disks behind each crash and a recovery.
-fn crashes<B>(rt: &impl Abort, alloc: Global, disk: &MemDisk<B>) -> Vec<MemDisk<Restarted>> {
+/// The disks behind each crash and the next session.
+fn crashes(rt: &impl Abort, alloc: Global, disk: &MemDisk) -> Vec<MemDisk> {
     let mut disks = Vec::new(alloc);
     for after in 0..=disk.calls().len() {
         if let Some(calls) = disk.calls().get(..after) {
@@ -254,7 +237,7 @@ enum Found {
     Neither,
 }
 
-fn found_on<B>(disk: &MemDisk<B>, new: &[u8]) -> Found {
+fn found_on(disk: &MemDisk, new: &[u8]) -> Found {
     if is_filled(disk.pages(), &[1, 2]) {
         return Found::Old;
     }
@@ -300,26 +283,14 @@ impl Tally {
 }
 
 /// Stops the recovery of a disk, after which it has to have the same file.
-fn stop_once(
-    rt: &impl Abort,
-    alloc: Global,
-    disk: &MemDisk<Restarted>,
-    new: &[u8],
-    tally: &mut Tally,
-) {
+fn stop_once(rt: &impl Abort, alloc: Global, disk: &MemDisk, new: &[u8], tally: &mut Tally) {
     for again in &crashes(rt, alloc, disk) {
         tally.note_again(found_on(again, new), found_on(disk, new));
     }
 }
 
 /// Stops the recovery of each of these disks, and the one behind that.
-fn stop_twice(
-    rt: &impl Abort,
-    alloc: Global,
-    disk: &MemDisk<Restarted>,
-    new: &[u8],
-    tally: &mut Tally,
-) {
+fn stop_twice(rt: &impl Abort, alloc: Global, disk: &MemDisk, new: &[u8], tally: &mut Tally) {
     for again in &crashes(rt, alloc, disk) {
         tally.note_again(found_on(again, new), found_on(disk, new));
         stop_once(rt, alloc, again, new, tally);
@@ -339,19 +310,13 @@ fn push_tally(text: &mut String, tally: &Tally) -> Result<(), AllocError> {
     )
 }
 
-/// What is found where a closing is stopped, and then where the recovery behind that is, once and twice.
-fn expect_found(
-    rt: &impl Abort,
-    alloc: Global,
-    closed: &MemDisk<TwoPages>,
-    new: &[u8],
-    wanted: &str,
-) {
+/// What is found where a closing is stopped, and then where the recovery behind that is.
+fn expect_found(rt: &impl Abort, alloc: Global, closed: &MemDisk, new: &[u8], wanted: &str) {
     let mut stopped = Tally::new();
     let mut again = Tally::new();
     for disk in &crashes(rt, alloc, closed) {
         stopped.note(found_on(disk, new));
-        stop_twice(rt, alloc, disk, new, &mut again);
+        stop_once(rt, alloc, disk, new, &mut again);
     }
     let mut text = String::new(alloc);
     push_tally(&mut text, &stopped).expect(rt, "no text");
@@ -359,13 +324,33 @@ fn expect_found(
     expect_text(rt, &text, wanted);
 }
 
+/// The disk behind a closing that writes page 0 alone.
+fn closed_first(rt: &impl Abort, alloc: Global) -> MemDisk {
+    let mut store = opened(rt, alloc);
+    store.seal(&[0]).expect(rt, "not sealed");
+    put(&mut store, 0, 7).expect(rt, "not written");
+    ended(rt, store)
+}
+
 #[test]
 fn closing_is_stopped(rt: HostRuntime) {
     let alloc = rt.alloc();
-    let wanted = "78 old, 2 new, 0 neither, 0 changed; 69456 old, 4 new, 0 neither, 0 changed; ";
+    let wanted = "168 old, 2 new, 0 neither, 0 changed; 5668 old, 2 new, 0 neither, 0 changed; ";
     expect_found(&rt, alloc, &closed(&rt, alloc), &[7, 8, 9], wanted);
-    let wanted = "69 old, 2 new, 0 neither, 0 changed; 51618 old, 4 new, 0 neither, 0 changed; ";
     expect_found(&rt, alloc, &closed_pages(&rt, alloc), &[7, 8], wanted);
-    let wanted = "170 old, 0 new, 0 neither, 0 changed; 247840 old, 0 new, 0 neither, 0 changed; ";
+    let wanted = "170 old, 0 new, 0 neither, 0 changed; 5670 old, 0 new, 0 neither, 0 changed; ";
     expect_found(&rt, alloc, &taken_back(&rt, alloc), &[], wanted);
+}
+
+/// The recovery is stopped, and the one behind that.
+#[test]
+fn recovery_is_stopped_twice(rt: HostRuntime) {
+    let alloc = rt.alloc();
+    let mut tally = Tally::new();
+    for disk in &crashes(&rt, alloc, &closed_first(&rt, alloc)) {
+        stop_twice(&rt, alloc, disk, &[7, 2], &mut tally);
+    }
+    let mut text = String::new(alloc);
+    push_tally(&mut text, &tally).expect(&rt, "no text");
+    expect_text(&rt, &text, "2496 old, 4 new, 0 neither, 0 changed; ");
 }

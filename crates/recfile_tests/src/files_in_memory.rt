@@ -1,5 +1,5 @@
 // The program's tasks over files in memory, which are steady: what the tasks are proved to do says something of them.
-use crate::crashes::{TwoPages, filled};
+use crate::crashes::filled;
 use crate::expect_text;
 use page_journal::MemDisk;
 use page_looks::{Reach, Wanted};
@@ -16,13 +16,13 @@ impl PageFiles for OneFile {
     ghost use Rattle.std.specs.Prelude.{◌≡◌};
     ghost use Rattle.recfile_tests.specs.TwoPages.{two_pages};
 
-    type Device = MemDisk<TwoPages>;
+    type Device = MemDisk;
 
     type Pages = MemStore;
 
     ghost at = { λ _ _ files. files ≡ two_pages };
 
-    fn open(&self, alloc: Global, _path: &str) -> Result<MemDisk<TwoPages>, FileFault> {
+    fn open(&self, alloc: Global, _path: &str) -> Result<MemDisk, FileFault> {
         match MemDisk::new(alloc, &[filled(1), filled(2)], 0) {
             Ok(disk) => Ok(disk),
             Err(_) => Err(FileFault::Memory),

@@ -6,18 +6,20 @@ mod sessions;
 mod strange_stores;
 mod table_files;
 
-ghost use Rattle.std.specs.Prelude.{◌<◌, ◌≤◌};
+ghost use Rattle.std.specs.Prelude.{◌≡◌, ◌<◌, ◌≤◌};
 
 use crate::expect_named;
 use btree_delete::TreeTable;
 use page_store::{MemStore, Store};
 use rec_types::{FlakyTable, LimitFault, Limits, SortedTable, Table};
-use recfile::{ScriptFault, run_script, run_shell};
+use recfile::{Feed, Manner, ScriptFault, StreamCalls, run_feed, run_script};
 use record_file::RecordFile;
 use std::alloc::Global;
 use std::io;
-use std::io::Read;
+use std::io::{Read, Write};
+use std::marker::Brand;
 use std::process::Abort;
+use std::sync::ledger::{Blank, Ledger};
 
 /// A reader that gives one byte at a time.
 #[derive(Drop)]
@@ -80,6 +82,32 @@ fn flaky_file<T: Table>(
     RecordFile::new(alloc, table, limits)
 }
 
+/// Runs the script that a reader has, on that count.
+fn run_counted<L: Ledger, T: Table, R: Read, W: Write>(
+    alloc: Global,
+    reader: &mut R,
+    writer: &mut W,
+    file: &mut RecordFile<T>,
+    blank: Blank,
+) -> Result<u32, ScriptFault>
+    requires name { blank.name ≡ L.name }
+    requires parts { blank.parts ≡ L.parts }
+    requires some { 0 < L.parts }
+{
+    let mut calls = StreamCalls::<L>::new(blank);
+    run_script(alloc, reader, writer, file, &mut calls)
+}
+
+/// Runs the script that a reader has.
+fn run_all<T: Table, R: Read, W: Write>(
+    alloc: Global,
+    reader: &mut R,
+    writer: &mut W,
+    file: &mut RecordFile<T>,
+) -> Result<u32, ScriptFault> {
+    run_counted::<Brand, T, R, W>(alloc, reader, writer, file, Blank::new(1))
+}
+
 /// Runs the script: its replies, and how it ended.
 fn run<T: Table>(
     rt: &impl Abort,
@@ -89,7 +117,7 @@ fn run<T: Table>(
 ) -> (String, Result<u32, ScriptFault>) {
     let mut reader = script.as_bytes();
     let mut out = Vec::new(alloc);
-    let end = run_script(alloc, &mut reader, &mut out, file);
+    let end = run_all(alloc, &mut reader, &mut out, file);
     (String::from_utf8(out).expect(rt, "no text"), end)
 }
 
@@ -125,7 +153,11 @@ fn expect_shell<T: Table, R: Read>(
     let limits = Limits::new(records, log_records, begins).expect(rt, "no limits");
     let mut file = flaky_file(rt, alloc, table, limits, row.failing);
     let mut out = Vec::new(alloc);
-    let end = run_shell(alloc, false, reader, &mut out, &mut file);
+    let manner = Manner {
+        strict: false,
+        feed: Feed::Lines,
+    };
+    let end = run_feed(alloc, manner, reader, &mut out, &mut file);
     let text = String::from_utf8(out).expect(rt, "no text");
     expect_named(rt, row.name, text.as_str(), row.replies);
     assert_eq!(rt; (row.name, end), (row.name, Ok(row.commands)));

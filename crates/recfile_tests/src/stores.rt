@@ -52,12 +52,16 @@ struct ScarceStore {
 
 impl StoreState for ScarceStore {
     ghost use Rattle.std.specs.Prelude.{None, true};
+    ghost use Rattle.page_store.specs.Opening.{untold};
+    ghost use Rattle.page_store.specs.Guards.{Unguarded};
 
     ghost pages = { λ s. s.inner.pages };
 
     ghost tail = { λ s. s.inner.tail };
 
     ghost steady = { λ _. true };
+
+    ghost opening = { λ _. untold };
 
     ghost reads = { λ s. s.inner.reads };
 
@@ -68,6 +72,8 @@ impl StoreState for ScarceStore {
     ghost failures = { λ _. 0 };
 
     ghost journal = { λ _. None };
+
+    ghost guard = { λ _. Unguarded };
 }
 
 impl Store for ScarceStore {

@@ -20,6 +20,7 @@ use Rattle.record_file.specs.Abstract.{File, OpenFile, open_of, charged_of, phas
 use Rattle.record_file.specs.Asked.{Asked, after_asking, looked_unless, TellsLost, UndoAsks, may_be_full, restores, sets_told}
 use Rattle.record_file.specs.Outside.{cause_of, named_by}
 use Rattle.record_file.specs.Refusals.{put_refusal, remove_refusal, refusal_by, cause_in_refusal}
+use Rattle.record_file.specs.Seen.{Seen, seen}
 use Rattle.record_file.specs.Steps.{active_refusal, held_refusal, key_refusal}
 use Rattle.record_file.specs.declared.refusal.Refusal.{Refusal}
 use Rattle.record_file.specs.declared.refusal.Refusal.TheVariants as refusals
@@ -132,8 +133,8 @@ sets_on : (n : ℕ) (rs more : List LogRecord) → sets_told n (rs ++ more) ≡ 
 sets_on n [] more = refl
 sets_on n (r ∷ rs) more = sets_on (counted n (is_some (new_of r))) rs more
 
--- the table and the log stay
-pub undo_none : {T : Type 0} (t : Ghosts T) (old new : OpenFile T) → new.table ≡ old.table → new.log ≡ old.log → UndoAsks t old None new
+-- what is seen of a file whose table and log stay
+pub undo_none : {T : Type 0} (t : Ghosts T) (old new : OpenFile T) → new.table ≡ old.table → new.log ≡ old.log → UndoAsks (seen t old) None (seen t new)
 undo_none t old new table log = record {
   more = [];
   no_room = false;
@@ -153,15 +154,28 @@ nothing_told : (b : Bool) (old new : Damages) → TellsLost b old None new → n
 nothing_told true old new lost = lost.1
 nothing_told false old new lost = lost
 
+-- nothing was asked
+pub undo_nothing : (s : Seen) → UndoAsks s None s
+undo_nothing s = record {
+  more = [];
+  no_room = false;
+  grown = sym (append-nil s.log);
+  sets = refl;
+  gets = refl;
+  lists = refl;
+  no_rooms = refl;
+  lost = refl;
+}
+
 -- a rollback that nothing stopped goes on
-pub undo_then : {T : Type 0} (t : Ghosts T) (old mid new : OpenFile T) (cause : Option Cause) → UndoAsks t old None mid → UndoAsks t mid cause new → UndoAsks t old cause new
-undo_then t old mid new cause first next = record {
+pub undo_then : (old mid new : Seen) (cause : Option Cause) → UndoAsks old None mid → UndoAsks mid cause new → UndoAsks old cause new
+undo_then old mid new cause first next = record {
   more = first.more ++ next.more;
   no_room = next.no_room;
   grown = next.grown ∙ ap (λ rs. rs ++ next.more) first.grown ∙ append_assoc old.log first.more next.more;
-  sets = next.sets ∙ ap (λ n. counted (sets_told n next.more) (is_some cause)) first.sets ∙ ap (λ n. counted n (is_some cause)) (sym (sets_on (t.calls old.table).sets first.more next.more));
+  sets = next.sets ∙ ap (λ n. counted (sets_told n next.more) (is_some cause)) first.sets ∙ ap (λ n. counted n (is_some cause)) (sym (sets_on old.calls.sets first.more next.more));
   gets = next.gets ∙ first.gets;
   lists = next.lists ∙ first.lists;
-  no_rooms = next.no_rooms ∙ ap (λ n. counted n next.no_room) (first.no_rooms ∙ ap (counted (t.calls old.table).no_rooms) (nothing_lost first.no_room _ _ first.lost));
-  lost = subst (λ d. TellsLost next.no_room d cause (t.damages new.table)) (nothing_told first.no_room _ _ first.lost) next.lost;
+  no_rooms = next.no_rooms ∙ ap (λ n. counted n next.no_room) (first.no_rooms ∙ ap (counted old.calls.no_rooms) (nothing_lost first.no_room _ _ first.lost));
+  lost = subst (λ d. TellsLost next.no_room d cause new.damages) (nothing_told first.no_room _ _ first.lost) next.lost;
 }

@@ -27,6 +27,7 @@ same_but_file t old new table log i = record {
   failures = t.device_failures (table i);
   refusals = t.memory_refusals (table i);
   damages = t.damages (table i);
+  calls = t.calls (table i);
 }
 
 -- what stays true of a file is what a run sees of it

@@ -1,5 +1,5 @@
 -- The remaining calls of a run, made by themselves.
-use Rattle.std.proofs.Common.{◌≡◌, ℕ, ◌+◌, ◌-◌, ◌<◌, ◌≤◌, zero, suc, Bool, true, false, cond, if◌then◌else◌, ◌&&◌, eqb, nat_lt, nat_le, List, [], ◌∷◌, ◌++◌, length, Option, Some, None, is_some, is_none, option_map, Ok, IfSome, inl, refl, sym, ap, subst, ◌∙◌, IsTrue, arith}
+use Rattle.std.proofs.Common.{◌≡◌, ℕ, ◌+◌, ◌-◌, ◌<◌, ◌≤◌, zero, suc, Bool, true, false, cond, if◌then◌else◌, ◌&&◌, eqb, nat_lt, nat_le, List, [], ◌∷◌, ◌++◌, length, Option, Some, None, is_some, is_none, not, option_map, Ok, IfSome, inl, refl, sym, ap, subst, ◌∙◌, IsTrue, arith}
 use Rattle.std.proofs.lemmas.Bool.Decides.{nat_tests}
 use Rattle.std.specs.FinMap as maps
 use Rattle.std.specs.FinMap.{get, get-empty, len}
@@ -20,13 +20,16 @@ use Rattle.tx_log.proofs.RemainingLemmas.{leaves-take_newest, leaves-take_back}
 use Rattle.record_file.specs.Abstract.{File, open_of, tx_of, phase_at, use_of, held_by, is_full, charged_of, records_of, with_change}
 use Rattle.record_file.specs.Steps.{active_refusal, held_refusal, key_refusal, tx_refusal}
 use Rattle.record_file.specs.Runs.{Called, Event, Seen, Step, Run, Answers, IsKeptSeen, cause_in, Begin, Put, Claim, Remove, Commit}
+use Rattle.record_file.specs.Asked.{looked_unless}
 use Rattle.record_file.specs.Undo.{Starts, old_record}
 use Rattle.record_file.specs.Outside.{NeverDamaged}
 use Rattle.record_file.specs.declared.fault.Cause.{Cause}
-use Rattle.record_file.proofs.TidyLogLemmas.{TidyLog, IsBounded, tidy_kept, start_tidy, begun_tidy, ended_tidy, change_tidy, made, next_record}
+use Rattle.record_file.proofs.TidyLogLemmas.{TidyLog, IsBounded, tidy_kept, start_tidy, begun_tidy, ended_tidy, change_tidy, asked_by, made, next_record}
 use Rattle.record_file.specs.Remaining.{is_change, begins_or_commits, first_lives, past_first, remains, front_if, remaining, NothingFails}
 use Rattle.record_file.specs.Leads.{LeadsTo, part, past}
+use Rattle.record_file.specs.declared.refusal.Refusal.{Refusal}
 use Rattle.record_file.specs.declared.refusal.Refusal.TheVariants.{LogFull}
+use Rattle.record_file.proofs.AskedLemmas.{looked_is}
 use Rattle.record_file.proofs.OpenTxLemmas.{same_tx, same_tx-is, get-insert_tx, get-remove_tx, open-insert, open-remove}
 use Rattle.record_file.proofs.InvariantLemmas.{open_by_phase, change_written}
 use Rattle.record_file.proofs.FullnessLemmas.{change_fits, room_of, below_not_full}
@@ -394,6 +397,12 @@ step_alone m answered fs fs2 e g s sound kept step move leads on alone = at move
             opening = λ here. refl;
             err = tt;
             damages = inl refl;
+            asks = record {
+              asked = asked_by (Some (Some r));
+              allowed = record { accepted = refl; full = λ full. absurd (cc full); looks = λ here looked. absurd (cc looked) };
+              calls = refl;
+              lost = refl;
+            };
           },
         ))
 
@@ -412,6 +421,7 @@ step_alone m answered fs fs2 e g s sound kept step move leads on alone = at move
             opening = λ here. refl;
             err = tt;
             damages = refl;
+            asks = sym (looked_is true s.calls) ∙ ap (λ (o : Option Refusal). looked_unless (is_some o) s.calls) (sym none);
           },
         ))
 
@@ -449,6 +459,12 @@ step_alone m answered fs fs2 e g s sound kept step move leads on alone = at move
                 opening = λ here. refl;
                 err = tt;
                 damages = inl refl;
+                asks = record {
+                  asked = asked_by (Some None);
+                  allowed = record { accepted = refl; absent = λ absent. absurd (cc absent); looks = ap (λ (o : Option Refusal). not (is_some o)) (sym none) };
+                  calls = refl;
+                  lost = refl;
+                };
               },
             );
           },

@@ -20,6 +20,7 @@ use Rattle.tx_log.proofs.LogLawLemmas.{is_chained}
 use Rattle.tx_log.proofs.LogStepLemmas.{IsChangeOf, change_told_of}
 use Rattle.tx_log.proofs.OwnerLemmas.{held-free, owned-push}
 use Rattle.record_file.specs.Abstract.{AbortsWhole, File, AllTold, written, open_of, tx_of, use_of, held_by, records_of, charged_of, with_change}
+use Rattle.record_file.specs.Asked.{Asked, after_asking}
 use Rattle.record_file.specs.Runs.{Seen, IsKeptSeen}
 use Rattle.record_file.specs.Undo.{Starts}
 use Rattle.record_file.proofs.FileLemmas.{change, history-push, replay-push}
@@ -27,6 +28,12 @@ use Rattle.record_file.proofs.InvariantLemmas.{none_by_new, none_by_end, key_mad
 use Rattle.record_file.proofs.OpenTxLemmas.{same_tx, same_tx-is, get-insert_tx, get-remove_tx, open-insert, open-remove}
 use Rattle.record_file.proofs.OwnerLemmas.{owner_is}
 use Rattle.record_file.proofs.WholeTxLemmas.{whole_empty, whole_insert, whole_remove}
+
+-- what a change asks of a table that has room: a claim looks, a removal looks and sets, and a put sets
+abbrev pub asked_by : Option (Option (List ℕ)) → Asked
+asked_by None = record { looks = true; sets = false; no_room = false; lost = false }
+asked_by (Some None) = record { looks = true; sets = true; no_room = false; lost = false }
+asked_by (Some (Some r)) = record { looks = false; sets = true; no_room = false; lost = false }
 
 -- the changes that the log tells of
 abbrev logged : List LogRecord → List Kept
@@ -144,7 +151,7 @@ module _ (s : Seen) (tidy : TidyLog s) where
 
     -- the file after it
     abbrev pub made : Seen
-    made = record s { file = with_change s.file t.0 x after; log = s.log ++ next_record ∷ []; records = write_to s.records x after }
+    made = record s { file = with_change s.file t.0 x after; log = s.log ++ next_record ∷ []; records = write_to s.records x after; calls = after_asking s.calls (asked_by after) }
 
     told : IsChangeOf next_record (length s.log + 1) (last_of t.0 (reverse s.log)) t x before after
     told = change_told_of (length s.log + 1) (last_of t.0 (reverse s.log)) t x before after

@@ -5,14 +5,14 @@ use Rattle.rec_types.specs.Calls.{with_get, is_no_room}
 use Rattle.rec_types.specs.Table.{counted, Damages}
 use Rattle.rec_types.specs.declared.table.TableFault.{TableFault}
 use Rattle.rec_types.specs.declared.table_calls.TableCalls.{TableCalls}
-use Rattle.rec_types.specs.declared.table_state.TableState.{Ghosts}
 use Rattle.tx_log.specs.Log.{new_of}
 use Rattle.tx_log.specs.Owners.{owner_of}
 use Rattle.tx_log.specs.declared.log_record.LogRecord.{LogRecord}
 use Rattle.tx_log.specs.declared.phase.UndoStep.{UndoStep}
 use Rattle.tx_log.specs.declared.phase.UndoStep.TheVariants.{Restore, Unclaim}
-use Rattle.record_file.specs.Abstract.{File, OpenFile, open_of, charged_of}
+use Rattle.record_file.specs.Abstract.{File, open_of, charged_of}
 use Rattle.record_file.specs.Outside.{named_by}
+use Rattle.record_file.specs.Seen.{Seen}
 use Rattle.record_file.specs.declared.fault.Cause.{Cause}
 use Rattle.record_file.specs.declared.fault.Cause.TheVariants.{Damaged}
 use Rattle.record_file.specs.declared.fault.PutFault.{PutFault}
@@ -41,11 +41,11 @@ TellsLost true old cause new = (cause ≡ Some (Damaged 0)) × (new ≡ old)
 TellsLost false old cause new = new ≡ named_by old cause
 
 -- A change asks its table for what it may. That there was no room, or that a record was lost, is told as page 0.
-pub record Asks {T : Type 0} (t : Ghosts T) (may : Asked → Type 0) (old : OpenFile T) (cause : Option Cause) (new : OpenFile T) : Type 0 where
+pub record Asks (may : Asked → Type 0) (old : Seen) (cause : Option Cause) (new : Seen) : Type 0 where
   pub asked : Asked
   pub allowed : may asked
-  pub calls : t.calls new.table ≡ after_asking (t.calls old.table) asked
-  pub lost : TellsLost (asked.lost || asked.no_room) (t.damages old.table) cause (t.damages new.table)
+  pub calls : new.calls ≡ after_asking old.calls asked
+  pub lost : TellsLost (asked.lost || asked.no_room) old.damages cause new.damages
 
 -- the key has no owner, and the charged keys have reached the limit: the file is full for it if no record stands there
 abbrev pub may_be_full : File → List ℕ → Bool
@@ -81,12 +81,12 @@ sets_told n [] = n
 sets_told n (r ∷ rs) = sets_told (counted n (is_some (new_of r))) rs
 
 -- A rollback sets once for each compensation that it logs, and once more where it is stopped; it looks at nothing and lists nothing. That there was no room stops it, and is told as page 0.
-pub record UndoAsks {T : Type 0} (t : Ghosts T) (old : OpenFile T) (cause : Option Cause) (new : OpenFile T) : Type 0 where
+pub record UndoAsks (old : Seen) (cause : Option Cause) (new : Seen) : Type 0 where
   pub more : List LogRecord
   pub no_room : Bool
   pub grown : new.log ≡ old.log ++ more
-  pub sets : (t.calls new.table).sets ≡ counted (sets_told (t.calls old.table).sets more) (is_some cause)
-  pub gets : (t.calls new.table).gets ≡ (t.calls old.table).gets
-  pub lists : (t.calls new.table).lists ≡ (t.calls old.table).lists
-  pub no_rooms : (t.calls new.table).no_rooms ≡ counted (t.calls old.table).no_rooms no_room
-  pub lost : TellsLost no_room (t.damages old.table) cause (t.damages new.table)
+  pub sets : new.calls.sets ≡ counted (sets_told old.calls.sets more) (is_some cause)
+  pub gets : new.calls.gets ≡ old.calls.gets
+  pub lists : new.calls.lists ≡ old.calls.lists
+  pub no_rooms : new.calls.no_rooms ≡ counted old.calls.no_rooms no_room
+  pub lost : TellsLost no_room old.damages cause new.damages

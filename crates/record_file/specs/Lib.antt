@@ -3,6 +3,7 @@ pub mod Outside
 pub mod Steps
 pub mod TableCalls
 pub mod Refusals
+pub mod Seen
 pub mod Runs
 pub mod Undo
 pub mod Remaining

@@ -1,10 +1,9 @@
 -- A run: calls on a file one after another, each with its answer, and what came to it from outside.
-use Rattle.std.specs.Prelude.{◌≡◌, ◌≢◌, ℕ, ◌<◌, Bool, true, false, List, [], ◌∷◌, Option, Some, None, Result, IsTrue, IfSome, IfOk, IfErr, OnErr}
+use Rattle.std.specs.Prelude.{◌≡◌, ◌≢◌, ℕ, ◌<◌, Bool, true, false, List, [], ◌∷◌, Option, Some, None, is_some, Result, IsTrue, IfSome, IfOk, IfErr, OnErr}
 use Rattle.std.specs.FinMap as maps
-use Rattle.rec_types.specs.Contents.{Contents}
 use Rattle.rec_types.specs.History.{log_len}
-use Rattle.rec_types.specs.Table.{counted, greatest_count, Damages}
-use Rattle.rec_types.specs.declared.table_state.TableState.{Ghosts}
+use Rattle.rec_types.specs.Calls.{with_list}
+use Rattle.rec_types.specs.Table.{counted, greatest_count}
 use Rattle.rec_types.specs.declared.transaction.TxId.{TxId}
 use Rattle.rec_types.specs.declared.transaction.Entry.{Entry}
 use Rattle.tx_log.specs.Log.{record_at}
@@ -24,10 +23,12 @@ use Rattle.record_file.specs.declared.fault.EntriesFault.{EntriesFault}
 use Rattle.record_file.specs.declared.fault.KeysOfFault.{KeysOfFault}
 use Rattle.record_file.specs.declared.fault.StatusFault.{StatusFault}
 use Rattle.record_file.specs.declared.fault.Status.{Status}
-use Rattle.record_file.specs.Abstract.{File, OpenFile, IsKeptFile, Tells, charged_of, use_of}
+use Rattle.record_file.specs.Abstract.{File, IsKeptFile, Tells, charged_of, use_of}
+use Rattle.record_file.specs.Asked.{Asks, MayPut, MayRemove, UndoAsks, looked_unless}
 use Rattle.record_file.specs.Outside.{by_device, by_memory, named_by, TellsDamage, NeverDamaged}
 use Rattle.record_file.specs.Refusals.{put_refusal, claim_refusal, remove_refusal, get_refusal, rollback_refusal, abort_refusal, resume_refusal, entries_refusal, refusal_by, cause_by, by_file}
 use Rattle.record_file.specs.declared.fault.Cause.{Cause}
+pub use Rattle.record_file.specs.Seen.{Seen, seen}
 use Rattle.record_file.specs.Steps.{rose, key_refusal, tx_refusal, returning_refusal, resuming_refusal, Accepts, key_change, BeginStep, PutStep, ClaimStep, RemoveStep, GetStep, SavepointStep, ReleaseStep, CommitStep, RollsBackTo, RollbackToStep, Aborts, AbortStep, Resumes, ResumeStep, EntriesStep, KeysOfStep, status_of}
 
 -- a call with its arguments, and what it answered
@@ -58,20 +59,6 @@ pub record Event : Type 0 where
   pub called : Called
   pub failed : Bool
   pub refused : Bool
-
--- what a run sees of a file: the abstract file, the log, the table's records, whether the table is sound, and what it
--- has counted
-pub record Seen : Type 0 where
-  pub file : File
-  pub log : List LogRecord
-  pub records : Contents
-  pub sound : Bool
-  pub failures : ℕ
-  pub refusals : ℕ
-  pub damages : Damages
-
-abbrev pub seen : {T : Type 0} → Ghosts T → OpenFile T → Seen
-seen t f = record { file = f.file; log = f.log; records = t.contents f.table; sound = t.sound f.table; failures = t.device_failures f.table; refusals = t.memory_refusals f.table; damages = t.damages f.table }
 
 -- What stays true of a file, of what a run sees of it.
 abbrev pub IsKeptSeen : Seen → Type 0
@@ -117,6 +104,7 @@ pub record Puts (old : Seen) (t : TxId) (x r : List ℕ) (answer : Result (Optio
   pub opening : IsTrue old.sound → new.file.opening ≡ old.file.opening
   pub err : OnErr answer (Leaves old new)
   pub damages : TellsDamage old.damages (cause_by put_refusal answer) new.damages
+  pub asks : Asks (MayPut old.sound old.file x answer) old (cause_by put_refusal answer) new
 
 pub record Claims (old : Seen) (t : TxId) (x : List ℕ) (answer : Result (Option (List ℕ)) ClaimFault) (new : Seen) : Type 0 where
   pub step : IsTrue old.sound → old.failures < greatest_count → ClaimStep old.file t.0 x (rose old.failures new.failures) answer new.file
@@ -126,6 +114,7 @@ pub record Claims (old : Seen) (t : TxId) (x : List ℕ) (answer : Result (Optio
   pub opening : IsTrue old.sound → new.file.opening ≡ old.file.opening
   pub err : OnErr answer (Leaves old new)
   pub damages : new.damages ≡ named_by old.damages (cause_by claim_refusal answer)
+  pub asks : new.calls ≡ looked_unless (is_some (key_refusal true old.file t.0 x)) old.calls
 
 pub record Removes (old : Seen) (t : TxId) (x : List ℕ) (answer : Result (List ℕ) RemoveFault) (new : Seen) : Type 0 where
   pub step : IsTrue old.sound → old.failures < greatest_count → RemoveStep old.file t.0 x (rose old.failures new.failures) answer new.file
@@ -135,6 +124,7 @@ pub record Removes (old : Seen) (t : TxId) (x : List ℕ) (answer : Result (List
   pub opening : IsTrue old.sound → new.file.opening ≡ old.file.opening
   pub err : OnErr answer (Leaves old new)
   pub damages : TellsDamage old.damages (cause_by remove_refusal answer) new.damages
+  pub asks : Asks (MayRemove (is_some (key_refusal true old.file t.0 x)) answer) old (cause_by remove_refusal answer) new
 
 pub record Gets (old : Seen) (t : TxId) (x : List ℕ) (answer : Result (Option (List ℕ)) GetFault) (new : Seen) : Type 0 where
   pub step : IsTrue old.sound → old.failures < greatest_count → GetStep old.file t.0 x (rose old.failures new.failures) answer new.file
@@ -142,6 +132,7 @@ pub record Gets (old : Seen) (t : TxId) (x : List ℕ) (answer : Result (Option 
   pub refused_only : IfErr answer (λ fault. IsTrue (by_file (get_refusal fault)) → key_refusal false old.file t.0 x ≡ Some (get_refusal fault))
   pub same : Leaves old new
   pub damages : new.damages ≡ named_by old.damages (cause_by get_refusal answer)
+  pub asks : new.calls ≡ looked_unless (is_some (key_refusal false old.file t.0 x)) old.calls
 
 pub record RollsTo (old : Seen) (t : TxId) (n : ℕ) (answer : Result ℕ RollbackToFault) (new : Seen) : Type 0 where
   pub step : IsTrue old.sound → old.failures < greatest_count → old.refusals < greatest_count → RollbackToStep old.file t.0 n (rose old.failures new.failures) (rose old.refusals new.refusals) answer new.file
@@ -149,6 +140,7 @@ pub record RollsTo (old : Seen) (t : TxId) (n : ℕ) (answer : Result ℕ Rollba
   pub opening : IsTrue old.sound → new.file.opening ≡ old.file.opening
   pub refused : IfSome (returning_refusal old.file t.0 n) (λ refusal. (refusal_by rollback_refusal answer ≡ Some refusal) × (new ≡ old))
   pub damages : TellsDamage old.damages (cause_by rollback_refusal answer) new.damages
+  pub asks : UndoAsks old (cause_by rollback_refusal answer) new
 
 pub record IsAborted (old : Seen) (t : TxId) (answer : Result ℕ AbortFault) (new : Seen) : Type 0 where
   pub step : IsTrue old.sound → old.failures < greatest_count → old.refusals < greatest_count → AbortStep old.file t.0 (rose old.failures new.failures) (rose old.refusals new.refusals) answer new.file
@@ -156,6 +148,7 @@ pub record IsAborted (old : Seen) (t : TxId) (answer : Result ℕ AbortFault) (n
   pub opening : IsTrue old.sound → new.file.opening ≡ old.file.opening
   pub refused : IfSome (tx_refusal old.file t.0 None) (λ refusal. (refusal_by abort_refusal answer ≡ Some refusal) × (new ≡ old))
   pub damages : TellsDamage old.damages (cause_by abort_refusal answer) new.damages
+  pub asks : UndoAsks old (cause_by abort_refusal answer) new
 
 pub record IsResumed (old : Seen) (t : TxId) (answer : Result ℕ ResumeFault) (new : Seen) : Type 0 where
   pub step : IsTrue old.sound → old.failures < greatest_count → old.refusals < greatest_count → ResumeStep old.file t.0 (rose old.failures new.failures) (rose old.refusals new.refusals) answer new.file
@@ -163,11 +156,13 @@ pub record IsResumed (old : Seen) (t : TxId) (answer : Result ℕ ResumeFault) (
   pub opening : IsTrue old.sound → new.file.opening ≡ old.file.opening
   pub refused : IfSome (resuming_refusal old.file t.0) (λ refusal. (refusal_by resume_refusal answer ≡ Some refusal) × (new ≡ old))
   pub damages : TellsDamage old.damages (cause_by resume_refusal answer) new.damages
+  pub asks : UndoAsks old (cause_by resume_refusal answer) new
 
 pub record Lists (old : Seen) (answer : Result (List Entry) EntriesFault) (new : Seen) : Type 0 where
   pub step : IsTrue old.sound → old.failures < greatest_count → EntriesStep old.file (rose old.failures new.failures) answer new.file
   pub same : Leaves old new
   pub damages : new.damages ≡ named_by old.damages (cause_by entries_refusal answer)
+  pub asks : new.calls ≡ with_list old.calls
 
 -- the table is given out once no transaction is open, and else the file comes back with the number of those that are
 abbrev pub GivesTable : File → Option ℕ → Type 0
@@ -198,7 +193,8 @@ Answers old (RecordAt lsn answer) failed refused new = Looks old failed refused 
 Answers old (IntoTable answer) failed refused new = Looks old failed refused new × GivesTable old.file answer
 
 -- What stays true of a file is true of it before and after. The table's counts rise by what came from outside, and by
--- nothing else, and over a sound table no page is damaged; the log tells what became of the records.
+-- nothing else, and by the calls that the answer tells of; over a sound table no page is damaged; the log tells what
+-- became of the records.
 pub record Step (old : Seen) (e : Event) (new : Seen) : Type 0 where
   pub kept : IsKeptSeen old
   pub keeps : IsKeptSeen new

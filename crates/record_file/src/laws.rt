@@ -1,5 +1,5 @@
 //! Facts of the definitions that contracts of this crate cite.
-ghost use Rattle.std.specs.Prelude.{◌≡◌, ℕ, ◌+◌, ◌<◌, ◌≤◌, zero, Bool, true, false, List, [], ◌∷◌, ◌++◌, length, reverse, Option, Some, None, Ok, Err, IsTrue, slice_get};
+ghost use Rattle.std.specs.Prelude.{◌≡◌, ℕ, ◌+◌, ◌<◌, ◌≤◌, zero, Bool, true, false, List, [], ◌∷◌, ◌++◌, length, reverse, Option, Some, None, Result, Ok, Err, IsTrue, slice_get};
 ghost use Rattle.std.specs.FinMap as maps;
 ghost use Rattle.std.specs.List.{All};
 ghost use Rattle.rec_types.specs.Contents.{Contents, set_to};
@@ -7,6 +7,7 @@ ghost use Rattle.rec_types.specs.History.{Change, replay, live_of, live_from, ta
 ghost use Rattle.rec_types.specs.LimitBounds.{Bounds};
 ghost use Rattle.rec_types.specs.Table.{greatest_count};
 ghost use Rattle.rec_types.specs.declared.transaction.TxId.{TxId};
+ghost use Rattle.rec_types.specs.declared.transaction.Entry.{Entry};
 ghost use Rattle.tx_log.specs.Log.{last_of};
 ghost use Rattle.tx_log.specs.Owners.{keys_owned, owner_of};
 ghost use Rattle.tx_log.specs.Transactions.{fresh, place_in};
@@ -17,7 +18,7 @@ ghost use Rattle.record_file.specs.Exact.{IsExact, CompensatesOnce, one};
 ghost use Rattle.record_file.specs.Resumed.{StopsFirst, Finishes, TakesWhole, CompensatesTake};
 ghost use Rattle.record_file.specs.Remaining.{NothingFails, remaining};
 ghost use Rattle.record_file.specs.Undo.{Starts, old_records, quiet, wrote, claimed};
-ghost use Rattle.record_file.specs.Runs.{Seen, Event, Step, Run, IsKeptSeen, Begin, Put, Claim, Remove, Savepoint, RollbackTo, Abort, Resume, Commit, Entries};
+ghost use Rattle.record_file.specs.Runs.{Seen, Event, Step, Run, IsKeptSeen, Begin, Put, Claim, Remove, Get, Savepoint, RollbackTo, Abort, Resume, Commit, Entries};
 ghost use Rattle.tx_log.specs.declared.log_record.LogRecord.TheVariants.{Update, Compensation, Unclaim};
 ghost use Rattle.tx_log.specs.declared.log_record.LogRecord.TheVariants as records;
 ghost use Rattle.record_file.specs.Steps.{rose, key_refusal, places_at, rolling_place, TellOwners};
@@ -115,6 +116,42 @@ pub fn steps()
           failed = failed;
           refused = refused;
         }) new → ⊥ }
+{}
+
+/// Nor can it be forged how often the table was asked. No get looks twice; an accepted put sets; a finished rollback
+/// that logs one compensation sets once; no list is made twice; and a commit looks at nothing.
+pub fn tables_are_asked()
+    ensures twice { (old new : Seen) (failed refused : Bool) (t : TxId) (key : List ℕ)
+        → (found : Option (List ℕ)) → Run old (record {
+          called = Get t key (Ok found);
+          failed = failed;
+          refused = refused;
+        } ∷ []) new → old.calls.gets ≡ 0 → new.calls.gets ≡ 2 → ⊥ }
+    ensures unset { (old new : Seen) (failed refused : Bool) (t : TxId) (key value : List ℕ)
+        → (before : Option (List ℕ)) → Run old (record {
+          called = Put t key value (Ok before);
+          failed = failed;
+          refused = refused;
+        } ∷ []) new → old.calls.sets ≡ 0 → new.calls.sets ≡ 0 → ⊥ }
+    ensures taken_twice { (old new : Seen) (failed refused : Bool) (t : TxId) (n undone : ℕ)
+        → (lsn prev next : ℕ) (key : List ℕ) (before : Option (List ℕ)) → Run old (record {
+          called = RollbackTo t n (Ok undone);
+          failed = failed;
+          refused = refused;
+        } ∷ []) new → new.log ≡ old.log ++ Compensation lsn prev t key before next ∷ []
+        → old.calls.sets ≡ 0 → new.calls.sets ≡ 2 → ⊥ }
+    ensures listed_twice { (old new : Seen) (failed refused : Bool)
+        → (answer : Result (List Entry) EntriesFault) → Run old (record {
+          called = Entries answer;
+          failed = failed;
+          refused = refused;
+        } ∷ []) new → old.calls.lists ≡ 0 → new.calls.lists ≡ 2 → ⊥ }
+    ensures looking { (old new : Seen) (failed refused : Bool) (t : TxId)
+        → Run old (record {
+          called = Commit t (Ok tt);
+          failed = failed;
+          refused = refused;
+        } ∷ []) new → old.calls.gets ≡ 0 → new.calls.gets ≡ 1 → ⊥ }
 {}
 
 /// What the file alone refuses a call at a key for, where its transaction is active: a key that another transaction

@@ -136,6 +136,7 @@ fn free_old<S: Store>(
     ensures freed { OnOk result (Frees pages.old pages.new (contains nat_cmp free.now)) }
     ensures changed { OnOk result (pages.new.changed ≡ true) }
     ensures err { OnErr result (pages.new ≡ pages.old) }
+    ensures header { at pages.old.pages 0 ≡ None }
 {
     let count = pages.page_count();
     let edit = PageEdit {
@@ -163,12 +164,12 @@ fn without_free<S: Store>(
     ensures stays { IfErr result (λ stop. (S.pages stop.store ≡ pages.stored)
         × (S.tail stop.store ≡ pages.tail) × (S.steady stop.store ≡ pages.steady)
         × (S.writes stop.store ≡ pages.writes) × (S.failures stop.store ≡ pages.failures)
-        × (S.journal stop.store ≡ pages.journal) × (S.shapes stop.store ≡ pages.shapes)) }
+        × (S.journal stop.store ≡ pages.journal) × (S.shapes stop.store ≡ pages.shapes)
+        × (S.opening stop.store ≡ pages.opening) × (S.guard stop.store ≡ pages.guard)) }
 {
     let mut pages = pages;
-    let count = pages.page_count();
     if version != FIRST_VERSION {
-        return Ok(Pages::new(alloc, pages.into_store(), count, free));
+        return Ok(pages.with_free(free));
     }
     match free_old(alloc, &mut pages, &free) {
         Ok(()) => Ok(pages),
@@ -204,8 +205,9 @@ pub(crate) fn open_file<S: Store>(
     ensures spelt { IfOk result (λ r. AreSpeltIn r.1.order r.0) }
     ensures stored { IfOk result (λ r. (r.0.stored ≡ S.pages store) × (r.0.tail ≡ S.tail store)
         × (r.0.steady ≡ S.steady store) × (r.0.writes ≡ S.writes store)
-        × (r.0.failures ≡ S.failures store)) }
-    ensures journal { IfOk result (λ r. r.0.journal ≡ S.journal store) }
+        × (r.0.failures ≡ S.failures store) × (r.0.journal ≡ S.journal store)
+        × (r.0.opening ≡ S.opening store) × (r.0.guard ≡ S.guard store)) }
+    ensures no_tail { IfOk result (λ r. r.0.tail ≡ 0) }
     ensures shapes { MatchResult result (λ r. r.0.shapes ≡ counted (S.shapes store) true)
         (λ stop. S.shapes stop.store ≡ counted (S.shapes store) true) }
     ensures stays { IfErr result (λ stop. StaysStore S.StoreState store stop.store) }

@@ -3,7 +3,7 @@ ghost use Rattle.rec_types.specs.Table.{counted};
 ghost use Rattle.page_store.specs.PageMap.{at};
 ghost use Rattle.page_store.specs.PagesView.{is_in_memory};
 ghost use Rattle.btree_node.specs.Lists.{Element};
-ghost use Rattle.btree_node.specs.Spelling.{CanStandIn, spelling, spelling_in, IsNodePage};
+ghost use Rattle.btree_node.specs.Spelling.{CanStandIn, spelling, spelling_in, IsNodePage, IsSpelt};
 ghost use Rattle.btree_node.specs.declared.node.Node.{Node};
 ghost use Rattle.btree_node.specs.Layout.{first_layout, first_version, layout_of, most_keys, IsSmallOrder};
 ghost use Rattle.btree_insert.specs.Bounds.{AreWithin, Between};
@@ -11,7 +11,7 @@ ghost use Rattle.btree_insert.specs.Faults.{is_device};
 ghost use Rattle.btree_insert.specs.PageTrees.{SpellsIn, Spells};
 ghost use Rattle.btree_insert.specs.Growth.{IsOutside};
 ghost use Rattle.btree_insert.specs.Spelt.{AreSpeltIn};
-ghost use Rattle.btree_delete.specs.Survey.{SeenSoFar, unreached, AreKept, stored_page, after, below_page, below_sons, Sound, Surveyed, allowed, StandsWithin, Surveys, node_in, Respells, sons_from, elements_from};
+ghost use Rattle.btree_delete.specs.Survey.{SeenSoFar, unreached, AreKept, stored_page, after, below_page, below_sons, Sound, Surveyed, allowed, StandsWithin, Surveys, node_in, Respells, WasRead, sons_from, elements_from};
 ghost use Rattle.btree_insert.specs.Edits.{ReadsOnce};
 
 use btree_insert::{Bounds, TreeFault, is_page_within};
@@ -211,8 +211,30 @@ fn respell_old(order: u16, page: &mut [u8; PAGE_WIDTH]) -> bool
     }
 }
 
-/// Puts the bytes of page n in memory, where they were read in another spelling. Fault: Memory; no page
-/// changes then.
+/// Has page n kept, where it is an inner one: there are few of them, and each search goes through some. Fault: Memory. No page
+/// changes.
+fn keep_inner<S: Store>(
+    pages: &mut Pages<S>,
+    order: u16,
+    n: u32,
+    page: &[u8; PAGE_WIDTH],
+) -> Result<(), TreeFault>
+    requires spelt { IsSpelt order page.now }
+    requires in_use { IsSome (at pages.old.pages n) }
+    requires page { IsTrue pages.old.steady → at pages.old.pages n ≡ Some page.now }
+    requires unread { is_in_memory pages.old n ≡ false }
+    ensures same { pages.new ≡ pages.old }
+    ensures memory { IfErr result (λ fault. fault ≡ TreeFault.Memory) }
+{
+    if kind_in(page) == NodeKind::Leaf {
+        return Ok(());
+    }
+    pages.keep(order, n, page)?;
+    Ok(())
+}
+
+/// Puts the bytes of page n in memory, where they were read in another spelling; else an inner page is kept. Fault: Memory; no
+/// page changes then.
 fn keep_page<S: Store>(
     alloc: Global,
     pages: &mut Pages<S>,
@@ -221,9 +243,7 @@ fn keep_page<S: Store>(
     n: u32,
     page: &[u8; PAGE_WIDTH],
 ) -> Result<(), TreeFault>
-    requires stands { CanStandIn (layout_of version) (node_in order page.now) order }
-    requires written { page.now ≡ spelling (node_in order page.now) order }
-    requires in_use { IsSome (at pages.old.pages n) }
+    requires { WasRead version order pages.old n page.now }
     ensures others { OnOk result ((q : ℕ) → q ≢ n
         → (at pages.new.pages q ≡ at pages.old.pages q)
         × (is_in_memory pages.new q ≡ is_in_memory pages.old q)) }
@@ -241,7 +261,7 @@ fn keep_page<S: Store>(
     ensures idle { version ≢ first_version → pages.new ≡ pages.old }
 {
     if version != FIRST_VERSION {
-        return Ok(());
+        return keep_inner(pages, order, n, page);
     }
     let mut edit = PageEdit {
         writes: Vec::new(alloc),

@@ -11,6 +11,7 @@ ghost use Rattle.btree_node.specs.declared.header.Header.{Header as HeaderValue}
 ghost use Rattle.btree_insert.specs.declared.tree.Tree.{Tree as TreeValue};
 ghost use Rattle.btree_delete.specs.CleanFile.{IsCleanFile, IsFirst, Opens, IsOutside, is_device_fault, is_close_device_fault};
 ghost use Rattle.page_store.specs.Fronts.{tried};
+ghost use Rattle.page_store.specs.Guards.{AllowsAll};
 ghost use Rattle.page_store.specs.Journal.{noted, NotesFront, carried};
 ghost use Rattle.page_store.specs.PagesView.{OnlyReads, OnlyStages, with_reads};
 ghost use Rattle.page_store.specs.StoreCalls.{StaysStore};
@@ -120,6 +121,8 @@ impl<S: Store> TreeTable<S> {
             × (t.pages.reads ≡ S.reads store) × (t.pages.writes ≡ S.writes store)
             × (t.pages.failures ≡ S.failures store)) }
         ensures journal { IfOk result (λ t. t.pages.journal ≡ S.journal store) }
+        ensures opening { IfOk result (λ t. t.pages.opening ≡ S.opening store) }
+        ensures guard { IfOk result (λ t. t.pages.guard ≡ S.guard store) }
         ensures limit { IfOk result (λ t. t.limit ≡ limits.records) }
         ensures empty { IfOk result (λ t. table_contents t ≡ maps.empty) }
         ensures in_class { IfOk result (λ t. IsTrue t.pages.steady → HoldsTree t.pages t.tree) }
@@ -190,6 +193,9 @@ impl<S: Store> TreeTable<S> {
             × (t.pages.tail ≡ S.tail store) × (t.pages.steady ≡ S.steady store)
             × (t.pages.writes ≡ S.writes store) × (t.pages.failures ≡ S.failures store)) }
         ensures journal { IfOk result (λ t. t.pages.journal ≡ S.journal store) }
+        ensures opening { IfOk result (λ t. t.pages.opening ≡ S.opening store) }
+        ensures no_tail { IfOk result (λ t. t.pages.tail ≡ 0) }
+        ensures guard { IfOk result (λ t. t.pages.guard ≡ S.guard store) }
         ensures shapes { MatchResult result (λ t. t.pages.shapes ≡ counted (S.shapes store) true)
             (λ stop. S.shapes stop.store ≡ counted (S.shapes store) true) }
         ensures stays { IfErr result (λ stop. StaysStore S.StoreState store stop.store) }
@@ -216,6 +222,10 @@ impl<S: Store> TreeTable<S> {
             → IfOk result (λ store. IsClosed second_version (S.pages store) (S.tail store) self.tree
             (table_contents self)) }
         ensures steady { IfOk result (λ store. S.steady store ≡ self.pages.steady) }
+        ensures opening { IfOk result (λ store. S.opening store ≡ self.pages.opening) }
+        ensures allowed { AllowsAll self.pages.guard (closing self) → MatchResult result
+            (λ store. S.guard store ≡ self.pages.guard)
+            (λ stop. stop.table.pages.guard ≡ self.pages.guard) }
         ensures idle { self.pages.changed ≡ false → IfOk result
             (λ store. (S.pages store ≡ self.pages.stored) × (S.tail store ≡ self.pages.tail)
             × (S.reads store ≡ self.pages.reads) × (S.writes store ≡ self.pages.writes)
@@ -243,6 +253,7 @@ impl<S: Store> TreeTable<S> {
             writes = stop.table.pages.writes;
             failures = stop.table.pages.failures;
             journal = stop.table.pages.journal;
+            guard = stop.table.pages.guard;
           };
         }) }
     {
@@ -286,11 +297,13 @@ impl<S: Store> TreeTable<S> {
         ensures pages { S.pages result ≡ self.pages.stored }
         ensures tail { S.tail result ≡ self.pages.tail }
         ensures steady { S.steady result ≡ self.pages.steady }
+        ensures opening { S.opening result ≡ self.pages.opening }
         ensures reads { S.reads result ≡ self.pages.reads }
         ensures shapes { S.shapes result ≡ self.pages.shapes }
         ensures writes { S.writes result ≡ self.pages.writes }
         ensures failures { S.failures result ≡ self.pages.failures }
         ensures journal { S.journal result ≡ self.pages.journal }
+        ensures guard { S.guard result ≡ self.pages.guard }
     {
         let TreeTable { pages, .. } = self;
         pages.into_store()

@@ -1,11 +1,11 @@
-use super::{flaky_file, greatest, run};
+use super::{flaky_file, greatest, run, run_all};
 use crate::expect_text;
 use page_store::MemStore;
 use rec_types::{Limits, SortedTable, Table, TxId};
 use recfile::laws::{dumps_are_loaded, endings_by_example};
 use recfile::{
     DumpFault, EndFault, Feed, Manner, ScriptFault, create_in, dump_in, end_all, exit_status,
-    run_memory, run_script,
+    run_memory,
 };
 use record_file::{Cause, RecordFile};
 use std::alloc::Global;
@@ -77,7 +77,7 @@ fn run_over<T: Table, R: Read, W: Write>(
     reader: &mut R,
     writer: &mut W,
 ) -> (Result<u32, ScriptFault>, u32) {
-    let end = run_script(alloc, reader, writer, file);
+    let end = run_all(alloc, reader, writer, file);
     (end, file.begun())
 }
 

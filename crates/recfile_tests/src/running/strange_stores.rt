@@ -25,6 +25,8 @@ impl<S: Store> StoreState for StrangeStore<S> {
 
     ghost steady = { λ _. false };
 
+    ghost opening = { λ s. S.opening s.inner };
+
     ghost reads = { λ s. S.reads s.inner };
 
     ghost shapes = { λ s. S.shapes s.inner };
@@ -34,6 +36,8 @@ impl<S: Store> StoreState for StrangeStore<S> {
     ghost failures = { λ s. S.failures s.inner };
 
     ghost journal = { λ s. S.journal s.inner };
+
+    ghost guard = { λ s. S.guard s.inner };
 }
 
 impl<S: Store> Store for StrangeStore<S> {
@@ -63,7 +67,8 @@ impl<S: Store> Store for StrangeStore<S> {
     }
 }
 
-/// A look-up, a change, a list and a deletion, each of which reads the root and a leaf, and what takes them back.
+/// A look-up, a change, a list and a deletion, each of which reads a leaf, and what takes them back. The list and the deletion
+/// read the root too.
 const SCRIPT: &str = "begin\nget 1 c\nput 1 a =w\nlist\ndel 1 c\nabort 1\nlist\n";
 
 /// What the script answers over the table.
@@ -93,7 +98,7 @@ fn strange(rt: &impl Abort, alloc: Global, at: u32, page: &[u8; 4096]) -> String
 /// The replies of every read of the script at which the store gives the page, each read by a line.
 fn all_strange(rt: &impl Abort, alloc: Global, page: &[u8; 4096]) -> String {
     let mut text = String::new(alloc);
-    for at in 5..=14 {
+    for at in 5..=11 {
         let replies = strange(rt, alloc, at, page);
         for line in replies.lines() {
             text.push_str(line).expect(rt, "no memory");
@@ -106,13 +111,10 @@ fn all_strange(rt: &impl Abort, alloc: Global, page: &[u8; 4096]) -> String {
 
 /// What is answered where a read gives zeros.
 const OTHER_BYTES: &str = "\
-ok 1;no Damaged 3;ok =x;- a =w @1;- b =y;- c =z;ok 3;ok =z;ok 2;- a =x;- b =y;- c =z;ok 3;\n\
 ok 1;no Damaged 2;ok =x;- a =w @1;- b =y;- c =z;ok 3;ok =z;ok 2;- a =x;- b =y;- c =z;ok 3;\n\
-ok 1;ok =z;no Damaged 3;- a =x;- b =y;- c =z;ok 3;ok =z;ok 1;- a =x;- b =y;- c =z;ok 3;\n\
 ok 1;ok =z;no Damaged 1;- a =x;- b =y;- c =z;ok 3;ok =z;ok 1;- a =x;- b =y;- c =z;ok 3;\n\
 ok 1;ok =z;ok =x;no Damaged 3;ok =z;ok 2;- a =x;- b =y;- c =z;ok 3;\n\
 ok 1;ok =z;ok =x;no Damaged 2;ok =z;ok 2;- a =x;- b =y;- c =z;ok 3;\n\
-ok 1;ok =z;ok =x;- a =w @1;- b =y;- c =z;ok 3;no Damaged 3;ok 1;- a =x;- b =y;- c =z;ok 3;\n\
 ok 1;ok =z;ok =x;- a =w @1;- b =y;- c =z;ok 3;no Damaged 2;ok 1;- a =x;- b =y;- c =z;ok 3;\n\
 ok 1;ok =z;ok =x;- a =w @1;- b =y;- c =z;ok 3;no Damaged 3;ok 1;- a =x;- b =y;- c =z;ok 3;\n\
 ok 1;ok =z;ok =x;- a =w @1;- b =y;- c =z;ok 3;no Damaged 2;ok 1;- a =x;- b =y;- c =z;ok 3;\n";
@@ -125,13 +127,10 @@ fn other_bytes_at_each_read(rt: HostRuntime) {
 
 /// Where it gives the first leaf in the place of another page.
 const ANOTHER_PAGE: &str = "\
-ok 1;no Damaged 3;ok =x;- a =w @1;- b =y;- c =z;ok 3;ok =z;ok 2;- a =x;- b =y;- c =z;ok 3;\n\
 ok 1;no Damaged 2;ok =x;- a =w @1;- b =y;- c =z;ok 3;ok =z;ok 2;- a =x;- b =y;- c =z;ok 3;\n\
-ok 1;ok =z;no Damaged 3;- a =x;- b =y;- c =z;ok 3;ok =z;ok 1;- a =x;- b =y;- c =z;ok 3;\n\
 ok 1;ok =z;ok =x;- a =w @1;- b =y;- c =z;ok 3;ok =z;ok 2;- a =x;- b =y;- c =z;ok 3;\n\
 ok 1;ok =z;ok =x;no Damaged 3;ok =z;ok 2;- a =x;- b =y;- c =z;ok 3;\n\
 ok 1;ok =z;ok =x;no Damaged 2;ok =z;ok 2;- a =x;- b =y;- c =z;ok 3;\n\
-ok 1;ok =z;ok =x;- a =w @1;- b =y;- c =z;ok 3;no Damaged 3;ok 1;- a =x;- b =y;- c =z;ok 3;\n\
 ok 1;ok =z;ok =x;- a =w @1;- b =y;- c =z;ok 3;no Damaged 2;ok 1;- a =x;- b =y;- c =z;ok 3;\n\
 ok 1;ok =z;ok =x;- a =w @1;- b =y;- c =z;ok 3;no Damaged 3;ok 1;- a =x;- b =y;- c =z;ok 3;\n\
 ok 1;ok =z;ok =x;- a =w @1;- b =y;- c =z;ok 3;no Damaged 2;ok 1;- a =x;- b =y;- c =z;ok 3;\n";
@@ -144,13 +143,10 @@ fn another_page_at_each_read(rt: HostRuntime) {
 
 /// Where it gives old bytes of the second leaf: a look, a list and a deletion that read it believe them.
 const OLD_BYTES: &str = "\
-ok 1;no Damaged 3;ok =x;- a =w @1;- b =y;- c =z;ok 3;ok =z;ok 2;- a =x;- b =y;- c =z;ok 3;\n\
 ok 1;ok =q;ok =x;- a =w @1;- b =y;- c =z;ok 3;ok =z;ok 2;- a =x;- b =y;- c =z;ok 3;\n\
-ok 1;ok =z;no Damaged 3;- a =x;- b =y;- c =z;ok 3;ok =z;ok 1;- a =x;- b =y;- c =z;ok 3;\n\
 ok 1;ok =z;no Damaged 1;- a =x;- b =y;- c =z;ok 3;ok =z;ok 1;- a =x;- b =y;- c =z;ok 3;\n\
 ok 1;ok =z;ok =x;no Damaged 3;ok =z;ok 2;- a =x;- b =y;- c =z;ok 3;\n\
 ok 1;ok =z;ok =x;- a =w @1;- b =y;- c =q;ok 3;ok =z;ok 2;- a =x;- b =y;- c =z;ok 3;\n\
-ok 1;ok =z;ok =x;- a =w @1;- b =y;- c =z;ok 3;no Damaged 3;ok 1;- a =x;- b =y;- c =z;ok 3;\n\
 ok 1;ok =z;ok =x;- a =w @1;- b =y;- c =z;ok 3;ok =z;ok 2;- a =x;- b =y;- c =z;ok 3;\n\
 ok 1;ok =z;ok =x;- a =w @1;- b =y;- c =z;ok 3;no Damaged 3;ok 1;- a =x;- b =y;- c =z;ok 3;\n\
 ok 1;ok =z;ok =x;- a =w @1;- b =y;- c =z;ok 3;ok =q;ok 2;- a =x;- b =y;- c =q;ok 3;\n";

@@ -7,6 +7,7 @@ ghost use Rattle.record_file.specs.Asked.{Asks, MayPut, MayRemove, looked_unless
 ghost use Rattle.record_file.specs.Outside.{AsksMemory, NeverDamaged, named_by};
 ghost use Rattle.record_file.specs.Refusals.{put_refusal, claim_refusal, remove_refusal, refusal_by, cause_by, by_file};
 ghost use Rattle.record_file.specs.TableCalls.{ChangesTable};
+ghost use Rattle.record_file.specs.Seen.{seen};
 ghost use Rattle.record_file.specs.Steps.{rose, key_refusal, Accepts, key_change, PutStep, ClaimStep, RemoveStep};
 
 use super::RecordFile;
@@ -34,8 +35,8 @@ impl<T: Table> RecordFile<T> {
         ensures memory { AsksMemory (T.memory_refusals self.old.table) (cause_by put_refusal result)
             (T.memory_refusals self.new.table) }
         ensures damaged { NeverDamaged (T.sound self.old.table) (cause_by put_refusal result) }
-        ensures asks { Asks T.TableState (MayPut (T.sound self.old.table) self.old.file key result)
-            self.old (cause_by put_refusal result) self.new }
+        ensures asks { Asks (MayPut (T.sound self.old.table) self.old.file key result)
+            (seen T.TableState self.old) (cause_by put_refusal result) (seen T.TableState self.new) }
     {
         self.allow_change(tx, &key)?;
         if self.is_full(&key)? {
@@ -105,9 +106,8 @@ impl<T: Table> RecordFile<T> {
         ensures memory { AsksMemory (T.memory_refusals self.old.table) (cause_by remove_refusal result)
             (T.memory_refusals self.new.table) }
         ensures damaged { NeverDamaged (T.sound self.old.table) (cause_by remove_refusal result) }
-        ensures asks { Asks T.TableState
-            (MayRemove (is_some (key_refusal true self.old.file tx.0 key)) result)
-            self.old (cause_by remove_refusal result) self.new }
+        ensures asks { Asks (MayRemove (is_some (key_refusal true self.old.file tx.0 key)) result)
+            (seen T.TableState self.old) (cause_by remove_refusal result) (seen T.TableState self.new) }
     {
         self.allow_change(tx, &key)?;
         if self.table.get(&key)?.is_none() {

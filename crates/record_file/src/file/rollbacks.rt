@@ -11,6 +11,7 @@ ghost use Rattle.record_file.specs.Refusals.{rollback_refusal, abort_refusal, re
 ghost use Rattle.record_file.specs.declared.refusal.Refusal.TheVariants.{Failed};
 ghost use Rattle.record_file.specs.TableCalls.{ChangesTable, undone_by, step_key};
 ghost use Rattle.record_file.specs.Asked.{UndoAsks, StepAsks, restores};
+ghost use Rattle.record_file.specs.Seen.{seen};
 ghost use Rattle.record_file.specs.Steps.{rose, RollsBackTo, RollbackToStep, Aborts, AbortStep, Resumes, ResumeStep, tx_refusal, returning_refusal, resuming_refusal, RollsBack, RollsFrom, EndsBy, places_at};
 
 use super::RecordFile;
@@ -37,7 +38,7 @@ impl<T: Table> RecordFile<T> {
         ensures memory { T.memory_refusals self.new.table
             ≡ counted (T.memory_refusals self.old.table) (by_memory (cause_by rollback_refusal result)) }
         ensures damaged { NeverDamaged (T.sound self.old.table) (cause_by rollback_refusal result) }
-        ensures asks { UndoAsks T.TableState self.old (cause_by rollback_refusal result) self.new }
+        ensures asks { UndoAsks (seen T.TableState self.old) (cause_by rollback_refusal result) (seen T.TableState self.new) }
     {
         match self.log.phase(tx) {
             None => Err(RollbackToFault::NoSuchTx),
@@ -68,7 +69,7 @@ impl<T: Table> RecordFile<T> {
         ensures memory { T.memory_refusals self.new.table
             ≡ counted (T.memory_refusals self.old.table) (by_memory (cause_by abort_refusal result)) }
         ensures damaged { NeverDamaged (T.sound self.old.table) (cause_by abort_refusal result) }
-        ensures asks { UndoAsks T.TableState self.old (cause_by abort_refusal result) self.new }
+        ensures asks { UndoAsks (seen T.TableState self.old) (cause_by abort_refusal result) (seen T.TableState self.new) }
     {
         match self.log.phase(tx) {
             None => Err(AbortFault::NoSuchTx),
@@ -94,7 +95,7 @@ impl<T: Table> RecordFile<T> {
         ensures memory { T.memory_refusals self.new.table
             ≡ counted (T.memory_refusals self.old.table) (by_memory (cause_by resume_refusal result)) }
         ensures damaged { NeverDamaged (T.sound self.old.table) (cause_by resume_refusal result) }
-        ensures asks { UndoAsks T.TableState self.old (cause_by resume_refusal result) self.new }
+        ensures asks { UndoAsks (seen T.TableState self.old) (cause_by resume_refusal result) (seen T.TableState self.new) }
     {
         match self.log.phase(tx) {
             None => Err(ResumeFault::NoSuchTx),
@@ -119,7 +120,7 @@ impl<T: Table> RecordFile<T> {
         ensures memory { T.memory_refusals self.new.table
             ≡ counted (T.memory_refusals self.old.table) (by_memory (cause_by stop_refusal result)) }
         ensures damaged { NeverDamaged (T.sound self.old.table) (cause_by stop_refusal result) }
-        ensures asks { UndoAsks T.TableState self.old (cause_by stop_refusal result) self.new }
+        ensures asks { UndoAsks (seen T.TableState self.old) (cause_by stop_refusal result) (seen T.TableState self.new) }
     {
         self.start_rollback(tx, n, ends);
         self.take_back(tx)
@@ -141,7 +142,7 @@ impl<T: Table> RecordFile<T> {
         requires { IsRolling (phase_at self.old.file tx.0) }
         ensures rolled { RollsBack self.old.file tx.0 result self.new.file }
         ensures damaged { NeverDamaged (T.sound self.old.table) (cause_by stop_refusal result) }
-        ensures asks { UndoAsks T.TableState self.old (cause_by stop_refusal result) self.new }
+        ensures asks { UndoAsks (seen T.TableState self.old) (cause_by stop_refusal result) (seen T.TableState self.new) }
         ensures table { ChangesTable T.TableState self.old (cause_by stop_refusal result) self.new }
         ensures memory { T.memory_refusals self.new.table
             ≡ counted (T.memory_refusals self.old.table) (by_memory (cause_by stop_refusal result)) }
@@ -170,7 +171,7 @@ impl<T: Table> RecordFile<T> {
         }) }
         ensures err { OnErr result (self.new.file ≡ self.old.file) }
         ensures damaged { NeverDamaged (T.sound self.old.table) (cause_by Failed result) }
-        ensures asks { UndoAsks T.TableState self.old (cause_by Failed result) self.new }
+        ensures asks { UndoAsks (seen T.TableState self.old) (cause_by Failed result) (seen T.TableState self.new) }
         ensures table { ChangesTable T.TableState self.old (cause_by Failed result) self.new }
         ensures memory { T.memory_refusals self.new.table
             ≡ counted (T.memory_refusals self.old.table) (by_memory (cause_by Failed result)) }

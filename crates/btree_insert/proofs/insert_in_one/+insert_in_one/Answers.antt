@@ -1,4 +1,4 @@
-use Rattle.std.proofs.Common.{◌≡◌, ◌-◌, ◌*◌, ◌<◌, ℕ, List, Some, IfSome, ◌∷◌, [], length, get_or, set, refl, ap, sym, ◌∙◌, subst, arith}
+use Rattle.std.proofs.Common.{◌≡◌, ◌-◌, ◌*◌, ◌<◌, ℕ, List, Some, IsTrue, IfSome, ◌∷◌, [], length, get_or, set, refl, ap, sym, ◌∙◌, subst, arith}
 use Rattle.std.specs.List.{insert}
 use Rattle.std.proofs.lemmas.List.{length-set, get_or_default}
 use Rattle.std.proofs.lemmas.List.Edits.{length-insert}
@@ -35,12 +35,12 @@ use Rattle.btree_insert.proofs.insert_in_one.+insert_in_one.Goals.{After-step_in
 -- the node that the page at the spot spells, and that it is the one at the head of the tree
 module _ (g : given.Over) (t : ℕ) (c : After-step_in_page-arg-1 g t) where
   spelt : IsSpelt c.args.order c.in-Some.page.now
-  spelt = c.requires.search.spelt refl c.args.spot.now.page c.in-Some.page.now (sym c.in-Some.ensures.some) c.in-Some.ensures.page
+  spelt = c.in-Some.ensures.spelt
 
-  head_of : (least : ℕ) (es : List Element) (us : List ℕ) → TreeAt c.args.order (at c.args.pages.now.pages) least c.args.spot.now.level c.args.spot.now.page es us → Between c.args.spot.now.bounds es
+  head_of : IsTrue c.args.pages.now.steady → (least : ℕ) (es : List Element) (us : List ℕ) → TreeAt c.args.order (at c.args.pages.now.pages) least c.args.spot.now.level c.args.spot.now.page es us → Between c.args.spot.now.bounds es
       → Top c.args.order (at c.args.pages.now.pages) least c.args.spot.now.level (c.args.spot.now.level - 1) c.args.spot.now.page es us c.args.spot.now.bounds spelt.0
-  head_of least es us tree between =
-      spelt_top c.args.order (at c.args.pages.now.pages) least c.args.spot.now es us spelt.0 c.requires.order.1 c.requires.search.level (record { page = c.in-Some.ensures.page ∙ ap Some spelt.2; stands = spelt.1 }) tree between
+  head_of steady least es us tree between =
+      spelt_top c.args.order (at c.args.pages.now.pages) least c.args.spot.now es us spelt.0 c.requires.order.1 c.requires.search.level (record { page = c.in-Some.ensures.page steady ∙ ap Some spelt.2; stands = spelt.1 }) tree between
 
 -- the node with another record at the key
 module _ (g : given.Over) (t : ℕ) (c : In-Found g t) (n : Node) (can : CanStand n c.args.order) (is : c.in-Some.page.now ≡ spelling n c.args.order) where
@@ -99,14 +99,14 @@ replace_in-requires-clause-index g t c =
     omega (arith, count_spelt c.args.order c.in-Some.page.now met.0 c.requires.order.1 met.1 met.2, (found g t places.In-Found met.0 met.1 met.2).0.within)
 
 pub returns-in-Found-clause-grew : goal.returns-in-Found-clause-grew
-returns-in-Found-clause-grew g t c = λ least es us tree between apart.
+returns-in-Found-clause-grew g t c = λ steady least es us tree between apart.
     let k = c.args.order in
     let spot = c.args.spot.now in
     let places = goal.at.returns-in-Found-clause-grew g t c in
     let met = spelt g t places.After-step_in_page-arg-1 in
     let n = met.0 in
     let steps = found g t places.In-Found n met.1 met.2 in
-    let head = head_of g t places.After-step_in_page-arg-1 least es us tree between in
+    let head = head_of g t places.After-step_in_page-arg-1 steady least es us tree between in
     let m = replaced g t places.In-Found n met.1 met.2 in
     let x : Element = get_or n.elements.items c.in-Found.i c.args.element in
     let size = length-set n.elements.items c.in-Found.i c.args.element in
@@ -117,14 +117,14 @@ returns-in-Found-clause-grew g t c = λ least es us tree between apart.
     (subst (λ (old : List ℕ). Grew (tree_below k least spot.level spot.page) (written_over c.args.pages.now.pages spot.page (spelling m k)) es us c.args.element.0 c.args.element.1 (Replaced old)) (sym (steps.1 c.args.element)) grew)
 
 pub returns-in-Found-clause-led : goal.returns-in-Found-clause-led
-returns-in-Found-clause-led g t c =
+returns-in-Found-clause-led g t c = λ steady.
     let spot = c.args.spot.now in
     let places = goal.at.returns-in-Found-clause-led g t c in
     let met = spelt g t places.After-step_in_page-arg-1 in
     let told = c.in-Ok.ensures.steps met.0 met.1 met.2 in
     let steps = found g t places.In-Found met.0 met.1 met.2 in
     leads_here (Spells c.args.order (at c.args.pages.now.pages)) c.args.element.0 spot.level (spot.level - 1) spot.page spot.bounds met.0 c.in-Found.i (Some c.in-Found.old) (omega (arith, c.requires.search.level))
-    (record { page = c.in-Some.ensures.page ∙ ap Some met.2; stands = met.1 }) told.0.kind told.0.within steps.0 (λ d. ap Some (steps.1 d))
+    (record { page = c.in-Some.ensures.page steady ∙ ap Some met.2; stands = met.1 }) told.0.kind told.0.within steps.0 (λ d. ap Some (steps.1 d))
 
 pub returns-in-Found-clause-spelt : goal.returns-in-Found-clause-spelt
 returns-in-Found-clause-spelt g t c = λ _.
@@ -142,14 +142,14 @@ insert_in-requires-clause-index g t c =
     omega (arith, count_spelt c.args.order c.in-Some.page.now met.0 c.requires.order.1 met.1 met.2, (ends g t places.In-Ends met.0 met.1 met.2).1.within)
 
 pub returns-else-count_in-order-clause-grew : goal.returns-else-count_in-order-clause-grew
-returns-else-count_in-order-clause-grew g t c = λ least es us tree between apart.
+returns-else-count_in-order-clause-grew g t c = λ steady least es us tree between apart.
     let k = c.args.order in
     let spot = c.args.spot.now in
     let places = goal.at.returns-else-count_in-order-clause-grew g t c in
     let met = spelt g t places.After-step_in_page-arg-1 in
     let n = met.0 in
     let steps = ends g t places.In-Ends n met.1 met.2 in
-    let head = head_of g t places.After-step_in_page-arg-1 least es us tree between in
+    let head = head_of g t places.After-step_in_page-arg-1 steady least es us tree between in
     let m = longer g t places.In-Ends n met.1 met.2 in
     let room : length n.elements.items < 2 * k = omega (arith, c.if-count_in-order.false, c.count_in.ensures.node k n c.requires.order.1 met.1 met.2) in
     let stands = leaf_stands k n m c.in-Ends.i c.args.element met.1 (leaf_kind g t places.In-Ends n met.1 met.2) steps.1 room c.requires.fits refl refl refl in
@@ -160,14 +160,14 @@ returns-else-count_in-order-clause-grew g t c = λ least es us tree between apar
     subst (λ (bytes : List ℕ). Grew (tree_below k least spot.level spot.page) (written_over c.args.pages.now.pages spot.page bytes) es us c.args.element.0 c.args.element.1 Fits) (sym (c.insert_in.ensures n met.1 met.2)) grew
 
 pub returns-else-count_in-order-clause-led : goal.returns-else-count_in-order-clause-led
-returns-else-count_in-order-clause-led g t c =
+returns-else-count_in-order-clause-led g t c = λ steady.
     let spot = c.args.spot.now in
     let places = goal.at.returns-else-count_in-order-clause-led g t c in
     let met = spelt g t places.After-step_in_page-arg-1 in
     let told = c.in-Ok.ensures.steps met.0 met.1 met.2 in
     let steps = ends g t places.In-Ends met.0 met.1 met.2 in
     leads_nowhere (Spells c.args.order (at c.args.pages.now.pages)) c.args.element.0 spot.level spot.page spot.bounds met.0 c.in-Ends.i steps.0
-    (record { page = c.in-Some.ensures.page ∙ ap Some met.2; stands = met.1 }) told.0.kind told.0.within steps.1
+    (record { page = c.in-Some.ensures.page steady ∙ ap Some met.2; stands = met.1 }) told.0.kind told.0.within steps.1
 
 pub returns-else-count_in-order-clause-spelt : goal.returns-else-count_in-order-clause-spelt
 returns-else-count_in-order-clause-spelt g t c = λ _.
@@ -179,7 +179,7 @@ returns-else-count_in-order-clause-spelt g t c = λ _.
     (m, leaf_stands c.args.order met.0 m c.in-Ends.i c.args.element met.1 (leaf_kind g t places.In-Ends met.0 met.1 met.2) steps.1 room c.requires.fits refl refl refl, c.insert_in.ensures met.0 met.1 met.2)
 
 pub returns-in-Goes-clause-grew : goal.returns-in-Goes-clause-grew
-returns-in-Goes-clause-grew g t c = λ least es us tree between apart.
+returns-in-Goes-clause-grew g t c = λ steady least es us tree between apart.
     let k = c.args.order in
     let spot = c.args.spot.now in
     let pages = c.args.pages.now.pages in
@@ -188,21 +188,21 @@ returns-in-Goes-clause-grew g t c = λ least es us tree between apart.
     let n = met.0 in
     let told = c.in-Ok.ensures.steps n met.1 met.2 in
     let steps = subst (Steps spot.level n spot.bounds c.args.element.0) c.in-Goes.is told.1 in
-    let head = head_of g t place least es us tree between in
+    let head = head_of g t place steady least es us tree between in
     from_some c.insert_in_one.result (λ (placed : Placed). Grew (tree_below k least spot.level spot.page) (written_over pages placed.page c.insert_in_one.new.bytes) es us c.args.element.0 c.args.element.1 (in_one placed.old))
     (λ placed some.
     let new = write_page (at pages) placed.page c.insert_in_one.new.bytes in
     let son = focus_of k (at pages) new (spot.level - 1) n es head.below c.args.element.0 c.in-Goes.field-0 spot.bounds (omega (arith, steps.0)) head.body between steps.1 in
     let us_is = head.us_is ∙ ap (λ vs. spot.page ∷ vs) son.us_is in
     let here = subst (λ q. TreeAt k (at pages) k (spot.level - 1) q son.xs son.mine) (sym steps.2) son.here in
-    let call = c.insert_in_one.ensures.grew k son.xs son.mine here (subst (λ b. Between b son.xs) (sym steps.3) son.between) (apart_below spot.page us son.upre son.mine son.upost us_is apart) in
+    let call = c.insert_in_one.ensures.grew steady k son.xs son.mine here (subst (λ b. Between b son.xs) (sym steps.3) son.between) (apart_below spot.page us son.upre son.mine son.upost us_is apart) in
     let grew = subst (λ o. IfSome o (λ (q : Placed). Grew (tree_below k k (spot.level - 1) c.in-Goes.son) (written_over pages q.page c.insert_in_one.new.bytes) son.xs son.mine c.args.element.0 c.args.element.1 (in_one q.old))) some call in
     grow_stays k (at pages) new (candidate pages) 0 0 least spot.level (spot.level - 1) spot.page es us spot.bounds n c.args.element.0 c.args.element.1 c.in-Goes.field-0 (in_one placed.old)
     (omega (arith, c.requires.search.level)) (omega (arith, steps.0)) (candidates_free pages) (in_use k (at pages) least spot.level spot.page es us tree) apart head son (never_split placed.old)
     (subst (λ q. Grew (tree_below k k (spot.level - 1) q) (written_over pages placed.page c.insert_in_one.new.bytes) son.xs son.mine c.args.element.0 c.args.element.1 (in_one placed.old)) steps.2 grew))
 
 pub returns-in-Goes-clause-led : goal.returns-in-Goes-clause-led
-returns-in-Goes-clause-led g t c =
+returns-in-Goes-clause-led g t c = λ steady.
     let k = c.args.order in
     let spot = c.args.spot.now in
     let pages = at c.args.pages.now.pages in
@@ -211,4 +211,4 @@ returns-in-Goes-clause-led g t c =
     let steps = subst (Steps spot.level met.0 spot.bounds c.args.element.0) c.in-Goes.is told.1 in
     if_some c.insert_in_one.result (λ (placed : Placed). Leads (Spells k pages) c.args.element.0 (spot.level - 1) c.in-Goes.son c.in-Goes.bounds placed.old)
     (λ (placed : Placed). Leads (Spells k pages) c.args.element.0 spot.level spot.page spot.bounds placed.old)
-    (λ placed leads. goes_leads k pages pages spot met.0 c.args.element.0 c.in-Goes.field-0 c.in-Goes.son c.in-Goes.bounds placed.old refl (record { page = c.in-Some.ensures.page ∙ ap Some met.2; stands = met.1 }) told.0 steps leads) c.insert_in_one.ensures.led
+    (λ placed leads. goes_leads k pages pages spot met.0 c.args.element.0 c.in-Goes.field-0 c.in-Goes.son c.in-Goes.bounds placed.old refl (record { page = c.in-Some.ensures.page steady ∙ ap Some met.2; stands = met.1 }) told.0 steps leads) (c.insert_in_one.ensures.led steady)

@@ -54,8 +54,8 @@ returns-clause-same g c steady steady_copy =
     let second = c.copy_rest.ensures.stays in
     let as_long : length (g.T.StoreState.pages c.set_pages.new.self) ≡ c.in_ok-count.count = made_long (g.T.StoreState.pages c.args.copy.now) (g.T.StoreState.pages c.set_pages.new.self) c.in_ok-count.count c.requires c.in_ok-set_pages.ensures.pages in
     let steady_now = c.set_pages.ensures.changes.steady ∙ steady_copy in
-    let long : length (g.T.StoreState.pages c.sync.new.self) ≡ length pages = ap (λ (ps : List (List ℕ)). length ps) c.sync.ensures.same_pages ∙ c.copy_rest.ensures.long ∙ as_long ∙ c.in_ok-count.ensures.count.0 in
+    let long : length (g.T.StoreState.pages c.sync.new.self) ≡ length pages = ap (λ (ps : List (List ℕ)). length ps) c.sync.ensures.same_pages ∙ c.copy_rest.ensures.shape.0 ∙ as_long ∙ c.in_ok-count.ensures.count.0 in
     same_copy pages (g.S.StoreState.pages c.copy_rest.new.source) (g.T.StoreState.pages c.sync.new.self) (g.T.StoreState.pages c.copy_first.new.copy) c.copy_first.result
     (second.pages ∙ first.pages) long
     (same_stored pages (g.S.StoreState.pages c.count_of.new.source) (g.T.StoreState.pages c.copy_rest.new.copy) (g.T.StoreState.pages c.sync.new.self) first.pages c.sync.ensures.same_pages (c.in_ok-copy_rest.ensures.put (first.steady ∙ steady) steady_now))
-    (c.copy_first.ensures.put (second.steady ∙ first.steady ∙ steady) (c.sync.ensures.changes.steady ∙ c.copy_rest.ensures.steady ∙ steady_now))
+    (c.copy_first.ensures.put (second.steady ∙ first.steady ∙ steady) (c.sync.ensures.changes.steady ∙ c.copy_rest.ensures.shape.2 ∙ steady_now))

@@ -30,8 +30,8 @@ loop-n-preserved g c =
           pages_put (behind_first pages) (g.T.StoreState.pages c.loop-n.copy) _ c.loop-n.n c.copy_page.new.page (omega arith) (old.put steady steady_copy)
           (behind_some pages (g.S.StoreState.pages c.loop-n.source) c.loop-n.n c.copy_page.new.page (omega arith) old.stays.pages (c.in_ok-copy_page.ensures.read (old.stays.steady ∙ steady)))
           (c.in_ok-copy_page.ensures.put (old.steady ∙ steady_copy));
-      long = c.copy_page.ensures.long ∙ old.long;
-      tail = c.copy_page.ensures.tail ∙ old.tail;
+      long = c.copy_page.ensures.shape.0 ∙ old.long;
+      tail = c.copy_page.ensures.shape.1 ∙ old.tail;
       calls = λ steady.
           write_noted (behind_first pages) c.loop-n.n c.copy_page.new.page _ (g.T.StoreState.journal c.loop-n.copy) _
           (sym (behind_some pages (g.S.StoreState.pages c.loop-n.source) c.loop-n.n c.copy_page.new.page (omega arith) old.stays.pages (c.in_ok-copy_page.ensures.read (old.stays.steady ∙ steady))))
@@ -40,12 +40,14 @@ loop-n-preserved g c =
         pages = c.copy_page.ensures.stays.pages ∙ old.stays.pages;
         tail = c.copy_page.ensures.stays.tail ∙ old.stays.tail;
         steady = c.copy_page.ensures.stays.steady ∙ old.stays.steady;
+        opening = c.copy_page.ensures.stays.opening ∙ old.stays.opening;
         writes = c.copy_page.ensures.stays.writes ∙ old.stays.writes;
         journal = c.copy_page.ensures.stays.journal ∙ old.stays.journal;
+        guard = c.copy_page.ensures.stays.guard ∙ old.stays.guard;
       };
       fails = c.in_ok-copy_page.ensures.fails ∙ old.fails;
       copy_fails = c.in_ok-copy_page.ensures.copy_fails ∙ old.copy_fails;
-      steady = c.copy_page.ensures.steady ∙ old.steady;
+      steady = c.copy_page.ensures.shape.2 ∙ old.steady;
     }
 
 pub returns-clause-put : goal.returns-clause-put

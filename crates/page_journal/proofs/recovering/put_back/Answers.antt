@@ -6,6 +6,7 @@ use Rattle.page_journal.proofs.RestoreLemmas.{cut_is, restores_same}
 use Rattle.page_journal.proofs.RunLemmas.{Holds, back_time, holds_begin, holds_cut, holds_then}
 use Rattle.page_journal.proofs.PuttingLemmas.{shape_parts}
 use Rattle.page_journal.proofs.recovering.put_back.Given as given
+use Rattle.page_journal.proofs.LogLemmas.{logs_begin, logs_cut, logs_then}
 use Rattle.page_journal.proofs.recovering.put_back.Goals as goal
 use Rattle.page_journal.proofs.recovering.put_back.Goals.{After-cut, After-put_pages, In_ok-put_pages}
 
@@ -67,3 +68,36 @@ returns-clause-restored g c = λ st kept base shape sealed.
     let cut = cut_down g at.After-cut kept base shape sealed in
     let put = put_down g at.After-put_pages st kept base shape cut in
     subst (λ (m : PageFile). IsSettled d m c.commit.new.disk) (whole g at.In_ok-put_pages st kept base shape sealed cut) (c.in_ok-commit.ensures.committed kept base put.sealed)
+
+pub returns-in_err-cut-clause-logs : goal.returns-in_err-cut-clause-logs
+returns-in_err-cut-clause-logs g c =
+    let d = g.D.DiskState in
+    let old = c.args.disk.now in
+    let begun = logs_begin d old (g.met.D.Disk.only_now old) in
+    logs_cut d c.args.side.long old old c.cut.new.self begun c.cut.ensures.does.0
+
+pub returns-in_err-put_pages-clause-logs : goal.returns-in_err-put_pages-clause-logs
+returns-in_err-put_pages-clause-logs g c =
+    let d = g.D.DiskState in
+    let old = c.args.disk.now in
+    let begun = logs_begin d old (g.met.D.Disk.only_now old) in
+    let cut = logs_cut d c.args.side.long old old c.cut.new.self begun c.cut.ensures.does.0 in
+    logs_then d old c.cut.new.self c.put_pages.new.disk cut c.put_pages.ensures.logs
+
+pub returns-in_err-commit-clause-logs : goal.returns-in_err-commit-clause-logs
+returns-in_err-commit-clause-logs g c =
+    let d = g.D.DiskState in
+    let old = c.args.disk.now in
+    let begun = logs_begin d old (g.met.D.Disk.only_now old) in
+    let cut = logs_cut d c.args.side.long old old c.cut.new.self begun c.cut.ensures.does.0 in
+    let put = logs_then d old c.cut.new.self c.put_pages.new.disk cut c.put_pages.ensures.logs in
+    logs_then d old c.put_pages.new.disk c.commit.new.disk put c.commit.ensures.logs
+
+pub returns-clause-logs : goal.returns-clause-logs
+returns-clause-logs g c =
+    let d = g.D.DiskState in
+    let old = c.args.disk.now in
+    let begun = logs_begin d old (g.met.D.Disk.only_now old) in
+    let cut = logs_cut d c.args.side.long old old c.cut.new.self begun c.cut.ensures.does.0 in
+    let put = logs_then d old c.cut.new.self c.put_pages.new.disk cut c.put_pages.ensures.logs in
+    logs_then d old c.put_pages.new.disk c.commit.new.disk put c.commit.ensures.logs

@@ -5,6 +5,8 @@ use Rattle.page_journal.specs.Files.{Files, put_back}
 use Rattle.page_journal.specs.Steps.{kept_at}
 use Rattle.page_journal.proofs.RunLemmas.{holds_begin, holds_then}
 use Rattle.page_journal.proofs.PuttingLemmas.{Puts, puts_read, puts_change, puts_skip, may_of, long_torn, tail_torn}
+use Rattle.page_journal.specs.Crash.{LeavesLogs}
+use Rattle.page_journal.proofs.LogLemmas.{logs_begin, logs_stays, logs_write}
 use Rattle.page_journal.proofs.recovering.put_pages.Goals as goal
 use Rattle.page_journal.proofs.recovering.put_pages.Goals.{then-n-long+in_ok-overwrite, else-n-long}
 
@@ -12,6 +14,8 @@ pub loop-i-init : goal.loop-i-init
 loop-i-init g c = record {
   long = c.requires.long;
   steady = refl;
+  began = refl;
+  logs = logs_begin g.D.DiskState c.args.disk.now (g.met.D.Disk.only_now c.args.disk.now);
   tail = refl;
   failures = refl;
   put = λ st kept base long count sealed. record {
@@ -51,6 +55,14 @@ loop-i-preserved g c =
         | then-n-long+in_ok-overwrite w ↦ ap (λ e. d.steady e) w.disk-is ∙ w.overwrite.ensures.does.0.steady ∙ c.kept.ensures.does.0.steady ∙ c.loop-i.invariant.steady
         | else-n-long w ↦ ap (λ e. d.steady e) w.disk-is ∙ c.kept.ensures.does.0.steady ∙ c.loop-i.invariant.steady
       ];
+      began = elim c.if-n-long.branch [
+        | then-n-long+in_ok-overwrite w ↦ ap (λ e. d.began e) w.disk-is ∙ w.overwrite.ensures.does.0.began ∙ c.kept.ensures.does.0.began ∙ c.loop-i.invariant.began
+        | else-n-long w ↦ ap (λ e. d.began e) w.disk-is ∙ c.kept.ensures.does.0.began ∙ c.loop-i.invariant.began
+      ];
+      logs = elim c.if-n-long.branch [
+        | then-n-long+in_ok-overwrite w ↦ subst (λ e. LeavesLogs d old e) (sym w.disk-is) (logs_write d c.in_ok-n.n old c.kept.new.self w.overwrite.new.disk (logs_stays d old c.loop-i.disk c.kept.new.self c.loop-i.invariant.logs c.kept.ensures.does.0) w.overwrite.ensures.does.0)
+        | else-n-long w ↦ subst (λ e. LeavesLogs d old e) (sym w.disk-is) (logs_stays d old c.loop-i.disk c.kept.new.self c.loop-i.invariant.logs c.kept.ensures.does.0)
+      ];
       tail = elim c.if-n-long.branch [
         | then-n-long+in_ok-overwrite w ↦ ap (λ e. (d.seen e).main.tail) w.disk-is ∙ tail_torn c.in_ok-n.n _ _ w.overwrite.ensures.does.0.seen ∙ same_tail ∙ c.loop-i.invariant.tail
         | else-n-long w ↦ ap (λ e. (d.seen e).main.tail) w.disk-is ∙ same_tail ∙ c.loop-i.invariant.tail
@@ -79,3 +91,12 @@ returns-clause-put g c = λ st kept base long count sealed.
       time = p.holds.time;
       put = p.put ∙ ap (λ ps. put_back ps (g.D.DiskState.seen c.args.disk.now).main.pages) (take_all c.loop-i.i kept.pages (omega (arith, count, c.loop-i-test.false)));
     }
+
+pub returns-in_err-n-clause-logs : goal.returns-in_err-n-clause-logs
+returns-in_err-n-clause-logs g c = logs_stays g.D.DiskState c.args.disk.now c.loop-i.disk c.kept.new.self c.loop-i.invariant.logs c.kept.ensures.does.0
+
+pub returns-in_err-overwrite-clause-logs : goal.returns-in_err-overwrite-clause-logs
+returns-in_err-overwrite-clause-logs g c =
+    let d = g.D.DiskState in
+    let old = c.args.disk.now in
+    logs_write d c.in_ok-n.n old c.kept.new.self c.overwrite.new.disk (logs_stays d old c.loop-i.disk c.kept.new.self c.loop-i.invariant.logs c.kept.ensures.does.0) c.overwrite.ensures.does.0

@@ -7,6 +7,7 @@ use Rattle.page_journal.proofs.SealedLemmas.{sealed_at_rest, stands_as}
 use Rattle.page_journal.proofs.RunLemmas.{Holds, holds_begin, holds_stays}
 use Rattle.page_journal.proofs.PuttingLemmas.{side_cases}
 use Rattle.page_journal.proofs.recovering.recover.Given as given
+use Rattle.page_journal.proofs.LogLemmas.{logs_begin, logs_stays, logs_then}
 use Rattle.page_journal.proofs.recovering.recover.Goals as goal
 use Rattle.page_journal.proofs.recovering.recover.Goals.{After-belongs, After-put_back}
 
@@ -101,3 +102,51 @@ returns-clause-recovered g c = λ st rest.
     let put = at.After-put_back in
     let run = asked g at.After-belongs st (found g put st rest).0 (base g put st rest) (sealed g put st rest) in
     subst (λ (m : PageFile). IsSettled d m c.put_back.new.disk) (stands g put st rest) (c.in_ok-put_back.ensures.restored (c.belongs.ensures.stays.steady ∙ c.side.ensures.does.0.steady ∙ st) (found g put st rest).0 (base g put st rest) (found g put st rest).2 run.sealed)
+
+pub returns-in_err-side-clause-logs : goal.returns-in_err-side-clause-logs
+returns-in_err-side-clause-logs g c =
+    let d = g.D.DiskState in
+    let old = c.args.disk.now in
+    let begun = logs_begin d old (g.met.D.Disk.only_now old) in
+    logs_stays d old old c.side.new.self begun c.side.ensures.does.0
+
+pub returns-in_default-clause-logs : goal.returns-in_default-clause-logs
+returns-in_default-clause-logs g c =
+    let d = g.D.DiskState in
+    let old = c.args.disk.now in
+    let begun = logs_begin d old (g.met.D.Disk.only_now old) in
+    logs_stays d old old c.side.new.self begun c.side.ensures.does.0
+
+pub returns-in_err-belongs-clause-logs : goal.returns-in_err-belongs-clause-logs
+returns-in_err-belongs-clause-logs g c =
+    let d = g.D.DiskState in
+    let old = c.args.disk.now in
+    let begun = logs_begin d old (g.met.D.Disk.only_now old) in
+    let sided = logs_stays d old old c.side.new.self begun c.side.ensures.does.0 in
+    logs_stays d old c.side.new.self c.belongs.new.disk sided c.belongs.ensures.stays
+
+pub returns-then-not-branch-clause-logs : goal.returns-then-not-branch-clause-logs
+returns-then-not-branch-clause-logs g c =
+    let d = g.D.DiskState in
+    let old = c.args.disk.now in
+    let begun = logs_begin d old (g.met.D.Disk.only_now old) in
+    let sided = logs_stays d old old c.side.new.self begun c.side.ensures.does.0 in
+    logs_stays d old c.side.new.self c.belongs.new.disk sided c.belongs.ensures.stays
+
+pub returns-in_err-put_back-clause-logs : goal.returns-in_err-put_back-clause-logs
+returns-in_err-put_back-clause-logs g c =
+    let d = g.D.DiskState in
+    let old = c.args.disk.now in
+    let begun = logs_begin d old (g.met.D.Disk.only_now old) in
+    let sided = logs_stays d old old c.side.new.self begun c.side.ensures.does.0 in
+    let told = logs_stays d old c.side.new.self c.belongs.new.disk sided c.belongs.ensures.stays in
+    logs_then d old c.belongs.new.disk c.put_back.new.disk told c.put_back.ensures.logs
+
+pub returns-clause-logs : goal.returns-clause-logs
+returns-clause-logs g c =
+    let d = g.D.DiskState in
+    let old = c.args.disk.now in
+    let begun = logs_begin d old (g.met.D.Disk.only_now old) in
+    let sided = logs_stays d old old c.side.new.self begun c.side.ensures.does.0 in
+    let told = logs_stays d old c.side.new.self c.belongs.new.disk sided c.belongs.ensures.stays in
+    logs_then d old c.belongs.new.disk c.put_back.new.disk told c.put_back.ensures.logs

@@ -1,5 +1,5 @@
-use Rattle.std.proofs.Common.{◌≡◌, inl, inr, ⊎_elim, ◌∙◌, ap, sym, subst, refl, slice_get, arith, length, ◌≤◌, Some}
-use Rattle.page_journal.specs.Files.{Kept, Files}
+use Rattle.std.proofs.Common.{inl, inr, ⊎_elim, ◌∙◌, sym, subst, refl, arith}
+use Rattle.page_journal.specs.Files.{Files}
 use Rattle.page_journal.specs.Sums.{SumsOn}
 use Rattle.page_journal.proofs.MomentLemmas.{stays_itself, stays_then}
 use Rattle.page_journal.proofs.BelongLemmas.{passed_none, passed_one, passed_over, passed_all, of_shape, found_at}

@@ -1,6 +1,5 @@
-use Rattle.std.proofs.Common.{◌≡◌, ◌∙◌, ap, sym, subst, refl, slice_get, arith, length, ◌≤◌}
+use Rattle.std.proofs.Common.{◌∙◌, ap, sym, refl, slice_get, arith}
 use Rattle.page_journal.specs.Files.{Files}
-use Rattle.page_journal.specs.Steps.{Stays}
 use Rattle.page_journal.proofs.MomentLemmas.{stays_itself, stays_then}
 use Rattle.page_journal.proofs.BelongLemmas.{sums_none, sums_more}
 use Rattle.page_journal.proofs.recovering.sum_pages.Goals as goal

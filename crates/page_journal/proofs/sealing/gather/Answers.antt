@@ -1,8 +1,10 @@
-use Rattle.std.proofs.Common.{◌≡◌, ◌+◌, ◌∙◌, ap, sym, subst, refl, arith, slice_get, length, ◌<◌, ℕ}
+use Rattle.std.proofs.Common.{◌+◌, ◌∙◌, ap, sym, subst, refl, arith, slice_get, length}
 use Rattle.page_journal.specs.Files.{PageFile, Files}
 use Rattle.page_journal.proofs.RunLemmas.{quiet_begin}
 use Rattle.page_journal.proofs.PuttingLemmas.{Gathers, gathers_begin, gathers_read, gathers_skip, gathers_keep}
 use Rattle.page_journal.proofs.BelongLemmas.{ascend_raise}
+use Rattle.page_journal.specs.Crash.{LeavesLogs}
+use Rattle.page_journal.proofs.LogLemmas.{logs_begin, logs_stays, logs_fresh}
 use Rattle.page_journal.proofs.sealing.gather.Goals as goal
 use Rattle.page_journal.proofs.sealing.gather.Goals.{then-marks-n+in_ok-read+in_ok-keep, else-marks-n}
 
@@ -12,6 +14,8 @@ loop-n-init g c =
     let old = c.args.disk.now in
     record {
       steady = refl;
+      began = refl;
+      logs = logs_begin d old (g.met.D.Disk.only_now old);
       same = refl;
       failures = refl;
       inside = omega arith;
@@ -29,6 +33,14 @@ loop-n-preserved g c =
       steady = elim c.if-marks-n.branch [
         | then-marks-n+in_ok-read+in_ok-keep w ↦ ap (λ e. d.steady e) w.disk-is ∙ w.keep.ensures.does.0.steady ∙ w.read.ensures.does.0.steady ∙ c.loop-n.invariant.steady
         | else-marks-n w ↦ ap (λ e. d.steady e) w.disk-is ∙ c.loop-n.invariant.steady
+      ];
+      began = elim c.if-marks-n.branch [
+        | then-marks-n+in_ok-read+in_ok-keep w ↦ ap (λ e. d.began e) w.disk-is ∙ w.keep.ensures.does.0.began ∙ w.read.ensures.does.0.began ∙ c.loop-n.invariant.began
+        | else-marks-n w ↦ ap (λ e. d.began e) w.disk-is ∙ c.loop-n.invariant.began
+      ];
+      logs = elim c.if-marks-n.branch [
+        | then-marks-n+in_ok-read+in_ok-keep w ↦ subst (λ e. LeavesLogs d old e) (sym w.disk-is) (logs_fresh d old w.read.new.self w.keep.new.self (logs_stays d old c.loop-n.disk w.read.new.self c.loop-n.invariant.logs w.read.ensures.does.0) w.keep.ensures.does.0)
+        | else-marks-n w ↦ subst (λ e. LeavesLogs d old e) (sym w.disk-is) c.loop-n.invariant.logs
       ];
       same = elim c.if-marks-n.branch [
         | then-marks-n+in_ok-read+in_ok-keep w ↦ ap (λ e. (d.seen e).main) w.disk-is ∙ w.keep.ensures.does.0.seen.main ∙ ap (λ (f : Files). f.main) w.read.ensures.does.0.seen ∙ c.loop-n.invariant.same
@@ -57,3 +69,12 @@ returns-clause-kept g c = λ st.
       ascend_raise 0 c.loop-n.n (length marks) (g.D.DiskState.seen c.loop-n.disk).fresh.pages had.up c.loop-n.invariant.inside,
       had.rest,
     )
+
+pub returns-in_err-read-clause-logs : goal.returns-in_err-read-clause-logs
+returns-in_err-read-clause-logs g c = logs_stays g.D.DiskState c.args.disk.now c.loop-n.disk c.read.new.self c.loop-n.invariant.logs c.read.ensures.does.0
+
+pub returns-in_err-keep-clause-logs : goal.returns-in_err-keep-clause-logs
+returns-in_err-keep-clause-logs g c =
+    let d = g.D.DiskState in
+    let old = c.args.disk.now in
+    logs_fresh d old c.read.new.self c.keep.new.self (logs_stays d old c.loop-n.disk c.read.new.self c.loop-n.invariant.logs c.read.ensures.does.0) c.keep.ensures.does.0

@@ -1,4 +1,4 @@
-use Rattle.std.proofs.Common.{◌≡◌, ◌∙◌, ap, sym, subst, refl, slice_get}
+use Rattle.std.proofs.Common.{◌∙◌, ap, sym, subst, refl, slice_get}
 use Rattle.page_journal.specs.Files.{Files}
 use Rattle.page_journal.specs.Steps.{Stays}
 use Rattle.page_journal.proofs.MomentLemmas.{stays_itself, stays_then}

@@ -1,4 +1,4 @@
-use Rattle.std.proofs.Common.{[], ◌∷◌, None, true, false, refl, ap}
+use Rattle.std.proofs.Common.{[], ◌∷◌, false, refl, ap}
 use Rattle.command_text.specs.declared.reply.Reply.TheVariants as replies
 use Rattle.record_file.specs.Runs.{seen, Commit}
 use Rattle.recfile.proofs.CallRunLemmas.{quiet}

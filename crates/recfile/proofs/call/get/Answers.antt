@@ -1,4 +1,4 @@
-use Rattle.std.proofs.Common.{[], ◌∷◌, None, true, false, refl, ap}
+use Rattle.std.proofs.Common.{[], ◌∷◌, false, refl}
 use Rattle.command_text.specs.declared.reply.Reply.TheVariants as replies
 use Rattle.record_file.specs.Runs.{seen, Get}
 use Rattle.record_file.specs.Outside.{by_device}
@@ -19,7 +19,7 @@ returns g c =
         record {
           events = record { called = Get c.args.tx c.args.key.now c.get.result; failed = by_device (cause_by get_refusal c.get.result); refused = false } ∷ [];
           told = refl;
-          ran = asks old new (Get c.args.tx c.args.key.now c.get.result) (by_device (cause_by get_refusal c.get.result)) false c.get.ensures.table.device c.get.ensures.memory c.get.ensures.table.soundness (tells_none old.sound old.records new.records old.log new.log c.get.ensures.table.same.0 c.get.ensures.table.same.2) c.get.ensures.damaged was is ((refl, get_wants_none c.get.result), record { step = c.get.ensures.step; refused = refused_seen g.T.TableState c.args.file.now c.get.new.self (key_refusal false c.args.file.now.file c.args.tx.0 c.args.key.now) (refusal_by get_refusal c.get.result) c.get.ensures.refused; refused_only = c.get.ensures.refused_only; same = c.get.ensures.table.same; damages = c.get.ensures.table.damages });
+          ran = asks old new (Get c.args.tx c.args.key.now c.get.result) (by_device (cause_by get_refusal c.get.result)) false c.get.ensures.table.device c.get.ensures.memory c.get.ensures.table.soundness (tells_none old.sound old.records new.records old.log new.log c.get.ensures.table.same.0 c.get.ensures.table.same.2) c.get.ensures.damaged was is ((refl, get_wants_none c.get.result), record { step = c.get.ensures.step; refused = refused_seen g.T.TableState c.args.file.now c.get.new.self (key_refusal false c.args.file.now.file c.args.tx.0 c.args.key.now) (refusal_by get_refusal c.get.result) c.get.ensures.refused; refused_only = c.get.ensures.refused_only; same = c.get.ensures.table.same; damages = c.get.ensures.table.damages; asks = c.get.ensures.asks });
         },
         c.tell.ensures,
       );

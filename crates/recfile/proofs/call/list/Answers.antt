@@ -32,7 +32,7 @@ returns g c =
               ran = asks old new (Entries answer) failed told.memory.0 told.table.device told.memory.1 told.table.soundness
                   (tells_none old.sound old.records new.records old.log new.log told.table.same.0 told.table.same.2)
                   (subst (NeverDamaged old.sound) cause told.damaged) was is
-                  ((ap by_device cause, λ refused. subst (λ x. IsTrue (by_memory x)) cause (told.memory.2 refused)), record { step = told.step; same = told.table.same; damages = told.table.damages ∙ ap (named_by old.damages) cause });
+                  ((ap by_device cause, λ refused. subst (λ x. IsTrue (by_memory x)) cause (told.memory.2 refused)), record { step = told.step; same = told.table.same; damages = told.table.damages ∙ ap (named_by old.damages) cause; asks = told.asks });
             }),
         c.tell.ensures,
       );

@@ -1,4 +1,4 @@
-use Rattle.std.proofs.Common.{[], ◌∷◌, None, true, false, refl, ap}
+use Rattle.std.proofs.Common.{[], ◌∷◌, true, refl}
 use Rattle.command_text.specs.declared.reply.Reply.TheVariants as replies
 use Rattle.record_file.specs.Runs.{seen, Remove}
 use Rattle.record_file.specs.Outside.{by_device}
@@ -18,7 +18,7 @@ returns g c =
         record {
           events = record { called = Remove c.args.tx c.args.key c.remove.result; failed = by_device (cause_by remove_refusal c.remove.result); refused = c.remove.ensures.memory.0 } ∷ [];
           told = refl;
-          ran = asks old new (Remove c.args.tx c.args.key c.remove.result) (by_device (cause_by remove_refusal c.remove.result)) c.remove.ensures.memory.0 c.remove.ensures.table.device c.remove.ensures.memory.1 c.remove.ensures.table.soundness (c.remove.ensures.table.told) c.remove.ensures.damaged was is ((refl, c.remove.ensures.memory.2), record { step = c.remove.ensures.step; refused = refused_seen g.T.TableState c.args.file.now c.remove.new.self (key_refusal true c.args.file.now.file c.args.tx.0 c.args.key) (refusal_by remove_refusal c.remove.result) c.remove.ensures.refused; refused_only = c.remove.ensures.refused_only; accepted = c.remove.ensures.accepted; opening = c.remove.ensures.table.opening; err = c.remove.ensures.err; damages = c.remove.ensures.table.damages });
+          ran = asks old new (Remove c.args.tx c.args.key c.remove.result) (by_device (cause_by remove_refusal c.remove.result)) c.remove.ensures.memory.0 c.remove.ensures.table.device c.remove.ensures.memory.1 c.remove.ensures.table.soundness (c.remove.ensures.table.told) c.remove.ensures.damaged was is ((refl, c.remove.ensures.memory.2), record { step = c.remove.ensures.step; refused = refused_seen g.T.TableState c.args.file.now c.remove.new.self (key_refusal true c.args.file.now.file c.args.tx.0 c.args.key) (refusal_by remove_refusal c.remove.result) c.remove.ensures.refused; refused_only = c.remove.ensures.refused_only; accepted = c.remove.ensures.accepted; opening = c.remove.ensures.table.opening; err = c.remove.ensures.err; damages = c.remove.ensures.table.damages; asks = c.remove.ensures.asks });
         },
         c.tell.ensures,
       );

@@ -1,4 +1,4 @@
-use Rattle.std.proofs.Common.{[], ◌∷◌, None, true, false, refl, ap}
+use Rattle.std.proofs.Common.{[], ◌∷◌, refl}
 use Rattle.command_text.specs.declared.reply.Reply.TheVariants as replies
 use Rattle.record_file.specs.Runs.{seen, Resume}
 use Rattle.record_file.specs.Outside.{by_device, by_memory}
@@ -18,7 +18,7 @@ returns g c =
         record {
           events = record { called = Resume c.args.tx c.resume.result; failed = by_device (cause_by resume_refusal c.resume.result); refused = (by_memory (cause_by resume_refusal c.resume.result)) } ∷ [];
           told = refl;
-          ran = asks old new (Resume c.args.tx c.resume.result) (by_device (cause_by resume_refusal c.resume.result)) (by_memory (cause_by resume_refusal c.resume.result)) c.resume.ensures.table.device c.resume.ensures.memory c.resume.ensures.table.soundness (c.resume.ensures.table.told) c.resume.ensures.damaged was is ((refl, refl), record { step = c.resume.ensures.step; rolled = c.resume.ensures.rolled; opening = c.resume.ensures.table.opening; refused = refused_seen g.T.TableState c.args.file.now c.resume.new.self (resuming_refusal c.args.file.now.file c.args.tx.0) (refusal_by resume_refusal c.resume.result) c.resume.ensures.refused; damages = c.resume.ensures.table.damages });
+          ran = asks old new (Resume c.args.tx c.resume.result) (by_device (cause_by resume_refusal c.resume.result)) (by_memory (cause_by resume_refusal c.resume.result)) c.resume.ensures.table.device c.resume.ensures.memory c.resume.ensures.table.soundness (c.resume.ensures.table.told) c.resume.ensures.damaged was is ((refl, refl), record { step = c.resume.ensures.step; rolled = c.resume.ensures.rolled; opening = c.resume.ensures.table.opening; refused = refused_seen g.T.TableState c.args.file.now c.resume.new.self (resuming_refusal c.args.file.now.file c.args.tx.0) (refusal_by resume_refusal c.resume.result) c.resume.ensures.refused; damages = c.resume.ensures.table.damages; asks = c.resume.ensures.asks });
         },
         c.tell.ensures,
       );

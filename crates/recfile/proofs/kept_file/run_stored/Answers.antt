@@ -1,9 +1,15 @@
-use Rattle.std.proofs.Common.{ℕ, Option, MatchOption, sym, subst, ◌∙◌}
+use Rattle.std.proofs.Common.{◌≡◌, ℕ, Option, MatchOption, refl, sym, ap, subst, ◌∙◌}
 use Rattle.btree_delete.specs.TableView.{IsClosed}
 use Rattle.page_journal.specs.Files.{PageFile, recovered}
+use Rattle.page_journal.specs.KeptStores.{failures_with, guard_of, opened_over}
+use Rattle.rec_types.specs.Table.{counted}
+use Rattle.btree_delete.specs.CleanFile.{is_device_fault}
 use Rattle.record_file.specs.Runs.{Seen}
+use Rattle.recfile.specs.FileFaults.{is_device}
+use Rattle.recfile.proofs.ClosingCountLemmas.{device_of_opening, some_told, unrefused, unsealed}
 use Rattle.recfile.specs.Dumped.{CanBeOpened, IsOutsideFile}
-use Rattle.recfile.specs.Kept.{ClosesSafely}
+use Rattle.page_store.specs.Opening.{Opening}
+use Rattle.recfile.specs.Kept.{ClosesSafely, file_of}
 use Rattle.recfile.specs.WholeSession.{EndsFile, opened_file}
 use Rattle.recfile.specs.declared.file_fault.FileFault.{FileFault}
 use Rattle.recfile.proofs.OpenedLemmas.{can_be_opened}
@@ -19,5 +25,21 @@ returns-in-Ok-clause-session g c steady tree contents version closed few =
     let there = subst (λ (f : PageFile). IsClosed version f.pages f.tail tree contents) (sym (c.requires.file steady)) closed in
     let opened = c.in-Ok.ensures.reopened steady tree contents version there few in
     let same = c.in-Ok.ensures.stored in
-    let ends = λ (s : Seen) (order : ℕ). EndsFile c.args.manner (g.R.Read.remaining c.args.reader.now) (g.R.Read.remaining c.run_table.new.reader) (g.W.Write.contents c.args.out.now) (g.W.Write.contents c.run_table.new.out) s (ClosesSafely g.D.DiskState (recovered g.D.DiskState.began) c.run_table.result.disk c.run_table.result.unclosed order) c.run_table.result.unclosed c.run_table.result.status in
-    subst (λ (o : Option FileFault). MatchOption o (ends (opened_file contents c.args.limits 0) tree.order) IsOutsideFile) (sym c.run_table.ensures.opened) (subst (λ (x : Seen × ℕ). ends x.0 x.1) (λ i. (opened_file (opened.1 i) c.args.limits ((same.4 ∙ c.requires.failures) i), (opened.0 i).order)) (c.run_table.ensures.session (same.2 ∙ steady) c.in-Ok.ensures.no_faults.0 c.in-Ok.ensures.no_faults.1))
+    let ends = λ (s : Seen) (order : ℕ) (o : Opening). EndsFile c.args.manner (g.R.Read.remaining c.args.reader.now) (g.R.Read.remaining c.run_table.new.reader) (g.W.Write.contents c.args.out.now) (g.W.Write.contents c.run_table.new.out) s (ClosesSafely g.D.DiskState (file_of o) c.run_table.result.disk c.run_table.result.unclosed order) c.run_table.result.unclosed c.run_table.result.status in
+    subst (λ (o : Option FileFault). MatchOption o (ends (opened_file contents c.args.limits (g.D.DiskState.failures c.args.store.disk)) tree.order (opened_over (recovered (g.D.DiskState.began c.args.store.disk)))) IsOutsideFile) (sym c.run_table.ensures.opened) (subst (λ (x : Seen × ℕ × Opening). ends x.0 x.1 x.2) (λ i. (opened_file (opened.1 i) c.args.limits ((same.4 ∙ ap (failures_with (g.D.DiskState.failures c.args.store.disk)) c.requires.unused.1) i), (opened.0 i).order, c.in-Ok.ensures.opening i)) (c.run_table.ensures.session (same.2 ∙ steady) (c.in-Ok.ensures.no_faults.0, c.in-Ok.ensures.no_faults.1, c.in-Ok.ensures.no_calls)))
+
+pub returns-in-Ok-clause-ran : goal.returns-in-Ok-clause-ran
+returns-in-Ok-clause-ran g c none =
+    c.run_table.ensures.counted (c.in-Ok.ensures.guard ∙ (λ i. guard_of (c.requires.unused.0 i) c.args.store.kept (c.requires.unused.1 i))) c.in-Ok.ensures.no_tail
+
+pub returns-in-Err-clause-device : goal.returns-in-Err-clause-device
+returns-in-Err-clause-device g c =
+    let failed = g.D.DiskState.failures c.args.store.disk in
+    let store = c.in-Err.stop.store in
+    let fault = c.in-Err.stop.fault in
+    let guard = c.in-Err.ensures.stays.guard ∙ (λ i. guard_of (c.requires.unused.0 i) c.args.store.kept (c.requires.unused.1 i)) in
+    let same = unrefused store.state store.kept (g.D.DiskState.failures store.disk) store.refusals (counted failed (is_device_fault fault)) _ guard refl
+    (c.in-Err.ensures.failures ∙ ap (λ k. counted (failures_with failed k) (is_device_fault fault)) c.requires.unused.1) in
+    let left = (c.take_back-disk.ensures.unsealed (unsealed store.state store.kept store.refusals _ guard refl)).0 in
+    some_told c.unopened.result.unopened c.from.result (λ f. g.D.DiskState.failures c.unopened.result.disk ≡ counted failed (is_device f)) (ap (λ e. e.unopened) c.unopened.ensures)
+    (ap (λ e. g.D.DiskState.failures e.disk) c.unopened.ensures ∙ ap g.D.DiskState.failures left ∙ same ∙ ap (counted failed) (device_of_opening fault) ∙ ap (λ (f : FileFault). counted failed (is_device f)) (sym c.from.ensures))

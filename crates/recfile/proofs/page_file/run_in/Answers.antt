@@ -15,7 +15,7 @@ module _ (g : given.Over) (c : In-Ok g) where
   made : origin_of c.in-Ok.table ≡ opened_in g.S.StoreState c.in-Ok.table.tree.order c.args.store
   made =
       let same = c.in-Ok.ensures.stored in
-      λ i. record { order = c.in-Ok.table.tree.order; stored = same.0 i; tail = same.1 i; steady = same.2 i; shapes = c.in-Ok.ensures.shapes i; writes = same.3 i; journal = c.in-Ok.ensures.journal i }
+      λ i. record { order = c.in-Ok.table.tree.order; stored = same.0 i; tail = same.1 i; steady = same.2 i; opening = c.in-Ok.ensures.opening i; shapes = c.in-Ok.ensures.shapes i; writes = same.3 i; journal = c.in-Ok.ensures.journal i; guard = c.in-Ok.ensures.guard i }
 
 at_none : {A : Type 0} (o : Option A) (P : A → Type 0) → o ≡ None → IfSome o P
 at_none o P is = subst (λ x. IfSome x P) (sym is) tt
@@ -43,4 +43,4 @@ returns-in-Ok-clause-session g c steady tree contents version closed few =
     let opened = c.in-Ok.ensures.reopened steady tree contents version closed few in
     let same = c.in-Ok.ensures.stored in
     let ends = λ (s : Seen) (order : ℕ). EndsFile c.args.manner (g.R.Read.remaining c.args.reader.now) (g.R.Read.remaining c.run_opened.new.reader) (g.W.Write.contents c.args.out.now) (g.W.Write.contents c.run_opened.new.out) s (ClosesIn g.S.StoreState c.args.store c.run_opened.result.store c.run_opened.result.unclosed order) c.run_opened.result.unclosed c.run_opened.result.status in
-    subst (λ (o : Option OpenFault). MatchOption o (ends (opened_file contents c.args.limits (g.S.StoreState.failures c.args.store)) tree.order) IsOutside) (sym c.run_opened.ensures.opened) (subst (λ (x : Seen × ℕ). ends x.0 x.1) (λ i. (opened_file (opened.1 i) c.args.limits (same.4 i), (opened.0 i).order)) (c.run_opened.ensures.session c.args.store (made g (goal.at.returns-in-Ok-clause-session g c).In-Ok) (same.2 ∙ steady) c.in-Ok.ensures.no_faults.0 c.in-Ok.ensures.no_faults.1))
+    subst (λ (o : Option OpenFault). MatchOption o (ends (opened_file contents c.args.limits (g.S.StoreState.failures c.args.store)) tree.order) IsOutside) (sym c.run_opened.ensures.opened) (subst (λ (x : Seen × ℕ). ends x.0 x.1) (λ i. (opened_file (opened.1 i) c.args.limits (same.4 i), (opened.0 i).order)) (c.run_opened.ensures.session c.args.store (made g (goal.at.returns-in-Ok-clause-session g c).In-Ok) (same.2 ∙ steady) (c.in-Ok.ensures.no_faults.0, c.in-Ok.ensures.no_faults.1, c.in-Ok.ensures.no_calls)))

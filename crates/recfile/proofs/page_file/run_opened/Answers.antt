@@ -1,11 +1,11 @@
 use Rattle.std.proofs.Common.{◌≡◌, false, is_some, Ok, Err, IsTrue, refl, sym, ap, subst, ◌∙◌}
-use Rattle.rec_types.specs.Table.{counted, no_damage}
+use Rattle.rec_types.specs.Table.{counted}
 use Rattle.rec_types.specs.Contents.{Contents}
 use Rattle.btree_delete.specs.Origins.{Origin, opened_in, origin_of}
 use Rattle.btree_delete.specs.TableView.{TableView, IsClosed, table_contents}
 use Rattle.record_file.specs.Abstract.{OpenFile}
 use Rattle.record_file.specs.Runs.{Seen, seen}
-use Rattle.recfile.specs.WholeSession.{IsSession, opened_file}
+use Rattle.recfile.specs.WholeSession.{IsSession, IsUncounted, opened_file}
 use Rattle.recfile.proofs.SoundRunLemmas.{sound_ran}
 use Rattle.recfile.specs.Statuses.{status_of}
 use Rattle.recfile.proofs.OpenedLemmas.{treed, fresh, begun, never_4}
@@ -17,18 +17,18 @@ use Rattle.recfile.proofs.page_file.run_opened.Goals.{After-abandon-table}
 
 -- what the session was, over the file that was opened, and that its table is sound
 module _ (g : given.Over) (c : After-abandon-table g) where
-  session : IsTrue c.args.table.pages.steady → c.args.table.refusals ≡ 0 → c.args.table.damages ≡ no_damage
+  session : IsTrue c.args.table.pages.steady → IsUncounted c.args.table
       → IsSession c.args.manner (g.R.Read.remaining c.args.reader.now) (g.R.Read.remaining c.run_session-end.new.reader) (g.W.Write.contents c.args.out.now) (g.W.Write.contents c.run_session-end.new.out) (opened_file (table_contents c.args.table) c.args.limits c.args.table.pages.failures) c.run_session-end.ensures.session.0 c.run_session-end.result.script c.run_session-end.result.ended (seen treed c.run_session-end.new.file)
-  session steady refusals damages =
-      subst (λ (s : Seen). IsSession c.args.manner (g.R.Read.remaining c.args.reader.now) (g.R.Read.remaining c.run_session-end.new.reader) (g.W.Write.contents c.args.out.now) (g.W.Write.contents c.run_session-end.new.out) s c.run_session-end.ensures.session.0 c.run_session-end.result.script c.run_session-end.result.ended (seen treed c.run_session-end.new.file)) (fresh c.new-file.result c.args.table c.args.limits c.new-file.ensures steady refusals damages) c.run_session-end.ensures.session.1
+  session steady uncounted =
+      subst (λ (s : Seen). IsSession c.args.manner (g.R.Read.remaining c.args.reader.now) (g.R.Read.remaining c.run_session-end.new.reader) (g.W.Write.contents c.args.out.now) (g.W.Write.contents c.run_session-end.new.out) s c.run_session-end.ensures.session.0 c.run_session-end.result.script c.run_session-end.result.ended (seen treed c.run_session-end.new.file)) (fresh c.new-file.result c.args.table c.args.limits c.new-file.ensures steady uncounted) c.run_session-end.ensures.session.1
 
-  sound : IsTrue c.args.table.pages.steady → c.args.table.refusals ≡ 0 → c.args.table.damages ≡ no_damage → IsTrue c.run_session-end.ensures.session.0.sound
-  sound steady refusals damages =
-      sound_ran c.args.manner c.run_session-end.result.script _ _ _ _ (opened_file (table_contents c.args.table) c.args.limits c.args.table.pages.failures) c.run_session-end.ensures.session.0 (session steady refusals damages).script
+  sound : IsTrue c.args.table.pages.steady → IsUncounted c.args.table → IsTrue c.run_session-end.ensures.session.0.sound
+  sound steady uncounted =
+      sound_ran c.args.manner c.run_session-end.result.script _ _ _ _ (opened_file (table_contents c.args.table) c.args.limits c.args.table.pages.failures) c.run_session-end.ensures.session.0 (session steady uncounted).script
 
-  table_steady : IsTrue c.args.table.pages.steady → c.args.table.refusals ≡ 0 → c.args.table.damages ≡ no_damage → IsTrue c.abandon-table.result.pages.steady
-  table_steady steady refusals damages =
-      ap (λ (t : TableView). t.pages.steady) c.abandon-table.ensures ∙ (session steady refusals damages).asks.sound ∙ sound steady refusals damages
+  table_steady : IsTrue c.args.table.pages.steady → IsUncounted c.args.table → IsTrue c.abandon-table.result.pages.steady
+  table_steady steady uncounted =
+      ap (λ (t : TableView). t.pages.steady) c.abandon-table.ensures ∙ (session steady uncounted).asks.sound ∙ sound steady uncounted
 
   same_shapes : c.abandon-table.result.pages.shapes ≡ c.args.table.pages.shapes
   same_shapes = ap (λ (t : TableView). t.pages.shapes) c.abandon-table.ensures ∙ ap (λ (o : Origin). o.shapes) c.run_session-end.ensures.origin ∙ ap (λ (f : OpenFile TableView). f.table.pages.shapes) c.new-file.ensures
@@ -84,7 +84,7 @@ returns-in-Err-clause-ran g c store is = record {
     },
   );
   failures = c.abandon.ensures.failures ∙ ap (λ (t : TableView). t.pages.failures) c.abandon-table.ensures;
-  written = stays_by g.S.StoreState c.args.table.tree.order store c.abandon.result c.abandon-table.result (made g (goal.at.returns-in-Err-clause-ran g c).After-abandon-table store is) c.abandon.ensures.pages c.abandon.ensures.tail c.abandon.ensures.steady c.abandon.ensures.writes c.abandon.ensures.journal;
+  written = stays_by g.S.StoreState c.args.table.tree.order store c.abandon.result c.abandon-table.result (made g (goal.at.returns-in-Err-clause-ran g c).After-abandon-table store is) c.abandon.ensures.pages c.abandon.ensures.tail c.abandon.ensures.steady c.abandon.ensures.opening c.abandon.ensures.writes c.abandon.ensures.journal c.abandon.ensures.guard;
 }
 
 pub returns-in-Ok-clause-stopped : goal.returns-in-Ok-clause-stopped
@@ -93,10 +93,10 @@ returns-in-Ok-clause-stopped g c store is stopped =
 
 pub returns-in-Err-clause-stopped : goal.returns-in-Err-clause-stopped
 returns-in-Err-clause-stopped g c store is stopped =
-    stays_by g.S.StoreState c.args.table.tree.order store c.abandon.result c.abandon-table.result (made g (goal.at.returns-in-Err-clause-stopped g c).After-abandon-table store is) c.abandon.ensures.pages c.abandon.ensures.tail c.abandon.ensures.steady c.abandon.ensures.writes c.abandon.ensures.journal
+    stays_by g.S.StoreState c.args.table.tree.order store c.abandon.result c.abandon-table.result (made g (goal.at.returns-in-Err-clause-stopped g c).After-abandon-table store is) c.abandon.ensures.pages c.abandon.ensures.tail c.abandon.ensures.steady c.abandon.ensures.opening c.abandon.ensures.writes c.abandon.ensures.journal c.abandon.ensures.guard
 
 pub returns-in-Ok-clause-session : goal.returns-in-Ok-clause-session
-returns-in-Ok-clause-session g c store is steady refusals damages =
+returns-in-Ok-clause-session g c store is steady uncounted =
     let old = opened_file (table_contents c.args.table) c.args.limits c.args.table.pages.failures in
     let here = (goal.at.returns-in-Ok-clause-session g c).After-abandon-table in
     record {
@@ -105,23 +105,23 @@ returns-in-Ok-clause-session g c store is steady refusals damages =
         ended = Ok c.in-Ok.field-0;
         mid = c.run_session-end.ensures.session.0;
         new = seen treed c.run_session-end.new.file;
-        session = subst (λ e. IsSession c.args.manner (g.R.Read.remaining c.args.reader.now) (g.R.Read.remaining c.run_session-end.new.reader) (g.W.Write.contents c.args.out.now) (g.W.Write.contents c.run_session-end.new.out) old c.run_session-end.ensures.session.0 c.run_session-end.result.script e (seen treed c.run_session-end.new.file)) c.in-Ok.is (session g here steady refusals damages);
+        session = subst (λ e. IsSession c.args.manner (g.R.Read.remaining c.args.reader.now) (g.R.Read.remaining c.run_session-end.new.reader) (g.W.Write.contents c.args.out.now) (g.W.Write.contents c.run_session-end.new.out) old c.run_session-end.ensures.session.0 c.run_session-end.result.script e (seen treed c.run_session-end.new.file)) c.in-Ok.is (session g here steady uncounted);
         status_is = c.close_in.ensures.status ∙ ap (status_of false (is_some c.close_in.result.unclosed)) c.is_err-script_fault.ensures.value;
         fault = c.close_in.ensures.fault;
         untried = tt;
       };
-      sound = sound g here steady refusals damages;
+      sound = sound g here steady uncounted;
       closes = record {
         table = c.abandon-table.result;
         order_is = ap (λ (o : Origin). o.order) (made g here store is);
         holds = ap table_contents c.abandon-table.ensures;
         written = written_over _ _ _ c.abandon-table.result c.close_in.result.unclosed (ap (λ (o : Origin). o.journal) (made g here store is)) c.close_in.ensures.written;
-        closed = λ none. subst (λ (m : Contents). IsClosed 2 (g.S.StoreState.pages c.close_in.result.store) (g.S.StoreState.tail c.close_in.result.store) c.abandon-table.result.tree m) (ap table_contents c.abandon-table.ensures) (c.close_in.ensures.closed (table_steady g here steady refusals damages) none);
+        closed = λ none. subst (λ (m : Contents). IsClosed 2 (g.S.StoreState.pages c.close_in.result.store) (g.S.StoreState.tail c.close_in.result.store) c.abandon-table.result.tree m) (ap table_contents c.abandon-table.ensures) (c.close_in.ensures.closed (table_steady g here steady uncounted) none);
       };
     }
 
 pub returns-in-Err-clause-session : goal.returns-in-Err-clause-session
-returns-in-Err-clause-session g c store is steady refusals damages =
+returns-in-Err-clause-session g c store is steady uncounted =
     let old = opened_file (table_contents c.args.table) c.args.limits c.args.table.pages.failures in
     let here = (goal.at.returns-in-Err-clause-session g c).After-abandon-table in
     record {
@@ -130,11 +130,11 @@ returns-in-Err-clause-session g c store is steady refusals damages =
         ended = Err c.in-Err.field-0;
         mid = c.run_session-end.ensures.session.0;
         new = seen treed c.run_session-end.new.file;
-        session = subst (λ e. IsSession c.args.manner (g.R.Read.remaining c.args.reader.now) (g.R.Read.remaining c.run_session-end.new.reader) (g.W.Write.contents c.args.out.now) (g.W.Write.contents c.run_session-end.new.out) old c.run_session-end.ensures.session.0 c.run_session-end.result.script e (seen treed c.run_session-end.new.file)) c.in-Err.is (session g here steady refusals damages);
+        session = subst (λ e. IsSession c.args.manner (g.R.Read.remaining c.args.reader.now) (g.R.Read.remaining c.run_session-end.new.reader) (g.W.Write.contents c.args.out.now) (g.W.Write.contents c.run_session-end.new.out) old c.run_session-end.ensures.session.0 c.run_session-end.result.script e (seen treed c.run_session-end.new.file)) c.in-Err.is (session g here steady uncounted);
         status_is = c.exit_status.ensures;
         fault = tt;
         untried = refl;
       };
-      sound = sound g here steady refusals damages;
+      sound = sound g here steady uncounted;
       closes = tt;
     }

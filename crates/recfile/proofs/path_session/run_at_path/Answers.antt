@@ -16,12 +16,14 @@ returns-in-Ok g c =
     (inr (record {
       opened = c.in-Ok.disk;
       found = c.in-Ok.ensures.found;
+      unfailed = c.in-Ok.ensures.failures;
       unopened = c.run_kept-end.result.unopened;
       unclosed = c.run_kept-end.result.unclosed;
       disk = c.run_kept-end.result.disk;
       session = record {
         unread = unread c.run_kept-end.result.unopened g.R.Read.remaining g.W.Write.contents c.args.reader.now c.run_kept-end.new.reader c.args.out.now c.run_kept-end.new.out c.run_kept-end.result.status c.run_kept-end.result.unclosed c.run_kept-end.ensures.unread;
         ran = c.run_kept-end.ensures.ran;
+        device = c.run_kept-end.ensures.device;
         own = c.run_kept-end.ensures.own;
         closed = c.run_kept-end.ensures.closed;
         first = c.run_kept-end.ensures.first;

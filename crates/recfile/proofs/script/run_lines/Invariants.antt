@@ -16,8 +16,9 @@ abbrev pub invariant-loop-rest : goal.invariant-loop-rest
 invariant-loop-rest g l =
     (replies : List Reply)
     × Walked l.fn.script l.rest (seen g.T.TableState l.fn.file) replies (seen g.T.TableState l.file) l.done l.lines
-    × Appends (g.W.Write.contents l.fn.writer) (g.W.Write.contents l.writer) (flat_map text_of replies)
+    × Appends (g.W.CountedWrite.held l.fn.writer) (g.W.CountedWrite.held l.writer) (flat_map text_of replies)
     × (l.done + length l.rest ≤ 1048576)
     × (l.lines + length l.rest ≤ 1048576)
     × AcceptedIf l.fn.strict replies
     × (g.T.TableState.origin l.file.table ≡ g.T.TableState.origin l.fn.file.table)
+    × (l.calls ≡ l.fn.calls)

@@ -1,5 +1,6 @@
 use Rattle.std.proofs.Common.{◌≡◌, true, [], Option, None, Result, Ok, Err, OnErr, if◌then◌else◌, refl, ap, subst, ◌∙◌}
 use Rattle.std.specs.FinMap as maps
+use Rattle.rec_types.specs.Calls.{no_calls}
 use Rattle.rec_types.specs.LimitBounds.{Bounds}
 use Rattle.rec_types.specs.Sorted.{SortedState}
 use Rattle.rec_types.specs.Table.{no_damage}
@@ -17,8 +18,8 @@ sorted = record { contents = λ t. t.contents; record_limit = λ t. t.limit; sou
 
 -- what a run sees of a new file over an empty table
 fresh : {T : Type 0} (t : Ghosts T) (f : OpenFile T) (table : T) (limits : Bounds) → f ≡ record { table = table; file = new_file (t.contents table) limits; log = [] }
-    → t.contents table ≡ maps.empty → t.sound table ≡ true → t.device_failures table ≡ 0 → t.memory_refusals table ≡ 0 → t.damages table ≡ no_damage → seen t f ≡ empty_file limits
-fresh t f table limits is contents sound failures refusals damages =
+    → t.contents table ≡ maps.empty → t.sound table ≡ true → t.device_failures table ≡ 0 → t.memory_refusals table ≡ 0 → t.damages table ≡ no_damage → t.calls table ≡ no_calls → seen t f ≡ empty_file limits
+fresh t f table limits is contents sound failures refusals damages calls =
     ap (seen t) is
     ∙ (λ i. record {
       file = new_file (contents i) limits;
@@ -28,6 +29,7 @@ fresh t f table limits is contents sound failures refusals damages =
       failures = failures i;
       refusals = refusals i;
       damages = damages i;
+      calls = calls i;
     })
 
 untried : {A E : Type 0} (answer : Result A E) (unclosed : Option FileFault) → unclosed ≡ None → OnErr answer (unclosed ≡ None)
@@ -36,7 +38,7 @@ untried (Err fault) unclosed none = none
 
 pub returns : goal.returns
 returns g c =
-    let start : seen sorted c.new-file.result ≡ empty_file c.args.limits = fresh sorted c.new-file.result c.new.result c.args.limits c.new-file.ensures (ap (λ (s : SortedState). s.contents) c.new.ensures) refl refl (ap (λ (s : SortedState). s.refusals) c.new.ensures) refl in
+    let start : seen sorted c.new-file.result ≡ empty_file c.args.limits = fresh sorted c.new-file.result c.new.result c.args.limits c.new-file.ensures (ap (λ (s : SortedState). s.contents) c.new.ensures) refl refl (ap (λ (s : SortedState). s.refusals) c.new.ensures) refl (ap (λ (s : SortedState). s.calls) c.new.ensures) in
     let known = subst (λ (s : Seen). IsSession c.args.manner (g.R.Read.remaining c.args.reader.now) (g.R.Read.remaining c.run_session-end.new.reader) (g.W.Write.contents c.args.out.now) (g.W.Write.contents c.run_session-end.new.out) s c.run_session-end.ensures.session.0 c.run_session-end.result.script c.run_session-end.result.ended (seen sorted c.run_session-end.new.file)) start c.run_session-end.ensures.session.1 in
     record {
       answer = c.run_session-end.result.script;

@@ -11,8 +11,9 @@ abbrev pub invariant-loop-last : goal.invariant-loop-last
 invariant-loop-last g l =
     record {
       answered : (held : Option (List ℕ)) (old : Seen) (taken : List ℕ)
-          → AnsweredSoFar l.fn.strict held (g.W.Write.contents l.fn.writer) old (seen g.T.TableState l.fn.file) taken l.fn.part l.fn.counts
+          → AnsweredSoFar l.fn.strict held (g.W.CountedWrite.held l.fn.writer) old (seen g.T.TableState l.fn.file) taken l.fn.part l.fn.counts
           → (front : List ℕ) × (l.fn.bytes ≡ front ++ l.rest)
-          × AnsweredSoFar l.fn.strict held (g.W.Write.contents l.writer) old (seen g.T.TableState l.file) (taken ++ front) l.part l.counts;
+          × AnsweredSoFar l.fn.strict held (g.W.CountedWrite.held l.writer) old (seen g.T.TableState l.file) (taken ++ front) l.part l.counts;
       origin : g.T.TableState.origin l.file.table ≡ g.T.TableState.origin l.fn.file.table;
+      calls : l.calls ≡ l.fn.calls;
     }

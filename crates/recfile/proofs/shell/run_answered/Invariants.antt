@@ -11,7 +11,9 @@ ghost-read_answered g a = g.start
 abbrev pub invariant-loop-turn : goal.invariant-loop-turn
 invariant-loop-turn g l =
     (taken : List ℕ)
-    × Consumes (g.R.Read.remaining l.fn.reader) (g.R.Read.remaining l.reader) taken
-    × AnsweredSoFar l.fn.strict (g.W.Write.contents l.fn.writer) (g.W.Write.contents l.writer) (seen g.T.TableState l.fn.file) (seen g.T.TableState l.file) taken l.part l.counts
+    × Consumes (g.R.CountedRead.left l.fn.reader) (g.R.CountedRead.left l.reader) taken
+    × AnsweredSoFar l.fn.strict (g.W.CountedWrite.held l.fn.writer) (g.W.CountedWrite.held l.writer) (seen g.T.TableState l.fn.file) (seen g.T.TableState l.file) taken l.part l.counts
     × (l.turn ≤ length taken)
     × (g.T.TableState.origin l.file.table ≡ g.T.TableState.origin l.fn.file.table)
+    × (l.calls.read_failed ≡ l.fn.calls.read_failed)
+    × (l.calls.write_failed ≡ l.fn.calls.write_failed)

@@ -4,7 +4,7 @@ use Rattle.recfile.proofs.shell.run_shell.Given as goal
 abbrev pub ghost-run_answered : goal.ghost-run_answered
 ghost-run_answered g a = record {
   strict = a.strict;
-  left = g.R.Read.remaining a.reader.now;
-  held = g.W.Write.contents a.writer.now;
+  left = g.R.CountedRead.left a.reader.now;
+  held = g.W.CountedWrite.held a.writer.now;
   old = seen g.T.TableState a.file.now;
 }

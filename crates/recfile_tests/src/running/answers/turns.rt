@@ -165,13 +165,13 @@ fn each_read_fails_in_turn(rt: HostRuntime) {
         (
             "begin\nbegin\nput 1 a =1\nput 1 a =2\nput 2 c =3\nback 1 0\nlist\n",
             "1\n2\nx\n1\nz\nOk(2)\na=x b=y c=3@2 \n",
-            "Device\nDevice\nDevice\nDevice\nDevice\nErr(Stopped { undone: 0, left: 2, cause: Device })\nOk(2)\nErr(Stopped { undone: 1, left: 1, cause: Device })\nOk(1)\nDevice\n",
+            "Device\nDevice\nDevice\n",
         ),
-        // Taking a claim back reads nothing.
+        // A claim of a key of the root reads nothing, nor does taking one back.
         (
             "begin\nbegin\nclaim 1 b\nclaim 1 a\nclaim 2 d\nback 1 0\nkeys 2\nlog\n",
             "1\n2\ny\nx\n-\nOk(2)\nd \n5\n",
-            "Device\nDevice\nDevice\nDevice\nDevice\n",
+            "Device\nDevice\n",
         ),
     ] {
         let calls = calls_of(&rt, alloc, script);
@@ -423,38 +423,27 @@ fn expect_with_reads(
     }
 }
 
-// Reads 1 to 4 are those of opening, and the last two those of ending the transaction.
-const READS_OF_PUTS: [(u64, &str, u8); 11] = [
+// Reads 1 to 4 are those of opening, which keeps the root; ending the transaction reads nothing.
+const READS_OF_PUTS: [(u64, &str, u8); 7] = [
     (1, "recfile: Device\n", 1),
     (2, "recfile: Device\n", 1),
     (3, "recfile: Device\n", 1),
     (4, "recfile: Device\n", 1),
     (5, "ok 1\nno Device\nok =z\n", 0),
-    (6, "ok 1\nno Device\nok =z\n", 0),
-    (7, "ok 1\nok =x\nno Device\n", 0),
-    (8, "ok 1\nok =x\nno Device\n", 0),
-    (9, "ok 1\nok =x\nok =z\nrecfile: Stopped 1 0 2 Device\n", 4),
-    (10, "ok 1\nok =x\nok =z\nrecfile: Stopped 1 1 1 Device\n", 4),
-    (11, "ok 1\nok =x\nok =z\n", 0),
+    (6, "ok 1\nok =x\nno Device\n", 0),
+    (7, "ok 1\nok =x\nok =z\n", 0),
 ];
 
-// Ending the transaction reads nothing.
-const READS_OF_A_CLAIM: [(u64, &str, u8); 3] = [
+const READS_OF_A_CLAIM: [(u64, &str, u8); 2] = [
     (5, "ok 1\nno Device\n", 0),
-    (6, "ok 1\nno Device\n", 0),
-    (7, "ok 1\nok =x\n", 0),
+    (6, "ok 1\nok =x\n", 0),
 ];
 
-// A strict script ends at a put that is refused and at a rollback that is stopped.
-const STRICT_READS_OF_A_ROLLBACK: [(u64, &str, u8); 4] = [
-    (6, "ok 1\nno Device\nrecfile: Refused 2\n", 3),
-    (7, "ok 1\nok =x\nno Device\nrecfile: Refused 3\n", 3),
-    (
-        9,
-        "ok 1\nok =x\nok =z\nstopped 0 2 Device\nrecfile: Refused 4\n",
-        3,
-    ),
-    (11, "ok 1\nok =x\nok =z\nok 2\nok\n", 0),
+// A strict script ends at a put that is refused.
+const STRICT_READS_OF_A_ROLLBACK: [(u64, &str, u8); 3] = [
+    (5, "ok 1\nno Device\nrecfile: Refused 2\n", 3),
+    (6, "ok 1\nok =x\nno Device\nrecfile: Refused 3\n", 3),
+    (7, "ok 1\nok =x\nok =z\nok 2\nok\n", 0),
 ];
 
 #[test]

@@ -93,3 +93,7 @@ returns-in-Err-measure_file-clause-fault g c = λ steady.
     let fails = c.in-Err-measure_file.ensures.fault (stays_steady g place steady) in
     fails_first (stored g place) (g.S.StoreState.tail c.args.store) c.args.limits.records c.in-Ok.header c.in-Err-measure_file.fault (c.in-Ok.ensures.found steady)
     (subst (λ (limit : ℕ). FailsTree (in_file (stored g place)) c.in-Ok.header limit c.in-Err-measure_file.fault) c.records.ensures.value (subst (λ (f : PageMap). FailsTree f c.in-Ok.header c.records.result c.in-Err-measure_file.fault) (map_is g place) fails))
+
+pub returns-in_ok-without_free-in-Ok-measure_file-clause-no_tail : goal.returns-in_ok-without_free-in-Ok-measure_file-clause-no_tail
+returns-in_ok-without_free-in-Ok-measure_file-clause-no_tail g c =
+    ap (λ (v : PagesView). v.tail) c.in_ok-without_free-in-Ok-measure_file.ensures.freed.rest ∙ ap (λ (v : PagesView). v.tail) c.measure_file.ensures.surveys.store ∙ ap (λ (v : PagesView). v.tail) c.new-pages.ensures.store ∙ c.check_file.ensures.stays.tail ∙ c.in-Ok.ensures.long.1.no_tail

@@ -1,4 +1,4 @@
-use Rattle.std.proofs.Common.{◌≡◌, ◌-◌, ◌<◌, ◌≤◌, ◌⊎◌, ℕ, Some, None, List, length, get_or, drop, ◌+◌, ◌∷◌, [], IsTrue, true, refl, ap, sym, ◌∙◌, subst, arith}
+use Rattle.std.proofs.Common.{◌≡◌, ◌-◌, ◌<◌, ◌≤◌, ◌⊎◌, ℕ, Some, None, IsSome, List, length, get_or, drop, ◌+◌, ◌∷◌, [], IsTrue, true, refl, ap, sym, ◌∙◌, subst, arith}
 use Rattle.std.proofs.lemmas.List.{length-drop}
 use Rattle.std.proofs.lemmas.Result.{err_from_is_err_and}
 use Rattle.page_store.specs.PagesView.{PagesView}
@@ -17,7 +17,7 @@ use Rattle.page_store.specs.PagesView.{is_in_memory}
 use Rattle.btree_insert.specs.Growth.{IsOutside}
 use Rattle.btree_insert.specs.PageTrees.{SpellsIn}
 use Rattle.btree_insert.specs.Spelt.{AreSpeltIn}
-use Rattle.btree_delete.proofs.KeptPageLemmas.{kept_more, in_pages, in_store, outside}
+use Rattle.btree_delete.proofs.KeptPageLemmas.{kept_more, in_pages, in_store, outside, written_second}
 use Rattle.btree_delete.specs.Survey.{SeenSoFar, unreached, AreKept, stored_page, after, below_page, below_sons, Surveyed, Sound, allowed, node_in, sons_from, elements_from}
 use Rattle.btree_delete.proofs.RespellLemmas.{sons_many, Standing, standing, son_first, element_of, element_first, rest_at}
 use Rattle.btree_delete.proofs.SurveyLemmas.{Head, Apiece, with_leaf, leaf_found, inner_found, head, leaf_exact, leaf_after, inner_exact, last_found, last_exact, more_found, more_exact, sons_found, sons_sound, match_ok}
@@ -64,6 +64,20 @@ module _ (g : given.Over) (t : ℕ) (c : survey_page-In_ok-keep_page g t) where
 
   pages_read : stored_page c.keep_page.new.pages ≡ stored_page c.args.pages.now
   pages_read = ap (λ (v : PagesView). stored_page v) c.keep_page.ensures.stays ∙ ap (λ (v : PagesView). stored_page v) c.read_page.ensures.reading.0.unchanged
+
+pub survey_page-keep_page-requires : goal.survey_page-keep_page-requires
+survey_page-keep_page-requires g t c =
+    let same = c.read_page.ensures.reading.0.unchanged in
+    record {
+      stands = c.in_ok-read_page.ensures.stands.stands;
+      written = c.in_ok-read_page.ensures.written;
+      in_use = subst (λ (v : PagesView). IsSome (at v.pages c.args.n)) (sym same) c.in_ok-read_page.ensures.in_use;
+      read = λ other steady.
+          let told = c.in_ok-read_page.ensures.spells (sym (ap (λ (v : PagesView). v.steady) same) ∙ steady) in
+          ap (λ (v : PagesView). at v.pages c.args.n) same ∙ told.page
+          ∙ ap Some (written_second c.args.version (node_in c.args.order c.read_page.new.page) c.args.order other ∙ sym c.in_ok-read_page.ensures.written);
+      unread = ap (λ (v : PagesView). is_in_memory v c.args.n) same ∙ (c.requires.kept.unread c.args.n (c.if-not-reach.ensures.unvisited refl)).1;
+    }
 
 -- a leaf at the head is the whole tree
 module _ (g : given.Over) (t : ℕ) (c : survey_page-In-Leaf g t) where

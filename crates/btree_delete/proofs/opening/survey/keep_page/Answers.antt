@@ -4,6 +4,11 @@ use Rattle.btree_insert.proofs.SpeltLemmas.{spelt_more, spelt_staged}
 use Rattle.btree_delete.specs.Survey.{node_in}
 use Rattle.btree_delete.proofs.opening.survey.keep_page.Goals as goal
 
+pub keep_inner-requires-clause-spelt : goal.keep_inner-requires-clause-spelt
+keep_inner-requires-clause-spelt g c =
+    let node = node_in c.args.order c.args.page.now in
+    (node, stands_written c.args.version node c.args.order c.requires.stands, c.requires.written)
+
 pub returns-clause-spelt : goal.returns-clause-spelt
 returns-clause-spelt g c =
     let node = node_in c.args.order c.args.page.now in

@@ -1,10 +1,12 @@
 use Rattle.std.proofs.Common.{◌≡◌, ◌∙◌, sym, ap, subst, length, List, Bool}
 use Rattle.page_journal.specs.Crash.{KeepsMarked}
 use Rattle.page_journal.specs.Files.{Files}
-use Rattle.page_journal.specs.KeptStores.{IsGuarded}
+use Rattle.page_journal.specs.KeptStores.{IsGuarded, KeptStored, old_file_of}
 use Rattle.page_journal.specs.declared.seal_state.SealState.{SealState}
-use Rattle.page_journal.specs.declared.seal_state.SealState.TheVariants.{Unsealed}
-use Rattle.page_journal.proofs.KeptStoreLemmas.{guarded_stays, flags_may, run_time}
+use Rattle.page_journal.specs.declared.seal_state.SealState.TheVariants.{Unsealed, Sealed}
+use Rattle.page_journal.proofs.KeptStoreLemmas.{guarded_stays, flags_may, run_time, same_guard}
+use Rattle.std.proofs.lemmas.Result.{err_from_is_err_and}
+use Rattle.page_journal.proofs.RefusalLemmas.{passed_on, refused_on}
 use Rattle.page_journal.proofs.kept_store.KeptStore.keep_aside.Goals as goal
 
 pub invariant_of-self-2 : goal.invariant_of-self-2
@@ -13,11 +15,12 @@ invariant_of-self-2 g c = λ after.
     let main = (d.seen c.shape.new.self).main in
     let mid = sym c.seal.ensures.calls.0 ∙ after in
     let before = c.self.invariant (sym c.shape.ensures.does.0.steady ∙ mid) in
-    let unsealed : IsGuarded d Unsealed c.self.inside.kept.items c.self.inside.disk = subst (λ (s : SealState). IsGuarded d s c.self.inside.kept.items c.self.inside.disk) c.in-Unsealed.is before in
-    let asked = guarded_stays d (g.met.D.Disk.counts_now) Unsealed c.self.inside.kept.items c.self.inside.disk c.shape.new.self unsealed c.shape.ensures.does.0 in
+    let was = old_file_of d c.self.inside.disk in
+    let unsealed : IsGuarded d was Unsealed c.self.inside.kept.items c.self.inside.disk = subst (λ (s : SealState). IsGuarded d was s c.self.inside.kept.items c.self.inside.disk) c.in-Unsealed.is before in
+    let asked = guarded_stays d was (g.met.D.Disk.counts_now) Unsealed c.self.inside.kept.items c.self.inside.disk c.shape.new.self unsealed c.shape.ensures.does.0 in
     let sealed = c.in_ok-seal.ensures.sealed mid in
     let kept_long : sealed.0.long ≡ c.in_ok-shape.shape.pages = sealed.3 ∙ ap (λ (f : Files). length f.main.pages) c.shape.ensures.does.0.seen ∙ sym c.in_ok-shape.ensures.pages in
-    record {
+    same_guard d Sealed c.in-Ok.kept.items c.self.inside.disk c.seal.new.disk c.seal.new.disk (c.seal.ensures.calls.2 ∙ c.shape.ensures.does.0.began) (record {
       so = record {
         kept = sealed.0;
         base = main.pages;
@@ -25,5 +28,21 @@ invariant_of-self-2 g c = λ after.
         flags_kept = flags_may sealed.0 c.in-Ok.kept.items (subst (λ (m : List Bool). KeepsMarked m sealed.0) c.deref.ensures.value sealed.4) (kept_long ∙ sym c.in-Ok.ensures.long);
         began = sealed.2 ∙ asked.so.seen;
       };
-      time = run_time d main c.shape.new.self c.seal.new.disk asked.time asked.so.seen (c.seal.ensures.any_moment mid);
-    }
+      time = run_time d was main c.shape.new.self c.seal.new.disk asked.time asked.so.seen (c.seal.ensures.any_moment mid);
+    })
+
+pub returns-in_default-clause-failures : goal.returns-in_default-clause-failures
+returns-in_default-clause-failures g c = refused_on (g.D.DiskState.failures c.self.inside.disk) c.self.inside.refusals _ _ _ c.count_up.ensures (ap (λ (s : KeptStored _). g.D.DiskState.failures s.disk) c.self.view_is) (ap (λ (s : KeptStored _). s.refusals) c.self.view_is)
+
+pub returns-in_err-shape-clause-failures : goal.returns-in_err-shape-clause-failures
+returns-in_err-shape-clause-failures g c =
+    let told = err_from_is_err_and c.from_residual.result c.from_residual.ensures.1 in
+    rw (told.1, told.2) (passed_on _ _ c.self.inside.refusals _ _ _ c.in_err-shape.ensures.does.1.failures (ap (λ (s : KeptStored _). g.D.DiskState.failures s.disk) c.self.view_is) (ap (λ (s : KeptStored _). s.refusals) c.self.view_is))
+
+pub returns-then-shape-gt0-clause-failures : goal.returns-then-shape-gt0-clause-failures
+returns-then-shape-gt0-clause-failures g c = refused_on (g.D.DiskState.failures c.shape.new.self) c.self.inside.refusals _ _ _ c.count_up-then-shape-gt0.ensures (c.in_ok-shape.ensures.does.1.failures ∙ ap (λ (s : KeptStored _). g.D.DiskState.failures s.disk) c.self.view_is) (ap (λ (s : KeptStored _). s.refusals) c.self.view_is)
+
+pub returns-in_err-seal-clause-failures : goal.returns-in_err-seal-clause-failures
+returns-in_err-seal-clause-failures g c =
+    let told = err_from_is_err_and c.from_residual-in_err-seal.result c.from_residual-in_err-seal.ensures.1 in
+    rw (told.1, told.2) (passed_on _ _ c.self.inside.refusals _ _ _ c.in_err-seal.ensures.calls.1.failures (c.in_ok-shape.ensures.does.1.failures ∙ ap (λ (s : KeptStored _). g.D.DiskState.failures s.disk) c.self.view_is) (ap (λ (s : KeptStored _). s.refusals) c.self.view_is))

@@ -1,6 +1,6 @@
 use Rattle.std.proofs.Common.{◌≡◌, ◌∙◌, ap, sym, subst, OnOk}
-use Rattle.page_journal.specs.Files.{recovered}
-use Rattle.page_journal.specs.KeptStores.{KeptStored}
+use Rattle.page_journal.specs.Crash.{StandsFor}
+use Rattle.page_journal.specs.KeptStores.{KeptStored, old_file_of}
 use Rattle.page_journal.proofs.KeptStoreLemmas.{never_foreign, unsealed_main, taken_old, taken_time}
 use Rattle.page_journal.proofs.kept_store.KeptStore.take_back.Goals as goal
 use Rattle.page_journal.proofs.kept_store.KeptStore.take_back.Goals.{in_default, in-Sealed}
@@ -10,27 +10,32 @@ returns-clause-old g c = λ st.
     let d = g.D.DiskState in
     let steady = ap (λ (s : KeptStored _). d.steady s.disk) c.self.view_is ∙ st in
     let i = c.self.invariant steady in
-    elim c.match-state.branch [
-      | in-Sealed w ↦ subst (λ r. OnOk r ((d.seen c.match-state.disk).main ≡ recovered d.began)) (sym w.done-is) (subst (λ e. OnOk w.recover-done.result ((d.seen e).main ≡ recovered d.began)) (sym w.disk-is) (taken_old d c.self.inside.state c.self.inside.kept.items c.self.inside.disk w.recover-done.new.disk w.recover-done.result i w.in-Sealed.is (w.recover-done.ensures.taken_back steady)))
-      | in_default w ↦ subst (λ r. OnOk r ((d.seen c.match-state.disk).main ≡ recovered d.began)) (sym w.done-is) (ap (λ e. (d.seen e).main) w.disk-is ∙ unsealed_main d c.self.inside.state c.self.inside.kept.items c.self.inside.disk i w.in_default.not-Sealed)
-    ]
+    let was = old_file_of d c.self.inside.disk in
+    subst (λ (s : KeptStored _). OnOk c.match-state.done ((d.seen c.match-state.disk).main ≡ old_file_of d s.disk)) c.self.view_is
+    (elim c.match-state.branch [
+      | in-Sealed w ↦ subst (λ r. OnOk r ((d.seen c.match-state.disk).main ≡ was)) (sym w.done-is) (subst (λ e. OnOk w.recover-done.result ((d.seen e).main ≡ was)) (sym w.disk-is) (taken_old d was c.self.inside.state c.self.inside.kept.items c.self.inside.disk w.recover-done.new.disk w.recover-done.result i w.in-Sealed.is (w.recover-done.ensures.taken_back steady)))
+      | in_default w ↦ subst (λ r. OnOk r ((d.seen c.match-state.disk).main ≡ was)) (sym w.done-is) (ap (λ e. (d.seen e).main) w.disk-is ∙ unsealed_main d was c.self.inside.state c.self.inside.kept.items c.self.inside.disk i w.in_default.not-Sealed)
+    ])
 
 pub returns-clause-any_moment : goal.returns-clause-any_moment
 returns-clause-any_moment g c = λ st f left.
     let d = g.D.DiskState in
     let steady = ap (λ (s : KeptStored _). d.steady s.disk) c.self.view_is ∙ st in
     let i = c.self.invariant steady in
-    elim c.match-state.branch [
-      | in-Sealed w ↦ taken_time d c.self.inside.state c.self.inside.kept.items c.self.inside.disk w.recover-done.new.disk i w.in-Sealed.is (w.recover-done.ensures.taken_back_at_any_moment steady) f (subst (λ e. d.left_since e 0 f) w.disk-is left)
+    let was = old_file_of d c.self.inside.disk in
+    subst (λ (s : KeptStored _). StandsFor (old_file_of d s.disk) f) c.self.view_is
+    (elim c.match-state.branch [
+      | in-Sealed w ↦ taken_time d was c.self.inside.state c.self.inside.kept.items c.self.inside.disk w.recover-done.new.disk i w.in-Sealed.is (w.recover-done.ensures.taken_back_at_any_moment steady) f (subst (λ e. d.left_since e 0 f) w.disk-is left)
       | in_default w ↦ i.time f (subst (λ e. d.left_since e 0 f) w.disk-is left)
-    ]
+    ])
 
 pub returns-clause-fault : goal.returns-clause-fault
 returns-clause-fault g c = λ st bad.
     let d = g.D.DiskState in
     let steady = ap (λ (s : KeptStored _). d.steady s.disk) c.self.view_is ∙ st in
     let i = c.self.invariant steady in
+    let was = old_file_of d c.self.inside.disk in
     elim c.match-state.branch [
-      | in-Sealed w ↦ never_foreign d c.self.inside.state c.self.inside.kept.items c.self.inside.disk i w.in-Sealed.is (w.recover-done.ensures.bad_journal steady (sym w.done-is ∙ bad))
+      | in-Sealed w ↦ never_foreign d was c.self.inside.state c.self.inside.kept.items c.self.inside.disk i w.in-Sealed.is (w.recover-done.ensures.bad_journal steady (sym w.done-is ∙ bad))
       | in_default w ↦ absurd (cc)
     ]

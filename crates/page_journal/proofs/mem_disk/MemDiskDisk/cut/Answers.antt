@@ -3,4 +3,4 @@ use Rattle.page_journal.proofs.MemDiskLemmas.{cuts}
 use Rattle.page_journal.proofs.mem_disk.MemDiskDisk.cut.Goals as goal
 
 pub returns-clause-does : goal.returns-clause-does
-returns-clause-does g c = (cuts g.B.Beginning.files c.args.n c.note.result c.args.self.now c.note.new.self c.note.ensures.ok c.note.ensures.err, search rules)
+returns-clause-does c = (cuts c.args.n c.note.result c.args.self.now c.note.new.self c.note.ensures.ok c.note.ensures.err, search rules)

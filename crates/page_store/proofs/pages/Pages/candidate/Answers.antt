@@ -9,14 +9,14 @@ use Rattle.page_store.proofs.pages.Pages.candidate.Goals as goal
 pub returns-clause-value : goal.returns-clause-value
 returns-clause-value g c =
     c.nth_number.ensures.value
-    ∙ sym (candidate_of _ _ _ _ _ c.args.i c.self.invariant c.nth_number.ensures.ordered)
+    ∙ sym (candidate_of _ _ _ _ _ c.args.i c.self.invariant.0 c.nth_number.ensures.ordered)
     ∙ ap (λ (v : PagesView). candidate v.pages c.args.i) c.self.view_is
 
 pub returns-clause-some : goal.returns-clause-some
 returns-clause-some g c =
     let value =
     c.nth_number.ensures.value
-    ∙ sym (candidate_of _ _ _ _ _ c.args.i c.self.invariant c.nth_number.ensures.ordered)
+    ∙ sym (candidate_of _ _ _ _ _ c.args.i c.self.invariant.0 c.nth_number.ensures.ordered)
     ∙ ap (λ (v : PagesView). candidate v.pages c.args.i) c.self.view_is in
     let size : c.self.inside.count ≡ length c.args.self.now.pages = sym (length-pages_of _ _ _ _) ∙ ap (λ (v : PagesView). length v.pages) c.self.view_is in
-    omega (arith, value, candidate_is_some c.args.self.now.pages c.args.i (omega (arith, size, c.self.invariant.some)))
+    omega (arith, value, candidate_is_some c.args.self.now.pages c.args.i (omega (arith, size, c.self.invariant.0.some)))

@@ -9,7 +9,7 @@ use Rattle.page_store.proofs.pages.Pages.changed.Goals as goal
 pub returns-clause-idle : goal.returns-clause-idle
 returns-clause-idle g c = λ idle n.
     subst (λ (v : PagesView). is_in_memory v n ≡ false) c.self.view_is
-    (none_in_memory (slots_of c.self.inside.changed.items) c.self.inside.free.keys c.self.inside.count n (c.self.invariant.idle (ap (λ (v : PagesView). v.changed) c.self.view_is ∙ idle) n))
+    (none_in_memory (slots_of c.self.inside.changed.items) c.self.inside.free.keys c.self.inside.count n (c.self.invariant.0.idle (ap (λ (v : PagesView). v.changed) c.self.view_is ∙ idle) n))
 
 pub returns-clause-in_use : goal.returns-clause-in_use
 returns-clause-in_use g c = λ n.
@@ -24,7 +24,7 @@ returns-clause-stored g c = λ n.
 pub returns-clause-fits : goal.returns-clause-fits
 returns-clause-fits g c =
     let long = length-pages_of (g.S.StoreState.pages c.self.inside.store) (slots_of c.self.inside.changed.items) c.self.inside.free.keys c.self.inside.count in
-    let few = c.self.invariant.store_fits in
+    let few = c.self.invariant.0.store_fits in
     subst (λ (v : PagesView). length v.stored ≤ length v.pages) c.self.view_is (omega arith)
 
 pub returns-clause-value : goal.returns-clause-value

@@ -39,7 +39,7 @@ module _ (g : given.Over) (c : After-read-arg-2-1 g) where
   stored = in_view c.args.self.now _ c.args.n _ (ap (λ (v : PagesView). v.pages) c.self.view_is) (from_store _ _ _ _ c.args.n (c.is_in_use.ensures.0 c.if-not-is_in_use.false) no_slot)
 
   some : at c.args.self.now.pages c.args.n ≡ None → ⊥
-  some none = stored_in_use (g.S.StoreState.pages c.self.inside.store) _ _ _ c.args.n _ c.self.invariant (c.is_in_use.ensures.0 c.if-not-is_in_use.false) no_slot (sym stored ∙ none)
+  some none = stored_in_use (g.S.StoreState.pages c.self.inside.store) _ _ _ c.args.n _ c.self.invariant.0 (c.is_in_use.ensures.0 c.if-not-is_in_use.false) no_slot (sym stored ∙ none)
 
   not_in_memory : is_in_memory c.args.self.now c.args.n ≡ false
   not_in_memory = ap (λ (v : PagesView). is_in_memory v c.args.n) (sym c.self.view_is) ∙ slot_in_memory (slots_of c.self.inside.changed.items) c.self.inside.free.keys c.self.inside.count c.args.n (c.is_in_use.ensures.0 c.if-not-is_in_use.false) ∙ ap is_some (sym no_slot)

@@ -4,7 +4,9 @@ use Rattle.page_store.specs.PagesView.{PagesView, is_in_memory}
 use Rattle.page_store.specs.PageMap.{at, after, is_written, is_freed}
 use Rattle.page_store.specs.FreeNumbers.{free_numbers, count_after}
 use Rattle.page_store.specs.CanStage.{CanStage}
+use Rattle.page_store.specs.Guards.{Guard}
 use Rattle.page_store.specs.Journal.{Journal}
+use Rattle.page_store.specs.Opening.{Opening}
 use Rattle.page_store.specs.Overlaid.{slots_of, is_among, pages_of}
 use Rattle.page_store.specs.Slots.{put_slots}
 use Rattle.page_store.proofs.NewestPageLemmas.{length-pages_of}
@@ -16,11 +18,11 @@ use Rattle.page_store.proofs.pages.Pages.stage.Given as given
 use Rattle.page_store.proofs.pages.Pages.stage.Goals as goal
 use Rattle.page_store.proofs.pages.Pages.stage.Goals.{After-saturating_sub, After-drop_pages}
 
-unchanged_on_err : {A E : Type 0} (r : Result A E) (v : PagesView) (new old : List (Option (List ℕ))) (new_in old_in : List Bool) (changed : Bool) (stored : List (List ℕ)) (tail : ℕ) (steady : Bool) (reads shapes writes failures : ℕ) (journal : Option Journal) → new ≡ old → new_in ≡ old_in → ◌≡◌ {A = PagesView} (record { pages = old; changed = changed; in_memory = old_in; stored = stored; tail = tail; steady = steady; reads = reads; shapes = shapes; writes = writes; failures = failures; journal = journal }) v → OnErr r (◌≡◌ {A = PagesView} (record { pages = new; changed = changed; in_memory = new_in; stored = stored; tail = tail; steady = steady; reads = reads; shapes = shapes; writes = writes; failures = failures; journal = journal }) v)
-unchanged_on_err (Ok x) v new old new_in old_in changed stored tail steady reads shapes writes failures journal same same_in is = tt
-unchanged_on_err (Err e) v new old new_in old_in changed stored tail steady reads shapes writes failures journal same same_in is =
-    let still : ◌≡◌ {A = PagesView} (record { pages = new; changed = changed; in_memory = new_in; stored = stored; tail = tail; steady = steady; reads = reads; shapes = shapes; writes = writes; failures = failures; journal = journal }) (record { pages = old; changed = changed; in_memory = old_in; stored = stored; tail = tail; steady = steady; reads = reads; shapes = shapes; writes = writes; failures = failures; journal = journal }) =
-    λ i. record { pages = same i; changed = changed; in_memory = same_in i; stored = stored; tail = tail; steady = steady; reads = reads; shapes = shapes; writes = writes; failures = failures; journal = journal } in
+unchanged_on_err : {A E : Type 0} (r : Result A E) (v : PagesView) (new old : List (Option (List ℕ))) (new_in old_in : List Bool) (changed : Bool) (stored : List (List ℕ)) (tail : ℕ) (steady : Bool) (opening : Opening) (reads shapes writes failures : ℕ) (journal : Option Journal) (guard : Guard) → new ≡ old → new_in ≡ old_in → ◌≡◌ {A = PagesView} (record { pages = old; changed = changed; in_memory = old_in; stored = stored; tail = tail; steady = steady; opening = opening; reads = reads; shapes = shapes; writes = writes; failures = failures; journal = journal; guard = guard }) v → OnErr r (◌≡◌ {A = PagesView} (record { pages = new; changed = changed; in_memory = new_in; stored = stored; tail = tail; steady = steady; opening = opening; reads = reads; shapes = shapes; writes = writes; failures = failures; journal = journal; guard = guard }) v)
+unchanged_on_err (Ok x) v new old new_in old_in changed stored tail steady opening reads shapes writes failures journal guard same same_in is = tt
+unchanged_on_err (Err e) v new old new_in old_in changed stored tail steady opening reads shapes writes failures journal guard same same_in is =
+    let still : ◌≡◌ {A = PagesView} (record { pages = new; changed = changed; in_memory = new_in; stored = stored; tail = tail; steady = steady; opening = opening; reads = reads; shapes = shapes; writes = writes; failures = failures; journal = journal; guard = guard }) (record { pages = old; changed = changed; in_memory = old_in; stored = stored; tail = tail; steady = steady; opening = opening; reads = reads; shapes = shapes; writes = writes; failures = failures; journal = journal; guard = guard }) =
+    λ i. record { pages = same i; changed = changed; in_memory = same_in i; stored = stored; tail = tail; steady = steady; opening = opening; reads = reads; shapes = shapes; writes = writes; failures = failures; journal = journal; guard = guard } in
     still ∙ is
 
 needed_all : (seen writes : List (ℕ × List ℕ)) (needed count : ℕ) → needed ≡ (if eqb (length seen) 0 then 0 else count) → seen ≡ writes → 0 < length writes → needed ≡ count
@@ -61,7 +63,7 @@ module _ (g : given.Over) (c : After-drop_pages g) where
       → IsStaged (g.S.StoreState.pages c.self.inside.store) (slots_of c.self.inside.changed.items) c.self.inside.free.keys c.self.inside.count c.args.edit.writes.items c.args.edit.freed.items (slots_of c.drop_pages.new.changed.items) c.write_pages.new.free.keys (c.self.inside.count + c.saturating_sub.result)
   in_place edit_allowed =
       let grown = edit_allowed.grown in
-      is_staged _ _ _ _ _ c.self.invariant c.args.edit.writes.items c.args.edit.taken c.args.edit.freed.items edit_allowed.can
+      is_staged _ _ _ _ _ c.self.invariant.0 c.args.edit.writes.items c.args.edit.taken c.args.edit.freed.items edit_allowed.can
       (slots_of c.make_slots.new.changed.items) (slots_of c.drop_pages.new.changed.items) c.add_all.new.free.keys _ _ grown
       c.make_slots.ensures.same (λ some. let needed = needed_all _ _ _ _ c.slots_needed.ensures c.deref-3.ensures.value some in omega (arith, c.in_ok-make_slots.ensures.long, length-slots_of c.make_slots.new.changed.items))
       (λ q kept. c.drop_pages.ensures q (ap (λ (freed : List ℕ). is_freed freed q) c.deref-6.ensures.value ∙ kept) ∙ c.write_pages.ensures.slots q ∙ ap (λ (writes : List (ℕ × List ℕ)). at (put_slots (slots_of c.make_slots.new.changed.items) writes) q) c.deref-5.ensures.value)
@@ -70,23 +72,23 @@ module _ (g : given.Over) (c : After-drop_pages g) where
 
 pub invariant_of-self : goal.invariant_of-self
 invariant_of-self g c =
-    are_stay _ _ _ _ _ c.self.invariant (slots_of c.make_slots.new.changed.items) c.self.inside.free.keys c.make_slots.ensures.same (λ _. refl)
+    (are_stay _ _ _ _ _ c.self.invariant.0 (slots_of c.make_slots.new.changed.items) c.self.inside.free.keys c.make_slots.ensures.same (λ _. refl), c.self.invariant.1)
 
 pub returns-in_err-make_slots-clause-err : goal.returns-in_err-make_slots-clause-err
 returns-in_err-make_slots-clause-err g c =
-    unchanged_on_err _ c.args.self.now _ _ _ _ _ _ _ _ _ _ _ _ _
-    (pages_stay _ _ _ _ _ c.self.invariant (slots_of c.make_slots.new.changed.items) c.self.inside.free.keys c.make_slots.ensures.same (λ _. refl))
+    unchanged_on_err _ c.args.self.now _ _ _ _ _ _ _ _ _ _ _ _ _ _ _
+    (pages_stay _ _ _ _ _ c.self.invariant.0 (slots_of c.make_slots.new.changed.items) c.self.inside.free.keys c.make_slots.ensures.same (λ _. refl))
     (memory_stays (slots_of c.self.inside.changed.items) (slots_of c.make_slots.new.changed.items) c.self.inside.free.keys c.self.inside.free.keys c.self.inside.count c.make_slots.ensures.same (λ _. refl)) c.self.view_is
 
 pub add_all-requires : goal.add_all-requires
 add_all-requires g c = λ q here.
-    freed_not_free _ _ _ _ _ c.self.invariant c.args.edit.writes.items c.args.edit.taken c.args.edit.freed.items
+    freed_not_free _ _ _ _ _ c.self.invariant.0 c.args.edit.writes.items c.args.edit.taken c.args.edit.freed.items
     (allowed g (goal.at.add_all-requires g c).After-saturating_sub).can
     q (ap (λ (freed : List ℕ). is_freed freed q) (sym c.deref-4.ensures.value) ∙ here)
 
 pub invariant_of-self-in_err-add_all : goal.invariant_of-self-in_err-add_all
 invariant_of-self-in_err-add_all g c =
-    are_stay _ _ _ _ _ c.self.invariant (slots_of c.make_slots.new.changed.items) c.add_all.new.free.keys c.make_slots.ensures.same c.in_err-add_all.ensures.err
+    (are_stay _ _ _ _ _ c.self.invariant.0 (slots_of c.make_slots.new.changed.items) c.add_all.new.free.keys c.make_slots.ensures.same c.in_err-add_all.ensures.err, c.self.invariant.1)
 
 pub write_pages-requires : goal.write_pages-requires
 write_pages-requires g c =
@@ -94,7 +96,7 @@ write_pages-requires g c =
     let grown = edit_allowed.grown in
     record {
       fits = subst (λ (writes : List (ℕ × List ℕ)). All (λ (w : ℕ × List ℕ). w.0 < length c.make_slots.new.changed.items) writes) (sym c.deref-5.ensures.value)
-          (written_fit _ _ _ _ _ c.self.invariant c.args.edit.writes.items c.args.edit.taken c.args.edit.freed.items edit_allowed.can
+          (written_fit _ _ _ _ _ c.self.invariant.0 c.args.edit.writes.items c.args.edit.taken c.args.edit.freed.items edit_allowed.can
           (length c.make_slots.new.changed.items) (λ some. let needed = needed_all _ _ _ _ c.slots_needed.ensures c.deref-3.ensures.value some in omega (arith, grown, c.in_ok-make_slots.ensures.long)));
       new = λ n.
           c.in_ok-new.ensures.pages n
@@ -104,14 +106,14 @@ write_pages-requires g c =
 
 pub returns-in_err-add_all-clause-err : goal.returns-in_err-add_all-clause-err
 returns-in_err-add_all-clause-err g c =
-    unchanged_on_err _ c.args.self.now _ _ _ _ _ _ _ _ _ _ _ _ _
-    (pages_stay _ _ _ _ _ c.self.invariant (slots_of c.make_slots.new.changed.items) c.add_all.new.free.keys c.make_slots.ensures.same c.in_err-add_all.ensures.err)
+    unchanged_on_err _ c.args.self.now _ _ _ _ _ _ _ _ _ _ _ _ _ _ _
+    (pages_stay _ _ _ _ _ c.self.invariant.0 (slots_of c.make_slots.new.changed.items) c.add_all.new.free.keys c.make_slots.ensures.same c.in_err-add_all.ensures.err)
     (memory_stays (slots_of c.self.inside.changed.items) (slots_of c.make_slots.new.changed.items) c.self.inside.free.keys c.add_all.new.free.keys c.self.inside.count c.make_slots.ensures.same c.in_err-add_all.ensures.err) c.self.view_is
 
 pub invariant_of-self-2 : goal.invariant_of-self-2
 invariant_of-self-2 g c =
     let places = goal.at.invariant_of-self-2 g c in
-    (in_place g places.After-drop_pages (allowed g places.After-saturating_sub)).are
+    ((in_place g places.After-drop_pages (allowed g places.After-saturating_sub)).are, c.self.invariant.1)
 
 pub returns-clause-pages : goal.returns-clause-pages
 returns-clause-pages g c = λ n.

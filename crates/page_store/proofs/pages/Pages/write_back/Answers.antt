@@ -13,6 +13,8 @@ use Rattle.page_store.specs.Growth.{GrowsTo}
 use Rattle.page_store.specs.Overlaid.{slots_of, pages_of}
 use Rattle.page_store.specs.WriteFaults.{by_device, told}
 use Rattle.page_store.specs.WritingBack.{to_write, in_memory_of, AreStored, KeepsOthers, Stopped}
+use Rattle.page_store.specs.Guards.{Guard, AllowsAll}
+use Rattle.page_store.specs.declared.step.Step.{Step}
 use Rattle.page_store.specs.Journal.{noted, NotesFront, writing_back}
 use Rattle.page_store.proofs.JournalLemmas.{writing_alike}
 use Rattle.page_store.proofs.InMemoryLemmas.{none_in_memory, many_in_memory, written_in_memory}
@@ -49,7 +51,7 @@ module _ (g : given.Over) (c : In-Err g) where
   stopped_leaves = leaves_in _ _ c.self.inside.free.keys _ _ _ c.deref.ensures.value c.write_out-written.ensures.others
 
   same_pages : pages_of (g.S.StoreState.pages c.write_out-written.new.store) (slots_of c.self.inside.changed.items) c.self.inside.free.keys c.self.inside.count ≡ c.args.self.now.pages
-  same_pages = pages_kept _ _ _ _ _ c.self.invariant _ stopped_leaves ∙ ap (λ (v : PagesView). v.pages) c.self.view_is
+  same_pages = pages_kept _ _ _ _ _ c.self.invariant.0 _ stopped_leaves ∙ ap (λ (v : PagesView). v.pages) c.self.view_is
 
 -- what a whole one leaves
 module _ (g : given.Over) (c : After-clear-arg-1 g) where
@@ -84,21 +86,23 @@ returns-in-Err-clause-err g c =
       stored = g.S.StoreState.pages c.write_out-written.new.store;
       tail = g.S.StoreState.tail c.write_out-written.new.store;
       steady = (c.write_out-written.ensures.carries.steady ∙ ap (λ (v : PagesView). v.steady) c.self.view_is) i;
+      opening = (c.write_out-written.ensures.carries.opening ∙ ap (λ (v : PagesView). v.opening) c.self.view_is) i;
       reads = (c.write_out-written.ensures.carries.reads ∙ ap (λ (v : PagesView). v.reads) c.self.view_is) i;
       shapes = (c.write_out-written.ensures.carries.shapes ∙ ap (λ (v : PagesView). v.shapes) c.self.view_is) i;
       writes = g.S.StoreState.writes c.write_out-written.new.store;
       failures = g.S.StoreState.failures c.write_out-written.new.store;
       journal = g.S.StoreState.journal c.write_out-written.new.store;
+      guard = g.S.StoreState.guard c.write_out-written.new.store;
     }
 
 pub returns-in-Err-clause-others : goal.returns-in-Err-clause-others
 returns-in-Err-clause-others g c =
-    subst (λ (v : PagesView). KeepsOthers (at v.pages) (length v.pages) v.stored (g.S.StoreState.pages c.write_out-written.new.store)) c.self.view_is (leaves_pages _ _ _ _ _ c.self.invariant _ (stopped_leaves g (goal.at.returns-in-Err-clause-others g c).In-Err))
+    subst (λ (v : PagesView). KeepsOthers (at v.pages) (length v.pages) v.stored (g.S.StoreState.pages c.write_out-written.new.store)) c.self.view_is (leaves_pages _ _ _ _ _ c.self.invariant.0 _ (stopped_leaves g (goal.at.returns-in-Err-clause-others g c).In-Err))
 
 pub returns-in-Err-clause-stopped : goal.returns-in-Err-clause-stopped
 returns-in-Err-clause-stopped g c = λ steady.
     let stopped = subst (λ (xs : List (Option (Box (List ℕ) Global))). Stopped (to_write (slots_of xs) c.self.inside.free.keys c.self.inside.count) c.args.writing.now (g.S.StoreState.pages c.self.inside.store) (g.S.StoreState.pages c.write_out-written.new.store)) c.deref.ensures.value (c.in-Err.ensures.stopped (ap (λ (v : PagesView). v.steady) c.self.view_is ∙ steady)) in
-    subst (λ (v : PagesView). Stopped (at v.pages) c.args.writing.now v.stored (g.S.StoreState.pages c.write_out-written.new.store)) c.self.view_is (stopped_pages _ _ _ _ _ c.self.invariant _ (stopped_leaves g (goal.at.returns-in-Err-clause-stopped g c).In-Err) c.args.writing.now stopped)
+    subst (λ (v : PagesView). Stopped (at v.pages) c.args.writing.now v.stored (g.S.StoreState.pages c.write_out-written.new.store)) c.self.view_is (stopped_pages _ _ _ _ _ c.self.invariant.0 _ (stopped_leaves g (goal.at.returns-in-Err-clause-stopped g c).In-Err) c.args.writing.now stopped)
 
 pub returns-in-Err-clause-memory : goal.returns-in-Err-clause-memory
 returns-in-Err-clause-memory g c = λ same.
@@ -114,18 +118,18 @@ returns-clause-count g c =
 pub returns-clause-stored : goal.returns-clause-stored
 returns-clause-stored g c = λ steady.
     let place = (goal.at.returns-clause-stored g c).After-clear-arg-1 in
-    subst (λ (v : PagesView). AreStored (at v.pages) (g.S.StoreState.pages c.write_out-written.new.store)) c.self.view_is (all_stored _ _ _ _ _ c.self.invariant _ (leaves g place) (put g place steady))
+    subst (λ (v : PagesView). AreStored (at v.pages) (g.S.StoreState.pages c.write_out-written.new.store)) c.self.view_is (all_stored _ _ _ _ _ c.self.invariant.0 _ (leaves g place) (put g place steady))
 
 pub returns-clause-unwritten : goal.returns-clause-unwritten
 returns-clause-unwritten g c =
     let same = subst (λ (xs : List (Option (Box (List ℕ) Global))). (n : ℕ) → n ≢ 0 → to_write (slots_of xs) c.self.inside.free.keys c.self.inside.count n ≡ None → slice_get (g.S.StoreState.pages c.write_out-written.new.store) n ≡ slice_get (g.S.StoreState.pages c.self.inside.store ++ blanks (c.self.inside.count - length (g.S.StoreState.pages c.self.inside.store))) n) c.deref.ensures.value c.in_default.ensures.unwritten in
-    subst (λ (v : PagesView). (n : ℕ) → n ≢ 0 → at v.pages n ≡ None → slice_get (g.S.StoreState.pages c.write_out-written.new.store) n ≡ slice_get (v.stored ++ blanks (length v.pages - length v.stored)) n) c.self.view_is (unwritten_pages _ _ _ _ _ c.self.invariant _ (leaves g (goal.at.returns-clause-unwritten g c).After-clear-arg-1) same)
+    subst (λ (v : PagesView). (n : ℕ) → n ≢ 0 → at v.pages n ≡ None → slice_get (g.S.StoreState.pages c.write_out-written.new.store) n ≡ slice_get (v.stored ++ blanks (length v.pages - length v.stored)) n) c.self.view_is (unwritten_pages _ _ _ _ _ c.self.invariant.0 _ (leaves g (goal.at.returns-clause-unwritten g c).After-clear-arg-1) same)
 
 pub returns-clause-pages : goal.returns-clause-pages
 returns-clause-pages g c = λ steady.
     let place = (goal.at.returns-clause-pages g c).After-clear-arg-1 in
     ap (λ (xs : List (Option (Box (List ℕ) Global))). pages_of (g.S.StoreState.pages c.write_out-written.new.store) (slots_of xs) c.self.inside.free.keys c.self.inside.count) c.clear.ensures.items
-    ∙ pages_dropped _ _ _ _ _ c.self.invariant _ (leaves g place) c.in_default.ensures.long.count (put g place steady)
+    ∙ pages_dropped _ _ _ _ _ c.self.invariant.0 _ (leaves g place) c.in_default.ensures.long.count (put g place steady)
     ∙ ap (λ (v : PagesView). v.pages) c.self.view_is
 
 pub returns-clause-same_count : goal.returns-clause-same_count
@@ -135,18 +139,18 @@ returns-clause-same_count g c =
 pub returns-clause-same_free : goal.returns-clause-same_free
 returns-clause-same_free g c =
     ap (λ (xs : List (Option (Box (List ℕ) Global))). free_numbers (pages_of (g.S.StoreState.pages c.write_out-written.new.store) (slots_of xs) c.self.inside.free.keys c.self.inside.count)) c.clear.ensures.items
-    ∙ same_free _ _ _ _ _ c.self.invariant _ (leaves g (goal.at.returns-clause-same_free g c).After-clear-arg-1) c.in_default.ensures.long.count
+    ∙ same_free _ _ _ _ _ c.self.invariant.0 _ (leaves g (goal.at.returns-clause-same_free g c).After-clear-arg-1) c.in_default.ensures.long.count
     ∙ ap (λ (v : PagesView). free_numbers v.pages) c.self.view_is
 
 pub returns-clause-same_use : goal.returns-clause-same_use
 returns-clause-same_use g c = λ n.
     ap (λ (xs : List (Option (Box (List ℕ) Global))). is_some (at (pages_of (g.S.StoreState.pages c.write_out-written.new.store) (slots_of xs) c.self.inside.free.keys c.self.inside.count) n)) c.clear.ensures.items
-    ∙ same_use _ _ _ _ _ c.self.invariant _ (leaves g (goal.at.returns-clause-same_use g c).After-clear-arg-1) c.in_default.ensures.long.count n
+    ∙ same_use _ _ _ _ _ c.self.invariant.0 _ (leaves g (goal.at.returns-clause-same_use g c).After-clear-arg-1) c.in_default.ensures.long.count n
     ∙ ap (λ (v : PagesView). is_some (at v.pages n)) c.self.view_is
 
 pub returns-clause-others : goal.returns-clause-others
 returns-clause-others g c =
-    subst (λ (v : PagesView). KeepsOthers (at v.pages) (length v.pages) v.stored (g.S.StoreState.pages c.write_out-written.new.store)) c.self.view_is (leaves_pages _ _ _ _ _ c.self.invariant _ (leaves g (goal.at.returns-clause-others g c).After-clear-arg-1))
+    subst (λ (v : PagesView). KeepsOthers (at v.pages) (length v.pages) v.stored (g.S.StoreState.pages c.write_out-written.new.store)) c.self.view_is (leaves_pages _ _ _ _ _ c.self.invariant.0 _ (leaves g (goal.at.returns-clause-others g c).After-clear-arg-1))
 
 pub returns-in-Err-clause-writes_err : goal.returns-in-Err-clause-writes_err
 returns-in-Err-clause-writes_err g c =
@@ -173,6 +177,21 @@ steps_in v stored seen items free count writing clean same pages memory =
     ap (λ (xs : List (Option (Box (List ℕ) Global))). writing_back (to_write (slots_of xs) free count) count writing clean) same
     ∙ writing_alike (to_write (slots_of items) free count) (memory_pages v) count (length v.pages) writing clean (sym (length-pages_of stored (slots_of items) free count) ∙ ap (λ (ps : List (Option (List ℕ))). length ps) pages)
     (λ n. written_in_memory stored (slots_of items) free count n ∙ ap (λ (bs : List Bool). if get_or bs n false then at (pages_of stored (slots_of items) free count) n else None) memory ∙ ap (λ (ps : List (Option (List ℕ))). if get_or v.in_memory n false then at ps n else None) pages)
+
+-- the guard stays where the pages in memory are allowed
+stays_allowed : (v : PagesView) (steps other : List Step) (old new : Guard) → steps ≡ other → old ≡ v.guard → (AllowsAll old steps → new ≡ old) → AllowsAll v.guard other → new ≡ v.guard
+stays_allowed v steps other old new same is passes all =
+    passes (subst (AllowsAll old) (sym same) (subst (λ (k : Guard). AllowsAll k other) (sym is) all)) ∙ is
+
+pub returns-in-Err-clause-allowed : goal.returns-in-Err-clause-allowed
+returns-in-Err-clause-allowed g c =
+    let all = steps_in c.args.self.now (g.S.StoreState.pages c.self.inside.store) _ c.self.inside.changed.items c.self.inside.free.keys c.self.inside.count c.args.writing.now c.args.clean.now c.deref.ensures.value (ap (λ (v : PagesView). v.pages) c.self.view_is) (ap (λ (v : PagesView). v.in_memory) c.self.view_is) in
+    stays_allowed c.args.self.now _ _ _ _ all (ap (λ (v : PagesView). v.guard) c.self.view_is) c.write_out-written.ensures.carries.guard
+
+pub returns-clause-allowed : goal.returns-clause-allowed
+returns-clause-allowed g c =
+    let all = steps_in c.args.self.now (g.S.StoreState.pages c.self.inside.store) _ c.self.inside.changed.items c.self.inside.free.keys c.self.inside.count c.args.writing.now c.args.clean.now c.deref.ensures.value (ap (λ (v : PagesView). v.pages) c.self.view_is) (ap (λ (v : PagesView). v.in_memory) c.self.view_is) in
+    stays_allowed c.args.self.now _ _ _ _ all (ap (λ (v : PagesView). v.guard) c.self.view_is) c.write_out-written.ensures.carries.guard
 
 pub returns-in-Err-clause-journal_err : goal.returns-in-Err-clause-journal_err
 returns-in-Err-clause-journal_err g c =

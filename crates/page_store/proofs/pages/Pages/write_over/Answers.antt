@@ -1,4 +1,4 @@
-use Rattle.std.proofs.Common.{◌≡◌, ℕ, Bool, true, false, List, length, Option, get_or, ap, sym, ◌∙◌, subst}
+use Rattle.std.proofs.Common.{ℕ, false, List, length, Option, get_or, ap, sym, ◌∙◌, subst}
 use Rattle.page_store.specs.PagesView.{PagesView, is_in_memory}
 use Rattle.page_store.specs.PageMap.{at, write_page}
 use Rattle.page_store.specs.Overlaid.{slots_of, ArePages, pages_of}
@@ -20,9 +20,11 @@ module _ (g : given.Over) (c : After-write_one_over g) where
 
 pub invariant_of-self : goal.invariant_of-self
 invariant_of-self g c =
-    let stored = g.S.StoreState.pages c.self.inside.store in
-    subst (λ (slots : List (Option (List ℕ))). ArePages stored slots c.self.inside.free.keys c.self.inside.count c.self.inside.edited) (sym c.write_one_over.ensures)
-    (are_over stored (slots_of c.self.inside.changed.items) c.self.inside.free.keys c.self.inside.count c.args.n c.args.page.now (lies g (goal.at.invariant_of-self g c).After-write_one_over) c.self.inside.edited c.self.invariant)
+    let stored = g.S.StoreState.pages c.self.inside.store in (
+      subst (λ (slots : List (Option (List ℕ))). ArePages stored slots c.self.inside.free.keys c.self.inside.count c.self.inside.edited) (sym c.write_one_over.ensures)
+          (are_over stored (slots_of c.self.inside.changed.items) c.self.inside.free.keys c.self.inside.count c.args.n c.args.page.now (lies g (goal.at.invariant_of-self g c).After-write_one_over) c.self.inside.edited c.self.invariant.0),
+      c.self.invariant.1,
+    )
 
 pub returns-clause-pages : goal.returns-clause-pages
 returns-clause-pages g c = λ q.
@@ -47,4 +49,4 @@ returns-clause-in_memory g c = λ q.
 
 pub returns-clause-changed : goal.returns-clause-changed
 returns-clause-changed g c =
-    was_changed (g.S.StoreState.pages c.self.inside.store) (slots_of c.self.inside.changed.items) c.self.inside.free.keys c.self.inside.count c.args.n c.args.page.now (lies g (goal.at.returns-clause-changed g c).After-write_one_over) c.self.inside.edited c.self.invariant
+    was_changed (g.S.StoreState.pages c.self.inside.store) (slots_of c.self.inside.changed.items) c.self.inside.free.keys c.self.inside.count c.args.n c.args.page.now (lies g (goal.at.returns-clause-changed g c).After-write_one_over) c.self.inside.edited c.self.invariant.0

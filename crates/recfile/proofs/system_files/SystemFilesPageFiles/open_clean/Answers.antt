@@ -1,4 +1,5 @@
 use Rattle.std.proofs.Common.{None, refl}
+use Rattle.page_journal.specs.Files.{no_commits}
 use Rattle.page_journal.specs.Steps.{nothing_kept}
 use Rattle.recfile.proofs.system_files.SystemFilesPageFiles.open_clean.Goals as goal
 
@@ -9,6 +10,7 @@ returns g c = record {
       main = record { pages = c.in_ok-store.store.pages; tail = c.in_ok-store.store.tail };
       fresh = nothing_kept 0;
       side = None;
+      commits = no_commits;
     };
     at = record {};
     main = refl;

@@ -1,5 +1,6 @@
 use Rattle.std.proofs.Common.{rules, Some, None, refl, ap, ◌∙◌}
 use Rattle.record_file.specs.Abstract.{OpenFile}
+use Rattle.record_file.specs.Seen.{seen}
 use Rattle.record_file.proofs.AskedLemmas.{undo_none, undo_then}
 use Rattle.record_file.proofs.RollbackLemmas.{rolled_none, rolled_some, rolled_more, rolled_out, rolled_all}
 use Rattle.record_file.proofs.TableCallLemmas.{changes_none, changes_then}
@@ -17,7 +18,7 @@ loop-undone-preserved g c = record {
   total = c.loop-undone.invariant.total;
   refusals = c.in_default.ensures.memory ∙ c.loop-undone.invariant.refusals;
   changes = changes_then g.T.TableState c.args.self.now c.loop-undone.self c.take_one_back.new.self None c.loop-undone.invariant.changes c.in_default.ensures.table;
-  asks = undo_then g.T.TableState c.args.self.now c.loop-undone.self c.take_one_back.new.self None c.loop-undone.invariant.asks c.in_default.ensures.asks;
+  asks = undo_then (seen g.T.TableState c.args.self.now) (seen g.T.TableState c.loop-undone.self) (seen g.T.TableState c.take_one_back.new.self) None c.loop-undone.invariant.asks c.in_default.ensures.asks;
 }
 
 pub finish-requires-clause-done : goal.finish-requires-clause-done
@@ -33,10 +34,10 @@ pub returns-in-Err-clause-table : goal.returns-in-Err-clause-table
 returns-in-Err-clause-table g c = changes_then g.T.TableState c.args.self.now c.loop-undone.self c.take_one_back.new.self (Some c.in-Err.cause) c.loop-undone.invariant.changes c.in-Err.ensures.table
 
 pub returns-clause-asks : goal.returns-clause-asks
-returns-clause-asks g c = undo_then g.T.TableState c.args.self.now c.loop-undone.self c.finish.new.self None c.loop-undone.invariant.asks (undo_none g.T.TableState c.loop-undone.self c.finish.new.self (ap (λ (s : OpenFile _). s.table) c.finish.ensures) (ap (λ (s : OpenFile _). s.log) c.finish.ensures))
+returns-clause-asks g c = undo_then (seen g.T.TableState c.args.self.now) (seen g.T.TableState c.loop-undone.self) (seen g.T.TableState c.finish.new.self) None c.loop-undone.invariant.asks (undo_none g.T.TableState c.loop-undone.self c.finish.new.self (ap (λ (s : OpenFile _). s.table) c.finish.ensures) (ap (λ (s : OpenFile _). s.log) c.finish.ensures))
 
 pub returns-in-Err-clause-asks : goal.returns-in-Err-clause-asks
-returns-in-Err-clause-asks g c = undo_then g.T.TableState c.args.self.now c.loop-undone.self c.take_one_back.new.self (Some c.in-Err.cause) c.loop-undone.invariant.asks c.in-Err.ensures.asks
+returns-in-Err-clause-asks g c = undo_then (seen g.T.TableState c.args.self.now) (seen g.T.TableState c.loop-undone.self) (seen g.T.TableState c.take_one_back.new.self) (Some c.in-Err.cause) c.loop-undone.invariant.asks c.in-Err.ensures.asks
 
 pub returns-in-Err-clause-rolled : goal.returns-in-Err-clause-rolled
 returns-in-Err-clause-rolled g c = search rules

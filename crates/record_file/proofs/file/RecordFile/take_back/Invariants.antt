@@ -4,6 +4,7 @@ use Rattle.tx_log.specs.Transactions.{left_in}
 use Rattle.record_file.specs.Abstract.{tx_of}
 use Rattle.record_file.specs.Steps.{rolling_place}
 use Rattle.record_file.specs.Asked.{UndoAsks}
+use Rattle.record_file.specs.Seen.{seen}
 use Rattle.record_file.specs.TableCalls.{ChangesTable}
 use Rattle.record_file.proofs.file.RecordFile.take_back.Given as goal
 
@@ -14,5 +15,5 @@ invariant-loop-undone g l = record {
   total : l.total ≡ left_in l.fn.self.file.history l.tx.0 (tx_of l.fn.self.file l.tx.0);
   refusals : g.T.TableState.memory_refusals l.self.table ≡ g.T.TableState.memory_refusals l.fn.self.table;
   changes : ChangesTable g.T.TableState l.fn.self None l.self;
-  asks : UndoAsks g.T.TableState l.fn.self None l.self;
+  asks : UndoAsks (seen g.T.TableState l.fn.self) None (seen g.T.TableState l.self);
 }

@@ -1,5 +1,6 @@
 use Rattle.std.proofs.Common.{rules, ◌≡◌, ℕ, List, length, true, false, Some, ap, sym, ◌∙◌, subst, arith}
 use Rattle.page_store.specs.Fronts.{tried}
+use Rattle.page_store.specs.Guards.{AllowsAll}
 use Rattle.page_store.specs.Journal.{noted, NotesFront, carried, writing_back}
 use Rattle.page_store.specs.PagesView.{memory_pages}
 use Rattle.page_store.specs.declared.step.Step.{Step}
@@ -21,6 +22,9 @@ module _ (g : given.Over) (c : After-write_back-arg-2-1 g) where
 
   steps : writing_back (memory_pages here.pages) (length here.pages.pages) c.write_header.result c.write_header-2.result ≡ closing here
   steps = closing_is here c.page_count.result c.write_header.result c.write_header-2.result changed c.page_count.ensures.value c.write_header.ensures c.write_header-2.ensures
+
+  allowed_here : AllowsAll c.args.self.pages.guard (closing c.args.self) → AllowsAll here.pages.guard (writing_back (memory_pages here.pages) (length here.pages.pages) c.write_header.result c.write_header-2.result)
+  allowed_here all = subst (AllowsAll here.pages.guard) (sym steps) (subst (λ (t : TableView). AllowsAll t.pages.guard (closing t)) (sym c.self.view_is) all)
 
   fronts : (old : List (List ℕ)) (ks : List ℕ) → IsNewOrFile old → IsEither old (carried old (closing c.args.self)) (carried old (tried ks (closing c.args.self)))
   fronts old ks file =
@@ -59,6 +63,17 @@ returns-in-Err-clause-journal g c =
     let place = (goal.at.returns-in-Err-clause-journal g c).After-write_back-arg-2-1 in
     subst (λ (t : TableView). NotesFront (closing t) t.pages.journal c.write_back.new.self.journal) c.self.view_is
     (subst (λ (all : List Step). NotesFront all c.self.inside.pages.journal c.write_back.new.self.journal) (steps g place) c.in-Err.ensures.journal_err)
+
+-- what is closed with the calls of the table's view is closed with those of the table
+pub returns-in-Ok-clause-allowed : goal.returns-in-Ok-clause-allowed
+returns-in-Ok-clause-allowed g c = λ all.
+    let place = (goal.at.returns-in-Ok-clause-allowed g c).After-write_back-arg-2-1 in
+    c.into_store-in-Ok.ensures.guard ∙ c.in-Ok.ensures.allowed (allowed_here g place all) ∙ ap (λ (t : TableView). t.pages.guard) c.self.view_is
+
+pub returns-in-Err-clause-allowed : goal.returns-in-Err-clause-allowed
+returns-in-Err-clause-allowed g c = λ all.
+    let place = (goal.at.returns-in-Err-clause-allowed g c).After-write_back-arg-2-1 in
+    c.in-Err.ensures.allowed (allowed_here g place all) ∙ ap (λ (t : TableView). t.pages.guard) c.self.view_is
 
 pub returns-in-Ok-clause-fronts : goal.returns-in-Ok-clause-fronts
 returns-in-Ok-clause-fronts g c = fronts g (goal.at.returns-in-Ok-clause-fronts g c).After-write_back-arg-2-1

@@ -1,0 +1,10 @@
+use Rattle.std.proofs.Common.{refl, rules}
+use Rattle.commit_paper.specs.Steps.{Lengthens}
+use Rattle.page_journal.specs.Steps.{ChangesLog}
+use Rattle.page_journal.specs.declared.commit_call.CommitCall.TheVariants.{Lengthen}
+use Rattle.page_journal.proofs.CommitFateLemmas.{zeroed_log, same_log}
+use Rattle.page_journal.proofs.MemDiskLemmas.{commits_do}
+use Rattle.page_journal.proofs.mem_disk.MemDiskDisk.lengthen_log.Goals as goal
+
+pub returns-clause-does : goal.returns-clause-does
+returns-clause-does c = (commits_do (ChangesLog (Lengthens c.args.at)) (Lengthen c.args.at c.args.n) c.note.result c.args.self.now c.note.new.self c.note.ensures.ok c.note.ensures.err (zeroed_log c.args.at c.args.n) (λ seen d e changes. changes) (same_log c.args.at), search rules)

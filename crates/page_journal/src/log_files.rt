@@ -1,0 +1,153 @@
+use crate::fresh_side::BEING_MADE;
+use crate::kept_side::no_such_call;
+use file_system::{FileFacts, System, SystemFile};
+use std::io;
+use std::os::unix::fs::FileExt;
+
+/// How many zeros are written at a time.
+const ZEROS: usize = 4096;
+
+/// The logs of commits beside a file: one that is being made, and the one that has the name that an opening looks for.
+#[derive(Drop)]
+pub(crate) struct LogFiles<F> {
+    fresh: Option<F>,
+    log: Option<F>,
+}
+
+// Writes so many zeros from a place on.
+fn write_zeros<F: SystemFile>(file: &F, at: u64, n: usize) -> io::Result<()> {
+    let zeros = [0; ZEROS];
+    let mut at = at;
+    for _ in 0..n / ZEROS {
+        file.write_all_at(&zeros, at)?;
+        at = at.saturating_add(ZEROS as u64);
+    }
+    file.write_all_at(&zeros[..n % ZEROS], at)
+}
+
+// Gives a new file the owner of the file that was found, as far as the system does that, these bytes and so many zeros.
+fn fill<H: System<File = F>, F: SystemFile>(
+    rt: &H,
+    name: &str,
+    found: &FileFacts,
+    file: &F,
+    head: &[u8],
+    room: usize,
+) -> io::Result<()> {
+    let made = file.facts()?;
+    if made.owner != found.owner || made.group != found.group {
+        let _ = rt.set_owner(name, found.owner, found.group);
+    }
+    file.write_all_at(head, 0)?;
+    write_zeros(file, head.len() as u64, room)
+}
+
+impl<F: SystemFile + Drop> LogFiles<F> {
+    /// None.
+    pub(crate) fn new() -> LogFiles<F> {
+        LogFiles {
+            fresh: None,
+            log: None,
+        }
+    }
+
+    /// Makes a file of that name, where there is none, for a log of a file that was found to be so, with these bytes and so
+    /// many zeros behind them. Where they can't be written it is removed.
+    pub(crate) fn start<H: System<File = F>>(
+        &mut self,
+        rt: &H,
+        name: &str,
+        found: &FileFacts,
+        head: &[u8],
+        room: usize,
+    ) -> io::Result<()> {
+        let file = rt.make_new(name, BEING_MADE)?;
+        if let Err(error) = fill(rt, name, found, &file, head, room) {
+            let _ = rt.remove(name);
+            return Err(error);
+        }
+        self.fresh = Some(file);
+        Ok(())
+    }
+
+    /// Has the device keep it, which gets that mode then.
+    pub(crate) fn finish(&mut self, mode: u32) -> io::Result<()> {
+        match &self.fresh {
+            Some(file) => {
+                file.sync_all()?;
+                file.set_mode(mode)
+            }
+            None => Err(no_such_call()),
+        }
+    }
+
+    /// Gives it the other name, where nothing has that.
+    pub(crate) fn name<H: System<File = F>>(
+        &mut self,
+        rt: &H,
+        fresh: &str,
+        log: &str,
+    ) -> io::Result<()> {
+        let Some(file) = self.fresh.take() else {
+            return Err(no_such_call());
+        };
+        match rt.facts_here(log) {
+            Err(error) if error.kind() == io::ErrorKind::NotFound => {}
+            Err(error) => return Err(error),
+            Ok(_) => return Err(no_such_call()),
+        }
+        rt.rename(fresh, log)?;
+        self.log = Some(file);
+        Ok(())
+    }
+
+    /// Takes the log of that name away.
+    pub(crate) fn remove<H: System<File = F>>(&mut self, rt: &H, log: &str) -> io::Result<()> {
+        rt.remove(log)?;
+        self.log = None;
+        Ok(())
+    }
+
+    /// Makes the log so many zeros from a place on.
+    pub(crate) fn lengthen(&mut self, at: usize, n: usize) -> io::Result<()> {
+        match &self.log {
+            Some(file) => {
+                file.set_len(at as u64)?;
+                write_zeros(file, at as u64, n)
+            }
+            None => Err(no_such_call()),
+        }
+    }
+
+    /// Writes over what stands at a place of it.
+    pub(crate) fn write(&mut self, at: usize, bytes: &[u8]) -> io::Result<()> {
+        match &self.log {
+            Some(file) => file.write_all_at(bytes, at as u64),
+            None => Err(no_such_call()),
+        }
+    }
+
+    /// Has the device keep it.
+    pub(crate) fn sync(&mut self) -> io::Result<()> {
+        match &self.log {
+            Some(file) => file.sync_all(),
+            None => Err(no_such_call()),
+        }
+    }
+
+    /// How many bytes it has, where there is one.
+    pub(crate) fn length(&self) -> io::Result<Option<u64>> {
+        match &self.log {
+            Some(file) => Ok(Some(file.facts()?.len)),
+            None => Ok(None),
+        }
+    }
+
+    /// Reads bytes of it from a place on, as many as there is room for.
+    pub(crate) fn read(&self, at: usize, to: &mut [u8]) -> io::Result<()> {
+        match &self.log {
+            Some(file) => file.read_exact_at(to, at as u64),
+            None => Err(no_such_call()),
+        }
+    }
+}

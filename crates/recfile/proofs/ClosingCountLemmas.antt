@@ -1,0 +1,102 @@
+-- How often a disk has failed when its file was closed.
+use Rattle.std.proofs.Common.{◌≡◌, ◌∙◌, ⊎_elim, ℕ, Bool, true, false, List, Option, Some, IfSome, Result, Ok, Err, OnOk, refl, sym, ap, subst}
+use Rattle.page_store.specs.Guards.{Guard, Unguarded, Unsealed, Sealed, Stopped, SealsGuard}
+use Rattle.page_store.specs.StoreFaults.{is_failed}
+use Rattle.page_store.specs.WriteFaults.{by_device}
+use Rattle.page_store.specs.declared.page_edit.WriteFault.{WriteFault}
+use Rattle.page_store.specs.declared.page_edit.WriteFault.TheVariants as closing
+use Rattle.page_store.specs.declared.store_fault.StoreFault.{StoreFault}
+use Rattle.page_store.specs.declared.store_fault.StoreFault.TheVariants as storing
+use Rattle.page_journal.specs.KeptStores.{failures_with, guard_of}
+use Rattle.page_journal.specs.declared.seal_state.SealState.{SealState}
+use Rattle.page_journal.specs.declared.seal_state.SealState.TheVariants as states
+use Rattle.btree_delete.specs.CleanFile.{is_close_device_fault, is_device_fault}
+use Rattle.btree_delete.specs.declared.opening.open_fault.OpenFault.{OpenFault}
+use Rattle.btree_delete.specs.declared.opening.open_fault.OpenFault.TheVariants as opening
+use Rattle.page_journal.specs.Recovery.{is_device_fault as is_recovery_device}
+use Rattle.page_journal.specs.declared.recovery_fault.RecoveryFault.{RecoveryFault}
+use Rattle.page_journal.specs.declared.recovery_fault.RecoveryFault.TheVariants as recovering
+use Rattle.recfile.specs.FileFaults.{answer_of_store, fault_of_closing, fault_of_opening, fault_of_recovery, is_device, is_device_answer}
+use Rattle.recfile.specs.Kept.{is_sealed, refusals_of}
+use Rattle.recfile.specs.declared.file_fault.FileFault.{FileFault}
+
+refusals_in : (state : SealState) (kept : List Bool) (refusals : ℕ) → refusals_of (guard_of state kept refusals) ≡ refusals
+refusals_in states.Unsealed kept refusals = refl
+refusals_in states.Sealed kept refusals = refl
+refusals_in states.Stopped kept refusals = refl
+
+-- where no call was refused, the failures of a store are those of its disk
+pub unrefused : (state : SealState) (kept : List Bool) (failed refusals failures : ℕ) (guard : Guard) → guard_of state kept refusals ≡ guard → refusals_of guard ≡ 0 → failures_with failed refusals ≡ failures → failed ≡ failures
+unrefused state kept failed refusals failures guard is none all =
+    let zero_is : refusals ≡ 0 = sym (refusals_in state kept refusals) ∙ ap refusals_of is ∙ none in
+    ap (failures_with failed) (sym zero_is) ∙ all
+
+-- where nothing is kept aside, the state says so
+pub unsealed : (state : SealState) (kept : List Bool) (refusals : ℕ) (guard : Guard) → guard_of state kept refusals ≡ guard → is_sealed guard ≡ false → state ≡ states.Sealed → ⊥
+unsealed state kept refusals guard is not_sealed same = absurd (cc (sym not_sealed ∙ ap is_sealed (sym is) ∙ ap (λ (s : SealState). is_sealed (guard_of s kept refusals)) same))
+
+-- sealing leaves no refusal, whatever it answers
+pub seal_refuses : (F : Type 0) (test : ℕ → Bool) (long : ℕ) (old : Guard) (answer : Result (Unit {0}) F) (new : Guard) → old ≡ Unsealed 0 → SealsGuard test long old answer new → refusals_of new ≡ 0
+seal_refuses F test long old answer new is seals = at answer (subst (λ (k : Guard). SealsGuard {F = F} test long k answer new) is seals)
+  where
+    at : (answer : Result (Unit {0}) F) → SealsGuard test long (Unsealed 0) answer new → refusals_of new ≡ 0
+    at (Ok done) keeps = ap refusals_of keeps.sealed
+    at (Err fault) left = ⊎_elim (λ (same : new ≡ Unsealed 0). ap refusals_of same) (λ (stopped : new ≡ Stopped 0). ap refusals_of stopped) left
+
+abbrev pub is_stopped : Guard → Bool
+is_stopped Unguarded = false
+is_stopped (Unsealed refusals) = false
+is_stopped (Sealed kept refusals) = false
+is_stopped (Stopped refusals) = true
+
+pub seal_goes_on : (F : Type 0) (test : ℕ → Bool) (long : ℕ) (old new : Guard) → old ≡ Unsealed 0 → SealsGuard {F = F} test long old (Ok tt) new → is_stopped new ≡ false
+seal_goes_on F test long old new is seals =
+    let keeps = subst (λ (k : Guard). SealsGuard {F = F} test long k (Ok tt) new) is seals in
+    ap is_stopped keeps.sealed
+
+pub not_stopped : (state : SealState) (kept : List Bool) (refusals : ℕ) (guard : Guard) → guard_of state kept refusals ≡ guard → is_stopped guard ≡ false → state ≡ states.Stopped → ⊥
+not_stopped state kept refusals guard is going same = absurd (cc (sym going ∙ ap is_stopped (sym is) ∙ ap (λ (s : SealState). is_stopped (guard_of s kept refusals)) same))
+
+-- a table that was changed or not
+pub by_change : {P : Type 0} (b : Bool) → (b ≡ true → P) → (b ≡ false → P) → P
+by_change true changed idle = changed refl
+by_change false changed idle = idle refl
+
+-- the names of the faults
+pub device_of_closing : (fault : WriteFault) → is_close_device_fault fault ≡ is_device (fault_of_closing fault)
+device_of_closing closing.Device = refl
+device_of_closing closing.Memory = refl
+
+pub device_of_sealing : (fault : WriteFault) → by_device {X = Unit {0}} (Err fault) ≡ is_device (fault_of_closing fault)
+device_of_sealing closing.Device = refl
+device_of_sealing closing.Memory = refl
+
+pub device_of_store : (answer : Result (Unit {0}) StoreFault) → is_failed answer ≡ is_device_answer (answer_of_store answer)
+device_of_store (Ok done) = refl
+device_of_store (Err storing.Failed) = refl
+device_of_store (Err storing.Memory) = refl
+
+pub device_of_opening : (fault : OpenFault) → is_device_fault fault ≡ is_device (fault_of_opening fault)
+device_of_opening opening.Device = refl
+device_of_opening opening.BadLength = refl
+device_of_opening opening.BadMagic = refl
+device_of_opening (opening.BadVersion version) = refl
+device_of_opening opening.BadOrder = refl
+device_of_opening opening.NotClean = refl
+device_of_opening opening.BadHeader = refl
+device_of_opening (opening.Damaged page) = refl
+device_of_opening opening.WrongCount = refl
+device_of_opening opening.TooManyRecords = refl
+device_of_opening opening.Memory = refl
+
+pub ok_told : (answer : Result (Unit {0}) StoreFault) (P : Type 0) → OnOk answer P → OnOk (answer_of_store answer) P
+ok_told (Ok done) P known = known
+ok_told (Err fault) P known = tt
+
+pub device_of_recovery : (fault : RecoveryFault) → is_recovery_device fault ≡ is_device (fault_of_recovery fault)
+device_of_recovery recovering.Device = refl
+device_of_recovery recovering.BadJournal = refl
+
+-- what is told of a fault that is there
+pub some_told : (o : Option FileFault) (fault : FileFault) (Q : FileFault → Type 0) → o ≡ Some fault → Q fault → IfSome o Q
+some_told o fault Q is known = subst (λ (p : Option FileFault). IfSome p Q) (sym is) known

@@ -1,0 +1,5 @@
+use Rattle.std.proofs.Common.{rules}
+use Rattle.recfile.proofs.streams.StreamCalls.count_read.Goals as goal
+
+pub returns : goal.returns
+returns g c = search rules

@@ -1,0 +1,23 @@
+-- What is seen of a file from outside: by a run, and by what its calls ask of the table.
+use Rattle.std.specs.Prelude.{ℕ, Bool, List}
+use Rattle.rec_types.specs.Contents.{Contents}
+use Rattle.rec_types.specs.Table.{Damages}
+use Rattle.rec_types.specs.declared.table_calls.TableCalls.{TableCalls}
+use Rattle.rec_types.specs.declared.table_state.TableState.{Ghosts}
+use Rattle.tx_log.specs.declared.log_record.LogRecord.{LogRecord}
+use Rattle.record_file.specs.Abstract.{File, OpenFile}
+
+-- the abstract file, the log, the table's records, whether the table is sound, and what it has counted: its failures, its
+-- refusals of memory, its damaged pages and its calls
+pub record Seen : Type 0 where
+  pub file : File
+  pub log : List LogRecord
+  pub records : Contents
+  pub sound : Bool
+  pub failures : ℕ
+  pub refusals : ℕ
+  pub damages : Damages
+  pub calls : TableCalls
+
+abbrev pub seen : {T : Type 0} → Ghosts T → OpenFile T → Seen
+seen t f = record { file = f.file; log = f.log; records = t.contents f.table; sound = t.sound f.table; failures = t.device_failures f.table; refusals = t.memory_refusals f.table; damages = t.damages f.table; calls = t.calls f.table }
