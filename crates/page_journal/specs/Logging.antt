@@ -1,5 +1,5 @@
 -- A log of commits that is ready for one more unit, and what a crash leaves of it.
-use Rattle.std.specs.Prelude.{◌≡◌, ◌⊎◌, ℕ, ◌+◌, ◌^◌, ◌<◌, ◌≤◌, List, [], ◌∷◌, ◌++◌, Some, None, length}
+use Rattle.std.specs.Prelude.{◌≡◌, ◌⊎◌, ℕ, ◌+◌, ◌^◌, ◌<◌, ◌≤◌, List, [], ◌∷◌, ◌++◌, Some, None, length, take}
 use Rattle.commit_paper.specs.Text.{units_of, log_text, AreUnits}
 use Rattle.commit_paper.specs.Shown.{Shows}
 use Rattle.page_journal.specs.Files.{Files}
@@ -9,6 +9,14 @@ use Rattle.page_journal.specs.declared.log_place.LogPlace.{LogPlace}
 -- a log has the name that an opening looks for, and its bytes have P
 abbrev pub HasLog : (List ℕ → Type 0) → Files → Type 0
 HasLog P f = (bytes : List ℕ) × (f.commits.log ≡ Some bytes) × P bytes
+
+-- these units stand in it before a place
+abbrev pub Stands : List (List (List ℕ)) → LogPlace → Files → Type 0
+Stands units place f = HasLog (λ bytes. take place.end bytes ≡ log_text units) f
+
+-- it is that of an outcome of a crash then, or there is none
+abbrev pub HasLogOf : {D : Type 0} → Ghosts D → D → Files → Type 0
+HasLogOf g old c = (c.commits.log ≡ None) ⊎ ((d : Files) × g.may_leave old d × (c.commits.log ≡ d.commits.log))
 
 -- it says these units
 abbrev pub Says : List (List (List ℕ)) → Files → Type 0

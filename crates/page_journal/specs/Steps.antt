@@ -150,6 +150,10 @@ pub record CountsFault {D A : Type 0} (g : Ghosts D) (old : D) (answer : Result 
 abbrev pub CallDoes : {D A : Type 0} → Ghosts D → (Files → Files → Type 0) → D → Result A StoreFault → D → Type 0
 CallDoes g step old answer new = Does g step old new × CountsFault g old answer new
 
+-- a call that appends to the log of commits does a step; its fault is that of the commit alone, and isn't counted
+abbrev pub AppendDoes : {D A : Type 0} → Ghosts D → (Files → Files → Type 0) → D → Result A StoreFault → D → Type 0
+AppendDoes g step old answer new = Does g step old new × (g.failures new ≡ g.failures old) × (answer ≢ Err Memory)
+
 -- whether a side file has the name that an opening looks for, and whether a log of commits has
 abbrev pub names_of : Files → Bool × Bool
 names_of f = (is_some f.side, is_some f.commits.log)

@@ -21,6 +21,6 @@ pub trait DiskState {
     /// What a crash at that moment or later might have left.
     ghost left_since: { Self → ℕ → Files → Type 0 };
 
-    /// How many calls failed.
+    /// How many calls failed, but those that append to the log of commits.
     ghost failures: { Self → ℕ };
 }

@@ -117,6 +117,18 @@ impl MemDisk {
         Ok(())
     }
 
+    // The same of a call that appends to the log of commits, whose failure isn't counted.
+    fn note_append(&mut self, call: DiskCall) -> Result<(), StoreFault>
+        ensures ok { OnOk result (self.new ≡ with_call self.old call) }
+        ensures err { OnErr result (self.new ≡ self.old) }
+        ensures fault { OnlyFails result }
+    {
+        if self.take(call).is_err() {
+            return Err(StoreFault::Failed);
+        }
+        Ok(())
+    }
+
     // Carries a call out and keeps it. Fault: Memory; nothing has changed then.
     fn take(&mut self, call: DiskCall) -> Result<(), Memory>
         ensures ok { OnOk result (self.new ≡ with_call self.old call) }
@@ -236,18 +248,18 @@ impl Disk for MemDisk {
     }
 
     fn lengthen_log(&mut self, at: usize, n: usize) -> Result<(), StoreFault> {
-        self.note(DiskCall::Commits(CommitCall::Lengthen(at, n)))
+        self.note_append(DiskCall::Commits(CommitCall::Lengthen(at, n)))
     }
 
     fn write_log(&mut self, at: usize, bytes: &[u8]) -> Result<(), StoreFault> {
         match zeros_behind(self.seen.alloc, bytes, 0) {
-            Ok(bytes) => self.note(DiskCall::Commits(CommitCall::Write(at, bytes))),
-            Err(Memory) => Err(self.fail()),
+            Ok(bytes) => self.note_append(DiskCall::Commits(CommitCall::Write(at, bytes))),
+            Err(Memory) => Err(StoreFault::Failed),
         }
     }
 
     fn sync_log(&mut self) -> Result<(), StoreFault> {
-        self.note(DiskCall::Commits(CommitCall::Sync))
+        self.note_append(DiskCall::Commits(CommitCall::Sync))
     }
 
     fn log_length(&mut self) -> Result<Option<u64>, StoreFault> {

@@ -1,6 +1,7 @@
 pub mod Blank
 pub mod Calls
 pub mod CanStage
+pub mod Commits
 pub mod Carrying
 pub mod FetchFaults
 pub mod FileValues

@@ -16,6 +16,7 @@ ghost use Rattle.page_store.specs.WriteFaults.{by_device};
 ghost use Rattle.page_store.specs.WritingBack.{AreStored, KeepsOthers, Stopped};
 ghost use Rattle.btree_node.specs.Spelling.{IsSpelt};
 
+mod commits;
 mod sealing;
 
 use crate::free_numbers::{add_all, nth_number};
