@@ -66,4 +66,5 @@ begins (reply.Commit answer) = told _ _ (λ x. refl) answer
 begins (reply.List answer) = told _ _ listed answer
 begins (reply.Keys answer) = told _ _ keyed answer
 begins (reply.Log len used) = refl
+begins (reply.Unkept fault) = unkept fault
 begins (reply.Bad fault) = bad fault

@@ -16,6 +16,8 @@ quiet_step old new called no_cause was is same answer = record {
   failures = ap (λ (s : Seen). s.failures) same;
   refusals = ap (λ (s : Seen). s.refusals) same;
   sound = ap (λ (s : Seen). s.sound) same;
+  logged = ap (λ (s : Seen). s.logged) same;
+  commits = λ _. ap (λ (s : Seen). s.commits) same;
   told = tells_none old.sound old.records new.records old.log new.log (ap (λ (s : Seen). s.records) same) (ap (λ (s : Seen). s.log) same);
   answer = answer;
 }
@@ -25,6 +27,6 @@ pub quiet : (old new : Seen) (called : Called) → cause_in called ≡ None → 
 quiet old new called no_cause was is same answer = (new, quiet_step old new called no_cause was is same answer, refl)
 
 -- a call that asks the table
-pub asks : (old new : Seen) (called : Called) (failed refused : Bool) → new.failures ≡ counted old.failures failed → new.refusals ≡ counted old.refusals refused → new.sound ≡ old.sound → Tells old.sound old.records old.log new.records new.log → NeverDamaged old.sound (cause_in called) → IsKeptSeen old → IsKeptSeen new → Answers old called failed refused new
+pub asks : (old new : Seen) (called : Called) (failed refused : Bool) → new.failures ≡ counted old.failures failed → new.refusals ≡ counted old.refusals refused → new.sound ≡ old.sound → new.logged ≡ old.logged → new.commits ≡ old.commits → Tells old.sound old.records old.log new.records new.log → NeverDamaged old.sound (cause_in called) → IsKeptSeen old → IsKeptSeen new → Answers old called failed refused new
     → Run old (record { called = called; failed = failed; refused = refused } ∷ []) new
-asks old new called failed refused failures refusals sound told undamaged was is answer = (new, record { kept = was; keeps = is; undamaged = undamaged; failures = failures; refusals = refusals; sound = sound; told = told; answer = answer }, refl)
+asks old new called failed refused failures refusals sound logged commits told undamaged was is answer = (new, record { kept = was; keeps = is; undamaged = undamaged; failures = failures; refusals = refusals; sound = sound; logged = logged; commits = λ _. commits; told = told; answer = answer }, refl)

@@ -17,4 +17,5 @@ pub mod WritingLemmas
 pub mod RoomLemmas
 pub mod WordLemmas
 pub mod SavedLemmas
-pub mod CopiedLemmas
+pub mod CommitCallLemmas
+mod CopiedLemmas

@@ -3,6 +3,7 @@
 
 mod bar;
 mod call;
+mod commit_keeper;
 mod copying;
 mod dump;
 mod endings;

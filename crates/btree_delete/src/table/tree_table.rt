@@ -368,6 +368,8 @@ impl<S: Store> TableState for TreeTable<S> {
     ghost Source = { Origin };
 
     ghost origin = { origin_of };
+
+    ghost commits = { λ o. o.opening.commits };
 }
 
 // A method's clauses stand in place of its trait's, so these are written again before those that tell
