@@ -331,4 +331,3 @@ module _ {D : Type 0} (g : Ghosts D) where
         (λ has. ap (λ (k : CommitFiles). k.log) has.2 ∙ rest has.0 has.1)
         (leaves.time.before 0 c (omega arith) left)
         ∙ ap (λ (f : Files). f.commits.log) (began ∙ sym same)
-

@@ -1,5 +1,5 @@
 -- A script over a file, and the end of what it leaves open.
-use Rattle.std.specs.Prelude.{◌≡◌, ℕ, Bool, true, List, [], Option, None, is_some, IfSome, Result, MatchResult, OnOk, OnErr, IsTrue}
+use Rattle.std.specs.Prelude.{◌≡◌, ℕ, Bool, true, false, List, [], Option, None, is_some, IfSome, Result, MatchResult, OnOk, OnErr, IsTrue}
 use Rattle.std.specs.Result.{is_err}
 use Rattle.rec_types.specs.Contents.{Contents}
 use Rattle.rec_types.specs.History.{replay}
@@ -52,6 +52,8 @@ opened_file contents limits failures = record {
   refusals = 0;
   damages = no_damage;
   calls = no_calls;
+  logged = false;
+  commits = [];
 }
 
 -- the table has counted no fault and no call yet

@@ -147,9 +147,8 @@ fn commit<T: Table, K: CommitKeeper<T>>(
     keeper: &mut K,
     tx: TxId,
 ) -> Result<bool, Memory>
-    ensures told { CommandRan T.TableState (K.keeps keeper.old) K.moves file.old
+    ensures told { CommandRan T.TableState K.keeps K.moves file.old
         (Ok (commands.Commit tx)) result (string_bytes text.new) file.new }
-    ensures keeper { keeper.new ≡ keeper.old }
 {
     tell(text, &reply_of(file.commit_kept(tx, keeper)))
 }
@@ -182,9 +181,8 @@ fn call<T: Table, K: CommitKeeper<T>>(
     keeper: &mut K,
     command: &Command,
 ) -> Result<bool, Memory>
-    ensures ran { CommandRan T.TableState (K.keeps keeper.old) K.moves file.old (Ok command.now)
+    ensures ran { CommandRan T.TableState K.keeps K.moves file.old (Ok command.now)
         result (string_bytes text.new) file.new }
-    ensures keeper { keeper.new ≡ keeper.old }
 {
     match command {
         Command::Begin => return begin(text, file),
@@ -228,11 +226,10 @@ fn run_command<T: Table, K: CommitKeeper<T>>(
     keeper: &mut K,
     command: &Command,
 ) -> Result<bool, Memory>
-    ensures told { (reply : Reply) × HasReply (seen_as (K.keeps keeper.old) T.TableState file.old)
-        (Ok command.now) reply (seen_as (K.keeps keeper.old) T.TableState file.new)
+    ensures told { (reply : Reply) × HasReply (seen_as K.keeps T.TableState file.old)
+        (Ok command.now) reply (seen_as K.keeps T.TableState file.new)
         × Told reply result (string_bytes text.new) }
     ensures moves { K.moves file.old.table file.new.table }
-    ensures keeper { keeper.new ≡ keeper.old }
 {
     let _begun = file.begun();
     let told = call(text, file, keeper, command);
@@ -248,10 +245,9 @@ pub fn reply_to<T: Table, K: CommitKeeper<T>>(
     keeper: &mut K,
     said: &Result<Option<Command>, LineFault>,
 ) -> Result<Option<bool>, Memory>
-    ensures told { LineTold (seen_as (K.keeps keeper.old) T.TableState file.old) said.now result
-        (string_bytes text.new) (seen_as (K.keeps keeper.old) T.TableState file.new) }
+    ensures told { LineTold (seen_as K.keeps T.TableState file.old) said.now result
+        (string_bytes text.new) (seen_as K.keeps T.TableState file.new) }
     ensures moves { K.moves file.old.table file.new.table }
-    ensures keeper { keeper.new ≡ keeper.old }
 {
     match said {
         Ok(None) => Ok(None),

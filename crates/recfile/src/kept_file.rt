@@ -22,7 +22,7 @@ use btree_delete::TreeTable;
 use page_journal::{Disk, KeptStore, SealState};
 use page_store::StoreFault;
 use rec_types::Limits;
-use record_file::RecordFile;
+use record_file::{RecordFile, Unlogged};
 use std::alloc::Global;
 use std::io::{Read, Write};
 
@@ -136,7 +136,7 @@ fn run_table<D: Disk + Drop, R: Read, W: Write, E: Write>(
         → result.status ≡ 4 → LeavesOld D.DiskState (file_of table.pages.opening) result.disk }
 {
     let mut file = RecordFile::new(alloc, table, limits);
-    let end = run_session(alloc, manner, &mut file, reader, out, err);
+    let end = run_session(alloc, manner, &mut file, &mut Unlogged, reader, out, err);
     let script_fault = end.script.is_err();
     let table = file.abandon();
     match end.ended {

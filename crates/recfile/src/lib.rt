@@ -33,6 +33,7 @@ mod telling;
 mod words;
 mod words_fault;
 
+pub use commit_keeper::CommitKeeper;
 pub use dump::{DumpFault, dump_in};
 pub use endings::{EndFault, end_all};
 pub use file_fault::FileFault;

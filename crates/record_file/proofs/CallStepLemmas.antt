@@ -19,8 +19,8 @@ use Rattle.record_file.specs.Calls.{TellsOf, Makes}
 use Rattle.record_file.proofs.LogGrowthLemmas.{tells_none}
 
 -- what a run sees where the table and the log stay
-pub same_commits : {T : Type 0} (t : Ghosts T) (old new : T) → t.sound new ≡ t.sound old → t.origin new ≡ t.origin old → commits_of t new ≡ commits_of t old
-same_commits t old new sound origin i = if sound i then t.commits (origin i) else []
+pub same_commits : {T : Type 0} (logged : Bool) (t : Ghosts T) (old new : T) → t.sound new ≡ t.sound old → t.origin new ≡ t.origin old → commits_of logged t new ≡ commits_of logged t old
+same_commits logged t old new sound origin i = if logged then (if sound i then t.commits (origin i) else []) else []
 
 pub same_but_file : {T : Type 0} (t : Ghosts T) (old new : OpenFile T) → new.table ≡ old.table → new.log ≡ old.log → (logged : Bool) → seen_as logged t new ≡ record (seen_as logged t old) { file = new.file }
 same_but_file t old new table log logged i = record {
@@ -33,7 +33,7 @@ same_but_file t old new table log logged i = record {
   damages = t.damages (table i);
   calls = t.calls (table i);
   logged = logged;
-  commits = commits_of t (table i);
+  commits = commits_of logged t (table i);
 }
 
 -- the same of a commit that isn't kept

@@ -378,7 +378,7 @@ step_alone m answered fs fs2 e g s sound kept step move leads on alone = at move
             refusals = ap (counted s.refusals) (sym unrefused);
             sound = refl;
             logged = refl;
-        commits = λ _. refl;
+            commits = λ _. refl;
             told = tells_one s.sound s.records (write_to s.records x after) s.log s.log (made s alone.tidy t x before after).log (next_record s alone.tidy t x before after) refl refl (λ here. change_written s.records _ _ t x before after);
             answer = answers (none_refused s.file t.0 x now.active now.free now.room) (now.not_full lasts room) (stood ∙ sym (now.stood lasts));
           },
@@ -448,7 +448,7 @@ step_alone m answered fs fs2 e g s sound kept step move leads on alone = at move
             refusals = ap (counted s.refusals) (sym refused);
             sound = refl;
             logged = refl;
-        commits = λ _. refl;
+            commits = λ _. refl;
             told = tells_one s.sound s.records (set_to s.records x None) s.log s.log s2.log (next_record s alone.tidy t x (Some before) (Some None)) refl refl (λ here. refl);
             answer = subst (λ c. Answers s c e.failed e.refused s2) (sym called_is) (
               a.0,

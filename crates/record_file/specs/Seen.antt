@@ -21,13 +21,13 @@ pub record Seen : Type 0 where
   pub logged : Bool
   pub commits : List (List (List ℕ))
 
--- of a table that isn't sound nothing is known of the commits
-abbrev pub commits_of : {T : Type 0} → Ghosts T → T → List (List (List ℕ))
-commits_of t table = if t.sound table then t.commits (t.origin table) else []
+-- the commits that are kept beside a table, where they are; of one that isn't sound nothing is known of them
+abbrev pub commits_of : {T : Type 0} → Bool → Ghosts T → T → List (List (List ℕ))
+commits_of logged t table = if logged then (if t.sound table then t.commits (t.origin table) else []) else []
 
 -- where commits are kept before they are answered, or aren't
 abbrev pub seen_as : {T : Type 0} → Bool → Ghosts T → OpenFile T → Seen
-seen_as logged t f = record { file = f.file; log = f.log; records = t.contents f.table; sound = t.sound f.table; failures = t.device_failures f.table; refusals = t.memory_refusals f.table; damages = t.damages f.table; calls = t.calls f.table; logged = logged; commits = commits_of t f.table }
+seen_as logged t f = record { file = f.file; log = f.log; records = t.contents f.table; sound = t.sound f.table; failures = t.device_failures f.table; refusals = t.memory_refusals f.table; damages = t.damages f.table; calls = t.calls f.table; logged = logged; commits = commits_of logged t f.table }
 
 abbrev pub seen : {T : Type 0} → Ghosts T → OpenFile T → Seen
 seen t f = seen_as false t f

@@ -160,8 +160,8 @@ impl<T: Table> RecordFile<T> {
     /// it is `commit`. Faults: Refused, where a commit is refused; Memory; Unkept, with what the keeper answered. A fault
     /// leaves the file as it was, and nothing more is kept; though of a Doubt the writes may be found after a stop.
     pub fn commit_kept<K: Keeper<T>>(&mut self, tx: TxId, keeper: &mut K) -> Result<(), KeepFault>
-        ensures step { KeptStep (K.keeps keeper.old) self.old.file tx.0 result self.new.file }
-        ensures asked { AsksKeeper (K.answers keeper.old) (K.keeps keeper.old)
+        ensures step { KeptStep K.keeps self.old.file tx.0 result self.new.file }
+        ensures asked { AsksKeeper (K.answers keeper.old) K.keeps
             (writes (own tx.0 self.old.file.history)) self.old.table result self.new.table }
         ensures same { SameTable T.TableState self.old.table self.new.table }
         ensures moves { K.moves self.old.table self.new.table }

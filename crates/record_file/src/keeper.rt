@@ -38,7 +38,7 @@ pub enum KeepFault {
 /// clause here says; a keeper's `answers` may.
 pub trait Keeper<T: Table> {
     /// Whether it keeps any.
-    ghost keeps: { Self → Bool };
+    ghost keeps: { Bool };
 
     /// Asked to keep these writes beside the table, it may answer so, and this is then the table.
     ghost answers: { Self → T → List (List ℕ × Option (List ℕ))
@@ -49,15 +49,11 @@ pub trait Keeper<T: Table> {
 
     /// Whether it keeps any.
     fn keeps(&self) -> bool
-        ensures { result ≡ keeps self.now };
+        ensures { result ≡ keeps };
 
     /// Keeps the writes of a commit beside the table, all of them or none. Faults: Room or Doubt, at which they don't count as
     /// kept.
-    fn keep(
-        &mut self,
-        table: &mut T,
-        writes: &[(Key, Option<Record>)],
-    ) -> Result<(), KeeperFault>
+    fn keep(&mut self, table: &mut T, writes: &[(Key, Option<Record>)]) -> Result<(), KeeperFault>
         ensures keeper { self.new ≡ self.old }
         ensures same { SameTable T.TableState table.old table.new }
         ensures answer { answers self.old table.old writes.now result table.new }
@@ -78,7 +74,7 @@ impl<T: Table> Keeper<T> for Unlogged {
     ghost use Rattle.std.specs.Prelude.{◌≡◌, false};
     ghost use mathlib.Core.Path.{◌∙◌};
 
-    ghost keeps = { λ _. false };
+    ghost keeps = { false };
 
     ghost answers = { λ _ old _ _ new. new ≡ old };
 

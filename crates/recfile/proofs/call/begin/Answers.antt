@@ -9,17 +9,16 @@ pub returns : goal.returns
 returns g c =
     record {
       told = λ logged was is.
-        let old = seen_as logged g.T.TableState c.args.file.now in
-        let new = seen_as logged g.T.TableState c.begin.new.self in
-        (
-        replies.Begin c.begin.result,
-        record {
-          events = record { called = Begin c.begin.result; failed = false; refused = false } ∷ [];
-          told = refl;
-          kept = tt;
-          ran = let same = same_but_file g.T.TableState c.args.file.now c.begin.new.self c.begin.ensures.table c.begin.ensures.log logged in quiet old new (Begin c.begin.result) refl was is same ((refl, refl, same), c.begin.ensures.step);
-        },
-        c.tell.ensures,
-      );
+          let old = seen_as logged g.T.TableState c.args.file.now in
+          let new = seen_as logged g.T.TableState c.begin.new.self in (
+            replies.Begin c.begin.result,
+            record {
+              events = record { called = Begin c.begin.result; failed = false; refused = false } ∷ [];
+              told = refl;
+              kept = tt;
+              ran = let same = same_but_file g.T.TableState c.args.file.now c.begin.new.self c.begin.ensures.table c.begin.ensures.log logged in quiet old new (Begin c.begin.result) refl was is same ((refl, refl, same), c.begin.ensures.step);
+            },
+            c.tell.ensures,
+          );
       moves_so = (ap (λ x. g.T.TableState.origin x) c.begin.ensures.table);
     }

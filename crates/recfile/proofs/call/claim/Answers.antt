@@ -12,17 +12,16 @@ pub returns : goal.returns
 returns g c =
     record {
       told = λ logged was is.
-        let old = seen_as logged g.T.TableState c.args.file.now in
-        let new = seen_as logged g.T.TableState c.claim.new.self in
-        (
-        replies.Claim c.claim.result,
-        record {
-          events = record { called = Claim c.args.tx c.args.key c.claim.result; failed = by_device (cause_by claim_refusal c.claim.result); refused = c.claim.ensures.memory.0 } ∷ [];
-          told = refl;
-          kept = tt;
-          ran = asks old new (Claim c.args.tx c.args.key c.claim.result) (by_device (cause_by claim_refusal c.claim.result)) c.claim.ensures.memory.0 c.claim.ensures.table.device c.claim.ensures.memory.1 c.claim.ensures.table.soundness refl (same_commits g.T.TableState _ _ c.claim.ensures.table.soundness c.claim.ensures.table.origin) (c.claim.ensures.table.told) c.claim.ensures.damaged was is ((refl, c.claim.ensures.memory.2), record { step = c.claim.ensures.step; refused = refused_as g.T.TableState logged c.args.file.now c.claim.new.self (key_refusal true c.args.file.now.file c.args.tx.0 c.args.key) (refusal_by claim_refusal c.claim.result) c.claim.ensures.refused; refused_only = c.claim.ensures.refused_only; accepted = c.claim.ensures.accepted; opening = c.claim.ensures.table.opening; err = c.claim.ensures.err; damages = c.claim.ensures.named; asks = c.claim.ensures.asks });
-        },
-        c.tell.ensures,
-      );
+          let old = seen_as logged g.T.TableState c.args.file.now in
+          let new = seen_as logged g.T.TableState c.claim.new.self in (
+            replies.Claim c.claim.result,
+            record {
+              events = record { called = Claim c.args.tx c.args.key c.claim.result; failed = by_device (cause_by claim_refusal c.claim.result); refused = c.claim.ensures.memory.0 } ∷ [];
+              told = refl;
+              kept = tt;
+              ran = asks old new (Claim c.args.tx c.args.key c.claim.result) (by_device (cause_by claim_refusal c.claim.result)) c.claim.ensures.memory.0 c.claim.ensures.table.device c.claim.ensures.memory.1 c.claim.ensures.table.soundness refl (same_commits logged g.T.TableState _ _ c.claim.ensures.table.soundness c.claim.ensures.table.origin) (c.claim.ensures.table.told) c.claim.ensures.damaged was is ((refl, c.claim.ensures.memory.2), record { step = c.claim.ensures.step; refused = refused_as g.T.TableState logged c.args.file.now c.claim.new.self (key_refusal true c.args.file.now.file c.args.tx.0 c.args.key) (refusal_by claim_refusal c.claim.result) c.claim.ensures.refused; refused_only = c.claim.ensures.refused_only; accepted = c.claim.ensures.accepted; opening = c.claim.ensures.table.opening; err = c.claim.ensures.err; damages = c.claim.ensures.named; asks = c.claim.ensures.asks });
+            },
+            c.tell.ensures,
+          );
       moves_so = c.claim.ensures.table.origin;
     }

@@ -11,15 +11,15 @@ returns g c =
     let step = subst (KeysOfStep c.args.file.now.file c.args.tx.0) (sym mapped) c.keys_of.ensures in
     record {
       told = λ logged was is.
-        let old = seen_as logged g.T.TableState c.args.file.now in (
-        replies.Keys c.map.result,
-        record {
-          events = record { called = KeysOf c.args.tx c.map.result; failed = false; refused = false } ∷ [];
-          told = refl;
-          kept = tt;
-          ran = quiet old old (KeysOf c.args.tx c.map.result) refl was was refl ((refl, refl, refl), step);
-        },
-        c.tell.ensures,
-      );
+          let old = seen_as logged g.T.TableState c.args.file.now in (
+            replies.Keys c.map.result,
+            record {
+              events = record { called = KeysOf c.args.tx c.map.result; failed = false; refused = false } ∷ [];
+              told = refl;
+              kept = tt;
+              ran = quiet old old (KeysOf c.args.tx c.map.result) refl was was refl ((refl, refl, refl), step);
+            },
+            c.tell.ensures,
+          );
       moves_so = refl;
     }

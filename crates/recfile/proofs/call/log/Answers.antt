@@ -8,19 +8,19 @@ pub returns : goal.returns
 returns g c =
     record {
       told = λ logged was is.
-        let old = seen_as logged g.T.TableState c.args.file.now in (
-        replies.Log c.log_len.result c.log_use.result,
-        record {
-          events = record { called = LogLen c.log_len.result; failed = false; refused = false } ∷ record { called = LogUse c.log_use.result; failed = false; refused = false } ∷ [];
-          told = refl;
-          kept = tt;
-          ran = (
-            old,
-            quiet_step old old (LogLen c.log_len.result) refl was was refl ((refl, refl, refl), c.log_len.ensures),
-            quiet old old (LogUse c.log_use.result) refl was was refl ((refl, refl, refl), c.log_use.ensures),
+          let old = seen_as logged g.T.TableState c.args.file.now in (
+            replies.Log c.log_len.result c.log_use.result,
+            record {
+              events = record { called = LogLen c.log_len.result; failed = false; refused = false } ∷ record { called = LogUse c.log_use.result; failed = false; refused = false } ∷ [];
+              told = refl;
+              kept = tt;
+              ran = (
+                old,
+                quiet_step old old (LogLen c.log_len.result) refl was was refl ((refl, refl, refl), c.log_len.ensures),
+                quiet old old (LogUse c.log_use.result) refl was was refl ((refl, refl, refl), c.log_use.ensures),
+              );
+            },
+            c.tell.ensures,
           );
-        },
-        c.tell.ensures,
-      );
       moves_so = refl;
     }

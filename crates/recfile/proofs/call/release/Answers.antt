@@ -9,17 +9,16 @@ pub returns : goal.returns
 returns g c =
     record {
       told = λ logged was is.
-        let old = seen_as logged g.T.TableState c.args.file.now in
-        let new = seen_as logged g.T.TableState c.release.new.self in
-        (
-        replies.Release c.release.result,
-        record {
-          events = record { called = Release c.args.tx c.args.n c.release.result; failed = false; refused = false } ∷ [];
-          told = refl;
-          kept = tt;
-          ran = let same = same_but_file g.T.TableState c.args.file.now c.release.new.self c.release.ensures.table c.release.ensures.log logged in quiet old new (Release c.args.tx c.args.n c.release.result) refl was is same ((refl, refl, same), c.release.ensures.step);
-        },
-        c.tell.ensures,
-      );
+          let old = seen_as logged g.T.TableState c.args.file.now in
+          let new = seen_as logged g.T.TableState c.release.new.self in (
+            replies.Release c.release.result,
+            record {
+              events = record { called = Release c.args.tx c.args.n c.release.result; failed = false; refused = false } ∷ [];
+              told = refl;
+              kept = tt;
+              ran = let same = same_but_file g.T.TableState c.args.file.now c.release.new.self c.release.ensures.table c.release.ensures.log logged in quiet old new (Release c.args.tx c.args.n c.release.result) refl was is same ((refl, refl, same), c.release.ensures.step);
+            },
+            c.tell.ensures,
+          );
       moves_so = (ap (λ x. g.T.TableState.origin x) c.release.ensures.table);
     }

@@ -9,17 +9,16 @@ pub returns : goal.returns
 returns g c =
     record {
       told = λ logged was is.
-        let old = seen_as logged g.T.TableState c.args.file.now in
-        let new = seen_as logged g.T.TableState c.savepoint.new.self in
-        (
-        replies.Save c.savepoint.result,
-        record {
-          events = record { called = Savepoint c.args.tx c.savepoint.result; failed = false; refused = false } ∷ [];
-          told = refl;
-          kept = tt;
-          ran = let same = same_but_file g.T.TableState c.args.file.now c.savepoint.new.self c.savepoint.ensures.table c.savepoint.ensures.log logged in quiet old new (Savepoint c.args.tx c.savepoint.result) refl was is same ((refl, refl, same), c.savepoint.ensures.step);
-        },
-        c.tell.ensures,
-      );
+          let old = seen_as logged g.T.TableState c.args.file.now in
+          let new = seen_as logged g.T.TableState c.savepoint.new.self in (
+            replies.Save c.savepoint.result,
+            record {
+              events = record { called = Savepoint c.args.tx c.savepoint.result; failed = false; refused = false } ∷ [];
+              told = refl;
+              kept = tt;
+              ran = let same = same_but_file g.T.TableState c.args.file.now c.savepoint.new.self c.savepoint.ensures.table c.savepoint.ensures.log logged in quiet old new (Savepoint c.args.tx c.savepoint.result) refl was is same ((refl, refl, same), c.savepoint.ensures.step);
+            },
+            c.tell.ensures,
+          );
       moves_so = (ap (λ x. g.T.TableState.origin x) c.savepoint.ensures.table);
     }

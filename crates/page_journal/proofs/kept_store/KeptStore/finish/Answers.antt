@@ -32,8 +32,8 @@ returns-clause-commits g c = λ st f left.
     (elim c.match-state.branch [
       | in-Unsealed w ↦ let before = subst (λ e. d.left_since e 0 f) w.disk-is left in inl (i.0.time f before, i.1.time f before)
       | in-Sealed w ↦ finish_commits d counts c.self.inside.log c.self.inside.doubt.items was (d.seen c.self.inside.disk).main c.self.inside.disk w.commit-done.new.disk (sealed_sure c.self.inside.state c.self.inside.doubt.items w.in-Sealed.is i.2) w.commit-done.ensures.logs i.1 i.0.time
-            (finish_time d was c.self.inside.state c.self.inside.kept.items c.self.inside.disk w.commit-done.new.disk i.0 w.in-Sealed.is w.commit-done.ensures.any_moment)
-            f (subst (λ e. d.left_since e 0 f) w.disk-is left)
+          (finish_time d was c.self.inside.state c.self.inside.kept.items c.self.inside.disk w.commit-done.new.disk i.0 w.in-Sealed.is w.commit-done.ensures.any_moment)
+          f (subst (λ e. d.left_since e 0 f) w.disk-is left)
       | in-Stopped w ↦ let before = subst (λ e. d.left_since e 0 f) w.disk-is left in inl (i.0.time f before, i.1.time f before)
     ])
 

@@ -7,30 +7,39 @@ use Rattle.page_journal.proofs.LoggedLemmas.{doubt_all, doubt_told, keep_all, ke
 use Rattle.page_journal.proofs.kept_store.KeptStoreCommitStore.keep_commit.Goals as goal
 
 pub invariant_of-self : goal.invariant_of-self
-invariant_of-self g c = (c.append.ensures.fits, λ st.
-    let d = g.D.DiskState in
-    let steady = sym c.append.ensures.steady ∙ st in
-    let told = c.deref.ensures.value in
-    let all = subst (λ l. IsGuarded d (old_file_of d c.self.inside.disk) c.self.inside.state c.self.inside.kept.items c.self.inside.disk × IsLogged d l c.self.inside.doubt.items c.self.inside.disk × DoubtStops c.self.inside.state c.self.inside.doubt.items) c.in-Some.is (c.self.invariant.1 steady) in
-    let unit = c.requires in
-    keep_all d (g.met.D.Disk.counts_now) c.self.inside.state c.self.inside.kept.items c.self.inside.doubt.items c.in-Some.place c.append.new.place c.self.inside.disk c.append.new.disk c.in-Unsealed.is c.append.ensures.began c.append.ensures.pages all unit.0 (λ units ready. c.in-Ok.ensures.done steady units unit.0 ready unit.1 (told ∙ unit.2)) (λ units ready. c.append.ensures.any_moment steady units unit.0 ready unit.1 (told ∙ unit.2)))
+invariant_of-self g c = (
+  c.append.ensures.fits,
+  λ st.
+      let d = g.D.DiskState in
+      let steady = sym c.append.ensures.steady ∙ st in
+      let told = c.deref.ensures.value in
+      let all = subst (λ l. IsGuarded d (old_file_of d c.self.inside.disk) c.self.inside.state c.self.inside.kept.items c.self.inside.disk × IsLogged d l c.self.inside.doubt.items c.self.inside.disk × DoubtStops c.self.inside.state c.self.inside.doubt.items) c.in-Some.is (c.self.invariant.1 steady) in
+      let unit = c.requires in
+      keep_all d (g.met.D.Disk.counts_now) c.self.inside.state c.self.inside.kept.items c.self.inside.doubt.items c.in-Some.place c.append.new.place c.self.inside.disk c.append.new.disk c.in-Unsealed.is c.append.ensures.began c.append.ensures.pages all unit.0 (λ units ready. c.in-Ok.ensures.done steady units unit.0 ready unit.1 (told ∙ unit.2)) (λ units ready. c.append.ensures.any_moment steady units unit.0 ready unit.1 (told ∙ unit.2)),
+)
 
 pub invariant_of-self-in-Room-1 : goal.invariant_of-self-in-Room-1
-invariant_of-self-in-Room-1 g c = (c.append.ensures.fits, λ st.
-    let d = g.D.DiskState in
-    let steady = sym c.append.ensures.steady ∙ st in
-    let told = c.deref.ensures.value in
-    let all = subst (λ l. IsGuarded d (old_file_of d c.self.inside.disk) c.self.inside.state c.self.inside.kept.items c.self.inside.disk × IsLogged d l c.self.inside.doubt.items c.self.inside.disk × DoubtStops c.self.inside.state c.self.inside.doubt.items) c.in-Some.is (c.self.invariant.1 steady) in
-    room_all d (g.met.D.Disk.counts_now) c.self.inside.state c.self.inside.kept.items c.self.inside.doubt.items c.in-Some.place c.append.new.place c.self.inside.disk c.append.new.disk c.in-Unsealed.is c.append.ensures.began c.append.ensures.pages all (λ units ready. c.in-Err-Room.ensures.no_room steady units ready (ap (λ (e : AppendFault). Err e) c.in-Err-Room.field-0-is)))
+invariant_of-self-in-Room-1 g c = (
+  c.append.ensures.fits,
+  λ st.
+      let d = g.D.DiskState in
+      let steady = sym c.append.ensures.steady ∙ st in
+      let told = c.deref.ensures.value in
+      let all = subst (λ l. IsGuarded d (old_file_of d c.self.inside.disk) c.self.inside.state c.self.inside.kept.items c.self.inside.disk × IsLogged d l c.self.inside.doubt.items c.self.inside.disk × DoubtStops c.self.inside.state c.self.inside.doubt.items) c.in-Some.is (c.self.invariant.1 steady) in
+      room_all d (g.met.D.Disk.counts_now) c.self.inside.state c.self.inside.kept.items c.self.inside.doubt.items c.in-Some.place c.append.new.place c.self.inside.disk c.append.new.disk c.in-Unsealed.is c.append.ensures.began c.append.ensures.pages all (λ units ready. c.in-Err-Room.ensures.no_room steady units ready (ap (λ (e : AppendFault). Err e) c.in-Err-Room.field-0-is)),
+)
 
 pub invariant_of-self-in-Err-Doubt : goal.invariant_of-self-in-Err-Doubt
-invariant_of-self-in-Err-Doubt g c = (c.append.ensures.fits, λ st.
-    let d = g.D.DiskState in
-    let steady = sym c.append.ensures.steady ∙ st in
-    let told = c.deref.ensures.value in
-    let all = subst (λ l. IsGuarded d (old_file_of d c.self.inside.disk) c.self.inside.state c.self.inside.kept.items c.self.inside.disk × IsLogged d l c.self.inside.doubt.items c.self.inside.disk × DoubtStops c.self.inside.state c.self.inside.doubt.items) c.in-Some.is (c.self.invariant.1 steady) in
-    let unit = c.requires in
-    doubt_all d (g.met.D.Disk.counts_now) c.self.inside.state c.self.inside.kept.items c.self.inside.doubt.items c.in-Some.place c.append.new.place c.self.inside.disk c.append.new.disk c.in-Unsealed.is c.append.ensures.began c.append.ensures.pages all unit.0 c.args.text.items unit.1 unit.2 (λ units ready. c.in-Err-Doubt.ensures.doubt steady units ready (ap (λ (e : AppendFault). Err e) c.in-Err-Doubt.field-0-is)) (λ units ready. c.append.ensures.any_moment steady units unit.0 ready unit.1 (told ∙ unit.2)))
+invariant_of-self-in-Err-Doubt g c = (
+  c.append.ensures.fits,
+  λ st.
+      let d = g.D.DiskState in
+      let steady = sym c.append.ensures.steady ∙ st in
+      let told = c.deref.ensures.value in
+      let all = subst (λ l. IsGuarded d (old_file_of d c.self.inside.disk) c.self.inside.state c.self.inside.kept.items c.self.inside.disk × IsLogged d l c.self.inside.doubt.items c.self.inside.disk × DoubtStops c.self.inside.state c.self.inside.doubt.items) c.in-Some.is (c.self.invariant.1 steady) in
+      let unit = c.requires in
+      doubt_all d (g.met.D.Disk.counts_now) c.self.inside.state c.self.inside.kept.items c.self.inside.doubt.items c.in-Some.place c.append.new.place c.self.inside.disk c.append.new.disk c.in-Unsealed.is c.append.ensures.began c.append.ensures.pages all unit.0 c.args.text.items unit.1 unit.2 (λ units ready. c.in-Err-Doubt.ensures.doubt steady units ready (ap (λ (e : AppendFault). Err e) c.in-Err-Doubt.field-0-is)) (λ units ready. c.append.ensures.any_moment steady units unit.0 ready unit.1 (told ∙ unit.2)),
+)
 
 pub returns-in-Ok : goal.returns-in-Ok
 returns-in-Ok g c = record {
