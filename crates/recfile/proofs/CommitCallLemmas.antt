@@ -18,7 +18,7 @@ use Rattle.record_file.specs.declared.keeper.KeeperFault.{KeeperFault}
 use Rattle.record_file.specs.declared.keeper.KeeperFault.TheVariants as keeper_faults
 use Rattle.record_file.proofs.CallStepLemmas.{names_none}
 use Rattle.record_file.proofs.LogGrowthLemmas.{tells_none}
-use Rattle.recfile.specs.Run.{HasReply, TellsWrites, commit_reply, with_writes}
+use Rattle.recfile.specs.Run.{AddsIf, AddsWrites, HasReply, TellsWrites, commit_reply}
 
 abbrev Writes : Type 0
 Writes = List (List ℕ × Option (List ℕ))
@@ -72,11 +72,11 @@ module _ {T : Type 0} (t : Ghosts T) (old new : OpenFile T) (same : SameTable t 
   unkept_same true is = ap (λ b. if b then t.commits (t.origin new.table) else []) same.soundness ∙ pick (t.sound old.table) (t.commits (t.origin new.table)) (t.commits (t.origin old.table)) is
 
   module _ (keeps : Bool) (answers : T → Writes → Result (Unit {0}) KeeperFault → T → Type 0) (tx : TxId) (tells : (answer : Result (Unit {0}) KeeperFault) → answers old.table (writes (own tx.0 old.file.history)) answer new.table → keeps ≡ true → TellsWrites t old.table (writes (own tx.0 old.file.history)) answer new.table) where
-    kept_so : (done : Unit {0}) (b : Bool) → keeps ≡ b → AskedIf b (answers old.table (writes (own tx.0 old.file.history)) (Ok done) new.table) (new.table ≡ old.table) → IsTrue (t.sound old.table) → commits_of b t new.table ≡ (if b then with_writes (commits_of b t old.table) (writes (own tx.0 old.file.history)) else commits_of b t old.table)
+    kept_so : (done : Unit {0}) (b : Bool) → keeps ≡ b → AskedIf b (answers old.table (writes (own tx.0 old.file.history)) (Ok done) new.table) (new.table ≡ old.table) → IsTrue (t.sound old.table) → AddsIf b (commits_of b t old.table) (writes (own tx.0 old.file.history)) (commits_of b t new.table)
     kept_so done true is asked sound =
-        known new.table (same.soundness ∙ sound)
-        ∙ tells (Ok done) asked is sound
-        ∙ ap (λ k. with_writes k (writes (own tx.0 old.file.history))) (sym (known old.table sound))
+        subst (λ k. AddsWrites k (writes (own tx.0 old.file.history)) (commits_of true t new.table)) (sym (known old.table sound))
+        (subst (λ k. AddsWrites (t.commits (t.origin old.table)) (writes (own tx.0 old.file.history)) k) (sym (known new.table (same.soundness ∙ sound)))
+        (tells (Ok done) asked is sound))
     kept_so done false is asked sound = refl
 
     pub commit_told : (result : Result (Unit {0}) KeepFault) → KeptStep keeps old.file tx.0 result new.file → AsksKeeper answers keeps (writes (own tx.0 old.file.history)) old.table result new.table → IsKeptSeen (seen_as keeps t old) → IsKeptSeen (seen_as keeps t new) → HasReply (seen_as keeps t old) (Ok (commands.Commit tx)) (commit_reply result) (seen_as keeps t new)
@@ -93,5 +93,6 @@ module _ {T : Type 0} (t : Ghosts T) (old new : OpenFile T) (same : SameTable t 
       ran = one_step keeps tx (Err fault) was is step (λ _. ap (commits_of keeps t) asked);
     }
     commit_told (Err keep_faults.Memory) step asked was is = record { events = []; told = (step.0, refl); kept = tt; ran = no_step keeps step.2 (ap (commits_of keeps t) asked) }
+    commit_told (Err (keep_faults.Unkept keeper_faults.Memory)) step asked was is = record { events = []; told = (step.0, refl); kept = tt; ran = no_step keeps step.2 (unkept_same keeps (tells (Err keeper_faults.Memory) asked step.0)) }
     commit_told (Err (keep_faults.Unkept keeper_faults.Room)) step asked was is = record { events = []; told = (step.0, refl); kept = tt; ran = no_step keeps step.2 (unkept_same keeps (tells (Err keeper_faults.Room) asked step.0)) }
     commit_told (Err (keep_faults.Unkept keeper_faults.Doubt)) step asked was is = record { events = []; told = (step.0, refl); kept = tt; ran = no_step keeps step.2 (unkept_same keeps (tells (Err keeper_faults.Doubt) asked step.0)) }

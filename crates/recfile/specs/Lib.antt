@@ -6,6 +6,7 @@ pub mod Examples
 pub mod FileFaults
 pub mod Dumped
 pub mod Kept
+pub mod LogKeeping
 pub mod PartLine
 pub mod Shell
 pub mod Room

@@ -1,5 +1,5 @@
 -- Where a dump can be loaded.
-use Rattle.std.specs.Prelude.{ℕ, ◌*◌, ◌≤◌, ◌<◌, Bool, false, is_some}
+use Rattle.std.specs.Prelude.{ℕ, ◌*◌, ◌≤◌, ◌<◌, Bool, true, false, is_some}
 use Rattle.rec_types.specs.LimitBounds.{Bounds}
 use Rattle.command_text.specs.declared.reply.Reply.{Reply}
 use Rattle.command_text.specs.declared.reply.Reply.TheVariants as reply

@@ -1,5 +1,5 @@
 -- The run of a script over a file: each line that says something has one reply.
-use Rattle.std.specs.Prelude.{◌≡◌, if◌then◌else◌, ℕ, ◌+◌, ◌<◌, Bool, true, false, List, [], ◌∷◌, ◌++◌, length, filter, map, take, Option, Some, None, Result, Ok, Err, ◌⊎◌, IsTrue, IfOk}
+use Rattle.std.specs.Prelude.{◌≡◌, ℕ, ◌+◌, ◌<◌, Bool, true, false, List, [], ◌∷◌, ◌++◌, length, filter, map, take, Option, Some, None, Result, Ok, Err, ◌⊎◌, IsTrue, IfOk}
 use Rattle.std.specs.List.{All, flat_map}
 use Rattle.std.specs.Io.KnownBytes.{Appends}
 use Rattle.rec_types.specs.declared.table_state.TableState.{Ghosts}
@@ -47,15 +47,21 @@ ScriptTellsOf logged (Ok command.Log) (reply.Log len used) calls = calls ≡ Log
 ScriptTellsOf logged (Ok (command.Commit t)) (reply.Unkept fault) calls = IsTrue logged × (calls ≡ [])
 ScriptTellsOf logged entry answer calls = ⊥
 
--- An accepted commit is kept with its writes, where any are, and no other call is: where commits are kept, what is kept of
--- them is a script that makes the writes, and its number is that of its place.
-abbrev pub with_writes : List (List (List ℕ)) → List (List ℕ × Option (List ℕ)) → List (List (List ℕ))
-with_writes commits [] = commits
-with_writes commits (w ∷ ws) = commits ++ unit_lines (length commits) (w ∷ ws) ∷ []
+-- These writes are kept, where any are: a script that makes them in a transaction of some number and commits it.
+abbrev pub AddsWrites : List (List (List ℕ)) → List (List ℕ × Option (List ℕ)) → List (List (List ℕ)) → Type 0
+AddsWrites old [] new = new ≡ old
+AddsWrites old (w ∷ ws) new = (n : ℕ) × (new ≡ old ++ unit_lines n (w ∷ ws) ∷ [])
+
+-- where commits are kept before they are answered; and else nothing is
+abbrev pub AddsIf : Bool → List (List (List ℕ)) → List (List ℕ × Option (List ℕ)) → List (List (List ℕ)) → Type 0
+AddsIf true old es new = AddsWrites old es new
+AddsIf false old es new = new ≡ old
+
+-- an accepted commit is kept with its writes
 
 abbrev pub TellsKept : Seen → Read Command → Reply → Seen → Type 0
 TellsKept old (Ok (command.Commit t)) (reply.Commit (Ok done)) new =
-    IsTrue old.sound → new.commits ≡ (if old.logged then with_writes old.commits (writes (own t.0 old.file.history)) else old.commits)
+    IsTrue old.sound → AddsIf old.logged old.commits (writes (own t.0 old.file.history)) new.commits
 TellsKept old entry answer new = Unit {0}
 
 -- From old, the command, or the line that can't be read, has this reply by a run of these calls, which leads to new.
@@ -84,19 +90,18 @@ abbrev pub commit_reply : Result (Unit {0}) KeepFault → Reply
 commit_reply (Ok done) = reply.Commit (Ok done)
 commit_reply (Err (keep_faults.Refused fault)) = reply.Commit (Err fault)
 commit_reply (Err keep_faults.Memory) = reply.Unkept unkept.Memory
+commit_reply (Err (keep_faults.Unkept keeper_faults.Memory)) = reply.Unkept unkept.Memory
 commit_reply (Err (keep_faults.Unkept keeper_faults.Room)) = reply.Unkept unkept.Device
 commit_reply (Err (keep_faults.Unkept keeper_faults.Doubt)) = reply.Unkept unkept.Doubt
 
 -- What is kept of a commit is a script that makes its writes, where any are; at a fault nothing more is.
-abbrev pub TellsWrites : {T : Type 0} → Ghosts T → T → List (List ℕ × Option (List ℕ)) → Result (Unit {0}) KeeperFault → T → Type 0
-TellsWrites t old es (Ok done) new = IsTrue (t.sound old) → t.commits (t.origin new) ≡ with_writes (t.commits (t.origin old)) es
-TellsWrites t old es (Err fault) new = IsTrue (t.sound old) → t.commits (t.origin new) ≡ t.commits (t.origin old)
+abbrev pub TellsWritesOf : Bool → List (List (List ℕ)) → List (List ℕ × Option (List ℕ)) → Result (Unit {0}) KeeperFault → List (List (List ℕ)) → Type 0
+TellsWritesOf sound old es (Ok done) new = IsTrue sound → AddsWrites old es new
+TellsWritesOf sound old es (Err fault) new = IsTrue sound → new ≡ old
 
--- Over a file of which what stays true is true, a command has a reply, which is told. Of what the table was made of nothing
--- changes but what may.
-pub record CommandTold {T E : Type 0} (t : Ghosts T) (moves : T → T → Type 0) (old : OpenFile T) (entry : Read Command) (made : Result Bool E) (text : List ℕ) (new : OpenFile T) : Type 0 where
-  pub told : (logged : Bool) → IsKeptSeen (seen_as logged t old) → IsKeptSeen (seen_as logged t new) → (answer : Reply) × HasReply (seen_as logged t old) entry answer (seen_as logged t new) × Told answer made text
-  pub moves_so : moves old.table new.table
+-- beside a table
+abbrev pub TellsWrites : {T : Type 0} → Ghosts T → T → List (List ℕ × Option (List ℕ)) → Result (Unit {0}) KeeperFault → T → Type 0
+TellsWrites t old es answer new = TellsWritesOf (t.sound old) (t.commits (t.origin old)) es answer (t.commits (t.origin new))
 
 -- the same of any reply, where commits are kept before they are answered, or aren't
 pub record CommandRan {T E : Type 0} (t : Ghosts T) (logged : Bool) (moves : T → T → Type 0) (old : OpenFile T) (entry : Read Command) (made : Result Bool E) (text : List ℕ) (new : OpenFile T) : Type 0 where

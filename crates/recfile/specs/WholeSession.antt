@@ -75,7 +75,7 @@ pub record RunsFile (manner : Manner) (left leaves held holds : Option (List ℕ
 -- a session over a file with these limits, whatever its records
 abbrev pub RunsAny : Manner → Bounds → Option (List ℕ) → Option (List ℕ) → Option (List ℕ) → Option (List ℕ) → Option FileFault → ℕ → Type 0
 RunsAny manner limits left leaves held holds unclosed status =
-    (old : Seen) × (old.file ≡ new_file old.records limits) × RunsFile manner left leaves held holds old unclosed status
+    (old : Seen) × (old.file ≡ new_file old.records limits) × RunsFile manner left leaves held holds old unclosed status × (old.logged ≡ false)
 
 -- A session that began with a file of sound records. Where every transaction was ended the file closes, by what that
 -- means, with the records that are left.

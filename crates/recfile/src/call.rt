@@ -135,7 +135,9 @@ fn reply_of(answer: Result<(), KeepFault>) -> Reply
     match answer {
         Ok(()) => Reply::Commit(Ok(())),
         Err(KeepFault::Refused(fault)) => Reply::Commit(Err(fault)),
-        Err(KeepFault::Memory) => Reply::Unkept(Unkept::Memory),
+        Err(KeepFault::Memory | KeepFault::Unkept(KeeperFault::Memory)) => {
+            Reply::Unkept(Unkept::Memory)
+        }
         Err(KeepFault::Unkept(KeeperFault::Room)) => Reply::Unkept(Unkept::Device),
         Err(KeepFault::Unkept(KeeperFault::Doubt)) => Reply::Unkept(Unkept::Doubt),
     }

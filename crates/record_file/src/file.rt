@@ -165,7 +165,6 @@ impl<T: Table> RecordFile<T> {
             (writes (own tx.0 self.old.file.history)) self.old.table result self.new.table }
         ensures same { SameTable T.TableState self.old.table self.new.table }
         ensures moves { K.moves self.old.table self.new.table }
-        ensures keeper { keeper.new ≡ keeper.old }
         ensures log { KeepsLog self.old self.new }
     {
         if !keeper.keeps() {

@@ -13,6 +13,9 @@ pub enum KeeperFault {
     /// None of them was written: they are found after no stop, and a later commit may be kept.
     #[error("there is no room to keep the commit")]
     Room,
+    /// Nor was there memory for what is kept of it.
+    #[error("out of memory")]
+    Memory,
     /// It isn't known whether they were written: they may be found after a stop, all or none of them. Until the keeper
     /// has ended the doubt, it keeps no other commit.
     #[error("it isn't known whether the commit is kept")]
@@ -51,10 +54,9 @@ pub trait Keeper<T: Table> {
     fn keeps(&self) -> bool
         ensures { result ≡ keeps };
 
-    /// Keeps the writes of a commit beside the table, all of them or none. Faults: Room or Doubt, at which they don't count as
-    /// kept.
+    /// Keeps the writes of a commit beside the table, all of them or none. Faults: Room, Memory, or Doubt, at which they don't count
+    /// as kept.
     fn keep(&mut self, table: &mut T, writes: &[(Key, Option<Record>)]) -> Result<(), KeeperFault>
-        ensures keeper { self.new ≡ self.old }
         ensures same { SameTable T.TableState table.old table.new }
         ensures answer { answers self.old table.old writes.now result table.new }
         ensures moves { moves table.old table.new };

@@ -51,6 +51,7 @@ returns-in-Ok-clause-ran g c = (
     fault = c.close_kept.ensures.fault;
     untried = tt;
   },
+  refl,
 )
 
 pub returns-in-Err-clause-ran : goal.returns-in-Err-clause-ran
@@ -67,6 +68,7 @@ returns-in-Err-clause-ran g c = (
     fault = tt;
     untried = refl;
   },
+  refl,
 )
 
 -- no call was refused in the session, and the file has no tail

@@ -58,6 +58,7 @@ returns-in-Ok-clause-ran g c store is = record {
       fault = c.close_in.ensures.fault;
       untried = tt;
     },
+    refl,
   );
   failures = c.close_in.ensures.device ∙ ap (λ (t : TableView). counted t.pages.failures (by_device c.close_in.result.unclosed)) c.abandon-table.ensures;
   written = (
@@ -82,6 +83,7 @@ returns-in-Err-clause-ran g c store is = record {
       fault = tt;
       untried = refl;
     },
+    refl,
   );
   failures = c.abandon.ensures.failures ∙ ap (λ (t : TableView). t.pages.failures) c.abandon-table.ensures;
   written = stays_by g.S.StoreState c.args.table.tree.order store c.abandon.result c.abandon-table.result (made g (goal.at.returns-in-Err-clause-ran g c).After-abandon-table store is) c.abandon.ensures.pages c.abandon.ensures.tail c.abandon.ensures.steady c.abandon.ensures.opening c.abandon.ensures.writes c.abandon.ensures.journal c.abandon.ensures.guard;
