@@ -13,6 +13,7 @@ pub mod FedLemmas
 pub mod ShellLemmas
 pub mod OpenedLemmas
 pub mod KeptLemmas
+pub mod KeptOnceLemmas
 pub mod WritingLemmas
 pub mod RoomLemmas
 pub mod WordLemmas
