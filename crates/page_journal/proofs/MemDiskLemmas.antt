@@ -1,10 +1,11 @@
 -- What a call of a disk in memory does, where it is kept and where it fails.
-use Rattle.std.proofs.Common.{◌≡◌, ⊎_elim, inl, inr, ℕ, ◌+◌, true, List, [], ◌∷◌, length, Result, Ok, Err, OnOk, OnErr, refl, sym, subst, arith}
+use Rattle.std.proofs.Common.{◌≡◌, ⊎_elim, inl, inr, ℕ, ◌+◌, ◌≤◌, ◌&&◌, Bool, true, false, cond, nat_lt, List, [], ◌∷◌, length, Result, Ok, Err, OnOk, OnErr, refl, sym, subst, arith}
 use Rattle.std.proofs.lemmas.List.{set-get_or, take_all}
 use Rattle.std.specs.Prelude.{slice_index_or}
+use Rattle.rec_types.specs.Table.{counted, greatest_count}
 use Rattle.page_store.specs.declared.store_fault.StoreFault.{StoreFault}
 use Rattle.page_journal.specs.Files.{CommitFiles, Files}
-use Rattle.page_journal.specs.Steps.{Does, Nothing, InCommits, TornAt, CutsTo}
+use Rattle.page_journal.specs.Steps.{Does, HasMoment, Nothing, InCommits, TornAt, CutsTo}
 use Rattle.page_journal.specs.History.{History, commits_done, commits_lead, done, leads, all_done, MayLeave, LeftSince, with_call, failed_more}
 use Rattle.page_journal.specs.declared.disk_state.DiskState.{Ghosts}
 use Rattle.page_journal.specs.declared.disk_call.DiskCall.{DiskCall}
@@ -101,3 +102,12 @@ commits_kept call P (Ok _) old new ok so = λ c left.
     let was : MayLeave old.first (Commits call ∷ old.calls) c = subst (λ (h : History). MayLeave h.first h.calls c) ok left in
     so was.0.commits c.commits was.2.commits
 commits_kept call P (Err _) old new ok so = tt
+
+-- a call that is kept has its moment
+pub mem_moment : (call : DiskCall) (result : Result (Unit {0}) StoreFault) (old new : History) → OnOk result (new ≡ with_call old call) → HasMoment mem_ghosts old result new
+mem_moment call (Ok x) old new ok = subst (λ (h : History). counted (length old.calls) true ≤ length h.calls) (sym ok) (at (true && nat_lt (length old.calls) greatest_count))
+  where
+    at : (b : Bool) → cond b (length old.calls + 1) (length old.calls) ≤ length (call ∷ old.calls)
+    at true = omega arith
+    at false = omega arith
+mem_moment call (Err fault) old new ok = tt

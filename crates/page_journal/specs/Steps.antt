@@ -1,5 +1,5 @@
 -- What a call may do to the files, and what a crash may leave of it.
-use Rattle.std.specs.Prelude.{◌≡◌, ◌≢◌, ◌⊎◌, Bool, is_some, ℕ, ◌≤◌, ◌+◌, List, [], ◌∷◌, ◌++◌, Option, Some, None, Result, Err, OnOk, length, take, drop, slice_get, slice_set}
+use Rattle.std.specs.Prelude.{◌≡◌, ◌≢◌, ◌⊎◌, Bool, true, is_some, ℕ, ◌≤◌, ◌+◌, List, [], ◌∷◌, ◌++◌, Option, Some, None, Result, Err, OnOk, length, take, drop, slice_get, slice_set}
 use Rattle.rec_types.specs.Table.{counted}
 use Rattle.page_store.specs.StoreFaults.{is_failed}
 use Rattle.page_store.specs.declared.store_fault.StoreFault.{StoreFault}
@@ -154,9 +154,14 @@ CallDoes g step old answer new = Does g step old new × CountsFault g old answer
 abbrev pub names_of : Files → Bool × Bool
 names_of f = (is_some f.side, is_some f.commits.log)
 
+-- a call that was made has its moment: there is one more, counted in 64 bits
+abbrev pub HasMoment : {D A : Type 0} → Ghosts D → D → Result A StoreFault → D → Type 0
+HasMoment g old answer new = OnOk answer (counted (g.moment old) true ≤ g.moment new)
+
 -- a call of the disk has the device keep a part of the files, and does nothing else
 abbrev pub CallSyncs : {D A P : Type 0} → Ghosts D → (Files → P) → D → Result A StoreFault → D → Type 0
-CallSyncs g part old answer new = OnOk answer ((c : Files) → g.may_leave new c → part c ≡ part (g.seen old)) × Stays g old new × CountsFault g old answer new
+CallSyncs g part old answer new =
+    OnOk answer ((c : Files) → g.may_leave new c → part c ≡ part (g.seen old)) × Stays g old new × CountsFault g old answer new × HasMoment g old answer new
 
 -- what is left of several calls of the disk, of which the last may have failed
 abbrev pub CallsLeave : {D A : Type 0} → Ghosts D → D → Result A StoreFault → D → Type 0

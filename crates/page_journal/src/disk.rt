@@ -4,7 +4,7 @@ ghost use Rattle.page_store.specs.Blank.{blanks};
 ghost use Rattle.page_journal.specs.Files.{Files};
 ghost use Rattle.commit_paper.specs.Text.{zeros};
 ghost use Rattle.commit_paper.specs.Steps.{Lengthens, Inks};
-ghost use Rattle.page_journal.specs.Steps.{CallDoes, CallSyncs, Nothing, TornAt, GrowsUpTo, CutsTo, Fresh, Names, Removes, FreshLog, NamesLog, RemovesLog, ChangesLog, KeepsLog, InCommits, begun, kept_more, names_of, side_shape, kept_at, written, zeroed};
+ghost use Rattle.page_journal.specs.Steps.{CallDoes, CallSyncs, Nothing, TornAt, GrowsUpTo, CutsTo, Fresh, Names, Removes, FreshLog, NamesLog, RemovesLog, ChangesLog, KeepsLog, HasMoment, InCommits, begun, kept_more, names_of, side_shape, kept_at, written, zeroed};
 
 use crate::disk_state::DiskState;
 use crate::side_shape::SideShape;
@@ -88,7 +88,8 @@ pub trait Disk: DiskState {
     /// Takes the side file of that name away, at once or not at all. Fault: Failed.
     fn remove(&mut self) -> Result<(), StoreFault>
         ensures gone { OnOk result ((Self.seen self.new).side ≡ None) }
-        ensures does { CallDoes Self.DiskState Removes self.old result self.new };
+        ensures does { CallDoes Self.DiskState Removes self.old result self.new }
+        ensures moment { HasMoment Self.DiskState self.old result self.new };
 
     /// Has the device keep whether a side file has that name, and whether a log of commits has its, and nothing of what they
     /// say. Fault: Failed.
@@ -150,7 +151,8 @@ pub trait Disk: DiskState {
     fn sync_log(&mut self) -> Result<(), StoreFault>
         ensures kept { OnOk result ((c : Files) → Self.may_leave self.new c
             → KeepsLog (Self.seen self.old).commits c.commits) }
-        ensures does { CallDoes Self.DiskState Nothing self.old result self.new };
+        ensures does { CallDoes Self.DiskState Nothing self.old result self.new }
+        ensures moment { HasMoment Self.DiskState self.old result self.new };
 
     /// How many bytes the log of that name has, where there is one. Fault: Failed.
     fn log_length(&mut self) -> Result<Option<u64>, StoreFault>

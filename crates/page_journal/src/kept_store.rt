@@ -3,6 +3,7 @@ ghost use Rattle.std.specs.List.{list_any};
 ghost use Rattle.rec_types.specs.Table.{counted};
 ghost use Rattle.rec_types.specs.Widths.{page_width};
 ghost use Rattle.page_store.specs.Blank.{blanks};
+ghost use Rattle.page_store.specs.Calls.{counted_times};
 ghost use Rattle.page_store.specs.FreeNumbers.{greatest_page_count};
 ghost use Rattle.page_store.specs.Growth.{GrowsTo};
 ghost use Rattle.page_store.specs.Guards.{SealsGuard};
@@ -213,8 +214,8 @@ impl<D: Disk + Drop> KeptStore<D> {
         Ok(())
     }
 
-    /// The disk, and how it ended: where pages were kept aside, the file is synced and the old pages are given up, so
-    /// that at Ok the file is the new one whatever happens. A crash at any moment since the disk was opened leaves
+    /// The disk, and how it ended: where pages were kept aside, the file is synced and the old pages are given up by three
+    /// calls, so that at Ok the file is the new one whatever happens. A crash at any moment since the disk was opened leaves
     /// the old file or the new one. Fault: Failed, where a call of the disk failed now or when pages were to be kept;
     /// the file is the old one or the new one then.
     pub fn finish(self) -> (D, Result<(), StoreFault>)
@@ -227,6 +228,8 @@ impl<D: Disk + Drop> KeptStore<D> {
         ensures began { D.began result.0 ≡ D.began self.disk }
         ensures failures { self.state ≢ SealState.Stopped → D.failures result.0
             ≡ counted (D.failures self.disk) (is_failed result.1) }
+        ensures moments { self.state ≡ SealState.Sealed → OnOk result.1
+            (counted_times (D.moment self.disk) 3 ≤ D.moment result.0) }
         ensures unsealed { self.state ≡ SealState.Unsealed
             → (result.0 ≡ self.disk) × (result.1 ≡ Ok tt) }
         ensures stopped { self.state ≡ SealState.Stopped

@@ -2,7 +2,7 @@ use Rattle.std.proofs.Common.{rules}
 use Rattle.page_journal.specs.Files.{Files}
 use Rattle.page_journal.specs.Steps.{Nothing, KeepsLog}
 use Rattle.page_journal.specs.FileDisks.{files_seen}
-use Rattle.page_journal.proofs.FileDiskLemmas.{durable, does_none, nothing_none}
+use Rattle.page_journal.proofs.FileDiskLemmas.{durable, has_moment, does_none, nothing_none}
 use Rattle.page_journal.proofs.file_disk.FileDiskDisk.sync_log.Goals as goal
 
 pub returns-clause-kept : goal.returns-clause-kept
@@ -12,3 +12,6 @@ returns-clause-kept g c =
 
 pub returns-clause-does : goal.returns-clause-does
 returns-clause-does g c = (does_none Nothing _ _ nothing_none c.self.view_is _ _ c.count_up.ensures, search rules)
+
+pub returns-clause-moment : goal.returns-clause-moment
+returns-clause-moment g c = has_moment c.noted_call.result _ _ c.self.view_is _ c.count_up.ensures
