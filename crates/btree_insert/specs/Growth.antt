@@ -8,6 +8,8 @@ use Rattle.page_store.specs.declared.page_edit.PageEdit.{PageEdit}
 use Rattle.page_store.specs.CanStage.{IsTaken}
 use Rattle.btree_node.specs.declared.node.Node.{Node}
 use Rattle.btree_node.specs.declared.node.NodeKind.TheVariants.{Leaf, Inner}
+use Rattle.btree_node.specs.declared.page_change.PageChange.{PageChange}
+use Rattle.btree_node.specs.declared.page_change.PageChange.TheVariants.{Replace, Insert}
 use Rattle.btree_node.specs.Cut.{left_of, right_of}
 use Rattle.btree_node.specs.Layout.{IsOrder}
 use Rattle.btree_node.specs.Lists.{Element, Each, Ascends, IsPlace}
@@ -99,6 +101,11 @@ WritesOrSplits k fresh old new n node (Split middle right) =
 abbrev pub in_one : Option (List ℕ) → Grown
 in_one (Some value) = Replaced value
 in_one None = Fits
+
+-- the change of a page that puts an element at place i, by what stood at the key
+abbrev pub change_at : ℕ → Option (List ℕ) → Element → PageChange
+change_at i (Some value) e = Replace i e
+change_at i None e = Insert i e
 
 -- the record that stood at the key
 abbrev pub replaced : Grown → Option (List ℕ)

@@ -1,11 +1,12 @@
 -- What a page spells after some of its bytes are written over.
-use Rattle.std.proofs.Common.{◌≡◌, ℕ, zero, suc, ◌+◌, ◌-◌, ◌*◌, ◌<◌, ◌≤◌, List, [], ◌∷◌, ◌++◌, length, take, drop, replicate, get_or, set, refl, ap, sym, ◌∙◌, append_assoc, arith, length-append, length-drop}
+use Rattle.std.proofs.Common.{◌≡◌, ℕ, zero, suc, ◌+◌, ◌-◌, ◌*◌, ◌<◌, ◌≤◌, List, [], ◌∷◌, ◌++◌, length, take, drop, replicate, get_or, set, refl, ap, sym, ◌∙◌, append_assoc, arith, length-append, length-drop, take-add}
 use Rattle.std.specs.List.{flat_map, insert, remove}
 use Rattle.std.proofs.lemmas.List.{take_at, drop_at, drop-drop, length-take-le, length-replicate, length-set, take-append-drop, replicate-append-replicate}
 use Rattle.std.proofs.lemmas.List.Edits.{length-insert, length-remove}
 use Rattle.std.proofs.lemmas.List.Concat.{flat_map-append}
 use Rattle.std.proofs.Math.Seq.{set_split, drop-cons}
 use Rattle.std.proofs.Math.Nat.{mul-suc, mul-le-mul_left}
+use lib.Seq.{paste}
 use borrow.Rule.Slice.PartMut.{put_mid, mid_of}
 use Rattle.byteorder.specs.Endian.{big_bytes}
 use Rattle.rec_types.specs.Padded.{padded}
@@ -47,6 +48,31 @@ put_next at xs ys page within =
     ap (λ x. x ++ (ys ++ drop (at + length xs + length ys) (p ++ (xs ++ r)))) front
     ∙ ap (λ x. (p ++ xs) ++ (ys ++ x)) back
     ∙ simp append_assoc
+
+-- bytes, and then others before them
+pub put_before : (at : ℕ) (xs ys page : List ℕ) → at + length xs ≤ length page → put_at at xs (put_at (at + length xs) ys page) ≡ put_at at (xs ++ ys) page
+unfolding put_at
+put_before at xs ys page within =
+    let p = take at page in
+    let m = take (length xs) (drop at page) in
+    let post = drop (at + length xs + length ys) page in
+    let size : length (take (at + length xs) page) ≡ at + length xs = length-take-le (at + length xs) page within in
+    let front : take at (take (at + length xs) page ++ (ys ++ post)) ≡ p =
+    ap (λ x. take at (x ++ (ys ++ post))) (take-add at (length xs) page) ∙ ap (take at) (append_assoc p m (ys ++ post))
+    ∙ take_at p (m ++ (ys ++ post)) at (length-take-le at page (omega arith)) in
+    let back : drop (at + length xs) (take (at + length xs) page ++ (ys ++ post)) ≡ ys ++ post = drop_at (take (at + length xs) page) (ys ++ post) (at + length xs) size in
+    ap (λ x. x ++ (xs ++ drop (at + length xs) (take (at + length xs) page ++ (ys ++ post)))) front
+    ∙ ap (λ x. p ++ (xs ++ x)) back
+    ∙ ap (λ n. p ++ (xs ++ (ys ++ drop n page))) (omega (arith, length-append xs ys))
+    ∙ ap (λ x. p ++ x) (sym (append_assoc xs ys (drop (at + length (xs ++ ys)) page)))
+
+-- bytes of the page written over others
+pub moved_put : (at start len : ℕ) (now page : List ℕ) → start + len ≤ length page → now ≡ paste page at (drop start page) len → now ≡ put_at at (part start len page) page
+unfolding put_at part
+moved_put at start len now page within is =
+    let size : length (take len (drop start page)) ≡ len = length-take-le len (drop start page) (omega (arith, length-drop {A = ℕ})) in
+    is ∙ append_assoc (take at page) (take len (drop start page)) (drop (at + len) page)
+    ∙ ap (λ n. take at page ++ (take len (drop start page) ++ drop (at + n) page)) (sym size)
 
 -- bytes written over keep the page's length
 pub length-put_at : (at : ℕ) (xs page : List ℕ) → at + length xs ≤ length page → length (put_at at xs page) ≡ length page
@@ -217,12 +243,12 @@ opened k i n page can is low less =
       room = room;
     }
 
--- a page with one element more: its place is written, then the places behind it, then the number of keys
+-- a page with one element more: the places behind it are moved, then its place is written, then the number of keys
 pub inserted_spelt : (k i : ℕ) (n : Node) (e : Element) (page moved p q r : List ℕ) → CanStand n k → IsElement e → page ≡ spelling n k → length page ≡ 4096 → k ≤ 16
     → i ≤ length n.elements.items → length n.elements.items < 2 * k
     → moved ≡ part (8 + 118 * i) (8 + 118 * length n.elements.items - (8 + 118 * i)) page
-    → p ≡ put_at (8 + 118 * i) (place second_layout e) page
-    → q ≡ put_at (8 + 118 * (i + 1)) moved p
+    → p ≡ put_at (8 + 118 * (i + 1)) moved page
+    → q ≡ put_at (8 + 118 * i) (place second_layout e) p
     → r ≡ put_at 2 (big_bytes 2 (length n.elements.items + 1)) q
     → r ≡ spelling (with_elements n (insert n.elements.items i e)) k
 unfolding front up_to
@@ -241,9 +267,8 @@ inserted_spelt k i n e page moved p q r can fits is size small low less moved_is
     moved_is ∙ ap (part (8 + 118 * i) (8 + 118 * count - (8 + 118 * i))) (o.whole ∙ ap (λ x. a ++ x) (append_assoc b gap o.rest))
     ∙ part_middle (8 + 118 * i) (8 + 118 * count - (8 + 118 * i)) a b (gap ++ o.rest) o.before (omega (arith, o.moved)) in
     let both : q ≡ put_at (8 + 118 * i) (new ++ b) page =
-    q_is ∙ ap (put_at (8 + 118 * (i + 1)) moved) p_is ∙ ap (λ x. put_at (8 + 118 * (i + 1)) x (put_at (8 + 118 * i) new page)) tail
-    ∙ ap (λ at. put_at at b (put_at (8 + 118 * i) new page)) (omega (arith, wide))
-    ∙ put_next (8 + 118 * i) new b page (omega (arith, wide, size, small, low, less)) in
+    q_is ∙ ap (put_at (8 + 118 * i) new) (p_is ∙ ap (λ x. put_at (8 + 118 * (i + 1)) x page) tail ∙ ap (λ at. put_at at b page) (omega (arith, wide)))
+    ∙ put_before (8 + 118 * i) new b page (omega (arith, wide, size, small, low, less)) in
     let laid : q ≡ a ++ ((new ++ b) ++ o.rest) =
     both ∙ ap (put_at (8 + 118 * i) (new ++ b)) o.whole
     ∙ put_middle (8 + 118 * i) a (b ++ gap) (new ++ b) o.rest o.before (omega (arith, length-append b gap, length-append new b, wide)) in

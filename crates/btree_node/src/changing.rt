@@ -1,7 +1,7 @@
-ghost use Rattle.std.specs.Prelude.{◌≡◌, ◌+◌, ◌*◌, ◌<◌, ◌≤◌, length, replicate, slice_set};
+ghost use Rattle.std.specs.Prelude.{◌≡◌, ◌+◌, ◌*◌, ◌<◌, ◌≤◌, ◌-◌, length, replicate, slice_set};
 ghost use Rattle.std.specs.List.{insert, remove};
 ghost use Rattle.btree_node.specs.Layout.{second_layout, place_width};
-ghost use Rattle.btree_node.specs.Reading.{count_at};
+ghost use Rattle.btree_node.specs.Reading.{count_at, part};
 ghost use Rattle.btree_node.specs.Spelling.{field, place, spelling, CanStand, IsElement, IsNodePage};
 ghost use Rattle.btree_node.specs.Written.{put_at, with_elements};
 ghost use Rattle.byteorder.specs.Endian.{big_bytes};
@@ -10,7 +10,6 @@ ghost use Rattle.btree_node.specs.declared.node.Node.{Node};
 
 use crate::decoding::count_of;
 use crate::layout::{RECORD_AT, SECOND_LAYOUT};
-use crate::part::part_of;
 use byteorder::{BigEndian, ByteOrder};
 use rec_types::{KEY_WIDTH, Key, PAGE_WIDTH, RECORD_WIDTH, Record};
 
@@ -31,16 +30,9 @@ pub fn replace_in(page: &mut [u8; PAGE_WIDTH], k: u16, i: usize, element: &(Key,
 }
 
 /// Puts an element before element i of the node that the page spells, in a tree of order `k`. The page
-/// has room for it; `was` is a copy of it, to move places from.
-pub fn insert_in(
-    page: &mut [u8; PAGE_WIDTH],
-    was: &[u8; PAGE_WIDTH],
-    k: u16,
-    i: usize,
-    element: &(Key, Record),
-)
+/// has room for it.
+pub fn insert_in(page: &mut [u8; PAGE_WIDTH], k: u16, i: usize, element: &(Key, Record))
     requires page { IsNodePage k page.old }
-    requires copy { was.now ≡ page.old }
     requires element { IsElement element.now }
     requires index { i ≤ count_at page.old }
     requires room { count_at page.old < 2 * k }
@@ -50,20 +42,14 @@ pub fn insert_in(
     let count = count_of(page);
     let start = SECOND_LAYOUT.place_start(i);
     let end = SECOND_LAYOUT.place_start(count);
+    move_bytes(page, start, end, SECOND_LAYOUT.place_start(i + 1));
     put_place(page, start, element);
-    put_bytes(
-        page,
-        SECOND_LAYOUT.place_start(i + 1),
-        part_of(was, start, end - start),
-    );
     put_count(page, count + 1);
 }
 
-/// Takes element i out of the node that the page spells, in a tree of order `k`; `was` is a copy of the
-/// page, to move places from.
-pub fn remove_in(page: &mut [u8; PAGE_WIDTH], was: &[u8; PAGE_WIDTH], k: u16, i: usize)
+/// Takes element i out of the node that the page spells, in a tree of order `k`.
+pub(crate) fn remove_in(page: &mut [u8; PAGE_WIDTH], k: u16, i: usize)
     requires page { IsNodePage k page.old }
-    requires copy { was.now ≡ page.old }
     requires index { i < count_at page.old }
     ensures { (node : Node) → CanStand node k → page.old ≡ spelling node k
         → page.new ≡ spelling (with_elements node (remove node.elements.items i)) k }
@@ -71,17 +57,23 @@ pub fn remove_in(page: &mut [u8; PAGE_WIDTH], was: &[u8; PAGE_WIDTH], k: u16, i:
     let left = count_of(page) - 1;
     let start = SECOND_LAYOUT.place_start(i + 1);
     let end = SECOND_LAYOUT.place_start(left + 1);
-    put_bytes(
-        page,
-        SECOND_LAYOUT.place_start(i),
-        part_of(was, start, end - start),
-    );
+    move_bytes(page, start, end, SECOND_LAYOUT.place_start(i));
     put_zeros(
         page,
         SECOND_LAYOUT.place_start(left),
         SECOND_LAYOUT.place_width(),
     );
     put_count(page, left);
+}
+
+/// Writes the bytes from `start` to `end` over those from `at` on.
+fn move_bytes(page: &mut [u8; PAGE_WIDTH], start: usize, end: usize, at: usize)
+    requires from { start ≤ end }
+    requires part { end ≤ page_width }
+    requires room { at + (end - start) ≤ page_width }
+    ensures { page.new ≡ put_at at (part start (end - start) page.old) page.old }
+{
+    page.copy_within(start..end, at);
 }
 
 /// Writes the number of keys.

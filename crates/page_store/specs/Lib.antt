@@ -2,6 +2,7 @@ pub mod Blank
 pub mod Calls
 pub mod CanStage
 pub mod Carrying
+pub mod ChangedPage
 pub mod FetchFaults
 pub mod FileValues
 pub mod FlakyStored

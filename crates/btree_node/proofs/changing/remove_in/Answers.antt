@@ -1,4 +1,4 @@
-use Rattle.std.proofs.Common.{ℕ, ◌+◌, ◌-◌, ◌*◌, ◌≤◌, List, [], replicate, length, arith, ap, ◌∙◌}
+use Rattle.std.proofs.Common.{ℕ, ◌+◌, ◌-◌, ◌*◌, ◌≤◌, List, [], replicate, length, refl, arith, ap, ◌∙◌}
 use Rattle.byteorder.specs.Endian.{big_bytes}
 use Rattle.btree_node.specs.Lists.{Element}
 use Rattle.btree_node.specs.Reading.{part, count_at}
@@ -29,9 +29,9 @@ returns c = λ n can is.
     let start = c.place_start-start.ensures.value in
     let last = ap (λ m. m - 1) told in
     let end = c.place_start-end.ensures.value ∙ ap (λ m. 8 + 118 * m) (omega (arith, c.requires.index, told, count)) in
-    removed_spelt c.args.k i n none page c.part_of.result.now c.put_bytes.new.page c.put_zeros.new.page c.put_count.new.page can is c.told-page c.requires.page.0
-    (omega (arith, count, c.requires.index))
-    (c.part_of.ensures.value ∙ ap (part c.place_start-start.result (c.place_start-end.result - c.place_start-start.result)) c.requires.copy ∙ ap (λ at. part at (c.place_start-end.result - at) page) start ∙ ap (λ to. part (8 + 118 * (i + 1)) (to - (8 + 118 * (i + 1))) page) end)
-    (c.put_bytes.ensures ∙ ap (λ at. put_at at c.part_of.result.now page) c.place_start.ensures.value)
-    (c.put_zeros.ensures ∙ ap (λ at. put_at at (replicate c.place_width.result 0) c.put_bytes.new.page) (c.place_start-2.ensures.value ∙ ap (λ m. 8 + 118 * m) last) ∙ ap (λ m. put_at (8 + 118 * (length n.elements.items - 1)) (replicate m 0) c.put_bytes.new.page) c.place_width.ensures)
+    removed_spelt c.args.k i n none page (part (8 + 118 * (i + 1)) (8 + 118 * length n.elements.items - (8 + 118 * (i + 1))) page) c.move_bytes.new.page c.put_zeros.new.page c.put_count.new.page can is c.told-page c.requires.page.0
+    (omega (arith, count, c.requires.index)) refl
+    (c.move_bytes.ensures ∙ ap (λ at. put_at at (part c.place_start-start.result (c.place_start-end.result - c.place_start-start.result) page) page) c.place_start.ensures.value
+    ∙ ap (λ at. put_at (8 + 118 * i) (part at (c.place_start-end.result - at) page) page) start ∙ ap (λ to. put_at (8 + 118 * i) (part (8 + 118 * (i + 1)) (to - (8 + 118 * (i + 1))) page) page) end)
+    (c.put_zeros.ensures ∙ ap (λ at. put_at at (replicate c.place_width.result 0) c.move_bytes.new.page) (c.place_start-2.ensures.value ∙ ap (λ m. 8 + 118 * m) last) ∙ ap (λ m. put_at (8 + 118 * (length n.elements.items - 1)) (replicate m 0) c.move_bytes.new.page) c.place_width.ensures)
     (c.put_count.ensures ∙ ap (λ m. put_at 2 (big_bytes 2 m) c.put_zeros.new.page) last)
