@@ -9,14 +9,14 @@ use Rattle.btree_node.specs.Layout.{second_layout}
 use Rattle.btree_node.specs.Lists.{Element, IsPlace}
 use Rattle.btree_node.specs.Spelling.{ElementFits, CanStand}
 use Rattle.btree_insert.specs.declared.insert_below.Grown.TheVariants.{Split}
-use Rattle.btree_insert.specs.Growth.{in_one, replaced}
+use Rattle.btree_insert.specs.Growth.{in_one, replaced, with_son, MayGainSon}
 use Rattle.btree_node.specs.declared.page_change.PageChange.{PageChange}
 use Rattle.btree_node.specs.Changes.{MayChange, ChangedBy}
 use Rattle.btree_node.specs.Spelling.{IsSpelt}
 use Rattle.page_store.specs.PageMap.{at}
 use Rattle.page_store.specs.PagesView.{PagesView, is_in_memory}
 use Rattle.btree_insert.specs.Spelt.{CanChange}
-use Rattle.btree_insert.proofs.PlaceLemmas.{leaf_may_be_overfull}
+use Rattle.btree_insert.proofs.PlaceLemmas.{leaf_may_be_overfull, inner_may_be_overfull}
 use Rattle.btree_insert.proofs.SpeltLemmas.{bytes_of}
 
 -- what follows from a value
@@ -47,6 +47,18 @@ leaf_stands k n m i e stands leaf place room fits kind_is els_is sons_is =
     record {
       some = over.some;
       most = omega (arith, size, room);
+      fit = over.fit;
+      ascends = over.ascends;
+      sons = over.sons;
+    }
+
+-- an inner node with room for one more element and one more son
+pub inner_stands : (k : ℕ) (n : Node) (i son : ℕ) (e : Element) → CanStand n k → MayGainSon n i e son → length n.elements.items < 2 * k → ElementFits second_layout e → CanStand (with_son n i e son) k
+inner_stands k n i son e stands gains room fits =
+    let over = inner_may_be_overfull k n (with_son n i e son) i son e stands gains.inner gains.place fits gains.can_be refl refl refl in
+    record {
+      some = over.some;
+      most = omega (arith, length-insert n.elements.items i e gains.place.within, room);
       fit = over.fit;
       ascends = over.ascends;
       sons = over.sons;

@@ -7,7 +7,7 @@ ghost use Rattle.btree_node.specs.Spelling.{spelling, CanStand, IsElement, IsSpe
 ghost use Rattle.btree_node.specs.declared.node.Node.{Node};
 ghost use Rattle.btree_node.specs.declared.node.NodeKind.TheVariants.{Leaf};
 ghost use Rattle.btree_insert.specs.Bounds.{Between};
-ghost use Rattle.btree_insert.specs.Growth.{Grew, WritesAs, in_one, change_at, CanInsert};
+ghost use Rattle.btree_insert.specs.Growth.{Grew, WritesAs, in_one, change_at, with_son, CanInsert, MayGainSon};
 ghost use Rattle.btree_insert.specs.PageTrees.{Spells, TreeAt, Apart, tree_below};
 ghost use Rattle.btree_insert.specs.Reached.{Leads};
 ghost use Rattle.btree_insert.specs.Spelt.{CanChange};
@@ -16,7 +16,7 @@ ghost use Rattle.btree_insert.specs.Edits.{OnlyWrites};
 
 use crate::reading::lies_at;
 use crate::step::{Spot, Step, step_in_page};
-use btree_node::{PageChange, count_in, insert_in, replace_in};
+use btree_node::{PageChange, count_in, insert_in, insert_son_in, replace_in};
 use page_store::{PageEdit, Pages, Store};
 use rec_types::{Key, Memory, PAGE_WIDTH, Record};
 
@@ -159,5 +159,30 @@ pub(crate) fn write_inserted(
     let at = edit.writes.len();
     write_page(edit, order, n, page)?;
     insert_in(&mut edit.writes[at].1, order, i, &element);
+    Ok(())
+}
+
+/// Writes page n, an inner one that has room, with the element at its place and the son behind it.
+pub(crate) fn write_with_son(
+    edit: &mut PageEdit,
+    order: u16,
+    n: u32,
+    page: &[u8; PAGE_WIDTH],
+    i: usize,
+    element: (Key, Record),
+    son: u32,
+) -> Result<(), Memory>
+    requires page { IsNodePage order page.now }
+    requires element { IsElement element }
+    requires father { (m : Node) → CanStand m order → page.now ≡ spelling m order
+        → MayGainSon m i element son × (length m.elements.items < 2 * order) }
+    ensures writes { (m : Node) → CanStand m order → page.now ≡ spelling m order
+        → OnOk result (edit.new.writes.items
+        ≡ edit.old.writes.items ++ (n, spelling (with_son m i element son) order) ∷ []) }
+    ensures edit { OnlyWrites order edit.old result edit.new }
+{
+    let at = edit.writes.len();
+    write_page(edit, order, n, page)?;
+    insert_son_in(&mut edit.writes[at].1, order, i, &element, son);
     Ok(())
 }

@@ -119,15 +119,15 @@ length-first_blocks f width (suc i) [] each low = absurd (omega arith)
 length-first_blocks f width (suc i) (x ∷ xs) each low = omega (arith, length-append (f x) (flat_map f (take i xs)), each.0, length-first_blocks f width i xs each.1 (omega arith), mul-suc width i)
 
 -- the head and the places of a page
-front : NodeKind → List Element → List ℕ
+pub front : NodeKind → List Element → List ℕ
 front kind els = head kind (length els) ++ flat_map (place second_layout) els
 
 -- what stands behind them, up to the place of the sons and from there on
-behind : ℕ → ℕ → List ℕ → List ℕ
+unfoldable pub behind : ℕ → ℕ → List ℕ → List ℕ
 behind start len sons = replicate (start - len) 0 ++ (sons ++ replicate (4096 - (start + length sons)) 0)
 
 -- a page is its front and what stands behind
-spelled_in_two : (k : ℕ) (n : Node) → length (front n.kind n.elements.items) ≤ sons_start second_layout k
+pub spelled_in_two : (k : ℕ) (n : Node) → length (front n.kind n.elements.items) ≤ sons_start second_layout k
     → spelling n k ≡ front n.kind n.elements.items ++ behind (sons_start second_layout k) (length (front n.kind n.elements.items)) (sons_bytes n.sons.items)
 unfolding spelling_in padded front behind
 spelled_in_two k n few =
@@ -287,6 +287,28 @@ inserted_spelt k i n e page moved p q r can fits is size small low less moved_is
     ∙ ap (λ x. front n.kind (insert els i e) ++ x) (sym o.rest_is)
     ∙ ap (λ x. x ++ o.rest) now in
     counted ∙ sym (spelt ∙ regrouped (head n.kind (count + 1)) f (new ++ b) o.rest)
+
+-- the length of the front of a page with one element more
+pub length-front_more : (k i : ℕ) (n : Node) (e : Element) → CanStand n k → IsElement e → i ≤ length n.elements.items → length (front n.kind (insert n.elements.items i e)) ≡ 8 + 118 * (length n.elements.items + 1)
+unfolding front
+length-front_more k i n e can fits low =
+    let els = n.elements.items in
+    let f = flat_map (place second_layout) (take i els) in
+    let b = flat_map (place second_layout) (drop i els) in
+    let whole : flat_map (place second_layout) els ≡ f ++ b = ap (flat_map (place second_layout)) (sym (take-append-drop i els)) ∙ flat_map-append (place second_layout) (take i els) (drop i els) in
+    let longer : flat_map (place second_layout) (insert els i e) ≡ f ++ (place second_layout e ++ b) = flat_map-append (place second_layout) (take i els) (e ∷ drop i els) in
+    omega (
+      arith,
+      ap length whole,
+      ap length longer,
+      length-append f b,
+      length-append f (place second_layout e ++ b),
+      length-append (place second_layout e) b,
+      length-place second_layout e fits,
+      length-blocks (place second_layout) 118 els (widths second_layout els can.fit),
+      length-append (head n.kind (length (insert els i e))) (flat_map (place second_layout) (insert els i e)),
+      length-head n.kind (length (insert els i e)),
+    )
 
 -- blocks without one of them
 blocks_without : (els : List Element) (i : ℕ) → flat_map (place second_layout) (remove els i) ≡ flat_map (place second_layout) (take i els) ++ flat_map (place second_layout) (drop (suc i) els)

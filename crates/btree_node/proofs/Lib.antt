@@ -13,4 +13,5 @@ pub mod SpeltPageLemmas
 pub mod WriterLemmas
 pub mod PaddingLemmas
 pub mod ChangedPageLemmas
+pub mod SonPutLemmas
 pub mod VersionLemmas

@@ -1,15 +1,16 @@
-ghost use Rattle.std.specs.Prelude.{◌≡◌, ◌+◌, ◌*◌, ◌<◌, ◌≤◌, ◌-◌, length, replicate, slice_set};
+ghost use Rattle.std.specs.Prelude.{◌≡◌, suc, ◌+◌, ◌*◌, ◌<◌, ◌≤◌, ◌-◌, length, replicate, slice_set};
 ghost use Rattle.std.specs.List.{insert, remove};
 ghost use Rattle.btree_node.specs.Layout.{second_layout, place_width};
 ghost use Rattle.btree_node.specs.Reading.{count_at, part};
 ghost use Rattle.btree_node.specs.Spelling.{field, place, spelling, CanStand, IsElement, IsNodePage};
-ghost use Rattle.btree_node.specs.Written.{put_at, with_elements};
+ghost use Rattle.btree_node.specs.Written.{put_at, with_elements, with_parts};
 ghost use Rattle.byteorder.specs.Endian.{big_bytes};
 ghost use Rattle.rec_types.specs.Widths.{page_width};
 ghost use Rattle.btree_node.specs.declared.node.Node.{Node};
+ghost use Rattle.btree_node.specs.declared.node.NodeKind.TheVariants.{Inner};
 
 use crate::decoding::count_of;
-use crate::layout::{RECORD_AT, SECOND_LAYOUT};
+use crate::layout::{RECORD_AT, SECOND_LAYOUT, SON_WIDTH};
 use byteorder::{BigEndian, ByteOrder};
 use rec_types::{KEY_WIDTH, Key, PAGE_WIDTH, RECORD_WIDTH, Record};
 
@@ -45,6 +46,42 @@ pub fn insert_in(page: &mut [u8; PAGE_WIDTH], k: u16, i: usize, element: &(Key, 
     move_bytes(page, start, end, SECOND_LAYOUT.place_start(i + 1));
     put_place(page, start, element);
     put_count(page, count + 1);
+}
+
+/// Puts an element before element i of the inner node that the page spells, and a son behind its son i, in a tree of
+/// order `k`. The page has room for them.
+pub fn insert_son_in(
+    page: &mut [u8; PAGE_WIDTH],
+    k: u16,
+    i: usize,
+    element: &(Key, Record),
+    son: u32,
+)
+    requires page { IsNodePage k page.old }
+    requires element { IsElement element.now }
+    requires index { i ≤ count_at page.old }
+    requires room { count_at page.old < 2 * k }
+    ensures { (node : Node) → CanStand node k → node.kind ≡ Inner → page.old ≡ spelling node k
+        → page.new ≡ spelling (with_parts node (insert node.elements.items i element.now)
+        (insert node.sons.items (suc i) son)) k }
+{
+    let count = count_of(page);
+    let sons = SECOND_LAYOUT.sons_start(k);
+    let start = sons + SON_WIDTH * (i + 1);
+    let end = sons + SON_WIDTH * (count + 1);
+    insert_in(page, k, i, element);
+    move_bytes(page, start, end, start + SON_WIDTH);
+    put_son(page, start, son);
+}
+
+/// Writes a son over the bytes from `at` on.
+fn put_son(page: &mut [u8; PAGE_WIDTH], at: usize, son: u32)
+    requires { at + 4 ≤ page_width }
+    ensures { page.new ≡ put_at at (big_bytes 4 son) page.old }
+{
+    let mut bytes = [0; 4];
+    BigEndian::write_u32(&mut bytes, son);
+    put_bytes(page, at, &bytes);
 }
 
 /// Takes element i out of the node that the page spells, in a tree of order `k`.
