@@ -88,6 +88,11 @@ pub record GrowsWithin (spot : Spot) (old new : ℕ) (g : Grown) : Type 0 where
   pub takes : TakesNumbers spot.level old new g
   pub goes_up : SplitGoesUp spot.bounds g
 
+-- a node with a key too many, cut in two around its middle key: the left half written as page n, the right half as another page
+pub record WritesHalves (k n other : ℕ) (old new : List (ℕ × List ℕ)) (node : Node) (middle : Element) : Type 0 where
+  pub middle_is : (d : Element) → middle ≡ slice_index_or node.elements.items k d
+  pub written : new ≡ (old ++ (n, spelling (left_of k node) k) ∷ []) ++ (other, spelling (right_of k node) k) ∷ []
+
 -- a node written as page n, or cut in two around its middle key, the right half as a new page
 abbrev pub WritesOrSplits : ℕ → ℕ → PageEdit → PageEdit → ℕ → Node → Grown → Type 0
 WritesOrSplits k fresh old new n node (Replaced value) = ⊥

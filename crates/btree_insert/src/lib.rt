@@ -8,6 +8,7 @@ mod insert_in_one;
 mod inserting;
 pub mod laws;
 mod reading;
+mod split_leaf;
 mod step;
 mod tree;
 mod walking;

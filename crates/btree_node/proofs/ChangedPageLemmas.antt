@@ -113,13 +113,13 @@ place_put at e page p q within fits p_is q_is =
     ∙ put_next at (field 16 e.0) (field 100 e.1) page (omega (arith, size))
 
 -- the first blocks of one width
-length-first_blocks : {X : Type 0} (f : X → List ℕ) (width i : ℕ) (xs : List X) → Each (λ x. length (f x) ≡ width) xs → i ≤ length xs → length (flat_map f (take i xs)) ≡ width * i
+pub length-first_blocks : {X : Type 0} (f : X → List ℕ) (width i : ℕ) (xs : List X) → Each (λ x. length (f x) ≡ width) xs → i ≤ length xs → length (flat_map f (take i xs)) ≡ width * i
 length-first_blocks f width zero xs each low = omega arith
 length-first_blocks f width (suc i) [] each low = absurd (omega arith)
 length-first_blocks f width (suc i) (x ∷ xs) each low = omega (arith, length-append (f x) (flat_map f (take i xs)), each.0, length-first_blocks f width i xs each.1 (omega arith), mul-suc width i)
 
 -- the head and the places of a page
-pub front : NodeKind → List Element → List ℕ
+unfoldable pub front : NodeKind → List Element → List ℕ
 front kind els = head kind (length els) ++ flat_map (place second_layout) els
 
 -- what stands behind them, up to the place of the sons and from there on
@@ -153,7 +153,7 @@ blocks_set els i e low =
     ∙ flat_map-append (place second_layout) (take i els) (e ∷ drop (suc i) els)
 
 -- the length of the front of a page
-length-front : (k : ℕ) (n : Node) → CanStand n k → length (front n.kind n.elements.items) ≡ 8 + 118 * length n.elements.items
+pub length-front : (k : ℕ) (n : Node) → CanStand n k → length (front n.kind n.elements.items) ≡ 8 + 118 * length n.elements.items
 unfolding front
 length-front k n can =
     omega (arith, length-append (head n.kind (length n.elements.items)) (flat_map (place second_layout) n.elements.items), length-head n.kind (length n.elements.items), length-blocks (place second_layout) 118 n.elements.items (widths second_layout n.elements.items can.fit))
@@ -196,7 +196,7 @@ replaced_spelt k i n e page can fits is low =
     ∙ sym now_whole
 
 -- another number of keys
-count_put : (kind : NodeKind) (count more : ℕ) (rest : List ℕ) → put_at 2 (big_bytes 2 more) (head kind count ++ rest) ≡ head kind more ++ rest
+pub count_put : (kind : NodeKind) (count more : ℕ) (rest : List ℕ) → put_at 2 (big_bytes 2 more) (head kind count ++ rest) ≡ head kind more ++ rest
 unfolding put_at head
 count_put kind count more rest = refl
 

@@ -14,4 +14,5 @@ pub mod WriterLemmas
 pub mod PaddingLemmas
 pub mod ChangedPageLemmas
 pub mod SonPutLemmas
+pub mod FewerElementsLemmas
 pub mod VersionLemmas

@@ -1,4 +1,4 @@
-ghost use Rattle.std.specs.Prelude.{◌≡◌, suc, ◌+◌, ◌*◌, ◌<◌, ◌≤◌, ◌-◌, length, replicate, slice_set};
+ghost use Rattle.std.specs.Prelude.{◌≡◌, suc, ◌+◌, ◌*◌, ◌<◌, ◌≤◌, ◌-◌, length, replicate, slice_set, take, drop};
 ghost use Rattle.std.specs.List.{insert, remove};
 ghost use Rattle.btree_node.specs.Layout.{second_layout, place_width};
 ghost use Rattle.btree_node.specs.Reading.{count_at, part};
@@ -85,7 +85,7 @@ fn put_son(page: &mut [u8; PAGE_WIDTH], at: usize, son: u32)
 }
 
 /// Takes element i out of the node that the page spells, in a tree of order `k`.
-pub(crate) fn remove_in(page: &mut [u8; PAGE_WIDTH], k: u16, i: usize)
+pub fn remove_in(page: &mut [u8; PAGE_WIDTH], k: u16, i: usize)
     requires page { IsNodePage k page.old }
     requires index { i < count_at page.old }
     ensures { (node : Node) → CanStand node k → page.old ≡ spelling node k
@@ -101,6 +101,42 @@ pub(crate) fn remove_in(page: &mut [u8; PAGE_WIDTH], k: u16, i: usize)
         SECOND_LAYOUT.place_width(),
     );
     put_count(page, left);
+}
+
+/// Leaves the first `m` elements of the node that the page spells, in a tree of order `k`, and all its sons.
+pub fn keep_first(page: &mut [u8; PAGE_WIDTH], k: u16, m: usize)
+    requires page { IsNodePage k page.old }
+    requires index { m ≤ count_at page.old }
+    ensures { (node : Node) → CanStand node k → page.old ≡ spelling node k
+        → page.new ≡ spelling (with_elements node (take m node.elements.items)) k }
+{
+    let gone = count_of(page) - m;
+    put_zeros(
+        page,
+        SECOND_LAYOUT.place_start(m),
+        SECOND_LAYOUT.place_width() * gone,
+    );
+    put_count(page, m);
+}
+
+/// Takes the first `m` elements out of the node that the page spells, in a tree of order `k`, and leaves all its
+/// sons.
+pub fn drop_first(page: &mut [u8; PAGE_WIDTH], k: u16, m: usize)
+    requires page { IsNodePage k page.old }
+    requires index { m ≤ count_at page.old }
+    ensures { (node : Node) → CanStand node k → page.old ≡ spelling node k
+        → page.new ≡ spelling (with_elements node (drop m node.elements.items)) k }
+{
+    let count = count_of(page);
+    let start = SECOND_LAYOUT.place_start(m);
+    let past = SECOND_LAYOUT.place_start(count);
+    move_bytes(page, start, past, SECOND_LAYOUT.place_start(0));
+    put_zeros(
+        page,
+        SECOND_LAYOUT.place_start(count - m),
+        SECOND_LAYOUT.place_width() * m,
+    );
+    put_count(page, count - m);
 }
 
 /// Writes the bytes from `start` to `end` over those from `at` on.

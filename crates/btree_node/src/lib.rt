@@ -20,7 +20,7 @@ mod spelt;
 mod splitting;
 
 pub use brothers::{catenate, distribute};
-pub use changing::{insert_in, insert_son_in, replace_in};
+pub use changing::{drop_first, insert_in, insert_son_in, keep_first, remove_in, replace_in};
 pub use decoding::{decode, decode_into, decode_old, decode_version};
 pub use encoding::encode;
 pub use header::{Header, HeaderFault};

@@ -1,23 +1,19 @@
-use Rattle.std.proofs.Common.{ℕ, ◌+◌, ◌-◌, ◌*◌, ◌≤◌, List, [], replicate, length, refl, arith, ap, ◌∙◌}
+use Rattle.std.proofs.Common.{◌+◌, ◌-◌, ◌*◌, [], replicate, length, refl, arith, ap, ◌∙◌}
 use Rattle.byteorder.specs.Endian.{big_bytes}
 use Rattle.btree_node.specs.Lists.{Element}
-use Rattle.btree_node.specs.Reading.{part, count_at}
-use Rattle.btree_node.specs.Spelling.{IsSpelt}
+use Rattle.btree_node.specs.Reading.{part}
 use Rattle.btree_node.specs.Written.{put_at}
 use Rattle.btree_node.proofs.ChangedPageLemmas.{removed_spelt}
+use Rattle.btree_node.proofs.FewerElementsLemmas.{count_few}
 use Rattle.btree_node.proofs.SpeltPageLemmas.{count_spelt}
 use Rattle.btree_node.proofs.changing.remove_in.Goals as goal
 
--- a page has at most 32 keys
-few : (k : ℕ) (page : List ℕ) → k ≤ 16 → IsSpelt k page → count_at page ≤ 32
-few k page small spelt = omega (arith, count_spelt k page spelt.0 small spelt.1 spelt.2, spelt.1.most)
-
 pub place_start-start-requires : goal.place_start-start-requires
-place_start-start-requires c = (omega arith, omega (arith, few c.args.k c.args.page.now c.requires.page.0 c.requires.page.1, c.requires.index))
+place_start-start-requires c = (omega arith, omega (arith, count_few c.args.k c.args.page.now c.requires.page.0 c.requires.page.1, c.requires.index))
 
 pub place_start-end-requires : goal.place_start-end-requires
 place_start-end-requires c =
-    (omega arith, omega (arith, few c.args.k c.args.page.now c.requires.page.0 c.requires.page.1, c.requires.index, c.count_of-left.ensures))
+    (omega arith, omega (arith, count_few c.args.k c.args.page.now c.requires.page.0 c.requires.page.1, c.requires.index, c.count_of-left.ensures))
 
 pub returns : goal.returns
 returns c = λ n can is.
