@@ -1,0 +1,5 @@
+pub mod FanLemmas
+pub mod FillLemmas
+pub mod RowLemmas
+pub mod TreeLemmas
+pub mod FileLemmas

@@ -1,0 +1,71 @@
+use Rattle.std.proofs.Common.{◌≡◌, ◌<◌, [], ℕ, List, suc, length, vec_len, Ok, refl, ap, sym, ◌∙◌, subst, arith}
+use Rattle.btree_node.specs.declared.node.NodeKind.TheVariants.{Inner}
+use Rattle.btree_node.specs.Lists.{Element}
+use Rattle.btree_insert.proofs.SonsLemmas.{nonempty}
+use Rattle.btree_load.specs.Rows.{wide, StandsFor, AreFewest}
+use Rattle.btree_load.proofs.FillLemmas.{fills_any, fills_then}
+use Rattle.btree_load.proofs.TreeLemmas.{Rows, level_above, many_left, first_level, next_level, root_of, all_levels, is_none}
+use Rattle.btree_load.proofs.filling.write_tree.Goals as goal
+
+pub loop-alloc-init : goal.loop-alloc-init
+loop-alloc-init g c =
+    let ok = c.in_ok-row.ensures in
+    let k = c.args.k in
+    let records = c.args.records.now in
+    let row = c.in_ok-row.row in
+    let some : 0 < length records = nonempty records c.is_empty.result c.is_empty.ensures c.if-is_empty.false in
+    record {
+      stands = ok.wide;
+      rows = λ steady. record {
+        h = 0;
+        any = ok.row steady 1 0 records [] c.requires.order.0 (omega (arith, some)) (refl, refl, refl);
+        many = λ two. ok.row steady k 0 records [] (omega arith) (many_left k (length records) (length row.sons.items) (omega (arith, two, ok.wide.sons.0)) ok.fewest) (refl, refl, refl);
+      };
+      levels = first_level k (length records) c.args.count.now c.write_row.new.count (length row.sons.items) (length row.between.items) some ok.fewest ok.count (sym ok.wide.sons.0);
+      long = ok.long;
+      start = omega (arith, ok.count, c.requires.start);
+      room = ok.room;
+      fills = fills_any g.S.StoreState c.args.store.now c.write_row.new.store row ok.fills;
+    }
+
+pub loop-alloc-preserved : goal.loop-alloc-preserved
+loop-alloc-preserved g c =
+    let ok = c.in_ok-row-2.ensures in
+    let i = c.loop-alloc.invariant in
+    let k = c.args.k in
+    let records = c.args.records.now in
+    let old = c.loop-alloc.row in
+    let row = c.in_ok-row-2.row in
+    let els = c.deref.result.now in
+    let sons = c.deref-in-loop-alloc.result.now in
+    let long : length els ≡ length old.between.items = ap length c.deref.ensures.value in
+    let some : 0 < length old.between.items = omega arith in
+    let stored = g.S.StoreState.pages c.loop-alloc.store in
+    record {
+      stands = ok.wide;
+      rows = λ steady.
+          let below : Rows k stored (wide Inner old.between.items old.sons.items) records = i.rows steady in
+          let above = level_above k stored old.between.items old.sons.items records some below in
+          let stands : StandsFor k stored (suc below.h) (wide Inner els sons) records above.0 =
+          subst (λ (bs : List Element). StandsFor k stored (suc below.h) (wide Inner bs sons) records above.0) (sym c.deref.ensures.value)
+          (subst (λ (ss : List ℕ). StandsFor k stored (suc below.h) (wide Inner old.between.items ss) records above.0) (sym c.deref-in-loop-alloc.ensures.value) above.1) in
+          let still = i.fills.steady ∙ steady in
+          record {
+            h = suc below.h;
+            any = ok.row still 1 (suc below.h) records above.0 c.requires.order.0 (omega (arith, some, long)) stands;
+            many = λ two. ok.row still k (suc below.h) records above.0 (omega arith) (many_left k (length els) (length row.sons.items) (omega (arith, two, ok.wide.sons.0)) ok.fewest) stands;
+          };
+      levels = next_level k (length records) c.args.count.now c.loop-alloc.count c.write_row-in-loop-alloc.new.count (length old.between.items) (length row.sons.items) (length row.between.items) some
+          (subst (λ (n : ℕ). AreFewest k n (length row.sons.items)) long ok.fewest) ok.count (sym ok.wide.sons.0) i.levels;
+      long = ok.long;
+      start = omega (arith, ok.count, i.start);
+      room = omega (arith, ok.room, i.room, long);
+      fills = fills_then g.S.StoreState c.args.store.now c.loop-alloc.store c.write_row-in-loop-alloc.new.store tt (Ok tt) i.fills (fills_any g.S.StoreState c.loop-alloc.store c.write_row-in-loop-alloc.new.store row ok.fills);
+    }
+
+pub returns-clause-tree : goal.returns-clause-tree
+returns-clause-tree g c = λ steady.
+    root_of c.args.k (g.S.StoreState.pages c.loop-alloc.store) c.loop-alloc.row.between.items c.loop-alloc.row.sons.items c.args.records.now c.index.result.now (omega (arith, is_none (vec_len c.loop-alloc.row.between) c.loop-alloc-test.ensures, c.loop-alloc.row.between.ok.0)) c.loop-alloc.invariant.stands.sons.0 c.index.ensures (c.loop-alloc.invariant.rows steady)
+
+pub returns-clause-levels : goal.returns-clause-levels
+returns-clause-levels g c = all_levels c.args.k (length c.args.records.now) c.args.count.now (length c.loop-alloc.row.between.items) c.loop-alloc.count (omega (arith, is_none (vec_len c.loop-alloc.row.between) c.loop-alloc-test.ensures, c.loop-alloc.row.between.ok.0)) c.loop-alloc.invariant.levels

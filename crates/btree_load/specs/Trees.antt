@@ -1,0 +1,28 @@
+-- The tree that is built of records: its levels, and the file that holds it.
+use Rattle.std.specs.Prelude.{◌≡◌, ℕ, ◌-◌, ◌<◌, List, [], ◌∷◌}
+use Rattle.btree_node.specs.Layout.{second_version}
+use Rattle.btree_node.specs.Lists.{Element}
+use Rattle.btree_insert.specs.declared.tree.Tree.{Tree}
+use Rattle.btree_insert.specs.Contents.{contents_of}
+use Rattle.btree_insert.specs.PageTrees.{RootAt}
+use Rattle.btree_delete.specs.CleanFile.{in_file}
+use Rattle.btree_delete.specs.TableView.{IsClosed}
+use Rattle.btree_load.specs.Rows.{AreFewest}
+
+-- How many pages each level of a tree of order k has, from the lowest on: no fewer have room for its elements, and of
+-- these the one between any two pages stands in the level above.
+abbrev pub AreLevels : ℕ → ℕ → List ℕ → Type 0
+AreLevels k count [] = count ≡ 0
+AreLevels k count (pages ∷ levels) = (0 < count) × AreFewest k count pages × AreLevels k (pages - 1) levels
+
+-- the pages of a file hold the tree of a root with these elements
+pub record HasRoot (k : ℕ) (stored : List (List ℕ)) (root : ℕ) (es : List Element) : Type 0 where
+  pub height : ℕ
+  pub us : List ℕ
+  pub tree : RootAt k (in_file stored) height root es us
+
+-- a closed file of the second version, whose tree of order k has these elements
+pub record IsFilled (k : ℕ) (stored : List (List ℕ)) (tail : ℕ) (es : List Element) : Type 0 where
+  pub tree : Tree
+  pub order : tree.order ≡ k
+  pub closed : IsClosed second_version stored tail tree (contents_of es)

@@ -1,0 +1,10 @@
+//! A B-tree that is built from sorted records, page by page from the left.
+#![tactic(auto)]
+
+mod appending;
+mod fault;
+mod filling;
+mod rows;
+
+pub use fault::FillFault;
+pub use filling::fill;
