@@ -1,5 +1,5 @@
 -- The levels of a tree, one above another.
-use Rattle.std.proofs.Common.{◌≡◌, ℕ, suc, ◌+◌, ◌*◌, ◌<◌, ◌≤◌, true, eqb, List, [], ◌∷◌, length, get_or, sum, refl, sym, ◌∙◌, subst, arith}
+use Rattle.std.proofs.Common.{◌≡◌, ℕ, zero, suc, ◌+◌, ◌*◌, ◌<◌, ◌≤◌, true, false, eqb, List, [], ◌∷◌, length, get_or, sum, refl, sym, ◌∙◌, subst, arith}
 use Rattle.std.proofs.lemmas.Bool.Decides.{nat_tests}
 use Rattle.std.proofs.lemmas.List.Sums.{sum_by-cons}
 use Rattle.btree_node.specs.declared.node.Node.{Node}
@@ -29,6 +29,26 @@ many_left k count pages two fewest =
   where
     twice : (k pages : ℕ) → 2 ≤ pages → 2 * (2 * k + 1) ≤ pages * (2 * k + 1)
     twice k pages two = grind arith
+
+-- the pages of a level and the elements between them are no more than its elements
+no_more : (k count pages : ℕ) → 1 ≤ k → 0 < count → AreFewest k count pages → 2 * pages ≤ count + 1
+no_more k count zero some any fewest = omega (arith, any)
+no_more k count (suc q) some any fewest =
+    let fits = fewest.fewer in
+    let split = one_page_more q (2 * k + 1) in
+    let wide = thrice k q some in
+    omega (arith, fits, split, wide, any)
+  where
+    one_page_more : (pages width : ℕ) → suc pages * width ≡ pages * width + width
+    one_page_more pages width = grind arith
+
+    thrice : (k pages : ℕ) → 1 ≤ k → pages * 3 ≤ pages * (2 * k + 1)
+    thrice k pages some = grind arith
+
+pub still_room : (k left pages less now later most : ℕ) → 1 ≤ k → 0 < left → AreFewest k left pages → later ≡ now + pages → less + 1 ≡ pages → now + left ≤ most → later + less ≤ most
+still_room k left pages less now later most some any fewest later_is pages_is room =
+    let few = no_more k left pages some any fewest in
+    omega (arith, few, later_is, pages_is, room)
 
 -- how many pages there were before these levels, and how many there are behind them
 abbrev pub LevelsFrom : ℕ → ℕ → ℕ → ℕ → ℕ → Type 0
@@ -70,3 +90,6 @@ root_of k stored els sons es root none one root_is rows = record {
 -- a number that the test finds to be 0
 pub is_none : (n : ℕ) → true ≡ eqb n 0 → n ≡ 0
 is_none n is = grind (arith, nat_tests)
+
+pub is_some : (n : ℕ) → false ≡ eqb n 0 → 0 < n
+is_some n is = grind (arith, nat_tests)

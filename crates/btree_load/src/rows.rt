@@ -107,8 +107,6 @@ pub(crate) fn write_row<S: Store>(
     ensures wide { IfOk result (λ row. IsWide (wide Inner row.between.items row.sons.items)) }
     ensures fewest { IfOk result (λ row. AreFewest k (length elements.now) (length row.sons.items)) }
     ensures count { IfOk result (λ row. count.new ≡ count.old + length row.sons.items) }
-    ensures room { IfOk result (λ row.
-        count.new + length row.between.items ≤ count.old + length elements.now) }
     ensures long { OnOk result (IsLong S.StoreState count.new store.new) }
     ensures fills { Fills S.StoreState store.old result store.new }
 {

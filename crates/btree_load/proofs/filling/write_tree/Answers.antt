@@ -1,10 +1,10 @@
-use Rattle.std.proofs.Common.{◌≡◌, ◌<◌, [], ℕ, List, suc, length, vec_len, Ok, refl, ap, sym, ◌∙◌, subst, arith}
+use Rattle.std.proofs.Common.{◌≡◌, ◌+◌, ◌<◌, [], ℕ, List, suc, length, vec_len, Ok, refl, ap, sym, ◌∙◌, subst, arith}
 use Rattle.btree_node.specs.declared.node.NodeKind.TheVariants.{Inner}
 use Rattle.btree_node.specs.Lists.{Element}
 use Rattle.btree_insert.proofs.SonsLemmas.{nonempty}
 use Rattle.btree_load.specs.Rows.{wide, StandsFor, AreFewest}
 use Rattle.btree_load.proofs.FillLemmas.{fills_any, fills_then}
-use Rattle.btree_load.proofs.TreeLemmas.{Rows, level_above, many_left, first_level, next_level, root_of, all_levels, is_none}
+use Rattle.btree_load.proofs.TreeLemmas.{Rows, level_above, many_left, still_room, first_level, next_level, root_of, all_levels, is_none, is_some}
 use Rattle.btree_load.proofs.filling.write_tree.Goals as goal
 
 pub loop-alloc-init : goal.loop-alloc-init
@@ -24,7 +24,7 @@ loop-alloc-init g c =
       levels = first_level k (length records) c.args.count.now c.write_row.new.count (length row.sons.items) (length row.between.items) some ok.fewest ok.count (sym ok.wide.sons.0);
       long = ok.long;
       start = omega (arith, ok.count, c.requires.start);
-      room = ok.room;
+      room = still_room k (length records) (length row.sons.items) (length row.between.items) c.args.count.now c.write_row.new.count (c.args.count.now + length records) c.requires.order.0 some ok.fewest ok.count (sym ok.wide.sons.0) (omega arith);
       fills = fills_any g.S.StoreState c.args.store.now c.write_row.new.store row ok.fills;
     }
 
@@ -39,7 +39,8 @@ loop-alloc-preserved g c =
     let els = c.deref.result.now in
     let sons = c.deref-in-loop-alloc.result.now in
     let long : length els ≡ length old.between.items = ap length c.deref.ensures.value in
-    let some : 0 < length old.between.items = omega arith in
+    let some : 0 < length old.between.items = omega (arith, is_some (vec_len old.between) c.loop-alloc-test.ensures, old.between.ok.0) in
+    let fewest = subst (λ (n : ℕ). AreFewest k n (length row.sons.items)) long ok.fewest in
     let stored = g.S.StoreState.pages c.loop-alloc.store in
     record {
       stands = ok.wide;
@@ -56,10 +57,10 @@ loop-alloc-preserved g c =
             many = λ two. ok.row still k (suc below.h) records above.0 (omega arith) (many_left k (length els) (length row.sons.items) (omega (arith, two, ok.wide.sons.0)) ok.fewest) stands;
           };
       levels = next_level k (length records) c.args.count.now c.loop-alloc.count c.write_row-in-loop-alloc.new.count (length old.between.items) (length row.sons.items) (length row.between.items) some
-          (subst (λ (n : ℕ). AreFewest k n (length row.sons.items)) long ok.fewest) ok.count (sym ok.wide.sons.0) i.levels;
+          fewest ok.count (sym ok.wide.sons.0) i.levels;
       long = ok.long;
       start = omega (arith, ok.count, i.start);
-      room = omega (arith, ok.room, i.room, long);
+      room = still_room k (length old.between.items) (length row.sons.items) (length row.between.items) c.loop-alloc.count c.write_row-in-loop-alloc.new.count (c.args.count.now + length records) c.requires.order.0 some fewest ok.count (sym ok.wide.sons.0) i.room;
       fills = fills_then g.S.StoreState c.args.store.now c.loop-alloc.store c.write_row-in-loop-alloc.new.store tt (Ok tt) i.fills (fills_any g.S.StoreState c.loop-alloc.store c.write_row-in-loop-alloc.new.store row ok.fills);
     }
 
