@@ -3,3 +3,4 @@ pub mod FillLemmas
 pub mod RowLemmas
 pub mod TreeLemmas
 pub mod FileLemmas
+pub mod ShapeLemmas

@@ -1,5 +1,6 @@
 -- The tree that is built of records: its levels, and the file that holds it.
-use Rattle.std.specs.Prelude.{◌≡◌, ℕ, ◌-◌, ◌<◌, List, [], ◌∷◌}
+use Rattle.std.specs.Prelude.{◌≡◌, ℕ, ◌-◌, ◌<◌, true, List, [], ◌∷◌, Some}
+use Rattle.rec_types.specs.History.{Change}
 use Rattle.btree_node.specs.Layout.{second_version}
 use Rattle.btree_node.specs.Lists.{Element}
 use Rattle.btree_insert.specs.declared.tree.Tree.{Tree}
@@ -26,3 +27,8 @@ pub record IsFilled (k : ℕ) (stored : List (List ℕ)) (tail : ℕ) (es : List
   pub tree : Tree
   pub order : tree.order ≡ k
   pub closed : IsClosed second_version stored tail tree (contents_of es)
+
+-- records put one after another, by one transaction
+abbrev pub puts : List Element → List Change
+puts [] = []
+puts (e ∷ es) = record { tx = 1; key = e.0; after = Some (Some e.1); live = true } ∷ puts es

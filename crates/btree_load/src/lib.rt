@@ -4,6 +4,7 @@
 mod appending;
 mod fault;
 mod filling;
+pub mod laws;
 mod rows;
 
 pub use fault::FillFault;
