@@ -18,3 +18,4 @@ pub mod RoomLemmas
 pub mod WordLemmas
 pub mod SavedLemmas
 pub mod CopiedLemmas
+pub mod FillingLemmas

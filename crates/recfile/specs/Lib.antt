@@ -16,3 +16,4 @@ pub mod StoreSession
 pub mod FilesAt
 pub mod Tasks
 pub mod Words
+pub mod Filling

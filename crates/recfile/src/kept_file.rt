@@ -49,7 +49,7 @@ fn give_back<D: Disk + Drop>(table: TreeTable<KeptStore<D>>) -> D
 }
 
 // The answer of a closing, by that of its store.
-fn told(done: Result<(), StoreFault>) -> Result<(), FileFault>
+pub(crate) fn told(done: Result<(), StoreFault>) -> Result<(), FileFault>
     ensures { result ≡ answer_of_store done }
 {
     match done {

@@ -7,6 +7,7 @@ mod copying;
 mod dump;
 mod endings;
 mod file_fault;
+mod filling;
 mod kept_example;
 mod kept_file;
 pub mod laws;
