@@ -6,7 +6,7 @@ use Rattle.rec_types.specs.History.{replay}
 use Rattle.rec_types.specs.LimitBounds.{Bounds}
 use Rattle.page_journal.specs.Files.{PageFile, Files, Belongs, recovered}
 use Rattle.page_journal.specs.declared.disk_state.DiskState.{Ghosts}
-use Rattle.btree_node.specs.Lists.{Element}
+use Rattle.btree_node.specs.Lists.{Element, Ascends}
 use Rattle.btree_insert.specs.declared.tree.Tree.{Tree}
 use Rattle.btree_delete.specs.TableView.{IsClosed}
 use Rattle.btree_load.specs.Trees.{puts}
@@ -54,3 +54,7 @@ pub record LooksAt {D : Type 0} (g : Ghosts D) (At : Files → Type 0) : Type 0 
   pub found : IsTrue (g.steady opened) → At (g.began opened)
   pub left : D
   pub untouched : IsTrue (g.steady opened) → LeavesAs g (g.began opened) left
+
+-- records with which a file can be filled: their keys ascend, and it may have so many
+abbrev pub CanFill : Bounds → List Element → Type 0
+CanFill limits records = Ascends records × (length records ≤ limits.records)
