@@ -1,8 +1,6 @@
 -- What a file is that is filled, and what it was.
-use Rattle.std.proofs.Common.{◌≡◌, ℕ, zero, suc, ◌<◌, ◌≤◌, Some, None, List, [], length, Result, Ok, Err, OnOk, refl, sym, ap, subst, ◌∙◌, arith}
-use Rattle.std.specs.FinMap as maps
+use Rattle.std.proofs.Common.{◌≡◌, ℕ, zero, suc, Some, None, List, [], length, Result, Ok, Err, OnOk, refl, sym, ap, subst, ◌∙◌, arith}
 use Rattle.rec_types.specs.Contents.{Contents}
-use Rattle.page_store.specs.PageMap.{PageMap}
 use Rattle.page_store.specs.PagesView.{PagesView}
 use Rattle.page_store.specs.declared.store_fault.StoreFault.{StoreFault}
 use Rattle.page_journal.specs.Files.{PageFile}

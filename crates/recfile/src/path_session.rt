@@ -96,11 +96,12 @@ pub fn fill_at_path<P: PageFiles, E: Write>(
         ⊎ FillsAt P.Device.DiskState (P.at files.now path.now) limits records.now status) }
     ensures looked { result ≡ None → LooksAt P.Device.DiskState (P.at files.now path.now) }
 {
-    match files.open(alloc, path) {
-        Ok(disk) => match fill_blank(alloc, disk, limits, records, err) {
-            Ok(end) => Some(end_at(files, alloc, path, end, err)),
-            Err(_left) => None,
-        },
-        Err(fault) => Some(unfound(files, alloc, path, fault, err)),
+    let disk = match files.open(alloc, path) {
+        Ok(disk) => disk,
+        Err(fault) => return Some(unfound(files, alloc, path, fault, err)),
+    };
+    match fill_blank(alloc, disk, limits, records, err) {
+        Ok(end) => Some(end_at(files, alloc, path, end, err)),
+        Err(_left) => None,
     }
 }

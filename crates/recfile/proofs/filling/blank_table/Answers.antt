@@ -1,5 +1,4 @@
-use Rattle.std.proofs.Common.{◌≡◌, length, ap, subst, ◌∙◌, arith}
-use Rattle.page_journal.specs.Files.{PageFile}
+use Rattle.std.proofs.Common.{length, ap, subst, ◌∙◌, arith}
 use Rattle.recfile.specs.Filling.{IsBlank}
 use Rattle.recfile.proofs.FillingLemmas.{opened_blank}
 use Rattle.recfile.proofs.filling.blank_table.Goals as goal

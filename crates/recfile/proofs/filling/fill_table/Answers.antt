@@ -1,4 +1,4 @@
-use Rattle.std.proofs.Common.{◌≡◌, ℕ, ⊎_elim, inl, inr, true, Result, OnOk, IsTrue, refl, sym, ap, subst, ◌∙◌}
+use Rattle.std.proofs.Common.{ℕ, ⊎_elim, inl, inr, Result, OnOk, refl, sym, ap, subst, ◌∙◌}
 use Rattle.rec_types.specs.Table.{counted}
 use Rattle.page_store.specs.Opening.{Opening}
 use Rattle.page_journal.specs.Crash.{StandsFor}
