@@ -1,6 +1,8 @@
 -- The file that a filled store is.
-use Rattle.std.proofs.Common.{◌≡◌, ℕ, zero, suc, ◌<◌, ◌≤◌, ⊎_elim, inr, Some, None, List, [], ◌∷◌, length, slice_get, slice_set, refl, ap, sym, ◌∙◌, subst, arith}
+use Rattle.std.proofs.Common.{◌-◌, ◌++◌, length-append, ◌≡◌, ℕ, zero, suc, ◌<◌, ◌≤◌, ⊎_elim, inr, Some, None, List, [], ◌∷◌, length, slice_get, slice_set, refl, ap, sym, ◌∙◌, subst, arith}
 use Rattle.std.proofs.lemmas.Bool.{cases_lt}
+use Rattle.std.proofs.lemmas.List.{length-replicate}
+use Rattle.page_store.specs.Blank.{blank, blanks}
 use Rattle.std.proofs.lemmas.Option.{slice_get_past}
 use Rattle.btree_node.specs.declared.header.Header.{Header}
 use Rattle.btree_node.specs.declared.node.Node.{Node}
@@ -103,3 +105,10 @@ file_filled k root count old stored tail es order up few some most long has stor
         records = refl;
       };
     }
+
+-- a store that was made longer
+pub grown : (old new : List (List ℕ)) (n : ℕ) → length old ≤ n → new ≡ old ++ blanks (n - length old) → length new ≡ n
+grown old new n fits is =
+    let both = length-append old (blanks (n - length old)) in
+    let more = length-replicate (n - length old) blank in
+    omega (arith, ap length is, both, more, fits)

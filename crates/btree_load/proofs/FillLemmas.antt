@@ -1,9 +1,10 @@
 -- Calls that fill a store, one after another.
-use Rattle.std.proofs.Common.{Result, Ok, refl, sym, subst, ap, ◌∙◌}
+use Rattle.std.proofs.Common.{◌≡◌, ℕ, length, Result, Ok, refl, sym, subst, ap, ◌∙◌, arith}
+use Rattle.std.proofs.lemmas.List.{length-take-le}
 use Rattle.rec_types.specs.Table.{counted}
 use Rattle.page_store.specs.declared.store_state.StoreState.{Ghosts}
 use Rattle.btree_load.specs.Faults.{is_device}
-use Rattle.btree_load.specs.Filling.{IsOpen, Fills}
+use Rattle.btree_load.specs.Filling.{IsOpen, Fills, HasPages, KeepsLength, written}
 use Rattle.btree_load.specs.declared.fault.FillFault.{FillFault}
 
 -- no call yet
@@ -38,3 +39,13 @@ fills_any s old new x fills = record {
   failures = fills.failures;
   guard = fills.guard;
 }
+
+pub same_length : {S : Type 0} (s : Ghosts S) (store : S) → KeepsLength s store store
+same_length s store = record { pages = refl; tail = refl }
+
+pub same_then : {S : Type 0} (s : Ghosts S) (old mid new : S) → KeepsLength s old mid → KeepsLength s mid new → KeepsLength s old new
+same_then s old mid new first second = record { pages = second.pages ∙ first.pages; tail = second.tail ∙ first.tail }
+
+-- so many pages were written
+pub written_long : {S : Type 0} (s : Ghosts S) (count more : ℕ) (store : S) → HasPages s count more store → length (written s count store) ≡ count
+written_long s count more store has = length-take-le count (s.pages store) (omega (arith, has.room))

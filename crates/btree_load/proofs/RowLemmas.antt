@@ -14,7 +14,10 @@ use Rattle.btree_node.proofs.SplitLemmas.{around, Each-take, Each-drop, Ascends-
 use Rattle.btree_insert.specs.PageTrees.{Fan, TreeAt}
 use Rattle.btree_insert.proofs.ChangedTreeLemmas.{body_cut}
 use Rattle.btree_delete.specs.CleanFile.{in_file}
-use Rattle.btree_load.specs.Rows.{wide, from, IsWide, StandsFor, IsRow, AreFewest, TakesShare}
+use Rattle.page_store.specs.declared.store_state.StoreState.{Ghosts}
+use Rattle.btree_load.specs.Filling.{HasPages, KeepsLength}
+use Rattle.btree_load.proofs.ShapeLemmas.{same_pages}
+use Rattle.btree_load.specs.Rows.{HasRoom, wide, from, IsWide, StandsFor, IsRow, AreFewest, TakesShare}
 use Rattle.btree_load.proofs.FanLemmas.{Front, front_push, front_end, front_map, new_page, tree_before, body_before}
 
 -- what stands behind what stands behind
@@ -264,3 +267,29 @@ full_ends k count at pages within few (inr (low, fewest)) = fewest
 -- one element more
 pub longer : (new old : List Element) (x : Element) → new ≡ old ++ x ∷ [] → length new ≡ length old + 1
 longer new old x is = ap length is ∙ length-append old (x ∷ [])
+
+-- the level has one page more
+next_page : (k count at pages most : ℕ) → Fullness k count at pages → at ≤ count → AreFewest k count most → pages < most
+next_page k count at pages most (inl is) within fewest =
+    ⊎_elim (λ (low : pages < most). low)
+    (λ (high : most ≤ pages).
+    let enough = fewest.enough in
+    let wide = wider most pages (2 * k + 1) high in
+    absurd (omega (arith, enough, wide, is, within)))
+    (cases_lt pages most)
+  where
+    wider : (most pages width : ℕ) → most ≤ pages → most * width ≤ pages * width
+    wider most pages width high = grind arith
+next_page k count at pages most (inr (few, last)) within fewest =
+    let same = same_pages k count (pages + 1) most last fewest in
+    omega (arith, same)
+
+-- and the store has room for it
+pub has_next : {S : Type 0} (s : Ghosts S) (k elements at pages before count : ℕ) (old store : S) → HasRoom s k before elements old → KeepsLength s old store → count ≡ before + pages → Fullness k elements at pages → at ≤ elements → HasPages s count 1 store
+has_next s k elements at pages before count old store room same count_is full within =
+    let low = next_page k elements at pages room.pages full within room.fewest in
+    record {
+      start = omega (arith, count_is, room.has.start);
+      room = omega (arith, count_is, low, same.pages, room.has.room);
+      most = omega (arith, same.pages, room.has.most);
+    }

@@ -24,7 +24,7 @@ not_more k count pages more fewest other low =
     wider : (pages more width : ℕ) → pages < more → pages * width + width ≤ more * width
     wider pages more width low = grind arith
 
-same_pages : (k count pages other : ℕ) → AreFewest k count pages → AreFewest k count other → pages ≡ other
+pub same_pages : (k count pages other : ℕ) → AreFewest k count pages → AreFewest k count other → pages ≡ other
 same_pages k count pages other fewest fewest2 =
     ⊎_elim (λ (low : pages < other). absurd (not_more k count pages other fewest fewest2 low))
     (λ (high : other ≤ pages). ⊎_elim (λ (less : other < pages). absurd (not_more k count other pages fewest2 fewest less)) (λ (most : pages ≤ other). omega (arith, high, most)) (cases_lt other pages))

@@ -1,5 +1,5 @@
 -- What the calls that fill a store leave of it, and what they count.
-use Rattle.std.specs.Prelude.{◌≡◌, ℕ, ◌+◌, ◌<◌, ◌≤◌, length, Result, IsTrue}
+use Rattle.std.specs.Prelude.{◌≡◌, ℕ, ◌+◌, ◌<◌, ◌≤◌, List, length, take, Result, IsTrue}
 use Rattle.rec_types.specs.Table.{counted}
 use Rattle.page_store.specs.FreeNumbers.{greatest_page_count}
 use Rattle.page_store.specs.Guards.{Guard, may_grow, may_write}
@@ -21,8 +21,17 @@ pub record Fills {S A : Type 0} (s : Ghosts S) (old : S) (answer : Result A Fill
   pub failures : s.failures new ≡ counted (s.failures old) (is_device answer)
   pub guard : IsOpen (s.guard old) → s.guard new ≡ s.guard old
 
--- a store of so many pages, page 0 among them, to which so many more may be added
-pub record CanGrow {S : Type 0} (s : Ghosts S) (count more : ℕ) (store : S) : Type 0 where
-  pub long : length (s.pages store) ≡ count
+-- a store whose first pages were written, so many with page 0, and which has so many more for what follows
+pub record HasPages {S : Type 0} (s : Ghosts S) (count more : ℕ) (store : S) : Type 0 where
   pub start : 0 < count
-  pub room : count + more ≤ greatest_page_count
+  pub room : count + more ≤ length (s.pages store)
+  pub most : length (s.pages store) ≤ greatest_page_count
+
+-- those that were written
+abbrev pub written : {S : Type 0} → Ghosts S → ℕ → S → List (List ℕ)
+written s count store = take count (s.pages store)
+
+-- calls that keep the length of a store
+pub record KeepsLength {S : Type 0} (s : Ghosts S) (old new : S) : Type 0 where
+  pub pages : length (s.pages new) ≡ length (s.pages old)
+  pub tail : s.tail new ≡ s.tail old

@@ -6,6 +6,8 @@ use Rattle.btree_node.specs.Lists.{Element, Ascends}
 use Rattle.btree_node.specs.Spelling.{SonsFit}
 use Rattle.btree_insert.specs.PageTrees.{Fan, Body, TreeAt}
 use Rattle.btree_delete.specs.CleanFile.{in_file}
+use Rattle.page_store.specs.declared.store_state.StoreState.{Ghosts}
+use Rattle.btree_load.specs.Filling.{HasPages}
 
 -- elements with the sons around them as one node, however many they are
 abbrev pub wide : NodeKind → List Element → List ℕ → Node
@@ -46,3 +48,9 @@ pub record TakesShare (k left taken : ℕ) : Type 0 where
   pub next : taken + 1 + k ≤ left
   pub full : 3 * k < left → taken ≡ 2 * k
   pub even : left ≤ 3 * k → (2 * taken < left) × (left ≤ 2 * taken + 2)
+
+-- a store has room for the pages of a level of so many elements
+pub record HasRoom {S : Type 0} (s : Ghosts S) (k count elements : ℕ) (store : S) : Type 0 where
+  pub pages : ℕ
+  pub fewest : AreFewest k elements pages
+  pub has : HasPages s count pages store

@@ -1,13 +1,11 @@
 ghost use Rattle.std.specs.Prelude.{◌≡◌, ◌+◌, ◌*◌, ◌<◌, ◌≤◌, ℕ, List, suc, length, take, drop, IsTrue, IfOk, OnOk};
-ghost use Rattle.page_store.specs.Carrying.{IsLong};
-ghost use Rattle.page_store.specs.FreeNumbers.{greatest_page_count};
 ghost use Rattle.btree_node.specs.Cut.{left_of};
 ghost use Rattle.btree_node.specs.Layout.{IsOrder, most_keys};
 ghost use Rattle.btree_node.specs.Lists.{Element, Each};
 ghost use Rattle.btree_node.specs.Spelling.{IsElement};
 ghost use Rattle.btree_node.specs.declared.node.NodeKind.TheVariants.{Inner};
-ghost use Rattle.btree_load.specs.Filling.{CanGrow, Fills};
-ghost use Rattle.btree_load.specs.Rows.{wide, from, IsWide, StandsFor, IsRow, AreFewest, TakesShare};
+ghost use Rattle.btree_load.specs.Filling.{Fills, KeepsLength, written};
+ghost use Rattle.btree_load.specs.Rows.{wide, from, IsWide, StandsFor, IsRow, AreFewest, HasRoom, TakesShare};
 
 use crate::appending::append_page;
 use crate::fault::FillFault;
@@ -98,16 +96,17 @@ pub(crate) fn write_row<S: Store>(
     requires order { IsOrder k }
     requires some { 0 < length elements.now }
     requires wide { IsWide (wide kind elements.now sons.now) }
-    requires room { CanGrow S.StoreState count.old (length elements.now) store.old }
+    requires room { HasRoom S.StoreState k count.old (length elements.now) store.old }
     ensures row { IsTrue (S.steady store.old) → (least h : ℕ) (es : List Element) (us : List ℕ)
         → least ≤ k → least ≤ length elements.now
-        → StandsFor k (S.pages store.old) h (wide kind elements.now sons.now) es us
-        → IfOk result (λ row. IsRow k (S.pages store.new) least (suc h)
+        → StandsFor k (written S.StoreState count.old store.old) h
+        (wide kind elements.now sons.now) es us
+        → IfOk result (λ row. IsRow k (written S.StoreState count.new store.new) least (suc h)
         (wide Inner row.between.items row.sons.items) es) }
     ensures wide { IfOk result (λ row. IsWide (wide Inner row.between.items row.sons.items)) }
     ensures fewest { IfOk result (λ row. AreFewest k (length elements.now) (length row.sons.items)) }
     ensures count { IfOk result (λ row. count.new ≡ count.old + length row.sons.items) }
-    ensures long { OnOk result (IsLong S.StoreState count.new store.new) }
+    ensures long { KeepsLength S.StoreState store.old store.new }
     ensures fills { Fills S.StoreState store.old result store.new }
 {
     let mut row = Row {
