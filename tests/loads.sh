@@ -132,6 +132,14 @@ filled() { # ORDER COUNT
 for count in 0 1 2 3 4 5 8 9 10 26 27 28 80 81 82; do filled 1 $count; done
 for count in 0 1 3 4 5 6 24 25 26 124 125 126; do filled 2 $count; done
 for count in 0 1 31 32 33 34 64 65 66 1087 1088 1089 1090 35936 35937; do filled 16 $count; done
+"$program" create --order 1 first.rec
+printf '\001' | dd of=first.rec bs=1 seek=9 conv=notrunc status=none
+sorted 9 > lines
+run load first.rec < lines
+expect 0 ""
+[ "$(od -An -tu1 -j8 -N2 first.rec | tr -d ' ')" = 02 ] || fail "the file is of the first version"
+run check first.rec
+[ "$(cat out)" = "$(fullest 1 9)" ] || fail "9 records have other pages"
 printf 'begin\ndel 1 000001\nput 1 0000005 =more\ncommit 1\n' | "$program" run sorted.rec > out
 run check sorted.rec
 [ $status = 0 ] || fail "the file can't be changed"
