@@ -197,7 +197,7 @@ fi
 # A copy takes no more memory than a check: of a file of 40 megabytes.
 row="little memory"
 "$program" create --order 16 large.rec
-awk 'BEGIN { for (i = 0; i < 200000; i++) printf "%06d\tx\n", i }' | "$program" load large.rec
+awk 'BEGIN { for (i = 0; i < 300000; i++) printf "%06d\tx\n", i }' | "$program" load large.rec
 size=$(stat -c %s large.rec)
 [ "$size" -gt 30000000 ] || fail "the file has $size bytes"
 runs=$((runs + 1))

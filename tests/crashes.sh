@@ -19,6 +19,8 @@ trap 'rm -rf "$room"' EXIT
 cc -O2 -shared -fPIC -o "$room/crash.so" tests/crash.c
 cd "$room"
 runs=0
+# What a row's session does with its lines.
+task=run
 
 fail() {
     echo "crashes: FAILED: $row: $*"
@@ -34,7 +36,9 @@ met() { # SCRIPT VARIABLE=VALUE..
     rm -f met
     runs=$((runs + 1))
     status=0
-    env "$@" MET="$room/met" LD_PRELOAD="$room/crash.so" "$program" run file < "$script" > out 2> err || status=$?
+    word=run
+    [ "$script" != session ] || word=$task
+    env "$@" MET="$room/met" LD_PRELOAD="$room/crash.so" "$program" $word file < "$script" > out 2> err || status=$?
     [ -e met ]
 }
 
@@ -128,7 +132,9 @@ fail_in_turn() {
             rm -f file*
             cp old file
             met session $variable=$number || break
-            [ "$status:$(head -n 1 err)" = "1:recfile: Device" ] || fail "$variable $number: status $status: $(cat err)"
+            # A load looks at the file first: where that fails alone, it goes on.
+            [ "$status:$(head -n 1 err)" = "1:recfile: Device" ] || [ "$task:$status" = load:0 ] \
+                || fail "$variable $number: status $status: $(cat err)"
             [ $variable = FAIL_FROM ] || [ -e file-journal ] || cmp -s file old || cmp -s file new \
                 || fail "$variable $number: the file is neither the old one nor the new one"
             expect_either "$variable $number"
@@ -159,7 +165,7 @@ session() {
     cp "$2" old
     cat > session
     cp old new
-    "$program" run new < session > whole
+    "$program" $task new < session > whole
     list_of old > old_list
     list_of new > new_list
     stop_in_turn
@@ -219,6 +225,16 @@ put 1 b =x
 put 1 f =y
 commit 1
 END
+
+task=load
+session "a file is filled with sorted records" order_1 << 'END'
+a	1
+c	3
+e	5
+g	7
+i	9
+END
+task=run
 
 # Another program's writes may be lost until a closing has begun, which first has the device keep them and the names; then
 # none of them are.

@@ -327,6 +327,48 @@ while number=$((number + 1)); do
 done
 [ $unlooked -gt 0 ] || fail "no growth is one of the pages"
 
+# Each call that looks at the file or beside it fails in turn, alone and with all later ones: what couldn't be seen is told,
+# and a file that wasn't looked at is never called whole.
+row="calls that fail"
+failing() { # FILE: all that is told of it is in the file told
+    "$program" explain "$1" > whole || true
+    for call in pread flock statx realpath; do
+        for which in FAIL_AT FAIL_FROM; do
+            number=0
+            while number=$((number + 1)); do
+                # What was made beside it and couldn't be looked at again stays, and an opening takes it away.
+                rm -f met "$1-journal-new"
+                runs=$((runs + 1))
+                status=0
+                env FAIL=$call $which=$number MET="$room/met" LD_PRELOAD="$room/refuse.so" "$program" explain "$1" > out 2> err || status=$?
+                [ -e met ] || break
+                cat out >> told
+                case $status in
+                0) grep -v "^no session can close it" out | cmp -s - whole || fail "$call $number: another text" ;;
+                1) if grep -qx "the file is whole" out; then fail "$call $number: the file is called whole"; fi ;;
+                *) fail "$call $number: status $status" ;;
+                esac
+            done
+            [ $number -gt 1 ] || fail "no call is $call"
+        done
+    done
+    rm -f "$1-journal-new"
+}
+told() { # LINE
+    grep -qxF -- "$1" told || fail "nothing is told as '$1'"
+}
+: > told
+failing three.rec
+told "the system doesn't open three.rec: Input/output error (os error 5)"
+told "the system doesn't lock three.rec: No locks available (os error 37)"
+told "the system doesn't tell its length: Input/output error (os error 5)"
+told "no session can close it, since the system makes no file beside it: Input/output error (os error 5)"
+told "what stands beside it can't be read: $room/three.rec-journal"
+told "the system doesn't tell the whole path of three.rec: Input/output error (os error 5)"
+for page in 0 1 2 3; do
+    told "page $page can't be read: Input/output error (os error 5)"
+done
+
 row="a full file system"
 mkdir small
 if mount -t tmpfs -o size=20k none small 2> /dev/null; then
@@ -392,6 +434,9 @@ done
 explains stopped.rec 1 "beside it stands $room/stopped.rec-journal: a session was stopped while it closed the file, and the next one puts the old pages back"
 explains stopped.rec 1 "the file is whole by itself, and not with what stands beside it"
 cp stopped.rec-journal whole-journal
+: > told
+failing stopped.rec
+told "what stands beside it can't be read: $room/stopped.rec-journal"
 for place in 0 9 10 15 19 23 31 35 40 4131; do
     cp whole-journal stopped.rec-journal
     put_bytes stopped.rec-journal $place '\377'

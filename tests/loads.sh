@@ -107,7 +107,88 @@ refused 'a,b\nc\n' "FieldCount in line 2" --csv
 refused '"a\nb",c\nd,e,f\n' "FieldCount in line 3" --csv
 refused 'abcdefghijklmnopq,b\n' "KeyTooLong in line 1" --csv
 
+# How a check tells of so many sorted records: as few pages on each level as have room for them.
+fullest() { # ORDER COUNT
+    awk -v k="$1" -v n="$2" 'BEGIN {
+        pages = 1
+        for (left = n; left > 0; pages += left + 1) { height++; left = int(left / (2 * k + 1)) }
+        printf "order %d height %d records %d pages %d free 0\n", k, height, n, pages
+    }'
+}
+
+row="sorted records fill their pages"
+sorted() { awk -v n="$1" 'BEGIN { for (i = 1; i <= n; i++) printf "%06d\trecord %d\n", i, i }'; }
+filled() { # ORDER COUNT
+    rm -f sorted.rec
+    "$program" create --order "$1" sorted.rec
+    sorted "$2" > lines
+    run load sorted.rec < lines
+    expect 0 ""
+    run check sorted.rec
+    [ "$(cat out)" = "$(fullest "$1" "$2")" ] || fail "$2 records of order $1 have other pages"
+    run dump --tsv sorted.rec
+    cmp -s out lines || fail "$2 records of order $1 are other ones"
+}
+for count in 0 1 2 3 4 5 8 9 10 26 27 28 80 81 82; do filled 1 $count; done
+for count in 0 1 3 4 5 6 24 25 26 124 125 126; do filled 2 $count; done
+for count in 0 1 31 32 33 34 64 65 66 1087 1088 1089 1090 35936 35937; do filled 16 $count; done
+"$program" create --order 1 first.rec
+printf '\001' | dd of=first.rec bs=1 seek=9 conv=notrunc status=none
+sorted 9 > lines
+run load first.rec < lines
+expect 0 ""
+[ "$(od -An -tu1 -j8 -N2 first.rec | tr -d ' ')" = 02 ] || fail "the file is of the first version"
+run check first.rec
+[ "$(cat out)" = "$(fullest 1 9)" ] || fail "9 records have other pages"
+printf 'begin\ndel 1 000001\nput 1 0000005 =more\ncommit 1\n' | "$program" run sorted.rec > out
+run check sorted.rec
+[ $status = 0 ] || fail "the file can't be changed"
+
+row="records that are put one after another"
+put_singly() { # ORDER LINES: into the file, as a script puts them
+    sed 's/\(.*\)\t\(.*\)/put 1 \1 =\2/; s/=record /=record%20/; 1s/^/begin\n/; $s/$/\ncommit 1/' lines > script
+    cp "$1" singly.rec
+    "$program" shell singly.rec < script > out
+    "$program" dump singly.rec > wanted
+    run load "$1" < lines
+    expect 0 ""
+    "$program" dump "$1" | cmp -s - wanted || fail "$1 has other records"
+}
+"$program" create --order 1 unsorted.rec
+sorted 40 | sort -r > lines
+put_singly unsorted.rec
+"$program" create --order 1 twice.rec
+(sorted 9; printf '000009\tother\n') > lines
+put_singly twice.rec
+"$program" create --order 1 begun.rec
+printf 'begin\nput 1 000003 =mine\nput 1 z =last\ncommit 1\n' | "$program" run begun.rec > out
+sorted 40 > lines
+put_singly begun.rec
+"$program" create --order 1 emptied.rec
+"$program" load emptied.rec < lines
+sed 's/\(.*\)\t.*/del 1 \1/; 1s/^/begin\n/; $s/$/\ncommit 1/' lines | "$program" shell emptied.rec > out
+put_singly emptied.rec
+
+row="sorted records that are refused"
+"$program" create --order 1 none.rec
+cp none.rec before.rec
+sorted 4 > lines
+run load --records 3 none.rec < lines
+expect 3 "recfile: Full in line 4"
+"$program" dump before.rec > wanted
+"$program" dump none.rec | cmp -s - wanted || fail "a record stays"
+cp before.rec none.rec
+(cat lines; echo x) > broken
+run load none.rec < broken
+expect 3 "recfile: FieldCount in line 5"
+cmp -s none.rec before.rec || fail "the file was changed"
+run load --records 4 none.rec < lines
+expect 0 ""
+run dump --tsv none.rec
+cmp -s out lines || fail "other records"
+
 row="more records than a file may have"
+cp plain.rec before.rec
 perl -e 'printf "%07d\tx\n\n", $_ for 1 .. 1000001' > lines
 run load plain.rec < lines
 expect 3 "recfile: Full in line 1999993"

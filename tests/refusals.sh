@@ -339,4 +339,32 @@ commit 1
 END
 
 sed -E 's/(Memory|Stopped)( [0-9]+)+/\1 N/g' outcomes | sort | uniq -c
+# A load leaves all its records or none: where there is no memory to look at the file or to fill it, it answers Memory or puts
+# the records one after another.
+row="a file is filled with sorted records"
+printf 'a\t1\nb\t2\nc\t3\nd\t4\ne\t5\n' > script
+cp order_1 old
+list_of old > old_listed
+cp old new
+"$program" load new < script || fail "the load failed"
+list_of new > new_listed
+for variable in REFUSE_GROWTH REFUSE_FROM; do
+    number=0
+    while number=$((number + 1)); do
+        cp old file
+        disturbed load file
+        [ -e met ] || break
+        list_of file > listed || fail "the file isn't opened"
+        case "$status:$(head -n 1 err)" in
+        0:) cmp -s listed new_listed || fail "a record isn't there" ;;
+        [123]:'recfile: Memory'* | 2:'error: out of memory' | 1:'recfile: Device')
+            cmp -s listed old_listed || fail "a record stays"
+            ;;
+        *) fail "no such status and fault" ;;
+        esac
+    done
+    [ "$status" -eq 0 ] && cmp -s file new || fail "the last run failed"
+    echo "refusals: $row: $variable: $((number - 1)) refused"
+done
+
 echo "refusals: $runs passed, 0 failed"

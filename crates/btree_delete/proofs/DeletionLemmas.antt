@@ -1,5 +1,5 @@
 -- What taking a key out below a page comes to.
-use Rattle.std.proofs.Common.{◌≡◌, ℕ, zero, suc, ◌<◌, ◌≤◌, inl, Option, Some, None, List, [], ◌∷◌, ◌++◌, length, get_or, set, take, drop, refl, ap, sym, ◌∙◌, subst, arith, false, IsSome, is_some, Result, Ok, Err, MatchResult}
+use Rattle.std.proofs.Common.{◌≡◌, ℕ, zero, suc, ◌<◌, ◌≤◌, inl, Option, Some, None, List, [], ◌∷◌, ◌++◌, length, get_or, set, take, drop, refl, ap, sym, ◌∙◌, subst, arith, false, IsSome, is_some}
 use Rattle.std.specs.List.{remove}
 use Rattle.std.proofs.lemmas.List.{get_or_default}
 use Rattle.page_store.specs.PageMap.{PageMap, at, after}
@@ -59,11 +59,6 @@ found_some k pages h n es us key i body up place =
 -- what stands at a key below a son stands there below the page
 pub some_below : (key : List ℕ) (es pre xs post : List Element) → es ≡ pre ++ (xs ++ post) → Each (λ e. Below e.0 key) pre → Each (λ e. Below key e.0) post → lookup_in key es ≡ lookup_in key xs
 some_below key es pre xs post es_is below above = ap (lookup_in key) es_is ∙ lookup-between key pre xs post below above
-
--- both sides of an answer, each by what is known of it
-pub either : {A E : Type 0} (r : Result A E) (P Q : A → Type 0) (F G : E → Type 0) → ((x : A) → P x → Q x) → ((e : E) → F e → G e) → MatchResult r P F → MatchResult r Q G
-either (Ok x) P Q F G ok err is = ok x is
-either (Err e) P Q F G ok err is = err e is
 
 -- an element of a page stands at its place
 pub is_at : (els : List Element) (i : ℕ) → Ascends els → i < length els → IsAt els (get_or els i ([], [])).0 i

@@ -1,8 +1,7 @@
 -- A deletion that changes one page.
-use Rattle.std.proofs.Common.{◌≡◌, ℕ, suc, ◌<◌, ◌≤◌, ◌++◌, [], ◌∷◌, List, Option, Some, IsSome, inl, length, refl, ap, sym, ◌∙◌, subst, arith}
+use Rattle.std.proofs.Common.{◌≡◌, ℕ, suc, ◌<◌, ◌≤◌, ◌++◌, [], ◌∷◌, List, Some, length, refl, ap, sym, ◌∙◌, subst, arith}
 use Rattle.std.specs.List.{remove}
 use Rattle.std.proofs.lemmas.List.Edits.{length-remove}
-use Rattle.page_store.specs.CanStage.{CanStage}
 use Rattle.page_store.specs.PageMap.{PageMap, at, after}
 use Rattle.btree_node.specs.declared.node.Node.{Node}
 use Rattle.btree_node.specs.declared.node.NodeKind.TheVariants.{Leaf}
@@ -21,29 +20,6 @@ use Rattle.btree_delete.specs.Subtrees.{head_page}
 use Rattle.btree_delete.specs.PagesLeft.{pages_freed}
 use Rattle.btree_delete.proofs.DeletionLemmas.{drop_leaf, drop_whole}
 use Rattle.btree_delete.proofs.UnderfullNodeLemmas.{leaf_without}
-
--- an edit of nothing, and one of a page that is in use
-
-pub none_stages : (pages : List (Option (List ℕ))) (ws : List (ℕ × List ℕ)) (fs : List ℕ) (taken : ℕ) → ws ≡ [] → fs ≡ [] → taken ≡ 0 → CanStage pages ws taken fs
-none_stages pages ws fs taken no_writes none_freed none_taken =
-    subst (λ (x : List (ℕ × List ℕ)). CanStage pages x taken fs) (sym no_writes) (subst (λ (x : List ℕ). CanStage pages [] taken x) (sym none_freed) (record {
-      written = tt;
-      taken_written = λ i low. absurd (omega (arith, low, none_taken));
-      freed_in_use = tt;
-      freed_not_written = tt;
-      room = λ some. absurd (omega (arith, some, none_taken));
-    }))
-
-pub one_stages : (pages : List (Option (List ℕ))) (ws ws2 : List (ℕ × List ℕ)) (fs : List ℕ) (taken n : ℕ) (bytes : List ℕ) → ws ≡ [] → fs ≡ [] → taken ≡ 0 → IsSome (at pages n) → ws2 ≡ ws ++ (n, bytes) ∷ [] → CanStage pages ws2 taken fs
-one_stages pages ws ws2 fs taken n bytes no_writes none_freed none_taken used writes =
-    let one : ws2 ≡ (n, bytes) ∷ [] = writes ∙ ap (λ (x : List (ℕ × List ℕ)). x ++ (n, bytes) ∷ []) no_writes in
-    subst (λ (x : List (ℕ × List ℕ)). CanStage pages x taken fs) (sym one) (subst (λ (x : List ℕ). CanStage pages ((n, bytes) ∷ []) taken x) (sym none_freed) (record {
-      written = (inl used, tt);
-      taken_written = λ i low. absurd (omega (arith, low, none_taken));
-      freed_in_use = tt;
-      freed_not_written = tt;
-      room = λ some. absurd (omega (arith, some, none_taken));
-    }))
 
 -- a leaf with two keys or more may lose one
 

@@ -186,11 +186,6 @@ shrank_deleted old new tree shrunk next es us key x hi holds found shrank some f
     subst (λ (t : Tree). Deleted old new tree es us key (t, Some x)) (sym next_is)
     (deleted_by old new tree smaller es us shrank.left.vs key x hi holds found shrank.left.tree shrank.left.loses shrank.order (omega (arith, some, shrank.count)) (omega (arith, few, shrank.used)))
 
--- which can't fail
-pub shrank_enough : {P : Type 0} (old new : PageMap) (tree shrunk : Tree) (es : List Element) (us : List ℕ) (key x : List ℕ) (hi : ℕ) → Holds old tree es us → lookup_in key es ≡ Some x → Shrank old new tree shrunk hi (set_in key None es) us → (shrunk.count ≡ 0) ⊎ (shrunk.used < hi) → P
-shrank_enough old new tree shrunk es us key x hi holds found shrank fault =
-    ⊎_elim (λ (none : shrunk.count ≡ 0). absurd (omega (arith, none, shrank.count, holds.count, remove-length key es x found))) (λ (less : shrunk.used < hi). absurd (omega (arith, less, shrank.used, holds.used, shrank.left.loses.count))) fault
-
 -- nothing was deleted
 pub deleted_none : (old new : PageMap) (tree : Tree) (es : List Element) (us : List ℕ) (key : List ℕ) → new ≡ old → Holds old tree es us → lookup_in key es ≡ None → Deleted old new tree es us key (tree, None)
 deleted_none old new tree es us key same holds none =

@@ -1,6 +1,6 @@
 -- What is left of the pages of a tree after an edit that takes no page.
 use Rattle.std.specs.Prelude.{◌≡◌, ℕ, List, None, length}
-use Rattle.page_store.specs.PageMap.{PageMap, after}
+use Rattle.page_store.specs.PageMap.{PageMap, after, write_page}
 use Rattle.page_store.specs.declared.page_edit.PageEdit.{PageEdit}
 use Rattle.btree_insert.specs.PageTrees.{IsIn, Apart}
 
@@ -24,3 +24,7 @@ pages_freed old new lo hi = record { old = old; new = new; lo = lo; hi = hi }
 -- pages with all that an edit writes and frees
 abbrev pub with_edit : PageMap → PageEdit → PagesFreed
 with_edit pages edit = pages_freed pages (after pages edit.writes.items edit.freed.items) 0 (length edit.freed.items)
+
+-- pages with other bytes in one of them
+abbrev pub with_page : PageMap → ℕ → List ℕ → PagesFreed
+with_page pages n page = pages_freed pages (write_page pages n page) 0 0

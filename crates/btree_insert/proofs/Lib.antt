@@ -15,6 +15,7 @@ pub mod SizeLemmas
 pub mod SearchStepLemmas
 pub mod StepNodeLemmas
 pub mod OnePageLemmas
+pub mod LeafCutLemmas
 pub mod TreeClassLemmas
 pub mod ReachLemmas
 pub mod ReadingLemmas

@@ -86,7 +86,7 @@ insert_within b els i e each is = record {
   under = Each-insert (λ x. Under b.high x.0) els i e each.under is.1;
 }
 
-leaf_sons : (kind : NodeKind) (count more : ℕ) (sons : List ℕ) → kind ≡ Leaf → SonsFit kind count sons → SonsFit kind more sons
+pub leaf_sons : (kind : NodeKind) (count more : ℕ) (sons : List ℕ) → kind ≡ Leaf → SonsFit kind count sons → SonsFit kind more sons
 leaf_sons Leaf count more sons is fit = fit
 leaf_sons Inner count more sons is fit = absurd (cc)
 

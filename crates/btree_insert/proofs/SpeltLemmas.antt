@@ -1,11 +1,13 @@
 -- What pages spell after an edit.
-use Rattle.std.proofs.Common.{◌≡◌, ℕ, Bool, true, false, not, ◌||◌, ◌&&◌, cond, eqb, Option, Some, None, List, [], ◌∷◌, ◌++◌, refl, ap, sym, ◌∙◌, subst}
+use Rattle.std.proofs.Common.{◌≡◌, ℕ, Bool, true, false, not, ◌||◌, ◌&&◌, cond, eqb, Option, Some, None, is_some, is_none, IsSome, IfSome, List, [], ◌∷◌, ◌++◌, refl, ap, sym, ◌∙◌, subst}
 use Rattle.page_store.specs.PageMap.{PageMap, at, write_page, overlay, free_all, after, is_written, is_freed}
 use Rattle.page_store.specs.PagesView.{PagesView, is_in_memory, OnlyReads}
 use Rattle.btree_node.specs.declared.node.Node.{Node}
 use Rattle.btree_node.specs.Spelling.{spelling, CanStand, IsSpelt, AreSpelt}
 use Rattle.btree_node.proofs.ElementOrderLemmas.{Each-append}
-use Rattle.btree_insert.specs.Spelt.{AreSpeltIn}
+use Rattle.page_store.specs.ChangedPage.{ChangesPage}
+use Rattle.btree_node.specs.declared.page_change.PageChange.{PageChange}
+use Rattle.btree_insert.specs.Spelt.{AreSpeltIn, CanChange}
 
 -- one node more
 pub spelt_more : (k n : ℕ) (ws ws2 : List (ℕ × List ℕ)) (node : Node) → CanStand node k → ws2 ≡ ws ++ (n, spelling node k) ∷ [] → AreSpelt k ws → AreSpelt k ws2
@@ -72,6 +74,25 @@ spelt_written_over k old new n page pages in_memory written spelt q bytes here t
     by_case : (b : Bool) → cond b (Some page) (at old.pages q) ≡ Some bytes → IsSpelt k bytes
     by_case true is = same_bytes k page bytes is written
     by_case false is = spelt q bytes (sym (in_memory q) ∙ here) is
+
+-- what was found is there
+pub some_found : {P : Type 0} (found : Option P) → is_none found ≡ false → is_some found ≡ true
+some_found (Some page) is = refl
+some_found None is = absurd (cc)
+
+-- the page that was found in memory
+pub found_there : {P : Type 0} (bytes : P → List ℕ) (found : Option P) (pages : PagesView) (n : ℕ) → is_none found ≡ false → IfSome found (λ page. at pages.pages n ≡ Some (bytes page)) → IsSome (at pages.pages n)
+found_there bytes (Some page) pages n is there = subst IsSome (sym there) refl
+found_there bytes None pages n is there = absurd (cc)
+
+-- the pages in memory after one of them was changed
+pub spelt_changed : (k n : ℕ) (change : PageChange) (old new : PagesView) → is_in_memory old n ≡ true → IsSome (at old.pages n) → ChangesPage k n change old.pages new.pages → ((q : ℕ) → is_in_memory new q ≡ is_in_memory old q) → CanChange k old n change → AreSpeltIn k old → AreSpeltIn k new
+spelt_changed k n change old new here there made in_memory can spelt =
+    by_page (at old.pages n) refl there
+  where
+    by_page : (page : Option (List ℕ)) → at old.pages n ≡ page → IsSome page → AreSpeltIn k new
+    by_page (Some was) is some = spelt_written_over k old new n made.page made.pages in_memory (can.spelt here was made.page is (made.changed was is)) spelt
+    by_page None is some = absurd (cc)
 
 -- the pages in memory after calls that changed none
 pub spelt_unchanged : (k : ℕ) (old new : PagesView) → OnlyReads old new → AreSpeltIn k old → AreSpeltIn k new

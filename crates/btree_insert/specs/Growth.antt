@@ -8,6 +8,8 @@ use Rattle.page_store.specs.declared.page_edit.PageEdit.{PageEdit}
 use Rattle.page_store.specs.CanStage.{IsTaken}
 use Rattle.btree_node.specs.declared.node.Node.{Node}
 use Rattle.btree_node.specs.declared.node.NodeKind.TheVariants.{Leaf, Inner}
+use Rattle.btree_node.specs.declared.page_change.PageChange.{PageChange}
+use Rattle.btree_node.specs.declared.page_change.PageChange.TheVariants.{Replace, Insert}
 use Rattle.btree_node.specs.Cut.{left_of, right_of}
 use Rattle.btree_node.specs.Layout.{IsOrder}
 use Rattle.btree_node.specs.Lists.{Element, Each, Ascends, IsPlace}
@@ -86,6 +88,11 @@ pub record GrowsWithin (spot : Spot) (old new : ℕ) (g : Grown) : Type 0 where
   pub takes : TakesNumbers spot.level old new g
   pub goes_up : SplitGoesUp spot.bounds g
 
+-- a node with a key too many, cut in two around its middle key: the left half written as page n, the right half as another page
+pub record WritesHalves (k n other : ℕ) (old new : List (ℕ × List ℕ)) (node : Node) (middle : Element) : Type 0 where
+  pub middle_is : (d : Element) → middle ≡ slice_index_or node.elements.items k d
+  pub written : new ≡ (old ++ (n, spelling (left_of k node) k) ∷ []) ++ (other, spelling (right_of k node) k) ∷ []
+
 -- a node written as page n, or cut in two around its middle key, the right half as a new page
 abbrev pub WritesOrSplits : ℕ → ℕ → PageEdit → PageEdit → ℕ → Node → Grown → Type 0
 WritesOrSplits k fresh old new n node (Replaced value) = ⊥
@@ -99,6 +106,11 @@ WritesOrSplits k fresh old new n node (Split middle right) =
 abbrev pub in_one : Option (List ℕ) → Grown
 in_one (Some value) = Replaced value
 in_one None = Fits
+
+-- the change of a page that puts an element at place i, by what stood at the key
+abbrev pub change_at : ℕ → Option (List ℕ) → Element → PageChange
+change_at i (Some value) e = Replace i e
+change_at i None e = Insert i e
 
 -- the record that stood at the key
 abbrev pub replaced : Grown → Option (List ℕ)

@@ -15,7 +15,8 @@ ghost use Rattle.btree_insert.specs.Steps.{IsKnown};
 ghost use Rattle.btree_insert.specs.PagesGrown.{edited};
 ghost use Rattle.btree_insert.specs.Edits.{CanSettle, IsInUse, Reads, OnlyWrites, WritesAndTakes, HasRoom};
 
-use crate::insert_in_one::{write_inserted, write_replaced};
+use crate::insert_in_one::{write_inserted, write_replaced, write_with_son};
+use crate::split_leaf::write_halves;
 use crate::step::{Spot, Step, take_step};
 use crate::tree::{PATH_ROOM, TreeFault};
 use arrayvec::ArrayVec;
@@ -106,8 +107,8 @@ fn bytes_at<'a, S: Store>(
     read
 }
 
-/// Puts an element at its place in page n, a leaf, and splits the page where it is full: only then it
-/// becomes a node.
+/// Puts an element at its place in page n, a leaf, and splits the page where it is full: in both cases its bytes
+/// are changed, and it becomes no node.
 fn put_in_leaf<S: Store>(
     pages: &Pages<S>,
     edit: &mut PageEdit,
@@ -136,13 +137,14 @@ fn put_in_leaf<S: Store>(
         write_inserted(edit, order, n, page, i, element)?;
         return Ok(Grown::Fits);
     }
-    let mut node = Node::blank();
-    let _ = decode_into(page, order, &mut node);
-    node.elements.insert(i, element);
-    settle(pages, edit, order, n, node)
+    let number = pages.candidate(edit.taken);
+    let middle = write_halves(edit, order, n, number, page, i, element)?;
+    edit.taken += 1;
+    Ok(Grown::Split(middle, number))
 }
 
-/// Puts into page n what a split of its son i left, and splits the page where it is full.
+/// Puts into page n what a split of its son i left, and splits the page where it is full: only then it
+/// becomes a node.
 fn put_in_father<S: Store>(
     pages: &Pages<S>,
     edit: &mut PageEdit,
@@ -168,6 +170,10 @@ fn put_in_father<S: Store>(
         → (bounds : Bounds) → AreWithin bounds (insert m.elements.items i middle)
         → IfOk result (SplitGoesUp bounds) }
 {
+    if count_in(page) < 2 * order as usize {
+        write_with_son(edit, order, n, page, i, middle, right)?;
+        return Ok(Grown::Fits);
+    }
     let mut node = Node::blank();
     let _ = decode_into(page, order, &mut node);
     node.elements.insert(i, middle);
@@ -177,7 +183,7 @@ fn put_in_father<S: Store>(
 
 /// Puts the record at the key in the tree below the page at a spot, and collects the pages to write.
 /// `visited` gains the pages that were visited. Where `in_place`, a page in memory is searched where it
-/// lies. Only a page that is split, or whose son is, becomes a node. Faults: Device, Memory, and Damaged
+/// lies. Only an inner page that is split becomes a node. Faults: Device, Memory, and Damaged
 /// as in `take_step` and where a page is visited twice.
 pub(crate) fn insert_below<S: Store>(
     pages: &mut Pages<S>,

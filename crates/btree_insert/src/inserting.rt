@@ -16,13 +16,13 @@ ghost use Rattle.btree_insert.specs.Edits.{CanGrow, IsInUse, Reads, Stages, Writ
 
 use crate::bounds::Bounds;
 use crate::insert_below::{Grown, insert_below, write_node};
-use crate::insert_in_one::insert_in_one;
+use crate::insert_in_one::{change_of, place_in_one};
 use crate::step::Spot;
 use crate::tree::{GREATEST_COUNT, GREATEST_HEIGHT, GREATEST_PAGE_COUNT, Tree, TreeFault};
 use arrayvec::ArrayVec;
 use btree_node::{Node, NodeKind};
 use page_store::{PageEdit, Pages, Store};
-use rec_types::{KEY_WIDTH, Key, Memory, PAGE_WIDTH, RECORD_WIDTH, Record};
+use rec_types::{KEY_WIDTH, Key, Memory, RECORD_WIDTH, Record};
 use std::alloc::Global;
 
 /// A tree after an insertion that is not in place yet.
@@ -318,7 +318,7 @@ pub fn insert<S: Store>(
 }
 
 /// The same as `insert`, where each page in memory is known to spell a node of the order: it is searched
-/// where it lies, and where that page changes alone it is written over there.
+/// where it lies, and where that page changes alone it is changed there.
 pub fn insert_in_place<S: Store>(
     alloc: Global,
     pages: &mut Pages<S>,
@@ -350,7 +350,7 @@ pub fn insert_in_place<S: Store>(
 }
 
 /// Puts the record at the key where that changes one page alone and all pages on the way are in memory:
-/// the page is written over, and no memory is asked for. None where it is not so, or where the tree might
+/// the page is changed there, and no memory is asked for. None where it is not so, or where the tree might
 /// pass a limit; no page has changed then.
 fn insert_where_it_lies<S: Store>(
     pages: &mut Pages<S>,
@@ -390,14 +390,13 @@ fn insert_where_it_lies<S: Store>(
             high: None,
         },
     };
-    let mut bytes = [0; PAGE_WIDTH];
-    let Some(placed) = insert_in_one(pages, tree.order, &root, element, &mut bytes) else {
+    let Some(placed) = place_in_one(pages, tree.order, &root, &element) else {
         return None;
     };
     if pages.in_memory(placed.page).is_none() {
         return None;
     }
-    pages.write_over(placed.page, &bytes);
+    pages.change(tree.order, placed.page, &change_of(&placed, element));
     match placed.old {
         Some(old) => Some((*tree, Some(old))),
         None => Some((grown, None)),

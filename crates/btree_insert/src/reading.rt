@@ -1,5 +1,6 @@
-ghost use Rattle.std.specs.Prelude.{◌≡◌, ◌<◌, ◌⊎◌, Some, None, IsTrue, IfSome, IfErr, OnOk, IsOk, MatchResult};
+ghost use Rattle.std.specs.Prelude.{◌≡◌, ◌<◌, ◌⊎◌, Some, None, true, IsTrue, IfSome, IfErr, OnOk, IsOk, MatchResult};
 ghost use Rattle.page_store.specs.PageMap.{at};
+ghost use Rattle.page_store.specs.PagesView.{is_in_memory};
 ghost use Rattle.btree_node.specs.Spelling.{spelling, CanStand, IsSpelt};
 ghost use Rattle.btree_node.specs.declared.node.Node.{Node};
 ghost use Rattle.btree_insert.specs.Bounds.{AreWithin};
@@ -69,9 +70,11 @@ fn fetch_page<S: Store>(
 }
 
 /// The bytes of page n where they lie in memory, changed or kept.
-pub(crate) fn lies_at<S: Store>(pages: &Pages<S>, order: u16, n: u32) -> Option<&[u8; PAGE_WIDTH]>
+pub fn lies_at<S: Store>(pages: &Pages<S>, order: u16, n: u32) -> Option<&[u8; PAGE_WIDTH]>
     requires { AreSpeltIn order pages.now }
     ensures page { IsTrue pages.now.steady
+        → IfSome result (λ page. at pages.now.pages n ≡ Some page.now) }
+    ensures in_memory { is_in_memory pages.now n ≡ true
         → IfSome result (λ page. at pages.now.pages n ≡ Some page.now) }
     ensures spelt { IfSome result (λ page. IsSpelt order page.now) }
 {

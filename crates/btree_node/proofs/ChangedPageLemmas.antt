@@ -1,11 +1,12 @@
 -- What a page spells after some of its bytes are written over.
-use Rattle.std.proofs.Common.{◌≡◌, ℕ, zero, suc, ◌+◌, ◌-◌, ◌*◌, ◌<◌, ◌≤◌, List, [], ◌∷◌, ◌++◌, length, take, drop, replicate, get_or, set, refl, ap, sym, ◌∙◌, append_assoc, arith, length-append, length-drop}
+use Rattle.std.proofs.Common.{◌≡◌, ℕ, zero, suc, ◌+◌, ◌-◌, ◌*◌, ◌<◌, ◌≤◌, List, [], ◌∷◌, ◌++◌, length, take, drop, replicate, get_or, set, refl, ap, sym, ◌∙◌, append_assoc, arith, length-append, length-drop, take-add}
 use Rattle.std.specs.List.{flat_map, insert, remove}
 use Rattle.std.proofs.lemmas.List.{take_at, drop_at, drop-drop, length-take-le, length-replicate, length-set, take-append-drop, replicate-append-replicate}
 use Rattle.std.proofs.lemmas.List.Edits.{length-insert, length-remove}
 use Rattle.std.proofs.lemmas.List.Concat.{flat_map-append}
 use Rattle.std.proofs.Math.Seq.{set_split, drop-cons}
 use Rattle.std.proofs.Math.Nat.{mul-suc, mul-le-mul_left}
+use lib.Seq.{paste}
 use borrow.Rule.Slice.PartMut.{put_mid, mid_of}
 use Rattle.byteorder.specs.Endian.{big_bytes}
 use Rattle.rec_types.specs.Padded.{padded}
@@ -48,6 +49,31 @@ put_next at xs ys page within =
     ∙ ap (λ x. (p ++ xs) ++ (ys ++ x)) back
     ∙ simp append_assoc
 
+-- bytes, and then others before them
+pub put_before : (at : ℕ) (xs ys page : List ℕ) → at + length xs ≤ length page → put_at at xs (put_at (at + length xs) ys page) ≡ put_at at (xs ++ ys) page
+unfolding put_at
+put_before at xs ys page within =
+    let p = take at page in
+    let m = take (length xs) (drop at page) in
+    let post = drop (at + length xs + length ys) page in
+    let size : length (take (at + length xs) page) ≡ at + length xs = length-take-le (at + length xs) page within in
+    let front : take at (take (at + length xs) page ++ (ys ++ post)) ≡ p =
+    ap (λ x. take at (x ++ (ys ++ post))) (take-add at (length xs) page) ∙ ap (take at) (append_assoc p m (ys ++ post))
+    ∙ take_at p (m ++ (ys ++ post)) at (length-take-le at page (omega arith)) in
+    let back : drop (at + length xs) (take (at + length xs) page ++ (ys ++ post)) ≡ ys ++ post = drop_at (take (at + length xs) page) (ys ++ post) (at + length xs) size in
+    ap (λ x. x ++ (xs ++ drop (at + length xs) (take (at + length xs) page ++ (ys ++ post)))) front
+    ∙ ap (λ x. p ++ (xs ++ x)) back
+    ∙ ap (λ n. p ++ (xs ++ (ys ++ drop n page))) (omega (arith, length-append xs ys))
+    ∙ ap (λ x. p ++ x) (sym (append_assoc xs ys (drop (at + length (xs ++ ys)) page)))
+
+-- bytes of the page written over others
+pub moved_put : (at start len : ℕ) (now page : List ℕ) → start + len ≤ length page → now ≡ paste page at (drop start page) len → now ≡ put_at at (part start len page) page
+unfolding put_at part
+moved_put at start len now page within is =
+    let size : length (take len (drop start page)) ≡ len = length-take-le len (drop start page) (omega (arith, length-drop {A = ℕ})) in
+    is ∙ append_assoc (take at page) (take len (drop start page)) (drop (at + len) page)
+    ∙ ap (λ n. take at page ++ (take len (drop start page) ++ drop (at + n) page)) (sym size)
+
 -- bytes written over keep the page's length
 pub length-put_at : (at : ℕ) (xs page : List ℕ) → at + length xs ≤ length page → length (put_at at xs page) ≡ length page
 unfolding put_at
@@ -87,21 +113,21 @@ place_put at e page p q within fits p_is q_is =
     ∙ put_next at (field 16 e.0) (field 100 e.1) page (omega (arith, size))
 
 -- the first blocks of one width
-length-first_blocks : {X : Type 0} (f : X → List ℕ) (width i : ℕ) (xs : List X) → Each (λ x. length (f x) ≡ width) xs → i ≤ length xs → length (flat_map f (take i xs)) ≡ width * i
+pub length-first_blocks : {X : Type 0} (f : X → List ℕ) (width i : ℕ) (xs : List X) → Each (λ x. length (f x) ≡ width) xs → i ≤ length xs → length (flat_map f (take i xs)) ≡ width * i
 length-first_blocks f width zero xs each low = omega arith
 length-first_blocks f width (suc i) [] each low = absurd (omega arith)
 length-first_blocks f width (suc i) (x ∷ xs) each low = omega (arith, length-append (f x) (flat_map f (take i xs)), each.0, length-first_blocks f width i xs each.1 (omega arith), mul-suc width i)
 
 -- the head and the places of a page
-front : NodeKind → List Element → List ℕ
+unfoldable pub front : NodeKind → List Element → List ℕ
 front kind els = head kind (length els) ++ flat_map (place second_layout) els
 
 -- what stands behind them, up to the place of the sons and from there on
-behind : ℕ → ℕ → List ℕ → List ℕ
+unfoldable pub behind : ℕ → ℕ → List ℕ → List ℕ
 behind start len sons = replicate (start - len) 0 ++ (sons ++ replicate (4096 - (start + length sons)) 0)
 
 -- a page is its front and what stands behind
-spelled_in_two : (k : ℕ) (n : Node) → length (front n.kind n.elements.items) ≤ sons_start second_layout k
+pub spelled_in_two : (k : ℕ) (n : Node) → length (front n.kind n.elements.items) ≤ sons_start second_layout k
     → spelling n k ≡ front n.kind n.elements.items ++ behind (sons_start second_layout k) (length (front n.kind n.elements.items)) (sons_bytes n.sons.items)
 unfolding spelling_in padded front behind
 spelled_in_two k n few =
@@ -127,7 +153,7 @@ blocks_set els i e low =
     ∙ flat_map-append (place second_layout) (take i els) (e ∷ drop (suc i) els)
 
 -- the length of the front of a page
-length-front : (k : ℕ) (n : Node) → CanStand n k → length (front n.kind n.elements.items) ≡ 8 + 118 * length n.elements.items
+pub length-front : (k : ℕ) (n : Node) → CanStand n k → length (front n.kind n.elements.items) ≡ 8 + 118 * length n.elements.items
 unfolding front
 length-front k n can =
     omega (arith, length-append (head n.kind (length n.elements.items)) (flat_map (place second_layout) n.elements.items), length-head n.kind (length n.elements.items), length-blocks (place second_layout) 118 n.elements.items (widths second_layout n.elements.items can.fit))
@@ -170,7 +196,7 @@ replaced_spelt k i n e page can fits is low =
     ∙ sym now_whole
 
 -- another number of keys
-count_put : (kind : NodeKind) (count more : ℕ) (rest : List ℕ) → put_at 2 (big_bytes 2 more) (head kind count ++ rest) ≡ head kind more ++ rest
+pub count_put : (kind : NodeKind) (count more : ℕ) (rest : List ℕ) → put_at 2 (big_bytes 2 more) (head kind count ++ rest) ≡ head kind more ++ rest
 unfolding put_at head
 count_put kind count more rest = refl
 
@@ -217,12 +243,12 @@ opened k i n page can is low less =
       room = room;
     }
 
--- a page with one element more: its place is written, then the places behind it, then the number of keys
+-- a page with one element more: the places behind it are moved, then its place is written, then the number of keys
 pub inserted_spelt : (k i : ℕ) (n : Node) (e : Element) (page moved p q r : List ℕ) → CanStand n k → IsElement e → page ≡ spelling n k → length page ≡ 4096 → k ≤ 16
     → i ≤ length n.elements.items → length n.elements.items < 2 * k
     → moved ≡ part (8 + 118 * i) (8 + 118 * length n.elements.items - (8 + 118 * i)) page
-    → p ≡ put_at (8 + 118 * i) (place second_layout e) page
-    → q ≡ put_at (8 + 118 * (i + 1)) moved p
+    → p ≡ put_at (8 + 118 * (i + 1)) moved page
+    → q ≡ put_at (8 + 118 * i) (place second_layout e) p
     → r ≡ put_at 2 (big_bytes 2 (length n.elements.items + 1)) q
     → r ≡ spelling (with_elements n (insert n.elements.items i e)) k
 unfolding front up_to
@@ -241,9 +267,8 @@ inserted_spelt k i n e page moved p q r can fits is size small low less moved_is
     moved_is ∙ ap (part (8 + 118 * i) (8 + 118 * count - (8 + 118 * i))) (o.whole ∙ ap (λ x. a ++ x) (append_assoc b gap o.rest))
     ∙ part_middle (8 + 118 * i) (8 + 118 * count - (8 + 118 * i)) a b (gap ++ o.rest) o.before (omega (arith, o.moved)) in
     let both : q ≡ put_at (8 + 118 * i) (new ++ b) page =
-    q_is ∙ ap (put_at (8 + 118 * (i + 1)) moved) p_is ∙ ap (λ x. put_at (8 + 118 * (i + 1)) x (put_at (8 + 118 * i) new page)) tail
-    ∙ ap (λ at. put_at at b (put_at (8 + 118 * i) new page)) (omega (arith, wide))
-    ∙ put_next (8 + 118 * i) new b page (omega (arith, wide, size, small, low, less)) in
+    q_is ∙ ap (put_at (8 + 118 * i) new) (p_is ∙ ap (λ x. put_at (8 + 118 * (i + 1)) x page) tail ∙ ap (λ at. put_at at b page) (omega (arith, wide)))
+    ∙ put_before (8 + 118 * i) new b page (omega (arith, wide, size, small, low, less)) in
     let laid : q ≡ a ++ ((new ++ b) ++ o.rest) =
     both ∙ ap (put_at (8 + 118 * i) (new ++ b)) o.whole
     ∙ put_middle (8 + 118 * i) a (b ++ gap) (new ++ b) o.rest o.before (omega (arith, length-append b gap, length-append new b, wide)) in
@@ -262,6 +287,28 @@ inserted_spelt k i n e page moved p q r can fits is size small low less moved_is
     ∙ ap (λ x. front n.kind (insert els i e) ++ x) (sym o.rest_is)
     ∙ ap (λ x. x ++ o.rest) now in
     counted ∙ sym (spelt ∙ regrouped (head n.kind (count + 1)) f (new ++ b) o.rest)
+
+-- the length of the front of a page with one element more
+pub length-front_more : (k i : ℕ) (n : Node) (e : Element) → CanStand n k → IsElement e → i ≤ length n.elements.items → length (front n.kind (insert n.elements.items i e)) ≡ 8 + 118 * (length n.elements.items + 1)
+unfolding front
+length-front_more k i n e can fits low =
+    let els = n.elements.items in
+    let f = flat_map (place second_layout) (take i els) in
+    let b = flat_map (place second_layout) (drop i els) in
+    let whole : flat_map (place second_layout) els ≡ f ++ b = ap (flat_map (place second_layout)) (sym (take-append-drop i els)) ∙ flat_map-append (place second_layout) (take i els) (drop i els) in
+    let longer : flat_map (place second_layout) (insert els i e) ≡ f ++ (place second_layout e ++ b) = flat_map-append (place second_layout) (take i els) (e ∷ drop i els) in
+    omega (
+      arith,
+      ap length whole,
+      ap length longer,
+      length-append f b,
+      length-append f (place second_layout e ++ b),
+      length-append (place second_layout e) b,
+      length-place second_layout e fits,
+      length-blocks (place second_layout) 118 els (widths second_layout els can.fit),
+      length-append (head n.kind (length (insert els i e))) (flat_map (place second_layout) (insert els i e)),
+      length-head n.kind (length (insert els i e)),
+    )
 
 -- blocks without one of them
 blocks_without : (els : List Element) (i : ℕ) → flat_map (place second_layout) (remove els i) ≡ flat_map (place second_layout) (take i els) ++ flat_map (place second_layout) (drop (suc i) els)

@@ -120,7 +120,7 @@ elements_read layout k page n stands p =
     (λ i d low. ap element_in (place_reads layout k page n stands p i d low)
     ∙ element_in-place layout (get_or n.elements.items i d) (Each_at (ElementFits layout) n.elements.items i (get_or n.elements.items i d) stands.fit low (get_or_default n.elements.items i d (get_or n.elements.items i d) low)))
 
-son_widths : (sons : List ℕ) → Each (λ s. length (big_bytes 4 s) ≡ 4) sons
+pub son_widths : (sons : List ℕ) → Each (λ s. length (big_bytes 4 s) ≡ 4) sons
 son_widths sons = Each_from (λ s. length (big_bytes 4 s) ≡ 4) sons (λ i d low. refl)
 
 sons_read : (layout : Layout) (k : ℕ) (page : List ℕ) (n : Node) → Each IsSon n.sons.items → Parts layout k page n → sons_at layout k page (length n.sons.items) ≡ n.sons.items

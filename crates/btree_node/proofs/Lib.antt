@@ -13,4 +13,6 @@ pub mod SpeltPageLemmas
 pub mod WriterLemmas
 pub mod PaddingLemmas
 pub mod ChangedPageLemmas
+pub mod SonPutLemmas
+pub mod FewerElementsLemmas
 pub mod VersionLemmas

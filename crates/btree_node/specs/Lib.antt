@@ -6,4 +6,5 @@ pub mod Lists
 pub mod Reading
 pub mod Spelling
 pub mod Written
+pub mod Changes
 pub mod HeaderSpelling

@@ -19,6 +19,10 @@ pub record IsWriter (w : Inside) : Type 0 where
 unfoldable pub put_at : ℕ → List ℕ → List ℕ → List ℕ
 put_at at bytes page = take at page ++ (bytes ++ drop (at + length bytes) page)
 
+-- the node with other elements and sons
+abbrev pub with_parts : Node → List Element → List ℕ → Node
+with_parts n els sons = record { kind = n.kind; elements = record { items = els }; sons = record { items = sons } }
+
 -- the node with other elements
 abbrev pub with_elements : Node → List Element → Node
 with_elements n els = record { kind = n.kind; elements = record { items = els }; sons = n.sons }

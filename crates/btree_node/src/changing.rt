@@ -1,16 +1,16 @@
-ghost use Rattle.std.specs.Prelude.{◌≡◌, ◌+◌, ◌*◌, ◌<◌, ◌≤◌, length, replicate, slice_set};
+ghost use Rattle.std.specs.Prelude.{◌≡◌, suc, ◌+◌, ◌*◌, ◌<◌, ◌≤◌, ◌-◌, length, replicate, slice_set, take, drop};
 ghost use Rattle.std.specs.List.{insert, remove};
 ghost use Rattle.btree_node.specs.Layout.{second_layout, place_width};
-ghost use Rattle.btree_node.specs.Reading.{count_at};
+ghost use Rattle.btree_node.specs.Reading.{count_at, part};
 ghost use Rattle.btree_node.specs.Spelling.{field, place, spelling, CanStand, IsElement, IsNodePage};
-ghost use Rattle.btree_node.specs.Written.{put_at, with_elements};
+ghost use Rattle.btree_node.specs.Written.{put_at, with_elements, with_parts};
 ghost use Rattle.byteorder.specs.Endian.{big_bytes};
 ghost use Rattle.rec_types.specs.Widths.{page_width};
 ghost use Rattle.btree_node.specs.declared.node.Node.{Node};
+ghost use Rattle.btree_node.specs.declared.node.NodeKind.TheVariants.{Inner};
 
 use crate::decoding::count_of;
-use crate::layout::{RECORD_AT, SECOND_LAYOUT};
-use crate::part::part_of;
+use crate::layout::{RECORD_AT, SECOND_LAYOUT, SON_WIDTH};
 use byteorder::{BigEndian, ByteOrder};
 use rec_types::{KEY_WIDTH, Key, PAGE_WIDTH, RECORD_WIDTH, Record};
 
@@ -31,16 +31,9 @@ pub fn replace_in(page: &mut [u8; PAGE_WIDTH], k: u16, i: usize, element: &(Key,
 }
 
 /// Puts an element before element i of the node that the page spells, in a tree of order `k`. The page
-/// has room for it; `was` is a copy of it, to move places from.
-pub fn insert_in(
-    page: &mut [u8; PAGE_WIDTH],
-    was: &[u8; PAGE_WIDTH],
-    k: u16,
-    i: usize,
-    element: &(Key, Record),
-)
+/// has room for it.
+pub fn insert_in(page: &mut [u8; PAGE_WIDTH], k: u16, i: usize, element: &(Key, Record))
     requires page { IsNodePage k page.old }
-    requires copy { was.now ≡ page.old }
     requires element { IsElement element.now }
     requires index { i ≤ count_at page.old }
     requires room { count_at page.old < 2 * k }
@@ -50,20 +43,50 @@ pub fn insert_in(
     let count = count_of(page);
     let start = SECOND_LAYOUT.place_start(i);
     let end = SECOND_LAYOUT.place_start(count);
+    move_bytes(page, start, end, SECOND_LAYOUT.place_start(i + 1));
     put_place(page, start, element);
-    put_bytes(
-        page,
-        SECOND_LAYOUT.place_start(i + 1),
-        part_of(was, start, end - start),
-    );
     put_count(page, count + 1);
 }
 
-/// Takes element i out of the node that the page spells, in a tree of order `k`; `was` is a copy of the
-/// page, to move places from.
-pub fn remove_in(page: &mut [u8; PAGE_WIDTH], was: &[u8; PAGE_WIDTH], k: u16, i: usize)
+/// Puts an element before element i of the inner node that the page spells, and a son behind its son i, in a tree of
+/// order `k`. The page has room for them.
+pub fn insert_son_in(
+    page: &mut [u8; PAGE_WIDTH],
+    k: u16,
+    i: usize,
+    element: &(Key, Record),
+    son: u32,
+)
     requires page { IsNodePage k page.old }
-    requires copy { was.now ≡ page.old }
+    requires element { IsElement element.now }
+    requires index { i ≤ count_at page.old }
+    requires room { count_at page.old < 2 * k }
+    ensures { (node : Node) → CanStand node k → node.kind ≡ Inner → page.old ≡ spelling node k
+        → page.new ≡ spelling (with_parts node (insert node.elements.items i element.now)
+        (insert node.sons.items (suc i) son)) k }
+{
+    let count = count_of(page);
+    let sons = SECOND_LAYOUT.sons_start(k);
+    let start = sons + SON_WIDTH * (i + 1);
+    let end = sons + SON_WIDTH * (count + 1);
+    insert_in(page, k, i, element);
+    move_bytes(page, start, end, start + SON_WIDTH);
+    put_son(page, start, son);
+}
+
+/// Writes a son over the bytes from `at` on.
+fn put_son(page: &mut [u8; PAGE_WIDTH], at: usize, son: u32)
+    requires { at + 4 ≤ page_width }
+    ensures { page.new ≡ put_at at (big_bytes 4 son) page.old }
+{
+    let mut bytes = [0; 4];
+    BigEndian::write_u32(&mut bytes, son);
+    put_bytes(page, at, &bytes);
+}
+
+/// Takes element i out of the node that the page spells, in a tree of order `k`.
+pub fn remove_in(page: &mut [u8; PAGE_WIDTH], k: u16, i: usize)
+    requires page { IsNodePage k page.old }
     requires index { i < count_at page.old }
     ensures { (node : Node) → CanStand node k → page.old ≡ spelling node k
         → page.new ≡ spelling (with_elements node (remove node.elements.items i)) k }
@@ -71,17 +94,59 @@ pub fn remove_in(page: &mut [u8; PAGE_WIDTH], was: &[u8; PAGE_WIDTH], k: u16, i:
     let left = count_of(page) - 1;
     let start = SECOND_LAYOUT.place_start(i + 1);
     let end = SECOND_LAYOUT.place_start(left + 1);
-    put_bytes(
-        page,
-        SECOND_LAYOUT.place_start(i),
-        part_of(was, start, end - start),
-    );
+    move_bytes(page, start, end, SECOND_LAYOUT.place_start(i));
     put_zeros(
         page,
         SECOND_LAYOUT.place_start(left),
         SECOND_LAYOUT.place_width(),
     );
     put_count(page, left);
+}
+
+/// Leaves the first `m` elements of the node that the page spells, in a tree of order `k`, and all its sons.
+pub fn keep_first(page: &mut [u8; PAGE_WIDTH], k: u16, m: usize)
+    requires page { IsNodePage k page.old }
+    requires index { m ≤ count_at page.old }
+    ensures { (node : Node) → CanStand node k → page.old ≡ spelling node k
+        → page.new ≡ spelling (with_elements node (take m node.elements.items)) k }
+{
+    let gone = count_of(page) - m;
+    put_zeros(
+        page,
+        SECOND_LAYOUT.place_start(m),
+        SECOND_LAYOUT.place_width() * gone,
+    );
+    put_count(page, m);
+}
+
+/// Takes the first `m` elements out of the node that the page spells, in a tree of order `k`, and leaves all its
+/// sons.
+pub fn drop_first(page: &mut [u8; PAGE_WIDTH], k: u16, m: usize)
+    requires page { IsNodePage k page.old }
+    requires index { m ≤ count_at page.old }
+    ensures { (node : Node) → CanStand node k → page.old ≡ spelling node k
+        → page.new ≡ spelling (with_elements node (drop m node.elements.items)) k }
+{
+    let count = count_of(page);
+    let start = SECOND_LAYOUT.place_start(m);
+    let past = SECOND_LAYOUT.place_start(count);
+    move_bytes(page, start, past, SECOND_LAYOUT.place_start(0));
+    put_zeros(
+        page,
+        SECOND_LAYOUT.place_start(count - m),
+        SECOND_LAYOUT.place_width() * m,
+    );
+    put_count(page, count - m);
+}
+
+/// Writes the bytes from `start` to `end` over those from `at` on.
+fn move_bytes(page: &mut [u8; PAGE_WIDTH], start: usize, end: usize, at: usize)
+    requires from { start ≤ end }
+    requires part { end ≤ page_width }
+    requires room { at + (end - start) ≤ page_width }
+    ensures { page.new ≡ put_at at (part start (end - start) page.old) page.old }
+{
+    page.copy_within(start..end, at);
 }
 
 /// Writes the number of keys.

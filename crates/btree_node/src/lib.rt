@@ -11,6 +11,7 @@ pub mod laws;
 mod layout;
 mod node;
 mod node_page;
+mod page_change;
 mod page_writer;
 mod part;
 mod read_first;
@@ -19,7 +20,7 @@ mod spelt;
 mod splitting;
 
 pub use brothers::{catenate, distribute};
-pub use changing::{insert_in, remove_in, replace_in};
+pub use changing::{drop_first, insert_in, insert_son_in, keep_first, remove_in, replace_in};
 pub use decoding::{decode, decode_into, decode_old, decode_version};
 pub use encoding::encode;
 pub use header::{Header, HeaderFault};
@@ -32,6 +33,7 @@ pub use layout::{
 };
 pub use node::{ELEMENT_ROOM, Node, NodeFault, NodeKind, SON_ROOM};
 pub use node_page::is_node_page;
+pub use page_change::{PageChange, change_page};
 pub use searching::place_of;
 pub use spelt::{count_in, key_in, kind_in, place_in, record_in, son_in};
 pub use splitting::split;

@@ -3,12 +3,14 @@ use Rattle.std.proofs.Common.{◌≡◌, ℕ, true, false, [], ◌∷◌, List, 
 use Rattle.std.specs.Result.{is_err}
 use Rattle.rec_types.specs.declared.transaction.Entry.{Entry}
 use Rattle.command_text.specs.Refusals.{is_refusal, begins_refused}
-use Rattle.command_text.specs.Texts.{line, answer_text, refusal_text, fault_text, old_text, entries_text, keys_text, text_of}
+use Rattle.command_text.specs.Texts.{line, answer_text, refusal_text, fault_text, unkept_text, old_text, entries_text, keys_text, text_of}
 use Rattle.command_text.specs.declared.command.LineFault.{LineFault}
 use Rattle.command_text.specs.declared.command.LineFault.TheVariants as line_faults
 use Rattle.record_file.specs.declared.refusal.Refusal.{Refusal}
 use Rattle.record_file.specs.declared.refusal.Refusal.TheVariants as refusals
 use Rattle.command_text.specs.declared.reply.Reply.{Reply}
+use Rattle.command_text.specs.declared.reply.Unkept.{Unkept}
+use Rattle.command_text.specs.declared.reply.Unkept.TheVariants as unkepts
 use Rattle.command_text.specs.declared.reply.Reply.TheVariants as reply
 
 refused : (r : Refusal) → begins_refused (line (refusal_text r)) ≡ true
@@ -33,6 +35,11 @@ bad line_faults.KeyTooLong = refl
 bad line_faults.NoRecordMark = refl
 bad line_faults.RecordTooLong = refl
 bad line_faults.LineTooLong = refl
+
+unkept : (fault : Unkept) → begins_refused (line (unkept_text fault)) ≡ true
+unkept unkepts.Memory = refl
+unkept unkepts.Device = refl
+unkept unkepts.Doubt = refl
 
 old : (before : Option (List ℕ)) → begins_refused (line (old_text before)) ≡ false
 old None = refl
@@ -66,4 +73,5 @@ begins (reply.Commit answer) = told _ _ (λ x. refl) answer
 begins (reply.List answer) = told _ _ listed answer
 begins (reply.Keys answer) = told _ _ keyed answer
 begins (reply.Log len used) = refl
+begins (reply.Unkept fault) = unkept fault
 begins (reply.Bad fault) = bad fault

@@ -20,6 +20,7 @@ is_refusal (reply.Commit answer) = is_err answer
 is_refusal (reply.List answer) = is_err answer
 is_refusal (reply.Keys answer) = is_err answer
 is_refusal (reply.Log len used) = false
+is_refusal (reply.Unkept fault) = true
 is_refusal (reply.Bad fault) = true
 
 -- whether a text begins as `no`, `bad` and `stopped` do, and not as `ok` and the `-` of a list

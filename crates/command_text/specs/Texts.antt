@@ -12,6 +12,8 @@ use Rattle.command_text.specs.declared.command.LineFault.TheVariants as line_fau
 use Rattle.record_file.specs.declared.refusal.Refusal.{Refusal}
 use Rattle.record_file.specs.declared.refusal.Refusal.TheVariants as refusals
 use Rattle.command_text.specs.declared.reply.Reply.{Reply}
+use Rattle.command_text.specs.declared.reply.Unkept.{Unkept}
+use Rattle.command_text.specs.declared.reply.Unkept.TheVariants as unkept
 use Rattle.command_text.specs.declared.reply.Reply.TheVariants as reply
 use Rattle.record_file.specs.Refusals.{begin_refusal, put_refusal, claim_refusal, remove_refusal, get_refusal, savepoint_refusal, release_refusal, rollback_refusal, abort_refusal, resume_refusal, commit_refusal, entries_refusal, keys_of_refusal}
 
@@ -96,6 +98,11 @@ entries_text entries = flat_map entry_line entries ++ number_text (length entrie
 abbrev pub keys_text : List (List ℕ) → List ℕ
 keys_text keys = flat_map key_line keys ++ number_text (length keys)
 
+abbrev pub unkept_text : Unkept → List ℕ
+unkept_text unkept.Memory = codes "no Memory"
+unkept_text unkept.Device = codes "no Device"
+unkept_text unkept.Doubt = codes "no Doubt"
+
 -- what a call answers, or its refusal
 abbrev pub answer_text : {A F : Type 0} → (A → List ℕ) → (F → Refusal) → Result A F → List ℕ
 answer_text ok_text refusal_of (Ok answer) = ok_text answer
@@ -117,6 +124,7 @@ reply_text (reply.Commit answer) = answer_text done_text commit_refusal answer
 reply_text (reply.List answer) = answer_text entries_text entries_refusal answer
 reply_text (reply.Keys answer) = answer_text keys_text keys_of_refusal answer
 reply_text (reply.Log len used) = number_text len ++ codes " " ++ decimal used
+reply_text (reply.Unkept fault) = unkept_text fault
 reply_text (reply.Bad fault) = fault_text fault
 
 -- the text of a reply: each of its lines has its end

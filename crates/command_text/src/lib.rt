@@ -15,5 +15,5 @@ pub use command::{Command, LineFault};
 pub use dump::write_dump;
 pub use list::{EntryList, KeyList};
 pub use reading::{LONGEST_LINE, read_bounded_line, read_line};
-pub use reply::{Reply, append_reply, write_reply};
+pub use reply::{Reply, Unkept, append_reply, write_reply};
 pub use unit::write_unit;

@@ -2,7 +2,7 @@ ghost use Rattle.std.specs.Prelude.{◌≡◌, ◌++◌, not, IfOk, OnOk};
 ghost use Rattle.std.specs.List.{flat_map, list_any};
 ghost use Rattle.std.specs.String.{string_bytes};
 ghost use Rattle.command_text.specs.Refusals.{is_refusal};
-ghost use Rattle.command_text.specs.Texts.{is_escaped, escaped, cause_text, refusal_text, fault_text, number_text, record_text, old_text, owner_text, entry_line, key_line, entries_text, keys_text, reply_text, text_of};
+ghost use Rattle.command_text.specs.Texts.{is_escaped, escaped, cause_text, unkept_text, refusal_text, fault_text, number_text, record_text, old_text, owner_text, entry_line, key_line, entries_text, keys_text, reply_text, text_of};
 
 use crate::{EntryList, KeyList, LineFault};
 use percent_encoding::{AsciiSet, CONTROLS, ascii_set, ascii_str, percent_encode};
@@ -14,7 +14,19 @@ use record_file::{
 };
 use std::alloc::{AllocError, Global};
 
-/// What a command's call answered, or why a line says no command. `Log` has the length of the log and its use.
+/// Why a commit that was to be kept in a log of commits wasn't. The transaction is active still.
+#[derive(Clone, Copy, Debug, PartialEq, Eq)]
+pub enum Unkept {
+    /// There was no memory for its text.
+    Memory,
+    /// The log has no room for it: nothing of it is kept, and another try may be.
+    Device,
+    /// The device failed: it may be found after a stop, and no other commit is kept any more.
+    Doubt,
+}
+
+/// What a command's call answered, or why a line says no command. `Log` has the length of the log and its use; `Unkept` is a
+/// commit that would have been accepted.
 #[derive(Debug, Drop)]
 pub enum Reply {
     Begin(Result<TxId, BeginFault>),
@@ -31,6 +43,7 @@ pub enum Reply {
     List(Result<EntryList, EntriesFault>),
     Keys(Result<KeyList, KeysOfFault>),
     Log(u32, u32),
+    Unkept(Unkept),
     Bad(LineFault),
 }
 
@@ -54,7 +67,7 @@ impl Reply {
             Reply::List(answer) => answer.is_err(),
             Reply::Keys(answer) => answer.is_err(),
             Reply::Log(..) => false,
-            Reply::Bad(_) => true,
+            Reply::Unkept(_) | Reply::Bad(_) => true,
         }
     }
 }
@@ -134,6 +147,17 @@ fn push_fault_of<F: ToRefusal>(text: &mut String, fault: &F) -> Result<(), Alloc
         (string_bytes text.new ≡ string_bytes text.old ++ refusal_text (F.refusal_of fault.now)) }
 {
     push_refusal(text, fault.to_refusal())
+}
+
+// Appends why a commit wasn't kept.
+fn push_unkept(text: &mut String, fault: Unkept) -> Result<(), AllocError>
+    ensures { OnOk result (string_bytes text.new ≡ string_bytes text.old ++ unkept_text fault) }
+{
+    match fault {
+        Unkept::Memory => text.push_str("no Memory"),
+        Unkept::Device => text.push_str("no Device"),
+        Unkept::Doubt => text.push_str("no Doubt"),
+    }
 }
 
 // Appends why a line says no command.
@@ -267,6 +291,7 @@ fn push_reply(text: &mut String, reply: &Reply) -> Result<(), AllocError>
         Reply::Keys(Ok(keys)) => push_keys(text, keys),
         Reply::Keys(Err(fault)) => push_fault_of(text, fault),
         Reply::Log(len, used) => write!(text, "ok {len} {used}"),
+        Reply::Unkept(fault) => push_unkept(text, *fault),
         Reply::Bad(fault) => push_fault(text, *fault),
     }
 }

@@ -1,3 +1,5 @@
+ghost use Rattle.std.specs.Prelude.{◌≡◌};
+
 use crate::watch::Watch;
 use std::cell::RefCell;
 use std::io;
@@ -13,12 +15,17 @@ pub struct Heard<'a, W> {
 
 impl<'a, W: Write> Heard<'a, W> {
     /// Replies that go there.
-    pub fn new(out: W, watch: &'a RefCell<Watch>, typed: bool) -> Heard<'a, W> {
+    pub fn new(out: W, watch: &'a RefCell<Watch>, typed: bool) -> Heard<'a, W>
+        ensures { result.out ≡ out }
+    {
         Heard { out, watch, typed }
     }
 }
 
+// What it holds is what the writer behind it does.
 impl<'a, W: Write> Write for Heard<'a, W> {
+    ghost contents = { λ heard. W.contents heard.out };
+
     fn write(&mut self, from: &[u8]) -> io::Result<usize> {
         let count = self.out.write(from)?;
         if self.typed {

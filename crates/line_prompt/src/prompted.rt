@@ -1,4 +1,4 @@
-ghost use Rattle.std.specs.Prelude.{◌≤◌, length, IfOk, IfSome};
+ghost use Rattle.std.specs.Prelude.{◌≡◌, ◌≤◌, length, IfOk, IfSome};
 
 use crate::help::tell_forms;
 use crate::picture::draw_chains;
@@ -22,7 +22,10 @@ pub struct Prompted<'a, R, E> {
 
 impl<'a, R: Read, E: Write> Prompted<'a, R, E> {
     /// These lines, whether a person types them, where what is told stands, and what watches the session.
-    pub fn new(lines: R, err: E, watch: &'a RefCell<Watch>, typed: bool) -> Prompted<'a, R, E> {
+    pub fn new(lines: R, err: E, watch: &'a RefCell<Watch>, typed: bool) -> Prompted<'a, R, E>
+        ensures lines { result.lines ≡ lines }
+        ensures typed { result.typed ≡ typed }
+    {
         Prompted {
             lines,
             err,
@@ -116,7 +119,32 @@ fn read_line<R: Read, E: Write>(
     Ok(Some(count))
 }
 
+// Reads a line that a person types, and that is to be read on.
+fn read_typed<R: Read, E: Write>(
+    lines: &mut R,
+    watch: &mut Watch,
+    err: &mut E,
+    to: &mut [u8],
+) -> io::Result<usize>
+    ensures { IfOk result (λ count. count ≤ length to.new) }
+{
+    if watch.take_up() {
+        draw_chains(watch, err)?;
+    }
+    for _ in 0..u64::MAX {
+        if let Some(count) = read_line(lines, watch, err, to)? {
+            return Ok(count);
+        }
+    }
+    Ok(0)
+}
+
+// Where nobody types, what it has left is what the reader behind it does.
 impl<'a, R: Read, E: Write> Read for Prompted<'a, R, E> {
+    ghost use Rattle.std.specs.Prelude.{None, if◌then◌else◌};
+
+    ghost remaining = { λ prompted. if prompted.typed then None else R.remaining prompted.lines };
+
     fn read(&mut self, to: &mut [u8]) -> io::Result<usize> {
         if !self.typed {
             return self.lines.read(to);
@@ -124,15 +152,6 @@ impl<'a, R: Read, E: Write> Read for Prompted<'a, R, E> {
         let Ok(mut watch) = self.watch.try_borrow_mut() else {
             return self.lines.read(to);
         };
-        let watch = &mut *watch;
-        if watch.take_up() {
-            draw_chains(watch, &mut self.err)?;
-        }
-        for _ in 0..u64::MAX {
-            if let Some(count) = read_line(&mut self.lines, watch, &mut self.err, to)? {
-                return Ok(count);
-            }
-        }
-        Ok(0)
+        read_typed(&mut self.lines, &mut watch, &mut self.err, to)
     }
 }

@@ -229,3 +229,11 @@ at_most n d le = subst (λ k. k ≤ n) (long_seen d.calls d.pages d.tail) le
 
 pub at_least : (n : ℕ) (d : OpenedDisk) → n ≤ length (files_seen d.calls d.pages d.tail).main.pages → n ≤ d.pages
 at_least n d le = subst (λ k. n ≤ k) (long_seen d.calls d.pages d.tail) le
+
+-- a call that was counted has its moment
+pub has_moment : (result : Result (Unit {0}) StoreFault) (inside old : OpenedDisk) → inside ≡ old → (calls : ℕ) → calls ≡ counted inside.calls true → OnOk result (counted old.calls true ≤ calls)
+has_moment result inside old is calls counts =
+    on_ok result (subst (λ (o : OpenedDisk). counted o.calls true ≤ calls) is (subst (λ k. k ≤ calls) counts (at calls)))
+  where
+    at : (n : ℕ) → n ≤ n
+    at n = omega arith

@@ -7,6 +7,7 @@ mod FileDiskLemmas
 mod KeptStoreLemmas
 mod LogExampleLemmas
 mod LogLemmas
+mod LoggedLemmas
 mod LoggingLemmas
 mod MemDiskLemmas
 mod MomentLemmas

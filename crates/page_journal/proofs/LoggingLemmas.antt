@@ -1,20 +1,24 @@
 -- What the calls of a disk make of a log that is ready.
-use Rattle.std.proofs.Common.{◌≡◌, ◌⊎◌, inl, inr, ⊎_elim, ℕ, ◌+◌, ◌-◌, ◌<◌, ◌≤◌, Bool, true, false, is_some, List, [], ◌∷◌, ◌++◌, length, take, drop, unwrap_or, Option, Some, None, option_map, refl, sym, ◌∙◌, ap, subst, arith}
+use Rattle.std.proofs.Common.{◌≡◌, ◌⊎◌, inl, inr, ⊎_elim, ℕ, ◌+◌, ◌-◌, ◌<◌, ◌≤◌, Bool, true, false, is_some, List, [], ◌∷◌, ◌++◌, length, take, drop, unwrap_or, Option, Some, None, option_map, Result, Ok, Err, OnErr, refl, sym, ◌∙◌, ap, subst, arith, append_assoc}
 use Rattle.std.proofs.lemmas.Bool.{false≢true}
-use Rattle.std.proofs.lemmas.List.{append-nil, take_all}
+use Rattle.std.proofs.lemmas.List.{append-nil, take_all, take_at}
 use Rattle.std.proofs.lemmas.Option.{none-some}
 use Rattle.commit_paper.specs.Text.{units_of, zeros, unit_text, log_text, IsUnit, AreUnits}
 use Rattle.commit_paper.specs.Shown.{Shows}
 use Rattle.commit_paper.specs.Steps.{Lengthens, Inks}
-use Rattle.commit_paper.proofs.Shown.{shown_units, torn_longer, longer, torn_ink, inked, more_units, more_end}
+use Rattle.commit_paper.proofs.Shown.{shown_units, before, torn_longer, longer, torn_ink, inked, more_units, more_end}
 use Rattle.page_journal.specs.Files.{CommitFiles, Files}
 use Rattle.page_journal.specs.Steps.{Does, Stays, InCommits, FreshLog, NamesLog, ChangesLog, OnLog, KeepsLog, names_of, written, zeroed}
 use Rattle.page_journal.specs.Crash.{LeavesOnly, LeavesPages, pages_of}
-use Rattle.page_journal.specs.Logging.{HasLog, HasNoLog, Says, SaysEither, SaysNoneOr, IsReady}
+use Rattle.page_journal.specs.Logging.{HasLog, HasNoLog, Says, SaysEither, SaysNoneOr, Stands, IsReady}
 use Rattle.page_journal.specs.declared.disk_state.DiskState.{Ghosts}
 use Rattle.page_journal.specs.declared.log_place.LogPlace.{LogPlace}
 use Rattle.page_journal.proofs.MomentLemmas.{started, goes_on}
 use Rattle.page_journal.proofs.LogLemmas.{part_begin, part_more, part_stays}
+
+pub on_each : {A E : Type 0} {P : Type 0} (result : Result A E) → P → OnErr result P
+on_each (Ok _) p = tt
+on_each (Err _) p = p
 
 -- a step of a log that is there
 on_bytes : (step : List ℕ → List ℕ → Type 0) (d c : Files) (bytes : List ℕ) → d.commits.log ≡ Some bytes → InCommits (ChangesLog step) d c → (new : List ℕ) × (c.commits.log ≡ Some new) × step bytes new
@@ -116,6 +120,22 @@ module _ {D : Type 0} (g : Ghosts D) where
                 let from = stays.crash c left in
                 kept_log (Shows units (ready.room + n)) (Shows units ready.room) (g.seen mid) c there (subst (λ f. HasLog (Shows units ready.room) f) (sym from.2) (torn_there from.0 from.1)) (keeps c left);
           }
+
+    -- bytes are written behind the units, or that was begun
+    module _ (text : List ℕ) (mid : D) (does : Does g (InCommits (ChangesLog (Inks place.end text))) old mid) where
+      -- the units stay in front of it
+      pub ink_stands : Stands units place (g.seen mid)
+      ink_stands = carried (Shows units ready.room) (λ b. take place.end b ≡ log_text units) (Inks place.end text) (λ b n shows inks. in_front b n shows inks) (g.seen old) (g.seen mid) ready.seen does.seen
+        where
+          in_front : (b n : List ℕ) → Shows units ready.room b → Inks place.end text b n → take place.end n ≡ log_text units
+          in_front b n shows inks =
+              let was : take place.end b ≡ log_text units = before units ready.room b shows place.end ready.end in
+              ap (λ (k : List ℕ). take place.end k) (inks.spelt ∙ append_assoc (take place.end b) inks.mixed (drop (place.end + length text) b))
+              ∙ take_at (take place.end b) (inks.mixed ++ drop (place.end + length text) b) place.end (ap length was ∙ sym ready.end)
+              ∙ was
+
+      pub stands_synced : (new : D) → Stays g mid new → Stands units place (g.seen new)
+      stands_synced new stays = subst (λ f. Stands units place f) (sym stays.seen) ink_stands
 
     -- a unit is written, or that was begun
     module _ (unit : List (List ℕ)) (text : List ℕ) (is : IsUnit unit) (spelt : text ≡ unit_text unit) (fits : length text < ready.room) (mid : D) (does : Does g (InCommits (ChangesLog (Inks place.end text))) old mid) where

@@ -1,10 +1,11 @@
 -- What a call of a disk in memory does, where it is kept and where it fails.
-use Rattle.std.proofs.Common.{◌≡◌, ⊎_elim, inl, inr, ℕ, ◌+◌, true, List, [], ◌∷◌, length, Result, Ok, Err, OnOk, OnErr, refl, sym, subst, arith}
+use Rattle.std.proofs.Common.{◌≡◌, ⊎_elim, inl, inr, ℕ, ◌+◌, ◌≤◌, ◌&&◌, Bool, true, false, cond, nat_lt, List, [], ◌∷◌, length, Result, Ok, Err, OnOk, OnErr, refl, sym, ap, subst, arith}
 use Rattle.std.proofs.lemmas.List.{set-get_or, take_all}
 use Rattle.std.specs.Prelude.{slice_index_or}
+use Rattle.rec_types.specs.Table.{counted, greatest_count}
 use Rattle.page_store.specs.declared.store_fault.StoreFault.{StoreFault}
 use Rattle.page_journal.specs.Files.{CommitFiles, Files}
-use Rattle.page_journal.specs.Steps.{Does, Nothing, InCommits, TornAt, CutsTo}
+use Rattle.page_journal.specs.Steps.{Does, HasMoment, Nothing, InCommits, TornAt, CutsTo}
 use Rattle.page_journal.specs.History.{History, commits_done, commits_lead, done, leads, all_done, MayLeave, LeftSince, with_call, failed_more}
 use Rattle.page_journal.specs.declared.disk_state.DiskState.{Ghosts}
 use Rattle.page_journal.specs.declared.disk_call.DiskCall.{DiskCall}
@@ -86,6 +87,44 @@ commits_do step call result old new ok err does means none =
 pub commits_fail : (step : CommitFiles → CommitFiles → Type 0) (old new : History) → new ≡ failed_more old → ((d : CommitFiles) → step d d) → Does mem_ghosts (InCommits step) old new
 commits_fail step old new is none = subst (λ h. Does mem_ghosts (InCommits step) old h) (sym is) (does_fail (InCommits step) old (λ d. record { main = refl; fresh = refl; side = refl; commits = none d.commits }))
 
+-- a call that isn't carried out, and isn't counted
+does_not : (step : Files → Files → Type 0) (old : History) → ((d : Files) → step d d) → Does mem_ghosts step old old
+does_not step old none = record {
+  seen = none (all_done old.first old.calls);
+  steady = refl;
+  began = refl;
+  crash = λ c left. (c, left, none c);
+  later = omega arith;
+  nothing_else = λ t c le left. inl left;
+  keeps = λ t c le left. left;
+}
+
+-- a call that appends to a log is kept, or not carried out
+does_or_not : (step : Files → Files → Type 0) (call : DiskCall) (result : Result (Unit {0}) StoreFault) (old new : History) → OnOk result (new ≡ with_call old call) → OnErr result (new ≡ old) → Does mem_ghosts step old (with_call old call) → Does mem_ghosts step old old → Does mem_ghosts step old new
+does_or_not step call (Ok _) old new ok err kept failed = subst (λ h. Does mem_ghosts step old h) (sym ok) kept
+does_or_not step call (Err _) old new ok err kept failed = subst (λ h. Does mem_ghosts step old h) (sym err) failed
+
+pub uncounted : (call : DiskCall) (result : Result (Unit {0}) StoreFault) (old new : History) → OnOk result (new ≡ with_call old call) → OnErr result (new ≡ old) → new.failures ≡ old.failures
+uncounted call (Ok _) old new ok err = ap (λ (h : History). h.failures) ok
+uncounted call (Err _) old new ok err = ap (λ (h : History). h.failures) err
+
+pub append_does : (step : CommitFiles → CommitFiles → Type 0) (call : CommitCall) (result : Result (Unit {0}) StoreFault) (old new : History) → OnOk result (new ≡ with_call old (Commits call)) → OnErr result (new ≡ old) → ((f : CommitFiles) → step f (commits_done call f)) → ((seen d c : CommitFiles) → commits_lead call seen d c → step d c) → ((d : CommitFiles) → step d d) → Does mem_ghosts (InCommits step) old new
+append_does step call result old new ok err does means none =
+    does_or_not (InCommits step) (Commits call) result old new ok err
+    (does_call (InCommits step) (Commits call) old (record { main = refl; fresh = refl; side = refl; commits = does (all_done old.first old.calls).commits }) (λ d c lead. record { main = lead.main; fresh = lead.fresh; side = lead.side; commits = means (all_done old.first old.calls).commits d.commits c.commits lead.commits }))
+    (does_not (InCommits step) old (λ d. record { main = refl; fresh = refl; side = refl; commits = none d.commits }))
+
+pub append_not : (step : CommitFiles → CommitFiles → Type 0) (old : History) → ((d : CommitFiles) → step d d) → Does mem_ghosts (InCommits step) old old
+append_not step old none = does_not (InCommits step) old (λ d. record { main = refl; fresh = refl; side = refl; commits = none d.commits })
+
+pub append_sync : (call : CommitCall) (result : Result (Unit {0}) StoreFault) (old new : History) → OnOk result (new ≡ with_call old (Commits call)) → OnErr result (new ≡ old) → ((f : CommitFiles) → commits_done call f ≡ f) → ((seen d c : CommitFiles) → commits_lead call seen d c → c ≡ d) → Does mem_ghosts Nothing old new
+append_sync call result old new ok err does means =
+    does_or_not Nothing (Commits call) result old new ok err
+    (does_call Nothing (Commits call) old
+    (λ i. record { main = (all_done old.first old.calls).main; fresh = (all_done old.first old.calls).fresh; side = (all_done old.first old.calls).side; commits = does (all_done old.first old.calls).commits i })
+    (λ d c lead i. record { main = lead.main i; fresh = lead.fresh i; side = lead.side i; commits = means (all_done old.first old.calls).commits d.commits c.commits lead.commits i }))
+    (does_not Nothing old (λ d. refl))
+
 -- a sync of a log
 pub commits_sync : (call : CommitCall) (result : Result (Unit {0}) StoreFault) (old new : History) → OnOk result (new ≡ with_call old (Commits call)) → OnErr result (new ≡ failed_more old) → ((f : CommitFiles) → commits_done call f ≡ f) → ((seen d c : CommitFiles) → commits_lead call seen d c → c ≡ d) → Does mem_ghosts Nothing old new
 commits_sync call result old new ok err does means =
@@ -101,3 +140,12 @@ commits_kept call P (Ok _) old new ok so = λ c left.
     let was : MayLeave old.first (Commits call ∷ old.calls) c = subst (λ (h : History). MayLeave h.first h.calls c) ok left in
     so was.0.commits c.commits was.2.commits
 commits_kept call P (Err _) old new ok so = tt
+
+-- a call that is kept has its moment
+pub mem_moment : (call : DiskCall) (result : Result (Unit {0}) StoreFault) (old new : History) → OnOk result (new ≡ with_call old call) → HasMoment mem_ghosts old result new
+mem_moment call (Ok x) old new ok = subst (λ (h : History). counted (length old.calls) true ≤ length h.calls) (sym ok) (at (true && nat_lt (length old.calls) greatest_count))
+  where
+    at : (b : Bool) → cond b (length old.calls + 1) (length old.calls) ≤ length (call ∷ old.calls)
+    at true = omega arith
+    at false = omega arith
+mem_moment call (Err fault) old new ok = tt

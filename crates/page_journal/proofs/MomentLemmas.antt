@@ -1,5 +1,8 @@
 -- How a run of calls goes on.
-use Rattle.std.proofs.Common.{inl, inr, ⊎_elim, ℕ, ◌≤◌, refl, subst, sym, ◌∙◌, arith}
+use Rattle.std.proofs.Common.{inl, inr, ⊎_elim, ℕ, ◌≤◌, true, refl, subst, sym, ◌∙◌, arith}
+use Rattle.std.proofs.lemmas.Bool.Decides.{nat_tests}
+use Rattle.rec_types.specs.Table.{counted}
+use Rattle.page_store.specs.Calls.{counted_times}
 use Rattle.page_journal.specs.Files.{Files}
 use Rattle.page_journal.specs.Steps.{Does, Stays}
 use Rattle.page_journal.specs.Crash.{LeavesOnly}
@@ -57,3 +60,14 @@ module _ {D : Type 0} (g : Ghosts D) where
         (second.nothing_else t c (omega (arith, le, first.later)) left);
     keeps = λ t c le left. second.keeps t c (omega (arith, le, first.later)) (first.keeps t c le left);
   }
+
+-- numbers that are counted keep their order
+counted_both : (a b : ℕ) → a ≤ b → counted a true ≤ counted b true
+counted_both a b le = grind (arith, nat_tests)
+
+-- three calls, one after another
+pub three_moments : (a b c d : ℕ) → counted a true ≤ b → counted b true ≤ c → counted c true ≤ d → counted_times a 3 ≤ d
+three_moments a b c d first second third =
+    let one = counted_both (counted a true) b first in
+    let two = counted_both (counted (counted a true) true) c (omega (arith, one, second)) in
+    omega (arith, two, third)

@@ -25,7 +25,7 @@ pub record IsSealed {D : Type 0} (g : Ghosts D) (kept : Kept) (base : List (List
 
 -- after a restart, what reads see is what the device keeps
 abbrev pub IsAtRest : {D : Type 0} → Ghosts D → D → Type 0
-IsAtRest g disk = (c : Files) → g.may_leave disk c → (c.main ≡ (g.seen disk).main) × (c.side ≡ (g.seen disk).side)
+IsAtRest g disk = (c : Files) → g.may_leave disk c → (c.main ≡ (g.seen disk).main) × (c.side ≡ (g.seen disk).side) × (c.commits.log ≡ (g.seen disk).commits.log)
 
 -- a part of the files is that of an outcome of a crash then
 abbrev pub HasPartOf : {D P : Type 0} → Ghosts D → (Files → P) → D → Files → Type 0

@@ -1,6 +1,6 @@
 -- A store over a disk, which may be changed in any way that its calls allow and stands for the old file all the while.
-use Rattle.std.specs.Prelude.{◌≡◌, ℕ, ◌≤◌, Bool, true, false, cond, List, [], length, slice_index_or, refl}
-use Rattle.std.specs.Coded.{Coded, code_by, coded×, coded_ℕ, coded_bool, coded_list}
+use Rattle.std.specs.Prelude.{◌≡◌, ℕ, ◌≤◌, Bool, true, false, cond, List, Option, length, slice_index_or, refl}
+use Rattle.std.specs.Coded.{Coded, code_by, coded×, coded_ℕ, coded_bool, coded_list, coded_option}
 use Rattle.page_store.specs.Calls.{counted_times}
 use Rattle.page_store.specs.FreeNumbers.{greatest_page_count}
 use Rattle.page_store.specs.Guards as guards
@@ -8,11 +8,13 @@ use Rattle.page_store.specs.Guards.{Guard}
 use Rattle.page_store.specs.Opening.{Opening}
 use Rattle.page_journal.specs.Files.{PageFile, Kept, Files, restored, recovered}
 use Rattle.page_journal.specs.Crash.{IsSettled, IsSealed, StandsFor, MayWrite}
+use Rattle.page_journal.specs.LoggedStores.{coded_place}
 use Rattle.page_journal.specs.declared.disk_state.DiskState.{Ghosts}
+use Rattle.page_journal.specs.declared.log_place.LogPlace.{LogPlace}
 use Rattle.page_journal.specs.declared.seal_state.SealState.{SealState}
 use Rattle.page_journal.specs.declared.seal_state.SealState.TheVariants.{Unsealed, Sealed, Stopped}
 
--- the disk; of each page that the file had when it was sealed whether it was kept; whether it was; how many reads, calls of the shape and changing calls there were, and how many calls were refused
+-- the disk; of each page that the file had when it was sealed whether it was kept; whether it was; how many reads, calls of the shape and changing calls there were, and how many calls were refused; where the log of commits has its place, if one was begun, and the text of the commit that is in doubt
 pub record KeptStored (D : Type 0) : Type 0 where
   pub disk : D
   pub kept : List Bool
@@ -21,6 +23,8 @@ pub record KeptStored (D : Type 0) : Type 0 where
   pub shapes : ℕ
   pub writes : ℕ
   pub refusals : ℕ
+  pub log : Option LogPlace
+  pub doubt : List ℕ
 
 abbrev pub state_code : SealState → Bool × Bool
 state_code Unsealed = (false, false)
@@ -39,11 +43,11 @@ abbrev pub coded_state : Coded SealState
 coded_state = code_by (Bool × Bool) (coded× coded_bool coded_bool) state_code state_of state_back
 
 abbrev pub coded_kept_stored : {D : Type 0} → Coded D → Coded (KeptStored D)
-coded_kept_stored {D} d = code_by (D × (List Bool × (SealState × (ℕ × (ℕ × (ℕ × ℕ)))))) (coded× d (coded× (coded_list coded_bool) (coded× coded_state (coded× coded_ℕ (coded× coded_ℕ (coded× coded_ℕ coded_ℕ)))))) (λ s. (s.disk, (s.kept, (s.state, (s.reads, (s.shapes, (s.writes, s.refusals))))))) (λ p. record { disk = p.0; kept = p.1.0; state = p.1.1.0; reads = p.1.1.1.0; shapes = p.1.1.1.1.0; writes = p.1.1.1.1.1.0; refusals = p.1.1.1.1.1.1 }) (λ _. refl)
+coded_kept_stored {D} d = code_by (D × (List Bool × (SealState × (ℕ × (ℕ × (ℕ × (ℕ × (Option LogPlace × List ℕ)))))))) (coded× d (coded× (coded_list coded_bool) (coded× coded_state (coded× coded_ℕ (coded× coded_ℕ (coded× coded_ℕ (coded× coded_ℕ (coded× (coded_option coded_place) (coded_list coded_ℕ))))))))) (λ s. (s.disk, (s.kept, (s.state, (s.reads, (s.shapes, (s.writes, (s.refusals, (s.log, s.doubt))))))))) (λ p. record { disk = p.0; kept = p.1.0; state = p.1.1.0; reads = p.1.1.1.0; shapes = p.1.1.1.1.0; writes = p.1.1.1.1.1.0; refusals = p.1.1.1.1.1.1.0; log = p.1.1.1.1.1.1.1.0; doubt = p.1.1.1.1.1.1.1.1 }) (λ _. refl)
 
--- a store over that file, beside which no commit is kept
-abbrev pub opened_over : PageFile → Opening
-opened_over file = record { pages = file.pages; tail = file.tail; commits = [] }
+-- a store over that file, beside which these commits are kept
+abbrev pub opened_over : PageFile → List (List (List ℕ)) → Opening
+opened_over file commits = record { pages = file.pages; tail = file.tail; commits = commits }
 
 -- whether page n was kept, or is past the old end
 abbrev pub is_open : List Bool → ℕ → Bool

@@ -6,6 +6,7 @@ pub mod FileDisks
 pub mod Files
 pub mod History
 pub mod KeptStores
+pub mod LoggedStores
 pub mod Logging
 pub mod Recovery
 pub mod SideBytes

@@ -1,5 +1,5 @@
 -- A log of commits that is ready for one more unit, and what a crash leaves of it.
-use Rattle.std.specs.Prelude.{◌≡◌, ◌⊎◌, ℕ, ◌+◌, ◌^◌, ◌<◌, ◌≤◌, List, [], ◌∷◌, ◌++◌, Some, None, length}
+use Rattle.std.specs.Prelude.{◌≡◌, ◌⊎◌, ℕ, ◌+◌, ◌^◌, ◌<◌, ◌≤◌, List, [], ◌∷◌, ◌++◌, Some, None, length, take}
 use Rattle.commit_paper.specs.Text.{units_of, log_text, AreUnits}
 use Rattle.commit_paper.specs.Shown.{Shows}
 use Rattle.page_journal.specs.Files.{Files}
@@ -9,6 +9,14 @@ use Rattle.page_journal.specs.declared.log_place.LogPlace.{LogPlace}
 -- a log has the name that an opening looks for, and its bytes have P
 abbrev pub HasLog : (List ℕ → Type 0) → Files → Type 0
 HasLog P f = (bytes : List ℕ) × (f.commits.log ≡ Some bytes) × P bytes
+
+-- these units stand in it before a place
+abbrev pub Stands : List (List (List ℕ)) → LogPlace → Files → Type 0
+Stands units place f = HasLog (λ bytes. take place.end bytes ≡ log_text units) f
+
+-- it is that of an outcome of a crash then, or there is none
+abbrev pub HasLogOf : {D : Type 0} → Ghosts D → D → Files → Type 0
+HasLogOf g old c = (c.commits.log ≡ None) ⊎ ((d : Files) × g.may_leave old d × (c.commits.log ≡ d.commits.log))
 
 -- it says these units
 abbrev pub Says : List (List (List ℕ)) → Files → Type 0
@@ -40,6 +48,10 @@ pub record IsReady {D : Type 0} (g : Ghosts D) (units : List (List (List ℕ))) 
   pub long : place.long ≡ place.end + room
   pub seen : HasLog (Shows units room) (g.seen disk)
   pub crash : (c : Files) → g.may_leave disk c → HasLog (Shows units room) c
+
+-- the text ends where it did, within what is known of the log
+abbrev pub StaysWithin : LogPlace → LogPlace → Type 0
+StaysWithin old new = (new.end ≡ old.end) × (new.end ≤ new.long)
 
 -- more room than that is known to be there
 pub record HasRoom (room : ℕ) (place : LogPlace) : Type 0 where

@@ -1,5 +1,5 @@
 -- What a call may do to the files, and what a crash may leave of it.
-use Rattle.std.specs.Prelude.{◌≡◌, ◌≢◌, ◌⊎◌, Bool, is_some, ℕ, ◌≤◌, ◌+◌, List, [], ◌∷◌, ◌++◌, Option, Some, None, Result, Err, OnOk, length, take, drop, slice_get, slice_set}
+use Rattle.std.specs.Prelude.{◌≡◌, ◌≢◌, ◌⊎◌, Bool, true, is_some, ℕ, ◌≤◌, ◌+◌, List, [], ◌∷◌, ◌++◌, Option, Some, None, Result, Err, OnOk, length, take, drop, slice_get, slice_set}
 use Rattle.rec_types.specs.Table.{counted}
 use Rattle.page_store.specs.StoreFaults.{is_failed}
 use Rattle.page_store.specs.declared.store_fault.StoreFault.{StoreFault}
@@ -146,17 +146,30 @@ pub record CountsFault {D A : Type 0} (g : Ghosts D) (old : D) (answer : Result 
   pub failures : g.failures new ≡ counted (g.failures old) (is_failed answer)
   pub no_memory : answer ≢ Err Memory
 
+-- no failure is counted either
+abbrev pub StaysUncounted : {D : Type 0} → Ghosts D → D → D → Type 0
+StaysUncounted g old new = StaysSteady g old new × StaysBegun g old new × (g.failures new ≡ g.failures old)
+
 -- a call of the disk does a step, and its fault is counted
 abbrev pub CallDoes : {D A : Type 0} → Ghosts D → (Files → Files → Type 0) → D → Result A StoreFault → D → Type 0
 CallDoes g step old answer new = Does g step old new × CountsFault g old answer new
+
+-- a call that appends to the log of commits does a step; its fault is that of the commit alone, and isn't counted
+abbrev pub AppendDoes : {D A : Type 0} → Ghosts D → (Files → Files → Type 0) → D → Result A StoreFault → D → Type 0
+AppendDoes g step old answer new = Does g step old new × (g.failures new ≡ g.failures old) × (answer ≢ Err Memory)
 
 -- whether a side file has the name that an opening looks for, and whether a log of commits has
 abbrev pub names_of : Files → Bool × Bool
 names_of f = (is_some f.side, is_some f.commits.log)
 
+-- a call that was made has its moment: there is one more, counted in 64 bits
+abbrev pub HasMoment : {D A : Type 0} → Ghosts D → D → Result A StoreFault → D → Type 0
+HasMoment g old answer new = OnOk answer (counted (g.moment old) true ≤ g.moment new)
+
 -- a call of the disk has the device keep a part of the files, and does nothing else
 abbrev pub CallSyncs : {D A P : Type 0} → Ghosts D → (Files → P) → D → Result A StoreFault → D → Type 0
-CallSyncs g part old answer new = OnOk answer ((c : Files) → g.may_leave new c → part c ≡ part (g.seen old)) × Stays g old new × CountsFault g old answer new
+CallSyncs g part old answer new =
+    OnOk answer ((c : Files) → g.may_leave new c → part c ≡ part (g.seen old)) × Stays g old new × CountsFault g old answer new × HasMoment g old answer new
 
 -- what is left of several calls of the disk, of which the last may have failed
 abbrev pub CallsLeave : {D A : Type 0} → Ghosts D → D → Result A StoreFault → D → Type 0

@@ -4,7 +4,7 @@ ghost use Rattle.page_store.specs.Blank.{blanks};
 ghost use Rattle.page_journal.specs.Files.{Files};
 ghost use Rattle.commit_paper.specs.Text.{zeros};
 ghost use Rattle.commit_paper.specs.Steps.{Lengthens, Inks};
-ghost use Rattle.page_journal.specs.Steps.{CallDoes, CallSyncs, Nothing, TornAt, GrowsUpTo, CutsTo, Fresh, Names, Removes, FreshLog, NamesLog, RemovesLog, ChangesLog, KeepsLog, InCommits, begun, kept_more, names_of, side_shape, kept_at, written, zeroed};
+ghost use Rattle.page_journal.specs.Steps.{CallDoes, AppendDoes, CallSyncs, Nothing, TornAt, GrowsUpTo, CutsTo, Fresh, Names, Removes, FreshLog, NamesLog, RemovesLog, ChangesLog, KeepsLog, HasMoment, InCommits, begun, kept_more, names_of, side_shape, kept_at, written, zeroed};
 
 use crate::disk_state::DiskState;
 use crate::side_shape::SideShape;
@@ -17,7 +17,8 @@ use rec_types::PAGE_WIDTH;
 ///
 /// A side file is made under one name and then gets another, by which an opening finds it. Each of the three syncs
 /// keeps one part: the file, the side file that is being made, or which of the two has the name. The one fault is
-/// Failed; each failure is counted, and a call that failed may be done, not done or torn.
+/// Failed; each failure is counted, but of the three calls that append to the log of commits, and a call that failed may be
+/// done, not done or torn.
 pub trait Disk: DiskState {
     /// The length of the file. Fault: Failed.
     fn shape(&mut self) -> Result<Shape, StoreFault>
@@ -88,7 +89,8 @@ pub trait Disk: DiskState {
     /// Takes the side file of that name away, at once or not at all. Fault: Failed.
     fn remove(&mut self) -> Result<(), StoreFault>
         ensures gone { OnOk result ((Self.seen self.new).side ≡ None) }
-        ensures does { CallDoes Self.DiskState Removes self.old result self.new };
+        ensures does { CallDoes Self.DiskState Removes self.old result self.new }
+        ensures moment { HasMoment Self.DiskState self.old result self.new };
 
     /// Has the device keep whether a side file has that name, and whether a log of commits has its, and nothing of what they
     /// say. Fault: Failed.
@@ -135,7 +137,7 @@ pub trait Disk: DiskState {
     fn lengthen_log(&mut self, at: usize, n: usize) -> Result<(), StoreFault>
         ensures zeros { IsTrue (Self.steady self.old) → OnOk result
             ((Self.seen self.new).commits.log ≡ option_map (zeroed at n) (Self.seen self.old).commits.log) }
-        ensures does { CallDoes Self.DiskState (InCommits (ChangesLog (Lengthens at)))
+        ensures does { AppendDoes Self.DiskState (InCommits (ChangesLog (Lengthens at)))
             self.old result self.new };
 
     /// Writes over what stands at a place of the log. Fault: Failed; of these bytes any are there then.
@@ -143,14 +145,15 @@ pub trait Disk: DiskState {
         ensures written { IsTrue (Self.steady self.old) → OnOk result
             ((Self.seen self.new).commits.log
             ≡ option_map (written at bytes.now) (Self.seen self.old).commits.log) }
-        ensures does { CallDoes Self.DiskState (InCommits (ChangesLog (Inks at bytes.now)))
+        ensures does { AppendDoes Self.DiskState (InCommits (ChangesLog (Inks at bytes.now)))
             self.old result self.new };
 
     /// Has the device keep the bytes of the log, and nothing else. Fault: Failed.
     fn sync_log(&mut self) -> Result<(), StoreFault>
         ensures kept { OnOk result ((c : Files) → Self.may_leave self.new c
             → KeepsLog (Self.seen self.old).commits c.commits) }
-        ensures does { CallDoes Self.DiskState Nothing self.old result self.new };
+        ensures does { AppendDoes Self.DiskState Nothing self.old result self.new }
+        ensures moment { HasMoment Self.DiskState self.old result self.new };
 
     /// How many bytes the log of that name has, where there is one. Fault: Failed.
     fn log_length(&mut self) -> Result<Option<u64>, StoreFault>

@@ -15,12 +15,12 @@ pub trait DiskState {
     /// What a crash at this moment may leave.
     ghost may_leave: { Self → Files → Type 0 };
 
-    /// A number that doesn't fall.
+    /// A number that doesn't fall. Each sync that succeeds raises it, and each taking away of a side file.
     ghost moment: { Self → ℕ };
 
     /// What a crash at that moment or later might have left.
     ghost left_since: { Self → ℕ → Files → Type 0 };
 
-    /// How many calls failed.
+    /// How many calls failed, but those that append to the log of commits.
     ghost failures: { Self → ℕ };
 }

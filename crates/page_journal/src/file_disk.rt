@@ -8,7 +8,7 @@ ghost use Rattle.page_journal.specs.FileDisks.{SetsLength};
 use crate::beside::Beside;
 use crate::disk::Disk;
 use crate::disk_state::DiskState;
-use crate::noted::{count_up, noted_call};
+use crate::noted::{count_up, noted_call, told_call};
 use crate::opening_fault::OpeningFault;
 use crate::recovering::look_beside;
 use crate::side_files::SideFiles;
@@ -323,20 +323,17 @@ impl<H: System<File = F> + Drop, F: SystemFile + Drop> Disk for FileDisk<H, F> {
 
     fn lengthen_log(&mut self, at: usize, n: usize) -> Result<(), StoreFault> {
         count_up(&mut self.calls);
-        let answer = self.beside.logs().lengthen(at, n);
-        noted_call(&mut self.failures, answer)
+        told_call(self.beside.logs().lengthen(at, n))
     }
 
     fn write_log(&mut self, at: usize, bytes: &[u8]) -> Result<(), StoreFault> {
         count_up(&mut self.calls);
-        let answer = self.beside.logs().write(at, bytes);
-        noted_call(&mut self.failures, answer)
+        told_call(self.beside.logs().write(at, bytes))
     }
 
     fn sync_log(&mut self) -> Result<(), StoreFault> {
         count_up(&mut self.calls);
-        let answer = self.beside.logs().sync();
-        noted_call(&mut self.failures, answer)
+        told_call(self.beside.logs().sync())
     }
 
     fn log_length(&mut self) -> Result<Option<u64>, StoreFault> {

@@ -1,33 +1,43 @@
-ghost use Rattle.std.specs.Prelude.{◌≡◌, ◌≢◌, ◌<◌, ◌≤◌, ◌-◌, ◌==◌, ◌++◌, ℕ, Bool, List, [], true, false, Some, None, Ok, Err, length, IsTrue, IsOk, IfOk, IfErr, OnOk, OnErr, slice_get, slice_set};
+ghost use Rattle.std.specs.Prelude.{◌≡◌, ◌≢◌, ◌<◌, ◌≤◌, ◌-◌, ◌==◌, ◌++◌, ◌∷◌, ◌^◌, ℕ, Bool, List, [], true, false, Some, None, Ok, Err, length, IsTrue, IsOk, IsSome, IfOk, IfErr, OnOk, OnErr, slice_get, slice_set};
 ghost use Rattle.std.specs.List.{list_any};
 ghost use Rattle.rec_types.specs.Table.{counted};
 ghost use Rattle.rec_types.specs.Widths.{page_width};
 ghost use Rattle.page_store.specs.Blank.{blanks};
+ghost use Rattle.page_store.specs.Calls.{counted_times};
 ghost use Rattle.page_store.specs.FreeNumbers.{greatest_page_count};
 ghost use Rattle.page_store.specs.Growth.{GrowsTo};
 ghost use Rattle.page_store.specs.Guards.{SealsGuard};
 ghost use Rattle.page_store.specs.StoreCalls.{SealsStore, ChangesStore};
 ghost use Rattle.page_store.specs.StoreFaults.{is_failed};
 ghost use Rattle.page_store.specs.declared.step.Step.{Step};
+ghost use Rattle.commit_paper.specs.Text.{IsUnit, unit_text};
+ghost use Rattle.page_store.specs.Commits.{IsCommit};
 ghost use Rattle.page_journal.specs.Files.{Files, Belongs, recovered};
-ghost use Rattle.page_journal.specs.Steps.{CallSyncs};
+ghost use Rattle.page_journal.specs.Logging.{SaysNoneOr};
+ghost use Rattle.page_journal.specs.LoggedStores.{FindsAll, LeavesWithCommits, MayFind, commits_in};
+ghost use Rattle.page_journal.specs.Steps.{CallSyncs, StaysBegun, StaysSteady};
 ghost use Rattle.page_journal.specs.Crash.{IsSettled, IsAtRest, StandsAs, StandsFor, IsEither};
 ghost use Rattle.page_journal.specs.Recovery.{IsForeign, is_device, is_device_fault};
 ghost use Rattle.page_journal.specs.KeptStores.{failures_with, guard_of, KeptStored, CanBeSealed, is_open, may_write_in};
 
 use crate::disk::Disk;
+use crate::log_place::LogPlace;
+use crate::logging::{append, begin_log};
 use crate::noted::count_up;
 use crate::recovering::{commit, recover};
 use crate::recovery_fault::RecoveryFault;
 use crate::seal_state::SealState;
 use crate::sealing::seal;
-use page_store::{SealStore, Shape, Store, StoreFault, StoreState};
+use page_store::{AppendFault, CommitStore, SealStore, Shape, Store, StoreFault, StoreState};
 use rec_types::{Memory, PAGE_WIDTH};
 use std::alloc::Global;
 use std::marker::Model;
 
 /// The most pages that a file has whose old pages are kept.
 pub(crate) const MOST_PAGES: u64 = 1_000_001;
+
+// How many zeros a log of commits begins with.
+const FIRST_ROOM: usize = 65536;
 
 /// A store over a disk. It refuses to write over a page that wasn't kept aside, so that a crash at any moment leaves the
 /// file that there was when the disk was opened, whatever its callers do, until `finish` gives that up. Contracts see
@@ -43,6 +53,10 @@ pub struct KeptStore<D: Disk + Drop> {
     shapes: u64,
     writes: u64,
     refusals: u64,
+    /// The place in the log of commits, where one was begun.
+    log: Option<LogPlace>,
+    /// The text of the commit that is in doubt, or nothing.
+    doubt: Vec<u8>,
 }
 
 impl<D: Disk + Drop> Model for KeptStore<D> {
@@ -61,10 +75,15 @@ impl<D: Disk + Drop> Model for KeptStore<D> {
       shapes = s.shapes;
       writes = s.writes;
       refusals = s.refusals;
+      log = s.log;
+      doubt = s.doubt.items;
     } };
 
-    ghost invariant = { λ s. IsTrue (D.steady s.disk)
-        → IsGuarded D.DiskState (old_file_of D.DiskState s.disk) s.state s.kept.items s.disk };
+    ghost use Rattle.page_journal.specs.LoggedStores.{DoubtStops, FitsIn, IsLogged};
+
+    ghost invariant = { λ s. FitsIn s.log × (IsTrue (D.steady s.disk)
+        → IsGuarded D.DiskState (old_file_of D.DiskState s.disk) s.state s.kept.items s.disk
+        × IsLogged D.DiskState s.log s.doubt.items s.disk × DoubtStops s.state s.doubt.items) };
 }
 
 // Whether page n was kept or is past the old end.
@@ -98,6 +117,10 @@ impl<D: Disk + Drop> KeptStore<D> {
             → IsSettled D.DiskState (recovered (D.began disk)) disk }
         requires time { IsTrue (D.steady disk) → (c : Files) → D.left_since disk 0 c
             → StandsFor (recovered (D.began disk)) c }
+        requires log { IsTrue (D.steady disk)
+            → (D.seen disk).commits.log ≡ (D.began disk).commits.log }
+        requires log_time { IsTrue (D.steady disk) → (c : Files) → D.left_since disk 0 c
+            → c.commits.log ≡ (D.began disk).commits.log }
         ensures { result ≡ record {
           disk = disk;
           kept = [];
@@ -106,6 +129,8 @@ impl<D: Disk + Drop> KeptStore<D> {
           shapes = 0;
           writes = 0;
           refusals = 0;
+          log = None;
+          doubt = [];
         } }
     {
         KeptStore {
@@ -117,6 +142,8 @@ impl<D: Disk + Drop> KeptStore<D> {
             shapes: 0,
             writes: 0,
             refusals: 0,
+            log: None,
+            doubt: Vec::new(alloc),
         }
     }
 
@@ -135,6 +162,8 @@ impl<D: Disk + Drop> KeptStore<D> {
           shapes = 0;
           writes = 0;
           refusals = 0;
+          log = None;
+          doubt = [];
         }) }
         ensures steady { IfOk result (λ s. D.steady s.disk ≡ D.steady disk) }
         ensures began { IfOk result (λ s. D.began s.disk ≡ D.began disk) }
@@ -155,6 +184,59 @@ impl<D: Disk + Drop> KeptStore<D> {
         }
     }
 
+    /// The store, with a log of commits begun beside it that says this unit. Until `finish` a crash leaves the file as it is, and
+    /// beside it no log, or one that says this and the commits that were kept. Fault: Failed; the disk comes back, and a
+    /// crash leaves the file as it is, with no log or with this one.
+    pub fn begin_commits(self, head: &[u8]) -> Result<KeptStore<D>, (D, StoreFault)>
+        requires none { IsTrue (D.steady self.disk) → (D.began self.disk).commits.log ≡ None }
+        requires unused { (self.log ≡ None) × (self.state ≡ SealState.Unsealed) }
+        requires short { length head.now ≤ 2 ^ 40 }
+        requires head { IsCommit head.now }
+        ensures begun { IfOk result (λ s. s ≡ record self { disk = s.disk; log = s.log }) }
+        ensures same { IfOk result (λ s. (D.seen s.disk).main ≡ (D.seen self.disk).main) }
+        ensures steady { IfOk result (λ s. D.steady s.disk ≡ D.steady self.disk) }
+        ensures began { IfOk result (λ s. D.began s.disk ≡ D.began self.disk) }
+        ensures failures { IfOk result (λ s. D.failures s.disk ≡ D.failures self.disk) }
+        ensures says { IsTrue (D.steady self.disk) → (unit : List (List ℕ)) → IsUnit unit
+            → head.now ≡ unit_text unit
+            → IfOk result (λ s. commits_in s.log (D.seen s.disk) ≡ unit ∷ []) }
+        ensures logs { IfOk result (λ s. IsSome s.log) }
+        ensures stopped { IsTrue (D.steady self.disk) → (unit : List (List ℕ)) → IsUnit unit
+            → head.now ≡ unit_text unit → IfErr result (λ stop. (c : Files)
+            → D.left_since stop.0 0 c → StandsFor (recovered (D.began self.disk)) c
+            × SaysNoneOr (unit ∷ []) c) }
+        ensures device { IfErr result (λ stop. (D.failures stop.0
+            ≡ counted (D.failures self.disk) true) × (stop.1 ≡ StoreFault.Failed)) }
+    {
+        let KeptStore {
+            mut disk,
+            kept,
+            state,
+            alloc,
+            reads,
+            shapes,
+            writes,
+            refusals,
+            doubt,
+            ..
+        } = self;
+        match begin_log(&mut disk, head, FIRST_ROOM) {
+            Ok(place) => Ok(KeptStore {
+                disk,
+                kept,
+                state,
+                alloc,
+                reads,
+                shapes,
+                writes,
+                refusals,
+                log: Some(place),
+                doubt,
+            }),
+            Err(_) => Err((disk, StoreFault::Failed)),
+        }
+    }
+
     // Whether page n may be written over.
     fn may_write(&self, n: u32) -> bool
         ensures { result ≡ may_write_in self.now.state self.now.kept n }
@@ -168,8 +250,9 @@ impl<D: Disk + Drop> KeptStore<D> {
     // Keeps the pages of these numbers aside, where none were. Faults: Failed, Memory.
     fn keep_aside(&mut self, numbers: &[u32]) -> Result<(), StoreFault>
         ensures same { (D.seen self.new.disk).main ≡ (D.seen self.old.disk).main }
-        ensures steady { D.steady self.new.disk ≡ D.steady self.old.disk }
-        ensures began { D.began self.new.disk ≡ D.began self.old.disk }
+        ensures opened { StaysSteady D.DiskState self.old.disk self.new.disk
+            × StaysBegun D.DiskState self.old.disk self.new.disk }
+        ensures commits { (D.seen self.new.disk).commits ≡ (D.seen self.old.disk).commits }
         ensures sealed { OnOk result ((self.new.state ≡ SealState.Sealed) × ((n : ℕ)
             → n < length (D.seen self.old.disk).main.pages
             → is_open self.new.kept n ≡ list_any (λ m. n == m) numbers.now)) }
@@ -213,8 +296,8 @@ impl<D: Disk + Drop> KeptStore<D> {
         Ok(())
     }
 
-    /// The disk, and how it ended: where pages were kept aside, the file is synced and the old pages are given up, so
-    /// that at Ok the file is the new one whatever happens. A crash at any moment since the disk was opened leaves
+    /// The disk, and how it ended: where pages were kept aside, the file is synced and the old pages are given up by three
+    /// calls, so that at Ok the file is the new one whatever happens. A crash at any moment since the disk was opened leaves
     /// the old file or the new one. Fault: Failed, where a call of the disk failed now or when pages were to be kept;
     /// the file is the old one or the new one then.
     pub fn finish(self) -> (D, Result<(), StoreFault>)
@@ -227,11 +310,20 @@ impl<D: Disk + Drop> KeptStore<D> {
         ensures began { D.began result.0 ≡ D.began self.disk }
         ensures failures { self.state ≢ SealState.Stopped → D.failures result.0
             ≡ counted (D.failures self.disk) (is_failed result.1) }
+        ensures moments { self.state ≡ SealState.Sealed → OnOk result.1
+            (counted_times (D.moment self.disk) 3 ≤ D.moment result.0) }
         ensures unsealed { self.state ≡ SealState.Unsealed
             → (result.0 ≡ self.disk) × (result.1 ≡ Ok tt) }
         ensures stopped { self.state ≡ SealState.Stopped
             → (result.0 ≡ self.disk) × (result.1 ≡ Err StoreFault.Failed) }
         ensures no_memory { result.1 ≢ Err StoreFault.Memory }
+        ensures commits { IsTrue (D.steady self.disk) → (c : Files) → D.left_since result.0 0 c
+            → LeavesWithCommits self.log (D.began self.disk)
+            (commits_in self.log (D.seen self.disk)) self.doubt (recovered (D.began self.disk))
+            (D.seen self.disk).main c }
+        ensures all { IsTrue (D.steady self.disk) → OnOk result.1 ((c : Files)
+            → D.may_leave result.0 c → FindsAll self.log (D.began self.disk)
+            (commits_in self.log (D.seen self.disk)) c) }
     {
         let KeptStore {
             mut disk,
@@ -255,6 +347,9 @@ impl<D: Disk + Drop> KeptStore<D> {
             → OnOk result.1 ((D.seen result.0).main ≡ recovered (D.began self.disk)) }
         ensures any_moment { IsTrue (D.steady self.disk) → (c : Files) → D.left_since result.0 0 c
             → StandsFor (recovered (D.began self.disk)) c }
+        ensures commits { IsTrue (D.steady self.disk) → (c : Files) → D.left_since result.0 0 c
+            → MayFind self.log (D.began self.disk) (commits_in self.log (D.seen self.disk))
+            self.doubt c }
         ensures fault { IsTrue (D.steady self.disk) → result.1 ≢ Err RecoveryFault.BadJournal }
         ensures unsealed { self.state ≢ SealState.Sealed
             → (result.0 ≡ self.disk) × (result.1 ≡ Ok tt) }
@@ -282,6 +377,7 @@ impl<D: Disk + Drop> StoreState for KeptStore<D> {
     ghost use Rattle.std.specs.Prelude.{None};
     ghost use Rattle.page_journal.specs.Files.{recovered};
     ghost use Rattle.page_journal.specs.KeptStores.{failures_with, guard_of, opened_over};
+    ghost use Rattle.page_journal.specs.LoggedStores.{commits_in};
 
     ghost pages = { λ s. (D.seen s.disk).main.pages };
 
@@ -289,7 +385,8 @@ impl<D: Disk + Drop> StoreState for KeptStore<D> {
 
     ghost steady = { λ s. D.steady s.disk };
 
-    ghost opening = { λ s. opened_over (recovered (D.began s.disk)) };
+    ghost opening = { λ s. opened_over (recovered (D.began s.disk))
+        (commits_in s.log (D.seen s.disk)) };
 
     ghost reads = { λ s. s.reads };
 
@@ -415,5 +512,32 @@ impl<D: Disk + Drop> SealStore for KeptStore<D> {
     {
         self.reads = self.reads.saturating_add(1);
         self.keep_aside(numbers)
+    }
+}
+
+impl<D: Disk + Drop> CommitStore for KeptStore<D> {
+    fn keep_commit(&mut self, text: Vec<u8>) -> Result<(), AppendFault> {
+        let Some(mut place) = self.log else {
+            return Err(AppendFault::Room);
+        };
+        let SealState::Unsealed = self.state else {
+            return Err(AppendFault::Doubt);
+        };
+        match append(&mut self.disk, &mut place, &text) {
+            Ok(()) => {
+                self.log = Some(place);
+                Ok(())
+            }
+            Err(AppendFault::Room) => {
+                self.log = Some(place);
+                Err(AppendFault::Room)
+            }
+            Err(AppendFault::Doubt) => {
+                self.log = Some(place);
+                self.doubt = text;
+                self.state = SealState::Stopped;
+                Err(AppendFault::Doubt)
+            }
+        }
     }
 }

@@ -2,7 +2,6 @@
 //! that a crash at any moment leaves the old file or the new one.
 #![tactic(auto)]
 
-mod append_fault;
 mod beside;
 mod blank;
 mod commit_call;
@@ -34,7 +33,6 @@ mod side_names;
 mod side_shape;
 mod side_tally;
 
-pub use append_fault::AppendFault;
 pub use beside::Beside;
 pub use commit_call::CommitCall;
 pub use disk::Disk;

@@ -1,14 +1,13 @@
-ghost use Rattle.std.specs.Prelude.{◌≡◌, ◌≤◌, ◌^◌, ◌++◌, ◌∷◌, [], List, ℕ, IsTrue, None, IfOk, OnOk, IsErrOf, MatchOption, length};
+ghost use Rattle.std.specs.Prelude.{◌≡◌, ◌≤◌, ◌^◌, ◌++◌, ◌∷◌, [], List, ℕ, IsTrue, None, IfOk, OnOk, OnErr, IsErrOf, MatchOption, length};
 ghost use Rattle.commit_paper.specs.Text.{IsUnit, unit_text};
-ghost use Rattle.page_journal.specs.Steps.{Stays, StaysBegun, StaysSteady};
+ghost use Rattle.page_journal.specs.Steps.{CountsFault, Stays, StaysBegun, StaysSteady, StaysUncounted};
 ghost use Rattle.page_journal.specs.Crash.{LeavesOnly, LeavesPages};
-ghost use Rattle.page_journal.specs.Logging.{HasLog, HasNoLog, HasRoom, IsTextOf, IsReady, Says, SaysEither, SaysNoneOr};
+ghost use Rattle.page_journal.specs.Logging.{HasLog, HasLogOf, HasNoLog, HasRoom, IsTextOf, IsReady, Says, SaysEither, SaysNoneOr, Stands, StaysWithin};
 
-use crate::append_fault::AppendFault;
 use crate::disk::Disk;
 use crate::log_place::LogPlace;
 use commit_paper::finished_end;
-use page_store::StoreFault;
+use page_store::{AppendFault, StoreFault};
 use std::alloc::Global;
 
 // How many zeros are added at a time.
@@ -33,6 +32,8 @@ pub fn begin_log<D: Disk>(disk: &mut D, head: &[u8], room: usize) -> Result<LogP
     ensures any_moment { IsTrue (D.steady disk.old) → HasNoLog D.DiskState disk.old
         → (unit : List (List ℕ)) → IsUnit unit → head.now ≡ unit_text unit
         → LeavesOnly D.DiskState (SaysNoneOr (unit ∷ [])) disk.old disk.new }
+    ensures fits { IfOk result (λ place. place.end ≤ place.long) }
+    ensures counted { CountsFault D.DiskState disk.old result disk.new }
 {
     disk.start_log(head, room)?;
     disk.sync_fresh_log()?;
@@ -49,8 +50,7 @@ fn lengthen<D: Disk>(disk: &mut D, place: &mut LogPlace, room: usize) -> Result<
     requires long { place.old.long ≤ 2 ^ 40 }
     requires room { room ≤ 2 ^ 40 }
     requires end { place.old.end ≤ place.old.long }
-    ensures steady { StaysSteady D.DiskState disk.old disk.new }
-    ensures began { StaysBegun D.DiskState disk.old disk.new }
+    ensures disk { StaysUncounted D.DiskState disk.old disk.new }
     ensures pages { LeavesPages D.DiskState disk.old disk.new }
     ensures ready { IsTrue (D.steady disk.old) → (units : List (List (List ℕ)))
         → IsReady D.DiskState units place.old disk.old
@@ -59,6 +59,7 @@ fn lengthen<D: Disk>(disk: &mut D, place: &mut LogPlace, room: usize) -> Result<
     ensures any_moment { IsTrue (D.steady disk.old) → (units : List (List (List ℕ)))
         → IsReady D.DiskState units place.old disk.old
         → LeavesOnly D.DiskState (Says units) disk.old disk.new }
+    ensures end { StaysWithin place.old place.new }
 {
     let more = room + PIECE;
     disk.lengthen_log(place.long, more)?;
@@ -70,8 +71,7 @@ fn lengthen<D: Disk>(disk: &mut D, place: &mut LogPlace, room: usize) -> Result<
 // Sees to it that there is more room than that.
 fn make_room<D: Disk>(disk: &mut D, place: &mut LogPlace, room: usize) -> Result<(), StoreFault>
     requires end { place.old.end ≤ place.old.long }
-    ensures steady { StaysSteady D.DiskState disk.old disk.new }
-    ensures began { StaysBegun D.DiskState disk.old disk.new }
+    ensures disk { StaysUncounted D.DiskState disk.old disk.new }
     ensures pages { LeavesPages D.DiskState disk.old disk.new }
     ensures ready { IsTrue (D.steady disk.old) → (units : List (List (List ℕ)))
         → IsReady D.DiskState units place.old disk.old
@@ -80,6 +80,7 @@ fn make_room<D: Disk>(disk: &mut D, place: &mut LogPlace, room: usize) -> Result
     ensures any_moment { IsTrue (D.steady disk.old) → (units : List (List (List ℕ)))
         → IsReady D.DiskState units place.old disk.old
         → LeavesOnly D.DiskState (Says units) disk.old disk.new }
+    ensures end { StaysWithin place.old place.new }
 {
     if place.long > MOST || room > MOST {
         return Err(StoreFault::Failed);
@@ -93,8 +94,7 @@ fn make_room<D: Disk>(disk: &mut D, place: &mut LogPlace, room: usize) -> Result
 // Writes a unit where there is room for it, and has the device keep it.
 fn ink<D: Disk>(disk: &mut D, place: &mut LogPlace, text: &[u8]) -> Result<(), StoreFault>
     requires { HasRoom (length text.now) place.old }
-    ensures steady { StaysSteady D.DiskState disk.old disk.new }
-    ensures began { StaysBegun D.DiskState disk.old disk.new }
+    ensures disk { StaysUncounted D.DiskState disk.old disk.new }
     ensures pages { LeavesPages D.DiskState disk.old disk.new }
     ensures done { IsTrue (D.steady disk.old) → (units : List (List (List ℕ)))
         → (unit : List (List ℕ)) → IsReady D.DiskState units place.old disk.old → IsUnit unit
@@ -104,6 +104,11 @@ fn ink<D: Disk>(disk: &mut D, place: &mut LogPlace, text: &[u8]) -> Result<(), S
         → (unit : List (List ℕ)) → IsReady D.DiskState units place.old disk.old → IsUnit unit
         → text.now ≡ unit_text unit
         → LeavesOnly D.DiskState (SaysEither units unit) disk.old disk.new }
+    ensures stand { IsTrue (D.steady disk.old) → (units : List (List (List ℕ)))
+        → IsReady D.DiskState units place.old disk.old
+        → OnErr result (Stands units place.new (D.seen disk.new)) }
+    ensures end { OnErr result (place.new ≡ place.old) }
+    ensures fits { place.new.end ≤ place.new.long }
 {
     disk.write_log(place.end, text)?;
     disk.sync_log()?;
@@ -116,8 +121,7 @@ fn ink<D: Disk>(disk: &mut D, place: &mut LogPlace, text: &[u8]) -> Result<(), S
 /// in the log, which takes others; Doubt.
 pub fn append<D: Disk>(disk: &mut D, place: &mut LogPlace, text: &[u8]) -> Result<(), AppendFault>
     requires end { place.old.end ≤ place.old.long }
-    ensures steady { StaysSteady D.DiskState disk.old disk.new }
-    ensures began { StaysBegun D.DiskState disk.old disk.new }
+    ensures disk { StaysUncounted D.DiskState disk.old disk.new }
     ensures pages { LeavesPages D.DiskState disk.old disk.new }
     ensures done { IsTrue (D.steady disk.old) → (units : List (List (List ℕ)))
         → (unit : List (List ℕ)) → IsReady D.DiskState units place.old disk.old → IsUnit unit
@@ -125,11 +129,16 @@ pub fn append<D: Disk>(disk: &mut D, place: &mut LogPlace, text: &[u8]) -> Resul
         → OnOk result (IsReady D.DiskState (units ++ unit ∷ []) place.new disk.new) }
     ensures no_room { IsTrue (D.steady disk.old) → (units : List (List (List ℕ)))
         → IsReady D.DiskState units place.old disk.old → IsErrOf result AppendFault.Room
-        → IsReady D.DiskState units place.new disk.new }
+        → IsReady D.DiskState units place.new disk.new
+        × LeavesOnly D.DiskState (Says units) disk.old disk.new }
+    ensures doubt { IsTrue (D.steady disk.old) → (units : List (List (List ℕ)))
+        → IsReady D.DiskState units place.old disk.old → IsErrOf result AppendFault.Doubt
+        → Stands units place.new (D.seen disk.new) }
     ensures any_moment { IsTrue (D.steady disk.old) → (units : List (List (List ℕ)))
         → (unit : List (List ℕ)) → IsReady D.DiskState units place.old disk.old → IsUnit unit
         → text.now ≡ unit_text unit
         → LeavesOnly D.DiskState (SaysEither units unit) disk.old disk.new }
+    ensures fits { place.new.end ≤ place.new.long }
 {
     let Ok(()) = make_room(disk, place, text.len()) else {
         return Err(AppendFault::Room);
@@ -137,6 +146,22 @@ pub fn append<D: Disk>(disk: &mut D, place: &mut LogPlace, text: &[u8]) -> Resul
     let Ok(()) = ink(disk, place, text) else {
         return Err(AppendFault::Doubt);
     };
+    Ok(())
+}
+
+/// Takes the log of commits away. A crash leaves it whole until then, or none. All else of the files stays. Fault: Failed; a
+/// log may have the name or not.
+pub fn end_log<D: Disk>(disk: &mut D) -> Result<(), StoreFault>
+    ensures steady { StaysSteady D.DiskState disk.old disk.new }
+    ensures began { StaysBegun D.DiskState disk.old disk.new }
+    ensures pages { LeavesPages D.DiskState disk.old disk.new }
+    ensures gone { OnOk result (HasNoLog D.DiskState disk.new) }
+    ensures any_moment { LeavesOnly D.DiskState (HasLogOf D.DiskState disk.old)
+        disk.old disk.new }
+    ensures counted { CountsFault D.DiskState disk.old result disk.new }
+{
+    disk.remove_log()?;
+    disk.sync_names()?;
     Ok(())
 }
 

@@ -3,7 +3,7 @@ ghost use Rattle.rec_types.specs.Table.{counted};
 ghost use Rattle.rec_types.specs.Widths.{page_width};
 ghost use Rattle.page_journal.specs.Files.{no_commits};
 ghost use Rattle.page_journal.specs.Steps.{nothing_kept};
-ghost use Rattle.page_journal.specs.History.{MayLeave, all_done, with_call, failed_more};
+ghost use Rattle.page_journal.specs.History.{MayLeave, StaysOnErr, all_done, with_call, failed_more};
 ghost use Rattle.page_journal.specs.Fates.{first_calls};
 ghost use Rattle.page_journal.specs.declared.fate.Fate.{Fate};
 ghost use Rattle.page_journal.specs.declared.disk_call.DiskCall.{DiskCall};
@@ -113,6 +113,18 @@ impl MemDisk {
     {
         if self.take(call).is_err() {
             return Err(self.fail());
+        }
+        Ok(())
+    }
+
+    // The same of a call that appends to the log of commits, whose failure isn't counted.
+    fn note_append(&mut self, call: DiskCall) -> Result<(), StoreFault>
+        ensures ok { OnOk result (self.new ≡ with_call self.old call) }
+        ensures err { StaysOnErr result self.old self.new }
+        ensures fault { OnlyFails result }
+    {
+        if self.take(call).is_err() {
+            return Err(StoreFault::Failed);
         }
         Ok(())
     }
@@ -236,18 +248,18 @@ impl Disk for MemDisk {
     }
 
     fn lengthen_log(&mut self, at: usize, n: usize) -> Result<(), StoreFault> {
-        self.note(DiskCall::Commits(CommitCall::Lengthen(at, n)))
+        self.note_append(DiskCall::Commits(CommitCall::Lengthen(at, n)))
     }
 
     fn write_log(&mut self, at: usize, bytes: &[u8]) -> Result<(), StoreFault> {
         match zeros_behind(self.seen.alloc, bytes, 0) {
-            Ok(bytes) => self.note(DiskCall::Commits(CommitCall::Write(at, bytes))),
-            Err(Memory) => Err(self.fail()),
+            Ok(bytes) => self.note_append(DiskCall::Commits(CommitCall::Write(at, bytes))),
+            Err(Memory) => Err(StoreFault::Failed),
         }
     }
 
     fn sync_log(&mut self) -> Result<(), StoreFault> {
-        self.note(DiskCall::Commits(CommitCall::Sync))
+        self.note_append(DiskCall::Commits(CommitCall::Sync))
     }
 
     fn log_length(&mut self) -> Result<Option<u64>, StoreFault> {

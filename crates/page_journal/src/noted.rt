@@ -30,6 +30,13 @@ pub(crate) fn noted_call<T: Drop>(
     noted(failures, answer.map_err(StoreFault::from))
 }
 
+/// The same without a count.
+pub(crate) fn told_call<T: Drop>(answer: io::Result<T>) -> Result<T, StoreFault>
+    ensures { OnlyFails result }
+{
+    answer.map_err(StoreFault::from)
+}
+
 /// Counts one more, up to the greatest number.
 pub(crate) fn count_up(n: &mut u64)
     ensures { n.new ≡ counted n.old true }

@@ -1,5 +1,6 @@
 ghost use Rattle.std.specs.Prelude.{◌≡◌, ◌≢◌, ◌↔◌, ◌<◌, ◌≤◌, ℕ, List, Some, Err, length, take, IsTrue, IfOk, IfSome, MatchOption, OnOk, slice_set};
 ghost use Rattle.rec_types.specs.Table.{counted};
+ghost use Rattle.page_store.specs.Calls.{counted_times};
 ghost use Rattle.page_journal.specs.Files.{Kept, IsOf, Belongs, AscendBelow, is_kept, recovered, restored};
 ghost use Rattle.page_journal.specs.Sums.{SumsOn, sum_without};
 ghost use Rattle.page_journal.specs.Steps.{CallDoes, CallsLeave, CountsFault, Stays, TornAt, side_shape, StaysBegun, StaysSteady};
@@ -36,10 +37,11 @@ pub(crate) fn overwrite<D: Disk>(
 }
 
 /// Has the device keep the file, and then gives the old pages up: from the moment on at which the side file is gone, a
-/// crash leaves the new file. Until then it leaves the old one. Fault: Failed; no page has changed then, and the
-/// side file may be there or not.
+/// crash leaves the new file. Until then it leaves the old one. At `Ok` three calls of the disk have succeeded. Fault:
+/// Failed; no page has changed then, and the side file may be there or not.
 pub fn commit<D: Disk>(disk: &mut D) -> Result<(), StoreFault>
     ensures calls { CallsLeave D.DiskState disk.old result disk.new }
+    ensures moments { OnOk result (counted_times (D.moment disk.old) 3 ≤ D.moment disk.new) }
     ensures logs { LeavesLogs D.DiskState disk.old disk.new }
     ensures same { (D.seen disk.new).main ≡ (D.seen disk.old).main }
     ensures committed { (kept : Kept) (base : List (List ℕ))

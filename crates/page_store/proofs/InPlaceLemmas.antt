@@ -1,6 +1,6 @@
 -- Pages written over where they are in memory, and those that are made.
 use Rattle.std.proofs.Common.{◌≡◌, ℕ, ◌+◌, ◌<◌, Bool, true, false, not, cond, ◌&&◌, List, [], ◌∷◌, length, Option, Some, None, IsSome, is_some, Box, All, get_or, take, set, eqb, zero, suc, inr, refl, sym, ap, subst, ◌∙◌, arith, length-set}
-use Rattle.std.specs.Option.{option_map}
+use Rattle.std.specs.Option.{option_map, unwrap_or}
 use Rattle.std.specs.Ordering.{nat_cmp}
 use Rattle.std.specs.BTreeMap.{is_at}
 use Rattle.std.proofs.Math.Seq.{take-suc}
@@ -97,3 +97,13 @@ module _ (slots : List (Option (List ℕ))) (writes made : List (ℕ × List ℕ
   -- and what is written over them is as if they had not been put there
   pub over_them : (n : ℕ) → at (put_slots (put_slots slots made) writes) n ≡ at (put_slots slots writes) n
   over_them n = over_by n (is_written writes n) refl
+
+-- the page in a slot that was found there
+pub value_in : {Z : Type 0} (items : List (Option (Box (List ℕ) Z))) (n : ℕ) (slot : Option (Box (List ℕ) Z)) (page : Box (List ℕ) Z) (was : List ℕ) → slot ≡ get_or items n slot → slot ≡ Some page → at (slots_of items) n ≡ Some was → page.value ≡ was
+value_in {Z} [] n slot page was here is there = absurd (none_is_no (sym there))
+  where
+    none_is_no : Some was ≡ None → ⊥
+    none_is_no e = absurd (cc)
+value_in {Z} (item ∷ items) zero slot page was here is there =
+    ap (λ (o : Option (List ℕ)). unwrap_or o []) (sym (ap (option_map (λ (page : Box (List ℕ) Z). page.value)) (sym here ∙ is)) ∙ there)
+value_in {Z} (item ∷ items) (suc n) slot page was here is there = value_in items n slot page was here is there

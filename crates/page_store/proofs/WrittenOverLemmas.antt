@@ -30,6 +30,14 @@ has_slot slots free count n bits same there =
     (λ (never : InUse free count n → ⊥). absurd (false≢true (sym (ap is_some (unused_written slots free count n never)) ∙ written)))
     (use_of free count n)
 
+-- such a page is what its slot has
+pub slot_has : (stored : List (List ℕ)) (slots : List (Option (List ℕ))) (free : List ℕ) (count n : ℕ) (was : List ℕ) → HasSlot slots free count n → at (pages_of stored slots free count) n ≡ Some was → at slots n ≡ Some was
+slot_has stored slots free count n was has is = by_slot (at slots n) refl
+  where
+    by_slot : (slot : Option (List ℕ)) → slot ≡ at slots n → at slots n ≡ Some was
+    by_slot (Some page) here = sym here ∙ sym (from_slot stored slots free count n page has.used here) ∙ is
+    by_slot None here = absurd (false≢true (ap is_some here ∙ has.here))
+
 module _ (stored : List (List ℕ)) (slots : List (Option (List ℕ))) (free : List ℕ) (count n : ℕ) (page : List ℕ) (has : HasSlot slots free count n) where
   abbrev over : List (Option (List ℕ))
   over = set slots n (Some page)

@@ -1,7 +1,9 @@
 pub mod Blank
 pub mod Calls
 pub mod CanStage
+pub mod Commits
 pub mod Carrying
+pub mod ChangedPage
 pub mod FetchFaults
 pub mod FileValues
 pub mod FlakyStored

@@ -1,7 +1,9 @@
 //! Files of pages, and changed pages in memory.
 #![tactic(auto)]
 
+mod append_fault;
 mod blank;
+mod commit_store;
 mod count;
 mod file_store;
 mod flaky_store;
@@ -19,6 +21,8 @@ mod store_fault;
 mod store_state;
 mod write_back;
 
+pub use append_fault::AppendFault;
+pub use commit_store::CommitStore;
 pub use file_store::FileStore;
 pub use flaky_store::FlakyStore;
 pub use mem_store::MemStore;

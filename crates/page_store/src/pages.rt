@@ -2,8 +2,9 @@ ghost use Rattle.std.specs.Prelude.{◌≡◌, ℕ, ◌≢◌, ◌+◌, ◌-◌,
 ghost use Rattle.std.specs.Ordering.{nat_cmp};
 ghost use Rattle.std.specs.BTreeSet.{contains};
 ghost use Rattle.rec_types.specs.Table.{counted};
-ghost use Rattle.page_store.specs.PageMap.{at, after, write_page, is_written, is_freed};
+ghost use Rattle.page_store.specs.PageMap.{at, after, is_written, is_freed};
 ghost use Rattle.page_store.specs.Guards.{AllowsAll};
+ghost use Rattle.page_store.specs.ChangedPage.{MayChangeAt, ChangesPage};
 ghost use Rattle.page_store.specs.Journal.{noted, NotesFront, writing_back};
 ghost use Rattle.page_store.specs.PagesView.{OnlyReads, is_in_memory, is_read, memory_pages};
 ghost use Rattle.page_store.specs.Calls.{counted_times, CountedUpTo, how_many};
@@ -16,17 +17,19 @@ ghost use Rattle.page_store.specs.WriteFaults.{by_device};
 ghost use Rattle.page_store.specs.WritingBack.{AreStored, KeepsOthers, Stopped};
 ghost use Rattle.btree_node.specs.Spelling.{IsSpelt};
 
+mod commits;
 mod sealing;
 
 use crate::free_numbers::{add_all, nth_number};
 use crate::kept_pages::KeptPages;
 use crate::page_edit::{FetchFault, PageEdit, WriteFault};
 use crate::slot::{
-    Slot, boxed, changed_page, drop_pages, is_in_use, make_slots, slots_needed, write_one_over,
+    Slot, boxed, change_one, changed_page, drop_pages, is_in_use, make_slots, slots_needed,
     write_pages,
 };
 use crate::store::Store;
 use crate::write_back::{told, write_out};
+use btree_node::PageChange;
 use rec_types::{Memory, PAGE_WIDTH};
 use std::alloc::Global;
 use std::collections::BTreeSet;
@@ -260,12 +263,12 @@ impl<S: Store> Pages<S> {
         Ok(())
     }
 
-    /// Writes over page n, which is in memory: the same as an edit that writes it alone, and no memory is
-    /// asked for.
-    pub fn write_over(&mut self, n: u32, page: &[u8; PAGE_WIDTH])
-        requires { is_in_memory self.old n ≡ true }
-        ensures pages { (q : ℕ) → at self.new.pages q
-            ≡ write_page (at self.old.pages) n page.now q }
+    /// Changes page n, which is in memory and spells a node of that order, where it lies: its bytes aren't copied, and no
+    /// memory is asked for. The condition is that of `change_page`.
+    pub fn change(&mut self, order: u16, n: u32, change: &PageChange)
+        requires in_memory { is_in_memory self.old n ≡ true }
+        requires page { MayChangeAt order n change.now self.old.pages }
+        ensures pages { ChangesPage order n change.now self.old.pages self.new.pages }
         ensures count { length self.new.pages ≡ length self.old.pages }
         ensures in_memory { (q : ℕ) → is_in_memory self.new q ≡ is_in_memory self.old q }
         ensures changed { self.new.changed ≡ true }
@@ -275,7 +278,7 @@ impl<S: Store> Pages<S> {
           in_memory = self.new.in_memory;
         } }
     {
-        write_one_over(&mut self.changed, n, page);
+        change_one(&mut self.changed, order, n, change);
     }
 
     /// The number of pages, page 0 included.

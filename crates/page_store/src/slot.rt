@@ -4,8 +4,10 @@ ghost use Rattle.std.specs.BTreeSet.{contains};
 ghost use Rattle.std.specs.Ordering.{nat_cmp};
 ghost use Rattle.page_store.specs.PageMap.{at, is_freed, is_written};
 ghost use Rattle.page_store.specs.Overlaid.{slots_of};
+ghost use Rattle.page_store.specs.ChangedPage.{MayChangeAt, ChangesSlot};
 ghost use Rattle.page_store.specs.Slots.{bytes_in, put_slots, AreTheNew};
 
+use btree_node::{PageChange, change_page};
 use rec_types::{Memory, PAGE_WIDTH};
 use std::alloc::Global;
 use std::collections::BTreeSet;
@@ -118,13 +120,26 @@ fn write_over(changed: &mut Vec<Slot>, free: &mut BTreeSet<u32>, writes: &[(u32,
 }
 
 /// Writes over the page of that number, which is in memory.
-pub(crate) fn write_one_over(changed: &mut Vec<Slot>, n: u32, page: &[u8; PAGE_WIDTH])
+fn write_one_over(changed: &mut Vec<Slot>, n: u32, page: &[u8; PAGE_WIDTH])
     requires { IsSome (at (slots_of changed.old.items) n) }
     ensures { slots_of changed.new.items
         ≡ slice_set (slots_of changed.old.items) n (Some page.now) }
 {
     match &mut changed[n as usize] {
         Some(slot) => **slot = *page,
+        None => {}
+    }
+}
+
+/// Changes the page of that number, which is in memory, where it lies.
+pub(crate) fn change_one(changed: &mut Vec<Slot>, order: u16, n: u32, change: &PageChange)
+    requires there { IsSome (at (slots_of changed.old.items) n) }
+    requires page { MayChangeAt order n change.now (slots_of changed.old.items) }
+    ensures { ChangesSlot order n change.now (slots_of changed.old.items)
+        (slots_of changed.new.items) }
+{
+    match &mut changed[n as usize] {
+        Some(slot) => change_page(&mut **slot, order, change),
         None => {}
     }
 }

@@ -77,6 +77,8 @@ impl<T: Table> TableState for FlakyTable<T> {
     ghost Source = { T.Source };
 
     ghost origin = { λ t. T.origin t.inner };
+
+    ghost commits = { T.commits };
 }
 
 // A method's clauses stand in place of its trait's, so these are written again before those that tell

@@ -148,7 +148,7 @@ impl SortedTable {
 }
 
 impl TableState for SortedTable {
-    ghost use Rattle.std.specs.Prelude.{true};
+    ghost use Rattle.std.specs.Prelude.{[], true};
     ghost use Rattle.rec_types.specs.Table.{no_damage};
 
     ghost contents = { λ t. t.contents };
@@ -168,6 +168,8 @@ impl TableState for SortedTable {
     ghost Source = { Unit {0} };
 
     ghost origin = { λ _. tt };
+
+    ghost commits = { λ _. [] };
 }
 
 impl Table for SortedTable {

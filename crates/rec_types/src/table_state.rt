@@ -1,4 +1,4 @@
-ghost use Rattle.std.specs.Prelude.{ℕ, Bool};
+ghost use Rattle.std.specs.Prelude.{ℕ, Bool, List};
 ghost use Rattle.rec_types.specs.Contents.{Contents};
 ghost use Rattle.rec_types.specs.Table.{Damages};
 ghost use Rattle.rec_types.specs.declared.table_calls.TableCalls.{TableCalls};
@@ -29,6 +29,9 @@ pub trait TableState {
     /// What a table tells of what it was made of.
     ghost Source: { Type 0 };
 
-    /// What the table was made of. No call changes it.
+    /// What the table was made of, and what is kept beside it. No call of a table changes it.
     ghost origin: { Self → Source };
+
+    /// By that: the commits that are kept beside the table, each as its lines; none where none are.
+    ghost commits: { Source → List (List (List ℕ)) };
 }

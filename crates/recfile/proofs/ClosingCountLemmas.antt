@@ -1,5 +1,8 @@
 -- How often a disk has failed when its file was closed.
-use Rattle.std.proofs.Common.{◌≡◌, ◌∙◌, ⊎_elim, ℕ, Bool, true, false, List, Option, Some, IfSome, Result, Ok, Err, OnOk, refl, sym, ap, subst}
+use Rattle.std.proofs.Common.{◌≡◌, ◌∙◌, ⊎_elim, ℕ, ◌+◌, ◌<◌, ◌≤◌, Bool, true, false, List, Option, Some, IfSome, Result, Ok, Err, OnOk, refl, sym, ap, subst, arith}
+use Rattle.std.proofs.lemmas.Bool.Decides.{nat_tests}
+use Rattle.rec_types.specs.Table.{counted, greatest_count}
+use Rattle.page_store.specs.Calls.{counted_times}
 use Rattle.page_store.specs.Guards.{Guard, Unguarded, Unsealed, Sealed, Stopped, SealsGuard}
 use Rattle.page_store.specs.StoreFaults.{is_failed}
 use Rattle.page_store.specs.WriteFaults.{by_device}
@@ -56,6 +59,32 @@ seal_goes_on F test long old new is seals =
 
 pub not_stopped : (state : SealState) (kept : List Bool) (refusals : ℕ) (guard : Guard) → guard_of state kept refusals ≡ guard → is_stopped guard ≡ false → state ≡ states.Stopped → ⊥
 not_stopped state kept refusals guard is going same = absurd (cc (sym going ∙ ap is_stopped (sym is) ∙ ap (λ (s : SealState). is_stopped (guard_of s kept refusals)) same))
+
+-- where old pages are kept aside, the state says so
+pub seal_seals : (F : Type 0) (test : ℕ → Bool) (long : ℕ) (old new : Guard) → old ≡ Unsealed 0 → SealsGuard {F = F} test long old (Ok tt) new → is_sealed new ≡ true
+seal_seals F test long old new is seals =
+    let keeps = subst (λ (k : Guard). SealsGuard {F = F} test long k (Ok tt) new) is seals in
+    ap is_sealed keeps.sealed
+
+pub sealed_state : (state : SealState) (kept : List Bool) (refusals : ℕ) (guard : Guard) → guard_of state kept refusals ≡ guard → is_sealed guard ≡ true → state ≡ states.Sealed
+sealed_state states.Unsealed kept refusals guard is sealed = absurd (cc (sym sealed ∙ ap is_sealed (sym is)))
+sealed_state states.Sealed kept refusals guard is sealed = refl
+sealed_state states.Stopped kept refusals guard is sealed = absurd (cc (sym sealed ∙ ap is_sealed (sym is)))
+
+-- calls that have their moments
+one_moment : (n k : ℕ) → k < greatest_count → k ≤ n → k + 1 ≤ counted n true
+one_moment n k low le = grind (arith, nat_tests)
+
+three_moments : (n later : ℕ) → counted_times n 3 ≤ later → 3 ≤ later
+three_moments n later counts =
+    let one = one_moment n 0 (omega arith) (omega arith) in
+    let two = one_moment (counted n true) 1 (omega arith) one in
+    let three = one_moment (counted (counted n true) true) 2 (omega arith) two in
+    omega (arith, three, counts)
+
+pub moments_told : (answer : Result (Unit {0}) StoreFault) (n later : ℕ) → OnOk answer (counted_times n 3 ≤ later) → OnOk answer (3 ≤ later)
+moments_told (Ok done) n later counts = three_moments n later counts
+moments_told (Err fault) n later counts = tt
 
 -- a table that was changed or not
 pub by_change : {P : Type 0} (b : Bool) → (b ≡ true → P) → (b ≡ false → P) → P

@@ -13,8 +13,11 @@ pub mod FedLemmas
 pub mod ShellLemmas
 pub mod OpenedLemmas
 pub mod KeptLemmas
+pub mod KeptOnceLemmas
 pub mod WritingLemmas
 pub mod RoomLemmas
 pub mod WordLemmas
 pub mod SavedLemmas
+mod CommitCallLemmas
 pub mod CopiedLemmas
+pub mod FillingLemmas

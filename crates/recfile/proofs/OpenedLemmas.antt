@@ -16,7 +16,7 @@ use Rattle.recfile.specs.WholeSession.{IsUncounted, opened_file}
 
 -- what a table in a tree shows
 abbrev pub treed : Ghosts TableView
-treed = record { contents = table_contents; record_limit = λ t. t.limit; sound = λ t. t.pages.steady; device_failures = λ t. t.pages.failures; memory_refusals = λ t. t.refusals; damages = λ t. t.damages; calls = λ t. t.calls; Source = Origin; origin = origin_of }
+treed = record { contents = table_contents; record_limit = λ t. t.limit; sound = λ t. t.pages.steady; device_failures = λ t. t.pages.failures; memory_refusals = λ t. t.refusals; damages = λ t. t.damages; calls = λ t. t.calls; Source = Origin; origin = origin_of; commits = λ o. o.opening.commits }
 
 -- what a run sees of a new file over the table of a page file
 pub fresh : (f : OpenFile TableView) (table : TableView) (limits : Bounds) → f ≡ record { table = table; file = new_file (table_contents table) limits; log = [] }
@@ -32,6 +32,8 @@ fresh f table limits is steady uncounted =
       refusals = uncounted.0 i;
       damages = uncounted.1 i;
       calls = uncounted.2 i;
+      logged = false;
+      commits = [];
     })
 
 -- it is new, with these limits

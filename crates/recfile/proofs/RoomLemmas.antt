@@ -135,56 +135,59 @@ record Loading (limits : Bounds) (es : Records) (s : Seen) : Type 0 where
   failures : s.failures < greatest_count
 
 -- which call a reply tells of
-begin_told : (answer : Reply) (calls : List Called) → ScriptTellsOf (Ok command.Begin) answer calls → (told : Result TxId BeginFault) × (answer ≡ reply.Begin told) × (calls ≡ Begin told ∷ [])
-begin_told (reply.Begin answer) calls told = (answer, refl, told)
-begin_told (reply.Put answer) calls told = absurd told
-begin_told (reply.Claim answer) calls told = absurd told
-begin_told (reply.Del answer) calls told = absurd told
-begin_told (reply.Get answer) calls told = absurd told
-begin_told (reply.Save answer) calls told = absurd told
-begin_told (reply.Release answer) calls told = absurd told
-begin_told (reply.Back answer) calls told = absurd told
-begin_told (reply.Resume answer) calls told = absurd told
-begin_told (reply.Abort answer) calls told = absurd told
-begin_told (reply.Commit answer) calls told = absurd told
-begin_told (reply.List answer) calls told = absurd told
-begin_told (reply.Keys answer) calls told = absurd told
-begin_told (reply.Log size used) calls told = absurd told
-begin_told (reply.Bad fault) calls told = absurd told
+begin_told : (logged : Bool) → (answer : Reply) (calls : List Called) → ScriptTellsOf logged (Ok command.Begin) answer calls → (told : Result TxId BeginFault) × (answer ≡ reply.Begin told) × (calls ≡ Begin told ∷ [])
+begin_told logged (reply.Begin answer) calls told = (answer, refl, told)
+begin_told logged (reply.Put answer) calls told = absurd told
+begin_told logged (reply.Claim answer) calls told = absurd told
+begin_told logged (reply.Del answer) calls told = absurd told
+begin_told logged (reply.Get answer) calls told = absurd told
+begin_told logged (reply.Save answer) calls told = absurd told
+begin_told logged (reply.Release answer) calls told = absurd told
+begin_told logged (reply.Back answer) calls told = absurd told
+begin_told logged (reply.Resume answer) calls told = absurd told
+begin_told logged (reply.Abort answer) calls told = absurd told
+begin_told logged (reply.Commit answer) calls told = absurd told
+begin_told logged (reply.List answer) calls told = absurd told
+begin_told logged (reply.Keys answer) calls told = absurd told
+begin_told logged (reply.Log size used) calls told = absurd told
+begin_told logged (reply.Unkept fault) calls told = absurd told
+begin_told logged (reply.Bad fault) calls told = absurd told
 
-put_told : (e : List ℕ × List ℕ) (answer : Reply) (calls : List Called) → ScriptTellsOf (put_of e) answer calls → (told : Result (Option (List ℕ)) PutFault) × (answer ≡ reply.Put told) × (calls ≡ Put (tx 1) e.0 e.1 told ∷ [])
-put_told e (reply.Begin answer) calls told = absurd told
-put_told e (reply.Put answer) calls told = (answer, refl, told)
-put_told e (reply.Claim answer) calls told = absurd told
-put_told e (reply.Del answer) calls told = absurd told
-put_told e (reply.Get answer) calls told = absurd told
-put_told e (reply.Save answer) calls told = absurd told
-put_told e (reply.Release answer) calls told = absurd told
-put_told e (reply.Back answer) calls told = absurd told
-put_told e (reply.Resume answer) calls told = absurd told
-put_told e (reply.Abort answer) calls told = absurd told
-put_told e (reply.Commit answer) calls told = absurd told
-put_told e (reply.List answer) calls told = absurd told
-put_told e (reply.Keys answer) calls told = absurd told
-put_told e (reply.Log size used) calls told = absurd told
-put_told e (reply.Bad fault) calls told = absurd told
+put_told : (logged : Bool) → (e : List ℕ × List ℕ) (answer : Reply) (calls : List Called) → ScriptTellsOf logged (put_of e) answer calls → (told : Result (Option (List ℕ)) PutFault) × (answer ≡ reply.Put told) × (calls ≡ Put (tx 1) e.0 e.1 told ∷ [])
+put_told logged e (reply.Begin answer) calls told = absurd told
+put_told logged e (reply.Put answer) calls told = (answer, refl, told)
+put_told logged e (reply.Claim answer) calls told = absurd told
+put_told logged e (reply.Del answer) calls told = absurd told
+put_told logged e (reply.Get answer) calls told = absurd told
+put_told logged e (reply.Save answer) calls told = absurd told
+put_told logged e (reply.Release answer) calls told = absurd told
+put_told logged e (reply.Back answer) calls told = absurd told
+put_told logged e (reply.Resume answer) calls told = absurd told
+put_told logged e (reply.Abort answer) calls told = absurd told
+put_told logged e (reply.Commit answer) calls told = absurd told
+put_told logged e (reply.List answer) calls told = absurd told
+put_told logged e (reply.Keys answer) calls told = absurd told
+put_told logged e (reply.Log size used) calls told = absurd told
+put_told logged e (reply.Unkept fault) calls told = absurd told
+put_told logged e (reply.Bad fault) calls told = absurd told
 
-commit_told : (answer : Reply) (calls : List Called) → ScriptTellsOf (Ok (command.Commit (tx 1))) answer calls → (told : Result (Unit {0}) CommitFault) × (answer ≡ reply.Commit told) × (calls ≡ Commit (tx 1) told ∷ [])
-commit_told (reply.Begin answer) calls told = absurd told
-commit_told (reply.Put answer) calls told = absurd told
-commit_told (reply.Claim answer) calls told = absurd told
-commit_told (reply.Del answer) calls told = absurd told
-commit_told (reply.Get answer) calls told = absurd told
-commit_told (reply.Save answer) calls told = absurd told
-commit_told (reply.Release answer) calls told = absurd told
-commit_told (reply.Back answer) calls told = absurd told
-commit_told (reply.Resume answer) calls told = absurd told
-commit_told (reply.Abort answer) calls told = absurd told
-commit_told (reply.Commit answer) calls told = (answer, refl, told)
-commit_told (reply.List answer) calls told = absurd told
-commit_told (reply.Keys answer) calls told = absurd told
-commit_told (reply.Log size used) calls told = absurd told
-commit_told (reply.Bad fault) calls told = absurd told
+commit_told : (logged : Bool) → (answer : Reply) (calls : List Called) → was_kept answer ≡ false → ScriptTellsOf logged (Ok (command.Commit (tx 1))) answer calls → (told : Result (Unit {0}) CommitFault) × (answer ≡ reply.Commit told) × (calls ≡ Commit (tx 1) told ∷ [])
+commit_told logged (reply.Begin answer) calls kept told = absurd told
+commit_told logged (reply.Put answer) calls kept told = absurd told
+commit_told logged (reply.Claim answer) calls kept told = absurd told
+commit_told logged (reply.Del answer) calls kept told = absurd told
+commit_told logged (reply.Get answer) calls kept told = absurd told
+commit_told logged (reply.Save answer) calls kept told = absurd told
+commit_told logged (reply.Release answer) calls kept told = absurd told
+commit_told logged (reply.Back answer) calls kept told = absurd told
+commit_told logged (reply.Resume answer) calls kept told = absurd told
+commit_told logged (reply.Abort answer) calls kept told = absurd told
+commit_told logged (reply.Commit answer) calls kept told = (answer, refl, told)
+commit_told logged (reply.List answer) calls kept told = absurd told
+commit_told logged (reply.Keys answer) calls kept told = absurd told
+commit_told logged (reply.Log size used) calls kept told = absurd told
+commit_told logged (reply.Unkept fault) calls kept told = absurd (cc kept)
+commit_told logged (reply.Bad fault) calls kept told = absurd told
 
 -- a put is accepted
 record PutDone (limits : Bounds) (es : Records) (e : List ℕ × List ℕ) (answer : Result (Option (List ℕ)) PutFault) (new : Seen) : Type 0 where
@@ -250,14 +253,14 @@ rest_accepted limits done [] count old new [] room fits before ran kept = absurd
 rest_accepted limits done [] count old new (answer ∷ next ∷ replies) room fits before ran kept = absurd ran.2
 rest_accepted limits done [] count old new (answer ∷ []) room fits before ran kept =
     let step = ran.1 in
-    let told = commit_told answer (map (λ e. e.called) step.events) step.told in
+    let told = commit_told old.logged answer (map (λ e. e.called) step.events) (All-head (λ r. was_kept r ≡ false) answer [] kept) step.told in
     let one = one_step old ran.0 step.events (Commit (tx 1) told.0) told.2 step.ran in
     let known = subst (λ (called : Called). Answers old called one.0.failed one.0.refused ran.0) one.1 one.2.answer in
     All-cons (λ r. is_refusal r ≡ false) answer [] (ap is_refusal told.1 ∙ commit_done limits done old ran.0 told.0 one.0.failed one.0.refused before known) (All-nil (λ r. is_refusal r ≡ false))
 rest_accepted limits done (e ∷ es) count old new [] room fits before ran kept = absurd ran
 rest_accepted limits done (e ∷ es) count old new (answer ∷ replies) room fits before ran kept =
     let step = ran.1 in
-    let told = put_told e answer (map (λ e. e.called) step.events) step.told in
+    let told = put_told old.logged e answer (map (λ e. e.called) step.events) step.told in
     let one = one_step old ran.0 step.events (Put (tx 1) e.0 e.1 told.0) told.2 step.ran in
     let known = subst (λ (called : Called). Answers old called one.0.failed one.0.refused ran.0) one.1 one.2.answer in
     let unkept = sym (ap was_kept told.1) ∙ All-head (λ r. was_kept r ≡ false) answer replies kept in
@@ -298,7 +301,7 @@ all_accepted : (limits : Bounds) (es : Records) (old new : Seen) (replies : List
 all_accepted limits es old new [] is sound few room ran kept = absurd ran
 all_accepted limits es old new (answer ∷ replies) is sound few room ran kept =
     let step = ran.1 in
-    let told = begin_told answer (map (λ e. e.called) step.events) step.told in
+    let told = begin_told old.logged answer (map (λ e. e.called) step.events) step.told in
     let one = one_step old ran.0 step.events (Begin told.0) told.2 step.ran in
     let known = subst (λ (called : Called). Answers old called one.0.failed one.0.refused ran.0) one.1 one.2.answer in
     let unkept = sym (ap was_kept told.1) ∙ All-head (λ r. was_kept r ≡ false) answer replies kept in

@@ -17,6 +17,8 @@ use Rattle.btree_delete.specs.declared.opening.open_fault.OpenFault.{OpenFault}
 use Rattle.btree_delete.specs.declared.opening.open_fault.OpenFault.TheVariants as opening
 use Rattle.btree_delete.specs.declared.table.tree_table.CreateFault.{CreateFault}
 use Rattle.btree_delete.specs.declared.table.tree_table.CreateFault.TheVariants as making
+use Rattle.btree_load.specs.declared.fault.FillFault.{FillFault}
+use Rattle.btree_load.specs.declared.fault.FillFault.TheVariants as filling
 use Rattle.recfile.specs.declared.copying.CopyingFault.{CopyingFault}
 use Rattle.recfile.specs.declared.copying.CopyingFault.TheVariants.{OfFile, OfCopy}
 use Rattle.recfile.specs.declared.file_fault.FileFault.{FileFault}
@@ -25,6 +27,10 @@ use Rattle.recfile.specs.declared.file_fault.FileFault.TheVariants.{Device, NotE
 abbrev pub fault_of_store : StoreFault → FileFault
 fault_of_store storing.Failed = Device
 fault_of_store storing.Memory = Memory
+
+abbrev pub fault_of_filling : FillFault → FileFault
+fault_of_filling filling.Device = Device
+fault_of_filling filling.Memory = Memory
 
 abbrev pub fault_of_recovery : RecoveryFault → FileFault
 fault_of_recovery recovering.Device = Device

@@ -6,6 +6,8 @@ pub mod Examples
 pub mod FileFaults
 pub mod Dumped
 pub mod Kept
+pub mod LogKeeping
+pub mod Overlaid
 pub mod PartLine
 pub mod Shell
 pub mod Room
@@ -16,3 +18,4 @@ pub mod StoreSession
 pub mod FilesAt
 pub mod Tasks
 pub mod Words
+pub mod Filling

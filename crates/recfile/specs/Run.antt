@@ -4,45 +4,71 @@ use Rattle.std.specs.List.{All, flat_map}
 use Rattle.std.specs.Io.KnownBytes.{Appends}
 use Rattle.rec_types.specs.declared.table_state.TableState.{Ghosts}
 use Rattle.record_file.specs.Abstract.{OpenFile}
-use Rattle.record_file.specs.TableCalls.{KeepsOrigin}
-use Rattle.record_file.specs.Runs.{Called, Event, Seen, IsKeptSeen, seen, Run, Begin, Put, Claim, Remove, Get, Savepoint, Release, RollbackTo, Abort, Resume, Commit, Entries, KeysOf, LogLen, LogUse}
+use Rattle.tx_log.specs.Written.{own, writes}
+use Rattle.record_file.specs.Runs.{Called, Event, Seen, IsKeptSeen, seen, seen_as, Run, Begin, Put, Claim, Remove, Get, Savepoint, Release, RollbackTo, Abort, Resume, Commit, Entries, KeysOf, LogLen, LogUse}
 use Rattle.command_text.specs.declared.command.Command.{Command}
 use Rattle.command_text.specs.declared.command.Command.TheVariants as command
 use Rattle.command_text.specs.declared.reply.Reply.{Reply}
 use Rattle.command_text.specs.declared.reply.Reply.TheVariants as reply
+use Rattle.command_text.specs.declared.reply.Unkept.TheVariants as unkept
+use Rattle.record_file.specs.declared.keeper.KeepFault.{KeepFault}
+use Rattle.record_file.specs.declared.keeper.KeepFault.TheVariants as keep_faults
+use Rattle.record_file.specs.declared.keeper.KeeperFault.{KeeperFault}
+use Rattle.record_file.specs.declared.keeper.KeeperFault.TheVariants as keeper_faults
 use Rattle.command_text.specs.Grammar.{Read, line_of}
 use Rattle.command_text.specs.Refusals.{is_refusal}
 use Rattle.command_text.specs.Script.{lines_of, entries_in, entries_of}
 use Rattle.command_text.specs.Texts.{text_of}
+use Rattle.command_text.specs.Units.{unit_lines}
 use Rattle.recfile.specs.declared.script.ScriptFault.{ScriptFault}
 use Rattle.recfile.specs.declared.script.ScriptFault.TheVariants as faults
 use Rattle.recfile.specs.declared.script.RunFault.{RunFault}
 use Rattle.recfile.specs.declared.script.RunFault.TheVariants.{Script, Refused}
 use Rattle.recfile.specs.Whole.{IsWhole, IsTooLong, TakesAtMost, longest_script}
 
--- The calls that the reply to a command tells of. A line that can't be read makes no call, and no other reply is given.
-abbrev pub ScriptTellsOf : Read Command → Reply → List Called → Type 0
-ScriptTellsOf (Err fault) (reply.Bad told) calls = (told ≡ fault) × (calls ≡ [])
-ScriptTellsOf (Ok command.Begin) (reply.Begin answer) calls = calls ≡ Begin answer ∷ []
-ScriptTellsOf (Ok (command.Put t x r)) (reply.Put answer) calls = calls ≡ Put t x r answer ∷ []
-ScriptTellsOf (Ok (command.Claim t x)) (reply.Claim answer) calls = calls ≡ Claim t x answer ∷ []
-ScriptTellsOf (Ok (command.Del t x)) (reply.Del answer) calls = calls ≡ Remove t x answer ∷ []
-ScriptTellsOf (Ok (command.Get t x)) (reply.Get answer) calls = calls ≡ Get t x answer ∷ []
-ScriptTellsOf (Ok (command.Save t)) (reply.Save answer) calls = calls ≡ Savepoint t answer ∷ []
-ScriptTellsOf (Ok (command.Release t n)) (reply.Release answer) calls = calls ≡ Release t n answer ∷ []
-ScriptTellsOf (Ok (command.Back t n)) (reply.Back answer) calls = calls ≡ RollbackTo t n answer ∷ []
-ScriptTellsOf (Ok (command.Resume t)) (reply.Resume answer) calls = calls ≡ Resume t answer ∷ []
-ScriptTellsOf (Ok (command.Abort t)) (reply.Abort answer) calls = calls ≡ Abort t answer ∷ []
-ScriptTellsOf (Ok (command.Commit t)) (reply.Commit answer) calls = calls ≡ Commit t answer ∷ []
-ScriptTellsOf (Ok command.List) (reply.List answer) calls = calls ≡ Entries answer ∷ []
-ScriptTellsOf (Ok (command.Keys t)) (reply.Keys answer) calls = calls ≡ KeysOf t answer ∷ []
-ScriptTellsOf (Ok command.Log) (reply.Log len used) calls = calls ≡ LogLen len ∷ LogUse used ∷ []
-ScriptTellsOf entry answer calls = ⊥
+-- The calls that the reply to a command tells of. A line that can't be read makes no call, nor does a commit that isn't kept
+-- where commits are kept before they are answered, and no other reply is given.
+abbrev pub ScriptTellsOf : Bool → Read Command → Reply → List Called → Type 0
+ScriptTellsOf logged (Err fault) (reply.Bad told) calls = (told ≡ fault) × (calls ≡ [])
+ScriptTellsOf logged (Ok command.Begin) (reply.Begin answer) calls = calls ≡ Begin answer ∷ []
+ScriptTellsOf logged (Ok (command.Put t x r)) (reply.Put answer) calls = calls ≡ Put t x r answer ∷ []
+ScriptTellsOf logged (Ok (command.Claim t x)) (reply.Claim answer) calls = calls ≡ Claim t x answer ∷ []
+ScriptTellsOf logged (Ok (command.Del t x)) (reply.Del answer) calls = calls ≡ Remove t x answer ∷ []
+ScriptTellsOf logged (Ok (command.Get t x)) (reply.Get answer) calls = calls ≡ Get t x answer ∷ []
+ScriptTellsOf logged (Ok (command.Save t)) (reply.Save answer) calls = calls ≡ Savepoint t answer ∷ []
+ScriptTellsOf logged (Ok (command.Release t n)) (reply.Release answer) calls = calls ≡ Release t n answer ∷ []
+ScriptTellsOf logged (Ok (command.Back t n)) (reply.Back answer) calls = calls ≡ RollbackTo t n answer ∷ []
+ScriptTellsOf logged (Ok (command.Resume t)) (reply.Resume answer) calls = calls ≡ Resume t answer ∷ []
+ScriptTellsOf logged (Ok (command.Abort t)) (reply.Abort answer) calls = calls ≡ Abort t answer ∷ []
+ScriptTellsOf logged (Ok (command.Commit t)) (reply.Commit answer) calls = calls ≡ Commit t answer ∷ []
+ScriptTellsOf logged (Ok command.List) (reply.List answer) calls = calls ≡ Entries answer ∷ []
+ScriptTellsOf logged (Ok (command.Keys t)) (reply.Keys answer) calls = calls ≡ KeysOf t answer ∷ []
+ScriptTellsOf logged (Ok command.Log) (reply.Log len used) calls = calls ≡ LogLen len ∷ LogUse used ∷ []
+ScriptTellsOf logged (Ok (command.Commit t)) (reply.Unkept fault) calls = IsTrue logged × (calls ≡ [])
+ScriptTellsOf logged entry answer calls = ⊥
+
+-- These writes are kept, where any are: a script that makes them in a transaction of some number and commits it.
+abbrev pub AddsWrites : List (List (List ℕ)) → List (List ℕ × Option (List ℕ)) → List (List (List ℕ)) → Type 0
+AddsWrites old [] new = new ≡ old
+AddsWrites old (w ∷ ws) new = (n : ℕ) × (new ≡ old ++ unit_lines n (w ∷ ws) ∷ [])
+
+-- where commits are kept before they are answered; and else nothing is
+abbrev pub AddsIf : Bool → List (List (List ℕ)) → List (List ℕ × Option (List ℕ)) → List (List (List ℕ)) → Type 0
+AddsIf true old es new = AddsWrites old es new
+AddsIf false old es new = new ≡ old
+
+-- an accepted commit is kept with its writes
+
+abbrev pub TellsKept : Seen → Read Command → Reply → Seen → Type 0
+TellsKept old (Ok (command.Commit t)) (reply.Commit (Ok done)) new =
+    IsTrue old.sound → AddsIf old.logged old.commits (writes (own t.0 old.file.history)) new.commits
+TellsKept old entry answer new = Unit {0}
 
 -- From old, the command, or the line that can't be read, has this reply by a run of these calls, which leads to new.
 pub record HasReply (old : Seen) (entry : Read Command) (answer : Reply) (new : Seen) : Type 0 where
   pub events : List Event
-  pub told : ScriptTellsOf entry answer (map (λ e. e.called) events)
+  pub told : ScriptTellsOf old.logged entry answer (map (λ e. e.called) events)
+  pub kept : TellsKept old entry answer new
   pub ran : Run old events new
 
 -- the same of what a line says; one that says nothing has no reply
@@ -55,10 +81,38 @@ LineHasReply old (Err fault) answer new = HasReply old (Err fault) answer new
 abbrev pub Told : {E : Type 0} → Reply → Result Bool E → List ℕ → Type 0
 Told answer made text = IfOk made (λ refused. (text ≡ text_of answer) × (refused ≡ is_refusal answer))
 
--- Over a file of which what stays true is true, a command has a reply, which is told. What the table was made of stays.
-pub record CommandTold {T E : Type 0} (t : Ghosts T) (old : OpenFile T) (entry : Read Command) (made : Result Bool E) (text : List ℕ) (new : OpenFile T) : Type 0 where
-  pub told : IsKeptSeen (seen t old) → IsKeptSeen (seen t new) → (answer : Reply) × HasReply (seen t old) entry answer (seen t new) × Told answer made text
-  pub origin : KeepsOrigin t old new
+-- what a table was made of is the same
+abbrev pub SameOrigin : {T : Type 0} → Ghosts T → T → T → Type 0
+SameOrigin t old new = t.origin new ≡ t.origin old
+
+-- the reply to a commit that was to be kept
+abbrev pub commit_reply : Result (Unit {0}) KeepFault → Reply
+commit_reply (Ok done) = reply.Commit (Ok done)
+commit_reply (Err (keep_faults.Refused fault)) = reply.Commit (Err fault)
+commit_reply (Err keep_faults.Memory) = reply.Unkept unkept.Memory
+commit_reply (Err (keep_faults.Unkept keeper_faults.Memory)) = reply.Unkept unkept.Memory
+commit_reply (Err (keep_faults.Unkept keeper_faults.Room)) = reply.Unkept unkept.Device
+commit_reply (Err (keep_faults.Unkept keeper_faults.Doubt)) = reply.Unkept unkept.Doubt
+
+-- What is kept of a commit is a script that makes its writes, where any are; at a fault nothing more is.
+abbrev pub TellsWritesOf : Bool → List (List (List ℕ)) → List (List ℕ × Option (List ℕ)) → Result (Unit {0}) KeeperFault → List (List (List ℕ)) → Type 0
+TellsWritesOf sound old es (Ok done) new = IsTrue sound → AddsWrites old es new
+TellsWritesOf sound old es (Err fault) new = IsTrue sound → new ≡ old
+
+-- beside a table
+abbrev pub TellsWrites : {T : Type 0} → Ghosts T → T → List (List ℕ × Option (List ℕ)) → Result (Unit {0}) KeeperFault → T → Type 0
+TellsWrites t old es answer new = TellsWritesOf (t.sound old) (t.commits (t.origin old)) es answer (t.commits (t.origin new))
+
+-- Over a file of which what stays true is true, a command has a reply, which is told. Of what the table was made of nothing
+-- changes but what may.
+pub record CommandTold {T E : Type 0} (t : Ghosts T) (moves : T → T → Type 0) (old : OpenFile T) (entry : Read Command) (made : Result Bool E) (text : List ℕ) (new : OpenFile T) : Type 0 where
+  pub told : (logged : Bool) → IsKeptSeen (seen_as logged t old) → IsKeptSeen (seen_as logged t new) → (answer : Reply) × HasReply (seen_as logged t old) entry answer (seen_as logged t new) × Told answer made text
+  pub moves_so : moves old.table new.table
+
+-- the same of any reply, where commits are kept before they are answered, or aren't
+pub record CommandRan {T E : Type 0} (t : Ghosts T) (logged : Bool) (moves : T → T → Type 0) (old : OpenFile T) (entry : Read Command) (made : Result Bool E) (text : List ℕ) (new : OpenFile T) : Type 0 where
+  pub told : IsKeptSeen (seen_as logged t old) → IsKeptSeen (seen_as logged t new) → (answer : Reply) × HasReply (seen_as logged t old) entry answer (seen_as logged t new) × Told answer made text
+  pub moves_so : moves old.table new.table
 
 -- What a line says has a reply, which is told; a line that says nothing has none.
 abbrev pub LineTold : {E : Type 0} → Seen → Read (Option Command) → Result (Option Bool) E → List ℕ → Seen → Type 0

@@ -14,6 +14,7 @@ use Rattle.page_rescue.specs.Rescue.{Saves}
 use Rattle.page_rescue.specs.declared.rescue.Rescued.{Rescued}
 use Rattle.record_texts.specs.declared.form.Form.{Form}
 use Rattle.recfile.specs.Dumped.{text_in}
+use Rattle.recfile.specs.Filling.{CanFill, FillsAt, LooksAt}
 use Rattle.recfile.specs.FilesAt.{Copies, Creates, IsFoundAt, RunsAt, Tells, TellsRecords, TellsTree}
 use Rattle.recfile.specs.TreeLine.{counts_line}
 use Rattle.recfile.specs.Whole.{empty_file}
@@ -78,11 +79,15 @@ abbrev pub RunsOver : {D : Type 0} → DiskGhosts D → (Files → Type 0) → M
 RunsOver disks At manner limits left leaves held holds status =
     ((status ≡ 1) × (leaves ≡ left) × (holds ≡ held)) ⊎ RunsAt disks At manner limits left leaves held holds status
 
--- Records are loaded into the file at a path: a session runs the script that puts them in one transaction, up to its first
--- refusal, by which none of them stays. Its replies go nowhere.
+-- Records are loaded into the file at a path. A file without records is filled with them, where they are sorted and no more
+-- than it may have; else, and where the file at the path was looked at and is none such, a session runs the script that
+-- puts them in one transaction, up to its first refusal, by which none of them stays. Its replies go nowhere. No file may be
+-- found.
 abbrev pub LoadsAt : {D : Type 0} → DiskGhosts D → (Files → Type 0) → Bounds → ℕ → Type 0
 LoadsAt disks At limits status =
-    (records : List (List ℕ × List ℕ)) × (leaves : Option (List ℕ)) × RunsOver disks At loading limits (Some (dump_text records)) leaves None None status
+    (records : List (List ℕ × List ℕ))
+    × ((status ≡ 1) ⊎ (FillsAt disks At limits records status
+    ⊎ ((CanFill limits records → LooksAt disks At) × ((leaves : Option (List ℕ)) × RunsOver disks At loading limits (Some (dump_text records)) leaves None None status))))
 
 -- the status where it was asked whether a file is whole
 abbrev pub told_status : Result Bool DumpFault → ℕ

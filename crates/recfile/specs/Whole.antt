@@ -1,5 +1,5 @@
 -- What was read of a script.
-use Rattle.std.specs.Prelude.{◌≡◌, ℕ, ◌+◌, ◌≤◌, true, List, [], length, Option}
+use Rattle.std.specs.Prelude.{◌≡◌, ℕ, ◌+◌, ◌≤◌, true, false, List, [], length, Option}
 use Rattle.std.specs.FinMap as maps
 use Rattle.std.specs.Io.KnownBytes.{Consumes, IsAtEnd}
 use Rattle.rec_types.specs.LimitBounds.{Bounds}
@@ -35,4 +35,6 @@ empty_file limits = record {
   refusals = 0;
   damages = no_damage;
   calls = no_calls;
+  logged = false;
+  commits = [];
 }

@@ -1,5 +1,5 @@
 -- A script over a file, and the end of what it leaves open.
-use Rattle.std.specs.Prelude.{◌≡◌, ℕ, Bool, true, List, [], Option, None, is_some, IfSome, Result, MatchResult, OnOk, OnErr, IsTrue}
+use Rattle.std.specs.Prelude.{◌≡◌, ℕ, Bool, true, false, List, [], Option, None, is_some, IfSome, Result, MatchResult, OnOk, OnErr, IsTrue}
 use Rattle.std.specs.Result.{is_err}
 use Rattle.rec_types.specs.Contents.{Contents}
 use Rattle.rec_types.specs.History.{replay}
@@ -52,6 +52,8 @@ opened_file contents limits failures = record {
   refusals = 0;
   damages = no_damage;
   calls = no_calls;
+  logged = false;
+  commits = [];
 }
 
 -- the table has counted no fault and no call yet
@@ -73,7 +75,7 @@ pub record RunsFile (manner : Manner) (left leaves held holds : Option (List ℕ
 -- a session over a file with these limits, whatever its records
 abbrev pub RunsAny : Manner → Bounds → Option (List ℕ) → Option (List ℕ) → Option (List ℕ) → Option (List ℕ) → Option FileFault → ℕ → Type 0
 RunsAny manner limits left leaves held holds unclosed status =
-    (old : Seen) × (old.file ≡ new_file old.records limits) × RunsFile manner left leaves held holds old unclosed status
+    (old : Seen) × (old.file ≡ new_file old.records limits) × RunsFile manner left leaves held holds old unclosed status × (old.logged ≡ false)
 
 -- A session that began with a file of sound records. Where every transaction was ended the file closes, by what that
 -- means, with the records that are left.

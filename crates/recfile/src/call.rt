@@ -1,15 +1,15 @@
-ghost use Rattle.record_file.specs.TableCalls.{KeepsOrigin};
 ghost use Rattle.std.specs.Prelude.{◌≡◌, Ok, Err, if◌then◌else◌};
 ghost use Rattle.std.specs.String.{string_bytes};
 ghost use Rattle.command_text.specs.declared.command.Command.TheVariants as commands;
 ghost use Rattle.command_text.specs.declared.reply.Reply.{Reply};
 ghost use Rattle.command_text.specs.declared.reply.Reply.TheVariants as replies;
-ghost use Rattle.recfile.specs.Run.{CommandTold, HasReply, LineTold, Told, says_command};
-ghost use Rattle.record_file.specs.Runs.{seen};
+ghost use Rattle.recfile.specs.Run.{CommandRan, CommandTold, HasReply, LineTold, SameOrigin, Told, commit_reply, says_command};
+ghost use Rattle.record_file.specs.Runs.{seen_as};
 
-use command_text::{Command, EntryList, KeyList, LineFault, Reply, append_reply};
+use crate::commit_keeper::CommitKeeper;
+use command_text::{Command, EntryList, KeyList, LineFault, Reply, Unkept, append_reply};
 use rec_types::{Key, Memory, Record, Table, TxId};
-use record_file::RecordFile;
+use record_file::{KeepFault, KeeperFault, RecordFile};
 
 // Puts the text of a reply in the place of what a text has, and answers whether it is a refusal. Fault: Memory.
 #[inline(never)]
@@ -24,7 +24,7 @@ fn tell(text: &mut String, reply: &Reply) -> Result<bool, Memory>
 // Each command is a function of its own, so that a line pays for the reply to one alone.
 
 fn begin<T: Table>(text: &mut String, file: &mut RecordFile<T>) -> Result<bool, Memory>
-    ensures { CommandTold T.TableState file.old (Ok commands.Begin) result
+    ensures { CommandTold T.TableState (SameOrigin T.TableState) file.old (Ok commands.Begin) result
         (string_bytes text.new) file.new }
 {
     tell(text, &Reply::Begin(file.begin()))
@@ -37,7 +37,7 @@ fn put<T: Table>(
     key: Key,
     value: Record,
 ) -> Result<bool, Memory>
-    ensures { CommandTold T.TableState file.old (Ok (commands.Put tx key value)) result
+    ensures { CommandTold T.TableState (SameOrigin T.TableState) file.old (Ok (commands.Put tx key value)) result
         (string_bytes text.new) file.new }
 {
     tell(text, &Reply::Put(file.put(tx, key, value)))
@@ -49,7 +49,7 @@ fn claim<T: Table>(
     tx: TxId,
     key: Key,
 ) -> Result<bool, Memory>
-    ensures { CommandTold T.TableState file.old (Ok (commands.Claim tx key)) result
+    ensures { CommandTold T.TableState (SameOrigin T.TableState) file.old (Ok (commands.Claim tx key)) result
         (string_bytes text.new) file.new }
 {
     tell(text, &Reply::Claim(file.claim(tx, key)))
@@ -61,7 +61,7 @@ fn remove<T: Table>(
     tx: TxId,
     key: Key,
 ) -> Result<bool, Memory>
-    ensures { CommandTold T.TableState file.old (Ok (commands.Del tx key)) result
+    ensures { CommandTold T.TableState (SameOrigin T.TableState) file.old (Ok (commands.Del tx key)) result
         (string_bytes text.new) file.new }
 {
     tell(text, &Reply::Del(file.remove(tx, key)))
@@ -73,7 +73,7 @@ fn get<T: Table>(
     tx: TxId,
     key: &Key,
 ) -> Result<bool, Memory>
-    ensures { CommandTold T.TableState file.old (Ok (commands.Get tx key.now)) result
+    ensures { CommandTold T.TableState (SameOrigin T.TableState) file.old (Ok (commands.Get tx key.now)) result
         (string_bytes text.new) file.new }
 {
     tell(text, &Reply::Get(file.get(tx, key)))
@@ -84,7 +84,7 @@ fn savepoint<T: Table>(
     file: &mut RecordFile<T>,
     tx: TxId,
 ) -> Result<bool, Memory>
-    ensures { CommandTold T.TableState file.old (Ok (commands.Save tx)) result
+    ensures { CommandTold T.TableState (SameOrigin T.TableState) file.old (Ok (commands.Save tx)) result
         (string_bytes text.new) file.new }
 {
     tell(text, &Reply::Save(file.savepoint(tx)))
@@ -96,7 +96,7 @@ fn release<T: Table>(
     tx: TxId,
     n: u32,
 ) -> Result<bool, Memory>
-    ensures { CommandTold T.TableState file.old (Ok (commands.Release tx n)) result
+    ensures { CommandTold T.TableState (SameOrigin T.TableState) file.old (Ok (commands.Release tx n)) result
         (string_bytes text.new) file.new }
 {
     tell(text, &Reply::Release(file.release(tx, n)))
@@ -108,62 +108,83 @@ fn rollback_to<T: Table>(
     tx: TxId,
     n: u32,
 ) -> Result<bool, Memory>
-    ensures { CommandTold T.TableState file.old (Ok (commands.Back tx n)) result
+    ensures { CommandTold T.TableState (SameOrigin T.TableState) file.old (Ok (commands.Back tx n)) result
         (string_bytes text.new) file.new }
 {
     tell(text, &Reply::Back(file.rollback_to(tx, n)))
 }
 
 fn resume<T: Table>(text: &mut String, file: &mut RecordFile<T>, tx: TxId) -> Result<bool, Memory>
-    ensures { CommandTold T.TableState file.old (Ok (commands.Resume tx)) result
+    ensures { CommandTold T.TableState (SameOrigin T.TableState) file.old (Ok (commands.Resume tx)) result
         (string_bytes text.new) file.new }
 {
     tell(text, &Reply::Resume(file.resume(tx)))
 }
 
 fn abort<T: Table>(text: &mut String, file: &mut RecordFile<T>, tx: TxId) -> Result<bool, Memory>
-    ensures { CommandTold T.TableState file.old (Ok (commands.Abort tx)) result
+    ensures { CommandTold T.TableState (SameOrigin T.TableState) file.old (Ok (commands.Abort tx)) result
         (string_bytes text.new) file.new }
 {
     tell(text, &Reply::Abort(file.abort(tx)))
 }
 
-fn commit<T: Table>(text: &mut String, file: &mut RecordFile<T>, tx: TxId) -> Result<bool, Memory>
-    ensures { CommandTold T.TableState file.old (Ok (commands.Commit tx)) result
-        (string_bytes text.new) file.new }
+// The reply to a commit that a keeper was to keep.
+fn reply_of(answer: Result<(), KeepFault>) -> Reply
+    ensures { result ≡ commit_reply answer }
 {
-    tell(text, &Reply::Commit(file.commit(tx)))
+    match answer {
+        Ok(()) => Reply::Commit(Ok(())),
+        Err(KeepFault::Refused(fault)) => Reply::Commit(Err(fault)),
+        Err(KeepFault::Memory | KeepFault::Unkept(KeeperFault::Memory)) => {
+            Reply::Unkept(Unkept::Memory)
+        }
+        Err(KeepFault::Unkept(KeeperFault::Room)) => Reply::Unkept(Unkept::Device),
+        Err(KeepFault::Unkept(KeeperFault::Doubt)) => Reply::Unkept(Unkept::Doubt),
+    }
+}
+
+fn commit<T: Table, K: CommitKeeper<T>>(
+    text: &mut String,
+    file: &mut RecordFile<T>,
+    keeper: &mut K,
+    tx: TxId,
+) -> Result<bool, Memory>
+    ensures told { CommandRan T.TableState K.keeps K.moves file.old
+        (Ok (commands.Commit tx)) result (string_bytes text.new) file.new }
+{
+    tell(text, &reply_of(file.commit_kept(tx, keeper)))
 }
 
 fn list<T: Table>(text: &mut String, file: &mut RecordFile<T>) -> Result<bool, Memory>
-    ensures { CommandTold T.TableState file.old (Ok commands.List) result
+    ensures { CommandTold T.TableState (SameOrigin T.TableState) file.old (Ok commands.List) result
         (string_bytes text.new) file.new }
 {
     tell(text, &Reply::List(file.entries().map(EntryList::new)))
 }
 
 fn keys<T: Table>(text: &mut String, file: &mut RecordFile<T>, tx: TxId) -> Result<bool, Memory>
-    ensures { CommandTold T.TableState file.old (Ok (commands.Keys tx)) result
+    ensures { CommandTold T.TableState (SameOrigin T.TableState) file.old (Ok (commands.Keys tx)) result
         (string_bytes text.new) file.new }
 {
     tell(text, &Reply::Keys(file.keys_of(tx).map(KeyList::new)))
 }
 
 fn log<T: Table>(text: &mut String, file: &mut RecordFile<T>) -> Result<bool, Memory>
-    ensures { CommandTold T.TableState file.old (Ok commands.Log) result
+    ensures { CommandTold T.TableState (SameOrigin T.TableState) file.old (Ok commands.Log) result
         (string_bytes text.new) file.new }
 {
     tell(text, &Reply::Log(file.log_len(), file.log_use()))
 }
 
 // Makes the call that a command asks for, and tells its reply. Fault: Memory.
-fn call<T: Table>(
+fn call<T: Table, K: CommitKeeper<T>>(
     text: &mut String,
     file: &mut RecordFile<T>,
+    keeper: &mut K,
     command: &Command,
 ) -> Result<bool, Memory>
-    ensures { CommandTold T.TableState file.old (Ok command.now) result
-        (string_bytes text.new) file.new }
+    ensures ran { CommandRan T.TableState K.keeps K.moves file.old (Ok command.now)
+        result (string_bytes text.new) file.new }
 {
     match command {
         Command::Begin => return begin(text, file),
@@ -176,7 +197,7 @@ fn call<T: Table>(
         Command::Back(tx, n) => return rollback_to(text, file, *tx, *n),
         Command::Resume(tx) => return resume(text, file, *tx),
         Command::Abort(tx) => return abort(text, file, *tx),
-        Command::Commit(tx) => return commit(text, file, *tx),
+        Command::Commit(tx) => return commit(text, file, keeper, *tx),
         Command::List => return list(text, file),
         Command::Keys(tx) => return keys(text, file, *tx),
         Command::Log => return log(text, file),
@@ -201,35 +222,38 @@ fn bad(text: &mut String, fault: LineFault) -> Result<bool, Memory>
 }
 
 // Runs a command on a file of which what stays true is true.
-fn run_command<T: Table>(
+fn run_command<T: Table, K: CommitKeeper<T>>(
     text: &mut String,
     file: &mut RecordFile<T>,
+    keeper: &mut K,
     command: &Command,
 ) -> Result<bool, Memory>
-    ensures told { (reply : Reply) × HasReply (seen T.TableState file.old) (Ok command.now) reply
-        (seen T.TableState file.new) × Told reply result (string_bytes text.new) }
-    ensures origin { KeepsOrigin T.TableState file.old file.new }
+    ensures told { (reply : Reply) × HasReply (seen_as K.keeps T.TableState file.old)
+        (Ok command.now) reply (seen_as K.keeps T.TableState file.new)
+        × Told reply result (string_bytes text.new) }
+    ensures moves { K.moves file.old.table file.new.table }
 {
     let _begun = file.begun();
-    let told = call(text, file, command);
+    let told = call(text, file, keeper, command);
     let _then_begun = file.begun();
     told
 }
 
-/// Runs what a line says, and puts the text of the reply in the place of what `text` has. Answers whether the reply is a
-/// refusal; a line that says nothing has none. Fault: Memory, by which the command was run.
-pub fn reply_to<T: Table>(
+/// Runs what a line says, and puts the text of the reply in the place of what `text` has; a commit is kept by a keeper first.
+/// Answers whether the reply is a refusal; a line that says nothing has none. Fault: Memory, by which the command was run.
+pub fn reply_to<T: Table, K: CommitKeeper<T>>(
     text: &mut String,
     file: &mut RecordFile<T>,
+    keeper: &mut K,
     said: &Result<Option<Command>, LineFault>,
 ) -> Result<Option<bool>, Memory>
-    ensures told { LineTold (seen T.TableState file.old) said.now result (string_bytes text.new)
-        (seen T.TableState file.new) }
-    ensures origin { KeepsOrigin T.TableState file.old file.new }
+    ensures told { LineTold (seen_as K.keeps T.TableState file.old) said.now result
+        (string_bytes text.new) (seen_as K.keeps T.TableState file.new) }
+    ensures moves { K.moves file.old.table file.new.table }
 {
     match said {
         Ok(None) => Ok(None),
-        Ok(Some(command)) => Ok(Some(run_command(text, file, command)?)),
+        Ok(Some(command)) => Ok(Some(run_command(text, file, keeper, command)?)),
         Err(fault) => Ok(Some(bad(text, *fault)?)),
     }
 }

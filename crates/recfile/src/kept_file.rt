@@ -1,4 +1,4 @@
-ghost use Rattle.std.specs.Prelude.{◌≡◌, ◌≤◌, ℕ, Bool, false, is_some, IsTrue, IfErr, IfSome, OnOk, MatchOption, None, Some, if◌then◌else◌};
+ghost use Rattle.std.specs.Prelude.{◌≡◌, ◌≤◌, ℕ, Bool, true, false, is_some, IsTrue, IfErr, IfSome, OnOk, MatchOption, None, Some, if◌then◌else◌};
 ghost use Rattle.rec_types.specs.Contents.{Contents};
 ghost use Rattle.std.specs.Result.{is_err};
 ghost use Rattle.rec_types.specs.Table.{counted};
@@ -22,7 +22,7 @@ use btree_delete::TreeTable;
 use page_journal::{Disk, KeptStore, SealState};
 use page_store::StoreFault;
 use rec_types::Limits;
-use record_file::RecordFile;
+use record_file::{RecordFile, Unlogged};
 use std::alloc::Global;
 use std::io::{Read, Write};
 
@@ -49,7 +49,7 @@ fn give_back<D: Disk + Drop>(table: TreeTable<KeptStore<D>>) -> D
 }
 
 // The answer of a closing, by that of its store.
-fn told(done: Result<(), StoreFault>) -> Result<(), FileFault>
+pub(crate) fn told(done: Result<(), StoreFault>) -> Result<(), FileFault>
     ensures { result ≡ answer_of_store done }
 {
     match done {
@@ -58,7 +58,8 @@ fn told(done: Result<(), StoreFault>) -> Result<(), FileFault>
     }
 }
 
-// Closes the file of a table: the pages that it writes over are kept aside, then it writes, then they are given up.
+// Closes the file of a table: the pages that it writes over are kept aside, then it writes, then they are given up. At
+// `Ok` of a changed table three calls of any disk have succeeded by then.
 fn close_table<D: Disk + Drop>(table: TreeTable<KeptStore<D>>) -> (D, Result<(), FileFault>)
     ensures any_moment { IsTrue table.pages.steady
         → LeavesEither D.DiskState (file_of table.pages.opening) table.tree.order (table_contents table)
@@ -69,6 +70,8 @@ fn close_table<D: Disk + Drop>(table: TreeTable<KeptStore<D>>) -> (D, Result<(),
     ensures device { table.pages.guard ≡ Unsealed 0 → table.pages.tail ≡ 0
         → CountsClosing table.pages.failures (is_err result.1) (is_device_answer result.1)
         (D.failures result.0) }
+    ensures called { table.pages.guard ≡ Unsealed 0 → table.pages.tail ≡ 0
+        → table.pages.changed ≡ true → OnOk result.1 (3 ≤ D.moment result.0) }
 {
     let mut table = table;
     if let Err(fault) = table.seal() {
@@ -136,7 +139,7 @@ fn run_table<D: Disk + Drop, R: Read, W: Write, E: Write>(
         → result.status ≡ 4 → LeavesOld D.DiskState (file_of table.pages.opening) result.disk }
 {
     let mut file = RecordFile::new(alloc, table, limits);
-    let end = run_session(alloc, manner, &mut file, reader, out, err);
+    let end = run_session(alloc, manner, &mut file, &mut Unlogged, reader, out, err);
     let script_fault = end.script.is_err();
     let table = file.abandon();
     match end.ended {

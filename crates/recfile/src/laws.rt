@@ -1,5 +1,5 @@
 //! Facts of the definitions that contracts of this crate cite.
-ghost use Rattle.std.specs.Prelude.{◌≡◌, ◌⊎◌, ◌<◌, ℕ, length, List, [], ◌∷◌, Option, Some, None, Result, Ok, IsTrue, true, false};
+ghost use Rattle.std.specs.Prelude.{◌≡◌, ◌≢◌, ◌⊎◌, ◌<◌, ℕ, length, List, [], ◌∷◌, Option, Some, None, Result, Ok, IsTrue, true, false, slice_get};
 ghost use Rattle.std.specs.FinMap as maps;
 ghost use Rattle.std.specs.List.{All};
 ghost use Rattle.rec_types.specs.Contents.{Contents};
@@ -9,8 +9,10 @@ ghost use Rattle.record_file.specs.Abstract.{File, new_file, open_of};
 ghost use Rattle.record_file.specs.Runs.{Seen};
 ghost use Rattle.page_store.specs.Journal.{Journal, noted};
 ghost use Rattle.page_store.specs.declared.step.Step.TheVariants as steps;
-ghost use Rattle.page_journal.specs.Files.{PageFile, Files, Belongs, recovered};
+ghost use Rattle.page_journal.specs.Examples.{alone, both_writes, old_file};
+ghost use Rattle.page_journal.specs.Files.{PageFile, Kept, Files, Belongs, recovered};
 ghost use Rattle.page_journal.specs.History.{History, LeftSince};
+ghost use Rattle.page_journal.specs.declared.disk_call.DiskCall.{DiskCall};
 ghost use Rattle.btree_delete.specs.Closing.{closing};
 ghost use Rattle.btree_delete.specs.TableView.{TableView};
 ghost use Rattle.command_text.specs.Dump.{dump_text, CanBePut};
@@ -18,9 +20,8 @@ ghost use Rattle.command_text.specs.Refusals.{is_refusal};
 ghost use Rattle.command_text.specs.Script.{entries_of};
 ghost use Rattle.command_text.specs.declared.reply.Reply.{Reply};
 ghost use Rattle.recfile.specs.Ending.{EndsAll, without};
-ghost use Rattle.recfile.specs.Kept.{CountsClosing};
 ghost use Rattle.recfile.specs.Examples.{four_changes, two_taken_back};
-ghost use Rattle.recfile.specs.Kept.{ClosesSafely, HasRecords};
+ghost use Rattle.recfile.specs.Kept.{ClosesSafely, CountsClosing, HasRecords, IsKept, LeavesEither};
 ghost use Rattle.recfile.specs.Room.{HasRoomFor, was_kept};
 ghost use Rattle.recfile.specs.Run.{Session};
 ghost use Rattle.recfile.specs.StoreSession.{WritesBack};
@@ -63,12 +64,56 @@ pub fn sessions_by_example()
 {}
 
 /// A closing without a fault has no failure of its disk behind it; Device is no fault of a disk that didn't fail; and where
-/// the old pages couldn't be put back either, the disk has failed twice.
+/// the old pages couldn't be put back either, the disk has failed twice, and never three times. One that found no memory has
+/// no failure behind it but that of putting them back.
 pub fn closings_are_counted()
     ensures silent { (before after : ℕ) → CountsClosing before false false after → after ≡ before }
     ensures unfailed { (before : ℕ) → before < greatest_count
         → CountsClosing before true true before → ⊥ }
     ensures twice { CountsClosing 3 true true 5 }
+    ensures thrice { CountsClosing 3 true true 6 → ⊥ }
+    ensures no_memory { CountsClosing 3 true false 5 → ⊥ }
+{}
+
+/// What no closing leaves, by disks in memory. A disk that is kept with some records isn't with others, nor with a side
+/// file, nor while a write of page 0 isn't synced. A crash may leave a third file where two pages are written over that
+/// weren't kept aside. No closing leaves a side file of another file, and one that makes no call closes no other records
+/// than there were.
+pub fn closings_by_example()
+    ensures others { (disk : History) (order later : ℕ) (records others : Contents)
+        → IsKept ⟦<MemDisk as DiskState>⟧ order records disk → records ≢ others
+        → IsKept ⟦<MemDisk as DiskState>⟧ later others disk → ⊥ }
+    ensures unsynced { (main : PageFile) (page : List ℕ) (failures order : ℕ) (records : Contents)
+        → slice_get main.pages 0 ≢ Some page → IsKept ⟦<MemDisk as DiskState>⟧ order records (record {
+          first = alone main;
+          calls = DiskCall.Write 0 page ∷ [];
+          failures = failures;
+        }) → ⊥ }
+    ensures side_file { (first : Files) (kept : Kept) (failures order : ℕ) (records : Contents)
+        → first.side ≡ Some kept → IsKept ⟦<MemDisk as DiskState>⟧ order records (record {
+          first = first;
+          calls = [];
+          failures = failures;
+        }) → ⊥ }
+    ensures third_file { (failures order : ℕ) (records : Contents)
+        → LeavesEither ⟦<MemDisk as DiskState>⟧ old_file order records (record {
+          first = alone old_file;
+          calls = both_writes;
+          failures = failures;
+        }) → ⊥ }
+    ensures foreign { (first : Files) (failures order : ℕ) (records : Contents) → (Belongs first → ⊥)
+        → LeavesEither ⟦<MemDisk as DiskState>⟧ (recovered first) order records (record {
+          first = first;
+          calls = [];
+          failures = failures;
+        }) → ⊥ }
+    ensures unwritten { (first : Files) (failures order later : ℕ) (records others : Contents)
+        → HasRecords order records (recovered first) → records ≢ others
+        → ClosesSafely ⟦<MemDisk as DiskState>⟧ (recovered first) (record {
+          first = first;
+          calls = [];
+          failures = failures;
+        }) None later others → ⊥ }
 {}
 
 /// A dump that is run over a file without records, with no refusal, gives exactly its records.

@@ -3,17 +3,21 @@
 
 mod bar;
 mod call;
+mod commit_keeper;
 mod copying;
 mod dump;
 mod endings;
 mod file_fault;
+mod filling;
 mod kept_example;
 mod kept_file;
 pub mod laws;
 mod limits;
 mod loading;
+mod log_keeper;
 mod manner;
 mod next_line;
+mod overlaying;
 mod page_file;
 mod page_files;
 mod part_line;
@@ -32,12 +36,15 @@ mod telling;
 mod words;
 mod words_fault;
 
+pub use commit_keeper::CommitKeeper;
 pub use dump::{DumpFault, dump_in};
 pub use endings::{EndFault, end_all};
 pub use file_fault::FileFault;
 pub use kept_example::run_on_new_disk;
 pub use kept_file::{DiskEnd, run_kept};
+pub use log_keeper::LogKeeper;
 pub use manner::{Feed, Manner};
+pub use overlaying::{OverlayFault, overlay_text};
 pub use page_file::{FileEnd, check_in, create_in, run_in};
 pub use page_files::PageFiles;
 pub use program::run_words;

@@ -1,17 +1,19 @@
-ghost use Rattle.std.specs.Prelude.{◌≡◌, ◌⊎◌, ℕ, List, IfOk};
+ghost use Rattle.std.specs.Prelude.{◌≡◌, ◌⊎◌, ◌↔◌, ℕ, List, Option, Some, None, IfSome, IsTrue};
 ghost use Rattle.command_text.specs.Dump.{dump_text};
-ghost use Rattle.recfile.specs.Tasks.{LoadsAt};
+ghost use Rattle.recfile.specs.Filling.{CanFill, FillsAt, LooksAt};
+ghost use Rattle.recfile.specs.Tasks.{LoadsAt, RunsOver, loading};
 
 use crate::manner::{Feed, Manner};
 use crate::page_files::PageFiles;
-use crate::path_session::run_at_path;
+use crate::path_session::{fill_at_path, run_at_path};
 use crate::replies::{LastReply, Replies};
 use crate::screen::Screen;
 use crate::statuses::exit_status;
 use crate::tell::tell;
+use btree_load::is_sorted;
 use command_text::write_dump;
 use memchr::memchr;
-use rec_types::{Limits, Memory};
+use rec_types::{Key, Limits, Memory, Record};
 use record_texts::{Loaded, Separator, TextFault, read_records};
 use std::alloc::Global;
 use std::io;
@@ -54,13 +56,6 @@ impl From<Memory> for LoadFault {
     }
 }
 
-/// The script that puts records in one transaction, and the numbers of the lines that said them.
-#[derive(Drop)]
-struct LoadScript {
-    script: Vec<u8>,
-    lines: Vec<u64>,
-}
-
 // The records of all that a reader has.
 fn read_all<R: Read>(
     alloc: Global,
@@ -70,20 +65,6 @@ fn read_all<R: Read>(
     let mut text = Vec::new(alloc);
     reader.read_to_end(&mut text)?;
     Ok(read_records(alloc, separator, &text)?)
-}
-
-// The script that loads all that a reader has.
-fn read_load<R: Read>(
-    alloc: Global,
-    separator: Separator,
-    reader: &mut R,
-) -> Result<LoadScript, LoadFault>
-    ensures { IfOk result (λ load. (records : List (List ℕ × List ℕ))
-        × (load.script.items ≡ dump_text records)) }
-{
-    let Loaded { records, lines } = read_all(alloc, separator, reader)?;
-    let script = write_dump(alloc, &records)?;
-    Ok(LoadScript { script, lines })
 }
 
 // The number of the line whose record had the last reply. The first reply is that of the begin.
@@ -104,21 +85,26 @@ fn tell_load<E: Write>(lines: &[u64], replies: &LastReply, told: &[u8], err: &mu
     let _ = err.write_all(rest);
 }
 
-// Runs the session that puts records into the file at a path.
+// Runs the session that puts records into the file at a path. Status 3 where there is no memory for its script.
 fn run_load<P: PageFiles, E: Screen>(
     files: &P,
     alloc: Global,
     limits: Limits,
     path: &str,
-    load: &LoadScript,
+    loaded: &Loaded,
     err: &mut E,
 ) -> u8
-    requires { (records : List (List ℕ × List ℕ)) × (load.now.script.items ≡ dump_text records) }
-    ensures { LoadsAt P.Device.DiskState (P.at files.now path.now) limits result }
+    ensures { (result ≡ 3) ⊎ ((leaves : Option (List ℕ))
+        × RunsOver P.Device.DiskState (P.at files.now path.now) loading limits
+        (Some (dump_text loaded.now.records.items)) leaves None None result) }
 {
-    let mut script = load.script.as_slice();
+    let script = match write_dump(alloc, &loaded.records) {
+        Ok(script) => script,
+        Err(memory) => return unread(&LoadFault::from(memory), err),
+    };
+    let mut rest = script.as_slice();
     // One reply for each record, with those of the begin and the commit.
-    let mut replies = Replies::new(err, load.lines.len().saturating_add(2));
+    let mut replies = Replies::new(err, loaded.lines.len().saturating_add(2));
     let mut told = Vec::new(alloc);
     let status = run_at_path(
         files,
@@ -126,18 +112,72 @@ fn run_load<P: PageFiles, E: Screen>(
         limits,
         LOADING,
         path,
-        &mut script,
+        &mut rest,
         &mut replies,
         &mut told,
     );
     let last = replies.end();
-    tell_load(&load.lines, &last, &told, err);
+    tell_load(&loaded.lines, &last, &told, err);
     status
 }
 
-/// Puts the records of all that a reader has into the file at a path, in one transaction, all or none, and answers the
-/// status; a bar on `err` tells a person how far that is. Faults, each with a line on `err`: those of the text, by which
-/// no file is opened; the first record that is refused, by the number of its line; those of the file.
+// Whether a file that has no records can be filled with these.
+fn can_fill(limits: Limits, records: &[(Key, Record)]) -> bool
+    ensures { IsTrue result ↔ CanFill limits records.now }
+{
+    records.len() <= limits.records() as usize && is_sorted(records)
+}
+
+// Fills the file at a path with records, and answers the status; None where that can't be, and the file is as it was.
+fn fill_or_leave<P: PageFiles, E: Write>(
+    files: &P,
+    alloc: Global,
+    limits: Limits,
+    path: &str,
+    records: &[(Key, Record)],
+    err: &mut E,
+) -> Option<u8>
+    ensures filled { IfSome result (λ status. (status ≡ 1)
+        ⊎ FillsAt P.Device.DiskState (P.at files.now path.now) limits records.now status) }
+    ensures looked { result ≡ None → CanFill limits records.now
+        → LooksAt P.Device.DiskState (P.at files.now path.now) }
+{
+    if !can_fill(limits, records) {
+        return None;
+    }
+    fill_at_path(files, alloc, limits, path, records, err)
+}
+
+// Puts records into the file at a path.
+fn load_records<P: PageFiles, E: Screen>(
+    files: &P,
+    alloc: Global,
+    limits: Limits,
+    path: &str,
+    loaded: &Loaded,
+    err: &mut E,
+) -> u8
+    ensures { (result ≡ 3)
+        ⊎ LoadsAt P.Device.DiskState (P.at files.now path.now) limits result }
+{
+    match fill_or_leave(files, alloc, limits, path, &loaded.records, err) {
+        Some(status) => status,
+        None => run_load(files, alloc, limits, path, loaded, err),
+    }
+}
+
+// The status where no records are read. The fault has its line.
+fn unread<E: Write>(fault: &LoadFault, err: &mut E) -> u8
+    ensures { result ≡ 3 }
+{
+    tell(err, fault);
+    exit_status(false, false, true)
+}
+
+/// Puts the records of all that a reader has into the file at a path, all or none, and answers the status. Where their
+/// keys ascend and the file has no records its pages are written one after another; else they are put in one transaction,
+/// and a bar on `err` tells a person how far that is. Faults, each with a line on `err`: those of the text, by which no file
+/// is opened; the first record that is refused, by the number of its line; those of the file.
 pub fn load<P: PageFiles, R: Read, E: Screen>(
     files: &P,
     alloc: Global,
@@ -150,11 +190,8 @@ pub fn load<P: PageFiles, R: Read, E: Screen>(
     ensures { (result ≡ 3)
         ⊎ LoadsAt P.Device.DiskState (P.at files.now path.now) limits result }
 {
-    match read_load(alloc, separator, reader) {
-        Ok(load) => run_load(files, alloc, limits, path, &load, err),
-        Err(fault) => {
-            tell(err, &fault);
-            exit_status(false, false, true)
-        }
+    match read_all(alloc, separator, reader) {
+        Ok(loaded) => load_records(files, alloc, limits, path, &loaded, err),
+        Err(fault) => unread(&fault, err),
     }
 }

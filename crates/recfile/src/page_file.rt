@@ -30,7 +30,7 @@ use crate::tell::tell;
 use btree_delete::{OpenFault, TreeTable};
 use page_store::Store;
 use rec_types::{Limits, Table};
-use record_file::RecordFile;
+use record_file::{RecordFile, Unlogged};
 use std::alloc::{AllocError, Global};
 use std::io::{Read, Write};
 
@@ -237,7 +237,7 @@ fn run_opened<S: Store, R: Read, W: Write, E: Write>(
         result.unclosed result.status }
 {
     let mut file = RecordFile::new(alloc, table, limits);
-    let end = run_session(alloc, manner, &mut file, reader, out, err);
+    let end = run_session(alloc, manner, &mut file, &mut Unlogged, reader, out, err);
     let script_fault = end.script.is_err();
     let table = file.abandon();
     match end.ended {

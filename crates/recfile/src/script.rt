@@ -1,4 +1,3 @@
-ghost use Rattle.record_file.specs.TableCalls.{KeepsOrigin};
 ghost use Rattle.std.specs.Prelude.{◌≡◌, ◌+◌, ◌<◌, ◌≤◌, ◌||◌, false, List, length, take, IfOk, IfErr, OnOk};
 ghost use Rattle.std.specs.Result.{is_err};
 ghost use Rattle.recfile.specs.Streams.{TellsFailed, read_fault, write_fault, run_read_fault, run_write_fault};
@@ -8,10 +7,11 @@ ghost use Rattle.recfile.specs.Whole.{IsWhole, longest_script};
 ghost use Rattle.command_text.specs.Script.{entries_of};
 ghost use Rattle.command_text.specs.Texts.{text_of};
 ghost use Rattle.recfile.specs.Run.{Session, Finished, Faulted, ReadStops, LineSent, AcceptedIf, LinesStop, NotRefused, Ran, run_of, commands};
-ghost use Rattle.record_file.specs.Runs.{seen};
+ghost use Rattle.record_file.specs.Runs.{seen_as};
 ghost use Rattle.command_text.specs.declared.reply.Reply.{Reply};
 
 use crate::call::{command_count, reply_to};
+use crate::commit_keeper::CommitKeeper;
 use crate::next_line::next_line;
 use crate::streams::{CountedRead, CountedWrite, StreamCalls};
 use command_text::{Command, LineFault, read_line};
@@ -101,46 +101,54 @@ fn read_script<L: Ledger, R: CountedRead<L>>(
 /// Runs the whole script that a reader has, and answers how many commands it had. Each reply is written
 /// before the next command is run. It makes at most 1,048,578 reads. Faults: ScriptTooLong, where no command is run;
 /// ReadFault, exactly where a read failed; WriteFault, exactly where a write failed or took nothing; Memory.
-pub fn run_script<L: Ledger, T: Table, R: CountedRead<L>, W: CountedWrite<L>>(
+pub fn run_script<L: Ledger, T: Table, K: CommitKeeper<T>, R: CountedRead<L>, W: CountedWrite<L>>(
     alloc: Global,
     reader: &mut R,
     writer: &mut W,
     file: &mut RecordFile<T>,
+    keeper: &mut K,
     calls: &mut StreamCalls<L>,
 ) -> Result<u32, ScriptFault>
     ensures finished { IfOk result (Finished (R.left reader.old) (R.left reader.new)
         (W.held writer.old) (W.held writer.new)
-        (seen T.TableState file.old) (seen T.TableState file.new)) }
+        (seen_as K.keeps T.TableState file.old) (seen_as K.keeps T.TableState file.new)) }
     ensures faulted { IfErr result (Faulted (R.left reader.old) (R.left reader.new)
         (W.held writer.old) (W.held writer.new)
-        (seen T.TableState file.old) (seen T.TableState file.new)) }
-    ensures origin { KeepsOrigin T.TableState file.old file.new }
+        (seen_as K.keeps T.TableState file.old) (seen_as K.keeps T.TableState file.new)) }
+    ensures moves { K.moves file.old.table file.new.table }
     ensures reads { calls.new.reads ≤ calls.old.reads + (longest_script + 2) }
     ensures failed { TellsFailed calls.old (read_fault result) (write_fault result) calls.new }
 {
-    unrefused(run_script_as(alloc, false, reader, writer, file, calls))
+    unrefused(run_script_as(alloc, false, reader, writer, file, keeper, calls))
 }
 
 /// Runs the whole script that a reader has, as `run_script` does; where it is `strict`, the first reply that is a
 /// refusal ends it, once it is written. Faults: those of `run_script`; Refused.
-pub fn run_script_as<L: Ledger, T: Table, R: CountedRead<L>, W: CountedWrite<L>>(
+pub fn run_script_as<
+    L: Ledger,
+    T: Table,
+    K: CommitKeeper<T>,
+    R: CountedRead<L>,
+    W: CountedWrite<L>,
+>(
     alloc: Global,
     strict: bool,
     reader: &mut R,
     writer: &mut W,
     file: &mut RecordFile<T>,
+    keeper: &mut K,
     calls: &mut StreamCalls<L>,
 ) -> Result<u32, RunFault>
     ensures ran { Ran strict (R.left reader.old) (R.left reader.new)
         (W.held writer.old) (W.held writer.new)
-        (seen T.TableState file.old) (seen T.TableState file.new) result }
-    ensures origin { KeepsOrigin T.TableState file.old file.new }
+        (seen_as K.keeps T.TableState file.old) (seen_as K.keeps T.TableState file.new) result }
+    ensures moves { K.moves file.old.table file.new.table }
     ensures reads { calls.new.reads ≤ calls.old.reads + (longest_script + 2) }
     ensures failed { TellsFailed calls.old (run_read_fault result) (run_write_fault result)
         calls.new }
 {
     let script = read_script(alloc, reader, calls)?;
-    run_lines(alloc, &script, strict, writer, file, calls)
+    run_lines(alloc, &script, strict, writer, file, keeper, calls)
 }
 
 // The answer where no refusal ends a script.
@@ -156,23 +164,24 @@ fn unrefused(ran: Result<u32, RunFault>) -> Result<u32, ScriptFault>
 }
 
 // Runs the lines of a script, one after another; where it is strict, up to the first reply that is a refusal.
-fn run_lines<L: Ledger, T: Table, W: CountedWrite<L>>(
+fn run_lines<L: Ledger, T: Table, K: CommitKeeper<T>, W: CountedWrite<L>>(
     alloc: Global,
     script: &[u8],
     strict: bool,
     writer: &mut W,
     file: &mut RecordFile<T>,
+    keeper: &mut K,
     calls: &mut StreamCalls<L>,
 ) -> Result<u32, RunFault>
     requires { length script.now ≤ longest_script }
     ensures finished { IfOk result (λ done. (replies : List Reply)
-        × Session (seen T.TableState file.old) (entries_of script.now) replies
-        (seen T.TableState file.new)
+        × Session (seen_as K.keeps T.TableState file.old) (entries_of script.now) replies
+        (seen_as K.keeps T.TableState file.new)
         × Appends (W.held writer.old) (W.held writer.new) (flat_map text_of replies)
         × (done ≡ commands (entries_of script.now)) × AcceptedIf strict replies) }
     ensures stops { IfErr result (LinesStop strict (W.held writer.old) (W.held writer.new)
-        (seen T.TableState file.old) (seen T.TableState file.new) script.now) }
-    ensures origin { KeepsOrigin T.TableState file.old file.new }
+        (seen_as K.keeps T.TableState file.old) (seen_as K.keeps T.TableState file.new) script.now) }
+    ensures moves { K.moves file.old.table file.new.table }
     ensures failed { calls.new ≡ record calls.old {
       write_failed = run_write_fault result || calls.old.write_failed;
     } }
@@ -188,7 +197,7 @@ fn run_lines<L: Ledger, T: Table, W: CountedWrite<L>>(
         lines += 1;
         let said = read_line(line);
         done += command_count(&said);
-        let Some(refused) = answer(&mut text, writer, file, &said, done, calls)? else {
+        let Some(refused) = answer(&mut text, writer, file, keeper, &said, done, calls)? else {
             continue;
         };
         if strict && refused {
@@ -200,23 +209,24 @@ fn run_lines<L: Ledger, T: Table, W: CountedWrite<L>>(
 
 /// Runs what a line says, which is the `done`th command where it says one, and writes its reply; `text` is for that,
 /// whatever it has. Answers whether the reply is a refusal; a line that says nothing has none. Faults: Memory, WriteFault.
-pub fn answer<L: Ledger, T: Table, W: CountedWrite<L>>(
+pub fn answer<L: Ledger, T: Table, K: CommitKeeper<T>, W: CountedWrite<L>>(
     text: &mut String,
     writer: &mut W,
     file: &mut RecordFile<T>,
+    keeper: &mut K,
     said: &Result<Option<Command>, LineFault>,
     done: u32,
     calls: &mut StreamCalls<L>,
 ) -> Result<Option<bool>, ScriptFault>
     ensures sent { LineSent (W.held writer.old) (W.held writer.new)
-        (seen T.TableState file.old) said.now (seen T.TableState file.new) done result }
-    ensures origin { KeepsOrigin T.TableState file.old file.new }
+        (seen_as K.keeps T.TableState file.old) said.now (seen_as K.keeps T.TableState file.new) done result }
+    ensures moves { K.moves file.old.table file.new.table }
     ensures failed { calls.new ≡ record calls.old {
       write_failed = write_fault result || calls.old.write_failed;
     } }
     ensures faults { read_fault result ≡ false }
 {
-    let told = reply_to(text, file, said).map_err(|_| ScriptFault::Memory { done })?;
+    let told = reply_to(text, file, keeper, said).map_err(|_| ScriptFault::Memory { done })?;
     let Some(refused) = told else {
         return Ok(None);
     };

@@ -1,9 +1,9 @@
-ghost use Rattle.record_file.specs.TableCalls.{KeepsOrigin};
 ghost use Rattle.std.specs.Prelude.{◌≡◌, ◌<◌, None};
-ghost use Rattle.record_file.specs.Runs.{Seen, seen};
+ghost use Rattle.record_file.specs.Runs.{Seen, seen_as};
 ghost use Rattle.recfile.specs.Whole.{empty_file};
 ghost use Rattle.recfile.specs.WholeSession.{IsSession, RanAs, RunsFile};
 
+use crate::commit_keeper::CommitKeeper;
 use crate::endings::{EndFault, end_all};
 use crate::manner::{Feed, Manner};
 use crate::script::{RunFault, run_script_as};
@@ -12,7 +12,7 @@ use crate::statuses::exit_status;
 use crate::streams::StreamCalls;
 use crate::tell::tell_fault_of;
 use rec_types::{Limits, SortedTable, Table};
-use record_file::RecordFile;
+use record_file::{RecordFile, Unlogged};
 use std::alloc::Global;
 use std::io::{Read, Write};
 use std::marker::Brand;
@@ -27,28 +27,30 @@ pub struct SessionEnd {
 }
 
 /// Runs the lines that a reader has, in that manner, as `run_script_as` and `run_shell` do.
-pub fn run_feed<T: Table, R: Read, W: Write>(
+pub fn run_feed<T: Table, K: CommitKeeper<T>, R: Read, W: Write>(
     alloc: Global,
     manner: Manner,
     reader: &mut R,
     writer: &mut W,
     file: &mut RecordFile<T>,
+    keeper: &mut K,
 ) -> Result<u32, RunFault>
     ensures ran { RanAs manner (R.remaining reader.old) (R.remaining reader.new)
         (W.contents writer.old) (W.contents writer.new)
-        (seen T.TableState file.old) (seen T.TableState file.new) result }
-    ensures origin { KeepsOrigin T.TableState file.old file.new }
+        (seen_as K.keeps T.TableState file.old) (seen_as K.keeps T.TableState file.new) result }
+    ensures moves { K.moves file.old.table file.new.table }
 {
-    feed_counted::<Brand, T, R, W>(alloc, manner, reader, writer, file, Blank::new(1))
+    feed_counted::<Brand, T, K, R, W>(alloc, manner, reader, writer, file, keeper, Blank::new(1))
 }
 
 // The same, on a count of its own.
-fn feed_counted<L: Ledger, T: Table, R: Read, W: Write>(
+fn feed_counted<L: Ledger, T: Table, K: CommitKeeper<T>, R: Read, W: Write>(
     alloc: Global,
     manner: Manner,
     reader: &mut R,
     writer: &mut W,
     file: &mut RecordFile<T>,
+    keeper: &mut K,
     blank: Blank,
 ) -> Result<u32, RunFault>
     requires name { blank.name ≡ L.name }
@@ -56,33 +58,50 @@ fn feed_counted<L: Ledger, T: Table, R: Read, W: Write>(
     requires some { 0 < L.parts }
     ensures ran { RanAs manner (R.remaining reader.old) (R.remaining reader.new)
         (W.contents writer.old) (W.contents writer.new)
-        (seen T.TableState file.old) (seen T.TableState file.new) result }
-    ensures origin { KeepsOrigin T.TableState file.old file.new }
+        (seen_as K.keeps T.TableState file.old) (seen_as K.keeps T.TableState file.new) result }
+    ensures moves { K.moves file.old.table file.new.table }
 {
     let mut calls = StreamCalls::<L>::new(blank);
     match manner.feed {
-        Feed::Script => run_script_as(alloc, manner.strict, reader, writer, file, &mut calls),
-        Feed::Lines => run_shell(alloc, manner.strict, reader, writer, file, &mut calls),
+        Feed::Script => run_script_as(
+            alloc,
+            manner.strict,
+            reader,
+            writer,
+            file,
+            keeper,
+            &mut calls,
+        ),
+        Feed::Lines => run_shell(
+            alloc,
+            manner.strict,
+            reader,
+            writer,
+            file,
+            keeper,
+            &mut calls,
+        ),
     }
 }
 
 /// Runs the lines that the reader has over a file, writes their replies to `out`, and then ends every transaction that
 /// is open. The manner says how the lines come and whether a refusal ends them. Where they aren't run to their end, and
 /// where a transaction can't be ended, `err` gets a line that names the fault.
-pub fn run_session<T: Table, R: Read, W: Write, E: Write>(
+pub fn run_session<T: Table, K: CommitKeeper<T>, R: Read, W: Write, E: Write>(
     alloc: Global,
     manner: Manner,
     file: &mut RecordFile<T>,
+    keeper: &mut K,
     reader: &mut R,
     out: &mut W,
     err: &mut E,
 ) -> SessionEnd
     ensures session { (mid : Seen) × IsSession manner (R.remaining reader.old) (R.remaining reader.new)
-        (W.contents out.old) (W.contents out.new) (seen T.TableState file.old) mid
-        result.script result.ended (seen T.TableState file.new) }
-    ensures origin { KeepsOrigin T.TableState file.old file.new }
+        (W.contents out.old) (W.contents out.new) (seen_as K.keeps T.TableState file.old) mid
+        result.script result.ended (seen_as K.keeps T.TableState file.new) }
+    ensures moves { K.moves file.old.table file.new.table }
 {
-    let script = run_feed(alloc, manner, reader, out, file);
+    let script = run_feed(alloc, manner, reader, out, file, keeper);
     tell_fault_of(err, &script);
     let ended = end_all(file);
     tell_fault_of(err, &ended);
@@ -102,6 +121,6 @@ pub fn run_memory<R: Read, W: Write, E: Write>(
         (W.contents out.old) (W.contents out.new) (empty_file limits) None result }
 {
     let mut file = RecordFile::new(alloc, SortedTable::new(alloc, limits), limits);
-    let end = run_session(alloc, manner, &mut file, reader, out, err);
+    let end = run_session(alloc, manner, &mut file, &mut Unlogged, reader, out, err);
     exit_status(end.ended.is_err(), false, end.script.is_err())
 }

@@ -1,15 +1,15 @@
-ghost use Rattle.record_file.specs.TableCalls.{KeepsOrigin};
 ghost use Rattle.std.specs.Prelude.{◌≡◌, ◌+◌, ◌++◌, ◌||◌, ℕ, false, List, Option, OnOk, IfErr, MatchResult, if◌then◌else◌};
 ghost use Rattle.std.specs.Result.{is_err};
 ghost use Rattle.recfile.specs.Streams.{TellsFailed, run_read_fault, run_write_fault};
 ghost use Rattle.std.specs.Io.{ReadsAtMost};
 ghost use Rattle.std.specs.Io.KnownBytes.{ReadConsumes};
-ghost use Rattle.record_file.specs.Runs.{Seen, seen};
+ghost use Rattle.record_file.specs.Runs.{Seen, seen_as};
 ghost use Rattle.command_text.specs.Script.{bounded_entries_in, ended_lines, lines_of};
 ghost use Rattle.recfile.specs.Run.{commands, says_command};
 ghost use Rattle.recfile.specs.Shell.{Answered, AnsweredSoFar, IsAnswered, LineAnswered, LineStops, RanLines, Start, StopsAt, counted_to};
 
 use crate::call::command_count;
+use crate::commit_keeper::CommitKeeper;
 use crate::next_line::cut_line;
 use crate::part_line::PartLine;
 use crate::script::{RunFault, ScriptFault, answer};
@@ -50,31 +50,33 @@ impl Counts {
 /// Faults: Memory { done: 0 }, where nothing is read; ReadFault, exactly where a read failed; WriteFault, exactly where
 /// a write failed or took nothing; Memory and Refused where they are met;
 /// ScriptTooLong after 2^64 - 1 reads.
-pub fn run_shell<L: Ledger, T: Table, R: CountedRead<L>, W: CountedWrite<L>>(
+pub fn run_shell<L: Ledger, T: Table, K: CommitKeeper<T>, R: CountedRead<L>, W: CountedWrite<L>>(
     alloc: Global,
     strict: bool,
     reader: &mut R,
     writer: &mut W,
     file: &mut RecordFile<T>,
+    keeper: &mut K,
     calls: &mut StreamCalls<L>,
 ) -> Result<u32, RunFault>
     ensures ran { RanLines strict (R.left reader.old) (R.left reader.new)
         (W.held writer.old) (W.held writer.new)
-        (seen T.TableState file.old) (seen T.TableState file.new) result }
-    ensures origin { KeepsOrigin T.TableState file.old file.new }
+        (seen_as K.keeps T.TableState file.old) (seen_as K.keeps T.TableState file.new) result }
+    ensures moves { K.moves file.old.table file.new.table }
     ensures failed { TellsFailed calls.old (run_read_fault result) (run_write_fault result)
         calls.new }
 {
-    run_answered(alloc, strict, reader, writer, file, calls)
+    run_answered(alloc, strict, reader, writer, file, keeper, calls)
 }
 
 // The same, with what the reader had and the writer held at the start, and the file.
-fn run_answered<L: Ledger, T: Table, R: CountedRead<L>, W: CountedWrite<L>>(
+fn run_answered<L: Ledger, T: Table, K: CommitKeeper<T>, R: CountedRead<L>, W: CountedWrite<L>>(
     alloc: Global,
     strict: bool,
     reader: &mut R,
     writer: &mut W,
     file: &mut RecordFile<T>,
+    keeper: &mut K,
     calls: &mut StreamCalls<L>,
 ) -> Result<u32, RunFault>
     ghost start: { Start }
@@ -82,12 +84,12 @@ fn run_answered<L: Ledger, T: Table, R: CountedRead<L>, W: CountedWrite<L>>(
       strict = strict;
       left = R.left reader.old;
       held = W.held writer.old;
-      old = seen T.TableState file.old;
+      old = seen_as K.keeps T.TableState file.old;
     } }
     ensures ran { RanLines strict (R.left reader.old) (R.left reader.new)
         (W.held writer.old) (W.held writer.new)
-        (seen T.TableState file.old) (seen T.TableState file.new) result }
-    ensures origin { KeepsOrigin T.TableState file.old file.new }
+        (seen_as K.keeps T.TableState file.old) (seen_as K.keeps T.TableState file.new) result }
+    ensures moves { K.moves file.old.table file.new.table }
     ensures failed { TellsFailed calls.old (run_read_fault result) (run_write_fault result)
         calls.new }
 {
@@ -98,7 +100,9 @@ fn run_answered<L: Ledger, T: Table, R: CountedRead<L>, W: CountedWrite<L>>(
     for turn in 0..u64::MAX {
         match read_answered(reader, writer, &mut chunk, calls) {
             Err(_) => return Err(RunFault::Script(ScriptFault::ReadFault)),
-            Ok(0) => return answer_last(&mut text, strict, &mut part, counts, writer, file, calls),
+            Ok(0) => return answer_last(
+                &mut text, strict, &mut part, counts, writer, file, keeper, calls,
+            ),
             Ok(n) => answer_lines(
                 &mut text,
                 strict,
@@ -107,6 +111,7 @@ fn run_answered<L: Ledger, T: Table, R: CountedRead<L>, W: CountedWrite<L>>(
                 &mut counts,
                 writer,
                 file,
+                keeper,
                 calls,
             )?,
         }
@@ -133,7 +138,7 @@ pub fn read_answered<L: Ledger, R: CountedRead<L>, W: CountedWrite<L>>(
 
 // Runs each line that ends in these bytes, which come after what was read before. What follows the last LF begins a
 // line, or goes on with one. Faults: those of `answer_line`.
-fn answer_lines<L: Ledger, T: Table, W: CountedWrite<L>>(
+fn answer_lines<L: Ledger, T: Table, K: CommitKeeper<T>, W: CountedWrite<L>>(
     text: &mut String,
     strict: bool,
     bytes: &[u8],
@@ -141,17 +146,18 @@ fn answer_lines<L: Ledger, T: Table, W: CountedWrite<L>>(
     counts: &mut Counts,
     writer: &mut W,
     file: &mut RecordFile<T>,
+    keeper: &mut K,
     calls: &mut StreamCalls<L>,
 ) -> Result<(), RunFault>
     ensures answered { (held : Option (List ℕ)) (old : Seen) (taken : List ℕ)
-        → AnsweredSoFar strict held (W.held writer.old) old (seen T.TableState file.old)
+        → AnsweredSoFar strict held (W.held writer.old) old (seen_as K.keeps T.TableState file.old)
         taken part.old counts.old
         → MatchResult result
-        (λ _. AnsweredSoFar strict held (W.held writer.new) old (seen T.TableState file.new)
+        (λ _. AnsweredSoFar strict held (W.held writer.new) old (seen_as K.keeps T.TableState file.new)
         (taken ++ bytes.now) part.new counts.new)
-        (λ fault. StopsAt strict held (W.held writer.new) old (seen T.TableState file.new)
+        (λ fault. StopsAt strict held (W.held writer.new) old (seen_as K.keeps T.TableState file.new)
         (ended_lines (taken ++ bytes.now)) fault) }
-    ensures origin { KeepsOrigin T.TableState file.old file.new }
+    ensures moves { K.moves file.old.table file.new.table }
     ensures failed { calls.new ≡ record calls.old {
       write_failed = run_write_fault result || calls.old.write_failed;
     } }
@@ -161,7 +167,7 @@ fn answer_lines<L: Ledger, T: Table, W: CountedWrite<L>>(
     while let Some((last, after)) = cut_line(rest) {
         rest = after;
         let said = part.end(last);
-        answer_line(text, strict, said, counts, writer, file, calls)?;
+        answer_line(text, strict, said, counts, writer, file, keeper, calls)?;
     }
     part.push(rest);
     Ok(())
@@ -169,25 +175,26 @@ fn answer_lines<L: Ledger, T: Table, W: CountedWrite<L>>(
 
 // Runs the last line, which has no LF, where it has a byte; answers how many commands there were. Faults: those of
 // `answer_line`.
-fn answer_last<L: Ledger, T: Table, W: CountedWrite<L>>(
+fn answer_last<L: Ledger, T: Table, K: CommitKeeper<T>, W: CountedWrite<L>>(
     text: &mut String,
     strict: bool,
     part: &mut PartLine,
     counts: Counts,
     writer: &mut W,
     file: &mut RecordFile<T>,
+    keeper: &mut K,
     calls: &mut StreamCalls<L>,
 ) -> Result<u32, RunFault>
     ensures answered { (held : Option (List ℕ)) (old : Seen) (taken : List ℕ)
-        → AnsweredSoFar strict held (W.held writer.old) old (seen T.TableState file.old)
+        → AnsweredSoFar strict held (W.held writer.old) old (seen_as K.keeps T.TableState file.old)
         taken part.old counts
         → MatchResult result
         (λ done. Answered strict held (W.held writer.new) old (lines_of taken)
-        (seen T.TableState file.new)
+        (seen_as K.keeps T.TableState file.new)
         × (done ≡ counted_to (commands (bounded_entries_in (lines_of taken)))))
-        (λ fault. StopsAt strict held (W.held writer.new) old (seen T.TableState file.new)
+        (λ fault. StopsAt strict held (W.held writer.new) old (seen_as K.keeps T.TableState file.new)
         (lines_of taken) fault) }
-    ensures origin { KeepsOrigin T.TableState file.old file.new }
+    ensures moves { K.moves file.old.table file.new.table }
     ensures failed { calls.new ≡ record calls.old {
       write_failed = run_write_fault result || calls.old.write_failed;
     } }
@@ -198,36 +205,37 @@ fn answer_last<L: Ledger, T: Table, W: CountedWrite<L>>(
     }
     let mut counts = counts;
     let said = part.end(&[]);
-    answer_line(text, strict, said, &mut counts, writer, file, calls)?;
+    answer_line(text, strict, said, &mut counts, writer, file, keeper, calls)?;
     Ok(counts.done)
 }
 
 // Runs a line that says this, and writes its reply. Faults: Memory, WriteFault; Refused, where it is strict.
-fn answer_line<L: Ledger, T: Table, W: CountedWrite<L>>(
+fn answer_line<L: Ledger, T: Table, K: CommitKeeper<T>, W: CountedWrite<L>>(
     text: &mut String,
     strict: bool,
     said: Result<Option<Command>, LineFault>,
     counts: &mut Counts,
     writer: &mut W,
     file: &mut RecordFile<T>,
+    keeper: &mut K,
     calls: &mut StreamCalls<L>,
 ) -> Result<(), RunFault>
     ensures done { counts.new.done
         ≡ counted_to (counts.old.done + (if says_command said then 1 else 0)) }
     ensures lines { counts.new.lines ≡ counted_to (counts.old.lines + 1) }
     ensures answered { OnOk result (LineAnswered strict (W.held writer.old)
-        (W.held writer.new) (seen T.TableState file.old) said (seen T.TableState file.new)) }
+        (W.held writer.new) (seen_as K.keeps T.TableState file.old) said (seen_as K.keeps T.TableState file.new)) }
     ensures stops { IfErr result (LineStops strict (W.held writer.old) (W.held writer.new)
-        (seen T.TableState file.old) said (seen T.TableState file.new)
+        (seen_as K.keeps T.TableState file.old) said (seen_as K.keeps T.TableState file.new)
         counts.new.done counts.new.lines) }
-    ensures origin { KeepsOrigin T.TableState file.old file.new }
+    ensures moves { K.moves file.old.table file.new.table }
     ensures failed { calls.new ≡ record calls.old {
       write_failed = run_write_fault result || calls.old.write_failed;
     } }
     ensures faults { run_read_fault result ≡ false }
 {
     counts.add(&said);
-    let Some(refused) = answer(text, writer, file, &said, counts.done, calls)? else {
+    let Some(refused) = answer(text, writer, file, keeper, &said, counts.done, calls)? else {
         return Ok(());
     };
     if strict && refused {

@@ -10,7 +10,7 @@ pub enum FileTable {
 }
 
 impl TableState for FileTable {
-    ghost use Rattle.std.specs.Prelude.{Option};
+    ghost use Rattle.std.specs.Prelude.{Option, []};
     ghost use Rattle.btree_delete.specs.Origins.{Origin};
     ghost use Rattle.recfile_c.specs.FileTables.{contents_of, limit_of, is_sound, failures_of, refusals_of, damages_of, calls_of, origin_of};
 
@@ -31,6 +31,8 @@ impl TableState for FileTable {
     ghost Source = { Option Origin };
 
     ghost origin = { origin_of };
+
+    ghost commits = { λ _. [] };
 }
 
 impl Table for FileTable {

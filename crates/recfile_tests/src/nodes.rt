@@ -266,7 +266,7 @@ fn changed(
         return changed;
     }
     assert!(rt; i <= count && count < 4);
-    insert_in(&mut changed, page, 2, i, &(key, value));
+    insert_in(&mut changed, 2, i, &(key, value));
     changed
 }
 

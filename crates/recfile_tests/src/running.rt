@@ -13,7 +13,7 @@ use btree_delete::TreeTable;
 use page_store::{MemStore, Store};
 use rec_types::{FlakyTable, LimitFault, Limits, SortedTable, Table};
 use recfile::{Feed, Manner, ScriptFault, StreamCalls, run_feed, run_script};
-use record_file::RecordFile;
+use record_file::{RecordFile, Unlogged};
 use std::alloc::Global;
 use std::io;
 use std::io::{Read, Write};
@@ -95,7 +95,7 @@ fn run_counted<L: Ledger, T: Table, R: Read, W: Write>(
     requires some { 0 < L.parts }
 {
     let mut calls = StreamCalls::<L>::new(blank);
-    run_script(alloc, reader, writer, file, &mut calls)
+    run_script(alloc, reader, writer, file, &mut Unlogged, &mut calls)
 }
 
 /// Runs the script that a reader has.
@@ -157,7 +157,7 @@ fn expect_shell<T: Table, R: Read>(
         strict: false,
         feed: Feed::Lines,
     };
-    let end = run_feed(alloc, manner, reader, &mut out, &mut file);
+    let end = run_feed(alloc, manner, reader, &mut out, &mut file, &mut Unlogged);
     let text = String::from_utf8(out).expect(rt, "no text");
     expect_named(rt, row.name, text.as_str(), row.replies);
     assert_eq!(rt; (row.name, end), (row.name, Ok(row.commands)));

@@ -281,3 +281,8 @@ module _ (sound : Bool) (now : Contents) (limit : ℕ) (log : LogState) (old : I
   pub undo_file_is : (now2 : Contents) (log2 : LogState) (t : TxId) (u : Kept) (step : UndoStep) → newest_live t.0 log.changes ≡ Some u → step ≡ undo_step u → now2 ≡ undone_by now step → log2 ≡ compensated log t → file_of log2 now2 ≡ record (file_of log now) { history = undo_last t.0 (history_in log) }
   undo_file_is now2 log2 t u step newest is put after =
       (λ i. file_of (after i) ((put ∙ ap (undone_by now) is ∙ undone_is now u.key (back_of u)) i)) ∙ undo_file log now (log.records ++ compensations_in log t) None t.0 u newest
+
+-- over a table that tells the same
+pub file_same : (sound other : Bool) (now later : Contents) (limit most : ℕ) (log : LogState) → other ≡ sound → later ≡ now → most ≡ limit → IsRecordFile sound now limit log → IsRecordFile other later most log
+file_same sound other now later limit most log sounds contents limits is =
+    subst (λ b. IsRecordFile b later most log) (sym sounds) (subst (λ m. IsRecordFile sound m most log) (sym contents) (subst (λ n. IsRecordFile sound now n log) (sym limits) is))

@@ -140,6 +140,8 @@ module _ (g : List Change) (e : Event) where
         failures = ap (counted s.failures) (sym failed);
         refusals = ap (counted s.refusals) (sym refused);
         sound = refl;
+        logged = refl;
+        commits = λ _. refl;
         told = tells_none s.sound s.records s.records s.log s.log refl refl;
         answer = subst (λ c. Answers s c e.failed e.refused (record s { file = new })) (sym called_is) answers;
       },
@@ -375,6 +377,8 @@ step_alone m answered fs fs2 e g s sound kept step move leads on alone = at move
             failures = ap (counted s.failures) (sym quiet);
             refusals = ap (counted s.refusals) (sym unrefused);
             sound = refl;
+            logged = refl;
+            commits = λ _. refl;
             told = tells_one s.sound s.records (write_to s.records x after) s.log s.log (made s alone.tidy t x before after).log (next_record s alone.tidy t x before after) refl refl (λ here. change_written s.records _ _ t x before after);
             answer = answers (none_refused s.file t.0 x now.active now.free now.room) (now.not_full lasts room) (stood ∙ sym (now.stood lasts));
           },
@@ -443,6 +447,8 @@ step_alone m answered fs fs2 e g s sound kept step move leads on alone = at move
             failures = ap (counted s.failures) (sym a.0.0);
             refusals = ap (counted s.refusals) (sym refused);
             sound = refl;
+            logged = refl;
+            commits = λ _. refl;
             told = tells_one s.sound s.records (set_to s.records x None) s.log s.log s2.log (next_record s alone.tidy t x (Some before) (Some None)) refl refl (λ here. refl);
             answer = subst (λ c. Answers s c e.failed e.refused s2) (sym called_is) (
               a.0,

@@ -1,5 +1,5 @@
 -- What the commits of a run make of the records that it began with, without the transactions that haven't committed.
-use Rattle.std.specs.Prelude.{◌≡◌, ℕ, Bool, not, List, [], ◌∷◌, ◌++◌, filter, Option, Some, None, Result, Ok, Err}
+use Rattle.std.specs.Prelude.{◌≡◌, ℕ, Bool, not, List, [], ◌∷◌, ◌++◌, filter, Option, Some, None, Result, Ok, Err, IsTrue, true, false}
 use Rattle.rec_types.specs.Contents.{Contents, set_to}
 use Rattle.rec_types.specs.History.{Change, replay}
 use Rattle.tx_log.specs.Written.{own, writes}
@@ -51,18 +51,23 @@ ChangesStep f t (Err changes_faults.Memory) = tx_refusal f t None ≡ None
 ChangesStep f t (Err fault) = tx_refusal f t None ≡ Some (changes_refusal fault)
 
 -- A commit that a keeper has to keep is refused exactly as a commit is; at any other fault a commit would be accepted, and
--- the file is as it was.
-abbrev pub KeptStep : File → ℕ → Result (Unit {0}) KeepFault → File → Type 0
-KeptStep old t (Ok done) new = CommitStep old t (Ok done) new
-KeptStep old t (Err (keep_faults.Refused fault)) new = CommitStep old t (Err fault) new
-KeptStep old t (Err fault) new = (tx_refusal old t None ≡ None) × (new ≡ old)
+-- the file is as it was. Where the keeper keeps nothing there is no other fault.
+abbrev pub KeptStep : Bool → File → ℕ → Result (Unit {0}) KeepFault → File → Type 0
+KeptStep keeps old t (Ok done) new = CommitStep old t (Ok done) new
+KeptStep keeps old t (Err (keep_faults.Refused fault)) new = CommitStep old t (Err fault) new
+KeptStep keeps old t (Err fault) new = IsTrue keeps × (tx_refusal old t None ≡ None) × (new ≡ old)
 
--- The keeper is asked to keep these writes, and the answer is its own; where the commit is refused or memory is wanting, it
--- isn't asked.
-abbrev pub AsksKeeper : {K : Type 0} → (K → List (List ℕ × Option (List ℕ)) → Result (Unit {0}) KeeperFault → K → Type 0) → List (List ℕ × Option (List ℕ)) → K → Result (Unit {0}) KeepFault → K → Type 0
-AsksKeeper answers es old (Ok done) new = answers old es (Ok done) new
-AsksKeeper answers es old (Err (keep_faults.Unkept fault)) new = answers old es (Err fault) new
-AsksKeeper answers es old (Err fault) new = new ≡ old
+-- the one where something is kept, and else the other
+abbrev pub AskedIf : Bool → Type 0 → Type 0 → Type 0
+AskedIf true P Q = P
+AskedIf false P Q = Q
+
+-- The keeper is asked to keep these writes beside the table, and the answer is its own; where the commit is refused, memory is
+-- wanting, or nothing is kept, it isn't asked.
+abbrev pub AsksKeeper : {T : Type 0} → (T → List (List ℕ × Option (List ℕ)) → Result (Unit {0}) KeeperFault → T → Type 0) → Bool → List (List ℕ × Option (List ℕ)) → T → Result (Unit {0}) KeepFault → T → Type 0
+AsksKeeper answers keeps es old (Ok done) new = AskedIf keeps (answers old es (Ok done) new) (new ≡ old)
+AsksKeeper answers keeps es old (Err (keep_faults.Unkept fault)) new = answers old es (Err fault) new
+AsksKeeper answers keeps es old (Err fault) new = new ≡ old
 
 -- what ends a commit before the keeper is asked
 abbrev pub unasked : ChangesFault → KeepFault

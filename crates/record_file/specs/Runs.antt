@@ -1,5 +1,5 @@
 -- A run: calls on a file one after another, each with its answer, and what came to it from outside.
-use Rattle.std.specs.Prelude.{◌≡◌, ◌≢◌, ℕ, ◌<◌, Bool, true, false, List, [], ◌∷◌, Option, Some, None, is_some, Result, IsTrue, IfSome, IfOk, IfErr, OnErr}
+use Rattle.std.specs.Prelude.{◌≡◌, ◌≢◌, ℕ, ◌<◌, Bool, true, false, List, [], ◌∷◌, Option, Some, None, is_some, Result, Ok, IsTrue, IfSome, IfOk, IfErr, OnErr}
 use Rattle.std.specs.FinMap as maps
 use Rattle.rec_types.specs.History.{log_len}
 use Rattle.rec_types.specs.Calls.{with_list}
@@ -28,7 +28,7 @@ use Rattle.record_file.specs.Asked.{Asks, MayPut, MayRemove, UndoAsks, looked_un
 use Rattle.record_file.specs.Outside.{by_device, by_memory, named_by, TellsDamage, NeverDamaged}
 use Rattle.record_file.specs.Refusals.{put_refusal, claim_refusal, remove_refusal, get_refusal, rollback_refusal, abort_refusal, resume_refusal, entries_refusal, refusal_by, cause_by, by_file}
 use Rattle.record_file.specs.declared.fault.Cause.{Cause}
-pub use Rattle.record_file.specs.Seen.{Seen, seen}
+pub use Rattle.record_file.specs.Seen.{Seen, seen, seen_as}
 use Rattle.record_file.specs.Steps.{rose, key_refusal, tx_refusal, returning_refusal, resuming_refusal, Accepts, key_change, BeginStep, PutStep, ClaimStep, RemoveStep, GetStep, SavepointStep, ReleaseStep, CommitStep, RollsBackTo, RollbackToStep, Aborts, AbortStep, Resumes, ResumeStep, EntriesStep, KeysOfStep, status_of}
 
 -- a call with its arguments, and what it answered
@@ -79,6 +79,10 @@ cause_in called = None
 -- The call asks the table nothing, and leaves all but the abstract file.
 abbrev pub AsksNothing : Seen → Bool → Bool → Seen → Type 0
 AsksNothing old failed refused new = (failed ≡ false) × (refused ≡ false) × (new ≡ record old { file = new.file })
+
+-- The same of a commit, which may be kept beside the table.
+abbrev pub AsksKeeping : Seen → Bool → Bool → Seen → Type 0
+AsksKeeping old failed refused new = (failed ≡ false) × (refused ≡ false) × (new ≡ record old { file = new.file; commits = new.commits })
 
 -- A look leaves all that a run sees.
 abbrev pub Looks : Seen → Bool → Bool → Seen → Type 0
@@ -181,7 +185,7 @@ Answers old (Release t n answer) failed refused new = AsksNothing old failed ref
 Answers old (RollbackTo t n answer) failed refused new = IsCaused (cause_by rollback_refusal answer) failed refused × RollsTo old t n answer new
 Answers old (Abort t answer) failed refused new = IsCaused (cause_by abort_refusal answer) failed refused × IsAborted old t answer new
 Answers old (Resume t answer) failed refused new = IsCaused (cause_by resume_refusal answer) failed refused × IsResumed old t answer new
-Answers old (Commit t answer) failed refused new = AsksNothing old failed refused new × CommitStep old.file t.0 answer new.file
+Answers old (Commit t answer) failed refused new = AsksKeeping old failed refused new × CommitStep old.file t.0 answer new.file
 Answers old (Entries answer) failed refused new = IsCausedOrLog (cause_by entries_refusal answer) failed refused × Lists old answer new
 Answers old (KeysOf t answer) failed refused new = Looks old failed refused new × KeysOfStep old.file t.0 answer
 Answers old (StatusOf t answer) failed refused new = Looks old failed refused new × (answer ≡ status_of old.file t.0)
@@ -192,9 +196,14 @@ Answers old (LogUse count) failed refused new = Looks old failed refused new × 
 Answers old (RecordAt lsn answer) failed refused new = Looks old failed refused new × (answer ≡ record_at old.log lsn)
 Answers old (IntoTable answer) failed refused new = Looks old failed refused new × GivesTable old.file answer
 
+-- an accepted commit
+abbrev pub is_commit : Called → Bool
+is_commit (Commit t (Ok done)) = true
+is_commit called = false
+
 -- What stays true of a file is true of it before and after. The table's counts rise by what came from outside, and by
 -- nothing else, and by the calls that the answer tells of; over a sound table no page is damaged; the log tells what
--- became of the records.
+-- became of the records; none but an accepted commit is kept beside the table.
 pub record Step (old : Seen) (e : Event) (new : Seen) : Type 0 where
   pub kept : IsKeptSeen old
   pub keeps : IsKeptSeen new
@@ -203,6 +212,8 @@ pub record Step (old : Seen) (e : Event) (new : Seen) : Type 0 where
   pub refusals : new.refusals ≡ counted old.refusals e.refused
   pub sound : new.sound ≡ old.sound
   pub told : Tells old.sound old.records old.log new.records new.log
+  pub logged : new.logged ≡ old.logged
+  pub commits : is_commit e.called ≡ false → new.commits ≡ old.commits
   pub answer : Answers old e.called e.failed e.refused new
 
 -- one step after another

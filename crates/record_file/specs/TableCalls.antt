@@ -35,6 +35,16 @@ pub record ChangesTable {T : Type 0} (t : Ghosts T) (old : OpenFile T) (cause : 
   pub device : t.device_failures new.table ≡ counted (t.device_failures old.table) (by_device cause)
   pub damages : TellsDamage (t.damages old.table) cause (t.damages new.table)
 
+-- a table that tells the same, but of what it was made of
+pub record SameTable {T : Type 0} (t : Ghosts T) (old new : T) : Type 0 where
+  pub contents : t.contents new ≡ t.contents old
+  pub limit : t.record_limit new ≡ t.record_limit old
+  pub soundness : t.sound new ≡ t.sound old
+  pub device : t.device_failures new ≡ t.device_failures old
+  pub memory : t.memory_refusals new ≡ t.memory_refusals old
+  pub damages : t.damages new ≡ t.damages old
+  pub calls : t.calls new ≡ t.calls old
+
 -- frames of a call on a file
 
 abbrev pub KeepsOrigin : {T : Type 0} → Ghosts T → OpenFile T → OpenFile T → Type 0

@@ -1,10 +1,10 @@
-ghost use Rattle.std.specs.Prelude.{ℕ, List, Option, ◌++◌, OnOk, OnErr, [], ◌≡◌, ◌≢◌, ◌<◌, Some, None, Ok, Err, MatchResult};
+ghost use Rattle.std.specs.Prelude.{[], ◌≡◌, ◌≢◌, ◌<◌, Some, None, Ok, Err, MatchResult};
 ghost use Rattle.std.specs.FinMap as maps;
 ghost use Rattle.record_file.specs.Abstract.{new_file};
-ghost use Rattle.record_file.specs.Durable.{AsksKeeper, Keeps, KeptStep};
-ghost use Rattle.record_file.specs.Runs.{Commit, GivesTable};
+ghost use Rattle.record_file.specs.Durable.{AsksKeeper, KeptStep};
+ghost use Rattle.record_file.specs.Runs.{GivesTable};
 ghost use Rattle.record_file.specs.Steps.{BeginStep, SavepointStep, ReleaseStep, CommitStep};
-ghost use Rattle.record_file.specs.TableCalls.{KeepsLog, KeepsTable};
+ghost use Rattle.record_file.specs.TableCalls.{KeepsLog, KeepsTable, SameTable};
 ghost use Rattle.tx_log.specs.Written.{own, writes};
 
 mod changes;
@@ -156,23 +156,23 @@ impl<T: Table> RecordFile<T> {
         }
     }
 
-    /// Ends a transaction once a keeper has kept what its live changes write; its changes stay. Faults: Refused, where a
-    /// commit is refused; Memory; Unkept, with what the keeper answered. A fault leaves the file as it was, and nothing
-    /// more is kept; though of a Doubt the writes may be found after a stop.
-    pub fn commit_kept<K: Keeper>(&mut self, tx: TxId, keeper: &mut K) -> Result<(), KeepFault>
-        ensures step { KeptStep self.old.file tx.0 result self.new.file }
-        ensures kept { OnOk result ((es : List (List ℕ × Option (List ℕ)))
-            × Keeps self.old.file (Commit tx (Ok tt)) es
-            × (K.kept keeper.new ≡ K.kept keeper.old ++ es)) }
-        ensures asked { AsksKeeper K.answers (writes (own tx.0 self.old.file.history))
-            keeper.old result keeper.new }
-        ensures err { OnErr result
-            ((self.new ≡ self.old) × (K.kept keeper.new ≡ K.kept keeper.old)) }
-        ensures table { KeepsTable self.old self.new }
+    /// Ends a transaction once a keeper has kept what its live changes write; its changes stay. Where the keeper keeps nothing,
+    /// it is `commit`. Faults: Refused, where a commit is refused; Memory; Unkept, with what the keeper answered. A fault
+    /// leaves the file as it was, and nothing more is kept; though of a Doubt the writes may be found after a stop.
+    pub fn commit_kept<K: Keeper<T>>(&mut self, tx: TxId, keeper: &mut K) -> Result<(), KeepFault>
+        ensures step { KeptStep K.keeps self.old.file tx.0 result self.new.file }
+        ensures asked { AsksKeeper (K.answers keeper.old) K.keeps
+            (writes (own tx.0 self.old.file.history)) self.old.table result self.new.table }
+        ensures same { SameTable T.TableState self.old.table self.new.table }
+        ensures moves { K.moves self.old.table self.new.table }
         ensures log { KeepsLog self.old self.new }
     {
+        if !keeper.keeps() {
+            self.commit(tx)?;
+            return Ok(());
+        }
         let changes = self.changes_of(tx)?;
-        keeper.keep(&changes)?;
+        keeper.keep(&mut self.table, &changes)?;
         self.log.end(tx);
         Ok(())
     }

@@ -1,9 +1,10 @@
-ghost use Rattle.std.specs.Prelude.{◌≡◌, ◌++◌, ℕ, List, Option, Result, OnOk, OnErr};
+ghost use Rattle.std.specs.Prelude.{◌≡◌, ℕ, Bool, List, Option, Result};
+ghost use Rattle.record_file.specs.TableCalls.{SameTable};
 ghost use Rattle.record_file.specs.declared.keeper.KeeperFault.{KeeperFault};
 ghost use Rattle.record_file.specs.Durable.{unasked};
 
 use crate::fault::{ChangesFault, CommitFault};
-use rec_types::{Key, Record};
+use rec_types::{Key, Record, Table};
 use thiserror::Error;
 
 /// Why a keeper didn't keep the writes of a commit.
@@ -12,6 +13,9 @@ pub enum KeeperFault {
     /// None of them was written: they are found after no stop, and a later commit may be kept.
     #[error("there is no room to keep the commit")]
     Room,
+    /// Nor was there memory for what is kept of it.
+    #[error("out of memory")]
+    Memory,
     /// It isn't known whether they were written: they may be found after a stop, all or none of them. Until the keeper
     /// has ended the doubt, it keeps no other commit.
     #[error("it isn't known whether the commit is kept")]
@@ -33,22 +37,66 @@ pub enum KeepFault {
     Unkept(KeeperFault),
 }
 
-/// What keeps the writes of commits before the commits are answered. What a stop leaves of them no clause here says; a
-/// keeper's `answers` may.
-pub trait Keeper {
-    /// The writes of all commits that it answered to be kept, in the order of the commits. Those of a commit in doubt
-    /// aren't among them.
-    ghost kept: { Self → List (List ℕ × Option (List ℕ)) };
+/// What keeps the writes of commits beside a table before the commits are answered, or keeps none. What a stop leaves of them no
+/// clause here says; a keeper's `answers` may.
+pub trait Keeper<T: Table> {
+    /// Whether it keeps any.
+    ghost keeps: { Bool };
 
-    /// Asked to keep these writes, it may answer so, and is then the second one.
-    ghost answers: { Self → List (List ℕ × Option (List ℕ))
-        → Result (Unit {0}) KeeperFault → Self → Type 0 };
+    /// Asked to keep these writes beside the table, it may answer so, and this is then the table.
+    ghost answers: { Self → T → List (List ℕ × Option (List ℕ))
+        → Result (Unit {0}) KeeperFault → T → Type 0 };
 
-    /// Keeps the writes of a commit, all of them or none. Faults: Room or Doubt, at which they don't count as kept.
-    fn keep(&mut self, writes: &[(Key, Option<Record>)]) -> Result<(), KeeperFault>
-        ensures answer { answers self.old writes.now result self.new }
-        ensures ok { OnOk result (kept self.new ≡ kept self.old ++ writes.now) }
-        ensures err { OnErr result (kept self.new ≡ kept self.old) };
+    /// What it may change of what a table tells of what it was made of.
+    ghost moves: { T → T → Type 0 };
+
+    /// Whether it keeps any.
+    fn keeps(&self) -> bool
+        ensures { result ≡ keeps };
+
+    /// Keeps the writes of a commit beside the table, all of them or none. Faults: Room, Memory, or Doubt, at which they don't count
+    /// as kept.
+    fn keep(&mut self, table: &mut T, writes: &[(Key, Option<Record>)]) -> Result<(), KeeperFault>
+        ensures same { SameTable T.TableState table.old table.new }
+        ensures answer { answers self.old table.old writes.now result table.new }
+        ensures moves { moves table.old table.new };
+
+    /// A call of the table doesn't go beyond that.
+    ghost moves_none: { (a b : T) → T.origin b ≡ T.origin a → moves a b };
+
+    /// Nor do several calls of it.
+    ghost moves_on: { (a b c : T) → moves a b → moves b c → moves a c };
+}
+
+/// Keeps nothing: the commits of a file without a log.
+#[derive(Clone, Copy, Debug)]
+pub struct Unlogged;
+
+impl<T: Table> Keeper<T> for Unlogged {
+    ghost use Rattle.std.specs.Prelude.{◌≡◌, false};
+    ghost use mathlib.Core.Path.{◌∙◌};
+
+    ghost keeps = { false };
+
+    ghost answers = { λ _ old _ _ new. new ≡ old };
+
+    ghost moves = { λ a b. T.origin b ≡ T.origin a };
+
+    ghost moves_none = { λ a b same. same };
+
+    ghost moves_on = { λ a b c first second. second ∙ first };
+
+    fn keeps(&self) -> bool {
+        false
+    }
+
+    fn keep(
+        &mut self,
+        _table: &mut T,
+        _writes: &[(Key, Option<Record>)],
+    ) -> Result<(), KeeperFault> {
+        Ok(())
+    }
 }
 
 impl From<ChangesFault> for KeepFault {
@@ -60,6 +108,16 @@ impl From<ChangesFault> for KeepFault {
             ChangesFault::Rolling => KeepFault::Refused(CommitFault::Rolling),
             ChangesFault::Memory => KeepFault::Memory,
         }
+    }
+}
+
+impl From<CommitFault> for KeepFault {
+    ghost use Rattle.record_file.specs.declared.keeper.KeepFault.TheVariants as faults;
+
+    ghost from_gives = { λ fault told. told ≡ faults.Refused fault };
+
+    fn from(fault: CommitFault) -> KeepFault {
+        KeepFault::Refused(fault)
     }
 }
 

@@ -15,6 +15,6 @@ pub use fault::{
     StatusFault,
 };
 pub use file::{RecordFile, StillOpen};
-pub use keeper::{KeepFault, Keeper, KeeperFault};
+pub use keeper::{KeepFault, Keeper, KeeperFault, Unlogged};
 pub use refusal::{Refusal, ToRefusal};
 pub use tx_log::BeginFault;

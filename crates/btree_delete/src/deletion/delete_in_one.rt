@@ -1,105 +1,85 @@
-ghost use Rattle.std.specs.Prelude.{◌≡◌, ◌<◌, ◌≤◌, ◌-◌, ℕ, List, Some, None, Ok, length, IsSome, IfOk, IfSome, OnOk, MatchResult, true};
-ghost use Rattle.std.specs.List.{remove};
-ghost use Rattle.page_store.specs.CanStage.{CanStage};
+ghost use Rattle.std.specs.Prelude.{◌≡◌, ◌≤◌, ◌-◌, ℕ, List, Some, IsTrue, IfSome, true};
+ghost use Rattle.page_store.specs.ChangedPage.{BecomesAt};
 ghost use Rattle.page_store.specs.PageMap.{at};
-ghost use Rattle.btree_node.specs.Layout.{IsOrder, IsSmallOrder};
+ghost use Rattle.btree_node.specs.Layout.{IsOrder};
 ghost use Rattle.btree_node.specs.Lists.{Element};
-ghost use Rattle.btree_node.specs.Spelling.{spelling, CanStand, IsSpelt};
-ghost use Rattle.btree_node.specs.declared.node.Node.{Node};
-ghost use Rattle.btree_node.specs.declared.node.NodeKind.TheVariants.{Leaf};
+ghost use Rattle.btree_node.specs.declared.page_change.PageChange.TheVariants.{Remove};
 ghost use Rattle.btree_insert.specs.Bounds.{Between};
-ghost use Rattle.btree_insert.specs.Contents.{lookup_in};
-ghost use Rattle.btree_insert.specs.Growth.{WritesAs};
 ghost use Rattle.btree_insert.specs.PageTrees.{TreeAt, Apart, Spells};
 ghost use Rattle.btree_insert.specs.Reached.{Leads};
+ghost use Rattle.btree_insert.specs.Spelt.{CanChange};
+ghost use Rattle.btree_insert.specs.Steps.{CanSearch};
 ghost use Rattle.btree_delete.specs.Shrinking.{Drops, Whole};
 ghost use Rattle.btree_delete.specs.Subtrees.{head_page};
-ghost use Rattle.btree_delete.specs.PagesLeft.{with_edit};
-ghost use Rattle.btree_insert.specs.Edits.{OnlyWrites};
-ghost use Rattle.btree_insert.specs.Steps.{CanSearch};
-ghost use Rattle.btree_delete.specs.Edits.{TouchesNone};
+ghost use Rattle.btree_delete.specs.PagesLeft.{with_page};
 
-use btree_insert::{Spot, Step, step_in_page};
-use btree_node::{count_in, remove_in};
-use page_store::{PageEdit, Pages, Store};
-use rec_types::{Key, Memory, PAGE_WIDTH, Record};
+use btree_insert::{Spot, Step, lies_at, step_in_page};
+use btree_node::count_in;
+use page_store::{Pages, Store};
+use rec_types::{Key, Record};
 
-/// Takes the key out of the tree below the page at a spot, where it stands in a leaf with a key to spare and all
-/// pages on the way are in memory, and answers the record that stood there: one page changes. None where it is not
-/// so, or a page does not belong on the way: the edit is as it was then. Fault: Memory, where the key is there.
-pub(crate) fn delete_in_one<S: Store>(
+/// The one page that a deletion changes.
+#[derive(Clone, Copy)]
+pub(crate) struct Taken {
+    /// Its number.
+    pub page: u32,
+    /// Where in it the key stands.
+    pub place: usize,
+    /// What stands at the key.
+    pub old: Record,
+}
+
+/// Finds where the key stands in the tree below the page at a spot, where it is in a leaf with a key to spare and all
+/// pages on the way are in memory, changed or kept: its deletion changes one page. None where it is not so, or a page
+/// does not belong on the way.
+pub(crate) fn find_in_one<S: Store>(
     pages: &Pages<S>,
-    edit: &mut PageEdit,
     order: u16,
     spot: &Spot,
     key: &Key,
-) -> Result<Option<Record>, Memory>
+) -> Option<Taken>
     requires order { IsOrder order }
     requires search { CanSearch order spot.now true pages.now }
-    requires untouched { TouchesNone edit.old }
-    requires none_taken { edit.old.taken ≡ 0 }
-    ensures drops { (least : ℕ) (es : List Element) (us : List ℕ) → least ≤ order
-        → TreeAt order (at pages.now.pages) least spot.now.level spot.now.page es us
+    ensures drops { IsTrue pages.now.steady → (least : ℕ) (es : List Element) (us : List ℕ)
+        → least ≤ order → TreeAt order (at pages.now.pages) least spot.now.level spot.now.page es us
         → Between spot.now.bounds es → Apart us
-        → MatchResult result
-        (λ r. IfSome r (λ old.
-        Drops (head_page order least (spot.now.level - 1) spot.now.page)
-        (with_edit (at pages.now.pages) edit.new) es us key.now (Some (Whole (key.now, old)))))
-        (λ _. IsSome (lookup_in key.now es)) }
-    ensures led { IfOk result (λ r. IfSome r (λ old.
-        Leads (Spells order (at pages.now.pages)) key.now
-        spot.now.level spot.now.page spot.now.bounds (Some old))) }
-    ensures none { result ≡ Ok None → edit.new ≡ edit.old }
-    ensures fits { OnOk result
-        (CanStage pages.now.pages edit.new.writes.items edit.new.taken edit.new.freed.items) }
-    ensures edit { OnlyWrites order edit.old result edit.new }
+        → IfSome result (λ taken. (page : List ℕ)
+        → BecomesAt order taken.page (Remove taken.place) pages.now.pages page
+        → Drops (head_page order least (spot.now.level - 1) spot.now.page)
+        (with_page (at pages.now.pages) taken.page page) es us key.now
+        (Some (Whole (key.now, taken.old)))) }
+    ensures led { IsTrue pages.now.steady → IfSome result (λ taken. Leads
+        (Spells order (at pages.now.pages)) key.now spot.now.level spot.now.page spot.now.bounds
+        (Some taken.old)) }
+    ensures change { IfSome result
+        (λ taken. CanChange order pages.now taken.page (Remove taken.place)) }
 {
     let n = spot.page;
-    let Some(page) = pages.in_memory(n) else {
-        return Ok(None);
+    let Some(page) = lies_at(pages, order, n) else {
+        return None;
     };
     let Ok(step) = step_in_page(page, order, spot, key) else {
-        return Ok(None);
+        return None;
     };
     match step {
         Step::Found(i, old) => {
             if spot.level > 1 || count_in(page) <= order as usize {
-                return Ok(None);
+                return None;
             }
-            write_removed(edit, order, n, page, i)?;
-            Ok(Some(old))
+            Some(Taken {
+                page: n,
+                place: i,
+                old,
+            })
         }
-        Step::Ends(_) => Ok(None),
+        Step::Ends(_) => None,
         Step::Goes(_, son, bounds) => {
             let below = Spot {
                 page: son,
                 level: spot.level - 1,
                 bounds,
             };
-            delete_in_one(pages, edit, order, &below, key)
+            find_in_one(pages, order, &below, key)
         }
     }
-}
-
-/// Writes page n, a leaf with a key to spare, without element i.
-fn write_removed(
-    edit: &mut PageEdit,
-    order: u16,
-    n: u32,
-    page: &[u8; PAGE_WIDTH],
-    i: usize,
-) -> Result<(), Memory>
-    requires order { IsSmallOrder order }
-    requires spelt { IsSpelt order page.now }
-    requires leaf { (m : Node) → CanStand m order → page.now ≡ spelling m order
-        → (m.kind ≡ Leaf) × (i < length m.elements.items) × (1 < length m.elements.items) }
-    ensures writes { (m : Node) → CanStand m order → page.now ≡ spelling m order
-        → OnOk result (WritesAs order n m (remove m.elements.items i)
-        edit.old.writes.items edit.new.writes.items) }
-    ensures edit { OnlyWrites order edit.old result edit.new }
-{
-    let at = edit.writes.len();
-    edit.writes.push((n, *page))?;
-    remove_in(&mut edit.writes[at].1, page, order, i);
-    Ok(())
 }

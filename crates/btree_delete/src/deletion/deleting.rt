@@ -8,6 +8,7 @@ ghost use Rattle.btree_insert.specs.Reached.{LeadsFrom};
 ghost use Rattle.btree_insert.specs.Spelt.{AreSpeltIn};
 ghost use Rattle.btree_insert.specs.Contents.{lookup_in, set_in};
 ghost use Rattle.page_store.specs.CanStage.{CanStage};
+ghost use Rattle.page_store.specs.PagesView.{OnlyStages};
 ghost use Rattle.btree_delete.specs.Deleted.{Deleted, MayStop, IsNoLarger};
 ghost use Rattle.btree_delete.specs.Treatment.{son_at};
 ghost use Rattle.btree_delete.specs.Shrinking.{MayBeUnderfull, UnderfullGoesUp, LeavesTree, ShrinksRoot, gone, removal};
@@ -18,15 +19,15 @@ ghost use Rattle.btree_delete.specs.PagesLeft.{with_edit};
 ghost use Rattle.btree_node.specs.Layout.{IsOrder};
 ghost use Rattle.btree_insert.specs.Sizes.{IsTree};
 ghost use Rattle.btree_insert.specs.Edits.{Stages};
-ghost use Rattle.btree_delete.specs.Edits.{TakesNone, TouchesNone};
+ghost use Rattle.btree_delete.specs.Edits.{TakesNone};
 
 use crate::deletion::delete_below::{Shrunk, delete_below};
-use crate::deletion::delete_in_one::delete_in_one;
+use crate::deletion::delete_in_one::find_in_one;
 use crate::deletion::subtree::Subtree;
 use crate::deletion::underflow::free_page;
 use arrayvec::ArrayVec;
 use btree_insert::{Bounds, Spot, Tree, TreeFault, write_node};
-use btree_node::Node;
+use btree_node::{Node, PageChange};
 use page_store::{PageEdit, Pages, Store};
 use rec_types::{Key, Memory, Record};
 use std::alloc::Global;
@@ -194,37 +195,36 @@ pub fn delete<S: Store>(
     Ok(shrunk)
 }
 
-/// Takes the key out of a tree where one page changes alone and all pages on the way are in memory, and answers the
-/// new tree and the record that stood there. None where it is not so: the edit is as it was then. Faults: Memory;
-/// Damaged with the root where the tree says that it has no key.
-fn shrink_in_one<S: Store>(
-    pages: &Pages<S>,
-    edit: &mut PageEdit,
+/// Takes the key out of a tree where that changes one page alone and all pages on the way are in memory: the page is
+/// changed where it lies, and no memory is asked for. None where it is not so, or where the tree says that it has no
+/// key; no page has changed then.
+fn delete_where_it_lies<S: Store>(
+    pages: &mut Pages<S>,
     tree: &Tree,
     key: &Key,
-) -> Result<Option<(Tree, Record)>, TreeFault>
+) -> Option<(Tree, Option<Record>)>
     requires tree { IsTree tree.now }
-    requires untouched { TouchesNone edit.old }
-    requires none_taken { edit.old.taken ≡ 0 }
-    requires spelt { AreSpeltIn tree.now.order pages.now }
-    ensures deleted { (es : List Element) (us : List ℕ) → Holds (at pages.now.pages) tree.now es us
-        → MatchResult result
-        (λ r. IfSome r (λ shrunk. Deleted (at pages.now.pages)
-        (after (at pages.now.pages) edit.new.writes.items edit.new.freed.items)
-        tree.now es us key.now (shrunk.0, Some shrunk.1)))
-        (MayStop (lookup_in key.now es)) }
-    ensures led { IfOk result (λ r. IfSome r (λ shrunk.
-        LeadsFrom (Spells tree.now.order (at pages.now.pages)) key.now
-        tree.now.height tree.now.root (Some shrunk.1))) }
-    ensures fits { OnOk result
-        (CanStage pages.now.pages edit.new.writes.items edit.new.taken edit.new.freed.items) }
-    ensures edit { TakesNone tree.now.order edit.old result edit.new }
-    ensures smaller { IfOk result (λ r. IfSome r (λ shrunk. IsNoLarger tree.now shrunk.0)) }
-    ensures no_device { is_device result ≡ false }
+    requires spelt { AreSpeltIn tree.now.order pages.old }
+    ensures deleted { IsTrue pages.old.steady → (es : List Element) (us : List ℕ)
+        → Holds (at pages.old.pages) tree.now es us → IfSome result
+        (λ r. Deleted (at pages.old.pages) (at pages.new.pages) tree.now es us key.now r) }
+    ensures led { IsTrue pages.old.steady → IfSome result
+        (λ r. LeadsFrom (Spells tree.now.order (at pages.old.pages)) key.now
+        tree.now.height tree.now.root r.1) }
+    ensures smaller { IfSome result (λ r. IsNoLarger tree.now r.0 × IsSome r.1) }
+    ensures spelt { AreSpeltIn tree.now.order pages.new }
+    ensures changed { IsSome result → pages.new.changed ≡ true }
+    ensures page_count { length pages.new.pages ≡ length pages.old.pages }
+    ensures store { OnlyStages pages.old pages.new
+        × (pages.new.failures ≡ pages.old.failures) × (pages.new.reads ≡ pages.old.reads) }
+    ensures none { result ≡ None → pages.new ≡ pages.old }
 {
     if tree.height == 0 {
-        return Ok(None);
+        return None;
     }
+    let Ok(next) = fewer(tree, tree.root, 0) else {
+        return None;
+    };
     let root = Spot {
         page: tree.root,
         level: tree.height,
@@ -233,11 +233,14 @@ fn shrink_in_one<S: Store>(
             high: None,
         },
     };
-    let Some(old) = delete_in_one(pages, edit, tree.order, &root, key)? else {
-        return Ok(None);
+    let Some(taken) = find_in_one(pages, tree.order, &root, key) else {
+        return None;
     };
-    let next = fewer(tree, tree.root, 0)?;
-    Ok(Some((next, old)))
+    if pages.in_memory(taken.page).is_none() {
+        return None;
+    }
+    pages.change(tree.order, taken.page, &PageChange::Remove(taken.place));
+    Some((next, Some(taken.old)))
 }
 
 /// The same as `delete`, where each page in memory is known to spell a node of the order: where the key stands in a
@@ -266,14 +269,8 @@ pub fn delete_in_place<S: Store>(
     ensures page_count { length pages.new.pages ≡ length pages.old.pages }
     ensures stages { Stages (2 * tree.now.height - 1) pages.old result pages.new }
 {
-    let mut edit = PageEdit {
-        writes: Vec::new(alloc),
-        taken: 0,
-        freed: Vec::new(alloc),
-    };
-    let Some(shrunk) = shrink_in_one(pages, &mut edit, tree, key)? else {
-        return delete(alloc, pages, tree, key);
-    };
-    pages.stage(edit)?;
-    Ok((shrunk.0, Some(shrunk.1)))
+    if let Some(done) = delete_where_it_lies(pages, tree, key) {
+        return Ok(done);
+    }
+    delete(alloc, pages, tree, key)
 }

@@ -22,6 +22,7 @@ ghost use Rattle.btree_delete.specs.Origins.{Origin, origin_of};
 ghost use Rattle.btree_delete.specs.TableView.{TableView, HoldsTree, IsClosed, table_contents};
 ghost use Rattle.btree_delete.specs.Created.{IsEmpty, IsCreated, IsCreateFault, asks_shape, is_create_device, is_create_device_fault};
 
+mod commits;
 mod sealing;
 
 use crate::opening::open_file::{OpenStop, open_file};
@@ -367,6 +368,8 @@ impl<S: Store> TableState for TreeTable<S> {
     ghost Source = { Origin };
 
     ghost origin = { origin_of };
+
+    ghost commits = { λ o. o.opening.commits };
 }
 
 // A method's clauses stand in place of its trait's, so these are written again before those that tell

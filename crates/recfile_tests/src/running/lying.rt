@@ -92,6 +92,8 @@ impl<T: Table> TableState for LyingTable<T> {
     ghost Source = { T.Source };
 
     ghost origin = { λ t. T.origin t.inner };
+
+    ghost commits = { T.commits };
 }
 
 impl<T: Table> Table for LyingTable<T> {

@@ -4,11 +4,36 @@ use Rattle.page_store.specs.FreeNumbers.{candidate}
 use Rattle.btree_node.specs.declared.node.Node.{Node}
 use Rattle.btree_insert.specs.Bounds.{AreWithin}
 use Rattle.btree_insert.specs.Growth.{MayBeOverfull, WritesOrSplits, with_son}
+use Rattle.std.proofs.lemmas.List.Edits.{length-insert}
+use Rattle.btree_node.specs.Spelling.{spelling}
+use Rattle.btree_insert.proofs.EditFitLemmas.{wrote_fits}
 use Rattle.btree_insert.proofs.OnePageLemmas.{same_parts}
 use Rattle.btree_insert.proofs.PlaceLemmas.{inner_may_be_overfull}
 use Rattle.btree_insert.proofs.insert_below.put_in_father.Given as given
 use Rattle.btree_insert.proofs.insert_below.put_in_father.Goals as goal
 use Rattle.btree_insert.proofs.insert_below.put_in_father.Goals.{After-insert-2}
+
+pub write_with_son-requires-clause-father : goal.write_with_son-requires-clause-father
+write_with_son-requires-clause-father g c = λ m can is.
+    (c.requires.father m can is, omega (arith, c.if-count_in-order.true, c.count_in.ensures.node c.args.order m c.requires.order.1 can is))
+
+pub returns-then-count_in-order-clause-settles : goal.returns-then-count_in-order-clause-settles
+returns-then-count_in-order-clause-settles g c = λ m can is.
+    let gains = c.requires.father m can is in (
+      omega (arith, length-insert m.elements.items c.args.i c.args.middle gains.place.within, c.if-count_in-order.true, c.count_in.ensures.node c.args.order m c.requires.order.1 can is),
+      c.in_ok-write_with_son.ensures.writes m can is,
+      c.in_ok-write_with_son.ensures.edit.taken,
+    )
+
+pub returns-then-count_in-order-clause-edit : goal.returns-then-count_in-order-clause-edit
+returns-then-count_in-order-clause-edit g c =
+    let spelt = c.requires.page in
+    record {
+      fits = wrote_fits c.args.pages.now.pages c.args.edit.now.writes.items c.write_with_son.new.edit.writes.items c.args.edit.now.taken c.write_with_son.new.edit.taken c.args.n (spelling (with_son spelt.0 c.args.i c.args.middle c.args.right) c.args.order)
+          (c.in_ok-write_with_son.ensures.writes spelt.0 spelt.1 spelt.2) c.in_ok-write_with_son.ensures.edit.taken c.requires.room.in_use c.requires.room.fits;
+      spelt = c.in_ok-write_with_son.ensures.edit.spelt;
+      freed = c.in_ok-write_with_son.ensures.edit.freed;
+    }
 
 -- the node with the element and the son
 module _ (g : given.Over) (c : After-insert-2 g) where

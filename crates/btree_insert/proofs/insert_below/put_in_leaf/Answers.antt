@@ -1,17 +1,17 @@
-use Rattle.std.proofs.Common.{◌≡◌, ◌∷◌, ◌++◌, [], ℕ, List, ap, sym, ◌∙◌, subst, arith, refl, length, IfOk}
+use Rattle.std.proofs.Common.{◌≡◌, ◌+◌, ◌*◌, ◌∷◌, ◌++◌, [], ℕ, List, ap, ◌∙◌, arith, refl, length}
+use Rattle.std.proofs.lemmas.List.Edits.{length-insert}
+use Rattle.btree_node.specs.Cut.{left_of, right_of}
+use Rattle.btree_node.proofs.SpeltPageLemmas.{count_spelt}
+use Rattle.btree_insert.proofs.ChangedTreeLemmas.{left_half, right_half}
+use Rattle.btree_insert.proofs.SpeltLemmas.{spelt_more}
 use Rattle.std.specs.List.{insert}
-use Rattle.page_store.specs.FreeNumbers.{candidate}
 use Rattle.btree_node.specs.declared.node.Node.{Node}
 use Rattle.btree_node.specs.Spelling.{spelling}
 use Rattle.btree_node.specs.Written.{with_elements}
-use Rattle.btree_insert.specs.Bounds.{AreWithin}
-use Rattle.btree_insert.specs.Growth.{MayBeOverfull, WritesOrSplits}
-use Rattle.btree_insert.proofs.EditFitLemmas.{wrote_fits}
+use Rattle.btree_insert.proofs.EditFitLemmas.{wrote_fits, took_fits, up_fits}
 use Rattle.btree_insert.proofs.OnePageLemmas.{same_parts}
 use Rattle.btree_insert.proofs.PlaceLemmas.{leaf_may_be_overfull}
-use Rattle.btree_insert.proofs.insert_below.put_in_leaf.Given as given
 use Rattle.btree_insert.proofs.insert_below.put_in_leaf.Goals as goal
-use Rattle.btree_insert.proofs.insert_below.put_in_leaf.Goals.{After-insert}
 
 pub write_inserted-requires-clause-leaf : goal.write_inserted-requires-clause-leaf
 write_inserted-requires-clause-leaf g c = λ m can is.
@@ -38,30 +38,48 @@ returns-then-count_in-order-clause-edit g c =
       freed = c.in_ok-write_inserted.ensures.edit.freed;
     }
 
--- the node with the element
-module _ (g : given.Over) (c : After-insert g) where
-  abbrev longer : Node
-  longer = record { kind = c.decode_into.new.node.kind; elements = c.insert.new.self; sons = c.decode_into.new.node.sons }
-
-  longer_is : (m : Node) → c.decode_into.new.node ≡ m → longer ≡ with_elements m (insert m.elements.items c.args.i c.args.element)
-  longer_is m is =
-      let els = c.insert.ensures.items ∙ ap (λ (n : Node). insert n.elements.items c.args.i c.args.element) is in
-      same_parts longer (with_elements m (insert m.elements.items c.args.i c.args.element)) (ap (λ (n : Node). n.kind) is) els (ap (λ (n : Node). n.sons.items) is)
-
-pub settle-requires-clause-may_be_overfull : goal.settle-requires-clause-may_be_overfull
-settle-requires-clause-may_be_overfull g c =
+pub write_halves-requires-clause-full : goal.write_halves-requires-clause-full
+write_halves-requires-clause-full g c =
     let spelt = c.requires.page in
-    let m = spelt.0 in
-    let gains = c.requires.leaf m spelt.1 spelt.2 in
-    let is = longer_is g (goal.at.settle-requires-clause-may_be_overfull g c).After-insert m (c.decode_into.ensures.only m spelt.1 spelt.2).1 in
-    subst (MayBeOverfull c.args.order) (sym is)
-    (leaf_may_be_overfull c.args.order m (with_elements m (insert m.elements.items c.args.i c.args.element)) c.args.i c.args.element spelt.1 gains.leaf gains.place c.requires.element refl refl refl)
+    omega (arith, count_spelt c.args.order c.args.page.now spelt.0 c.requires.order.1 spelt.1 spelt.2, c.count_in.ensures.node c.args.order spelt.0 c.requires.order.1 spelt.1 spelt.2, c.if-count_in-order.false, spelt.1.most)
 
 pub returns-clause-settles : goal.returns-clause-settles
 returns-clause-settles g c = λ m can is.
-    subst (λ (n : Node). IfOk c.settle.result (WritesOrSplits c.args.order (candidate c.args.pages.now.pages c.args.edit.now.taken) c.args.edit.now c.settle.new.edit c.args.n n))
-    (longer_is g (goal.at.returns-clause-settles g c).After-insert m (c.decode_into.ensures.only m can is).1) c.settle.ensures.settles
+    let node = with_elements m (insert m.elements.items c.args.i c.args.element) in
+    let halves = c.in_ok-middle.ensures.cut m can is in
+    let gains = c.requires.leaf m can is in (
+      omega (arith, length-insert m.elements.items c.args.i c.args.element gains.place.within, c.count_in.ensures.node c.args.order m c.requires.order.1 can is, c.if-count_in-order.false, can.most),
+      halves.middle_is,
+      c.candidate-number.ensures.value,
+      halves.written ∙ ap (λ (fresh : ℕ). (c.args.edit.now.writes.items ++ (c.args.n, spelling (left_of c.args.order node) c.args.order) ∷ []) ++ (fresh, spelling (right_of c.args.order node) c.args.order) ∷ []) c.candidate-number.ensures.value,
+      ap (λ t. t + 1) c.in_ok-middle.ensures.taken,
+    )
+
+pub returns-clause-edit : goal.returns-clause-edit
+returns-clause-edit g c =
+    let spelt = c.requires.page in
+    let m = spelt.0 in
+    let k = c.args.order in
+    let node = with_elements m (insert m.elements.items c.args.i c.args.element) in
+    let gains = c.requires.leaf m spelt.1 spelt.2 in
+    let over = leaf_may_be_overfull k m node c.args.i c.args.element spelt.1 gains.leaf gains.place c.requires.element refl refl refl in
+    let long : length node.elements.items ≡ 2 * k + 1 = omega (arith, length-insert m.elements.items c.args.i c.args.element gains.place.within, c.count_in.ensures.node k m c.requires.order.1 spelt.1 spelt.2, c.if-count_in-order.false, spelt.1.most) in
+    let halves = c.in_ok-middle.ensures.cut m spelt.1 spelt.2 in
+    let mid = c.args.edit.now.writes.items ++ (c.args.n, spelling (left_of k node) k) ∷ [] in
+    let first = wrote_fits c.args.pages.now.pages c.args.edit.now.writes.items mid c.args.edit.now.taken c.args.edit.now.taken c.args.n (spelling (left_of k node) k) refl refl c.requires.room.in_use c.requires.room.fits in
+    record {
+      fits = took_fits c.args.pages.now.pages mid _ c.args.edit.now.taken _ c.candidate-number.result (spelling (right_of k node) k) halves.written (ap (λ t. t + 1) c.in_ok-middle.ensures.taken) c.candidate-number.ensures.value first;
+      spelt = λ old. spelt_more k c.candidate-number.result mid _ (right_of k node) (right_half k node c.requires.order.0 long over) halves.written
+          (spelt_more k c.args.n c.args.edit.now.writes.items mid (left_of k node) (left_half k node c.requires.order.0 long over) refl old);
+      freed = c.in_ok-middle.ensures.freed;
+    }
 
 pub returns-clause-goes_up : goal.returns-clause-goes_up
 returns-clause-goes_up g c = λ m can is bounds within.
-    c.settle.ensures.goes_up bounds (subst (λ (n : Node). AreWithin bounds n.elements.items) (sym (longer_is g (goal.at.returns-clause-goes_up g c).After-insert m (c.decode_into.ensures.only m can is).1)) within)
+    let k = c.args.order in
+    let node = with_elements m (insert m.elements.items c.args.i c.args.element) in
+    let gains = c.requires.leaf m can is in
+    let over = leaf_may_be_overfull k m node c.args.i c.args.element can gains.leaf gains.place c.requires.element refl refl refl in
+    let long : length node.elements.items ≡ 2 * k + 1 = omega (arith, length-insert m.elements.items c.args.i c.args.element gains.place.within, c.count_in.ensures.node k m c.requires.order.1 can is, c.if-count_in-order.false, can.most) in
+    let some = c.candidate-number.ensures.some in
+    up_fits bounds k node c.in_ok-middle.middle k c.candidate-number.result over within (omega (arith, long)) ((c.in_ok-middle.ensures.cut m can is).middle_is c.in_ok-middle.middle) (omega (arith, some)) c.candidate-number.type_inv

@@ -1,4 +1,4 @@
-use Rattle.std.proofs.Common.{◌≡◌, ℕ, List, length, refl, ap, sym, ◌∙◌, arith}
+use Rattle.std.proofs.Common.{◌≡◌, ℕ, List, length, refl, ap, ◌∙◌, arith}
 use Rattle.std.specs.List.{insert}
 use Rattle.btree_node.specs.declared.node.Node.{Node}
 use Rattle.btree_node.specs.Spelling.{spelling}
@@ -19,10 +19,6 @@ module _ (c : After-element-1) where
 
   bytes : c.index_mut.result.now.1 ≡ c.args.page.now
   bytes = ap (λ (w : ℕ × List ℕ). w.1) added
-
-pub insert_in-requires-clause-copy : goal.insert_in-requires-clause-copy
-insert_in-requires-clause-copy c =
-    sym (bytes (goal.at.insert_in-requires-clause-copy c).After-element-1)
 
 pub insert_in-requires-clause-index : goal.insert_in-requires-clause-index
 insert_in-requires-clause-index c =

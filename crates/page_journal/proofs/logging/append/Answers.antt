@@ -16,8 +16,11 @@ returns-in_default-clause-any_moment g c steady units unit ready is spelt = weak
 
 pub returns-in_default-ink-clause-any_moment : goal.returns-in_default-ink-clause-any_moment
 returns-in_default-ink-clause-any_moment g c steady units unit ready is spelt =
-    then_runs g.D.DiskState (SaysEither units unit) c.args.disk.now c.make_room.new.disk c.ink.new.disk (weaker g.D.DiskState (Says units) (SaysEither units unit) c.args.disk.now c.make_room.new.disk (λ f says. inl says) (c.make_room.ensures.any_moment steady units ready)) (c.ink.ensures.any_moment (c.make_room.ensures.steady ∙ steady) units unit (c.make_room.ensures.ready steady units ready) is spelt)
+    then_runs g.D.DiskState (SaysEither units unit) c.args.disk.now c.make_room.new.disk c.ink.new.disk (weaker g.D.DiskState (Says units) (SaysEither units unit) c.args.disk.now c.make_room.new.disk (λ f says. inl says) (c.make_room.ensures.any_moment steady units ready)) (c.ink.ensures.any_moment (c.make_room.ensures.disk.0 ∙ steady) units unit (c.make_room.ensures.ready steady units ready) is spelt)
 
 pub returns-clause-any_moment : goal.returns-clause-any_moment
 returns-clause-any_moment g c steady units unit ready is spelt =
-    then_runs g.D.DiskState (SaysEither units unit) c.args.disk.now c.make_room.new.disk c.ink.new.disk (weaker g.D.DiskState (Says units) (SaysEither units unit) c.args.disk.now c.make_room.new.disk (λ f says. inl says) (c.make_room.ensures.any_moment steady units ready)) (c.ink.ensures.any_moment (c.make_room.ensures.steady ∙ steady) units unit (c.make_room.ensures.ready steady units ready) is spelt)
+    then_runs g.D.DiskState (SaysEither units unit) c.args.disk.now c.make_room.new.disk c.ink.new.disk (weaker g.D.DiskState (Says units) (SaysEither units unit) c.args.disk.now c.make_room.new.disk (λ f says. inl says) (c.make_room.ensures.any_moment steady units ready)) (c.ink.ensures.any_moment (c.make_room.ensures.disk.0 ∙ steady) units unit (c.make_room.ensures.ready steady units ready) is spelt)
+
+pub returns-in_default-clause-no_room : goal.returns-in_default-clause-no_room
+returns-in_default-clause-no_room g c steady units ready room = (c.make_room.ensures.ready steady units ready, c.make_room.ensures.any_moment steady units ready)

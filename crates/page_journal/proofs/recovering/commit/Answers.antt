@@ -1,6 +1,7 @@
 use Rattle.std.proofs.Common.{ap, Bool}
 use Rattle.page_journal.specs.Files.{Files}
 use Rattle.page_journal.proofs.RunLemmas.{holds_begin, holds_stays, either_old, remove_time, removes_time, now_settled}
+use Rattle.page_journal.proofs.MomentLemmas.{three_moments}
 use Rattle.page_journal.proofs.LogLemmas.{logs_begin, logs_stays, logs_removes}
 use Rattle.page_journal.proofs.recovering.commit.Goals as goal
 
@@ -71,3 +72,8 @@ returns-clause-logs g c =
     let synced = logs_stays d old old c.sync.new.self begun c.sync.ensures.1 in
     let gone = logs_removes d old c.sync.new.self c.remove.new.self synced c.remove.ensures.does.0 in
     logs_stays d old c.remove.new.self c.sync_names.new.self gone c.sync_names.ensures.1
+
+pub returns-clause-moments : goal.returns-clause-moments
+returns-clause-moments g c =
+    let moment = g.D.DiskState.moment in
+    three_moments (moment c.args.disk.now) (moment c.sync.new.self) (moment c.remove.new.self) (moment c.sync_names.new.self) c.in_ok-sync.ensures.3 c.in_ok-remove.ensures.moment c.in_ok-sync_names.ensures.3

@@ -1,23 +1,21 @@
-use Rattle.std.proofs.Common.{[], ◌∷◌, false, refl, ap}
-use Rattle.command_text.specs.declared.reply.Reply.TheVariants as replies
-use Rattle.record_file.specs.Runs.{seen, Commit}
-use Rattle.recfile.proofs.CallRunLemmas.{quiet}
-use Rattle.record_file.proofs.CallStepLemmas.{same_but_file}
+use Rattle.std.proofs.Common.{◌≡◌, Ok, sym, subst}
+use Rattle.command_text.specs.declared.command.Command.TheVariants as commands
+use Rattle.command_text.specs.declared.reply.Reply.{Reply}
+use Rattle.std.specs.String.{string_bytes}
+use Rattle.tx_log.specs.Written.{own, writes}
+use Rattle.record_file.specs.Runs.{seen_as}
+use Rattle.recfile.specs.Run.{Told, commit_reply}
+use Rattle.recfile.proofs.CommitCallLemmas.{commit_told}
 use Rattle.recfile.proofs.call.commit.Goals as goal
 
 pub returns : goal.returns
-returns g c =
-    let old = seen g.T.TableState c.args.file.now in
-    let new = seen g.T.TableState c.commit.new.self in
-    record {
-      told = λ was is. (
-        replies.Commit c.commit.result,
-        record {
-          events = record { called = Commit c.args.tx c.commit.result; failed = false; refused = false } ∷ [];
-          told = refl;
-          ran = let same = same_but_file g.T.TableState c.args.file.now c.commit.new.self c.commit.ensures.table c.commit.ensures.log in quiet old new (Commit c.args.tx c.commit.result) refl was is same ((refl, refl, same), c.commit.ensures.step);
-        },
-        c.tell.ensures,
-      );
-      origin = (ap (λ x. g.T.TableState.origin x) c.commit.ensures.table);
-    }
+returns g c = record {
+  told = record {
+    told = λ was is. (
+      commit_reply c.commit_kept.result,
+      commit_told g.T.TableState c.args.file.now c.commit_kept.new.self c.commit_kept.ensures.same c.commit_kept.ensures.log g.K.Keeper.keeps (g.K.Keeper.answers c.args.keeper.now) c.args.tx (λ answer asked keeps. g.met.K.CommitKeeper.tells c.args.keeper.now c.args.file.now.table c.commit_kept.new.self.table (writes (own c.args.tx.0 c.args.file.now.file.history)) answer asked keeps) c.commit_kept.result c.commit_kept.ensures.step c.commit_kept.ensures.asked was is,
+      subst (λ (r : Reply). Told r c.tell.result (string_bytes c.tell.new.text)) c.reply_of.ensures c.tell.ensures,
+    );
+    moves_so = c.commit_kept.ensures.moves;
+  };
+}

@@ -1,4 +1,4 @@
-use Rattle.std.proofs.Common.{◌≡◌, false, Result, Ok, Err, OnOk, ⊎_elim, inl, inr, IsTrue, refl, sym, ap, subst, ◌∙◌}
+use Rattle.std.proofs.Common.{◌≡◌, ◌≤◌, false, Result, Ok, Err, OnOk, ⊎_elim, inl, inr, IsTrue, refl, sym, ap, subst, ◌∙◌}
 use Rattle.page_store.specs.Opening.{Opening}
 use Rattle.page_journal.specs.Crash.{StandsFor}
 use Rattle.btree_delete.specs.TableView.{TableView, table_contents}
@@ -8,7 +8,7 @@ use Rattle.page_store.specs.declared.page_edit.WriteFault.{WriteFault}
 use Rattle.recfile.specs.FileFaults.{is_device, is_device_answer}
 use Rattle.recfile.specs.Kept.{IsKept, file_of, refusals_of}
 use Rattle.recfile.specs.declared.file_fault.FileFault.{FileFault}
-use Rattle.recfile.proofs.ClosingCountLemmas.{by_change, device_of_closing, device_of_sealing, device_of_store, is_stopped, not_stopped, ok_told, seal_goes_on, seal_refuses, unrefused}
+use Rattle.recfile.proofs.ClosingCountLemmas.{by_change, device_of_closing, device_of_sealing, device_of_store, is_stopped, moments_told, not_stopped, ok_told, seal_goes_on, seal_refuses, seal_seals, sealed_state, unrefused}
 use Rattle.recfile.proofs.KeptLemmas.{has_records, kept_so}
 use Rattle.recfile.proofs.kept_file.close_table.Given as given
 use Rattle.recfile.proofs.kept_file.close_table.Goals as goal
@@ -39,6 +39,15 @@ module _ (g : given.Over) (c : In_default g) where
   going unsealed tail = by_change c.args.table.pages.changed
       (λ changed. seal_goes_on WriteFault _ _ c.args.table.pages.guard c.seal.new.self.pages.guard unsealed (c.in_default.ensures.guard changed tail))
       (λ idle. ap is_stopped ((c.in_default.ensures.idle idle).1 ∙ unsealed))
+
+pub returns-in-Ok-clause-called : goal.returns-in-Ok-clause-called
+returns-in-Ok-clause-called g c unsealed tail changed =
+    let store = c.in-Ok.store in
+    let new = c.seal.new.self.pages.guard in
+    let guard = c.in-Ok.ensures.allowed (c.in_default.ensures.allowed 0 unsealed tail) in
+    let sealed = seal_seals WriteFault _ _ c.args.table.pages.guard new unsealed (c.in_default.ensures.guard changed tail) in
+    let moments = moments_told c.finish-disk.result.1 (g.D.DiskState.moment store.disk) (g.D.DiskState.moment c.finish-disk.result.0) (c.finish-disk.ensures.moments (sealed_state store.state store.kept store.refusals new guard sealed)) in
+    subst (λ (r : Result (Unit {0}) FileFault). OnOk r (3 ≤ g.D.DiskState.moment c.finish-disk.result.0)) (sym c.told.ensures) (ok_told c.finish-disk.result.1 (3 ≤ g.D.DiskState.moment c.finish-disk.result.0) moments)
 
 pub returns-in-Ok-clause-device : goal.returns-in-Ok-clause-device
 returns-in-Ok-clause-device g c unsealed tail =

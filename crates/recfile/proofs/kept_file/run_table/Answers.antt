@@ -32,10 +32,10 @@ module _ (g : given.Over) (c : After-abandon-table g) where
       ap (λ (t : TableView). t.pages.steady) c.abandon-table.ensures ∙ (session steady uncounted).asks.sound ∙ sound steady uncounted
 
   same_opening : c.abandon-table.result.pages.opening ≡ c.args.table.pages.opening
-  same_opening = ap (λ (t : TableView). t.pages.opening) c.abandon-table.ensures ∙ ap (λ (o : Origin). o.opening) c.run_session-end.ensures.origin ∙ ap (λ (f : OpenFile TableView). f.table.pages.opening) c.new-file.ensures
+  same_opening = ap (λ (t : TableView). t.pages.opening) c.abandon-table.ensures ∙ ap (λ (o : Origin). o.opening) c.run_session-end.ensures.moves ∙ ap (λ (f : OpenFile TableView). f.table.pages.opening) c.new-file.ensures
 
   same_order : c.run_session-end.new.file.table.tree.order ≡ c.args.table.tree.order
-  same_order = ap (λ (o : Origin). o.order) c.run_session-end.ensures.origin ∙ ap (λ (f : OpenFile TableView). f.table.tree.order) c.new-file.ensures
+  same_order = ap (λ (o : Origin). o.order) c.run_session-end.ensures.moves ∙ ap (λ (f : OpenFile TableView). f.table.tree.order) c.new-file.ensures
 
 pub returns-in-Ok-clause-ran : goal.returns-in-Ok-clause-ran
 returns-in-Ok-clause-ran g c = (
@@ -51,6 +51,7 @@ returns-in-Ok-clause-ran g c = (
     fault = c.close_kept.ensures.fault;
     untried = tt;
   },
+  refl,
 )
 
 pub returns-in-Err-clause-ran : goal.returns-in-Err-clause-ran
@@ -67,15 +68,16 @@ returns-in-Err-clause-ran g c = (
     fault = tt;
     untried = refl;
   },
+  refl,
 )
 
 -- no call was refused in the session, and the file has no tail
 module _ (g : given.Over) (c : After-abandon-table g) where
   same_guard : c.abandon-table.result.pages.guard ≡ c.args.table.pages.guard
-  same_guard = ap (λ (t : TableView). t.pages.guard) c.abandon-table.ensures ∙ ap (λ (o : Origin). o.guard) c.run_session-end.ensures.origin ∙ ap (λ (f : OpenFile TableView). f.table.pages.guard) c.new-file.ensures
+  same_guard = ap (λ (t : TableView). t.pages.guard) c.abandon-table.ensures ∙ ap (λ (o : Origin). o.guard) c.run_session-end.ensures.moves ∙ ap (λ (f : OpenFile TableView). f.table.pages.guard) c.new-file.ensures
 
   same_tail : c.abandon-table.result.pages.tail ≡ c.args.table.pages.tail
-  same_tail = ap (λ (t : TableView). t.pages.tail) c.abandon-table.ensures ∙ ap (λ (o : Origin). o.tail) c.run_session-end.ensures.origin ∙ ap (λ (f : OpenFile TableView). f.table.pages.tail) c.new-file.ensures
+  same_tail = ap (λ (t : TableView). t.pages.tail) c.abandon-table.ensures ∙ ap (λ (o : Origin). o.tail) c.run_session-end.ensures.moves ∙ ap (λ (f : OpenFile TableView). f.table.pages.tail) c.new-file.ensures
 
 pub returns-in-Ok-clause-counted : goal.returns-in-Ok-clause-counted
 unfolding returns-in-Ok-clause-ran

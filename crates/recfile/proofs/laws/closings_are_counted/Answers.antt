@@ -19,3 +19,14 @@ returns-clause-unfailed c = λ before less closed.
 
 pub returns-clause-twice : goal.returns-clause-twice
 returns-clause-twice c = record { again = true; failures = refl; once = λ never. absurd (cc never) }
+
+-- one call more counts one at most
+one_at_most : (before after : ℕ) (again : Bool) → after ≡ counted before again → before + 1 < after → ⊥
+one_at_most before after true is more = grind (arith, nat_tests)
+one_at_most before after false is more = omega (arith, is, more)
+
+pub returns-clause-thrice : goal.returns-clause-thrice
+returns-clause-thrice c = λ closed. one_at_most 4 6 closed.again closed.failures (omega arith)
+
+pub returns-clause-no_memory : goal.returns-clause-no_memory
+returns-clause-no_memory c = λ closed. one_at_most 3 5 closed.again closed.failures (omega arith)

@@ -31,11 +31,11 @@ module _ (g : given.Over) (c : After-abandon-table g) where
       ap (λ (t : TableView). t.pages.steady) c.abandon-table.ensures ∙ (session steady uncounted).asks.sound ∙ sound steady uncounted
 
   same_shapes : c.abandon-table.result.pages.shapes ≡ c.args.table.pages.shapes
-  same_shapes = ap (λ (t : TableView). t.pages.shapes) c.abandon-table.ensures ∙ ap (λ (o : Origin). o.shapes) c.run_session-end.ensures.origin ∙ ap (λ (f : OpenFile TableView). f.table.pages.shapes) c.new-file.ensures
+  same_shapes = ap (λ (t : TableView). t.pages.shapes) c.abandon-table.ensures ∙ ap (λ (o : Origin). o.shapes) c.run_session-end.ensures.moves ∙ ap (λ (f : OpenFile TableView). f.table.pages.shapes) c.new-file.ensures
 
   -- the table that is closed is of one origin with the one that was opened
   made : (store : g.row.S.Denot) → origin_of c.args.table ≡ opened_in g.S.StoreState c.args.table.tree.order store → origin_of c.abandon-table.result ≡ opened_in g.S.StoreState c.args.table.tree.order store
-  made store is = ap origin_of c.abandon-table.ensures ∙ c.run_session-end.ensures.origin ∙ ap (λ (f : OpenFile TableView). origin_of f.table) c.new-file.ensures ∙ is
+  made store is = ap origin_of c.abandon-table.ensures ∙ c.run_session-end.ensures.moves ∙ ap (λ (f : OpenFile TableView). origin_of f.table) c.new-file.ensures ∙ is
 
 pub returns-in-Ok-clause-asked : goal.returns-in-Ok-clause-asked
 returns-in-Ok-clause-asked g c = c.close_in.ensures.asked ∙ same_shapes g (goal.at.returns-in-Ok-clause-asked g c).After-abandon-table
@@ -58,6 +58,7 @@ returns-in-Ok-clause-ran g c store is = record {
       fault = c.close_in.ensures.fault;
       untried = tt;
     },
+    refl,
   );
   failures = c.close_in.ensures.device ∙ ap (λ (t : TableView). counted t.pages.failures (by_device c.close_in.result.unclosed)) c.abandon-table.ensures;
   written = (
@@ -82,6 +83,7 @@ returns-in-Err-clause-ran g c store is = record {
       fault = tt;
       untried = refl;
     },
+    refl,
   );
   failures = c.abandon.ensures.failures ∙ ap (λ (t : TableView). t.pages.failures) c.abandon-table.ensures;
   written = stays_by g.S.StoreState c.args.table.tree.order store c.abandon.result c.abandon-table.result (made g (goal.at.returns-in-Err-clause-ran g c).After-abandon-table store is) c.abandon.ensures.pages c.abandon.ensures.tail c.abandon.ensures.steady c.abandon.ensures.opening c.abandon.ensures.writes c.abandon.ensures.journal c.abandon.ensures.guard;

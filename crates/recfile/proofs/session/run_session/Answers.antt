@@ -1,5 +1,7 @@
 use Rattle.std.proofs.Common.{Result, Ok, Err, IfOk, IfErr, MatchResult}
-use Rattle.record_file.specs.Runs.{seen}
+use Rattle.record_file.specs.Runs.{seen_as}
+use Rattle.recfile.specs.Ending.{end_cause}
+use Rattle.recfile.proofs.CallRunLemmas.{ending_as}
 use Rattle.recfile.proofs.session.run_session.Goals as goal
 
 matched : {A F : Type 0} (answer : Result A F) (P : A → Type 0) (Q : F → Type 0) → IfOk answer P → IfErr answer Q → MatchResult answer P Q
@@ -8,11 +10,14 @@ matched (Err x) P Q ok err = err
 
 pub returns-clause-session : goal.returns-clause-session
 returns-clause-session g c = (
-  seen g.T.TableState c.run_feed-script.new.file,
+  seen_as g.K.Keeper.keeps g.T.TableState c.run_feed-script.new.file,
   record {
     script = c.run_feed-script.ensures.ran;
     ending = matched c.end_all-ended.result _ _ c.end_all-ended.ensures.ended c.end_all-ended.ensures.stopped;
-    asks = c.end_all-ended.ensures.asks;
+    asks = ending_as g.T.TableState g.K.Keeper.keeps c.run_feed-script.new.file c.end_all-ended.new.file (end_cause c.end_all-ended.result) c.end_all-ended.ensures.asks;
     records = c.end_all-ended.ensures.records;
   },
 )
+
+pub returns-clause-moves : goal.returns-clause-moves
+returns-clause-moves g c = g.met.K.Keeper.moves_on _ _ _ c.run_feed-script.ensures.moves (g.met.K.Keeper.moves_none _ _ c.end_all-ended.ensures.origin)

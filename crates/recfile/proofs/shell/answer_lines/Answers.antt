@@ -1,7 +1,7 @@
 use Rattle.std.proofs.Common.{◌≡◌, ℕ, List, [], ◌∷◌, ◌++◌, ◌||◌, Result, Err, MatchResult, refl, sym, ap, subst, ◌∙◌, append_assoc, append-nil}
 use Rattle.std.proofs.lemmas.Result.{err_from_is_err_and}
 use Rattle.command_text.specs.Script.{ended_lines}
-use Rattle.record_file.specs.Runs.{seen}
+use Rattle.record_file.specs.Runs.{seen_as}
 use Rattle.recfile.specs.declared.script.RunFault.{RunFault}
 use Rattle.recfile.specs.Shell.{AnsweredSoFar, StopsAt}
 use Rattle.recfile.specs.Streams.{run_write_fault}
@@ -20,9 +20,9 @@ loop-last-init g c = record {
   answered = λ held old taken so_far. (
     [],
     refl,
-    subst (λ (text : List ℕ). AnsweredSoFar c.args.strict held (g.W.CountedWrite.held c.args.writer.now) old (seen g.T.TableState c.args.file.now) text c.args.part.now c.args.counts.now) (sym (append-nil taken)) so_far,
+    subst (λ (text : List ℕ). AnsweredSoFar c.args.strict held (g.W.CountedWrite.held c.args.writer.now) old (seen_as g.K.Keeper.keeps g.T.TableState c.args.file.now) text c.args.part.now c.args.counts.now) (sym (append-nil taken)) so_far,
   );
-  origin = refl;
+  moves = g.met.K.Keeper.moves_none _ _ refl;
   calls = refl;
 }
 
@@ -34,10 +34,10 @@ loop-last-preserved g c = record {
       let after : List ℕ = c.in-Some.after.now in (
         known.0 ++ (last ++ 10 ∷ []),
         cut_off c.args.bytes.now known.0 c.loop-last.rest.now last after known.1 c.in-Some.ensures.0 ∙ regrouped known.0 last after,
-        subst (λ (text : List ℕ). AnsweredSoFar c.args.strict held (g.W.CountedWrite.held c.answer_line.new.writer) old (seen g.T.TableState c.answer_line.new.file) text c.end-said.new.self c.answer_line.new.counts) (append_assoc taken known.0 (last ++ 10 ∷ []))
+        subst (λ (text : List ℕ). AnsweredSoFar c.args.strict held (g.W.CountedWrite.held c.answer_line.new.writer) old (seen_as g.K.Keeper.keeps g.T.TableState c.answer_line.new.file) text c.end-said.new.self c.answer_line.new.counts) (append_assoc taken known.0 (last ++ 10 ∷ []))
             (so_far_ended c.args.strict held (g.W.CountedWrite.held c.loop-last.writer) (g.W.CountedWrite.held c.answer_line.new.writer) old _ _ (taken ++ known.0) last c.loop-last.part c.end-said.new.self c.loop-last.counts c.answer_line.new.counts c.end-said.result known.2 c.in-Some.ensures.1 c.end-said.ensures.said c.end-said.ensures.next c.in_ok-answer_line.ensures.answered c.answer_line.ensures.done c.answer_line.ensures.lines),
       );
-  origin = c.answer_line.ensures.origin ∙ c.loop-last.invariant.origin;
+  moves = g.met.K.Keeper.moves_on _ _ _ c.loop-last.invariant.moves c.answer_line.ensures.moves;
   calls = c.in_ok-answer_line.ensures.failed ∙ c.loop-last.invariant.calls;
 }
 
@@ -47,7 +47,7 @@ returns-in_err-answer_line-clause-answered g c held old taken so_far =
     let last : List ℕ = c.in-Some.last.now in
     let after : List ℕ = c.in-Some.after.now in
     let told = err_from_is_err_and c.from_residual.result c.from_residual.ensures.1 in
-    subst (λ (r : Result (Unit {0}) RunFault). MatchResult r (λ _. AnsweredSoFar c.args.strict held (g.W.CountedWrite.held c.answer_line.new.writer) old (seen g.T.TableState c.answer_line.new.file) (taken ++ c.args.bytes.now) c.end-said.new.self c.answer_line.new.counts) (λ fault. StopsAt c.args.strict held (g.W.CountedWrite.held c.answer_line.new.writer) old (seen g.T.TableState c.answer_line.new.file) (ended_lines (taken ++ c.args.bytes.now)) fault)) (sym (told.1 ∙ ap Err told.2))
+    subst (λ (r : Result (Unit {0}) RunFault). MatchResult r (λ _. AnsweredSoFar c.args.strict held (g.W.CountedWrite.held c.answer_line.new.writer) old (seen_as g.K.Keeper.keeps g.T.TableState c.answer_line.new.file) (taken ++ c.args.bytes.now) c.end-said.new.self c.answer_line.new.counts) (λ fault. StopsAt c.args.strict held (g.W.CountedWrite.held c.answer_line.new.writer) old (seen_as g.K.Keeper.keeps g.T.TableState c.answer_line.new.file) (ended_lines (taken ++ c.args.bytes.now)) fault)) (sym (told.1 ∙ ap Err told.2))
     (stops_ended c.args.strict held (g.W.CountedWrite.held c.loop-last.writer) (g.W.CountedWrite.held c.answer_line.new.writer) old _ _ (taken ++ known.0) last after (taken ++ c.args.bytes.now) c.loop-last.part c.loop-last.counts c.answer_line.new.counts c.end-said.result c.in_err-answer_line.field-0.0 known.2 c.in-Some.ensures.1 c.end-said.ensures.said
     (ap (λ (text : List ℕ). taken ++ text) (cut_off c.args.bytes.now known.0 c.loop-last.rest.now last after known.1 c.in-Some.ensures.0) ∙ sym (append_assoc taken known.0 (last ++ 10 ∷ after)))
     c.in_err-answer_line.ensures.stops c.answer_line.ensures.done c.answer_line.ensures.lines)
@@ -55,8 +55,8 @@ returns-in_err-answer_line-clause-answered g c held old taken so_far =
 pub returns-clause-answered : goal.returns-clause-answered
 returns-clause-answered g c held old taken so_far =
     let known = c.loop-last.invariant.answered held old taken so_far in
-    subst (λ (text : List ℕ). AnsweredSoFar c.args.strict held (g.W.CountedWrite.held c.loop-last.writer) old (seen g.T.TableState c.loop-last.file) text c.push.new.self c.loop-last.counts) (append_assoc taken known.0 c.loop-last.rest.now ∙ ap (λ (text : List ℕ). taken ++ text) (sym known.1))
-    (so_far_on c.args.strict held (g.W.CountedWrite.held c.loop-last.writer) old (seen g.T.TableState c.loop-last.file) (taken ++ known.0) c.loop-last.rest.now c.loop-last.part c.push.new.self c.loop-last.counts known.2 c.in_default.ensures c.push.ensures)
+    subst (λ (text : List ℕ). AnsweredSoFar c.args.strict held (g.W.CountedWrite.held c.loop-last.writer) old (seen_as g.K.Keeper.keeps g.T.TableState c.loop-last.file) text c.push.new.self c.loop-last.counts) (append_assoc taken known.0 c.loop-last.rest.now ∙ ap (λ (text : List ℕ). taken ++ text) (sym known.1))
+    (so_far_on c.args.strict held (g.W.CountedWrite.held c.loop-last.writer) old (seen_as g.K.Keeper.keeps g.T.TableState c.loop-last.file) (taken ++ known.0) c.loop-last.rest.now c.loop-last.part c.push.new.self c.loop-last.counts known.2 c.in_default.ensures c.push.ensures)
 
 pub returns-in_err-answer_line-clause-failed : goal.returns-in_err-answer_line-clause-failed
 returns-in_err-answer_line-clause-failed g c =

@@ -2,7 +2,7 @@ use Rattle.std.proofs.Common.{rules, ◌≡◌, ℕ, ◌<◌, ◌≤◌, List, [
 use Rattle.std.proofs.lemmas.Grind.{common_steps}
 use Rattle.std.proofs.lemmas.Result.{err_from_is_err_and}
 use Rattle.std.proofs.KnownBytes.{Consumes-nil, Consumes-kept, Consumes-trans}
-use Rattle.record_file.specs.Runs.{seen}
+use Rattle.record_file.specs.Runs.{seen_as}
 use Rattle.recfile.specs.Streams.{CallsMade}
 use Rattle.recfile.proofs.StreamLemmas.{tells_last}
 use Rattle.recfile.proofs.ShellLemmas.{come_ended, is_answered, none_so_far, ran_last, ran_to, turns_on}
@@ -20,7 +20,7 @@ reads_spent turn n most all fits = omega (arith, all, fits)
 pub read_answered-requires : goal.read_answered-requires
 read_answered-requires g c = λ κs lives. (
   lives.0,
-  (lives.1.0, (lives.1.1, is_answered g.start c.args.strict (g.R.CountedRead.left c.args.reader.now) (g.R.CountedRead.left c.loop-turn.reader) (g.W.CountedWrite.held c.args.writer.now) (g.W.CountedWrite.held c.loop-turn.writer) (seen g.T.TableState c.args.file.now) (seen g.T.TableState c.loop-turn.file) c.loop-turn.invariant.0 c.loop-turn.part c.loop-turn.counts c.requires.1.1.1.1 c.loop-turn.invariant.1 c.loop-turn.invariant.2)),
+  (lives.1.0, (lives.1.1, is_answered g.start c.args.strict (g.R.CountedRead.left c.args.reader.now) (g.R.CountedRead.left c.loop-turn.reader) (g.W.CountedWrite.held c.args.writer.now) (g.W.CountedWrite.held c.loop-turn.writer) (seen_as g.K.Keeper.keeps g.T.TableState c.args.file.now) (seen_as g.K.Keeper.keeps g.T.TableState c.loop-turn.file) c.loop-turn.invariant.0 c.loop-turn.part c.loop-turn.counts c.requires.1.1.1.1.1 c.loop-turn.invariant.1 c.loop-turn.invariant.2)),
 )
 
 pub returns-in-Err-clause-ran : goal.returns-in-Err-clause-ran
@@ -38,14 +38,14 @@ returns-in-Ok-eq0-clause-ran g c =
     let none : c.in-Ok-eq0.field-0 ≡ 0 = c.in-Ok-eq0.field-0-test in
     let room : 0 < length c.read_answered.new.to = omega arith in
     ran_last c.args.strict (g.R.CountedRead.left c.args.reader.now) (g.R.CountedRead.left c.loop-turn.reader) (g.R.CountedRead.left c.read_answered.new.reader) (g.W.CountedWrite.held c.args.writer.now) (g.W.CountedWrite.held c.answer_last.new.writer) _ _ known.0 (take c.in-Ok-eq0.field-0 c.read_answered.new.to) c.answer_last.result known.1 c.in-Ok-eq0.ensures.bytes.0 (none_taken c.in-Ok-eq0.field-0 c.read_answered.new.to none) (c.in-Ok-eq0.ensures.bytes.1 none room)
-    (c.answer_last.ensures.answered (g.W.CountedWrite.held c.args.writer.now) (seen g.T.TableState c.args.file.now) known.0 known.2)
+    (c.answer_last.ensures.answered (g.W.CountedWrite.held c.args.writer.now) (seen_as g.K.Keeper.keeps g.T.TableState c.args.file.now) known.0 known.2)
 
 pub returns-in_err-answer_lines-in-Ok-clause-ran : goal.returns-in_err-answer_lines-in-Ok-clause-ran
 returns-in_err-answer_lines-in-Ok-clause-ran g c =
     let known = c.loop-turn.invariant in
     let told = err_from_is_err_and c.from_residual-in_err-answer_lines-in-Ok.result c.from_residual-in_err-answer_lines-in-Ok.ensures.1 in
     ran_to c.args.strict (g.R.CountedRead.left c.args.reader.now) (g.R.CountedRead.left c.loop-turn.reader) (g.R.CountedRead.left c.read_answered.new.reader) (g.W.CountedWrite.held c.args.writer.now) (g.W.CountedWrite.held c.answer_lines.new.writer) _ _ known.0 (take c.in-Ok.n c.read_answered.new.to) c.from_residual-in_err-answer_lines-in-Ok.result c.in_err-answer_lines-in-Ok.field-0.0 (told.1 ∙ ap Err told.2) known.1 c.in-Ok.ensures.bytes.0
-    (c.in_err-answer_lines-in-Ok.ensures.answered (g.W.CountedWrite.held c.args.writer.now) (seen g.T.TableState c.args.file.now) known.0 known.2)
+    (c.in_err-answer_lines-in-Ok.ensures.answered (g.W.CountedWrite.held c.args.writer.now) (seen_as g.K.Keeper.keeps g.T.TableState c.args.file.now) known.0 known.2)
 
 pub returns-clause-ran : goal.returns-clause-ran
 returns-clause-ran g c =
@@ -63,7 +63,7 @@ loop-turn-init g c = (
   Consumes-nil (g.R.CountedRead.left c.args.reader.now),
   none_so_far c.args.strict (g.W.CountedWrite.held c.args.writer.now) _ c.in_ok-part.part _ (search rules) refl,
   omega arith,
-  refl,
+  g.met.K.Keeper.moves_none _ _ refl,
   refl,
   refl,
 )
@@ -74,9 +74,9 @@ loop-turn-preserved g c =
     let bytes : List ℕ = take c.in-Ok.n c.read_answered.new.to in (
       known.0 ++ bytes,
       Consumes-trans (g.R.CountedRead.left c.args.reader.now) (g.R.CountedRead.left c.loop-turn.reader) (g.R.CountedRead.left c.read_answered.new.reader) known.0 bytes known.1 c.in-Ok.ensures.bytes.0,
-      c.in_ok-answer_lines-in-Ok.ensures.answered (g.W.CountedWrite.held c.args.writer.now) (seen g.T.TableState c.args.file.now) known.0 known.2,
+      c.in_ok-answer_lines-in-Ok.ensures.answered (g.W.CountedWrite.held c.args.writer.now) (seen_as g.K.Keeper.keeps g.T.TableState c.args.file.now) known.0 known.2,
       turns_on c.loop-turn.turn c.in-Ok.n known.0 bytes known.3 (taken_length c.in-Ok.n c.read_answered.new.to (omega (arith, c.in-Ok.ensures.bound))) (omega (arith, c.in-Ok.n-test.1)),
-      c.answer_lines.ensures.origin ∙ known.4,
+      g.met.K.Keeper.moves_on _ _ _ known.4 c.answer_lines.ensures.moves,
       ap (λ (k : CallsMade). k.read_failed) c.in_ok-answer_lines-in-Ok.ensures.failed ∙ c.in-Ok.ensures.failed.read ∙ known.5,
       ap (λ (k : CallsMade). k.write_failed) c.in_ok-answer_lines-in-Ok.ensures.failed ∙ c.in-Ok.ensures.failed.written ∙ known.6,
     )

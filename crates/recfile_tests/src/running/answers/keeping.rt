@@ -14,14 +14,29 @@ struct KeptInMemory {
     fault: KeeperFault,
 }
 
-impl Keeper for KeptInMemory {
-    ghost use Rattle.std.specs.Prelude.{⊤};
+impl<T: Table> Keeper<T> for KeptInMemory {
+    ghost use Rattle.std.specs.Prelude.{◌≡◌, ⊤, true};
+    ghost use mathlib.Core.Path.{◌∙◌};
 
-    ghost kept = { λ keeper. keeper.kept.items };
+    ghost keeps = { true };
 
-    ghost answers = { λ _ _ _ _. ⊤ };
+    ghost answers = { λ _ _ _ _ _. ⊤ };
 
-    fn keep(&mut self, writes: &[(Key, Option<Record>)]) -> Result<(), KeeperFault> {
+    ghost moves = { λ a b. T.origin b ≡ T.origin a };
+
+    ghost moves_none = { λ a b same. same };
+
+    ghost moves_on = { λ a b c first second. second ∙ first };
+
+    fn keeps(&self) -> bool {
+        true
+    }
+
+    fn keep(
+        &mut self,
+        _table: &mut T,
+        writes: &[(Key, Option<Record>)],
+    ) -> Result<(), KeeperFault> {
         if self.left == 0 {
             return Err(self.fault);
         }

@@ -8,7 +8,7 @@ use Rattle.record_file.specs.declared.call.Call.TheVariants as call
 use Rattle.record_file.specs.declared.call.Answer.TheVariants as answer
 use Rattle.record_file.specs.Calls.{Makes}
 use Rattle.record_file.proofs.LogGrowthLemmas.{tells_none}
-use Rattle.record_file.proofs.CallStepLemmas.{same_but_file, quiet_makes, asks_makes, refused_seen, get_wants_none, listed_cause}
+use Rattle.record_file.proofs.CallStepLemmas.{keeping, same_but_file, same_commits, quiet_makes, asks_makes, refused_seen, get_wants_none, listed_cause}
 use Rattle.record_file.proofs.call.ask.Goals as goal
 
 pub returns-in-Begin : goal.returns-in-Begin
@@ -18,7 +18,7 @@ returns-in-Begin g c = λ was is.
     let told = c.begin.ensures in
     let answered = answer.Begin c.begin.result in
     subst (λ (k : Call). Makes old k answered new) (sym c.in-Begin.is)
-    (let same = same_but_file g.T.TableState c.args.file.now c.begin.new.self told.table told.log in
+    (let same = same_but_file g.T.TableState c.args.file.now c.begin.new.self told.table told.log false in
     quiet_makes old new call.Begin answered (Begin c.begin.result) refl same refl was is ((refl, refl, same), told.step))
 
 pub returns-in-Savepoint : goal.returns-in-Savepoint
@@ -28,7 +28,7 @@ returns-in-Savepoint g c = λ was is.
     let told = c.savepoint.ensures in
     let answered = answer.Savepoint c.savepoint.result in
     subst (λ (k : Call). Makes old k answered new) (sym c.in-Savepoint.is)
-    (let same = same_but_file g.T.TableState c.args.file.now c.savepoint.new.self told.table told.log in
+    (let same = same_but_file g.T.TableState c.args.file.now c.savepoint.new.self told.table told.log false in
     quiet_makes old new (call.Savepoint c.in-Savepoint.tx) answered (Savepoint c.in-Savepoint.tx c.savepoint.result) refl same refl was is ((refl, refl, same), told.step))
 
 pub returns-in-Release : goal.returns-in-Release
@@ -38,7 +38,7 @@ returns-in-Release g c = λ was is.
     let told = c.release.ensures in
     let answered = answer.Release c.release.result in
     subst (λ (k : Call). Makes old k answered new) (sym c.in-Release.is)
-    (let same = same_but_file g.T.TableState c.args.file.now c.release.new.self told.table told.log in
+    (let same = same_but_file g.T.TableState c.args.file.now c.release.new.self told.table told.log false in
     quiet_makes old new (call.Release c.in-Release.tx c.in-Release.n) answered (Release c.in-Release.tx c.in-Release.n c.release.result) refl same refl was is ((refl, refl, same), told.step))
 
 pub returns-in-Commit : goal.returns-in-Commit
@@ -48,8 +48,8 @@ returns-in-Commit g c = λ was is.
     let told = c.commit.ensures in
     let answered = answer.Commit c.commit.result in
     subst (λ (k : Call). Makes old k answered new) (sym c.in-Commit.is)
-    (let same = same_but_file g.T.TableState c.args.file.now c.commit.new.self told.table told.log in
-    quiet_makes old new (call.Commit c.in-Commit.tx) answered (Commit c.in-Commit.tx c.commit.result) refl same refl was is ((refl, refl, same), told.step))
+    (let same = same_but_file g.T.TableState c.args.file.now c.commit.new.self told.table told.log false in
+    quiet_makes old new (call.Commit c.in-Commit.tx) answered (Commit c.in-Commit.tx c.commit.result) refl same refl was is ((refl, refl, keeping old new same), told.step))
 
 pub returns-in-Put : goal.returns-in-Put
 returns-in-Put g c = λ was is.
@@ -58,7 +58,7 @@ returns-in-Put g c = λ was is.
     let told = c.put.ensures in
     let answered = answer.Put c.put.result in
     subst (λ (k : Call). Makes old k answered new) (sym c.in-Put.is)
-    (asks_makes old new (call.Put c.in-Put.tx c.in-Put.key c.in-Put.value) answered (Put c.in-Put.tx c.in-Put.key c.in-Put.value c.put.result) (by_device (cause_by put_refusal c.put.result)) told.memory.0 refl told.table.device told.memory.1 told.table.soundness told.table.told told.damaged was is
+    (asks_makes old new (call.Put c.in-Put.tx c.in-Put.key c.in-Put.value) answered (Put c.in-Put.tx c.in-Put.key c.in-Put.value c.put.result) (by_device (cause_by put_refusal c.put.result)) told.memory.0 refl told.table.device told.memory.1 told.table.soundness refl (same_commits false g.T.TableState _ _ told.table.soundness told.table.origin) told.table.told told.damaged was is
     ((refl, told.memory.2), record { step = told.step; refused = refused_seen g.T.TableState c.args.file.now c.put.new.self (key_refusal true c.args.file.now.file c.in-Put.tx.0 c.in-Put.key) (refusal_by put_refusal c.put.result) told.refused; refused_only = told.refused_only; accepted = told.accepted; opening = told.table.opening; err = told.err; damages = told.table.damages; asks = told.asks }))
 
 pub returns-in-Claim : goal.returns-in-Claim
@@ -68,7 +68,7 @@ returns-in-Claim g c = λ was is.
     let told = c.claim.ensures in
     let answered = answer.Claim c.claim.result in
     subst (λ (k : Call). Makes old k answered new) (sym c.in-Claim.is)
-    (asks_makes old new (call.Claim c.in-Claim.tx c.in-Claim.key) answered (Claim c.in-Claim.tx c.in-Claim.key c.claim.result) (by_device (cause_by claim_refusal c.claim.result)) told.memory.0 refl told.table.device told.memory.1 told.table.soundness told.table.told told.damaged was is
+    (asks_makes old new (call.Claim c.in-Claim.tx c.in-Claim.key) answered (Claim c.in-Claim.tx c.in-Claim.key c.claim.result) (by_device (cause_by claim_refusal c.claim.result)) told.memory.0 refl told.table.device told.memory.1 told.table.soundness refl (same_commits false g.T.TableState _ _ told.table.soundness told.table.origin) told.table.told told.damaged was is
     ((refl, told.memory.2), record { step = told.step; refused = refused_seen g.T.TableState c.args.file.now c.claim.new.self (key_refusal true c.args.file.now.file c.in-Claim.tx.0 c.in-Claim.key) (refusal_by claim_refusal c.claim.result) told.refused; refused_only = told.refused_only; accepted = told.accepted; opening = told.table.opening; err = told.err; damages = told.named; asks = told.asks }))
 
 pub returns-in-Remove : goal.returns-in-Remove
@@ -78,7 +78,7 @@ returns-in-Remove g c = λ was is.
     let told = c.remove.ensures in
     let answered = answer.Remove c.remove.result in
     subst (λ (k : Call). Makes old k answered new) (sym c.in-Remove.is)
-    (asks_makes old new (call.Remove c.in-Remove.tx c.in-Remove.key) answered (Remove c.in-Remove.tx c.in-Remove.key c.remove.result) (by_device (cause_by remove_refusal c.remove.result)) told.memory.0 refl told.table.device told.memory.1 told.table.soundness told.table.told told.damaged was is
+    (asks_makes old new (call.Remove c.in-Remove.tx c.in-Remove.key) answered (Remove c.in-Remove.tx c.in-Remove.key c.remove.result) (by_device (cause_by remove_refusal c.remove.result)) told.memory.0 refl told.table.device told.memory.1 told.table.soundness refl (same_commits false g.T.TableState _ _ told.table.soundness told.table.origin) told.table.told told.damaged was is
     ((refl, told.memory.2), record { step = told.step; refused = refused_seen g.T.TableState c.args.file.now c.remove.new.self (key_refusal true c.args.file.now.file c.in-Remove.tx.0 c.in-Remove.key) (refusal_by remove_refusal c.remove.result) told.refused; refused_only = told.refused_only; accepted = told.accepted; opening = told.table.opening; err = told.err; damages = told.table.damages; asks = told.asks }))
 
 pub returns-in-Get : goal.returns-in-Get
@@ -88,7 +88,7 @@ returns-in-Get g c = λ was is.
     let told = c.get.ensures in
     let answered = answer.Get c.get.result in
     subst (λ (k : Call). Makes old k answered new) (sym c.in-Get.is)
-    (asks_makes old new (call.Get c.in-Get.tx c.in-Get.key) answered (Get c.in-Get.tx c.in-Get.key c.get.result) (by_device (cause_by get_refusal c.get.result)) false refl told.table.device told.memory told.table.soundness (tells_none old.sound old.records new.records old.log new.log told.table.same.0 told.table.same.2) told.damaged was is
+    (asks_makes old new (call.Get c.in-Get.tx c.in-Get.key) answered (Get c.in-Get.tx c.in-Get.key c.get.result) (by_device (cause_by get_refusal c.get.result)) false refl told.table.device told.memory told.table.soundness refl (same_commits false g.T.TableState _ _ told.table.soundness told.table.origin) (tells_none old.sound old.records new.records old.log new.log told.table.same.0 told.table.same.2) told.damaged was is
     ((refl, get_wants_none c.get.result), record { step = told.step; refused = refused_seen g.T.TableState c.args.file.now c.get.new.self (key_refusal false c.args.file.now.file c.in-Get.tx.0 c.in-Get.key) (refusal_by get_refusal c.get.result) told.refused; refused_only = told.refused_only; same = told.table.same; damages = told.table.damages; asks = told.asks }))
 
 pub returns-in-RollbackTo : goal.returns-in-RollbackTo
@@ -98,7 +98,7 @@ returns-in-RollbackTo g c = λ was is.
     let told = c.rollback_to.ensures in
     let answered = answer.RollbackTo c.rollback_to.result in
     subst (λ (k : Call). Makes old k answered new) (sym c.in-RollbackTo.is)
-    (asks_makes old new (call.RollbackTo c.in-RollbackTo.tx c.in-RollbackTo.n) answered (RollbackTo c.in-RollbackTo.tx c.in-RollbackTo.n c.rollback_to.result) (by_device (cause_by rollback_refusal c.rollback_to.result)) (by_memory (cause_by rollback_refusal c.rollback_to.result)) refl told.table.device told.memory told.table.soundness told.table.told told.damaged was is
+    (asks_makes old new (call.RollbackTo c.in-RollbackTo.tx c.in-RollbackTo.n) answered (RollbackTo c.in-RollbackTo.tx c.in-RollbackTo.n c.rollback_to.result) (by_device (cause_by rollback_refusal c.rollback_to.result)) (by_memory (cause_by rollback_refusal c.rollback_to.result)) refl told.table.device told.memory told.table.soundness refl (same_commits false g.T.TableState _ _ told.table.soundness told.table.origin) told.table.told told.damaged was is
     ((refl, refl), record { step = told.step; rolled = told.rolled; opening = told.table.opening; refused = refused_seen g.T.TableState c.args.file.now c.rollback_to.new.self (returning_refusal c.args.file.now.file c.in-RollbackTo.tx.0 c.in-RollbackTo.n) (refusal_by rollback_refusal c.rollback_to.result) told.refused; damages = told.table.damages; asks = told.asks }))
 
 pub returns-in-Abort : goal.returns-in-Abort
@@ -108,7 +108,7 @@ returns-in-Abort g c = λ was is.
     let told = c.abort.ensures in
     let answered = answer.Abort c.abort.result in
     subst (λ (k : Call). Makes old k answered new) (sym c.in-Abort.is)
-    (asks_makes old new (call.Abort c.in-Abort.tx) answered (Abort c.in-Abort.tx c.abort.result) (by_device (cause_by abort_refusal c.abort.result)) (by_memory (cause_by abort_refusal c.abort.result)) refl told.table.device told.memory told.table.soundness told.table.told told.damaged was is
+    (asks_makes old new (call.Abort c.in-Abort.tx) answered (Abort c.in-Abort.tx c.abort.result) (by_device (cause_by abort_refusal c.abort.result)) (by_memory (cause_by abort_refusal c.abort.result)) refl told.table.device told.memory told.table.soundness refl (same_commits false g.T.TableState _ _ told.table.soundness told.table.origin) told.table.told told.damaged was is
     ((refl, refl), record { step = told.step; rolled = told.rolled; opening = told.table.opening; refused = refused_seen g.T.TableState c.args.file.now c.abort.new.self (tx_refusal c.args.file.now.file c.in-Abort.tx.0 None) (refusal_by abort_refusal c.abort.result) told.refused; damages = told.table.damages; asks = told.asks }))
 
 pub returns-in-Resume : goal.returns-in-Resume
@@ -118,7 +118,7 @@ returns-in-Resume g c = λ was is.
     let told = c.resume.ensures in
     let answered = answer.Resume c.resume.result in
     subst (λ (k : Call). Makes old k answered new) (sym c.in-Resume.is)
-    (asks_makes old new (call.Resume c.in-Resume.tx) answered (Resume c.in-Resume.tx c.resume.result) (by_device (cause_by resume_refusal c.resume.result)) (by_memory (cause_by resume_refusal c.resume.result)) refl told.table.device told.memory told.table.soundness told.table.told told.damaged was is
+    (asks_makes old new (call.Resume c.in-Resume.tx) answered (Resume c.in-Resume.tx c.resume.result) (by_device (cause_by resume_refusal c.resume.result)) (by_memory (cause_by resume_refusal c.resume.result)) refl told.table.device told.memory told.table.soundness refl (same_commits false g.T.TableState _ _ told.table.soundness told.table.origin) told.table.told told.damaged was is
     ((refl, refl), record { step = told.step; rolled = told.rolled; opening = told.table.opening; refused = refused_seen g.T.TableState c.args.file.now c.resume.new.self (resuming_refusal c.args.file.now.file c.in-Resume.tx.0) (refusal_by resume_refusal c.resume.result) told.refused; damages = told.table.damages; asks = told.asks }))
 
 pub returns-in-KeysOf : goal.returns-in-KeysOf
@@ -192,6 +192,6 @@ returns-in-Entries g c = λ was is.
     let answered = answer.Entries c.entries.result in
     let cause = listed_cause c.entries.result in
     subst (λ (k : Call). Makes old k answered new) (sym c.in-Entries.is)
-    (asks_makes old new call.Entries answered (Entries (listed c.entries.result)) (by_device (cause_by entries_refusal c.entries.result)) told.memory.0 refl told.table.device told.memory.1 told.table.soundness
+    (asks_makes old new call.Entries answered (Entries (listed c.entries.result)) (by_device (cause_by entries_refusal c.entries.result)) told.memory.0 refl told.table.device told.memory.1 told.table.soundness refl (same_commits false g.T.TableState _ _ told.table.soundness told.table.origin)
     (tells_none old.sound old.records new.records old.log new.log told.table.same.0 told.table.same.2) (subst (NeverDamaged old.sound) cause told.damaged) was is
     ((ap by_device cause, λ refused. subst (λ x. IsTrue (by_memory x)) cause (told.memory.2 refused)), record { step = told.step; same = told.table.same; damages = told.table.damages ∙ ap (named_by old.damages) cause; asks = told.asks }))

@@ -30,6 +30,8 @@ returns-clause-begins c = λ old limits kept some is tx one.
         failures = refl;
         refusals = refl;
         sound = refl;
+        logged = refl;
+        commits = λ _. refl;
         told = tells_none old.sound old.records old.records old.log old.log refl refl;
         answer = (
           (refl, refl, refl),

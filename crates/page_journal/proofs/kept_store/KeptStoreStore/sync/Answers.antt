@@ -1,19 +1,29 @@
 use Rattle.std.proofs.Common.{◌∙◌, sym, ap, rules}
+use Rattle.page_journal.specs.Files.{Files}
 use Rattle.page_journal.specs.KeptStores.{KeptStored, old_file_of}
 use Rattle.page_journal.proofs.RefusalLemmas.{passed_on}
 use Rattle.page_journal.proofs.KeptStoreLemmas.{guarded_stays, same_guard}
+use Rattle.page_journal.proofs.LogLemmas.{logs_begin, logs_stays}
+use Rattle.page_journal.proofs.LoggedLemmas.{logged_leaves, opening_of, opening_same}
 use Rattle.page_journal.proofs.kept_store.KeptStoreStore.sync.Goals as goal
 
 pub invariant_of-self-2 : goal.invariant_of-self-2
-invariant_of-self-2 g c = λ st.
-    let d = g.D.DiskState in
-    same_guard d c.self.inside.state c.self.inside.kept.items c.self.inside.disk c.sync.new.self c.sync.new.self c.sync.ensures.1.began
-    (guarded_stays d (old_file_of d c.self.inside.disk) (g.met.D.Disk.counts_now) c.self.inside.state c.self.inside.kept.items c.self.inside.disk c.sync.new.self (c.self.invariant (sym c.sync.ensures.1.steady ∙ st)) c.sync.ensures.1)
+invariant_of-self-2 g c = (
+  c.self.invariant.0,
+  λ st.
+      let d = g.D.DiskState in
+      let i = c.self.invariant.1 (sym c.sync.ensures.1.steady ∙ st) in (
+        same_guard d c.self.inside.state c.self.inside.kept.items c.self.inside.disk c.sync.new.self c.sync.new.self c.sync.ensures.1.began
+            (guarded_stays d (old_file_of d c.self.inside.disk) (g.met.D.Disk.counts_now) c.self.inside.state c.self.inside.kept.items c.self.inside.disk c.sync.new.self i.0 c.sync.ensures.1),
+        logged_leaves d (g.met.D.Disk.counts_now) c.self.inside.log c.self.inside.doubt.items c.self.inside.disk c.sync.new.self (logs_stays d c.self.inside.disk c.self.inside.disk c.sync.new.self (logs_begin d c.self.inside.disk (g.met.D.Disk.only_now c.self.inside.disk)) c.sync.ensures.1) c.sync.ensures.1.began i.1,
+        i.2,
+      ),
+)
 
 pub returns-clause-changes : goal.returns-clause-changes
 returns-clause-changes g c = record {
   steady = search rules;
-  opening = search rules;
+  opening = opening_same g.D.DiskState c.self.inside.log c.self.inside.disk c.sync.new.self c.sync.ensures.1.began (ap (λ (f : Files). f.commits) c.sync.ensures.1.seen) ∙ ap (opening_of g.D.DiskState) c.self.view_is;
   reads = search rules;
   shapes = search rules;
   writes = search rules;

@@ -3,8 +3,8 @@ use Rattle.commit_paper.specs.Steps.{Lengthens}
 use Rattle.page_journal.specs.Steps.{ChangesLog}
 use Rattle.page_journal.specs.declared.commit_call.CommitCall.TheVariants.{Lengthen}
 use Rattle.page_journal.proofs.CommitFateLemmas.{zeroed_log, same_log}
-use Rattle.page_journal.proofs.MemDiskLemmas.{commits_do}
+use Rattle.page_journal.proofs.MemDiskLemmas.{append_does, uncounted}
 use Rattle.page_journal.proofs.mem_disk.MemDiskDisk.lengthen_log.Goals as goal
 
 pub returns-clause-does : goal.returns-clause-does
-returns-clause-does c = (commits_do (ChangesLog (Lengthens c.args.at)) (Lengthen c.args.at c.args.n) c.note.result c.args.self.now c.note.new.self c.note.ensures.ok c.note.ensures.err (zeroed_log c.args.at c.args.n) (λ seen d e changes. changes) (same_log c.args.at), search rules)
+returns-clause-does c = (append_does (ChangesLog (Lengthens c.args.at)) (Lengthen c.args.at c.args.n) c.note_append.result c.args.self.now c.note_append.new.self c.note_append.ensures.ok c.note_append.ensures.err (zeroed_log c.args.at c.args.n) (λ seen d e changes. changes) (same_log c.args.at), uncounted _ c.note_append.result c.args.self.now c.note_append.new.self c.note_append.ensures.ok c.note_append.ensures.err, search rules)

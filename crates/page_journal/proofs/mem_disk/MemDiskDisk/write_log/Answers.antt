@@ -4,17 +4,18 @@ use Rattle.commit_paper.specs.Steps.{Inks}
 use Rattle.page_journal.specs.Steps.{Does, InCommits, ChangesLog}
 use Rattle.page_journal.specs.declared.commit_call.CommitCall.TheVariants.{Write}
 use Rattle.page_journal.proofs.CommitFateLemmas.{written_log, unwritten_log}
-use Rattle.page_journal.proofs.MemDiskLemmas.{mem_ghosts, commits_do, commits_fail}
+use Rattle.page_journal.proofs.MemDiskLemmas.{mem_ghosts, append_does, append_not, uncounted}
 use Rattle.page_journal.proofs.mem_disk.MemDiskDisk.write_log.Goals as goal
 
 pub returns-in-Ok-clause-does : goal.returns-in-Ok-clause-does
 returns-in-Ok-clause-does c =
     let at = c.args.at in
     let same : c.in-Ok.bytes.items ≡ c.args.bytes.now = c.in-Ok.ensures ∙ append-nil c.args.bytes.now in (
-      subst (λ (bytes : List ℕ). Does mem_ghosts (InCommits (ChangesLog (Inks at bytes))) c.args.self.now c.note.new.self) same
-          (commits_do (ChangesLog (Inks at c.in-Ok.bytes.items)) (Write at c.in-Ok.bytes) c.note.result c.args.self.now c.note.new.self c.note.ensures.ok c.note.ensures.err (written_log at c.in-Ok.bytes.items) (λ seen d e changes. changes) (unwritten_log at c.in-Ok.bytes.items)),
+      subst (λ (bytes : List ℕ). Does mem_ghosts (InCommits (ChangesLog (Inks at bytes))) c.args.self.now c.note_append.new.self) same
+          (append_does (ChangesLog (Inks at c.in-Ok.bytes.items)) (Write at c.in-Ok.bytes) c.note_append.result c.args.self.now c.note_append.new.self c.note_append.ensures.ok c.note_append.ensures.err (written_log at c.in-Ok.bytes.items) (λ seen d e changes. changes) (unwritten_log at c.in-Ok.bytes.items)),
+      uncounted _ c.note_append.result c.args.self.now c.note_append.new.self c.note_append.ensures.ok c.note_append.ensures.err,
       search rules,
     )
 
 pub returns-in-Err-clause-does : goal.returns-in-Err-clause-does
-returns-in-Err-clause-does c = (commits_fail (ChangesLog (Inks c.args.at c.args.bytes.now)) c.args.self.now c.fail.new.self c.fail.ensures.counted (unwritten_log c.args.at c.args.bytes.now), search rules)
+returns-in-Err-clause-does c = (append_not (ChangesLog (Inks c.args.at c.args.bytes.now)) c.args.self.now (unwritten_log c.args.at c.args.bytes.now), search rules, search rules)

@@ -1,0 +1,4 @@
+pub mod Faults
+pub mod Filling
+pub mod Rows
+pub mod Trees

@@ -1,0 +1,13 @@
+//! A B-tree that is built from sorted records, page by page from the left.
+#![tactic(auto)]
+
+mod appending;
+mod fault;
+mod filling;
+pub mod laws;
+mod rows;
+mod sorted;
+
+pub use fault::FillFault;
+pub use filling::fill;
+pub use sorted::is_sorted;

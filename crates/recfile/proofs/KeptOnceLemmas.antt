@@ -1,0 +1,157 @@
+-- A closed file has one list of records, and disks that no closing leaves.
+use Rattle.std.proofs.Common.{◌≡◌, ◌≢◌, ◌⊎◌, ⊎_elim, inl, inr, ℕ, zero, suc, ◌<◌, ◌≤◌, Option, Some, None, List, [], ◌∷◌, length, get_or, slice_get, slice_set, unwrap_or, refl, ap, sym, ◌∙◌, subst, arith}
+use Rattle.std.proofs.lemmas.List.{set-get_or}
+use Rattle.rec_types.specs.Contents.{Contents}
+use Rattle.page_store.specs.PageMap.{PageMap}
+use Rattle.btree_node.specs.declared.header.Header.{Header}
+use Rattle.btree_node.specs.declared.layout.Layout.{Layout}
+use Rattle.btree_node.specs.declared.node.Node.{Node}
+use Rattle.btree_node.specs.declared.node.NodeKind.{NodeKind}
+use Rattle.btree_node.specs.declared.node.NodeKind.TheVariants.{Leaf, Inner}
+use Rattle.btree_node.specs.HeaderSpelling.{HeaderFits, header_spelling, clean_state, magic}
+use Rattle.btree_node.specs.Layout.{layout_of}
+use Rattle.btree_node.specs.Lists.{Element}
+use Rattle.btree_node.specs.Reading.{part}
+use Rattle.btree_node.specs.Spelling.{spelling_in}
+use Rattle.btree_node.proofs.DecodeLemmas.{reads, node_reads}
+use Rattle.btree_node.proofs.HeaderLemmas.{header_reads}
+use Rattle.btree_insert.specs.Contents.{contents_of}
+use Rattle.btree_insert.specs.Elements.{elements_below}
+use Rattle.btree_insert.specs.PageTrees.{Fan, SpellsIn, TreeOf, RootOf, HoldsIn}
+use Rattle.btree_insert.specs.declared.tree.Tree.{Tree}
+use Rattle.btree_insert.proofs.SonsAroundLemmas.{Stands}
+use Rattle.btree_insert.proofs.TreeElementLemmas.{node_in, held_in}
+use Rattle.btree_delete.specs.CleanFile.{in_file, HasTree}
+use Rattle.btree_delete.specs.TableView.{IsClosed}
+use Rattle.btree_delete.proofs.ClosedFileLemmas.{one_header}
+use Rattle.btree_delete.proofs.MeasureLemmas.{rooted_holds}
+use Rattle.page_journal.specs.Files.{PageFile, Kept, Files, Belongs, recovered, recovered_by}
+use Rattle.page_journal.specs.Crash.{StandsFor}
+use Rattle.page_journal.specs.Examples.{alone, old_file, pages_of_two, both_writes}
+use Rattle.page_journal.specs.History.{History, MayLeave}
+use Rattle.page_journal.specs.Steps.{TornAt}
+use Rattle.page_journal.specs.declared.disk_call.DiskCall.TheVariants.{Write}
+use Rattle.page_journal.specs.contracts.mem_disk.MemDiskDiskState.TheImpl.{ghosts}
+use Rattle.recfile.specs.Kept.{HasRecords, IsKept, LeavesEither, ClosesSafely}
+use Rattle.recfile.specs.declared.file_fault.FileFault.{FileFault}
+
+-- the first son is one
+first_son : (tree : Stands) (sons : List ℕ) (els es : List Element) (us : List ℕ) → Fan tree sons els es us → (xs : List Element) × (here : List ℕ) × tree (get_or sons 0 0) xs here
+first_son tree [] els es us fan = absurd fan
+first_son tree (s ∷ []) [] es us fan = (es, us, fan)
+first_son tree (s ∷ []) (e ∷ els) es us fan = absurd fan
+first_son tree (s ∷ (t ∷ ss)) [] es us fan = absurd fan
+first_son tree (s ∷ (t ∷ ss)) (e ∷ els) es us fan = (fan.0, fan.2, fan.4)
+
+no_both : (kind : NodeKind) → kind ≡ Leaf → kind ≡ Inner → ⊥
+no_both kind leaf inner = absurd (cc (sym leaf ∙ inner))
+
+-- pages that spell one node each hold trees of one height at a page
+tree_height : (spells : ℕ → Node → Type 0) → ((p : ℕ) (n m : Node) → spells p n → spells p m → n ≡ m) → (fill least other h g p : ℕ) (es fs : List Element) (us vs : List ℕ) → TreeOf spells fill least h p es us → TreeOf spells fill other g p fs vs → h ≡ g
+tree_height spells one fill least other zero g p es fs us vs tree again = absurd tree
+tree_height spells one fill least other (suc h) zero p es fs us vs tree again = absurd again
+tree_height spells one fill least other (suc zero) (suc zero) p es fs us vs tree again = refl
+tree_height spells one fill least other (suc zero) (suc (suc g)) p es fs us vs (n, below, spelled, some, body, us_is) (m, under, spelt, least_is, inner, vs_is) =
+    absurd (no_both m.kind (ap (λ (x : Node). x.kind) (one p m n spelt spelled) ∙ body.0) inner.0)
+tree_height spells one fill least other (suc (suc h)) (suc zero) p es fs us vs (n, below, spelled, some, body, us_is) (m, under, spelt, least_is, leaf, vs_is) =
+    absurd (no_both m.kind leaf.0 (ap (λ (x : Node). x.kind) (one p m n spelt spelled) ∙ body.0))
+tree_height spells one fill least other (suc (suc h)) (suc (suc g)) p es fs us vs (n, below, spelled, some, body, us_is) (m, under, spelt, least_is, inner, vs_is) =
+    let here = first_son (TreeOf spells fill fill (suc h)) n.sons.items n.elements.items es below body.1 in
+    let there = first_son (TreeOf spells fill fill (suc g)) m.sons.items m.elements.items fs under inner.1 in
+    let same : get_or m.sons.items 0 0 ≡ get_or n.sons.items 0 0 = ap (λ (x : Node). get_or x.sons.items 0 0) (one p m n spelt spelled) in
+    ap suc (tree_height spells one fill fill fill (suc h) (suc g) (get_or n.sons.items 0 0) here.0 there.0 here.1 there.1 here.2
+    (subst (λ (s : ℕ). TreeOf spells fill fill (suc g) s there.0 there.1) same there.2))
+
+-- and at a root, where page 0 spells none
+root_height : (spells : ℕ → Node → Type 0) → ((p : ℕ) (n m : Node) → spells p n → spells p m → n ≡ m) → ((n : Node) → spells 0 n → ⊥) → (fill h g root : ℕ) (es fs : List Element) (us vs : List ℕ) → RootOf spells fill h root es us → RootOf spells fill g root fs vs → h ≡ g
+root_height spells one none fill zero zero root es fs us vs tree again = refl
+root_height spells one none fill zero (suc g) root es fs us vs tree again = absurd (none again.0 (subst (λ (p : ℕ). spells p again.0) tree.0 again.2))
+root_height spells one none fill (suc h) zero root es fs us vs tree again = absurd (none tree.0 (subst (λ (p : ℕ). spells p tree.0) again.0 tree.2))
+root_height spells one none fill (suc h) (suc g) root es fs us vs tree again = tree_height spells one fill 1 1 (suc h) (suc g) root es fs us vs tree again
+
+one_node : (layout : Layout) (k : ℕ) (pages : PageMap) → k ≤ 16 → (p : ℕ) (n m : Node) → SpellsIn layout k pages p n → SpellsIn layout k pages p m → n ≡ m
+one_node layout k pages small p n m is again =
+    let page = spelling_in layout n k in
+    let same : page ≡ spelling_in layout m k = ap (λ (o : Option (List ℕ)). unwrap_or o []) (sym is.page ∙ again.page) in
+    sym (node_reads layout k page n (reads layout k page n small is.stands refl)) ∙ node_reads layout k page m (reads layout k page m small again.stands same)
+
+none_in_page_0 : (layout : Layout) (k : ℕ) (stored : List (List ℕ)) (n : Node) → SpellsIn layout k (in_file stored) 0 n → ⊥
+none_in_page_0 layout k stored n is = absurd (cc is.page)
+
+pub one_list : (stored : List (List ℕ)) (tail : ℕ) (t r : Tree) (records others : Contents) → IsClosed 2 stored tail t records → IsClosed 2 stored tail r others → records ≡ others
+one_list stored tail t r records others closed again =
+    let pages = in_file stored in
+    let header = one_header stored closed.h again.h closed.clean.begins.header again.clean.begins.header in
+    let there = subst (λ (h : Header). HasTree pages h r again.es again.us) (sym header) again.clean.there in
+    let layout = layout_of closed.h.version in
+    let order : r.order ≡ t.order = there.order ∙ sym closed.clean.there.order in
+    let root : r.root ≡ t.root = there.root ∙ sym closed.clean.there.root in
+    let small : t.order ≤ 16 = omega (arith, closed.clean.there.order, closed.clean.begins.header.fits.order.1) in
+    let height : t.height ≡ r.height = root_height (SpellsIn layout t.order pages) (one_node layout t.order pages small) (none_in_page_0 layout t.order stored) t.order t.height r.height t.root closed.es again.es closed.us again.us
+    (rooted_holds layout t.order pages t.root t closed.es closed.us refl refl closed.clean.there.holds).tree
+    (rooted_holds layout t.order pages t.root r again.es again.us order root there.holds).tree in
+    sym closed.records
+    ∙ ap contents_of
+    (sym (held_in layout pages t closed.es closed.us small closed.clean.there.holds)
+    ∙ (λ i. elements_below (node_in layout (sym order i) pages) (height i) (sym root i))
+    ∙ held_in layout pages r again.es again.us (omega (arith, small, order)) there.holds)
+    ∙ again.records
+
+-- a disk is kept with one list of records
+pub kept_with_others : (disk : History) (order later : ℕ) (records others : Contents) → IsKept ghosts order records disk → records ≢ others → IsKept ghosts later others disk → ⊥
+kept_with_others disk order later records others kept differ again =
+    let main = (ghosts.seen disk).main in
+    differ (one_list main.pages main.tail kept.has.0 again.has.0 records others kept.has.2 again.has.2)
+
+set_first : (pages : List (List ℕ)) (page : List ℕ) → 1 ≤ length (slice_set pages 0 page) → slice_get (slice_set pages 0 page) 0 ≡ Some page
+set_first [] page some = absurd (omega (arith, some))
+set_first (p ∷ ps) page some = refl
+
+-- a write that isn't done
+not_written : (n : ℕ) (d : Files) → TornAt n d d
+not_written n d = record {
+  page = get_or d.main.pages n [];
+  main = λ i. record { pages = sym (set-get_or d.main.pages n []) i; tail = d.main.tail };
+  fresh = refl;
+  side = refl;
+  commits = refl;
+}
+
+pub kept_unsynced : (main : PageFile) (page : List ℕ) (failures order : ℕ) (records : Contents) → slice_get main.pages 0 ≢ Some page → IsKept ghosts order records (record { first = alone main; calls = Write 0 page ∷ []; failures = failures }) → ⊥
+kept_unsynced main page failures order records differs kept =
+    let left = kept.settled.crash (alone main) (alone main, refl, not_written 0 (alone main)) in
+    differs (ap (λ (m : PageFile). slice_get m.pages 0) left.0 ∙ set_first main.pages page kept.has.2.clean.begins.long.some)
+
+pub kept_with_side : (first : Files) (kept : Kept) (failures order : ℕ) (records : Contents) → first.side ≡ Some kept → IsKept ghosts order records (record { first = first; calls = []; failures = failures }) → ⊥
+kept_with_side first kept failures order records is closed = absurd (cc (sym is ∙ closed.settled.no_side))
+
+-- a page of one byte spells no header
+short_page : (h : Header) → HeaderFits h → (1 ∷ []) ≡ header_spelling h clean_state → ⊥
+unfolding part magic
+short_page h fits is = omega (arith, ap (λ (xs : List ℕ). get_or xs 0 0) (header_reads (1 ∷ []) h clean_state fits is).text)
+
+not_closed : (order : ℕ) (records : Contents) → HasRecords order records (pages_of_two 1 9) → ⊥
+not_closed order records has =
+    let header = has.2.clean.begins.header in
+    short_page has.2.h header.fits (ap (λ (o : Option (List ℕ)). unwrap_or o []) header.page)
+
+-- the first of two writes is lost
+one_lost : MayLeave (alone old_file) both_writes (alone (pages_of_two 1 9))
+one_lost = (alone old_file, (alone old_file, refl, not_written 0 (alone old_file)), record { page = 9 ∷ []; main = refl; fresh = refl; side = refl; commits = refl })
+
+pub left_third : (failures order : ℕ) (records : Contents) → LeavesEither ghosts old_file order records (record { first = alone old_file; calls = both_writes; failures = failures }) → ⊥
+left_third failures order records leaves =
+    let c = alone (pages_of_two 1 9) in
+    ⊎_elim (λ (old : StandsFor old_file c). omega (arith, ap (λ (m : PageFile). get_or (get_or m.pages 1 []) 0 0) old.1))
+    (λ (new : Belongs c × HasRecords order records (recovered c)). not_closed order records new.1)
+    (leaves c (inl one_lost))
+
+pub left_foreign : (first : Files) (failures order : ℕ) (records : Contents) → (Belongs first → ⊥) → LeavesEither ghosts (recovered first) order records (record { first = first; calls = []; failures = failures }) → ⊥
+left_foreign first failures order records foreign leaves =
+    ⊎_elim (λ (old : StandsFor (recovered first) first). foreign old.0) (λ (new : Belongs first × HasRecords order records (recovered first)). foreign new.0) (leaves first refl)
+
+pub closed_unwritten : (first : Files) (failures order later : ℕ) (records others : Contents) → HasRecords order records (recovered first) → records ≢ others → ClosesSafely ghosts (recovered first) (record { first = first; calls = []; failures = failures }) None later others → ⊥
+closed_unwritten first failures order later records others had differ safe =
+    let kept = safe.kept refl in
+    let was = subst (HasRecords order records) (ap (λ (s : Option Kept). recovered_by s first.main) kept.settled.no_side) had in
+    differ (one_list first.main.pages first.main.tail was.0 kept.has.0 records others was.2 kept.has.2)

@@ -1,0 +1,50 @@
+use Rattle.std.proofs.Common.{◌≡◌, List, ℕ, [], ◌∷◌, ◌++◌, Option, refl, sym, ap, subst, ◌∙◌}
+use Rattle.std.specs.List.{All}
+use Rattle.std.proofs.lemmas.List.Concat.{flat_map-append}
+use Rattle.std.proofs.lemmas.List.Elements.{All-append, All-nil}
+use Rattle.rec_types.specs.Contents.{Contents}
+use Rattle.command_text.specs.declared.command.Command.{Command}
+use Rattle.command_text.specs.Grammar.{Read, line_of}
+use Rattle.command_text.specs.Script.{entries_in, entries_of, keep, lines_of}
+use Rattle.record_file.specs.Durable.{overlay}
+use Rattle.record_file.proofs.CommitLemmas.{overlay-append}
+use Rattle.recfile.specs.Overlaid.{IsLogged, line_entries, write_said, writes_said}
+use Rattle.recfile.proofs.ScriptRunLemmas.{keep-append, nothing_left}
+use Rattle.recfile.proofs.overlaying.overlay_text.Goals as goal
+
+-- the entries of a text are those of its first line and then the others
+cut_entries : (rest line after : List ℕ) (said : Read (Option Command)) → lines_of rest ≡ line ∷ lines_of after → said ≡ line_of line → entries_of rest ≡ line_entries said ++ entries_of after
+cut_entries rest line after said cut is =
+    ap entries_in cut
+    ∙ ap (λ (s : Read (Option Command)). keep s (entries_of after)) (sym is)
+    ∙ keep-append said [] (entries_of after)
+
+-- a line is put over, and then the others
+line_over : (m mid : Contents) (rest after : List ℕ) (first : List (Read Command)) → entries_of rest ≡ first ++ entries_of after → mid ≡ overlay m (writes_said first) → overlay mid (writes_said (entries_of after)) ≡ overlay m (writes_said (entries_of rest))
+line_over m mid rest after first cut is =
+    ap (λ (n : Contents). overlay n (writes_said (entries_of after))) is
+    ∙ sym (overlay-append (writes_said first) (writes_said (entries_of after)) m)
+    ∙ ap (λ (es : List (List ℕ × Option (List ℕ))). overlay m es) (sym (flat_map-append write_said first (entries_of after)))
+    ∙ ap (λ (es : List (Read Command)). overlay m (writes_said es)) (sym cut)
+
+pub loop-rest-init : goal.loop-rest-init
+loop-rest-init g c = (λ sound. refl, λ all. all, refl, refl)
+
+pub loop-rest-preserved : goal.loop-rest-preserved
+loop-rest-preserved g c =
+    let t = g.T.TableState in
+    let known = c.loop-rest.invariant in
+    let cut = cut_entries c.loop-rest.rest.now c.next_line.result.0.now c.next_line.result.1.now c.read_line.result c.next_line.ensures.cut c.read_line.ensures in (
+      λ sound. line_over (t.contents c.loop-rest.table) (t.contents c.overlay_line.new.table) c.loop-rest.rest.now c.next_line.result.1.now (line_entries c.read_line.result) cut (c.in_ok-overlay_line.ensures.said (known.2 ∙ sound)) ∙ known.0 sound,
+      λ all. known.1 (subst (λ (es : List (Read Command)). All IsLogged es) (sym cut) (All-append IsLogged (line_entries c.read_line.result) (entries_of c.next_line.result.1.now) c.in_ok-overlay_line.ensures.logged all)),
+      c.overlay_line.ensures.sound ∙ known.2,
+      c.overlay_line.ensures.origin ∙ known.3,
+    )
+
+pub returns-clause-said : goal.returns-clause-said
+returns-clause-said g c = λ sound.
+    sym (ap (λ (es : List (Read Command)). overlay (g.T.TableState.contents c.loop-rest.table) (writes_said es)) (nothing_left c.loop-rest.rest.now c.loop-rest-test.ensures))
+    ∙ c.loop-rest.invariant.0 sound
+
+pub returns-clause-logged : goal.returns-clause-logged
+returns-clause-logged g c = c.loop-rest.invariant.1 (subst (λ (es : List (Read Command)). All IsLogged es) (sym (nothing_left c.loop-rest.rest.now c.loop-rest-test.ensures)) (All-nil IsLogged))

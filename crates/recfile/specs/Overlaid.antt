@@ -1,0 +1,29 @@
+-- What a log of commits says over the records of a table.
+use Rattle.std.specs.Prelude.{List, ℕ, [], ◌∷◌, Option, Some, None, Ok}
+use Rattle.std.specs.List.{flat_map}
+use Rattle.command_text.specs.declared.command.Command.TheVariants as command
+use Rattle.command_text.specs.Grammar.{Read}
+use Rattle.command_text.specs.Script.{keep}
+use Rattle.command_text.specs.declared.command.Command.{Command}
+
+-- what a command writes: a record at a key, or none
+abbrev pub write_said : Read Command → List (List ℕ × Option (List ℕ))
+write_said (Ok (command.Put t x r)) = (x, Some r) ∷ []
+write_said (Ok (command.Del t x)) = (x, None) ∷ []
+write_said entry = []
+
+-- what commands write, one after another
+abbrev pub writes_said : List (Read Command) → List (List ℕ × Option (List ℕ))
+writes_said entries = flat_map write_said entries
+
+-- a command that a log of commits may have
+abbrev pub IsLogged : Read Command → Type 0
+IsLogged (Ok command.Begin) = Unit {0}
+IsLogged (Ok (command.Put t x r)) = Unit {0}
+IsLogged (Ok (command.Del t x)) = Unit {0}
+IsLogged (Ok (command.Commit t)) = Unit {0}
+IsLogged entry = ⊥
+
+-- what a line says: one command, none, or that it can't be read
+abbrev pub line_entries : Read (Option Command) → List (Read Command)
+line_entries said = keep said []
