@@ -217,5 +217,13 @@ if command -v flock > /dev/null; then
     done
 fi
 
+row="the pictures of docs/pictures, which examples/tree.sh draws"
+mkdir drawn programs
+ln -s "$program" programs/recfile
+(cd drawn && PATH=$room/programs:$PATH sh "$here/examples/tree.sh" > ../out)
+rm drawn/tree.rec drawn/replies
+diff -r "$here/docs/pictures" drawn > out || fail "they are others"
+runs=$((runs + 1))
+
 python3 "$here/tests/damage.py" "$program" "$room" "${2:-300}" "${3:-1}"
 echo "looks: $runs passed, 0 failed"
