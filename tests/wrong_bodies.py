@@ -16,7 +16,8 @@ CRATES = ROOT / "crates"
 # What the rows of scripts are built of, beside the kit.
 ROWS = "rows"
 ROWS_NEED = ["rec_types", "page_store", "btree_delete", "record_file", "command_text"]
-ROWS_FILES = {"lib.rt": ROOT / "tests" / "wrong_bodies.txt", "call.rt": CRATES / "recfile" / "src" / "call.rt"}
+ROWS_FILES = {"lib.rt": ROOT / "tests" / "wrong_bodies.txt",
+              **{name: CRATES / "recfile" / "src" / name for name in ("call.rt", "commit_keeper.rt")}}
 
 
 class Mistake(NamedTuple):
