@@ -21,3 +21,4 @@ pub mod SavedLemmas
 mod CommitCallLemmas
 pub mod CopiedLemmas
 pub mod FillingLemmas
+pub mod LogLemmas

@@ -12,7 +12,7 @@ use Rattle.command_text.specs.Script.{HasNoLf, is_lf, without_empty_last, lines_
 use Rattle.command_text.proofs.TextCutLemmas.{cut_some, cut_none, rest_cut}
 
 -- a line is no last one where more pieces follow
-first_stays : (line : List ℕ) (rest : List (List ℕ)) → 0 < length rest → without_empty_last (line ∷ rest) ≡ line ∷ without_empty_last rest
+pub first_stays : (line : List ℕ) (rest : List (List ℕ)) → 0 < length rest → without_empty_last (line ∷ rest) ≡ line ∷ without_empty_last rest
 first_stays line [] some = absurd (omega arith)
 first_stays line (next ∷ rest) some = refl
 

@@ -1,9 +1,10 @@
 -- What a log of commits says over the records of a table.
-use Rattle.std.specs.Prelude.{List, ℕ, [], ◌∷◌, Option, Some, None, Ok}
+use Rattle.std.specs.Prelude.{◌≡◌, List, ℕ, [], ◌∷◌, Option, Some, None, Ok}
 use Rattle.std.specs.List.{flat_map}
 use Rattle.command_text.specs.declared.command.Command.TheVariants as command
 use Rattle.command_text.specs.Grammar.{Read}
-use Rattle.command_text.specs.Script.{keep}
+use Rattle.command_text.specs.Script.{entries_in, keep}
+use Rattle.command_text.specs.Units.{Write, unit_commands}
 use Rattle.command_text.specs.declared.command.Command.{Command}
 
 -- what a command writes: a record at a key, or none
@@ -27,3 +28,12 @@ IsLogged entry = ⊥
 -- what a line says: one command, none, or that it can't be read
 abbrev pub line_entries : Read (Option Command) → List (Read Command)
 line_entries said = keep said []
+
+-- Units of a log that say these writes, each in a transaction of some number.
+abbrev pub SayWrites : List (List (List ℕ)) → List (List Write) → Type 0
+SayWrites [] [] = Unit {0}
+SayWrites (unit ∷ units) (es ∷ kept) = (n : ℕ) × (entries_in unit ≡ unit_commands n es) × SayWrites units kept
+SayWrites units kept = ⊥
+
+abbrev pub in_order : List (List Write) → List Write
+in_order kept = flat_map (λ es. es) kept

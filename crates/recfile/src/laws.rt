@@ -1,10 +1,11 @@
 //! Facts of the definitions that contracts of this crate cite.
-ghost use Rattle.std.specs.Prelude.{◌≡◌, ◌≢◌, ◌⊎◌, ◌<◌, ℕ, length, List, [], ◌∷◌, Option, Some, None, Result, Ok, IsTrue, true, false, slice_get};
+ghost use Rattle.std.specs.Prelude.{◌≡◌, ◌≢◌, ◌⊎◌, ◌<◌, ℕ, length, List, [], ◌∷◌, Option, Some, None, Result, Ok, IsTrue, true, false, slice_get, codes};
 ghost use Rattle.std.specs.FinMap as maps;
-ghost use Rattle.std.specs.List.{All};
+ghost use Rattle.std.specs.List.{All, flat_map};
 ghost use Rattle.rec_types.specs.Contents.{Contents};
 ghost use Rattle.rec_types.specs.LimitBounds.{Bounds};
 ghost use Rattle.rec_types.specs.Table.{greatest_count};
+ghost use Rattle.rec_types.specs.declared.transaction.TxId.{TxId};
 ghost use Rattle.record_file.specs.Abstract.{File, new_file, open_of};
 ghost use Rattle.record_file.specs.Runs.{Seen};
 ghost use Rattle.page_store.specs.Journal.{Journal, noted};
@@ -15,13 +16,17 @@ ghost use Rattle.page_journal.specs.History.{History, LeftSince};
 ghost use Rattle.page_journal.specs.declared.disk_call.DiskCall.{DiskCall};
 ghost use Rattle.btree_delete.specs.Closing.{closing};
 ghost use Rattle.btree_delete.specs.TableView.{TableView};
+ghost use Rattle.commit_paper.specs.Text.{log_text, AreUnits};
+ghost use Rattle.command_text.specs.declared.command.Command.TheVariants as command;
 ghost use Rattle.command_text.specs.Dump.{dump_text, CanBePut};
 ghost use Rattle.command_text.specs.Refusals.{is_refusal};
-ghost use Rattle.command_text.specs.Script.{entries_of};
+ghost use Rattle.command_text.specs.Script.{entries_in, entries_of};
+ghost use Rattle.command_text.specs.Units.{Write, unit_commands};
 ghost use Rattle.command_text.specs.declared.reply.Reply.{Reply};
 ghost use Rattle.recfile.specs.Ending.{EndsAll, without};
 ghost use Rattle.recfile.specs.Examples.{four_changes, two_taken_back};
 ghost use Rattle.recfile.specs.Kept.{ClosesSafely, CountsClosing, HasRecords, IsKept, LeavesEither};
+ghost use Rattle.recfile.specs.Overlaid.{IsLogged, SayWrites, in_order, writes_said};
 ghost use Rattle.recfile.specs.Room.{HasRoomFor, was_kept};
 ghost use Rattle.recfile.specs.Run.{Session};
 ghost use Rattle.recfile.specs.StoreSession.{WritesBack};
@@ -33,6 +38,22 @@ ghost use Rattle.recfile.specs.declared.manner.Manner.{Manner};
 ghost use Rattle.recfile.specs.declared.script.RunFault.{RunFault};
 
 use page_journal::{DiskState, MemDisk};
+
+/// A log of commits says what was kept: of units one after another exactly the writes of each, in their order, by commands
+/// that a log may have. Not the newest first, nor what a transaction without a commit would write; a rollback is no command
+/// of a log.
+pub fn logs_are_read()
+    ensures said { (units : List (List (List ℕ))) → AreUnits units
+        → entries_of (log_text units) ≡ flat_map entries_in units }
+    ensures found { (units : List (List (List ℕ))) (kept : List (List Write)) → AreUnits units
+        → SayWrites units kept → writes_said (entries_of (log_text units)) ≡ in_order kept }
+    ensures logged { (n : ℕ) (es : List Write) → All IsLogged (unit_commands n es) }
+    ensures newest_first { (units : List (List (List ℕ))) → AreUnits units
+        → SayWrites units (((97 ∷ [], None) ∷ []) ∷ ((98 ∷ [], None) ∷ []) ∷ [])
+        → writes_said (entries_of (log_text units)) ≡ (98 ∷ [], None) ∷ (97 ∷ [], None) ∷ [] → ⊥ }
+    ensures uncommitted { AreUnits ((codes "begin" ∷ codes "del 1 a" ∷ []) ∷ []) → ⊥ }
+    ensures rollback { (t : TxId) → IsLogged (Ok (command.Abort t)) → ⊥ }
+{}
 
 /// Ending takes back the live changes of open transactions and no others; it is no commit.
 pub fn endings_by_example()
