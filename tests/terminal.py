@@ -11,17 +11,22 @@ import subprocess
 import sys
 import tempfile
 
+PROMPT = b"> "
+END = b"\x04"
+
 
 def screen_of(program, words, keys):
-    """What stands on a terminal after these keys were typed, a line at a time, and the status."""
+    """What stands on a terminal after these keys, each typed once the last is answered, and the status."""
     child, terminal = pty.fork()
     if child == 0:
         os.execv(program, ["recfile", *words])
     seen = b""
 
-    def read(patience):
+    def read(end):
+        """Reads up to a prompt, or to the end; ten seconds without any are too long."""
         nonlocal seen
-        while select.select([terminal], [], [], patience)[0]:
+        begun = len(seen)
+        while not (end and len(seen) > begun and seen.endswith(end)) and select.select([terminal], [], [], 10)[0]:
             try:
                 more = os.read(terminal, 65536)
             except OSError:
@@ -30,12 +35,11 @@ def screen_of(program, words, keys):
                 return
             seen += more
 
-    read(0.5)
+    read(PROMPT)
     for key in keys:
         os.write(terminal, key)
-        read(0.3)
+        read(b"" if key == END else PROMPT)
     status = os.waitstatus_to_exitcode(os.waitpid(child, 0)[1])
-    read(0.1)
     os.close(terminal)
     return seen.decode().replace("\r\n", "\n"), status
 
@@ -47,7 +51,7 @@ def expect(what, seen, wanted):
 
 def typed(program, words, lines):
     """The screen of a session of these lines, and the status; at the end Ctrl-D is typed."""
-    return screen_of(program, words, [line.encode() + b"\n" for line in lines] + [b"\x04"])
+    return screen_of(program, words, [line.encode() + b"\n" for line in lines] + [END])
 
 
 def ends(program):
@@ -114,7 +118,12 @@ def loaded(program, words, lines):
     terminal, device = pty.openpty()
     done = subprocess.run([program, "load", *words], input=lines, stderr=device)
     os.close(device)
-    seen = os.read(terminal, 65536) if select.select([terminal], [], [], 0.2)[0] else b""
+    seen = b""
+    while select.select([terminal], [], [], 0.2)[0]:
+        try:
+            seen += os.read(terminal, 65536)
+        except OSError:
+            break
     os.close(terminal)
     return seen.decode().replace("\r\n", "\n"), done.returncode
 
@@ -141,7 +150,7 @@ def main():
         os.chdir(room)
         subprocess.run([program, "create", "a.rec"], check=True)
         lines = [b"begin\n", b"put 1 a b c\n", b"put 1 a =x\n", b"help put\n", b"quit\n", b"get 1 \x1b[A\n", b"commit 1\n"]
-        screen, status = screen_of(program, ["shell", "a.rec"], lines + [b"\x04"])
+        screen, status = screen_of(program, ["shell", "a.rec"], lines + [END])
         expect(
             "a session",
             screen,
@@ -158,7 +167,7 @@ def main():
         ends(program)
         chains(program)
         bar(program)
-        screen, status = screen_of(program, ["shell"], [b"help\n", b"\x04"])
+        screen, status = screen_of(program, ["shell"], [b"help\n", END])
         expect("the commands", [line.split()[0] for line in screen.split("\n")[1:-1]],
                "begin put del get claim save release back resume abort commit list keys log show recfile> nothing".split())
         screen, status = screen_of(program, [], [])

@@ -1,5 +1,6 @@
 """`python -m recfile` at a terminal: the program's shell with an edited line, its history, and completion; and in a pipe."""
 
+import importlib.util
 import os
 import pty
 import select
@@ -12,10 +13,21 @@ from support import FileCase
 
 PROGRAMS = Path(os.environ.get("RECFILE_PREFIX", "/usr")) / "bin"
 UP = b"\x1b[A"
+END = b"\x04"
+INTERRUPT = b"\x03"
+PROMPT = b"> "
+HAS_READLINE = importlib.util.find_spec("readline") is not None
 
 
 def surroundings(programs):
     return {**os.environ, "PATH": f"{programs}:/bin:/usr/bin", "TERM": "dumb"}
+
+
+def end_of(key):
+    """What the screen ends with once this is answered: nothing in particular, a prompt, or the key itself."""
+    if key == END:
+        return b""
+    return PROMPT if key[-1:] in (b"\n", INTERRUPT) else key
 
 
 def screen_of(words, keys):
@@ -25,9 +37,11 @@ def screen_of(words, keys):
         os.execve(sys.executable, [sys.executable, "-m", "recfile", *words], surroundings(PROGRAMS))
     seen = b""
 
-    def read(patience):
+    def read(end):
+        """Reads up to a prompt, or the echo of what is no whole line, or the end; ten seconds without any are too long."""
         nonlocal seen
-        while select.select([terminal], [], [], patience)[0]:
+        begun = len(seen)
+        while not (end and len(seen) > begun and seen.endswith(end)) and select.select([terminal], [], [], 10)[0]:
             try:
                 more = os.read(terminal, 65536)
             except OSError:
@@ -36,12 +50,11 @@ def screen_of(words, keys):
                 return
             seen += more
 
-    read(2)
+    read(PROMPT)
     for key in keys:
         os.write(terminal, key)
-        read(0.5)
+        read(end_of(key))
     status = os.waitstatus_to_exitcode(os.waitpid(child, 0)[1])
-    read(0.1)
     os.close(terminal)
     return seen.decode().replace("\r\n", "\n"), status
 
@@ -49,7 +62,7 @@ def screen_of(words, keys):
 @unittest.skipUnless((PROGRAMS / "recfile").exists(), "there is no program recfile")
 class Shell(FileCase):
     def screen(self, *keys):
-        return screen_of([str(self.path)], [*keys, b"\x04"])
+        return screen_of([str(self.path)], [*keys, END])
 
     def test_a_session_is_that_of_the_program(self):
         self.make({b"a": b"x"})
@@ -62,12 +75,14 @@ class Shell(FileCase):
         self.assertEqual(status, 0)
         self.assertEqual(self.records(), {b"a": b"x", b"b": b"y"})
 
+    @unittest.skipUnless(HAS_READLINE, "there is no readline")
     def test_a_name_is_completed(self):
         self.make({})
         screen, _ = self.screen(b"beg\t\n", b"cl\t 1 k\n")
         self.assertIn("recfile> begin \nok 1\n", screen.replace("begin\n", "begin \n"))
         self.assertIn("\nok none\n", screen)
 
+    @unittest.skipUnless(HAS_READLINE, "there is no readline")
     def test_an_arrow_brings_back_a_line(self):
         self.make({})
         screen, _ = self.screen(b"begin\n", UP + b"\n")
@@ -76,7 +91,7 @@ class Shell(FileCase):
 
     def test_an_interrupt_ends_a_line_and_no_session(self):
         self.make({})
-        screen, status = self.screen(b"begin\n", b"put 1 a", b"\x03", b"commit 1\n")
+        screen, status = self.screen(b"begin\n", b"put 1 a", INTERRUPT, b"commit 1\n")
         self.assertIn("^C\nrecfile [1]> commit 1\nok\n", screen)
         self.assertEqual((status, self.records()), (0, {}))
 
