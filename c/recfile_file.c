@@ -35,11 +35,13 @@ typedef struct {
 
 static const uint64_t sum_start = 0xcbf29ce484222325u, sum_prime = 0x100000001b3u;
 
-/* A file's path without links, and those of its side file, of the one that is being made, and of the folder. */
+/* A file's path without links, and those of its side file, of the one that is being made, of its log of commits, and of the
+ * folder. */
 typedef struct {
     char *file;
     char side[PATH_MAX + 16];
     char fresh[PATH_MAX + 16];
+    char log[PATH_MAX + 16];
     char folder[PATH_MAX];
 } names;
 
@@ -160,6 +162,7 @@ static int32_t find_names(names *to, const char *path, int descriptor, recfile_f
     }
     snprintf(to->side, sizeof to->side, "%s-journal", to->file);
     snprintf(to->fresh, sizeof to->fresh, "%s-journal-new", to->file);
+    snprintf(to->log, sizeof to->log, "%s-commits", to->file);
     snprintf(to->folder, sizeof to->folder, "%s", to->file);
     to->folder[strrchr(to->folder, '/') - to->folder + 1] = 0;
     return RECFILE_OK;
@@ -326,8 +329,19 @@ static int32_t put_back_named(const names *at, int descriptor, recfile_failure *
     return status;
 }
 
+/* Answers OK where nothing has the name of a log of commits, which the program recfile alone puts in: whoever writes the file
+ * without it would lose them. Else this status, or DEVICE. */
+static int32_t expect_no_log(const names *at, int32_t otherwise, recfile_failure *failure) {
+    struct stat about;
+    if (lstat(at->log, &about) == 0)
+        return otherwise;
+    return errno == ENOENT ? RECFILE_OK : failed(failure, "lstat");
+}
+
 static int32_t restore_at(const names *at, int descriptor, recfile_failure *failure) {
-    int32_t status = put_back_named(at, descriptor, failure);
+    int32_t status = expect_no_log(at, RECFILE_NOT_CLEAN, failure);
+    if (status == RECFILE_OK)
+        status = put_back_named(at, descriptor, failure);
     if (status != RECFILE_OK)
         return status;
     status = remove_fresh(at, failure);
@@ -557,7 +571,7 @@ int32_t recfile_create_path(recfile *file, const char *path, uint16_t order, uin
     status = flock(*descriptor, LOCK_EX | LOCK_NB) == 0 ? find_names(&at, path, *descriptor, failure)
                                                         : failed(failure, "flock");
     if (status == RECFILE_OK) {
-        status = access(at.side, F_OK) == 0 ? RECFILE_BAD_JOURNAL : RECFILE_OK;
+        status = access(at.side, F_OK) == 0 ? RECFILE_BAD_JOURNAL : expect_no_log(&at, RECFILE_BAD_JOURNAL, failure);
         free(at.file);
     }
     if (status != RECFILE_OK) {

@@ -13,7 +13,8 @@ _recfile() {
     esac
     case $command in
     create) options="--order --help" ;;
-    run | shell | memory) options="--records --log --begins --strict --help" ;;
+    run | shell) options="--records --log --begins --strict --durable --help" ;;
+    memory) options="--records --log --begins --strict --help" ;;
     show) options="--svg --help" ;;
     dump) options="--tsv --csv --json --help" ;;
     load) options="--csv --records --help" ;;

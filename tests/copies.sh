@@ -95,11 +95,17 @@ refused a.rec "" Device ""
 refused a.rec b.rec BadJournal ""
 [ -e b.rec-journal ] && [ ! -e b.rec ] || fail "the side file is gone, or a file was made"
 rm b.rec-journal
+: > b.rec-commits
+refused a.rec b.rec BadCommits ""
+[ -e b.rec-commits ] && [ ! -e b.rec ] || fail "the log is gone, or a file was made"
+rm b.rec-commits
 
 row="a file that isn't whole"
 refused missing.rec b.rec Device "there is no such file in .: recfile create missing.rec makes one"
 cp a.rec side.rec
 : > side.rec-journal
+refused side.rec b.rec NotClean ""
+mv side.rec-journal side.rec-commits
 refused side.rec b.rec NotClean ""
 damaged() { # PLACE BYTES FAULT
     cp a.rec damaged.rec

@@ -18,6 +18,7 @@
 //   DO_AT=N       before that call the shell does DO
 //   SHORT_AT=N    the N-th read or write, also of a standard stream, moves one byte (SHORT=one), half of its bytes
 //                 (SHORT=half), or none, since a signal comes (SHORT=again)
+//   SINGLE_BYTES=1  each read of standard input gives one byte, so that a shell answers each line before it reads on
 //
 // Where the call is met, the file of the path MET is made. In the file of the path SYNCS stands how many calls of fsync were
 // made by a program that has ended.
@@ -435,6 +436,8 @@ static ssize_t moved(size_t count)
 
 ssize_t read(int file, void *bytes, size_t count)
 {
+    if (file == 0 && count > 1 && getenv("SINGLE_BYTES"))
+        count = 1;
     ssize_t most = moved(count);
     return most < 0 ? -1 : syscall(SYS_read, file, bytes, (size_t)most);
 }
@@ -492,6 +495,20 @@ ssize_t write(int file, const void *bytes, size_t count)
     return done;
 }
 
+// Whether a file has zeros alone from a place on: these come back with its length.
+static int ends_in_zeros(int file, off_t place)
+{
+    char bytes[4096];
+    ssize_t count;
+    while ((count = syscall(SYS_pread64, file, bytes, sizeof bytes, place)) > 0) {
+        for (ssize_t i = 0; i < count; i++)
+            if (bytes[i])
+                return 0;
+        place += count;
+    }
+    return count == 0;
+}
+
 static int set_length(int descriptor, off_t length)
 {
     if (fails())
@@ -501,9 +518,10 @@ static int set_length(int descriptor, off_t length)
     call->old_length = length_of(call->file);
     call->new_length = length;
     call->place = length;
-    if (call->old_length - length > MOST_BYTES)
+    int is_zero = ends_in_zeros(call->file, length);
+    if (!is_zero && call->old_length - length > MOST_BYTES)
         give_up("a long cut");
-    ssize_t old = length < call->old_length
+    ssize_t old = length < call->old_length && !is_zero
                       ? syscall(SYS_pread64, call->file, call->old_bytes, (size_t)(call->old_length - length), length)
                       : 0;
     call->old_count = old < 0 ? 0 : (size_t)old;

@@ -11,12 +11,13 @@ cd "$(dirname "$0")/.."
 program=${PROGRAM:-$PWD/crates/recfile_program/out/recfile_program}
 # In memory where the system has such a folder, since each session syncs.
 room=$(mktemp -d -p /dev/shm 2> /dev/null || mktemp -d)
-trap 'rm -rf "$room"' EXIT
+trap 'umount "$room/small" 2> /dev/null || true; rm -rf "$room"' EXIT
 [ -x "$program" ] || {
     echo "crashes: there is no $program: rt ci makes it, and so does rt run in crates/recfile_program"
     exit 1
 }
 cc -O2 -shared -fPIC -o "$room/crash.so" tests/crash.c
+cp tests/log_rows.py "$room"
 cd "$room"
 runs=0
 # What a row's session does with its lines.
@@ -291,6 +292,16 @@ cmp file four
 # The file and its folder, the side file, its name; the file, and the name again.
 expect_syncs 6 filled_more
 expect_syncs 6 session
+# Durable: the file and its folder, the log, its name, the name that is gone; a commit with writes one more, and the closing four.
+task="run --durable"
+for count in 5:read_only 10:filled_more; do
+    cp four file
+    cp "${count#*:}" session
+    expect_syncs "${count%:*}" session
+done
+printf 'begin\nput 2 b =x\ncommit 2\nbegin\nget 3 b\ncommit 3\n' >> session
+expect_syncs 11 session
+task=run
 number=0
 cp four file
 until [ -e file-journal ]; do
@@ -466,5 +477,349 @@ if mount -t tmpfs -o size=48k none small 2> /dev/null; then
 else
     echo "crashes: $row: left out, since nothing can be mounted"
 fi
+
+# A durable session's lines come byte by byte, so that a shell, too, answers each before it reads on.
+export SINGLE_BYTES=1
+mkdir wants seen
+echo list > lister
+
+# Tells the commits of the session that were answered, by the numbers of their lines, and these with the one that is in doubt or
+# whose answer was still out; the records that they make are noted.
+note_answers() {
+    set -- $(awk '
+        FILENAME == "out" { reply[FNR] = $0; replies = FNR; next }
+        $1 == "commit" && reply[FNR] == "ok" { kept = kept "_" FNR }
+        $1 == "commit" && !doubt && (FNR == replies + 1 || reply[FNR] == "no Doubt") { doubt = FNR }
+        END { print "of" kept, "of" kept (doubt ? "_" doubt : "") }
+    ' out session)
+    answered=$1 doubtful=$2
+    make_want $answered
+    make_want $doubtful
+}
+
+# Notes the records that the session makes with these of its commits alone.
+make_want() { # of_LINE_LINE..
+    [ ! -e wants/$1 ] || return 0
+    awk -v kept="$1_" '$1 != "commit" || index(kept, "_" FNR "_")' session > some
+    cp old wanted
+    "$program" run wanted < some > some_out 2> some_err || fail "the session with the commits $1"
+    list_of wanted > wants/$1
+}
+
+# Puts the files there with which a durable session begins.
+begin_again() {
+    rm -f file*
+    cp -p start/* .
+}
+
+is_alone() {
+    for beside in file-journal file-journal-new file-commits file-commits-new; do
+        [ ! -e $beside ] || return 1
+    done
+}
+
+# Whether a state of the files wasn't met yet, with these answers.
+is_new() { # USE
+    set -- $1 $(tail -n +1 file* | cksum)
+    [ ! -e seen/$1-$2-$answered-$doubtful ] && : > seen/$1-$2-$answered-$doubtful
+}
+
+# Expects the next session to find the records of the commits that were answered, or those with the one in doubt, and to leave
+# nothing beside the file.
+expect_committed() {
+    runs=$((runs + 1))
+    "$program" run file < lister > listed 2> err || fail "$*: the next session fails"
+    is_alone || fail "$*: something stands beside the file"
+    cmp -s listed wants/$answered || cmp -s listed wants/$doubtful \
+        || fail "$*: of the commits $answered, perhaps $doubtful, there are the records $(cat listed)"
+}
+
+# Stops the session that puts the files right, before every other call, and the one after it, too.
+stop_the_settling() {
+    is_new settled || return 0
+    save
+    settlings=$((settlings + 1))
+    set -- killed lost noise 7
+    shift $((settlings % 4))
+    next=$((settlings / 4 % 2 - 1))
+    while next=$((next + 2)); do
+        put_back
+        met empty STOP_AT=$next FATE=$1 || break
+        expect_left "settling stopped at $next, $1"
+    done
+    put_back
+}
+
+# What a stop in a settling left is stopped once more, where it is new.
+expect_left() {
+    if is_new stopped; then
+        mkdir -p left
+        rm -f left/*
+        cp -p file* left
+        met empty STOP_AT=$next FATE=halves || true
+        expect_committed "$*, and once more"
+        rm -f file*
+        cp -p left/* .
+    fi
+    expect_committed "$*"
+}
+
+# Stops the session behind one that was killed, before every third call: what neither has asked the device to keep is lost then.
+stop_behind_killed() {
+    is_new pending || return 0
+    save
+    settlings=$((settlings + 1))
+    set -- lost noise 1
+    shift $((settlings % 3))
+    next=$((settlings / 3 % 3 - 2))
+    while next=$((next + 3)); do
+        put_back
+        met empty STOP_AT=$next FATE=$1 PENDING="$room/file-pending" || break
+        rm -f file-pending
+        expect_committed "killed, and stopped at $next of the next session, $1"
+    done
+    [ "$status" = 0 ] || fail "the session after one that was killed has status $status"
+    put_back
+    rm -f file-pending file*.spare*
+}
+
+# Stops the next session, too. A log that is being made is alike at each of its zeros.
+stop_the_next_too() {
+    case $fate in
+    killed) [ -e file-commits-new ] || stop_behind_killed ;;
+    lost | noise) [ ! -e file-commits ] || stop_the_settling ;;
+    esac
+}
+
+# Stops a durable session before its calls from one on, with these fates, and the next session too behind some of them.
+stop_durable() { # FROM FATE..
+    from=$1
+    shift
+    for fate in "$@"; do
+        number=$from
+        while number=$((number + 1)); do
+            begin_again
+            pending=
+            [ $fate != killed ] || pending="$room/file-pending"
+            met session STOP_AT=$number FATE=$fate ${pending:+PENDING="$pending"} || break
+            [ "$status" = 99 ] || fail "the program wasn't stopped: status $status"
+            note_answers
+            [ $next_too = no ] || stop_the_next_too
+            expect_committed "stopped at $number, $fate"
+        done
+        [ "$status" = 0 ] && is_alone || fail "the last run failed: status $status: $(cat err)"
+        note_answers
+        list_of file | cmp -s - wants/$answered || fail "the last run has other records"
+    done
+    echo "crashes: $row: $((number - 1)) calls stopped"
+}
+
+# Lets the calls of a durable session fail, from one on; where one fails alone, the device loses then what wasn't kept.
+fail_durable() { # FROM VARIABLE..
+    from=$1
+    shift
+    for variable in "$@"; do
+        number=$from
+        while number=$((number + 1)); do
+            begin_again
+            met session $variable=$number || break
+            note_answers
+            case "$status:$(head -n 1 err)" in
+            0:) is_alone && [ $answered = $doubtful ] || fail "$variable $number: something is left: $answered $doubtful" ;;
+            "1:recfile: Device") ;;
+            *) fail "$variable $number: status $status: $(cat err)" ;;
+            esac
+            expect_committed "$variable $number"
+            [ $variable = FAIL_AT ] || continue
+            fate=lost
+            [ $((number % 2)) = 0 ] || fate=noise
+            begin_again
+            met session $variable=$number STOP_AT=-1 FATE=$fate
+            note_answers
+            expect_committed "$variable $number, $fate"
+        done
+    done
+    echo "crashes: $row: $((number - 1)) calls failed"
+}
+
+# Leaves a durable session's log behind that has all its commits, as a kill before the closing does.
+leave_log() {
+    number=0
+    while number=$((number + 1)); do
+        begin_again
+        met session STOP_AT=$number FATE=killed || fail "no log is left"
+        [ "$(wc -l < out)" != "$(wc -l < session)" ] || break
+    done
+    [ -e file-commits ] && [ ! -e file-journal-new ] || fail "another state is left"
+}
+
+# A row of durable sessions, which begin with a file, and perhaps a log; the script is standard input.
+durable() { # NAME WORD FILE [LOG]
+    row=$1
+    task="$2 --durable"
+    rm -rf wants seen start
+    mkdir wants seen start
+    cp "$3" start/file
+    [ -z "${4-}" ] || cp "$4" start/file-commits
+    cat > session
+    begin_again
+    "$program" run file < empty || fail "the file isn't opened"
+    cp file old
+}
+
+settlings=0
+
+durable "three transactions in a durable run" run four << 'END'
+begin
+begin
+put 1 a =1
+put 2 c =3
+commit 1
+begin
+put 3 h =open
+put 3 x =open
+del 2 d
+commit 2
+begin
+put 4 a =gone
+put 4 z =gone
+abort 4
+begin
+put 5 e =5%20%25
+commit 5
+begin
+put 6 b =open
+END
+next_too=yes
+stop_durable 0 killed lost noise halves 1
+fail_durable 0 FAIL_AT FAIL_FROM
+leave_log
+cp file left_file
+cp file-commits left_log
+
+durable "savepoints in a durable shell" shell four << 'END'
+begin
+begin
+save 1
+put 1 a =gone
+back 1 1
+put 1 c =1
+claim 2 b
+put 1 c =2
+commit 1
+get 2 c
+put 2 b =3
+put 2 i =4
+save 2
+del 2 d
+commit 2
+begin
+commit 3
+begin
+put 4 f =open
+END
+next_too=no
+stop_durable 0 4
+fail_durable 0 FAIL_AT
+
+durable "a durable run that finds a log" run left_file left_log << 'END'
+begin
+begin
+put 1 a =x
+put 2 e =y
+commit 2
+commit 1
+END
+stop_durable 0 lost 3
+fail_durable 0 FAIL_AT
+
+# The third commit needs more paper.
+long=$(printf '%0100d' 0)
+unset SINGLE_BYTES
+awk -v long="$long" 'BEGIN {
+    for (t = 1; t <= 3; t++) {
+        print "begin"
+        for (i = 0; i < 250; i++) print "put " t " k" t " =" long
+        print "commit " t
+    }
+}' > lines
+durable "a log that grows" run four < lines
+leave_log
+[ "$(wc -c < file-commits)" -gt 100000 ] || fail "the log is $(wc -c < file-commits) bytes long"
+stop_durable 25 lost 5
+fail_durable 25 FAIL_AT
+
+row="a disk without room for a longer log"
+if mount -t tmpfs -o size=140k none small 2> /dev/null; then
+    cp four small/file
+    # The first and the third commit find room, and the second, which goes on, none.
+    { sed 's/^put . k/put 1 m/; s/ [23]$/ 1/' lines | sed '/^begin$/d; /^commit/d'; echo commit 1; } > much
+    { printf 'begin\nbegin\nput 2 n =x\ncommit 2\n'; cat much; printf 'begin\nput 3 o =x\ncommit 3\nabort 1\n'; } > session
+    status=0
+    "$program" run --durable small/file < session > out 2> err || status=$?
+    [ "$status" = 0 ] && [ "$(grep -c '^no Device$' out)" = 1 ] || fail "status $status: $(grep -v '^ok' out; cat err)"
+    [ "$(tail -n 1 out)" = "ok 750" ] && [ "$(echo small/*)" = small/file ] || fail "left are $(ls small): $(tail -n 1 out)"
+    { list_of four | sed '$d'; printf -- '- n =x\n- o =x\nok 6\n'; } > want
+    list_of small/file | cmp -s - want || fail "the file has other records"
+    umount small
+else
+    echo "crashes: $row: left out, since nothing can be mounted"
+fi
+
+# Expects no session to take the log, and both files to stay.
+expect_bad_commits() {
+    save
+    for word in run shell "run --durable" "shell --durable" load; do
+        runs=$((runs + 1))
+        status=0
+        "$program" $word file < empty > out 2> err || status=$?
+        [ "$status:$(cat err)" = "1:recfile: BadCommits" ] || fail "$1: $word: status $status: $(cat err)"
+        cmp file saved/file && cmp file-commits saved/file-commits || fail "$1: $word: something has changed"
+    done
+}
+
+# Puts a log, changed by sed where so asked, beside a file.
+log_beside() { # FILE LOG [EDIT]
+    rm -f file*
+    cp "$1" file
+    sed "${3-}" "$2" > file-commits
+    [ -z "${3-}" ] || ! cmp -s "$2" file-commits || fail "$3 changes nothing"
+}
+
+row="a log that is none of the file's"
+cp order_1 another
+"$program" run another < filled_more > out
+log_beside another left_log; expect_bad_commits "of another file"
+log_beside order_1 left_log; expect_bad_commits "of a later state"
+durable "" run left_file left_log < filled_more
+leave_log
+cp file later_file
+cp file-commits later_log
+row="a restored copy"
+log_beside left_file later_log; expect_bad_commits "a restored copy under a log of a later state"
+log_beside four left_log '1s/1 [0-9]*/2 4/'; expect_bad_commits "of another version"
+log_beside four left_log '1s/1 [0-9]*/1 5/'; expect_bad_commits "of a file of more pages"
+log_beside four left_log '1d'; expect_bad_commits "without a head"
+log_beside four left_log '2,$s/^del/get/'; expect_bad_commits "a line that is none of a log"
+log_beside four left_log; : > file-commits; expect_bad_commits "empty"
+rm file*
+
+row="a closed file with its log"
+log_beside four left_log
+"$program" run file < lister > listed && is_alone || fail "the log isn't taken"
+cp file closed_file
+log_beside closed_file left_log
+"$program" run file < lister 2> err | cmp -s - listed && is_alone || fail "a closed file has other records"
+log_beside later_file later_log
+printf 'm\tx\n' > more
+"$program" load file < more > out 2> err && is_alone || fail "records aren't loaded: $(cat err)"
+list_of file > listed
+grep -qx -- '- m =x' listed && grep -qx -- '- k =more' listed || fail "the file has the records $(cat listed)"
+
+row="a log that was spoiled"
+log_beside left_file left_log
+python3 log_rows.py "$program" > spoiled || fail "$(cat spoiled)"
+echo "crashes: $row: $(cat spoiled)"
+runs=$((runs + $(sed 's/ .*//' spoiled)))
 
 echo "crashes: $runs sessions passed, 0 failed"

@@ -434,6 +434,7 @@ done
 explains stopped.rec 1 "beside it stands $room/stopped.rec-journal: a session was stopped while it closed the file, and the next one puts the old pages back"
 explains stopped.rec 1 "the file is whole by itself, and not with what stands beside it"
 cp stopped.rec-journal whole-journal
+cp stopped.rec halfway.rec
 : > told
 failing stopped.rec
 told "what stands beside it can't be read: $room/stopped.rec-journal"
@@ -448,6 +449,83 @@ done
 cp whole-journal stopped.rec-journal
 "$program" run stopped.rec < /dev/null
 explains stopped.rec 0 "the file is whole"
+
+row="a log of commits"
+# The head of a log of a file: how many pages it has, and the sum over them.
+head_of() { # FILE
+    perl -e '
+        use integer;
+        local $/;
+        my $bytes = <STDIN>;
+        my $sum = 0xcbf29ce484222325;
+        $sum = ($sum ^ $_) * 0x100000001b3 for unpack("N*", $bytes);
+        printf "commits 1 %d %u\n", length($bytes) / 4096, $sum;
+    ' < "$1"
+}
+log() { # FILE TEXT: a log with this text, and paper behind it
+    { printf '%b' "$2"; head -c 4096 /dev/zero; } > "$1-commits"
+}
+head=$(head_of three.rec)
+stands="beside it stands $room/three.rec-commits, a log of commits,"
+ours="A session was stopped before it closed the file, and the next one puts them in"
+others="It was begun over other pages: where they change a record, a session answers BadCommits. Bring back the file that it belongs to, or move it away"
+one='begin\nput 1 d =w\ncommit 1\n'
+two='begin\ndel 2 a\nput 2 commit =c\ncommit 2\n'
+cp three.rec kept.rec
+logged() { # TEXT LINE: of three.rec with a log of this text, which nothing that only reads opens
+    log three.rec "$1"
+    cp three.rec-commits kept
+    explains three.rec 1 "$2"
+    if grep -qx "the file is whole" out; then fail "the file is called whole"; fi
+    for words in "check three.rec" "dump three.rec" "copy three.rec copied.rec"; do
+        status=0
+        "$program" $words > out 2> err || status=$?
+        [ $status = 1 ] && [ "$(cat err)" = "recfile: NotClean" ] || fail "$words has status $status: $(cat err)"
+    done
+    [ ! -e copied.rec ] || fail "a copy is made"
+    cmp -s three.rec kept.rec && cmp -s three.rec-commits kept || fail "a file was changed"
+    # A session does what is told of it.
+    wanted=1:recfile:\ BadCommits
+    case $2 in *"next one puts them in" | "the file is whole by"*) wanted=0: ;; esac
+    status=0
+    "$program" run three.rec < /dev/null > out 2> err || status=$?
+    [ "$status:$(cat err)" = "$wanted" ] || fail "a session has status $status: $(cat err)"
+    [ $status = 0 ] || cmp -s three.rec kept.rec || fail "a session changed the file"
+    [ -e three.rec-commits ] || [ $status = 0 ] || fail "a session took the log away"
+    cp kept.rec three.rec
+}
+logged "$head\n" "$stands 0 in number. $ours"
+logged "$head\n$one" "$stands 1 in number. $ours"
+logged "$head\n$one$two" "$stands 2 in number. $ours"
+logged "$head\n$one$two" "the file is whole by itself, and not with what stands beside it"
+logged "$head\n${one}begin\nput 2 e =v\ncommit 2" "$stands 1 in number. $ours"
+logged "$head\n$one\0begin\ncommit 2\n" "$stands 1 in number. $ours"
+logged "${head% *} 1\n$one" "$stands 1 in number. $others"
+logged "commits 1 3 ${head##* }\n$one" "$stands 1 in number. $others"
+strange="beside it stands $room/three.rec-commits, and it has no head of a log of commits of version 1: a session answers BadCommits. Move it away"
+for text in "" "$one" "commits 2 4 1\n$one" "commits 1 4\n$one" "$head 5\n$one" "commits 1 4 x\n$one" "commits 1 4 \n$one" "$head"; do
+    logged "$text" "$strange"
+done
+log three.rec "$head\n$one"
+: > told
+failing three.rec
+told "what stands beside it can't be read: $room/three.rec-commits"
+mv three.rec-commits kept
+explains three.rec 0 "the file is whole"
+for planted in 'ln -s kept three.rec-commits' 'ln -s nowhere three.rec-commits' 'mkdir three.rec-commits' 'mkfifo three.rec-commits'; do
+    sh -c "$planted"
+    explains three.rec 1 "beside it stands $room/three.rec-commits, and it is no regular file: a session answers BadCommits. Move it away"
+    status=0
+    "$program" run three.rec < /dev/null > out 2> err || status=$?
+    [ $status = 1 ] && [ "$(cat err)" = "recfile: BadCommits" ] || fail "a session has status $status: $(cat err)"
+    rm -rf three.rec-commits
+done
+cp halfway.rec stopped.rec
+cp kept stopped.rec-commits
+cp whole-journal stopped.rec-journal
+explains stopped.rec 1 "beside it stands $room/stopped.rec-commits, a log of commits, 1 in number. Whether it is one of this file can't be told before the old pages are put back"
+explains stopped.rec 1 "beside it stands $room/stopped.rec-journal: a session was stopped while it closed the file, and the next one puts the old pages back"
+rm stopped.rec-*
 
 row="a text that can't be written"
 runs=$((runs + 1))

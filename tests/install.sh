@@ -28,7 +28,7 @@ names_below() {
     sed -n "/^##* $1\$/,/^##* /s/^| \(\`[^|]*\) |.*/\1/p" docs/FORMAT.md | grep -o '`[A-Z][A-Za-z0-9]*' | tr -d '`' | sort -u
 }
 manual=$home/share/man
-for word in create run shell check copy explain show rescue dump load memory --records --log --begins --strict --tsv --csv --json --svg; do
+for word in create run shell check copy explain show rescue dump load memory --records --log --begins --strict --durable --tsv --csv --json --svg; do
     grep -q -e "^.B $word" "$manual/man1/recfile.1" || { echo "install: no $word in the man page"; exit 1; }
 done
 for part in "Lines that can't be read" Refusals "Faults and statuses"; do
@@ -44,7 +44,7 @@ cmp docs/FORMAT.md "$home/share/doc/recfile/FORMAT.md"
 completion=$home/share/bash-completion/completions/recfile
 named_in "$completion" $("$home/bin/recfile" --help | sed -n '/^Commands:/,/^$/s/^  \([a-z]*\) .*/\1/p')
 if command -v bash >"$room/out"; then
-    for words in "cr=create" "run --l=--log" "create --order 1=1 10 11 12 13 14 15 16" "run he=head.rec" "help d=dump"; do
+    for words in "cr=create" "run --l=--log" "create --order 1=1 10 11 12 13 14 15 16" "run he=head.rec" "shell --d=--durable" "help d=dump"; do
         touch "$room/head.rec"
         (cd "$room" && bash -c '. "$0"; COMP_WORDS=(recfile $1); COMP_CWORD=$((${#COMP_WORDS[@]} - 1))
             _recfile; echo "${COMPREPLY[*]}"' "$completion" "${words%%=*}") >"$room/out"

@@ -367,4 +367,71 @@ for variable in REFUSE_GROWTH REFUSE_FROM; do
     echo "refusals: $row: $variable: $((number - 1)) refused"
 done
 
+# Where memory is refused in a durable session the next one finds what the commits that were answered made, and perhaps the
+# one whose reply couldn't be written; and so it does where memory is refused in putting them in.
+row="a durable session"
+cat > script << 'END'
+begin
+begin
+put 1 a =1
+put 2 c =3
+commit 1
+begin
+del 2 m
+put 3 o =open
+commit 2
+begin
+put 4 a =5
+abort 4
+put 3 a =6
+END
+cp kept_file old
+commits_leave() { # NUMBER: what stands in the file, by the accepted commands and the one of that number
+    accepted_commands "$1" > alone
+    cp old calm_file
+    "$program" run calm_file < alone > alone_out 2> alone_err || fail "the accepted commands aren't run alone"
+    list_of calm_file | cmp -s - listed
+}
+expect_committed() {
+    case "$status:$(head -n 1 err)" in
+    0: | [134]:'recfile: '* | 2:'recfile: Memory' | 2:'error: out of memory') ;;
+    *) fail "no such status and fault" ;;
+    esac
+    list_of file > listed || fail "the next session doesn't open the file"
+    [ "$(echo file*)" = file ] || fail "something stands beside the file"
+    commits_leave 0 || commits_leave $(($(count_replies out) + 1)) || fail "the file has other records: $(cat listed)"
+}
+rm -f file*
+for variable in REFUSE_GROWTH REFUSE_FROM; do
+    number=0
+    while number=$((number + 1)); do
+        cp old file
+        disturbed run --durable file
+        [ -e met ] || break
+        [ ! -e file-commits ] || { cp file left; cp file-commits left_log; }
+        expect_committed
+    done
+    [ "$status" -eq 0 ] || fail "the last run failed"
+    echo "refusals: $row: $variable: $((number - 1)) refused"
+done
+
+row="commits that are put in"
+: > script
+cp left file
+cp left_log file-commits
+list_of file > left_listed
+for variable in REFUSE_GROWTH REFUSE_FROM; do
+    number=0
+    while number=$((number + 1)); do
+        cp left file
+        cp left_log file-commits
+        disturbed run file
+        [ -e met ] || break
+        list_of file | cmp -s - left_listed || fail "the file has other records"
+        [ "$(echo file*)" = file ] || fail "something stands beside the file"
+    done
+    [ "$status" -eq 0 ] || fail "the last run failed"
+    echo "refusals: $row: $variable: $((number - 1)) refused"
+done
+
 echo "refusals: $runs passed, 0 failed"

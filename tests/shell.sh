@@ -99,6 +99,38 @@ done
 exec 3>&- 4<&-
 wait
 
+# Each script has the replies that it has without the option, and leaves the same file alone.
+row="a durable shell"
+for script in script_*; do
+    rm -f durable.rec shell.rec
+    "$program" create --order 2 shell.rec
+    cp shell.rec durable.rec
+    "$program" shell shell.rec < "$script" > replies
+    shell --durable durable.rec < "$script"
+    expect 0 ""
+    cmp -s out replies || fail "$script has other replies"
+    cmp -s shell.rec durable.rec || fail "$script leaves another file"
+    [ "$(echo durable.rec*)" = durable.rec ] || fail "$script leaves something beside the file"
+done
+rm durable.rec
+"$program" create durable.rec
+cp durable.rec before.rec
+"$program" shell --durable durable.rec < to > from &
+exec 3> to 4< from
+for line in begin "put 1 a =x" "commit 1" begin "put 2 b =y"; do
+    echo "$line" >&3
+    read -r reply <&4
+done
+{ tail -n +2 durable.rec-commits | tr -d '\000'; echo .; } > kept
+printf 'begin\nput 1 a =x\ncommit 1\n.\n' | cmp -s - kept || fail "while it runs the log says $(cat kept)"
+cmp -s durable.rec before.rec || fail "while it runs the file isn't as it was"
+exec 3>&- 4<&-
+wait
+[ "$(echo durable.rec*)" = durable.rec ] || fail "something stands beside the file: $(echo durable.rec*)"
+echo list | "$program" run durable.rec > out
+expect_replies "- a =x\nok 1\n"
+rm before.rec
+
 spaced() { # WORD LENGTH: a line of that length with its LF
     awk -v word="$1" -v length_wanted="$2" 'BEGIN { printf "%s%*s\n", word, length_wanted - length(word), "" }'
 }

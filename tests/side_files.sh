@@ -196,6 +196,57 @@ expect 0 ""
 same file-journal-new other
 rm file-journal-new
 
+row="what has the name of a log of commits"
+printf '#\tx\n' > lines
+for name in file-commits file-commits-new; do
+    for planted in "ln -s target $name" "ln -s nowhere $name" "cp other $name" "cp target $name" "mkdir $name" "mkfifo $name" "printf commits > $name"; do
+        rm -rf file*
+        cp old file
+        sh -c "$planted"
+        for word in run shell "run --durable" "shell --durable" load; do
+            run $word file < lines
+            expect 1 "recfile: BadCommits"
+            same file old
+        done
+        [ "$(cat target)" = 'a text that is not ours' ] && [ ! -e nowhere ] || fail "$planted: the target was written over"
+        [ -e $name ] || [ -L $name ] || fail "$planted: it is gone"
+    done
+done
+# A log without a head is none, and one that says nothing is taken away.
+rm -rf file*
+cp old file
+: > file-commits
+run run file < session
+expect 1 "recfile: BadCommits"
+[ -e file-commits ] || fail "an empty log is gone"
+echo commits 1 2 3 > file-commits
+run run file < empty
+expect 0 ""
+same file old
+[ ! -e file-commits ] || fail "a log without commits is there"
+rm lines
+# One that a stop left while it was being made is taken away.
+for planted in ': > file-commits-new' 'cp target file-commits-new; chmod 0 file-commits-new' 'echo commits 1 2 3 > file-commits-new'; do
+    rm -rf file*
+    cp old file
+    sh -c "$planted"
+    run run file < empty
+    expect 0 ""
+    same file old
+    [ ! -e file-commits-new ] || fail "$planted: it is there"
+done
+rm -rf file*
+cp target file-commits
+run create --order 1 file
+expect 1 "recfile: BadCommits"
+[ ! -e file ] || fail "a file is made beside it"
+run copy other file
+expect 1 "recfile: BadCommits"
+[ ! -e file ] || fail "a copy is made beside it"
+same file-commits target
+rm -rf file*
+
+cp old file
 row="a page file that has the name of a side file"
 cp other file-journal
 run run file < session

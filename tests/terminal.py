@@ -1,24 +1,33 @@
 """A shell at a terminal: a prompt with the open transactions, help, the form of a line that has none, arrow keys, the chains
-of the log, what is kept at the end; the bar of a load; and a pipe gets none of that.
+of the log, what is kept at the end; the bar of a load; and a pipe gets none of that. Under rlwrap, where that is installed,
+an arrow key gives a line back to be changed.
 
     python3 tests/terminal.py PROGRAM
 """
+import fcntl
 import os
 import pathlib
 import pty
 import select
+import shutil
+import struct
 import subprocess
 import sys
 import tempfile
+import termios
 
 PROMPT = b"> "
 END = b"\x04"
 
 
-def screen_of(program, words, keys):
-    """What stands on a terminal after these keys, each typed once the last is answered, and the status."""
+def screen_of(program, words, keys, drawn=0):
+    """What stands on a terminal after these keys, each typed once the last is answered, and the status; a prompt that is
+    drawn more than once is there when so many seconds have brought no more."""
     child, terminal = pty.fork()
     if child == 0:
+        if drawn:
+            fcntl.ioctl(0, termios.TIOCSWINSZ, struct.pack("HHHH", 24, 80, 0, 0))
+            os.environ.update({"TERM": "dumb", "INPUTRC": "/dev/null", "RLWRAP_HOME": "."})
         os.execv(program, ["recfile", *words])
     seen = b""
 
@@ -26,7 +35,7 @@ def screen_of(program, words, keys):
         """Reads up to a prompt, or to the end; ten seconds without any are too long."""
         nonlocal seen
         begun = len(seen)
-        while not (end and len(seen) > begun and seen.endswith(end)) and select.select([terminal], [], [], 10)[0]:
+        while select.select([terminal], [], [], drawn if end and len(seen) > begun and seen.endswith(end) else 10)[0]:
             try:
                 more = os.read(terminal, 65536)
             except OSError:
@@ -73,6 +82,10 @@ def ends(program):
     expect("a refusal", (screen.split("\n")[-5:], status), (
         ["bad UnknownCommand", "recfile: Refused 2", "nothing was committed: the records are as they were",
          "1 transaction was open, and was taken back", ""], 3))
+    screen, status = typed(program, ["shell", "--durable", "a.rec"], ["begin", "put 1 c =z", "commit 1", "begin", "del 2 c"])
+    expect("a durable session", (screen.split("recfile [2]> ")[-1], status, os.path.exists("a.rec-commits")), (
+        "\n1 transaction was committed, and is kept\n1 transaction was open, and was taken back\n", 0, False))
+    typed(program, ["shell", "a.rec"], ["begin", "del 1 c", "commit 1"])
     screen, status = typed(program, ["shell", "missing.rec"], [])
     expect("no session", (screen.startswith("recfile: Device\n"), "kept" in screen, status), (True, False, 1))
     screen, _ = typed(program, ["shell"], ["begin"] * 10)
@@ -111,6 +124,36 @@ def chains(program):
         "     3 -> 2       takes back 2, undo goes on at 1\n"
         "     4 -> 3       takes back 1, the first\n",
     )
+
+
+def shown(seen):
+    """The lines that stand on a terminal, which go back and write over what stands there; blank ones are left out."""
+    lines = []
+    for text in seen.split("\n"):
+        line, at = [], 0
+        for byte in text:
+            if byte in "\r\b":
+                at = 0 if byte == "\r" else at - 1
+            else:
+                line[at : at + 1] = byte
+                at += 1
+        lines.append("".join(line).rstrip())
+    return [line for line in lines if line]
+
+
+def wrapped(program):
+    """A shell under rlwrap: the last line comes back at an arrow key, and is changed."""
+    rlwrap = shutil.which("rlwrap")
+    if not rlwrap:
+        print("terminal: rlwrap isn't installed, and one row less is run")
+        return
+    subprocess.run([program, "create", "w.rec"], check=True)
+    up, rubout = b"\x1b[A", b"\x7f"
+    keys = [b"begin\n", b"put 1 a =x\n", up + rubout + b"y\n", b"commit 1\n", END]
+    screen, status = screen_of(rlwrap, ["--no-warnings", program, "shell", "w.rec"], keys, drawn=1)
+    expect("under rlwrap", (shown(screen), status), ([
+        "recfile> begin", "ok 1", "recfile [1]> put 1 a =x", "ok none", "recfile [1]> put 1 a =y", "ok =x",
+        "recfile [1]> commit 1", "ok", "recfile>", "1 transaction was committed, and is kept"], 0))
 
 
 def loaded(program, words, lines):
@@ -167,6 +210,7 @@ def main():
         ends(program)
         chains(program)
         bar(program)
+        wrapped(program)
         screen, status = screen_of(program, ["shell"], [b"help\n", END])
         expect("the commands", [line.split()[0] for line in screen.split("\n")[1:-1]],
                "begin put del get claim save release back resume abort commit list keys log show recfile> nothing".split())

@@ -42,6 +42,20 @@ for word in create run shell check copy dump load explain show rescue memory; do
     grep -q "^  $word  *[A-Z]" out || fail "$word has no line"
 done
 
+# It is an option of a session over a file.
+row="the option --durable"
+for word in run shell; do
+    run $word --help
+    expect 0 ""
+    grep -q "^ *--durable  *Keep each commit on the device before it is answered" out || fail "$word --help doesn't name it"
+done
+for words in "shell --durable" "run --durable" "memory --durable" "--durable" "load --durable x.rec" "check --durable x.rec"; do
+    run $words < /dev/null
+    [ "$status" = 2 ] && grep -q "^error: " err && [ ! -s out ] || fail "$words: status $status, $(cat err)"
+done
+run shell --durable < /dev/null
+grep -qF "Usage: recfile shell --durable <FILE>" err || fail "told is $(cat err)"
+
 # A change that isn't taken back takes two of the log's records, one of them for taking it back.
 row="the log of a session that asks for no limit"
 awk 'BEGIN { print "begin"; for (i = 0; i < 2000001; i++) print "put 1 a =x"; print "log" }' > lines

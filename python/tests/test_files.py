@@ -95,6 +95,23 @@ class Opening(FileCase):
         with self.assertRaises(recfile.BadJournal):
             recfile.open(self.path)
 
+    def test_a_log_of_commits(self):
+        self.make({b"a": b"1"})
+        log = self.folder / "f.rec-commits"
+        log.write_bytes(b"commits 1 2 3\n")
+        before = self.path.read_bytes()
+        for flag in "rwc":
+            with self.assertRaises(recfile.NotClean):
+                recfile.open(self.path, flag)
+        self.assertEqual((self.path.read_bytes(), log.read_bytes()), (before, b"commits 1 2 3\n"))
+        recfile.open(self.path, "n").close()
+        self.assertFalse(log.exists())
+        log.write_bytes(b"")
+        self.path.unlink()
+        with self.assertRaises(recfile.BadJournal):
+            recfile.open(self.path, "c")
+        self.assertFalse(self.path.exists())
+
     def test_a_damaged_page(self):
         self.make({b"a": b"1"})
         with open(self.path, "r+b") as file:

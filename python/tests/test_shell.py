@@ -6,6 +6,7 @@ import pty
 import select
 import subprocess
 import sys
+import time
 import unittest
 from pathlib import Path
 
@@ -52,6 +53,9 @@ def screen_of(words, keys):
 
     read(PROMPT)
     for key in keys:
+        if key == INTERRUPT:
+            # Python loses a signal that comes between the echo of a key and its waiting for the next one.
+            time.sleep(0.5)
         os.write(terminal, key)
         read(end_of(key))
     status = os.waitstatus_to_exitcode(os.waitpid(child, 0)[1])

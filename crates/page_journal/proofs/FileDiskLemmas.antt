@@ -56,7 +56,7 @@ pub no_log_seen : (calls pages tail : ℕ) → (files_seen calls pages tail).com
 unfolding files_seen
 no_log_seen calls pages tail = refl
 
-same_seen : (before after pages tail : ℕ) → files_seen after pages tail ≡ files_seen before pages tail
+pub same_seen : (before after pages tail : ℕ) → files_seen after pages tail ≡ files_seen before pages tail
 unfolding files_seen
 same_seen before after pages tail = refl
 

@@ -17,3 +17,4 @@ mod RestoreLemmas
 mod RunLemmas
 mod SealedLemmas
 mod SideLemmas
+mod StayingLemmas

@@ -1,5 +1,5 @@
 -- How what is known of the commits goes on with each call.
-use Rattle.std.proofs.Common.{◌≡◌, ◌⊎◌, ⊎_elim, inl, inr, ℕ, ◌+◌, ◌≤◌, List, [], ◌∷◌, ◌++◌, length, take, Option, Some, None, Result, Ok, Err, OnOk, refl, sym, ◌∙◌, ap, subst, arith, append_assoc, length-append, Bool}
+use Rattle.std.proofs.Common.{◌≡◌, ◌≢◌, ◌⊎◌, ⊎_elim, inl, inr, ℕ, ◌+◌, ◌≤◌, List, [], ◌∷◌, ◌++◌, length, take, Option, Some, None, is_some, Result, Ok, Err, OnOk, refl, sym, ◌∙◌, ap, subst, arith, append_assoc, length-append, Bool}
 use Rattle.std.proofs.lemmas.List.{append-nil, take_at}
 use Rattle.commit_paper.specs.Text.{units_of, unit_text, log_text, IsUnit, AreUnits}
 use Rattle.commit_paper.specs.Shown.{Shows}
@@ -10,7 +10,7 @@ use Rattle.page_journal.specs.Crash.{LeavesOnly, LeavesLogs, LeavesPages, IsSett
 use Rattle.page_journal.specs.KeptStores.{IsGuarded, KeptStored, old_file_of, opened_over}
 use Rattle.page_store.specs.Opening.{Opening}
 use Rattle.page_journal.specs.Logging.{HasLog, HasNoLog, Says, SaysEither, SaysNoneOr, Stands, IsReady}
-use Rattle.page_journal.specs.LoggedStores.{AreFirst, SaysFirst, SaysDoubt, MayFind, FindsAll, HoldsLog, HoldsCommits, IsLogged, DoubtStops, LeavesWithCommits, units_before, commits_in}
+use Rattle.page_journal.specs.LoggedStores.{AreFirst, SaysFirst, SaysDoubt, SaysAll, MayFind, FindsAll, FindsNow, HoldsLog, HoldsCommits, IsLogged, DoubtStops, LeavesWithCommits, units_before, commits_in}
 use Rattle.page_journal.proofs.KeptStoreLemmas.{same_guard}
 use Rattle.page_journal.specs.declared.disk_state.DiskState.{Ghosts}
 use Rattle.page_journal.specs.declared.log_place.LogPlace.{LogPlace}
@@ -27,7 +27,7 @@ same_has P c d is has = (has.0, is ∙ has.1, has.2)
 may_find_same : (log : Option LogPlace) (began : Files) (units : Units) (doubt : List ℕ) (c d : Files) → c.commits.log ≡ d.commits.log → MayFind log began units doubt d → MayFind log began units doubt c
 may_find_same None began units doubt c d is finds = is ∙ finds
 may_find_same (Some place) began units doubt c d is finds = ⊎_elim
-    (λ firsts. inl (⊎_elim (λ none. inl (is ∙ none)) (λ some. inr (some.0, some.1, same_has _ c d is some.2)) firsts))
+    (λ firsts. inl (⊎_elim (λ none. inl (is ∙ none)) (λ some. inr (some.0, some.1, some.2, same_has _ c d is some.3)) firsts))
     (λ more. inr (more.0, more.1, more.2, same_has _ c d is more.3))
     finds
 
@@ -35,19 +35,26 @@ finds_all_same : (log : Option LogPlace) (began : Files) (units : Units) (c d : 
 finds_all_same None began units c d is finds = is ∙ finds
 finds_all_same (Some place) began units c d is finds = same_has _ c d is finds
 
+says_all_same : (units : Units) (doubt : List ℕ) (c d : Files) → c.commits.log ≡ d.commits.log → SaysAll units doubt d → SaysAll units doubt c
+says_all_same units doubt c d is says = ⊎_elim (λ same. inl (same_has _ c d is same)) (λ more. inr (more.0, more.1, more.2, same_has _ c d is more.3)) says
+
+finds_now_same : (log : Option LogPlace) (began : Files) (units : Units) (doubt : List ℕ) (c d : Files) → c.commits.log ≡ d.commits.log → FindsNow log began units doubt d → FindsNow log began units doubt c
+finds_now_same None began units doubt c d is finds = is ∙ finds
+finds_now_same (Some place) began units doubt c d is finds = says_all_same units doubt c d is finds
+
 pub commits_same : (log : Option LogPlace) (a b : Files) → a.commits ≡ b.commits → commits_in log a ≡ commits_in log b
 commits_same None a b is = refl
 commits_same (Some place) a b is = ap (λ (k : CommitFiles). units_before place.end k.log) is
 
 -- what a store was opened over, with the commits that it has kept
 abbrev pub opening_of : {D : Type 0} → Ghosts D → KeptStored D → Opening
-opening_of g s = opened_over (recovered (g.began s.disk)) (commits_in s.log (g.seen s.disk))
+opening_of g s = opened_over (g.began s.disk) s.log (commits_in s.log (g.seen s.disk)) s.doubt
 
-pub opening_same : {D : Type 0} (g : Ghosts D) (log : Option LogPlace) (old new : D) → g.began new ≡ g.began old → (g.seen new).commits ≡ (g.seen old).commits → opened_over (recovered (g.began new)) (commits_in log (g.seen new)) ≡ opened_over (recovered (g.began old)) (commits_in log (g.seen old))
-opening_same g log old new began is = λ i. opened_over (recovered (began i)) (commits_same log (g.seen new) (g.seen old) is i)
+pub opening_same : {D : Type 0} (g : Ghosts D) (log : Option LogPlace) (doubt : List ℕ) (old new : D) → g.began new ≡ g.began old → (g.seen new).commits ≡ (g.seen old).commits → opened_over (g.began new) log (commits_in log (g.seen new)) doubt ≡ opened_over (g.began old) log (commits_in log (g.seen old)) doubt
+opening_same g log doubt old new began is = λ i. opened_over (began i) log (commits_same log (g.seen new) (g.seen old) is i) doubt
 
-pub opening_grown : {D : Type 0} (g : Ghosts D) (old new : D) → g.began new ≡ g.began old → (more commits : Units) → opened_over (recovered (g.began new)) more ≡ record (opened_over (recovered (g.began old)) commits) { commits = more }
-opening_grown g old new began more commits = λ i. opened_over (recovered (began i)) more
+pub opening_grown : {D : Type 0} (g : Ghosts D) (old new : D) → g.began new ≡ g.began old → (log : Option LogPlace) (place next : LogPlace) → log ≡ Some place → (more commits : Units) (doubt now : List ℕ) → opened_over (g.began new) (Some next) more now ≡ record (opened_over (g.began old) log commits doubt) { commits = more; doubt = now }
+opening_grown g old new began log place next is more commits doubt now = λ i. record (opened_over (began i) (sym is i) more now) { logged = is_some (sym is i) }
 
 -- units that stand before a place are read there
 pub stood : (units : Units) (place : LogPlace) (f : Files) → AreUnits units → Stands units place f → commits_in (Some place) f ≡ units
@@ -65,7 +72,12 @@ first_more : (first units : Units) (unit : List (List ℕ)) → AreFirst first u
 first_more first units unit is = (is.0 ++ unit ∷ [], ap (λ (k : Units). k ++ unit ∷ []) is.1 ∙ append_assoc first is.0 (unit ∷ []))
 
 says_more : (units : Units) (unit : List (List ℕ)) (c : Files) → SaysFirst units c → SaysFirst (units ++ unit ∷ []) c
-says_more units unit c says = ⊎_elim (λ none. inl none) (λ some. inr (some.0, first_more some.0 units unit some.1, some.2)) says
+says_more units unit c says = ⊎_elim (λ none. inl none) (λ some. inr (some.0, first_more some.0 units unit some.1, some.2, some.3)) says
+
+-- units with one behind them are some
+more_some : (units : Units) (unit : List (List ℕ)) → units ++ unit ∷ [] ≢ []
+more_some [] unit none = absurd (cc none)
+more_some (u ∷ us) unit none = absurd (cc none)
 
 text_some : (unit : List (List ℕ)) → IsUnit unit → [] ≡ unit_text unit → ⊥
 text_some [] is empty = is
@@ -107,9 +119,9 @@ module _ {D : Type 0} (g : Ghosts D) where
   }
 
   -- a log that holds these units, and what it may have left
-  logged_of : (units : Units) (place : LogPlace) (doubt : List ℕ) (disk : D) → AreUnits units → Stands units place (g.seen disk) → (doubt ≡ [] → IsReady g units place disk) → ((c : Files) → g.left_since disk 0 c → SaysFirst units c ⊎ SaysDoubt units doubt c) → IsLogged g (Some place) doubt disk
-  logged_of units place doubt disk whole stand ready time = record {
-    holds = record { units = units; whole = whole; stand = stand; ready = ready };
+  logged_of : (units : Units) (place : LogPlace) (doubt : List ℕ) (disk : D) → units ≢ [] → AreUnits units → Stands units place (g.seen disk) → ((c : Files) → g.may_leave disk c → SaysAll units doubt c) → (doubt ≡ [] → IsReady g units place disk) → ((c : Files) → g.left_since disk 0 c → SaysFirst units c ⊎ SaysDoubt units doubt c) → IsLogged g (Some place) doubt disk
+  logged_of units place doubt disk some whole stand now ready time = record {
+    holds = record { units = units; some = some; whole = whole; stand = stand; now = now; ready = ready };
     time = λ c left. subst (λ (u : Units). SaysFirst u c ⊎ SaysDoubt u doubt c) (sym (stood units place (g.seen disk) whole stand)) (time c left);
   }
 
@@ -127,8 +139,12 @@ module _ {D : Type 0} (g : Ghosts D) where
     holds_leaves None doubt old new leaves began holds = ap (λ (k : CommitFiles). k.log) leaves.seen ∙ holds ∙ ap (λ (f : Files). f.commits.log) (sym began)
     holds_leaves (Some place) doubt old new leaves began holds = record {
       units = holds.units;
+      some = holds.some;
       whole = holds.whole;
       stand = same_has _ (g.seen new) (g.seen old) (ap (λ (k : CommitFiles). k.log) leaves.seen) holds.stand;
+      now = λ c left.
+          let has = leaves.now c left in
+          says_all_same holds.units doubt c has.0 (ap (λ (k : CommitFiles). k.log) has.2) (holds.now has.0 has.1);
       ready = λ none. ready_leaves holds.units place old new leaves (holds.ready none);
     }
 
@@ -146,6 +162,17 @@ module _ {D : Type 0} (g : Ghosts D) where
     finds_now (Some place) doubt disk none logged c left =
         subst (λ (u : Units). Says u c) (sym (stood logged.holds.units place (g.seen disk) logged.holds.whole logged.holds.stand))
         (ready_says logged.holds.units place disk (logged.holds.ready none) c left)
+
+    -- each that was kept, also after calls that leave the log
+    pub all_now : (log : Option LogPlace) (doubt : List ℕ) (disk : D) → IsLogged g log doubt disk → (c : Files) → g.may_leave disk c → FindsNow log (g.began disk) (commits_in log (g.seen disk)) doubt c
+    all_now None doubt disk logged c left = logged.time c (counts disk 0 c (omega arith) left)
+    all_now (Some place) doubt disk logged c left =
+        subst (λ (u : Units). SaysAll u doubt c) (sym (stood logged.holds.units place (g.seen disk) logged.holds.whole logged.holds.stand)) (logged.holds.now c left)
+
+    pub all_after : (log : Option LogPlace) (doubt : List ℕ) (old new : D) → LeavesLogs g old new → IsLogged g log doubt old → (c : Files) → g.may_leave new c → FindsNow log (g.began old) (commits_in log (g.seen old)) doubt c
+    all_after log doubt old new leaves logged c left =
+        let has = leaves.now c left in
+        finds_now_same log (g.began old) (commits_in log (g.seen old)) doubt c has.0 (ap (λ (k : CommitFiles). k.log) has.2) (all_now log doubt old logged has.0 has.1)
 
     pub finds_after : (log : Option LogPlace) (doubt : List ℕ) (old new : D) → doubt ≡ [] → LeavesLogs g old new → IsLogged g log doubt old → (c : Files) → g.may_leave new c → FindsAll log (g.began old) (commits_in log (g.seen old)) c
     finds_after log doubt old new none leaves logged c left =
@@ -216,8 +243,8 @@ module _ {D : Type 0} (g : Ghosts D) where
 
     pub begun_logged : (unit : List (List ℕ)) (place : LogPlace) (old new : D) (doubt : List ℕ) → (g.began old).commits.log ≡ None → IsLogged g None doubt old → LeavesOnly g (SaysNoneOr (unit ∷ [])) old new → IsReady g (unit ∷ []) place new → IsLogged g (Some place) doubt new
     begun_logged unit place old new doubt none logged moment ready =
-        logged_of (unit ∷ []) place doubt new ready.whole (ready_stands (unit ∷ []) place new ready) (λ _. ready)
-        (λ c left. inl (⊎_elim (λ gone. inl gone) (λ says. inr (unit ∷ [], whole_first (unit ∷ []), says)) (begun_finds unit old new doubt none logged moment c left)))
+        logged_of (unit ∷ []) place doubt new (more_some [] unit) ready.whole (ready_stands (unit ∷ []) place new ready) (λ c left. inl (ready_says (unit ∷ []) place new ready c left)) (λ _. ready)
+        (λ c left. inl (⊎_elim (λ gone. inl gone) (λ says. inr (unit ∷ [], whole_first (unit ∷ []), more_some [] unit, says)) (begun_finds unit old new doubt none logged moment c left)))
 
     -- a commit is kept, has no room, or is in doubt
     module _ (place next : LogPlace) (old new : D) (logged : IsLogged g (Some place) [] old) where
@@ -229,10 +256,10 @@ module _ {D : Type 0} (g : Ghosts D) where
 
       pub kept_logged : (unit : List (List ℕ)) → IsReady g (held ++ unit ∷ []) next new → LeavesOnly g (SaysEither held unit) old new → IsLogged g (Some next) [] new
       kept_logged unit ready moment =
-          logged_of (held ++ unit ∷ []) next [] new ready.whole (ready_stands (held ++ unit ∷ []) next new ready) (λ _. ready)
+          logged_of (held ++ unit ∷ []) next [] new (more_some held unit) ready.whole (ready_stands (held ++ unit ∷ []) next new ready) (λ c left. inl (ready_says (held ++ unit ∷ []) next new ready c left)) (λ _. ready)
           (λ c left. inl (⊎_elim
           (λ was. says_more held unit c (was_first c was))
-          (λ says. ⊎_elim (λ same. inr (held, (unit ∷ [], refl), same)) (λ more. inr (held ++ unit ∷ [], whole_first (held ++ unit ∷ []), more)) says)
+          (λ says. ⊎_elim (λ same. inr (held, (unit ∷ [], refl), logged.holds.some, same)) (λ more. inr (held ++ unit ∷ [], whole_first (held ++ unit ∷ []), more_some held unit, more)) says)
           (moment.before 0 c (omega arith) left)))
 
       pub kept_commits : (unit : List (List ℕ)) → IsReady g (held ++ unit ∷ []) next new → commits_in (Some next) (g.seen new) ≡ commits_in (Some place) (g.seen old) ++ unit ∷ []
@@ -242,8 +269,8 @@ module _ {D : Type 0} (g : Ghosts D) where
 
       pub room_logged : IsReady g held next new → LeavesOnly g (Says held) old new → IsLogged g (Some next) [] new
       room_logged ready moment =
-          logged_of held next [] new ready.whole (ready_stands held next new ready) (λ _. ready)
-          (λ c left. inl (⊎_elim (was_first c) (λ says. inr (held, whole_first held, says)) (moment.before 0 c (omega arith) left)))
+          logged_of held next [] new logged.holds.some ready.whole (ready_stands held next new ready) (λ c left. inl (ready_says held next new ready c left)) (λ _. ready)
+          (λ c left. inl (⊎_elim (was_first c) (λ says. inr (held, whole_first held, logged.holds.some, says)) (moment.before 0 c (omega arith) left)))
 
       pub same_commits : Stands held next (g.seen new) → commits_in (Some next) (g.seen new) ≡ commits_in (Some place) (g.seen old)
       same_commits stand =
@@ -252,10 +279,10 @@ module _ {D : Type 0} (g : Ghosts D) where
 
       pub doubt_logged : (unit : List (List ℕ)) (text : List ℕ) → IsUnit unit → text ≡ unit_text unit → Stands held next (g.seen new) → LeavesOnly g (SaysEither held unit) old new → IsLogged g (Some next) text new
       doubt_logged unit text is spelt stand moment =
-          logged_of held next text new logged.holds.whole stand (λ empty. absurd (text_some unit is (sym empty ∙ spelt)))
+          logged_of held next text new logged.holds.some logged.holds.whole stand (λ c left. ⊎_elim (λ same. inl same) (λ more. inr (unit, is, spelt, more)) (moment.each c (counts new (g.moment old) c moment.later left))) (λ empty. absurd (text_some unit is (sym empty ∙ spelt)))
           (λ c left. ⊎_elim
           (λ was. inl (was_first c was))
-          (λ says. ⊎_elim (λ same. inl (inr (held, whole_first held, same))) (λ more. inr (unit, is, spelt, more)) says)
+          (λ says. ⊎_elim (λ same. inl (inr (held, whole_first held, logged.holds.some, same))) (λ more. inr (unit, is, spelt, more)) says)
           (moment.before 0 c (omega arith) left))
 
     -- of a store, whole

@@ -1,5 +1,5 @@
 -- What a crash at any moment leaves.
-use Rattle.std.specs.Prelude.{◌≡◌, ◌⊎◌, ℕ, ◌<◌, ◌≤◌, Bool, true, false, List, Option, Some, None, Result, OnOk, length, All, slice_get, slice_index_or}
+use Rattle.std.specs.Prelude.{◌≡◌, ◌⊎◌, ℕ, ◌<◌, ◌≤◌, Bool, true, false, List, Option, Some, None, Result, IsTrue, OnOk, length, All, slice_get, slice_index_or}
 use Rattle.page_journal.specs.Files.{PageFile, Kept, CommitFiles, Files, Agree, IsOf, Belongs, is_kept, recovered, restored, put_back}
 use Rattle.page_journal.specs.declared.disk_state.DiskState.{Ghosts}
 
@@ -26,6 +26,14 @@ pub record IsSealed {D : Type 0} (g : Ghosts D) (kept : Kept) (base : List (List
 -- after a restart, what reads see is what the device keeps
 abbrev pub IsAtRest : {D : Type 0} → Ghosts D → D → Type 0
 IsAtRest g disk = (c : Files) → g.may_leave disk c → (c.main ≡ (g.seen disk).main) × (c.side ≡ (g.seen disk).side) × (c.commits.log ≡ (g.seen disk).commits.log)
+
+-- The files are what they were, and count as those of a disk that was just opened.
+pub record BeginsAgain {D : Type 0} (g : Ghosts D) (old new : D) : Type 0 where
+  pub seen : g.seen new ≡ g.seen old
+  pub steady : g.steady new ≡ g.steady old
+  pub began : IsTrue (g.steady new) → g.seen new ≡ g.began new
+  pub rest : IsAtRest g new
+  pub moment : g.moment new ≡ 0
 
 -- a part of the files is that of an outcome of a crash then
 abbrev pub HasPartOf : {D P : Type 0} → Ghosts D → (Files → P) → D → Files → Type 0

@@ -1,5 +1,5 @@
 -- A store over a disk, which may be changed in any way that its calls allow and stands for the old file all the while.
-use Rattle.std.specs.Prelude.{◌≡◌, ℕ, ◌≤◌, Bool, true, false, cond, List, Option, length, slice_index_or, refl}
+use Rattle.std.specs.Prelude.{◌≡◌, ℕ, ◌≤◌, Bool, true, false, cond, List, Option, is_some, length, slice_index_or, refl}
 use Rattle.std.specs.Coded.{Coded, code_by, coded×, coded_ℕ, coded_bool, coded_list, coded_option}
 use Rattle.page_store.specs.Calls.{counted_times}
 use Rattle.page_store.specs.FreeNumbers.{greatest_page_count}
@@ -45,9 +45,16 @@ coded_state = code_by (Bool × Bool) (coded× coded_bool coded_bool) state_code 
 abbrev pub coded_kept_stored : {D : Type 0} → Coded D → Coded (KeptStored D)
 coded_kept_stored {D} d = code_by (D × (List Bool × (SealState × (ℕ × (ℕ × (ℕ × (ℕ × (Option LogPlace × List ℕ)))))))) (coded× d (coded× (coded_list coded_bool) (coded× coded_state (coded× coded_ℕ (coded× coded_ℕ (coded× coded_ℕ (coded× coded_ℕ (coded× (coded_option coded_place) (coded_list coded_ℕ))))))))) (λ s. (s.disk, (s.kept, (s.state, (s.reads, (s.shapes, (s.writes, (s.refusals, (s.log, s.doubt))))))))) (λ p. record { disk = p.0; kept = p.1.0; state = p.1.1.0; reads = p.1.1.1.0; shapes = p.1.1.1.1.0; writes = p.1.1.1.1.1.0; refusals = p.1.1.1.1.1.1.0; log = p.1.1.1.1.1.1.1.0; doubt = p.1.1.1.1.1.1.1.1 }) (λ _. refl)
 
--- a store over that file, beside which these commits are kept
-abbrev pub opened_over : PageFile → List (List (List ℕ)) → Opening
-opened_over file commits = record { pages = file.pages; tail = file.tail; commits = commits }
+-- a store over the file that these files stand for, beside which these commits are kept where a log was begun, and this one is in doubt
+abbrev pub opened_over : Files → Option LogPlace → List (List (List ℕ)) → List ℕ → Opening
+opened_over files log commits doubt = record {
+  pages = (recovered files).pages;
+  tail = (recovered files).tail;
+  log = files.commits.log;
+  logged = is_some log;
+  commits = commits;
+  doubt = doubt;
+}
 
 -- whether page n was kept, or is past the old end
 abbrev pub is_open : List Bool → ℕ → Bool

@@ -1,5 +1,5 @@
 -- What a store knows of the commits that it has kept, and what a crash leaves of them.
-use Rattle.std.specs.Prelude.{◌≡◌, ◌⊎◌, refl, ℕ, ◌≤◌, List, [], ◌∷◌, ◌++◌, Option, Some, None, take}
+use Rattle.std.specs.Prelude.{◌≡◌, ◌≢◌, ◌⊎◌, refl, ℕ, ◌≤◌, List, [], ◌∷◌, ◌++◌, Option, Some, None, take}
 use Rattle.std.specs.Coded.{Coded, code_by, coded×, coded_ℕ}
 use Rattle.commit_paper.specs.Text.{units_of, unit_text, IsUnit, AreUnits}
 use Rattle.page_journal.specs.Files.{PageFile, Files}
@@ -32,9 +32,9 @@ commits_in (Some place) f = units_before place.end f.commits.log
 abbrev pub AreFirst : List (List (List ℕ)) → List (List (List ℕ)) → Type 0
 AreFirst first units = (rest : List (List (List ℕ))) × (units ≡ first ++ rest)
 
--- no log has the name that an opening looks for, or it says some of these units, from the first on
+-- no log has the name that an opening looks for, or it says some of these units, at least the first
 abbrev pub SaysFirst : List (List (List ℕ)) → Files → Type 0
-SaysFirst units f = (f.commits.log ≡ None) ⊎ ((first : List (List (List ℕ))) × AreFirst first units × Says first f)
+SaysFirst units f = (f.commits.log ≡ None) ⊎ ((first : List (List (List ℕ))) × AreFirst first units × (first ≢ []) × Says first f)
 
 -- it says these, and one more of this text
 abbrev pub SaysDoubt : List (List (List ℕ)) → List ℕ → Files → Type 0
@@ -50,11 +50,22 @@ abbrev pub FindsAll : Option LogPlace → Files → List (List (List ℕ)) → F
 FindsAll None began units f = f.commits.log ≡ began.commits.log
 FindsAll (Some place) began units f = Says units f
 
--- these units stand in the log before a place, and unless one is in doubt the log is ready for another
+-- all that were kept, and perhaps the one that is in doubt
+abbrev pub SaysAll : List (List (List ℕ)) → List ℕ → Files → Type 0
+SaysAll units doubt f = Says units f ⊎ SaysDoubt units doubt f
+
+-- So much of the commits a crash leaves now: each that was kept.
+abbrev pub FindsNow : Option LogPlace → Files → List (List (List ℕ)) → List ℕ → Files → Type 0
+FindsNow None began units doubt f = f.commits.log ≡ began.commits.log
+FindsNow (Some place) began units doubt f = SaysAll units doubt f
+
+-- these units stand in the log before a place, a crash leaves all of them, and unless one is in doubt the log is ready for another
 pub record HoldsLog {D : Type 0} (g : Ghosts D) (place : LogPlace) (doubt : List ℕ) (disk : D) : Type 0 where
   pub units : List (List (List ℕ))
+  pub some : units ≢ []
   pub whole : AreUnits units
   pub stand : Stands units place (g.seen disk)
+  pub now : (c : Files) → g.may_leave disk c → SaysAll units doubt c
   pub ready : doubt ≡ [] → IsReady g units place disk
 
 abbrev pub HoldsCommits : {D : Type 0} → Ghosts D → Option LogPlace → List ℕ → D → Type 0

@@ -23,6 +23,10 @@ abbrev pub sum_without : (ℕ → Bool) → ℕ → List (List ℕ) → ℕ
 sum_without out zero pages = sum_start
 sum_without out (suc n) pages = cond (out n) (sum_without out n pages) (sum_on (sum_without out n pages) (slice_index_or pages n []))
 
+-- the sum over all pages of a file
+abbrev pub sum_of_all : List (List ℕ) → ℕ
+sum_of_all pages = sum_without (λ _. false) (length pages) pages
+
 -- a sum over the pages up to one goes on up to another, and leaves none of these out
 abbrev pub SumsOn : List (List ℕ) → ℕ → ℕ → ℕ → ℕ → Type 0
 SumsOn pages from to sum more = (out : ℕ → Bool) → ((n : ℕ) → from ≤ n → n < to → out n ≡ false) → sum ≡ sum_without out from pages → more ≡ sum_without out to pages

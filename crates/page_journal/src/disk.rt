@@ -1,10 +1,11 @@
-ghost use Rattle.std.specs.Prelude.{◌≡◌, ◌<◌, ◌≤◌, ◌-◌, ◌++◌, ℕ, List, Some, None, option_map, length, take, drop, IsTrue, IfOk, OnOk, slice_get, slice_set};
+ghost use Rattle.std.specs.Prelude.{◌≡◌, ◌<◌, ◌≤◌, ◌-◌, ◌++◌, ℕ, List, Some, None, option_map, length, take, drop, IsTrue, IfOk, OnOk, OnErr, slice_get, slice_set};
 ghost use Rattle.rec_types.specs.Widths.{page_width};
 ghost use Rattle.page_store.specs.Blank.{blanks};
+ghost use Rattle.page_journal.specs.Crash.{BeginsAgain, IsAtRest};
 ghost use Rattle.page_journal.specs.Files.{Files};
 ghost use Rattle.commit_paper.specs.Text.{zeros};
 ghost use Rattle.commit_paper.specs.Steps.{Lengthens, Inks};
-ghost use Rattle.page_journal.specs.Steps.{CallDoes, AppendDoes, CallSyncs, Nothing, TornAt, GrowsUpTo, CutsTo, Fresh, Names, Removes, FreshLog, NamesLog, RemovesLog, ChangesLog, KeepsLog, HasMoment, InCommits, begun, kept_more, names_of, side_shape, kept_at, written, zeroed};
+ghost use Rattle.page_journal.specs.Steps.{CallDoes, AppendDoes, CallSyncs, CountsFault, Stays, Nothing, TornAt, GrowsUpTo, CutsTo, Fresh, Names, Removes, FreshLog, NamesLog, RemovesLog, ChangesLog, KeepsLog, HasMoment, InCommits, begun, kept_more, names_of, side_shape, kept_at, written, zeroed};
 
 use crate::disk_state::DiskState;
 use crate::side_shape::SideShape;
@@ -167,6 +168,14 @@ pub trait Disk: DiskState {
             (option_map (λ bytes. take (length to.old) (drop at bytes))
             (Self.seen self.old).commits.log ≡ Some to.new) }
         ensures does { CallDoes Self.DiskState Nothing self.old result self.new };
+
+    /// Counts from now on as a disk that was just opened over what reads see, where a crash leaves nothing else. Fault:
+    /// Failed; it counts as it did.
+    fn begin_again(&mut self) -> Result<(), StoreFault>
+        requires { IsTrue (Self.steady self.old) → IsAtRest Self.DiskState self.old }
+        ensures again { OnOk result (BeginsAgain Self.DiskState self.old self.new) }
+        ensures kept { OnErr result (Stays Self.DiskState self.old self.new) }
+        ensures fault { CountsFault Self.DiskState self.old result self.new };
 
     /// At this moment a crash leaves nothing but what it may leave now.
     ghost only_now: { (disk : Self) (c : Files)

@@ -8,13 +8,15 @@ ghost use Rattle.page_journal.specs.FileDisks.{SetsLength};
 use crate::beside::Beside;
 use crate::disk::Disk;
 use crate::disk_state::DiskState;
+use crate::log_beside::LogBeside;
+use crate::making::is_free;
 use crate::noted::{count_up, noted_call, told_call};
 use crate::opening_fault::OpeningFault;
 use crate::recovering::look_beside;
 use crate::side_files::SideFiles;
 use crate::side_names::SideNames;
 use crate::side_shape::SideShape;
-use file_system::{System, SystemFile};
+use file_system::{FileFacts, System, SystemFile};
 use page_store::{Shape, StoreFault};
 use rec_types::PAGE_WIDTH;
 use std::alloc::Global;
@@ -25,13 +27,13 @@ use std::os::unix::fs::FileExt;
 /// The bytes of a page, counted as a file's are.
 const PAGE_BYTES: u64 = PAGE_WIDTH as u64;
 
-/// A page file on a file system, with its side file beside it: for a file FILE that is `FILE-journal`, and
-/// `FILE-journal-new` while it is made. The file is locked against other openings. Its length is taken once, at opening,
+/// A page file on a file system, with its side file and its log of commits beside it: for a file FILE these are
+/// `FILE-journal` and `FILE-commits`, with `-new` behind that while they are made. The file is locked against other openings. Its length is taken once, at opening,
 /// and kept. Each method makes the call of the system that it stands for; contracts tell no more of what is read and of
 /// what a crash leaves than `Disk` does.
 ///
 /// What other programs left unsynced is kept by the device before the first call that changes anything, or at opening
-/// where a side file is there. The moments of a crash are counted from then on: one before it leaves what it would have
+/// where a side file or a log is there. The moments of a crash are counted from then on: one before it leaves what it would have
 /// left without this opening, which has changed nothing.
 #[derive(Drop)]
 pub struct FileDisk<H, F> {
@@ -71,11 +73,12 @@ fn page_start(n: u32) -> u64
 
 impl<H: System<File = F> + Drop, F: SystemFile + Drop> FileDisk<H, F> {
     /// Opens the file of that path to read and write it, and takes the lock that no other opening shares. What a stop
-    /// left beside it is looked at: a side file that was being made is removed, and one that has the name stays, for
-    /// `KeptStore::open`; the device then keeps all that is read. To make a file beside it, which a closing will need, was
-    /// tried. Faults: Device, as where there is no file, it or its folder may not be written, it has a second name, or
-    /// another opening has a lock; BadJournal, where what has a side file's name is none of this file, and nothing has
-    /// changed then; Memory.
+    /// left beside it is looked at: a side file or a log of commits that was being made is removed, and a side file that has the
+    /// name stays, for `KeptStore::open`; the device then keeps all that is read. To make a file beside it, which a closing
+    /// will need, was tried. Faults: Device, as where there is no file, it or its folder may not be written, it has a second
+    /// name, or another opening has a lock; BadCommits, where something else has the name of a log of commits, or of one that is
+    /// being made; BadJournal, where what has a side file's name is none of this file. Nothing has changed at these two.
+    /// Memory.
     pub fn open(rt: H, alloc: Global, path: &str) -> Result<FileDisk<H, F>, OpeningFault>
         ensures rest { IfOk result (λ d. IsAtRest ⟦<FileDisk<H, F> as DiskState>⟧ d) }
         ensures began { IfOk result (λ d. IsTrue (⟦<FileDisk<H, F> as DiskState>⟧.steady d)
@@ -98,37 +101,51 @@ impl<H: System<File = F> + Drop, F: SystemFile + Drop> FileDisk<H, F> {
             calls: 0,
             failures: 0,
         };
-        if disk.beside.shape().is_some() {
+        if disk.beside.is_some() {
             disk.settle()?;
         }
         Ok(disk)
+    }
+
+    // A file that was opened to be read, with what stands beside it.
+    fn looked_at(file: F, opened: &FileFacts, beside: SideFiles<H, F>) -> FileDisk<H, F> {
+        FileDisk {
+            file,
+            beside,
+            settled: false,
+            pages: opened.len / PAGE_BYTES,
+            tail: (opened.len % PAGE_BYTES) as u16,
+            calls: 0,
+            failures: 0,
+        }
     }
 
     /// What stands beside the file of that path under the name of its side file. Nothing is changed. Faults: Device, as
     /// where there is no file, a writer has a lock, or what stands beside it can't be read; Memory.
     pub fn beside(rt: H, alloc: Global, path: &str) -> Result<Beside, OpeningFault> {
         let names = SideNames::of(&rt, alloc, path)?;
-        let file = rt.open_read(names.main.as_str())?;
-        file.try_lock_shared()?;
-        let opened = file.facts()?;
-        let pages = opened.len / PAGE_BYTES;
-        let beside = match SideFiles::look(rt, names, opened, pages) {
+        let (file, opened) = open_shared(&rt, names.main.as_str())?;
+        let beside = match SideFiles::look(rt, names, opened, opened.len / PAGE_BYTES) {
             Ok(beside) => beside,
             Err(OpeningFault::BadJournal) => return Ok(Beside::Stray),
             Err(fault) => return Err(fault),
         };
-        let mut disk = FileDisk {
-            file,
-            beside,
-            settled: false,
-            pages,
-            tail: (opened.len % PAGE_BYTES) as u16,
-            calls: 0,
-            failures: 0,
-        };
-        match look_beside(&mut disk) {
+        match look_beside(&mut FileDisk::looked_at(file, &opened, beside)) {
             Ok(found) => Ok(found),
             Err(_) => Err(OpeningFault::Device),
+        }
+    }
+
+    /// The log of commits beside the file of that path, where something has its name. Nothing is changed. Faults: Device, as
+    /// of `beside`; BadCommits, where it is no regular file; Memory.
+    pub fn log_beside(rt: H, alloc: Global, path: &str) -> Result<Option<LogBeside>, OpeningFault> {
+        let names = SideNames::of(&rt, alloc, path)?;
+        let (file, opened) = open_shared(&rt, names.main.as_str())?;
+        let beside = SideFiles::look_at_log(rt, names, opened)?;
+        match LogBeside::of(alloc, &mut FileDisk::looked_at(file, &opened, beside)) {
+            Ok(found) => Ok(found),
+            Err(StoreFault::Failed) => Err(OpeningFault::Device),
+            Err(StoreFault::Memory) => Err(OpeningFault::Memory),
         }
     }
 
@@ -140,7 +157,7 @@ impl<H: System<File = F> + Drop, F: SystemFile + Drop> FileDisk<H, F> {
             return Ok(());
         }
         self.file.sync_all()?;
-        self.beside.sync_names()?;
+        self.beside.settle()?;
         self.settled = true;
         Ok(())
     }
@@ -183,22 +200,39 @@ impl<H: System<File = F> + Drop, F: SystemFile + Drop> FileDisk<H, F> {
     }
 }
 
-/// The name that an opening looks for beside the file of that path, without links. Faults: Device, as where there is no
-/// file; Memory.
+// Opens a file to read it, which no writer has open meanwhile. Fault: Device.
+fn open_shared<H: System>(rt: &H, name: &str) -> Result<(H::File, FileFacts), OpeningFault> {
+    let file = rt.open_read(name)?;
+    file.try_lock_shared()?;
+    let opened = file.facts()?;
+    Ok((file, opened))
+}
+
+/// The name of the side file that an opening looks for beside the file of that path, without links. Faults: Device, as where
+/// there is no file; Memory.
 pub fn side_name<H: System>(rt: &H, alloc: Global, path: &str) -> Result<String, OpeningFault> {
     let SideNames { side, .. } = SideNames::of(rt, alloc, path)?;
     Ok(side)
 }
 
-/// Whether a side file stands beside the file of that path, by the name that an opening looks for. Faults: Device, as where
-/// there is no file; Memory.
-pub fn has_side_file<H: System>(rt: &H, alloc: Global, path: &str) -> Result<bool, OpeningFault> {
+/// The same of the log of commits.
+pub fn log_name<H: System>(rt: &H, alloc: Global, path: &str) -> Result<String, OpeningFault> {
+    let SideNames { log, .. } = SideNames::of(rt, alloc, path)?;
+    Ok(log)
+}
+
+/// Whether a side file or a log of commits stands beside the file of that path, by the names that an opening looks for.
+/// Faults: Device, as where there is no file; Memory.
+pub fn has_side_file_or_log<H: System>(
+    rt: &H,
+    alloc: Global,
+    path: &str,
+) -> Result<bool, OpeningFault> {
     let names = SideNames::of(rt, alloc, path)?;
-    match rt.facts_here(names.side.as_str()) {
-        Ok(_) => Ok(true),
-        Err(error) if error.kind() == io::ErrorKind::NotFound => Ok(false),
-        Err(_) => Err(OpeningFault::Device),
+    if !is_free(rt, names.side.as_str())? {
+        return Ok(true);
     }
+    Ok(!is_free(rt, names.log.as_str())?)
 }
 
 impl<H: System<File = F> + Drop, F: SystemFile + Drop> DiskState for FileDisk<H, F> {
@@ -344,6 +378,11 @@ impl<H: System<File = F> + Drop, F: SystemFile + Drop> Disk for FileDisk<H, F> {
     fn read_log(&mut self, at: usize, to: &mut [u8]) -> Result<(), StoreFault> {
         let answer = self.beside.logs().read(at, to);
         noted_call(&mut self.failures, answer)
+    }
+
+    fn begin_again(&mut self) -> Result<(), StoreFault> {
+        self.calls = 0;
+        Ok(())
     }
 
     fn side(&mut self) -> Result<Option<SideShape>, StoreFault> {

@@ -1,4 +1,4 @@
-ghost use Rattle.std.specs.Prelude.{◌≡◌, ◌≢◌, ◌<◌, ◌≤◌, ◌-◌, ◌==◌, ◌++◌, ◌∷◌, ◌^◌, ℕ, Bool, List, [], true, false, Some, None, Ok, Err, length, IsTrue, IsOk, IsSome, IfOk, IfErr, OnOk, OnErr, slice_get, slice_set};
+ghost use Rattle.std.specs.Prelude.{◌≡◌, ◌≢◌, ◌↔◌, ◌<◌, ◌≤◌, ◌-◌, ◌==◌, ◌++◌, ◌∷◌, ◌^◌, ℕ, Bool, List, [], true, false, Some, None, Ok, Err, length, IsTrue, IsOk, IsSome, IfOk, IfErr, MatchOption, OnOk, OnErr, slice_get, slice_set};
 ghost use Rattle.std.specs.List.{list_any};
 ghost use Rattle.rec_types.specs.Table.{counted};
 ghost use Rattle.rec_types.specs.Widths.{page_width};
@@ -13,16 +13,18 @@ ghost use Rattle.page_store.specs.declared.step.Step.{Step};
 ghost use Rattle.commit_paper.specs.Text.{IsUnit, unit_text};
 ghost use Rattle.page_store.specs.Commits.{IsCommit};
 ghost use Rattle.page_journal.specs.Files.{Files, Belongs, recovered};
-ghost use Rattle.page_journal.specs.Logging.{SaysNoneOr};
-ghost use Rattle.page_journal.specs.LoggedStores.{FindsAll, LeavesWithCommits, MayFind, commits_in};
+ghost use Rattle.page_journal.specs.Logging.{HasLog, IsTextOf, SaysNoneOr};
+ghost use Rattle.page_journal.specs.LoggedStores.{FindsAll, FindsNow, LeavesWithCommits, MayFind, commits_in};
 ghost use Rattle.page_journal.specs.Steps.{CallSyncs, StaysBegun, StaysSteady};
 ghost use Rattle.page_journal.specs.Crash.{IsSettled, IsAtRest, StandsAs, StandsFor, IsEither};
 ghost use Rattle.page_journal.specs.Recovery.{IsForeign, is_device, is_device_fault};
 ghost use Rattle.page_journal.specs.KeptStores.{failures_with, guard_of, KeptStored, CanBeSealed, is_open, may_write_in};
 
+mod file_sum;
+
 use crate::disk::Disk;
 use crate::log_place::LogPlace;
-use crate::logging::{append, begin_log};
+use crate::logging::{append, begin_log, read_back};
 use crate::noted::count_up;
 use crate::recovering::{commit, recover};
 use crate::recovery_fault::RecoveryFault;
@@ -172,6 +174,8 @@ impl<D: Disk + Drop> KeptStore<D> {
             × ((D.seen s.disk).main ≡ recovered (D.began disk))) }
         ensures stopped { IsTrue (D.steady disk) → IfErr result (λ stop. (c : Files)
             → D.left_since stop.0 0 c → StandsAs (D.began disk) c) }
+        ensures log { IsTrue (D.steady disk) → IfErr result (λ stop. (c : Files)
+            → D.left_since stop.0 0 c → c.commits.log ≡ (D.began disk).commits.log) }
         ensures bad_journal { IsTrue (D.steady disk) → IfErr result (λ stop.
             stop.1 ≡ RecoveryFault.BadJournal → IsForeign (D.began disk)) }
         ensures device { IfErr result (λ stop. D.failures stop.0
@@ -235,6 +239,33 @@ impl<D: Disk + Drop> KeptStore<D> {
             }),
             Err(_) => Err((disk, StoreFault::Failed)),
         }
+    }
+
+    /// The text of the finished units of the log of commits that stood beside the file when the disk was opened, where one did.
+    /// It changes nothing. Faults: Failed, Memory.
+    pub fn found_commits(&mut self) -> Result<Option<Vec<u8>>, StoreFault>
+        requires unlogged { self.old.log ≡ None }
+        ensures text { IsTrue (D.steady self.old.disk) → IfOk result
+            (λ found. MatchOption found ((D.began self.old.disk).commits.log ≡ None)
+            (λ text. HasLog (IsTextOf text.items) (D.began self.old.disk))) }
+        ensures rest { self.new ≡ record self.old { disk = self.new.disk } }
+        ensures seen { D.seen self.new.disk ≡ D.seen self.old.disk }
+        ensures opened { StaysSteady D.DiskState self.old.disk self.new.disk
+            × StaysBegun D.DiskState self.old.disk self.new.disk }
+        ensures failures { D.failures self.new.disk
+            ≡ counted (D.failures self.old.disk) (is_failed result) }
+    {
+        read_back(self.alloc, &mut self.disk)
+    }
+
+    /// Whether a commit is in doubt. At each moment a crash leaves every commit that was kept, and perhaps the one in doubt.
+    pub fn is_in_doubt(&self) -> bool
+        ensures value { IsTrue result ↔ (0 < length self.now.doubt) }
+        ensures now { IsTrue (D.steady self.now.disk) → (c : Files)
+            → D.may_leave self.now.disk c → FindsNow self.now.log (D.began self.now.disk)
+            (commits_in self.now.log (D.seen self.now.disk)) self.now.doubt c }
+    {
+        !self.doubt.is_empty()
     }
 
     // Whether page n may be written over.
@@ -324,6 +355,9 @@ impl<D: Disk + Drop> KeptStore<D> {
         ensures all { IsTrue (D.steady self.disk) → OnOk result.1 ((c : Files)
             → D.may_leave result.0 c → FindsAll self.log (D.began self.disk)
             (commits_in self.log (D.seen self.disk)) c) }
+        ensures now { IsTrue (D.steady self.disk) → (c : Files) → D.may_leave result.0 c
+            → FindsNow self.log (D.began self.disk) (commits_in self.log (D.seen self.disk))
+            self.doubt c }
     {
         let KeptStore {
             mut disk,
@@ -349,6 +383,9 @@ impl<D: Disk + Drop> KeptStore<D> {
             → StandsFor (recovered (D.began self.disk)) c }
         ensures commits { IsTrue (D.steady self.disk) → (c : Files) → D.left_since result.0 0 c
             → MayFind self.log (D.began self.disk) (commits_in self.log (D.seen self.disk))
+            self.doubt c }
+        ensures now { IsTrue (D.steady self.disk) → (c : Files) → D.may_leave result.0 c
+            → FindsNow self.log (D.began self.disk) (commits_in self.log (D.seen self.disk))
             self.doubt c }
         ensures fault { IsTrue (D.steady self.disk) → result.1 ≢ Err RecoveryFault.BadJournal }
         ensures unsealed { self.state ≢ SealState.Sealed
@@ -385,8 +422,8 @@ impl<D: Disk + Drop> StoreState for KeptStore<D> {
 
     ghost steady = { λ s. D.steady s.disk };
 
-    ghost opening = { λ s. opened_over (recovered (D.began s.disk))
-        (commits_in s.log (D.seen s.disk)) };
+    ghost opening = { λ s. opened_over (D.began s.disk) s.log
+        (commits_in s.log (D.seen s.disk)) s.doubt };
 
     ghost reads = { λ s. s.reads };
 

@@ -8,7 +8,7 @@ ghost use Rattle.page_journal.specs.Crash.{StandsFor, IsEither, Gathered};
 ghost use Rattle.page_journal.specs.History.{all_done, MayLeave, LeftSince};
 ghost use Rattle.page_journal.specs.Examples.{pages_of_two, alone, old_file, word, words, word_kept, page_1_kept, page_1_written, both_written, both_writes, side_made, side_named, named_early, log_made, log_named_early, with_log, page_1_steps, both_steps};
 ghost use Rattle.page_store.specs.Blank.{blank};
-ghost use Rattle.page_journal.specs.Sums.{sum_start, sum_on};
+ghost use Rattle.page_journal.specs.Sums.{sum_start, sum_on, sum_of_all};
 ghost use Rattle.page_journal.specs.SideBytes.{side_header, entry_bytes, side_bytes, read_side, IsSideFile, IsTaken};
 ghost use Rattle.page_journal.specs.declared.commit_call.CommitCall.{CommitCall};
 ghost use Rattle.page_journal.specs.declared.disk_call.DiskCall.{DiskCall};
@@ -109,6 +109,15 @@ pub fn logs_by_example()
     ensures synced { (bytes : Vec ℕ Global) (c : Files) → bytes.items ≡ 7 ∷ []
         → MayLeave (with_log old_file (0 ∷ [])) (DiskCall.Commits CommitCall.Sync
         ∷ DiskCall.Commits (CommitCall.Write 0 bytes) ∷ []) c → c.commits.log ≡ Some (7 ∷ []) }
+{}
+
+/// The sum over the pages of a file is that over their bytes, one page after another. In the examples it is that of the four
+/// bytes of the one page; the same pages in another order have another, and so has the file with a page less.
+pub fn file_sums_by_example()
+    ensures none { sum_of_all [] ≡ sum_start }
+    ensures one { sum_of_all ((0x61 ∷ 0x62 ∷ 0x63 ∷ 0x64 ∷ []) ∷ []) ≡ 0xcd80d9f18c2d2e73 }
+    ensures other_order { sum_of_all (word 2 ∷ word 1 ∷ []) ≢ sum_of_all (word 1 ∷ word 2 ∷ []) }
+    ensures shorter { sum_of_all (word 1 ∷ []) ≢ sum_of_all (word 1 ∷ word 2 ∷ []) }
 {}
 
 /// What the bytes of a side file say is what they were made of, and bytes are taken where they are those of a side file and

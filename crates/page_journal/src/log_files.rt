@@ -1,11 +1,15 @@
 use crate::fresh_side::BEING_MADE;
 use crate::kept_side::no_such_call;
-use file_system::{FileFacts, System, SystemFile};
+use crate::opening_fault::OpeningFault;
+use file_system::{FileFacts, FileKind, System, SystemFile};
 use std::io;
 use std::os::unix::fs::FileExt;
 
 /// How many zeros are written at a time.
 const ZEROS: usize = 4096;
+
+/// What a log of commits begins with.
+pub(crate) const LOG_START: [u8; 8] = *b"commits ";
 
 /// The logs of commits beside a file: one that is being made, and the one that has the name that an opening looks for.
 #[derive(Drop)]
@@ -42,7 +46,66 @@ fn fill<H: System<File = F>, F: SystemFile>(
     write_zeros(file, head.len() as u64, room)
 }
 
+/// What has the name of a log, where something has it. Faults: Device; BadCommits, where it is no regular file.
+pub(crate) fn log_facts<H: System>(rt: &H, name: &str) -> Result<Option<FileFacts>, OpeningFault> {
+    match rt.facts_here(name) {
+        Ok(found) if found.kind == FileKind::File => Ok(Some(found)),
+        Ok(_) => Err(OpeningFault::BadCommits),
+        Err(error) if error.kind() == io::ErrorKind::NotFound => Ok(None),
+        Err(_) => Err(OpeningFault::Device),
+    }
+}
+
+// Hands a file on that was opened by the name of a log. It fails where the name led to another.
+fn expect_same<F: SystemFile + Drop>(file: F, found: &FileFacts) -> io::Result<F> {
+    if file.facts()?.is_same_file(found) {
+        Ok(file)
+    } else {
+        Err(no_such_call())
+    }
+}
+
 impl<F: SystemFile + Drop> LogFiles<F> {
+    /// Opens the log of that name, where there is one, to read and write it, beside a file of that mode. One that a stop left
+    /// with the mode of its making gets that of the file. Faults: Device; BadCommits, where it is no regular file.
+    pub(crate) fn open<H: System<File = F>>(
+        rt: &H,
+        name: &str,
+        mode: u32,
+    ) -> Result<LogFiles<F>, OpeningFault> {
+        let Some(found) = log_facts(rt, name)? else {
+            return Ok(LogFiles::new());
+        };
+        if found.mode == BEING_MADE {
+            rt.set_mode(name, mode)?;
+        }
+        let log = expect_same(rt.open_update(name)?, &found)?;
+        Ok(LogFiles {
+            fresh: None,
+            log: Some(log),
+        })
+    }
+
+    /// Opens it to read it, and changes nothing. Faults as of `open`.
+    pub(crate) fn look<H: System<File = F>>(
+        rt: &H,
+        name: &str,
+    ) -> Result<LogFiles<F>, OpeningFault> {
+        let Some(found) = log_facts(rt, name)? else {
+            return Ok(LogFiles::new());
+        };
+        let log = expect_same(rt.open_read(name)?, &found)?;
+        Ok(LogFiles {
+            fresh: None,
+            log: Some(log),
+        })
+    }
+
+    /// Whether a log has the name that an opening looks for.
+    pub(crate) fn is_some(&self) -> bool {
+        self.log.is_some()
+    }
+
     /// None.
     pub(crate) fn new() -> LogFiles<F> {
         LogFiles {
@@ -108,12 +171,17 @@ impl<F: SystemFile + Drop> LogFiles<F> {
         Ok(())
     }
 
-    /// Makes the log so many zeros from a place on.
+    /// Makes the log so many zeros from a place on. Where that fails the log ends at the place, as far as the system does that:
+    /// zeros that were written would take the room that a closing needs.
     pub(crate) fn lengthen(&mut self, at: usize, n: usize) -> io::Result<()> {
         match &self.log {
             Some(file) => {
                 file.set_len(at as u64)?;
-                write_zeros(file, at as u64, n)
+                let answer = write_zeros(file, at as u64, n);
+                if answer.is_err() {
+                    let _ = file.set_len(at as u64);
+                }
+                answer
             }
             None => Err(no_such_call()),
         }
@@ -132,6 +200,14 @@ impl<F: SystemFile + Drop> LogFiles<F> {
         match &self.log {
             Some(file) => file.sync_all(),
             None => Err(no_such_call()),
+        }
+    }
+
+    /// The same, where there is one.
+    pub(crate) fn settle(&self) -> io::Result<()> {
+        match &self.log {
+            Some(file) => file.sync_all(),
+            None => Ok(()),
         }
     }
 

@@ -1,5 +1,7 @@
 ghost use Rattle.std.specs.Prelude.{◌≡◌, ◌≤◌, ◌^◌, ◌++◌, ◌∷◌, [], List, ℕ, IsTrue, None, IfOk, OnOk, OnErr, IsErrOf, MatchOption, length};
+ghost use Rattle.rec_types.specs.Table.{counted};
 ghost use Rattle.commit_paper.specs.Text.{IsUnit, unit_text};
+ghost use Rattle.page_store.specs.StoreFaults.{is_failed};
 ghost use Rattle.page_journal.specs.Steps.{CountsFault, Stays, StaysBegun, StaysSteady, StaysUncounted};
 ghost use Rattle.page_journal.specs.Crash.{LeavesOnly, LeavesPages};
 ghost use Rattle.page_journal.specs.Logging.{HasLog, HasLogOf, HasNoLog, HasRoom, IsTextOf, IsReady, Says, SaysEither, SaysNoneOr, Stands, StaysWithin};
@@ -172,6 +174,7 @@ pub fn read_back<D: Disk>(alloc: Global, disk: &mut D) -> Result<Option<Vec<u8>>
         (λ found. MatchOption found ((D.seen disk.old).commits.log ≡ None)
         (λ text. HasLog (IsTextOf text.items) (D.seen disk.old))) }
     ensures stays { Stays D.DiskState disk.old disk.new }
+    ensures failures { D.failures disk.new ≡ counted (D.failures disk.old) (is_failed result) }
 {
     let Some(long) = disk.log_length()? else {
         return Ok(None);

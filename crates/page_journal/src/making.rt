@@ -10,8 +10,8 @@ use std::alloc::Global;
 use std::io;
 use std::os::unix::fs::FileExt;
 
-// Whether nothing has the name, not even a link. Fault: Device.
-fn is_free<H: System>(rt: &H, name: &str) -> Result<bool, OpeningFault> {
+/// Whether nothing has the name, not even a link. Fault: Device.
+pub(crate) fn is_free<H: System>(rt: &H, name: &str) -> Result<bool, OpeningFault> {
     match rt.facts_here(name) {
         Ok(_) => Ok(false),
         Err(error) if error.kind() == io::ErrorKind::NotFound => Ok(true),
@@ -21,7 +21,8 @@ fn is_free<H: System>(rt: &H, name: &str) -> Result<bool, OpeningFault> {
 
 /// Makes a page file without pages at a path where there is none, locked as one that is opened to be written. Faults:
 /// Device, as where there is a file, or its name is too long for that of a side file; BadJournal, where something has the
-/// name of its side file, which stays; Memory. No file was made then.
+/// name of its side file, and BadCommits, where something has that of its log of commits, which stays; Memory. No file was made
+/// then.
 pub fn make_file<H: System<File = F>, F: SystemFile + Drop>(
     rt: &H,
     alloc: Global,
@@ -35,6 +36,9 @@ pub fn make_file<H: System<File = F>, F: SystemFile + Drop>(
     }
     if !is_free(rt, names.side.as_str())? {
         return Err(OpeningFault::BadJournal);
+    }
+    if !is_free(rt, names.log.as_str())? {
+        return Err(OpeningFault::BadCommits);
     }
     match FileStore::create_new(rt, names.main.as_str()) {
         Ok(store) => Ok(store),

@@ -279,6 +279,17 @@ impl Disk for MemDisk {
         }
     }
 
+    fn begin_again(&mut self) -> Result<(), StoreFault> {
+        match self.seen.copy() {
+            Ok(first) => {
+                self.first = first;
+                self.calls = Vec::new(self.seen.alloc);
+                Ok(())
+            }
+            Err(Memory) => Err(self.fail()),
+        }
+    }
+
     fn side(&mut self) -> Result<Option<SideShape>, StoreFault> {
         let Some(kept) = &self.seen.side else {
             return Ok(None);

@@ -9,6 +9,8 @@ pub enum OpeningFault {
     Device,
     #[error("the side file isn't one of this file")]
     BadJournal,
+    #[error("what has the name of a log of commits is none")]
+    BadCommits,
     #[error("out of memory")]
     Memory,
 }

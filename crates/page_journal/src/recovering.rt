@@ -96,8 +96,13 @@ fn put_back<D: Disk>(disk: &mut D, side: SideShape) -> Result<(), StoreFault>
     Ok(())
 }
 
-// A sum over the pages up to one goes on up to another. They are there.
-fn sum_pages<D: Disk>(disk: &mut D, sum: u64, from: u32, to: u32) -> Result<u64, StoreFault>
+/// A sum over the pages up to one goes on up to another. They are there. Fault: Failed.
+pub(crate) fn sum_pages<D: Disk>(
+    disk: &mut D,
+    sum: u64,
+    from: u32,
+    to: u32,
+) -> Result<u64, StoreFault>
     requires there { to ≤ length (D.seen disk.old).main.pages }
     requires order { from ≤ to }
     ensures stays { Stays D.DiskState disk.old disk.new }

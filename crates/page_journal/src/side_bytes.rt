@@ -16,7 +16,7 @@ pub(crate) const OLD_HEADER_WIDTH: usize = 32;
 pub(crate) const ENTRY_WIDTH: usize = 4100;
 
 /// The text that a side file begins with.
-const MAGIC: [u8; 8] = *b"BMKRJRNL";
+pub(crate) const SIDE_START: [u8; 8] = *b"BMKRJRNL";
 
 const VERSION: u16 = 2;
 
@@ -37,11 +37,6 @@ const SUM_AT: usize = 32;
 const OLD_SUM_AT: usize = 24;
 
 const SUM_PRIME: u64 = 0x100_0000_01b3;
-
-/// Whether a file may be a side file by its first bytes.
-pub(crate) fn begins_side_file(bytes: &[u8; 8]) -> bool {
-    *bytes == MAGIC
-}
 
 /// How many bytes stand before the old pages of a side file that says this of the others.
 pub(crate) fn header_width(rest: Option<u64>) -> u64
@@ -78,7 +73,7 @@ fn spell_header(long: u32, kept: u32, rest: u64, sum: u64) -> [u8; HEADER_WIDTH]
     ensures { result ≡ side_header long kept (Some rest) sum }
 {
     let mut header = [0; HEADER_WIDTH];
-    header[..VERSION_AT].copy_from_slice(&MAGIC);
+    header[..VERSION_AT].copy_from_slice(&SIDE_START);
     BigEndian::write_u16(&mut header[VERSION_AT..], VERSION);
     BigEndian::write_u32(&mut header[LONG_AT..], long);
     BigEndian::write_u32(&mut header[COUNT_AT..], kept);
@@ -101,7 +96,7 @@ fn spell_old_header(long: u32, kept: u32, sum: u64) -> [u8; OLD_HEADER_WIDTH]
     ensures { result ≡ side_header long kept None sum }
 {
     let mut header = [0; OLD_HEADER_WIDTH];
-    header[..VERSION_AT].copy_from_slice(&MAGIC);
+    header[..VERSION_AT].copy_from_slice(&SIDE_START);
     BigEndian::write_u16(&mut header[VERSION_AT..], OLD_VERSION);
     BigEndian::write_u32(&mut header[LONG_AT..], long);
     BigEndian::write_u32(&mut header[COUNT_AT..], kept);

@@ -1,12 +1,12 @@
-ghost use Rattle.std.specs.Prelude.{◌≡◌, ◌≤◌, IfOk, IfSome};
+ghost use Rattle.std.specs.Prelude.{◌≡◌, ◌≤◌, None, IfOk, IfSome};
 ghost use Rattle.std.specs.Option.{option_map};
 ghost use Rattle.file_system.specs.Facts.{IsAlone};
 
 use crate::fresh_side::{BEING_MADE, FreshSide};
 use crate::kept_side::{KeptSide, no_such_call};
-use crate::log_files::LogFiles;
+use crate::log_files::{LOG_START, LogFiles, log_facts};
 use crate::opening_fault::OpeningFault;
-use crate::side_bytes::begins_side_file;
+use crate::side_bytes::SIDE_START;
 use crate::side_names::SideNames;
 use crate::side_shape::SideShape;
 use file_system::{FileFacts, FileKind, System, SystemFile};
@@ -53,9 +53,14 @@ fn give_name<H: System>(
     rt.rename(names.fresh.as_str(), names.side.as_str())
 }
 
-// Whether what has that name may be a side file that a stop left while it was being made: it is empty, nobody may open
-// it, or it begins as a side file does.
-fn may_be_left<H: System>(rt: &H, name: &str, found: &FileFacts) -> io::Result<bool> {
+// Whether what has that name may have been left by a stop while it was being made: it is empty, nobody may open it, or it
+// begins so.
+fn may_be_left<H: System>(
+    rt: &H,
+    name: &str,
+    found: &FileFacts,
+    start: &[u8; 8],
+) -> io::Result<bool> {
     if found.kind != FileKind::File {
         return Ok(false);
     }
@@ -67,27 +72,50 @@ fn may_be_left<H: System>(rt: &H, name: &str, found: &FileFacts) -> io::Result<b
     }
     let mut bytes = [0; 8];
     rt.open_read(name)?.read_exact_at(&mut bytes, 0)?;
-    Ok(begins_side_file(&bytes))
+    Ok(bytes == *start)
 }
 
-// Removes what a stop left of that name. Faults: Device; BadJournal, where something else has the name, and it stays.
-fn remove_left<H: System>(rt: &H, name: &str) -> Result<(), OpeningFault> {
+// Whether a stop left something of that name while it was being made, which begins so. Faults: Device; this one, where
+// something else has the name.
+fn is_left<H: System>(
+    rt: &H,
+    name: &str,
+    start: &[u8; 8],
+    other: OpeningFault,
+) -> Result<bool, OpeningFault> {
     let found = match rt.facts_here(name) {
         Ok(found) => found,
-        Err(error) if error.kind() == io::ErrorKind::NotFound => return Ok(()),
+        Err(error) if error.kind() == io::ErrorKind::NotFound => return Ok(false),
         Err(_) => return Err(OpeningFault::Device),
     };
-    if !may_be_left(rt, name, &found)? {
-        return Err(OpeningFault::BadJournal);
+    if !may_be_left(rt, name, &found, start)? {
+        return Err(other);
     }
-    rt.remove(name)?;
-    Ok(())
+    Ok(true)
+}
+
+// Whether a stop left a log of commits while it was being made. Faults: Device; BadCommits, where something else has the name
+// of one.
+fn is_log_left<H: System>(rt: &H, names: &SideNames) -> Result<bool, OpeningFault> {
+    log_facts(rt, names.log.as_str())?;
+    is_left(
+        rt,
+        names.fresh_log.as_str(),
+        &LOG_START,
+        OpeningFault::BadCommits,
+    )
+}
+
+// Makes a file of a name that nothing has, and takes it away again.
+fn try_making<H: System>(rt: &H, name: &str) -> io::Result<()> {
+    rt.make_new(name, BEING_MADE)?;
+    rt.remove(name)
 }
 
 impl<H: System<File = F> + Drop, F: SystemFile + Drop> SideFiles<H, F> {
-    /// Looks at what stands beside a file of so many pages: opens the side file that has the name, and removes one that was
-    /// being made. What a closing will need is tried: to make a file beside it. Faults: Device; BadJournal, where nothing
-    /// has changed.
+    /// Looks at what stands beside a file of so many pages: opens the side file that has the name, and removes one, or a log of
+    /// commits, that was being made. What a closing will need is tried: to make a file beside it. Faults: Device;
+    /// BadCommits and BadJournal, where nothing has changed.
     pub(crate) fn open(
         rt: H,
         names: SideNames,
@@ -97,11 +125,18 @@ impl<H: System<File = F> + Drop, F: SystemFile + Drop> SideFiles<H, F> {
         ensures { IfOk result (λ beside. IfSome beside.side (λ side. side.shape.long ≤ pages)) }
     {
         expect_alone(&rt, names.main.as_str(), &opened)?;
+        let log_left = is_log_left(&rt, &names)?;
+        let fresh = names.fresh.as_str();
         let side = KeptSide::open(&rt, names.side.as_str(), opened.mode, pages)?;
-        remove_left(&rt, names.fresh.as_str())?;
+        if is_left(&rt, fresh, &SIDE_START, OpeningFault::BadJournal)? {
+            rt.remove(fresh)?;
+        }
+        let logs = LogFiles::open(&rt, names.log.as_str(), opened.mode)?;
+        if log_left {
+            rt.remove(names.fresh_log.as_str())?;
+        }
         let folder = rt.open_folder(names.folder.as_str())?;
-        rt.make_new(names.fresh.as_str(), BEING_MADE)?;
-        rt.remove(names.fresh.as_str())?;
+        try_making(&rt, fresh)?;
         Ok(SideFiles {
             rt,
             names,
@@ -109,11 +144,11 @@ impl<H: System<File = F> + Drop, F: SystemFile + Drop> SideFiles<H, F> {
             opened,
             fresh: None,
             side,
-            logs: LogFiles::new(),
+            logs,
         })
     }
 
-    /// Looks at what stands beside a file of so many pages, and changes nothing. Faults: Device; BadJournal.
+    /// Looks at the side file beside a file of so many pages, and changes nothing. Faults: Device; BadJournal.
     pub(crate) fn look(
         rt: H,
         names: SideNames,
@@ -135,11 +170,43 @@ impl<H: System<File = F> + Drop, F: SystemFile + Drop> SideFiles<H, F> {
         })
     }
 
+    /// Looks at the log of commits beside a file, and changes nothing. Faults: Device; BadCommits.
+    pub(crate) fn look_at_log(
+        rt: H,
+        names: SideNames,
+        opened: FileFacts,
+    ) -> Result<SideFiles<H, F>, OpeningFault>
+        ensures { IfOk result (λ beside. beside.side ≡ None) }
+    {
+        let logs = LogFiles::look(&rt, names.log.as_str())?;
+        let folder = rt.open_folder(names.folder.as_str())?;
+        Ok(SideFiles {
+            rt,
+            names,
+            folder,
+            opened,
+            fresh: None,
+            side: None,
+            logs,
+        })
+    }
+
+    /// Whether a side file or a log of commits has the name that an opening looks for.
+    pub(crate) fn is_some(&self) -> bool {
+        self.side.is_some() || self.logs.is_some()
+    }
+
     // Fails where the path leads to another file than that which was opened, or the file has another name, too.
     fn still_leads(&self) -> io::Result<FileFacts>
         ensures { IfOk result (λ found. IsAlone self.now.opened found) }
     {
         expect_alone(&self.rt, self.names.main.as_str(), &self.opened)
+    }
+
+    /// Has the device keep the log of commits, where there is one, and the names in the folder.
+    pub(crate) fn settle(&self) -> io::Result<()> {
+        self.logs.settle()?;
+        self.folder.sync_all()
     }
 
     /// Has the device keep the names in the folder.

@@ -1,4 +1,5 @@
 use crate::finding::{Expected, Finding};
+use crate::log_head::LogHead;
 use crate::page_view::PageView;
 use crate::show::draw_level;
 use crate::tree_look::{Levels, Stop, look_through};
@@ -7,7 +8,9 @@ use btree_node::{
     COUNT_AT, Header, HeaderFault, ORDER_AT, PAGES_AT, ROOT_AT, STATE_AT, VERSION_AT, read_header,
 };
 use file_system::{HostSystem, Lock};
-use page_journal::{Beside, FileDisk, OpeningFault, refused_beside, side_name};
+use page_journal::{
+    Beside, FileDisk, LogBeside, OpeningFault, log_name, refused_beside, side_name,
+};
 use rec_types::{MOST_RECORDS, PAGE_WIDTH};
 use std::alloc::Global;
 use std::fs::{OpenFile, OpenOptions};
@@ -278,8 +281,98 @@ fn tell_unnamed<F: OpenFile + FileExt + Lock + Drop, H: Files<File = F>, W: Writ
     }
 }
 
-// Tells of the side file of the file at a path, and answers whether something stands beside it; none where no side file can
-// have a name.
+// Tells of the side file of the file at a path, and answers what stands beside it; none where it can't be read.
+fn tell_side<F: OpenFile + FileExt + Lock + Drop, H: Files<File = F>, W: Write>(
+    rt: &H,
+    alloc: Global,
+    path: &str,
+    name: &str,
+    out: &mut W,
+) -> io::Result<Option<Beside>> {
+    let beside = match FileDisk::beside(HostSystem::new(rt), alloc, path) {
+        Ok(beside) => beside,
+        Err(OpeningFault::Memory) => return Err(no_memory()),
+        Err(_) => {
+            writeln!(out, "what stands beside it can't be read: {name}")?;
+            return Ok(None);
+        }
+    };
+    match beside {
+        Beside::Nothing => {}
+        Beside::OldPages => writeln!(
+            out,
+            "beside it stands {name}: a session was stopped while it closed the file, and the next one puts the old pages back"
+        )?,
+        Beside::Stray => writeln!(
+            out,
+            "beside it stands {name}, and it isn't the whole side file of this file: a session answers BadJournal. Bring back the file that it belongs to, or take it away"
+        )?,
+    }
+    Ok(Some(beside))
+}
+
+// Tells of a log of commits with that head, beside a file that has that side file or none.
+fn tell_commits<W: Write>(
+    out: &mut W,
+    name: &str,
+    log: &LogBeside,
+    head: &LogHead,
+    side: Option<Beside>,
+) -> io::Result<()> {
+    let advice = match side {
+        Some(Beside::Nothing) if head.is_over(log) => {
+            "A session was stopped before it closed the file, and the next one puts them in"
+        }
+        Some(Beside::Nothing) => {
+            "It was begun over other pages: where they change a record, a session answers BadCommits. Bring back the file that it belongs to, or move it away"
+        }
+        _ => "Whether it is one of this file can't be told before the old pages are put back",
+    };
+    let commits = head.commits;
+    writeln!(
+        out,
+        "beside it stands {name}, a log of commits, {commits} in number. {advice}"
+    )
+}
+
+// Tells of the log of commits of the file at a path, and answers whether one stands beside it.
+fn tell_log<F: OpenFile + FileExt + Lock + Drop, H: Files<File = F>, W: Write>(
+    rt: &H,
+    alloc: Global,
+    path: &str,
+    side: Option<Beside>,
+    out: &mut W,
+) -> io::Result<bool> {
+    let system = HostSystem::new(rt);
+    let found = FileDisk::log_beside(HostSystem::new(rt), alloc, path);
+    if let Ok(None) = &found {
+        return Ok(false);
+    }
+    let name = match log_name(&system, alloc, path) {
+        Ok(name) => name,
+        Err(_) => return Err(no_memory()),
+    };
+    match found {
+        Ok(None) => {}
+        Ok(Some(log)) => match LogHead::of(&log.text) {
+            Some(head) => tell_commits(out, name.as_str(), &log, &head, side)?,
+            None => writeln!(
+                out,
+                "beside it stands {name}, and it has no head of a log of commits of version 1: a session answers BadCommits. Move it away"
+            )?,
+        },
+        Err(OpeningFault::BadCommits) => writeln!(
+            out,
+            "beside it stands {name}, and it is no regular file: a session answers BadCommits. Move it away"
+        )?,
+        Err(OpeningFault::Memory) => return Err(no_memory()),
+        Err(_) => writeln!(out, "what stands beside it can't be read: {name}")?,
+    }
+    Ok(true)
+}
+
+// Tells of the side file and of the log of commits of the file at a path, and answers whether something stands beside it; none
+// where no side file can have a name.
 fn tell_beside<F: OpenFile + FileExt + Lock + Drop, H: Files<File = F>, W: Write>(
     rt: &H,
     alloc: Global,
@@ -294,20 +387,9 @@ fn tell_beside<F: OpenFile + FileExt + Lock + Drop, H: Files<File = F>, W: Write
             return Ok(None);
         }
     };
-    match FileDisk::beside(HostSystem::new(rt), alloc, path) {
-        Ok(Beside::Nothing) => return Ok(Some(false)),
-        Ok(Beside::OldPages) => writeln!(
-            out,
-            "beside it stands {name}: a session was stopped while it closed the file, and the next one puts the old pages back"
-        )?,
-        Ok(Beside::Stray) => writeln!(
-            out,
-            "beside it stands {name}, and it isn't the whole side file of this file: a session answers BadJournal. Bring back the file that it belongs to, or take it away"
-        )?,
-        Err(OpeningFault::Memory) => return Err(no_memory()),
-        Err(_) => writeln!(out, "what stands beside it can't be read: {name}")?,
-    }
-    Ok(Some(true))
+    let side = tell_side(rt, alloc, path, name.as_str(), out)?;
+    let log = tell_log(rt, alloc, path, side, out)?;
+    Ok(Some(log || side != Some(Beside::Nothing)))
 }
 
 // Tells whether the system refuses what is made in the folder of a path, by a closing or by `create`, behind what then

@@ -4,6 +4,7 @@
 mod explain;
 mod finding;
 mod key_text;
+mod log_head;
 mod page_view;
 mod picture;
 mod reach;

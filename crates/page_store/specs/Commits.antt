@@ -1,5 +1,5 @@
 -- What a store keeps of commits beside its pages.
-use Rattle.std.specs.Prelude.{◌≡◌, ◌≢◌, Bool, List, ℕ, [], ◌∷◌, ◌++◌, Result, Err, OnOk, OnErr, IsTrue}
+use Rattle.std.specs.Prelude.{◌≡◌, ◌≢◌, ◌⊎◌, Bool, List, ℕ, [], ◌∷◌, ◌++◌, Result, Err, OnOk, OnErr, IsTrue}
 use Rattle.commit_paper.specs.Text.{IsUnit, unit_text}
 use Rattle.page_store.specs.Guards.{Guard}
 use Rattle.page_store.specs.Opening.{Opening}
@@ -13,9 +13,10 @@ IsCommit text = (unit : List (List ℕ)) × IsUnit unit × (text ≡ unit_text u
 
 -- What was opened is the same, and the commits that are kept are those that were, and this one at Ok. After a doubt pages may not be written over any more.
 pub record KeepsCommit (steady : Bool) (text : List ℕ) (was : Opening) (guarded : Guard) (answer : Result (Unit {0}) AppendFault) (now : Opening) (guard : Guard) : Type 0 where
-  pub opened : now ≡ record was { commits = now.commits }
+  pub opened : now ≡ record was { commits = now.commits; doubt = now.doubt }
   pub kept : IsTrue steady → (unit : List (List ℕ)) → IsUnit unit → text ≡ unit_text unit → OnOk answer (now.commits ≡ was.commits ++ unit ∷ [])
   pub unkept : IsTrue steady → OnErr answer (now.commits ≡ was.commits)
+  pub doubted : (now.doubt ≡ was.doubt) ⊎ ((answer ≡ Err Doubt) × (now.doubt ≡ text))
   pub guarded_still : answer ≢ Err Doubt → guard ≡ guarded
 
 -- a call that keeps a commit changes no page, and counts as no call of the store

@@ -1,5 +1,5 @@
 -- What a commit that a keeper is asked to keep tells.
-use Rattle.std.proofs.Common.{◌≡◌, ◌∙◌, ℕ, Bool, true, false, if◌then◌else◌, [], ◌∷◌, List, Option, None, Result, Ok, Err, IsTrue, refl, sym, ap, subst}
+use Rattle.std.proofs.Common.{◌≡◌, ◌∙◌, ℕ, Bool, true, false, if◌then◌else◌, [], ◌∷◌, List, Option, Result, Ok, Err, IsTrue, refl, sym, ap, subst}
 use Rattle.rec_types.specs.declared.table_state.TableState.{Ghosts}
 use Rattle.rec_types.specs.declared.transaction.TxId.{TxId}
 use Rattle.tx_log.specs.Written.{own, writes}
@@ -84,15 +84,17 @@ module _ {T : Type 0} (t : Ghosts T) (old new : OpenFile T) (same : SameTable t 
       events = record { called = Commit tx (Ok done); failed = false; refused = false } ∷ [];
       told = refl;
       kept = λ sound. kept_so done keeps refl asked sound;
+      alone = λ other. absurd (false≢true (sym other));
       ran = one_step keeps tx (Ok done) was is step (λ other. absurd (false≢true (sym other)));
     }
     commit_told (Err (keep_faults.Refused fault)) step asked was is = record {
       events = record { called = Commit tx (Err fault); failed = false; refused = false } ∷ [];
       told = refl;
       kept = tt;
+      alone = λ _. refl;
       ran = one_step keeps tx (Err fault) was is step (λ _. ap (commits_of keeps t) asked);
     }
-    commit_told (Err keep_faults.Memory) step asked was is = record { events = []; told = (step.0, refl); kept = tt; ran = no_step keeps step.2 (ap (commits_of keeps t) asked) }
-    commit_told (Err (keep_faults.Unkept keeper_faults.Memory)) step asked was is = record { events = []; told = (step.0, refl); kept = tt; ran = no_step keeps step.2 (unkept_same keeps (tells (Err keeper_faults.Memory) asked step.0)) }
-    commit_told (Err (keep_faults.Unkept keeper_faults.Room)) step asked was is = record { events = []; told = (step.0, refl); kept = tt; ran = no_step keeps step.2 (unkept_same keeps (tells (Err keeper_faults.Room) asked step.0)) }
-    commit_told (Err (keep_faults.Unkept keeper_faults.Doubt)) step asked was is = record { events = []; told = (step.0, refl); kept = tt; ran = no_step keeps step.2 (unkept_same keeps (tells (Err keeper_faults.Doubt) asked step.0)) }
+    commit_told (Err keep_faults.Memory) step asked was is = record { events = []; told = (step.0, refl); kept = tt; alone = λ _. refl; ran = no_step keeps step.2 (ap (commits_of keeps t) asked) }
+    commit_told (Err (keep_faults.Unkept keeper_faults.Memory)) step asked was is = record { events = []; told = (step.0, refl); kept = tt; alone = λ _. refl; ran = no_step keeps step.2 (unkept_same keeps (tells (Err keeper_faults.Memory) asked step.0)) }
+    commit_told (Err (keep_faults.Unkept keeper_faults.Room)) step asked was is = record { events = []; told = (step.0, refl); kept = tt; alone = λ _. refl; ran = no_step keeps step.2 (unkept_same keeps (tells (Err keeper_faults.Room) asked step.0)) }
+    commit_told (Err (keep_faults.Unkept keeper_faults.Doubt)) step asked was is = record { events = []; told = (step.0, refl); kept = tt; alone = λ _. refl; ran = no_step keeps step.2 (unkept_same keeps (tells (Err keeper_faults.Doubt) asked step.0)) }

@@ -1,5 +1,5 @@
 -- A copy of a page file.
-use Rattle.std.proofs.Common.{◌≡◌, ◌≢◌, ◌≤◌, ◌^◌, ◌⊎◌, ℕ, inl, inr, ⊎_elim, List, length, Result, Ok, Err, OnOk, IsOk, IfErr, IsTrue, refl, sym, ap, subst, ◌∙◌, arith}
+use Rattle.std.proofs.Common.{ℕ, inl, inr, List, Result, Ok, Err, OnOk, IfErr, IsTrue, refl, sym, subst, ◌∙◌, arith}
 use Rattle.page_store.specs.StoreCalls.{StaysStore}
 use Rattle.page_store.specs.declared.store_state.StoreState.{Ghosts}
 use Rattle.page_copy.specs.Copying.{IsCopyFault, IsUncopied}

@@ -1,7 +1,8 @@
 -- What a session over a disk leaves.
-use Rattle.std.proofs.Common.{◌≡◌, ℕ, inl, inr, Option, Some, None, MatchOption, Result, Ok, Err, OnOk, refl, sym, subst}
+use Rattle.std.proofs.Common.{◌≡◌, ◌≤◌, ℕ, inl, inr, Option, Some, None, MatchOption, Result, Ok, Err, OnOk, refl, sym, subst}
 use Rattle.std.specs.Result.{is_ok}
 use Rattle.rec_types.specs.Contents.{Contents}
+use Rattle.rec_types.specs.LimitBounds.{most_records}
 use Rattle.btree_delete.specs.TableView.{TableView, IsClosed, table_contents}
 use Rattle.page_journal.specs.Files.{PageFile, Files}
 use Rattle.page_journal.specs.Crash.{IsSettled}
@@ -11,12 +12,18 @@ use Rattle.page_journal.specs.declared.recovery_fault.RecoveryFault.{RecoveryFau
 use Rattle.page_journal.specs.declared.recovery_fault.RecoveryFault.TheVariants as recovering
 use Rattle.recfile.specs.FileFaults.{fault_of_recovery}
 use Rattle.recfile.specs.Kept.{HasRecords, IsKept, ClosesSafely, IsOutsideDisk}
+use Rattle.recfile.specs.LogOver.{HoldsRecords}
 use Rattle.recfile.specs.declared.file_fault.FileFault.{FileFault}
 
 pub has_records : (was now : TableView) (file found : PageFile) → was.tree.order ≡ now.tree.order → table_contents was ≡ table_contents now → found ≡ file
     → IsClosed 2 file.pages file.tail was.tree (table_contents was) → HasRecords now.tree.order (table_contents now) found
 has_records was now file found order same is closed =
     subst (HasRecords now.tree.order (table_contents now)) (sym is) (was.tree, order, subst (λ (m : Contents). IsClosed 2 file.pages file.tail was.tree m) same closed)
+
+pub holds_records : (was now : TableView) (file found : PageFile) → was.tree.order ≡ now.tree.order → table_contents was ≡ table_contents now → found ≡ file
+    → IsClosed 2 file.pages file.tail was.tree (table_contents was) → was.tree.count ≤ most_records → HoldsRecords now.tree.order (table_contents now) found
+holds_records was now file found order same is closed count =
+    subst (HoldsRecords now.tree.order (table_contents now)) (sym is) (2, was.tree, order, subst (λ (m : Contents). IsClosed 2 file.pages file.tail was.tree m) same closed, count)
 
 pub ok_mapped : {E D : Type 0} (answer : Result (Unit {0}) E) (mapped : Result (Unit {0}) D) (P : Type 0) → is_ok mapped ≡ is_ok answer → OnOk answer P → OnOk mapped P
 ok_mapped (Ok x) (Ok y) P same known = known
@@ -48,3 +55,11 @@ not_recovered files recovering.BadJournal named is foreign = inr (is, foreign re
 
 pub at_some : {A : Type 0} (o : Option A) (x : A) (P : Type 0) (Q : A → Type 0) → o ≡ Some x → Q x → MatchOption o P Q
 at_some o x P Q is known = subst (λ y. MatchOption y P Q) (sym is) known
+
+pub always : {A E : Type 0} (answer : Result A E) (P : Type 0) → P → OnOk answer P
+always (Ok x) P known = known
+always (Err e) P known = tt
+
+pub ok_wider : {A E : Type 0} (answer : Result A E) (P Q : Type 0) → (P → Q) → OnOk answer P → OnOk answer Q
+ok_wider (Ok x) P Q more known = more known
+ok_wider (Err e) P Q more known = tt

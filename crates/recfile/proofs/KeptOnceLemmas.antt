@@ -1,5 +1,5 @@
 -- A closed file has one list of records, and disks that no closing leaves.
-use Rattle.std.proofs.Common.{◌≡◌, ◌≢◌, ◌⊎◌, ⊎_elim, inl, inr, ℕ, zero, suc, ◌<◌, ◌≤◌, Option, Some, None, List, [], ◌∷◌, length, get_or, slice_get, slice_set, unwrap_or, refl, ap, sym, ◌∙◌, subst, arith}
+use Rattle.std.proofs.Common.{◌≡◌, ◌≢◌, ⊎_elim, inl, ℕ, zero, suc, ◌≤◌, Option, Some, None, List, [], ◌∷◌, length, get_or, slice_get, slice_set, unwrap_or, refl, ap, sym, ◌∙◌, subst, arith}
 use Rattle.std.proofs.lemmas.List.{set-get_or}
 use Rattle.rec_types.specs.Contents.{Contents}
 use Rattle.page_store.specs.PageMap.{PageMap}
@@ -17,7 +17,7 @@ use Rattle.btree_node.proofs.DecodeLemmas.{reads, node_reads}
 use Rattle.btree_node.proofs.HeaderLemmas.{header_reads}
 use Rattle.btree_insert.specs.Contents.{contents_of}
 use Rattle.btree_insert.specs.Elements.{elements_below}
-use Rattle.btree_insert.specs.PageTrees.{Fan, SpellsIn, TreeOf, RootOf, HoldsIn}
+use Rattle.btree_insert.specs.PageTrees.{Fan, SpellsIn, TreeOf, RootOf}
 use Rattle.btree_insert.specs.declared.tree.Tree.{Tree}
 use Rattle.btree_insert.proofs.SonsAroundLemmas.{Stands}
 use Rattle.btree_insert.proofs.TreeElementLemmas.{node_in, held_in}
@@ -33,7 +33,6 @@ use Rattle.page_journal.specs.Steps.{TornAt}
 use Rattle.page_journal.specs.declared.disk_call.DiskCall.TheVariants.{Write}
 use Rattle.page_journal.specs.contracts.mem_disk.MemDiskDiskState.TheImpl.{ghosts}
 use Rattle.recfile.specs.Kept.{HasRecords, IsKept, LeavesEither, ClosesSafely}
-use Rattle.recfile.specs.declared.file_fault.FileFault.{FileFault}
 
 -- the first son is one
 first_son : (tree : Stands) (sons : List ℕ) (els es : List Element) (us : List ℕ) → Fan tree sons els es us → (xs : List Element) × (here : List ℕ) × tree (get_or sons 0 0) xs here

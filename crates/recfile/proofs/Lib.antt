@@ -22,3 +22,10 @@ mod CommitCallLemmas
 pub mod CopiedLemmas
 pub mod FillingLemmas
 pub mod LogLemmas
+pub mod LogOverLemmas
+pub mod SettlingLemmas
+pub mod OverlayFaultLemmas
+pub mod SessionCommitLemmas
+pub mod DurableLemmas
+pub mod DurableRunLemmas
+pub mod HeadLemmas

@@ -21,8 +21,10 @@ use Rattle.btree_load.specs.declared.fault.FillFault.{FillFault}
 use Rattle.btree_load.specs.declared.fault.FillFault.TheVariants as filling
 use Rattle.recfile.specs.declared.copying.CopyingFault.{CopyingFault}
 use Rattle.recfile.specs.declared.copying.CopyingFault.TheVariants.{OfFile, OfCopy}
+use Rattle.recfile.specs.declared.overlaying.OverlayFault.{OverlayFault}
+use Rattle.recfile.specs.declared.overlaying.OverlayFault.TheVariants as overlaying
 use Rattle.recfile.specs.declared.file_fault.FileFault.{FileFault}
-use Rattle.recfile.specs.declared.file_fault.FileFault.TheVariants.{Device, NotEmpty, BadLength, BadMagic, BadVersion, BadOrder, NotClean, BadHeader, Damaged, WrongCount, TooManyRecords, Memory, BadJournal}
+use Rattle.recfile.specs.declared.file_fault.FileFault.TheVariants.{Device, NotEmpty, BadLength, BadMagic, BadVersion, BadOrder, NotClean, BadHeader, Damaged, WrongCount, TooManyRecords, Memory, BadJournal, BadCommits}
 
 abbrev pub fault_of_store : StoreFault → FileFault
 fault_of_store storing.Failed = Device
@@ -39,6 +41,7 @@ fault_of_recovery recovering.BadJournal = BadJournal
 abbrev pub fault_of_files : OpeningFault → FileFault
 fault_of_files files.Device = Device
 fault_of_files files.BadJournal = BadJournal
+fault_of_files files.BadCommits = BadCommits
 fault_of_files files.Memory = Memory
 
 abbrev pub fault_of_making : CreateFault → FileFault
@@ -69,6 +72,14 @@ fault_of_listing listing.Device = Device
 fault_of_listing (listing.Damaged page) = Damaged page
 fault_of_listing listing.NoRoom = Damaged 0
 fault_of_listing listing.Memory = Memory
+
+-- what can't be put over a table of a log of commits
+abbrev pub fault_of_overlay : OverlayFault → FileFault
+fault_of_overlay overlaying.Line = BadCommits
+fault_of_overlay (overlaying.Table listing.Device) = Device
+fault_of_overlay (overlaying.Table (listing.Damaged page)) = Damaged page
+fault_of_overlay (overlaying.Table listing.NoRoom) = TooManyRecords
+fault_of_overlay (overlaying.Table listing.Memory) = Memory
 
 -- what a store's answer to being closed is for a file
 abbrev pub answer_of_store : Result (Unit {0}) StoreFault → Result (Unit {0}) FileFault

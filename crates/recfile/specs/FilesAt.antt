@@ -1,5 +1,5 @@
 -- What is found at a path, and what a task of the program leaves of it.
-use Rattle.std.specs.Prelude.{◌≡◌, ◌⊎◌, ℕ, ◌≤◌, List, length, Option, None, Result, Err, IsErr, IfSome, IfErr, OnOk, MatchOption, MatchResult, IsTrue}
+use Rattle.std.specs.Prelude.{◌≡◌, ◌⊎◌, ℕ, ◌≤◌, Bool, true, false, List, [], ◌∷◌, length, Option, None, Result, Err, IsErr, IfSome, IfErr, OnOk, MatchOption, MatchResult, IsTrue}
 use Rattle.std.specs.FinMap as maps
 use Rattle.std.specs.Io.KnownBytes.{Appends}
 use Rattle.rec_types.specs.Contents.{Contents}
@@ -16,9 +16,13 @@ use Rattle.btree_delete.specs.Created.{IsEmpty, IsOrder}
 use Rattle.btree_delete.specs.TableView.{IsClosed}
 use Rattle.record_texts.specs.declared.form.Form.{Form}
 use Rattle.recfile.specs.Dumped.{CanBeOpened, DumpStops, Dumps, IsDumpFault, IsFirstOrOutside, IsSilent, text_in}
+use Rattle.recfile.specs.DurableSession.{EndsDurably, RunsLogged, StandsUnbegun}
 use Rattle.recfile.specs.FileFaults.{IsMakingFault, fault_of_copying, is_device}
 use Rattle.recfile.specs.Kept.{ClosesSafely, IsOutsideDisk, IsUnopened, LeavesAs, LeavesOld, RunsOn}
+use Rattle.recfile.specs.LogOver.{HoldsWithin, head_line}
+use Rattle.recfile.specs.Settling.{SettlesAt}
 use Rattle.recfile.specs.StoreSession.{MakesIn}
+use Rattle.recfile.specs.Streams.{CallsMade}
 use Rattle.recfile.specs.TreeLine.{counts_in, counts_line}
 use Rattle.recfile.specs.WholeSession.{EndsFile, opened_file}
 use Rattle.recfile.specs.declared.copying.CopyingFault.{CopyingFault}
@@ -40,11 +44,11 @@ abbrev pub IsFoundAt : (Files → Type 0) → List (List ℕ) → ℕ → Type 0
 IsFoundAt At pages tail = (files : Files) × At files × (files.main ≡ record { pages = pages; tail = tail })
 
 -- A session over a disk that was just opened, and what it leaves of what the reader has and the writer holds, of the
--- disk, and as status. A crash at any moment of it leaves the old file or the one that the session closes.
+-- calls of both, of the disk, and as status. A crash at any moment of it leaves the old file or the one that the session closes.
 pub record KeptSession {D : Type 0} (g : DiskGhosts D) (manner : Manner) (limits : Bounds)
-    (left leaves held holds : Option (List ℕ)) (opened : D) (unopened unclosed : Option FileFault) (disk : D) (status : ℕ) : Type 0 where
-  pub unread : IfSome unopened (λ _. (status ≡ 1) × (unclosed ≡ None) × (leaves ≡ left) × (holds ≡ held))
-  pub ran : unopened ≡ None → RunsOn g manner limits left leaves held holds unclosed status disk
+    (left leaves held holds : Option (List ℕ)) (before after : CallsMade) (opened : D) (unopened unclosed : Option FileFault) (disk : D) (status : ℕ) : Type 0 where
+  pub unread : IfSome unopened (λ _. (status ≡ 1) × (unclosed ≡ None) × (leaves ≡ left) × (holds ≡ held) × (after ≡ before))
+  pub ran : unopened ≡ None → RunsOn g manner limits left leaves held holds before after unclosed status disk
   pub device : IfSome unopened (λ fault. g.failures disk ≡ counted (g.failures opened) (is_device fault))
   pub own : IsTrue (g.steady opened) → unopened ≡ None → Belongs (g.began opened)
   pub closed : IsTrue (g.steady opened) → unopened ≡ None → CanBeOpened (recovered (g.began opened)).pages (recovered (g.began opened)).tail limits.records
@@ -53,19 +57,36 @@ pub record KeptSession {D : Type 0} (g : DiskGhosts D) (manner : Manner) (limits
   pub stopped : IsTrue (g.steady opened) → status ≡ 4 → LeavesOld g (recovered (g.began opened)) disk
   pub session : IsTrue (g.steady opened) → (tree : Tree) → (contents : Contents) → (version : ℕ)
       → IsClosed version (recovered (g.began opened)).pages (recovered (g.began opened)).tail tree contents → tree.count ≤ limits.records
-      → MatchOption unopened (EndsFile manner left leaves held holds (opened_file contents limits (g.failures opened))
+      → MatchOption unopened (EndsFile manner left leaves held holds before after (opened_file contents limits (g.failures opened))
       (ClosesSafely g (recovered (g.began opened)) disk unclosed tree.order) unclosed status) (IsOutsideDisk (g.began opened))
 
--- a session over the disk that was opened at a path
-pub record RunsAt {D : Type 0} (g : DiskGhosts D) (At : Files → Type 0) (manner : Manner) (limits : Bounds)
-    (left leaves held holds : Option (List ℕ)) (status : ℕ) : Type 0 where
+-- The same where each commit is kept before it is answered, beside a disk without a log of commits.
+pub record DurableSession {D : Type 0} (g : DiskGhosts D) (manner : Manner) (limits : Bounds)
+    (left leaves held holds : Option (List ℕ)) (before after : CallsMade) (opened : D) (unopened unclosed : Option FileFault) (disk : D) (status : ℕ) : Type 0 where
+  pub unread : IfSome unopened (λ _. (status ≡ 1) × (unclosed ≡ None) × (leaves ≡ left) × (holds ≡ held) × (after ≡ before))
+  pub ran : unopened ≡ None → RunsLogged manner limits left leaves held holds before after unclosed status
+  pub own : IsTrue (g.steady opened) → unopened ≡ None → Belongs (g.began opened)
+  pub closed : IsTrue (g.steady opened) → unopened ≡ None → CanBeOpened (recovered (g.began opened)).pages (recovered (g.began opened)).tail limits.records
+  pub first : IsTrue (g.steady opened) → IfSome unopened (IsUnopened (g.began opened) limits.records)
+  pub untouched : IsTrue (g.steady opened) → IfSome unopened (λ _. (c : Files) → g.left_since disk 0 c → StandsUnbegun (g.began opened) c)
+  pub session : IsTrue (g.steady opened) → (order : ℕ) → (contents : Contents) → HoldsWithin limits.records order contents (recovered (g.began opened))
+      → MatchOption unopened (EndsDurably g manner left leaves held holds before after order contents limits (g.failures opened)
+      ((head_line (recovered (g.began opened)) ∷ []) ∷ []) unclosed status disk) (IsOutsideDisk (g.began opened))
+
+-- such a session, or one whose file is written when it is closed
+abbrev pub SessionOf : {D : Type 0} → Bool → DiskGhosts D → Manner → Bounds → Option (List ℕ) → Option (List ℕ) → Option (List ℕ) → Option (List ℕ) → CallsMade → CallsMade → D → Option FileFault → Option FileFault → D → ℕ → Type 0
+SessionOf false g manner limits left leaves held holds before after opened unopened unclosed disk status = KeptSession g manner limits left leaves held holds before after opened unopened unclosed disk status
+SessionOf true g manner limits left leaves held holds before after opened unopened unclosed disk status = DurableSession g manner limits left leaves held holds before after opened unopened unclosed disk status
+
+-- over the disk that was opened at a path, and put right
+pub record RunsAt {D : Type 0} (g : DiskGhosts D) (At : Files → Type 0) (durable : Bool) (manner : Manner) (limits : Bounds)
+    (left leaves held holds : Option (List ℕ)) (before after : CallsMade) (status : ℕ) : Type 0 where
   pub opened : D
-  pub found : IsTrue (g.steady opened) → At (g.began opened)
-  pub unfailed : g.failures opened ≡ 0
+  pub settles : SettlesAt g At opened
   pub unopened : Option FileFault
   pub unclosed : Option FileFault
   pub disk : D
-  pub session : KeptSession g manner limits left leaves held holds opened unopened unclosed disk status
+  pub session : SessionOf durable g manner limits left leaves held holds before after opened unopened unclosed disk status
 
 -- A text about the file that was opened to be read at a path. The text is whole only of a closed file within the limit,
 -- and is Told of its tree and its records; else its fault says why. Nothing is written to the file.

@@ -13,6 +13,7 @@ use Rattle.btree_load.specs.Trees.{puts}
 use Rattle.recfile.specs.Dumped.{IsOutsideFile}
 use Rattle.recfile.specs.FileFaults.{by_device}
 use Rattle.recfile.specs.Kept.{ClosesSafely, CountsClosing, LeavesAs}
+use Rattle.recfile.specs.Settling.{SettlesAt}
 use Rattle.recfile.specs.Statuses.{status_of}
 use Rattle.recfile.specs.declared.file_fault.FileFault.{FileFault}
 
@@ -42,16 +43,15 @@ pub record FillsDisk {D : Type 0} (g : Ghosts D) (records : List Element) (opene
 pub record FillsAt {D : Type 0} (g : Ghosts D) (At : Files → Type 0) (limits : Bounds) (records : List Element) (status : ℕ) : Type 0 where
   pub few : length records ≤ limits.records
   pub opened : D
-  pub found : IsTrue (g.steady opened) → At (g.began opened)
-  pub unfailed : g.failures opened ≡ 0
+  pub settles : SettlesAt g At opened
   pub unclosed : Option FileFault
   pub disk : D
   pub fills : FillsDisk g records opened unclosed disk status
 
--- a disk that was opened at a path to see whether it is such a file, and was left as it was
+-- a disk that was opened at a path, and put right, to see whether it is such a file, and was left as it was then
 pub record LooksAt {D : Type 0} (g : Ghosts D) (At : Files → Type 0) : Type 0 where
   pub opened : D
-  pub found : IsTrue (g.steady opened) → At (g.began opened)
+  pub settles : SettlesAt g At opened
   pub left : D
   pub untouched : IsTrue (g.steady opened) → LeavesAs g (g.began opened) left
 

@@ -14,6 +14,7 @@ use Rattle.rec_types.specs.LimitBounds.{Bounds}
 use Rattle.rec_types.specs.Table.{counted}
 use Rattle.recfile.specs.Dumped.{IsFirstOrOutside, IsOutsideFile}
 use Rattle.recfile.specs.FileFaults.{by_device}
+use Rattle.recfile.specs.Streams.{CallsMade}
 use Rattle.recfile.specs.WholeSession.{RunsAny}
 use Rattle.recfile.specs.declared.manner.Manner.{Manner}
 use Rattle.recfile.specs.declared.file_fault.FileFault.{FileFault}
@@ -71,8 +72,8 @@ pub record CountsClosing (before : ℕ) (failed device : Bool) (after : ℕ) : T
 
 -- A session over a file with these limits, whatever its records, over a disk: it has failed as often as the session saw, and then as the closing tells.
 pub record RunsOn {D : Type 0} (g : Ghosts D) (manner : Manner) (limits : Bounds) (left leaves held holds : Option (List ℕ))
-    (unclosed : Option FileFault) (status : ℕ) (disk : D) : Type 0 where
-  pub run : RunsAny manner limits left leaves held holds unclosed status
+    (before after : CallsMade) (unclosed : Option FileFault) (status : ℕ) (disk : D) : Type 0 where
+  pub run : RunsAny manner limits left leaves held holds before after unclosed status
   pub failures : CountsClosing run.2.new.failures (is_some unclosed) (by_device unclosed) (g.failures disk)
 
 -- a fault from outside, or a side file of another file

@@ -8,12 +8,17 @@ pub mod Dumped
 pub mod Kept
 pub mod LogKeeping
 pub mod Overlaid
+pub mod SessionCommits
+pub mod DurableSession
+pub mod LogOver
+pub mod Beside
 pub mod PartLine
 pub mod Shell
 pub mod Room
 pub mod Statuses
 pub mod Streams
 pub mod TreeLine
+pub mod Settling
 pub mod StoreSession
 pub mod FilesAt
 pub mod Tasks

@@ -18,12 +18,12 @@ abbrev pub writes_said : List (Read Command) → List (List ℕ × Option (List 
 writes_said entries = flat_map write_said entries
 
 -- a command that a log of commits may have
-abbrev pub IsLogged : Read Command → Type 0
-IsLogged (Ok command.Begin) = Unit {0}
-IsLogged (Ok (command.Put t x r)) = Unit {0}
-IsLogged (Ok (command.Del t x)) = Unit {0}
-IsLogged (Ok (command.Commit t)) = Unit {0}
-IsLogged entry = ⊥
+abbrev pub IsLogCommand : Read Command → Type 0
+IsLogCommand (Ok command.Begin) = Unit {0}
+IsLogCommand (Ok (command.Put t x r)) = Unit {0}
+IsLogCommand (Ok (command.Del t x)) = Unit {0}
+IsLogCommand (Ok (command.Commit t)) = Unit {0}
+IsLogCommand entry = ⊥
 
 -- what a line says: one command, none, or that it can't be read
 abbrev pub line_entries : Read (Option Command) → List (Read Command)
@@ -35,5 +35,6 @@ SayWrites [] [] = Unit {0}
 SayWrites (unit ∷ units) (es ∷ kept) = (n : ℕ) × (entries_in unit ≡ unit_commands n es) × SayWrites units kept
 SayWrites units kept = ⊥
 
-abbrev pub in_order : List (List Write) → List Write
-in_order kept = flat_map (λ es. es) kept
+-- the writes of units, one after another
+abbrev pub writes_in_turn : List (List Write) → List Write
+writes_in_turn kept = flat_map (λ es. es) kept

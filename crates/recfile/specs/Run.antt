@@ -1,11 +1,11 @@
 -- The run of a script over a file: each line that says something has one reply.
 use Rattle.std.specs.Prelude.{◌≡◌, ℕ, ◌+◌, ◌<◌, Bool, true, false, List, [], ◌∷◌, ◌++◌, length, filter, map, take, Option, Some, None, Result, Ok, Err, ◌⊎◌, IsTrue, IfOk}
-use Rattle.std.specs.List.{All, flat_map}
+use Rattle.std.specs.List.{All, flat_map, list_any}
 use Rattle.std.specs.Io.KnownBytes.{Appends}
 use Rattle.rec_types.specs.declared.table_state.TableState.{Ghosts}
 use Rattle.record_file.specs.Abstract.{OpenFile}
 use Rattle.tx_log.specs.Written.{own, writes}
-use Rattle.record_file.specs.Runs.{Called, Event, Seen, IsKeptSeen, seen, seen_as, Run, Begin, Put, Claim, Remove, Get, Savepoint, Release, RollbackTo, Abort, Resume, Commit, Entries, KeysOf, LogLen, LogUse}
+use Rattle.record_file.specs.Runs.{Called, Event, Seen, IsKeptSeen, is_commit, seen_as, Run, Begin, Put, Claim, Remove, Get, Savepoint, Release, RollbackTo, Abort, Resume, Commit, Entries, KeysOf, LogLen, LogUse}
 use Rattle.command_text.specs.declared.command.Command.{Command}
 use Rattle.command_text.specs.declared.command.Command.TheVariants as command
 use Rattle.command_text.specs.declared.reply.Reply.{Reply}
@@ -19,7 +19,7 @@ use Rattle.command_text.specs.Grammar.{Read, line_of}
 use Rattle.command_text.specs.Refusals.{is_refusal}
 use Rattle.command_text.specs.Script.{lines_of, entries_in, entries_of}
 use Rattle.command_text.specs.Texts.{text_of}
-use Rattle.command_text.specs.Units.{unit_lines}
+use Rattle.command_text.specs.Units.{unit_lines, unit_commands}
 use Rattle.recfile.specs.declared.script.ScriptFault.{ScriptFault}
 use Rattle.recfile.specs.declared.script.ScriptFault.TheVariants as faults
 use Rattle.recfile.specs.declared.script.RunFault.{RunFault}
@@ -47,10 +47,10 @@ ScriptTellsOf logged (Ok command.Log) (reply.Log len used) calls = calls ≡ Log
 ScriptTellsOf logged (Ok (command.Commit t)) (reply.Unkept fault) calls = IsTrue logged × (calls ≡ [])
 ScriptTellsOf logged entry answer calls = ⊥
 
--- These writes are kept, where any are: a script that makes them in a transaction of some number and commits it.
+-- These writes are kept, where any are: a script that makes them in a transaction of some number and commits it, and that is read so.
 abbrev pub AddsWrites : List (List (List ℕ)) → List (List ℕ × Option (List ℕ)) → List (List (List ℕ)) → Type 0
 AddsWrites old [] new = new ≡ old
-AddsWrites old (w ∷ ws) new = (n : ℕ) × (new ≡ old ++ unit_lines n (w ∷ ws) ∷ [])
+AddsWrites old (w ∷ ws) new = (n : ℕ) × (new ≡ old ++ unit_lines n (w ∷ ws) ∷ []) × (entries_in (unit_lines n (w ∷ ws)) ≡ unit_commands n (w ∷ ws))
 
 -- where commits are kept before they are answered; and else nothing is
 abbrev pub AddsIf : Bool → List (List (List ℕ)) → List (List ℕ × Option (List ℕ)) → List (List (List ℕ)) → Type 0
@@ -64,11 +64,17 @@ TellsKept old (Ok (command.Commit t)) (reply.Commit (Ok done)) new =
     IsTrue old.sound → AddsIf old.logged old.commits (writes (own t.0 old.file.history)) new.commits
 TellsKept old entry answer new = Unit {0}
 
+-- whether a command is a commit and its reply says that it was accepted: no other reply tells of an accepted commit
+abbrev pub is_accepted : Read Command → Reply → Bool
+is_accepted (Ok (command.Commit t)) (reply.Commit (Ok done)) = true
+is_accepted entry answer = false
+
 -- From old, the command, or the line that can't be read, has this reply by a run of these calls, which leads to new.
 pub record HasReply (old : Seen) (entry : Read Command) (answer : Reply) (new : Seen) : Type 0 where
   pub events : List Event
   pub told : ScriptTellsOf old.logged entry answer (map (λ e. e.called) events)
   pub kept : TellsKept old entry answer new
+  pub alone : is_accepted entry answer ≡ false → list_any (λ e. is_commit e.called) events ≡ false
   pub ran : Run old events new
 
 -- the same of what a line says; one that says nothing has no reply

@@ -11,6 +11,7 @@ use Rattle.btree_delete.specs.Closing.{closing}
 use Rattle.btree_delete.specs.Created.{IsCreated}
 use Rattle.btree_delete.specs.TableView.{TableView, IsClosed, table_contents}
 use Rattle.recfile.specs.FileFaults.{by_device}
+use Rattle.recfile.specs.Streams.{CallsMade}
 use Rattle.recfile.specs.WholeSession.{RunsAny}
 use Rattle.recfile.specs.declared.file_fault.FileFault.{FileFault}
 use Rattle.recfile.specs.declared.file_fault.FileFault.TheVariants.{BadOrder, Memory}
@@ -48,8 +49,8 @@ pub record ClosesIn {S : Type 0} (g : Ghosts S) (old new : S) (unclosed : Option
 -- ended a table with the records that are left was closed, and else nothing was written. The store failed once more where
 -- that is why the file wasn't closed.
 pub record RunsIn {S : Type 0} (g : Ghosts S) (old new : S) (manner : Manner) (limits : Bounds) (left leaves held holds : Option (List ℕ))
-    (unclosed : Option FileFault) (status : ℕ) : Type 0 where
-  pub run : RunsAny manner limits left leaves held holds unclosed status
+    (before after : CallsMade) (unclosed : Option FileFault) (status : ℕ) : Type 0 where
+  pub run : RunsAny manner limits left leaves held holds before after unclosed status
   pub failures : g.failures new ≡ counted run.2.new.failures (by_device unclosed)
   pub written : MatchResult run.2.ended
       (λ _. (t : TableView) × (table_contents t ≡ run.2.new.records) × WritesBack (g.journal old) t unclosed (g.journal new))

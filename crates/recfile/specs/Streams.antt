@@ -1,5 +1,5 @@
 -- The calls of a run's reader and writer.
-use Rattle.std.specs.Prelude.{◌≡◌, ℕ, Bool, true, false, ◌||◌, Result, Ok, Err}
+use Rattle.std.specs.Prelude.{◌≡◌, ◌<◌, ℕ, Bool, true, false, ◌||◌, Result, Ok, Err}
 use Rattle.recfile.specs.declared.script.ScriptFault.{ScriptFault}
 use Rattle.recfile.specs.declared.script.ScriptFault.TheVariants as faults
 use Rattle.recfile.specs.declared.script.RunFault.{RunFault}
@@ -10,6 +10,14 @@ pub record CallsMade : Type 0 where
   pub reads : ℕ
   pub read_failed : Bool
   pub write_failed : Bool
+
+-- a ledger of this name, cut into so many parts, begins on a blank page of that name and as many parts
+abbrev pub IsBlankFor : ℕ → ℕ → ℕ → ℕ → Type 0
+IsBlankFor blank_name blank_parts name parts = (blank_name ≡ name) × (blank_parts ≡ parts) × (0 < parts)
+
+-- none was made
+abbrev pub no_call : CallsMade
+no_call = record { reads = 0; read_failed = false; write_failed = false }
 
 abbrev pub is_read : ScriptFault → Bool
 is_read faults.ReadFault = true

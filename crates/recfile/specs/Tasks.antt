@@ -1,5 +1,5 @@
 -- What doing a task of the program leaves, and its status.
-use Rattle.std.specs.Prelude.{◌≡◌, ◌⊎◌, ℕ, Bool, true, ◌<◌, List, length, take, Option, Some, None, Result, Ok, Err, IsTrue, if◌then◌else◌}
+use Rattle.std.specs.Prelude.{◌≡◌, ◌⊎◌, ℕ, Bool, true, false, ◌<◌, List, length, take, Option, Some, None, Result, Ok, Err, IsTrue, if◌then◌else◌}
 use Rattle.std.specs.Result.{is_err}
 use Rattle.std.specs.Io.KnownBytes.{Appends}
 use Rattle.rec_types.specs.Contents.{Contents}
@@ -16,6 +16,7 @@ use Rattle.record_texts.specs.declared.form.Form.{Form}
 use Rattle.recfile.specs.Dumped.{text_in}
 use Rattle.recfile.specs.Filling.{CanFill, FillsAt, LooksAt}
 use Rattle.recfile.specs.FilesAt.{Copies, Creates, IsFoundAt, RunsAt, Tells, TellsRecords, TellsTree}
+use Rattle.recfile.specs.Streams.{CallsMade}
 use Rattle.recfile.specs.TreeLine.{counts_line}
 use Rattle.recfile.specs.Whole.{empty_file}
 use Rattle.recfile.specs.WholeSession.{RunsFile}
@@ -74,20 +75,20 @@ Rescues g At held holds done =
 abbrev pub loading : Manner
 loading = record { strict = true; feed = Lines }
 
--- A session over the file at a path, or there is none and nothing is read and written.
-abbrev pub RunsOver : {D : Type 0} → DiskGhosts D → (Files → Type 0) → Manner → Bounds → Option (List ℕ) → Option (List ℕ) → Option (List ℕ) → Option (List ℕ) → ℕ → Type 0
-RunsOver disks At manner limits left leaves held holds status =
-    ((status ≡ 1) × (leaves ≡ left) × (holds ≡ held)) ⊎ RunsAt disks At manner limits left leaves held holds status
+-- A session over the file at a path, or none is opened there, or put right, and nothing is read and written.
+abbrev pub RunsOver : {D : Type 0} → DiskGhosts D → (Files → Type 0) → Bool → Manner → Bounds → Option (List ℕ) → Option (List ℕ) → Option (List ℕ) → Option (List ℕ) → CallsMade → CallsMade → ℕ → Type 0
+RunsOver disks At durable manner limits left leaves held holds before after status =
+    ((status ≡ 1) × (leaves ≡ left) × (holds ≡ held) × (after ≡ before)) ⊎ RunsAt disks At durable manner limits left leaves held holds before after status
 
 -- Records are loaded into the file at a path. A file without records is filled with them, where they are sorted and no more
 -- than it may have; else, and where the file at the path was looked at and is none such, a session runs the script that
 -- puts them in one transaction, up to its first refusal, by which none of them stays. Its replies go nowhere. No file may be
 -- found.
-abbrev pub LoadsAt : {D : Type 0} → DiskGhosts D → (Files → Type 0) → Bounds → ℕ → Type 0
-LoadsAt disks At limits status =
+abbrev pub LoadsAt : {D : Type 0} → DiskGhosts D → (Files → Type 0) → Bounds → CallsMade → CallsMade → ℕ → Type 0
+LoadsAt disks At limits before after status =
     (records : List (List ℕ × List ℕ))
     × ((status ≡ 1) ⊎ (FillsAt disks At limits records status
-    ⊎ ((CanFill limits records → LooksAt disks At) × ((leaves : Option (List ℕ)) × RunsOver disks At loading limits (Some (dump_text records)) leaves None None status))))
+    ⊎ ((CanFill limits records → LooksAt disks At) × ((leaves : Option (List ℕ)) × RunsOver disks At false loading limits (Some (dump_text records)) leaves None None before after status))))
 
 -- the status where it was asked whether a file is whole
 abbrev pub told_status : Result Bool DumpFault → ℕ
@@ -96,30 +97,30 @@ told_status (Err fault) = text_status (Err fault)
 
 -- What doing a task leaves of what the reader has and of what the writer holds, and its status: a file is made, opened and
 -- read at the path that was asked for, or there is none, and nothing is read and written then; a session has the limits
--- and the manner that were asked for, and closes its file so that no crash loses it; what a check and a dump write is a
+-- and the manner that were asked for, and closes its file so that no crash loses it, nor what it committed where it is durable; what a check and a dump write is a
 -- line and a script; a copy has the pages of the file.
-abbrev pub Does : {D S : Type 0} → DiskGhosts D → StoreGhosts S → (List ℕ → Files → Type 0) → Task → Option (List ℕ) → Option (List ℕ) → Option (List ℕ) → Option (List ℕ) → ℕ → Type 0
-Does disks stores at (tasks.Create order path) left leaves held holds status =
+abbrev pub Does : {D S : Type 0} → DiskGhosts D → StoreGhosts S → (List ℕ → Files → Type 0) → Task → Option (List ℕ) → Option (List ℕ) → Option (List ℕ) → Option (List ℕ) → CallsMade → CallsMade → ℕ → Type 0
+Does disks stores at (tasks.Create order path) left leaves held holds before after status =
     (leaves ≡ left) × (holds ≡ held)
     × ((made : Result (Unit {0}) FileFault) × Creates stores order made × (status ≡ (if is_err made then 1 else 0)))
-Does disks stores at (tasks.Run limits manner path) left leaves held holds status = RunsOver disks (at path.now) manner limits left leaves held holds status
-Does disks stores at (tasks.Check path) left leaves held holds status =
+Does disks stores at (tasks.Run limits manner durable path) left leaves held holds before after status = RunsOver disks (at path.now) durable manner limits left leaves held holds before after status
+Does disks stores at (tasks.Check path) left leaves held holds before after status =
     (leaves ≡ left) × WritesText IsLine stores (at path.now) (TellsTree held holds) held holds status
-Does disks stores at (tasks.Copy path to) left leaves held holds status =
+Does disks stores at (tasks.Copy path to) left leaves held holds before after status =
     (leaves ≡ left) × (holds ≡ held)
     × ((done : Result (Unit {0}) CopyingFault) × Copies stores (at path.now) most_records done × (status ≡ (if is_err done then 1 else 0)))
-Does disks stores at (tasks.Dump form path) left leaves held holds status =
+Does disks stores at (tasks.Dump form path) left leaves held holds before after status =
     (leaves ≡ left) × WritesText (IsDump form) stores (at path.now) (TellsRecords form held holds) held holds status
-Does disks stores at (tasks.Rescue path) left leaves held holds status =
+Does disks stores at (tasks.Rescue path) left leaves held holds before after status =
     (leaves ≡ left)
     × ((done : Result (Unit {0}) DumpFault) × Writes (IsDump None) held holds done × Rescues stores (at path.now) held holds done × (status ≡ text_status done))
-Does disks stores at (tasks.Load separator limits path) left leaves held holds status = (holds ≡ held) × ((status ≡ 3) ⊎ LoadsAt disks (at path.now) limits status)
-Does disks stores at (tasks.Tell telling path) left leaves held holds status = (leaves ≡ left) × ((told : Result Bool DumpFault) × (status ≡ told_status told))
-Does disks stores at (tasks.Memory limits manner) left leaves held holds status =
-    RunsFile manner left leaves held holds (empty_file limits) None status
+Does disks stores at (tasks.Load separator limits path) left leaves held holds before after status = (holds ≡ held) × ((status ≡ 3) ⊎ LoadsAt disks (at path.now) limits before after status)
+Does disks stores at (tasks.Tell telling path) left leaves held holds before after status = (leaves ≡ left) × ((told : Result Bool DumpFault) × (status ≡ told_status told))
+Does disks stores at (tasks.Memory limits manner) left leaves held holds before after status =
+    RunsFile manner left leaves held holds before after (empty_file limits) None status
 
 -- The words asked for a task, and it was done; or they asked for nothing: nothing is read, and the status is that of help
 -- that was asked for, or of a fault of the words.
-abbrev pub DoesAny : {D S : Type 0} → DiskGhosts D → StoreGhosts S → (List ℕ → Files → Type 0) → Option (List ℕ) → Option (List ℕ) → Option (List ℕ) → Option (List ℕ) → ℕ → Type 0
-DoesAny disks stores at left leaves held holds status =
-    ((task : Task) × Does disks stores at task left leaves held holds status) ⊎ ((leaves ≡ left) × ((status ≡ 0) ⊎ (status ≡ 2)))
+abbrev pub DoesAny : {D S : Type 0} → DiskGhosts D → StoreGhosts S → (List ℕ → Files → Type 0) → Option (List ℕ) → Option (List ℕ) → Option (List ℕ) → Option (List ℕ) → CallsMade → CallsMade → ℕ → Type 0
+DoesAny disks stores at left leaves held holds before after status =
+    ((task : Task) × Does disks stores at task left leaves held holds before after status) ⊎ ((leaves ≡ left) × ((status ≡ 0) ⊎ (status ≡ 2)))

@@ -14,6 +14,7 @@ use Rattle.recfile.specs.Dumped.{IsOutsideFile}
 use Rattle.recfile.specs.Run.{Ran}
 use Rattle.recfile.specs.Shell.{RanLines}
 use Rattle.recfile.specs.Statuses.{status_of}
+use Rattle.recfile.specs.Streams.{CallsMade, TellsFailed, run_read_fault, run_write_fault}
 use Rattle.recfile.specs.declared.endings.EndFault.{EndFault}
 use Rattle.recfile.specs.declared.file_fault.FileFault.{FileFault}
 use Rattle.recfile.specs.declared.manner.Feed.{Feed}
@@ -31,13 +32,14 @@ abbrev pub RanAs : Manner → Option (List ℕ) → Option (List ℕ) → Option
 RanAs manner left leaves held holds old new answer = RanBy manner.feed manner.strict left leaves held holds old new answer
 
 -- The lines, run in a manner, lead from a file to mid, with their answer; then every open transaction is ended, or one
--- was stopped. Where all are, the records are what the changes of the others leave.
+-- was stopped, and no commit is kept. Where all are, the records are what the changes of the others leave.
 pub record IsSession (manner : Manner) (left leaves held holds : Option (List ℕ)) (old mid : Seen)
     (answer : Result ℕ RunFault) (ended : Result ℕ EndFault) (new : Seen) : Type 0 where
   pub script : RanAs manner left leaves held holds old mid answer
   pub ending : MatchResult ended (λ count. EndsAll mid.file count new.file)
       (λ fault. StopsEnding mid.file fault new.file)
   pub asks : Asks mid (end_cause ended) new
+  pub commits : new.commits ≡ mid.commits
   pub records : IsTrue mid.sound → OnOk ended
       (new.records ≡ replay mid.file.opening (rest_of (open_of mid.file) mid.file.history))
 
@@ -61,8 +63,9 @@ abbrev pub IsUncounted : TableView → Type 0
 IsUncounted table = (table.refusals ≡ 0) × (table.damages ≡ no_damage) × (table.calls ≡ no_calls)
 
 -- A session over a file in which nothing was begun; then the file was closed, or a fault from outside stopped that, or a
--- transaction couldn't be ended, and it wasn't tried. The status tells which.
-pub record RunsFile (manner : Manner) (left leaves held holds : Option (List ℕ)) (old : Seen) (unclosed : Option FileFault) (status : ℕ) : Type 0 where
+-- transaction couldn't be ended, and it wasn't tried. The status tells which. That a read or a write failed is the answer
+-- exactly where one did, by the calls that were made before and after.
+pub record RunsFile (manner : Manner) (left leaves held holds : Option (List ℕ)) (before after : CallsMade) (old : Seen) (unclosed : Option FileFault) (status : ℕ) : Type 0 where
   pub answer : Result ℕ RunFault
   pub ended : Result ℕ EndFault
   pub mid : Seen
@@ -71,16 +74,17 @@ pub record RunsFile (manner : Manner) (left leaves held holds : Option (List ℕ
   pub status_is : status ≡ status_of (is_err ended) (is_some unclosed) (is_err answer)
   pub fault : IfSome unclosed IsOutsideFile
   pub untried : OnErr ended (unclosed ≡ None)
+  pub failed : TellsFailed before (run_read_fault answer) (run_write_fault answer) after
 
 -- a session over a file with these limits, whatever its records
-abbrev pub RunsAny : Manner → Bounds → Option (List ℕ) → Option (List ℕ) → Option (List ℕ) → Option (List ℕ) → Option FileFault → ℕ → Type 0
-RunsAny manner limits left leaves held holds unclosed status =
-    (old : Seen) × (old.file ≡ new_file old.records limits) × RunsFile manner left leaves held holds old unclosed status × (old.logged ≡ false)
+abbrev pub RunsAny : Manner → Bounds → Option (List ℕ) → Option (List ℕ) → Option (List ℕ) → Option (List ℕ) → CallsMade → CallsMade → Option FileFault → ℕ → Type 0
+RunsAny manner limits left leaves held holds before after unclosed status =
+    (old : Seen) × (old.file ≡ new_file old.records limits) × RunsFile manner left leaves held holds before after old unclosed status × (old.logged ≡ false)
 
 -- A session that began with a file of sound records. Where every transaction was ended the file closes, by what that
 -- means, with the records that are left.
-pub record EndsFile (manner : Manner) (left leaves held holds : Option (List ℕ)) (old : Seen)
+pub record EndsFile (manner : Manner) (left leaves held holds : Option (List ℕ)) (before after : CallsMade) (old : Seen)
     (Closes : Contents → Type 0) (unclosed : Option FileFault) (status : ℕ) : Type 0 where
-  pub run : RunsFile manner left leaves held holds old unclosed status
+  pub run : RunsFile manner left leaves held holds before after old unclosed status
   pub sound : IsTrue run.mid.sound
   pub closes : OnOk run.ended (Closes run.new.records)

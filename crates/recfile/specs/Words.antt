@@ -77,8 +77,8 @@ IsTelling name rows (Tree drawing) = (name ≡ codes "show") × IsDrawing rows d
 -- the task of a shell: a session over the file, or where there is none over an empty one
 abbrev pub IsShell : List Row → Task → Type 0
 IsShell rows (tasks.Create order path) = ⊥
-IsShell rows (tasks.Run limits manner path) =
-    AreLimits rows limits × IsManner rows Lines manner × (first_of (codes "FILE") rows ≡ Some path.now)
+IsShell rows (tasks.Run limits manner durable path) =
+    AreLimits rows limits × IsManner rows Lines manner × IsFlag rows (codes "durable") durable × (first_of (codes "FILE") rows ≡ Some path.now)
 IsShell rows (tasks.Check path) = ⊥
 IsShell rows (tasks.Copy path to) = ⊥
 IsShell rows (tasks.Dump form path) = ⊥
@@ -93,9 +93,9 @@ IsShell rows (tasks.Memory limits manner) =
 abbrev pub IsNamed : List ℕ → List Row → Task → Type 0
 IsNamed name rows (tasks.Create order path) =
     (name ≡ codes "create") × IsRead 16 (one_of (codes "order") rows) 16 order × (path.now ≡ file_of rows)
-IsNamed name rows (tasks.Run limits manner path) =
-    ((name ≡ codes "run") × AreLimits rows limits × IsManner rows Script manner × (path.now ≡ file_of rows))
-    ⊎ ((name ≡ codes "shell") × IsShell rows (tasks.Run limits manner path))
+IsNamed name rows (tasks.Run limits manner durable path) =
+    ((name ≡ codes "run") × AreLimits rows limits × IsManner rows Script manner × IsFlag rows (codes "durable") durable × (path.now ≡ file_of rows))
+    ⊎ ((name ≡ codes "shell") × IsShell rows (tasks.Run limits manner durable path))
 IsNamed name rows (tasks.Check path) = (name ≡ codes "check") × (path.now ≡ file_of rows)
 IsNamed name rows (tasks.Copy path to) = (name ≡ codes "copy") × (path.now ≡ file_of rows) × (to.now ≡ word_in (codes "TO") rows)
 IsNamed name rows (tasks.Dump form path) = (name ≡ codes "dump") × IsForm rows form × (path.now ≡ file_of rows)

@@ -1,3 +1,4 @@
+use crate::overlaying::OverlayFault;
 use btree_delete::{CreateFault, OpenFault};
 use btree_load::FillFault;
 use page_journal::{OpeningFault, RecoveryFault};
@@ -35,6 +36,8 @@ pub enum FileFault {
     Memory,
     #[error("BadJournal")]
     BadJournal,
+    #[error("BadCommits")]
+    BadCommits,
 }
 
 impl From<StoreFault> for FileFault {
@@ -89,7 +92,25 @@ impl From<OpeningFault> for FileFault {
         match fault {
             OpeningFault::Device => FileFault::Device,
             OpeningFault::BadJournal => FileFault::BadJournal,
+            OpeningFault::BadCommits => FileFault::BadCommits,
             OpeningFault::Memory => FileFault::Memory,
+        }
+    }
+}
+
+impl From<OverlayFault> for FileFault {
+    ghost use Rattle.std.specs.Prelude.{◌≡◌};
+    ghost use Rattle.recfile.specs.FileFaults.{fault_of_overlay};
+
+    ghost from_gives = { λ fault named. named ≡ fault_of_overlay fault };
+
+    fn from(fault: OverlayFault) -> FileFault {
+        match fault {
+            OverlayFault::Line => FileFault::BadCommits,
+            OverlayFault::Table(TableFault::Device) => FileFault::Device,
+            OverlayFault::Table(TableFault::Damaged(page)) => FileFault::Damaged(page),
+            OverlayFault::Table(TableFault::NoRoom) => FileFault::TooManyRecords,
+            OverlayFault::Table(TableFault::Memory) => FileFault::Memory,
         }
     }
 }

@@ -5,11 +5,13 @@ ghost use Rattle.rec_types.specs.Table.{counted};
 ghost use Rattle.page_store.specs.Guards.{Unsealed};
 ghost use Rattle.btree_insert.specs.declared.tree.Tree.{Tree as TreeValue};
 ghost use Rattle.btree_delete.specs.TableView.{IsClosed, table_contents};
-ghost use Rattle.page_journal.specs.Files.{Belongs, recovered};
+ghost use Rattle.page_journal.specs.Files.{Belongs, Files, recovered};
 ghost use Rattle.page_journal.specs.Crash.{IsAtRest};
+ghost use Rattle.recfile.specs.Beside.{FindsEach, FindsWhole, LeavesEitherBeside, LeavesOpening};
 ghost use Rattle.recfile.specs.Dumped.{CanBeOpened, IsFirstOrOutside, IsOutsideFile};
 ghost use Rattle.recfile.specs.FileFaults.{answer_of_store, by_device, is_device, is_device_answer};
 ghost use Rattle.recfile.specs.Kept.{CountsClosing, RunsOn, is_sealed, refusals_of, file_of, LeavesAs, LeavesOld, LeavesEither, IsKept, ClosesSafely, IsOutsideDisk, IsUnopened};
+ghost use Rattle.recfile.specs.LogOver.{HoldsRecords};
 ghost use Rattle.recfile.specs.Statuses.{status_of};
 ghost use Rattle.recfile.specs.WholeSession.{EndsFile, IsUncounted, RunsAny, opened_file};
 
@@ -17,6 +19,7 @@ use crate::file_fault::FileFault;
 use crate::manner::Manner;
 use crate::session::run_session;
 use crate::statuses::exit_status;
+use crate::streams::{CountedRead, CountedWrite, StreamCalls};
 use crate::tell::{tell, tell_fault_of};
 use btree_delete::TreeTable;
 use page_journal::{Disk, KeptStore, SealState};
@@ -24,7 +27,8 @@ use page_store::StoreFault;
 use rec_types::Limits;
 use record_file::{RecordFile, Unlogged};
 use std::alloc::Global;
-use std::io::{Read, Write};
+use std::io::Write;
+use std::sync::ledger::Ledger;
 
 /// How a session over a page file on a disk ended: its status, the disk, why the file wasn't opened, and why it wasn't
 /// closed.
@@ -38,8 +42,14 @@ pub struct DiskEnd<D: Disk + Drop> {
 
 // The disk of a table that isn't closed, with the old file put back. Where that fails the side file stays, and the next
 // opening puts it back.
-fn give_back<D: Disk + Drop>(table: TreeTable<KeptStore<D>>) -> D
+pub(crate) fn give_back<D: Disk + Drop>(table: TreeTable<KeptStore<D>>) -> D
     ensures old { IsTrue table.pages.steady → LeavesOld D.DiskState (file_of table.pages.opening) result }
+    ensures commits { IsTrue table.pages.steady → (c : Files) → D.left_since result 0 c
+        → LeavesOpening table.pages.opening c }
+    ensures lasts { IsTrue table.pages.steady → (c : Files) → D.may_leave result c
+        → FindsEach table.pages.opening.logged table.pages.opening.log table.pages.opening.commits
+        table.pages.opening.doubt c }
+    ensures steady { D.steady result ≡ table.pages.steady }
     ensures device { refusals_of table.pages.guard ≡ 0 → (again : Bool)
         × (D.failures result ≡ counted table.pages.failures again)
         × (is_sealed table.pages.guard ≡ false → again ≡ false) }
@@ -60,13 +70,26 @@ pub(crate) fn told(done: Result<(), StoreFault>) -> Result<(), FileFault>
 
 // Closes the file of a table: the pages that it writes over are kept aside, then it writes, then they are given up. At
 // `Ok` of a changed table three calls of any disk have succeeded by then.
-fn close_table<D: Disk + Drop>(table: TreeTable<KeptStore<D>>) -> (D, Result<(), FileFault>)
+pub(crate) fn close_table<D: Disk + Drop>(
+    table: TreeTable<KeptStore<D>>,
+) -> (D, Result<(), FileFault>)
     ensures any_moment { IsTrue table.pages.steady
         → LeavesEither D.DiskState (file_of table.pages.opening) table.tree.order (table_contents table)
         result.0 }
+    ensures commits { IsTrue table.pages.steady → (c : Files) → D.left_since result.0 0 c
+        → LeavesEitherBeside table.pages.opening table.tree.order (table_contents table) c }
+    ensures holds { IsTrue table.pages.steady → OnOk result.1
+        (HoldsRecords table.tree.order (table_contents table) (D.seen result.0).main) }
+    ensures whole { IsTrue table.pages.steady → OnOk result.1 ((c : Files)
+        → D.may_leave result.0 c → FindsWhole table.pages.opening.logged table.pages.opening.log
+        table.pages.opening.commits c) }
+    ensures lasts { IsTrue table.pages.steady → (c : Files) → D.may_leave result.0 c
+        → FindsEach table.pages.opening.logged table.pages.opening.log table.pages.opening.commits
+        table.pages.opening.doubt c }
     ensures closed { IsTrue table.pages.steady
         → OnOk result.1 (IsKept D.DiskState table.tree.order (table_contents table) result.0) }
     ensures fault { IfErr result.1 IsOutsideFile }
+    ensures steady { D.steady result.0 ≡ table.pages.steady }
     ensures device { table.pages.guard ≡ Unsealed 0 → table.pages.tail ≡ 0
         → CountsClosing table.pages.failures (is_err result.1) (is_device_answer result.1)
         (D.failures result.0) }
@@ -112,7 +135,7 @@ fn close_kept<D: Disk + Drop, E: Write>(
 }
 
 // Runs a session over the table of a page file, and closes the file.
-fn run_table<D: Disk + Drop, R: Read, W: Write, E: Write>(
+fn run_table<L: Ledger, D: Disk + Drop, R: CountedRead<L>, W: CountedWrite<L>, E: Write>(
     alloc: Global,
     table: TreeTable<KeptStore<D>>,
     limits: Limits,
@@ -120,17 +143,18 @@ fn run_table<D: Disk + Drop, R: Read, W: Write, E: Write>(
     reader: &mut R,
     out: &mut W,
     err: &mut E,
+    calls: &mut StreamCalls<L>,
 ) -> DiskEnd<D>
     requires limit { table.limit ≡ limits.records }
     ensures opened { result.unopened ≡ None }
-    ensures ran { RunsAny manner limits (R.remaining reader.old) (R.remaining reader.new)
-        (W.contents out.old) (W.contents out.new) result.unclosed result.status }
+    ensures ran { RunsAny manner limits (R.left reader.old) (R.left reader.new)
+        (W.held out.old) (W.held out.new) calls.old calls.new result.unclosed result.status }
     ensures counted { table.pages.guard ≡ Unsealed 0 → table.pages.tail ≡ 0
-        → RunsOn D.DiskState manner limits (R.remaining reader.old) (R.remaining reader.new)
-        (W.contents out.old) (W.contents out.new) result.unclosed result.status result.disk }
+        → RunsOn D.DiskState manner limits (R.left reader.old) (R.left reader.new)
+        (W.held out.old) (W.held out.new) calls.old calls.new result.unclosed result.status result.disk }
     ensures session { IsTrue table.pages.steady → IsUncounted table
-        → EndsFile manner (R.remaining reader.old) (R.remaining reader.new)
-        (W.contents out.old) (W.contents out.new)
+        → EndsFile manner (R.left reader.old) (R.left reader.new)
+        (W.held out.old) (W.held out.new) calls.old calls.new
         (opened_file (table_contents table) limits table.pages.failures)
         (ClosesSafely D.DiskState (file_of table.pages.opening) result.disk result.unclosed
         table.tree.order)
@@ -139,7 +163,16 @@ fn run_table<D: Disk + Drop, R: Read, W: Write, E: Write>(
         → result.status ≡ 4 → LeavesOld D.DiskState (file_of table.pages.opening) result.disk }
 {
     let mut file = RecordFile::new(alloc, table, limits);
-    let end = run_session(alloc, manner, &mut file, &mut Unlogged, reader, out, err);
+    let end = run_session(
+        alloc,
+        manner,
+        &mut file,
+        &mut Unlogged,
+        reader,
+        out,
+        err,
+        calls,
+    );
     let script_fault = end.script.is_err();
     let table = file.abandon();
     match end.ended {
@@ -154,7 +187,11 @@ fn run_table<D: Disk + Drop, R: Read, W: Write, E: Write>(
 }
 
 // The end of a session whose file isn't opened. The fault has its line.
-fn unopened<D: Disk + Drop, E: Write>(disk: D, fault: FileFault, err: &mut E) -> DiskEnd<D>
+pub(crate) fn unopened<D: Disk + Drop, E: Write>(
+    disk: D,
+    fault: FileFault,
+    err: &mut E,
+) -> DiskEnd<D>
     ensures { result ≡ record {
       status = 1;
       disk = disk;
@@ -172,7 +209,7 @@ fn unopened<D: Disk + Drop, E: Write>(disk: D, fault: FileFault, err: &mut E) ->
 }
 
 // Opens the page file of a store that stands for the file that there was when the disk was opened, and runs a session.
-fn run_stored<D: Disk + Drop, R: Read, W: Write, E: Write>(
+fn run_stored<L: Ledger, D: Disk + Drop, R: CountedRead<L>, W: CountedWrite<L>, E: Write>(
     alloc: Global,
     store: KeptStore<D>,
     limits: Limits,
@@ -180,14 +217,15 @@ fn run_stored<D: Disk + Drop, R: Read, W: Write, E: Write>(
     reader: &mut R,
     out: &mut W,
     err: &mut E,
+    calls: &mut StreamCalls<L>,
 ) -> DiskEnd<D>
     requires file { IsTrue (D.steady store.disk)
         → (D.seen store.disk).main ≡ recovered (D.began store.disk) }
     requires unused { (store.state ≡ SealState.Unsealed) × (store.refusals ≡ 0) }
     ensures unread { IfSome result.unopened (λ _. (result.status ≡ 1) × (result.unclosed ≡ None)
-        × (reader.new ≡ reader.old) × (out.new ≡ out.old)) }
+        × (reader.new ≡ reader.old) × (out.new ≡ out.old) × (calls.new ≡ calls.old)) }
     ensures ran { result.unopened ≡ None → RunsOn D.DiskState manner limits
-        (R.remaining reader.old) (R.remaining reader.new) (W.contents out.old) (W.contents out.new)
+        (R.left reader.old) (R.left reader.new) (W.held out.old) (W.held out.new) calls.old calls.new
         result.unclosed result.status result.disk }
     ensures device { IfSome result.unopened (λ fault. D.failures result.disk
         ≡ counted (D.failures store.disk) (is_device fault)) }
@@ -202,15 +240,15 @@ fn run_stored<D: Disk + Drop, R: Read, W: Write, E: Write>(
     ensures session { IsTrue (D.steady store.disk) → (tree : TreeValue) → (contents : Contents)
         → (version : ℕ) → IsClosed version (recovered (D.began store.disk)).pages (recovered (D.began store.disk)).tail
         tree contents → tree.count ≤ limits.records
-        → MatchOption result.unopened (EndsFile manner (R.remaining reader.old)
-        (R.remaining reader.new) (W.contents out.old) (W.contents out.new)
+        → MatchOption result.unopened (EndsFile manner (R.left reader.old)
+        (R.left reader.new) (W.held out.old) (W.held out.new) calls.old calls.new
         (opened_file contents limits (D.failures store.disk))
         (ClosesSafely D.DiskState (recovered (D.began store.disk)) result.disk result.unclosed tree.order)
         result.unclosed result.status)
         IsOutsideFile }
 {
     match TreeTable::open_from(alloc, store, limits) {
-        Ok(table) => run_table(alloc, table, limits, manner, reader, out, err),
+        Ok(table) => run_table(alloc, table, limits, manner, reader, out, err, calls),
         Err(stop) => {
             let (disk, _put_back) = stop.store.take_back();
             unopened(disk, FileFault::from(stop.fault), err)
@@ -226,7 +264,7 @@ fn run_stored<D: Disk + Drop, R: Read, W: Write, E: Write>(
 /// file that the session closes, whole. Old pages are put back over the file that they were kept of, and over no other.
 /// Where the file can't be opened no script is read. Where a call of the closing
 /// fails, and where a transaction can't be ended, the old file is put back at once.
-pub fn run_kept<D: Disk + Drop, R: Read, W: Write, E: Write>(
+pub fn run_kept<L: Ledger, D: Disk + Drop, R: CountedRead<L>, W: CountedWrite<L>, E: Write>(
     alloc: Global,
     disk: D,
     limits: Limits,
@@ -234,14 +272,15 @@ pub fn run_kept<D: Disk + Drop, R: Read, W: Write, E: Write>(
     reader: &mut R,
     out: &mut W,
     err: &mut E,
+    calls: &mut StreamCalls<L>,
 ) -> DiskEnd<D>
     requires rest { IsAtRest D.DiskState disk }
     requires began { IsTrue (D.steady disk) → D.seen disk ≡ D.began disk }
     requires moment { D.moment disk ≡ 0 }
     ensures unread { IfSome result.unopened (λ _. (result.status ≡ 1) × (result.unclosed ≡ None)
-        × (reader.new ≡ reader.old) × (out.new ≡ out.old)) }
+        × (reader.new ≡ reader.old) × (out.new ≡ out.old) × (calls.new ≡ calls.old)) }
     ensures ran { result.unopened ≡ None → RunsOn D.DiskState manner limits
-        (R.remaining reader.old) (R.remaining reader.new) (W.contents out.old) (W.contents out.new)
+        (R.left reader.old) (R.left reader.new) (W.held out.old) (W.held out.new) calls.old calls.new
         result.unclosed result.status result.disk }
     ensures device { IfSome result.unopened (λ fault. D.failures result.disk
         ≡ counted (D.failures disk) (is_device fault)) }
@@ -257,15 +296,15 @@ pub fn run_kept<D: Disk + Drop, R: Read, W: Write, E: Write>(
     ensures session { IsTrue (D.steady disk) → (tree : TreeValue) → (contents : Contents)
         → (version : ℕ) → IsClosed version (recovered (D.began disk)).pages (recovered (D.began disk)).tail
         tree contents → tree.count ≤ limits.records
-        → MatchOption result.unopened (EndsFile manner (R.remaining reader.old)
-        (R.remaining reader.new) (W.contents out.old) (W.contents out.new)
+        → MatchOption result.unopened (EndsFile manner (R.left reader.old)
+        (R.left reader.new) (W.held out.old) (W.held out.new) calls.old calls.new
         (opened_file contents limits (D.failures disk))
         (ClosesSafely D.DiskState (recovered (D.began disk)) result.disk result.unclosed tree.order)
         result.unclosed result.status)
         (IsOutsideDisk (D.began disk)) }
 {
     match KeptStore::open(alloc, disk) {
-        Ok(store) => run_stored(alloc, store, limits, manner, reader, out, err),
+        Ok(store) => run_stored(alloc, store, limits, manner, reader, out, err, calls),
         Err((disk, fault)) => unopened(disk, FileFault::from(fault), err),
     }
 }

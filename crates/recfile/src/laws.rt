@@ -1,8 +1,8 @@
 //! Facts of the definitions that contracts of this crate cite.
-ghost use Rattle.std.specs.Prelude.{◌≡◌, ◌≢◌, ◌⊎◌, ◌<◌, ℕ, length, List, [], ◌∷◌, Option, Some, None, Result, Ok, IsTrue, true, false, slice_get, codes};
+ghost use Rattle.std.specs.Prelude.{◌≡◌, ◌≢◌, ◌⊎◌, ◌<◌, ℕ, length, List, [], ◌∷◌, Option, Some, None, Result, Ok, Err, IsTrue, true, false, slice_get, codes};
 ghost use Rattle.std.specs.FinMap as maps;
 ghost use Rattle.std.specs.List.{All, flat_map};
-ghost use Rattle.rec_types.specs.Contents.{Contents};
+ghost use Rattle.rec_types.specs.Contents.{Contents, set_to};
 ghost use Rattle.rec_types.specs.LimitBounds.{Bounds};
 ghost use Rattle.rec_types.specs.Table.{greatest_count};
 ghost use Rattle.rec_types.specs.declared.transaction.TxId.{TxId};
@@ -23,19 +23,24 @@ ghost use Rattle.command_text.specs.Refusals.{is_refusal};
 ghost use Rattle.command_text.specs.Script.{entries_in, entries_of};
 ghost use Rattle.command_text.specs.Units.{Write, unit_commands};
 ghost use Rattle.command_text.specs.declared.reply.Reply.{Reply};
+ghost use Rattle.recfile.specs.DurableSession.{IsFrontOrMore};
 ghost use Rattle.recfile.specs.Ending.{EndsAll, without};
 ghost use Rattle.recfile.specs.Examples.{four_changes, two_taken_back};
 ghost use Rattle.recfile.specs.Kept.{ClosesSafely, CountsClosing, HasRecords, IsKept, LeavesEither};
-ghost use Rattle.recfile.specs.Overlaid.{IsLogged, SayWrites, in_order, writes_said};
+ghost use Rattle.recfile.specs.LogOver.{IsHead, IsLogOver};
+ghost use Rattle.recfile.specs.Overlaid.{IsLogCommand, SayWrites, writes_in_turn, writes_said};
 ghost use Rattle.recfile.specs.Room.{HasRoomFor, was_kept};
 ghost use Rattle.recfile.specs.Run.{Session};
 ghost use Rattle.recfile.specs.StoreSession.{WritesBack};
-ghost use Rattle.recfile.specs.WholeSession.{EndsFile, IsSession};
+ghost use Rattle.recfile.specs.Streams.{CallsMade, TellsFailed, no_call, run_read_fault, run_write_fault};
+ghost use Rattle.recfile.specs.WholeSession.{EndsFile, IsSession, RunsFile};
 ghost use Rattle.recfile.specs.declared.endings.EndFault.{EndFault};
 ghost use Rattle.recfile.specs.declared.file_fault.FileFault.{FileFault};
 ghost use Rattle.recfile.specs.declared.file_fault.FileFault.TheVariants as faults;
 ghost use Rattle.recfile.specs.declared.manner.Manner.{Manner};
 ghost use Rattle.recfile.specs.declared.script.RunFault.{RunFault};
+ghost use Rattle.recfile.specs.declared.script.RunFault.TheVariants.{Script};
+ghost use Rattle.recfile.specs.declared.script.ScriptFault.TheVariants as script_faults;
 
 use page_journal::{DiskState, MemDisk};
 
@@ -46,13 +51,43 @@ pub fn logs_are_read()
     ensures said { (units : List (List (List ℕ))) → AreUnits units
         → entries_of (log_text units) ≡ flat_map entries_in units }
     ensures found { (units : List (List (List ℕ))) (kept : List (List Write)) → AreUnits units
-        → SayWrites units kept → writes_said (entries_of (log_text units)) ≡ in_order kept }
-    ensures logged { (n : ℕ) (es : List Write) → All IsLogged (unit_commands n es) }
+        → SayWrites units kept → writes_said (entries_of (log_text units)) ≡ writes_in_turn kept }
+    ensures logged { (n : ℕ) (es : List Write) → All IsLogCommand (unit_commands n es) }
     ensures newest_first { (units : List (List (List ℕ))) → AreUnits units
         → SayWrites units (((97 ∷ [], None) ∷ []) ∷ ((98 ∷ [], None) ∷ []) ∷ [])
         → writes_said (entries_of (log_text units)) ≡ (98 ∷ [], None) ∷ (97 ∷ [], None) ∷ [] → ⊥ }
     ensures uncommitted { AreUnits ((codes "begin" ∷ codes "del 1 a" ∷ []) ∷ []) → ⊥ }
-    ensures rollback { (t : TxId) → IsLogged (Ok (command.Abort t)) → ⊥ }
+    ensures rollback { (t : TxId) → IsLogCommand (Ok (command.Abort t)) → ⊥ }
+{}
+
+/// An opening puts what a log of commits says over the records of its file; again, over what that made, it changes nothing, so
+/// that the log may stand beside the closed file. In the example it says one put. It doesn't count without a first line of this
+/// version, nor with one that isn't alone, nor over another file whose records it would change.
+pub fn openings_find_commits()
+    ensures over { (head : List ℕ) (under : Contents) (unit : List (List ℕ)) (n : ℕ) → IsHead head
+        → entries_in unit ≡ unit_commands n ((97 ∷ [], Some (120 ∷ [])) ∷ [])
+        → IsLogOver head under (set_to under (97 ∷ []) (Some (120 ∷ []))) ((head ∷ []) ∷ unit ∷ []) }
+    ensures again { (head later : List ℕ) (under records : Contents) (units : List (List (List ℕ)))
+        → IsLogOver head under records units → IsLogOver later records records units }
+    ensures once { (head : List ℕ) (under a b : Contents) (units : List (List (List ℕ)))
+        → IsLogOver head under a units → IsLogOver head under b units → a ≡ b }
+    ensures other_file { (head first : List ℕ) (under records : Contents)
+        (units : List (List (List ℕ))) → first ≢ head → records ≢ under
+        → IsLogOver head under records ((first ∷ []) ∷ units) → ⊥ }
+    ensures other_version { IsHead (codes "commits 2 4 5") → ⊥ }
+    ensures not_alone { (head first next : List ℕ) (under records : Contents)
+        (units : List (List (List ℕ)))
+        → IsLogOver head under records ((first ∷ next ∷ []) ∷ units) → ⊥ }
+    ensures empty { (head : List ℕ) (under records : Contents) → IsLogOver head under records [] → ⊥ }
+{}
+
+/// What a crash of a durable session leaves are commits from the first on: some, all, or all and one more. Not the later without
+/// the earlier, nor two more.
+pub fn commits_last_in_order()
+    ensures some { (a b : List Write) → IsFrontOrMore (a ∷ []) (a ∷ b ∷ []) }
+    ensures more { (a b : List Write) → IsFrontOrMore (a ∷ b ∷ []) (a ∷ []) }
+    ensures earlier_lost { (a b : List Write) → a ≢ b → IsFrontOrMore (b ∷ []) (a ∷ b ∷ []) → ⊥ }
+    ensures two_more { (a b : List Write) → IsFrontOrMore (a ∷ b ∷ []) [] → ⊥ }
 {}
 
 /// Ending takes back the live changes of open transactions and no others; it is no commit.
@@ -79,9 +114,24 @@ pub fn sessions_by_example()
         → open_of mid.file 2 ≡ false → open_of mid.file 3 ≡ true
         → (maps.get new.records (97 ∷ []) ≡ None)
         × (maps.get new.records (98 ∷ []) ≡ Some (121 ∷ [])) }
-    ensures unclosed { (manner : Manner) (left leaves held holds : Option (List ℕ)) (old : Seen) (status : ℕ)
-        (unclosed : Option FileFault)
-        → EndsFile manner left leaves held holds old (λ _. ⊥) unclosed status → status ≡ 4 }
+    ensures unclosed { (manner : Manner) (left leaves held holds : Option (List ℕ))
+        (before after : CallsMade) (old : Seen) (status : ℕ) (unclosed : Option FileFault)
+        → EndsFile manner left leaves held holds before after old (λ _. ⊥) unclosed status
+        → status ≡ 4 }
+{}
+
+/// After a session of status 0 no read and no write has failed. A ReadFault isn't answered where no read failed, nor Ok where
+/// a write did.
+pub fn failed_calls_are_told()
+    ensures unfailed { (manner : Manner) (left leaves held holds : Option (List ℕ))
+        (before after : CallsMade) (old : Seen) (unclosed : Option FileFault)
+        → RunsFile manner left leaves held holds before after old unclosed 0
+        → (after.read_failed ≡ before.read_failed) × (after.write_failed ≡ before.write_failed) }
+    ensures made_up { (answer : Result ℕ RunFault) → answer ≡ Err (Script script_faults.ReadFault)
+        → TellsFailed no_call (run_read_fault answer) (run_write_fault answer) no_call → ⊥ }
+    ensures hidden { (answer : Result ℕ RunFault) (done : ℕ) → answer ≡ Ok done
+        → TellsFailed no_call (run_read_fault answer) (run_write_fault answer)
+        (record no_call { write_failed = true }) → ⊥ }
 {}
 
 /// A closing without a fault has no failure of its disk behind it; Device is no fault of a disk that didn't fail; and where

@@ -1,4 +1,4 @@
-ghost use Rattle.std.specs.Prelude.{◌≡◌, ◌⊎◌, ◌↔◌, ℕ, List, Option, Some, None, IfSome, IsTrue};
+ghost use Rattle.std.specs.Prelude.{◌≡◌, ◌⊎◌, ◌↔◌, ℕ, List, Option, Some, None, false, IfSome, IsTrue};
 ghost use Rattle.command_text.specs.Dump.{dump_text};
 ghost use Rattle.recfile.specs.Filling.{CanFill, FillsAt, LooksAt};
 ghost use Rattle.recfile.specs.Tasks.{LoadsAt, RunsOver, loading};
@@ -9,6 +9,7 @@ use crate::path_session::{fill_at_path, run_at_path};
 use crate::replies::{LastReply, Replies};
 use crate::screen::Screen;
 use crate::statuses::exit_status;
+use crate::streams::StreamCalls;
 use crate::tell::tell;
 use btree_load::is_sorted;
 use command_text::write_dump;
@@ -18,6 +19,7 @@ use record_texts::{Loaded, Separator, TextFault, read_records};
 use std::alloc::Global;
 use std::io;
 use std::io::{Read, Write};
+use std::sync::ledger::Ledger;
 use thiserror::Error;
 
 // The manner of the session that loads records.
@@ -86,38 +88,67 @@ fn tell_load<E: Write>(lines: &[u64], replies: &LastReply, told: &[u8], err: &mu
 }
 
 // Runs the session that puts records into the file at a path. Status 3 where there is no memory for its script.
-fn run_load<P: PageFiles, E: Screen>(
+fn run_load<L: Ledger, P: PageFiles, E: Screen>(
     files: &P,
     alloc: Global,
     limits: Limits,
     path: &str,
     loaded: &Loaded,
     err: &mut E,
+    calls: &mut StreamCalls<L>,
 ) -> u8
     ensures { (result ≡ 3) ⊎ ((leaves : Option (List ℕ))
-        × RunsOver P.Device.DiskState (P.at files.now path.now) loading limits
-        (Some (dump_text loaded.now.records.items)) leaves None None result) }
+        × RunsOver P.Device.DiskState (P.at files.now path.now) false loading limits
+        (Some (dump_text loaded.now.records.items)) leaves None None calls.old calls.new result) }
 {
-    let script = match write_dump(alloc, &loaded.records) {
-        Ok(script) => script,
-        Err(memory) => return unread(&LoadFault::from(memory), err),
-    };
-    let mut rest = script.as_slice();
+    match write_dump(alloc, &loaded.records) {
+        Ok(script) => load_script(
+            files,
+            alloc,
+            limits,
+            path,
+            &script,
+            &loaded.lines,
+            err,
+            calls,
+        ),
+        Err(memory) => unread(&LoadFault::from(memory), err),
+    }
+}
+
+// Runs the script that puts records, which come from these lines, into the file at a path.
+fn load_script<L: Ledger, P: PageFiles, E: Screen>(
+    files: &P,
+    alloc: Global,
+    limits: Limits,
+    path: &str,
+    script: &[u8],
+    lines: &[u64],
+    err: &mut E,
+    calls: &mut StreamCalls<L>,
+) -> u8
+    ensures { (leaves : Option (List ℕ))
+        × RunsOver P.Device.DiskState (P.at files.now path.now) false loading limits
+        (Some script.now) leaves None None calls.old calls.new result }
+{
+    let mut rest = script;
     // One reply for each record, with those of the begin and the commit.
-    let mut replies = Replies::new(err, loaded.lines.len().saturating_add(2));
+    let mut replies = Replies::new(err, lines.len().saturating_add(2));
     let mut told = Vec::new(alloc);
     let status = run_at_path(
         files,
         alloc,
         limits,
         LOADING,
+        false,
         path,
         &mut rest,
         &mut replies,
         &mut told,
+        calls,
     );
     let last = replies.end();
-    tell_load(&loaded.lines, &last, &told, err);
+    tell_load(lines, &last, &told, err);
     status
 }
 
@@ -149,20 +180,22 @@ fn fill_or_leave<P: PageFiles, E: Write>(
 }
 
 // Puts records into the file at a path.
-fn load_records<P: PageFiles, E: Screen>(
+fn load_records<L: Ledger, P: PageFiles, E: Screen>(
     files: &P,
     alloc: Global,
     limits: Limits,
     path: &str,
     loaded: &Loaded,
     err: &mut E,
+    calls: &mut StreamCalls<L>,
 ) -> u8
     ensures { (result ≡ 3)
-        ⊎ LoadsAt P.Device.DiskState (P.at files.now path.now) limits result }
+        ⊎ LoadsAt P.Device.DiskState (P.at files.now path.now) limits calls.old calls.new
+        result }
 {
     match fill_or_leave(files, alloc, limits, path, &loaded.records, err) {
         Some(status) => status,
-        None => run_load(files, alloc, limits, path, loaded, err),
+        None => run_load(files, alloc, limits, path, loaded, err, calls),
     }
 }
 
@@ -178,7 +211,7 @@ fn unread<E: Write>(fault: &LoadFault, err: &mut E) -> u8
 /// keys ascend and the file has no records its pages are written one after another; else they are put in one transaction,
 /// and a bar on `err` tells a person how far that is. Faults, each with a line on `err`: those of the text, by which no file
 /// is opened; the first record that is refused, by the number of its line; those of the file.
-pub fn load<P: PageFiles, R: Read, E: Screen>(
+pub fn load<L: Ledger, P: PageFiles, R: Read, E: Screen>(
     files: &P,
     alloc: Global,
     separator: Separator,
@@ -186,12 +219,14 @@ pub fn load<P: PageFiles, R: Read, E: Screen>(
     path: &str,
     reader: &mut R,
     err: &mut E,
+    calls: &mut StreamCalls<L>,
 ) -> u8
     ensures { (result ≡ 3)
-        ⊎ LoadsAt P.Device.DiskState (P.at files.now path.now) limits result }
+        ⊎ LoadsAt P.Device.DiskState (P.at files.now path.now) limits calls.old calls.new
+        result }
 {
     match read_all(alloc, separator, reader) {
-        Ok(loaded) => load_records(files, alloc, limits, path, &loaded, err),
+        Ok(loaded) => load_records(files, alloc, limits, path, &loaded, err, calls),
         Err(fault) => unread(&fault, err),
     }
 }

@@ -1,8 +1,9 @@
-ghost use Rattle.std.specs.Prelude.{◌≡◌, Ok, IsTrue, OnOk};
+ghost use Rattle.std.specs.Prelude.{◌≡◌, Ok, IsTrue, IfErr, OnOk};
 ghost use Rattle.std.specs.List.{All};
 ghost use Rattle.command_text.specs.Script.{entries_of};
 ghost use Rattle.record_file.specs.Durable.{overlay};
-ghost use Rattle.recfile.specs.Overlaid.{IsLogged, line_entries, write_said, writes_said};
+ghost use Rattle.recfile.specs.Beside.{IsOverlayFault};
+ghost use Rattle.recfile.specs.Overlaid.{IsLogCommand, line_entries, write_said, writes_said};
 
 use crate::next_line::next_line;
 use command_text::{Command, LineFault, read_line};
@@ -20,6 +21,11 @@ pub enum OverlayFault {
 }
 
 impl From<TableFault> for OverlayFault {
+    ghost use Rattle.std.specs.Prelude.{◌≡◌};
+    ghost use Rattle.recfile.specs.declared.overlaying.OverlayFault.TheVariants.{Table};
+
+    ghost from_gives = { λ fault named. named ≡ Table fault };
+
     fn from(fault: TableFault) -> OverlayFault {
         OverlayFault::Table(fault)
     }
@@ -29,9 +35,12 @@ impl From<TableFault> for OverlayFault {
 fn overlay_one<T: Table>(table: &mut T, command: &Command) -> Result<(), OverlayFault>
     ensures said { IsTrue (T.sound table.old) → OnOk result (T.contents table.new
         ≡ overlay (T.contents table.old) (write_said (Ok command.now))) }
-    ensures logged { OnOk result (IsLogged (Ok command.now)) }
+    ensures logged { OnOk result (IsLogCommand (Ok command.now)) }
+    ensures refused { IsTrue (T.sound table.old) → IsLogCommand (Ok command.now)
+        → IfErr result IsOverlayFault }
     ensures sound { T.sound table.new ≡ T.sound table.old }
     ensures origin { T.origin table.new ≡ T.origin table.old }
+    ensures failures { OnOk result (T.device_failures table.new ≡ T.device_failures table.old) }
 {
     match command {
         Command::Begin | Command::Commit(_) => {}
@@ -53,9 +62,12 @@ fn overlay_line<T: Table>(
 ) -> Result<(), OverlayFault>
     ensures said { IsTrue (T.sound table.old) → OnOk result (T.contents table.new
         ≡ overlay (T.contents table.old) (writes_said (line_entries said.now))) }
-    ensures logged { OnOk result (All IsLogged (line_entries said.now)) }
+    ensures logged { OnOk result (All IsLogCommand (line_entries said.now)) }
+    ensures refused { IsTrue (T.sound table.old) → All IsLogCommand (line_entries said.now)
+        → IfErr result IsOverlayFault }
     ensures sound { T.sound table.new ≡ T.sound table.old }
     ensures origin { T.origin table.new ≡ T.origin table.old }
+    ensures failures { OnOk result (T.device_failures table.new ≡ T.device_failures table.old) }
 {
     match said {
         Ok(None) => Ok(()),
@@ -69,9 +81,12 @@ fn overlay_line<T: Table>(
 pub fn overlay_text<T: Table>(table: &mut T, text: &[u8]) -> Result<(), OverlayFault>
     ensures said { IsTrue (T.sound table.old) → OnOk result (T.contents table.new
         ≡ overlay (T.contents table.old) (writes_said (entries_of text.now))) }
-    ensures logged { OnOk result (All IsLogged (entries_of text.now)) }
+    ensures logged { OnOk result (All IsLogCommand (entries_of text.now)) }
+    ensures refused { IsTrue (T.sound table.old) → All IsLogCommand (entries_of text.now)
+        → IfErr result IsOverlayFault }
     ensures sound { T.sound table.new ≡ T.sound table.old }
     ensures origin { T.origin table.new ≡ T.origin table.old }
+    ensures failures { OnOk result (T.device_failures table.new ≡ T.device_failures table.old) }
 {
     let mut rest = text;
     while !rest.is_empty() {

@@ -26,13 +26,15 @@ use crate::manner::Manner;
 use crate::script::write_text;
 use crate::session::run_session;
 use crate::statuses::exit_status;
+use crate::streams::{CountedRead, CountedWrite, StreamCalls};
 use crate::tell::tell;
 use btree_delete::{OpenFault, TreeTable};
 use page_store::Store;
 use rec_types::{Limits, Table};
 use record_file::{RecordFile, Unlogged};
 use std::alloc::{AllocError, Global};
-use std::io::{Read, Write};
+use std::io::Write;
+use std::sync::ledger::Ledger;
 
 /// Makes a page file with an empty tree of the order, in an empty store, which comes back. Faults: BadOrder, Device,
 /// NotEmpty, Memory; nothing is written at BadOrder and at NotEmpty.
@@ -210,7 +212,7 @@ fn close_in<S: Store, E: Write>(table: TreeTable<S>, script_fault: bool, err: &m
 
 // Runs a session over the table of a page file, and closes the file. What it leaves is told of any store that the table
 // was made of.
-fn run_opened<S: Store, R: Read, W: Write, E: Write>(
+fn run_opened<L: Ledger, S: Store, R: CountedRead<L>, W: CountedWrite<L>, E: Write>(
     alloc: Global,
     table: TreeTable<S>,
     limits: Limits,
@@ -218,26 +220,36 @@ fn run_opened<S: Store, R: Read, W: Write, E: Write>(
     reader: &mut R,
     out: &mut W,
     err: &mut E,
+    calls: &mut StreamCalls<L>,
 ) -> FileEnd<S>
     requires limit { table.limit ≡ limits.records }
     ensures opened { result.unopened ≡ None }
     ensures asked { S.shapes result.store ≡ table.pages.shapes }
     ensures ran { (store : S) → origin_of table ≡ opened_in S.StoreState table.tree.order store
-        → RunsIn S.StoreState store result.store manner limits (R.remaining reader.old)
-        (R.remaining reader.new) (W.contents out.old) (W.contents out.new)
+        → RunsIn S.StoreState store result.store manner limits (R.left reader.old)
+        (R.left reader.new) (W.held out.old) (W.held out.new) calls.old calls.new
         result.unclosed result.status }
     ensures stopped { (store : S) → origin_of table ≡ opened_in S.StoreState table.tree.order store
         → result.status ≡ 4 → StaysStore S.StoreState store result.store }
     ensures session { (store : S) → origin_of table ≡ opened_in S.StoreState table.tree.order store
         → IsTrue table.pages.steady → IsUncounted table
-        → EndsFile manner (R.remaining reader.old) (R.remaining reader.new)
-        (W.contents out.old) (W.contents out.new)
+        → EndsFile manner (R.left reader.old) (R.left reader.new)
+        (W.held out.old) (W.held out.new) calls.old calls.new
         (opened_file (table_contents table) limits table.pages.failures)
         (ClosesIn S.StoreState store result.store result.unclosed table.tree.order)
         result.unclosed result.status }
 {
     let mut file = RecordFile::new(alloc, table, limits);
-    let end = run_session(alloc, manner, &mut file, &mut Unlogged, reader, out, err);
+    let end = run_session(
+        alloc,
+        manner,
+        &mut file,
+        &mut Unlogged,
+        reader,
+        out,
+        err,
+        calls,
+    );
     let script_fault = end.script.is_err();
     let table = file.abandon();
     match end.ended {
@@ -255,7 +267,7 @@ fn run_opened<S: Store, R: Read, W: Write, E: Write>(
 /// file that opening refuses, which `run_kept` doesn't. A fault of the file has a line on `err` when it is met. The
 /// status is that of `exit_status`. The store comes back: with its pages as they were where the file can't be opened,
 /// by which nothing is read of the script. Nothing is written to the store where a transaction can't be ended.
-pub fn run_in<S: Store, R: Read, W: Write, E: Write>(
+pub fn run_in<L: Ledger, S: Store, R: CountedRead<L>, W: CountedWrite<L>, E: Write>(
     alloc: Global,
     store: S,
     limits: Limits,
@@ -263,9 +275,10 @@ pub fn run_in<S: Store, R: Read, W: Write, E: Write>(
     reader: &mut R,
     out: &mut W,
     err: &mut E,
+    calls: &mut StreamCalls<L>,
 ) -> FileEnd<S>
     ensures unread { IfSome result.unopened (λ _. (result.status ≡ 1) × (result.unclosed ≡ None)
-        × (reader.new ≡ reader.old) × (out.new ≡ out.old)) }
+        × (reader.new ≡ reader.old) × (out.new ≡ out.old) × (calls.new ≡ calls.old)) }
     ensures untouched { IfSome result.unopened (λ fault. StaysStore S.StoreState store result.store
         × (S.failures result.store ≡ counted (S.failures store) (is_device_fault fault))) }
     ensures asked { S.shapes result.store ≡ counted (S.shapes store) true }
@@ -274,21 +287,21 @@ pub fn run_in<S: Store, R: Read, W: Write, E: Write>(
     ensures first { IsTrue (S.steady store) → IfSome result.unopened
         (IsFirst (S.pages store) (S.tail store) limits.records) }
     ensures ran { result.unopened ≡ None → RunsIn S.StoreState store result.store manner limits
-        (R.remaining reader.old) (R.remaining reader.new)
-        (W.contents out.old) (W.contents out.new) result.unclosed result.status }
+        (R.left reader.old) (R.left reader.new)
+        (W.held out.old) (W.held out.new) calls.old calls.new result.unclosed result.status }
     ensures stopped { result.status ≡ 4 → StaysStore S.StoreState store result.store }
     ensures session { IsTrue (S.steady store) → (tree : TreeValue) → (contents : Contents)
         → (version : ℕ) → IsClosed version (S.pages store) (S.tail store) tree contents
         → tree.count ≤ limits.records
-        → MatchOption result.unopened (EndsFile manner (R.remaining reader.old) (R.remaining reader.new)
-        (W.contents out.old) (W.contents out.new)
+        → MatchOption result.unopened (EndsFile manner (R.left reader.old) (R.left reader.new)
+        (W.held out.old) (W.held out.new) calls.old calls.new
         (opened_file contents limits (S.failures store))
         (ClosesIn S.StoreState store result.store result.unclosed tree.order)
         result.unclosed result.status)
         IsOutside }
 {
     match TreeTable::open_from(alloc, store, limits) {
-        Ok(table) => run_opened(alloc, table, limits, manner, reader, out, err),
+        Ok(table) => run_opened(alloc, table, limits, manner, reader, out, err, calls),
         Err(stop) => {
             tell(err, &FileFault::from(stop.fault));
             FileEnd {

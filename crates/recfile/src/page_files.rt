@@ -16,16 +16,17 @@ use std::io::Write;
 /// Where page files are found by their paths. A program hands in the one over the files that it has; so what is said of
 /// its tasks is said of every kind of file.
 pub trait PageFiles {
-    /// A page file that is opened to be written, with the side file beside it.
+    /// A page file that is opened to be written, with the side file and the log of commits beside it.
     type Device: Disk + Drop;
     /// A page file that is opened to be read, or that is new.
     type Pages: Store;
 
-    /// Whether these are the files at a path: the page file, and the side file beside it.
+    /// Whether these are the files at a path: the page file, and the side file and the log of commits beside it.
     ghost at: { Self → List ℕ → Files → Type 0 };
 
-    /// Opens the page file at the path to write it, as no other opening may meanwhile. A side file that doesn't belong
-    /// to it is BadJournal, which changes nothing. Faults: Device, as where there is no file; BadJournal; Memory.
+    /// Opens the page file at the path to write it, as no other opening may meanwhile. Where something that is no file has the
+    /// name of a log of commits it is BadCommits, and where a side file doesn't belong to the file BadJournal; neither changes
+    /// anything. Faults: Device, as where there is no file; BadCommits; BadJournal; Memory.
     fn open(&self, alloc: Global, path: &str) -> Result<Self::Device, FileFault>
         ensures found { IfOk result (λ disk. IsTrue (Self.Device.steady disk)
             → Self.at self.now path.now (Self.Device.began disk)) }
@@ -35,8 +36,9 @@ pub trait PageFiles {
         ensures moment { IfOk result (λ disk. Self.Device.moment disk ≡ 0) }
         ensures failures { IfOk result (λ disk. Self.Device.failures disk ≡ 0) };
 
-    /// Opens the page file at the path to read it. Where a side file stands beside it a closing was stopped, and it isn't
-    /// clean: putting the old pages back would write. Faults: Device, as where there is no file; NotClean; Memory.
+    /// Opens the page file at the path to read it. Where a side file or a log of commits stands beside it a session was
+    /// stopped, and it isn't clean: putting the old pages back, or the commits in, would write. Faults: Device, as where there
+    /// is no file; NotClean; Memory.
     fn open_clean(&self, alloc: Global, path: &str) -> Result<Self::Pages, FileFault>
         ensures found { IfOk result (λ store. IsTrue (Self.Pages.steady store)
             → IsCleanAt (Self.at self.now path.now) (Self.Pages.pages store) (Self.Pages.tail store)) };
@@ -52,8 +54,8 @@ pub trait PageFiles {
         ensures found { IfOk result (λ opened. IsTrue (Self.Pages.steady opened.0)
             → IsFoundAt (Self.at self.now path.now) (Self.Pages.pages opened.0) (Self.Pages.tail opened.0)) };
 
-    /// Makes a page file without pages at the path, where there is none. A side file of that name is of another file, and
-    /// stays. Faults: Device, as where there is a file; BadJournal; Memory. No file is made then.
+    /// Makes a page file without pages at the path, where there is none. A side file or a log of commits of that name is of
+    /// another file, and stays. Faults: Device, as where there is a file; BadJournal; BadCommits; Memory. No file is made then.
     fn create(&self, alloc: Global, path: &str) -> Result<Self::Pages, FileFault>
         ensures empty { IfOk result
             (λ store. IsEmpty (Self.Pages.pages store) (Self.Pages.tail store)) };

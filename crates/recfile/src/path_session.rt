@@ -1,18 +1,25 @@
-ghost use Rattle.std.specs.Prelude.{◌≡◌, ◌⊎◌, None, IfSome};
+ghost use Rattle.std.specs.Prelude.{◌≡◌, ◌⊎◌, None, IfOk, IfSome};
+ghost use Rattle.recfile.specs.FilesAt.{SessionOf};
 ghost use Rattle.recfile.specs.Filling.{CanFill, FillsAt, LooksAt};
+ghost use Rattle.recfile.specs.Settling.{IsJustSettled, SettlesAt};
 ghost use Rattle.recfile.specs.Tasks.{RunsOver};
 
+use crate::durable::run_durable;
 use crate::file_fault::FileFault;
 use crate::filling::fill_blank;
 use crate::kept_file::{DiskEnd, run_kept};
 use crate::manner::Manner;
 use crate::page_files::PageFiles;
+use crate::settling::settle;
 use crate::statuses::exit_status;
+use crate::streams::{CountedRead, CountedWrite, StreamCalls};
 use crate::tell::{tell, tell_device};
+use page_journal::Disk;
 use page_looks::Wanted;
 use rec_types::{Key, Limits, Record};
 use std::alloc::Global;
-use std::io::{Read, Write};
+use std::io::Write;
+use std::sync::ledger::Ledger;
 
 // The status of a session that has ended. Its disk is let go first, so that what keeps the file can be looked for.
 fn end_at<P: PageFiles, E: Write>(
@@ -57,24 +64,66 @@ fn unfound<P: PageFiles, E: Write>(
     exit_status(false, true, false)
 }
 
-/// Runs a session over the page file at a path, as `run_kept` does; where its device fails, `err` gets a line that says why.
-pub fn run_at_path<P: PageFiles, R: Read, W: Write, E: Write>(
+// Opens the page file at a path to write it, and puts right what a stop left of it.
+fn open_settled<P: PageFiles>(files: &P, alloc: Global, path: &str) -> Result<P::Device, FileFault>
+    ensures settles { IfOk result (SettlesAt P.Device.DiskState (P.at files.now path.now)) }
+    ensures opened { IfOk result (IsJustSettled P.Device.DiskState) }
+{
+    let disk = files.open(alloc, path)?;
+    let (disk, settled) = settle(alloc, disk);
+    settled?;
+    let mut disk = disk;
+    disk.begin_again()?;
+    Ok(disk)
+}
+
+// Runs a session over a disk that was just opened and put right, whose commits are kept where it is durable.
+fn run_settled<L: Ledger, D: Disk + Drop, R: CountedRead<L>, W: CountedWrite<L>, E: Write>(
+    alloc: Global,
+    disk: D,
+    limits: Limits,
+    manner: Manner,
+    durable: bool,
+    reader: &mut R,
+    out: &mut W,
+    err: &mut E,
+    calls: &mut StreamCalls<L>,
+) -> DiskEnd<D>
+    requires { IsJustSettled D.DiskState disk }
+    ensures { SessionOf durable D.DiskState manner limits (R.left reader.old) (R.left reader.new)
+        (W.held out.old) (W.held out.new) calls.old calls.new disk
+        result.unopened result.unclosed result.disk result.status }
+{
+    if durable {
+        run_durable(alloc, disk, limits, manner, reader, out, err, calls)
+    } else {
+        run_kept(alloc, disk, limits, manner, reader, out, err, calls)
+    }
+}
+
+/// Runs a session over the page file at a path, as `run_durable` does where it is to be durable, and else as `run_kept` does;
+/// what a stop left of the file is put right first. Where its device fails, `err` gets a line that says why.
+pub fn run_at_path<L: Ledger, P: PageFiles, R: CountedRead<L>, W: CountedWrite<L>, E: Write>(
     files: &P,
     alloc: Global,
     limits: Limits,
     manner: Manner,
+    durable: bool,
     path: &str,
     reader: &mut R,
     out: &mut W,
     err: &mut E,
+    calls: &mut StreamCalls<L>,
 ) -> u8
-    ensures { RunsOver P.Device.DiskState (P.at files.now path.now) manner limits
-        (R.remaining reader.old) (R.remaining reader.new)
-        (W.contents out.old) (W.contents out.new) result }
+    ensures { RunsOver P.Device.DiskState (P.at files.now path.now) durable manner limits
+        (R.left reader.old) (R.left reader.new)
+        (W.held out.old) (W.held out.new) calls.old calls.new result }
 {
-    match files.open(alloc, path) {
+    match open_settled(files, alloc, path) {
         Ok(disk) => {
-            let end = run_kept(alloc, disk, limits, manner, reader, out, err);
+            let end = run_settled(
+                alloc, disk, limits, manner, durable, reader, out, err, calls,
+            );
             end_at(files, alloc, path, end, err)
         }
         Err(fault) => unfound(files, alloc, path, fault, err),
@@ -96,7 +145,7 @@ pub fn fill_at_path<P: PageFiles, E: Write>(
         ⊎ FillsAt P.Device.DiskState (P.at files.now path.now) limits records.now status) }
     ensures looked { result ≡ None → LooksAt P.Device.DiskState (P.at files.now path.now) }
 {
-    let disk = match files.open(alloc, path) {
+    let disk = match open_settled(files, alloc, path) {
         Ok(disk) => disk,
         Err(fault) => return Some(unfound(files, alloc, path, fault, err)),
     };

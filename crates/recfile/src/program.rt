@@ -15,12 +15,14 @@ use crate::path_session::run_at_path;
 use crate::screen::Screen;
 use crate::session::run_memory;
 use crate::statuses::exit_status;
+use crate::streams::StreamCalls;
 use crate::tell::{tell, tell_device};
 use crate::words::{Task, UsageFault, read_words};
 use page_looks::Wanted;
 use record_texts::Form;
 use std::alloc::Global;
 use std::io::{Read, Write};
+use std::sync::ledger::Ledger;
 
 /// The status where the words ask for nothing, or can't be read.
 pub(crate) const USAGE: u8 = 2;
@@ -193,17 +195,18 @@ fn show<W: Write, E: Write>(fault: UsageFault, out: &mut W, err: &mut E) -> u8
 }
 
 // Does a task, and answers the status.
-fn run_task<P: PageFiles, R: Read, W: Write, E: Screen>(
+fn run_task<L: Ledger, P: PageFiles, R: Read, W: Write, E: Screen>(
     files: &P,
     alloc: Global,
     task: Task<'_>,
     reader: &mut R,
     out: &mut W,
     err: &mut E,
+    calls: &mut StreamCalls<L>,
 ) -> u8
     ensures { Does P.Device.DiskState P.Pages.StoreState (P.at files.now) task.entry
         (R.remaining reader.old) (R.remaining reader.new)
-        (W.contents out.old) (W.contents out.new) result }
+        (W.contents out.old) (W.contents out.new) calls.old calls.new result }
 {
     match task {
         Task::Create { order, path } => {
@@ -230,28 +233,35 @@ fn run_task<P: PageFiles, R: Read, W: Write, E: Screen>(
             separator,
             limits,
             path,
-        } => load(files, alloc, separator, limits, path, reader, err),
+        } => load(files, alloc, separator, limits, path, reader, err, calls),
         Task::Tell { telling, path } => {
             let told = files.tell(alloc, telling, path, out, err);
             told_status(err, told)
         }
-        Task::Memory { limits, manner } => run_memory(alloc, limits, manner, reader, out, err),
+        Task::Memory { limits, manner } => run_memory(
+            alloc, limits, manner, reader, out, err, calls,
+        ),
         Task::Run {
             limits,
             manner,
+            durable,
             path,
-        } => run_at_path(files, alloc, limits, manner, path, reader, out, err),
+        } => run_at_path(
+            files, alloc, limits, manner, durable, path, reader, out, err, calls,
+        ),
     }
 }
 
 /// Does what the words ask for, of which the first is the program's name, and answers the status: that of
-/// `exit_status`, or 2 where the words can't be read. Faults have their lines on `err`.
+/// `exit_status`, or 2 where the words can't be read. Faults have their lines on `err`. A session has its lines and its
+/// replies by calls that are counted, and so has the script of a load; no other task has.
 ///
 /// - `create [--order K] FILE` makes a page file; one that is there is left alone.
-/// - `run [--records N] [--log N] [--begins N] [--strict] FILE` runs the script that the reader has over a page file, which
-///   no other program may open meanwhile, and closes it so that no stop loses it.
-/// - `shell [--records N] [--log N] [--begins N] [--strict] [FILE]` runs the lines that the reader has over a page file
-///   or in memory, and answers each before it reads on.
+/// - `run [--records N] [--log N] [--begins N] [--strict] [--durable] FILE` runs the script that the reader has over a page
+///   file, which no other program may open meanwhile, and closes it so that no stop loses it; where it is durable, each commit
+///   is kept before it is answered.
+/// - `shell [--records N] [--log N] [--begins N] [--strict] [[--durable] FILE]` runs the lines that the reader has over a
+///   page file, as durably, or in memory, and answers each before it reads on.
 /// - `check FILE` checks a page file, tells of its tree in one line, and writes nothing to it.
 /// - `copy FILE TO` checks a page file, and makes a copy of it; it only reads the file, and one that is at TO is left alone.
 /// - `dump [--tsv|--csv|--json] FILE` writes the records of a page file in a form, or as a script that puts them, and writes
@@ -262,20 +272,21 @@ fn run_task<P: PageFiles, R: Read, W: Write, E: Screen>(
 /// - `rescue FILE` writes the records of the whole pages of a file as `dump` does, and tells what it left out; it only
 ///   reads the file.
 /// - `memory [--records N] [--log N] [--begins N] [--strict]` runs the script over an empty file in memory, as no word does.
-pub fn run_words<P: PageFiles, R: Read, W: Write, E: Screen>(
+pub fn run_words<L: Ledger, P: PageFiles, R: Read, W: Write, E: Screen>(
     files: &P,
     alloc: Global,
     words: &[&str],
     reader: &mut R,
     out: &mut W,
     err: &mut E,
+    calls: &mut StreamCalls<L>,
 ) -> u8
     ensures { DoesAny P.Device.DiskState P.Pages.StoreState (P.at files.now)
         (R.remaining reader.old) (R.remaining reader.new)
-        (W.contents out.old) (W.contents out.new) result }
+        (W.contents out.old) (W.contents out.new) calls.old calls.new result }
 {
     match read_words(alloc, words) {
-        Ok(task) => run_task(files, alloc, task, reader, out, err),
+        Ok(task) => run_task(files, alloc, task, reader, out, err, calls),
         Err(fault) => show(fault, out, err),
     }
 }

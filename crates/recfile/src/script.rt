@@ -1,6 +1,6 @@
 ghost use Rattle.std.specs.Prelude.{◌≡◌, ◌+◌, ◌<◌, ◌≤◌, ◌||◌, false, List, length, take, IfOk, IfErr, OnOk};
 ghost use Rattle.std.specs.Result.{is_err};
-ghost use Rattle.recfile.specs.Streams.{TellsFailed, read_fault, write_fault, run_read_fault, run_write_fault};
+ghost use Rattle.recfile.specs.Streams.{IsBlankFor, TellsFailed, read_fault, write_fault, run_read_fault, run_write_fault};
 ghost use Rattle.std.specs.List.{flat_map};
 ghost use Rattle.std.specs.Io.KnownBytes.{Appends};
 ghost use Rattle.recfile.specs.Whole.{IsWhole, longest_script};
@@ -245,9 +245,7 @@ pub fn write_text<W: Write>(writer: &mut W, text: &[u8]) -> Result<(), usize>
 
 // The same, on a count of its own.
 fn write_alone<L: Ledger, W: Write>(writer: &mut W, text: &[u8], blank: Blank) -> Result<(), usize>
-    requires name { blank.name ≡ L.name }
-    requires parts { blank.parts ≡ L.parts }
-    requires some { 0 < L.parts }
+    requires { IsBlankFor blank.name blank.parts L.name L.parts }
     ensures ok { OnOk result (Appends (W.contents writer.old) (W.contents writer.new) text.now) }
     ensures err { IfErr result (λ sent. (sent < length text.now)
         × Appends (W.contents writer.old) (W.contents writer.new) (take sent text.now)) }

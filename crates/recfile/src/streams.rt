@@ -2,7 +2,7 @@ ghost use Rattle.std.specs.Prelude.{◌≡◌, ◌+◌, ◌<◌, ◌≤◌, ◌|
 ghost use Rattle.std.specs.Result.{is_err};
 ghost use Rattle.std.specs.Io.{ReadsAtMost};
 ghost use Rattle.std.specs.Io.KnownBytes.{Appends, Keeps, ReadConsumes};
-ghost use Rattle.recfile.specs.Streams.{CallsMade};
+ghost use Rattle.recfile.specs.Streams.{CallsMade, IsBlankFor};
 
 use std::io;
 use std::io::{Read, Write};
@@ -37,9 +37,7 @@ impl<L: Ledger> Model for StreamCalls<L> {
 impl<L: Ledger> StreamCalls<L> {
     /// No call was made yet.
     pub fn new(blank: Blank) -> StreamCalls<L>
-        requires name { blank.name ≡ L.name }
-        requires parts { blank.parts ≡ L.parts }
-        requires some { 0 < L.parts }
+        requires { IsBlankFor blank.name blank.parts L.name L.parts }
         ensures { result ≡ record { reads = 0; read_failed = false; write_failed = false } }
     {
         let (book, share) = blank.open::<L>();

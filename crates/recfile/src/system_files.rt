@@ -5,7 +5,7 @@ use crate::file_fault::FileFault;
 use crate::page_files::PageFiles;
 use crate::telling::Telling;
 use file_system::{HostFile, HostSystem, Lock};
-use page_journal::{FileDisk, has_side_file, keep_made, make_file, take_away};
+use page_journal::{FileDisk, has_side_file_or_log, keep_made, make_file, take_away};
 use page_looks::{Reach, Wanted, explain_file, reach_file, show_file, tell_why};
 use page_store::FileStore;
 use std::alloc::Global;
@@ -55,7 +55,7 @@ impl<'a, F: OpenFile + FileExt + Lock + Drop, H: Files<File = F>> PageFiles for 
     fn open_clean(&self, alloc: Global, path: &str) -> Result<FileStore<HostFile<F>>, FileFault> {
         let system = HostSystem::new(self.rt);
         let store = FileStore::open_to_read(&system, path)?;
-        if has_side_file(&system, alloc, path)? {
+        if has_side_file_or_log(&system, alloc, path)? {
             return Err(FileFault::NotClean);
         }
         Ok(store)

@@ -47,10 +47,11 @@ pub enum Task<'a> {
         order: u16,
         path: &'a str,
     },
-    /// To run a session over a page file.
+    /// To run a session over a page file, whose commits are kept before they are answered where it is durable.
     Run {
         limits: Limits,
         manner: Manner,
+        durable: bool,
         path: &'a str,
     },
     /// To open a page file, and tell of its tree.
@@ -156,6 +157,11 @@ fn with_session<'a>(alloc: Global, command: Command<'a>) -> Result<Command<'a>, 
         .arg(strict_option(alloc))
 }
 
+fn durable_option<'a>(alloc: Global) -> Result<Arg<'a>, AllocError> {
+    let help = "Keep each commit on the device before it is answered, so that no stop loses it";
+    flag(alloc, "durable", help).requires_arg("FILE")
+}
+
 fn create_command<'a>(alloc: Global) -> Result<Command<'a>, AllocError> {
     Command::new(alloc, "create")
         .about("Makes a page file with no records, as: recfile create a.rec")
@@ -170,14 +176,16 @@ fn run_command<'a>(alloc: Global) -> Result<Command<'a>, AllocError> {
     let run = Command::new(alloc, "run").about(
         "Runs the script of standard input over a page file, and writes its replies, as: recfile run a.rec < script.txt",
     );
-    with_session(alloc, run)?.arg(file_word(alloc, "The path of the page file"))
+    with_session(alloc, run)?
+        .arg(durable_option(alloc)?)?
+        .arg(file_word(alloc, "The path of the page file"))
 }
 
 fn shell_command<'a>(alloc: Global) -> Result<Command<'a>, AllocError> {
     let shell = Command::new(alloc, "shell").about(
         "Runs lines as they come, and answers each before it waits for more, over a page file or in memory, as: recfile shell a.rec",
     );
-    with_session(alloc, shell)?.arg(Arg::new(alloc, "FILE").help(
+    with_session(alloc, shell)?.arg(durable_option(alloc)?)?.arg(Arg::new(alloc, "FILE").help(
         "The path of the page file; without it, an empty file in memory",
     ))
 }
@@ -399,6 +407,7 @@ fn shell_of<'a>(found: &ArgMatches<'a>) -> Result<Task<'a>, UsageFault>
         Some(path) => Ok(Task::Run {
             limits,
             manner,
+            durable: is_set(found, "durable"),
             path,
         }),
         None => Ok(Task::Memory { limits, manner }),
@@ -428,6 +437,7 @@ fn named<'a>(name: &str, found: &ArgMatches<'a>) -> Result<Task<'a>, UsageFault>
         "run" => Ok(Task::Run {
             limits: limits_of(found)?,
             manner: manner_of(found, Feed::Script),
+            durable: is_set(found, "durable"),
             path,
         }),
         "shell" => shell_of(found),

@@ -3,12 +3,16 @@
 
 mod uninterrupted;
 
+ghost use Rattle.recfile.specs.Streams.{IsBlankFor};
+
 use crate::uninterrupted::Uninterrupted;
 use line_prompt::{Heard, Prompted, Watch, tell_end};
-use recfile::{SystemFiles, run_words, unread_words};
+use recfile::{StreamCalls, SystemFiles, run_words, unread_words};
 use std::cell::RefCell;
-use std::io::{IsTerminal, Write};
+use std::io::{IsTerminal, Read, Write};
+use std::marker::Brand;
 use std::process::ExitCode;
+use std::sync::ledger::{Blank, Ledger};
 use std::{env, io};
 
 // Whether a person types the lines, and sees what is told beside their replies.
@@ -16,20 +20,40 @@ fn is_typed(rt: &HostRuntime) -> bool {
     rt.stdin().is_terminal() && rt.stderr().is_terminal()
 }
 
+// Does what the words ask for, on that count of the calls of the streams.
+fn run_counted<L: Ledger, R: Read, W: Write>(
+    rt: &HostRuntime,
+    words: &[&str],
+    lines: &mut R,
+    out: &mut W,
+    blank: Blank,
+) -> u8
+    requires { IsBlankFor blank.name blank.parts L.name L.parts }
+{
+    let mut calls = StreamCalls::<L>::new(blank);
+    let files = SystemFiles::new(rt);
+    run_words(
+        &files,
+        rt.alloc(),
+        words,
+        lines,
+        out,
+        &mut rt.stderr(),
+        &mut calls,
+    )
+}
+
+// Does what the words ask for, over these streams.
+fn run_over<R: Read, W: Write>(rt: &HostRuntime, words: &[&str], lines: &mut R, out: &mut W) -> u8 {
+    run_counted::<Brand, R, W>(rt, words, lines, out, Blank::new(1))
+}
+
 // Tells what the program is and how to begin, where a person asks for nothing.
 fn tell_help(rt: &HostRuntime) -> u8 {
-    let (mut out, mut err) = (rt.stderr(), rt.stderr());
     let words = ["recfile", "--help"];
-    let status = run_words(
-        &SystemFiles::new(rt),
-        rt.alloc(),
-        &words,
-        &mut rt.stdin(),
-        &mut out,
-        &mut err,
-    );
+    let status = run_over(rt, &words, &mut rt.stdin(), &mut rt.stderr());
     let _ = writeln!(
-        err,
+        rt.stderr(),
         "\nTo begin: recfile create a.rec, and then recfile shell a.rec"
     );
     status
@@ -73,14 +97,7 @@ fn run(rt: &HostRuntime) -> io::Result<u8> {
     let lines = Uninterrupted::new(rt.stdin());
     let mut lines = Prompted::new(lines, rt.stderr(), &watch, typed);
     let mut out = Heard::new(Uninterrupted::new(rt.stdout()), &watch, typed);
-    let status = run_words(
-        &SystemFiles::new(rt),
-        alloc,
-        &words,
-        &mut lines,
-        &mut out,
-        &mut rt.stderr(),
-    );
+    let status = run_over(rt, &words, &mut lines, &mut out);
     if typed && WAS_ENDED.contains(&status) {
         if let Ok(mut watch) = watch.try_borrow_mut() {
             let _ = tell_end(&mut watch, names_file(&words), &mut rt.stderr());

@@ -1,13 +1,17 @@
 // The program's tasks over files in memory, which are steady: what the tasks are proved to do says something of them.
+ghost use Rattle.recfile.specs.Streams.{IsBlankFor};
+
 use crate::crashes::filled;
 use crate::expect_text;
 use page_journal::MemDisk;
 use page_looks::{Reach, Wanted};
 use page_store::MemStore;
-use recfile::{DumpFault, FileFault, PageFiles, Telling, run_words};
+use recfile::{DumpFault, FileFault, PageFiles, Screen, StreamCalls, Telling, run_words};
 use std::alloc::Global;
 use std::io::Write;
+use std::marker::Brand;
 use std::process::Abort;
+use std::sync::ledger::{Blank, Ledger};
 
 /// The same file at every path.
 struct OneFile;
@@ -80,11 +84,31 @@ impl PageFiles for OneFile {
     fn tell_why<E: Write>(&self, _alloc: Global, _wanted: Wanted, _path: &str, _err: &mut E) {}
 }
 
+/// Does what the words ask for, on that count, and answers the status.
+fn words_counted<L: Ledger, W: Write, E: Screen>(
+    alloc: Global,
+    words: &[&str],
+    out: &mut W,
+    err: &mut E,
+    blank: Blank,
+) -> u8
+    requires { IsBlankFor blank.name blank.parts L.name L.parts }
+{
+    let mut reader = "begin\n".as_bytes();
+    let mut calls = StreamCalls::<L>::new(blank);
+    run_words(&OneFile, alloc, words, &mut reader, out, err, &mut calls)
+}
+
 /// The status of these words, and what was written, with a stroke before what stands on standard error.
 fn answer_to(rt: &impl Abort, alloc: Global, words: &[&str]) -> String {
-    let mut reader = "begin\n".as_bytes();
     let (mut out, mut err) = (Vec::new(alloc), Vec::new(alloc));
-    let status = run_words(&OneFile, alloc, words, &mut reader, &mut out, &mut err);
+    let status = words_counted::<Brand, Vec<u8>, Vec<u8>>(
+        alloc,
+        words,
+        &mut out,
+        &mut err,
+        Blank::new(1),
+    );
     let out = String::from_utf8(out).expect(rt, "no text");
     let err = String::from_utf8(err).expect(rt, "no text");
     format!(in alloc; "{status} {out}|{err}").expect(rt, "no memory")

@@ -6,13 +6,14 @@ mod sessions;
 mod strange_stores;
 mod table_files;
 
-ghost use Rattle.std.specs.Prelude.{◌≡◌, ◌<◌, ◌≤◌};
+ghost use Rattle.std.specs.Prelude.{◌<◌, ◌≤◌};
+ghost use Rattle.recfile.specs.Streams.{IsBlankFor};
 
 use crate::expect_named;
 use btree_delete::TreeTable;
 use page_store::{MemStore, Store};
 use rec_types::{FlakyTable, LimitFault, Limits, SortedTable, Table};
-use recfile::{Feed, Manner, ScriptFault, StreamCalls, run_feed, run_script};
+use recfile::{Feed, Manner, RunFault, ScriptFault, StreamCalls, run_feed, run_script};
 use record_file::{RecordFile, Unlogged};
 use std::alloc::Global;
 use std::io;
@@ -90,9 +91,7 @@ fn run_counted<L: Ledger, T: Table, R: Read, W: Write>(
     file: &mut RecordFile<T>,
     blank: Blank,
 ) -> Result<u32, ScriptFault>
-    requires name { blank.name ≡ L.name }
-    requires parts { blank.parts ≡ L.parts }
-    requires some { 0 < L.parts }
+    requires { IsBlankFor blank.name blank.parts L.name L.parts }
 {
     let mut calls = StreamCalls::<L>::new(blank);
     run_script(alloc, reader, writer, file, &mut Unlogged, &mut calls)
@@ -141,6 +140,32 @@ fn expect_over<T: Table>(rt: &impl Abort, alloc: Global, table: T, row: &Row<'_>
     expect_replies(rt, alloc, &mut file, row)
 }
 
+/// Runs the lines that a reader has as a shell does, on that count.
+fn feed_counted<L: Ledger, T: Table, R: Read, W: Write>(
+    alloc: Global,
+    reader: &mut R,
+    writer: &mut W,
+    file: &mut RecordFile<T>,
+    blank: Blank,
+) -> Result<u32, RunFault>
+    requires { IsBlankFor blank.name blank.parts L.name L.parts }
+{
+    let manner = Manner {
+        strict: false,
+        feed: Feed::Lines,
+    };
+    let mut calls = StreamCalls::<L>::new(blank);
+    run_feed(
+        alloc,
+        manner,
+        reader,
+        writer,
+        file,
+        &mut Unlogged,
+        &mut calls,
+    )
+}
+
 /// Expects the row's replies of a shell whose lines the reader has, over a new file in the table.
 fn expect_shell<T: Table, R: Read>(
     rt: &impl Abort,
@@ -153,11 +178,13 @@ fn expect_shell<T: Table, R: Read>(
     let limits = Limits::new(records, log_records, begins).expect(rt, "no limits");
     let mut file = flaky_file(rt, alloc, table, limits, row.failing);
     let mut out = Vec::new(alloc);
-    let manner = Manner {
-        strict: false,
-        feed: Feed::Lines,
-    };
-    let end = run_feed(alloc, manner, reader, &mut out, &mut file, &mut Unlogged);
+    let end = feed_counted::<Brand, FlakyTable<T>, R, Vec<u8>>(
+        alloc,
+        reader,
+        &mut out,
+        &mut file,
+        Blank::new(1),
+    );
     let text = String::from_utf8(out).expect(rt, "no text");
     expect_named(rt, row.name, text.as_str(), row.replies);
     assert_eq!(rt; (row.name, end), (row.name, Ok(row.commands)));

@@ -33,7 +33,7 @@ def open(path: Path, flag: str = "w", *, order: int = ORDER, records: int = RECO
     the greatest that may be.
 
     Raises ValueError for another flag, BadLimit, NotFound, AlreadyThere, Locked, or another DeviceFault; NotARecordFile,
-    NotClean (to read), Damaged, BadJournal; Full for a file with more than `records`; OutOfMemory.
+    NotClean (to read, and beside a log of commits), Damaged, BadJournal; Full for a file with more than `records`; OutOfMemory.
     """
     if flag not in ("r", "w", "c", "n", "x"):
         raise ValueError("flag is r, w, c, n or x")
@@ -84,6 +84,8 @@ def _open_or_create(handle: _recfile.Handle, name: bytes, order: int, records: i
         handle.open(name, records, log, begins)
     except NotFound:
         handle.create(name, order, records, log, begins)
+    except NotClean:
+        raise
     except NotARecordFile:
         if os.stat(name).st_size != 0:
             raise
@@ -109,7 +111,7 @@ def _remove(name: bytes) -> None:
                 raise NotARecordFile(_recfile.BAD_MAGIC)
             call = "unlink"
             file.truncate(0)
-            for end in (b"-journal", b"-journal-new"):
+            for end in (b"-journal", b"-journal-new", b"-commits", b"-commits-new"):
                 if os.path.lexists(name + end):
                     os.unlink(name + end)
             os.unlink(name)
@@ -128,7 +130,7 @@ def _read(handle: _recfile.Handle, name: bytes, records: int, log: int, begins: 
         with os.fdopen(os.open(name, os.O_RDONLY | os.O_CLOEXEC), "rb", buffering=0) as file:
             call = "flock"
             fcntl.flock(file, fcntl.LOCK_SH | fcntl.LOCK_NB)
-            if os.path.lexists(name + b"-journal"):
+            if os.path.lexists(name + b"-journal") or os.path.lexists(name + b"-commits"):
                 raise NotClean
             handle.read(file.fileno(), records, log, begins)
     except DeviceFault:

@@ -197,7 +197,8 @@ class NotARecordFile(Error):
 
 
 class NotClean(NotARecordFile):
-    """A closing of the file was stopped. An opening to write puts its old pages back."""
+    """A closing of the file was stopped: an opening to write puts its old pages back. Or FILE-commits stands beside it, the
+    commits of a durable session of the program recfile, whose next one puts them in."""
 
     status = _recfile.NOT_CLEAN
 

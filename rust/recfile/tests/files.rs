@@ -58,6 +58,24 @@ fn files_that_are_not_opened() {
 }
 
 #[test]
+fn a_file_beside_a_log_of_commits_is_not_opened() {
+    let room = Room::new("commits");
+    let path = room.path("f.rec");
+    let file = File::create(&path).unwrap();
+    put(&file, "a", "1");
+    file.close().unwrap();
+    let before = fs::read(&path).unwrap();
+    fs::write(room.path("f.rec-commits"), "commits 1 2 3\n").unwrap();
+    assert!(matches!(File::open(&path), Err(Error::NotARecordFile(_))));
+    assert!(matches!(Options::new().open_or_create(&path), Err(Error::NotARecordFile(_))));
+    assert_eq!(fs::read(&path).unwrap(), before);
+    fs::remove_file(&path).unwrap();
+    assert!(matches!(File::create(&path), Err(Error::BadJournal)));
+    assert!(!path.exists());
+    assert_eq!(fs::read(room.path("f.rec-commits")).unwrap(), b"commits 1 2 3\n");
+}
+
+#[test]
 fn a_file_that_was_made_and_never_closed_is_made_anew() {
     let room = Room::new("empty");
     let path = room.path("f.rec");

@@ -3,6 +3,7 @@ ghost use Rattle.std.specs.FinMap as maps;
 ghost use Rattle.rec_types.specs.Contents.{Contents, set_to};
 ghost use Rattle.rec_types.specs.Answered.{Answered};
 ghost use Rattle.rec_types.specs.Calls.{no_calls, with_get, with_set, with_list};
+ghost use Rattle.rec_types.specs.LimitBounds.{most_records};
 ghost use Rattle.rec_types.specs.Table.{NeverFull, no_damage, counted, is_device as is_device_answer};
 ghost use Rattle.page_store.specs.PageMap.{at};
 ghost use Rattle.page_store.specs.FreeNumbers.{free_numbers};
@@ -222,6 +223,7 @@ impl<S: Store> TreeTable<S> {
         ensures closed { IsTrue self.pages.steady
             → IfOk result (λ store. IsClosed second_version (S.pages store) (S.tail store) self.tree
             (table_contents self)) }
+        ensures count { IsTrue self.pages.steady → OnOk result (self.tree.count ≤ most_records) }
         ensures steady { IfOk result (λ store. S.steady store ≡ self.pages.steady) }
         ensures opening { IfOk result (λ store. S.opening store ≡ self.pages.opening) }
         ensures allowed { AllowsAll self.pages.guard (closing self) → MatchResult result

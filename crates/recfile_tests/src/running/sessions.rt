@@ -1,17 +1,21 @@
+ghost use Rattle.recfile.specs.Streams.{IsBlankFor};
+
 use super::{flaky_file, greatest, run, run_all};
 use crate::expect_text;
 use page_store::MemStore;
 use rec_types::{Limits, SortedTable, Table, TxId};
 use recfile::laws::{dumps_are_loaded, endings_by_example};
 use recfile::{
-    DumpFault, EndFault, Feed, Manner, ScriptFault, create_in, dump_in, end_all, exit_status,
-    run_memory,
+    DumpFault, EndFault, Feed, Manner, ScriptFault, StreamCalls, create_in, dump_in, end_all,
+    exit_status, run_memory,
 };
 use record_file::{Cause, RecordFile};
 use std::alloc::Global;
 use std::io;
 use std::io::{Read, Write};
+use std::marker::Brand;
 use std::process::Abort;
+use std::sync::ledger::{Blank, Ledger};
 
 fn empty_file(alloc: Global, limits: Limits) -> RecordFile<SortedTable> {
     RecordFile::new(alloc, SortedTable::new(alloc, limits), limits)
@@ -142,6 +146,25 @@ fn scripts_that_are_not_run_to_their_end(rt: HostRuntime) {
     expect_unrun(&rt, rt.alloc(), &mut file)
 }
 
+/// Runs the program's session over an empty file in memory, on that count.
+fn memory_counted<L: Ledger, R: Read, W: Write>(
+    alloc: Global,
+    limits: Limits,
+    reader: &mut R,
+    out: &mut W,
+    err: &mut Vec<u8>,
+    blank: Blank,
+) -> u8
+    requires { IsBlankFor blank.name blank.parts L.name L.parts }
+{
+    let manner = Manner {
+        strict: false,
+        feed: Feed::Script,
+    };
+    let mut calls = StreamCalls::<L>::new(blank);
+    run_memory(alloc, limits, manner, reader, out, err, &mut calls)
+}
+
 /// Expects this status of the program's session, and what it writes to standard error.
 fn expect_session<R: Read, W: Write>(
     rt: &impl Abort,
@@ -152,20 +175,9 @@ fn expect_session<R: Read, W: Write>(
     status: u8,
 ) {
     let mut err = Vec::new(alloc);
-    assert_eq!(rt;
-        run_memory(
-            alloc,
-            greatest().expect(rt, "no limits"),
-            Manner {
-                strict: false,
-                feed: Feed::Script,
-            },
-            reader,
-            out,
-            &mut err
-        ),
-        status
-    );
+    let limits = greatest().expect(rt, "no limits");
+    let ended = memory_counted::<Brand, R, W>(alloc, limits, reader, out, &mut err, Blank::new(1));
+    assert_eq!(rt; ended, status);
     let text = String::from_utf8(err).expect(rt, "no text");
     expect_text(rt, text.as_str(), fault);
 }

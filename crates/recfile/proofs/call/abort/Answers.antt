@@ -1,4 +1,4 @@
-use Rattle.std.proofs.Common.{[], ◌∷◌, None, refl, ap}
+use Rattle.std.proofs.Common.{[], ◌∷◌, None, refl}
 use Rattle.command_text.specs.declared.reply.Reply.TheVariants as replies
 use Rattle.record_file.specs.Runs.{seen_as, Abort}
 use Rattle.record_file.specs.Outside.{by_device, by_memory}
@@ -19,6 +19,7 @@ returns g c =
               events = record { called = Abort c.args.tx c.abort.result; failed = by_device (cause_by abort_refusal c.abort.result); refused = (by_memory (cause_by abort_refusal c.abort.result)) } ∷ [];
               told = refl;
               kept = tt;
+              alone = λ _. refl;
               ran = asks old new (Abort c.args.tx c.abort.result) (by_device (cause_by abort_refusal c.abort.result)) (by_memory (cause_by abort_refusal c.abort.result)) c.abort.ensures.table.device c.abort.ensures.memory c.abort.ensures.table.soundness refl (same_commits logged g.T.TableState _ _ c.abort.ensures.table.soundness c.abort.ensures.table.origin) (c.abort.ensures.table.told) c.abort.ensures.damaged was is ((refl, refl), record { step = c.abort.ensures.step; rolled = c.abort.ensures.rolled; opening = c.abort.ensures.table.opening; refused = refused_as g.T.TableState logged c.args.file.now c.abort.new.self (tx_refusal c.args.file.now.file c.args.tx.0 None) (refusal_by abort_refusal c.abort.result) c.abort.ensures.refused; damages = c.abort.ensures.table.damages; asks = undo_as g.T.TableState logged c.args.file.now c.abort.new.self _ c.abort.ensures.asks });
             },
             c.tell.ensures,

@@ -16,6 +16,7 @@ returns g c =
               events = record { called = Begin c.begin.result; failed = false; refused = false } ∷ [];
               told = refl;
               kept = tt;
+              alone = λ _. refl;
               ran = let same = same_but_file g.T.TableState c.args.file.now c.begin.new.self c.begin.ensures.table c.begin.ensures.log logged in quiet old new (Begin c.begin.result) refl was is same ((refl, refl, same), c.begin.ensures.step);
             },
             c.tell.ensures,

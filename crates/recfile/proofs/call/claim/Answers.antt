@@ -1,4 +1,4 @@
-use Rattle.std.proofs.Common.{[], ◌∷◌, true, refl, ap}
+use Rattle.std.proofs.Common.{[], ◌∷◌, true, refl}
 use Rattle.command_text.specs.declared.reply.Reply.TheVariants as replies
 use Rattle.record_file.specs.Runs.{seen_as, Claim}
 use Rattle.record_file.specs.Outside.{by_device}
@@ -19,6 +19,7 @@ returns g c =
               events = record { called = Claim c.args.tx c.args.key c.claim.result; failed = by_device (cause_by claim_refusal c.claim.result); refused = c.claim.ensures.memory.0 } ∷ [];
               told = refl;
               kept = tt;
+              alone = λ _. refl;
               ran = asks old new (Claim c.args.tx c.args.key c.claim.result) (by_device (cause_by claim_refusal c.claim.result)) c.claim.ensures.memory.0 c.claim.ensures.table.device c.claim.ensures.memory.1 c.claim.ensures.table.soundness refl (same_commits logged g.T.TableState _ _ c.claim.ensures.table.soundness c.claim.ensures.table.origin) (c.claim.ensures.table.told) c.claim.ensures.damaged was is ((refl, c.claim.ensures.memory.2), record { step = c.claim.ensures.step; refused = refused_as g.T.TableState logged c.args.file.now c.claim.new.self (key_refusal true c.args.file.now.file c.args.tx.0 c.args.key) (refusal_by claim_refusal c.claim.result) c.claim.ensures.refused; refused_only = c.claim.ensures.refused_only; accepted = c.claim.ensures.accepted; opening = c.claim.ensures.table.opening; err = c.claim.ensures.err; damages = c.claim.ensures.named; asks = c.claim.ensures.asks });
             },
             c.tell.ensures,

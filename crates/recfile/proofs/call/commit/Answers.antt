@@ -1,9 +1,7 @@
-use Rattle.std.proofs.Common.{◌≡◌, Ok, sym, subst}
-use Rattle.command_text.specs.declared.command.Command.TheVariants as commands
+use Rattle.std.proofs.Common.{subst}
 use Rattle.command_text.specs.declared.reply.Reply.{Reply}
 use Rattle.std.specs.String.{string_bytes}
 use Rattle.tx_log.specs.Written.{own, writes}
-use Rattle.record_file.specs.Runs.{seen_as}
 use Rattle.recfile.specs.Run.{Told, commit_reply}
 use Rattle.recfile.proofs.CommitCallLemmas.{commit_told}
 use Rattle.recfile.proofs.call.commit.Goals as goal

@@ -17,6 +17,7 @@ returns g c =
               events = record { called = KeysOf c.args.tx c.map.result; failed = false; refused = false } ∷ [];
               told = refl;
               kept = tt;
+              alone = λ _. refl;
               ran = quiet old old (KeysOf c.args.tx c.map.result) refl was was refl ((refl, refl, refl), step);
             },
             c.tell.ensures,

@@ -30,6 +30,7 @@ returns g c =
                   events = record { called = Entries answer; failed = failed; refused = told.memory.0 } ∷ [];
                   told = refl;
                   kept = tt;
+                  alone = λ _. refl;
                   ran = asks old new (Entries answer) failed told.memory.0 told.table.device told.memory.1 told.table.soundness refl (same_commits logged g.T.TableState _ _ told.table.soundness told.table.origin)
                       (tells_none old.sound old.records new.records old.log new.log told.table.same.0 told.table.same.2)
                       (subst (NeverDamaged old.sound) cause told.damaged) was is

@@ -14,6 +14,7 @@ returns g c =
               events = record { called = LogLen c.log_len.result; failed = false; refused = false } ∷ record { called = LogUse c.log_use.result; failed = false; refused = false } ∷ [];
               told = refl;
               kept = tt;
+              alone = λ _. refl;
               ran = (
                 old,
                 quiet_step old old (LogLen c.log_len.result) refl was was refl ((refl, refl, refl), c.log_len.ensures),

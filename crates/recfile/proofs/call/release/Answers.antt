@@ -16,6 +16,7 @@ returns g c =
               events = record { called = Release c.args.tx c.args.n c.release.result; failed = false; refused = false } ∷ [];
               told = refl;
               kept = tt;
+              alone = λ _. refl;
               ran = let same = same_but_file g.T.TableState c.args.file.now c.release.new.self c.release.ensures.table c.release.ensures.log logged in quiet old new (Release c.args.tx c.args.n c.release.result) refl was is same ((refl, refl, same), c.release.ensures.step);
             },
             c.tell.ensures,

@@ -1,4 +1,4 @@
-use Rattle.std.proofs.Common.{[], ◌∷◌, refl, ap}
+use Rattle.std.proofs.Common.{[], ◌∷◌, refl}
 use Rattle.command_text.specs.declared.reply.Reply.TheVariants as replies
 use Rattle.record_file.specs.Runs.{seen_as, Resume}
 use Rattle.record_file.specs.Outside.{by_device, by_memory}
@@ -19,6 +19,7 @@ returns g c =
               events = record { called = Resume c.args.tx c.resume.result; failed = by_device (cause_by resume_refusal c.resume.result); refused = (by_memory (cause_by resume_refusal c.resume.result)) } ∷ [];
               told = refl;
               kept = tt;
+              alone = λ _. refl;
               ran = asks old new (Resume c.args.tx c.resume.result) (by_device (cause_by resume_refusal c.resume.result)) (by_memory (cause_by resume_refusal c.resume.result)) c.resume.ensures.table.device c.resume.ensures.memory c.resume.ensures.table.soundness refl (same_commits logged g.T.TableState _ _ c.resume.ensures.table.soundness c.resume.ensures.table.origin) (c.resume.ensures.table.told) c.resume.ensures.damaged was is ((refl, refl), record { step = c.resume.ensures.step; rolled = c.resume.ensures.rolled; opening = c.resume.ensures.table.opening; refused = refused_as g.T.TableState logged c.args.file.now c.resume.new.self (resuming_refusal c.args.file.now.file c.args.tx.0) (refusal_by resume_refusal c.resume.result) c.resume.ensures.refused; damages = c.resume.ensures.table.damages; asks = undo_as g.T.TableState logged c.args.file.now c.resume.new.self _ c.resume.ensures.asks });
             },
             c.tell.ensures,

@@ -16,6 +16,7 @@ returns g c =
               events = record { called = Savepoint c.args.tx c.savepoint.result; failed = false; refused = false } ∷ [];
               told = refl;
               kept = tt;
+              alone = λ _. refl;
               ran = let same = same_but_file g.T.TableState c.args.file.now c.savepoint.new.self c.savepoint.ensures.table c.savepoint.ensures.log logged in quiet old new (Savepoint c.args.tx c.savepoint.result) refl was is same ((refl, refl, same), c.savepoint.ensures.step);
             },
             c.tell.ensures,

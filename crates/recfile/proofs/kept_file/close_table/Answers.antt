@@ -9,7 +9,11 @@ use Rattle.recfile.specs.FileFaults.{is_device, is_device_answer}
 use Rattle.recfile.specs.Kept.{IsKept, file_of, refusals_of}
 use Rattle.recfile.specs.declared.file_fault.FileFault.{FileFault}
 use Rattle.recfile.proofs.ClosingCountLemmas.{by_change, device_of_closing, device_of_sealing, device_of_store, is_stopped, moments_told, not_stopped, ok_told, seal_goes_on, seal_refuses, seal_seals, sealed_state, unrefused}
-use Rattle.recfile.proofs.KeptLemmas.{has_records, kept_so}
+use Rattle.page_journal.specs.Files.{Files}
+use Rattle.page_journal.specs.LoggedStores.{commits_in}
+use Rattle.recfile.specs.Beside.{FindsEach, FindsWhole, LeavesEitherBeside}
+use Rattle.recfile.proofs.KeptLemmas.{always, has_records, holds_records, kept_so, ok_wider}
+use Rattle.recfile.proofs.SettlingLemmas.{each_found, some_found, whole_found}
 use Rattle.recfile.proofs.kept_file.close_table.Given as given
 use Rattle.recfile.proofs.kept_file.close_table.Goals as goal
 use Rattle.recfile.proofs.kept_file.close_table.Goals.{In_default}
@@ -94,3 +98,44 @@ returns-in-Err-close-clause-device g c unsealed tail =
           (c.in-Err-close.ensures.device ∙ (λ i. counted (c.in_default.ensures.device i) (device_of_closing stop.fault i)) ∙ ap (λ (f : FileFault). counted old.failures (is_device f)) (sym c.from-in-Err-close.ensures));
       once = λ never. absurd (cc never);
     }
+
+pub returns-in-Ok-clause-commits : goal.returns-in-Ok-clause-commits
+returns-in-Ok-clause-commits g c steady left since =
+    let d = g.D.DiskState in
+    let store = c.in-Ok.store in
+    let sealed : IsTrue c.seal.new.self.pages.steady = ap (λ (t : TableView). t.pages.steady) c.seal.ensures.same ∙ steady in
+    let opening = c.in-Ok.ensures.opening ∙ ap (λ (t : TableView). t.pages.opening) c.seal.ensures.same in
+    let order = ap (λ (t : TableView). t.tree.order) c.seal.ensures.same in
+    let contents = ap table_contents c.seal.ensures.same in
+    subst (λ (o : Opening). LeavesEitherBeside o c.args.table.tree.order (table_contents c.args.table) left) opening
+    (⊎_elim
+    (λ old. inl (old.0, some_found store.log (d.began store.disk) (commits_in store.log (d.seen store.disk)) store.doubt left old.1))
+    (λ new. inr (new.0.0, holds_records c.seal.new.self c.args.table (d.seen store.disk).main _ order contents new.0.1 (c.in-Ok.ensures.closed sealed) (c.in-Ok.ensures.count sealed), whole_found store.log (d.began store.disk) (commits_in store.log (d.seen store.disk)) left new.1))
+    (c.finish-disk.ensures.commits (c.in-Ok.ensures.steady ∙ sealed) left since))
+
+pub returns-in-Ok-clause-holds : goal.returns-in-Ok-clause-holds
+returns-in-Ok-clause-holds g c steady =
+    let d = g.D.DiskState in
+    let sealed : IsTrue c.seal.new.self.pages.steady = ap (λ (t : TableView). t.pages.steady) c.seal.ensures.same ∙ steady in
+    let order = ap (λ (t : TableView). t.tree.order) c.seal.ensures.same in
+    let contents = ap table_contents c.seal.ensures.same in
+    always _ _ (holds_records c.seal.new.self c.args.table (d.seen c.in-Ok.store.disk).main (d.seen c.finish-disk.result.0).main order contents c.finish-disk.ensures.same (c.in-Ok.ensures.closed sealed) (c.in-Ok.ensures.count sealed))
+
+pub returns-in-Ok-clause-whole : goal.returns-in-Ok-clause-whole
+returns-in-Ok-clause-whole g c steady =
+    let d = g.D.DiskState in
+    let store = c.in-Ok.store in
+    let sealed : IsTrue c.seal.new.self.pages.steady = ap (λ (t : TableView). t.pages.steady) c.seal.ensures.same ∙ steady in
+    let opening = c.in-Ok.ensures.opening ∙ ap (λ (t : TableView). t.pages.opening) c.seal.ensures.same in
+    let o = c.args.table.pages.opening in
+    subst (λ (r : Result (Unit {0}) FileFault). OnOk r ((left : Files) → d.may_leave c.finish-disk.result.0 left → FindsWhole o.logged o.log o.commits left)) (sym c.told.ensures)
+    (ok_told c.finish-disk.result.1 _ (ok_wider c.finish-disk.result.1 _ _ (λ all left now. subst (λ (p : Opening). FindsWhole p.logged p.log p.commits left) opening (whole_found store.log (d.began store.disk) (commits_in store.log (d.seen store.disk)) left (all left now))) (c.finish-disk.ensures.all (c.in-Ok.ensures.steady ∙ sealed))))
+
+pub returns-in-Ok-clause-lasts : goal.returns-in-Ok-clause-lasts
+returns-in-Ok-clause-lasts g c steady left now =
+    let d = g.D.DiskState in
+    let store = c.in-Ok.store in
+    let sealed : IsTrue c.seal.new.self.pages.steady = ap (λ (t : TableView). t.pages.steady) c.seal.ensures.same ∙ steady in
+    let opening = c.in-Ok.ensures.opening ∙ ap (λ (t : TableView). t.pages.opening) c.seal.ensures.same in
+    subst (λ (o : Opening). FindsEach o.logged o.log o.commits o.doubt left) opening
+    (each_found store.log (d.began store.disk) (commits_in store.log (d.seen store.disk)) store.doubt left (c.finish-disk.ensures.now (c.in-Ok.ensures.steady ∙ sealed) left now))

@@ -16,7 +16,7 @@ use Rattle.recfile.proofs.kept_file.run_kept.Goals as goal
 pub returns-in-Ok-clause-session : goal.returns-in-Ok-clause-session
 returns-in-Ok-clause-session g c steady tree contents version closed few =
     wider c.run_stored.result.unopened _ IsOutsideFile (IsOutsideDisk (g.D.DiskState.began c.args.disk)) (λ fault outside. inl outside)
-    (subst (λ (x : Files × ℕ). (tree : Tree) → (contents : Contents) → (version : ℕ) → IsClosed version (recovered x.0).pages (recovered x.0).tail tree contents → tree.count ≤ c.args.limits.records → MatchOption c.run_stored.result.unopened (EndsFile c.args.manner (g.R.Read.remaining c.args.reader.now) (g.R.Read.remaining c.run_stored.new.reader) (g.W.Write.contents c.args.out.now) (g.W.Write.contents c.run_stored.new.out) (opened_file contents c.args.limits x.1) (ClosesSafely g.D.DiskState (recovered x.0) c.run_stored.result.disk c.run_stored.result.unclosed tree.order) c.run_stored.result.unclosed c.run_stored.result.status) IsOutsideFile) (λ i. (c.in-Ok.ensures.began i, c.in-Ok.ensures.failures i)) (c.run_stored.ensures.session (c.in-Ok.ensures.steady ∙ steady)) tree contents version closed few)
+    (subst (λ (x : Files × ℕ). (tree : Tree) → (contents : Contents) → (version : ℕ) → IsClosed version (recovered x.0).pages (recovered x.0).tail tree contents → tree.count ≤ c.args.limits.records → MatchOption c.run_stored.result.unopened (EndsFile c.args.manner (g.R.CountedRead.left c.args.reader.now) (g.R.CountedRead.left c.run_stored.new.reader) (g.W.CountedWrite.held c.args.out.now) (g.W.CountedWrite.held c.run_stored.new.out) c.args.calls.now c.run_stored.new.calls (opened_file contents c.args.limits x.1) (ClosesSafely g.D.DiskState (recovered x.0) c.run_stored.result.disk c.run_stored.result.unclosed tree.order) c.run_stored.result.unclosed c.run_stored.result.status) IsOutsideFile) (λ i. (c.in-Ok.ensures.began i, c.in-Ok.ensures.failures i)) (c.run_stored.ensures.session (c.in-Ok.ensures.steady ∙ steady)) tree contents version closed few)
 
 pub returns-in-Ok-clause-closed : goal.returns-in-Ok-clause-closed
 returns-in-Ok-clause-closed g c steady none =

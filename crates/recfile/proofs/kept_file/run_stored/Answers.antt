@@ -1,6 +1,6 @@
 use Rattle.std.proofs.Common.{◌≡◌, ℕ, Option, MatchOption, refl, sym, ap, subst, ◌∙◌}
 use Rattle.btree_delete.specs.TableView.{IsClosed}
-use Rattle.page_journal.specs.Files.{PageFile, recovered}
+use Rattle.page_journal.specs.Files.{PageFile}
 use Rattle.page_journal.specs.LoggedStores.{commits_in}
 use Rattle.page_journal.specs.KeptStores.{failures_with, guard_of, opened_over}
 use Rattle.rec_types.specs.Table.{counted}
@@ -26,8 +26,8 @@ returns-in-Ok-clause-session g c steady tree contents version closed few =
     let there = subst (λ (f : PageFile). IsClosed version f.pages f.tail tree contents) (sym (c.requires.file steady)) closed in
     let opened = c.in-Ok.ensures.reopened steady tree contents version there few in
     let same = c.in-Ok.ensures.stored in
-    let ends = λ (s : Seen) (order : ℕ) (o : Opening). EndsFile c.args.manner (g.R.Read.remaining c.args.reader.now) (g.R.Read.remaining c.run_table.new.reader) (g.W.Write.contents c.args.out.now) (g.W.Write.contents c.run_table.new.out) s (ClosesSafely g.D.DiskState (file_of o) c.run_table.result.disk c.run_table.result.unclosed order) c.run_table.result.unclosed c.run_table.result.status in
-    subst (λ (o : Option FileFault). MatchOption o (ends (opened_file contents c.args.limits (g.D.DiskState.failures c.args.store.disk)) tree.order (opened_over (recovered (g.D.DiskState.began c.args.store.disk)) (commits_in c.args.store.log (g.D.DiskState.seen c.args.store.disk)))) IsOutsideFile) (sym c.run_table.ensures.opened) (subst (λ (x : Seen × ℕ × Opening). ends x.0 x.1 x.2) (λ i. (opened_file (opened.1 i) c.args.limits ((same.4 ∙ ap (failures_with (g.D.DiskState.failures c.args.store.disk)) c.requires.unused.1) i), (opened.0 i).order, c.in-Ok.ensures.opening i)) (c.run_table.ensures.session (same.2 ∙ steady) (c.in-Ok.ensures.no_faults.0, c.in-Ok.ensures.no_faults.1, c.in-Ok.ensures.no_calls)))
+    let ends = λ (s : Seen) (order : ℕ) (o : Opening). EndsFile c.args.manner (g.R.CountedRead.left c.args.reader.now) (g.R.CountedRead.left c.run_table.new.reader) (g.W.CountedWrite.held c.args.out.now) (g.W.CountedWrite.held c.run_table.new.out) c.args.calls.now c.run_table.new.calls s (ClosesSafely g.D.DiskState (file_of o) c.run_table.result.disk c.run_table.result.unclosed order) c.run_table.result.unclosed c.run_table.result.status in
+    subst (λ (o : Option FileFault). MatchOption o (ends (opened_file contents c.args.limits (g.D.DiskState.failures c.args.store.disk)) tree.order (opened_over (g.D.DiskState.began c.args.store.disk) c.args.store.log (commits_in c.args.store.log (g.D.DiskState.seen c.args.store.disk)) c.args.store.doubt)) IsOutsideFile) (sym c.run_table.ensures.opened) (subst (λ (x : Seen × ℕ × Opening). ends x.0 x.1 x.2) (λ i. (opened_file (opened.1 i) c.args.limits ((same.4 ∙ ap (failures_with (g.D.DiskState.failures c.args.store.disk)) c.requires.unused.1) i), (opened.0 i).order, c.in-Ok.ensures.opening i)) (c.run_table.ensures.session (same.2 ∙ steady) (c.in-Ok.ensures.no_faults.0, c.in-Ok.ensures.no_faults.1, c.in-Ok.ensures.no_calls)))
 
 pub returns-in-Ok-clause-ran : goal.returns-in-Ok-clause-ran
 returns-in-Ok-clause-ran g c none =

@@ -1,5 +1,4 @@
-use Rattle.std.proofs.Common.{◌≡◌, inl, inr, ⊎_elim, ◌∙◌, ℕ, sym, subst}
-use Rattle.page_journal.specs.Files.{PageFile}
+use Rattle.std.proofs.Common.{inl, inr, ⊎_elim, ◌∙◌, sym, subst}
 use Rattle.recfile.specs.Kept.{HasRecords}
 use Rattle.recfile.proofs.laws.sessions_and_crashes.Goals as goal
 

@@ -42,5 +42,5 @@ pub returns-in-Ok-clause-session : goal.returns-in-Ok-clause-session
 returns-in-Ok-clause-session g c steady tree contents version closed few =
     let opened = c.in-Ok.ensures.reopened steady tree contents version closed few in
     let same = c.in-Ok.ensures.stored in
-    let ends = λ (s : Seen) (order : ℕ). EndsFile c.args.manner (g.R.Read.remaining c.args.reader.now) (g.R.Read.remaining c.run_opened.new.reader) (g.W.Write.contents c.args.out.now) (g.W.Write.contents c.run_opened.new.out) s (ClosesIn g.S.StoreState c.args.store c.run_opened.result.store c.run_opened.result.unclosed order) c.run_opened.result.unclosed c.run_opened.result.status in
+    let ends = λ (s : Seen) (order : ℕ). EndsFile c.args.manner (g.R.CountedRead.left c.args.reader.now) (g.R.CountedRead.left c.run_opened.new.reader) (g.W.CountedWrite.held c.args.out.now) (g.W.CountedWrite.held c.run_opened.new.out) c.args.calls.now c.run_opened.new.calls s (ClosesIn g.S.StoreState c.args.store c.run_opened.result.store c.run_opened.result.unclosed order) c.run_opened.result.unclosed c.run_opened.result.status in
     subst (λ (o : Option OpenFault). MatchOption o (ends (opened_file contents c.args.limits (g.S.StoreState.failures c.args.store)) tree.order) IsOutside) (sym c.run_opened.ensures.opened) (subst (λ (x : Seen × ℕ). ends x.0 x.1) (λ i. (opened_file (opened.1 i) c.args.limits (same.4 i), (opened.0 i).order)) (c.run_opened.ensures.session c.args.store (made g (goal.at.returns-in-Ok-clause-session g c).In-Ok) (same.2 ∙ steady) (c.in-Ok.ensures.no_faults.0, c.in-Ok.ensures.no_faults.1, c.in-Ok.ensures.no_calls)))

@@ -18,9 +18,9 @@ use Rattle.recfile.proofs.page_file.run_opened.Goals.{After-abandon-table}
 -- what the session was, over the file that was opened, and that its table is sound
 module _ (g : given.Over) (c : After-abandon-table g) where
   session : IsTrue c.args.table.pages.steady → IsUncounted c.args.table
-      → IsSession c.args.manner (g.R.Read.remaining c.args.reader.now) (g.R.Read.remaining c.run_session-end.new.reader) (g.W.Write.contents c.args.out.now) (g.W.Write.contents c.run_session-end.new.out) (opened_file (table_contents c.args.table) c.args.limits c.args.table.pages.failures) c.run_session-end.ensures.session.0 c.run_session-end.result.script c.run_session-end.result.ended (seen treed c.run_session-end.new.file)
+      → IsSession c.args.manner (g.R.CountedRead.left c.args.reader.now) (g.R.CountedRead.left c.run_session-end.new.reader) (g.W.CountedWrite.held c.args.out.now) (g.W.CountedWrite.held c.run_session-end.new.out) (opened_file (table_contents c.args.table) c.args.limits c.args.table.pages.failures) c.run_session-end.ensures.session.0 c.run_session-end.result.script c.run_session-end.result.ended (seen treed c.run_session-end.new.file)
   session steady uncounted =
-      subst (λ (s : Seen). IsSession c.args.manner (g.R.Read.remaining c.args.reader.now) (g.R.Read.remaining c.run_session-end.new.reader) (g.W.Write.contents c.args.out.now) (g.W.Write.contents c.run_session-end.new.out) s c.run_session-end.ensures.session.0 c.run_session-end.result.script c.run_session-end.result.ended (seen treed c.run_session-end.new.file)) (fresh c.new-file.result c.args.table c.args.limits c.new-file.ensures steady uncounted) c.run_session-end.ensures.session.1
+      subst (λ (s : Seen). IsSession c.args.manner (g.R.CountedRead.left c.args.reader.now) (g.R.CountedRead.left c.run_session-end.new.reader) (g.W.CountedWrite.held c.args.out.now) (g.W.CountedWrite.held c.run_session-end.new.out) s c.run_session-end.ensures.session.0 c.run_session-end.result.script c.run_session-end.result.ended (seen treed c.run_session-end.new.file)) (fresh c.new-file.result c.args.table c.args.limits c.new-file.ensures steady uncounted) c.run_session-end.ensures.session.1
 
   sound : IsTrue c.args.table.pages.steady → IsUncounted c.args.table → IsTrue c.run_session-end.ensures.session.0.sound
   sound steady uncounted =
@@ -53,10 +53,11 @@ returns-in-Ok-clause-ran g c store is = record {
       ended = Ok c.in-Ok.field-0;
       mid = c.run_session-end.ensures.session.0;
       new = seen treed c.run_session-end.new.file;
-      session = subst (λ e. IsSession c.args.manner (g.R.Read.remaining c.args.reader.now) (g.R.Read.remaining c.run_session-end.new.reader) (g.W.Write.contents c.args.out.now) (g.W.Write.contents c.run_session-end.new.out) (seen treed c.new-file.result) c.run_session-end.ensures.session.0 c.run_session-end.result.script e (seen treed c.run_session-end.new.file)) c.in-Ok.is c.run_session-end.ensures.session.1;
+      session = subst (λ e. IsSession c.args.manner (g.R.CountedRead.left c.args.reader.now) (g.R.CountedRead.left c.run_session-end.new.reader) (g.W.CountedWrite.held c.args.out.now) (g.W.CountedWrite.held c.run_session-end.new.out) (seen treed c.new-file.result) c.run_session-end.ensures.session.0 c.run_session-end.result.script e (seen treed c.run_session-end.new.file)) c.in-Ok.is c.run_session-end.ensures.session.1;
       status_is = c.close_in.ensures.status ∙ ap (status_of false (is_some c.close_in.result.unclosed)) c.is_err-script_fault.ensures.value;
       fault = c.close_in.ensures.fault;
       untried = tt;
+      failed = c.run_session-end.ensures.failed;
     },
     refl,
   );
@@ -78,10 +79,11 @@ returns-in-Err-clause-ran g c store is = record {
       ended = Err c.in-Err.field-0;
       mid = c.run_session-end.ensures.session.0;
       new = seen treed c.run_session-end.new.file;
-      session = subst (λ e. IsSession c.args.manner (g.R.Read.remaining c.args.reader.now) (g.R.Read.remaining c.run_session-end.new.reader) (g.W.Write.contents c.args.out.now) (g.W.Write.contents c.run_session-end.new.out) (seen treed c.new-file.result) c.run_session-end.ensures.session.0 c.run_session-end.result.script e (seen treed c.run_session-end.new.file)) c.in-Err.is c.run_session-end.ensures.session.1;
+      session = subst (λ e. IsSession c.args.manner (g.R.CountedRead.left c.args.reader.now) (g.R.CountedRead.left c.run_session-end.new.reader) (g.W.CountedWrite.held c.args.out.now) (g.W.CountedWrite.held c.run_session-end.new.out) (seen treed c.new-file.result) c.run_session-end.ensures.session.0 c.run_session-end.result.script e (seen treed c.run_session-end.new.file)) c.in-Err.is c.run_session-end.ensures.session.1;
       status_is = c.exit_status.ensures;
       fault = tt;
       untried = refl;
+      failed = c.run_session-end.ensures.failed;
     },
     refl,
   );
@@ -107,10 +109,11 @@ returns-in-Ok-clause-session g c store is steady uncounted =
         ended = Ok c.in-Ok.field-0;
         mid = c.run_session-end.ensures.session.0;
         new = seen treed c.run_session-end.new.file;
-        session = subst (λ e. IsSession c.args.manner (g.R.Read.remaining c.args.reader.now) (g.R.Read.remaining c.run_session-end.new.reader) (g.W.Write.contents c.args.out.now) (g.W.Write.contents c.run_session-end.new.out) old c.run_session-end.ensures.session.0 c.run_session-end.result.script e (seen treed c.run_session-end.new.file)) c.in-Ok.is (session g here steady uncounted);
+        session = subst (λ e. IsSession c.args.manner (g.R.CountedRead.left c.args.reader.now) (g.R.CountedRead.left c.run_session-end.new.reader) (g.W.CountedWrite.held c.args.out.now) (g.W.CountedWrite.held c.run_session-end.new.out) old c.run_session-end.ensures.session.0 c.run_session-end.result.script e (seen treed c.run_session-end.new.file)) c.in-Ok.is (session g here steady uncounted);
         status_is = c.close_in.ensures.status ∙ ap (status_of false (is_some c.close_in.result.unclosed)) c.is_err-script_fault.ensures.value;
         fault = c.close_in.ensures.fault;
         untried = tt;
+        failed = c.run_session-end.ensures.failed;
       };
       sound = sound g here steady uncounted;
       closes = record {
@@ -132,10 +135,11 @@ returns-in-Err-clause-session g c store is steady uncounted =
         ended = Err c.in-Err.field-0;
         mid = c.run_session-end.ensures.session.0;
         new = seen treed c.run_session-end.new.file;
-        session = subst (λ e. IsSession c.args.manner (g.R.Read.remaining c.args.reader.now) (g.R.Read.remaining c.run_session-end.new.reader) (g.W.Write.contents c.args.out.now) (g.W.Write.contents c.run_session-end.new.out) old c.run_session-end.ensures.session.0 c.run_session-end.result.script e (seen treed c.run_session-end.new.file)) c.in-Err.is (session g here steady uncounted);
+        session = subst (λ e. IsSession c.args.manner (g.R.CountedRead.left c.args.reader.now) (g.R.CountedRead.left c.run_session-end.new.reader) (g.W.CountedWrite.held c.args.out.now) (g.W.CountedWrite.held c.run_session-end.new.out) old c.run_session-end.ensures.session.0 c.run_session-end.result.script e (seen treed c.run_session-end.new.file)) c.in-Err.is (session g here steady uncounted);
         status_is = c.exit_status.ensures;
         fault = tt;
         untried = refl;
+        failed = c.run_session-end.ensures.failed;
       };
       sound = sound g here steady uncounted;
       closes = tt;

@@ -41,7 +41,7 @@ untried (Err fault) unclosed none = none
 pub returns : goal.returns
 returns g c =
     let start : seen sorted c.new-file.result ≡ empty_file c.args.limits = fresh sorted c.new-file.result c.new.result c.args.limits c.new-file.ensures (ap (λ (s : SortedState). s.contents) c.new.ensures) refl refl (ap (λ (s : SortedState). s.refusals) c.new.ensures) refl (ap (λ (s : SortedState). s.calls) c.new.ensures) in
-    let known = subst (λ (s : Seen). IsSession c.args.manner (g.R.Read.remaining c.args.reader.now) (g.R.Read.remaining c.run_session-end.new.reader) (g.W.Write.contents c.args.out.now) (g.W.Write.contents c.run_session-end.new.out) s c.run_session-end.ensures.session.0 c.run_session-end.result.script c.run_session-end.result.ended (seen sorted c.run_session-end.new.file)) start c.run_session-end.ensures.session.1 in
+    let known = subst (λ (s : Seen). IsSession c.args.manner (g.R.CountedRead.left c.args.reader.now) (g.R.CountedRead.left c.run_session-end.new.reader) (g.W.CountedWrite.held c.args.out.now) (g.W.CountedWrite.held c.run_session-end.new.out) s c.run_session-end.ensures.session.0 c.run_session-end.result.script c.run_session-end.result.ended (seen sorted c.run_session-end.new.file)) start c.run_session-end.ensures.session.1 in
     record {
       answer = c.run_session-end.result.script;
       ended = c.run_session-end.result.ended;
@@ -51,4 +51,5 @@ returns g c =
       status_is = c.exit_status.ensures ∙ (λ i. if c.is_err.ensures.value i then 4 else (if c.is_err-2.ensures.value i then 3 else 0));
       fault = tt;
       untried = untried c.run_session-end.result.ended None refl;
+      failed = c.run_session-end.ensures.failed;
     }

@@ -1,3 +1,5 @@
+ghost use Rattle.recfile.specs.Streams.{IsBlankFor};
+
 use super::{answers_to, calls_of, push_answer, text_of};
 use crate::expect_text;
 use crate::running::rows::{
@@ -8,13 +10,16 @@ use crate::running::{Row, flaky_file, open, run, store_of, three_records, tree};
 use btree_delete::{CloseStop, TreeTable};
 use page_store::{FlakyStore, Store, WriteFault};
 use rec_types::{Limits, SortedTable, Table};
-use recfile::{Feed, Manner, run_in};
+use recfile::{Feed, Manner, StreamCalls, run_in};
 use record_file::{
     AbortFault, Answer, Call, ClaimFault, EntriesFault, GetFault, PutFault, RecordFile,
     RemoveFault, ResumeFault, RollbackToFault, make_call,
 };
 use std::alloc::Global;
+use std::io::Write;
+use std::marker::Brand;
 use std::process::Abort;
+use std::sync::ledger::{Blank, Ledger};
 
 /// Whether the device refused the call.
 fn is_refused(answer: &Answer) -> bool {
@@ -365,6 +370,38 @@ fn each_write_of_a_close_fails_in_turn(rt: HostRuntime) {
     assert_eq!(rt; fail_each_write(&rt, rt.alloc(), 99), 7);
 }
 
+/// Runs a session over the store's file, on that count, and answers its status.
+fn session_counted<L: Ledger, S: Store, W: Write, E: Write>(
+    alloc: Global,
+    store: S,
+    limits: Limits,
+    strict: bool,
+    script: &[u8],
+    out: &mut W,
+    err: &mut E,
+    blank: Blank,
+) -> u8
+    requires { IsBlankFor blank.name blank.parts L.name L.parts }
+{
+    let manner = Manner {
+        strict,
+        feed: Feed::Script,
+    };
+    let mut calls = StreamCalls::<L>::new(blank);
+    let mut reader = script;
+    let end = run_in(
+        alloc,
+        store,
+        limits,
+        manner,
+        &mut reader,
+        out,
+        err,
+        &mut calls,
+    );
+    end.status
+}
+
 /// A session over the store's file: its replies and the line of its fault, and its status.
 fn session_in<S: Store>(
     rt: &impl Abort,
@@ -373,25 +410,22 @@ fn session_in<S: Store>(
     strict: bool,
     script: &str,
 ) -> (String, u8) {
-    let mut reader = script.as_bytes();
     let (mut out, mut err) = (Vec::new(alloc), Vec::new(alloc));
     let limits = Limits::new(9, 99, 9).expect(rt, "no limits");
-    let end = run_in(
+    let status = session_counted::<Brand, S, Vec<u8>, Vec<u8>>(
         alloc,
         store,
         limits,
-        Manner {
-            strict,
-            feed: Feed::Script,
-        },
-        &mut reader,
+        strict,
+        script.as_bytes(),
         &mut out,
         &mut err,
+        Blank::new(1),
     );
     let mut text = String::from_utf8(out).expect(rt, "no text");
     text.push_str(&String::from_utf8(err).expect(rt, "no text"))
         .expect(rt, "no memory");
-    (text, end.status)
+    (text, status)
 }
 
 /// The same over the file of three records, in a store that fails at these reads and writes.

@@ -1,10 +1,10 @@
 use Rattle.std.proofs.Common.{◌∙◌, ap, inl, subst, sym, OnOk}
 use Rattle.page_journal.specs.Crash.{IsEither}
 use Rattle.page_journal.specs.Files.{Files}
-use Rattle.page_journal.specs.LoggedStores.{FindsAll, LeavesWithCommits, commits_in}
+use Rattle.page_journal.specs.LoggedStores.{FindsAll, FindsNow, LeavesWithCommits, commits_in}
 use Rattle.page_journal.specs.KeptStores.{KeptStored, old_file_of}
 use Rattle.page_journal.proofs.KeptStoreLemmas.{finish_time}
-use Rattle.page_journal.proofs.LoggedLemmas.{finds_after, finds_now, finish_commits, on_every, sealed_sure, unsealed_sure}
+use Rattle.page_journal.proofs.LoggedLemmas.{all_after, all_now, finds_after, finds_now, finish_commits, on_every, sealed_sure, unsealed_sure}
 use Rattle.page_journal.proofs.kept_store.KeptStore.finish.Goals as goal
 use Rattle.page_journal.proofs.kept_store.KeptStore.finish.Goals.{in-Unsealed, in-Sealed, in-Stopped}
 
@@ -48,4 +48,17 @@ returns-clause-all g c = λ st.
       | in-Unsealed w ↦ on_every c.match-state.done (λ f left. finds_now d counts c.self.inside.log c.self.inside.doubt.items c.self.inside.disk (unsealed_sure c.self.inside.state c.self.inside.doubt.items w.in-Unsealed.is i.2) i.1 f (subst (λ e. d.may_leave e f) w.disk-is left))
       | in-Sealed w ↦ on_every c.match-state.done (λ f left. finds_after d counts c.self.inside.log c.self.inside.doubt.items c.self.inside.disk w.commit-done.new.disk (sealed_sure c.self.inside.state c.self.inside.doubt.items w.in-Sealed.is i.2) w.commit-done.ensures.logs i.1 f (subst (λ e. d.may_leave e f) w.disk-is left))
       | in-Stopped w ↦ subst (λ r. OnOk r ((f : Files) → d.may_leave c.match-state.disk f → FindsAll c.self.inside.log (d.began c.self.inside.disk) (commits_in c.self.inside.log (d.seen c.self.inside.disk)) f)) (sym w.done-is) tt
+    ])
+
+pub returns-clause-now : goal.returns-clause-now
+returns-clause-now g c = λ st f left.
+    let d = g.D.DiskState in
+    let counts = g.met.D.Disk.counts_now in
+    let steady = ap (λ (s : KeptStored _). d.steady s.disk) c.self.view_is ∙ st in
+    let i = c.self.invariant.1 steady in
+    subst (λ (s : KeptStored _). FindsNow s.log (d.began s.disk) (commits_in s.log (d.seen s.disk)) s.doubt f) c.self.view_is
+    (elim c.match-state.branch [
+      | in-Unsealed w ↦ all_now d counts c.self.inside.log c.self.inside.doubt.items c.self.inside.disk i.1 f (subst (λ e. d.may_leave e f) w.disk-is left)
+      | in-Sealed w ↦ all_after d counts c.self.inside.log c.self.inside.doubt.items c.self.inside.disk w.commit-done.new.disk w.commit-done.ensures.logs i.1 f (subst (λ e. d.may_leave e f) w.disk-is left)
+      | in-Stopped w ↦ all_now d counts c.self.inside.log c.self.inside.doubt.items c.self.inside.disk i.1 f (subst (λ e. d.may_leave e f) w.disk-is left)
     ])

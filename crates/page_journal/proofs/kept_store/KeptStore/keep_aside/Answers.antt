@@ -100,3 +100,15 @@ invariant_of-self-in_err-seal g c = (
         tt,
       ),
 )
+
+pub invariant_of-self-in_err-shape : goal.invariant_of-self-in_err-shape
+invariant_of-self-in_err-shape g c = (
+  c.self.invariant.0,
+  λ after.
+      let d = g.D.DiskState in
+      let whole = c.self.invariant.1 (sym c.shape.ensures.does.0.steady ∙ after) in (
+        same_guard d c.self.inside.state c.self.inside.kept.items c.self.inside.disk c.shape.new.self c.shape.new.self c.shape.ensures.does.0.began (guarded_stays d (old_file_of d c.self.inside.disk) (g.met.D.Disk.counts_now) c.self.inside.state c.self.inside.kept.items c.self.inside.disk c.shape.new.self whole.0 c.shape.ensures.does.0),
+        logged_leaves d (g.met.D.Disk.counts_now) c.self.inside.log c.self.inside.doubt.items c.self.inside.disk c.shape.new.self (logs_stays d c.self.inside.disk c.self.inside.disk c.shape.new.self (logs_begin d c.self.inside.disk (g.met.D.Disk.only_now c.self.inside.disk)) c.shape.ensures.does.0) c.shape.ensures.does.0.began whole.1,
+        whole.2,
+      ),
+)

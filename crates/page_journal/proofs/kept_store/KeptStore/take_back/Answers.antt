@@ -1,9 +1,9 @@
 use Rattle.std.proofs.Common.{◌≡◌, ◌∙◌, ap, sym, subst, OnOk}
 use Rattle.page_journal.specs.Crash.{StandsFor}
-use Rattle.page_journal.specs.LoggedStores.{MayFind, commits_in}
+use Rattle.page_journal.specs.LoggedStores.{FindsNow, MayFind, commits_in}
 use Rattle.page_journal.specs.KeptStores.{KeptStored, old_file_of}
 use Rattle.page_journal.proofs.KeptStoreLemmas.{never_foreign, unsealed_main, taken_old, taken_time}
-use Rattle.page_journal.proofs.LoggedLemmas.{taken_commits}
+use Rattle.page_journal.proofs.LoggedLemmas.{all_after, all_now, taken_commits}
 use Rattle.page_journal.proofs.kept_store.KeptStore.take_back.Goals as goal
 use Rattle.page_journal.proofs.kept_store.KeptStore.take_back.Goals.{in_default, in-Sealed}
 
@@ -51,4 +51,16 @@ returns-clause-commits g c = λ st f left.
     (elim c.match-state.branch [
       | in-Sealed w ↦ taken_commits d (g.met.D.Disk.counts_now) c.self.inside.log c.self.inside.doubt.items c.self.inside.disk w.recover-done.new.disk w.recover-done.ensures.logs i.1 f (subst (λ e. d.left_since e 0 f) w.disk-is left)
       | in_default w ↦ i.1.time f (subst (λ e. d.left_since e 0 f) w.disk-is left)
+    ])
+
+pub returns-clause-now : goal.returns-clause-now
+returns-clause-now g c = λ st f left.
+    let d = g.D.DiskState in
+    let counts = g.met.D.Disk.counts_now in
+    let steady = ap (λ (s : KeptStored _). d.steady s.disk) c.self.view_is ∙ st in
+    let i = c.self.invariant.1 steady in
+    subst (λ (s : KeptStored _). FindsNow s.log (d.began s.disk) (commits_in s.log (d.seen s.disk)) s.doubt f) c.self.view_is
+    (elim c.match-state.branch [
+      | in-Sealed w ↦ all_after d counts c.self.inside.log c.self.inside.doubt.items c.self.inside.disk w.recover-done.new.disk w.recover-done.ensures.logs i.1 f (subst (λ e. d.may_leave e f) w.disk-is left)
+      | in_default w ↦ all_now d counts c.self.inside.log c.self.inside.doubt.items c.self.inside.disk i.1 f (subst (λ e. d.may_leave e f) w.disk-is left)
     ])

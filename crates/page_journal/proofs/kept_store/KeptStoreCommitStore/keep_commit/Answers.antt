@@ -1,4 +1,4 @@
-use Rattle.std.proofs.Common.{◌≡◌, ◌∙◌, ◌++◌, ◌∷◌, [], List, ℕ, Some, Err, ap, sym, subst, rules}
+use Rattle.std.proofs.Common.{◌≡◌, ◌∙◌, ◌++◌, ◌∷◌, [], List, ℕ, Some, Err, inl, inr, ap, sym, subst, rules}
 use Rattle.page_store.specs.declared.append_fault.AppendFault.{AppendFault}
 use Rattle.page_store.specs.Commits.{KeepsCommit}
 use Rattle.page_journal.specs.KeptStores.{IsGuarded, KeptStored, old_file_of}
@@ -52,7 +52,8 @@ returns-in-Ok g c = record {
   failures = search rules;
   journal = search rules;
   commits = record {
-    opened = opening_grown g.D.DiskState c.self.inside.disk c.append.new.disk c.append.ensures.disk.1 (commits_in (Some c.append.new.place) (g.D.DiskState.seen c.append.new.disk)) (commits_in c.self.inside.log (g.D.DiskState.seen c.self.inside.disk)) ∙ ap (λ (s : KeptStored _). record (opening_of g.D.DiskState s) { commits = commits_in (Some c.append.new.place) (g.D.DiskState.seen c.append.new.disk) }) c.self.view_is;
+    opened = opening_grown g.D.DiskState c.self.inside.disk c.append.new.disk c.append.ensures.disk.1 c.self.inside.log c.in-Some.place c.append.new.place c.in-Some.is (commits_in (Some c.append.new.place) (g.D.DiskState.seen c.append.new.disk)) (commits_in c.self.inside.log (g.D.DiskState.seen c.self.inside.disk)) c.self.inside.doubt.items c.self.inside.doubt.items ∙ ap (λ (s : KeptStored _). record (opening_of g.D.DiskState s) { commits = commits_in (Some c.append.new.place) (g.D.DiskState.seen c.append.new.disk); doubt = c.self.inside.doubt.items }) c.self.view_is;
+    doubted = inl (ap (λ (s : KeptStored _). s.doubt) c.self.view_is);
     kept = λ st unit is spelt.
         let d = g.D.DiskState in
         let steady = ap (λ (s : KeptStored _). d.steady s.disk) c.self.view_is ∙ st in

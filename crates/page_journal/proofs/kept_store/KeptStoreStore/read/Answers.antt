@@ -22,7 +22,7 @@ invariant_of-self g c = (
 
 pub returns-clause-leaves : goal.returns-clause-leaves
 returns-clause-leaves g c = record {
-  stays = record { pages = search rules; tail = search rules; steady = search rules; opening = opening_same g.D.DiskState c.self.inside.log c.self.inside.disk c.read.new.self c.read.ensures.does.0.began (ap (λ (f : Files). f.commits) c.read.ensures.does.0.seen) ∙ ap (opening_of g.D.DiskState) c.self.view_is; writes = search rules; journal = search rules; guard = search rules };
+  stays = record { pages = search rules; tail = search rules; steady = search rules; opening = opening_same g.D.DiskState c.self.inside.log c.self.inside.doubt.items c.self.inside.disk c.read.new.self c.read.ensures.does.0.began (ap (λ (f : Files). f.commits) c.read.ensures.does.0.seen) ∙ ap (opening_of g.D.DiskState) c.self.view_is; writes = search rules; journal = search rules; guard = search rules };
   reads = search rules;
   shapes = search rules;
   failures = passed_on _ _ c.self.inside.refusals _ _ _ c.read.ensures.does.1.failures (ap (λ (s : KeptStored _). g.D.DiskState.failures s.disk) c.self.view_is) (ap (λ (s : KeptStored _). s.refusals) c.self.view_is);

@@ -23,7 +23,7 @@ invariant_of-self-2 g c = (
 pub returns-clause-changes : goal.returns-clause-changes
 returns-clause-changes g c = record {
   steady = search rules;
-  opening = opening_same g.D.DiskState c.self.inside.log c.self.inside.disk c.grow.new.self c.grow.ensures.does.0.began (c.grow.ensures.does.0.seen.commits) ∙ ap (opening_of g.D.DiskState) c.self.view_is;
+  opening = opening_same g.D.DiskState c.self.inside.log c.self.inside.doubt.items c.self.inside.disk c.grow.new.self c.grow.ensures.does.0.began (c.grow.ensures.does.0.seen.commits) ∙ ap (opening_of g.D.DiskState) c.self.view_is;
   reads = search rules;
   shapes = search rules;
   writes = search rules;

@@ -1,13 +1,34 @@
-use Rattle.std.proofs.Common.{◌≡◌, ℕ, List, [], ◌∷◌, ◌++◌, Option, length, ◌==◌, refl, sym, ap, ◌∙◌}
+use Rattle.std.proofs.Common.{◌≡◌, ◌⊎◌, ⊎_elim, inl, inr, ℕ, List, [], ◌∷◌, ◌++◌, length, ◌==◌, refl, sym, ap, ◌∙◌}
 use Rattle.std.proofs.lemmas.Bool.{false≢true}
-use Rattle.command_text.specs.Units.{unit_lines}
+use Rattle.page_store.specs.Opening.{Opening}
+use Rattle.btree_delete.specs.Origins.{origin_of}
+use Rattle.btree_delete.specs.TableView.{TableView}
+use Rattle.command_text.specs.Script.{entries_in, entries_of}
+use Rattle.command_text.specs.Units.{Write, unit_commands, unit_lines}
+use Rattle.recfile.specs.LogKeeping.{MovesBeside, SaysSome}
 use Rattle.recfile.specs.Run.{AddsWrites}
+use Rattle.recfile.proofs.LogLemmas.{unit_said}
 use Rattle.recfile.proofs.log_keeper.LogKeeperKeeperTreeTableKeptStore.keep.Goals as goal
 
 -- writes that are some are kept as a script
-adds : (es : List (List ℕ × Option (List ℕ))) (n : ℕ) (old new : List (List (List ℕ))) → (es ≡ [] → ⊥) → new ≡ old ++ unit_lines n es ∷ [] → AddsWrites old es new
-adds [] n old new some is = absurd (some refl)
-adds (w ∷ ws) n old new some is = (n, is)
+adds : (es : List Write) (n : ℕ) (old new : List (List (List ℕ))) → (es ≡ [] → ⊥) → new ≡ old ++ unit_lines n es ∷ [] → entries_in (unit_lines n es) ≡ unit_commands n es → AddsWrites old es new
+adds [] n old new some is read = absurd (some refl)
+adds (w ∷ ws) n old new some is read = (n, is, read)
+
+-- a doubt changes nothing else of what the table was made of
+doubted : (old new : TableView) (text : List ℕ) → new ≡ record old { pages = record old.pages { opening = new.pages.opening; guard = new.pages.guard } } → new.pages.opening ≡ record old.pages.opening { commits = new.pages.opening.commits; doubt = new.pages.opening.doubt } → SaysSome text → (new.pages.opening.doubt ≡ old.pages.opening.doubt) ⊎ (new.pages.opening.doubt ≡ text) → MovesBeside old new
+doubted old new text same opened says doubt = (
+  ap origin_of same ∙ ap (λ (o : Opening). record (origin_of old) { opening = o; guard = new.pages.guard }) opened,
+  ⊎_elim (λ was. inl was) (λ now. inr (says.0, says.1, now ∙ says.2, says.3, says.4)) doubt,
+)
 
 pub returns-in-Ok-keep_commit-clause-answer : goal.returns-in-Ok-keep_commit-clause-answer
-returns-in-Ok-keep_commit-clause-answer g c = λ steady. adds c.args.writes.now c.saturating_add-number.result _ _ (λ none. false≢true (sym c.if-is_empty.false ∙ c.is_empty.ensures ∙ ap (λ (l : List (List ℕ × Option (List ℕ))). length l == 0) none)) (c.in-Ok-keep_commit.ensures.commits.kept steady (unit_lines c.saturating_add-number.result c.args.writes.now) c.in-Ok.ensures.unit c.in-Ok.ensures.text)
+returns-in-Ok-keep_commit-clause-answer g c = λ steady. adds c.args.writes.now c.saturating_add-number.result _ _ (λ none. false≢true (sym c.if-is_empty.false ∙ c.is_empty.ensures ∙ ap (λ (l : List Write). length l == 0) none)) (c.in-Ok-keep_commit.ensures.commits.kept steady (unit_lines c.saturating_add-number.result c.args.writes.now) c.in-Ok.ensures.unit c.in-Ok.ensures.text)
+    (sym (unit_said (unit_lines c.saturating_add-number.result c.args.writes.now) c.in-Ok.ensures.unit) ∙ ap entries_of (sym c.in-Ok.ensures.text) ∙ c.in-Ok.ensures.said)
+
+pub returns-in-Err-Doubt-clause-moves : goal.returns-in-Err-Doubt-clause-moves
+returns-in-Err-Doubt-clause-moves g c =
+    let unit = unit_lines c.saturating_add-number.result c.args.writes.now in
+    doubted c.args.table.now c.keep_commit.new.self c.in-Ok.text.items c.keep_commit.ensures.same c.keep_commit.ensures.commits.opened
+    (c.saturating_add-number.result, c.args.writes.now, c.in-Ok.ensures.text, c.in-Ok.ensures.unit, sym (unit_said unit c.in-Ok.ensures.unit) ∙ ap entries_of (sym c.in-Ok.ensures.text) ∙ c.in-Ok.ensures.said)
+    (⊎_elim (λ was. inl was) (λ now. inr now.1) c.keep_commit.ensures.commits.doubted)

@@ -1,0 +1,61 @@
+-- A session over a file beside which a log was begun.
+use Rattle.std.proofs.Common.{◌≡◌, ℕ, ◌≤◌, true, List, [], ◌++◌, Option, Result, OnOk, IsTrue, if◌then◌else◌, refl, sym, ap, subst, ◌∙◌, arith}
+use Rattle.rec_types.specs.Contents.{Contents}
+use Rattle.rec_types.specs.LimitBounds.{Bounds, most_records}
+use Rattle.page_journal.specs.Files.{PageFile}
+use Rattle.btree_delete.specs.Origins.{Origin}
+use Rattle.btree_delete.specs.TableView.{TableView}
+use Rattle.record_file.specs.Abstract.{OpenFile, open_of}
+use Rattle.record_file.specs.Durable.{overlay}
+use Rattle.record_file.specs.Runs.{Seen, seen_as}
+use Rattle.recfile.specs.DurableSession.{logged_file}
+use Rattle.recfile.specs.Kept.{file_of}
+use Rattle.recfile.specs.LogKeeping.{DoubtSays, IsKeptBeside}
+use Rattle.recfile.specs.LogOver.{HoldsRecords, HoldsWithin}
+use Rattle.recfile.specs.Overlaid.{writes_in_turn}
+use Rattle.recfile.specs.SessionCommits.{MakesCommits}
+use Rattle.recfile.specs.WholeSession.{IsSession}
+use Rattle.recfile.specs.declared.endings.EndFault.{EndFault}
+use Rattle.recfile.specs.declared.manner.Manner.{Manner}
+use Rattle.recfile.specs.declared.script.RunFault.{RunFault}
+use Rattle.recfile.proofs.DurableLemmas.{kept_make, rest_ended}
+use Rattle.recfile.proofs.KeptLemmas.{ok_wider}
+use Rattle.recfile.proofs.OpenedLemmas.{treed}
+use Rattle.recfile.proofs.SessionCommitLemmas.{session_made}
+
+module _ (contents : Contents) (limits : Bounds) (failures : ℕ) (commits : List (List (List ℕ))) (manner : Manner) (left leaves held holds : Option (List ℕ)) (mid : Seen) (answer : Result ℕ RunFault) (ended : Result ℕ EndFault) (new : Seen) (session : IsSession manner left leaves held holds (logged_file contents limits failures commits) mid answer ended new) where
+  -- what was kept
+  pub made : MakesCommits (logged_file contents limits failures commits) mid
+  made = session_made manner answer left leaves held holds (logged_file contents limits failures commits) mid session.script refl refl
+
+  pub mid_sound : IsTrue mid.sound
+  mid_sound = made.sound
+
+  pub new_commits : new.commits ≡ commits ++ made.units
+  new_commits = session.commits ∙ made.commits
+
+  pub records_made : OnOk ended (new.records ≡ overlay contents (writes_in_turn made.kept))
+  records_made = ok_wider ended _ _
+      (λ are.
+      are
+      ∙ rest_ended mid.file.opening (open_of mid.file) mid.file.history
+      ∙ sym (kept_make contents limits (logged_file contents limits failures commits) mid made.events (writes_in_turn made.kept) refl refl refl refl made.ran))
+      (session.records mid_sound)
+
+-- what is kept beside a table, and what is not
+pub opening_kept : (old new : TableView) → IsKeptBeside old new → (file_of new.pages.opening ≡ file_of old.pages.opening) × (new.pages.opening.logged ≡ old.pages.opening.logged)
+opening_kept old new is = (ap (λ (o : Origin). file_of o.opening) is, ap (λ (o : Origin). o.opening.logged) is)
+
+pub order_kept : (old new : TableView) → IsKeptBeside old new → new.tree.order ≡ old.tree.order
+order_kept old new is = ap (λ (o : Origin). o.order) is
+
+pub doubt_kept : (old new : List ℕ) → old ≡ [] → DoubtSays old new → DoubtSays [] new
+doubt_kept old new none says = subst (λ (d : List ℕ). DoubtSays d new) none says
+
+-- what a run sees of the commits that are kept beside a steady table
+pub logged_commits : (f : OpenFile TableView) → IsTrue f.table.pages.steady → (seen_as true treed f).commits ≡ f.table.pages.opening.commits
+logged_commits f steady = ap (λ b. if b then f.table.pages.opening.commits else []) steady
+
+-- no more records than a session may have are no more than a file may have
+pub within : (limit order : ℕ) (contents : Contents) (file : PageFile) → limit ≤ most_records → HoldsWithin limit order contents file → HoldsRecords order contents file
+within limit order contents file few holds = (holds.0, holds.1, holds.2, holds.3, omega (arith, holds.4, few))

@@ -1,0 +1,127 @@
+use Rattle.std.proofs.Common.{◌≡◌, ◌∙◌, ◌≤◌, ℕ, List, false, IfErr, Result, IsTrue, sym, ap, subst}
+use Rattle.rec_types.specs.Contents.{Contents}
+use Rattle.rec_types.specs.LimitBounds.{Bounds}
+use Rattle.commit_paper.specs.Text.{units_of}
+use Rattle.page_journal.specs.Files.{PageFile, Files, recovered}
+use Rattle.page_journal.specs.LoggedStores.{commits_in}
+use Rattle.btree_delete.specs.TableView.{IsClosed, table_contents}
+use Rattle.recfile.specs.Beside.{IsHeadFault, IsSettledWith, IsSettlingFault, LeavesEnded}
+use Rattle.recfile.specs.Kept.{file_of}
+use Rattle.recfile.specs.LogOver.{Finds, HoldsRecords, IsLogOver, head_line}
+use Rattle.recfile.specs.declared.file_fault.FileFault.{FileFault}
+use Rattle.recfile.proofs.KeptLemmas.{ok_wider}
+use Rattle.recfile.proofs.LogOverLemmas.{over_once}
+use Rattle.recfile.proofs.OpenedLemmas.{can_be_opened}
+use Rattle.recfile.proofs.SettlingLemmas.{ended_finds, files_find, found_over, head_settles, over_found, still_unlogged, unlogged_leaves}
+use Rattle.recfile.proofs.settling.settle_file.Given as given
+use Rattle.recfile.proofs.settling.settle_file.Goals as goal
+use Rattle.recfile.proofs.settling.settle_file.Goals.{After-settle_table}
+
+pub returns-in-Err-clause-kept : goal.returns-in-Err-clause-kept
+returns-in-Err-clause-kept g c steady order records finds left since =
+    let d = g.D.DiskState in
+    let stays = c.head_of.ensures.stays in
+    let is = still_unlogged (d.began c.args.store.disk) c.args.store.log (commits_in c.args.store.log (d.seen c.args.store.disk)) c.args.store.doubt stays.opening c.requires.unused.2 in
+    files_find order records (d.began c.args.store.disk) left finds (unlogged_leaves (d.began c.args.store.disk) left _ is.0 is.1 is.2 (c.let_go.ensures.old (stays.steady ∙ steady) left since))
+
+pub returns-in-Err-clause-found : goal.returns-in-Err-clause-found
+returns-in-Err-clause-found g c steady order records finds =
+    let d = g.D.DiskState in
+    let file = d.began c.args.store.disk in
+    subst (λ (r : Result (Unit {0}) FileFault). IfErr r IsSettlingFault) (sym c.let_go.ensures.fault)
+    (head_settles c.in-Err.fault order finds.under (recovered file) finds.holds (subst (λ (f : PageFile). IsHeadFault f.pages f.tail c.in-Err.fault) (c.requires.file steady).1 (c.in-Err.ensures.fault steady)))
+
+-- the table that was opened, over the file of the store
+module _ (g : given.Over) (c : After-settle_table g) (steady : IsTrue (g.D.DiskState.steady c.args.store.disk)) where
+  abbrev began : Files
+  began = g.D.DiskState.began c.args.store.disk
+
+  table_steady : IsTrue c.in-Ok-open_from.table.pages.steady
+  table_steady = c.in-Ok-open_from.ensures.stored.2 ∙ c.head_of.ensures.stays.steady ∙ steady
+
+  store_steady : IsTrue (g.D.DiskState.steady c.head_of.new.store.disk)
+  store_steady = c.head_of.ensures.stays.steady ∙ steady
+
+  main : (g.D.DiskState.seen c.head_of.new.store.disk).main ≡ recovered began
+  main = (λ i. record { pages = c.head_of.ensures.stays.pages i; tail = c.head_of.ensures.stays.tail i }) ∙ (c.requires.file steady).1
+
+  opening : (file_of c.in-Ok-open_from.table.pages.opening ≡ recovered began) × (c.in-Ok-open_from.table.pages.opening.log ≡ began.commits.log) × (c.in-Ok-open_from.table.pages.opening.logged ≡ false)
+  opening = still_unlogged began c.args.store.log (commits_in c.args.store.log (g.D.DiskState.seen c.args.store.disk)) c.args.store.doubt (c.in-Ok-open_from.ensures.opening ∙ c.head_of.ensures.stays.opening) c.requires.unused.2
+
+  head : c.deref.result.now ≡ head_line (recovered began)
+  head = c.deref.ensures.value ∙ c.in-Ok.ensures.head steady ∙ ap head_line (c.requires.file steady).1
+
+  abbrev bytes : List ℕ
+  bytes = (c.requires.text steady).0
+
+  -- what is found in the file is what the table has
+  found : (order : ℕ) (under : Contents) → HoldsRecords order under (recovered began) → (c.in-Ok-open_from.table.tree.order ≡ order) × (table_contents c.in-Ok-open_from.table ≡ under)
+  found order under holds =
+      let there = subst (λ (f : PageFile). IsClosed holds.0 f.pages f.tail holds.1 under) (sym main) holds.3 in
+      let opened = c.in-Ok-open_from.ensures.reopened store_steady holds.1 under holds.0 there (subst (λ (n : ℕ). holds.1.count ≤ n) (sym (ap (λ (b : Bounds). b.records) c.greatest_limits.ensures)) holds.4) in
+      (ap (λ t. t.order) opened.0 ∙ holds.2, opened.1)
+
+  over : (order : ℕ) (records : Contents) (finds : Finds order records began) → IsLogOver c.deref.result.now (table_contents c.in-Ok-open_from.table) records (units_of bytes)
+  over order records finds =
+      subst (λ (h : List ℕ). IsLogOver h (table_contents c.in-Ok-open_from.table) records (units_of bytes)) (sym head)
+      (subst (λ (m : Contents). IsLogOver (head_line (recovered began)) m records (units_of bytes)) (sym (found order finds.under finds.holds).1) (found_over (head_line (recovered began)) finds.under records began.commits.log bytes (c.requires.text steady).1 finds.log))
+
+  -- the records that it has are those of the file
+  holds : HoldsRecords c.in-Ok-open_from.table.tree.order (table_contents c.in-Ok-open_from.table) (recovered began)
+  holds =
+      let can = can_be_opened _ _ c.greatest_limits.result.records _ c.in-Ok-open_from.table.pages c.in-Ok-open_from.table.tree (c.in-Ok-open_from.ensures.found store_steady) in
+      let opened = c.in-Ok-open_from.ensures.reopened store_steady can.0 can.1 can.2 can.3 can.4 in
+      subst (λ (f : PageFile). HoldsRecords c.in-Ok-open_from.table.tree.order (table_contents c.in-Ok-open_from.table) f) main
+      (can.2, can.0, ap (λ t. t.order) (sym opened.0), subst (λ (m : Contents). IsClosed can.2 (g.D.DiskState.seen c.head_of.new.store.disk).main.pages (g.D.DiskState.seen c.head_of.new.store.disk).main.tail can.0 m) (sym opened.1) can.3, subst (λ (n : ℕ). can.0.count ≤ n) (ap (λ (b : Bounds). b.records) c.greatest_limits.ensures) can.4)
+
+pub returns-in-Ok-open_from-clause-over : goal.returns-in-Ok-open_from-clause-over
+returns-in-Ok-open_from-clause-over g c steady =
+    let here = (goal.at.returns-in-Ok-open_from-clause-over g c).After-settle_table in
+    let text = c.requires.text steady in
+    let file = began g here steady in
+    ok_wider c.settle_table.result.1 _ _
+    (λ made. (
+      c.in-Ok-open_from.table.tree.order,
+      made.0,
+      record {
+        belongs = (c.requires.file steady).0;
+        under = table_contents c.in-Ok-open_from.table;
+        holds = holds g here steady;
+        log = over_found (head_line (recovered file)) (table_contents c.in-Ok-open_from.table) made.0 file.commits.log text.0 text.1
+            (subst (λ (h : List ℕ). IsLogOver h (table_contents c.in-Ok-open_from.table) made.0 (units_of text.0)) (head g here steady) made.1);
+      },
+      made.2,
+    ))
+    (c.settle_table.ensures.over (table_steady g here steady) (units_of text.0) text.2.1 text.2.0)
+
+pub returns-in-Ok-open_from-clause-settled : goal.returns-in-Ok-open_from-clause-settled
+returns-in-Ok-open_from-clause-settled g c steady order records finds =
+    let here = (goal.at.returns-in-Ok-open_from-clause-settled g c).After-settle_table in
+    let text = c.requires.text steady in
+    ok_wider c.settle_table.result.1 _ _
+    (λ made.
+    let same = over_once c.deref.result.now (table_contents c.in-Ok-open_from.table) made.0 records (units_of text.0) made.1 (over g here steady order records finds) in
+    subst (λ (x : ℕ × Contents). IsSettledWith g.D.DiskState x.0 x.1 c.settle_table.result.0) (λ i. ((found g here steady order finds.under finds.holds).0 i, same i)) made.2)
+    (c.settle_table.ensures.over (table_steady g here steady) (units_of text.0) text.2.1 text.2.0)
+
+pub returns-in-Ok-open_from-clause-kept : goal.returns-in-Ok-open_from-clause-kept
+returns-in-Ok-open_from-clause-kept g c steady order records finds left since =
+    let here = (goal.at.returns-in-Ok-open_from-clause-kept g c).After-settle_table in
+    let text = c.requires.text steady in
+    let is = opening g here steady in
+    let ended = c.settle_table.ensures.any_moment (table_steady g here steady) (units_of text.0) text.2.1 text.2.0 records (over g here steady order records finds) left since in
+    ended_finds order records (began g here steady) left c.in-Ok-open_from.table.pages.opening text.0 is.0 is.1 is.2 text.1 finds (subst (λ (n : ℕ). LeavesEnded c.in-Ok-open_from.table.pages.opening n records left) (found g here steady order finds.under finds.holds).0 ended)
+
+pub returns-in-Ok-open_from-clause-found : goal.returns-in-Ok-open_from-clause-found
+returns-in-Ok-open_from-clause-found g c steady order records finds =
+    let here = (goal.at.returns-in-Ok-open_from-clause-found g c).After-settle_table in
+    let text = c.requires.text steady in
+    c.settle_table.ensures.found (table_steady g here steady) (units_of text.0) text.2.1 text.2.0 records (over g here steady order records finds)
+
+pub returns-clause-kept : goal.returns-clause-kept
+returns-clause-kept g c steady order records finds left since =
+    let d = g.D.DiskState in
+    let stays = c.head_of.ensures.stays in
+    let stop = c.in-Err-open_from.ensures.stays in
+    let is = still_unlogged (d.began c.args.store.disk) c.args.store.log (commits_in c.args.store.log (d.seen c.args.store.disk)) c.args.store.doubt (stop.opening ∙ stays.opening) c.requires.unused.2 in
+    files_find order records (d.began c.args.store.disk) left finds (unlogged_leaves (d.began c.args.store.disk) left _ is.0 is.1 is.2 (c.let_go-in-Err-open_from.ensures.old (stop.steady ∙ stays.steady ∙ steady) left since))

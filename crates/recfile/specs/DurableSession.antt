@@ -1,0 +1,71 @@
+-- What a session leaves whose commits are kept before they are answered, and what an opening finds after a stop of it.
+use Rattle.std.specs.Prelude.{◌≡◌, ◌⊎◌, ℕ, true, List, [], ◌∷◌, ◌++◌, Option, None, OnOk}
+use Rattle.rec_types.specs.Contents.{Contents}
+use Rattle.rec_types.specs.LimitBounds.{Bounds}
+use Rattle.page_store.specs.Opening.{Opening}
+use Rattle.page_journal.specs.Files.{Files, recovered}
+use Rattle.page_journal.specs.Crash.{StandsAs, StandsFor}
+use Rattle.page_journal.specs.Logging.{SaysNoneOr}
+use Rattle.record_file.specs.Abstract.{new_file}
+use Rattle.page_journal.specs.declared.disk_state.DiskState.{Ghosts}
+use Rattle.command_text.specs.Units.{Write}
+use Rattle.record_file.specs.Durable.{overlay}
+use Rattle.record_file.specs.Runs.{Seen}
+use Rattle.recfile.specs.Beside.{IsSettledWith, LeavesOpening}
+use Rattle.recfile.specs.Kept.{file_of}
+use Rattle.recfile.specs.LogOver.{Finds, head_line}
+use Rattle.recfile.specs.Overlaid.{writes_in_turn}
+use Rattle.recfile.specs.SessionCommits.{MakesCommits}
+use Rattle.recfile.specs.Streams.{CallsMade}
+use Rattle.recfile.specs.WholeSession.{RunsFile, opened_file}
+use Rattle.recfile.specs.declared.file_fault.FileFault.{FileFault}
+use Rattle.recfile.specs.declared.manner.Manner.{Manner}
+
+-- a page file with these records, beside which a log was begun with these commits; no transaction was begun
+abbrev pub logged_file : Contents → Bounds → ℕ → List (List (List ℕ)) → Seen
+logged_file contents limits failures commits = record (opened_file contents limits failures) { logged = true; commits = commits }
+
+-- a log was begun beside the file that a store was opened over, in which no commit is yet
+pub record IsBegunBeside (opening : Opening) : Type 0 where
+  pub logged : opening.logged ≡ true
+  pub commits : opening.commits ≡ (head_line (file_of opening) ∷ []) ∷ []
+  pub doubt : opening.doubt ≡ []
+
+-- a session over a file with these limits, whatever its records, beside which a log was begun
+abbrev pub RunsLogged : Manner → Bounds → Option (List ℕ) → Option (List ℕ) → Option (List ℕ) → Option (List ℕ) → CallsMade → CallsMade → Option FileFault → ℕ → Type 0
+RunsLogged manner limits left leaves held holds before after unclosed status =
+    (old : Seen) × (old.file ≡ new_file old.records limits) × RunsFile manner left leaves held holds before after old unclosed status × (old.logged ≡ true)
+
+-- where the file isn't opened: it stays what it was, and the log beside it, or that was taken away
+abbrev pub LeavesUnread : Opening → Files → Type 0
+LeavesUnread opening c = LeavesOpening opening c ⊎ (StandsFor (file_of opening) c × (c.commits.log ≡ None))
+
+-- with no log, or with one in which no commit is
+abbrev pub LeavesUnbegun : Files → Files → Type 0
+LeavesUnbegun old c = StandsFor (recovered old) c × SaysNoneOr ((head_line (recovered old) ∷ []) ∷ []) c
+
+abbrev pub StandsUnbegun : Files → Files → Type 0
+StandsUnbegun old c = StandsAs old c × SaysNoneOr ((head_line (recovered old) ∷ []) ∷ []) c
+
+-- some of these commits, from the first on, or all and one more
+abbrev pub IsFrontOrMore : List (List Write) → List (List Write) → Type 0
+IsFrontOrMore first kept = ((rest : List (List Write)) × (kept ≡ first ++ rest)) ⊎ ((es : List Write) × (first ≡ kept ++ es ∷ []))
+
+-- an opening finds what some of these commits, or all and one more, make of these records, in the order of the commits
+abbrev pub FindsCommits : ℕ → Contents → List (List Write) → Files → Type 0
+FindsCommits order contents kept c = (first : List (List Write)) × IsFrontOrMore first kept × Finds order (overlay contents (writes_in_turn first)) c
+
+-- it finds what all of them make, or all and one more
+abbrev pub FindsEachCommit : ℕ → Contents → List (List Write) → Files → Type 0
+FindsEachCommit order contents kept c =
+    (all : List (List Write)) × ((all ≡ kept) ⊎ ((es : List Write) × (all ≡ kept ++ es ∷ []))) × Finds order (overlay contents (writes_in_turn all)) c
+
+-- A session over a file with these records, in a tree of this order, whose commits are kept before they are answered; then the file was closed and the log taken away, or a fault stopped that. A crash at any moment since the log was begun leaves what some of the commits make, from the first on, or all and the one that is in doubt; at the end it leaves what all make, whatever failed, and after the closing the file has that by itself.
+pub record EndsDurably {D : Type 0} (g : Ghosts D) (manner : Manner) (left leaves held holds : Option (List ℕ)) (before after : CallsMade)
+    (order : ℕ) (contents : Contents) (limits : Bounds) (failures : ℕ) (commits : List (List (List ℕ))) (unclosed : Option FileFault) (status : ℕ) (disk : D) : Type 0 where
+  pub run : RunsFile manner left leaves held holds before after (logged_file contents limits failures commits) unclosed status
+  pub made : MakesCommits (logged_file contents limits failures commits) run.mid
+  pub records : OnOk run.ended (run.new.records ≡ overlay contents (writes_in_turn made.kept))
+  pub any_moment : (c : Files) → g.left_since disk 0 c → FindsCommits order contents made.kept c
+  pub lasts : (c : Files) → g.may_leave disk c → FindsEachCommit order contents made.kept c
+  pub closed : OnOk run.ended (unclosed ≡ None → IsSettledWith g order (overlay contents (writes_in_turn made.kept)) disk)

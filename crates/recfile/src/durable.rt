@@ -1,0 +1,258 @@
+ghost use Rattle.std.specs.Prelude.{◌≡◌, ◌≤◌, ◌∷◌, [], ℕ, None, Some, false, is_some, IsTrue, IsSome, IfOk, IfErr, IfSome, MatchOption};
+ghost use Rattle.rec_types.specs.Contents.{Contents};
+ghost use Rattle.btree_delete.specs.TableView.{table_contents};
+ghost use Rattle.page_journal.specs.Files.{Belongs, Files, recovered};
+ghost use Rattle.recfile.specs.Beside.{IsHeadFault, IsSettledWith, LeavesEnded, LeavesOpening, LosesNone};
+ghost use Rattle.recfile.specs.Dumped.{CanBeOpened, IsFirstOrOutside, IsOutsideFile};
+ghost use Rattle.recfile.specs.DurableSession.{EndsDurably, IsBegunBeside, LeavesUnbegun, LeavesUnread, RunsLogged, StandsUnbegun};
+ghost use Rattle.recfile.specs.Kept.{IsOutsideDisk, IsUnopened, file_of};
+ghost use Rattle.recfile.specs.LogOver.{HoldsWithin, head_line};
+ghost use Rattle.recfile.specs.Settling.{IsJustSettled};
+ghost use Rattle.recfile.specs.Statuses.{status_of};
+ghost use Rattle.recfile.specs.WholeSession.{IsUncounted};
+
+use crate::file_fault::FileFault;
+use crate::kept_file::{DiskEnd, give_back, unopened};
+use crate::log_head::head_of;
+use crate::log_keeper::LogKeeper;
+use crate::manner::Manner;
+use crate::session::run_session;
+use crate::settling::{close_beside, end_beside};
+use crate::statuses::exit_status;
+use crate::streams::{CountedRead, CountedWrite, StreamCalls};
+use crate::tell::tell_fault_of;
+use btree_delete::TreeTable;
+use page_journal::{Disk, KeptStore, SealState};
+use page_store::StoreState;
+use rec_types::Limits;
+use record_file::RecordFile;
+use std::alloc::Global;
+use std::io::Write;
+use std::sync::ledger::Ledger;
+
+// Closes the file of a table, takes the log beside it away, and answers the end of the session. A fault has its line.
+fn close_logged<D: Disk + Drop, E: Write>(
+    table: TreeTable<KeptStore<D>>,
+    script_fault: bool,
+    err: &mut E,
+) -> DiskEnd<D>
+    ensures end { result ≡ record result {
+      status = status_of false (is_some result.unclosed) script_fault;
+      unopened = None;
+    } }
+    ensures any_moment { IsTrue table.pages.steady → (c : Files) → D.left_since result.disk 0 c
+        → LeavesEnded table.pages.opening table.tree.order (table_contents table) c }
+    ensures lasts { IsTrue table.pages.steady → (c : Files) → D.may_leave result.disk c
+        → LosesNone table.pages.opening table.tree.order (table_contents table) c }
+    ensures closed { IsTrue table.pages.steady → result.unclosed ≡ None
+        → IsSettledWith D.DiskState table.tree.order (table_contents table) result.disk }
+    ensures fault { IfSome result.unclosed IsOutsideFile }
+{
+    let (disk, done) = close_beside(table);
+    tell_fault_of(err, &done);
+    DiskEnd {
+        status: exit_status(false, done.is_err(), script_fault),
+        disk,
+        unopened: None,
+        unclosed: done.err(),
+    }
+}
+
+// Runs a session over the table of a page file, beside which its commits are kept, and closes the file.
+fn run_logged<L: Ledger, D: Disk + Drop, R: CountedRead<L>, W: CountedWrite<L>, E: Write>(
+    alloc: Global,
+    table: TreeTable<KeptStore<D>>,
+    limits: Limits,
+    manner: Manner,
+    reader: &mut R,
+    out: &mut W,
+    err: &mut E,
+    calls: &mut StreamCalls<L>,
+) -> DiskEnd<D>
+    requires limit { table.limit ≡ limits.records }
+    ensures opened { result.unopened ≡ None }
+    ensures ran { RunsLogged manner limits (R.left reader.old) (R.left reader.new)
+        (W.held out.old) (W.held out.new) calls.old calls.new result.unclosed result.status }
+    ensures session { IsTrue table.pages.steady → IsUncounted table
+        → IsBegunBeside table.pages.opening
+        → HoldsWithin limits.records table.tree.order (table_contents table)
+        (file_of table.pages.opening)
+        → EndsDurably D.DiskState manner (R.left reader.old) (R.left reader.new)
+        (W.held out.old) (W.held out.new) calls.old calls.new
+        table.tree.order (table_contents table) limits table.pages.failures
+        ((head_line (file_of table.pages.opening) ∷ []) ∷ []) result.unclosed result.status result.disk }
+{
+    // No more than a file may have.
+    let _most = limits.records();
+    let mut file = RecordFile::new(alloc, table, limits);
+    let mut keeper = LogKeeper::new(alloc);
+    let end = run_session(
+        alloc,
+        manner,
+        &mut file,
+        &mut keeper,
+        reader,
+        out,
+        err,
+        calls,
+    );
+    let script_fault = end.script.is_err();
+    let table = file.abandon();
+    match end.ended {
+        Ok(_) => close_logged(table, script_fault, err),
+        Err(_) => DiskEnd {
+            status: exit_status(true, false, script_fault),
+            disk: give_back(table),
+            unopened: None,
+            unclosed: None,
+        },
+    }
+}
+
+// The disk of a store whose file isn't opened, beside which a log was begun: it is taken away.
+fn end_unread<D: Disk + Drop>(store: KeptStore<D>) -> D
+    ensures left { IsTrue (D.steady store.disk) → (c : Files) → D.left_since result 0 c
+        → LeavesUnread (⟦<KeptStore<D> as StoreState>⟧.opening store) c }
+    ensures steady { D.steady result ≡ D.steady store.disk }
+{
+    let (disk, _put_back) = store.take_back();
+    let (disk, _done) = end_beside(disk);
+    disk
+}
+
+// The disk of a store beside which no log was begun, and the fault.
+fn unbegun<D: Disk + Drop>(store: KeptStore<D>, fault: FileFault) -> (D, FileFault)
+    ensures old { IsTrue (D.steady store.disk) → (c : Files) → D.left_since result.0 0 c
+        → LeavesOpening (⟦<KeptStore<D> as StoreState>⟧.opening store) c }
+    ensures fault { result.1 ≡ fault }
+{
+    let (disk, _put_back) = store.take_back();
+    (disk, fault)
+}
+
+// The store, with a log of commits begun beside it in which no commit is. Faults: Device, Memory; the disk comes back.
+fn begin_beside<D: Disk + Drop>(
+    alloc: Global,
+    store: KeptStore<D>,
+) -> Result<KeptStore<D>, (D, FileFault)>
+    requires none { IsTrue (D.steady store.disk) → (D.began store.disk).commits.log ≡ None }
+    requires file { IsTrue (D.steady store.disk)
+        → (D.seen store.disk).main ≡ recovered (D.began store.disk) }
+    requires unused { (store.state ≡ SealState.Unsealed) × (store.refusals ≡ 0) × (store.log ≡ None) × (store.doubt ≡ []) }
+    ensures begun { IsTrue (D.steady store.disk)
+        → IfOk result (λ s. IsBegunBeside (⟦<KeptStore<D> as StoreState>⟧.opening s)) }
+    ensures opening { IfOk result (λ s. file_of (⟦<KeptStore<D> as StoreState>⟧.opening s)
+        ≡ recovered (D.began store.disk)) }
+    ensures stored { IfOk result (λ s. (D.steady s.disk ≡ D.steady store.disk)
+        × (s.state ≡ SealState.Unsealed) × (s.refusals ≡ 0)
+        × ((D.seen s.disk).main ≡ (D.seen store.disk).main)
+        × (D.failures s.disk ≡ D.failures store.disk)) }
+    ensures stopped { IsTrue (D.steady store.disk) → IfErr result (λ stop. (c : Files)
+        → D.left_since stop.0 0 c → LeavesUnbegun (D.began store.disk) c) }
+    ensures fault { IsTrue (D.steady store.disk) → IfErr result (λ stop. IsHeadFault
+        (recovered (D.began store.disk)).pages (recovered (D.began store.disk)).tail stop.1) }
+{
+    let mut store = store;
+    let mut head = match head_of(alloc, &mut store) {
+        Ok(head) => head,
+        Err(fault) => return Err(unbegun(store, fault)),
+    };
+    let Ok(()) = head.push(b'\n') else {
+        return Err(unbegun(store, FileFault::Memory));
+    };
+    match store.begin_commits(&head) {
+        Ok(store) => Ok(store),
+        Err((disk, fault)) => Err((disk, FileFault::from(fault))),
+    }
+}
+
+// Opens the page file of a store, beside which a log was begun, and runs a session.
+fn run_begun<L: Ledger, D: Disk + Drop, R: CountedRead<L>, W: CountedWrite<L>, E: Write>(
+    alloc: Global,
+    store: KeptStore<D>,
+    limits: Limits,
+    manner: Manner,
+    reader: &mut R,
+    out: &mut W,
+    err: &mut E,
+    calls: &mut StreamCalls<L>,
+) -> DiskEnd<D>
+    requires file { IsTrue (D.steady store.disk) → (D.seen store.disk).main
+        ≡ file_of (⟦<KeptStore<D> as StoreState>⟧.opening store) }
+    requires begun { IsTrue (D.steady store.disk)
+        → IsBegunBeside (⟦<KeptStore<D> as StoreState>⟧.opening store) }
+    requires unrefused { store.refusals ≡ 0 }
+    ensures unread { IfSome result.unopened (λ _. (result.status ≡ 1) × (result.unclosed ≡ None)
+        × (reader.new ≡ reader.old) × (out.new ≡ out.old) × (calls.new ≡ calls.old)) }
+    ensures ran { result.unopened ≡ None → RunsLogged manner limits
+        (R.left reader.old) (R.left reader.new) (W.held out.old) (W.held out.new) calls.old calls.new
+        result.unclosed result.status }
+    ensures closed { IsTrue (D.steady store.disk) → result.unopened ≡ None
+        → CanBeOpened (D.seen store.disk).main.pages (D.seen store.disk).main.tail limits.records }
+    ensures first { IsTrue (D.steady store.disk) → IfSome result.unopened
+        (IsFirstOrOutside (D.seen store.disk).main.pages (D.seen store.disk).main.tail limits.records) }
+    ensures untouched { IsTrue (D.steady store.disk) → IfSome result.unopened
+        (λ _. (c : Files) → D.left_since result.disk 0 c
+        → LeavesUnread (⟦<KeptStore<D> as StoreState>⟧.opening store) c) }
+    ensures session { IsTrue (D.steady store.disk) → (order : ℕ) → (contents : Contents)
+        → HoldsWithin limits.records order contents (D.seen store.disk).main
+        → MatchOption result.unopened (EndsDurably D.DiskState manner (R.left reader.old)
+        (R.left reader.new) (W.held out.old) (W.held out.new) calls.old calls.new
+        order contents limits (D.failures store.disk)
+        ((head_line (D.seen store.disk).main ∷ []) ∷ []) result.unclosed result.status result.disk)
+        IsOutsideFile }
+{
+    match TreeTable::open_from(alloc, store, limits) {
+        Ok(table) => run_logged(alloc, table, limits, manner, reader, out, err, calls),
+        Err(stop) => unopened(end_unread(stop.store), FileFault::from(stop.fault), err),
+    }
+}
+
+/// Runs a session over the page file on a disk that was just opened, beside which stands no log of commits, as `run_kept` does;
+/// but a log is begun, and each commit is kept in it before it is answered. At the end the file is closed, and the log is taken
+/// away. The status is that of `exit_status`; a fault of the file has a line on `err` when it is met. The disk comes back.
+///
+/// A crash at any moment of it leaves files in which an opening finds what some of the commits make, from the first on, in
+/// their order, or all and the one under way. At its end it leaves what all make, each that was answered among them, whatever
+/// failed; and while the session lasts its store is one of which `KeptStore::is_in_doubt` says the same. Where the file can't
+/// be opened no script is read, and a crash leaves the file that there was, with no log or with an empty one.
+pub fn run_durable<L: Ledger, D: Disk + Drop, R: CountedRead<L>, W: CountedWrite<L>, E: Write>(
+    alloc: Global,
+    disk: D,
+    limits: Limits,
+    manner: Manner,
+    reader: &mut R,
+    out: &mut W,
+    err: &mut E,
+    calls: &mut StreamCalls<L>,
+) -> DiskEnd<D>
+    requires { IsJustSettled D.DiskState disk }
+    ensures unread { IfSome result.unopened (λ _. (result.status ≡ 1) × (result.unclosed ≡ None)
+        × (reader.new ≡ reader.old) × (out.new ≡ out.old) × (calls.new ≡ calls.old)) }
+    ensures ran { result.unopened ≡ None → RunsLogged manner limits
+        (R.left reader.old) (R.left reader.new) (W.held out.old) (W.held out.new) calls.old calls.new
+        result.unclosed result.status }
+    ensures own { IsTrue (D.steady disk) → result.unopened ≡ None → Belongs (D.began disk) }
+    ensures closed { IsTrue (D.steady disk) → result.unopened ≡ None
+        → CanBeOpened (recovered (D.began disk)).pages (recovered (D.began disk)).tail limits.records }
+    ensures first { IsTrue (D.steady disk)
+        → IfSome result.unopened (IsUnopened (D.began disk) limits.records) }
+    ensures untouched { IsTrue (D.steady disk) → IfSome result.unopened
+        (λ _. (c : Files) → D.left_since result.disk 0 c → StandsUnbegun (D.began disk) c) }
+    ensures session { IsTrue (D.steady disk) → (order : ℕ) → (contents : Contents)
+        → HoldsWithin limits.records order contents (recovered (D.began disk))
+        → MatchOption result.unopened (EndsDurably D.DiskState manner (R.left reader.old)
+        (R.left reader.new) (W.held out.old) (W.held out.new) calls.old calls.new
+        order contents limits (D.failures disk)
+        ((head_line (recovered (D.began disk)) ∷ []) ∷ []) result.unclosed result.status result.disk)
+        (IsOutsideDisk (D.began disk)) }
+{
+    let store = match KeptStore::open(alloc, disk) {
+        Ok(store) => store,
+        Err((disk, fault)) => return unopened(disk, FileFault::from(fault), err),
+    };
+    match begin_beside(alloc, store) {
+        Ok(store) => run_begun(alloc, store, limits, manner, reader, out, err, calls),
+        Err((disk, fault)) => unopened(disk, fault, err),
+    }
+}
