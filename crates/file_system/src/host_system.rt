@@ -79,6 +79,10 @@ impl<F: OpenFile + FileExt + Lock + Drop> SystemFile for HostFile<F> {
         self.file.sync_all()
     }
 
+    fn sync_data(&self) -> io::Result<()> {
+        self.file.sync_data()
+    }
+
     fn try_lock(&self) -> io::Result<()> {
         self.file.try_lock()
     }

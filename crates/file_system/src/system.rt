@@ -14,6 +14,9 @@ pub trait SystemFile: FileExt {
     /// Has the device keep it: its bytes and its length, or, of a folder, its names.
     fn sync_all(&self) -> io::Result<()>;
 
+    /// Has the device keep its bytes and its length, and not when it was changed.
+    fn sync_data(&self) -> io::Result<()>;
+
     /// Takes the lock that no other opening shares. It waits for nobody.
     fn try_lock(&self) -> io::Result<()>;
 

@@ -198,7 +198,7 @@ impl<F: SystemFile + Drop> LogFiles<F> {
     /// Has the device keep it.
     pub(crate) fn sync(&mut self) -> io::Result<()> {
         match &self.log {
-            Some(file) => file.sync_all(),
+            Some(file) => file.sync_data(),
             None => Err(no_such_call()),
         }
     }
